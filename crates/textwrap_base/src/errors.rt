@@ -1,0 +1,59 @@
+//! What a call refuses.
+ghost use Rattle.std.specs.Prelude.{◌≡◌, alloc_error};
+
+use std::alloc::{AllocError, AllocFailed};
+use thiserror::Error;
+
+/// The cost of a division, or the sum of all widths, passes 128 bits.
+#[derive(Debug, Drop, PartialEq, Eq, Error)]
+#[error("wrap_optimal_fit cost computation overflowed")]
+pub struct OverflowError;
+
+/// Why a text or a list of fragments was not wrapped.
+#[derive(Debug, Drop, Error)]
+pub enum WrapError {
+    /// Memory ran out.
+    #[error("out of memory")]
+    Memory(AllocError),
+    /// A number passes 128 bits.
+    #[error(transparent)]
+    Overflow(OverflowError),
+}
+
+impl From<AllocError> for WrapError {
+    ghost use Rattle.textwrap_base.specs.declared.errors.WrapError.TheVariants.{Memory};
+
+    ghost from_gives = { λ error result. result ≡ Memory error };
+
+    fn from(error: AllocError) -> WrapError {
+        WrapError::Memory(error)
+    }
+}
+
+impl<T: Drop> From<AllocFailed<T>> for WrapError {
+    ghost use Rattle.textwrap_base.specs.declared.errors.WrapError.TheVariants.{Memory};
+
+    ghost from_gives = { λ _ result. result ≡ Memory alloc_error };
+
+    fn from(_failed: AllocFailed<T>) -> WrapError {
+        WrapError::Memory(AllocError)
+    }
+}
+
+#[cfg(test)]
+mod tests {
+    use super::*;
+    use std::test::Fail;
+
+    #[test]
+    fn errors_have_their_texts(rt: HostRuntime) -> Result<(), Fail> {
+        let overflow = "wrap_optimal_fit cost computation overflowed";
+        let text = format!(in rt.alloc(); "{OverflowError}")?;
+        assert_eq!(rt; text.as_str(), overflow);
+        let text = format!(in rt.alloc(); "{}", WrapError::Overflow(OverflowError))?;
+        assert_eq!(rt; text.as_str(), overflow);
+        let text = format!(in rt.alloc(); "{}", WrapError::Memory(AllocError))?;
+        assert_eq!(rt; text.as_str(), "out of memory");
+        Ok(())
+    }
+}

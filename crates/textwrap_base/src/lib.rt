@@ -1,0 +1,5 @@
+//! The lower half of `textwrap`: widths of texts, words and fragments, and the division of
+//! fragments into lines. The crate `textwrap` passes its public modules on.
+#![tactic(auto)]
+
+mod errors;

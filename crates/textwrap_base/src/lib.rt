@@ -2,4 +2,8 @@
 //! fragments into lines. The crate `textwrap` passes its public modules on.
 #![tactic(auto)]
 
+pub mod blanks;
 mod errors;
+pub mod laws;
+pub mod words;
+pub mod wrap_algorithms;

@@ -1,0 +1,2 @@
+pub mod ParagraphLemmas
+pub mod TextLemmas

@@ -1,0 +1,38 @@
+//! Filling: a wrapped text as one text.
+ghost use Rattle.std.specs.Prelude.{◌≡◌, map, alloc_error, string_bytes, IfOk, IfErr};
+ghost use Rattle.std.specs.List.{join_with_byte};
+ghost use Rattle.textwrap.specs.Paragraph.{line_of, line_bytes};
+ghost use Rattle.textwrap.specs.Text.{IsFilled};
+
+use crate::options::Options;
+use crate::wrap_algorithms::WrapError;
+use crate::wrapping::wrap;
+use std::alloc::{AllocError, Global};
+use std::borrow::CowStr;
+
+/// The lines of [`wrap`], joined by line feeds.
+///
+/// # Errors
+/// Only want of memory. There is no overflow.
+pub fn fill(alloc: Global, text: &str, options: Options) -> Result<String, WrapError>
+    ensures filled { IfOk result (λ filled. IsFilled options text.now (string_bytes filled)) }
+    ensures only_memory { IfErr result (λ error. error ≡ WrapError.Memory alloc_error) }
+{
+    let lines = wrap(alloc, text, options)?;
+    Ok(join_lines(alloc, &lines)?)
+}
+
+/// The lines with a line feed between each two.
+fn join_lines(alloc: Global, lines: &[CowStr<'_>]) -> Result<String, AllocError>
+    ensures { IfOk result (λ joined. string_bytes joined
+        ≡ join_with_byte 10 (map line_bytes (map line_of lines.now))) }
+{
+    let mut joined = String::new(alloc);
+    for (i, line) in lines.iter().enumerate() {
+        if i > 0 {
+            joined.push('\n')?;
+        }
+        joined.push_str(line.as_str())?;
+    }
+    Ok(joined)
+}

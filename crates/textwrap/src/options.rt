@@ -1,0 +1,54 @@
+//! The settings of a wrap.
+ghost use Rattle.std.specs.Prelude.{◌≡◌};
+
+use crate::wrap_algorithms::WrapAlgorithm;
+
+/// How a text is wrapped.
+#[derive(Debug, Drop)]
+pub struct Options {
+    /// The columns of a line.
+    pub width: usize,
+    /// How words are divided into lines.
+    pub wrap_algorithm: WrapAlgorithm,
+}
+
+impl Options {
+    /// Lines of `width` columns by the default algorithm.
+    pub fn new(width: usize) -> Self
+        ensures width { result.width ≡ width }
+        ensures wrap_algorithm { result.wrap_algorithm ≡ WrapAlgorithm.FirstFit }
+    {
+        Options {
+            width,
+            wrap_algorithm: WrapAlgorithm::new(),
+        }
+    }
+
+    /// The same options with this width, in columns.
+    pub fn width(self, width: usize) -> Self
+        ensures { result ≡ record self { width = width } }
+    {
+        Options { width, ..self }
+    }
+
+    /// The same options with this algorithm.
+    pub fn wrap_algorithm(self, wrap_algorithm: WrapAlgorithm) -> Self
+        ensures { result ≡ record self { wrap_algorithm = wrap_algorithm } }
+    {
+        Options {
+            wrap_algorithm,
+            ..self
+        }
+    }
+}
+
+impl From<usize> for Options {
+    ghost use Rattle.textwrap_base.specs.declared.wrap_algorithms.WrapAlgorithm.TheVariants.{FirstFit};
+
+    ghost from_gives = { λ width options. options ≡ record { width = width; wrap_algorithm = FirstFit } };
+
+    /// The same as `Options::new`.
+    fn from(width: usize) -> Options {
+        Options::new(width)
+    }
+}

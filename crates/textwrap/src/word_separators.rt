@@ -1,0 +1,92 @@
+//! How the words of a line are found.
+ghost use Rattle.std.specs.Prelude.{◌≡◌, ◌-◌, ◌<◌, ◌≤◌, List, ◌∷◌, length, take, drop, slice_index, IfOk, IsOk};
+ghost use Rattle.std.specs.Iterator.{YieldsFirstBy, item_count};
+ghost use Rattle.textwrap_base.specs.Words.{WordText, text_of, words_of, is_cut, pieces, Tiles};
+
+use std::alloc::{AllocError, Global};
+use std::marker::Model;
+use textwrap_base::words::Word;
+
+/// Where a line is cut into words.
+#[derive(Clone, Copy, Debug, PartialEq)]
+pub enum WordSeparator {
+    /// Between a blank and a following character that is no blank.
+    AsciiSpace,
+}
+
+impl WordSeparator {
+    /// Cuts at blanks.
+    pub fn new() -> Self
+        ensures { result ≡ WordSeparator.AsciiSpace }
+    {
+        WordSeparator::AsciiSpace
+    }
+
+    /// The words of the line, in order. Each word's text and whitespace, one after the other, are
+    /// the line. An empty line has no words.
+    ///
+    /// `"  foo bar"` has the words `"  "`, `"foo "` and `"bar"`, of which the first is blank.
+    ///
+    /// # Errors
+    /// None: finding the words takes no memory.
+    pub fn find_words<'a>(&self, _alloc: Global, line: &'a str) -> Result<Words<'a>, AllocError>
+        ensures words { IfOk result (λ words. words ≡ words_of line.now) }
+        ensures tiles { IfOk result (λ words. Tiles words line.now) }
+        ensures succeeds { IsOk result }
+    {
+        match self {
+            WordSeparator::AsciiSpace => Ok(Words { rest: line }),
+        }
+    }
+}
+
+/// The words of a line, one after the other. To contracts it is the list of the words to come.
+#[derive(Debug, Drop)]
+pub struct Words<'a> {
+    rest: &'a str,
+}
+
+impl<'a> Model for Words<'a> {
+    ghost Value = { List WordText };
+
+    ghost view = { λ words. words_of words.rest.now };
+}
+
+impl<'a> Iterator for Words<'a> {
+    type Item = Word<'a>;
+
+    ghost next_gives = { YieldsFirstBy text_of (λ words. words) };
+
+    ghost remaining = { item_count (λ words. words) };
+
+    fn next(&mut self) -> Option<Word<'a>> {
+        if self.rest.is_empty() {
+            return None;
+        }
+        let (piece, rest) = self.rest.split_at(piece_len(self.rest.as_bytes()));
+        self.rest = rest;
+        Some(Word::from(piece))
+    }
+}
+
+/// The length of the first piece.
+fn piece_len(line: &[u8]) -> usize
+    requires { 0 < length line.now }
+    ensures first { pieces line.now ≡ take result line.now ∷ pieces (drop result line.now) }
+    ensures some { 0 < result }
+    ensures within { result ≤ length line.now }
+    ensures after_blank { result < length line.now → slice_index line.now (result - 1) ≡ 32 }
+{
+    let mut end = 1;
+    while end < line.len() && !is_cut(line[end - 1], line[end]) {
+        end += 1;
+    }
+    end
+}
+
+/// Whether a line is cut between two bytes.
+fn is_cut(before: u8, after: u8) -> bool
+    ensures { result ≡ is_cut before after }
+{
+    before == b' ' && after != b' '
+}

@@ -1,0 +1,9 @@
+pub mod DivisionLaws
+pub mod DivisionLemmas
+pub mod DivisionMap
+pub mod DivisionRows
+pub mod ListLemmas
+pub mod UnitLaws
+pub mod UnitLemmas
+pub mod UnitRows
+pub mod WordsLemmas

@@ -1,0 +1,49 @@
+-- Lemmas on the units of a text and their columns.
+use Rattle.std.proofs.Common.{◌≡◌, ℕ, zero, suc, ◌+◌, ◌*◌, ◌<◌, ◌≤◌, Bool, true, false, cond, eqb, List, [], ◌∷◌, length, get_or, take, drop, sym, ap, subst, zero-add, ◌∙◌, arith, length-append}
+use Rattle.std.specs.List.{flat_map, sum_by}
+use Rattle.std.specs.Str.{chars, IsUtf8}
+use lib.Utf8.{encode, encodes}
+use Rattle.std.proofs.lemmas.Bool.Decides.{nat_tests}
+use Rattle.std.proofs.lemmas.List.{at_drop_more}
+use Rattle.std.proofs.lemmas.List.Sums.{sum_by-cons, sum_by-append}
+use Rattle.std.proofs.lemmas.Str.{length-encode, encodes-chars}
+use Rattle.unicode_width.specs.Width.{char_width}
+use Rattle.unicode_width.proofs.Rules.{width_or_zero-le}
+use Rattle.textwrap_base.specs.declared.words.escapes.State.{State}
+use Rattle.textwrap_base.specs.Units.{Visible, Sequence, escape_len, unit_at, taken_at, units_past, visible_of, visible, columns, text_width}
+use Rattle.textwrap_base.specs.Escapes.{visible_in}
+
+-- the columns of the characters to come
+abbrev pub columns_in : State → List ℕ → ℕ
+columns_in state cs = sum_by columns (visible_in state cs)
+
+-- one step over the character at place n
+pub columns_in-step : (state after : State) (is_visible : Bool) (cs : List ℕ) (n c : ℕ) → (n < length cs) × (c ≡ get_or cs n c)
+    → ((ds : List ℕ) → visible_in state (c ∷ ds) ≡ cond is_visible (c ∷ visible_in after ds) (visible_in after ds))
+    → columns_in state (drop n cs) ≡ cond is_visible (columns c) 0 + columns_in after (drop (n + 1) cs)
+columns_in-step state after true cs n c here step =
+    at_drop_more (columns_in state) cs n c here.0 ∙ ap (λ x. columns_in state (x ∷ drop (n + 1) cs)) (sym here.1)
+    ∙ ap (sum_by columns) (step (drop (n + 1) cs)) ∙ sum_by-cons columns c (visible_in after (drop (n + 1) cs))
+columns_in-step state after false cs n c here step =
+    at_drop_more (columns_in state) cs n c here.0 ∙ ap (λ x. columns_in state (x ∷ drop (n + 1) cs)) (sym here.1)
+    ∙ ap (sum_by columns) (step (drop (n + 1) cs)) ∙ sym (zero-add _)
+
+columns-ascii : (c : ℕ) → c < 128 → columns c ≤ 1
+unfolding char_width
+columns-ascii c low = grind (arith, nat_tests)
+
+pub columns-le : (c : ℕ) → columns c ≤ 2 * length (encode c)
+columns-le c = rw length-encode (grind (arith, nat_tests, columns-ascii c, width_or_zero-le false c))
+
+unit_at-le : (c : ℕ) (cs : List ℕ) → sum_by columns (visible_of (unit_at c cs)) ≤ columns c
+unit_at-le c cs = elim (eqb c 27) as (λ b. sum_by columns (visible_of (cond b (Sequence (c ∷ take (escape_len cs) cs)) (Visible c))) ≤ columns c) [ true ↦ omega arith | false ↦ omega arith ]
+
+-- the characters from place n on have at most twice as many columns as bytes
+visible-le : (n : ℕ) (cs : List ℕ) → sum_by columns (flat_map visible_of (units_past n cs)) ≤ 2 * length (encodes cs)
+visible-le n [] = omega arith
+visible-le zero (c ∷ cs) =
+    simp (length-append, sum_by-append) (omega (arith, unit_at-le c cs, visible-le (taken_at c cs) cs, columns-le c))
+visible-le (suc n) (c ∷ cs) = simp length-append (omega (arith, visible-le n cs))
+
+pub text_width-le : (bytes : List ℕ) → IsUtf8 bytes → text_width bytes ≤ 2 * length bytes
+text_width-le bytes utf8 = subst (λ x. sum_by columns (visible (chars bytes)) ≤ 2 * length x) (encodes-chars bytes utf8) (visible-le 0 (chars bytes))

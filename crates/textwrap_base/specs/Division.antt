@@ -1,0 +1,44 @@
+-- Divisions of a list of fragments into lines, whatever the fragments are.
+use Rattle.std.specs.Prelude.{◌≡◌, ◌≢◌, ℕ, ◌+◌, ◌-◌, ◌<◌, ◌≤◌, min, List, [], ◌∷◌, ◌++◌, length, take, slice_index, All, ⊤}
+use Rattle.std.specs.List.{flat_map}
+use Rattle.textwrap_base.specs.Sizes.{Sizes}
+
+-- the width of line l, counted from 0: the last width serves all later lines, and without any it is 0
+abbrev pub line_width : List ℕ → ℕ → ℕ
+line_width widths l = slice_index widths (min l (length widths - 1))
+
+-- what a line takes that ends with its last fragment: there the penalty stands in place of the whitespace
+abbrev pub closed_width : {X : Type 0} → (X → Sizes) → List X → ℕ
+closed_width sizes [] = 0
+closed_width sizes (x ∷ []) = (sizes x).width + (sizes x).penalty
+closed_width sizes (x ∷ y ∷ line) = (sizes x).width + (sizes x).whitespace + closed_width sizes (y ∷ line)
+
+-- the lines are the fragments in order, none of them empty; no fragments give one empty line
+abbrev pub IsDivision : {X : Type 0} → List X → List (List X) → Type 0
+IsDivision [] lines = lines ≡ [] ∷ []
+IsDivision (x ∷ xs) lines = (flat_map (λ line. line) lines ≡ x ∷ xs) × All (λ line. line ≢ []) lines
+
+-- each beginning of two or more fragments closes within the width
+abbrev pub Fits : {X : Type 0} → (X → Sizes) → ℕ → List X → Type 0
+Fits sizes width line = (k : ℕ) → 2 ≤ k → k ≤ length line → closed_width sizes (take k line) ≤ width
+
+-- each line fits its width, where `number` is that of the first
+abbrev pub AllFit : {X : Type 0} → (X → Sizes) → List ℕ → ℕ → List (List X) → Type 0
+AllFit sizes widths number [] = ⊤
+AllFit sizes widths number (line ∷ lines) = Fits sizes (line_width widths number) line × AllFit sizes widths (number + 1) lines
+
+-- no line but the last has room for the fragment after it
+abbrev pub AllFull : {X : Type 0} → (X → Sizes) → List ℕ → ℕ → List (List X) → Type 0
+AllFull sizes widths number [] = ⊤
+AllFull sizes widths number (line ∷ []) = ⊤
+AllFull sizes widths number (line ∷ next ∷ lines) = (line_width widths number < closed_width sizes (line ++ take 1 next)) × AllFull sizes widths (number + 1) (next ∷ lines)
+
+-- a division whose lines all fit
+pub record IsAdmissible {X : Type 0} (sizes : X → Sizes) (widths : List ℕ) (fragments : List X) (lines : List (List X)) : Type 0 where
+  pub division : IsDivision fragments lines
+  pub fit : AllFit sizes widths 0 lines
+
+-- one in which no line has room for more, which is first fit
+pub record IsGreedy {X : Type 0} (sizes : X → Sizes) (widths : List ℕ) (fragments : List X) (lines : List (List X)) : Type 0 where
+  pub admissible : IsAdmissible sizes widths fragments lines
+  pub full : AllFull sizes widths 0 lines

@@ -1,0 +1,127 @@
+-- The units of a text, its visible characters and its escape sequences (ECMA-48), and the width of a text.
+use Rattle.std.specs.Prelude.{◌≡◌, ◌≢◌, ℕ, zero, suc, ◌-◌, ◌<◌, ◌≤◌, Bool, true, false, ◌==◌, ◌&&◌, ◌||◌, List, [], ◌∷◌, length, take, slice_index, if◌then◌else◌, unwrap_or, chars, sum_by, ⊤, ◌⊎◌}
+use Rattle.std.specs.Int.{is_in_range}
+use Rattle.std.specs.List.{flat_map}
+use Rattle.unicode_width.specs.Width.{char_width}
+
+-- ---- what a unit is
+
+-- a visible character, or the characters of an escape sequence
+pub data TextUnit : Type 0 where
+  Visible : ℕ → TextUnit
+  Sequence : List ℕ → TextUnit
+
+abbrev pub characters : TextUnit → List ℕ
+characters (Visible c) = c ∷ []
+characters (Sequence cs) = cs
+
+abbrev pub escape : ℕ
+escape = 27
+
+-- `[` begins a control sequence, which a character from `@` to `~` ends
+abbrev pub is_control_start : ℕ → Bool
+is_control_start c = c == 91
+
+abbrev pub is_control_end : ℕ → Bool
+is_control_end = is_in_range 0x40 0x7E
+
+-- `]` begins a command, which BEL ends, or `\` directly after an ESC
+abbrev pub is_command_start : ℕ → Bool
+is_command_start c = c == 93
+
+abbrev pub is_command_end : ℕ → ℕ → Bool
+is_command_end before c = (c == 7) || ((before == escape) && (c == 92))
+
+abbrev pub last : List ℕ → ℕ
+last cs = slice_index cs (length cs - 1)
+
+abbrev pub last_but_one : List ℕ → ℕ
+last_but_one cs = slice_index cs (length cs - 2)
+
+-- the sequence can end with the last of these characters, which follow its ESC
+abbrev pub ends : List ℕ → Bool
+ends [] = false
+ends (c ∷ cs) =
+    if is_control_start c then is_control_end (last cs)
+    else if is_command_start c then is_command_end (last_but_one cs) (last cs)
+    else true
+
+-- ESC, and all characters up to the first that ends the sequence
+abbrev pub IsSequence : List ℕ → Type 0
+IsSequence cs = (body : List ℕ) × (cs ≡ escape ∷ body) × (ends body ≡ true) × ((k : ℕ) → k < length body → ends (take k body) ≡ false)
+
+-- ESC, and characters of which none ends the sequence
+abbrev pub IsOpenSequence : List ℕ → Type 0
+IsOpenSequence cs = (body : List ℕ) × (cs ≡ escape ∷ body) × ((k : ℕ) → k ≤ length body → ends (take k body) ≡ false)
+
+abbrev pub IsWhole : TextUnit → Type 0
+IsWhole (Visible c) = c ≢ escape
+IsWhole (Sequence cs) = IsSequence cs
+
+abbrev pub IsOpen : TextUnit → Type 0
+IsOpen (Visible c) = ⊥
+IsOpen (Sequence cs) = IsOpenSequence cs
+
+-- each unit is whole, but the last may be a sequence without its end
+abbrev pub AreUnits : List TextUnit → Type 0
+AreUnits [] = ⊤
+AreUnits (u ∷ []) = IsWhole u ⊎ IsOpen u
+AreUnits (u ∷ v ∷ us) = IsWhole u × AreUnits (v ∷ us)
+
+-- the characters are those of these units
+abbrev pub IsInUnits : List ℕ → List TextUnit → Type 0
+IsInUnits cs us = (flat_map characters us ≡ cs) × AreUnits us
+
+-- ---- the units, computed
+
+-- how many characters belong to a control sequence after its `[`
+abbrev pub control_len : List ℕ → ℕ
+control_len [] = 0
+control_len (c ∷ cs) = if is_control_end c then 1 else suc (control_len cs)
+
+-- how many belong to a command after a character of it
+abbrev pub command_len : ℕ → List ℕ → ℕ
+command_len before [] = 0
+command_len before (c ∷ cs) = if is_command_end before c then 1 else suc (command_len c cs)
+
+-- how many belong to a sequence after its ESC
+abbrev pub escape_len : List ℕ → ℕ
+escape_len [] = 0
+escape_len (c ∷ cs) =
+    if is_control_start c then suc (control_len cs)
+    else if is_command_start c then suc (command_len c cs)
+    else 1
+
+-- the unit that begins with c, and how many of the characters after c it takes
+abbrev pub unit_at : ℕ → List ℕ → TextUnit
+unit_at c cs = if c == escape then Sequence (c ∷ take (escape_len cs) cs) else Visible c
+
+abbrev pub taken_at : ℕ → List ℕ → ℕ
+taken_at c cs = if c == escape then escape_len cs else 0
+
+-- the units after the first n characters
+abbrev pub units_past : ℕ → List ℕ → List TextUnit
+units_past n [] = []
+units_past zero (c ∷ cs) = unit_at c cs ∷ units_past (taken_at c cs) cs
+units_past (suc n) (c ∷ cs) = units_past n cs
+
+abbrev pub units : List ℕ → List TextUnit
+units cs = units_past 0 cs
+
+-- ---- width
+
+abbrev pub visible_of : TextUnit → List ℕ
+visible_of (Visible c) = c ∷ []
+visible_of (Sequence cs) = []
+
+-- the visible characters among these
+abbrev pub visible : List ℕ → List ℕ
+visible cs = flat_map visible_of (units cs)
+
+-- the columns of a character by itself, 0 where it has no width
+abbrev pub columns : ℕ → ℕ
+columns c = unwrap_or (char_width false c) 0
+
+-- the columns of a text, given by its bytes
+abbrev pub text_width : List ℕ → ℕ
+text_width bytes = sum_by columns (visible (chars bytes))

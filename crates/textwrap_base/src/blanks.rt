@@ -1,0 +1,24 @@
+//! The blanks at the end of a text.
+ghost use Rattle.std.specs.Prelude.{◌≡◌, ◌<◌, ◌≤◌, length, slice_index};
+ghost use Rattle.textwrap_base.specs.Words.{trimmed_len, without_final_blanks, final_blanks};
+
+/// The text without its final blanks, and those blanks.
+pub fn split_final_blanks<'a>(text: &'a str) -> (&'a str, &'a str)
+    ensures front { result.0.now ≡ without_final_blanks text.now }
+    ensures back { result.1.now ≡ final_blanks text.now }
+{
+    text.split_at(trimmed_len(text.as_bytes()))
+}
+
+/// The length of the text without its final blanks.
+fn trimmed_len(bytes: &[u8]) -> usize
+    ensures value { result ≡ trimmed_len bytes.now }
+    ensures within { result ≤ length bytes.now }
+    ensures at_blank { result < length bytes.now → slice_index bytes.now result ≡ 32 }
+{
+    let mut end = bytes.len();
+    while end > 0 && bytes[end - 1] == b' ' {
+        end -= 1;
+    }
+    end
+}

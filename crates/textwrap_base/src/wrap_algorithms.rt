@@ -1,0 +1,90 @@
+//! The division of fragments into lines.
+ghost use Rattle.std.specs.Prelude.{◌≡◌, ◌+◌, ◌≤◌, ◌<◌, length, map, take, IfOk};
+ghost use Rattle.textwrap_base.specs.Division.{line_width, closed_width, Fits, IsGreedy};
+
+pub use crate::errors::{OverflowError, WrapError};
+use crate::words::Fragment;
+use std::alloc::{AllocError, Global};
+
+/// How fragments are divided into lines.
+#[derive(Clone, Copy, Debug, PartialEq)]
+pub enum WrapAlgorithm {
+    /// Each line takes fragments while they fit, as `wrap_first_fit` does.
+    FirstFit,
+}
+
+impl WrapAlgorithm {
+    /// First fit.
+    pub fn new() -> Self
+        ensures { result ≡ WrapAlgorithm.FirstFit }
+    {
+        WrapAlgorithm::FirstFit
+    }
+}
+
+impl Default for WrapAlgorithm {
+    ghost use Rattle.textwrap_base.specs.declared.wrap_algorithms.WrapAlgorithm.TheVariants.{FirstFit};
+
+    ghost is_default = { λ algorithm. algorithm ≡ FirstFit };
+
+    fn default() -> Self {
+        WrapAlgorithm::new()
+    }
+}
+
+/// Divides the fragments into lines, each of which takes fragments while they fit. A line's first
+/// fragment always stands. Line l, counted from 0, has the width `line_widths[l]`, or the last of
+/// them past the end, or 0 where there is none. No fragments give one empty line.
+///
+/// # Errors
+/// Only want of memory. There is no overflow, whatever the widths.
+pub fn wrap_first_fit<'a, T: Fragment>(
+    alloc: Global,
+    fragments: &'a [T],
+    line_widths: &[usize],
+) -> Result<Vec<&'a [T]>, AllocError>
+    ensures greedy { IfOk result (λ lines.
+        IsGreedy T.sizes line_widths.now fragments.now (map (λ line. line.now) lines.items)) }
+{
+    let mut lines = Vec::new(alloc);
+    if fragments.is_empty() {
+        lines.push(fragments)?;
+        return Ok(lines);
+    }
+    let mut rest = fragments;
+    while !rest.is_empty() {
+        let width = line_width(line_widths, lines.len());
+        let (line, after) = rest.split_at(fitting_len(rest, width));
+        lines.push(line)?;
+        rest = after;
+    }
+    Ok(lines)
+}
+
+/// The width of line `number`, counted from 0.
+fn line_width(line_widths: &[usize], number: usize) -> usize
+    ensures { result ≡ line_width line_widths.now number }
+{
+    let last = line_widths.len().saturating_sub(1);
+    line_widths.get(number.min(last)).copied().unwrap_or(0)
+}
+
+/// How many of the fragments the first line takes: all that fit, and the first in any case.
+fn fitting_len<T: Fragment>(fragments: &[T], line_width: usize) -> usize
+    ensures within { result ≤ length fragments.now }
+    ensures some { 0 < length fragments.now → 0 < result }
+    ensures fits { Fits T.sizes line_width (take result fragments.now) }
+    ensures full { result < length fragments.now →
+        line_width < closed_width T.sizes (take (result + 1) fragments.now) }
+{
+    let mut width = 0u128;
+    for (i, fragment) in fragments.iter().enumerate() {
+        let with_fragment = width + fragment.width() as u128;
+        let closed = with_fragment + fragment.penalty_width() as u128;
+        if i > 0 && closed > line_width as u128 {
+            return i;
+        }
+        width = with_fragment + fragment.whitespace_width() as u128;
+    }
+    fragments.len()
+}

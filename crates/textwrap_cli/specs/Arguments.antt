@@ -1,0 +1,26 @@
+-- What the program's arguments mean.
+use Rattle.std.specs.Prelude.{ℕ, ◌^◌, Bool, ◌&&◌, nat_lt, List, [], ◌∷◌, length, Option, Some, None, codes, if◌then◌else◌}
+use Rattle.std.specs.Option.{option_and_then, option_map}
+use Rattle.std.specs.Str.{all_ascii_digits, bytes_eq}
+use Rattle.std.specs.Str.Parse.{digits_value}
+use Rattle.textwrap.specs.declared.wrap_algorithms.WrapAlgorithm.{WrapAlgorithm}
+use Rattle.textwrap.specs.declared.wrap_algorithms.WrapAlgorithm.TheVariants.{FirstFit}
+use Rattle.textwrap_cli.specs.declared.arguments.Settings.{Settings}
+
+-- one or more ASCII digits that are a number of 64 bits
+abbrev pub is_width : List ℕ → Bool
+is_width word = (nat_lt 0 (length word) && all_ascii_digits word) && nat_lt (digits_value 10 word) (2 ^ 64)
+
+abbrev pub width_of : List ℕ → Option ℕ
+width_of word = if is_width word then Some (digits_value 10 word) else None
+
+abbrev pub algorithm_of : List ℕ → Option WrapAlgorithm
+algorithm_of word = if bytes_eq word (codes "first") then Some FirstFit else None
+
+-- the settings that the words after the program's name mean, if any
+abbrev pub settings_of : List (List ℕ) → Option Settings
+settings_of [] = None
+settings_of (width ∷ []) = None
+settings_of (width ∷ algorithm ∷ []) =
+    option_and_then (λ w. option_map (λ a. record { width = w; algorithm = a }) (algorithm_of algorithm)) (width_of width)
+settings_of (width ∷ algorithm ∷ more ∷ words) = None

@@ -1,0 +1,22 @@
+-- What the program reads and writes.
+use Rattle.std.specs.Prelude.{ℕ, List, Option, take}
+use Rattle.std.specs.Str.{IsUtf8}
+use Rattle.std.specs.Io.KnownBytes.{Appends, Consumes, IsAtEnd}
+use Rattle.textwrap.specs.declared.options.Options.{Options}
+use Rattle.textwrap.specs.Text.{IsFilled}
+
+-- a reader gave this input, and has no more
+abbrev pub ReadsAll : Option (List ℕ) → Option (List ℕ) → List ℕ → Type 0
+ReadsAll old new input = Consumes old new input × IsAtEnd new
+
+-- the reader's input is text, of which the output is the filled text
+abbrev pub FillsInput : Options → Option (List ℕ) → Option (List ℕ) → List ℕ → Type 0
+FillsInput options old new output = (input : List ℕ) × ReadsAll old new input × IsUtf8 input × IsFilled options input output
+
+-- the reader's input is no text
+abbrev pub ReadsNoText : Option (List ℕ) → Option (List ℕ) → Type 0
+ReadsNoText old new = (input : List ℕ) × ReadsAll old new input × (IsUtf8 input → ⊥)
+
+-- a writer took a beginning of the output
+abbrev pub WritesBeginning : Option (List ℕ) → Option (List ℕ) → List ℕ → Type 0
+WritesBeginning old new output = (count : ℕ) × Appends old new (take count output)

@@ -1,0 +1,57 @@
+//! The program's arguments.
+ghost use Rattle.std.specs.Prelude.{◌≡◌, map, string_bytes};
+ghost use Rattle.std.specs.Str.{all_ascii_digits};
+ghost use Rattle.textwrap_cli.specs.Arguments.{width_of, algorithm_of, settings_of};
+
+use textwrap::wrap_algorithms::WrapAlgorithm;
+
+/// What the arguments ask for.
+#[derive(Debug, Drop, PartialEq)]
+pub struct Settings {
+    /// The columns of a line.
+    pub width: usize,
+    /// How words are divided into lines.
+    pub algorithm: WrapAlgorithm,
+}
+
+/// The settings that the words after the program's name mean: a width in ASCII digits, and `first`.
+/// Any other words mean none. Takes no memory.
+pub fn arguments(words: &[String]) -> Option<Settings>
+    ensures { result ≡ settings_of (map string_bytes words.now) }
+{
+    let [width, algorithm] = words else {
+        return None;
+    };
+    let width = parse_width(width.as_str())?;
+    let algorithm = parse_algorithm(algorithm.as_str())?;
+    Some(Settings { width, algorithm })
+}
+
+/// The number of one or more ASCII digits, where it fits. The standard `parse` also takes a sign.
+fn parse_width(word: &str) -> Option<usize>
+    ensures { result ≡ width_of word.now }
+{
+    if !is_all_digits(word.as_bytes()) {
+        return None;
+    }
+    word.parse().ok()
+}
+
+/// Whether each byte is an ASCII digit.
+fn is_all_digits(bytes: &[u8]) -> bool
+    ensures { result ≡ all_ascii_digits bytes.now }
+{
+    for byte in bytes {
+        if !byte.is_ascii_digit() {
+            return false;
+        }
+    }
+    true
+}
+
+/// The algorithm of that name.
+fn parse_algorithm(word: &str) -> Option<WrapAlgorithm>
+    ensures { result ≡ algorithm_of word.now }
+{
+    (word == "first").then_some(WrapAlgorithm::FirstFit)
+}

@@ -1,0 +1,126 @@
+//! The program's work: it reads a text, fills it and writes it.
+ghost use Rattle.std.specs.Prelude.{◌≡◌, ◌≢◌, ℕ, ◌<◌, ◌≤◌, List, [], length, take, Err, IfOk, OnOk, OnErr, IfErr};
+ghost use Rattle.std.specs.Io.KnownBytes.{Appends, Keeps};
+ghost use Rattle.textwrap_cli.specs.Faults.{fault_line};
+ghost use Rattle.textwrap_cli.specs.Filling.{ReadsAll, FillsInput, ReadsNoText, WritesBeginning};
+
+use std::alloc::Global;
+use std::io::{Read, Write};
+use std::str;
+use textwrap::wrap_algorithms::{WrapAlgorithm, WrapError};
+use textwrap::{Options, fill};
+
+/// Why the program did not write the whole filled text.
+#[derive(Clone, Copy, Debug, PartialEq, Eq)]
+pub enum RunError {
+    /// A read failed.
+    Read,
+    /// The input is not UTF-8.
+    NotUtf8,
+    /// Memory ran out, while reading or filling.
+    Memory,
+    /// A write or the flush failed, or a write took nothing.
+    Write,
+}
+
+/// What the program says of a fault on standard error.
+pub fn fault(error: &RunError) -> &'static str {
+    match error {
+        RunError::Read => "textwrap_cli: cannot read input",
+        RunError::NotUtf8 => "textwrap_cli: input is not UTF-8",
+        RunError::Memory => "textwrap_cli: out of memory",
+        RunError::Write => "textwrap_cli: cannot write output",
+    }
+}
+
+/// Reads the reader to its end, and writes the text that it gave, filled with lines of `width`
+/// columns by the algorithm. Nothing is written before the whole text is filled.
+///
+/// # Errors
+/// The first fault on this way. An interrupted read or write is an error like any other. A reader
+/// that never ends comes to `Memory`.
+pub fn run<R: Read, W: Write>(
+    alloc: Global,
+    reader: &mut R,
+    writer: &mut W,
+    width: usize,
+    algorithm: WrapAlgorithm,
+) -> Result<(), RunError>
+    // The whole input was read, and its filled text written.
+    ensures ok { OnOk result ((output : List ℕ)
+        × FillsInput (record { width = width; wrap_algorithm = algorithm }) (R.remaining reader.old) (R.remaining reader.new) output
+        × Appends (W.contents writer.old) (W.contents writer.new) output) }
+    ensures not_utf8 { result ≡ Err RunError.NotUtf8 → ReadsNoText (R.remaining reader.old) (R.remaining reader.new) }
+    // The whole input was read, and a beginning of its filled text may be written.
+    ensures write { result ≡ Err RunError.Write → (output : List ℕ)
+        × FillsInput (record { width = width; wrap_algorithm = algorithm }) (R.remaining reader.old) (R.remaining reader.new) output
+        × WritesBeginning (W.contents writer.old) (W.contents writer.new) output }
+    ensures nothing_written { IfErr result (λ error. error ≢ RunError.Write → Keeps (W.contents writer.old) (W.contents writer.new)) }
+{
+    let input = read_to_end(alloc, reader)?;
+    let Ok(text) = str::from_utf8(&input) else {
+        return Err(RunError::NotUtf8);
+    };
+    let options = Options::new(width).wrap_algorithm(algorithm);
+    match fill(alloc, text, options) {
+        Ok(filled) => write_to_end(writer, filled.as_bytes()),
+        Err(WrapError::Memory(_)) => Err(RunError::Memory),
+        Err(WrapError::Overflow(_)) => unreachable!(),
+    }
+}
+
+/// Reads the reader to its end.
+fn read_to_end<R: Read>(alloc: Global, reader: &mut R) -> Result<Vec<u8>, RunError>
+    ensures ok { IfOk result (λ input. ReadsAll (R.remaining reader.old) (R.remaining reader.new) input.items) }
+    ensures not_not_utf8 { IfErr result (λ error. error ≢ RunError.NotUtf8) }
+    ensures not_write { IfErr result (λ error. error ≢ RunError.Write) }
+{
+    let mut input = Vec::new(alloc);
+    let mut buffer = [0u8; 8192];
+    for _ in 0..u64::MAX {
+        let count = reader.read(&mut buffer).map_err(|_| RunError::Read)?;
+        if count == 0 {
+            return Ok(input);
+        }
+        input
+            .extend_from_slice(&buffer[..count])
+            .map_err(|_| RunError::Memory)?;
+    }
+    Err(RunError::Memory)
+}
+
+/// Writes the bytes and flushes.
+fn write_to_end<W: Write>(writer: &mut W, bytes: &[u8]) -> Result<(), RunError>
+    ensures ok { OnOk result (Appends (W.contents writer.old) (W.contents writer.new) bytes.now) }
+    ensures beginning { OnErr result (WritesBeginning (W.contents writer.old) (W.contents writer.new) bytes.now) }
+    ensures only_write { IfErr result (λ error. error ≡ RunError.Write) }
+{
+    let mut rest = bytes;
+    while !rest.is_empty() {
+        match write_some(writer, rest) {
+            Ok(count) => {
+                let (_written, after) = rest.split_at(count);
+                rest = after;
+            }
+            Err(error) => return Err(error),
+        }
+    }
+    match writer.flush() {
+        Ok(()) => Ok(()),
+        Err(_) => Err(RunError::Write),
+    }
+}
+
+/// Writes a beginning of the bytes, not an empty one, and answers its length.
+fn write_some<W: Write>(writer: &mut W, bytes: &[u8]) -> Result<usize, RunError>
+    ensures some { IfOk result (λ count. 0 < count) }
+    ensures within { IfOk result (λ count. count ≤ length bytes.now) }
+    ensures written { IfOk result (λ count. Appends (W.contents writer.old) (W.contents writer.new) (take count bytes.now)) }
+    ensures nothing { OnErr result (Appends (W.contents writer.old) (W.contents writer.new) []) }
+    ensures only_write { IfErr result (λ error. error ≡ RunError.Write) }
+{
+    match writer.write(bytes) {
+        Ok(count) if count > 0 => Ok(count),
+        _ => Err(RunError::Write),
+    }
+}

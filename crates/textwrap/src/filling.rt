@@ -36,3 +36,39 @@ fn join_lines(alloc: Global, lines: &[CowStr<'_>]) -> Result<String, AllocError>
     }
     Ok(joined)
 }
+
+#[cfg(test)]
+mod tests {
+    use super::*;
+    use crate::wrap_algorithms::WrapAlgorithm;
+    use std::test::Fail;
+
+    #[test]
+    fn lines_are_joined(rt: HostRuntime) -> Result<(), Fail> {
+        for (text, width, filled) in [
+            ("", 10, ""),
+            ("foo bar baz", 10, "foo bar\nbaz"),
+            (
+                "To be, or not to be: that is the question",
+                10,
+                "To be, or\nnot to be:\nthat is\nthe\nquestion",
+            ),
+            (
+                "To be, or not to be: that is the question\n",
+                10,
+                "To be, or\nnot to be:\nthat is\nthe\nquestion\n",
+            ),
+            ("test\n\na\n\n", 80, "test\n\na\n\n"),
+            ("  \n \n  \n ", 80, "\n\n\n"),
+            ("1 3 5 7\n1 3 5 7", 5, "1 3 5\n7\n1 3 5\n7"),
+            ("aa bb cc dd", 5, "aa bb\ncc dd"),
+            ("aa bb cc dd", 8, "aa bb cc\ndd"),
+            ("foo\u{a0}bar\u{2011}baz", 5, "foo\u{a0}bar\u{2011}baz"),
+        ] {
+            let options = Options::new(width).wrap_algorithm(WrapAlgorithm::FirstFit);
+            let answer = fill(rt.alloc(), text, options)?;
+            assert_eq!(rt; answer.as_str(), filled, "{text:?} at {width}");
+        }
+        Ok(())
+    }
+}

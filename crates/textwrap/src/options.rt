@@ -52,3 +52,25 @@ impl From<usize> for Options {
         Options::new(width)
     }
 }
+
+#[cfg(test)]
+mod tests {
+    use super::*;
+
+    #[test]
+    fn each_builder_changes_its_field(rt: HostRuntime) {
+        for (name, options, width) in [
+            ("new", Options::new(80), 80),
+            ("from", Options::from(18), 18),
+            ("width", Options::new(80).width(0), 0),
+            (
+                "wrap_algorithm",
+                Options::new(10).wrap_algorithm(WrapAlgorithm::FirstFit),
+                10,
+            ),
+        ] {
+            assert_eq!(rt; options.width, width, "{name}");
+            assert_eq!(rt; options.wrap_algorithm, WrapAlgorithm::FirstFit, "{name}");
+        }
+    }
+}

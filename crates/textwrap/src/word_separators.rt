@@ -90,3 +90,47 @@ fn is_cut(before: u8, after: u8) -> bool
 {
     before == b' ' && after != b' '
 }
+
+#[cfg(test)]
+mod tests {
+    use super::*;
+    use std::test::Fail;
+
+    #[test]
+    fn lines_have_their_words(rt: HostRuntime) -> Result<(), Fail> {
+        let rows: [(&str, &[&str]); 8] = [
+            ("", &[]),
+            ("foo", &["foo"]),
+            ("   ", &["   "]),
+            ("   foo", &["   ", "foo"]),
+            ("foo\tbar", &["foo\tbar"]),
+            ("foo bar", &["foo ", "bar"]),
+            ("  foo bar", &["  ", "foo ", "bar"]),
+            ("foo     bar     baz  ", &["foo     ", "bar     ", "baz  "]),
+        ];
+        for (line, pieces) in rows {
+            let mut words = WordSeparator::AsciiSpace.find_words(rt.alloc(), line)?;
+            for piece in pieces {
+                assert_eq!(rt; words.next(), Some(Word::from(*piece)), "{line:?}");
+            }
+            assert_eq!(rt; words.next(), None, "{line:?}");
+        }
+        Ok(())
+    }
+
+    #[test]
+    fn words_are_collected(rt: HostRuntime) -> Result<(), Fail> {
+        let words = WordSeparator::new().find_words(rt.alloc(), "foo bar")?;
+        let words: Vec<Word<'_>> = words.collect(rt.alloc())?;
+        assert_eq!(rt;
+            words.as_slice(),
+            [Word::from("foo "), Word::from("bar")].as_slice()
+        );
+        Ok(())
+    }
+
+    #[test]
+    fn blanks_are_the_default(rt: HostRuntime) {
+        assert_eq!(rt; WordSeparator::new(), WordSeparator::AsciiSpace);
+    }
+}

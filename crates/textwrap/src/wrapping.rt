@@ -149,3 +149,6 @@ fn tiled_len(words: &[Word<'_>]) -> usize
     }
     len
 }
+
+#[cfg(test)]
+mod tests;

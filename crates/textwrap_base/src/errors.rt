@@ -56,4 +56,11 @@ mod tests {
         assert_eq!(rt; text.as_str(), "out of memory");
         Ok(())
     }
+
+    #[test]
+    fn a_refused_growth_is_want_of_memory(rt: HostRuntime) {
+        let refused = WrapError::from(AllocFailed { value: "foo" });
+        assert!(rt; matches!(refused, WrapError::Memory(_)));
+        assert!(rt; matches!(WrapError::from(AllocError), WrapError::Memory(_)));
+    }
 }

@@ -18,3 +18,15 @@ pub fn greedy_division_is_unique<T: Fragment>()
         → IsGreedy T.sizes widths fragments first → IsGreedy T.sizes widths fragments second
         → first ≡ second }
 {}
+
+#[cfg(test)]
+mod tests {
+    use super::*;
+    use crate::words::Word;
+
+    #[test]
+    fn laws_hold_for_words() {
+        units_are_unique();
+        greedy_division_is_unique::<Word<'_>>();
+    }
+}

@@ -110,3 +110,6 @@ impl<'a> Fragment for Word<'a> {
         self.penalty.len()
     }
 }
+
+#[cfg(test)]
+mod tests;

@@ -88,3 +88,6 @@ fn fitting_len<T: Fragment>(fragments: &[T], line_width: usize) -> usize
     }
     fragments.len()
 }
+
+#[cfg(test)]
+mod tests;

@@ -55,3 +55,55 @@ fn parse_algorithm(word: &str) -> Option<WrapAlgorithm>
 {
     (word == "first").then_some(WrapAlgorithm::FirstFit)
 }
+
+#[cfg(test)]
+mod tests {
+    use super::*;
+    use std::alloc::{AllocError, Global};
+    use std::test::Fail;
+
+    /// The words as strings.
+    fn strings(alloc: Global, words: &[&str]) -> Result<Vec<String>, AllocError> {
+        let mut strings = Vec::new(alloc);
+        for word in words {
+            strings.push(String::from_str(alloc, word)?)?;
+        }
+        Ok(strings)
+    }
+
+    #[test]
+    fn a_width_and_first_are_settings(rt: HostRuntime) -> Result<(), Fail> {
+        for (width, number) in [
+            ("10", 10),
+            ("007", 7),
+            ("0", 0),
+            ("18446744073709551615", usize::MAX),
+        ] {
+            let words = strings(rt.alloc(), &[width, "first"])?;
+            let settings = arguments(&words).ok_or(width)?;
+            assert_eq!(rt; settings.width, number, "{width}");
+            assert_eq!(rt; settings.algorithm, WrapAlgorithm::FirstFit, "{width}");
+        }
+        Ok(())
+    }
+
+    #[test]
+    fn other_words_are_none(rt: HostRuntime) -> Result<(), Fail> {
+        let rows: [&[&str]; 9] = [
+            &["18446744073709551616", "first"],
+            &["+5", "first"],
+            &["", "first"],
+            &["1O", "first"],
+            &["10", "First"],
+            &["10", "optimal"],
+            &["10"],
+            &["10", "first", "x"],
+            &[],
+        ];
+        for words in rows {
+            let words = strings(rt.alloc(), words)?;
+            assert_eq!(rt; arguments(&words), None, "{words:?}");
+        }
+        Ok(())
+    }
+}

@@ -124,3 +124,6 @@ fn write_some<W: Write>(writer: &mut W, bytes: &[u8]) -> Result<usize, RunError>
         _ => Err(RunError::Write),
     }
 }
+
+#[cfg(test)]
+mod tests;

@@ -1,0 +1,114 @@
+use super::*;
+use crate::words::Word;
+use std::test::Fail;
+
+/// A task of a day: the hours that it takes, and those of sweeping after it and cleaning at night.
+#[derive(Debug, Drop)]
+struct Task {
+    hours: usize,
+    sweep: usize,
+    cleanup: usize,
+}
+
+impl Task {
+    fn new(hours: usize, sweep: usize, cleanup: usize) -> Task {
+        Task {
+            hours,
+            sweep,
+            cleanup,
+        }
+    }
+}
+
+impl Fragment for Task {
+    ghost sizes = { λ task. record { width = task.hours; whitespace = task.sweep; penalty = task.cleanup } };
+
+    fn width(&self) -> usize {
+        self.hours
+    }
+
+    fn whitespace_width(&self) -> usize {
+        self.sweep
+    }
+
+    fn penalty_width(&self) -> usize {
+        self.cleanup
+    }
+}
+
+#[test]
+fn each_line_takes_what_fits(rt: HostRuntime) -> Result<(), Fail> {
+    let max = usize::MAX;
+    let house = [
+        Task::new(4, 2, 3),
+        Task::new(3, 1, 2),
+        Task::new(2, 2, 2),
+        Task::new(2, 1, 2),
+        Task::new(2, 1, 2),
+        Task::new(3, 1, 2),
+        Task::new(3, 1, 2),
+        Task::new(1, 1, 2),
+        Task::new(2, 1, 2),
+    ];
+    let fives = [
+        Task::new(5, 0, 0),
+        Task::new(5, 0, 0),
+        Task::new(5, 0, 0),
+        Task::new(5, 0, 0),
+    ];
+    let rows: [(&str, &[Task], &[usize], &[usize]); 9] = [
+        (
+            "a penalty that does not fit",
+            &[Task::new(5, 0, 0), Task::new(5, 0, 5), Task::new(0, 0, 0)],
+            &[10],
+            &[1, 2],
+        ),
+        (
+            "the largest widths",
+            &[Task::new(max, max, max), Task::new(max, max, max)],
+            &[max],
+            &[1, 1],
+        ),
+        (
+            "a house by days of eight hours",
+            &house,
+            &[8],
+            &[1, 2, 2, 1, 2, 1],
+        ),
+        ("no fragments", &[], &[10], &[0]),
+        ("no fragments and no widths", &[], &[], &[0]),
+        ("lines that are filled exactly", &fives, &[10], &[2, 2]),
+        ("a width for each line", &fives, &[5, 10, 5], &[1, 2, 1]),
+        (
+            "a last width that is repeated",
+            &fives,
+            &[10, 5],
+            &[2, 1, 1],
+        ),
+        ("no widths", &fives, &[], &[1, 1, 1, 1]),
+    ];
+    for (name, fragments, line_widths, lens) in rows {
+        let lines = wrap_first_fit(rt.alloc(), fragments, line_widths)?;
+        assert_eq!(rt; lines.len(), lens.len(), "{name}");
+        for (line, len) in lines.iter().zip(lens) {
+            assert_eq!(rt; line.len(), *len, "{name}");
+        }
+    }
+    Ok(())
+}
+
+#[test]
+fn words_are_divided(rt: HostRuntime) -> Result<(), Fail> {
+    let words = [Word::from("foo "), Word::from("bar "), Word::from("baz")];
+    let lines = wrap_first_fit(rt.alloc(), &words, &[10])?;
+    assert_eq!(rt; lines.len(), 2);
+    assert_eq!(rt; lines[0], &words[..2]);
+    assert_eq!(rt; lines[1], &words[2..]);
+    Ok(())
+}
+
+#[test]
+fn first_fit_is_the_default(rt: HostRuntime) {
+    assert_eq!(rt; WrapAlgorithm::new(), WrapAlgorithm::FirstFit);
+    assert_eq!(rt; WrapAlgorithm::default(), WrapAlgorithm::FirstFit);
+}

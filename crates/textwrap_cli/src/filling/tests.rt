@@ -1,0 +1,137 @@
+use super::*;
+use std::io;
+use std::io::ErrorKind;
+use std::test::Fail;
+
+/// A reader that gives three bytes, and then fails.
+#[derive(Drop)]
+struct CutOff {
+    is_read: bool,
+}
+
+impl Read for CutOff {
+    fn read(&mut self, buffer: &mut [u8]) -> io::Result<usize> {
+        if self.is_read || buffer.len() < 3 {
+            return Err(io::Error::from(ErrorKind::ConnectionReset));
+        }
+        self.is_read = true;
+        buffer[..3].copy_from_slice(b"foo");
+        Ok(3)
+    }
+}
+
+/// A writer that takes so many bytes, and fails or answers 0 after them.
+#[derive(Drop)]
+struct Full {
+    room: usize,
+    fails: bool,
+    taken: Vec<u8>,
+}
+
+impl Write for Full {
+    fn write(&mut self, bytes: &[u8]) -> io::Result<usize> {
+        let count = bytes.len().min(self.room);
+        if count == 0 && self.fails {
+            return Err(io::Error::from(ErrorKind::BrokenPipe));
+        }
+        self.taken.extend_from_slice(&bytes[..count])?;
+        self.room -= count;
+        Ok(count)
+    }
+
+    fn flush(&mut self) -> io::Result<()> {
+        Ok(())
+    }
+}
+
+#[test]
+fn the_input_is_filled(rt: HostRuntime) -> Result<(), Fail> {
+    for (input, width, output) in [
+        ("", 10, ""),
+        (
+            "To be, or not to be: that is the question",
+            10,
+            "To be, or\nnot to be:\nthat is\nthe\nquestion",
+        ),
+        (
+            "To be, or not to be: that is the question\n",
+            10,
+            "To be, or\nnot to be:\nthat is\nthe\nquestion\n",
+        ),
+    ] {
+        let mut reader = input.as_bytes();
+        let mut writer = Vec::new(rt.alloc());
+        let done = run(
+            rt.alloc(),
+            &mut reader,
+            &mut writer,
+            width,
+            WrapAlgorithm::FirstFit,
+        );
+        assert_eq!(rt; done, Ok(()), "{input:?}");
+        assert_eq!(rt; writer.as_slice(), output.as_bytes(), "{input:?}");
+        assert!(rt; reader.is_empty(), "{input:?}");
+    }
+    Ok(())
+}
+
+#[test]
+fn input_that_is_no_text_writes_nothing(rt: HostRuntime) {
+    let mut reader: &[u8] = &[0xFF];
+    let mut writer = Vec::new(rt.alloc());
+    let done = run(
+        rt.alloc(),
+        &mut reader,
+        &mut writer,
+        10,
+        WrapAlgorithm::FirstFit,
+    );
+    assert_eq!(rt; done, Err(RunError::NotUtf8));
+    assert!(rt; writer.is_empty());
+}
+
+#[test]
+fn a_read_that_fails_writes_nothing(rt: HostRuntime) {
+    let mut writer = Vec::new(rt.alloc());
+    let done = run(
+        rt.alloc(),
+        &mut CutOff { is_read: false },
+        &mut writer,
+        10,
+        WrapAlgorithm::FirstFit,
+    );
+    assert_eq!(rt; done, Err(RunError::Read));
+    assert!(rt; writer.is_empty());
+}
+
+#[test]
+fn a_write_that_fails_leaves_a_beginning(rt: HostRuntime) {
+    for (room, fails) in [(0, false), (0, true), (5, false), (5, true)] {
+        let mut writer = Full {
+            room,
+            fails,
+            taken: Vec::new(rt.alloc()),
+        };
+        let done = run(
+            rt.alloc(),
+            &mut b"foo bar baz".as_slice(),
+            &mut writer,
+            10,
+            WrapAlgorithm::FirstFit,
+        );
+        assert_eq!(rt; done, Err(RunError::Write), "{room}");
+        assert_eq!(rt; writer.taken.as_slice(), &b"foo bar\nbaz"[..room], "{room}");
+    }
+}
+
+#[test]
+fn faults_have_their_lines(rt: HostRuntime) {
+    for (error, line) in [
+        (RunError::Read, "textwrap_cli: cannot read input"),
+        (RunError::NotUtf8, "textwrap_cli: input is not UTF-8"),
+        (RunError::Memory, "textwrap_cli: out of memory"),
+        (RunError::Write, "textwrap_cli: cannot write output"),
+    ] {
+        assert_eq!(rt; fault(&error), line, "{error:?}");
+    }
+}

@@ -1,2 +1,4 @@
 pub mod ParagraphLemmas
+pub mod SplittingLemmas
+pub mod SplittingRows
 pub mod TextLemmas

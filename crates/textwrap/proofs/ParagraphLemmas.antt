@@ -1,5 +1,5 @@
 -- Lemmas on what the words of a line cover.
-use Rattle.std.proofs.Common.{◌≡◌, ℕ, true, false, nat_lt, MatchBool, ◌+◌, ◌<◌, ◌≤◌, List, [], ◌∷◌, ◌++◌, length, get_or, take, drop, map, refl, sym, ap, ◌∙◌, subst, arith, append_assoc, append-nil, length-append, take-append-drop}
+use Rattle.std.proofs.Common.{◌≡◌, ℕ, true, false, nat_lt, MatchBool, ◌+◌, ◌<◌, ◌≤◌, List, [], ◌∷◌, ◌++◌, length, get_or, take, drop, map, refl, sym, ap, ◌∙◌, subst, arith, append_assoc, append-nil, length-append, take-append-drop, ◌*◌}
 use Rattle.std.specs.List.{flat_map}
 use Rattle.std.specs.Io.{StartsWith}
 use Rattle.std.specs.Str.{IsUtf8, IsCharBoundary}
@@ -9,7 +9,10 @@ use Rattle.std.proofs.lemmas.List.{map-append, take_at, drop_at, drop_more}
 use Rattle.textwrap_base.specs.declared.words.Word.{Word}
 use Rattle.textwrap_base.specs.Words.{WordText, text_of, sizes_of, without_final_blanks, tile_of, tiled}
 use Rattle.textwrap_base.specs.Algorithm.{IsDividedBy}
+use Rattle.textwrap_base.specs.Cost.{total_width}
 use Rattle.textwrap_base.proofs.DivisionMap.{IsDividedBy-map}
+use Rattle.textwrap_base.proofs.MeasureLemmas.{total_width-same}
+use Rattle.textwrap_base.proofs.WordsBound.{total_width-words_of}
 use Rattle.textwrap_base.proofs.WordsLemmas.{tiled-append, tiled-push}
 use Rattle.textwrap.specs.declared.options.Options.{Options}
 use Rattle.textwrap.specs.Paragraph.{Line, Slice, covered, pieces_of, widths_of, AreDividedLines, AreParagraphLines}
@@ -104,3 +107,15 @@ AreParagraphLines-short options paragraph line short is =
 pub AreParagraphLines-long : (options : Options) (paragraph : List ℕ) (lines : List Line) → options.width ≤ length paragraph → AreDividedLines options paragraph lines → AreParagraphLines options paragraph lines
 AreParagraphLines-long options paragraph lines long divided =
     subst (λ b. MatchBool b (lines ≡ Slice (without_final_blanks paragraph) ∷ []) (AreDividedLines options paragraph lines)) (sym (is_long (length paragraph) options.width long)) divided
+
+sizes-text_of : (words : List Word) → map (λ word. sizes_of (text_of word)) words ≡ map sizes_of (map text_of words)
+sizes-text_of [] = refl
+sizes-text_of (w ∷ words) = ap (λ l. sizes_of (text_of w) ∷ l) (sizes-text_of words)
+
+-- the widths of a paragraph's pieces together are at most twice its bytes
+pub total_width-pieces : (options : Options) (paragraph : List ℕ) (words : List Word) → IsUtf8 paragraph → map text_of words ≡ pieces_of options paragraph
+    → total_width (λ word. sizes_of (text_of word)) words ≤ 2 * length paragraph
+total_width-pieces options paragraph words utf8 is =
+    subst (λ n. n ≤ 2 * length paragraph)
+    (sym (total_width-same (λ word. sizes_of (text_of word)) sizes_of words (pieces_of options paragraph) (sizes-text_of words ∙ ap (map sizes_of) is)))
+    (total_width-words_of paragraph utf8)

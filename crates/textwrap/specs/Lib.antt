@@ -1,7 +1,10 @@
+pub mod Defaults
+pub mod Paragraph
+pub mod Splitting
+pub mod Text
 pub use Rattle.textwrap_base.specs.Algorithm
+pub use Rattle.textwrap_base.specs.Breaking
 pub use Rattle.textwrap_base.specs.Division
 pub use Rattle.textwrap_base.specs.Sizes
 pub use Rattle.textwrap_base.specs.Units
 pub use Rattle.textwrap_base.specs.Words
-pub mod Paragraph
-pub mod Text

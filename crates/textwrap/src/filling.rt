@@ -71,4 +71,20 @@ mod tests {
         }
         Ok(())
     }
+
+    #[test]
+    fn lines_of_least_cost_are_joined(rt: HostRuntime) -> Result<(), Fail> {
+        for (text, width, filled) in [
+            ("foo bar baz", 10, "foo bar\nbaz"),
+            (
+                "To be, or not to be: that is the question\n",
+                10,
+                "To be,\nor not to\nbe: that\nis the\nquestion\n",
+            ),
+        ] {
+            let answer = fill(rt.alloc(), text, Options::new(width))?;
+            assert_eq!(rt; answer.as_str(), filled, "{text:?} at {width}");
+        }
+        Ok(())
+    }
 }

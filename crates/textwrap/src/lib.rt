@@ -5,12 +5,15 @@
 
 pub use filling::fill;
 pub use options::Options;
-pub use textwrap_base::{words, wrap_algorithms};
+pub use textwrap_base::{minima, words, wrap_algorithms};
 pub use word_separators::WordSeparator;
+pub use word_splitters::WordSplitter;
 pub use wrap_algorithms::WrapAlgorithm;
 pub use wrapping::wrap;
 
 mod filling;
+pub mod laws;
 mod options;
 pub mod word_separators;
+pub mod word_splitters;
 mod wrapping;

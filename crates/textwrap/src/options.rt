@@ -1,5 +1,6 @@
 //! The settings of a wrap.
 ghost use Rattle.std.specs.Prelude.{◌≡◌};
+ghost use Rattle.textwrap.specs.Defaults.{default_algorithm};
 
 use crate::wrap_algorithms::WrapAlgorithm;
 
@@ -16,7 +17,7 @@ impl Options {
     /// Lines of `width` columns by the default algorithm.
     pub fn new(width: usize) -> Self
         ensures width { result.width ≡ width }
-        ensures wrap_algorithm { result.wrap_algorithm ≡ WrapAlgorithm.FirstFit }
+        ensures wrap_algorithm { result.wrap_algorithm ≡ default_algorithm }
     {
         Options {
             width,
@@ -43,9 +44,7 @@ impl Options {
 }
 
 impl From<usize> for Options {
-    ghost use Rattle.textwrap_base.specs.declared.wrap_algorithms.WrapAlgorithm.TheVariants.{FirstFit};
-
-    ghost from_gives = { λ width options. options ≡ record { width = width; wrap_algorithm = FirstFit } };
+    ghost from_gives = { λ width options. options ≡ record { width = width; wrap_algorithm = default_algorithm } };
 
     /// The same as `Options::new`.
     fn from(width: usize) -> Options {
@@ -70,7 +69,12 @@ mod tests {
             ),
         ] {
             assert_eq!(rt; options.width, width, "{name}");
-            assert_eq!(rt; options.wrap_algorithm, WrapAlgorithm::FirstFit, "{name}");
+            let algorithm = if name == "wrap_algorithm" {
+                WrapAlgorithm::FirstFit
+            } else {
+                WrapAlgorithm::new_optimal_fit()
+            };
+            assert_eq!(rt; options.wrap_algorithm, algorithm, "{name}");
         }
     }
 }

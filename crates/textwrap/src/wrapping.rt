@@ -3,6 +3,7 @@ ghost use Rattle.std.specs.Prelude.{◌≡◌, List, ◌∷◌, [], ◌++◌, �
 ghost use Rattle.std.specs.List.{flat_map};
 ghost use Rattle.std.specs.Str.{IsUtf8};
 ghost use Rattle.std.specs.Io.{StartsWith};
+ghost use Rattle.textwrap_base.specs.Cost.{total_width};
 ghost use Rattle.textwrap_base.specs.Words.{text_of, sizes_of, tiled, Tiles};
 ghost use Rattle.textwrap.specs.Paragraph.{Slice};
 ghost use Rattle.textwrap_base.specs.Algorithm.{IsDividedBy};
@@ -12,7 +13,7 @@ ghost use Rattle.textwrap.specs.Text.{AreTextLines};
 use crate::options::Options;
 use crate::word_separators::WordSeparator;
 use crate::words::Word;
-use crate::wrap_algorithms::{WrapAlgorithm, WrapError, wrap_first_fit};
+use crate::wrap_algorithms::WrapError;
 use std::alloc::{AllocError, Global};
 use std::borrow::CowStr;
 use textwrap_base::blanks::split_final_blanks;
@@ -45,9 +46,10 @@ fn wrap_paragraph<'t>(
     paragraph: &'t str,
     options: &Options,
     lines: &mut Vec<CowStr<'t>>,
-) -> Result<(), AllocError>
-    ensures { OnOk result ((added : List Line) × AreParagraphLines options.now paragraph.now added
+) -> Result<(), WrapError>
+    ensures lines { OnOk result ((added : List Line) × AreParagraphLines options.now paragraph.now added
         × (map line_of lines.new.items ≡ map line_of lines.old.items ++ added)) }
+    ensures only_memory { IfErr result (λ error. error ≡ WrapError.Memory alloc_error) }
 {
     if paragraph.len() < options.width {
         let (line, _blanks) = split_final_blanks(paragraph);
@@ -63,13 +65,14 @@ fn wrap_divided<'t>(
     paragraph: &'t str,
     options: &Options,
     lines: &mut Vec<CowStr<'t>>,
-) -> Result<(), AllocError>
-    ensures { OnOk result ((added : List Line) × AreDividedLines options.now paragraph.now added
+) -> Result<(), WrapError>
+    ensures lines { OnOk result ((added : List Line) × AreDividedLines options.now paragraph.now added
         × (map line_of lines.new.items ≡ map line_of lines.old.items ++ added)) }
+    ensures only_memory { IfErr result (λ error. error ≡ WrapError.Memory alloc_error) }
 {
     let pieces = find_pieces(alloc, paragraph, options)?;
     let division = divide(alloc, &pieces, options)?;
-    push_slices(paragraph, &division, lines)
+    Ok(push_slices(paragraph, &division, lines)?)
 }
 
 /// The words of a paragraph, which are what is divided.
@@ -86,19 +89,20 @@ fn find_pieces<'t>(
         .collect(alloc)
 }
 
-/// The pieces divided by the algorithm of the options, each line at their width.
+/// The pieces divided by the algorithm of the options, each line at their width. There is no
+/// overflow, since all widths together keep to 64 bits.
 fn divide<'a, 'w>(
     alloc: Global,
     pieces: &'w [Word<'a>],
     options: &Options,
-) -> Result<Vec<&'w [Word<'a>]>, AllocError>
-    ensures { IfOk result (λ lines. IsDividedBy options.now.wrap_algorithm (λ word. sizes_of (text_of word))
+) -> Result<Vec<&'w [Word<'a>]>, WrapError>
+    requires { total_width (λ word. sizes_of (text_of word)) pieces.now < 2 ^ 64 }
+    ensures divided { IfOk result (λ lines. IsDividedBy options.now.wrap_algorithm (λ word. sizes_of (text_of word))
         (widths_of options.now) pieces.now (map (λ line. line.now) lines.items)) }
+    ensures only_memory { IfErr result (λ error. error ≡ WrapError.Memory alloc_error) }
 {
     let line_widths = [options.width, options.width];
-    match options.wrap_algorithm {
-        WrapAlgorithm::FirstFit => wrap_first_fit(alloc, pieces, &line_widths),
-    }
+    options.wrap_algorithm.wrap(alloc, pieces, &line_widths)
 }
 
 /// Appends the slice of the paragraph that each line's words cover, without its final whitespace.

@@ -6,8 +6,9 @@ use Rattle.std.proofs.lemmas.List.Elements.{All-nil, All-cons, All-head, All-tai
 use Rattle.textwrap_base.specs.Sizes.{Sizes}
 use Rattle.textwrap_base.specs.Division.{line_width, closed_width, IsDivision, Fits, AllFit, AllFull, IsGreedy}
 use Rattle.textwrap_base.specs.Algorithm.{IsDividedBy}
+use Rattle.textwrap_base.proofs.OptimalMap.{IsOptimal-map}
 use Rattle.textwrap_base.specs.declared.wrap_algorithms.WrapAlgorithm.{WrapAlgorithm}
-use Rattle.textwrap_base.specs.declared.wrap_algorithms.WrapAlgorithm.TheVariants.{FirstFit}
+use Rattle.textwrap_base.specs.declared.wrap_algorithms.WrapAlgorithm.TheVariants.{FirstFit, OptimalFit}
 
 module _ {X Y : Type 0} (f : X → Y) (sizes : Y → Sizes) where
   closed_width-map : (xs : List X) → closed_width sizes (map f xs) ≡ closed_width (λ x. sizes (f x)) xs
@@ -62,6 +63,8 @@ module _ {X Y : Type 0} (f : X → Y) (sizes : Y → Sizes) where
   pub IsDividedBy-map : (algorithm : WrapAlgorithm) (widths : List ℕ) (xs : List X) (lines : List (List X)) → IsDividedBy algorithm (λ x. sizes (f x)) widths xs lines
       → IsDividedBy algorithm sizes widths (map f xs) (map (map f) lines)
   IsDividedBy-map FirstFit widths xs lines divided = IsGreedy-map widths xs lines divided
+  IsDividedBy-map (OptimalFit penalties) widths xs lines divided =
+      IsOptimal-map f sizes penalties widths xs lines (IsDivision-map xs lines divided.by_table.division) divided
 
 -- the lines of a division are the fragments in order
 pub IsDivision-whole : {X : Type 0} (xs : List X) (lines : List (List X)) → IsDivision xs lines → flat_map (λ line. line) lines ≡ xs
@@ -71,3 +74,4 @@ IsDivision-whole (x ∷ xs) lines division = division.0
 pub IsDividedBy-whole : {X : Type 0} (sizes : X → Sizes) (algorithm : WrapAlgorithm) (widths : List ℕ) (xs : List X) (lines : List (List X)) → IsDividedBy algorithm sizes widths xs lines
     → flat_map (λ line. line) lines ≡ xs
 IsDividedBy-whole sizes FirstFit widths xs lines divided = IsDivision-whole xs lines divided.admissible.division
+IsDividedBy-whole sizes (OptimalFit penalties) widths xs lines divided = IsDivision-whole xs lines divided.by_table.division

@@ -1,10 +1,17 @@
--- What each algorithm answers.
+-- How a wrap algorithm divides, and when two are equal.
 use Rattle.std.specs.Prelude.{ℕ, List}
 use Rattle.textwrap_base.specs.Sizes.{Sizes}
 use Rattle.textwrap_base.specs.Division.{IsGreedy}
+use Rattle.textwrap_base.specs.Table.{IsOptimal, TableOverflows}
 use Rattle.textwrap_base.specs.declared.wrap_algorithms.WrapAlgorithm.{WrapAlgorithm}
-use Rattle.textwrap_base.specs.declared.wrap_algorithms.WrapAlgorithm.TheVariants.{FirstFit}
+use Rattle.textwrap_base.specs.declared.wrap_algorithms.WrapAlgorithm.TheVariants.{FirstFit, OptimalFit}
 
--- the lines are the algorithm's division of the fragments
+-- the algorithm's division of the fragments
 abbrev pub IsDividedBy : {X : Type 0} → WrapAlgorithm → (X → Sizes) → List ℕ → List X → List (List X) → Type 0
 IsDividedBy FirstFit sizes widths fragments lines = IsGreedy sizes widths fragments lines
+IsDividedBy (OptimalFit penalties) sizes widths fragments lines = IsOptimal sizes penalties widths fragments lines
+
+-- the algorithm refuses these with Overflow: first fit none, optimal fit where its table overflows
+abbrev pub OverflowsBy : {X : Type 0} → WrapAlgorithm → (X → Sizes) → List ℕ → List X → Type 0
+OverflowsBy FirstFit sizes widths fragments = ⊥
+OverflowsBy (OptimalFit penalties) sizes widths fragments = TableOverflows sizes penalties widths fragments

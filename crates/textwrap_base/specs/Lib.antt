@@ -1,6 +1,12 @@
 pub mod Algorithm
+pub mod Breaking
+pub mod Cost
 pub mod Division
 pub mod Escapes
+pub mod Measures
 pub mod Sizes
+pub mod Source
+pub mod Table
 pub mod Units
 pub mod Words
+pub mod Worked

@@ -1,9 +1,16 @@
 //! Laws of the definitions that the contracts cite. Each is the contract of a function that does
 //! nothing, so that a proof may call on it.
-ghost use Rattle.std.specs.Prelude.{◌≡◌, ◌↔◌, ℕ, List};
+ghost use Rattle.std.specs.Prelude.{◌≡◌, ◌≢◌, ◌↔◌, ℕ, ◌<◌, List, [], ◌∷◌, All, IsUtf8};
+ghost use Rattle.std.specs.List.{flat_map};
+ghost use Rattle.textwrap_base.specs.Breaking.{AreBrokenPieces, broken_pieces, broken_words};
+ghost use Rattle.textwrap_base.specs.Cost.{IsChosen, default_penalties, division_cost};
 ghost use Rattle.textwrap_base.specs.Division.{IsGreedy};
+ghost use Rattle.textwrap_base.specs.Table.{table, IsTable};
 ghost use Rattle.textwrap_base.specs.Units.{TextUnit, IsInUnits, units};
+ghost use Rattle.textwrap_base.specs.Words.{WordText, tile_of, tiled};
+ghost use Rattle.textwrap_base.specs.Worked.{worked_table, falling, uneven, uneven_lines};
 
+use crate::penalties::Penalties;
 use crate::words::Fragment;
 
 /// A text has exactly one list of units: whole ones, of which the last may be a sequence without
@@ -19,6 +26,52 @@ pub fn greedy_division_is_unique<T: Fragment>()
         → first ≡ second }
 {}
 
+/// A word can be broken into one list of pieces, and no other: the one that is computed.
+pub fn broken_pieces_are_unique()
+    ensures { (limit : ℕ) (w : WordText) (pieces : List WordText)
+        → AreBrokenPieces limit w pieces ↔ (pieces ≡ broken_pieces limit w) }
+{}
+
+/// The pieces of a word tile its text, and where that is not empty its whitespace with it. So what
+/// words cover is covered by their pieces, where each word that is too wide has a text.
+pub fn broken_pieces_tile()
+    ensures texts { (limit : ℕ) (w : WordText) → IsUtf8 w.word
+        → flat_map (λ piece. piece.word) (broken_pieces limit w) ≡ w.word }
+    ensures pieces { (limit : ℕ) (w : WordText) → IsUtf8 w.word → w.word ≢ []
+        → tiled (broken_pieces limit w) ≡ tile_of w }
+    ensures words { (limit : ℕ) (words : List WordText) → All (λ w. IsUtf8 w.word) words
+        → All (λ w. limit < w.width → w.word ≢ []) words
+        → tiled (broken_words limit words) ≡ tiled words }
+{}
+
+/// Fragments have one chosen division at most, for any line widths.
+pub fn chosen_division_is_unique<T: Fragment>(
+    fragments: &[T],
+    line_widths: &[usize],
+    penalties: &Penalties,
+)
+    ensures { (lines others : List (List T))
+        → IsChosen T.sizes penalties.now line_widths.now fragments.now lines
+        → IsChosen T.sizes penalties.now line_widths.now fragments.now others
+        → lines ≡ others }
+{}
+
+/// Each entry of a table but the first is the least of what the entries before it give.
+pub fn table_has_least_costs()
+    ensures { (cost : ℕ → ℕ → ℕ → ℕ) (n : ℕ) → IsTable cost n (table cost n) }
+{}
+
+/// Two tables at the default penalties: one where the closed widths of the beginnings fall, at
+/// line width 10, and one at the line widths 10, 5 and 100, where it is not the least cost of all
+/// divisions.
+pub fn worked_tables_hold()
+    ensures falling { worked_table (10 ∷ []) falling
+        ≡ (0, 0) ∷ (0, 1000) ∷ (1, 2025) ∷ (2, 3050) ∷ (1, 2000) ∷ (4, 3000) ∷ [] }
+    ensures uneven { worked_table (10 ∷ 5 ∷ 100 ∷ []) uneven
+        ≡ (0, 0) ∷ (0, 1025) ∷ (0, 1000) ∷ (2, 39500) ∷ [] }
+    ensures uneven_lines { division_cost (λ sizes. sizes) default_penalties (10 ∷ 5 ∷ 100 ∷ []) 3 uneven_lines ≡ 3050 }
+{}
+
 #[cfg(test)]
 mod tests {
     use super::*;
@@ -28,5 +81,10 @@ mod tests {
     fn laws_hold_for_words() {
         units_are_unique();
         greedy_division_is_unique::<Word<'_>>();
+        broken_pieces_are_unique();
+        broken_pieces_tile();
+        chosen_division_is_unique(&[Word::from("foo")], &[10], &Penalties::new());
+        table_has_least_costs();
+        worked_tables_hold();
     }
 }

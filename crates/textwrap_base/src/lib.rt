@@ -5,5 +5,9 @@
 pub mod blanks;
 mod errors;
 pub mod laws;
+pub mod minima;
+mod penalties;
+#[cfg(test)]
+mod testing;
 pub mod words;
 pub mod wrap_algorithms;

@@ -5,10 +5,12 @@ ghost use Rattle.textwrap_base.specs.Units.{columns, text_width};
 ghost use Rattle.textwrap_base.specs.Words.{text_of, sizes_of, word_of};
 
 use crate::blanks::split_final_blanks;
+pub use breaking::{BreakApart, break_words};
 use escapes::State;
 use std::fmt::Debug;
 use unicode_width::UnicodeWidthChar;
 
+mod breaking;
 mod escapes;
 
 /// The columns that a text takes in a terminal: the sum over its visible characters of the

@@ -1,31 +1,76 @@
 //! The division of fragments into lines.
-ghost use Rattle.std.specs.Prelude.{◌≡◌, ◌+◌, ◌≤◌, ◌<◌, length, map, take, IfOk};
+ghost use Rattle.std.specs.Prelude.{◌≡◌, ◌+◌, ◌≤◌, ◌<◌, ◌^◌, length, map, take, IfOk, OnOk};
 ghost use Rattle.textwrap_base.specs.Division.{line_width, closed_width, Fits, IsGreedy};
+ghost use Rattle.textwrap_base.specs.Cost.{default_penalties, total_width, Overflowed};
 
 pub use crate::errors::{OverflowError, WrapError};
-use crate::words::Fragment;
+pub use crate::penalties::Penalties;
+use crate::words::{Fragment, Word};
+pub use optimal_fit::{wrap_optimal_fit, wrap_optimal_fit_counted};
 use std::alloc::{AllocError, Global};
+
+mod optimal_fit;
 
 /// How fragments are divided into lines.
 #[derive(Clone, Copy, Debug, PartialEq)]
 pub enum WrapAlgorithm {
     /// Each line takes fragments while they fit, as `wrap_first_fit` does.
     FirstFit,
+    /// The division of least cost at these penalties, as `wrap_optimal_fit` finds it.
+    OptimalFit(Penalties),
 }
 
 impl WrapAlgorithm {
-    /// First fit.
+    /// Optimal fit with the default penalties.
     pub fn new() -> Self
-        ensures { result ≡ WrapAlgorithm.FirstFit }
+        ensures { result ≡ WrapAlgorithm.OptimalFit default_penalties }
     {
-        WrapAlgorithm::FirstFit
+        WrapAlgorithm::new_optimal_fit()
+    }
+
+    /// Optimal fit with the default penalties.
+    pub fn new_optimal_fit() -> Self
+        ensures { result ≡ WrapAlgorithm.OptimalFit default_penalties }
+    {
+        WrapAlgorithm::OptimalFit(Penalties::new())
+    }
+
+    ghost use Rattle.textwrap_base.specs.Algorithm.{IsDividedBy, OverflowsBy};
+    ghost use Rattle.textwrap_base.specs.Words.{sizes_of, text_of};
+
+    /// Divides the words into lines by this algorithm.
+    ///
+    /// # Errors
+    /// That of `wrap_first_fit` or of `wrap_optimal_fit`.
+    pub fn wrap<'a, 'b>(
+        &self,
+        alloc: Global,
+        words: &'b [Word<'a>],
+        line_widths: &[usize],
+    ) -> Result<Vec<&'b [Word<'a>]>, WrapError>
+        ensures divided { IfOk result (λ lines.
+            IsDividedBy self.now (λ word. sizes_of (text_of word)) line_widths.now words.now
+            (map (λ line. line.now) lines.items)) }
+        ensures overflow_only { Overflowed result
+            → OverflowsBy self.now (λ word. sizes_of (text_of word)) line_widths.now words.now }
+        ensures ok_only { OnOk result
+            (¬ OverflowsBy self.now (λ word. sizes_of (text_of word)) line_widths.now words.now) }
+        ensures no_overflow { total_width (λ word. sizes_of (text_of word)) words.now < 2 ^ 64
+            → ¬ Overflowed result }
+    {
+        match self {
+            WrapAlgorithm::FirstFit => Ok(wrap_first_fit(alloc, words, line_widths)?),
+            WrapAlgorithm::OptimalFit(penalties) => {
+                wrap_optimal_fit(alloc, words, line_widths, penalties)
+            }
+        }
     }
 }
 
 impl Default for WrapAlgorithm {
-    ghost use Rattle.textwrap_base.specs.declared.wrap_algorithms.WrapAlgorithm.TheVariants.{FirstFit};
+    ghost use Rattle.textwrap_base.specs.declared.wrap_algorithms.WrapAlgorithm.TheVariants.{OptimalFit};
 
-    ghost is_default = { λ algorithm. algorithm ≡ FirstFit };
+    ghost is_default = { λ algorithm. algorithm ≡ OptimalFit default_penalties };
 
     fn default() -> Self {
         WrapAlgorithm::new()
@@ -62,7 +107,7 @@ pub fn wrap_first_fit<'a, T: Fragment>(
 }
 
 /// The width of line `number`, counted from 0.
-fn line_width(line_widths: &[usize], number: usize) -> usize
+pub(crate) fn line_width(line_widths: &[usize], number: usize) -> usize
     ensures { result ≡ line_width line_widths.now number }
 {
     let last = line_widths.len().saturating_sub(1);

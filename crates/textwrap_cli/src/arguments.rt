@@ -1,7 +1,7 @@
 //! The program's arguments.
 ghost use Rattle.std.specs.Prelude.{◌≡◌, map, string_bytes};
 ghost use Rattle.std.specs.Str.{all_ascii_digits};
-ghost use Rattle.textwrap_cli.specs.Arguments.{width_of, algorithm_of, settings_of};
+ghost use Rattle.textwrap_cli.specs.Arguments.{width_of, algorithm_of, settings_with, settings_of};
 
 use textwrap::wrap_algorithms::WrapAlgorithm;
 
@@ -14,16 +14,24 @@ pub struct Settings {
     pub algorithm: WrapAlgorithm,
 }
 
-/// The settings that the words after the program's name mean: a width in ASCII digits, and `first`.
-/// Any other words mean none. Takes no memory.
+/// The settings that the words after the program's name mean: a width in ASCII digits, and `first`
+/// or `optimal`, which may be left out. Any other words mean none. Takes no memory.
 pub fn arguments(words: &[String]) -> Option<Settings>
     ensures { result ≡ settings_of (map string_bytes words.now) }
 {
-    let [width, algorithm] = words else {
-        return None;
-    };
-    let width = parse_width(width.as_str())?;
-    let algorithm = parse_algorithm(algorithm.as_str())?;
+    match words {
+        [width] => parse_settings(width.as_str(), Some(WrapAlgorithm::new_optimal_fit())),
+        [width, algorithm] => parse_settings(width.as_str(), parse_algorithm(algorithm.as_str())),
+        _ => None,
+    }
+}
+
+/// The settings of a width and an algorithm, where both are there.
+fn parse_settings(width: &str, algorithm: Option<WrapAlgorithm>) -> Option<Settings>
+    ensures { result ≡ settings_with width.now algorithm }
+{
+    let width = parse_width(width)?;
+    let algorithm = algorithm?;
     Some(Settings { width, algorithm })
 }
 
@@ -53,7 +61,10 @@ fn is_all_digits(bytes: &[u8]) -> bool
 fn parse_algorithm(word: &str) -> Option<WrapAlgorithm>
     ensures { result ≡ algorithm_of word.now }
 {
-    (word == "first").then_some(WrapAlgorithm::FirstFit)
+    if word == "first" {
+        return Some(WrapAlgorithm::FirstFit);
+    }
+    (word == "optimal").then_some(WrapAlgorithm::new_optimal_fit())
 }
 
 #[cfg(test)]
@@ -88,16 +99,33 @@ mod tests {
     }
 
     #[test]
+    fn without_an_algorithm_the_least_cost_is_meant(rt: HostRuntime) -> Result<(), Fail> {
+        let rows: [&[&str]; 2] = [&["10"], &["10", "optimal"]];
+        for words in rows {
+            let words = strings(rt.alloc(), words)?;
+            let settings = arguments(&words).ok_or("10")?;
+            assert_eq!(rt; settings.width, 10, "{words:?}");
+            assert_eq!(rt;
+                settings.algorithm,
+                WrapAlgorithm::new_optimal_fit(),
+                "{words:?}"
+            );
+        }
+        Ok(())
+    }
+
+    #[test]
     fn other_words_are_none(rt: HostRuntime) -> Result<(), Fail> {
-        let rows: [&[&str]; 9] = [
+        let rows: [&[&str]; 10] = [
             &["18446744073709551616", "first"],
             &["+5", "first"],
             &["", "first"],
             &["1O", "first"],
             &["10", "First"],
-            &["10", "optimal"],
-            &["10"],
+            &["10", "Optimal"],
+            &["10", ""],
             &["10", "first", "x"],
+            &["first"],
             &[],
         ];
         for words in rows {

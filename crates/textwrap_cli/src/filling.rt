@@ -24,7 +24,9 @@ pub enum RunError {
 }
 
 /// What the program says of a fault on standard error.
-pub fn fault(error: &RunError) -> &'static str {
+pub fn fault(error: &RunError) -> &'static str
+    ensures { result.now ≡ fault_line error.now }
+{
     match error {
         RunError::Read => "textwrap_cli: cannot read input",
         RunError::NotUtf8 => "textwrap_cli: input is not UTF-8",

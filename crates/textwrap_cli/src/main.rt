@@ -1,4 +1,5 @@
-//! `textwrap_cli WIDTH first` writes its standard input, filled.
+//! `textwrap_cli WIDTH [first|optimal]` writes its standard input, filled. Without the second word
+//! the algorithm is optimal fit.
 #![tactic(auto)]
 
 use arguments::arguments;
@@ -15,7 +16,7 @@ fn main(rt: HostRuntime) -> ExitCode {
         return complain(&rt, fault(&RunError::Memory), 1);
     };
     let Some(settings) = arguments(&words) else {
-        return complain(&rt, "usage: textwrap_cli WIDTH first", 2);
+        return complain(&rt, "usage: textwrap_cli WIDTH [first|optimal]", 2);
     };
     let filled = run(
         rt.alloc(),

@@ -106,9 +106,3 @@ fn words_are_divided(rt: HostRuntime) -> Result<(), Fail> {
     assert_eq!(rt; lines[1], &words[2..]);
     Ok(())
 }
-
-#[test]
-fn first_fit_is_the_default(rt: HostRuntime) {
-    assert_eq!(rt; WrapAlgorithm::new(), WrapAlgorithm::FirstFit);
-    assert_eq!(rt; WrapAlgorithm::default(), WrapAlgorithm::FirstFit);
-}

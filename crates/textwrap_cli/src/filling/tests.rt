@@ -20,7 +20,7 @@ impl Read for CutOff {
     }
 }
 
-/// A writer that takes so many bytes, and fails or answers 0 after them.
+/// A writer that takes so many bytes. After them a write fails or takes nothing, and a flush fails.
 #[derive(Drop)]
 struct Full {
     room: usize,
@@ -40,34 +40,46 @@ impl Write for Full {
     }
 
     fn flush(&mut self) -> io::Result<()> {
+        if self.room == 0 {
+            return Err(io::Error::from(ErrorKind::BrokenPipe));
+        }
         Ok(())
     }
 }
 
 #[test]
 fn the_input_is_filled(rt: HostRuntime) -> Result<(), Fail> {
-    for (input, width, output) in [
-        ("", 10, ""),
+    let hamlet = "To be, or not to be: that is the question";
+    let with_line_feed = "To be, or not to be: that is the question\n";
+    let first = WrapAlgorithm::FirstFit;
+    let optimal = WrapAlgorithm::new_optimal_fit();
+    for (input, algorithm, output) in [
+        ("", first, ""),
+        ("", optimal, ""),
         (
-            "To be, or not to be: that is the question",
-            10,
+            hamlet,
+            first,
             "To be, or\nnot to be:\nthat is\nthe\nquestion",
         ),
         (
-            "To be, or not to be: that is the question\n",
-            10,
+            with_line_feed,
+            first,
             "To be, or\nnot to be:\nthat is\nthe\nquestion\n",
+        ),
+        (
+            hamlet,
+            optimal,
+            "To be,\nor not to\nbe: that\nis the\nquestion",
+        ),
+        (
+            with_line_feed,
+            optimal,
+            "To be,\nor not to\nbe: that\nis the\nquestion\n",
         ),
     ] {
         let mut reader = input.as_bytes();
         let mut writer = Vec::new(rt.alloc());
-        let done = run(
-            rt.alloc(),
-            &mut reader,
-            &mut writer,
-            width,
-            WrapAlgorithm::FirstFit,
-        );
+        let done = run(rt.alloc(), &mut reader, &mut writer, 10, algorithm);
         assert_eq!(rt; done, Ok(()), "{input:?}");
         assert_eq!(rt; writer.as_slice(), output.as_bytes(), "{input:?}");
         assert!(rt; reader.is_empty(), "{input:?}");
@@ -105,8 +117,9 @@ fn a_read_that_fails_writes_nothing(rt: HostRuntime) {
 }
 
 #[test]
-fn a_write_that_fails_leaves_a_beginning(rt: HostRuntime) {
-    for (room, fails) in [(0, false), (0, true), (5, false), (5, true)] {
+fn a_write_or_flush_that_fails_leaves_a_beginning(rt: HostRuntime) {
+    let filled = b"foo bar\nbaz";
+    for (room, fails) in [(0, false), (0, true), (5, false), (5, true), (11, false)] {
         let mut writer = Full {
             room,
             fails,
@@ -120,7 +133,7 @@ fn a_write_that_fails_leaves_a_beginning(rt: HostRuntime) {
             WrapAlgorithm::FirstFit,
         );
         assert_eq!(rt; done, Err(RunError::Write), "{room}");
-        assert_eq!(rt; writer.taken.as_slice(), &b"foo bar\nbaz"[..room], "{room}");
+        assert_eq!(rt; writer.taken.as_slice(), &filled[..room], "{room}");
     }
 }
 

@@ -13,7 +13,7 @@ loop-paragraph-init c = λ others lines. rw c.new-lines.ensures.items lines
 pub loop-paragraph-preserved : goal.loop-paragraph-preserved
 loop-paragraph-preserved c =
     let turn = YieldsList-turn (YieldsList-from_str_split 10 c.args.text.now (lit< tt) (cc) (cc) (cc)) c.loop-paragraph.yielded _ c.loop-paragraph.yielded_by _ _ c.in-Some.paragraph c.in-Some.is c.next.ensures.steps in
-    let added = c.in_ok-wrap_paragraph.ensures in
+    let added = c.in_ok-wrap_paragraph.ensures.lines in
     λ others lines.
     let after = rw length_push at lines in
     subst (AreLinesOf c.args.options (paragraphs_of c.args.text.now))

@@ -1,27 +1,27 @@
-use Rattle.std.proofs.Common.{◌++◌, map, ap, ◌∙◌}
+use Rattle.std.proofs.Common.{◌++◌, map, ap, ◌∙◌, arith}
 use Rattle.std.specs.List.{flat_map}
-use Rattle.std.proofs.lemmas.Result.{on_ok_weaker}
 use Rattle.textwrap_base.specs.Words.{text_of, sizes_of, tiled}
 use Rattle.textwrap_base.proofs.DivisionMap.{IsDividedBy-whole}
 use Rattle.textwrap.specs.Paragraph.{Slice, line_of, covered, widths_of}
-use Rattle.textwrap.proofs.ParagraphLemmas.{tiled-lines, AreDividedLines-from}
+use Rattle.textwrap.proofs.ParagraphLemmas.{tiled-lines, AreDividedLines-from, total_width-pieces}
 use Rattle.textwrap.proofs.wrapping.wrap_divided.Goals as goal
+
+pub divide-requires : goal.divide-requires
+divide-requires c =
+    let within = total_width-pieces c.args.options.now c.args.paragraph.now c.deref.result.now c.utf8.paragraph (ap (map text_of) c.deref.ensures.value ∙ c.in_ok-pieces.ensures.pieces) in omega (arith, within)
 
 pub push_slices-requires : goal.push_slices-requires
 push_slices-requires c =
-    let whole = IsDividedBy-whole (λ word. sizes_of (text_of word)) c.args.options.now.wrap_algorithm (widths_of c.args.options.now) c.deref.result.now _ c.in_ok-division.ensures in
+    let whole = IsDividedBy-whole (λ word. sizes_of (text_of word)) c.args.options.now.wrap_algorithm (widths_of c.args.options.now) c.deref.result.now _ c.in_ok-division.ensures.divided in
     ap (flat_map (λ line. tiled (map text_of line.now))) c.deref-2.ensures.value
     ∙ tiled-lines (λ line. line.now) c.in_ok-division.division.items
     ∙ ap (λ ws. tiled (map text_of ws)) (whole ∙ c.deref.ensures.value) ∙ c.in_ok-pieces.ensures.tiles
 
-pub returns : goal.returns
-returns c =
+pub returns-clause-lines : goal.returns-clause-lines
+returns-clause-lines c =
     let lines = AreDividedLines-from (λ line. line.now) c.args.options.now c.args.paragraph.now c.deref.result.now c.in_ok-division.division.items
-    (ap (map text_of) c.deref.ensures.value ∙ c.in_ok-pieces.ensures.pieces) c.in_ok-division.ensures in
-    on_ok_weaker c.push_slices.result
-    (λ pushed. (
+    (ap (map text_of) c.deref.ensures.value ∙ c.in_ok-pieces.ensures.pieces) c.in_ok-division.ensures.divided in (
       map (λ line. Slice (covered (map text_of line.now))) c.in_ok-division.division.items,
       lines,
-      pushed ∙ ap (λ l. map line_of c.args.lines.now.items ++ map (λ line. Slice (covered (map text_of line.now))) l) c.deref-2.ensures.value,
-    ))
-    c.push_slices.ensures
+      c.in_ok-push_slices.ensures ∙ ap (λ l. map line_of c.args.lines.now.items ++ map (λ line. Slice (covered (map text_of line.now))) l) c.deref-2.ensures.value,
+    )

@@ -1,0 +1,17 @@
+//! Laws of the definitions that the contracts cite. Each is the contract of a function that does
+//! nothing, so that a proof may call on it.
+ghost use Rattle.std.specs.Prelude.{◌≡◌, ℕ, List, All, IsUtf8};
+ghost use Rattle.textwrap_base.specs.Words.{WordText, tile_of, tiled};
+ghost use Rattle.textwrap.specs.Splitting.{points_of, AreCuts, split_pieces, split_words};
+ghost use Rattle.textwrap.specs.declared.word_splitters.WordSplitter.{WordSplitter};
+
+/// The points of a splitter are cuts of the word, and the pieces at any cuts tile it, with its
+/// whitespace. So the pieces of a list of words tile what the words do.
+pub fn split_pieces_tile()
+    ensures cuts { (splitter : WordSplitter) (text : List ℕ) → IsUtf8 text
+        → AreCuts text (points_of splitter text) }
+    ensures pieces { (points : List ℕ) (w : WordText) → AreCuts w.word points
+        → tiled (split_pieces points w) ≡ tile_of w }
+    ensures words { (splitter : WordSplitter) (words : List WordText) → All (λ w. IsUtf8 w.word) words
+        → tiled (split_words splitter words) ≡ tiled words }
+{}

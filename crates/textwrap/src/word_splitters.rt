@@ -1,0 +1,269 @@
+//! Where words may be split, and the pieces that they are split into.
+ghost use Rattle.std.specs.Prelude.{◌≡◌, ℕ, ◌<◌, ◌≤◌, List, [], ◌++◌, length, map, reverse, slice_range, chars, IfOk, IsOk, OnOk, IsCharBoundary};
+ghost use Rattle.std.specs.Iterator.{IsFiniteIterable, Drains};
+ghost use Rattle.textwrap_base.specs.Breaking.{piece};
+ghost use Rattle.textwrap_base.specs.Words.{text_of};
+ghost use Rattle.textwrap.specs.Splitting.{is_alphanumeric, begins_alphanumeric, ends_in_hyphen, is_hyphen_point, hyphen_points, AreCuts, cut_penalty, split_pieces, split_words};
+
+use std::alloc::{AllocError, Global};
+use textwrap_base::words::{Word, display_width};
+use unicode::properties::{GeneralCategory, GeneralCategoryGroup, is_alphabetic};
+
+/// Where a word may be split, when the line ends within it.
+#[derive(Clone, Debug, Drop, PartialEq)]
+pub enum WordSplitter {
+    /// Nowhere.
+    NoHyphenation,
+    /// After each hyphen that stands between alphanumeric characters, so that a word such as
+    /// `--foo-bar` keeps its beginning.
+    HyphenSplitter,
+}
+
+impl WordSplitter {
+    ghost use Rattle.textwrap.specs.Splitting.{points_of};
+
+    /// The offsets, in bytes, at which the word may be split: increasing, inside the word and on
+    /// character boundaries. That of `NoHyphenation` takes no memory and always succeeds.
+    ///
+    /// # Errors
+    /// Only want of memory.
+    pub fn split_points(&self, alloc: Global, word: &str) -> Result<Vec<usize>, AllocError>
+        ensures points { IfOk result (λ points. points.items ≡ points_of self.now word.now) }
+        ensures cuts { IfOk result (λ points. AreCuts word.now points.items) }
+        ensures none { self.now ≡ WordSplitter.NoHyphenation → IsOk result }
+    {
+        match self {
+            WordSplitter::NoHyphenation => Ok(Vec::new(alloc)),
+            WordSplitter::HyphenSplitter => hyphen_points(alloc, word),
+        }
+    }
+}
+
+/// The offsets after the hyphens between alphanumeric characters.
+fn hyphen_points(alloc: Global, word: &str) -> Result<Vec<usize>, AllocError>
+    ensures points { IfOk result (λ points. points.items ≡ hyphen_points word.now) }
+    ensures cuts { IfOk result (λ points. AreCuts word.now points.items) }
+{
+    let mut points = Vec::new(alloc);
+    for point in 1..word.len() {
+        if is_hyphen_point(word, point) {
+            points.push(point)?;
+        }
+    }
+    Ok(points)
+}
+
+/// Whether a hyphen between alphanumeric characters ends at the offset, which is inside the word.
+fn is_hyphen_point(word: &str, point: usize) -> bool
+    requires after_start { 0 < point }
+    requires before_end { point < length word.now }
+    ensures point { result ≡ is_hyphen_point word.now point }
+{
+    if word.as_bytes()[point - 1] != b'-' {
+        return false;
+    }
+    ends_alphanumeric(&word[..point - 1]) && begins_alphanumeric(&word[point..])
+}
+
+/// Whether the text has a first character, and this is alphanumeric.
+fn begins_alphanumeric(text: &str) -> bool
+    ensures { result ≡ begins_alphanumeric (chars text.now) }
+{
+    text.chars().next().is_some_and(is_alphanumeric)
+}
+
+/// Whether the text has a last character, and this is alphanumeric.
+fn ends_alphanumeric(text: &str) -> bool
+    ensures { result ≡ begins_alphanumeric (reverse (chars text.now)) }
+{
+    match text.chars().next_back() {
+        Some(last) => is_alphanumeric(last),
+        None => false,
+    }
+}
+
+/// Whether a character is Alphabetic or a number (general category Nd, Nl or No).
+fn is_alphanumeric(ch: char) -> bool
+    ensures { result ≡ is_alphanumeric ch }
+{
+    is_alphabetic(ch) || GeneralCategoryGroup::Number.contains(GeneralCategory::for_char(ch))
+}
+
+/// Splits each word at the points of the splitter. A piece that ends at a point has no whitespace,
+/// and the penalty `-` unless the word has a hyphen there already; the last piece has the
+/// whitespace and the penalty of the word. Each width is that of the piece's own text, also where
+/// a point stands inside an escape sequence.
+///
+/// # Errors
+/// Only want of memory.
+pub fn split_words<'a, I: IntoIterator<Item = Word<'a>>>(
+    alloc: Global,
+    words: I,
+    word_splitter: &WordSplitter,
+) -> Result<Vec<Word<'a>>, AllocError>
+    requires ends { IsFiniteIterable I.into_iter_gives I.IntoIter.can_next I.IntoIter.remaining words }
+    ensures pieces { IfOk result (λ pieces. (it : I.IntoIter) × (given : List Word) × I.into_iter_gives words it
+        × Drains I.IntoIter.next_gives it given
+        × (map text_of pieces.items ≡ split_words word_splitter.now (map text_of given))) }
+{
+    let mut pieces = Vec::new(alloc);
+    for word in words {
+        let points = word_splitter.split_points(alloc, word.word)?;
+        push_split(&mut pieces, word, &points)?;
+    }
+    Ok(pieces)
+}
+
+/// Adds the pieces of a word that is split at these points.
+fn push_split<'a>(
+    pieces: &mut Vec<Word<'a>>,
+    word: Word<'a>,
+    points: &[usize],
+) -> Result<(), AllocError>
+    requires { AreCuts word.word.now points.now }
+    ensures { OnOk result (map text_of pieces.new.items
+        ≡ map text_of pieces.old.items ++ split_pieces points.now (text_of word.entry)) }
+{
+    let mut start = 0;
+    for point in points {
+        pieces.push(inner_piece(word.word, start, *point))?;
+        start = *point;
+    }
+    let rest = &word.word[start..];
+    pieces.push(Word {
+        word: rest,
+        width: display_width(rest),
+        ..word
+    })?;
+    Ok(())
+}
+
+/// The piece of a text from one offset to another, at which it is cut.
+fn inner_piece(text: &str, start: usize, point: usize) -> Word<'_>
+    requires order { start ≤ point }
+    requires from_cut { 0 < start → IsCharBoundary text.now start }
+    requires to_cut { IsCharBoundary text.now point }
+    ensures { text_of result
+        ≡ piece (slice_range text.now start point) [] (cut_penalty text.now point) }
+{
+    let word = &text[start..point];
+    Word {
+        word,
+        whitespace: "",
+        penalty: if ends_in_hyphen(&text[..point]) {
+            ""
+        } else {
+            "-"
+        },
+        width: display_width(word),
+    }
+}
+
+/// Whether the text ends in a hyphen.
+fn ends_in_hyphen(text: &str) -> bool
+    ensures { result ≡ ends_in_hyphen text.now }
+{
+    text.as_bytes().last().is_some_and(|byte| *byte == b'-')
+}
+
+#[cfg(test)]
+mod tests {
+    use super::*;
+    use std::process::Abort;
+    use std::test::Fail;
+
+    fn assert_words(rt: &impl Abort, words: &[Word<'_>], wanted: &[&str]) {
+        assert_eq!(rt; words.len(), wanted.len());
+        for (word, text) in words.iter().zip(wanted) {
+            assert_eq!(rt; *word, Word::from(*text));
+        }
+    }
+
+    #[test]
+    fn a_word_is_split_after_hyphens_between_alphanumerics(rt: HostRuntime) -> Result<(), Fail> {
+        let rows: [(&str, &[usize]); 14] = [
+            ("--foo-bar", &[6]),
+            ("can-be-split", &[4, 7]),
+            ("foo(-)bar", &[]),
+            ("²-b", &[3]),
+            ("é-b", &[3]),
+            ("a-²", &[2]),
+            ("a_-b", &[]),
+            ("a-_b", &[]),
+            ("e\u{301}-b", &[]),
+            ("a--b", &[]),
+            ("a-", &[]),
+            ("-a", &[]),
+            ("-", &[]),
+            ("", &[]),
+        ];
+        for (word, wanted) in &rows {
+            let points = WordSplitter::HyphenSplitter.split_points(rt.alloc(), word)?;
+            assert_eq!(rt; points.as_slice(), *wanted);
+            let points = WordSplitter::NoHyphenation.split_points(rt.alloc(), word)?;
+            assert_eq!(rt; points.len(), 0);
+        }
+        Ok(())
+    }
+
+    #[test]
+    fn words_are_split_into_their_pieces(rt: HostRuntime) -> Result<(), Fail> {
+        let rows: [(&[&str], &[&str]); 5] = [
+            (&["foo-bar  "], &["foo-", "bar  "]),
+            (
+                &["can-be-split", "foo(-)bar "],
+                &["can-", "be-", "split", "foo(-)bar "],
+            ),
+            (&["   "], &["   "]),
+            (&["\x1b[3-1m"], &["\x1b[3-", "1m"]),
+            (&[], &[]),
+        ];
+        for (texts, wanted) in &rows {
+            let words = texts.iter().map(|text| Word::from(*text));
+            let pieces = split_words(rt.alloc(), words, &WordSplitter::HyphenSplitter)?;
+            assert_words(&rt, &pieces, wanted);
+        }
+        Ok(())
+    }
+
+    #[test]
+    fn without_hyphenation_words_stay_whole(rt: HostRuntime) -> Result<(), Fail> {
+        let words = [Word::from("foo-bar"), Word::from("   "), Word::from("")];
+        let pieces = split_words(rt.alloc(), words, &WordSplitter::NoHyphenation)?;
+        assert_eq!(rt; pieces.as_slice(), words.as_slice());
+        Ok(())
+    }
+
+    #[test]
+    fn a_split_word_has_its_ends_at_the_last_piece(rt: HostRuntime) -> Result<(), Fail> {
+        let word = Word {
+            word: "foobar",
+            whitespace: "  ",
+            penalty: "!",
+            width: 9,
+        };
+        let mut pieces = Vec::new(rt.alloc());
+        push_split(&mut pieces, word, &[0, 3, 3])?;
+        let cut = |text| Word {
+            penalty: "-",
+            ..Word::from(text)
+        };
+        let last = Word {
+            word: "bar",
+            width: 3,
+            ..word
+        };
+        assert_eq!(rt;
+            pieces.as_slice(),
+            [cut(""), cut("foo"), cut(""), last].as_slice()
+        );
+        Ok(())
+    }
+
+    #[test]
+    fn splitters_are_equal_where_their_cases_are(rt: HostRuntime) -> Result<(), Fail> {
+        assert!(rt; WordSplitter::NoHyphenation == WordSplitter::NoHyphenation.clone()?);
+        assert!(rt; WordSplitter::NoHyphenation != WordSplitter::HyphenSplitter);
+        Ok(())
+    }
+}

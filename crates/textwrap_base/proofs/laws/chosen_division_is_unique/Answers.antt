@@ -1,0 +1,5 @@
+use Rattle.textwrap_base.proofs.UniqueLemmas.{chosen_one}
+use Rattle.textwrap_base.proofs.laws.chosen_division_is_unique.Goals as goal
+
+pub returns : goal.returns
+returns g c = chosen_one g.T.Fragment.sizes c.args.penalties.now c.args.line_widths.now c.args.fragments.now

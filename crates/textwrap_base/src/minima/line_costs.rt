@@ -1,0 +1,231 @@
+//! The line costs of fragments, from running sums of their widths.
+ghost use Rattle.std.specs.Prelude.{◌≡◌, ℕ, ◌+◌, ◌-◌, ◌*◌, ◌^◌, ◌<◌, ◌≤◌, length, map, max, IfOk, OnOk, SomeIff, ◌&&◌, nat_lt, ◌==◌, slice_range};
+ghost use Rattle.textwrap_base.specs.Source.{Charged, counted};
+ghost use Rattle.textwrap_base.specs.Cost.{total_width, fit_cost, break_cost, line_cost, target, Overflowed};
+ghost use Rattle.textwrap_base.specs.Division.{line_width, closed_width};
+ghost use Rattle.textwrap_base.specs.Measures.{measured_sizes, AreMeasured};
+ghost use Rattle.textwrap_base.specs.Table.{lines_of, line_costs};
+
+use super::{CostSource, Steps};
+use crate::errors::{OverflowError, WrapError};
+use crate::penalties::Penalties;
+use crate::words::Fragment;
+use crate::wrap_algorithms::line_width;
+use std::alloc::{AllocError, Global};
+use std::marker::Model;
+
+/// A fragment's widths, and the widths and whitespace of all fragments before it.
+#[derive(Clone, Copy)]
+struct Measure {
+    before: u128,
+    width: usize,
+    whitespace: usize,
+    penalty: usize,
+}
+
+/// The costs of the lines of some fragments, at the line widths and penalties given, with a count
+/// of its own from 0.
+#[derive(Drop)]
+pub struct LineCosts {
+    measures: Vec<Measure>,
+    line_widths: Vec<usize>,
+    penalties: Penalties,
+    steps: Steps,
+}
+
+impl Model for LineCosts {
+    ghost Value = { Charged };
+
+    ghost view = { λ s. record {
+      sizes = map measured_sizes s.measures.items;
+      widths = s.line_widths.items;
+      penalties = s.penalties;
+      steps = s.steps;
+    } };
+
+    ghost invariant = { λ s. AreMeasured s.measures.items };
+}
+
+impl LineCosts {
+    /// The costs of the lines of these fragments.
+    ///
+    /// # Errors
+    /// Overflow exactly where all widths together pass 2^128-1, before any growth; else want of
+    /// memory.
+    pub fn new<T: Fragment>(
+        alloc: Global,
+        fragments: &[T],
+        line_widths: &[usize],
+        penalties: &Penalties,
+    ) -> Result<LineCosts, WrapError>
+        ensures lines { IfOk result (λ costs. ⟦<LineCosts as CostSource>⟧.lines costs
+            ≡ lines_of T.sizes penalties.now line_widths.now fragments.now) }
+        ensures count { IfOk result (λ costs. ⟦<LineCosts as CostSource>⟧.steps costs ≡ 0) }
+        ensures overflow_only { Overflowed result → 2 ^ 128 ≤ total_width T.sizes fragments.now }
+        ensures too_wide { 2 ^ 128 ≤ total_width T.sizes fragments.now → Overflowed result }
+    {
+        if total_width(fragments).is_none() {
+            return Err(WrapError::Overflow(OverflowError));
+        }
+        Ok(LineCosts {
+            measures: measures_of(alloc, fragments)?,
+            line_widths: Vec::from_slice(alloc, line_widths)?,
+            penalties: *penalties,
+            steps: Steps::new(),
+        })
+    }
+
+    /// How often a cost was asked.
+    pub fn steps(&self) -> u128
+        ensures { result ≡ self.now.steps }
+    {
+        self.steps.count()
+    }
+}
+
+impl CostSource for LineCosts {
+    ghost lines = { λ s. lines_of (λ sizes. sizes) s.penalties s.widths s.sizes };
+
+    ghost steps = { λ s. s.steps };
+
+    fn ends(&self) -> usize {
+        self.measures.len()
+    }
+
+    fn candidate(
+        &mut self,
+        start: usize,
+        end: usize,
+        line_number: usize,
+        before: u128,
+    ) -> Option<u128> {
+        self.steps.add(1);
+        let width = line_width(&self.line_widths, line_number);
+        let cost = line_cost(&self.measures, &self.penalties, width, start, end)?;
+        before.checked_add(cost)
+    }
+}
+
+/// The cost of the line of the fragments `start` to `end - 1`, or `None` past 2^128-1.
+fn line_cost(
+    measures: &[Measure],
+    penalties: &Penalties,
+    line_width: usize,
+    start: usize,
+    end: usize,
+) -> Option<u128>
+    requires ordered { start < end }
+    requires within { end ≤ length measures.now }
+    requires measured { AreMeasured measures.now }
+    ensures { let cost = line_cost measured_sizes penalties.now line_width
+        (end == length measures.now) (slice_range measures.now start end)
+        in SomeIff result (cost < 2 ^ 128) cost }
+{
+    let line = LineFacts {
+        closed: closed_width(measures, start, end),
+        target: line_width.max(1),
+        is_last: end == measures.len(),
+        is_single: end == start + 1,
+        penalty: measures[end - 1].penalty,
+    };
+    line.cost(penalties)
+}
+
+/// What the cost of a line comes from.
+#[derive(Clone, Copy)]
+struct LineFacts {
+    closed: u128,
+    target: usize,
+    is_last: bool,
+    is_single: bool,
+    penalty: usize,
+}
+
+impl LineFacts {
+    /// The cost of the line, or `None` past 2^128-1.
+    fn cost(self, penalties: &Penalties) -> Option<u128>
+        ensures { let cost = penalties.now.nline_penalty
+            + fit_cost penalties.now self.target self.closed self.is_last self.is_single
+            + break_cost penalties.now self.penalty
+            in SomeIff result (cost < 2 ^ 128) cost }
+    {
+        let break_cost = if self.penalty > 0 {
+            penalties.hyphen_penalty
+        } else {
+            0
+        };
+        let fit_cost = self.fit_cost(penalties)?;
+        fit_cost.checked_add(penalties.nline_penalty as u128 + break_cost as u128)
+    }
+
+    /// The cost of missing the target, or `None` past 2^128-1.
+    fn fit_cost(self, penalties: &Penalties) -> Option<u128>
+        ensures { let cost = fit_cost penalties.now self.target self.closed self.is_last self.is_single
+            in SomeIff result (cost < 2 ^ 128) cost }
+    {
+        let target = self.target as u128;
+        if self.closed > target {
+            return (self.closed - target).checked_mul(penalties.overflow_penalty as u128);
+        }
+        if !self.is_last {
+            let gap = target - self.closed;
+            return Some(gap * gap);
+        }
+        let is_short = self.closed * (penalties.short_last_line_fraction as u128) < target;
+        Some(if self.is_single && is_short {
+            penalties.short_last_line_penalty as u128
+        } else {
+            0
+        })
+    }
+}
+
+/// The closed width of the fragments `start` to `end - 1`.
+fn closed_width(measures: &[Measure], start: usize, end: usize) -> u128
+    requires ordered { start < end }
+    requires within { end ≤ length measures.now }
+    requires measured { AreMeasured measures.now }
+    ensures { result ≡ closed_width measured_sizes (slice_range measures.now start end) }
+{
+    let last = measures[end - 1];
+    last.before - measures[start].before + last.width as u128 + last.penalty as u128
+}
+
+/// All widths, whitespace widths and penalty widths together, or `None` past 2^128-1.
+fn total_width<T: Fragment>(fragments: &[T]) -> Option<u128>
+    ensures { SomeIff result (total_width T.sizes fragments.now < 2 ^ 128)
+        (total_width T.sizes fragments.now) }
+{
+    let mut total = 0u128;
+    for fragment in fragments {
+        let widths = fragment.width() as u128
+            + fragment.whitespace_width() as u128
+            + fragment.penalty_width() as u128;
+        total = total.checked_add(widths)?;
+    }
+    Some(total)
+}
+
+/// The measures of the fragments.
+fn measures_of<T: Fragment>(alloc: Global, fragments: &[T]) -> Result<Vec<Measure>, AllocError>
+    requires { total_width T.sizes fragments.now < 2 ^ 128 }
+    ensures measured { IfOk result (λ measures. AreMeasured measures.items) }
+    ensures sizes { IfOk result (λ measures.
+        map measured_sizes measures.items ≡ map T.sizes fragments.now) }
+{
+    let mut measures = Vec::new(alloc);
+    let mut before = 0u128;
+    for fragment in fragments {
+        let width = fragment.width();
+        let whitespace = fragment.whitespace_width();
+        let penalty = fragment.penalty_width();
+        measures.push(Measure {
+            before,
+            width,
+            whitespace,
+            penalty,
+        })?;
+        before += width as u128 + whitespace as u128;
+    }
+    Ok(measures)
+}

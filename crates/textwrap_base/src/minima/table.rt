@@ -1,0 +1,111 @@
+//! The table of least costs over any source of line costs.
+ghost use Rattle.std.specs.Prelude.{◌≡◌, ℕ, ◌+◌, ◌*◌, ◌^◌, ◌<◌, ◌≤◌, length, map, IfOk, OnOk, SomeIff, slice_index_or};
+ghost use Rattle.textwrap_base.specs.Source.{counted, table_steps};
+ghost use Rattle.textwrap_base.specs.Cost.{Overflowed};
+ghost use Rattle.textwrap_base.specs.Table.{first_entry, entry_from, entry_at, cheaper_of, table, minimum_of, IsBestBelow};
+
+use super::{CostSource, Minimum};
+use crate::errors::{OverflowError, WrapError};
+use std::alloc::{AllocError, Global};
+
+/// The least cost of a beginning, where its last line starts, and the number of the line after it.
+#[derive(Clone, Copy)]
+pub(super) struct Entry {
+    start: usize,
+    cost: u128,
+    line_number: usize,
+}
+
+/// The entries of the table over all ends of the source.
+pub(super) fn fill_table<C: CostSource>(
+    alloc: Global,
+    costs: &mut C,
+) -> Result<Vec<Entry>, WrapError>
+    ensures entries { IfOk result (λ entries.
+        entries.items ≡ table (C.lines costs.old).cost (C.lines costs.old).ends) }
+    ensures overflow_only { Overflowed result → ((j : ℕ) × (j ≤ (C.lines costs.old).ends)
+        × (2 ^ 128 ≤ (entry_at (table (C.lines costs.old).cost (C.lines costs.old).ends) j).cost)) }
+    ensures ok_only { OnOk result ((j : ℕ) → j ≤ (C.lines costs.old).ends
+        → (entry_at (table (C.lines costs.old).cost (C.lines costs.old).ends) j).cost < 2 ^ 128) }
+    ensures same { C.lines costs.new ≡ C.lines costs.old }
+    ensures steps_ok { OnOk result
+        (C.steps costs.new ≡ counted (C.steps costs.old) (table_steps (C.lines costs.old).ends)) }
+    ensures steps_most { C.steps costs.new
+        ≤ counted (C.steps costs.old) (table_steps (C.lines costs.old).ends) }
+{
+    let mut entries = Vec::new(alloc);
+    entries.push(Entry {
+        start: 0,
+        cost: 0,
+        line_number: 0,
+    })?;
+    for last in 0..costs.ends() {
+        let Some(entry) = cheapest(costs, &entries, last + 1) else {
+            return Err(WrapError::Overflow(OverflowError));
+        };
+        entries.push(entry)?;
+    }
+    Ok(entries)
+}
+
+/// The cheapest entry for the end from the entries before it, the earliest among equals.
+fn cheapest<C: CostSource>(costs: &mut C, entries: &[Entry], end: usize) -> Option<Entry>
+    requires within { end ≤ (C.lines costs.old).ends }
+    requires len { length entries.now ≡ end }
+    requires numbers { (k : ℕ) → k < length entries.now → (entry_at entries.now k).line_number ≤ k }
+    ensures best { IsBestBelow (C.lines costs.old).cost entries.now end end result }
+    ensures same { C.lines costs.new ≡ C.lines costs.old }
+    ensures steps { C.steps costs.new ≡ counted (C.steps costs.old) end }
+{
+    let mut best = None;
+    for (start, entry) in entries.iter().enumerate() {
+        best = cheaper(best, entry_from(costs, start, entry, end));
+    }
+    best
+}
+
+/// What the line from `start` to `end` makes of the entry at its start.
+fn entry_from<C: CostSource>(
+    costs: &mut C,
+    start: usize,
+    entry: &Entry,
+    end: usize,
+) -> Option<Entry>
+    requires ordered { start < end }
+    requires within { end ≤ (C.lines costs.old).ends }
+    requires number { entry.now.line_number ≤ start }
+    ensures entry { SomeIff result
+        ((entry_from (C.lines costs.old).cost start entry.now end).cost < 2 ^ 128)
+        (entry_from (C.lines costs.old).cost start entry.now end) }
+    ensures same { C.lines costs.new ≡ C.lines costs.old }
+    ensures steps { C.steps costs.new ≡ counted (C.steps costs.old) 1 }
+{
+    let cost = costs.candidate(start, end, entry.line_number, entry.cost)?;
+    Some(Entry {
+        start,
+        cost,
+        line_number: entry.line_number + 1,
+    })
+}
+
+/// The cheaper of two, the former among equals. `None` passes every number.
+fn cheaper(best: Option<Entry>, other: Option<Entry>) -> Option<Entry>
+    ensures { result ≡ cheaper_of best other }
+{
+    match (best, other) {
+        (Some(entry), Some(next)) if next.cost < entry.cost => Some(next),
+        (None, next) => next,
+        (found, _) => found,
+    }
+}
+
+/// What is told of the entries.
+pub(super) fn minima_of(alloc: Global, entries: &[Entry]) -> Result<Vec<Minimum>, AllocError>
+    ensures { IfOk result (λ minima. minima.items ≡ map minimum_of entries.now) }
+{
+    let to_minimum = |entry: &Entry| Minimum {
+        start: entry.start,
+        cost: entry.cost,
+    };
+    entries.iter().map(to_minimum).collect(alloc)
+}

@@ -1,21 +1,24 @@
 -- Lemmas on what the words of a line cover.
-use Rattle.std.proofs.Common.{◌≡◌, ℕ, true, false, nat_lt, MatchBool, ◌+◌, ◌<◌, ◌≤◌, List, [], ◌∷◌, ◌++◌, length, get_or, take, drop, map, refl, sym, ap, ◌∙◌, subst, arith, append_assoc, append-nil, length-append, take-append-drop, ◌*◌}
+use Rattle.std.proofs.Common.{◌≡◌, ℕ, suc, Bool, true, false, not, cond, ◌==◌, ◌&&◌, nat_lt, MatchBool, ◌+◌, ◌<◌, ◌≤◌, List, [], ◌∷◌, ◌++◌, length, get_or, take, drop, map, refl, sym, ap, ◌∙◌, subst, arith, append_assoc, append-nil, length-append, take-append-drop, ◌*◌, All}
 use Rattle.std.specs.List.{flat_map}
 use Rattle.std.specs.Io.{StartsWith}
 use Rattle.std.specs.Str.{IsUtf8, IsCharBoundary}
+use Rattle.std.specs.declared.borrow.CowStr.{CowStr}
+use Rattle.std.proofs.lemmas.Bool.{and_parts, eqb-true}
 use Rattle.std.proofs.lemmas.Bool.Decides.{nat_tests}
-use Rattle.std.proofs.lemmas.Str.{IsUtf8-append, IsUtf8-drop, IsCharBoundary-from_take}
-use Rattle.std.proofs.lemmas.List.{map-append, take_at, drop_at, drop_more}
+use Rattle.std.proofs.lemmas.Str.{IsUtf8-append, IsUtf8-drop, IsCharBoundary-from_take, IsCharBoundary-from_rest}
+use Rattle.std.proofs.lemmas.List.{map-append, length-map, map_more, map_push, take_at, drop_at, drop_more, nil_from_length}
 use Rattle.textwrap_base.specs.declared.words.Word.{Word}
-use Rattle.textwrap_base.specs.Words.{WordText, text_of, sizes_of, without_final_blanks, tile_of, tiled}
+use Rattle.textwrap_base.specs.Words.{WordText, text_of, sizes_of, tile_of, tiled, Tiles}
 use Rattle.textwrap_base.specs.Algorithm.{IsDividedBy}
 use Rattle.textwrap_base.specs.Cost.{total_width}
 use Rattle.textwrap_base.proofs.DivisionMap.{IsDividedBy-map}
 use Rattle.textwrap_base.proofs.MeasureLemmas.{total_width-same}
-use Rattle.textwrap_base.proofs.WordsBound.{total_width-words_of}
+use Rattle.textwrap_base.proofs.WordsBound.{IsBounded, total_width-bounded}
 use Rattle.textwrap_base.proofs.WordsLemmas.{tiled-append, tiled-push}
 use Rattle.textwrap.specs.declared.options.Options.{Options}
-use Rattle.textwrap.specs.Paragraph.{Line, Slice, covered, pieces_of, widths_of, AreDividedLines, AreParagraphLines}
+use Rattle.textwrap.proofs.PieceLemmas.{pieces_of-bounded}
+use Rattle.textwrap.specs.Paragraph.{LineParts, line_of, line_from, covered, last_piece, keeps_whitespace, indent_of, parts_of, parts_from, pieces_of, widths_of, is_whole, whole_parts, AreDividedParts, AreParagraphParts}
 
 covered-push : (ws : List WordText) (w : WordText) → covered (ws ++ w ∷ []) ≡ tiled ws ++ w.word
 covered-push [] w = refl
@@ -62,12 +65,126 @@ module _ (text : List ℕ) (words front : List Word) (last : Word) (cut : CutsBe
       IsCharBoundary-from_take rest (length whitespace) rest_utf8 (omega (arith, ap length seam, length-append whitespace after))
       (subst IsUtf8 (sym (ap (take (length whitespace)) seam ∙ take_at whitespace after (length whitespace) refl)) whitespace_utf8)
 
+  -- the text may be cut after the whitespace too
+  pub IsCharBoundary-whole : (whitespace : List ℕ) → whitespace ≡ last.whitespace.now → IsUtf8 whitespace → IsCharBoundary text (length (tiled (map text_of front)) + length last.word.now + length whitespace)
+  IsCharBoundary-whole whitespace same whitespace_utf8 =
+      IsCharBoundary-from_rest text (length (tiled (map text_of front)) + length last.word.now) (length whitespace) cut.within
+      (IsCharBoundary-past_whitespace (drop (length (tiled (map text_of front)) + length last.word.now) text) whitespace refl same whitespace_utf8)
+
 -- what the parts from place i on make begins with the part at i
 pub StartsWith-flat_map : {X : Type 0} (f : X → List ℕ) (xs : List X) (i : ℕ) (d : X) (rest : List ℕ) → i < length xs → flat_map f (drop i xs) ≡ rest → StartsWith rest (f (get_or xs i d))
 StartsWith-flat_map f xs i d rest within is =
     ap (take (length (f (get_or xs i d)))) (sym is ∙ ap (flat_map f) (drop_more xs i d within)) ∙ take_at (f (get_or xs i d)) (flat_map f (drop (i + 1) xs)) (length (f (get_or xs i d))) refl
 
--- ---- the lines of a division, where v gives each line's words
+-- and what those after it make follows
+pub flat_map-rest : {X : Type 0} (f : X → List ℕ) (xs : List X) (i : ℕ) (d : X) (rest after : List ℕ) → i < length xs → flat_map f (drop i xs) ≡ rest → after ≡ drop (length (f (get_or xs i d))) rest
+    → flat_map f (drop (i + 1) xs) ≡ after
+flat_map-rest f xs i d rest after within is past =
+    sym (past ∙ ap (drop (length (f (get_or xs i d)))) (sym is ∙ ap (flat_map f) (drop_more xs i d within))
+    ∙ drop_at (f (get_or xs i d)) (flat_map f (drop (i + 1) xs)) (length (f (get_or xs i d))) refl)
+
+-- ---- the line of pieces of which the last is known
+
+last_piece-push : (w : WordText) (ws : List WordText) (last : WordText) → last_piece w (ws ++ last ∷ []) ≡ last
+last_piece-push w [] last = refl
+last_piece-push w (v ∷ ws) last = last_piece-push v ws last
+
+-- the same line by its last piece
+abbrev parts_ending : Options → Bool → List WordText → WordText → LineParts
+parts_ending options out line last =
+    cond (keeps_whitespace options last) (record { indent = indent_of options out; slice = tiled line; penalty = []; left_off = [] })
+    (record { indent = indent_of options out; slice = covered line; penalty = last.penalty; left_off = last.whitespace })
+
+parts_of-push : (options : Options) (out : Bool) (ws : List WordText) (last : WordText) → parts_of options out (ws ++ last ∷ []) ≡ parts_ending options out (ws ++ last ∷ []) last
+parts_of-push options out [] last = refl
+parts_of-push options out (w ∷ ws) last = ap (parts_ending options out (w ∷ (ws ++ last ∷ []))) (last_piece-push w ws last)
+
+no_penalty : (options : Options) (last : WordText) → keeps_whitespace options last ≡ true → last.penalty ≡ []
+no_penalty options last keeps =
+    nil_from_length last.penalty (eqb-true (length last.penalty) 0 (and_parts options.preserve_trailing_space (length last.penalty == 0) keeps).1)
+
+ending_line : (options : Options) (out : Bool) (line : List WordText) (last : WordText) (indent slice : List ℕ) (keeps : Bool) → indent ≡ indent_of options out → keeps ≡ keeps_whitespace options last
+    → slice ≡ cond keeps (tiled line) (covered line)
+    → line_from (record { indent = indent; slice = slice; penalty = last.penalty; left_off = [] }) ≡ line_from (parts_ending options out line last)
+ending_line options out line last indent slice true indent_is keeps slice_is =
+    ap (λ i. line_from (record { indent = i; slice = slice; penalty = last.penalty; left_off = [] })) indent_is
+    ∙ ap (λ s. line_from (record { indent = indent_of options out; slice = s; penalty = last.penalty; left_off = [] })) slice_is
+    ∙ ap (λ p. line_from (record { indent = indent_of options out; slice = tiled line; penalty = p; left_off = [] })) (no_penalty options last (sym keeps))
+    ∙ ap (λ b. line_from (cond b (record { indent = indent_of options out; slice = tiled line; penalty = []; left_off = [] })
+    (record { indent = indent_of options out; slice = covered line; penalty = last.penalty; left_off = last.whitespace }))) keeps
+ending_line options out line last indent slice false indent_is keeps slice_is =
+    ap (λ i. line_from (record { indent = i; slice = slice; penalty = last.penalty; left_off = [] })) indent_is
+    ∙ ap (λ s. line_from (record { indent = indent_of options out; slice = s; penalty = last.penalty; left_off = [] })) slice_is
+    ∙ ap (λ b. line_from (cond b (record { indent = indent_of options out; slice = tiled line; penalty = []; left_off = [] })
+    (record { indent = indent_of options out; slice = covered line; penalty = last.penalty; left_off = last.whitespace }))) keeps
+
+-- a line made of the slice that its pieces cover
+pub line_from-parts_of : (options : Options) (out : Bool) (pieces front : List Word) (last : Word) (indent slice : List ℕ) (keeps : Bool) → pieces ≡ front ++ last ∷ [] → indent ≡ indent_of options out
+    → keeps ≡ keeps_whitespace options (text_of last)
+    → slice ≡ cond keeps (tiled (map text_of (front ++ last ∷ []))) (covered (map text_of (front ++ last ∷ [])))
+    → line_from (record { indent = indent; slice = slice; penalty = last.penalty.now; left_off = [] }) ≡ line_from (parts_of options out (map text_of pieces))
+line_from-parts_of options out pieces front last indent slice keeps is indent_is keeps_is slice_is =
+    let line = map text_of (front ++ last ∷ []) in
+    let views : line ≡ map text_of front ++ text_of last ∷ [] = map-append text_of front (last ∷ []) in
+    let ending : parts_of options out line ≡ parts_ending options out line (text_of last) =
+    ap (parts_of options out) views ∙ parts_of-push options out (map text_of front) (text_of last) ∙ ap (λ l. parts_ending options out l (text_of last)) (sym views) in
+    ending_line options out line (text_of last) indent slice keeps indent_is keeps_is slice_is ∙ ap line_from (sym ending) ∙ ap (λ ps. line_from (parts_of options out (map text_of ps))) (sym is)
+
+-- ---- the lines of a division
+
+some_lines : (line : List WordText) (lines : List (List WordText)) → nat_lt 0 (length (line ∷ lines)) ≡ true
+some_lines line lines = grind (arith, nat_tests)
+
+parts_from-later : (options : Options) (lines : List (List WordText)) (line : List WordText) → parts_from options true (lines ++ line ∷ []) ≡ parts_from options true lines ++ parts_of options true line ∷ []
+parts_from-later options [] line = refl
+parts_from-later options (first ∷ lines) line = ap (λ ps. parts_of options true first ∷ ps) (parts_from-later options lines line)
+
+-- one more line, whose indent depends on whether a line was out before it
+pub parts_from-push : (options : Options) (out : Bool) (lines : List (List WordText)) (line : List WordText)
+    → parts_from options out (lines ++ line ∷ []) ≡ parts_from options out lines ++ parts_of options (cond (nat_lt 0 (length lines)) true out) line ∷ []
+parts_from-push options out [] line = refl
+parts_from-push options out (first ∷ lines) line =
+    ap (λ ps. parts_of options out first ∷ ps) (parts_from-later options lines line)
+    ∙ ap (λ b. parts_of options out first ∷ (parts_from options true lines ++ parts_of options (cond b true out) line ∷ [])) (sym (some_lines first lines))
+
+length-parts_from : (options : Options) (out : Bool) (lines : List (List WordText)) → length (parts_from options out lines) ≡ length lines
+length-parts_from options out [] = refl
+length-parts_from options out (line ∷ lines) = ap suc (length-parts_from options true lines)
+
+-- a line is out where one was out at the start, or one was added
+pub out-added : (now before added : ℕ) → now ≡ before + added → nat_lt 0 now ≡ cond (nat_lt 0 added) true (nat_lt 0 before)
+out-added now before added is = grind (arith, nat_tests)
+
+-- the lines that are out after those of a division
+pub length-out : {Z : Type 0} (options : Options) (out : Bool) (lines start : List (CowStr Z)) (division : List (List WordText))
+    → map line_of lines ≡ map line_of start ++ map line_from (parts_from options out division) → length lines ≡ length start + length division
+length-out options out lines start division is =
+    sym (length-map lines line_of) ∙ ap length is ∙ length-append (map line_of start) (map line_from (parts_from options out division))
+    ∙ ap (λ n. n + length (map line_from (parts_from options out division))) (length-map start line_of)
+    ∙ ap (λ n. length start + n) (length-map (parts_from options out division) line_from ∙ length-parts_from options out division)
+
+-- the line of the pieces at i is added
+pub lines-push : {Z D : Type 0} (v : D → List WordText) (options : Options) (division : List D) (i : ℕ) (d : D) (start lines pushed : List (CowStr Z)) (line : CowStr Z) (is_out : Bool)
+    → i < length division
+    → map line_of lines ≡ map line_of start ++ map line_from (parts_from options (nat_lt 0 (length start)) (map v (take i division)))
+    → is_out ≡ nat_lt 0 (length lines) → line_of line ≡ line_from (parts_of options is_out (v (get_or division i d))) → pushed ≡ lines ++ line ∷ []
+    → map line_of pushed ≡ map line_of start ++ map line_from (parts_from options (nat_lt 0 (length start)) (map v (take (i + 1) division)))
+lines-push v options division i d start lines pushed line is_out within so_far out_is line_is pushed_is =
+    let out = nat_lt 0 (length start) in
+    let before = map v (take i division) in
+    let here = v (get_or division i d) in
+    let same_out : is_out ≡ cond (nat_lt 0 (length before)) true out = out_is ∙ out-added (length lines) (length start) (length before) (length-out options out lines start before so_far) in
+    let parts : parts_from options out (map v (take (i + 1) division)) ≡ parts_from options out before ++ parts_of options is_out here ∷ [] =
+    ap (parts_from options out) (map_more v division i d within) ∙ parts_from-push options out before here ∙ ap (λ b. parts_from options out before ++ parts_of options b here ∷ []) (sym same_out) in
+    ap (map line_of) pushed_is ∙ map_push line_of lines line ∙ ap (λ l. l ++ line_of line ∷ []) so_far
+    ∙ ap (λ x. (map line_of start ++ map line_from (parts_from options out before)) ++ x ∷ []) line_is
+    ∙ append_assoc (map line_of start) (map line_from (parts_from options out before)) (line_from (parts_of options is_out here) ∷ [])
+    ∙ ap (λ l. map line_of start ++ l) (sym (ap (map line_from) parts ∙ map_push line_from (parts_from options out before) (parts_of options is_out here)))
+
+pub not_empty : (n m : ℕ) → n ≡ m → not (n == 0) ≡ nat_lt 0 m
+not_empty n m is = grind (arith, nat_tests)
+
+-- ---- the lines of a division, where v gives each line's pieces
 
 pub tiled-lines : {D : Type 0} (v : D → List Word) (division : List D) → flat_map (λ line. tiled (map text_of (v line))) division ≡ tiled (map text_of (flat_map (λ line. line) (map v division)))
 tiled-lines v [] = refl
@@ -75,47 +192,59 @@ tiled-lines v (line ∷ lines) =
     let others = flat_map (λ l. l) (map v lines) in
     ap (λ l. tiled (map text_of (v line)) ++ l) (tiled-lines v lines) ∙ sym (tiled-append (map text_of (v line)) (map text_of others)) ∙ ap tiled (sym (map-append text_of (v line) others))
 
-slices-lines : {D : Type 0} (v : D → List Word) (division : List D)
-    → map (λ line. Slice (covered (map text_of (v line)))) division ≡ map (λ words. Slice (covered words)) (map (map text_of) (map v division))
-slices-lines v [] = refl
-slices-lines v (line ∷ lines) = ap (λ l. Slice (covered (map text_of (v line))) ∷ l) (slices-lines v lines)
+views-lines : {D : Type 0} (v : D → List Word) (division : List D) → map (λ line. map text_of (v line)) division ≡ map (map text_of) (map v division)
+views-lines v [] = refl
+views-lines v (line ∷ lines) = ap (λ l. map text_of (v line) ∷ l) (views-lines v lines)
 
 -- a division of a paragraph's pieces gives its lines
-pub AreDividedLines-from : {D : Type 0} (v : D → List Word) (options : Options) (paragraph : List ℕ) (pieces : List Word) (division : List D) → map text_of pieces ≡ pieces_of options paragraph
+pub AreDividedParts-from : {D : Type 0} (v : D → List Word) (options : Options) (out : Bool) (paragraph : List ℕ) (pieces : List Word) (division : List D) → map text_of pieces ≡ pieces_of options paragraph
     → IsDividedBy options.wrap_algorithm (λ word. sizes_of (text_of word)) (widths_of options) pieces (map v division)
-    → AreDividedLines options paragraph (map (λ line. Slice (covered (map text_of (v line)))) division)
-AreDividedLines-from v options paragraph pieces division views divided = (
+    → AreDividedParts options out paragraph (parts_from options out (map (λ line. map text_of (v line)) division))
+AreDividedParts-from v options out paragraph pieces division views divided = (
   map (map text_of) (map v division),
   subst (λ ws. IsDividedBy options.wrap_algorithm sizes_of (widths_of options) ws (map (map text_of) (map v division))) views
       (IsDividedBy-map text_of sizes_of options.wrap_algorithm (widths_of options) pieces (map v division) divided),
-  slices-lines v division,
+  ap (parts_from options out) (views-lines v division),
 )
 
 -- ---- the two cases of a paragraph
 
-is_short : (m n : ℕ) → m < n → nat_lt m n ≡ true
-is_short m n below = grind (arith, nat_tests)
+pub is_whole-true : (options : Options) (out : Bool) (paragraph indent : List ℕ) → indent ≡ indent_of options out → (length indent == 0) ≡ true → length paragraph < options.width → is_whole options out paragraph ≡ true
+is_whole-true options out paragraph indent is empty short =
+    let shorter : nat_lt (length paragraph) options.width ≡ true = grind (arith, nat_tests) in
+    ap (λ i. (length i == 0) && nat_lt (length paragraph) options.width) (sym is) ∙ ap (λ b. b && nat_lt (length paragraph) options.width) empty ∙ shorter
 
-is_long : (m n : ℕ) → n ≤ m → nat_lt m n ≡ false
-is_long m n below = grind (arith, nat_tests)
+and_false : (b : Bool) → b && false ≡ false
+and_false true = refl
+and_false false = refl
 
-pub AreParagraphLines-short : (options : Options) (paragraph line : List ℕ) → length paragraph < options.width → line ≡ without_final_blanks paragraph → AreParagraphLines options paragraph (Slice line ∷ [])
-AreParagraphLines-short options paragraph line short is =
-    subst (λ b. MatchBool b (Slice line ∷ [] ≡ Slice (without_final_blanks paragraph) ∷ []) (AreDividedLines options paragraph (Slice line ∷ []))) (sym (is_short (length paragraph) options.width short))
-    (ap (λ l. Slice l ∷ []) is)
+pub is_whole-indented : (options : Options) (out : Bool) (paragraph indent : List ℕ) → indent ≡ indent_of options out → (length indent == 0) ≡ false → is_whole options out paragraph ≡ false
+is_whole-indented options out paragraph indent is some =
+    ap (λ i. (length i == 0) && nat_lt (length paragraph) options.width) (sym is) ∙ ap (λ b. b && nat_lt (length paragraph) options.width) some
 
-pub AreParagraphLines-long : (options : Options) (paragraph : List ℕ) (lines : List Line) → options.width ≤ length paragraph → AreDividedLines options paragraph lines → AreParagraphLines options paragraph lines
-AreParagraphLines-long options paragraph lines long divided =
-    subst (λ b. MatchBool b (lines ≡ Slice (without_final_blanks paragraph) ∷ []) (AreDividedLines options paragraph lines)) (sym (is_long (length paragraph) options.width long)) divided
+pub is_whole-long : (options : Options) (out : Bool) (paragraph : List ℕ) → options.width ≤ length paragraph → is_whole options out paragraph ≡ false
+is_whole-long options out paragraph long =
+    let longer : nat_lt (length paragraph) options.width ≡ false = grind (arith, nat_tests) in
+    ap (λ b. (length (indent_of options out) == 0) && b) longer ∙ and_false (length (indent_of options out) == 0)
+
+pub AreParagraphParts-whole : (options : Options) (out : Bool) (paragraph : List ℕ) → is_whole options out paragraph ≡ true → AreParagraphParts options out paragraph (whole_parts options paragraph ∷ [])
+AreParagraphParts-whole options out paragraph whole =
+    subst (λ b. MatchBool b (whole_parts options paragraph ∷ [] ≡ whole_parts options paragraph ∷ []) (AreDividedParts options out paragraph (whole_parts options paragraph ∷ []))) (sym whole) refl
+
+pub AreParagraphParts-divided : (options : Options) (out : Bool) (paragraph : List ℕ) (parts : List LineParts) → is_whole options out paragraph ≡ false → AreDividedParts options out paragraph parts
+    → AreParagraphParts options out paragraph parts
+AreParagraphParts-divided options out paragraph parts divided_case divided =
+    subst (λ b. MatchBool b (parts ≡ whole_parts options paragraph ∷ []) (AreDividedParts options out paragraph parts)) (sym divided_case) divided
 
 sizes-text_of : (words : List Word) → map (λ word. sizes_of (text_of word)) words ≡ map sizes_of (map text_of words)
 sizes-text_of [] = refl
 sizes-text_of (w ∷ words) = ap (λ l. sizes_of (text_of w) ∷ l) (sizes-text_of words)
 
 -- the widths of a paragraph's pieces together are at most twice its bytes
-pub total_width-pieces : (options : Options) (paragraph : List ℕ) (words : List Word) → IsUtf8 paragraph → map text_of words ≡ pieces_of options paragraph
+pub total_width-pieces : (options : Options) (paragraph : List ℕ) (words : List Word) → IsUtf8 paragraph → map text_of words ≡ pieces_of options paragraph → Tiles (map text_of words) paragraph
     → total_width (λ word. sizes_of (text_of word)) words ≤ 2 * length paragraph
-total_width-pieces options paragraph words utf8 is =
-    subst (λ n. n ≤ 2 * length paragraph)
-    (sym (total_width-same (λ word. sizes_of (text_of word)) sizes_of words (pieces_of options paragraph) (sizes-text_of words ∙ ap (map sizes_of) is)))
-    (total_width-words_of paragraph utf8)
+total_width-pieces options paragraph words utf8 is tiles =
+    let bounded = subst (All IsBounded) (sym is) (pieces_of-bounded options paragraph utf8) in
+    let within = total_width-bounded (map text_of words) bounded in
+    let same = total_width-same (λ word. sizes_of (text_of word)) sizes_of words (map text_of words) (sizes-text_of words) in
+    let whole = ap length tiles in omega (arith, within, same, whole)

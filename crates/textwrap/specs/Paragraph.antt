@@ -1,13 +1,19 @@
 -- The lines of a paragraph.
-use Rattle.std.specs.Prelude.{◌≡◌, ℕ, List, [], ◌∷◌, ◌++◌, length, map, nat_lt, MatchBool}
+use Rattle.std.specs.Prelude.{◌≡◌, ℕ, ◌-◌, Bool, true, ◌&&◌, ◌==◌, List, [], ◌∷◌, ◌++◌, length, nat_lt, if◌then◌else◌, MatchBool}
 use Rattle.std.specs.String.{string_bytes}
 use Rattle.std.specs.declared.borrow.CowStr.{CowStr}
 use Rattle.std.specs.declared.borrow.CowStr.TheVariants.{Borrowed, Owned}
 use Rattle.textwrap_base.specs.Algorithm.{IsDividedBy}
-use Rattle.textwrap_base.specs.Words.{WordText, sizes_of, words_of, without_final_blanks}
+use Rattle.textwrap_base.specs.Breaking.{broken_words}
+use Rattle.textwrap_base.specs.Units.{text_width}
+use Rattle.textwrap_base.specs.Words.{WordText, sizes_of, tiled, without_final_blanks, final_blanks}
+use Rattle.textwrap.specs.Separating.{separated_words}
+use Rattle.textwrap.specs.Splitting.{split_words}
 use Rattle.textwrap.specs.declared.options.Options.{Options}
 
--- a line of the answer: a slice of the text, or a text of its own
+-- ---- a line
+
+-- a slice of the text, or a text of its own
 pub data Line : Type 0 where
   Slice : List ℕ → Line
   Built : List ℕ → Line
@@ -20,30 +26,98 @@ abbrev pub line_bytes : Line → List ℕ
 line_bytes (Slice bytes) = bytes
 line_bytes (Built bytes) = bytes
 
--- what is divided into lines
-abbrev pub pieces_of : Options → List ℕ → List WordText
-pieces_of options paragraph = words_of paragraph
+-- the slice of a line, what is added before and after it, and what is left off between it and the next slice
+pub record LineParts : Type 0 where
+  pub indent : List ℕ
+  pub slice : List ℕ
+  pub penalty : List ℕ
+  pub left_off : List ℕ
+
+-- a slice where nothing is added, and else a text of its own
+abbrev pub line_from : LineParts → Line
+line_from p = if length (p.indent ++ p.penalty) == 0 then Slice p.slice else Built (p.indent ++ p.slice ++ p.penalty)
+
+-- ---- what is divided
+
+-- the columns that an indent leaves of a line
+abbrev pub width_after : Options → List ℕ → ℕ
+width_after options indent = options.width - text_width indent
+
+abbrev pub later_width : Options → ℕ
+later_width options = width_after options options.subsequent_indent.now
 
 -- the width of the first line, and of the others
 abbrev pub widths_of : Options → List ℕ
-widths_of options = options.width ∷ options.width ∷ []
+widths_of options = width_after options options.initial_indent.now ∷ later_width options ∷ []
 
--- what the words of a line cover, without the last one's whitespace
+-- the words of a paragraph, split
+abbrev pub split_pieces_of : Options → List ℕ → List WordText
+split_pieces_of options paragraph = split_words options.word_splitter (separated_words options.word_separator paragraph)
+
+abbrev pub empty_word : WordText
+empty_word = record { word = []; whitespace = []; penalty = []; width = 0 }
+
+-- where words are broken, an empty word stands in front, which may leave the first line to its indent
+abbrev pub front_pieces : Options → List WordText
+front_pieces options = if length options.initial_indent.now == 0 then [] else empty_word ∷ []
+
+-- the pieces that are divided: split, and broken where that is asked
+abbrev pub pieces_of : Options → List ℕ → List WordText
+pieces_of options paragraph =
+    if options.break_words then front_pieces options ++ broken_words (later_width options) (split_pieces_of options paragraph)
+    else split_pieces_of options paragraph
+
+-- ---- the lines of a division, where `out` says that a line is out already
+
+abbrev pub indent_of : Options → Bool → List ℕ
+indent_of options out = if out then options.subsequent_indent.now else options.initial_indent.now
+
+-- what pieces cover, without the last one's whitespace
 abbrev pub covered : List WordText → List ℕ
 covered [] = []
 covered (w ∷ []) = w.word
 covered (w ∷ v ∷ words) = w.word ++ w.whitespace ++ covered (v ∷ words)
 
+abbrev pub last_piece : WordText → List WordText → WordText
+last_piece w [] = w
+last_piece w (v ∷ words) = last_piece v words
+
+-- the last whitespace is left off, unless blanks are preserved and no penalty stands in its place
+abbrev pub keeps_whitespace : Options → WordText → Bool
+keeps_whitespace options last = options.preserve_trailing_space && (length last.penalty == 0)
+
+-- a line without pieces is empty
+abbrev pub parts_of : Options → Bool → List WordText → LineParts
+parts_of options out [] = record { indent = []; slice = []; penalty = []; left_off = [] }
+parts_of options out (w ∷ words) =
+    let last = last_piece w words in
+    if keeps_whitespace options last then record { indent = indent_of options out; slice = tiled (w ∷ words); penalty = []; left_off = [] }
+    else record { indent = indent_of options out; slice = covered (w ∷ words); penalty = last.penalty; left_off = last.whitespace }
+
+-- once the first of them is out, a line is out
+abbrev pub parts_from : Options → Bool → List (List WordText) → List LineParts
+parts_from options out [] = []
+parts_from options out (line ∷ lines) = parts_of options out line ∷ parts_from options true lines
+
+-- ---- the lines of a paragraph
+
+-- without indent, a paragraph with fewer bytes than the width has columns is one line
+abbrev pub is_whole : Options → Bool → List ℕ → Bool
+is_whole options out paragraph = (length (indent_of options out) == 0) && nat_lt (length paragraph) options.width
+
+-- the paragraph as one line
+abbrev pub whole_parts : Options → List ℕ → LineParts
+whole_parts options paragraph =
+    if options.preserve_trailing_space then record { indent = []; slice = paragraph; penalty = []; left_off = [] }
+    else record { indent = []; slice = without_final_blanks paragraph; penalty = []; left_off = final_blanks paragraph }
+
 -- the paragraph's pieces, divided by the chosen algorithm
-abbrev pub AreDividedLines : Options → List ℕ → List Line → Type 0
-AreDividedLines options paragraph lines =
+abbrev pub AreDividedParts : Options → Bool → List ℕ → List LineParts → Type 0
+AreDividedParts options out paragraph parts =
     (division : List (List WordText))
     × IsDividedBy options.wrap_algorithm sizes_of (widths_of options) (pieces_of options paragraph) division
-    × (lines ≡ map (λ words. Slice (covered words)) division)
+    × (parts ≡ parts_from options out division)
 
--- a paragraph with fewer bytes than the width has columns is one line, without its final blanks
-abbrev pub AreParagraphLines : Options → List ℕ → List Line → Type 0
-AreParagraphLines options paragraph lines =
-    MatchBool (nat_lt (length paragraph) options.width)
-    (lines ≡ Slice (without_final_blanks paragraph) ∷ [])
-    (AreDividedLines options paragraph lines)
+abbrev pub AreParagraphParts : Options → Bool → List ℕ → List LineParts → Type 0
+AreParagraphParts options out paragraph parts =
+    MatchBool (is_whole options out paragraph) (parts ≡ whole_parts options paragraph ∷ []) (AreDividedParts options out paragraph parts)

@@ -1,23 +1,42 @@
 -- The lines of a text, and the filled text.
-use Rattle.std.specs.Prelude.{◌≡◌, ℕ, ◌==◌, List, [], ◌∷◌, ◌++◌, map}
-use Rattle.std.specs.List.{slice_split, join_with_byte}
+use Rattle.std.specs.Prelude.{◌≡◌, ℕ, Bool, true, false, ◌||◌, List, [], ◌∷◌, ◌++◌, length, map, nat_lt, All}
+use Rattle.std.specs.List.{flat_map}
+use Rattle.textwrap_base.specs.Words.{is_blank}
 use Rattle.textwrap.specs.declared.options.Options.{Options}
-use Rattle.textwrap.specs.Paragraph.{Line, line_bytes, AreParagraphLines}
+use Rattle.textwrap.specs.Ending.{ending_bytes, paragraphs_of, join_with}
+use Rattle.textwrap.specs.Paragraph.{Line, LineParts, line_from, line_bytes, AreParagraphParts}
 
--- the parts between line feeds: k line feeds give k + 1 paragraphs
-abbrev pub paragraphs_of : List ℕ → List (List ℕ)
-paragraphs_of text = slice_split (λ b. b == 10) text
+-- a group of lines for each paragraph, in order, where `out` says that a line is out already
+abbrev pub AreGroups : Options → Bool → List (List ℕ) → List (List LineParts) → Type 0
+AreGroups options out [] groups = groups ≡ []
+AreGroups options out (paragraph ∷ paragraphs) [] = ⊥
+AreGroups options out (paragraph ∷ paragraphs) (parts ∷ groups) =
+    AreParagraphParts options out paragraph parts × AreGroups options (out || nat_lt 0 (length parts)) paragraphs groups
 
--- the lines of these paragraphs, in order
-abbrev pub AreLinesOf : Options → List (List ℕ) → List Line → Type 0
-AreLinesOf options [] lines = lines ≡ []
-AreLinesOf options (paragraph ∷ paragraphs) lines =
-    (first : List Line) × (others : List Line) × (lines ≡ first ++ others)
-    × AreParagraphLines options paragraph first × AreLinesOf options paragraphs others
+abbrev pub AreTextGroups : Options → List ℕ → List (List LineParts) → Type 0
+AreTextGroups options text groups = AreGroups options false (paragraphs_of options.line_ending text) groups
 
+abbrev pub lines_from : List (List LineParts) → List Line
+lines_from groups = map line_from (flat_map (λ parts. parts) groups)
+
+-- the lines of a text are those of its paragraphs
 abbrev pub AreTextLines : Options → List ℕ → List Line → Type 0
-AreTextLines options text lines = AreLinesOf options (paragraphs_of text) lines
+AreTextLines options text lines = (groups : List (List LineParts)) × AreTextGroups options text groups × (lines ≡ lines_from groups)
 
--- the lines of a text, joined by line feeds
+-- the paragraph that these lines cover, with what was left off
+abbrev pub covered_by : List LineParts → List ℕ
+covered_by parts = flat_map (λ p. p.slice ++ p.left_off) parts
+
+-- the slices of the lines, each followed by what was left off, are the text between its endings; only blanks were left off, and nothing where blanks are preserved
+pub record LosesOnlyBlanks (options : Options) (text : List ℕ) (lines : List Line) : Type 0 where
+  pub groups : List (List LineParts)
+  pub defined : AreTextGroups options text groups
+  pub given : lines ≡ lines_from groups
+  pub tile : join_with (ending_bytes options.line_ending) (map covered_by groups) ≡ text
+  pub blanks : All (λ p. All (λ c. is_blank c ≡ true) p.left_off) (flat_map (λ parts. parts) groups)
+  pub kept : options.preserve_trailing_space ≡ true → All (λ p. p.left_off ≡ []) (flat_map (λ parts. parts) groups)
+
+-- the lines of a text, joined by the line ending
 abbrev pub IsFilled : Options → List ℕ → List ℕ → Type 0
-IsFilled options text filled = (lines : List Line) × AreTextLines options text lines × (filled ≡ join_with_byte 10 (map line_bytes lines))
+IsFilled options text filled =
+    (lines : List Line) × AreTextLines options text lines × (filled ≡ join_with (ending_bytes options.line_ending) (map line_bytes lines))

@@ -1,36 +1,42 @@
 //! Filling: a wrapped text as one text.
 ghost use Rattle.std.specs.Prelude.{◌≡◌, map, alloc_error, string_bytes, IfOk, IfErr};
-ghost use Rattle.std.specs.List.{join_with_byte};
+ghost use Rattle.textwrap.specs.Ending.{ending_bytes, join_with};
 ghost use Rattle.textwrap.specs.Paragraph.{line_of, line_bytes};
 ghost use Rattle.textwrap.specs.Text.{IsFilled};
 
+use crate::line_ending::LineEnding;
 use crate::options::Options;
 use crate::wrap_algorithms::WrapError;
 use crate::wrapping::wrap;
 use std::alloc::{AllocError, Global};
 use std::borrow::CowStr;
 
-/// The lines of [`wrap`], joined by line feeds.
+/// The lines of [`wrap`], joined by the line ending.
 ///
 /// # Errors
 /// Only want of memory. There is no overflow.
-pub fn fill(alloc: Global, text: &str, options: Options) -> Result<String, WrapError>
-    ensures filled { IfOk result (λ filled. IsFilled options text.now (string_bytes filled)) }
+pub fn fill(alloc: Global, text: &str, options: Options<'_>) -> Result<String, WrapError>
+    ensures filled { IfOk result (λ filled. IsFilled options.entry text.now (string_bytes filled)) }
     ensures only_memory { IfErr result (λ error. error ≡ WrapError.Memory alloc_error) }
 {
+    let line_ending = options.line_ending;
     let lines = wrap(alloc, text, options)?;
-    Ok(join_lines(alloc, &lines)?)
+    Ok(join_lines(alloc, &lines, line_ending)?)
 }
 
-/// The lines with a line feed between each two.
-fn join_lines(alloc: Global, lines: &[CowStr<'_>]) -> Result<String, AllocError>
+/// The lines with the line ending between each two.
+fn join_lines(
+    alloc: Global,
+    lines: &[CowStr<'_>],
+    line_ending: LineEnding,
+) -> Result<String, AllocError>
     ensures { IfOk result (λ joined. string_bytes joined
-        ≡ join_with_byte 10 (map line_bytes (map line_of lines.now))) }
+        ≡ join_with (ending_bytes line_ending) (map line_bytes (map line_of lines.now))) }
 {
     let mut joined = String::new(alloc);
     for (i, line) in lines.iter().enumerate() {
         if i > 0 {
-            joined.push('\n')?;
+            joined.push_str(line_ending.as_str())?;
         }
         joined.push_str(line.as_str())?;
     }
@@ -63,7 +69,6 @@ mod tests {
             ("1 3 5 7\n1 3 5 7", 5, "1 3 5\n7\n1 3 5\n7"),
             ("aa bb cc dd", 5, "aa bb\ncc dd"),
             ("aa bb cc dd", 8, "aa bb cc\ndd"),
-            ("foo\u{a0}bar\u{2011}baz", 5, "foo\u{a0}bar\u{2011}baz"),
         ] {
             let options = Options::new(width).wrap_algorithm(WrapAlgorithm::FirstFit);
             let answer = fill(rt.alloc(), text, options)?;
@@ -84,6 +89,34 @@ mod tests {
         ] {
             let answer = fill(rt.alloc(), text, Options::new(width))?;
             assert_eq!(rt; answer.as_str(), filled, "{text:?} at {width}");
+        }
+        Ok(())
+    }
+
+    #[test]
+    fn endings_and_blanks_are_as_chosen(rt: HostRuntime) -> Result<(), Fail> {
+        let rows = [
+            (
+                "foo bar\r\nfoobar",
+                Options::new(4).line_ending(LineEnding::CRLF),
+                "foo\r\nbar\r\nfoob\r\nar",
+            ),
+            (
+                "foo  ",
+                Options::new(10).preserve_trailing_space(true),
+                "foo  ",
+            ),
+            (
+                "foo bar baz",
+                Options::new(10)
+                    .initial_indent("* ")
+                    .subsequent_indent("  "),
+                "* foo bar\n  baz",
+            ),
+        ];
+        for (text, options, filled) in &rows {
+            let answer = fill(rt.alloc(), text, Options::from(options))?;
+            assert_eq!(rt; answer.as_str(), *filled, "{text:?}");
         }
         Ok(())
     }

@@ -4,6 +4,7 @@
 #![tactic(auto)]
 
 pub use filling::fill;
+pub use line_ending::LineEnding;
 pub use options::Options;
 pub use textwrap_base::{minima, words, wrap_algorithms};
 pub use word_separators::WordSeparator;
@@ -13,6 +14,7 @@ pub use wrapping::wrap;
 
 mod filling;
 pub mod laws;
+mod line_ending;
 mod options;
 pub mod word_separators;
 pub mod word_splitters;

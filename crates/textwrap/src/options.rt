@@ -1,80 +1,180 @@
 //! The settings of a wrap.
-ghost use Rattle.std.specs.Prelude.{◌≡◌};
-ghost use Rattle.textwrap.specs.Defaults.{default_algorithm};
+ghost use Rattle.std.specs.Prelude.{◌≡◌, [], false, true, IsOk, MatchResult, ⊤};
 
+use crate::line_ending::LineEnding;
+use crate::word_separators::WordSeparator;
+use crate::word_splitters::WordSplitter;
 use crate::wrap_algorithms::WrapAlgorithm;
+use std::alloc::AllocError;
 
-/// How a text is wrapped.
+/// How a text is wrapped. None of its calls takes memory.
 #[derive(Debug, Drop)]
-pub struct Options {
-    /// The columns of a line.
+pub struct Options<'a> {
+    /// The columns of a line, with its indent.
     pub width: usize,
+    /// What ends a paragraph, and joins the lines of a filled text.
+    pub line_ending: LineEnding,
+    /// What is printed before the first line.
+    pub initial_indent: &'a str,
+    /// What is printed before each later line.
+    pub subsequent_indent: &'a str,
+    /// Whether a word that is too wide for a line is broken.
+    pub break_words: bool,
     /// How words are divided into lines.
     pub wrap_algorithm: WrapAlgorithm,
+    /// Where a paragraph is cut into words.
+    pub word_separator: WordSeparator,
+    /// Where a word may be split.
+    pub word_splitter: WordSplitter,
+    /// Whether blanks at line ends are kept.
+    pub preserve_trailing_space: bool,
 }
 
-impl Options {
-    /// Lines of `width` columns by the default algorithm.
+impl<'a> Options<'a> {
+    ghost use Rattle.textwrap.specs.Defaults.{HasDefaults};
+
+    /// Lines of `width` columns, ended by LF, without indents, with broken words, hyphens as split
+    /// points, the default algorithm, and no blanks at line ends.
     pub fn new(width: usize) -> Self
-        ensures width { result.width ≡ width }
-        ensures wrap_algorithm { result.wrap_algorithm ≡ default_algorithm }
+        ensures { HasDefaults width result }
     {
         Options {
             width,
+            line_ending: LineEnding::LF,
+            initial_indent: "",
+            subsequent_indent: "",
+            break_words: true,
             wrap_algorithm: WrapAlgorithm::new(),
+            word_separator: WordSeparator::new(),
+            word_splitter: WordSplitter::HyphenSplitter,
+            preserve_trailing_space: false,
         }
     }
 
     /// The same options with this width, in columns.
     pub fn width(self, width: usize) -> Self
-        ensures { result ≡ record self { width = width } }
+        ensures { result ≡ record self.entry { width = width } }
     {
         Options { width, ..self }
     }
 
+    /// The same options with this line ending.
+    pub fn line_ending(self, line_ending: LineEnding) -> Self
+        ensures { result ≡ record self.entry { line_ending = line_ending } }
+    {
+        Options {
+            line_ending,
+            ..self
+        }
+    }
+
+    /// The same options with this indent of the first line.
+    pub fn initial_indent(self, initial_indent: &'a str) -> Self
+        ensures { result ≡ record self.entry { initial_indent = initial_indent.entry } }
+    {
+        Options {
+            initial_indent,
+            ..self
+        }
+    }
+
+    /// The same options with this indent of the later lines.
+    pub fn subsequent_indent(self, subsequent_indent: &'a str) -> Self
+        ensures { result ≡ record self.entry { subsequent_indent = subsequent_indent.entry } }
+    {
+        Options {
+            subsequent_indent,
+            ..self
+        }
+    }
+
+    /// The same options, breaking words or not.
+    pub fn break_words(self, break_words: bool) -> Self
+        ensures { result ≡ record self.entry { break_words = break_words } }
+    {
+        Options {
+            break_words,
+            ..self
+        }
+    }
+
     /// The same options with this algorithm.
     pub fn wrap_algorithm(self, wrap_algorithm: WrapAlgorithm) -> Self
-        ensures { result ≡ record self { wrap_algorithm = wrap_algorithm } }
+        ensures { result ≡ record self.entry { wrap_algorithm = wrap_algorithm } }
     {
         Options {
             wrap_algorithm,
             ..self
         }
     }
+
+    /// The same options with this separator of words.
+    pub fn word_separator(self, word_separator: WordSeparator) -> Self
+        ensures { result ≡ record self.entry { word_separator = word_separator } }
+    {
+        Options {
+            word_separator,
+            ..self
+        }
+    }
+
+    /// The same options with this splitter of words.
+    pub fn word_splitter(self, word_splitter: WordSplitter) -> Self
+        ensures { result ≡ record self.entry { word_splitter = word_splitter } }
+    {
+        Options {
+            word_splitter,
+            ..self
+        }
+    }
+
+    /// The same options, keeping blanks at line ends or not.
+    pub fn preserve_trailing_space(self, preserve_trailing_space: bool) -> Self
+        ensures { result ≡ record self.entry { preserve_trailing_space = preserve_trailing_space } }
+    {
+        Options {
+            preserve_trailing_space,
+            ..self
+        }
+    }
 }
 
-impl From<usize> for Options {
-    ghost from_gives = { λ width options. options ≡ record { width = width; wrap_algorithm = default_algorithm } };
+impl<'a> From<usize> for Options<'a> {
+    ghost use Rattle.textwrap.specs.Defaults.{HasDefaults};
+
+    ghost from_gives = { HasDefaults };
 
     /// The same as `Options::new`.
-    fn from(width: usize) -> Options {
+    fn from(width: usize) -> Options<'a> {
         Options::new(width)
     }
 }
 
-#[cfg(test)]
-mod tests {
-    use super::*;
+impl<'a, 'b> From<&'b Options<'a>> for Options<'a> {
+    ghost from_gives = { λ options copy. copy ≡ options.now };
 
-    #[test]
-    fn each_builder_changes_its_field(rt: HostRuntime) {
-        for (name, options, width) in [
-            ("new", Options::new(80), 80),
-            ("from", Options::from(18), 18),
-            ("width", Options::new(80).width(0), 0),
-            (
-                "wrap_algorithm",
-                Options::new(10).wrap_algorithm(WrapAlgorithm::FirstFit),
-                10,
-            ),
-        ] {
-            assert_eq!(rt; options.width, width, "{name}");
-            let algorithm = if name == "wrap_algorithm" {
-                WrapAlgorithm::FirstFit
-            } else {
-                WrapAlgorithm::new_optimal_fit()
-            };
-            assert_eq!(rt; options.wrap_algorithm, algorithm, "{name}");
+    /// The same options.
+    fn from(options: &'b Options<'a>) -> Options<'a> {
+        Options {
+            word_splitter: options.word_splitter.clone().unwrap(),
+            ..*options
         }
     }
 }
+
+impl<'a> Clone for Options<'a> {
+    ghost is_clone = { λ options copy. copy ≡ options };
+
+    ghost is_infallible = { λ _. ⊤ };
+
+    /// The same options. Never fails.
+    fn clone(&self) -> Result<Options<'a>, AllocError>
+        ensures cases { MatchResult result (λ copy. copy ≡ self.now) (λ _. ¬ ⊤) }
+        ensures succeeds { IsOk result }
+    {
+        Ok(Options::from(self))
+    }
+}
+
+#[cfg(test)]
+mod tests;

@@ -15,6 +15,8 @@ pub enum WordSeparator {
 }
 
 impl WordSeparator {
+    ghost use Rattle.textwrap.specs.Separating.{separated_words};
+
     /// Cuts at blanks.
     pub fn new() -> Self
         ensures { result ≡ WordSeparator.AsciiSpace }
@@ -30,7 +32,7 @@ impl WordSeparator {
     /// # Errors
     /// None: finding the words takes no memory.
     pub fn find_words<'a>(&self, _alloc: Global, line: &'a str) -> Result<Words<'a>, AllocError>
-        ensures words { IfOk result (λ words. words ≡ words_of line.now) }
+        ensures words { IfOk result (λ words. words ≡ separated_words self.now line.now) }
         ensures tiles { IfOk result (λ words. Tiles words line.now) }
         ensures succeeds { IsOk result }
     {

@@ -1,157 +1,269 @@
 //! Wrapping a text into lines.
-ghost use Rattle.std.specs.Prelude.{◌≡◌, List, ◌∷◌, [], ◌++◌, ◌^◌, ◌<◌, length, take, drop, map, alloc_error, IfOk, IfErr, OnOk};
+ghost use Rattle.std.specs.Prelude.{◌≡◌, ℕ, List, ◌∷◌, [], ◌++◌, ◌^◌, ◌<◌, length, take, drop, map, nat_lt, if◌then◌else◌, alloc_error, IfOk, IfErr, IfSome, OnOk, MatchOption};
 ghost use Rattle.std.specs.List.{flat_map};
 ghost use Rattle.std.specs.Str.{IsUtf8};
 ghost use Rattle.std.specs.Io.{StartsWith};
 ghost use Rattle.textwrap_base.specs.Cost.{total_width};
-ghost use Rattle.textwrap_base.specs.Words.{text_of, sizes_of, tiled, Tiles};
-ghost use Rattle.textwrap.specs.Paragraph.{Slice};
 ghost use Rattle.textwrap_base.specs.Algorithm.{IsDividedBy};
-ghost use Rattle.textwrap.specs.Paragraph.{Line, line_of, covered, pieces_of, widths_of, AreDividedLines, AreParagraphLines};
-ghost use Rattle.textwrap.specs.Text.{AreTextLines};
+ghost use Rattle.textwrap_base.specs.Words.{text_of, sizes_of, tiled, Tiles};
+ghost use Rattle.textwrap.specs.Ending.{paragraphs_of};
+ghost use Rattle.textwrap.specs.Paragraph.{Slice, Line, LineParts, line_of, line_from, covered, pieces_of, split_pieces_of, widths_of, width_after, later_width, indent_of, parts_of, parts_from, whole_parts, AreDividedParts, AreParagraphParts};
+ghost use Rattle.textwrap.specs.Text.{AreTextLines, LosesOnlyBlanks};
 
+use crate::line_ending::LineEnding;
 use crate::options::Options;
-use crate::word_separators::WordSeparator;
-use crate::words::Word;
+use crate::word_splitters::split_words;
+use crate::words::{Word, break_words, display_width};
 use crate::wrap_algorithms::WrapError;
 use std::alloc::{AllocError, Global};
 use std::borrow::CowStr;
 use textwrap_base::blanks::split_final_blanks;
 
-/// The lines of the text: its paragraphs are what stands between line feeds, and each is wrapped
-/// by itself. A paragraph with fewer bytes than the width has columns is one line; the words of
-/// any other are divided by the algorithm of the options. Only blanks at the ends of lines are
-/// left off, so each line is a slice of the text.
+/// The lines of the text: its paragraphs are what stands between line endings, and each is wrapped
+/// by itself. A paragraph that has no indent, and fewer bytes than the width has columns, is one
+/// line. Any other is cut into words, which are split and broken where the options say so, and
+/// divided into lines by their algorithm.
+///
+/// Only blanks at the ends of lines are left off. A line to which no indent and no hyphen was added
+/// is borrowed from the text.
 ///
 /// # Errors
 /// Only want of memory. There is no overflow.
 pub fn wrap<'t>(
     alloc: Global,
     text: &'t str,
-    options: Options,
+    options: Options<'_>,
 ) -> Result<Vec<CowStr<'t>>, WrapError>
-    ensures lines { IfOk result (λ lines. AreTextLines options text.now (map line_of lines.items)) }
+    ensures lines { IfOk result (λ lines. AreTextLines options.entry text.now (map line_of lines.items)) }
+    ensures lossless { IfOk result (λ lines. LosesOnlyBlanks options.entry text.now (map line_of lines.items)) }
     ensures only_memory { IfErr result (λ error. error ≡ WrapError.Memory alloc_error) }
 {
     let mut lines = Vec::new(alloc);
-    for paragraph in text.split('\n') {
+    let mut rest = Some(text);
+    while let Some(text) = rest {
+        let (paragraph, after) = split_paragraph(text, options.line_ending);
         wrap_paragraph(alloc, paragraph, &options, &mut lines)?;
+        rest = after;
     }
     Ok(lines)
 }
 
-/// Appends the lines of a paragraph.
+/// The first paragraph of the text, and what follows its ending, if it has one.
+fn split_paragraph(text: &str, line_ending: LineEnding) -> (&str, Option<&str>)
+    ensures paragraphs { MatchOption result.1
+        (paragraphs_of line_ending text.now ≡ result.0.now ∷ [])
+        (λ after. paragraphs_of line_ending text.now ≡ result.0.now ∷ paragraphs_of line_ending after.now) }
+    ensures shorter { IfSome result.1 (λ after. length after.now < length text.now) }
+{
+    match text.split_once(line_ending.as_str()) {
+        Some((paragraph, after)) => (paragraph, Some(after)),
+        None => (text, None),
+    }
+}
+
+/// Appends the lines of a paragraph. The first of a list of lines has the initial indent.
 fn wrap_paragraph<'t>(
     alloc: Global,
     paragraph: &'t str,
-    options: &Options,
+    options: &Options<'_>,
     lines: &mut Vec<CowStr<'t>>,
 ) -> Result<(), WrapError>
-    ensures lines { OnOk result ((added : List Line) × AreParagraphLines options.now paragraph.now added
-        × (map line_of lines.new.items ≡ map line_of lines.old.items ++ added)) }
+    ensures lines { OnOk result ((parts : List LineParts)
+        × AreParagraphParts options.now (nat_lt 0 (length lines.old.items)) paragraph.now parts
+        × (map line_of lines.new.items ≡ map line_of lines.old.items ++ map line_from parts)) }
     ensures only_memory { IfErr result (λ error. error ≡ WrapError.Memory alloc_error) }
 {
-    if paragraph.len() < options.width {
-        let (line, _blanks) = split_final_blanks(paragraph);
-        lines.push(CowStr::Borrowed(line))?;
+    let indent = next_indent(options, !lines.is_empty());
+    if indent.is_empty() && paragraph.len() < options.width {
+        lines.push(CowStr::Borrowed(whole_line(paragraph, options)))?;
         return Ok(());
     }
     wrap_divided(alloc, paragraph, options, lines)
+}
+
+/// The indent of the next line, where `out` says that a line is out already.
+fn next_indent<'a>(options: &Options<'a>, out: bool) -> &'a str
+    ensures { result.now ≡ indent_of options.now out }
+{
+    if out {
+        options.subsequent_indent
+    } else {
+        options.initial_indent
+    }
+}
+
+/// The paragraph as one line.
+fn whole_line<'t>(paragraph: &'t str, options: &Options<'_>) -> &'t str
+    ensures { Slice result.now ≡ line_from (whole_parts options.now paragraph.now) }
+{
+    if options.preserve_trailing_space {
+        return paragraph;
+    }
+    split_final_blanks(paragraph).0
 }
 
 /// Appends the lines of a paragraph whose pieces are divided.
 fn wrap_divided<'t>(
     alloc: Global,
     paragraph: &'t str,
-    options: &Options,
+    options: &Options<'_>,
     lines: &mut Vec<CowStr<'t>>,
 ) -> Result<(), WrapError>
-    ensures lines { OnOk result ((added : List Line) × AreDividedLines options.now paragraph.now added
-        × (map line_of lines.new.items ≡ map line_of lines.old.items ++ added)) }
+    ensures lines { OnOk result ((parts : List LineParts)
+        × AreDividedParts options.now (nat_lt 0 (length lines.old.items)) paragraph.now parts
+        × (map line_of lines.new.items ≡ map line_of lines.old.items ++ map line_from parts)) }
     ensures only_memory { IfErr result (λ error. error ≡ WrapError.Memory alloc_error) }
 {
     let pieces = find_pieces(alloc, paragraph, options)?;
     let division = divide(alloc, &pieces, options)?;
-    Ok(push_slices(paragraph, &division, lines)?)
+    Ok(push_lines(alloc, paragraph, &division, options, lines)?)
 }
 
-/// The words of a paragraph, which are what is divided.
+/// The pieces of a paragraph that are divided.
 fn find_pieces<'t>(
     alloc: Global,
     paragraph: &'t str,
-    _options: &Options,
+    options: &Options<'_>,
 ) -> Result<Vec<Word<'t>>, AllocError>
-    ensures pieces { IfOk result (λ pieces. map text_of pieces.items ≡ pieces_of _options.now paragraph.now) }
+    ensures pieces { IfOk result (λ pieces. map text_of pieces.items ≡ pieces_of options.now paragraph.now) }
     ensures tiles { IfOk result (λ pieces. Tiles (map text_of pieces.items) paragraph.now) }
 {
-    WordSeparator::new()
-        .find_words(alloc, paragraph)?
-        .collect(alloc)
+    let words = options.word_separator.find_words(alloc, paragraph)?;
+    let split = split_words(alloc, words, &options.word_splitter)?;
+    if !options.break_words {
+        return Ok(split);
+    }
+    let width = remaining_width(options, options.subsequent_indent);
+    let mut broken = break_words(alloc, split, width)?;
+    if !options.initial_indent.is_empty() {
+        // Where the first word has no room beside the indent, the first line is the indent alone.
+        broken.insert(0, Word::from(""))?;
+    }
+    Ok(broken)
 }
 
-/// The pieces divided by the algorithm of the options, each line at their width. There is no
-/// overflow, since all widths together keep to 64 bits.
+/// The columns that an indent leaves of a line.
+fn remaining_width(options: &Options<'_>, indent: &str) -> usize
+    ensures { result ≡ width_after options.now indent.now }
+{
+    options.width.saturating_sub(display_width(indent))
+}
+
+/// The pieces divided by the algorithm of the options. There is no overflow, since all widths
+/// together keep to 64 bits.
 fn divide<'a, 'w>(
     alloc: Global,
     pieces: &'w [Word<'a>],
-    options: &Options,
+    options: &Options<'_>,
 ) -> Result<Vec<&'w [Word<'a>]>, WrapError>
     requires { total_width (λ word. sizes_of (text_of word)) pieces.now < 2 ^ 64 }
     ensures divided { IfOk result (λ lines. IsDividedBy options.now.wrap_algorithm (λ word. sizes_of (text_of word))
         (widths_of options.now) pieces.now (map (λ line. line.now) lines.items)) }
     ensures only_memory { IfErr result (λ error. error ≡ WrapError.Memory alloc_error) }
 {
-    let line_widths = [options.width, options.width];
+    let line_widths = [
+        remaining_width(options, options.initial_indent),
+        remaining_width(options, options.subsequent_indent),
+    ];
     options.wrap_algorithm.wrap(alloc, pieces, &line_widths)
 }
 
-/// Appends the slice of the paragraph that each line's words cover, without its final whitespace.
-fn push_slices<'t>(
+/// Appends the line of each list of pieces, which together tile the paragraph.
+fn push_lines<'t>(
+    alloc: Global,
     paragraph: &'t str,
     division: &[&[Word<'_>]],
+    options: &Options<'_>,
     lines: &mut Vec<CowStr<'t>>,
 ) -> Result<(), AllocError>
     requires { flat_map (λ line. tiled (map text_of line.now)) division.now ≡ paragraph.now }
     ensures { OnOk result (map line_of lines.new.items ≡ map line_of lines.old.items
-        ++ map (λ line. Slice (covered (map text_of line.now))) division.now) }
+        ++ map line_from (parts_from options.now (nat_lt 0 (length lines.old.items))
+        (map (λ line. map text_of line.now) division.now))) }
 {
     let mut rest = paragraph;
-    for words in division {
-        let (line, after) = split_line(rest, words);
-        lines.push(CowStr::Borrowed(line))?;
+    for pieces in division {
+        let (line, after) = split_line(alloc, rest, pieces, options, !lines.is_empty())?;
+        lines.push(line)?;
         rest = after;
     }
     Ok(())
 }
 
-/// The slice that the words cover at the beginning of the text, without the last one's whitespace,
-/// and what follows that whitespace.
-fn split_line<'t>(text: &'t str, words: &[Word<'_>]) -> (&'t str, &'t str)
-    requires { StartsWith text.now (tiled (map text_of words.now)) }
-    ensures line { result.0.now ≡ covered (map text_of words.now) }
-    ensures rest { result.1.now ≡ drop (length (tiled (map text_of words.now))) text.now }
+/// The line of the pieces with which the text begins, and the text after them.
+fn split_line<'t>(
+    alloc: Global,
+    text: &'t str,
+    pieces: &[Word<'_>],
+    options: &Options<'_>,
+    out: bool,
+) -> Result<(CowStr<'t>, &'t str), AllocError>
+    requires { StartsWith text.now (tiled (map text_of pieces.now)) }
+    ensures line { IfOk result (λ line. line_of line.0 ≡ line_from (parts_of options.now out (map text_of pieces.now))) }
+    ensures rest { IfOk result (λ line. line.1.now ≡ drop (length (tiled (map text_of pieces.now))) text.now) }
 {
-    match words.split_last() {
-        None => ("", text),
-        Some((last, front)) => {
-            let (line, rest) = text.split_at(tiled_len(front) + last.word.as_bytes().len());
-            let (_whitespace, rest) = rest.split_at(last.whitespace.as_bytes().len());
-            (line, rest)
-        }
-    }
+    let Some((last, front)) = pieces.split_last() else {
+        return Ok((CowStr::Borrowed(""), text));
+    };
+    let indent = next_indent(options, out);
+    let keeps_whitespace = options.preserve_trailing_space && last.penalty.is_empty();
+    let (slice, rest) = cut_line(text, front, last, keeps_whitespace);
+    Ok((assemble(alloc, indent, slice, last.penalty)?, rest))
 }
 
-/// The bytes of the words with their whitespace.
-fn tiled_len(words: &[Word<'_>]) -> usize
-    requires { length (tiled (map text_of words.now)) < 2 ^ 63 }
-    ensures len { result ≡ length (tiled (map text_of words.now)) }
-    ensures utf8 { IsUtf8 (tiled (map text_of words.now)) }
+/// The slice of the text that the pieces cover, with or without the last whitespace, and the text
+/// after that whitespace.
+fn cut_line<'t>(
+    text: &'t str,
+    front: &[Word<'_>],
+    last: &Word<'_>,
+    keeps_whitespace: bool,
+) -> (&'t str, &'t str)
+    requires { StartsWith text.now (tiled (map text_of (front.now ++ last.now ∷ []))) }
+    ensures slice { result.0.now ≡ (if keeps_whitespace then tiled (map text_of (front.now ++ last.now ∷ []))
+        else covered (map text_of (front.now ++ last.now ∷ []))) }
+    ensures rest { result.1.now ≡ drop (length (tiled (map text_of (front.now ++ last.now ∷ [])))) text.now }
+{
+    let whitespace_len = last.whitespace.as_bytes().len();
+    let covered_len = tiled_len(front) + last.word.as_bytes().len();
+    if keeps_whitespace {
+        return text.split_at(covered_len + whitespace_len);
+    }
+    let (slice, rest) = text.split_at(covered_len);
+    let (_whitespace, rest) = rest.split_at(whitespace_len);
+    (slice, rest)
+}
+
+/// The bytes of the pieces with their whitespace.
+fn tiled_len(pieces: &[Word<'_>]) -> usize
+    requires { length (tiled (map text_of pieces.now)) < 2 ^ 63 }
+    ensures len { result ≡ length (tiled (map text_of pieces.now)) }
+    ensures utf8 { IsUtf8 (tiled (map text_of pieces.now)) }
 {
     let mut len = 0;
-    for word in words {
-        len += word.word.as_bytes().len() + word.whitespace.as_bytes().len();
+    for piece in pieces {
+        len += piece.word.as_bytes().len() + piece.whitespace.as_bytes().len();
     }
     len
+}
+
+/// The slice, with the indent before it and the penalty after it. Copies only where one is added.
+fn assemble<'t>(
+    alloc: Global,
+    indent: &str,
+    slice: &'t str,
+    penalty: &str,
+) -> Result<CowStr<'t>, AllocError>
+    ensures { IfOk result (λ line. line_of line
+        ≡ line_from (record { indent = indent.now; slice = slice.now; penalty = penalty.now; left_off = [] })) }
+{
+    if indent.is_empty() && penalty.is_empty() {
+        return Ok(CowStr::Borrowed(slice));
+    }
+    let mut line = String::from_str(alloc, indent)?;
+    line.push_str(slice)?;
+    line.push_str(penalty)?;
+    Ok(CowStr::Owned(line))
 }
 
 #[cfg(test)]

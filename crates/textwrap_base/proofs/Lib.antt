@@ -19,5 +19,6 @@ pub mod UnitLaws
 pub mod UnitLemmas
 pub mod UnitParts
 pub mod UnitRows
+pub mod WordTexts
 pub mod WordsBound
 pub mod WordsLemmas

@@ -121,7 +121,7 @@ texts-flat : (parts : List (List TextUnit)) → flat_map (λ text. text) (map un
 texts-flat [] = refl
 texts-flat (part ∷ parts) = ap (λ text. units_text part ++ text) (texts-flat parts) ∙ sym (units_text-append part (flat_map (λ p. p) parts))
 
-units_text-chars : (text : List ℕ) → IsUtf8 text → units_text (units (chars text)) ≡ text
+pub units_text-chars : (text : List ℕ) → IsUtf8 text → units_text (units (chars text)) ≡ text
 units_text-chars text utf8 = ap encode_utf8_all (units-tile (chars text)) ∙ encodes-chars text utf8
 
 pub broken_texts-tile : (limit : ℕ) (text : List ℕ) → IsUtf8 text → flat_map (λ t. t) (broken_texts limit text) ≡ text

@@ -3,15 +3,18 @@ use Rattle.std.specs.Prelude.{ℕ, List, Option, take}
 use Rattle.std.specs.Str.{IsUtf8}
 use Rattle.std.specs.Io.KnownBytes.{Appends, Consumes, IsAtEnd}
 use Rattle.textwrap.specs.declared.options.Options.{Options}
+use Rattle.textwrap.specs.declared.wrap_algorithms.WrapAlgorithm.{WrapAlgorithm}
+use Rattle.textwrap.specs.Defaults.{HasDefaultsWith}
 use Rattle.textwrap.specs.Text.{IsFilled}
 
 -- a reader gave this input, and has no more
 abbrev pub ReadsAll : Option (List ℕ) → Option (List ℕ) → List ℕ → Type 0
 ReadsAll old new input = Consumes old new input × IsAtEnd new
 
--- the reader's input is text, of which the output is the filled text
-abbrev pub FillsInput : Options → Option (List ℕ) → Option (List ℕ) → List ℕ → Type 0
-FillsInput options old new output = (input : List ℕ) × ReadsAll old new input × IsUtf8 input × IsFilled options input output
+-- the reader's input is text, of which the output is the text filled by the defaults, at this width and with this algorithm
+abbrev pub FillsInput : ℕ → WrapAlgorithm → Option (List ℕ) → Option (List ℕ) → List ℕ → Type 0
+FillsInput width algorithm old new output =
+    (input : List ℕ) × (options : Options) × ReadsAll old new input × IsUtf8 input × HasDefaultsWith width algorithm options × IsFilled options input output
 
 -- the reader's input is no text
 abbrev pub ReadsNoText : Option (List ℕ) → Option (List ℕ) → Type 0

@@ -1,6 +1,8 @@
 //! The program's work: it reads a text, fills it and writes it.
-ghost use Rattle.std.specs.Prelude.{◌≡◌, ◌≢◌, ℕ, ◌<◌, ◌≤◌, List, [], length, take, Err, IfOk, OnOk, OnErr, IfErr};
+ghost use Rattle.std.specs.Prelude.{◌≡◌, ◌≢◌, ℕ, ◌<◌, ◌≤◌, List, [], length, take, string_bytes, Err, IfOk, OnOk, OnErr, IfErr, IsUtf8};
 ghost use Rattle.std.specs.Io.KnownBytes.{Appends, Keeps};
+ghost use Rattle.textwrap.specs.Defaults.{HasDefaultsWith};
+ghost use Rattle.textwrap.specs.Text.{IsFilled};
 ghost use Rattle.textwrap_cli.specs.Faults.{fault_line};
 ghost use Rattle.textwrap_cli.specs.Filling.{ReadsAll, FillsInput, ReadsNoText, WritesBeginning};
 
@@ -50,25 +52,18 @@ pub fn run<R: Read, W: Write>(
 ) -> Result<(), RunError>
     // The whole input was read, and its filled text written.
     ensures ok { OnOk result ((output : List ℕ)
-        × FillsInput (record { width = width; wrap_algorithm = algorithm }) (R.remaining reader.old) (R.remaining reader.new) output
+        × FillsInput width algorithm (R.remaining reader.old) (R.remaining reader.new) output
         × Appends (W.contents writer.old) (W.contents writer.new) output) }
     ensures not_utf8 { result ≡ Err RunError.NotUtf8 → ReadsNoText (R.remaining reader.old) (R.remaining reader.new) }
     // The whole input was read, and a beginning of its filled text may be written.
     ensures write { result ≡ Err RunError.Write → (output : List ℕ)
-        × FillsInput (record { width = width; wrap_algorithm = algorithm }) (R.remaining reader.old) (R.remaining reader.new) output
+        × FillsInput width algorithm (R.remaining reader.old) (R.remaining reader.new) output
         × WritesBeginning (W.contents writer.old) (W.contents writer.new) output }
     ensures nothing_written { IfErr result (λ error. error ≢ RunError.Write → Keeps (W.contents writer.old) (W.contents writer.new)) }
 {
     let input = read_to_end(alloc, reader)?;
-    let Ok(text) = str::from_utf8(&input) else {
-        return Err(RunError::NotUtf8);
-    };
-    let options = Options::new(width).wrap_algorithm(algorithm);
-    match fill(alloc, text, options) {
-        Ok(filled) => write_to_end(writer, filled.as_bytes()),
-        Err(WrapError::Memory(_)) => Err(RunError::Memory),
-        Err(WrapError::Overflow(_)) => unreachable!(),
-    }
+    let filled = fill_input(alloc, &input, width, algorithm)?;
+    write_to_end(writer, filled.as_bytes())
 }
 
 /// Reads the reader to its end.
@@ -89,6 +84,32 @@ fn read_to_end<R: Read>(alloc: Global, reader: &mut R) -> Result<Vec<u8>, RunErr
             .map_err(|_| RunError::Memory)?;
     }
     Err(RunError::Memory)
+}
+
+/// The input filled, where it is text. Input that is none is told apart from want of memory.
+fn fill_input(
+    alloc: Global,
+    input: &[u8],
+    width: usize,
+    algorithm: WrapAlgorithm,
+) -> Result<String, RunError>
+    ensures text { IfOk result (λ _. IsUtf8 input.now) }
+    ensures filled { IfOk result (λ filled. (options : Options)
+        × HasDefaultsWith width algorithm options
+        × IsFilled options input.now (string_bytes filled)) }
+    ensures not_utf8 { result ≡ Err RunError.NotUtf8 → ¬ IsUtf8 input.now }
+    ensures no_text { ¬ IsUtf8 input.now → result ≡ Err RunError.NotUtf8 }
+    ensures not_write { IfErr result (λ error. error ≢ RunError.Write) }
+{
+    let Ok(text) = str::from_utf8(input) else {
+        return Err(RunError::NotUtf8);
+    };
+    let options = Options::new(width).wrap_algorithm(algorithm);
+    match fill(alloc, text, options) {
+        Ok(filled) => Ok(filled),
+        Err(WrapError::Memory(_)) => Err(RunError::Memory),
+        Err(WrapError::Overflow(_)) => unreachable!(),
+    }
 }
 
 /// Writes the bytes and flushes.

@@ -88,6 +88,25 @@ fn the_input_is_filled(rt: HostRuntime) -> Result<(), Fail> {
 }
 
 #[test]
+fn words_are_split_and_broken(rt: HostRuntime) -> Result<(), Fail> {
+    for (input, algorithm, output) in [
+        ("foo-bar", WrapAlgorithm::new_optimal_fit(), "foo-\nbar"),
+        (
+            "abcdefgh\nijkl",
+            WrapAlgorithm::FirstFit,
+            "abcde\nfgh\nijkl",
+        ),
+    ] {
+        let mut reader = input.as_bytes();
+        let mut writer = Vec::new(rt.alloc());
+        let done = run(rt.alloc(), &mut reader, &mut writer, 5, algorithm);
+        assert_eq!(rt; done, Ok(()), "{input:?}");
+        assert_eq!(rt; writer.as_slice(), output.as_bytes(), "{input:?}");
+    }
+    Ok(())
+}
+
+#[test]
 fn input_that_is_no_text_writes_nothing(rt: HostRuntime) {
     let mut reader: &[u8] = &[0xFF];
     let mut writer = Vec::new(rt.alloc());

@@ -3,7 +3,7 @@ use Rattle.std.specs.Str.{IsUtf8}
 use Rattle.textwrap_base.specs.Words.{text_of, tiled}
 use Rattle.textwrap.proofs.wrapping.tiled_len.Given as goal
 
--- the words so far are measured, and are text
-abbrev pub invariant-loop-word : goal.invariant-loop-word
-invariant-loop-word l =
-    (l.len ≡ length (tiled (map text_of (take l.word-index l.words)))) × IsUtf8 (tiled (map text_of (take l.word-index l.words)))
+-- the pieces so far are measured, and are text
+abbrev pub invariant-loop-piece : goal.invariant-loop-piece
+invariant-loop-piece l =
+    (l.len ≡ length (tiled (map text_of (take l.piece-index l.pieces)))) × IsUtf8 (tiled (map text_of (take l.piece-index l.pieces)))

@@ -1,27 +1,33 @@
-use Rattle.std.proofs.Common.{[], ◌++◌, length, map, sym, ap, ◌∙◌, subst, lit<, arith, append_assoc, append-nil}
-use Rattle.std.proofs.lemmas.Iterator.Splits.{YieldsList-from_str_split}
-use Rattle.std.proofs.lemmas.Iterator.Consumers.{YieldsList-turn, YieldsList-end}
-use Rattle.std.proofs.lemmas.List.{length_push}
-use Rattle.textwrap.specs.Paragraph.{line_of}
-use Rattle.textwrap.specs.Text.{paragraphs_of, AreLinesOf}
-use Rattle.textwrap.proofs.TextLemmas.{AreLinesOf-drop, AreLinesOf-end}
+use Rattle.std.proofs.Common.{[], nat_lt, map, sym, ap, ◌∙◌, subst}
+use Rattle.std.proofs.lemmas.List.{length-map}
+use Rattle.textwrap.specs.Paragraph.{line_of, AreParagraphParts}
+use Rattle.textwrap.proofs.LosslessLemmas.{LosesOnlyBlanks-from}
+use Rattle.textwrap.proofs.TextLemmas.{paragraphs_left, paragraphs_left-split, HasGroups, HasGroups-more, HasGroups-end}
 use Rattle.textwrap.proofs.wrapping.wrap.Goals as goal
 
-pub loop-paragraph-init : goal.loop-paragraph-init
-loop-paragraph-init c = λ others lines. rw c.new-lines.ensures.items lines
-
-pub loop-paragraph-preserved : goal.loop-paragraph-preserved
-loop-paragraph-preserved c =
-    let turn = YieldsList-turn (YieldsList-from_str_split 10 c.args.text.now (lit< tt) (cc) (cc) (cc)) c.loop-paragraph.yielded _ c.loop-paragraph.yielded_by _ _ c.in-Some.paragraph c.in-Some.is c.next.ensures.steps in
+pub loop-rest-preserved : goal.loop-rest-preserved
+loop-rest-preserved c =
+    let options = c.args.options in
+    let before = c.loop-rest.lines.items in
+    let paragraph = c.split_paragraph.result.0.now in
+    let after = c.split_paragraph.result.1 in
     let added = c.in_ok-wrap_paragraph.ensures.lines in
-    λ others lines.
-    let after = rw length_push at lines in
-    subst (AreLinesOf c.args.options (paragraphs_of c.args.text.now))
-    (sym (append_assoc (map line_of c.loop-paragraph.lines.items) added.0 others) ∙ ap (λ l. l ++ others) (sym added.2))
-    (c.loop-paragraph.invariant (added.0 ++ others)
-    (AreLinesOf-drop c.args.options (paragraphs_of c.args.text.now) (length c.loop-paragraph.yielded) c.in-Some.paragraph.now added.0 others turn.0 turn.1 added.1 after))
+    HasGroups-more options c.args.text.now (map line_of before) (map line_of c.wrap_paragraph.new.lines.items) (paragraphs_left options.line_ending c.loop-rest.rest) (paragraphs_left options.line_ending after)
+    paragraph added.0 c.loop-rest.invariant
+    (ap (paragraphs_left options.line_ending) c.in-Some.is ∙ paragraphs_left-split options.line_ending c.in-Some.text.now after paragraph c.split_paragraph.ensures.paragraphs)
+    (subst (λ n. AreParagraphParts options (nat_lt 0 n) paragraph added.0) (sym (length-map before line_of)) added.1)
+    added.2
 
 pub returns-clause-lines : goal.returns-clause-lines
 returns-clause-lines c =
-    let end = YieldsList-end (YieldsList-from_str_split 10 c.args.text.now (lit< tt) (cc) (cc) (cc)) c.loop-paragraph.yielded _ c.loop-paragraph.yielded_by _ _ c.in-None.is c.next.ensures.steps in
-    rw append-nil at (c.loop-paragraph.invariant [] (AreLinesOf-end c.args.options (paragraphs_of c.args.text.now) (length c.loop-paragraph.yielded) (omega (arith, end.1))))
+    let options = c.args.options in
+    let lines = map line_of c.loop-rest.lines.items in
+    let all : HasGroups options c.args.text.now lines [] = subst (HasGroups options c.args.text.now lines) (ap (paragraphs_left options.line_ending) c.in_default.is) c.loop-rest.invariant in
+    (all.groups, HasGroups-end options c.args.text.now lines all, all.given)
+
+pub returns-clause-lossless : goal.returns-clause-lossless
+returns-clause-lossless c =
+    let options = c.args.options in
+    let lines = map line_of c.loop-rest.lines.items in
+    let all : HasGroups options c.args.text.now lines [] = subst (HasGroups options c.args.text.now lines) (ap (paragraphs_left options.line_ending) c.in_default.is) c.loop-rest.invariant in
+    LosesOnlyBlanks-from options c.args.text.now lines all.groups c.utf8.text (HasGroups-end options c.args.text.now lines all) all.given

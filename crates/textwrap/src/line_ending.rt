@@ -1,0 +1,36 @@
+//! What ends a line.
+ghost use Rattle.std.specs.Prelude.{◌≡◌};
+
+/// A line ending.
+#[derive(Clone, Copy, Debug, PartialEq, Eq)]
+pub enum LineEnding {
+    /// Carriage return and line feed.
+    CRLF,
+    /// Line feed.
+    LF,
+}
+
+impl LineEnding {
+    ghost use Rattle.textwrap.specs.Ending.{ending_bytes};
+
+    /// The ending itself, `"\r\n"` or `"\n"`.
+    pub fn as_str(&self) -> &'static str
+        ensures { result.now ≡ ending_bytes self.now }
+    {
+        match self {
+            LineEnding::CRLF => "\r\n",
+            LineEnding::LF => "\n",
+        }
+    }
+}
+
+#[cfg(test)]
+mod tests {
+    use super::*;
+
+    #[test]
+    fn each_ending_has_its_text(rt: HostRuntime) {
+        assert_eq!(rt; LineEnding::CRLF.as_str(), "\r\n");
+        assert_eq!(rt; LineEnding::LF.as_str(), "\n");
+    }
+}

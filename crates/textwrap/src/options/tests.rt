@@ -1,0 +1,145 @@
+use super::*;
+use std::process::Abort;
+use std::test::Fail;
+
+/// Options that differ from the defaults of 80 columns in each field.
+fn unlike_defaults<'a>() -> Options<'a> {
+    Options {
+        width: 7,
+        line_ending: LineEnding::CRLF,
+        initial_indent: "* ",
+        subsequent_indent: "  ",
+        break_words: false,
+        wrap_algorithm: WrapAlgorithm::FirstFit,
+        word_separator: WordSeparator::AsciiSpace,
+        word_splitter: WordSplitter::NoHyphenation,
+        preserve_trailing_space: true,
+    }
+}
+
+/// Asserts that the options agree in each field.
+fn assert_same(rt: &impl Abort, name: &str, options: &Options<'_>, expected: &Options<'_>) {
+    assert_eq!(rt; options.width, expected.width, "{name}");
+    assert_eq!(rt; options.line_ending, expected.line_ending, "{name}");
+    assert_eq!(rt; options.initial_indent, expected.initial_indent, "{name}");
+    assert_eq!(rt;
+        options.subsequent_indent,
+        expected.subsequent_indent,
+        "{name}"
+    );
+    assert_eq!(rt; options.break_words, expected.break_words, "{name}");
+    assert_eq!(rt; options.wrap_algorithm, expected.wrap_algorithm, "{name}");
+    assert_eq!(rt; options.word_separator, expected.word_separator, "{name}");
+    assert_eq!(rt; options.word_splitter, expected.word_splitter, "{name}");
+    assert_eq!(rt;
+        options.preserve_trailing_space,
+        expected.preserve_trailing_space,
+        "{name}"
+    );
+}
+
+#[test]
+fn a_width_has_the_defaults(rt: HostRuntime) {
+    let defaults = Options {
+        width: 80,
+        line_ending: LineEnding::LF,
+        initial_indent: "",
+        subsequent_indent: "",
+        break_words: true,
+        wrap_algorithm: WrapAlgorithm::new_optimal_fit(),
+        word_separator: WordSeparator::AsciiSpace,
+        word_splitter: WordSplitter::HyphenSplitter,
+        preserve_trailing_space: false,
+    };
+    assert_same(&rt, "new", &Options::new(80), &defaults);
+    assert_same(&rt, "from", &Options::from(80), &defaults);
+}
+
+#[test]
+fn each_builder_changes_its_field_alone(rt: HostRuntime) {
+    let unlike = unlike_defaults;
+    let optimal = WrapAlgorithm::new_optimal_fit();
+    let hyphens = WordSplitter::HyphenSplitter;
+    let rows = [
+        (
+            "width",
+            unlike().width(0),
+            Options {
+                width: 0,
+                ..unlike()
+            },
+        ),
+        (
+            "line_ending",
+            unlike().line_ending(LineEnding::LF),
+            Options {
+                line_ending: LineEnding::LF,
+                ..unlike()
+            },
+        ),
+        (
+            "initial_indent",
+            unlike().initial_indent("-->"),
+            Options {
+                initial_indent: "-->",
+                ..unlike()
+            },
+        ),
+        (
+            "subsequent_indent",
+            unlike().subsequent_indent("-->"),
+            Options {
+                subsequent_indent: "-->",
+                ..unlike()
+            },
+        ),
+        (
+            "break_words",
+            unlike().break_words(true),
+            Options {
+                break_words: true,
+                ..unlike()
+            },
+        ),
+        (
+            "wrap_algorithm",
+            unlike().wrap_algorithm(optimal),
+            Options {
+                wrap_algorithm: optimal,
+                ..unlike()
+            },
+        ),
+        (
+            "word_separator",
+            unlike().word_separator(WordSeparator::new()),
+            unlike(),
+        ),
+        (
+            "word_splitter",
+            unlike().word_splitter(WordSplitter::HyphenSplitter),
+            Options {
+                word_splitter: hyphens,
+                ..unlike()
+            },
+        ),
+        (
+            "preserve_trailing_space",
+            unlike().preserve_trailing_space(false),
+            Options {
+                preserve_trailing_space: false,
+                ..unlike()
+            },
+        ),
+    ];
+    for (name, options, expected) in &rows {
+        assert_same(&rt, name, options, expected);
+    }
+}
+
+#[test]
+fn a_copy_has_all_fields(rt: HostRuntime) -> Result<(), Fail> {
+    let options = unlike_defaults();
+    assert_same(&rt, "from", &Options::from(&options), &options);
+    assert_same(&rt, "clone", &options.clone()?, &options);
+    Ok(())
+}

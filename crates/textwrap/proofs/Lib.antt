@@ -1,7 +1,11 @@
 pub mod EndingLemmas
+pub mod LastBlanks
+pub mod LongLines
 pub mod LosslessLemmas
 pub mod ParagraphLemmas
 pub mod PieceLemmas
+pub mod ShortcutLemmas
 pub mod SplittingLemmas
 pub mod SplittingRows
 pub mod TextLemmas
+pub mod UniqueLines

@@ -5,9 +5,9 @@ use Rattle.std.specs.Str.{IsUtf8}
 use Rattle.std.proofs.lemmas.Bool.{false≢true}
 use Rattle.std.proofs.lemmas.List.{take_at, drop_at}
 use Rattle.std.proofs.lemmas.List.Elements.{All-nil, All-cons, All-head, All-tail, All-append, All-take, All-drop, All-weaker}
-use Rattle.textwrap_base.specs.Words.{WordText, sizes_of, is_blank, trimmed_len, without_final_blanks, final_blanks, tile_of, tiled}
+use Rattle.textwrap_base.specs.Words.{WordText, sizes_of, trimmed_len, without_final_blanks, final_blanks, tile_of, tiled}
 use Rattle.textwrap_base.proofs.DivisionMap.{IsDividedBy-whole}
-use Rattle.textwrap_base.proofs.WordTexts.{AreBlanks, EndsInBlanks, final_blanks-blank}
+use Rattle.textwrap_base.proofs.WordTexts.{AreBlanks, EndsInBlanks, final_blanks-blank, no_blanks}
 use Rattle.textwrap_base.proofs.WordsLemmas.{tiled-append}
 use Rattle.textwrap.specs.declared.options.Options.{Options}
 use Rattle.textwrap.specs.Ending.{ending_bytes, paragraphs_of, join_with}
@@ -21,9 +21,6 @@ record LeavesBlanks (options : Options) (p : LineParts) : Type 0 where
   blanks : AreBlanks p.left_off
   kept : options.preserve_trailing_space ≡ true → p.left_off ≡ []
 
-no_blanks : AreBlanks []
-no_blanks = All-nil (λ c. is_blank c ≡ true)
-
 -- ---- a line of a division
 
 -- the parts of a line, by whether its last whitespace is kept
@@ -32,7 +29,7 @@ parts_keeping options out line last keeps =
     cond keeps (record { indent = indent_of options out; slice = tiled line; penalty = []; left_off = [] })
     (record { indent = indent_of options out; slice = covered line; penalty = last.penalty; left_off = last.whitespace })
 
-covered-last : (w : WordText) (ws : List WordText) → covered (w ∷ ws) ++ (last_piece w ws).whitespace ≡ tiled (w ∷ ws)
+pub covered-last : (w : WordText) (ws : List WordText) → covered (w ∷ ws) ++ (last_piece w ws).whitespace ≡ tiled (w ∷ ws)
 covered-last w [] = sym (append-nil (tile_of w))
 covered-last w (v ∷ ws) = append_assoc (tile_of w) (covered (v ∷ ws)) (last_piece v ws).whitespace ∙ ap (λ l. tile_of w ++ l) (covered-last v ws)
 
@@ -67,10 +64,10 @@ covered_by-parts_from options out (line ∷ lines) =
     ap (λ l. l ++ covered_by (parts_from options true lines)) (parts_of-tile options out line) ∙ ap (λ l. tiled line ++ l) (covered_by-parts_from options true lines)
     ∙ sym (tiled-append line (flat_map (λ l. l) lines))
 
-all-left : {X : Type 0} (P : X → Type 0) (xs ys : List X) → All P (xs ++ ys) → All P xs
+pub all-left : {X : Type 0} (P : X → Type 0) (xs ys : List X) → All P (xs ++ ys) → All P xs
 all-left P xs ys all = subst (All P) (take_at xs ys (length xs) refl) (All-take P (length xs) (xs ++ ys) all)
 
-all-right : {X : Type 0} (P : X → Type 0) (xs ys : List X) → All P (xs ++ ys) → All P ys
+pub all-right : {X : Type 0} (P : X → Type 0) (xs ys : List X) → All P (xs ++ ys) → All P ys
 all-right P xs ys all = subst (All P) (drop_at xs ys (length xs) refl) (All-drop P (length xs) (xs ++ ys) all)
 
 parts_from-blanks : (options : Options) (out : Bool) (division : List (List WordText)) → All EndsInBlanks (flat_map (λ line. line) division) → All (LeavesBlanks options) (parts_from options out division)
@@ -81,7 +78,7 @@ parts_from-blanks options out (line ∷ lines) all =
 
 -- ---- the lines of a paragraph
 
-abbrev whole_keeping : List ℕ → Bool → LineParts
+abbrev pub whole_keeping : List ℕ → Bool → LineParts
 whole_keeping paragraph keeps =
     cond keeps (record { indent = []; slice = paragraph; penalty = []; left_off = [] }) (record { indent = []; slice = without_final_blanks paragraph; penalty = []; left_off = final_blanks paragraph })
 

@@ -7,7 +7,7 @@ use Rattle.std.specs.declared.borrow.CowStr.{CowStr}
 use Rattle.std.proofs.lemmas.Bool.{and_parts, eqb-true}
 use Rattle.std.proofs.lemmas.Bool.Decides.{nat_tests}
 use Rattle.std.proofs.lemmas.Str.{IsUtf8-append, IsUtf8-drop, IsCharBoundary-from_take, IsCharBoundary-from_rest}
-use Rattle.std.proofs.lemmas.List.{map-append, length-map, map_more, map_push, take_at, drop_at, drop_more, nil_from_length}
+use Rattle.std.proofs.lemmas.List.{map-append, length-map, length-take, take-append-le, map_more, map_push, take_at, drop_at, drop_more, nil_from_length}
 use Rattle.textwrap_base.specs.declared.words.Word.{Word}
 use Rattle.textwrap_base.specs.Words.{WordText, text_of, sizes_of, tile_of, tiled, Tiles}
 use Rattle.textwrap_base.specs.Algorithm.{IsDividedBy}
@@ -162,6 +162,12 @@ length-out options out lines start division is =
     sym (length-map lines line_of) ∙ ap length is ∙ length-append (map line_of start) (map line_from (parts_from options out division))
     ∙ ap (λ n. n + length (map line_from (parts_from options out division))) (length-map start line_of)
     ∙ ap (λ n. length start + n) (length-map (parts_from options out division) line_from ∙ length-parts_from options out division)
+
+-- what the lines began with stays where one is added
+pub start-kept : {X : Type 0} (start lines pushed : List X) (line : X) → take (length start) lines ≡ start → pushed ≡ lines ++ line ∷ [] → take (length start) pushed ≡ start
+start-kept start lines pushed line kept is =
+    let within : length start ≤ length lines = omega (arith, ap length kept, length-take (length start) lines) in
+    ap (take (length start)) is ∙ take-append-le (length start) lines (line ∷ []) within ∙ kept
 
 -- the line of the pieces at i is added
 pub lines-push : {Z D : Type 0} (v : D → List WordText) (options : Options) (division : List D) (i : ℕ) (d : D) (start lines pushed : List (CowStr Z)) (line : CowStr Z) (is_out : Bool)

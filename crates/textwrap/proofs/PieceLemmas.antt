@@ -11,15 +11,16 @@ use Rattle.std.proofs.lemmas.Iterator.Adapters.{YieldsList-from_vec}
 use Rattle.std.proofs.lemmas.Iterator.Consumers.{YieldsList-from_first}
 use Rattle.std.proofs.lemmas.List.{map-id}
 use Rattle.std.proofs.lemmas.List.Elements.{All-nil, All-cons, All-head, All-tail, All-append, All-map, All-weaker, filter_passes}
-use Rattle.std.proofs.lemmas.Str.{IsUtf8-drop, IsUtf8-between, IsCharBoundary-start}
+use Rattle.std.proofs.lemmas.Str.{IsUtf8-drop, IsUtf8-between, IsUtf8-nil, IsCharBoundary-start}
 use Rattle.textwrap_base.specs.Breaking.{piece, broken_words}
 use Rattle.textwrap_base.specs.Units.{text_width}
 use Rattle.textwrap_base.specs.Words.{WordText, is_blank, tiled, word_of}
 use Rattle.textwrap_base.proofs.PieceLemmas.{tiled-broken_words}
 use Rattle.std.proofs.lemmas.Bool.{and_parts}
 use Rattle.textwrap_base.specs.Words.{pieces}
-use Rattle.textwrap_base.proofs.WordsBound.{IsBounded, IsBounded-measured, broken_words-bounded}
-use Rattle.textwrap_base.proofs.WordTexts.{IsMeasured, EndsInBlanks, words_of-measured, text_width-nil, broken_words-blanks}
+use Rattle.textwrap_base.proofs.BrokenTexts.{broken_words-measured, broken_words-no_penalty}
+use Rattle.textwrap_base.proofs.WordsBound.{IsBounded, IsBounded-measured}
+use Rattle.textwrap_base.proofs.WordTexts.{IsMeasured, EndsInBlanks, HasNoPenalty, no_blanks, words_of-measured, text_width-nil}
 use Rattle.textwrap_base.proofs.WordsLemmas.{tiled-append, tiled-words_of}
 use Rattle.textwrap.specs.declared.options.Options.{Options}
 use Rattle.textwrap.specs.declared.word_separators.WordSeparator.{WordSeparator}
@@ -73,7 +74,7 @@ split_words-measured splitter (w ∷ words) all =
     (split_from-measured w 0 (points_of splitter w.word) measured (IsCharBoundary-start w.word measured.utf8) cuts.in_order cuts.between (λ k lt. omega arith))
     (split_words-measured splitter words (All-tail IsMeasured w words all))
 
-split_pieces_of-measured : (options : Options) (paragraph : List ℕ) → IsUtf8 paragraph → All IsMeasured (split_pieces_of options paragraph)
+pub split_pieces_of-measured : (options : Options) (paragraph : List ℕ) → IsUtf8 paragraph → All IsMeasured (split_pieces_of options paragraph)
 split_pieces_of-measured options paragraph utf8 =
     split_words-measured options.word_splitter (separated_words options.word_separator paragraph) (separated-measured options.word_separator paragraph utf8)
 
@@ -85,7 +86,7 @@ tiled-split_pieces_of options paragraph utf8 =
     tiled-split_words options.word_splitter words (All-weaker IsMeasured (λ w. IsUtf8 w.word) (λ w measured. measured.utf8) words (separated-measured options.word_separator paragraph utf8))
     ∙ tiled-separated options.word_separator paragraph
 
-wide-some : (limit : ℕ) (w : WordText) → IsMeasured w → limit < w.width → w.word ≢ []
+pub wide-some : (limit : ℕ) (w : WordText) → IsMeasured w → limit < w.width → w.word ≢ []
 wide-some limit w measured wide none = let nothing : w.width ≡ 0 = measured.width ∙ ap text_width none ∙ text_width-nil in omega arith
 
 tiled-broken : (options : Options) (paragraph : List ℕ) → IsUtf8 paragraph → tiled (broken_words (later_width options) (split_pieces_of options paragraph)) ≡ paragraph
@@ -111,26 +112,26 @@ pieces_of-tile options paragraph utf8 =
       | false ↦ tiled-split_pieces_of options paragraph utf8
     ]
 
--- ---- blanks stand between them
+-- ---- the pieces are text, with blanks between them
 
-front-blanks : (b : Bool) → All EndsInBlanks (cond b [] (empty_word ∷ []))
-front-blanks true = All-nil EndsInBlanks
-front-blanks false = All-cons EndsInBlanks empty_word [] (record { blanks = All-nil (λ c. is_blank c ≡ true); none = λ _. refl }) (All-nil EndsInBlanks)
+front-measured : (b : Bool) → All IsMeasured (cond b [] (empty_word ∷ []))
+front-measured true = All-nil IsMeasured
+front-measured false = All-cons IsMeasured empty_word [] (record { utf8 = IsUtf8-nil; width = sym text_width-nil; ending = record { blanks = no_blanks; none = λ _. refl } }) (All-nil IsMeasured)
 
-pub pieces_of-blanks : (options : Options) (paragraph : List ℕ) → IsUtf8 paragraph → All EndsInBlanks (pieces_of options paragraph)
-pieces_of-blanks options paragraph utf8 =
+pub pieces_of-measured : (options : Options) (paragraph : List ℕ) → IsUtf8 paragraph → All IsMeasured (pieces_of options paragraph)
+pieces_of-measured options paragraph utf8 =
     let split = split_pieces_of options paragraph in
     let broken = broken_words (later_width options) split in
-    let blanks : All EndsInBlanks split = All-weaker IsMeasured EndsInBlanks (λ w measured. measured.ending) split (split_pieces_of-measured options paragraph utf8) in
-    elim options.break_words as (λ b. All EndsInBlanks (cond b (front_pieces options ++ broken) split)) [
-      | true ↦ All-append EndsInBlanks (front_pieces options) broken (front-blanks (length options.initial_indent.now == 0)) (broken_words-blanks (later_width options) split blanks)
-      | false ↦ blanks
+    let measured = split_pieces_of-measured options paragraph utf8 in
+    elim options.break_words as (λ b. All IsMeasured (cond b (front_pieces options ++ broken) split)) [
+      | true ↦ All-append IsMeasured (front_pieces options) broken (front-measured (length options.initial_indent.now == 0)) (broken_words-measured (later_width options) split measured)
+      | false ↦ measured
     ]
 
--- ---- they have no penalties, and so keep to their bytes
+pub pieces_of-blanks : (options : Options) (paragraph : List ℕ) → IsUtf8 paragraph → All EndsInBlanks (pieces_of options paragraph)
+pieces_of-blanks options paragraph utf8 = All-weaker IsMeasured EndsInBlanks (λ w measured. measured.ending) (pieces_of options paragraph) (pieces_of-measured options paragraph utf8)
 
-abbrev HasNoPenalty : WordText → Type 0
-HasNoPenalty w = w.penalty ≡ []
+-- ---- they have no penalties, and so keep to their bytes
 
 separated-no_penalty : (separator : WordSeparator) (line : List ℕ) → All HasNoPenalty (separated_words separator line)
 separated-no_penalty AsciiSpace line = All-map HasNoPenalty word_of (pieces line) (λ k d lt. refl)
@@ -154,24 +155,23 @@ split_words-no_penalty splitter (w ∷ words) all =
     (split_from-no_penalty w 0 (points_of splitter w.word) (All-head HasNoPenalty w words all) (points_of-hyphens splitter w.word))
     (split_words-no_penalty splitter words (All-tail HasNoPenalty w words all))
 
-split_pieces_of-bounded : (options : Options) (paragraph : List ℕ) → IsUtf8 paragraph → All IsBounded (split_pieces_of options paragraph)
-split_pieces_of-bounded options paragraph utf8 =
-    let words = separated_words options.word_separator paragraph in
-    let measured = split_pieces_of-measured options paragraph utf8 in
-    let none = split_words-no_penalty options.word_splitter words (separated-no_penalty options.word_separator paragraph) in
-    λ k d lt. IsBounded-measured _ (measured k d lt) (none k d lt)
+front-no_penalty : (b : Bool) → All HasNoPenalty (cond b [] (empty_word ∷ []))
+front-no_penalty true = All-nil HasNoPenalty
+front-no_penalty false = All-cons HasNoPenalty empty_word [] refl (All-nil HasNoPenalty)
 
-front-bounded : (b : Bool) → All IsBounded (cond b [] (empty_word ∷ []))
-front-bounded true = All-nil IsBounded
-front-bounded false = All-cons IsBounded empty_word [] (record { width = omega arith; penalty = refl }) (All-nil IsBounded)
+pub pieces_of-no_penalty : (options : Options) (paragraph : List ℕ) → All HasNoPenalty (pieces_of options paragraph)
+pieces_of-no_penalty options paragraph =
+    let split = split_pieces_of options paragraph in
+    let broken = broken_words (later_width options) split in
+    let words = separated_words options.word_separator paragraph in
+    let none = split_words-no_penalty options.word_splitter words (separated-no_penalty options.word_separator paragraph) in
+    elim options.break_words as (λ b. All HasNoPenalty (cond b (front_pieces options ++ broken) split)) [
+      | true ↦ All-append HasNoPenalty (front_pieces options) broken (front-no_penalty (length options.initial_indent.now == 0)) (broken_words-no_penalty (later_width options) split none)
+      | false ↦ none
+    ]
 
 pub pieces_of-bounded : (options : Options) (paragraph : List ℕ) → IsUtf8 paragraph → All IsBounded (pieces_of options paragraph)
 pieces_of-bounded options paragraph utf8 =
-    let split = split_pieces_of options paragraph in
-    let broken = broken_words (later_width options) split in
-    let bounded = split_pieces_of-bounded options paragraph utf8 in
-    let texts : All (λ w. IsUtf8 w.word) split = All-weaker IsMeasured (λ w. IsUtf8 w.word) (λ w measured. measured.utf8) split (split_pieces_of-measured options paragraph utf8) in
-    elim options.break_words as (λ b. All IsBounded (cond b (front_pieces options ++ broken) split)) [
-      | true ↦ All-append IsBounded (front_pieces options) broken (front-bounded (length options.initial_indent.now == 0)) (broken_words-bounded (later_width options) split texts bounded)
-      | false ↦ bounded
-    ]
+    let measured = pieces_of-measured options paragraph utf8 in
+    let none = pieces_of-no_penalty options paragraph in
+    λ k d lt. IsBounded-measured _ (measured k d lt) (none k d lt)

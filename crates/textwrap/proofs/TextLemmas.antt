@@ -1,8 +1,9 @@
 -- Lemmas on the lines of a text.
-use Rattle.std.proofs.Common.{◌≡◌, ℕ, zero, suc, ◌+◌, ◌<◌, ◌||◌, nat_lt, Option, None, Some, MatchOption, List, [], ◌∷◌, ◌++◌, length, get_or, take, map, refl, sym, ap, ◌∙◌, subst, arith, append_assoc, append-nil, length-append}
+use Rattle.std.proofs.Common.{◌≡◌, ℕ, zero, suc, ◌+◌, ◌<◌, ◌||◌, nat_lt, Option, None, Some, MatchOption, true, false, List, [], ◌∷◌, ◌++◌, length, get_or, take, map, refl, sym, ap, ◌∙◌, subst, arith, append_assoc, append-nil, length-append}
 use Rattle.std.specs.Borrow.{Bor}
 use Rattle.std.specs.Cow.{cow_str_bytes}
 use Rattle.std.specs.List.{flat_map}
+use Rattle.std.specs.Option.{is_some}
 use Rattle.std.specs.declared.borrow.CowStr.{CowStr}
 use Rattle.std.specs.declared.borrow.CowStr.TheVariants.{Borrowed, Owned}
 use Rattle.std.proofs.lemmas.Bool.Decides.{nat_tests}
@@ -11,8 +12,9 @@ use Rattle.std.proofs.lemmas.List.Concat.{flat_map-append}
 use Rattle.textwrap.specs.declared.line_ending.LineEnding.{LineEnding}
 use Rattle.textwrap.specs.declared.options.Options.{Options}
 use Rattle.textwrap.specs.Ending.{paragraphs_of, join_with}
-use Rattle.textwrap.specs.Paragraph.{Line, LineParts, line_of, line_from, line_bytes, AreParagraphParts}
-use Rattle.textwrap.specs.Text.{AreGroups, AreTextGroups, lines_from}
+use Rattle.textwrap.specs.Paragraph.{Line, LineParts, Slice, line_of, line_from, line_bytes, is_whole, whole_parts, AreParagraphParts}
+use Rattle.textwrap.specs.Text.{AreGroups, AreTextGroups, lines_from, IsFilled}
+use Rattle.textwrap.proofs.ParagraphLemmas.{AreParagraphParts-whole}
 
 -- ---- joined lines
 
@@ -99,3 +101,17 @@ paragraphs_left-split ending rest (Some after) paragraph is = is
 -- at the end there are lines of the whole text
 pub HasGroups-end : (options : Options) (text : List ℕ) (lines : List Line) → (all : HasGroups options text lines []) → AreTextGroups options text all.groups
 HasGroups-end options text lines all = subst (AreTextGroups options text) (append-nil all.groups) (all.more [] refl)
+
+-- ---- a text that is one line as a whole
+
+pub no_more : {X A : Type 0} (B : X → Type 0) (after : Option X) → is_some after ≡ false → MatchOption after A B → A
+no_more B None none is = is
+no_more B (Some x) none is = cc
+
+pub IsFilled-whole : (options : Options) (text paragraph filled : List ℕ) → paragraphs_of options.line_ending text ≡ paragraph ∷ [] → is_whole options false paragraph ≡ true
+    → Slice filled ≡ line_from (whole_parts options paragraph) → IsFilled options text filled
+IsFilled-whole options text paragraph filled only whole is =
+    let parts = whole_parts options paragraph ∷ [] in
+    let defined : AreTextGroups options text (parts ∷ []) =
+    subst (λ paragraphs. AreGroups options false paragraphs (parts ∷ [])) (sym only) (AreParagraphParts-whole options false paragraph whole, refl) in
+    (lines_from (parts ∷ []), (parts ∷ [], defined, refl), ap line_bytes is)

@@ -2,6 +2,7 @@ pub mod Defaults
 pub mod Ending
 pub mod Paragraph
 pub mod Separating
+pub mod SlowPath
 pub mod Splitting
 pub mod Text
 pub use Rattle.textwrap_base.specs.Algorithm

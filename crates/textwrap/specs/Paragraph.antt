@@ -1,5 +1,5 @@
 -- The lines of a paragraph.
-use Rattle.std.specs.Prelude.{◌≡◌, ℕ, ◌-◌, Bool, true, ◌&&◌, ◌==◌, List, [], ◌∷◌, ◌++◌, length, nat_lt, if◌then◌else◌, MatchBool}
+use Rattle.std.specs.Prelude.{◌≡◌, ℕ, ◌-◌, Bool, true, ◌&&◌, ◌==◌, List, [], ◌∷◌, ◌++◌, length, map, nat_lt, if◌then◌else◌, MatchBool}
 use Rattle.std.specs.String.{string_bytes}
 use Rattle.std.specs.declared.borrow.CowStr.{CowStr}
 use Rattle.std.specs.declared.borrow.CowStr.TheVariants.{Borrowed, Owned}
@@ -36,6 +36,10 @@ pub record LineParts : Type 0 where
 -- a slice where nothing is added, and else a text of its own
 abbrev pub line_from : LineParts → Line
 line_from p = if length (p.indent ++ p.penalty) == 0 then Slice p.slice else Built (p.indent ++ p.slice ++ p.penalty)
+
+-- lines with these parts were added
+abbrev pub Adds : {Z : Type 0} → List (CowStr Z) → List (CowStr Z) → List LineParts → Type 0
+Adds before after parts = map line_of after ≡ map line_of before ++ map line_from parts
 
 -- ---- what is divided
 
@@ -112,11 +116,13 @@ whole_parts options paragraph =
     else record { indent = []; slice = without_final_blanks paragraph; penalty = []; left_off = final_blanks paragraph }
 
 -- the paragraph's pieces, divided by the chosen algorithm
+abbrev pub AreDividedInto : Options → List ℕ → List (List WordText) → Type 0
+AreDividedInto options paragraph division = IsDividedBy options.wrap_algorithm sizes_of (widths_of options) (pieces_of options paragraph) division
+
+-- and their lines
 abbrev pub AreDividedParts : Options → Bool → List ℕ → List LineParts → Type 0
 AreDividedParts options out paragraph parts =
-    (division : List (List WordText))
-    × IsDividedBy options.wrap_algorithm sizes_of (widths_of options) (pieces_of options paragraph) division
-    × (parts ≡ parts_from options out division)
+    (division : List (List WordText)) × AreDividedInto options paragraph division × (parts ≡ parts_from options out division)
 
 abbrev pub AreParagraphParts : Options → Bool → List ℕ → List LineParts → Type 0
 AreParagraphParts options out paragraph parts =

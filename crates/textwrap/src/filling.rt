@@ -7,15 +7,32 @@ ghost use Rattle.textwrap.specs.Text.{IsFilled};
 use crate::line_ending::LineEnding;
 use crate::options::Options;
 use crate::wrap_algorithms::WrapError;
-use crate::wrapping::wrap;
+use crate::wrapping::{is_one_line, split_paragraph, whole_line, wrap};
 use std::alloc::{AllocError, Global};
 use std::borrow::CowStr;
 
-/// The lines of [`wrap`], joined by the line ending.
+/// The lines of [`wrap`], joined by the line ending. At 10 columns `foo bar baz` becomes `foo bar`,
+/// a line feed and `baz`.
 ///
 /// # Errors
 /// Only want of memory. There is no overflow.
 pub fn fill(alloc: Global, text: &str, options: Options<'_>) -> Result<String, WrapError>
+    ensures filled { IfOk result (λ filled. IsFilled options.entry text.now (string_bytes filled)) }
+    ensures only_memory { IfErr result (λ error. error ≡ WrapError.Memory alloc_error) }
+{
+    let (paragraph, after) = split_paragraph(text, options.line_ending);
+    // A single line is joined to none, so it needs no list.
+    if after.is_none() && is_one_line(paragraph, &options, false) {
+        return Ok(String::from_str(alloc, whole_line(paragraph, &options))?);
+    }
+    fill_slow_path(alloc, text, options)
+}
+
+/// The same text as [`fill`](crate::fill), always by way of a list of lines.
+///
+/// # Errors
+/// Only want of memory. There is no overflow.
+pub fn fill_slow_path(alloc: Global, text: &str, options: Options<'_>) -> Result<String, WrapError>
     ensures filled { IfOk result (λ filled. IsFilled options.entry text.now (string_bytes filled)) }
     ensures only_memory { IfErr result (λ error. error ≡ WrapError.Memory alloc_error) }
 {
@@ -86,6 +103,10 @@ mod tests {
                 10,
                 "To be,\nor not to\nbe: that\nis the\nquestion\n",
             ),
+            ("test\n\na\n\n", 80, "test\n\na\n\n"),
+            ("  \n \n  \n ", 80, "\n\n\n"),
+            ("ab\ncdefghijkl", 5, "ab\ncdefg\nhijkl"),
+            ("foo  ", 10, "foo"),
         ] {
             let answer = fill(rt.alloc(), text, Options::new(width))?;
             assert_eq!(rt; answer.as_str(), filled, "{text:?} at {width}");
@@ -105,6 +126,11 @@ mod tests {
                 "foo  ",
                 Options::new(10).preserve_trailing_space(true),
                 "foo  ",
+            ),
+            (
+                "foo\u{a0}bar\u{2011}baz",
+                Options::new(5).break_words(false),
+                "foo\u{a0}bar\u{2011}baz",
             ),
             (
                 "foo bar baz",

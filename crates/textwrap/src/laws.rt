@@ -1,9 +1,24 @@
 //! Laws of the definitions that the contracts cite. Each is the contract of a function that does
 //! nothing, so that a proof may call on it.
-ghost use Rattle.std.specs.Prelude.{◌≡◌, ℕ, List, All, IsUtf8};
+ghost use Rattle.std.specs.Prelude.{◌≡◌, ℕ, Bool, List, All, IsUtf8};
 ghost use Rattle.textwrap_base.specs.Words.{WordText, tile_of, tiled};
+ghost use Rattle.textwrap.specs.Paragraph.{Line, LineParts, AreParagraphParts};
 ghost use Rattle.textwrap.specs.Splitting.{points_of, AreCuts, split_pieces, split_words};
+ghost use Rattle.textwrap.specs.Text.{AreTextLines, IsFilled};
+ghost use Rattle.textwrap.specs.declared.options.Options.{Options};
 ghost use Rattle.textwrap.specs.declared.word_splitters.WordSplitter.{WordSplitter};
+
+/// A paragraph has one list of lines, a text too, and one filled text, whatever the options. So the
+/// contracts of `wrap` and `fill` leave them no choice.
+pub fn lines_are_unique()
+    ensures paragraph { (options : Options) (out : Bool) (paragraph : List ℕ) (parts others : List LineParts)
+        → AreParagraphParts options out paragraph parts → AreParagraphParts options out paragraph others
+        → parts ≡ others }
+    ensures text { (options : Options) (text : List ℕ) (lines others : List Line)
+        → AreTextLines options text lines → AreTextLines options text others → lines ≡ others }
+    ensures filled { (options : Options) (text filled other : List ℕ)
+        → IsFilled options text filled → IsFilled options text other → filled ≡ other }
+{}
 
 /// The points of a splitter are cuts of the word, and the pieces at any cuts tile it, with its
 /// whitespace. So the pieces of a list of words tile what the words do.

@@ -13,6 +13,7 @@ pub use wrap_algorithms::WrapAlgorithm;
 pub use wrapping::wrap;
 
 mod filling;
+pub mod fuzzing;
 pub mod laws;
 mod line_ending;
 mod options;

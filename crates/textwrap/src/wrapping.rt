@@ -1,13 +1,16 @@
 //! Wrapping a text into lines.
-ghost use Rattle.std.specs.Prelude.{◌≡◌, ℕ, List, ◌∷◌, [], ◌++◌, ◌^◌, ◌<◌, length, take, drop, map, nat_lt, if◌then◌else◌, alloc_error, IfOk, IfErr, IfSome, OnOk, MatchOption};
+ghost use Rattle.std.specs.Prelude.{◌≡◌, ℕ, List, ◌∷◌, [], ◌++◌, ◌^◌, ◌<◌, length, take, drop, map, nat_lt, if◌then◌else◌, alloc_error, true, IfOk, IfErr, IfSome, OnOk, OnErr, MatchOption};
 ghost use Rattle.std.specs.List.{flat_map};
 ghost use Rattle.std.specs.Str.{IsUtf8};
 ghost use Rattle.std.specs.Io.{StartsWith};
 ghost use Rattle.textwrap_base.specs.Cost.{total_width};
 ghost use Rattle.textwrap_base.specs.Algorithm.{IsDividedBy};
-ghost use Rattle.textwrap_base.specs.Words.{text_of, sizes_of, tiled, Tiles};
+ghost use Rattle.textwrap_base.specs.Units.{IsNarrow};
+ghost use Rattle.textwrap_base.specs.Words.{WordText, text_of, sizes_of, tiled, Tiles};
+ghost use Rattle.textwrap_base.specs.declared.wrap_algorithms.WrapAlgorithm.TheVariants.{FirstFit};
 ghost use Rattle.textwrap.specs.Ending.{paragraphs_of};
-ghost use Rattle.textwrap.specs.Paragraph.{Slice, Line, LineParts, line_of, line_from, covered, pieces_of, split_pieces_of, widths_of, width_after, later_width, indent_of, parts_of, parts_from, whole_parts, AreDividedParts, AreParagraphParts};
+ghost use Rattle.textwrap.specs.Paragraph.{Slice, Line, LineParts, line_of, line_from, covered, pieces_of, split_pieces_of, widths_of, width_after, later_width, indent_of, is_whole, parts_of, parts_from, whole_parts, Adds, AreDividedInto, AreDividedParts, AreParagraphParts};
+ghost use Rattle.textwrap.specs.SlowPath.{OnlyCharactersPass};
 ghost use Rattle.textwrap.specs.Text.{AreTextLines, LosesOnlyBlanks};
 
 use crate::line_ending::LineEnding;
@@ -25,7 +28,8 @@ use textwrap_base::blanks::split_final_blanks;
 /// divided into lines by their algorithm.
 ///
 /// Only blanks at the ends of lines are left off. A line to which no indent and no hyphen was added
-/// is borrowed from the text.
+/// is borrowed from the text. At 5 columns `foo-bar baz` has the lines `foo-`, `bar` and `baz`, all
+/// of them borrowed.
 ///
 /// # Errors
 /// Only want of memory. There is no overflow.
@@ -42,14 +46,14 @@ pub fn wrap<'t>(
     let mut rest = Some(text);
     while let Some(text) = rest {
         let (paragraph, after) = split_paragraph(text, options.line_ending);
-        wrap_paragraph(alloc, paragraph, &options, &mut lines)?;
+        wrap_single_line(alloc, paragraph, &options, &mut lines)?;
         rest = after;
     }
     Ok(lines)
 }
 
 /// The first paragraph of the text, and what follows its ending, if it has one.
-fn split_paragraph(text: &str, line_ending: LineEnding) -> (&str, Option<&str>)
+pub fn split_paragraph(text: &str, line_ending: LineEnding) -> (&str, Option<&str>)
     ensures paragraphs { MatchOption result.1
         (paragraphs_of line_ending text.now ≡ result.0.now ∷ [])
         (λ after. paragraphs_of line_ending text.now ≡ result.0.now ∷ paragraphs_of line_ending after.now) }
@@ -61,24 +65,40 @@ fn split_paragraph(text: &str, line_ending: LineEnding) -> (&str, Option<&str>)
     }
 }
 
-/// Appends the lines of a paragraph. The first of a list of lines has the initial indent.
-fn wrap_paragraph<'t>(
+/// Appends the lines of one paragraph, as [`wrap`] does. The first of a list of lines has the
+/// initial indent. At an error the lines stay as they were.
+///
+/// # Errors
+/// Only want of memory. There is no overflow.
+pub fn wrap_single_line<'t>(
     alloc: Global,
-    paragraph: &'t str,
+    line: &'t str,
     options: &Options<'_>,
     lines: &mut Vec<CowStr<'t>>,
 ) -> Result<(), WrapError>
     ensures lines { OnOk result ((parts : List LineParts)
-        × AreParagraphParts options.now (nat_lt 0 (length lines.old.items)) paragraph.now parts
-        × (map line_of lines.new.items ≡ map line_of lines.old.items ++ map line_from parts)) }
+        × AreParagraphParts options.now (nat_lt 0 (length lines.old.items)) line.now parts
+        × Adds lines.old.items lines.new.items parts) }
+    // Without an initial indent, and without characters that take more columns than bytes, these
+    // are lines of the slow path.
+    ensures as_slow_path { options.now.initial_indent.now ≡ [] → IsNarrow line.now → OnOk result ((parts : List LineParts)
+        × AreDividedParts options.now (nat_lt 0 (length lines.old.items)) line.now parts
+        × Adds lines.old.items lines.new.items parts) }
+    ensures unchanged { OnErr result (lines.new.items ≡ lines.old.items) }
     ensures only_memory { IfErr result (λ error. error ≡ WrapError.Memory alloc_error) }
 {
-    let indent = next_indent(options, !lines.is_empty());
-    if indent.is_empty() && paragraph.len() < options.width {
-        lines.push(CowStr::Borrowed(whole_line(paragraph, options)))?;
+    if is_one_line(line, options, !lines.is_empty()) {
+        lines.push(CowStr::Borrowed(whole_line(line, options)))?;
         return Ok(());
     }
-    wrap_divided(alloc, paragraph, options, lines)
+    wrap_single_line_slow_path(alloc, line, options, lines)
+}
+
+/// Whether a paragraph is one line as a whole, where `out` says that a line is out already.
+pub fn is_one_line(paragraph: &str, options: &Options<'_>, out: bool) -> bool
+    ensures { result ≡ is_whole options.now out paragraph.now }
+{
+    next_indent(options, out).is_empty() && paragraph.len() < options.width
 }
 
 /// The indent of the next line, where `out` says that a line is out already.
@@ -93,7 +113,7 @@ fn next_indent<'a>(options: &Options<'a>, out: bool) -> &'a str
 }
 
 /// The paragraph as one line.
-fn whole_line<'t>(paragraph: &'t str, options: &Options<'_>) -> &'t str
+pub fn whole_line<'t>(paragraph: &'t str, options: &Options<'_>) -> &'t str
     ensures { Slice result.now ≡ line_from (whole_parts options.now paragraph.now) }
 {
     if options.preserve_trailing_space {
@@ -102,21 +122,38 @@ fn whole_line<'t>(paragraph: &'t str, options: &Options<'_>) -> &'t str
     split_final_blanks(paragraph).0
 }
 
-/// Appends the lines of a paragraph whose pieces are divided.
-fn wrap_divided<'t>(
+/// Appends the lines of one paragraph whose pieces are divided, however short it is. At an error the
+/// lines stay as they were.
+///
+/// # Errors
+/// Only want of memory. There is no overflow.
+pub fn wrap_single_line_slow_path<'t>(
     alloc: Global,
-    paragraph: &'t str,
+    line: &'t str,
     options: &Options<'_>,
     lines: &mut Vec<CowStr<'t>>,
 ) -> Result<(), WrapError>
     ensures lines { OnOk result ((parts : List LineParts)
-        × AreDividedParts options.now (nat_lt 0 (length lines.old.items)) paragraph.now parts
-        × (map line_of lines.new.items ≡ map line_of lines.old.items ++ map line_from parts)) }
+        × AreDividedParts options.now (nat_lt 0 (length lines.old.items)) line.now parts
+        × Adds lines.old.items lines.new.items parts) }
+    // By first fit, where words are broken, a line passes its width only with a single character.
+    ensures overlong { options.now.wrap_algorithm ≡ FirstFit → options.now.break_words ≡ true → OnOk result ((division : List (List WordText))
+        × AreDividedInto options.now line.now division
+        × Adds lines.old.items lines.new.items (parts_from options.now (nat_lt 0 (length lines.old.items)) division)
+        × OnlyCharactersPass (widths_of options.now) 0 division) }
+    ensures unchanged { OnErr result (lines.new.items ≡ lines.old.items) }
     ensures only_memory { IfErr result (λ error. error ≡ WrapError.Memory alloc_error) }
 {
-    let pieces = find_pieces(alloc, paragraph, options)?;
+    let pieces = find_pieces(alloc, line, options)?;
     let division = divide(alloc, &pieces, options)?;
-    Ok(push_lines(alloc, paragraph, &division, options, lines)?)
+    let count = lines.len();
+    match push_lines(alloc, line, &division, options, lines) {
+        Ok(()) => Ok(()),
+        Err(error) => {
+            lines.truncate(count);
+            Err(WrapError::Memory(error))
+        }
+    }
 }
 
 /// The pieces of a paragraph that are divided.
@@ -177,9 +214,9 @@ fn push_lines<'t>(
     lines: &mut Vec<CowStr<'t>>,
 ) -> Result<(), AllocError>
     requires { flat_map (λ line. tiled (map text_of line.now)) division.now ≡ paragraph.now }
-    ensures { OnOk result (map line_of lines.new.items ≡ map line_of lines.old.items
-        ++ map line_from (parts_from options.now (nat_lt 0 (length lines.old.items))
-        (map (λ line. map text_of line.now) division.now))) }
+    ensures lines { OnOk result (Adds lines.old.items lines.new.items
+        (parts_from options.now (nat_lt 0 (length lines.old.items)) (map (λ line. map text_of line.now) division.now))) }
+    ensures kept { OnErr result (take (length lines.old.items) lines.new.items ≡ lines.old.items) }
 {
     let mut rest = paragraph;
     for pieces in division {

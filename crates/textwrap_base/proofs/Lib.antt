@@ -1,5 +1,6 @@
 pub mod BreakingLemmas
 pub mod BreakingRows
+pub mod BrokenTexts
 pub mod ChosenLemmas
 pub mod DivisionLaws
 pub mod DivisionLemmas
@@ -8,8 +9,10 @@ pub mod DivisionRows
 pub mod LinesLemmas
 pub mod ListLemmas
 pub mod MeasureLemmas
+pub mod OneLineLemmas
 pub mod OptimalMap
 pub mod OverflowLemmas
+pub mod OverlongLemmas
 pub mod PieceLemmas
 pub mod StartsLemmas
 pub mod StepsLemmas

@@ -1,16 +1,17 @@
 -- Lemmas on the units of a text and their columns.
-use Rattle.std.proofs.Common.{◌≡◌, ℕ, zero, suc, ◌+◌, ◌*◌, ◌<◌, ◌≤◌, Bool, true, false, cond, eqb, List, [], ◌∷◌, length, get_or, take, drop, sym, ap, subst, zero-add, ◌∙◌, arith, length-append}
+use Rattle.std.proofs.Common.{◌≡◌, ℕ, zero, suc, ◌+◌, ◌*◌, ◌<◌, ◌≤◌, Bool, true, false, cond, eqb, List, [], ◌∷◌, length, get_or, take, drop, sym, ap, subst, zero-add, ◌∙◌, arith, length-append, All}
 use Rattle.std.specs.List.{flat_map, sum_by}
 use Rattle.std.specs.Str.{chars, IsUtf8}
 use lib.Utf8.{encode, encodes}
 use Rattle.std.proofs.lemmas.Bool.Decides.{nat_tests}
 use Rattle.std.proofs.lemmas.List.{at_drop_more}
+use Rattle.std.proofs.lemmas.List.Elements.{All-head, All-tail}
 use Rattle.std.proofs.lemmas.List.Sums.{sum_by-cons, sum_by-append}
 use Rattle.std.proofs.lemmas.Str.{length-encode, encodes-chars}
 use Rattle.unicode_width.specs.Width.{char_width}
 use Rattle.unicode_width.proofs.Rules.{width_or_zero-le}
 use Rattle.textwrap_base.specs.declared.words.escapes.State.{State}
-use Rattle.textwrap_base.specs.Units.{Visible, Sequence, escape_len, unit_at, taken_at, units_past, visible_of, visible, columns, text_width}
+use Rattle.textwrap_base.specs.Units.{Visible, Sequence, escape_len, unit_at, taken_at, units_past, visible_of, columns, text_width, IsNarrow}
 use Rattle.textwrap_base.specs.Escapes.{visible_in}
 
 -- the columns of the characters to come
@@ -38,12 +39,29 @@ columns-le c = rw length-encode (grind (arith, nat_tests, columns-ascii c, width
 unit_at-le : (c : ℕ) (cs : List ℕ) → sum_by columns (visible_of (unit_at c cs)) ≤ columns c
 unit_at-le c cs = elim (eqb c 27) as (λ b. sum_by columns (visible_of (cond b (Sequence (c ∷ take (escape_len cs) cs)) (Visible c))) ≤ columns c) [ true ↦ omega arith | false ↦ omega arith ]
 
--- the characters from place n on have at most twice as many columns as bytes
-visible-le : (n : ℕ) (cs : List ℕ) → sum_by columns (flat_map visible_of (units_past n cs)) ≤ 2 * length (encodes cs)
+-- the visible characters from place n on have no more columns than all of them
+visible-le : (n : ℕ) (cs : List ℕ) → sum_by columns (flat_map visible_of (units_past n cs)) ≤ sum_by columns cs
 visible-le n [] = omega arith
-visible-le zero (c ∷ cs) =
-    simp (length-append, sum_by-append) (omega (arith, unit_at-le c cs, visible-le (taken_at c cs) cs, columns-le c))
-visible-le (suc n) (c ∷ cs) = simp length-append (omega (arith, visible-le n cs))
+visible-le zero (c ∷ cs) = simp (sum_by-cons, sum_by-append) (omega (arith, unit_at-le c cs, visible-le (taken_at c cs) cs))
+visible-le (suc n) (c ∷ cs) = simp sum_by-cons (omega (arith, visible-le n cs))
+
+-- all characters have at most twice as many columns as bytes, and narrow ones at most as many
+columns-twice : (cs : List ℕ) → sum_by columns cs ≤ 2 * length (encodes cs)
+columns-twice [] = omega arith
+columns-twice (c ∷ cs) = simp (length-append, sum_by-cons) (omega (arith, columns-twice cs, columns-le c))
+
+columns-narrow : (cs : List ℕ) → All (λ c. columns c ≤ length (encode c)) cs → sum_by columns cs ≤ length (encodes cs)
+columns-narrow [] narrow = omega arith
+columns-narrow (c ∷ cs) narrow =
+    let here = All-head (λ d. columns d ≤ length (encode d)) c cs narrow in
+    let rest = columns-narrow cs (All-tail (λ d. columns d ≤ length (encode d)) c cs narrow) in simp (length-append, sum_by-cons) (omega (arith, here, rest))
 
 pub text_width-le : (bytes : List ℕ) → IsUtf8 bytes → text_width bytes ≤ 2 * length bytes
-text_width-le bytes utf8 = subst (λ x. sum_by columns (visible (chars bytes)) ≤ 2 * length x) (encodes-chars bytes utf8) (visible-le 0 (chars bytes))
+text_width-le bytes utf8 =
+    let twice : sum_by columns (chars bytes) ≤ 2 * length bytes = subst (λ x. sum_by columns (chars bytes) ≤ 2 * length x) (encodes-chars bytes utf8) (columns-twice (chars bytes)) in
+    omega (arith, visible-le 0 (chars bytes), twice)
+
+pub text_width-narrow : (bytes : List ℕ) → IsUtf8 bytes → IsNarrow bytes → text_width bytes ≤ length bytes
+text_width-narrow bytes utf8 narrow =
+    let once : sum_by columns (chars bytes) ≤ length bytes = subst (λ x. sum_by columns (chars bytes) ≤ length x) (encodes-chars bytes utf8) (columns-narrow (chars bytes) narrow) in
+    omega (arith, visible-le 0 (chars bytes), once)

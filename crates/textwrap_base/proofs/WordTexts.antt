@@ -1,14 +1,13 @@
 -- Lemmas on the texts of the words of a line: they are UTF-8, and blanks stand between them.
-use Rattle.std.proofs.Common.{inl, inr, ◌≡◌, ℕ, ◌+◌, ◌-◌, ◌<◌, ◌≤◌, Bool, true, false, not, cond, ◌==◌, List, [], ◌∷◌, ◌++◌, All, length, get_or, take, drop, refl, sym, ap, ◌∙◌, subst, arith, append_assoc, append-nil, length-append, length-drop}
+use Rattle.std.proofs.Common.{inl, inr, ◌≡◌, ℕ, zero, suc, ◌+◌, ◌-◌, ◌<◌, ◌≤◌, Bool, true, false, not, cond, ◌==◌, List, [], ◌∷◌, ◌++◌, All, length, get_or, take, drop, refl, sym, ap, ◌∙◌, subst, arith, append_assoc, append-nil, length-append, length-drop}
 use Rattle.std.specs.Prelude.{reverse}
-use Rattle.std.specs.List.{onto_first, sum_by}
+use Rattle.std.specs.List.{onto_first, suffix_len, sum_by}
 use Rattle.std.specs.Str.{IsUtf8, IsCharBoundary}
 use Rattle.std.proofs.lemmas.Bool.{and_parts, cases_lt, eqb-true, false≢true}
-use Rattle.std.proofs.lemmas.List.{get_or_at, get_or-drop, get_or-reverse, length_push, take_at, drop_at}
-use Rattle.std.proofs.lemmas.List.Elements.{All-nil, All-cons, All-head, All-tail, All-append, All-map, All-weaker}
-use Rattle.std.proofs.lemmas.List.Sums.{prefix_len_passes}
+use Rattle.std.proofs.lemmas.List.{get_or_at, get_or-drop, get_or-reverse, length-reverse, length_push, take_at, drop_at}
+use Rattle.std.proofs.lemmas.List.Elements.{All-nil, All-cons, All-map, All-weaker}
+use Rattle.std.proofs.lemmas.List.Sums.{prefix_len_passes, prefix_len_stops, suffix_len_is}
 use Rattle.std.proofs.lemmas.Str.{IsUtf8-take, IsUtf8-drop, IsCharBoundary-end, IsCharBoundary-before_ascii, IsCharBoundary-after_ascii, chars-nil}
-use Rattle.textwrap_base.specs.Breaking.{broken_pieces, broken_word, broken_words, broken_texts, pieces_with}
 use Rattle.textwrap_base.specs.Units.{columns, visible, text_width}
 use Rattle.textwrap_base.specs.Words.{WordText, is_blank, trimmed_len, without_final_blanks, final_blanks, word_of, is_cut, pieces, words_of}
 
@@ -84,6 +83,36 @@ trimmed-blank bytes k d from within =
     let passes = prefix_len_passes is_blank (reverse bytes) j d (omega arith) in
     ap is_blank (sym (get_or-reverse bytes j d (omega arith) ∙ ap (λ n. get_or bytes n d) back)) ∙ passes
 
+-- and the byte before them is no blank
+trimmed-other : (bytes : List ℕ) → 0 < trimmed_len bytes → is_blank (get_or bytes (trimmed_len bytes - 1) 0) ≡ false
+trimmed-other bytes some =
+    let j = suffix_len is_blank bytes in
+    let len = length-reverse bytes in
+    let back : length bytes - 1 - j ≡ trimmed_len bytes - 1 = omega arith in
+    let stops = prefix_len_stops is_blank (reverse bytes) 0 (omega (arith, len)) in
+    ap is_blank (sym (get_or-reverse bytes j 0 (omega arith) ∙ ap (λ n. get_or bytes n 0) back)) ∙ stops
+
+-- they begin after each byte that is no blank
+pub trimmed-past : (bytes : List ℕ) (i : ℕ) → i < length bytes → is_blank (get_or bytes i 0) ≡ false → i < trimmed_len bytes
+trimmed-past bytes i within other =
+    elim (cases_lt i (trimmed_len bytes)) [
+      | inl past ↦ past
+      | inr before ↦ absurd (false≢true (sym other ∙ trimmed-blank bytes i 0 before within))
+    ]
+
+-- a byte in front of a text that is not all blanks changes nothing at its end
+pub final_blanks-more : (c : ℕ) (bytes : List ℕ) → 0 < trimmed_len bytes → (trimmed_len (c ∷ bytes) ≡ suc (trimmed_len bytes)) × (final_blanks (c ∷ bytes) ≡ final_blanks bytes)
+final_blanks-more c bytes some =
+    let n = suc (trimmed_len bytes) in
+    let place : suc (trimmed_len bytes) - 1 ≡ suc (trimmed_len bytes - 1) = omega (arith, some) in
+    let s = suffix_len_is is_blank (c ∷ bytes) n 0 (omega arith) after (λ more. ap (λ k. is_blank (get_or (c ∷ bytes) k 0)) place ∙ trimmed-other bytes some) in
+    let len : trimmed_len (c ∷ bytes) ≡ n = omega (arith, s) in
+    (len, ap (λ m. drop m (c ∷ bytes)) len)
+  where
+    after : (k : ℕ) → suc (trimmed_len bytes) ≤ k → k < length (c ∷ bytes) → is_blank (get_or (c ∷ bytes) k 0) ≡ true
+    after zero from within = absurd (omega arith)
+    after (suc k) from within = trimmed-blank bytes k 0 (omega arith) (omega arith)
+
 pub final_blanks-blank : (bytes : List ℕ) → AreBlanks (final_blanks bytes)
 final_blanks-blank bytes = λ k d within.
     ap is_blank (get_or-drop (trimmed_len bytes) bytes k d) ∙ trimmed-blank bytes (trimmed_len bytes + k) d (omega arith) (omega (arith, length-drop (trimmed_len bytes) bytes))
@@ -122,23 +151,10 @@ words_of-measured line utf8 =
 pub text_width-nil : text_width [] ≡ 0
 text_width-nil = ap (λ cs. sum_by columns (visible cs)) chars-nil
 
--- ---- the words, broken
+-- ---- a word without text, and words without penalties
 
-no_blanks : AreBlanks []
+abbrev pub HasNoPenalty : WordText → Type 0
+HasNoPenalty w = w.penalty ≡ []
+
+pub no_blanks : AreBlanks []
 no_blanks = All-nil (λ c. is_blank c ≡ true)
-
-pieces_with-blanks : (whitespace penalty : List ℕ) → AreBlanks whitespace → ((length penalty == 0) ≡ false → whitespace ≡ []) → (texts : List (List ℕ)) → All EndsInBlanks (pieces_with whitespace penalty texts)
-pieces_with-blanks whitespace penalty blanks none [] = All-nil EndsInBlanks
-pieces_with-blanks whitespace penalty blanks none (text ∷ []) = All-cons EndsInBlanks _ [] (record { blanks = blanks; none = none }) (All-nil EndsInBlanks)
-pieces_with-blanks whitespace penalty blanks none (text ∷ next ∷ texts) =
-    All-cons EndsInBlanks _ (pieces_with whitespace penalty (next ∷ texts)) (record { blanks = no_blanks; none = λ _. refl }) (pieces_with-blanks whitespace penalty blanks none (next ∷ texts))
-
-broken_word-blanks : (limit : ℕ) (w : WordText) → EndsInBlanks w → (b : Bool) → All EndsInBlanks (cond b (broken_pieces limit w) (w ∷ []))
-broken_word-blanks limit w ending true = pieces_with-blanks w.whitespace w.penalty ending.blanks ending.none (broken_texts limit w.word)
-broken_word-blanks limit w ending false = All-cons EndsInBlanks w [] ending (All-nil EndsInBlanks)
-
-pub broken_words-blanks : (limit : ℕ) (words : List WordText) → All EndsInBlanks words → All EndsInBlanks (broken_words limit words)
-broken_words-blanks limit [] all = All-nil EndsInBlanks
-broken_words-blanks limit (w ∷ words) all =
-    All-append EndsInBlanks (broken_word limit w) (broken_words limit words) (broken_word-blanks limit w (All-head EndsInBlanks w words all) _)
-    (broken_words-blanks limit words (All-tail EndsInBlanks w words all))

@@ -14,7 +14,7 @@ join-onto_first : (c : ℕ) (parts : List (List ℕ)) → flat_map (λ part. par
 join-onto_first c [] = refl
 join-onto_first c (part ∷ parts) = refl
 
-join-pieces : (line : List ℕ) → flat_map (λ part. part) (pieces line) ≡ line
+pub join-pieces : (line : List ℕ) → flat_map (λ part. part) (pieces line) ≡ line
 join-pieces [] = refl
 join-pieces (c ∷ []) = refl
 join-pieces (c ∷ d ∷ cs) =

@@ -1,5 +1,5 @@
 -- The units of a text, its visible characters and its escape sequences (ECMA-48), and the width of a text.
-use Rattle.std.specs.Prelude.{◌≡◌, ◌≢◌, ℕ, zero, suc, ◌-◌, ◌<◌, ◌≤◌, Bool, true, false, ◌==◌, ◌&&◌, ◌||◌, List, [], ◌∷◌, length, take, slice_index, if◌then◌else◌, unwrap_or, chars, sum_by, ⊤, ◌⊎◌}
+use Rattle.std.specs.Prelude.{◌≡◌, ◌≢◌, ℕ, zero, suc, ◌-◌, ◌<◌, ◌≤◌, Bool, true, false, ◌==◌, ◌&&◌, ◌||◌, List, [], ◌∷◌, length, take, slice_index, if◌then◌else◌, unwrap_or, chars, sum_by, encode_utf8, filter, nat_lt, All, ⊤, ◌⊎◌}
 use Rattle.std.specs.Int.{is_in_range}
 use Rattle.std.specs.List.{flat_map}
 use Rattle.unicode_width.specs.Width.{char_width}
@@ -125,3 +125,11 @@ columns c = unwrap_or (char_width false c) 0
 -- the columns of a text, given by its bytes
 abbrev pub text_width : List ℕ → ℕ
 text_width bytes = sum_by columns (visible (chars bytes))
+
+-- no character of the text takes more columns than its bytes
+abbrev pub IsNarrow : List ℕ → Type 0
+IsNarrow bytes = All (λ c. columns c ≤ length (encode_utf8 c)) (chars bytes)
+
+-- the visible characters of the text that take columns
+abbrev pub column_characters : List ℕ → List ℕ
+column_characters bytes = filter (λ c. nat_lt 0 (columns c)) (visible (chars bytes))

@@ -167,11 +167,16 @@ fn assert_wrapped(
 
 #[test]
 fn words_are_split_and_broken(rt: HostRuntime) -> Result<(), Fail> {
-    let rows: [(&str, Options<'_>, Lines<'_>); 9] = [
+    let rows: [(&str, Options<'_>, Lines<'_>); 10] = [
         (
             "foo-bar",
             Options::new(5),
             &[(Borrowed, "foo-"), (Borrowed, "bar")],
+        ),
+        (
+            "foo-bar baz",
+            Options::new(5),
+            &[(Borrowed, "foo-"), (Borrowed, "bar"), (Borrowed, "baz")],
         ),
         (
             "foo-bar-baz",

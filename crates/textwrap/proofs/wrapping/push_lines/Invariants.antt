@@ -6,11 +6,12 @@ use Rattle.textwrap_base.specs.Words.{text_of, tiled}
 use Rattle.textwrap.specs.Paragraph.{line_of, line_from, parts_from}
 use Rattle.textwrap.proofs.wrapping.push_lines.Given as goal
 
--- the lines so far are out, and the rest of the paragraph is what the others tile
+-- the lines so far are out after those that were, and the rest of the paragraph is what the others tile
 abbrev pub invariant-loop-pieces : goal.invariant-loop-pieces
 invariant-loop-pieces l =
     shadow (Utf8 l.rest)
     × (flat_map (λ line. tiled (map text_of line.now)) (drop l.pieces-index l.division) ≡ l.rest)
+    × (take (length l.initial.lines.items) l.lines.items ≡ l.initial.lines.items)
     × (map line_of l.lines.items
     ≡ map line_of l.initial.lines.items
     ++ map line_from (parts_from l.options (nat_lt 0 (length l.initial.lines.items)) (map (λ line. map text_of line.now) (take l.pieces-index l.division))))

@@ -11,8 +11,8 @@ loop-rest-preserved c =
     let before = c.loop-rest.lines.items in
     let paragraph = c.split_paragraph.result.0.now in
     let after = c.split_paragraph.result.1 in
-    let added = c.in_ok-wrap_paragraph.ensures.lines in
-    HasGroups-more options c.args.text.now (map line_of before) (map line_of c.wrap_paragraph.new.lines.items) (paragraphs_left options.line_ending c.loop-rest.rest) (paragraphs_left options.line_ending after)
+    let added = c.in_ok-wrap_single_line.ensures.lines in
+    HasGroups-more options c.args.text.now (map line_of before) (map line_of c.wrap_single_line.new.lines.items) (paragraphs_left options.line_ending c.loop-rest.rest) (paragraphs_left options.line_ending after)
     paragraph added.0 c.loop-rest.invariant
     (ap (paragraphs_left options.line_ending) c.in-Some.is ∙ paragraphs_left-split options.line_ending c.in-Some.text.now after paragraph c.split_paragraph.ensures.paragraphs)
     (subst (λ n. AreParagraphParts options (nat_lt 0 n) paragraph added.0) (sym (length-map before line_of)) added.1)

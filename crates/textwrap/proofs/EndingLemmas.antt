@@ -15,7 +15,7 @@ pub ending_bytes-some : (ending : LineEnding) → 0 < length (ending_bytes endin
 ending_bytes-some CRLF = omega arith
 ending_bytes-some LF = omega arith
 
-starts_with-true : (ending xs rest : List ℕ) → xs ≡ ending ++ rest → starts_with nat_eq xs ending ≡ true
+pub starts_with-true : (ending xs rest : List ℕ) → xs ≡ ending ++ rest → starts_with nat_eq xs ending ≡ true
 starts_with-true ending xs rest is =
     (bytes_eq-Decides ending (take (length ending) xs)).1 (sym (ap (take (length ending)) is ∙ take_at ending rest (length ending) refl))
 
@@ -61,7 +61,7 @@ onto_first-some : (c : ℕ) (parts : List (List ℕ)) → 0 < length (onto_first
 onto_first-some c [] = omega arith
 onto_first-some c (part ∷ parts) = omega arith
 
-parts_past-some : (ending : List ℕ) (n : ℕ) (cs : List ℕ) → 0 < length (parts_past ending n cs)
+pub parts_past-some : (ending : List ℕ) (n : ℕ) (cs : List ℕ) → 0 < length (parts_past ending n cs)
 parts_past-some ending n [] = omega arith
 parts_past-some ending zero (c ∷ cs) =
     elim (starts_with nat_eq (c ∷ cs) ending) as (λ b. 0 < length (cond b ([] ∷ parts_past ending (length ending - 1) cs) (onto_first c (parts_past ending 0 cs)))) [
@@ -70,7 +70,7 @@ parts_past-some ending zero (c ∷ cs) =
     ]
 parts_past-some ending (suc n) (c ∷ cs) = parts_past-some ending n cs
 
-join_with-cons : (separator x : List ℕ) (xs : List (List ℕ)) → 0 < length xs → join_with separator (x ∷ xs) ≡ x ++ separator ++ join_with separator xs
+pub join_with-cons : (separator x : List ℕ) (xs : List (List ℕ)) → 0 < length xs → join_with separator (x ∷ xs) ≡ x ++ separator ++ join_with separator xs
 join_with-cons separator x [] some = absurd (omega arith)
 join_with-cons separator x (y ∷ xs) some = refl
 

@@ -2,6 +2,7 @@ pub mod EndingLemmas
 pub mod LastBlanks
 pub mod LongLines
 pub mod LosslessLemmas
+pub mod ParagraphLaws
 pub mod ParagraphLemmas
 pub mod PieceLemmas
 pub mod ShortcutLemmas

@@ -21,7 +21,7 @@ divided_one : {X : Type 0} (algorithm : WrapAlgorithm) (sizes : X → Sizes) (wi
 divided_one FirstFit sizes widths xs lines others equal one other = greedy_unique sizes widths xs lines others one other
 divided_one (OptimalFit penalties) sizes widths xs lines others equal one other = chosen_one sizes penalties widths xs lines others (one.chosen equal) (other.chosen equal)
 
-divided_parts_one : (options : Options) (out : Bool) (paragraph : List ℕ) (parts others : List LineParts) → AreDividedParts options out paragraph parts → AreDividedParts options out paragraph others → parts ≡ others
+pub divided_parts_one : (options : Options) (out : Bool) (paragraph : List ℕ) (parts others : List LineParts) → AreDividedParts options out paragraph parts → AreDividedParts options out paragraph others → parts ≡ others
 divided_parts_one options out paragraph parts others one other =
     one.2 ∙ ap (parts_from options out) (divided_one options.wrap_algorithm sizes_of (widths_of options) (pieces_of options paragraph) one.0 other.0 (two_widths _ _) one.1 other.1) ∙ sym other.2
 

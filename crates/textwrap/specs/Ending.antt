@@ -1,5 +1,5 @@
 -- Line endings, and the paragraphs between them.
-use Rattle.std.specs.Prelude.{ℕ, zero, suc, ◌-◌, nat_eq, List, [], ◌∷◌, ◌++◌, length, if◌then◌else◌}
+use Rattle.std.specs.Prelude.{◌≡◌, ◌≢◌, ℕ, zero, suc, ◌-◌, nat_eq, List, [], ◌∷◌, ◌++◌, length, All, if◌then◌else◌}
 use Rattle.std.specs.List.{onto_first, starts_with}
 use Rattle.textwrap.specs.declared.line_ending.LineEnding.{LineEnding}
 use Rattle.textwrap.specs.declared.line_ending.LineEnding.TheVariants.{CRLF, LF}
@@ -25,3 +25,13 @@ abbrev pub join_with : List ℕ → List (List ℕ) → List ℕ
 join_with separator [] = []
 join_with separator (x ∷ []) = x
 join_with separator (x ∷ y ∷ xs) = x ++ separator ++ join_with separator (y ∷ xs)
+
+-- the ending is nowhere in the text
+abbrev pub Lacks : List ℕ → List ℕ → Type 0
+Lacks ending text = (before after : List ℕ) → text ≢ before ++ (ending ++ after)
+
+-- what paragraphs are: with the ending between each two they are the text, and none has an ending in it
+pub record AreParagraphs (ending : LineEnding) (text : List ℕ) (paragraphs : List (List ℕ)) : Type 0 where
+  pub some : paragraphs ≢ []
+  pub joined : join_with (ending_bytes ending) paragraphs ≡ text
+  pub lacking : All (Lacks (ending_bytes ending)) paragraphs

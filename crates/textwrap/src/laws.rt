@@ -1,16 +1,28 @@
 //! Laws of the definitions that the contracts cite. Each is the contract of a function that does
 //! nothing, so that a proof may call on it.
-ghost use Rattle.std.specs.Prelude.{◌≡◌, ℕ, Bool, List, All, IsUtf8};
+ghost use Rattle.std.specs.Prelude.{◌≡◌, ◌↔◌, ℕ, Bool, List, All, IsUtf8};
 ghost use Rattle.textwrap_base.specs.Words.{WordText, tile_of, tiled};
-ghost use Rattle.textwrap.specs.Paragraph.{Line, LineParts, AreParagraphParts};
+ghost use Rattle.textwrap.specs.Ending.{paragraphs_of, AreParagraphs};
+ghost use Rattle.textwrap.specs.Paragraph.{Line, LineParts, AreDividedParts, AreParagraphParts};
 ghost use Rattle.textwrap.specs.Splitting.{points_of, AreCuts, split_pieces, split_words};
 ghost use Rattle.textwrap.specs.Text.{AreTextLines, IsFilled};
+ghost use Rattle.textwrap.specs.declared.line_ending.LineEnding.{LineEnding};
 ghost use Rattle.textwrap.specs.declared.options.Options.{Options};
 ghost use Rattle.textwrap.specs.declared.word_splitters.WordSplitter.{WordSplitter};
 
-/// A paragraph has one list of lines, a text too, and one filled text, whatever the options. So the
-/// contracts of `wrap` and `fill` leave them no choice.
+/// A text has its paragraphs in exactly one way: joined by the ending they are the text, and none
+/// has an ending in it. They are what `paragraphs_of` gives.
+pub fn paragraphs_are_unique()
+    ensures { (ending : LineEnding) (text : List ℕ) (paragraphs : List (List ℕ))
+        → AreParagraphs ending text paragraphs ↔ (paragraphs ≡ paragraphs_of ending text) }
+{}
+
+/// A paragraph has one list of lines, as a whole or divided, a text too, and one filled text,
+/// whatever the options. So the contracts of `wrap`, `fill` and `fuzzing` leave them no choice.
 pub fn lines_are_unique()
+    ensures divided { (options : Options) (out : Bool) (paragraph : List ℕ) (parts others : List LineParts)
+        → AreDividedParts options out paragraph parts → AreDividedParts options out paragraph others
+        → parts ≡ others }
     ensures paragraph { (options : Options) (out : Bool) (paragraph : List ℕ) (parts others : List LineParts)
         → AreParagraphParts options out paragraph parts → AreParagraphParts options out paragraph others
         → parts ≡ others }

@@ -1,6 +1,6 @@
 //! Word wrapping and paragraph filling.
 //!
-//! [`fill`] gives a text whose lines keep to a width, [`wrap`] the lines alone.
+//! [`fill`] cuts a text into lines for a width and joins them, [`wrap`] gives the lines alone.
 #![tactic(auto)]
 
 pub use filling::fill;

@@ -156,6 +156,7 @@ impl<'a, 'b> From<&'b Options<'a>> for Options<'a> {
     /// The same options.
     fn from(options: &'b Options<'a>) -> Options<'a> {
         Options {
+            // The clone of a splitter takes no memory, so it never fails.
             word_splitter: options.word_splitter.clone().unwrap(),
             ..*options
         }

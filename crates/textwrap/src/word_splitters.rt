@@ -23,7 +23,8 @@ impl WordSplitter {
     ghost use Rattle.textwrap.specs.Splitting.{points_of};
 
     /// The offsets, in bytes, at which the word may be split: increasing, inside the word and on
-    /// character boundaries. That of `NoHyphenation` takes no memory and always succeeds.
+    /// character boundaries. For `NoHyphenation` there are none, and the call takes no memory and
+    /// always succeeds.
     ///
     /// # Errors
     /// Only want of memory.
@@ -92,7 +93,7 @@ fn is_alphanumeric(ch: char) -> bool
 /// Splits each word at the points of the splitter. A piece that ends at a point has no whitespace,
 /// and the penalty `-` unless the word has a hyphen there already; the last piece has the
 /// whitespace and the penalty of the word. Each width is that of the piece's own text, also where
-/// a point stands inside an escape sequence.
+/// a point stands inside an escape sequence. The iterator has to end.
 ///
 /// # Errors
 /// Only want of memory.

@@ -84,6 +84,7 @@ pub fn wrap_single_line<'t>(
     ensures as_slow_path { options.now.initial_indent.now ≡ [] → IsNarrow line.now → OnOk result ((parts : List LineParts)
         × AreDividedParts options.now (nat_lt 0 (length lines.old.items)) line.now parts
         × Adds lines.old.items lines.new.items parts) }
+    ensures kept { OnOk result (take (length lines.old.items) lines.new.items ≡ lines.old.items) }
     ensures unchanged { OnErr result (lines.new.items ≡ lines.old.items) }
     ensures only_memory { IfErr result (λ error. error ≡ WrapError.Memory alloc_error) }
 {
@@ -136,11 +137,13 @@ pub fn wrap_single_line_slow_path<'t>(
     ensures lines { OnOk result ((parts : List LineParts)
         × AreDividedParts options.now (nat_lt 0 (length lines.old.items)) line.now parts
         × Adds lines.old.items lines.new.items parts) }
-    // By first fit, where words are broken, a line passes its width only with a single character.
+    // By first fit, where words are broken, a line passes its width only where it is one piece, with
+    // one character that takes columns.
     ensures overlong { options.now.wrap_algorithm ≡ FirstFit → options.now.break_words ≡ true → OnOk result ((division : List (List WordText))
         × AreDividedInto options.now line.now division
         × Adds lines.old.items lines.new.items (parts_from options.now (nat_lt 0 (length lines.old.items)) division)
         × OnlyCharactersPass (widths_of options.now) 0 division) }
+    ensures kept { OnOk result (take (length lines.old.items) lines.new.items ≡ lines.old.items) }
     ensures unchanged { OnErr result (lines.new.items ≡ lines.old.items) }
     ensures only_memory { IfErr result (λ error. error ≡ WrapError.Memory alloc_error) }
 {
@@ -216,7 +219,7 @@ fn push_lines<'t>(
     requires { flat_map (λ line. tiled (map text_of line.now)) division.now ≡ paragraph.now }
     ensures lines { OnOk result (Adds lines.old.items lines.new.items
         (parts_from options.now (nat_lt 0 (length lines.old.items)) (map (λ line. map text_of line.now) division.now))) }
-    ensures kept { OnErr result (take (length lines.old.items) lines.new.items ≡ lines.old.items) }
+    ensures kept { take (length lines.old.items) lines.new.items ≡ lines.old.items }
 {
     let mut rest = paragraph;
     for pieces in division {

@@ -1,11 +1,12 @@
--- Worked rows on the widths of lines and on greedy divisions.
-use Rattle.std.proofs.Common.{◌≡◌, ◌≢◌, ℕ, zero, suc, ◌+◌, ◌<◌, ◌≤◌, Bool, true, ◌&&◌, ◌||◌, ltb, leb, List, [], ◌∷◌, ◌++◌, length, take, ⊎_elim, refl, ap, arith, subst, codes}
+-- Worked rows on the widths of lines, on greedy divisions, and on what lines cost.
+use Rattle.std.proofs.Common.{◌≡◌, ◌≢◌, ℕ, zero, suc, ◌+◌, ◌<◌, ◌≤◌, Bool, true, ◌&&◌, ◌||◌, ltb, leb, List, [], ◌∷◌, ◌++◌, length, map, take, ⊎_elim, refl, ap, arith, subst, codes}
 use Rattle.std.specs.List.{flat_map}
 use Rattle.std.specs.Str.{chars}
 use Rattle.std.proofs.lemmas.Bool.{cases_lt, and_parts, or_cases, ltb-true, leb-true}
 use Rattle.std.proofs.lemmas.List.Elements.{All-nil, All-cons, All-head}
 use Rattle.unicode_width.specs.Width.{char_width}
 use Rattle.textwrap_base.specs.Sizes.{Sizes}
+use Rattle.textwrap_base.specs.Cost.{default_penalties, division_cost}
 use Rattle.textwrap_base.specs.Division.{line_width, closed_width, AllFull, IsDivision, IsAdmissible, IsGreedy}
 use Rattle.textwrap_base.specs.Words.{sizes_of, words_of}
 use Rattle.textwrap_base.proofs.DivisionLemmas.{IsGreedyFrom, IsGreedy-from}
@@ -159,3 +160,44 @@ IsGreedy-words : IsGreedy sizes_of (10 ∷ []) (words_of (codes "To be, or not t
     (words_of (codes "To be, or ") ∷ words_of (codes "not to be: ") ∷ words_of (codes "that is ") ∷ words_of (codes "the ") ∷ words_of (codes "question") ∷ [])
 unfolding chars char_width
 IsGreedy-words = IsGreedy-from_test _ _ _ refl refl
+
+-- ---- what the lines of texts cost
+
+abbrev words_at : List ℕ → List ℕ → List (List ℕ) → ℕ
+words_at widths text lines = division_cost sizes_of default_penalties widths (length (words_of text)) (map words_of lines)
+
+cost-first_fit : words_at (10 ∷ []) (codes "To be, or not to be: that is the question") (codes "To be, or " ∷ codes "not to be: " ∷ codes "that is " ∷ codes "the " ∷ codes "question" ∷ []) ≡ 5059
+unfolding chars char_width
+cost-first_fit = refl
+
+cost-optimal : words_at (10 ∷ []) (codes "To be, or not to be: that is the question") (codes "To be, " ∷ codes "or not to " ∷ codes "be: that " ∷ codes "is the " ∷ codes "question" ∷ []) ≡ 5037
+unfolding chars char_width
+cost-optimal = refl
+
+cost-later_second : words_at (10 ∷ []) (codes "To be, or not to be: that is the question") (codes "To be, or " ∷ codes "not to " ∷ codes "be: that " ∷ codes "is the " ∷ codes "question" ∷ []) ≡ 5037
+unfolding chars char_width
+cost-later_second = refl
+
+cost-library : words_at (18 ∷ []) (codes "textwrap: a small library for wrapping text.") (codes "textwrap: a " ∷ codes "small library for " ∷ codes "wrapping text." ∷ []) ≡ 3050
+unfolding chars char_width
+cost-library = refl
+
+cost-library_later : words_at (18 ∷ []) (codes "textwrap: a small library for wrapping text.") (codes "textwrap: a small " ∷ codes "library for " ∷ codes "wrapping text." ∷ []) ≡ 3050
+unfolding chars char_width
+cost-library_later = refl
+
+-- two pieces on one line, or on two
+abbrev pieces_at : ℕ → List (List Sizes) → ℕ
+pieces_at width lines = division_cost itself default_penalties (width ∷ []) 2 lines
+
+cost-one_line : pieces_at 53 ((sized 3 1 0 ∷ sized 50 0 0 ∷ []) ∷ []) ≡ 3500
+cost-one_line = refl
+
+cost-two_lines : pieces_at 53 ((sized 3 1 0 ∷ []) ∷ (sized 50 0 0 ∷ []) ∷ []) ≡ 4500
+cost-two_lines = refl
+
+cost-one_line_narrower : pieces_at 52 ((sized 3 1 0 ∷ sized 50 0 0 ∷ []) ∷ []) ≡ 6000
+cost-one_line_narrower = refl
+
+cost-two_lines_narrower : pieces_at 52 ((sized 3 1 0 ∷ []) ∷ (sized 50 0 0 ∷ []) ∷ []) ≡ 4401
+cost-two_lines_narrower = refl

@@ -1,4 +1,4 @@
--- How a wrap algorithm divides, and when two are equal.
+-- How a wrap algorithm divides, and what it refuses.
 use Rattle.std.specs.Prelude.{ℕ, List}
 use Rattle.textwrap_base.specs.Sizes.{Sizes}
 use Rattle.textwrap_base.specs.Division.{IsGreedy}

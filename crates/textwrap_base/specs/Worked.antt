@@ -11,7 +11,7 @@ sized width whitespace penalty = record { width = width; whitespace = whitespace
 abbrev pub worked_table : List ℕ → List Sizes → List (ℕ × ℕ)
 worked_table widths fragments = map (λ entry. (entry.start, entry.cost)) (fragments_table (λ sizes. sizes) default_penalties widths fragments)
 
--- their beginnings close at 10, 15, 25, 20 and 30
+-- fragments whose beginnings close at widths that fall
 abbrev pub falling : List Sizes
 falling = sized 10 0 0 ∷ sized 5 0 0 ∷ sized 5 0 5 ∷ sized 0 0 0 ∷ sized 10 0 0 ∷ []
 

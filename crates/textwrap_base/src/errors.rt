@@ -4,7 +4,7 @@ ghost use Rattle.std.specs.Prelude.{◌≡◌, alloc_error};
 use std::alloc::{AllocError, AllocFailed};
 use thiserror::Error;
 
-/// The cost of a division, or the sum of all widths, passes 128 bits.
+/// The cost of a beginning, or the sum of all widths, passes 128 bits.
 #[derive(Debug, Drop, PartialEq, Eq, Error)]
 #[error("wrap_optimal_fit cost computation overflowed")]
 pub struct OverflowError;

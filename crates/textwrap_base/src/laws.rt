@@ -1,10 +1,10 @@
 //! Laws of the definitions that the contracts cite. Each is the contract of a function that does
 //! nothing, so that a proof may call on it.
-ghost use Rattle.std.specs.Prelude.{◌≡◌, ◌≢◌, ◌↔◌, ℕ, ◌<◌, List, [], ◌∷◌, All, IsUtf8};
+ghost use Rattle.std.specs.Prelude.{◌≡◌, ◌≢◌, ◌↔◌, ℕ, ◌<◌, List, [], ◌∷◌, All, IsUtf8, map, take};
 ghost use Rattle.std.specs.List.{flat_map};
 ghost use Rattle.textwrap_base.specs.Breaking.{AreBrokenPieces, broken_pieces, broken_words};
 ghost use Rattle.textwrap_base.specs.Cost.{IsChosen, default_penalties, division_cost};
-ghost use Rattle.textwrap_base.specs.Division.{IsGreedy};
+ghost use Rattle.textwrap_base.specs.Division.{IsGreedy, closed_width};
 ghost use Rattle.textwrap_base.specs.Table.{table, IsTable};
 ghost use Rattle.textwrap_base.specs.Units.{TextUnit, IsInUnits, units};
 ghost use Rattle.textwrap_base.specs.Words.{WordText, tile_of, tiled};
@@ -61,10 +61,12 @@ pub fn table_has_least_costs()
     ensures { (cost : ℕ → ℕ → ℕ → ℕ) (n : ℕ) → IsTable cost n (table cost n) }
 {}
 
-/// Two tables at the default penalties: one where the closed widths of the beginnings fall, at
-/// line width 10, and one at the line widths 10, 5 and 100, where it is not the least cost of all
-/// divisions.
+/// Two tables at the default penalties: one at line width 10, of fragments whose beginnings close at
+/// widths that fall, and one at the line widths 10, 5 and 100, where it is not the least cost of
+/// all divisions.
 pub fn worked_tables_hold()
+    ensures closed { map (λ count. closed_width (λ sizes. sizes) (take count falling)) (1 ∷ 2 ∷ 3 ∷ 4 ∷ 5 ∷ [])
+        ≡ 10 ∷ 15 ∷ 25 ∷ 20 ∷ 30 ∷ [] }
     ensures falling { worked_table (10 ∷ []) falling
         ≡ (0, 0) ∷ (0, 1000) ∷ (1, 2025) ∷ (2, 3050) ∷ (1, 2000) ∷ (4, 3000) ∷ [] }
     ensures uneven { worked_table (10 ∷ 5 ∷ 100 ∷ []) uneven

@@ -51,13 +51,13 @@ impl Steps {
     }
 }
 
-/// The least cost of the divisions of a beginning, and where the last line of the chosen one
-/// starts.
+/// The cost of a beginning of the fragments in the table, and where its last line starts.
 #[derive(Clone, Copy, Debug, PartialEq, Eq)]
 pub struct Minimum {
     /// How many fragments stand before the last line.
     pub start: usize,
-    /// The least cost.
+    /// The cost. Where the line widths are equal from the second on, no division of the beginning
+    /// costs less.
     pub cost: u128,
 }
 
@@ -72,7 +72,8 @@ pub trait CostSource {
         ensures { result ≡ (lines self.now).ends };
 
     /// `before` plus the cost of the line of the fragments `start` to `end - 1`, where its number,
-    /// counted from 0, is `line_number`. `None` where this passes 2^128-1.
+    /// counted from 0, is `line_number`. `None` where this passes 2^128-1. `start` has to be below
+    /// `end`, and `end` at most `ends`.
     ///
     /// Each call is one step of the source's count, which stays at 2^128-1.
     fn candidate(
@@ -91,8 +92,8 @@ pub trait CostSource {
         ensures step { steps self.new ≡ counted (steps self.old) 1 };
 }
 
-/// The least cost of each beginning of the fragments, from none to all of them, for any list of
-/// line widths. Entry 0 starts at 0 and costs 0. Entry j is the least over all i < j of the cost at
+/// The table of the beginnings of the fragments, from none to all of them, for any list of line
+/// widths. Entry 0 starts at 0 and costs 0. Entry j is the least over all i < j of the cost at
 /// i and that of the line from i to j, at the number that follows from the entries' starts. Among
 /// equals the earliest i stands.
 ///
@@ -200,11 +201,31 @@ mod tests {
         let mut costs = LineCosts::new(rt.alloc(), &FALLING, &[10], &penalties)?;
         assert_eq!(rt; costs.ends(), 5);
         assert_eq!(rt; costs.steps(), 0);
+        let candidates = [
+            (0, 1, 0, 0, 1000),
+            (0, 2, 0, 0, 13500),
+            (1, 2, 1, 1000, 2025),
+            (0, 3, 0, 0, 38525),
+            (1, 3, 1, 1000, 14525),
+            (2, 3, 2, 2025, 3050),
+            (0, 4, 0, 0, 26000),
+            (1, 4, 1, 1000, 2000),
+            (2, 4, 2, 2025, 3050),
+            (3, 4, 3, 3050, 4150),
+            (3, 5, 3, 3050, 4050),
+            (4, 5, 2, 2000, 3000),
+        ];
+        for (start, end, line_number, before, cost) in candidates {
+            if start < end && end <= costs.ends() {
+                let candidate = costs.candidate(start, end, line_number, before);
+                assert_eq!(rt; candidate, Some(cost), "{start} to {end}");
+            }
+        }
+        assert_eq!(rt; costs.steps(), 12);
         if costs.ends() == 5 {
-            assert_eq!(rt; costs.candidate(1, 3, 1, 1000), Some(14525));
             assert_eq!(rt; costs.candidate(1, 3, 1, u128::MAX), None);
         }
-        assert_eq!(rt; costs.steps(), 2);
+        assert_eq!(rt; costs.steps(), 13);
         Ok(())
     }
 

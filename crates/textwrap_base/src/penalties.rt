@@ -20,7 +20,7 @@ pub struct Penalties {
 
 impl Penalties {
     /// The penalties that the original takes: 1000 a line, 2500 a unit too much, 25 for a last
-    /// line below a quarter of its target, 25 for a hyphen.
+    /// line of one fragment below a quarter of its target, 25 for a hyphen.
     pub fn new() -> Self
         ensures { result ≡ default_penalties }
     {

@@ -62,7 +62,7 @@ pub trait Fragment: Debug {
 pub struct Word<'a> {
     /// The text that is printed.
     pub word: &'a str,
-    /// The blanks after it, printed only where the line goes on.
+    /// The blanks after it, printed where the line goes on, or where blanks at line ends are kept.
     pub whitespace: &'a str,
     /// What is printed in place of the whitespace where the line ends with this word.
     pub penalty: &'a str,
@@ -86,7 +86,7 @@ impl<'a> From<&'a str> for Word<'a> {
 }
 
 impl<'a> Word<'a> {
-    /// The field `word`, where the original derefs to it.
+    /// The field `word`, to which the `Word` of the original derefs.
     pub fn as_str(&self) -> &'a str
         ensures { result.now ≡ self.now.word.now }
     {
@@ -97,7 +97,7 @@ impl<'a> Word<'a> {
 impl<'a> Fragment for Word<'a> {
     ghost sizes = { λ word. sizes_of (text_of word) };
 
-    /// The columns of the word.
+    /// The field `width`, the columns of the word.
     fn width(&self) -> usize {
         self.width
     }

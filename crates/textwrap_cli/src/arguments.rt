@@ -116,7 +116,8 @@ mod tests {
 
     #[test]
     fn other_words_are_none(rt: HostRuntime) -> Result<(), Fail> {
-        let rows: [&[&str]; 10] = [
+        let rows: [&[&str]; 11] = [
+            &["18446744073709551616"],
             &["18446744073709551616", "first"],
             &["+5", "first"],
             &["", "first"],

@@ -99,6 +99,7 @@ fn fill_input(
         × IsFilled options input.now (string_bytes filled)) }
     ensures not_utf8 { result ≡ Err RunError.NotUtf8 → ¬ IsUtf8 input.now }
     ensures no_text { ¬ IsUtf8 input.now → result ≡ Err RunError.NotUtf8 }
+    ensures not_read { IfErr result (λ error. error ≢ RunError.Read) }
     ensures not_write { IfErr result (λ error. error ≢ RunError.Write) }
 {
     let Ok(text) = str::from_utf8(input) else {

@@ -27,24 +27,34 @@ fn a_later_paragraph_takes_the_shortcut_past_an_initial_indent(
 #[test]
 fn the_shortcut_gives_the_lines_of_the_slow_path(rt: HostRuntime) -> Result<(), Fail> {
     let rows = [
-        ("", Options::new(1)),
-        ("  ", Options::new(3)),
-        ("  foo-bar  ", Options::new(12)),
-        ("foo  ", Options::new(6).preserve_trailing_space(true)),
+        ("", Options::new(1), ""),
+        ("  ", Options::new(3), ""),
+        ("  foo-bar  ", Options::new(12), "  foo-bar"),
+        (
+            "foo  ",
+            Options::new(6).preserve_trailing_space(true),
+            "foo  ",
+        ),
         (
             "안녕 하세요",
             Options::new(20).wrap_algorithm(WrapAlgorithm::FirstFit),
+            "안녕 하세요",
         ),
-        ("foobar", Options::new(7).subsequent_indent("12345")),
+        (
+            "foobar",
+            Options::new(7).subsequent_indent("12345"),
+            "foobar",
+        ),
     ];
-    for (paragraph, options) in &rows {
+    for (paragraph, options, line) in &rows {
         let mut short = Vec::new(rt.alloc());
         wrap_single_line(rt.alloc(), paragraph, options, &mut short)?;
         let mut slow = Vec::new(rt.alloc());
         wrap_single_line_slow_path(rt.alloc(), paragraph, options, &mut slow)?;
         assert_eq!(rt; short.len(), 1, "{paragraph:?}");
         assert_eq!(rt; slow.len(), 1, "{paragraph:?}");
-        assert_eq!(rt; short[0].as_str(), slow[0].as_str(), "{paragraph:?}");
+        assert_eq!(rt; short[0].as_str(), *line, "{paragraph:?}");
+        assert_eq!(rt; slow[0].as_str(), *line, "{paragraph:?}");
     }
     Ok(())
 }

@@ -8,7 +8,7 @@ use super::{CostSource, Minimum};
 use crate::errors::{OverflowError, WrapError};
 use std::alloc::{AllocError, Global};
 
-/// The least cost of a beginning, where its last line starts, and the number of the line after it.
+/// The cost of a beginning, where its last line starts, and the number of the line after it.
 #[derive(Clone, Copy)]
 pub(super) struct Entry {
     start: usize,

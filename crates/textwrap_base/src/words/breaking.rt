@@ -95,6 +95,7 @@ fn first_piece(text: &str, line_width: usize) -> (usize, usize)
 }
 
 /// Breaks each word that is wider than the line, as `Word::break_apart` does, and keeps the others.
+/// The iterator has to end.
 ///
 /// # Errors
 /// Only want of memory.

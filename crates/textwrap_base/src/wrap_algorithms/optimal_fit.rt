@@ -20,9 +20,10 @@ use std::alloc::{AllocError, Global};
 /// earliest, and so on. For other line widths it follows the starts of `table_minima` back.
 ///
 /// # Errors
-/// Overflow exactly where all widths together pass 2^128-1 or a beginning's least cost does, else
-/// want of memory. Where the widths pass there is no growth before the refusal. There is no
-/// overflow where all widths together keep to 64 bits.
+/// Overflow exactly where all widths together pass 2^128-1 or a beginning's cost in the table does,
+/// which is its least where the line widths are equal from the second on; else want of memory.
+/// Where the widths pass there is no growth before the refusal. There is no overflow where all
+/// widths together keep to 64 bits.
 pub fn wrap_optimal_fit<'a, T: Fragment>(
     alloc: Global,
     fragments: &'a [T],
@@ -175,6 +176,17 @@ mod tests {
     fn no_fragments_are_one_empty_line(rt: HostRuntime) -> Result<(), Fail> {
         let lens = optimal(rt.alloc(), &[], &[], &Penalties::new())?;
         assert_eq!(rt; lens.as_slice(), [0].as_slice());
+        Ok(())
+    }
+
+    #[test]
+    fn a_fragment_is_a_line(rt: HostRuntime) -> Result<(), Fail> {
+        let mut penalties = Penalties::new();
+        for fraction in [4, 0] {
+            penalties.short_last_line_fraction = fraction;
+            let lens = optimal(rt.alloc(), &[Piece(10, 0, 0)], &[10], &penalties)?;
+            assert_eq!(rt; lens.as_slice(), [1].as_slice(), "{fraction}");
+        }
         Ok(())
     }
 

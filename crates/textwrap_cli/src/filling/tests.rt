@@ -3,16 +3,21 @@ use std::io;
 use std::io::ErrorKind;
 use std::test::Fail;
 
-/// A reader that gives three bytes, and then fails.
+/// A reader that gives three bytes and is interrupted once. Read again, it is at its end.
 #[derive(Drop)]
 struct CutOff {
     is_read: bool,
+    is_interrupted: bool,
 }
 
 impl Read for CutOff {
     fn read(&mut self, buffer: &mut [u8]) -> io::Result<usize> {
-        if self.is_read || buffer.len() < 3 {
-            return Err(io::Error::from(ErrorKind::ConnectionReset));
+        if self.is_interrupted || buffer.len() < 3 {
+            return Ok(0);
+        }
+        if self.is_read {
+            self.is_interrupted = true;
+            return Err(io::Error::from(ErrorKind::Interrupted));
         }
         self.is_read = true;
         buffer[..3].copy_from_slice(b"foo");
@@ -20,7 +25,8 @@ impl Read for CutOff {
     }
 }
 
-/// A writer that takes so many bytes. After them a write fails or takes nothing, and a flush fails.
+/// A writer that takes so many bytes. After them a write is interrupted or takes nothing, or a
+/// flush fails, but only once: tried again, it would succeed.
 #[derive(Drop)]
 struct Full {
     room: usize,
@@ -31,8 +37,12 @@ struct Full {
 impl Write for Full {
     fn write(&mut self, bytes: &[u8]) -> io::Result<usize> {
         let count = bytes.len().min(self.room);
-        if count == 0 && self.fails {
-            return Err(io::Error::from(ErrorKind::BrokenPipe));
+        if count == 0 {
+            self.room = usize::MAX;
+            if self.fails {
+                return Err(io::Error::from(ErrorKind::Interrupted));
+            }
+            return Ok(0);
         }
         self.taken.extend_from_slice(&bytes[..count])?;
         self.room -= count;
@@ -41,6 +51,7 @@ impl Write for Full {
 
     fn flush(&mut self) -> io::Result<()> {
         if self.room == 0 {
+            self.room = usize::MAX;
             return Err(io::Error::from(ErrorKind::BrokenPipe));
         }
         Ok(())
@@ -126,7 +137,10 @@ fn a_read_that_fails_writes_nothing(rt: HostRuntime) {
     let mut writer = Vec::new(rt.alloc());
     let done = run(
         rt.alloc(),
-        &mut CutOff { is_read: false },
+        &mut CutOff {
+            is_read: false,
+            is_interrupted: false,
+        },
         &mut writer,
         10,
         WrapAlgorithm::FirstFit,

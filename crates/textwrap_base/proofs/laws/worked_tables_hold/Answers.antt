@@ -4,4 +4,4 @@ use Rattle.textwrap_base.proofs.laws.worked_tables_hold.Goals as goal
 
 pub returns : goal.returns
 unfolding table
-returns c = record { falling = refl; uneven = refl; uneven_lines = refl }
+returns c = record { closed = refl; falling = refl; uneven = refl; uneven_lines = refl }

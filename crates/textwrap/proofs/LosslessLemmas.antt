@@ -10,10 +10,10 @@ use Rattle.textwrap_base.proofs.DivisionMap.{IsDividedBy-whole}
 use Rattle.textwrap_base.proofs.WordTexts.{AreBlanks, EndsInBlanks, final_blanks-blank, no_blanks}
 use Rattle.textwrap_base.proofs.WordsLemmas.{tiled-append}
 use Rattle.textwrap.specs.declared.options.Options.{Options}
-use Rattle.textwrap.specs.Ending.{ending_bytes, paragraphs_of, join_with}
+use Rattle.textwrap.specs.Ending.{paragraphs_of}
 use Rattle.textwrap.specs.Paragraph.{Line, LineParts, covered, indent_of, keeps_whitespace, last_piece, parts_of, parts_from, pieces_of, widths_of, is_whole, whole_parts, AreDividedParts}
 use Rattle.textwrap.specs.Text.{AreGroups, AreTextGroups, lines_from, covered_by, LosesOnlyBlanks}
-use Rattle.textwrap.proofs.EndingLemmas.{paragraphs_of-utf8, join-paragraphs_of}
+use Rattle.textwrap.proofs.EndingLemmas.{paragraphs_of-utf8}
 use Rattle.textwrap.proofs.PieceLemmas.{pieces_of-tile, pieces_of-blanks}
 
 -- only blanks are left off, and nothing where blanks are preserved
@@ -134,7 +134,7 @@ LosesOnlyBlanks-from options text lines groups utf8 defined given =
       groups = groups;
       defined = defined;
       given = given;
-      tile = ap (join_with (ending_bytes options.line_ending)) (groups-tile options false paragraphs groups all defined) ∙ join-paragraphs_of options.line_ending text;
+      tile = groups-tile options false paragraphs groups all defined;
       blanks = All-weaker (LeavesBlanks options) (λ p. AreBlanks p.left_off) (λ p leaves. leaves.blanks) parts leaves;
       kept = λ preserved. All-weaker (LeavesBlanks options) (λ p. p.left_off ≡ []) (λ p left. left.kept preserved) parts leaves;
     }

@@ -27,12 +27,12 @@ AreTextLines options text lines = (groups : List (List LineParts)) × AreTextGro
 abbrev pub covered_by : List LineParts → List ℕ
 covered_by parts = flat_map (λ p. p.slice ++ p.left_off) parts
 
--- the slices of the lines, each followed by what was left off, are the text between its endings; only blanks were left off, and nothing where blanks are preserved
+-- in each paragraph the slices of its lines, each followed by what was left off, are the paragraph; only blanks were left off, and nothing where blanks are preserved
 pub record LosesOnlyBlanks (options : Options) (text : List ℕ) (lines : List Line) : Type 0 where
   pub groups : List (List LineParts)
   pub defined : AreTextGroups options text groups
   pub given : lines ≡ lines_from groups
-  pub tile : join_with (ending_bytes options.line_ending) (map covered_by groups) ≡ text
+  pub tile : map covered_by groups ≡ paragraphs_of options.line_ending text
   pub blanks : All (λ p. All (λ c. is_blank c ≡ true) p.left_off) (flat_map (λ parts. parts) groups)
   pub kept : options.preserve_trailing_space ≡ true → All (λ p. p.left_off ≡ []) (flat_map (λ parts. parts) groups)
 

@@ -38,6 +38,8 @@ impl<'a> Options<'a> {
     pub fn new(width: usize) -> Self
         ensures { HasDefaults width result }
     {
+        // Hyphens are split points that need no dictionary.
+        let word_splitter = WordSplitter::HyphenSplitter;
         Options {
             width,
             line_ending: LineEnding::LF,
@@ -46,7 +48,7 @@ impl<'a> Options<'a> {
             break_words: true,
             wrap_algorithm: WrapAlgorithm::new(),
             word_separator: WordSeparator::new(),
-            word_splitter: WordSplitter::HyphenSplitter,
+            word_splitter,
             preserve_trailing_space: false,
         }
     }

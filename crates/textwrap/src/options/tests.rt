@@ -1,4 +1,5 @@
 use super::*;
+use WordSplitter::{HyphenSplitter, NoHyphenation};
 use std::process::Abort;
 use std::test::Fail;
 
@@ -12,7 +13,7 @@ fn unlike_defaults<'a>() -> Options<'a> {
         break_words: false,
         wrap_algorithm: WrapAlgorithm::FirstFit,
         word_separator: WordSeparator::AsciiSpace,
-        word_splitter: WordSplitter::NoHyphenation,
+        word_splitter: NoHyphenation,
         preserve_trailing_space: true,
     }
 }
@@ -48,7 +49,7 @@ fn a_width_has_the_defaults(rt: HostRuntime) {
         break_words: true,
         wrap_algorithm: WrapAlgorithm::new_optimal_fit(),
         word_separator: WordSeparator::AsciiSpace,
-        word_splitter: WordSplitter::HyphenSplitter,
+        word_splitter: HyphenSplitter,
         preserve_trailing_space: false,
     };
     assert_same(&rt, "new", &Options::new(80), &defaults);
@@ -59,7 +60,6 @@ fn a_width_has_the_defaults(rt: HostRuntime) {
 fn each_builder_changes_its_field_alone(rt: HostRuntime) {
     let unlike = unlike_defaults;
     let optimal = WrapAlgorithm::new_optimal_fit();
-    let hyphens = WordSplitter::HyphenSplitter;
     let rows = [
         (
             "width",
@@ -116,9 +116,9 @@ fn each_builder_changes_its_field_alone(rt: HostRuntime) {
         ),
         (
             "word_splitter",
-            unlike().word_splitter(WordSplitter::HyphenSplitter),
+            unlike().word_splitter(HyphenSplitter),
             Options {
-                word_splitter: hyphens,
+                word_splitter: HyphenSplitter,
                 ..unlike()
             },
         ),

@@ -1,12 +1,3 @@
-pub mod EndingLemmas
-pub mod LastBlanks
-pub mod LongLines
-pub mod LosslessLemmas
-pub mod ParagraphLaws
-pub mod ParagraphLemmas
-pub mod PieceLemmas
-pub mod ShortcutLemmas
-pub mod SplittingLemmas
-pub mod SplittingRows
-pub mod TextLemmas
-pub mod UniqueLines
+pub mod Paragraph
+pub mod Text
+pub mod Word

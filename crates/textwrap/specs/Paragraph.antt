@@ -3,12 +3,13 @@ use Rattle.std.specs.Prelude.{◌≡◌, ℕ, ◌-◌, Bool, true, ◌&&◌, ◌
 use Rattle.std.specs.String.{string_bytes}
 use Rattle.std.specs.declared.borrow.CowStr.{CowStr}
 use Rattle.std.specs.declared.borrow.CowStr.TheVariants.{Borrowed, Owned}
-use Rattle.textwrap_base.specs.Algorithm.{IsDividedBy}
+use Rattle.textwrap_base.specs.WrapAlgorithms.{IsDividedBy}
 use Rattle.textwrap_base.specs.Breaking.{broken_words}
 use Rattle.textwrap_base.specs.Units.{text_width}
-use Rattle.textwrap_base.specs.Words.{WordText, sizes_of, tiled, without_final_blanks, final_blanks}
-use Rattle.textwrap.specs.Separating.{separated_words}
-use Rattle.textwrap.specs.Splitting.{split_words}
+use Rattle.textwrap_base.specs.Words.{WordText, sizes_of, tiled}
+use Rattle.textwrap_base.specs.Blanks.{without_final_blanks, final_blanks}
+use Rattle.textwrap.specs.WordSeparators.{separated_words}
+use Rattle.textwrap.specs.WordSplitters.{split_words}
 use Rattle.textwrap.specs.declared.options.Options.{Options}
 
 -- ---- a line
@@ -18,9 +19,9 @@ pub data Line : Type 0 where
   Slice : List ℕ → Line
   Built : List ℕ → Line
 
-abbrev pub line_of : {Z : Type 0} → CowStr Z → Line
-line_of (Borrowed slice) = Slice slice.now
-line_of (Owned built) = Built (string_bytes built)
+abbrev pub line_view : {Z : Type 0} → CowStr Z → Line
+line_view (Borrowed slice) = Slice slice.now
+line_view (Owned built) = Built (string_bytes built)
 
 abbrev pub line_bytes : Line → List ℕ
 line_bytes (Slice bytes) = bytes
@@ -39,7 +40,7 @@ line_from p = if length (p.indent ++ p.penalty) == 0 then Slice p.slice else Bui
 
 -- lines with these parts were added
 abbrev pub Adds : {Z : Type 0} → List (CowStr Z) → List (CowStr Z) → List LineParts → Type 0
-Adds before after parts = map line_of after ≡ map line_of before ++ map line_from parts
+Adds before after parts = map line_view after ≡ map line_view before ++ map line_from parts
 
 -- ---- what is divided
 
@@ -71,10 +72,10 @@ pieces_of options paragraph =
     if options.break_words then front_pieces options ++ broken_words (later_width options) (split_pieces_of options paragraph)
     else split_pieces_of options paragraph
 
--- ---- the lines of a division, where `out` says that a line is out already
+-- ---- the lines of a division, where `is_later` says that a line is out already
 
 abbrev pub indent_of : Options → Bool → List ℕ
-indent_of options out = if out then options.subsequent_indent.now else options.initial_indent.now
+indent_of options is_later = if is_later then options.subsequent_indent.now else options.initial_indent.now
 
 -- what pieces cover, without the last one's whitespace
 abbrev pub covered : List WordText → List ℕ
@@ -92,22 +93,22 @@ keeps_whitespace options last = options.preserve_trailing_space && (length last.
 
 -- a line without pieces is empty
 abbrev pub parts_of : Options → Bool → List WordText → LineParts
-parts_of options out [] = record { indent = []; slice = []; penalty = []; left_off = [] }
-parts_of options out (w ∷ words) =
+parts_of options is_later [] = record { indent = []; slice = []; penalty = []; left_off = [] }
+parts_of options is_later (w ∷ words) =
     let last = last_piece w words in
-    if keeps_whitespace options last then record { indent = indent_of options out; slice = tiled (w ∷ words); penalty = []; left_off = [] }
-    else record { indent = indent_of options out; slice = covered (w ∷ words); penalty = last.penalty; left_off = last.whitespace }
+    if keeps_whitespace options last then record { indent = indent_of options is_later; slice = tiled (w ∷ words); penalty = []; left_off = [] }
+    else record { indent = indent_of options is_later; slice = covered (w ∷ words); penalty = last.penalty; left_off = last.whitespace }
 
 -- once the first of them is out, a line is out
 abbrev pub parts_from : Options → Bool → List (List WordText) → List LineParts
-parts_from options out [] = []
-parts_from options out (line ∷ lines) = parts_of options out line ∷ parts_from options true lines
+parts_from options is_later [] = []
+parts_from options is_later (line ∷ lines) = parts_of options is_later line ∷ parts_from options true lines
 
 -- ---- the lines of a paragraph
 
 -- without indent, a paragraph with fewer bytes than the width has columns is one line
 abbrev pub is_whole : Options → Bool → List ℕ → Bool
-is_whole options out paragraph = (length (indent_of options out) == 0) && nat_lt (length paragraph) options.width
+is_whole options is_later paragraph = (length (indent_of options is_later) == 0) && nat_lt (length paragraph) options.width
 
 -- the paragraph as one line
 abbrev pub whole_parts : Options → List ℕ → LineParts
@@ -121,9 +122,9 @@ AreDividedInto options paragraph division = IsDividedBy options.wrap_algorithm s
 
 -- and their lines
 abbrev pub AreDividedParts : Options → Bool → List ℕ → List LineParts → Type 0
-AreDividedParts options out paragraph parts =
-    (division : List (List WordText)) × AreDividedInto options paragraph division × (parts ≡ parts_from options out division)
+AreDividedParts options is_later paragraph parts =
+    (division : List (List WordText)) × AreDividedInto options paragraph division × (parts ≡ parts_from options is_later division)
 
 abbrev pub AreParagraphParts : Options → Bool → List ℕ → List LineParts → Type 0
-AreParagraphParts options out paragraph parts =
-    MatchBool (is_whole options out paragraph) (parts ≡ whole_parts options paragraph ∷ []) (AreDividedParts options out paragraph parts)
+AreParagraphParts options is_later paragraph parts =
+    MatchBool (is_whole options is_later paragraph) (parts ≡ whole_parts options paragraph ∷ []) (AreDividedParts options is_later paragraph parts)

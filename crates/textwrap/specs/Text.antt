@@ -1,17 +1,17 @@
 -- The lines of a text, and the filled text.
 use Rattle.std.specs.Prelude.{◌≡◌, ℕ, Bool, true, false, ◌||◌, List, [], ◌∷◌, ◌++◌, length, map, nat_lt, All}
 use Rattle.std.specs.List.{flat_map}
-use Rattle.textwrap_base.specs.Words.{is_blank}
+use Rattle.textwrap_base.specs.Blanks.{is_blank}
 use Rattle.textwrap.specs.declared.options.Options.{Options}
-use Rattle.textwrap.specs.Ending.{ending_bytes, paragraphs_of, join_with}
-use Rattle.textwrap.specs.Paragraph.{Line, LineParts, line_from, line_bytes, AreParagraphParts}
+use Rattle.textwrap.specs.LineEnding.{paragraphs_of}
+use Rattle.textwrap.specs.Paragraph.{Line, LineParts, line_from, AreParagraphParts}
 
--- a group of lines for each paragraph, in order, where `out` says that a line is out already
+-- a group of lines for each paragraph, in order, where `is_later` says that a line is out already
 abbrev pub AreGroups : Options → Bool → List (List ℕ) → List (List LineParts) → Type 0
-AreGroups options out [] groups = groups ≡ []
-AreGroups options out (paragraph ∷ paragraphs) [] = ⊥
-AreGroups options out (paragraph ∷ paragraphs) (parts ∷ groups) =
-    AreParagraphParts options out paragraph parts × AreGroups options (out || nat_lt 0 (length parts)) paragraphs groups
+AreGroups options is_later [] groups = groups ≡ []
+AreGroups options is_later (paragraph ∷ paragraphs) [] = ⊥
+AreGroups options is_later (paragraph ∷ paragraphs) (parts ∷ groups) =
+    AreParagraphParts options is_later paragraph parts × AreGroups options (is_later || nat_lt 0 (length parts)) paragraphs groups
 
 abbrev pub AreTextGroups : Options → List ℕ → List (List LineParts) → Type 0
 AreTextGroups options text groups = AreGroups options false (paragraphs_of options.line_ending text) groups
@@ -35,8 +35,3 @@ pub record LosesOnlyBlanks (options : Options) (text : List ℕ) (lines : List L
   pub tile : map covered_by groups ≡ paragraphs_of options.line_ending text
   pub blanks : All (λ p. All (λ c. is_blank c ≡ true) p.left_off) (flat_map (λ parts. parts) groups)
   pub kept : options.preserve_trailing_space ≡ true → All (λ p. p.left_off ≡ []) (flat_map (λ parts. parts) groups)
-
--- the lines of a text, joined by the line ending
-abbrev pub IsFilled : Options → List ℕ → List ℕ → Type 0
-IsFilled options text filled =
-    (lines : List Line) × AreTextLines options text lines × (filled ≡ join_with (ending_bytes options.line_ending) (map line_bytes lines))

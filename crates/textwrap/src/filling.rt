@@ -1,8 +1,8 @@
 //! Filling: a wrapped text as one text.
 ghost use Rattle.std.specs.Prelude.{◌≡◌, map, alloc_error, string_bytes, IfOk, IfErr};
-ghost use Rattle.textwrap.specs.Ending.{ending_bytes, join_with};
-ghost use Rattle.textwrap.specs.Paragraph.{line_of, line_bytes};
-ghost use Rattle.textwrap.specs.Text.{IsFilled};
+ghost use Rattle.textwrap.specs.LineEnding.{ending_bytes, join_with};
+ghost use Rattle.textwrap.specs.Paragraph.{line_view, line_bytes};
+ghost use Rattle.textwrap.specs.Filling.{IsFilled};
 
 use crate::line_ending::LineEnding;
 use crate::options::Options;
@@ -48,7 +48,7 @@ fn join_lines(
     line_ending: LineEnding,
 ) -> Result<String, AllocError>
     ensures { IfOk result (λ joined. string_bytes joined
-        ≡ join_with (ending_bytes line_ending) (map line_bytes (map line_of lines.now))) }
+        ≡ join_with (ending_bytes line_ending) (map line_bytes (map line_view lines.now))) }
 {
     let mut joined = String::new(alloc);
     for (i, line) in lines.iter().enumerate() {

@@ -2,10 +2,11 @@
 //! nothing, so that a proof may call on it.
 ghost use Rattle.std.specs.Prelude.{◌≡◌, ◌↔◌, ℕ, Bool, List, All, IsUtf8};
 ghost use Rattle.textwrap_base.specs.Words.{WordText, tile_of, tiled};
-ghost use Rattle.textwrap.specs.Ending.{paragraphs_of, AreParagraphs};
+ghost use Rattle.textwrap.specs.LineEnding.{paragraphs_of, AreParagraphs};
 ghost use Rattle.textwrap.specs.Paragraph.{Line, LineParts, AreDividedParts, AreParagraphParts};
-ghost use Rattle.textwrap.specs.Splitting.{points_of, AreCuts, split_pieces, split_words};
-ghost use Rattle.textwrap.specs.Text.{AreTextLines, IsFilled};
+ghost use Rattle.textwrap.specs.WordSplitters.{points_of, AreCuts, split_pieces, split_words};
+ghost use Rattle.textwrap.specs.Text.{AreTextLines};
+ghost use Rattle.textwrap.specs.Filling.{IsFilled};
 ghost use Rattle.textwrap.specs.declared.line_ending.LineEnding.{LineEnding};
 ghost use Rattle.textwrap.specs.declared.options.Options.{Options};
 ghost use Rattle.textwrap.specs.declared.word_splitters.WordSplitter.{WordSplitter};
@@ -20,11 +21,11 @@ pub fn paragraphs_are_unique()
 /// A paragraph has one list of lines, as a whole or divided, a text too, and one filled text,
 /// whatever the options. So the contracts of `wrap`, `fill` and `fuzzing` leave them no choice.
 pub fn lines_are_unique()
-    ensures divided { (options : Options) (out : Bool) (paragraph : List ℕ) (parts others : List LineParts)
-        → AreDividedParts options out paragraph parts → AreDividedParts options out paragraph others
+    ensures divided { (options : Options) (is_later : Bool) (paragraph : List ℕ) (parts others : List LineParts)
+        → AreDividedParts options is_later paragraph parts → AreDividedParts options is_later paragraph others
         → parts ≡ others }
-    ensures paragraph { (options : Options) (out : Bool) (paragraph : List ℕ) (parts others : List LineParts)
-        → AreParagraphParts options out paragraph parts → AreParagraphParts options out paragraph others
+    ensures paragraph { (options : Options) (is_later : Bool) (paragraph : List ℕ) (parts others : List LineParts)
+        → AreParagraphParts options is_later paragraph parts → AreParagraphParts options is_later paragraph others
         → parts ≡ others }
     ensures text { (options : Options) (text : List ℕ) (lines others : List Line)
         → AreTextLines options text lines → AreTextLines options text others → lines ≡ others }

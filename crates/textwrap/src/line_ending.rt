@@ -11,7 +11,7 @@ pub enum LineEnding {
 }
 
 impl LineEnding {
-    ghost use Rattle.textwrap.specs.Ending.{ending_bytes};
+    ghost use Rattle.textwrap.specs.LineEnding.{ending_bytes};
 
     /// The ending itself, `"\r\n"` or `"\n"`.
     pub fn as_str(&self) -> &'static str

@@ -31,7 +31,7 @@ pub struct Options<'a> {
 }
 
 impl<'a> Options<'a> {
-    ghost use Rattle.textwrap.specs.Defaults.{HasDefaults};
+    ghost use Rattle.textwrap.specs.Options.{HasDefaults};
 
     /// Lines of `width` columns, ended by LF, without indents, with broken words, hyphens as split
     /// points, the default algorithm, and no blanks at line ends.
@@ -142,7 +142,7 @@ impl<'a> Options<'a> {
 }
 
 impl<'a> From<usize> for Options<'a> {
-    ghost use Rattle.textwrap.specs.Defaults.{HasDefaults};
+    ghost use Rattle.textwrap.specs.Options.{HasDefaults};
 
     ghost from_gives = { HasDefaults };
 

@@ -1,7 +1,8 @@
 //! How the words of a line are found.
 ghost use Rattle.std.specs.Prelude.{◌≡◌, ◌-◌, ◌<◌, ◌≤◌, List, ◌∷◌, length, take, drop, slice_index, IfOk, IsOk};
 ghost use Rattle.std.specs.Iterator.{YieldsFirstBy, item_count};
-ghost use Rattle.textwrap_base.specs.Words.{WordText, text_of, words_of, is_cut, pieces, Tiles};
+ghost use Rattle.textwrap_base.specs.Blanks.{blank};
+ghost use Rattle.textwrap_base.specs.Words.{WordText, word_view, words_of, is_cut, chunks, Tiles};
 
 use std::alloc::{AllocError, Global};
 use std::marker::Model;
@@ -15,7 +16,7 @@ pub enum WordSeparator {
 }
 
 impl WordSeparator {
-    ghost use Rattle.textwrap.specs.Separating.{separated_words};
+    ghost use Rattle.textwrap.specs.WordSeparators.{separated_words};
 
     /// Cuts at blanks.
     pub fn new() -> Self
@@ -57,7 +58,7 @@ impl<'a> Model for Words<'a> {
 impl<'a> Iterator for Words<'a> {
     type Item = Word<'a>;
 
-    ghost next_gives = { YieldsFirstBy text_of (λ words. words) };
+    ghost next_gives = { YieldsFirstBy word_view (λ words. words) };
 
     ghost remaining = { item_count (λ words. words) };
 
@@ -65,19 +66,19 @@ impl<'a> Iterator for Words<'a> {
         if self.rest.is_empty() {
             return None;
         }
-        let (piece, rest) = self.rest.split_at(piece_len(self.rest.as_bytes()));
+        let (chunk, rest) = self.rest.split_at(chunk_len(self.rest.as_bytes()));
         self.rest = rest;
-        Some(Word::from(piece))
+        Some(Word::from(chunk))
     }
 }
 
-/// The length of the first piece.
-fn piece_len(line: &[u8]) -> usize
+/// The length of what becomes the first word.
+fn chunk_len(line: &[u8]) -> usize
     requires { 0 < length line.now }
-    ensures first { pieces line.now ≡ take result line.now ∷ pieces (drop result line.now) }
+    ensures first { chunks line.now ≡ take result line.now ∷ chunks (drop result line.now) }
     ensures some { 0 < result }
     ensures within { result ≤ length line.now }
-    ensures after_blank { result < length line.now → slice_index line.now (result - 1) ≡ 32 }
+    ensures after_blank { result < length line.now → slice_index line.now (result - 1) ≡ blank }
 {
     let mut end = 1;
     while end < line.len() && !is_cut(line[end - 1], line[end]) {

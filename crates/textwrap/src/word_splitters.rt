@@ -1,9 +1,8 @@
 //! Where words may be split, and the pieces that they are split into.
 ghost use Rattle.std.specs.Prelude.{◌≡◌, ℕ, ◌<◌, ◌≤◌, List, [], ◌++◌, length, map, reverse, slice_range, chars, IfOk, IsOk, OnOk, IsCharBoundary};
 ghost use Rattle.std.specs.Iterator.{IsFiniteIterable, Drains};
-ghost use Rattle.textwrap_base.specs.Breaking.{piece};
-ghost use Rattle.textwrap_base.specs.Words.{text_of};
-ghost use Rattle.textwrap.specs.Splitting.{is_alphanumeric, begins_alphanumeric, ends_in_hyphen, is_hyphen_point, hyphen_points, AreCuts, cut_penalty, split_pieces, split_words};
+ghost use Rattle.textwrap_base.specs.Words.{piece, word_view};
+ghost use Rattle.textwrap.specs.WordSplitters.{is_alphanumeric, begins_alphanumeric, ends_in_hyphen, is_hyphen_point, hyphen_points, AreCuts, cut_penalty, split_pieces, split_words};
 
 use std::alloc::{AllocError, Global};
 use textwrap_base::words::{Word, display_width};
@@ -20,7 +19,7 @@ pub enum WordSplitter {
 }
 
 impl WordSplitter {
-    ghost use Rattle.textwrap.specs.Splitting.{points_of};
+    ghost use Rattle.textwrap.specs.WordSplitters.{points_of};
 
     /// The offsets, in bytes, at which the word may be split: increasing, inside the word and on
     /// character boundaries. For `NoHyphenation` there are none, and the call takes no memory and
@@ -105,7 +104,7 @@ pub fn split_words<'a, I: IntoIterator<Item = Word<'a>>>(
     requires ends { IsFiniteIterable I.into_iter_gives I.IntoIter.can_next I.IntoIter.remaining words }
     ensures pieces { IfOk result (λ pieces. (it : I.IntoIter) × (given : List Word) × I.into_iter_gives words it
         × Drains I.IntoIter.next_gives it given
-        × (map text_of pieces.items ≡ split_words word_splitter.now (map text_of given))) }
+        × (map word_view pieces.items ≡ split_words word_splitter.now (map word_view given))) }
 {
     let mut pieces = Vec::new(alloc);
     for word in words {
@@ -122,8 +121,8 @@ fn push_split<'a>(
     points: &[usize],
 ) -> Result<(), AllocError>
     requires { AreCuts word.word.now points.now }
-    ensures { OnOk result (map text_of pieces.new.items
-        ≡ map text_of pieces.old.items ++ split_pieces points.now (text_of word.entry)) }
+    ensures { OnOk result (map word_view pieces.new.items
+        ≡ map word_view pieces.old.items ++ split_pieces points.now (word_view word.entry)) }
 {
     let mut start = 0;
     for point in points {
@@ -144,7 +143,7 @@ fn inner_piece(text: &str, start: usize, point: usize) -> Word<'_>
     requires order { start ≤ point }
     requires from_cut { 0 < start → IsCharBoundary text.now start }
     requires to_cut { IsCharBoundary text.now point }
-    ensures { text_of result
+    ensures { word_view result
         ≡ piece (slice_range text.now start point) [] (cut_penalty text.now point) }
 {
     let word = &text[start..point];

@@ -4,13 +4,13 @@ ghost use Rattle.std.specs.List.{flat_map};
 ghost use Rattle.std.specs.Str.{IsUtf8};
 ghost use Rattle.std.specs.Io.{StartsWith};
 ghost use Rattle.textwrap_base.specs.Cost.{total_width};
-ghost use Rattle.textwrap_base.specs.Algorithm.{IsDividedBy};
+ghost use Rattle.textwrap_base.specs.WrapAlgorithms.{IsDividedBy};
 ghost use Rattle.textwrap_base.specs.Units.{IsNarrow};
-ghost use Rattle.textwrap_base.specs.Words.{WordText, text_of, sizes_of, tiled, Tiles};
+ghost use Rattle.textwrap_base.specs.Words.{WordText, word_view, sizes_of, tiled, Tiles};
 ghost use Rattle.textwrap_base.specs.declared.wrap_algorithms.WrapAlgorithm.TheVariants.{FirstFit};
-ghost use Rattle.textwrap.specs.Ending.{paragraphs_of};
-ghost use Rattle.textwrap.specs.Paragraph.{Slice, Line, LineParts, line_of, line_from, covered, pieces_of, split_pieces_of, widths_of, width_after, later_width, indent_of, is_whole, parts_of, parts_from, whole_parts, Adds, AreDividedInto, AreDividedParts, AreParagraphParts};
-ghost use Rattle.textwrap.specs.SlowPath.{OnlyCharactersPass};
+ghost use Rattle.textwrap.specs.LineEnding.{paragraphs_of};
+ghost use Rattle.textwrap.specs.Paragraph.{Slice, Line, LineParts, line_view, line_from, covered, pieces_of, split_pieces_of, widths_of, width_after, later_width, indent_of, is_whole, parts_of, parts_from, whole_parts, Adds, AreDividedInto, AreDividedParts, AreParagraphParts};
+ghost use Rattle.textwrap.specs.Fuzzing.{OnlyCharactersPass};
 ghost use Rattle.textwrap.specs.Text.{AreTextLines, LosesOnlyBlanks};
 
 use crate::line_ending::LineEnding;
@@ -38,8 +38,8 @@ pub fn wrap<'t>(
     text: &'t str,
     options: Options<'_>,
 ) -> Result<Vec<CowStr<'t>>, WrapError>
-    ensures lines { IfOk result (λ lines. AreTextLines options.entry text.now (map line_of lines.items)) }
-    ensures lossless { IfOk result (λ lines. LosesOnlyBlanks options.entry text.now (map line_of lines.items)) }
+    ensures lines { IfOk result (λ lines. AreTextLines options.entry text.now (map line_view lines.items)) }
+    ensures lossless { IfOk result (λ lines. LosesOnlyBlanks options.entry text.now (map line_view lines.items)) }
     ensures only_memory { IfErr result (λ error. error ≡ WrapError.Memory alloc_error) }
 {
     let mut lines = Vec::new(alloc);
@@ -95,18 +95,18 @@ pub fn wrap_single_line<'t>(
     wrap_single_line_slow_path(alloc, line, options, lines)
 }
 
-/// Whether a paragraph is one line as a whole, where `out` says that a line is out already.
-pub fn is_one_line(paragraph: &str, options: &Options<'_>, out: bool) -> bool
-    ensures { result ≡ is_whole options.now out paragraph.now }
+/// Whether a paragraph is one line as a whole, where `is_later` says that a line is out already.
+pub fn is_one_line(paragraph: &str, options: &Options<'_>, is_later: bool) -> bool
+    ensures { result ≡ is_whole options.now is_later paragraph.now }
 {
-    next_indent(options, out).is_empty() && paragraph.len() < options.width
+    next_indent(options, is_later).is_empty() && paragraph.len() < options.width
 }
 
-/// The indent of the next line, where `out` says that a line is out already.
-fn next_indent<'a>(options: &Options<'a>, out: bool) -> &'a str
-    ensures { result.now ≡ indent_of options.now out }
+/// The indent of the next line, where `is_later` says that a line is out already.
+fn next_indent<'a>(options: &Options<'a>, is_later: bool) -> &'a str
+    ensures { result.now ≡ indent_of options.now is_later }
 {
-    if out {
+    if is_later {
         options.subsequent_indent
     } else {
         options.initial_indent
@@ -165,8 +165,8 @@ fn find_pieces<'t>(
     paragraph: &'t str,
     options: &Options<'_>,
 ) -> Result<Vec<Word<'t>>, AllocError>
-    ensures pieces { IfOk result (λ pieces. map text_of pieces.items ≡ pieces_of options.now paragraph.now) }
-    ensures tiles { IfOk result (λ pieces. Tiles (map text_of pieces.items) paragraph.now) }
+    ensures pieces { IfOk result (λ pieces. map word_view pieces.items ≡ pieces_of options.now paragraph.now) }
+    ensures tiles { IfOk result (λ pieces. Tiles (map word_view pieces.items) paragraph.now) }
 {
     let words = options.word_separator.find_words(alloc, paragraph)?;
     let split = split_words(alloc, words, &options.word_splitter)?;
@@ -196,8 +196,8 @@ fn divide<'a, 'w>(
     pieces: &'w [Word<'a>],
     options: &Options<'_>,
 ) -> Result<Vec<&'w [Word<'a>]>, WrapError>
-    requires { total_width (λ word. sizes_of (text_of word)) pieces.now < 2 ^ 64 }
-    ensures divided { IfOk result (λ lines. IsDividedBy options.now.wrap_algorithm (λ word. sizes_of (text_of word))
+    requires { total_width (λ word. sizes_of (word_view word)) pieces.now < 2 ^ 64 }
+    ensures divided { IfOk result (λ lines. IsDividedBy options.now.wrap_algorithm (λ word. sizes_of (word_view word))
         (widths_of options.now) pieces.now (map (λ line. line.now) lines.items)) }
     ensures only_memory { IfErr result (λ error. error ≡ WrapError.Memory alloc_error) }
 {
@@ -216,9 +216,9 @@ fn push_lines<'t>(
     options: &Options<'_>,
     lines: &mut Vec<CowStr<'t>>,
 ) -> Result<(), AllocError>
-    requires { flat_map (λ line. tiled (map text_of line.now)) division.now ≡ paragraph.now }
+    requires { flat_map (λ line. tiled (map word_view line.now)) division.now ≡ paragraph.now }
     ensures lines { OnOk result (Adds lines.old.items lines.new.items
-        (parts_from options.now (nat_lt 0 (length lines.old.items)) (map (λ line. map text_of line.now) division.now))) }
+        (parts_from options.now (nat_lt 0 (length lines.old.items)) (map (λ line. map word_view line.now) division.now))) }
     ensures kept { take (length lines.old.items) lines.new.items ≡ lines.old.items }
 {
     let mut rest = paragraph;
@@ -236,16 +236,16 @@ fn split_line<'t>(
     text: &'t str,
     pieces: &[Word<'_>],
     options: &Options<'_>,
-    out: bool,
+    is_later: bool,
 ) -> Result<(CowStr<'t>, &'t str), AllocError>
-    requires { StartsWith text.now (tiled (map text_of pieces.now)) }
-    ensures line { IfOk result (λ line. line_of line.0 ≡ line_from (parts_of options.now out (map text_of pieces.now))) }
-    ensures rest { IfOk result (λ line. line.1.now ≡ drop (length (tiled (map text_of pieces.now))) text.now) }
+    requires { StartsWith text.now (tiled (map word_view pieces.now)) }
+    ensures line { IfOk result (λ line. line_view line.0 ≡ line_from (parts_of options.now is_later (map word_view pieces.now))) }
+    ensures rest { IfOk result (λ line. line.1.now ≡ drop (length (tiled (map word_view pieces.now))) text.now) }
 {
     let Some((last, front)) = pieces.split_last() else {
         return Ok((CowStr::Borrowed(""), text));
     };
-    let indent = next_indent(options, out);
+    let indent = next_indent(options, is_later);
     let keeps_whitespace = options.preserve_trailing_space && last.penalty.is_empty();
     let (slice, rest) = cut_line(text, front, last, keeps_whitespace);
     Ok((assemble(alloc, indent, slice, last.penalty)?, rest))
@@ -259,10 +259,10 @@ fn cut_line<'t>(
     last: &Word<'_>,
     keeps_whitespace: bool,
 ) -> (&'t str, &'t str)
-    requires { StartsWith text.now (tiled (map text_of (front.now ++ last.now ∷ []))) }
-    ensures slice { result.0.now ≡ (if keeps_whitespace then tiled (map text_of (front.now ++ last.now ∷ []))
-        else covered (map text_of (front.now ++ last.now ∷ []))) }
-    ensures rest { result.1.now ≡ drop (length (tiled (map text_of (front.now ++ last.now ∷ [])))) text.now }
+    requires { StartsWith text.now (tiled (map word_view (front.now ++ last.now ∷ []))) }
+    ensures slice { result.0.now ≡ (if keeps_whitespace then tiled (map word_view (front.now ++ last.now ∷ []))
+        else covered (map word_view (front.now ++ last.now ∷ []))) }
+    ensures rest { result.1.now ≡ drop (length (tiled (map word_view (front.now ++ last.now ∷ [])))) text.now }
 {
     let whitespace_len = last.whitespace.as_bytes().len();
     let covered_len = tiled_len(front) + last.word.as_bytes().len();
@@ -276,9 +276,9 @@ fn cut_line<'t>(
 
 /// The bytes of the pieces with their whitespace.
 fn tiled_len(pieces: &[Word<'_>]) -> usize
-    requires { length (tiled (map text_of pieces.now)) < 2 ^ 63 }
-    ensures len { result ≡ length (tiled (map text_of pieces.now)) }
-    ensures utf8 { IsUtf8 (tiled (map text_of pieces.now)) }
+    requires { length (tiled (map word_view pieces.now)) < 2 ^ 63 }
+    ensures len { result ≡ length (tiled (map word_view pieces.now)) }
+    ensures utf8 { IsUtf8 (tiled (map word_view pieces.now)) }
 {
     let mut len = 0;
     for piece in pieces {
@@ -294,7 +294,7 @@ fn assemble<'t>(
     slice: &'t str,
     penalty: &str,
 ) -> Result<CowStr<'t>, AllocError>
-    ensures { IfOk result (λ line. line_of line
+    ensures { IfOk result (λ line. line_view line
         ≡ line_from (record { indent = indent.now; slice = slice.now; penalty = penalty.now; left_off = [] })) }
 {
     if indent.is_empty() && penalty.is_empty() {

@@ -1,8 +1,8 @@
 -- The pieces of a word that is too wide for a line.
 use Rattle.std.specs.Prelude.{◌≡◌, ◌≢◌, ℕ, ◌+◌, ◌<◌, ◌≤◌, Bool, false, nat_lt, ◌&&◌, List, [], ◌∷◌, ◌++◌, All, map, if◌then◌else◌, chars, encode_utf8_all, sum_by, ⊤}
 use Rattle.std.specs.List.{flat_map, onto_first}
-use Rattle.textwrap_base.specs.Units.{TextUnit, Visible, Sequence, characters, columns, units, text_width}
-use Rattle.textwrap_base.specs.Words.{WordText, text_of}
+use Rattle.textwrap_base.specs.Units.{TextUnit, Visible, Sequence, characters, columns, units}
+use Rattle.textwrap_base.specs.Words.{WordText, word_view, piece}
 use Rattle.textwrap_base.specs.declared.words.breaking.BreakApart.{BreakApart}
 
 -- ---- what the parts are into which the units of a text are broken
@@ -41,10 +41,6 @@ pub record AreBroken (limit : ℕ) (us : List TextUnit) (parts : List (List Text
 -- the bytes of units
 abbrev pub units_text : List TextUnit → List ℕ
 units_text us = encode_utf8_all (flat_map characters us)
-
--- a piece of a word, with the columns of its own text
-abbrev pub piece : List ℕ → List ℕ → List ℕ → WordText
-piece text whitespace penalty = record { word = text; whitespace = whitespace; penalty = penalty; width = text_width text }
 
 -- the pieces with these texts: whitespace and penalty stand at the last alone
 abbrev pub pieces_with : List ℕ → List ℕ → List (List ℕ) → List WordText
@@ -91,4 +87,4 @@ broken_words limit words = flat_map (broken_word limit) words
 -- ---- what the code's iterator has left
 
 abbrev pub pieces_left : BreakApart → List WordText
-pieces_left pieces = broken_pieces pieces.line_width (text_of pieces.rest)
+pieces_left pieces = broken_pieces pieces.line_width (word_view pieces.rest)

@@ -1,14 +1,8 @@
 -- What a line and a division cost, and the division of least cost (after Knuth and Plass, "Breaking Paragraphs into Lines").
-use Rattle.std.specs.Prelude.{◌≡◌, ℕ, ◌+◌, ◌-◌, ◌*◌, ◌^◌, ◌<◌, ◌≤◌, max, Bool, ◌==◌, ◌&&◌, nat_lt, if◌then◌else◌, List, [], ◌∷◌, length, take, reverse, slice_index, sum_by, ⊤, ◌⊎◌, Result, Ok, Err}
+use Rattle.std.specs.Prelude.{◌≡◌, ℕ, ◌+◌, ◌-◌, ◌*◌, ◌^◌, ◌<◌, ◌≤◌, max, Bool, ◌==◌, ◌&&◌, nat_lt, if◌then◌else◌, List, [], ◌∷◌, length, take, reverse, slice_index, sum_by, ⊤, ◌⊎◌}
 use Rattle.textwrap_base.specs.Sizes.{Sizes}
 use Rattle.textwrap_base.specs.Division.{line_width, closed_width, IsDivision}
 use Rattle.textwrap_base.specs.declared.penalties.Penalties.{Penalties}
-use Rattle.textwrap_base.specs.declared.errors.WrapError.{WrapError}
-use Rattle.textwrap_base.specs.declared.errors.WrapError.TheVariants.{Memory, Overflow}
-
--- the penalties of the original
-abbrev pub default_penalties : Penalties
-default_penalties = record { nline_penalty = 1000; overflow_penalty = 2500; short_last_line_fraction = 4; short_last_line_penalty = 25; hyphen_penalty = 25 }
 
 -- ---- a line
 
@@ -98,17 +92,3 @@ abbrev pub Overflows : {X : Type 0} → (X → Sizes) → Penalties → List ℕ
 Overflows sizes penalties widths fragments =
     (2 ^ 128 ≤ total_width sizes fragments)
     ⊎ ((j : ℕ) × (j ≤ length fragments) × BeginningPasses sizes penalties widths fragments j)
-
--- the call answered Overflow
-abbrev pub Overflowed : {A : Type 0} → Result A WrapError → Type 0
-Overflowed (Ok value) = ⊥
-Overflowed (Err (Memory error)) = ⊥
-Overflowed (Err (Overflow error)) = ⊤
-
--- each penalty keeps to 64 bits
-pub record Are64Bits (penalties : Penalties) : Type 0 where
-  pub nline : penalties.nline_penalty < 2 ^ 64
-  pub overflow : penalties.overflow_penalty < 2 ^ 64
-  pub fraction : penalties.short_last_line_fraction < 2 ^ 64
-  pub short_last_line : penalties.short_last_line_penalty < 2 ^ 64
-  pub hyphen : penalties.hyphen_penalty < 2 ^ 64

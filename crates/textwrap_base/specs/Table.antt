@@ -1,9 +1,9 @@
 -- The table of least costs, for any list of line widths, and the division that it gives.
 use Rattle.std.specs.Prelude.{◌≡◌, ℕ, zero, suc, ◌+◌, ◌^◌, ◌<◌, ◌≤◌, ◌==◌, nat_lt, if◌then◌else◌, List, [], ◌∷◌, ◌++◌, length, map, slice_index, slice_index_or, slice_range, Option, None, Some, MatchOption, ⊤, ◌⊎◌}
 use Rattle.textwrap_base.specs.Sizes.{Sizes}
-use Rattle.textwrap_base.specs.Source.{Lines}
+use Rattle.textwrap_base.specs.Minima.{Costs}
 use Rattle.textwrap_base.specs.Division.{line_width, IsDivision}
-use Rattle.textwrap_base.specs.Cost.{line_cost, total_width, AreEqualFromSecond, IsChosen}
+use Rattle.textwrap_base.specs.Cost.{line_cost, total_width}
 use Rattle.textwrap_base.specs.declared.penalties.Penalties.{Penalties}
 use Rattle.textwrap_base.specs.declared.minima.Minimum.{Minimum}
 use Rattle.textwrap_base.specs.declared.minima.table.Entry.{Entry}
@@ -72,8 +72,8 @@ abbrev pub line_costs : {X : Type 0} → (X → Sizes) → Penalties → List �
 line_costs sizes penalties widths fragments start end number =
     line_cost sizes penalties (line_width widths number) (end == length fragments) (slice_range fragments start end)
 
-abbrev pub lines_of : {X : Type 0} → (X → Sizes) → Penalties → List ℕ → List X → Lines
-lines_of sizes penalties widths fragments = record { ends = length fragments; cost = line_costs sizes penalties widths fragments }
+abbrev pub fragment_costs : {X : Type 0} → (X → Sizes) → Penalties → List ℕ → List X → Costs
+fragment_costs sizes penalties widths fragments = record { ends = length fragments; cost = line_costs sizes penalties widths fragments }
 
 abbrev pub fragments_table : {X : Type 0} → (X → Sizes) → Penalties → List ℕ → List X → List Entry
 fragments_table sizes penalties widths fragments = table (line_costs sizes penalties widths fragments) (length fragments)
@@ -95,8 +95,3 @@ FollowStarts starts at (line ∷ lines) = (slice_index starts (at + length line)
 pub record IsByTable {X : Type 0} (sizes : X → Sizes) (penalties : Penalties) (widths : List ℕ) (fragments : List X) (lines : List (List X)) : Type 0 where
   pub division : IsDivision fragments lines
   pub starts : FollowStarts (map (λ entry. entry.start) (fragments_table sizes penalties widths fragments)) 0 lines
-
--- optimal fit: the division by the table, which is the chosen one where the line widths are equal from the second on
-pub record IsOptimal {X : Type 0} (sizes : X → Sizes) (penalties : Penalties) (widths : List ℕ) (fragments : List X) (lines : List (List X)) : Type 0 where
-  pub by_table : IsByTable sizes penalties widths fragments lines
-  pub chosen : AreEqualFromSecond widths → IsChosen sizes penalties widths fragments lines

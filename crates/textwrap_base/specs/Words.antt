@@ -1,6 +1,7 @@
 -- Words: what a piece of a text is as a word, and the words of a line.
-use Rattle.std.specs.Prelude.{◌≡◌, ℕ, ◌-◌, Bool, not, ◌==◌, ◌&&◌, List, [], ◌∷◌, ◌++◌, length, take, drop, map, if◌then◌else◌}
-use Rattle.std.specs.List.{flat_map, suffix_len, onto_first}
+use Rattle.std.specs.Prelude.{◌≡◌, ℕ, Bool, not, ◌&&◌, List, [], ◌∷◌, ◌++◌, length, map, if◌then◌else◌}
+use Rattle.std.specs.List.{flat_map, onto_first}
+use Rattle.textwrap_base.specs.Blanks.{is_blank, without_final_blanks, final_blanks}
 use Rattle.textwrap_base.specs.Sizes.{Sizes}
 use Rattle.textwrap_base.specs.Units.{text_width}
 use Rattle.textwrap_base.specs.declared.words.Word.{Word}
@@ -12,8 +13,8 @@ pub record WordText : Type 0 where
   pub penalty : List ℕ
   pub width : ℕ
 
-abbrev pub text_of : Word → WordText
-text_of w = record { word = w.word.now; whitespace = w.whitespace.now; penalty = w.penalty.now; width = w.width }
+abbrev pub word_view : Word → WordText
+word_view w = record { word = w.word.now; whitespace = w.whitespace.now; penalty = w.penalty.now; width = w.width }
 
 -- as a fragment a word takes its columns, the bytes of its whitespace and the bytes of its penalty
 abbrev pub sizes_of : WordText → Sizes
@@ -29,20 +30,11 @@ tiled words = flat_map tile_of words
 abbrev pub Tiles : List WordText → List ℕ → Type 0
 Tiles words text = tiled words ≡ text
 
-abbrev pub is_blank : ℕ → Bool
-is_blank c = c == 32
+-- a piece of a word, with the columns of its own text
+abbrev pub piece : List ℕ → List ℕ → List ℕ → WordText
+piece text whitespace penalty = record { word = text; whitespace = whitespace; penalty = penalty; width = text_width text }
 
--- the length of a text without the blanks at its end
-abbrev pub trimmed_len : List ℕ → ℕ
-trimmed_len bytes = length bytes - suffix_len is_blank bytes
-
-abbrev pub without_final_blanks : List ℕ → List ℕ
-without_final_blanks bytes = take (trimmed_len bytes) bytes
-
-abbrev pub final_blanks : List ℕ → List ℕ
-final_blanks bytes = drop (trimmed_len bytes) bytes
-
--- a piece as a word: its final blanks are the whitespace
+-- a text as a word: its final blanks are the whitespace
 abbrev pub word_of : List ℕ → WordText
 word_of piece = record { word = without_final_blanks piece; whitespace = final_blanks piece; penalty = []; width = text_width (without_final_blanks piece) }
 
@@ -51,10 +43,10 @@ abbrev pub is_cut : ℕ → ℕ → Bool
 is_cut before after = is_blank before && not (is_blank after)
 
 -- the pieces of a line, none for an empty line
-abbrev pub pieces : List ℕ → List (List ℕ)
-pieces [] = []
-pieces (c ∷ []) = (c ∷ []) ∷ []
-pieces (c ∷ d ∷ cs) = if is_cut c d then (c ∷ []) ∷ pieces (d ∷ cs) else onto_first c (pieces (d ∷ cs))
+abbrev pub chunks : List ℕ → List (List ℕ)
+chunks [] = []
+chunks (c ∷ []) = (c ∷ []) ∷ []
+chunks (c ∷ d ∷ cs) = if is_cut c d then (c ∷ []) ∷ chunks (d ∷ cs) else onto_first c (chunks (d ∷ cs))
 
 abbrev pub words_of : List ℕ → List WordText
-words_of line = map word_of (pieces line)
+words_of line = map word_of (chunks line)

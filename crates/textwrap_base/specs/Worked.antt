@@ -1,7 +1,7 @@
 -- Worked tables: fragments, and what their entries start at and cost.
 use Rattle.std.specs.Prelude.{ℕ, List, [], ◌∷◌, map}
 use Rattle.textwrap_base.specs.Sizes.{Sizes}
-use Rattle.textwrap_base.specs.Cost.{default_penalties}
+use Rattle.textwrap_base.specs.Penalties.{default_penalties}
 use Rattle.textwrap_base.specs.Table.{fragments_table}
 
 abbrev pub sized : ℕ → ℕ → ℕ → Sizes

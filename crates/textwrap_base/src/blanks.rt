@@ -1,6 +1,6 @@
 //! The blanks at the end of a text.
 ghost use Rattle.std.specs.Prelude.{◌≡◌, ◌<◌, ◌≤◌, length, slice_index};
-ghost use Rattle.textwrap_base.specs.Words.{trimmed_len, without_final_blanks, final_blanks};
+ghost use Rattle.textwrap_base.specs.Blanks.{blank, trimmed_len, without_final_blanks, final_blanks};
 
 /// The text without its final blanks, and those blanks.
 pub fn split_final_blanks<'a>(text: &'a str) -> (&'a str, &'a str)
@@ -14,7 +14,7 @@ pub fn split_final_blanks<'a>(text: &'a str) -> (&'a str, &'a str)
 fn trimmed_len(bytes: &[u8]) -> usize
     ensures value { result ≡ trimmed_len bytes.now }
     ensures within { result ≤ length bytes.now }
-    ensures at_blank { result < length bytes.now → slice_index bytes.now result ≡ 32 }
+    ensures at_blank { result < length bytes.now → slice_index bytes.now result ≡ blank }
 {
     let mut end = bytes.len();
     while end > 0 && bytes[end - 1] == b' ' {

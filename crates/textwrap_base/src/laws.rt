@@ -3,7 +3,8 @@
 ghost use Rattle.std.specs.Prelude.{◌≡◌, ◌≢◌, ◌↔◌, ℕ, ◌<◌, List, [], ◌∷◌, All, IsUtf8, map, take};
 ghost use Rattle.std.specs.List.{flat_map};
 ghost use Rattle.textwrap_base.specs.Breaking.{AreBrokenPieces, broken_pieces, broken_words};
-ghost use Rattle.textwrap_base.specs.Cost.{IsChosen, default_penalties, division_cost};
+ghost use Rattle.textwrap_base.specs.Cost.{IsChosen, division_cost};
+ghost use Rattle.textwrap_base.specs.Penalties.{default_penalties};
 ghost use Rattle.textwrap_base.specs.Division.{IsGreedy, closed_width};
 ghost use Rattle.textwrap_base.specs.Table.{table, IsTable};
 ghost use Rattle.textwrap_base.specs.Units.{TextUnit, IsInUnits, units};

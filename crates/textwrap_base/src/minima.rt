@@ -1,9 +1,10 @@
 //! The least costs of dividing fragments into lines: sources of line costs, a count of how often
 //! they are asked, and the table of least costs.
 ghost use Rattle.std.specs.Prelude.{◌≡◌, ℕ, ◌+◌, ◌^◌, ◌<◌, ◌≤◌, length, map, IfOk, OnOk, SomeIff};
-ghost use Rattle.textwrap_base.specs.Source.{Lines, counted, table_steps};
-ghost use Rattle.textwrap_base.specs.Cost.{total_width, Overflowed};
-ghost use Rattle.textwrap_base.specs.Table.{lines_of, fragments_table, minimum_of, TableOverflows};
+ghost use Rattle.textwrap_base.specs.Minima.{Costs, counted, table_steps};
+ghost use Rattle.textwrap_base.specs.Cost.{total_width};
+ghost use Rattle.textwrap_base.specs.Errors.{Overflowed};
+ghost use Rattle.textwrap_base.specs.Table.{fragment_costs, fragments_table, minimum_of, TableOverflows};
 
 use crate::errors::WrapError;
 use crate::penalties::Penalties;
@@ -63,13 +64,13 @@ pub struct Minimum {
 
 /// Line costs over a number of fragments, and a count of how often one was asked.
 pub trait CostSource {
-    ghost lines: { Self → Lines };
+    ghost costs: { Self → Costs };
 
     ghost steps: { Self → ℕ };
 
     /// The number of fragments: lines end at 1 up to this.
     fn ends(&self) -> usize
-        ensures { result ≡ (lines self.now).ends };
+        ensures { result ≡ (costs self.now).ends };
 
     /// `before` plus the cost of the line of the fragments `start` to `end - 1`, where its number,
     /// counted from 0, is `line_number`. `None` where this passes 2^128-1. `start` has to be below
@@ -84,11 +85,11 @@ pub trait CostSource {
         before: u128,
     ) -> Option<u128>
         requires ordered { start < end }
-        requires within { end ≤ (lines self.old).ends }
+        requires within { end ≤ (costs self.old).ends }
         ensures cost { SomeIff result
-            (before + (lines self.old).cost start end line_number < 2 ^ 128)
-            (before + (lines self.old).cost start end line_number) }
-        ensures same { lines self.new ≡ lines self.old }
+            (before + (costs self.old).cost start end line_number < 2 ^ 128)
+            (before + (costs self.old).cost start end line_number) }
+        ensures same { costs self.new ≡ costs self.old }
         ensures step { steps self.new ≡ counted (steps self.old) 1 };
 }
 

@@ -1,6 +1,6 @@
 //! What optimal fit charges for.
 ghost use Rattle.std.specs.Prelude.{◌≡◌};
-ghost use Rattle.textwrap_base.specs.Cost.{default_penalties, Are64Bits};
+ghost use Rattle.textwrap_base.specs.Penalties.{default_penalties, Are64Bits};
 
 /// What the lines of a division cost, in whole numbers of any unit (after Knuth and Plass,
 /// "Breaking Paragraphs into Lines", 1981).

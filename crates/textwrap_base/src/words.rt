@@ -2,7 +2,7 @@
 ghost use Rattle.std.specs.Prelude.{◌≡◌, ℕ, ◌*◌, ◌≤◌, length};
 ghost use Rattle.textwrap_base.specs.Sizes.{Sizes};
 ghost use Rattle.textwrap_base.specs.Units.{columns, text_width};
-ghost use Rattle.textwrap_base.specs.Words.{text_of, sizes_of, word_of};
+ghost use Rattle.textwrap_base.specs.Words.{word_view, sizes_of, word_of};
 
 use crate::blanks::split_final_blanks;
 pub use breaking::{BreakApart, break_words};
@@ -71,7 +71,7 @@ pub struct Word<'a> {
 }
 
 impl<'a> From<&'a str> for Word<'a> {
-    ghost from_gives = { λ piece result. text_of result ≡ word_of piece.now };
+    ghost from_gives = { λ piece result. word_view result ≡ word_of piece.now };
 
     /// The piece without its final blanks, which are the whitespace. There is no penalty.
     fn from(piece: &'a str) -> Word<'a> {
@@ -95,7 +95,7 @@ impl<'a> Word<'a> {
 }
 
 impl<'a> Fragment for Word<'a> {
-    ghost sizes = { λ word. sizes_of (text_of word) };
+    ghost sizes = { λ word. sizes_of (word_view word) };
 
     /// The field `width`, the columns of the word.
     fn width(&self) -> usize {

@@ -1,7 +1,9 @@
 //! The division of fragments into lines.
 ghost use Rattle.std.specs.Prelude.{◌≡◌, ◌+◌, ◌≤◌, ◌<◌, ◌^◌, length, map, take, IfOk, OnOk};
 ghost use Rattle.textwrap_base.specs.Division.{line_width, closed_width, Fits, IsGreedy};
-ghost use Rattle.textwrap_base.specs.Cost.{default_penalties, total_width, Overflowed};
+ghost use Rattle.textwrap_base.specs.Penalties.{default_penalties};
+ghost use Rattle.textwrap_base.specs.Cost.{total_width};
+ghost use Rattle.textwrap_base.specs.Errors.{Overflowed};
 
 pub use crate::errors::{OverflowError, WrapError};
 pub use crate::penalties::Penalties;
@@ -35,8 +37,8 @@ impl WrapAlgorithm {
         WrapAlgorithm::OptimalFit(Penalties::new())
     }
 
-    ghost use Rattle.textwrap_base.specs.Algorithm.{IsDividedBy, OverflowsBy};
-    ghost use Rattle.textwrap_base.specs.Words.{sizes_of, text_of};
+    ghost use Rattle.textwrap_base.specs.WrapAlgorithms.{IsDividedBy, OverflowsBy};
+    ghost use Rattle.textwrap_base.specs.Words.{sizes_of, word_view};
 
     /// Divides the words into lines by this algorithm.
     ///
@@ -49,13 +51,13 @@ impl WrapAlgorithm {
         line_widths: &[usize],
     ) -> Result<Vec<&'b [Word<'a>]>, WrapError>
         ensures divided { IfOk result (λ lines.
-            IsDividedBy self.now (λ word. sizes_of (text_of word)) line_widths.now words.now
+            IsDividedBy self.now (λ word. sizes_of (word_view word)) line_widths.now words.now
             (map (λ line. line.now) lines.items)) }
         ensures overflow_only { Overflowed result
-            → OverflowsBy self.now (λ word. sizes_of (text_of word)) line_widths.now words.now }
+            → OverflowsBy self.now (λ word. sizes_of (word_view word)) line_widths.now words.now }
         ensures ok_only { OnOk result
-            (¬ OverflowsBy self.now (λ word. sizes_of (text_of word)) line_widths.now words.now) }
-        ensures no_overflow { total_width (λ word. sizes_of (text_of word)) words.now < 2 ^ 64
+            (¬ OverflowsBy self.now (λ word. sizes_of (word_view word)) line_widths.now words.now) }
+        ensures no_overflow { total_width (λ word. sizes_of (word_view word)) words.now < 2 ^ 64
             → ¬ Overflowed result }
     {
         match self {

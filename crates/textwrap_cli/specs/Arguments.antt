@@ -3,7 +3,7 @@ use Rattle.std.specs.Prelude.{ℕ, ◌^◌, Bool, ◌&&◌, nat_lt, List, [], �
 use Rattle.std.specs.Option.{option_and_then, option_map}
 use Rattle.std.specs.Str.{all_ascii_digits, bytes_eq}
 use Rattle.std.specs.Str.Parse.{digits_value}
-use Rattle.textwrap.specs.Defaults.{default_algorithm}
+use Rattle.textwrap.specs.Options.{default_algorithm}
 use Rattle.textwrap.specs.declared.wrap_algorithms.WrapAlgorithm.{WrapAlgorithm}
 use Rattle.textwrap.specs.declared.wrap_algorithms.WrapAlgorithm.TheVariants.{FirstFit}
 use Rattle.textwrap_cli.specs.declared.arguments.Settings.{Settings}

@@ -1,10 +1,9 @@
 //! The program's work: it reads a text, fills it and writes it.
 ghost use Rattle.std.specs.Prelude.{◌≡◌, ◌≢◌, ℕ, ◌<◌, ◌≤◌, List, [], length, take, string_bytes, Err, IfOk, OnOk, OnErr, IfErr, IsUtf8};
 ghost use Rattle.std.specs.Io.KnownBytes.{Appends, Keeps};
-ghost use Rattle.textwrap.specs.Defaults.{HasDefaultsWith};
-ghost use Rattle.textwrap.specs.Text.{IsFilled};
-ghost use Rattle.textwrap_cli.specs.Faults.{fault_line};
-ghost use Rattle.textwrap_cli.specs.Filling.{ReadsAll, FillsInput, ReadsNoText, WritesBeginning};
+ghost use Rattle.textwrap.specs.Options.{HasDefaultsWith};
+ghost use Rattle.textwrap.specs.Filling.{IsFilled};
+ghost use Rattle.textwrap_cli.specs.Filling.{fault_line, ReadsAll, FillsInput, ReadsNoText, WritesBeginning};
 
 use std::alloc::Global;
 use std::io::{Read, Write};

@@ -1,10 +1,11 @@
 //! The line costs of fragments, from running sums of their widths.
 ghost use Rattle.std.specs.Prelude.{◌≡◌, ℕ, ◌+◌, ◌-◌, ◌*◌, ◌^◌, ◌<◌, ◌≤◌, length, map, max, IfOk, OnOk, SomeIff, ◌&&◌, nat_lt, ◌==◌, slice_range};
-ghost use Rattle.textwrap_base.specs.Source.{Charged, counted};
-ghost use Rattle.textwrap_base.specs.Cost.{total_width, fit_cost, break_cost, line_cost, target, Overflowed};
+ghost use Rattle.textwrap_base.specs.Minima.{LineCostsView, counted};
+ghost use Rattle.textwrap_base.specs.Cost.{total_width, fit_cost, break_cost, line_cost, target};
+ghost use Rattle.textwrap_base.specs.Errors.{Overflowed};
 ghost use Rattle.textwrap_base.specs.Division.{line_width, closed_width};
-ghost use Rattle.textwrap_base.specs.Measures.{measured_sizes, AreMeasured};
-ghost use Rattle.textwrap_base.specs.Table.{lines_of, line_costs};
+ghost use Rattle.textwrap_base.specs.LineCosts.{measured_sizes, AreMeasured};
+ghost use Rattle.textwrap_base.specs.Table.{fragment_costs, line_costs};
 
 use super::{CostSource, Steps};
 use crate::errors::{OverflowError, WrapError};
@@ -34,7 +35,7 @@ pub struct LineCosts {
 }
 
 impl Model for LineCosts {
-    ghost Value = { Charged };
+    ghost Value = { LineCostsView };
 
     ghost view = { λ s. record {
       sizes = map measured_sizes s.measures.items;
@@ -58,8 +59,8 @@ impl LineCosts {
         line_widths: &[usize],
         penalties: &Penalties,
     ) -> Result<LineCosts, WrapError>
-        ensures lines { IfOk result (λ costs. ⟦<LineCosts as CostSource>⟧.lines costs
-            ≡ lines_of T.sizes penalties.now line_widths.now fragments.now) }
+        ensures lines { IfOk result (λ costs. ⟦<LineCosts as CostSource>⟧.costs costs
+            ≡ fragment_costs T.sizes penalties.now line_widths.now fragments.now) }
         ensures count { IfOk result (λ costs. ⟦<LineCosts as CostSource>⟧.steps costs ≡ 0) }
         ensures overflow_only { Overflowed result → 2 ^ 128 ≤ total_width T.sizes fragments.now }
         ensures too_wide { 2 ^ 128 ≤ total_width T.sizes fragments.now → Overflowed result }
@@ -84,7 +85,7 @@ impl LineCosts {
 }
 
 impl CostSource for LineCosts {
-    ghost lines = { λ s. lines_of (λ sizes. sizes) s.penalties s.widths s.sizes };
+    ghost costs = { λ s. fragment_costs (λ sizes. sizes) s.penalties s.widths s.sizes };
 
     ghost steps = { λ s. s.steps };
 
@@ -121,7 +122,7 @@ fn line_cost(
         (end == length measures.now) (slice_range measures.now start end)
         in SomeIff result (cost < 2 ^ 128) cost }
 {
-    let line = LineFacts {
+    let line = CostedLine {
         closed: closed_width(measures, start, end),
         target: line_width.max(1),
         is_last: end == measures.len(),
@@ -133,7 +134,7 @@ fn line_cost(
 
 /// What the cost of a line comes from.
 #[derive(Clone, Copy)]
-struct LineFacts {
+struct CostedLine {
     closed: u128,
     target: usize,
     is_last: bool,
@@ -141,7 +142,7 @@ struct LineFacts {
     penalty: usize,
 }
 
-impl LineFacts {
+impl CostedLine {
     /// The cost of the line, or `None` past 2^128-1.
     fn cost(self, penalties: &Penalties) -> Option<u128>
         ensures { let cost = penalties.now.nline_penalty

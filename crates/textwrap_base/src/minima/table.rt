@@ -1,7 +1,7 @@
 //! The table of least costs over any source of line costs.
 ghost use Rattle.std.specs.Prelude.{◌≡◌, ℕ, ◌+◌, ◌*◌, ◌^◌, ◌<◌, ◌≤◌, length, map, IfOk, OnOk, SomeIff, slice_index_or};
-ghost use Rattle.textwrap_base.specs.Source.{counted, table_steps};
-ghost use Rattle.textwrap_base.specs.Cost.{Overflowed};
+ghost use Rattle.textwrap_base.specs.Minima.{counted, table_steps};
+ghost use Rattle.textwrap_base.specs.Errors.{Overflowed};
 ghost use Rattle.textwrap_base.specs.Table.{first_entry, entry_from, entry_at, cheaper_of, table, minimum_of, IsBestBelow};
 
 use super::{CostSource, Minimum};
@@ -22,16 +22,16 @@ pub(super) fn fill_table<C: CostSource>(
     costs: &mut C,
 ) -> Result<Vec<Entry>, WrapError>
     ensures entries { IfOk result (λ entries.
-        entries.items ≡ table (C.lines costs.old).cost (C.lines costs.old).ends) }
-    ensures overflow_only { Overflowed result → ((j : ℕ) × (j ≤ (C.lines costs.old).ends)
-        × (2 ^ 128 ≤ (entry_at (table (C.lines costs.old).cost (C.lines costs.old).ends) j).cost)) }
-    ensures ok_only { OnOk result ((j : ℕ) → j ≤ (C.lines costs.old).ends
-        → (entry_at (table (C.lines costs.old).cost (C.lines costs.old).ends) j).cost < 2 ^ 128) }
-    ensures same { C.lines costs.new ≡ C.lines costs.old }
+        entries.items ≡ table (C.costs costs.old).cost (C.costs costs.old).ends) }
+    ensures overflow_only { Overflowed result → ((j : ℕ) × (j ≤ (C.costs costs.old).ends)
+        × (2 ^ 128 ≤ (entry_at (table (C.costs costs.old).cost (C.costs costs.old).ends) j).cost)) }
+    ensures ok_only { OnOk result ((j : ℕ) → j ≤ (C.costs costs.old).ends
+        → (entry_at (table (C.costs costs.old).cost (C.costs costs.old).ends) j).cost < 2 ^ 128) }
+    ensures same { C.costs costs.new ≡ C.costs costs.old }
     ensures steps_ok { OnOk result
-        (C.steps costs.new ≡ counted (C.steps costs.old) (table_steps (C.lines costs.old).ends)) }
+        (C.steps costs.new ≡ counted (C.steps costs.old) (table_steps (C.costs costs.old).ends)) }
     ensures steps_most { C.steps costs.new
-        ≤ counted (C.steps costs.old) (table_steps (C.lines costs.old).ends) }
+        ≤ counted (C.steps costs.old) (table_steps (C.costs costs.old).ends) }
 {
     let mut entries = Vec::new(alloc);
     entries.push(Entry {
@@ -50,11 +50,11 @@ pub(super) fn fill_table<C: CostSource>(
 
 /// The cheapest entry for the end from the entries before it, the earliest among equals.
 fn cheapest<C: CostSource>(costs: &mut C, entries: &[Entry], end: usize) -> Option<Entry>
-    requires within { end ≤ (C.lines costs.old).ends }
+    requires within { end ≤ (C.costs costs.old).ends }
     requires len { length entries.now ≡ end }
     requires numbers { (k : ℕ) → k < length entries.now → (entry_at entries.now k).line_number ≤ k }
-    ensures best { IsBestBelow (C.lines costs.old).cost entries.now end end result }
-    ensures same { C.lines costs.new ≡ C.lines costs.old }
+    ensures best { IsBestBelow (C.costs costs.old).cost entries.now end end result }
+    ensures same { C.costs costs.new ≡ C.costs costs.old }
     ensures steps { C.steps costs.new ≡ counted (C.steps costs.old) end }
 {
     let mut best = None;
@@ -72,12 +72,12 @@ fn entry_from<C: CostSource>(
     end: usize,
 ) -> Option<Entry>
     requires ordered { start < end }
-    requires within { end ≤ (C.lines costs.old).ends }
+    requires within { end ≤ (C.costs costs.old).ends }
     requires number { entry.now.line_number ≤ start }
     ensures entry { SomeIff result
-        ((entry_from (C.lines costs.old).cost start entry.now end).cost < 2 ^ 128)
-        (entry_from (C.lines costs.old).cost start entry.now end) }
-    ensures same { C.lines costs.new ≡ C.lines costs.old }
+        ((entry_from (C.costs costs.old).cost start entry.now end).cost < 2 ^ 128)
+        (entry_from (C.costs costs.old).cost start entry.now end) }
+    ensures same { C.costs costs.new ≡ C.costs costs.old }
     ensures steps { C.steps costs.new ≡ counted (C.steps costs.old) 1 }
 {
     let cost = costs.candidate(start, end, entry.line_number, entry.cost)?;

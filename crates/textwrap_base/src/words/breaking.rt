@@ -3,7 +3,7 @@ ghost use Rattle.std.specs.Prelude.{◌≡◌, ◌≢◌, ℕ, List, [], ◌∷�
 ghost use Rattle.std.specs.Iterator.{IsFiniteIterable, Drains};
 ghost use Rattle.textwrap_base.specs.Breaking.{broken_texts, broken_word, broken_words};
 ghost use Rattle.textwrap_base.specs.Units.{text_width};
-ghost use Rattle.textwrap_base.specs.Words.{text_of};
+ghost use Rattle.textwrap_base.specs.Words.{word_view};
 
 use super::escapes::State;
 use super::{Word, columns};
@@ -26,7 +26,7 @@ impl<'a> Word<'a> {
     /// cut, and stays with the piece before a cut. The last piece alone has the whitespace and the
     /// penalty of the word. A word with an empty text has no pieces.
     pub fn break_apart(&self, line_width: usize) -> BreakApart<'a>
-        ensures { pieces_left result ≡ broken_pieces line_width (text_of self.now) }
+        ensures { pieces_left result ≡ broken_pieces line_width (word_view self.now) }
     {
         BreakApart {
             rest: *self,
@@ -41,7 +41,7 @@ impl<'a> Iterator for BreakApart<'a> {
 
     type Item = Word<'a>;
 
-    ghost next_gives = { YieldsFirstBy text_of pieces_left };
+    ghost next_gives = { YieldsFirstBy word_view pieces_left };
 
     ghost remaining = { item_count pieces_left };
 
@@ -107,7 +107,7 @@ pub fn break_words<'a, I: IntoIterator<Item = Word<'a>>>(
     requires ends { IsFiniteIterable I.into_iter_gives I.IntoIter.can_next I.IntoIter.remaining words }
     ensures pieces { IfOk result (λ pieces. (it : I.IntoIter) × (given : List Word) × I.into_iter_gives words it
         × Drains I.IntoIter.next_gives it given
-        × (map text_of pieces.items ≡ broken_words line_width (map text_of given))) }
+        × (map word_view pieces.items ≡ broken_words line_width (map word_view given))) }
 {
     let mut pieces = Vec::new(alloc);
     for word in words {
@@ -122,8 +122,8 @@ fn push_broken<'a>(
     word: Word<'a>,
     line_width: usize,
 ) -> Result<(), AllocError>
-    ensures { OnOk result (map text_of pieces.new.items
-        ≡ map text_of pieces.old.items ++ broken_word line_width (text_of word.entry)) }
+    ensures { OnOk result (map word_view pieces.new.items
+        ≡ map word_view pieces.old.items ++ broken_word line_width (word_view word.entry)) }
 {
     if word.width <= line_width {
         pieces.push(word)?;

@@ -1,7 +1,8 @@
 //! Optimal fit: the division of least cost.
 ghost use Rattle.std.specs.Prelude.{◌≡◌, ℕ, ◌+◌, ◌^◌, ◌<◌, ◌≤◌, length, map, slice_index, IfOk, OnOk};
-ghost use Rattle.textwrap_base.specs.Source.{counted, table_steps};
-ghost use Rattle.textwrap_base.specs.Cost.{total_width, AreEqualFromSecond, IsChosen, Overflows, Overflowed};
+ghost use Rattle.textwrap_base.specs.Minima.{counted, table_steps};
+ghost use Rattle.textwrap_base.specs.Cost.{total_width, AreEqualFromSecond, IsChosen, Overflows};
+ghost use Rattle.textwrap_base.specs.Errors.{Overflowed};
 ghost use Rattle.textwrap_base.specs.Division.{IsDivision};
 ghost use Rattle.textwrap_base.specs.Table.{fragments_table, TableOverflows, FollowStarts, IsByTable};
 

@@ -1,6 +1,6 @@
 use Rattle.std.proofs.Common.{not, ap, sym, ◌∙◌}
 use Rattle.textwrap.specs.Paragraph.{Slice}
-use Rattle.textwrap.proofs.TextLemmas.{no_more, IsFilled-whole}
+use Rattle.textwrap.proofs.Text.Lines.{no_more, IsFilled-whole}
 use Rattle.textwrap.proofs.filling.fill.Goals as goal
 
 pub returns-then-is_one_line-clause-filled : goal.returns-then-is_one_line-clause-filled

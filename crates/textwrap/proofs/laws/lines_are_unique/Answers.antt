@@ -1,4 +1,4 @@
-use Rattle.textwrap.proofs.UniqueLines.{divided_parts_one, paragraph_one, text_one, filled_one}
+use Rattle.textwrap.proofs.Text.Unique.{divided_parts_one, paragraph_one, text_one, filled_one}
 use Rattle.textwrap.proofs.laws.lines_are_unique.Goals as goal
 
 pub returns : goal.returns

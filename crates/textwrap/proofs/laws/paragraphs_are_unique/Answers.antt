@@ -1,4 +1,4 @@
-use Rattle.textwrap.proofs.ParagraphLaws.{paragraphs_one}
+use Rattle.textwrap.proofs.Text.Paragraphs.{paragraphs_one}
 use Rattle.textwrap.proofs.laws.paragraphs_are_unique.Goals as goal
 
 pub returns : goal.returns

@@ -1,4 +1,4 @@
-use Rattle.textwrap.proofs.SplittingLemmas.{points_of-cuts, tiled-split_pieces, tiled-split_words}
+use Rattle.textwrap.proofs.Word.Splitting.{points_of-cuts, tiled-split_pieces, tiled-split_words}
 use Rattle.textwrap.proofs.laws.split_pieces_tile.Goals as goal
 
 pub returns : goal.returns

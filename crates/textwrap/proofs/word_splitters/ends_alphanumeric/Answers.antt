@@ -1,7 +1,7 @@
 use Rattle.std.proofs.Common.{◌≡◌, ◌++◌, length, sym, ap, ◌∙◌}
 use Rattle.std.specs.Str.Iter.{chars_rest}
 use lib.Utf8.{encode}
-use Rattle.textwrap.proofs.SplittingLemmas.{ends-none, ends-some}
+use Rattle.textwrap.proofs.Word.Splitting.{ends-none, ends-some}
 use Rattle.textwrap.proofs.word_splitters.ends_alphanumeric.Goals as goal
 
 pub returns-in-Some : goal.returns-in-Some

@@ -1,8 +1,8 @@
 use Rattle.std.proofs.Common.{◌≡◌, ◌-◌, ◌++◌, [], ◌∷◌, cond, length, sym, ap, ◌∙◌, subst, arith}
 use Rattle.std.specs.List.{range_with_len}
 use Rattle.std.specs.Prelude.{filter}
-use Rattle.textwrap.specs.Splitting.{is_hyphen_point, AreCuts}
-use Rattle.textwrap.proofs.SplittingLemmas.{points-more, hyphen_points-cuts}
+use Rattle.textwrap.specs.WordSplitters.{is_hyphen_point, AreCuts}
+use Rattle.textwrap.proofs.Word.Splitting.{points-more, hyphen_points-cuts}
 use Rattle.textwrap.proofs.word_splitters.hyphen_points.Goals as goal
 use Rattle.textwrap.proofs.word_splitters.hyphen_points.Goals.{then-is_hyphen_point+in_ok-push, else-is_hyphen_point}
 

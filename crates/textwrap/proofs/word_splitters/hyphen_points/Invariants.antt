@@ -1,7 +1,7 @@
 use Rattle.std.proofs.Common.{◌≡◌, ◌-◌, ◌≤◌, length}
 use Rattle.std.specs.Prelude.{filter}
 use Rattle.std.specs.List.{range_with_len}
-use Rattle.textwrap.specs.Splitting.{is_hyphen_point}
+use Rattle.textwrap.specs.WordSplitters.{is_hyphen_point}
 use Rattle.textwrap.proofs.word_splitters.hyphen_points.Given as goal
 
 -- the points before this offset

@@ -1,10 +1,10 @@
 use Rattle.std.proofs.Common.{◌≡◌, [], ◌∷◌, ◌++◌, cond, map, sym, ap, ◌∙◌, arith}
 use Rattle.textwrap_base.specs.Breaking.{broken_words}
-use Rattle.textwrap_base.specs.Words.{text_of, tiled}
+use Rattle.textwrap_base.specs.Words.{word_view, tiled}
 use Rattle.textwrap.specs.Paragraph.{split_pieces_of, empty_word, front_pieces, later_width}
-use Rattle.textwrap.specs.Separating.{separated_words}
-use Rattle.textwrap.specs.Splitting.{split_words}
-use Rattle.textwrap.proofs.PieceLemmas.{given-first, given-vec, word_of-nil, pieces_of-tile}
+use Rattle.textwrap.specs.WordSeparators.{separated_words}
+use Rattle.textwrap.specs.WordSplitters.{split_words}
+use Rattle.textwrap.proofs.Paragraph.Pieces.{given-first, given-vec, word_of-nil, pieces_of-tile}
 use Rattle.textwrap.proofs.wrapping.find_pieces.Goals as goal
 use Rattle.textwrap.proofs.wrapping.find_pieces.Goals.{then-not-is_empty+in_ok-insert, else-not-is_empty}
 
@@ -12,8 +12,8 @@ pub returns-then-not-options-clause-pieces : goal.returns-then-not-options-claus
 returns-then-not-options-clause-pieces c =
     let options = c.args.options.now in
     let given = c.in_ok-split.ensures.pieces in
-    let words = given-first text_of (λ words. words) given.0 (separated_words options.word_separator c.args.paragraph.now) given.1 given.3 (given.2 ∙ c.in_ok-words.ensures.words) in
-    let split : map text_of c.in_ok-split.split.items ≡ split_pieces_of options c.args.paragraph.now = given.4 ∙ ap (split_words options.word_splitter) words in
+    let words = given-first word_view (λ words. words) given.0 (separated_words options.word_separator c.args.paragraph.now) given.1 given.3 (given.2 ∙ c.in_ok-words.ensures.words) in
+    let split : map word_view c.in_ok-split.split.items ≡ split_pieces_of options c.args.paragraph.now = given.4 ∙ ap (split_words options.word_splitter) words in
     split ∙ ap (λ b. cond b (front_pieces options ++ broken_words (later_width options) (split_pieces_of options c.args.paragraph.now)) (split_pieces_of options c.args.paragraph.now)) (sym c.if-not-options.true)
 
 pub returns-then-not-options-clause-tiles : goal.returns-then-not-options-clause-tiles
@@ -24,21 +24,21 @@ returns-clause-pieces c =
     let options = c.args.options.now in
     let paragraph = c.args.paragraph.now in
     let given = c.in_ok-split.ensures.pieces in
-    let words = given-first text_of (λ words. words) given.0 (separated_words options.word_separator paragraph) given.1 given.3 (given.2 ∙ c.in_ok-words.ensures.words) in
-    let split : map text_of c.in_ok-split.split.items ≡ split_pieces_of options paragraph = given.4 ∙ ap (split_words options.word_splitter) words in
+    let words = given-first word_view (λ words. words) given.0 (separated_words options.word_separator paragraph) given.1 given.3 (given.2 ∙ c.in_ok-words.ensures.words) in
+    let split : map word_view c.in_ok-split.split.items ≡ split_pieces_of options paragraph = given.4 ∙ ap (split_words options.word_splitter) words in
     let more = c.in_ok-broken.ensures.pieces in
     let all = given-vec more.0 c.in_ok-split.split.items more.1 more.3 more.2.0 (more.2.1 ∙ omega arith) in
     let pieces = broken_words (later_width options) (split_pieces_of options paragraph) in
-    let broken : map text_of c.in_ok-broken.broken.items ≡ pieces =
-    more.4 ∙ ap (λ ws. broken_words c.remaining_width-width.result (map text_of ws)) all ∙ ap (broken_words c.remaining_width-width.result) split
+    let broken : map word_view c.in_ok-broken.broken.items ≡ pieces =
+    more.4 ∙ ap (λ ws. broken_words c.remaining_width-width.result (map word_view ws)) all ∙ ap (broken_words c.remaining_width-width.result) split
     ∙ ap (λ n. broken_words n (split_pieces_of options paragraph)) c.remaining_width-width.ensures in
-    let whole : map text_of c.if-not-is_empty.broken.items ≡ front_pieces options ++ pieces =
+    let whole : map word_view c.if-not-is_empty.broken.items ≡ front_pieces options ++ pieces =
     elim c.if-not-is_empty.branch [
       | then-not-is_empty+in_ok-insert w ↦
-          ap (map text_of) (ap (λ v. v.items) w.broken-is ∙ w.in_ok-insert.ensures.items) ∙ ap (λ x. x ∷ map text_of c.in_ok-broken.broken.items) (w.from.ensures ∙ word_of-nil) ∙ ap (λ ws. empty_word ∷ ws) broken
+          ap (map word_view) (ap (λ v. v.items) w.broken-is ∙ w.in_ok-insert.ensures.items) ∙ ap (λ x. x ∷ map word_view c.in_ok-broken.broken.items) (w.from.ensures ∙ word_of-nil) ∙ ap (λ ws. empty_word ∷ ws) broken
           ∙ ap (λ b. cond b [] (empty_word ∷ []) ++ pieces) (sym w.if-not-is_empty.true ∙ c.is_empty.ensures)
       | else-not-is_empty w ↦
-          ap (map text_of) (ap (λ v. v.items) w.broken-is) ∙ broken ∙ ap (λ b. cond b [] (empty_word ∷ []) ++ pieces) (sym w.if-not-is_empty.false ∙ c.is_empty.ensures)
+          ap (map word_view) (ap (λ v. v.items) w.broken-is) ∙ broken ∙ ap (λ b. cond b [] (empty_word ∷ []) ++ pieces) (sym w.if-not-is_empty.false ∙ c.is_empty.ensures)
     ] in
     whole ∙ ap (λ b. cond b (front_pieces options ++ pieces) (split_pieces_of options paragraph)) (sym c.if-not-options.false)
 

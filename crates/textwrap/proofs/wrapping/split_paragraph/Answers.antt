@@ -1,6 +1,6 @@
 use Rattle.std.proofs.Common.{◌≡◌, ◌≤◌, ◌∷◌, ◌++◌, length, drop, ◌∙◌, ap, sym, arith}
-use Rattle.textwrap.specs.Ending.{parts_past}
-use Rattle.textwrap.proofs.EndingLemmas.{ending_bytes-some, parts_past-first, parts_past-none}
+use Rattle.textwrap.specs.LineEnding.{parts_past}
+use Rattle.textwrap.proofs.Text.Endings.{ending_bytes-some, parts_past-first, parts_past-none}
 use Rattle.textwrap.proofs.wrapping.split_paragraph.Goals as goal
 
 pub returns-in-Some-clause-paragraphs : goal.returns-in-Some-clause-paragraphs

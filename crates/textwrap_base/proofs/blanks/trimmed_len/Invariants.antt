@@ -1,6 +1,6 @@
 use Rattle.std.proofs.Common.{◌≡◌, ◌+◌, ◌<◌, ◌≤◌, take, length, get_or}
 use Rattle.std.specs.List.{suffix_len}
-use Rattle.textwrap_base.specs.Words.{is_blank}
+use Rattle.textwrap_base.specs.Blanks.{is_blank}
 use Rattle.textwrap_base.proofs.blanks.trimmed_len.Given as goal
 
 -- the blanks passed, and those of what is left, are the blanks at the end

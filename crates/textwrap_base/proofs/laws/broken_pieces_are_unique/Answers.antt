@@ -2,7 +2,7 @@ use Rattle.std.proofs.Common.{ap, ◌∙◌, map}
 use Rattle.std.specs.Prelude.{chars}
 use Rattle.textwrap_base.specs.Units.{units}
 use Rattle.textwrap_base.specs.Breaking.{pieces_with, units_text, broken_units}
-use Rattle.textwrap_base.proofs.BreakingLemmas.{AreBroken-unique, AreBroken-exists}
+use Rattle.textwrap_base.proofs.Word.Breaking.{AreBroken-unique, AreBroken-exists}
 use Rattle.textwrap_base.proofs.laws.broken_pieces_are_unique.Goals as goal
 
 pub returns : goal.returns

@@ -1,6 +1,6 @@
 use Rattle.std.proofs.Common.{◌∙◌}
 use Rattle.textwrap_base.specs.Breaking.{broken_texts}
-use Rattle.textwrap_base.proofs.PieceLemmas.{broken_texts-tile, pieces_with-texts, tiled-broken_pieces, tiled-broken_words}
+use Rattle.textwrap_base.proofs.Word.BrokenPieces.{broken_texts-tile, pieces_with-texts, tiled-broken_pieces, tiled-broken_words}
 use Rattle.textwrap_base.proofs.laws.broken_pieces_tile.Goals as goal
 
 pub returns : goal.returns

@@ -1,4 +1,4 @@
-use Rattle.textwrap_base.proofs.UniqueLemmas.{chosen_one}
+use Rattle.textwrap_base.proofs.Cost.Unique.{chosen_one}
 use Rattle.textwrap_base.proofs.laws.chosen_division_is_unique.Goals as goal
 
 pub returns : goal.returns

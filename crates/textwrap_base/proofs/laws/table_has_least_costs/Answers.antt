@@ -1,4 +1,4 @@
-use Rattle.textwrap_base.proofs.StartsLemmas.{table-is_table}
+use Rattle.textwrap_base.proofs.Cost.Starts.{table-is_table}
 use Rattle.textwrap_base.proofs.laws.table_has_least_costs.Goals as goal
 
 pub returns : goal.returns

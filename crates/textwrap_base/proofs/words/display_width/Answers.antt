@@ -3,7 +3,7 @@ use Rattle.std.proofs.lemmas.Iterator.{YieldsList-from_chars}
 use Rattle.std.proofs.lemmas.Iterator.Consumers.{YieldsList-turn, YieldsList-end}
 use Rattle.std.proofs.lemmas.List.{at_drop_all, length_push}
 use Rattle.std.specs.Str.{chars}
-use Rattle.textwrap_base.proofs.UnitLemmas.{text_width-le, columns_in, columns_in-step}
+use Rattle.textwrap_base.proofs.Units.Widths.{text_width-le, columns_in, columns_in-step}
 use Rattle.textwrap_base.specs.Units.{columns}
 use Rattle.textwrap_base.proofs.words.display_width.Goals as goal
 use Rattle.textwrap_base.proofs.words.display_width.Goals.{then-is_visible, else-is_visible}

@@ -1,7 +1,7 @@
 use Rattle.std.proofs.Common.{◌≡◌, ◌+◌, length, drop}
 use Rattle.std.specs.Str.{chars}
 use Rattle.textwrap_base.specs.Units.{text_width}
-use Rattle.textwrap_base.proofs.UnitLemmas.{columns_in}
+use Rattle.textwrap_base.proofs.Units.Widths.{columns_in}
 use Rattle.textwrap_base.proofs.words.display_width.Given as goal
 
 -- the columns so far, and those of the characters to come, are the whole

@@ -2,7 +2,7 @@ use Rattle.std.proofs.Common.{◌≡◌, [], ◌∷◌, ◌+◌, ◌<◌, take, 
 use Rattle.textwrap_base.specs.Division.{line_width, closed_width, Fits}
 use Rattle.std.proofs.lemmas.Bool.Decides.{nat_tests}
 use Rattle.std.proofs.lemmas.List.{append-nil}
-use Rattle.textwrap_base.proofs.DivisionLemmas.{IsGreedyFrom, IsGreedyFrom-nil, IsGreedyFrom-cons, IsGreedy-from}
+use Rattle.textwrap_base.proofs.Division.Greedy.{IsGreedyFrom, IsGreedyFrom-nil, IsGreedyFrom-cons, IsGreedy-from}
 use Rattle.textwrap_base.proofs.ListLemmas.{map-push-append}
 use Rattle.textwrap_base.proofs.wrap_algorithms.wrap_first_fit.Goals as goal
 

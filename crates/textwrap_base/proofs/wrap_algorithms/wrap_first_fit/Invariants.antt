@@ -1,5 +1,5 @@
 use Rattle.std.proofs.Common.{◌<◌, ◌++◌, length, map, vec_len}
-use Rattle.textwrap_base.proofs.DivisionLemmas.{IsGreedyFrom}
+use Rattle.textwrap_base.proofs.Division.Greedy.{IsGreedyFrom}
 use Rattle.textwrap_base.proofs.wrap_algorithms.wrap_first_fit.Given as goal
 
 -- the lines so far, and any greedy division of the rest, are a greedy division of all

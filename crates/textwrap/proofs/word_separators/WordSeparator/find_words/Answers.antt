@@ -1,4 +1,4 @@
-use Rattle.textwrap_base.proofs.WordsLemmas.{tiled-words_of}
+use Rattle.textwrap_base.proofs.Word.Tiling.{tiled-words_of}
 use Rattle.textwrap.proofs.word_separators.WordSeparator.find_words.Goals as goal
 
 pub returns-clause-tiles : goal.returns-clause-tiles

@@ -1,5 +1,5 @@
 use Rattle.std.proofs.Common.{◌≡◌, ◌+◌, ◌-◌, arith}
-use Rattle.textwrap_base.proofs.MeasureLemmas.{before_fits, measured_closed}
+use Rattle.textwrap_base.proofs.Cost.Measures.{before_fits, measured_closed}
 use Rattle.textwrap_base.proofs.minima.line_costs.closed_width.Goals as goal
 
 pub overflow_add-result : goal.overflow_add-result

@@ -1,5 +1,5 @@
 use Rattle.std.proofs.Common.{rules}
-use Rattle.textwrap_base.proofs.MeasureLemmas.{line_cost-measured}
+use Rattle.textwrap_base.proofs.Cost.Measures.{line_cost-measured}
 use Rattle.textwrap_base.proofs.minima.line_costs.line_cost.Goals as goal
 
 pub returns : goal.returns

@@ -1,8 +1,8 @@
 use Rattle.std.proofs.Common.{arith, ◌∙◌, ap, take, map}
 use Rattle.std.proofs.lemmas.List.{take_all}
 use Rattle.textwrap_base.specs.Sizes.{Sizes}
-use Rattle.textwrap_base.specs.Measures.{measured_sizes}
-use Rattle.textwrap_base.proofs.MeasureLemmas.{open_width-same, total_width-same, open_width-total}
+use Rattle.textwrap_base.specs.LineCosts.{measured_sizes}
+use Rattle.textwrap_base.proofs.Cost.Measures.{open_width-same, total_width-same, open_width-total}
 use Rattle.textwrap_base.proofs.minima.line_costs.measures_of.Goals as goal
 
 pub overflow_add-before-in-loop-fragment : goal.overflow_add-before-in-loop-fragment

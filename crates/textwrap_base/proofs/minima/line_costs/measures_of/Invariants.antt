@@ -1,5 +1,5 @@
 use Rattle.std.proofs.Common.{◌≡◌, ℕ, ◌<◌, length, get_or, take, map}
-use Rattle.textwrap_base.specs.Measures.{measured_sizes, open_width}
+use Rattle.textwrap_base.specs.LineCosts.{measured_sizes, open_width}
 use Rattle.textwrap_base.specs.declared.minima.line_costs.Measure.{Measure}
 use Rattle.textwrap_base.proofs.minima.line_costs.measures_of.Given as goal
 

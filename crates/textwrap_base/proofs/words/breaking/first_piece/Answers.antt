@@ -1,7 +1,7 @@
 use Rattle.std.proofs.Common.{length, ◌≡◌, ◌+◌, sym, ap, subst, arith}
-use Rattle.textwrap_base.proofs.BreakingLemmas.{due-true, due-false}
-use Rattle.textwrap_base.proofs.UnitLemmas.{columns-le}
-use Rattle.textwrap_base.proofs.PieceLemmas.{added, IsReading-start, IsReading-step, IsReading-cut, IsReading-end, IsReading-room, IsFirstPiece}
+use Rattle.textwrap_base.proofs.Word.Breaking.{due-true, due-false}
+use Rattle.textwrap_base.proofs.Units.Widths.{columns-le}
+use Rattle.textwrap_base.proofs.Word.BrokenPieces.{added, IsReading-start, IsReading-step, IsReading-cut, IsReading-end, IsReading-room, IsFirstPiece}
 use Rattle.textwrap_base.proofs.words.breaking.first_piece.Goals as goal
 use Rattle.textwrap_base.proofs.words.breaking.first_piece.Goals.{Then-width-columns, In-None, else-width-gt0-via-then-width-gt0+else-width-columns, else-width-gt0-via-else-width-gt0}
 

@@ -1,5 +1,5 @@
 use Rattle.std.specs.Str.Iter.{char_indices_rest, char_indices_offset}
-use Rattle.textwrap_base.proofs.PieceLemmas.{IsReading}
+use Rattle.textwrap_base.proofs.Word.BrokenPieces.{IsReading}
 use Rattle.textwrap_base.proofs.words.breaking.first_piece.Given as goal
 
 abbrev pub invariant-loop-at : goal.invariant-loop-at

@@ -2,7 +2,7 @@ use Rattle.std.proofs.Common.{arith, Bor, sym, ◌∙◌, ap, subst, ◌≡◌, 
 use Rattle.textwrap_base.specs.Table.{FollowStarts}
 use Rattle.textwrap_base.specs.Division.{IsDivision}
 use Rattle.textwrap_base.specs.declared.minima.Minimum.{Minimum}
-use Rattle.textwrap_base.proofs.LinesLemmas.{joined, reverse_map_push, reverse-map, joined_division, lines_more, some_from_test}
+use Rattle.textwrap_base.proofs.Cost.Lines.{joined, reverse_map_push, reverse-map, joined_division, lines_more, some_from_test}
 use Rattle.textwrap_base.proofs.wrap_algorithms.optimal_fit.lines_by.Goals as goal
 
 pub line_start-start-requires-clause-before : goal.line_start-start-requires-clause-before

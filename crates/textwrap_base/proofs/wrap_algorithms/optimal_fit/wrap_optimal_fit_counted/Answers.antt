@@ -1,9 +1,9 @@
 use Rattle.std.proofs.Common.{Vec, Global, ◌∙◌, length, map}
 use Rattle.textwrap_base.specs.Table.{line_costs}
 use Rattle.textwrap_base.specs.declared.minima.Minimum.{Minimum}
-use Rattle.textwrap_base.proofs.ChosenLemmas.{by_table-chosen, table-overflows, overflows-table}
-use Rattle.textwrap_base.proofs.OverflowLemmas.{overflowed_on}
-use Rattle.textwrap_base.proofs.StartsLemmas.{starts_told, length_told, first_told, later_told}
+use Rattle.textwrap_base.proofs.Cost.Chosen.{by_table-chosen, table-overflows, overflows-table}
+use Rattle.textwrap_base.proofs.Cost.Overflow.{overflowed_on}
+use Rattle.textwrap_base.proofs.Cost.Starts.{starts_told, length_told, first_told, later_told}
 use Rattle.textwrap_base.proofs.wrap_algorithms.optimal_fit.wrap_optimal_fit_counted.Goals as goal
 
 pub returns-in_err-minima-clause-overflow_only : goal.returns-in_err-minima-clause-overflow_only

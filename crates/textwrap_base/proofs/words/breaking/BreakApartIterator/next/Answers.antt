@@ -3,7 +3,7 @@ use Rattle.std.specs.Prelude.{IsUtf8}
 use Rattle.std.proofs.lemmas.Bool.{eqb-true, eqb-false}
 use Rattle.textwrap_base.specs.Breaking.{broken_texts}
 use Rattle.textwrap_base.specs.Units.{text_width}
-use Rattle.textwrap_base.proofs.PieceLemmas.{turn-none, turn-last, turn-more}
+use Rattle.textwrap_base.proofs.Word.BrokenPieces.{turn-none, turn-last, turn-more}
 use Rattle.textwrap_base.proofs.words.breaking.BreakApartIterator.next.Goals as goal
 
 pub returns-then-is_empty-clause-steps : goal.returns-then-is_empty-clause-steps

@@ -1,0 +1,112 @@
+-- Lemmas on lines that pass their width: by first fit, where words are broken, each is one piece with one character that takes columns.
+use Rattle.std.proofs.Common.{◌≡◌, ℕ, zero, suc, ◌+◌, ◌<◌, ◌≤◌, min, Bool, true, false, cond, ◌==◌, List, [], ◌∷◌, ◌++◌, All, length, get_or, refl, sym, ap, ◌∙◌, subst, arith}
+use Rattle.std.specs.List.{flat_map}
+use Rattle.std.specs.Str.{IsUtf8}
+use Rattle.std.proofs.lemmas.List.{nil_from_length, take_all}
+use Rattle.std.proofs.lemmas.Bool.{eqb-true}
+use Rattle.std.proofs.lemmas.List.Elements.{All-nil, All-cons, All-head, All-append}
+use Rattle.textwrap_base.specs.Breaking.{broken_words}
+use Rattle.textwrap_base.specs.Division.{line_width, closed_width, IsDivision, Fits, AllFit, IsGreedy}
+use Rattle.textwrap_base.specs.Units.{text_width}
+use Rattle.textwrap_base.specs.Words.{WordText, sizes_of}
+use Rattle.textwrap_base.proofs.Word.Overlong.{IsTight, broken_words-tight}
+use Rattle.textwrap_base.proofs.Word.Texts.{HasNoPenalty, text_width-nil}
+use Rattle.textwrap.specs.declared.options.Options.{Options}
+use Rattle.textwrap.specs.Paragraph.{empty_word, front_pieces, pieces_of, split_pieces_of, widths_of, width_after, later_width}
+use Rattle.textwrap.specs.Fuzzing.{IsOneCharacter, OnlyCharactersPass}
+use Rattle.textwrap.proofs.Text.Lossless.{all-left, all-right}
+use Rattle.textwrap.proofs.Paragraph.Pieces.{split_pieces_of-measured, pieces_of-no_penalty}
+
+-- ---- a line
+
+-- two pieces or more never pass
+two_fit : (width : ℕ) (w v : WordText) (ws : List WordText) → Fits sizes_of width (w ∷ v ∷ ws) → width < closed_width sizes_of (w ∷ v ∷ ws) → ⊥
+two_fit width w v ws fits past =
+    let line = w ∷ v ∷ ws in
+    let within : closed_width sizes_of line ≤ width = subst (λ l. closed_width sizes_of l ≤ width) (take_all (length line) line (omega arith)) (fits (length line) (omega arith) (omega arith)) in omega (arith, within, past)
+
+line_passes : (limit width : ℕ) (line : List WordText) → Fits sizes_of width line → limit ≤ width → All (IsTight limit) line → All HasNoPenalty line → width < closed_width sizes_of line → IsOneCharacter line
+line_passes limit width [] fits room tight none past = absurd (omega arith)
+line_passes limit width (w ∷ []) fits room tight none past =
+    let plain : length w.penalty ≡ 0 = ap length (All-head HasNoPenalty w [] none) in (w, refl, All-head (IsTight limit) w [] tight (omega (arith, room, past, plain)))
+line_passes limit width (w ∷ v ∷ ws) fits room tight none past = absurd (two_fit width w v ws fits past)
+
+-- ---- the lines of a division
+
+abbrev joined : List (List WordText) → List WordText
+joined lines = flat_map (λ line. line) lines
+
+lines_pass : (limit : ℕ) (widths : List ℕ) (number : ℕ) (lines : List (List WordText)) → AllFit sizes_of widths number lines → ((k : ℕ) → number ≤ k → limit ≤ line_width widths k)
+    → All (IsTight limit) (joined lines) → All HasNoPenalty (joined lines) → OnlyCharactersPass widths number lines
+lines_pass limit widths number [] fit room tight none = tt
+lines_pass limit widths number (line ∷ lines) fit room tight none = (
+  line_passes limit (line_width widths number) line fit.0 (room number (omega arith)) (all-left (IsTight limit) line (joined lines) tight) (all-left HasNoPenalty line (joined lines) none),
+  lines_pass limit widths (number + 1) lines fit.1 (λ k from. room k (omega (arith, from))) (all-right (IsTight limit) line (joined lines) tight) (all-right HasNoPenalty line (joined lines) none),
+)
+
+later_is : (first later k : ℕ) → 1 ≤ k → line_width (first ∷ later ∷ []) k ≡ later
+later_is first later k from = let last : min k 1 ≡ 1 = omega (arith, from) in ap (λ n. get_or (first ∷ later ∷ []) n 0) last
+
+-- an empty piece in front has room on the first line, however narrow
+first_passes : (width : ℕ) (line rest others : List WordText) → line ++ rest ≡ empty_word ∷ others → Fits sizes_of width line → width < closed_width sizes_of line → ⊥
+first_passes width [] rest others is fits past = absurd (omega arith)
+first_passes width (w ∷ []) rest others is fits past =
+    let empty : w ≡ empty_word = cc in
+    let nothing : closed_width sizes_of (w ∷ []) ≡ 0 = ap (λ v. closed_width sizes_of (v ∷ [])) empty in omega (arith, nothing, past)
+first_passes width (w ∷ v ∷ ws) rest others is fits past = two_fit width w v ws fits past
+
+front_passes : (first later : ℕ) (lines : List (List WordText)) (others : List WordText) → joined lines ≡ empty_word ∷ others → AllFit sizes_of (first ∷ later ∷ []) 0 lines
+    → All (IsTight later) (joined lines) → All HasNoPenalty (joined lines) → OnlyCharactersPass (first ∷ later ∷ []) 0 lines
+front_passes first later [] others is fit tight none = tt
+front_passes first later (line ∷ lines) others is fit tight none = (
+  λ past. absurd (first_passes (line_width (first ∷ later ∷ []) 0) line (joined lines) others is fit.0 past),
+  lines_pass later (first ∷ later ∷ []) 1 lines fit.1 (λ k from. let same = later_is first later k from in omega (arith, same)) (all-right (IsTight later) line (joined lines) tight) (all-right HasNoPenalty line (joined lines) none),
+)
+
+-- ---- the lines of a paragraph
+
+front-tight : (limit : ℕ) (b : Bool) → All (IsTight limit) (cond b [] (empty_word ∷ []))
+front-tight limit true = All-nil (IsTight limit)
+front-tight limit false = All-cons (IsTight limit) empty_word [] (λ wide. absurd (omega (arith, wide))) (All-nil (IsTight limit))
+
+division_joined : (pieces : List WordText) (lines : List (List WordText)) → IsDivision pieces lines → joined lines ≡ pieces
+division_joined [] lines is = ap joined is
+division_joined (w ∷ ws) lines is = is.0
+
+pub long_lines : (options : Options) (paragraph : List ℕ) (division : List (List WordText)) → IsUtf8 paragraph → options.break_words ≡ true → IsGreedy sizes_of (widths_of options) (pieces_of options paragraph) division
+    → OnlyCharactersPass (widths_of options) 0 division
+long_lines options paragraph division utf8 breaks greedy = by_front (length options.initial_indent.now == 0) refl
+  where
+    limit : ℕ
+    limit = later_width options
+
+    broken : List WordText
+    broken = broken_words (later_width options) (split_pieces_of options paragraph)
+
+    pieces_are : pieces_of options paragraph ≡ front_pieces options ++ broken_words (later_width options) (split_pieces_of options paragraph)
+    pieces_are = ap (λ b. cond b (front_pieces options ++ broken_words (later_width options) (split_pieces_of options paragraph)) (split_pieces_of options paragraph)) breaks
+
+    whole : joined division ≡ pieces_of options paragraph
+    whole = division_joined (pieces_of options paragraph) division greedy.admissible.division
+
+    tight : All (IsTight (later_width options)) (joined division)
+    tight =
+        subst (All (IsTight (later_width options))) (sym (whole ∙ pieces_are))
+        (All-append (IsTight (later_width options)) (front_pieces options) broken (front-tight (later_width options) (length options.initial_indent.now == 0))
+        (broken_words-tight (later_width options) (split_pieces_of options paragraph) (split_pieces_of-measured options paragraph utf8)))
+
+    none : All HasNoPenalty (joined division)
+    none = subst (All HasNoPenalty) (sym whole) (pieces_of-no_penalty options paragraph)
+
+    room : text_width options.initial_indent.now ≡ 0 → (k : ℕ) → 0 ≤ k → later_width options ≤ line_width (widths_of options) k
+    room narrow zero from = omega (arith, narrow)
+    room narrow (suc k) from = let same = later_is (width_after options options.initial_indent.now) (later_width options) (suc k) (omega arith) in omega (arith, same)
+
+    by_front : (b : Bool) → (length options.initial_indent.now == 0) ≡ b → OnlyCharactersPass (widths_of options) 0 division
+    by_front true unindented =
+        let empty = nil_from_length options.initial_indent.now (eqb-true (length options.initial_indent.now) 0 unindented) in
+        let narrow : text_width options.initial_indent.now ≡ 0 = ap text_width empty ∙ text_width-nil in
+        lines_pass (later_width options) (widths_of options) 0 division greedy.admissible.fit (room narrow) tight none
+    by_front false indented =
+        front_passes (width_after options options.initial_indent.now) (later_width options) division broken
+        (whole ∙ pieces_are ∙ ap (λ b. cond b [] (empty_word ∷ []) ++ broken) indented) greedy.admissible.fit tight none

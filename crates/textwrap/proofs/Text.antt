@@ -1,0 +1,5 @@
+pub mod Endings
+pub mod Lines
+pub mod Lossless
+pub mod Paragraphs
+pub mod Unique

@@ -1,0 +1,9 @@
+pub mod Chosen
+pub mod Lines
+pub mod Map
+pub mod Measures
+pub mod Overflow
+pub mod Starts
+pub mod Steps
+pub mod Table
+pub mod Unique

@@ -1,0 +1,38 @@
+-- Where the table of fragments overflows, and where it does not.
+use Rattle.std.proofs.Common.{◌≡◌, ℕ, zero, suc, ◌-◌, ◌^◌, ◌<◌, ◌≤◌, eqb, List, length, get_or, take, min, ap, arith, Result, Ok, Err, IsErrAnd}
+use Rattle.textwrap_base.specs.Sizes.{Sizes}
+use Rattle.textwrap_base.specs.Division.{line_width}
+use Rattle.textwrap_base.specs.Cost.{total_width}
+use Rattle.textwrap_base.specs.Penalties.{Are64Bits}
+use Rattle.textwrap_base.specs.Errors.{Overflowed}
+use Rattle.textwrap_base.specs.Table.{entry_at, table, line_costs, fragments_table}
+use Rattle.textwrap_base.specs.declared.minima.table.Entry.{Entry}
+use Rattle.textwrap_base.specs.declared.errors.WrapError.{WrapError}
+use Rattle.textwrap_base.specs.declared.errors.WrapError.TheVariants.{Memory, Overflow}
+use Rattle.textwrap_base.specs.declared.penalties.Penalties.{Penalties}
+use Rattle.textwrap_base.proofs.Cost.Table.{table-least, entry-table_first}
+use Rattle.textwrap_base.proofs.Cost.Measures.{line_cost-fits, total_width-take}
+
+-- one line is a division of each beginning
+one_line : (cost : ℕ → ℕ → ℕ → ℕ) (n j : ℕ) → j < n → (entry_at (table cost n) (suc j)).cost ≤ cost 0 (suc j) 0
+one_line cost n j l =
+    let h = table-least cost n j l in
+    let least = h.least 0 (omega arith) in
+    let first = entry-table_first cost j in
+    let least' = rw first at least in omega (arith, least')
+
+-- where all widths together keep to 64 bits, each entry keeps to 128
+pub table-fits : {X : Type 0} (sizes : X → Sizes) (p : Penalties) (widths : List ℕ) (xs : List X) → Are64Bits p → ((i : ℕ) → get_or widths i 0 < 2 ^ 64) → total_width sizes xs < 2 ^ 64
+    → (j : ℕ) → j ≤ length xs → (entry_at (fragments_table sizes p widths xs) j).cost < 2 ^ 128
+table-fits sizes p widths xs h k l zero b = let e = ap (λ (x : Entry). x.cost) (entry-table_first (line_costs sizes p widths xs) (length xs)) in omega (arith, e)
+table-fits sizes p widths xs h k l (suc j) b =
+    let one = one_line (line_costs sizes p widths xs) (length xs) j b in
+    let part = total_width-take sizes xs (suc j - 0) in
+    let fits = line_cost-fits sizes p (line_width widths 0) (eqb (suc j) (length xs)) (take (suc j - 0) xs) h (k (min 0 (length widths - 1))) (omega arith) in
+    omega (arith, one, fits)
+
+-- an error that is passed on
+pub overflowed_on : {A : Type 0} (B : Type 0) (r : Result A WrapError) (e : WrapError) → IsErrAnd r (λ f. f ≡ e) → Overflowed r → Overflowed {A = B} (Err e)
+overflowed_on B (Ok v) e h o = absurd o
+overflowed_on B (Err (Memory m)) e h o = absurd o
+overflowed_on B (Err (Overflow m)) e h o = rw (← h) tt

@@ -1,0 +1,5 @@
+pub mod Greedy
+pub mod Map
+pub mod OneLine
+pub mod Rows
+pub mod Unique

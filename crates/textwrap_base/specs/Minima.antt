@@ -1,0 +1,24 @@
+-- What a source of line costs shows: the costs that it gives, and the count of how often it was asked.
+use Rattle.std.specs.Prelude.{ℕ, ◌+◌, ◌-◌, ◌*◌, ◌/◌, ◌^◌, min, max, List}
+use Rattle.textwrap_base.specs.Sizes.{Sizes}
+use Rattle.textwrap_base.specs.declared.penalties.Penalties.{Penalties}
+
+-- n fragments, and the cost of the line from one to before another, by its number
+pub record Costs : Type 0 where
+  pub ends : ℕ
+  pub cost : ℕ → ℕ → ℕ → ℕ
+
+-- a count after `more` steps: it stays where it would pass 128 bits
+abbrev pub counted : ℕ → ℕ → ℕ
+counted count more = max count (min (count + more) (2 ^ 128 - 1))
+
+-- the steps of a table over n fragments: one for each line from a start to a later end
+abbrev pub table_steps : ℕ → ℕ
+table_steps n = n * (n + 1) / 2
+
+-- the sizes of fragments, the line widths and the penalties that their line costs come from, and how often one was asked
+pub record LineCostsView : Type 0 where
+  pub sizes : List Sizes
+  pub widths : List ℕ
+  pub penalties : Penalties
+  pub steps : ℕ

@@ -4,15 +4,25 @@ use Rattle.textwrap_base.specs.Sizes.{Sizes}
 use Rattle.textwrap_base.specs.Division.{IsGreedy}
 use Rattle.textwrap_base.specs.OptimalFit.{IsByOptimalFit}
 use Rattle.textwrap_base.specs.Table.{TableOverflows}
+use Rattle.textwrap_base.specs.declared.penalties.Penalties.{Penalties}
 use Rattle.textwrap_base.specs.declared.wrap_algorithms.WrapAlgorithm.{WrapAlgorithm}
 use Rattle.textwrap_base.specs.declared.wrap_algorithms.WrapAlgorithm.TheVariants.{FirstFit, OptimalFit}
 
--- the algorithm's division of the fragments
-abbrev pub IsDividedBy : {X : Type 0} → WrapAlgorithm → (X → Sizes) → List ℕ → List X → List (List X) → Type 0
-IsDividedBy FirstFit sizes widths fragments lines = IsGreedy sizes widths fragments lines
-IsDividedBy (OptimalFit penalties) sizes widths fragments lines = IsByOptimalFit sizes penalties widths fragments lines
+-- a way to divide fragments
+pub data Algorithm : Type 0 where
+  Greedy : Algorithm
+  LeastCost : Penalties → Algorithm
 
--- the algorithm refuses these with Overflow: first fit none, optimal fit where its table overflows
-abbrev pub OverflowsBy : {X : Type 0} → WrapAlgorithm → (X → Sizes) → List ℕ → List X → Type 0
-OverflowsBy FirstFit sizes widths fragments = ⊥
-OverflowsBy (OptimalFit penalties) sizes widths fragments = TableOverflows sizes penalties widths fragments
+abbrev pub algorithm_view : WrapAlgorithm → Algorithm
+algorithm_view FirstFit = Greedy
+algorithm_view (OptimalFit penalties) = LeastCost penalties
+
+-- the algorithm's division of the fragments
+abbrev pub IsDividedBy : {X : Type 0} → Algorithm → (X → Sizes) → List ℕ → List X → List (List X) → Type 0
+IsDividedBy Greedy sizes widths fragments lines = IsGreedy sizes widths fragments lines
+IsDividedBy (LeastCost penalties) sizes widths fragments lines = IsByOptimalFit sizes penalties widths fragments lines
+
+-- the algorithm refuses these with Overflow: the greedy one refuses none, the one of least cost where its table overflows
+abbrev pub OverflowsBy : {X : Type 0} → Algorithm → (X → Sizes) → List ℕ → List X → Type 0
+OverflowsBy Greedy sizes widths fragments = ⊥
+OverflowsBy (LeastCost penalties) sizes widths fragments = TableOverflows sizes penalties widths fragments

@@ -37,7 +37,7 @@ impl WrapAlgorithm {
         WrapAlgorithm::OptimalFit(Penalties::new())
     }
 
-    ghost use Rattle.textwrap_base.specs.WrapAlgorithms.{IsDividedBy, OverflowsBy};
+    ghost use Rattle.textwrap_base.specs.WrapAlgorithms.{algorithm_view, IsDividedBy, OverflowsBy};
     ghost use Rattle.textwrap_base.specs.Words.{sizes_of, word_view};
 
     /// Divides the words into lines by this algorithm.
@@ -51,12 +51,12 @@ impl WrapAlgorithm {
         line_widths: &[usize],
     ) -> Result<Vec<&'b [Word<'a>]>, WrapError>
         ensures divided { IfOk result (λ lines.
-            IsDividedBy self.now (λ word. sizes_of (word_view word)) line_widths.now words.now
+            IsDividedBy (algorithm_view self.now) (λ word. sizes_of (word_view word)) line_widths.now words.now
             (map (λ line. line.now) lines.items)) }
         ensures overflow_only { Overflowed result
-            → OverflowsBy self.now (λ word. sizes_of (word_view word)) line_widths.now words.now }
+            → OverflowsBy (algorithm_view self.now) (λ word. sizes_of (word_view word)) line_widths.now words.now }
         ensures ok_only { OnOk result
-            (¬ OverflowsBy self.now (λ word. sizes_of (word_view word)) line_widths.now words.now) }
+            (¬ OverflowsBy (algorithm_view self.now) (λ word. sizes_of (word_view word)) line_widths.now words.now) }
         ensures no_overflow { total_width (λ word. sizes_of (word_view word)) words.now < 2 ^ 64
             → ¬ Overflowed result }
     {

@@ -1,11 +1,9 @@
 -- Lemmas on the lines of a text: the definitions leave one list of lines, and one filled text.
 use Rattle.std.proofs.Common.{◌≡◌, ℕ, Bool, true, false, MatchBool, ◌||◌, nat_lt, List, [], ◌∷◌, length, get_or, map, sym, ap, ◌∙◌, subst, arith}
 use Rattle.textwrap_base.specs.Sizes.{Sizes}
-use Rattle.textwrap_base.specs.WrapAlgorithms.{IsDividedBy}
+use Rattle.textwrap_base.specs.WrapAlgorithms.{Algorithm, Greedy, LeastCost, IsDividedBy}
 use Rattle.textwrap_base.specs.Cost.{AreEqualFromSecond}
 use Rattle.textwrap_base.specs.Words.{sizes_of}
-use Rattle.textwrap_base.specs.declared.wrap_algorithms.WrapAlgorithm.{WrapAlgorithm}
-use Rattle.textwrap_base.specs.declared.wrap_algorithms.WrapAlgorithm.TheVariants.{FirstFit, OptimalFit}
 use Rattle.textwrap_base.proofs.Division.Unique.{greedy_unique}
 use Rattle.textwrap_base.proofs.Cost.Unique.{chosen_one}
 use Rattle.textwrap.specs.declared.options.Options.{Options}
@@ -17,10 +15,10 @@ use Rattle.textwrap.specs.Filling.{IsFilled}
 two_widths : (first later : ℕ) → AreEqualFromSecond (first ∷ later ∷ [])
 two_widths first later k from within = let second : k ≡ 1 = omega (arith, from, within) in ap (λ n. get_or (first ∷ later ∷ []) n 0) second
 
-divided_one : {X : Type 0} (algorithm : WrapAlgorithm) (sizes : X → Sizes) (widths : List ℕ) (xs : List X) (lines others : List (List X)) → AreEqualFromSecond widths
+divided_one : {X : Type 0} (algorithm : Algorithm) (sizes : X → Sizes) (widths : List ℕ) (xs : List X) (lines others : List (List X)) → AreEqualFromSecond widths
     → IsDividedBy algorithm sizes widths xs lines → IsDividedBy algorithm sizes widths xs others → lines ≡ others
-divided_one FirstFit sizes widths xs lines others equal one other = greedy_unique sizes widths xs lines others one other
-divided_one (OptimalFit penalties) sizes widths xs lines others equal one other = chosen_one sizes penalties widths xs lines others (one.chosen equal) (other.chosen equal)
+divided_one Greedy sizes widths xs lines others equal one other = greedy_unique sizes widths xs lines others one other
+divided_one (LeastCost penalties) sizes widths xs lines others equal one other = chosen_one sizes penalties widths xs lines others (one.chosen equal) (other.chosen equal)
 
 pub divided_parts_one : (options : Options) (is_later : Bool) (paragraph : List ℕ) (parts others : List LineParts) → AreDividedParts options is_later paragraph parts → AreDividedParts options is_later paragraph others → parts ≡ others
 divided_parts_one options is_later paragraph parts others one other =

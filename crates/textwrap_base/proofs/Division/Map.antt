@@ -5,10 +5,8 @@ use Rattle.std.proofs.lemmas.List.{map-append, length-map, take-map}
 use Rattle.std.proofs.lemmas.List.Elements.{All-nil, All-cons, All-head, All-tail}
 use Rattle.textwrap_base.specs.Sizes.{Sizes}
 use Rattle.textwrap_base.specs.Division.{line_width, closed_width, IsDivision, Fits, AllFit, AllFull, IsGreedy}
-use Rattle.textwrap_base.specs.WrapAlgorithms.{IsDividedBy}
+use Rattle.textwrap_base.specs.WrapAlgorithms.{Algorithm, Greedy, LeastCost, IsDividedBy}
 use Rattle.textwrap_base.proofs.Cost.Map.{IsByOptimalFit-map}
-use Rattle.textwrap_base.specs.declared.wrap_algorithms.WrapAlgorithm.{WrapAlgorithm}
-use Rattle.textwrap_base.specs.declared.wrap_algorithms.WrapAlgorithm.TheVariants.{FirstFit, OptimalFit}
 
 module _ {X Y : Type 0} (f : X → Y) (sizes : Y → Sizes) where
   closed_width-map : (xs : List X) → closed_width sizes (map f xs) ≡ closed_width (λ x. sizes (f x)) xs
@@ -60,10 +58,10 @@ module _ {X Y : Type 0} (f : X → Y) (sizes : Y → Sizes) where
     full = AllFull-map widths 0 lines greedy.full;
   }
 
-  pub IsDividedBy-map : (algorithm : WrapAlgorithm) (widths : List ℕ) (xs : List X) (lines : List (List X)) → IsDividedBy algorithm (λ x. sizes (f x)) widths xs lines
+  pub IsDividedBy-map : (algorithm : Algorithm) (widths : List ℕ) (xs : List X) (lines : List (List X)) → IsDividedBy algorithm (λ x. sizes (f x)) widths xs lines
       → IsDividedBy algorithm sizes widths (map f xs) (map (map f) lines)
-  IsDividedBy-map FirstFit widths xs lines divided = IsGreedy-map widths xs lines divided
-  IsDividedBy-map (OptimalFit penalties) widths xs lines divided =
+  IsDividedBy-map Greedy widths xs lines divided = IsGreedy-map widths xs lines divided
+  IsDividedBy-map (LeastCost penalties) widths xs lines divided =
       IsByOptimalFit-map f sizes penalties widths xs lines (IsDivision-map xs lines divided.by_table.division) divided
 
 -- the lines of a division are the fragments in order
@@ -71,7 +69,7 @@ pub IsDivision-whole : {X : Type 0} (xs : List X) (lines : List (List X)) → Is
 IsDivision-whole [] lines division = ap (flat_map (λ line. line)) division
 IsDivision-whole (x ∷ xs) lines division = division.0
 
-pub IsDividedBy-whole : {X : Type 0} (sizes : X → Sizes) (algorithm : WrapAlgorithm) (widths : List ℕ) (xs : List X) (lines : List (List X)) → IsDividedBy algorithm sizes widths xs lines
+pub IsDividedBy-whole : {X : Type 0} (sizes : X → Sizes) (algorithm : Algorithm) (widths : List ℕ) (xs : List X) (lines : List (List X)) → IsDividedBy algorithm sizes widths xs lines
     → flat_map (λ line. line) lines ≡ xs
-IsDividedBy-whole sizes FirstFit widths xs lines divided = IsDivision-whole xs lines divided.admissible.division
-IsDividedBy-whole sizes (OptimalFit penalties) widths xs lines divided = IsDivision-whole xs lines divided.by_table.division
+IsDividedBy-whole sizes Greedy widths xs lines divided = IsDivision-whole xs lines divided.admissible.division
+IsDividedBy-whole sizes (LeastCost penalties) widths xs lines divided = IsDivision-whole xs lines divided.by_table.division

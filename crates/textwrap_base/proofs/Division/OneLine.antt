@@ -4,14 +4,12 @@ use Rattle.std.proofs.lemmas.Bool.Decides.{nat_tests}
 use Rattle.std.proofs.lemmas.List.{append-nil, take_all, length-take-le, length-drop}
 use Rattle.std.proofs.lemmas.List.Elements.{All-nil, All-cons, All-head, All-tail}
 use Rattle.textwrap_base.specs.Sizes.{Sizes}
-use Rattle.textwrap_base.specs.WrapAlgorithms.{IsDividedBy}
+use Rattle.textwrap_base.specs.WrapAlgorithms.{Algorithm, Greedy, LeastCost, IsDividedBy}
 use Rattle.textwrap_base.specs.Cost.{last_penalty, line_cost}
 use Rattle.textwrap_base.specs.Division.{line_width, closed_width, IsDivision, IsGreedy}
 use Rattle.textwrap_base.specs.Table.{entry_at, first_entry, entry_from, line_costs, fragments_table, IsLeastBelow, IsByTable}
 use Rattle.textwrap_base.specs.declared.minima.table.Entry.{Entry}
 use Rattle.textwrap_base.specs.declared.penalties.Penalties.{Penalties}
-use Rattle.textwrap_base.specs.declared.wrap_algorithms.WrapAlgorithm.{WrapAlgorithm}
-use Rattle.textwrap_base.specs.declared.wrap_algorithms.WrapAlgorithm.TheVariants.{FirstFit, OptimalFit}
 use Rattle.textwrap_base.proofs.Cost.Chosen.{by_table-chosen}
 use Rattle.textwrap_base.proofs.Cost.Starts.{table-is_table, start-at}
 
@@ -102,9 +100,9 @@ last-none sizes [] none = refl
 last-none sizes (x ∷ []) none = All-head (λ x. (sizes x).penalty ≡ 0) x [] none
 last-none sizes (x ∷ y ∷ xs) none = last-none sizes (y ∷ xs) (All-tail (λ x. (sizes x).penalty ≡ 0) x (y ∷ xs) none)
 
-pub IsDividedBy-one_line : {X : Type 0} (algorithm : WrapAlgorithm) (sizes : X → Sizes) (widths : List ℕ) (xs : List X) → All (λ x. (sizes x).penalty ≡ 0) xs → closed_width sizes xs ≤ line_width widths 0
+pub IsDividedBy-one_line : {X : Type 0} (algorithm : Algorithm) (sizes : X → Sizes) (widths : List ℕ) (xs : List X) → All (λ x. (sizes x).penalty ≡ 0) xs → closed_width sizes xs ≤ line_width widths 0
     → IsDividedBy algorithm sizes widths xs (xs ∷ [])
-IsDividedBy-one_line FirstFit sizes widths xs none room = greedy_one sizes widths xs none room
-IsDividedBy-one_line (OptimalFit penalties) sizes widths xs none room =
+IsDividedBy-one_line Greedy sizes widths xs none room = greedy_one sizes widths xs none room
+IsDividedBy-one_line (LeastCost penalties) sizes widths xs none room =
     let by = by_table_one sizes penalties widths xs (last-none sizes xs none) room in
     record { by_table = by; chosen = λ equal. by_table-chosen sizes penalties widths xs (xs ∷ []) equal by }

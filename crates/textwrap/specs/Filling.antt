@@ -1,11 +1,25 @@
 -- The filled text.
 use Rattle.std.specs.Prelude.{◌≡◌, ℕ, List, map}
-use Rattle.textwrap.specs.declared.options.Options.{Options}
+use Rattle.textwrap_base.specs.Words.{WordText}
+use Rattle.textwrap_base.specs.WrapAlgorithms.{Algorithm}
 use Rattle.textwrap.specs.LineEnding.{ending_bytes, join_with}
-use Rattle.textwrap.specs.Paragraph.{Line, line_bytes}
+use Rattle.textwrap.specs.Options.{Settings, settings_at}
+use Rattle.textwrap.specs.Paragraph.{Line, line_bytes, IsDividedInto}
 use Rattle.textwrap.specs.Text.{AreTextLines}
+use Rattle.textwrap.specs.WordSeparators.{AreSeparated}
+use Rattle.textwrap.specs.WordSplitters.{ArePoints}
+use Rattle.textwrap.specs.declared.word_separators.WordSeparator.TheVariants.{AsciiSpace}
+use Rattle.textwrap.specs.declared.word_splitters.WordSplitter.TheVariants.{HyphenSplitter}
 
 -- the lines of a text, joined by the line ending
-abbrev pub IsFilled : Options → List ℕ → List ℕ → Type 0
-IsFilled options text filled =
-    (lines : List Line) × AreTextLines options text lines × (filled ≡ join_with (ending_bytes options.line_ending) (map line_bytes lines))
+abbrev pub IsFilled : Settings → (List ℕ → List (List WordText) → Type 0)
+    → List ℕ → List ℕ → Type 0
+IsFilled settings Divides text filled =
+    (lines : List Line) × AreTextLines settings Divides text lines
+    × (filled ≡ join_with (ending_bytes settings.line_ending) (map line_bytes lines))
+
+-- the text filled at a width by an algorithm, all else by the defaults
+abbrev pub IsFilledAt : ℕ → Algorithm → List ℕ → List ℕ → Type 0
+IsFilledAt width algorithm =
+    IsFilled (settings_at width)
+    (IsDividedInto (settings_at width) algorithm (AreSeparated AsciiSpace) (ArePoints HyphenSplitter))

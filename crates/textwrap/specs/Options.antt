@@ -1,28 +1,52 @@
--- The settings that a user starts from.
-use Rattle.std.specs.Prelude.{◌≡◌, ℕ, true, false, []}
+-- The settings of a wrap, as values of the logic.
+use Rattle.std.specs.Prelude.{◌≡◌, ℕ, Bool, true, false, List, []}
 use Rattle.textwrap_base.specs.Penalties.{default_penalties}
-use Rattle.textwrap_base.specs.declared.wrap_algorithms.WrapAlgorithm.{WrapAlgorithm}
-use Rattle.textwrap_base.specs.declared.wrap_algorithms.WrapAlgorithm.TheVariants.{OptimalFit}
+use Rattle.textwrap_base.specs.WrapAlgorithms.{Algorithm, LeastCost}
+use Rattle.textwrap.specs.declared.line_ending.LineEnding.{LineEnding}
 use Rattle.textwrap.specs.declared.line_ending.LineEnding.TheVariants.{LF}
 use Rattle.textwrap.specs.declared.options.Options.{Options}
 use Rattle.textwrap.specs.declared.word_separators.WordSeparator.TheVariants.{AsciiSpace}
 use Rattle.textwrap.specs.declared.word_splitters.WordSplitter.TheVariants.{HyphenSplitter}
+use Rattle.textwrap_base.specs.declared.wrap_algorithms.WrapAlgorithm.TheVariants.{OptimalFit}
 
-abbrev pub default_algorithm : WrapAlgorithm
-default_algorithm = OptimalFit default_penalties
+-- what the options say, but for the algorithm, the separator and the splitter
+pub record Settings : Type 0 where
+  pub width : ℕ
+  pub line_ending : LineEnding
+  pub initial_indent : List ℕ
+  pub subsequent_indent : List ℕ
+  pub break_words : Bool
+  pub preserve_trailing_space : Bool
 
--- lines of this width by the defaults of all other fields
+abbrev pub settings_view : Options → Settings
+settings_view options = record {
+  width = options.width;
+  line_ending = options.line_ending;
+  initial_indent = options.initial_indent.now;
+  subsequent_indent = options.subsequent_indent.now;
+  break_words = options.break_words;
+  preserve_trailing_space = options.preserve_trailing_space;
+}
+
+-- the algorithm, the separator and the splitter stay as they were
+pub record KeepsParts (old new : Options) : Type 0 where
+  pub algorithm : new.wrap_algorithm ≡ old.wrap_algorithm
+  pub separator : new.word_separator ≡ old.word_separator
+  pub splitter : new.word_splitter ≡ old.word_splitter
+
+-- the defaults at a width
+abbrev pub settings_at : ℕ → Settings
+settings_at width = record {
+  width = width; line_ending = LF; initial_indent = []; subsequent_indent = [];
+  break_words = true; preserve_trailing_space = false;
+}
+
+abbrev pub default_algorithm : Algorithm
+default_algorithm = LeastCost default_penalties
+
+-- all fields have their defaults at this width
 pub record HasDefaults (width : ℕ) (options : Options) : Type 0 where
-  pub width_is : options.width ≡ width
-  pub line_ending_is : options.line_ending ≡ LF
-  pub initial_indent_is : options.initial_indent.now ≡ []
-  pub subsequent_indent_is : options.subsequent_indent.now ≡ []
-  pub break_words_is : options.break_words ≡ true
-  pub wrap_algorithm_is : options.wrap_algorithm ≡ default_algorithm
-  pub word_separator_is : options.word_separator ≡ AsciiSpace
-  pub word_splitter_is : options.word_splitter ≡ HyphenSplitter
-  pub preserve_trailing_space_is : options.preserve_trailing_space ≡ false
-
--- the same, but with this algorithm
-abbrev pub HasDefaultsWith : ℕ → WrapAlgorithm → Options → Type 0
-HasDefaultsWith width algorithm options = (defaults : Options) × HasDefaults width defaults × (options ≡ record defaults { wrap_algorithm = algorithm })
+  pub settings : settings_view options ≡ settings_at width
+  pub algorithm : options.wrap_algorithm ≡ OptimalFit default_penalties
+  pub separator : options.word_separator ≡ AsciiSpace
+  pub splitter : options.word_splitter ≡ HyphenSplitter

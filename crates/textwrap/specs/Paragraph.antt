@@ -3,14 +3,16 @@ use Rattle.std.specs.Prelude.{◌≡◌, ℕ, ◌-◌, Bool, true, ◌&&◌, ◌
 use Rattle.std.specs.String.{string_bytes}
 use Rattle.std.specs.declared.borrow.CowStr.{CowStr}
 use Rattle.std.specs.declared.borrow.CowStr.TheVariants.{Borrowed, Owned}
-use Rattle.textwrap_base.specs.WrapAlgorithms.{IsDividedBy}
+use Rattle.textwrap_base.specs.WrapAlgorithms.{Algorithm, algorithm_view, IsDividedBy}
 use Rattle.textwrap_base.specs.Breaking.{broken_words}
 use Rattle.textwrap_base.specs.Units.{text_width}
-use Rattle.textwrap_base.specs.Words.{WordText, sizes_of, tiled}
-use Rattle.textwrap_base.specs.Blanks.{without_final_blanks, final_blanks}
-use Rattle.textwrap.specs.WordSeparators.{separated_words}
-use Rattle.textwrap.specs.WordSplitters.{split_words}
+use Rattle.textwrap_base.specs.Words.{WordText, sizes_of, tiled, word_of}
+use Rattle.textwrap.specs.Options.{Settings, settings_view}
+use Rattle.textwrap.specs.WordSeparators.{AreSeparated, separated_words}
+use Rattle.textwrap.specs.WordSplitters.{ArePoints, AreSplit, split_words}
 use Rattle.textwrap.specs.declared.options.Options.{Options}
+use Rattle.textwrap.specs.declared.word_separators.WordSeparator.{WordSeparator}
+use Rattle.textwrap.specs.declared.word_splitters.WordSplitter.{WordSplitter}
 
 -- ---- a line
 
@@ -27,8 +29,10 @@ abbrev pub line_bytes : Line → List ℕ
 line_bytes (Slice bytes) = bytes
 line_bytes (Built bytes) = bytes
 
--- the slice of a line, what is added before and after it, and what is left off between it and the next slice
+-- the pieces of a line, what they cover, what is added before and after that, and what is left off
+-- between it and the next line
 pub record LineParts : Type 0 where
+  pub pieces : List WordText
   pub indent : List ℕ
   pub slice : List ℕ
   pub penalty : List ℕ
@@ -36,7 +40,9 @@ pub record LineParts : Type 0 where
 
 -- a slice where nothing is added, and else a text of its own
 abbrev pub line_from : LineParts → Line
-line_from p = if length (p.indent ++ p.penalty) == 0 then Slice p.slice else Built (p.indent ++ p.slice ++ p.penalty)
+line_from p =
+    if length (p.indent ++ p.penalty) == 0 then Slice p.slice
+    else Built (p.indent ++ p.slice ++ p.penalty)
 
 -- lines with these parts were added
 abbrev pub Adds : {Z : Type 0} → List (CowStr Z) → List (CowStr Z) → List LineParts → Type 0
@@ -45,37 +51,58 @@ Adds before after parts = map line_view after ≡ map line_view before ++ map li
 -- ---- what is divided
 
 -- the columns that an indent leaves of a line
-abbrev pub width_after : Options → List ℕ → ℕ
-width_after options indent = options.width - text_width indent
+abbrev pub width_after : Settings → List ℕ → ℕ
+width_after settings indent = settings.width - text_width indent
 
-abbrev pub later_width : Options → ℕ
-later_width options = width_after options options.subsequent_indent.now
+abbrev pub later_width : Settings → ℕ
+later_width settings = width_after settings settings.subsequent_indent
 
 -- the width of the first line, and of the others
-abbrev pub widths_of : Options → List ℕ
-widths_of options = width_after options options.initial_indent.now ∷ later_width options ∷ []
-
--- the words of a paragraph, split
-abbrev pub split_pieces_of : Options → List ℕ → List WordText
-split_pieces_of options paragraph = split_words options.word_splitter (separated_words options.word_separator paragraph)
+abbrev pub widths_of : Settings → List ℕ
+widths_of settings = width_after settings settings.initial_indent ∷ later_width settings ∷ []
 
 abbrev pub empty_word : WordText
 empty_word = record { word = []; whitespace = []; penalty = []; width = 0 }
 
 -- where words are broken, an empty word stands in front, which may leave the first line to its indent
-abbrev pub front_pieces : Options → List WordText
-front_pieces options = if length options.initial_indent.now == 0 then [] else empty_word ∷ []
+abbrev pub front_pieces : Settings → List WordText
+front_pieces settings = if length settings.initial_indent == 0 then [] else empty_word ∷ []
 
--- the pieces that are divided: split, and broken where that is asked
-abbrev pub pieces_of : Options → List ℕ → List WordText
-pieces_of options paragraph =
-    if options.break_words then front_pieces options ++ broken_words (later_width options) (split_pieces_of options paragraph)
-    else split_pieces_of options paragraph
+-- the pieces that split words are broken into, where that is asked
+abbrev pub broken_pieces_of : Settings → List WordText → List WordText
+broken_pieces_of settings split =
+    if settings.break_words then front_pieces settings ++ broken_words (later_width settings) split
+    else split
 
--- ---- the lines of a division, where `is_later` says that a line is out already
+-- the paragraph is cut into words, these are split at points of theirs, and then broken
+abbrev pub ArePieces : Settings → (List ℕ → List WordText → Type 0) → (List ℕ → List ℕ → Type 0)
+    → List ℕ → List WordText → Type 0
+ArePieces settings Words Points paragraph pieces =
+    (words : List WordText) × (split : List WordText) × Words paragraph words × AreSplit Points words split
+    × (pieces ≡ broken_pieces_of settings split)
 
-abbrev pub indent_of : Options → Bool → List ℕ
-indent_of options is_later = if is_later then options.subsequent_indent.now else options.initial_indent.now
+-- the same, computed
+abbrev pub pieces_of : Settings → WordSeparator → WordSplitter → List ℕ → List WordText
+pieces_of settings separator splitter paragraph =
+    broken_pieces_of settings (split_words splitter (separated_words separator paragraph))
+
+-- the paragraph is cut into pieces, and these are divided so
+abbrev pub IsDividedInto : Settings → Algorithm → (List ℕ → List WordText → Type 0)
+    → (List ℕ → List ℕ → Type 0) → List ℕ → List (List WordText) → Type 0
+IsDividedInto settings algorithm Words Points paragraph division =
+    (pieces : List WordText) × ArePieces settings Words Points paragraph pieces
+    × IsDividedBy algorithm sizes_of (widths_of settings) pieces division
+
+abbrev pub DividesBy : Options → List ℕ → List (List WordText) → Type 0
+DividesBy options =
+    IsDividedInto (settings_view options) (algorithm_view options.wrap_algorithm)
+    (AreSeparated options.word_separator) (ArePoints options.word_splitter)
+
+-- ---- the lines of a division, where `is_later` says that a line stands before them
+
+abbrev pub indent_of : Settings → Bool → List ℕ
+indent_of settings is_later =
+    if is_later then settings.subsequent_indent else settings.initial_indent
 
 -- what pieces cover, without the last one's whitespace
 abbrev pub covered : List WordText → List ℕ
@@ -88,43 +115,51 @@ last_piece w [] = w
 last_piece w (v ∷ words) = last_piece v words
 
 -- the last whitespace is left off, unless blanks are preserved and no penalty stands in its place
-abbrev pub keeps_whitespace : Options → WordText → Bool
-keeps_whitespace options last = options.preserve_trailing_space && (length last.penalty == 0)
+abbrev pub keeps_whitespace : Settings → WordText → Bool
+keeps_whitespace settings last = settings.preserve_trailing_space && (length last.penalty == 0)
 
 -- a line without pieces is empty
-abbrev pub parts_of : Options → Bool → List WordText → LineParts
-parts_of options is_later [] = record { indent = []; slice = []; penalty = []; left_off = [] }
-parts_of options is_later (w ∷ words) =
+abbrev pub parts_of : Settings → Bool → List WordText → LineParts
+parts_of settings is_later [] =
+    record { pieces = []; indent = []; slice = []; penalty = []; left_off = [] }
+parts_of settings is_later (w ∷ words) =
     let last = last_piece w words in
-    if keeps_whitespace options last then record { indent = indent_of options is_later; slice = tiled (w ∷ words); penalty = []; left_off = [] }
-    else record { indent = indent_of options is_later; slice = covered (w ∷ words); penalty = last.penalty; left_off = last.whitespace }
+    if keeps_whitespace settings last then record {
+      pieces = w ∷ words; indent = indent_of settings is_later;
+      slice = tiled (w ∷ words); penalty = []; left_off = [];
+    } else record {
+      pieces = w ∷ words; indent = indent_of settings is_later;
+      slice = covered (w ∷ words); penalty = last.penalty; left_off = last.whitespace;
+    }
 
--- once the first of them is out, a line is out
-abbrev pub parts_from : Options → Bool → List (List WordText) → List LineParts
-parts_from options is_later [] = []
-parts_from options is_later (line ∷ lines) = parts_of options is_later line ∷ parts_from options true lines
+-- after the first of them, a line stands before each
+abbrev pub parts_from : Settings → Bool → List (List WordText) → List LineParts
+parts_from settings is_later [] = []
+parts_from settings is_later (line ∷ lines) =
+    parts_of settings is_later line ∷ parts_from settings true lines
+
+-- the paragraph's lines, where the relation says what it is divided into
+abbrev pub AreDividedParts : Settings → (List ℕ → List (List WordText) → Type 0)
+    → Bool → List ℕ → List LineParts → Type 0
+AreDividedParts settings Divides is_later paragraph parts =
+    (division : List (List WordText)) × Divides paragraph division
+    × (parts ≡ parts_from settings is_later division)
 
 -- ---- the lines of a paragraph
 
 -- without indent, a paragraph with fewer bytes than the width has columns is one line
-abbrev pub is_whole : Options → Bool → List ℕ → Bool
-is_whole options is_later paragraph = (length (indent_of options is_later) == 0) && nat_lt (length paragraph) options.width
+abbrev pub is_whole : Settings → Bool → List ℕ → Bool
+is_whole settings is_later paragraph =
+    (length (indent_of settings is_later) == 0) && nat_lt (length paragraph) settings.width
 
--- the paragraph as one line
-abbrev pub whole_parts : Options → List ℕ → LineParts
-whole_parts options paragraph =
-    if options.preserve_trailing_space then record { indent = []; slice = paragraph; penalty = []; left_off = [] }
-    else record { indent = []; slice = without_final_blanks paragraph; penalty = []; left_off = final_blanks paragraph }
+-- a whole paragraph is a line of one piece, any other is divided
+abbrev pub IsLaidOut : Settings → (List ℕ → List (List WordText) → Type 0)
+    → Bool → List ℕ → List (List WordText) → Type 0
+IsLaidOut settings Divides is_later paragraph division =
+    MatchBool (is_whole settings is_later paragraph)
+    (division ≡ (word_of paragraph ∷ []) ∷ []) (Divides paragraph division)
 
--- the paragraph's pieces, divided by the chosen algorithm
-abbrev pub AreDividedInto : Options → List ℕ → List (List WordText) → Type 0
-AreDividedInto options paragraph division = IsDividedBy options.wrap_algorithm sizes_of (widths_of options) (pieces_of options paragraph) division
-
--- and their lines
-abbrev pub AreDividedParts : Options → Bool → List ℕ → List LineParts → Type 0
-AreDividedParts options is_later paragraph parts =
-    (division : List (List WordText)) × AreDividedInto options paragraph division × (parts ≡ parts_from options is_later division)
-
-abbrev pub AreParagraphParts : Options → Bool → List ℕ → List LineParts → Type 0
-AreParagraphParts options is_later paragraph parts =
-    MatchBool (is_whole options is_later paragraph) (parts ≡ whole_parts options paragraph ∷ []) (AreDividedParts options is_later paragraph parts)
+abbrev pub AreParagraphParts : Settings → (List ℕ → List (List WordText) → Type 0)
+    → Bool → List ℕ → List LineParts → Type 0
+AreParagraphParts settings Divides is_later =
+    AreDividedParts settings (IsLaidOut settings Divides is_later) is_later

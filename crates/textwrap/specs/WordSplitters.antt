@@ -1,5 +1,5 @@
 -- Where a word may be split, and the pieces of it.
-use Rattle.std.specs.Prelude.{ℕ, ◌-◌, ◌<◌, Bool, false, ◌==◌, ◌&&◌, ◌||◌, List, [], ◌∷◌, All, chars, drop, filter, if◌then◌else◌, length, reverse, slice_range, take, IsCharBoundary}
+use Rattle.std.specs.Prelude.{◌≡◌, ℕ, ◌++◌, ◌-◌, ◌<◌, Bool, false, ◌==◌, ◌&&◌, ◌||◌, List, [], ◌∷◌, All, chars, drop, filter, if◌then◌else◌, length, reverse, slice_range, take, IsCharBoundary}
 use Rattle.std.specs.List.{flat_map, range_with_len}
 use Rattle.std.specs.List.Sorted.{IsNonDecreasing}
 use Rattle.textwrap_base.specs.Words.{piece, WordText}
@@ -44,6 +44,10 @@ abbrev pub points_of : WordSplitter → List ℕ → List ℕ
 points_of NoHyphenation text = []
 points_of HyphenSplitter text = hyphen_points text
 
+-- the splitter may give these points
+abbrev pub ArePoints : WordSplitter → List ℕ → List ℕ → Type 0
+ArePoints splitter text points = points ≡ points_of splitter text
+
 -- a text may be cut at these offsets, one after another
 pub record AreCuts (text points : List ℕ) : Type 0 where
   pub in_order : IsNonDecreasing points
@@ -70,3 +74,10 @@ split_word splitter w = split_pieces (points_of splitter w.word) w
 -- the words, each replaced by its pieces
 abbrev pub split_words : WordSplitter → List WordText → List WordText
 split_words splitter words = flat_map (split_word splitter) words
+
+-- the words, each replaced by its pieces at points of its
+abbrev pub AreSplit : (List ℕ → List ℕ → Type 0) → List WordText → List WordText → Type 0
+AreSplit Points [] pieces = pieces ≡ []
+AreSplit Points (w ∷ words) pieces =
+    (points : List ℕ) × (rest : List WordText) × Points w.word points × AreSplit Points words rest
+    × (pieces ≡ split_pieces points w ++ rest)

@@ -1,7 +1,8 @@
 //! Filling: a wrapped text as one text.
 ghost use Rattle.std.specs.Prelude.{◌≡◌, map, alloc_error, string_bytes, IfOk, IfErr};
 ghost use Rattle.textwrap.specs.LineEnding.{ending_bytes, join_with};
-ghost use Rattle.textwrap.specs.Paragraph.{line_view, line_bytes};
+ghost use Rattle.textwrap.specs.Options.{settings_view};
+ghost use Rattle.textwrap.specs.Paragraph.{line_view, line_bytes, DividesBy};
 ghost use Rattle.textwrap.specs.Filling.{IsFilled};
 
 use crate::line_ending::LineEnding;
@@ -17,7 +18,8 @@ use std::borrow::CowStr;
 /// # Errors
 /// Only want of memory. There is no overflow.
 pub fn fill(alloc: Global, text: &str, options: Options<'_>) -> Result<String, WrapError>
-    ensures filled { IfOk result (λ filled. IsFilled options.entry text.now (string_bytes filled)) }
+    ensures filled { IfOk result (λ filled. IsFilled (settings_view options.entry)
+        (DividesBy options.entry) text.now (string_bytes filled)) }
     ensures only_memory { IfErr result (λ error. error ≡ WrapError.Memory alloc_error) }
 {
     let (paragraph, after) = split_paragraph(text, options.line_ending);
@@ -33,7 +35,8 @@ pub fn fill(alloc: Global, text: &str, options: Options<'_>) -> Result<String, W
 /// # Errors
 /// Only want of memory. There is no overflow.
 pub fn fill_slow_path(alloc: Global, text: &str, options: Options<'_>) -> Result<String, WrapError>
-    ensures filled { IfOk result (λ filled. IsFilled options.entry text.now (string_bytes filled)) }
+    ensures filled { IfOk result (λ filled. IsFilled (settings_view options.entry)
+        (DividesBy options.entry) text.now (string_bytes filled)) }
     ensures only_memory { IfErr result (λ error. error ≡ WrapError.Memory alloc_error) }
 {
     let line_ending = options.line_ending;

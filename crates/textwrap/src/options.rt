@@ -31,7 +31,7 @@ pub struct Options<'a> {
 }
 
 impl<'a> Options<'a> {
-    ghost use Rattle.textwrap.specs.Options.{HasDefaults};
+    ghost use Rattle.textwrap.specs.Options.{settings_view, HasDefaults, KeepsParts};
 
     /// Lines of `width` columns, ended by LF, without indents, with broken words, hyphens as split
     /// points, the default algorithm, and no blanks at line ends.
@@ -55,14 +55,18 @@ impl<'a> Options<'a> {
 
     /// The same options with this width, in columns.
     pub fn width(self, width: usize) -> Self
-        ensures { result ≡ record self.entry { width = width } }
+        ensures settings { settings_view result
+            ≡ record (settings_view self.entry) { width = width } }
+        ensures parts { KeepsParts self.entry result }
     {
         Options { width, ..self }
     }
 
     /// The same options with this line ending.
     pub fn line_ending(self, line_ending: LineEnding) -> Self
-        ensures { result ≡ record self.entry { line_ending = line_ending } }
+        ensures settings { settings_view result
+            ≡ record (settings_view self.entry) { line_ending = line_ending } }
+        ensures parts { KeepsParts self.entry result }
     {
         Options {
             line_ending,
@@ -72,7 +76,9 @@ impl<'a> Options<'a> {
 
     /// The same options with this indent of the first line.
     pub fn initial_indent(self, initial_indent: &'a str) -> Self
-        ensures { result ≡ record self.entry { initial_indent = initial_indent.entry } }
+        ensures settings { settings_view result
+            ≡ record (settings_view self.entry) { initial_indent = initial_indent.now } }
+        ensures parts { KeepsParts self.entry result }
     {
         Options {
             initial_indent,
@@ -82,7 +88,9 @@ impl<'a> Options<'a> {
 
     /// The same options with this indent of the later lines.
     pub fn subsequent_indent(self, subsequent_indent: &'a str) -> Self
-        ensures { result ≡ record self.entry { subsequent_indent = subsequent_indent.entry } }
+        ensures settings { settings_view result
+            ≡ record (settings_view self.entry) { subsequent_indent = subsequent_indent.now } }
+        ensures parts { KeepsParts self.entry result }
     {
         Options {
             subsequent_indent,
@@ -92,7 +100,9 @@ impl<'a> Options<'a> {
 
     /// The same options, breaking words or not.
     pub fn break_words(self, break_words: bool) -> Self
-        ensures { result ≡ record self.entry { break_words = break_words } }
+        ensures settings { settings_view result
+            ≡ record (settings_view self.entry) { break_words = break_words } }
+        ensures parts { KeepsParts self.entry result }
     {
         Options {
             break_words,
@@ -102,7 +112,10 @@ impl<'a> Options<'a> {
 
     /// The same options with this algorithm.
     pub fn wrap_algorithm(self, wrap_algorithm: WrapAlgorithm) -> Self
-        ensures { result ≡ record self.entry { wrap_algorithm = wrap_algorithm } }
+        ensures settings { settings_view result ≡ settings_view self.entry }
+        ensures algorithm { result.wrap_algorithm ≡ wrap_algorithm }
+        ensures separator { result.word_separator ≡ self.entry.word_separator }
+        ensures splitter { result.word_splitter ≡ self.entry.word_splitter }
     {
         Options {
             wrap_algorithm,
@@ -112,7 +125,10 @@ impl<'a> Options<'a> {
 
     /// The same options with this separator of words.
     pub fn word_separator(self, word_separator: WordSeparator) -> Self
-        ensures { result ≡ record self.entry { word_separator = word_separator } }
+        ensures settings { settings_view result ≡ settings_view self.entry }
+        ensures algorithm { result.wrap_algorithm ≡ self.entry.wrap_algorithm }
+        ensures separator { result.word_separator ≡ word_separator }
+        ensures splitter { result.word_splitter ≡ self.entry.word_splitter }
     {
         Options {
             word_separator,
@@ -122,7 +138,10 @@ impl<'a> Options<'a> {
 
     /// The same options with this splitter of words.
     pub fn word_splitter(self, word_splitter: WordSplitter) -> Self
-        ensures { result ≡ record self.entry { word_splitter = word_splitter } }
+        ensures settings { settings_view result ≡ settings_view self.entry }
+        ensures algorithm { result.wrap_algorithm ≡ self.entry.wrap_algorithm }
+        ensures separator { result.word_separator ≡ self.entry.word_separator }
+        ensures splitter { result.word_splitter ≡ word_splitter }
     {
         Options {
             word_splitter,
@@ -132,7 +151,9 @@ impl<'a> Options<'a> {
 
     /// The same options, keeping blanks at line ends or not.
     pub fn preserve_trailing_space(self, preserve_trailing_space: bool) -> Self
-        ensures { result ≡ record self.entry { preserve_trailing_space = preserve_trailing_space } }
+        ensures settings { settings_view result
+            ≡ record (settings_view self.entry) { preserve_trailing_space = preserve_trailing_space } }
+        ensures parts { KeepsParts self.entry result }
     {
         Options {
             preserve_trailing_space,

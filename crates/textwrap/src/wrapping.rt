@@ -1,16 +1,18 @@
 //! Wrapping a text into lines.
-ghost use Rattle.std.specs.Prelude.{◌≡◌, ℕ, List, ◌∷◌, [], ◌++◌, ◌^◌, ◌<◌, length, take, drop, map, nat_lt, if◌then◌else◌, alloc_error, true, IfOk, IfErr, IfSome, OnOk, OnErr, MatchOption};
+ghost use Rattle.std.specs.Prelude.{◌≡◌, ℕ, List, ◌∷◌, [], ◌++◌, ◌^◌, ◌<◌, length, take, drop, map, nat_lt, if◌then◌else◌, alloc_error, true, IfOk, IfErr, IfSome, OnOk, MatchOption};
 ghost use Rattle.std.specs.List.{flat_map};
 ghost use Rattle.std.specs.Str.{IsUtf8};
 ghost use Rattle.std.specs.Io.{StartsWith};
+ghost use Rattle.textwrap_base.specs.Blanks.{without_final_blanks};
 ghost use Rattle.textwrap_base.specs.Cost.{total_width};
-ghost use Rattle.textwrap_base.specs.WrapAlgorithms.{IsDividedBy};
+ghost use Rattle.textwrap_base.specs.WrapAlgorithms.{algorithm_view, IsDividedBy};
 ghost use Rattle.textwrap_base.specs.Units.{IsNarrow};
 ghost use Rattle.textwrap_base.specs.Words.{WordText, word_view, sizes_of, tiled, Tiles};
 ghost use Rattle.textwrap_base.specs.declared.wrap_algorithms.WrapAlgorithm.TheVariants.{FirstFit};
+ghost use Rattle.textwrap.specs.Fuzzing.{AppendsLines, OnlyCharactersPass};
 ghost use Rattle.textwrap.specs.LineEnding.{paragraphs_of};
-ghost use Rattle.textwrap.specs.Paragraph.{Slice, Line, LineParts, line_view, line_from, covered, pieces_of, split_pieces_of, widths_of, width_after, later_width, indent_of, is_whole, parts_of, parts_from, whole_parts, Adds, AreDividedInto, AreDividedParts, AreParagraphParts};
-ghost use Rattle.textwrap.specs.Fuzzing.{OnlyCharactersPass};
+ghost use Rattle.textwrap.specs.Options.{settings_view};
+ghost use Rattle.textwrap.specs.Paragraph.{LineParts, line_view, line_from, covered, pieces_of, widths_of, width_after, indent_of, is_whole, parts_of, parts_from, Adds, DividesBy, AreDividedParts, AreParagraphParts};
 ghost use Rattle.textwrap.specs.Text.{AreTextLines, LosesOnlyBlanks};
 
 use crate::line_ending::LineEnding;
@@ -38,8 +40,10 @@ pub fn wrap<'t>(
     text: &'t str,
     options: Options<'_>,
 ) -> Result<Vec<CowStr<'t>>, WrapError>
-    ensures lines { IfOk result (λ lines. AreTextLines options.entry text.now (map line_view lines.items)) }
-    ensures lossless { IfOk result (λ lines. LosesOnlyBlanks options.entry text.now (map line_view lines.items)) }
+    // The lines are those of the text, and lose only blanks.
+    ensures lines { IfOk result (λ lines. (are : AreTextLines
+        (settings_view options.entry) (DividesBy options.entry) text.now (map line_view lines.items))
+        × LosesOnlyBlanks (settings_view options.entry) text.now are.groups) }
     ensures only_memory { IfErr result (λ error. error ≡ WrapError.Memory alloc_error) }
 {
     let mut lines = Vec::new(alloc);
@@ -53,7 +57,7 @@ pub fn wrap<'t>(
 }
 
 /// The first paragraph of the text, and what follows its ending, if it has one.
-pub fn split_paragraph(text: &str, line_ending: LineEnding) -> (&str, Option<&str>)
+pub(crate) fn split_paragraph(text: &str, line_ending: LineEnding) -> (&str, Option<&str>)
     ensures paragraphs { MatchOption result.1
         (paragraphs_of line_ending text.now ≡ result.0.now ∷ [])
         (λ after. paragraphs_of line_ending text.now ≡ result.0.now ∷ paragraphs_of line_ending after.now) }
@@ -76,17 +80,16 @@ pub fn wrap_single_line<'t>(
     options: &Options<'_>,
     lines: &mut Vec<CowStr<'t>>,
 ) -> Result<(), WrapError>
-    ensures lines { OnOk result ((parts : List LineParts)
-        × AreParagraphParts options.now (nat_lt 0 (length lines.old.items)) line.now parts
-        × Adds lines.old.items lines.new.items parts) }
+    ensures appended { AppendsLines (AreParagraphParts (settings_view options.now)
+        (DividesBy options.now) (nat_lt 0 (length lines.old.items)) line.now)
+        lines.old.items lines.new.items result }
     // Without an initial indent, and without characters that take more columns than bytes, these
     // are lines of the slow path.
-    ensures as_slow_path { options.now.initial_indent.now ≡ [] → IsNarrow line.now → OnOk result ((parts : List LineParts)
-        × AreDividedParts options.now (nat_lt 0 (length lines.old.items)) line.now parts
+    ensures as_slow_path { options.now.initial_indent.now ≡ [] → IsNarrow line.now
+        → OnOk result ((parts : List LineParts)
+        × AreDividedParts (settings_view options.now) (DividesBy options.now)
+            (nat_lt 0 (length lines.old.items)) line.now parts
         × Adds lines.old.items lines.new.items parts) }
-    ensures kept { OnOk result (take (length lines.old.items) lines.new.items ≡ lines.old.items) }
-    ensures unchanged { OnErr result (lines.new.items ≡ lines.old.items) }
-    ensures only_memory { IfErr result (λ error. error ≡ WrapError.Memory alloc_error) }
 {
     if is_one_line(line, options, !lines.is_empty()) {
         lines.push(CowStr::Borrowed(whole_line(line, options)))?;
@@ -96,15 +99,15 @@ pub fn wrap_single_line<'t>(
 }
 
 /// Whether a paragraph is one line as a whole, where `is_later` says that a line is out already.
-pub fn is_one_line(paragraph: &str, options: &Options<'_>, is_later: bool) -> bool
-    ensures { result ≡ is_whole options.now is_later paragraph.now }
+pub(crate) fn is_one_line(paragraph: &str, options: &Options<'_>, is_later: bool) -> bool
+    ensures { result ≡ is_whole (settings_view options.now) is_later paragraph.now }
 {
     next_indent(options, is_later).is_empty() && paragraph.len() < options.width
 }
 
 /// The indent of the next line, where `is_later` says that a line is out already.
 fn next_indent<'a>(options: &Options<'a>, is_later: bool) -> &'a str
-    ensures { result.now ≡ indent_of options.now is_later }
+    ensures { result.now ≡ indent_of (settings_view options.now) is_later }
 {
     if is_later {
         options.subsequent_indent
@@ -114,8 +117,9 @@ fn next_indent<'a>(options: &Options<'a>, is_later: bool) -> &'a str
 }
 
 /// The paragraph as one line.
-pub fn whole_line<'t>(paragraph: &'t str, options: &Options<'_>) -> &'t str
-    ensures { Slice result.now ≡ line_from (whole_parts options.now paragraph.now) }
+pub(crate) fn whole_line<'t>(paragraph: &'t str, options: &Options<'_>) -> &'t str
+    ensures { result.now ≡ (if options.now.preserve_trailing_space then paragraph.now
+        else without_final_blanks paragraph.now) }
 {
     if options.preserve_trailing_space {
         return paragraph;
@@ -134,18 +138,17 @@ pub fn wrap_single_line_slow_path<'t>(
     options: &Options<'_>,
     lines: &mut Vec<CowStr<'t>>,
 ) -> Result<(), WrapError>
-    ensures lines { OnOk result ((parts : List LineParts)
-        × AreDividedParts options.now (nat_lt 0 (length lines.old.items)) line.now parts
-        × Adds lines.old.items lines.new.items parts) }
+    ensures appended { AppendsLines (AreDividedParts (settings_view options.now)
+        (DividesBy options.now) (nat_lt 0 (length lines.old.items)) line.now)
+        lines.old.items lines.new.items result }
     // By first fit, where words are broken, a line passes its width only where it is one piece, with
     // one character that takes columns.
-    ensures overlong { options.now.wrap_algorithm ≡ FirstFit → options.now.break_words ≡ true → OnOk result ((division : List (List WordText))
-        × AreDividedInto options.now line.now division
-        × Adds lines.old.items lines.new.items (parts_from options.now (nat_lt 0 (length lines.old.items)) division)
-        × OnlyCharactersPass (widths_of options.now) 0 division) }
-    ensures kept { OnOk result (take (length lines.old.items) lines.new.items ≡ lines.old.items) }
-    ensures unchanged { OnErr result (lines.new.items ≡ lines.old.items) }
-    ensures only_memory { IfErr result (λ error. error ≡ WrapError.Memory alloc_error) }
+    ensures overlong { options.now.wrap_algorithm ≡ FirstFit → options.now.break_words ≡ true
+        → OnOk result ((division : List (List WordText))
+        × DividesBy options.now line.now division
+        × Adds lines.old.items lines.new.items (parts_from (settings_view options.now)
+            (nat_lt 0 (length lines.old.items)) division)
+        × OnlyCharactersPass (widths_of (settings_view options.now)) 0 division) }
 {
     let pieces = find_pieces(alloc, line, options)?;
     let division = divide(alloc, &pieces, options)?;
@@ -165,7 +168,9 @@ fn find_pieces<'t>(
     paragraph: &'t str,
     options: &Options<'_>,
 ) -> Result<Vec<Word<'t>>, AllocError>
-    ensures pieces { IfOk result (λ pieces. map word_view pieces.items ≡ pieces_of options.now paragraph.now) }
+    ensures pieces { IfOk result (λ pieces. map word_view pieces.items
+        ≡ pieces_of (settings_view options.now) options.now.word_separator
+            options.now.word_splitter paragraph.now) }
     ensures tiles { IfOk result (λ pieces. Tiles (map word_view pieces.items) paragraph.now) }
 {
     let words = options.word_separator.find_words(alloc, paragraph)?;
@@ -184,7 +189,7 @@ fn find_pieces<'t>(
 
 /// The columns that an indent leaves of a line.
 fn remaining_width(options: &Options<'_>, indent: &str) -> usize
-    ensures { result ≡ width_after options.now indent.now }
+    ensures { result ≡ width_after (settings_view options.now) indent.now }
 {
     options.width.saturating_sub(display_width(indent))
 }
@@ -197,8 +202,9 @@ fn divide<'a, 'w>(
     options: &Options<'_>,
 ) -> Result<Vec<&'w [Word<'a>]>, WrapError>
     requires { total_width (λ word. sizes_of (word_view word)) pieces.now < 2 ^ 64 }
-    ensures divided { IfOk result (λ lines. IsDividedBy options.now.wrap_algorithm (λ word. sizes_of (word_view word))
-        (widths_of options.now) pieces.now (map (λ line. line.now) lines.items)) }
+    ensures divided { IfOk result (λ lines. IsDividedBy (algorithm_view options.now.wrap_algorithm)
+        (λ word. sizes_of (word_view word)) (widths_of (settings_view options.now)) pieces.now
+        (map (λ line. line.now) lines.items)) }
     ensures only_memory { IfErr result (λ error. error ≡ WrapError.Memory alloc_error) }
 {
     let line_widths = [
@@ -218,7 +224,8 @@ fn push_lines<'t>(
 ) -> Result<(), AllocError>
     requires { flat_map (λ line. tiled (map word_view line.now)) division.now ≡ paragraph.now }
     ensures lines { OnOk result (Adds lines.old.items lines.new.items
-        (parts_from options.now (nat_lt 0 (length lines.old.items)) (map (λ line. map word_view line.now) division.now))) }
+        (parts_from (settings_view options.now) (nat_lt 0 (length lines.old.items))
+            (map (λ line. map word_view line.now) division.now))) }
     ensures kept { take (length lines.old.items) lines.new.items ≡ lines.old.items }
 {
     let mut rest = paragraph;
@@ -239,7 +246,8 @@ fn split_line<'t>(
     is_later: bool,
 ) -> Result<(CowStr<'t>, &'t str), AllocError>
     requires { StartsWith text.now (tiled (map word_view pieces.now)) }
-    ensures line { IfOk result (λ line. line_view line.0 ≡ line_from (parts_of options.now is_later (map word_view pieces.now))) }
+    ensures line { IfOk result (λ line. line_view line.0
+        ≡ line_from (parts_of (settings_view options.now) is_later (map word_view pieces.now))) }
     ensures rest { IfOk result (λ line. line.1.now ≡ drop (length (tiled (map word_view pieces.now))) text.now) }
 {
     let Some((last, front)) = pieces.split_last() else {
@@ -260,9 +268,11 @@ fn cut_line<'t>(
     keeps_whitespace: bool,
 ) -> (&'t str, &'t str)
     requires { StartsWith text.now (tiled (map word_view (front.now ++ last.now ∷ []))) }
-    ensures slice { result.0.now ≡ (if keeps_whitespace then tiled (map word_view (front.now ++ last.now ∷ []))
+    ensures slice { result.0.now
+        ≡ (if keeps_whitespace then tiled (map word_view (front.now ++ last.now ∷ []))
         else covered (map word_view (front.now ++ last.now ∷ []))) }
-    ensures rest { result.1.now ≡ drop (length (tiled (map word_view (front.now ++ last.now ∷ [])))) text.now }
+    ensures rest { result.1.now
+        ≡ drop (length (tiled (map word_view (front.now ++ last.now ∷ [])))) text.now }
 {
     let whitespace_len = last.whitespace.as_bytes().len();
     let covered_len = tiled_len(front) + last.word.as_bytes().len();
@@ -295,7 +305,7 @@ fn assemble<'t>(
     penalty: &str,
 ) -> Result<CowStr<'t>, AllocError>
     ensures { IfOk result (λ line. line_view line
-        ≡ line_from (record { indent = indent.now; slice = slice.now; penalty = penalty.now; left_off = [] })) }
+        ≡ line_from (record { pieces = []; indent = indent.now; slice = slice.now; penalty = penalty.now; left_off = [] })) }
 {
     if indent.is_empty() && penalty.is_empty() {
         return Ok(CowStr::Borrowed(slice));

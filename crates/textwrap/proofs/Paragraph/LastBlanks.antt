@@ -12,13 +12,13 @@ use Rattle.textwrap_base.specs.Blanks.{is_blank, trimmed_len, without_final_blan
 use Rattle.textwrap_base.proofs.Word.BrokenPieces.{broken_texts-some}
 use Rattle.textwrap_base.proofs.Word.Tiling.{join-chunks}
 use Rattle.textwrap_base.proofs.Word.Texts.{IsMeasured, trimmed-past, final_blanks-more}
-use Rattle.textwrap.specs.declared.options.Options.{Options}
+use Rattle.textwrap.specs.Options.{Settings}
 use Rattle.textwrap.specs.declared.word_separators.WordSeparator.{WordSeparator}
 use Rattle.textwrap.specs.declared.word_separators.WordSeparator.TheVariants.{AsciiSpace}
 use Rattle.textwrap.specs.declared.word_splitters.WordSplitter.{WordSplitter}
 use Rattle.textwrap.specs.WordSplitters.{cut_penalty, points_of, split_from, split_word}
-use Rattle.textwrap.proofs.Paragraph.Pieces.{wide-some, split_pieces_of-measured, pieces_of-tile}
-use Rattle.textwrap.specs.Paragraph.{covered, empty_word, front_pieces, last_piece, later_width, pieces_of, split_pieces_of}
+use Rattle.textwrap.proofs.Paragraph.Pieces.{split_pieces_of, wide-some, split_pieces_of-measured, pieces_of-tile}
+use Rattle.textwrap.specs.Paragraph.{covered, empty_word, front_pieces, last_piece, later_width, pieces_of}
 use Rattle.textwrap.specs.WordSeparators.{separated_words}
 use Rattle.textwrap.proofs.Text.Lossless.{covered-last}
 
@@ -145,22 +145,22 @@ words_of-space (c ∷ d ∷ cs) = words_of-space_step c d cs (is_cut c d) refl (
 separated-space : (separator : WordSeparator) (line : List ℕ) → last_space (separated_words separator line) ≡ final_blanks line
 separated-space AsciiSpace line = words_of-space line
 
-split_pieces_of-space : (options : Options) (paragraph : List ℕ) → last_space (split_pieces_of options paragraph) ≡ final_blanks paragraph
-split_pieces_of-space options paragraph =
-    flat_map-space (split_word options.word_splitter) (separated_words options.word_separator paragraph) (λ k d lt. split_word-ends options.word_splitter _)
-    ∙ separated-space options.word_separator paragraph
+split_pieces_of-space : (separator : WordSeparator) (splitter : WordSplitter) (paragraph : List ℕ) → last_space (split_pieces_of separator splitter paragraph) ≡ final_blanks paragraph
+split_pieces_of-space separator splitter paragraph =
+    flat_map-space (split_word splitter) (separated_words separator paragraph) (λ k d lt. split_word-ends splitter _)
+    ∙ separated-space separator paragraph
 
 -- where no empty word stands in front
-pub pieces_of-space : (options : Options) (paragraph : List ℕ) → IsUtf8 paragraph → options.initial_indent.now ≡ [] → last_space (pieces_of options paragraph) ≡ final_blanks paragraph
-pieces_of-space options paragraph utf8 unindented =
-    let split = split_pieces_of options paragraph in
-    let limit = later_width options in
-    let front : front_pieces options ≡ [] = ap (λ i. cond (length i == 0) [] (empty_word ∷ [])) unindented in
-    elim options.break_words as (λ b. last_space (cond b (front_pieces options ++ broken_words limit split) split) ≡ final_blanks paragraph) [
+pub pieces_of-space : (settings : Settings) (separator : WordSeparator) (splitter : WordSplitter) (paragraph : List ℕ) → IsUtf8 paragraph → settings.initial_indent ≡ [] → last_space (pieces_of settings separator splitter paragraph) ≡ final_blanks paragraph
+pieces_of-space settings separator splitter paragraph utf8 unindented =
+    let split = split_pieces_of separator splitter paragraph in
+    let limit = later_width settings in
+    let front : front_pieces settings ≡ [] = ap (λ i. cond (length i == 0) [] (empty_word ∷ [])) unindented in
+    elim settings.break_words as (λ b. last_space (cond b (front_pieces settings ++ broken_words limit split) split) ≡ final_blanks paragraph) [
       | true ↦
-          ap (λ ws. last_space (ws ++ broken_words limit split)) front ∙ flat_map-space (broken_word limit) split (broken_words-ends limit split (split_pieces_of-measured options paragraph utf8))
-          ∙ split_pieces_of-space options paragraph
-      | false ↦ split_pieces_of-space options paragraph
+          ap (λ ws. last_space (ws ++ broken_words limit split)) front ∙ flat_map-space (broken_word limit) split (broken_words-ends limit split (split_pieces_of-measured separator splitter paragraph utf8))
+          ∙ split_pieces_of-space separator splitter paragraph
+      | false ↦ split_pieces_of-space separator splitter paragraph
     ]
 
 covered-space : (ws : List WordText) → covered ws ++ last_space ws ≡ tiled ws
@@ -168,10 +168,10 @@ covered-space [] = refl
 covered-space (w ∷ ws) = covered-last w ws
 
 -- the pieces of the whole paragraph cover it without the blanks at its end
-pub covered-pieces_of : (options : Options) (paragraph : List ℕ) → IsUtf8 paragraph → options.initial_indent.now ≡ [] → covered (pieces_of options paragraph) ≡ without_final_blanks paragraph
-covered-pieces_of options paragraph utf8 unindented =
-    let pieces = pieces_of options paragraph in
+pub covered-pieces_of : (settings : Settings) (separator : WordSeparator) (splitter : WordSplitter) (paragraph : List ℕ) → IsUtf8 paragraph → settings.initial_indent ≡ [] → covered (pieces_of settings separator splitter paragraph) ≡ without_final_blanks paragraph
+covered-pieces_of settings separator splitter paragraph utf8 unindented =
+    let pieces = pieces_of settings separator splitter paragraph in
     let blanks = final_blanks paragraph in
-    let whole : covered pieces ++ blanks ≡ paragraph = ap (λ l. covered pieces ++ l) (sym (pieces_of-space options paragraph utf8 unindented)) ∙ covered-space pieces ∙ pieces_of-tile options paragraph utf8 in
+    let whole : covered pieces ++ blanks ≡ paragraph = ap (λ l. covered pieces ++ l) (sym (pieces_of-space settings separator splitter paragraph utf8 unindented)) ∙ covered-space pieces ∙ pieces_of-tile settings separator splitter paragraph utf8 in
     let len : length (covered pieces) ≡ trimmed_len paragraph = omega (arith, ap length whole, length-append (covered pieces) blanks, length-drop (trimmed_len paragraph) paragraph) in
     sym (take_at (covered pieces) blanks (trimmed_len paragraph) len) ∙ ap (take (trimmed_len paragraph)) whole

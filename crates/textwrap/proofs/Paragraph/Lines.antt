@@ -1,6 +1,7 @@
 -- Lemmas on what the words of a line cover.
 use Rattle.std.proofs.Common.{◌≡◌, ℕ, suc, Bool, true, false, not, cond, ◌==◌, ◌&&◌, nat_lt, MatchBool, ◌+◌, ◌<◌, ◌≤◌, List, [], ◌∷◌, ◌++◌, length, get_or, take, drop, map, refl, sym, ap, ◌∙◌, subst, arith, append_assoc, append-nil, length-append, take-append-drop, ◌*◌, All}
 use Rattle.std.specs.List.{flat_map}
+use Rattle.std.proofs.lemmas.List.Elements.{All-nil, All-cons, All-head, All-tail}
 use Rattle.std.specs.Io.{StartsWith}
 use Rattle.std.specs.Str.{IsUtf8, IsCharBoundary}
 use Rattle.std.specs.declared.borrow.CowStr.{CowStr}
@@ -9,16 +10,23 @@ use Rattle.std.proofs.lemmas.Bool.Decides.{nat_tests}
 use Rattle.std.proofs.lemmas.Str.{IsUtf8-append, IsUtf8-drop, IsCharBoundary-from_take, IsCharBoundary-from_rest}
 use Rattle.std.proofs.lemmas.List.{map-append, length-map, length-take, take-append-le, map_more, map_push, take_at, drop_at, drop_more, nil_from_length}
 use Rattle.textwrap_base.specs.declared.words.Word.{Word}
-use Rattle.textwrap_base.specs.Words.{WordText, word_view, sizes_of, tile_of, tiled, Tiles}
-use Rattle.textwrap_base.specs.WrapAlgorithms.{IsDividedBy}
+use Rattle.textwrap_base.specs.Words.{WordText, word_view, word_of, sizes_of, tile_of, tiled, Tiles}
+use Rattle.textwrap_base.specs.WrapAlgorithms.{Algorithm, IsDividedBy}
 use Rattle.textwrap_base.specs.Cost.{total_width}
 use Rattle.textwrap_base.proofs.Division.Map.{IsDividedBy-map}
 use Rattle.textwrap_base.proofs.Cost.Measures.{total_width-same}
 use Rattle.textwrap_base.proofs.Word.Bounds.{IsBounded, total_width-bounded}
 use Rattle.textwrap_base.proofs.Word.Tiling.{tiled-append, tiled-push}
-use Rattle.textwrap.specs.declared.options.Options.{Options}
-use Rattle.textwrap.proofs.Paragraph.Pieces.{pieces_of-bounded}
-use Rattle.textwrap.specs.Paragraph.{LineParts, line_view, line_from, covered, last_piece, keeps_whitespace, indent_of, parts_of, parts_from, pieces_of, widths_of, is_whole, whole_parts, AreDividedParts, AreParagraphParts}
+use Rattle.textwrap.specs.Options.{Settings}
+use Rattle.textwrap.specs.WordSeparators.{AreSeparated}
+use Rattle.textwrap.specs.WordSplitters.{ArePoints}
+use Rattle.textwrap.specs.declared.word_separators.WordSeparator.{WordSeparator}
+use Rattle.textwrap.specs.declared.word_splitters.WordSplitter.{WordSplitter}
+use Rattle.textwrap.proofs.Paragraph.Pieces.{ArePieces-computed, pieces_of-bounded}
+use Rattle.textwrap.proofs.Text.Lossless.{tiled-word_of}
+use Rattle.textwrap_base.specs.Blanks.{without_final_blanks}
+use Rattle.textwrap_base.proofs.Word.Texts.{HasNoPenalty}
+use Rattle.textwrap.specs.Paragraph.{LineParts, line_view, line_from, covered, last_piece, keeps_whitespace, indent_of, parts_of, parts_from, pieces_of, widths_of, is_whole, Slice, IsDividedInto, AreDividedParts, AreParagraphParts}
 
 covered-push : (ws : List WordText) (w : WordText) → covered (ws ++ w ∷ []) ≡ tiled ws ++ w.word
 covered-push [] w = refl
@@ -90,78 +98,78 @@ last_piece-push w [] last = refl
 last_piece-push w (v ∷ ws) last = last_piece-push v ws last
 
 -- the same line by its last piece
-abbrev parts_ending : Options → Bool → List WordText → WordText → LineParts
-parts_ending options is_later line last =
-    cond (keeps_whitespace options last) (record { indent = indent_of options is_later; slice = tiled line; penalty = []; left_off = [] })
-    (record { indent = indent_of options is_later; slice = covered line; penalty = last.penalty; left_off = last.whitespace })
+abbrev parts_ending : Settings → Bool → List WordText → WordText → LineParts
+parts_ending settings is_later line last =
+    cond (keeps_whitespace settings last) (record { pieces = line; indent = indent_of settings is_later; slice = tiled line; penalty = []; left_off = [] })
+    (record { pieces = line; indent = indent_of settings is_later; slice = covered line; penalty = last.penalty; left_off = last.whitespace })
 
-parts_of-push : (options : Options) (is_later : Bool) (ws : List WordText) (last : WordText) → parts_of options is_later (ws ++ last ∷ []) ≡ parts_ending options is_later (ws ++ last ∷ []) last
-parts_of-push options is_later [] last = refl
-parts_of-push options is_later (w ∷ ws) last = ap (parts_ending options is_later (w ∷ (ws ++ last ∷ []))) (last_piece-push w ws last)
+parts_of-push : (settings : Settings) (is_later : Bool) (ws : List WordText) (last : WordText) → parts_of settings is_later (ws ++ last ∷ []) ≡ parts_ending settings is_later (ws ++ last ∷ []) last
+parts_of-push settings is_later [] last = refl
+parts_of-push settings is_later (w ∷ ws) last = ap (parts_ending settings is_later (w ∷ (ws ++ last ∷ []))) (last_piece-push w ws last)
 
-no_penalty : (options : Options) (last : WordText) → keeps_whitespace options last ≡ true → last.penalty ≡ []
-no_penalty options last keeps =
-    nil_from_length last.penalty (eqb-true (length last.penalty) 0 (and_parts options.preserve_trailing_space (length last.penalty == 0) keeps).1)
+no_penalty : (settings : Settings) (last : WordText) → keeps_whitespace settings last ≡ true → last.penalty ≡ []
+no_penalty settings last keeps =
+    nil_from_length last.penalty (eqb-true (length last.penalty) 0 (and_parts settings.preserve_trailing_space (length last.penalty == 0) keeps).1)
 
-ending_line : (options : Options) (is_later : Bool) (line : List WordText) (last : WordText) (indent slice : List ℕ) (keeps : Bool) → indent ≡ indent_of options is_later → keeps ≡ keeps_whitespace options last
+ending_line : (settings : Settings) (is_later : Bool) (line : List WordText) (last : WordText) (indent slice : List ℕ) (keeps : Bool) → indent ≡ indent_of settings is_later → keeps ≡ keeps_whitespace settings last
     → slice ≡ cond keeps (tiled line) (covered line)
-    → line_from (record { indent = indent; slice = slice; penalty = last.penalty; left_off = [] }) ≡ line_from (parts_ending options is_later line last)
-ending_line options is_later line last indent slice true indent_is keeps slice_is =
-    ap (λ i. line_from (record { indent = i; slice = slice; penalty = last.penalty; left_off = [] })) indent_is
-    ∙ ap (λ s. line_from (record { indent = indent_of options is_later; slice = s; penalty = last.penalty; left_off = [] })) slice_is
-    ∙ ap (λ p. line_from (record { indent = indent_of options is_later; slice = tiled line; penalty = p; left_off = [] })) (no_penalty options last (sym keeps))
-    ∙ ap (λ b. line_from (cond b (record { indent = indent_of options is_later; slice = tiled line; penalty = []; left_off = [] })
-    (record { indent = indent_of options is_later; slice = covered line; penalty = last.penalty; left_off = last.whitespace }))) keeps
-ending_line options is_later line last indent slice false indent_is keeps slice_is =
-    ap (λ i. line_from (record { indent = i; slice = slice; penalty = last.penalty; left_off = [] })) indent_is
-    ∙ ap (λ s. line_from (record { indent = indent_of options is_later; slice = s; penalty = last.penalty; left_off = [] })) slice_is
-    ∙ ap (λ b. line_from (cond b (record { indent = indent_of options is_later; slice = tiled line; penalty = []; left_off = [] })
-    (record { indent = indent_of options is_later; slice = covered line; penalty = last.penalty; left_off = last.whitespace }))) keeps
+    → line_from (record { pieces = line; indent = indent; slice = slice; penalty = last.penalty; left_off = [] }) ≡ line_from (parts_ending settings is_later line last)
+ending_line settings is_later line last indent slice true indent_is keeps slice_is =
+    ap (λ i. line_from (record { pieces = line; indent = i; slice = slice; penalty = last.penalty; left_off = [] })) indent_is
+    ∙ ap (λ s. line_from (record { pieces = line; indent = indent_of settings is_later; slice = s; penalty = last.penalty; left_off = [] })) slice_is
+    ∙ ap (λ p. line_from (record { pieces = line; indent = indent_of settings is_later; slice = tiled line; penalty = p; left_off = [] })) (no_penalty settings last (sym keeps))
+    ∙ ap (λ b. line_from (cond b (record { pieces = line; indent = indent_of settings is_later; slice = tiled line; penalty = []; left_off = [] })
+    (record { pieces = line; indent = indent_of settings is_later; slice = covered line; penalty = last.penalty; left_off = last.whitespace }))) keeps
+ending_line settings is_later line last indent slice false indent_is keeps slice_is =
+    ap (λ i. line_from (record { pieces = line; indent = i; slice = slice; penalty = last.penalty; left_off = [] })) indent_is
+    ∙ ap (λ s. line_from (record { pieces = line; indent = indent_of settings is_later; slice = s; penalty = last.penalty; left_off = [] })) slice_is
+    ∙ ap (λ b. line_from (cond b (record { pieces = line; indent = indent_of settings is_later; slice = tiled line; penalty = []; left_off = [] })
+    (record { pieces = line; indent = indent_of settings is_later; slice = covered line; penalty = last.penalty; left_off = last.whitespace }))) keeps
 
 -- a line made of the slice that its pieces cover
-pub line_from-parts_of : (options : Options) (is_later : Bool) (pieces front : List Word) (last : Word) (indent slice : List ℕ) (keeps : Bool) → pieces ≡ front ++ last ∷ [] → indent ≡ indent_of options is_later
-    → keeps ≡ keeps_whitespace options (word_view last)
+pub line_from-parts_of : (settings : Settings) (is_later : Bool) (pieces front : List Word) (last : Word) (indent slice : List ℕ) (keeps : Bool) → pieces ≡ front ++ last ∷ [] → indent ≡ indent_of settings is_later
+    → keeps ≡ keeps_whitespace settings (word_view last)
     → slice ≡ cond keeps (tiled (map word_view (front ++ last ∷ []))) (covered (map word_view (front ++ last ∷ [])))
-    → line_from (record { indent = indent; slice = slice; penalty = last.penalty.now; left_off = [] }) ≡ line_from (parts_of options is_later (map word_view pieces))
-line_from-parts_of options is_later pieces front last indent slice keeps is indent_is keeps_is slice_is =
+    → line_from (record { pieces = []; indent = indent; slice = slice; penalty = last.penalty.now; left_off = [] }) ≡ line_from (parts_of settings is_later (map word_view pieces))
+line_from-parts_of settings is_later pieces front last indent slice keeps is indent_is keeps_is slice_is =
     let line = map word_view (front ++ last ∷ []) in
     let views : line ≡ map word_view front ++ word_view last ∷ [] = map-append word_view front (last ∷ []) in
-    let ending : parts_of options is_later line ≡ parts_ending options is_later line (word_view last) =
-    ap (parts_of options is_later) views ∙ parts_of-push options is_later (map word_view front) (word_view last) ∙ ap (λ l. parts_ending options is_later l (word_view last)) (sym views) in
-    ending_line options is_later line (word_view last) indent slice keeps indent_is keeps_is slice_is ∙ ap line_from (sym ending) ∙ ap (λ ps. line_from (parts_of options is_later (map word_view ps))) (sym is)
+    let ending : parts_of settings is_later line ≡ parts_ending settings is_later line (word_view last) =
+    ap (parts_of settings is_later) views ∙ parts_of-push settings is_later (map word_view front) (word_view last) ∙ ap (λ l. parts_ending settings is_later l (word_view last)) (sym views) in
+    ending_line settings is_later line (word_view last) indent slice keeps indent_is keeps_is slice_is ∙ ap line_from (sym ending) ∙ ap (λ ps. line_from (parts_of settings is_later (map word_view ps))) (sym is)
 
 -- ---- the lines of a division
 
 some_lines : (line : List WordText) (lines : List (List WordText)) → nat_lt 0 (length (line ∷ lines)) ≡ true
 some_lines line lines = grind (arith, nat_tests)
 
-parts_from-later : (options : Options) (lines : List (List WordText)) (line : List WordText) → parts_from options true (lines ++ line ∷ []) ≡ parts_from options true lines ++ parts_of options true line ∷ []
-parts_from-later options [] line = refl
-parts_from-later options (first ∷ lines) line = ap (λ ps. parts_of options true first ∷ ps) (parts_from-later options lines line)
+parts_from-later : (settings : Settings) (lines : List (List WordText)) (line : List WordText) → parts_from settings true (lines ++ line ∷ []) ≡ parts_from settings true lines ++ parts_of settings true line ∷ []
+parts_from-later settings [] line = refl
+parts_from-later settings (first ∷ lines) line = ap (λ ps. parts_of settings true first ∷ ps) (parts_from-later settings lines line)
 
 -- one more line, whose indent depends on whether a line was out before it
-pub parts_from-push : (options : Options) (is_later : Bool) (lines : List (List WordText)) (line : List WordText)
-    → parts_from options is_later (lines ++ line ∷ []) ≡ parts_from options is_later lines ++ parts_of options (cond (nat_lt 0 (length lines)) true is_later) line ∷ []
-parts_from-push options is_later [] line = refl
-parts_from-push options is_later (first ∷ lines) line =
-    ap (λ ps. parts_of options is_later first ∷ ps) (parts_from-later options lines line)
-    ∙ ap (λ b. parts_of options is_later first ∷ (parts_from options true lines ++ parts_of options (cond b true is_later) line ∷ [])) (sym (some_lines first lines))
+pub parts_from-push : (settings : Settings) (is_later : Bool) (lines : List (List WordText)) (line : List WordText)
+    → parts_from settings is_later (lines ++ line ∷ []) ≡ parts_from settings is_later lines ++ parts_of settings (cond (nat_lt 0 (length lines)) true is_later) line ∷ []
+parts_from-push settings is_later [] line = refl
+parts_from-push settings is_later (first ∷ lines) line =
+    ap (λ ps. parts_of settings is_later first ∷ ps) (parts_from-later settings lines line)
+    ∙ ap (λ b. parts_of settings is_later first ∷ (parts_from settings true lines ++ parts_of settings (cond b true is_later) line ∷ [])) (sym (some_lines first lines))
 
-length-parts_from : (options : Options) (is_later : Bool) (lines : List (List WordText)) → length (parts_from options is_later lines) ≡ length lines
-length-parts_from options is_later [] = refl
-length-parts_from options is_later (line ∷ lines) = ap suc (length-parts_from options true lines)
+length-parts_from : (settings : Settings) (is_later : Bool) (lines : List (List WordText)) → length (parts_from settings is_later lines) ≡ length lines
+length-parts_from settings is_later [] = refl
+length-parts_from settings is_later (line ∷ lines) = ap suc (length-parts_from settings true lines)
 
 -- a line is out where one was out at the start, or one was added
 pub is_later-added : (now before added : ℕ) → now ≡ before + added → nat_lt 0 now ≡ cond (nat_lt 0 added) true (nat_lt 0 before)
 is_later-added now before added is = grind (arith, nat_tests)
 
 -- the lines that are out after those of a division
-pub length-is_later : {Z : Type 0} (options : Options) (is_later : Bool) (lines start : List (CowStr Z)) (division : List (List WordText))
-    → map line_view lines ≡ map line_view start ++ map line_from (parts_from options is_later division) → length lines ≡ length start + length division
-length-is_later options is_later lines start division is =
-    sym (length-map lines line_view) ∙ ap length is ∙ length-append (map line_view start) (map line_from (parts_from options is_later division))
-    ∙ ap (λ n. n + length (map line_from (parts_from options is_later division))) (length-map start line_view)
-    ∙ ap (λ n. length start + n) (length-map (parts_from options is_later division) line_from ∙ length-parts_from options is_later division)
+pub length-is_later : {Z : Type 0} (settings : Settings) (is_later : Bool) (lines start : List (CowStr Z)) (division : List (List WordText))
+    → map line_view lines ≡ map line_view start ++ map line_from (parts_from settings is_later division) → length lines ≡ length start + length division
+length-is_later settings is_later lines start division is =
+    sym (length-map lines line_view) ∙ ap length is ∙ length-append (map line_view start) (map line_from (parts_from settings is_later division))
+    ∙ ap (λ n. n + length (map line_from (parts_from settings is_later division))) (length-map start line_view)
+    ∙ ap (λ n. length start + n) (length-map (parts_from settings is_later division) line_from ∙ length-parts_from settings is_later division)
 
 -- what the lines began with stays where one is added
 pub start-kept : {X : Type 0} (start lines pushed : List X) (line : X) → take (length start) lines ≡ start → pushed ≡ lines ++ line ∷ [] → take (length start) pushed ≡ start
@@ -170,22 +178,22 @@ start-kept start lines pushed line kept is =
     ap (take (length start)) is ∙ take-append-le (length start) lines (line ∷ []) within ∙ kept
 
 -- the line of the pieces at i is added
-pub lines-push : {Z D : Type 0} (v : D → List WordText) (options : Options) (division : List D) (i : ℕ) (d : D) (start lines pushed : List (CowStr Z)) (line : CowStr Z) (is_out : Bool)
+pub lines-push : {Z D : Type 0} (v : D → List WordText) (settings : Settings) (division : List D) (i : ℕ) (d : D) (start lines pushed : List (CowStr Z)) (line : CowStr Z) (is_out : Bool)
     → i < length division
-    → map line_view lines ≡ map line_view start ++ map line_from (parts_from options (nat_lt 0 (length start)) (map v (take i division)))
-    → is_out ≡ nat_lt 0 (length lines) → line_view line ≡ line_from (parts_of options is_out (v (get_or division i d))) → pushed ≡ lines ++ line ∷ []
-    → map line_view pushed ≡ map line_view start ++ map line_from (parts_from options (nat_lt 0 (length start)) (map v (take (i + 1) division)))
-lines-push v options division i d start lines pushed line is_out within so_far out_is line_is pushed_is =
+    → map line_view lines ≡ map line_view start ++ map line_from (parts_from settings (nat_lt 0 (length start)) (map v (take i division)))
+    → is_out ≡ nat_lt 0 (length lines) → line_view line ≡ line_from (parts_of settings is_out (v (get_or division i d))) → pushed ≡ lines ++ line ∷ []
+    → map line_view pushed ≡ map line_view start ++ map line_from (parts_from settings (nat_lt 0 (length start)) (map v (take (i + 1) division)))
+lines-push v settings division i d start lines pushed line is_out within so_far out_is line_is pushed_is =
     let is_later = nat_lt 0 (length start) in
     let before = map v (take i division) in
     let here = v (get_or division i d) in
-    let same_out : is_out ≡ cond (nat_lt 0 (length before)) true is_later = out_is ∙ is_later-added (length lines) (length start) (length before) (length-is_later options is_later lines start before so_far) in
-    let parts : parts_from options is_later (map v (take (i + 1) division)) ≡ parts_from options is_later before ++ parts_of options is_out here ∷ [] =
-    ap (parts_from options is_later) (map_more v division i d within) ∙ parts_from-push options is_later before here ∙ ap (λ b. parts_from options is_later before ++ parts_of options b here ∷ []) (sym same_out) in
+    let same_out : is_out ≡ cond (nat_lt 0 (length before)) true is_later = out_is ∙ is_later-added (length lines) (length start) (length before) (length-is_later settings is_later lines start before so_far) in
+    let parts : parts_from settings is_later (map v (take (i + 1) division)) ≡ parts_from settings is_later before ++ parts_of settings is_out here ∷ [] =
+    ap (parts_from settings is_later) (map_more v division i d within) ∙ parts_from-push settings is_later before here ∙ ap (λ b. parts_from settings is_later before ++ parts_of settings b here ∷ []) (sym same_out) in
     ap (map line_view) pushed_is ∙ map_push line_view lines line ∙ ap (λ l. l ++ line_view line ∷ []) so_far
-    ∙ ap (λ x. (map line_view start ++ map line_from (parts_from options is_later before)) ++ x ∷ []) line_is
-    ∙ append_assoc (map line_view start) (map line_from (parts_from options is_later before)) (line_from (parts_of options is_out here) ∷ [])
-    ∙ ap (λ l. map line_view start ++ l) (sym (ap (map line_from) parts ∙ map_push line_from (parts_from options is_later before) (parts_of options is_out here)))
+    ∙ ap (λ x. (map line_view start ++ map line_from (parts_from settings is_later before)) ++ x ∷ []) line_is
+    ∙ append_assoc (map line_view start) (map line_from (parts_from settings is_later before)) (line_from (parts_of settings is_out here) ∷ [])
+    ∙ ap (λ l. map line_view start ++ l) (sym (ap (map line_from) parts ∙ map_push line_from (parts_from settings is_later before) (parts_of settings is_out here)))
 
 pub not_empty : (n m : ℕ) → n ≡ m → not (n == 0) ≡ nat_lt 0 m
 not_empty n m is = grind (arith, nat_tests)
@@ -203,54 +211,73 @@ views-lines v [] = refl
 views-lines v (line ∷ lines) = ap (λ l. map word_view (v line) ∷ l) (views-lines v lines)
 
 -- a division of a paragraph's pieces gives its lines
-pub AreDividedParts-from : {D : Type 0} (v : D → List Word) (options : Options) (is_later : Bool) (paragraph : List ℕ) (pieces : List Word) (division : List D) → map word_view pieces ≡ pieces_of options paragraph
-    → IsDividedBy options.wrap_algorithm (λ word. sizes_of (word_view word)) (widths_of options) pieces (map v division)
-    → AreDividedParts options is_later paragraph (parts_from options is_later (map (λ line. map word_view (v line)) division))
-AreDividedParts-from v options is_later paragraph pieces division views divided = (
+pub AreDividedParts-from : {D : Type 0} (v : D → List Word) (settings : Settings) (algorithm : Algorithm) (separator : WordSeparator) (splitter : WordSplitter) (is_later : Bool) (paragraph : List ℕ) (pieces : List Word) (division : List D)
+    → map word_view pieces ≡ pieces_of settings separator splitter paragraph → IsDividedBy algorithm (λ word. sizes_of (word_view word)) (widths_of settings) pieces (map v division)
+    → AreDividedParts settings (IsDividedInto settings algorithm (AreSeparated separator) (ArePoints splitter)) is_later paragraph (parts_from settings is_later (map (λ line. map word_view (v line)) division))
+AreDividedParts-from v settings algorithm separator splitter is_later paragraph pieces division views divided = (
   map (map word_view) (map v division),
-  subst (λ ws. IsDividedBy options.wrap_algorithm sizes_of (widths_of options) ws (map (map word_view) (map v division))) views
-      (IsDividedBy-map word_view sizes_of options.wrap_algorithm (widths_of options) pieces (map v division) divided),
-  ap (parts_from options is_later) (views-lines v division),
+  (
+    pieces_of settings separator splitter paragraph,
+    ArePieces-computed settings separator splitter paragraph,
+    subst (λ ws. IsDividedBy algorithm sizes_of (widths_of settings) ws (map (map word_view) (map v division))) views (IsDividedBy-map word_view sizes_of algorithm (widths_of settings) pieces (map v division) divided),
+  ),
+  ap (parts_from settings is_later) (views-lines v division),
 )
 
--- ---- the two cases of a paragraph
+-- ---- the line of a whole paragraph
 
-pub is_whole-true : (options : Options) (is_later : Bool) (paragraph indent : List ℕ) → indent ≡ indent_of options is_later → (length indent == 0) ≡ true → length paragraph < options.width → is_whole options is_later paragraph ≡ true
-is_whole-true options is_later paragraph indent is empty short =
-    let shorter : nat_lt (length paragraph) options.width ≡ true = grind (arith, nat_tests) in
-    ap (λ i. (length i == 0) && nat_lt (length paragraph) options.width) (sym is) ∙ ap (λ b. b && nat_lt (length paragraph) options.width) empty ∙ shorter
+line_keeping : (pieces : List WordText) (indent tile cover : List ℕ) (last : WordText) (preserves : Bool) → indent ≡ [] → HasNoPenalty last
+    → line_from (cond (preserves && (length last.penalty == 0)) (record { pieces = pieces; indent = indent; slice = tile; penalty = []; left_off = [] }) (record { pieces = pieces; indent = indent; slice = cover; penalty = last.penalty; left_off = last.whitespace }))
+    ≡ Slice (cond preserves tile cover)
+line_keeping pieces indent tile cover last true none_before none =
+    ap (λ i. line_from (cond (true && (length last.penalty == 0)) (record { pieces = pieces; indent = i; slice = tile; penalty = []; left_off = [] }) (record { pieces = pieces; indent = i; slice = cover; penalty = last.penalty; left_off = last.whitespace }))) none_before
+    ∙ ap (λ p. line_from (cond (true && (length p == 0)) (record { pieces = pieces; indent = []; slice = tile; penalty = []; left_off = [] }) (record { pieces = pieces; indent = []; slice = cover; penalty = p; left_off = last.whitespace }))) none
+line_keeping pieces indent tile cover last false none_before none =
+    ap (λ i. line_from (record { pieces = pieces; indent = i; slice = cover; penalty = last.penalty; left_off = last.whitespace })) none_before
+    ∙ ap (λ p. line_from (record { pieces = pieces; indent = []; slice = cover; penalty = p; left_off = last.whitespace })) none
 
-and_false : (b : Bool) → b && false ≡ false
-and_false true = refl
-and_false false = refl
+last_piece-no_penalty : (w : WordText) (ws : List WordText) → All HasNoPenalty (w ∷ ws) → HasNoPenalty (last_piece w ws)
+last_piece-no_penalty w [] all = All-head HasNoPenalty w [] all
+last_piece-no_penalty w (v ∷ ws) all = last_piece-no_penalty v ws (All-tail HasNoPenalty w (v ∷ ws) all)
 
-pub is_whole-indented : (options : Options) (is_later : Bool) (paragraph indent : List ℕ) → indent ≡ indent_of options is_later → (length indent == 0) ≡ false → is_whole options is_later paragraph ≡ false
-is_whole-indented options is_later paragraph indent is some =
-    ap (λ i. (length i == 0) && nat_lt (length paragraph) options.width) (sym is) ∙ ap (λ b. b && nat_lt (length paragraph) options.width) some
+-- pieces without penalties on a line without indent
+pub line_from-pieces : (settings : Settings) (is_later : Bool) (ws : List WordText) → indent_of settings is_later ≡ [] → All HasNoPenalty ws → line_from (parts_of settings is_later ws) ≡ Slice (cond settings.preserve_trailing_space (tiled ws) (covered ws))
+line_from-pieces settings is_later [] unindented none = elim settings.preserve_trailing_space as (λ b. Slice [] ≡ Slice (cond b [] [])) [ true ↦ refl | false ↦ refl ]
+line_from-pieces settings is_later (w ∷ ws) unindented none =
+    line_keeping (w ∷ ws) (indent_of settings is_later) (tiled (w ∷ ws)) (covered (w ∷ ws)) (last_piece w ws) settings.preserve_trailing_space unindented (last_piece-no_penalty w ws none)
 
-pub is_whole-long : (options : Options) (is_later : Bool) (paragraph : List ℕ) → options.width ≤ length paragraph → is_whole options is_later paragraph ≡ false
-is_whole-long options is_later paragraph long =
-    let longer : nat_lt (length paragraph) options.width ≡ false = grind (arith, nat_tests) in
-    ap (λ b. (length (indent_of options is_later) == 0) && b) longer ∙ and_false (length (indent_of options is_later) == 0)
+whole_unindented : (settings : Settings) (is_later : Bool) (paragraph : List ℕ) → is_whole settings is_later paragraph ≡ true → indent_of settings is_later ≡ []
+whole_unindented settings is_later paragraph whole =
+    nil_from_length (indent_of settings is_later) (eqb-true (length (indent_of settings is_later)) 0 (and_parts (length (indent_of settings is_later) == 0) (nat_lt (length paragraph) settings.width) whole).0)
 
-pub AreParagraphParts-whole : (options : Options) (is_later : Bool) (paragraph : List ℕ) → is_whole options is_later paragraph ≡ true → AreParagraphParts options is_later paragraph (whole_parts options paragraph ∷ [])
-AreParagraphParts-whole options is_later paragraph whole =
-    subst (λ b. MatchBool b (whole_parts options paragraph ∷ [] ≡ whole_parts options paragraph ∷ []) (AreDividedParts options is_later paragraph (whole_parts options paragraph ∷ []))) (sym whole) refl
+pub line_from-whole : (settings : Settings) (is_later : Bool) (paragraph : List ℕ) → is_whole settings is_later paragraph ≡ true
+    → line_from (parts_of settings is_later (word_of paragraph ∷ [])) ≡ Slice (cond settings.preserve_trailing_space paragraph (without_final_blanks paragraph))
+line_from-whole settings is_later paragraph whole =
+    line_from-pieces settings is_later (word_of paragraph ∷ []) (whole_unindented settings is_later paragraph whole) (All-cons HasNoPenalty (word_of paragraph) [] refl (All-nil HasNoPenalty))
+    ∙ ap (λ tile. Slice (cond settings.preserve_trailing_space tile (without_final_blanks paragraph))) (tiled-word_of paragraph)
 
-pub AreParagraphParts-divided : (options : Options) (is_later : Bool) (paragraph : List ℕ) (parts : List LineParts) → is_whole options is_later paragraph ≡ false → AreDividedParts options is_later paragraph parts
-    → AreParagraphParts options is_later paragraph parts
-AreParagraphParts-divided options is_later paragraph parts divided_case divided =
-    subst (λ b. MatchBool b (parts ≡ whole_parts options paragraph ∷ []) (AreDividedParts options is_later paragraph parts)) (sym divided_case) divided
+pub AreParagraphParts-whole : (settings : Settings) (Divides : List ℕ → List (List WordText) → Type 0) (is_later : Bool) (paragraph : List ℕ) → is_whole settings is_later paragraph ≡ true
+    → AreParagraphParts settings Divides is_later paragraph (parts_of settings is_later (word_of paragraph ∷ []) ∷ [])
+AreParagraphParts-whole settings Divides is_later paragraph whole =
+    let division = (word_of paragraph ∷ []) ∷ [] in
+    (division, subst (λ b. MatchBool b (division ≡ division) (Divides paragraph division)) (sym whole) refl, refl)
+
+pub AreParagraphParts-divided : (settings : Settings) (Divides : List ℕ → List (List WordText) → Type 0) (is_later : Bool) (paragraph : List ℕ) (parts : List LineParts) → is_whole settings is_later paragraph ≡ false
+    → AreDividedParts settings Divides is_later paragraph parts → AreParagraphParts settings Divides is_later paragraph parts
+AreParagraphParts-divided settings Divides is_later paragraph parts longer (division, divided, is) =
+    (division, subst (λ b. MatchBool b (division ≡ (word_of paragraph ∷ []) ∷ []) (Divides paragraph division)) (sym longer) divided, is)
+
+-- ---- the widths of the pieces
 
 sizes-word_view : (words : List Word) → map (λ word. sizes_of (word_view word)) words ≡ map sizes_of (map word_view words)
 sizes-word_view [] = refl
 sizes-word_view (w ∷ words) = ap (λ l. sizes_of (word_view w) ∷ l) (sizes-word_view words)
 
 -- the widths of a paragraph's pieces together are at most twice its bytes
-pub total_width-pieces : (options : Options) (paragraph : List ℕ) (words : List Word) → IsUtf8 paragraph → map word_view words ≡ pieces_of options paragraph → Tiles (map word_view words) paragraph
+pub total_width-pieces : (settings : Settings) (separator : WordSeparator) (splitter : WordSplitter) (paragraph : List ℕ) (words : List Word) → IsUtf8 paragraph → map word_view words ≡ pieces_of settings separator splitter paragraph → Tiles (map word_view words) paragraph
     → total_width (λ word. sizes_of (word_view word)) words ≤ 2 * length paragraph
-total_width-pieces options paragraph words utf8 is tiles =
-    let bounded = subst (All IsBounded) (sym is) (pieces_of-bounded options paragraph utf8) in
+total_width-pieces settings separator splitter paragraph words utf8 is tiles =
+    let bounded = subst (All IsBounded) (sym is) (pieces_of-bounded settings separator splitter paragraph utf8) in
     let within = total_width-bounded (map word_view words) bounded in
     let same = total_width-same (λ word. sizes_of (word_view word)) sizes_of words (map word_view words) (sizes-word_view words) in
     let whole = ap length tiles in omega (arith, within, same, whole)

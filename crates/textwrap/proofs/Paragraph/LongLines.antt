@@ -11,11 +11,16 @@ use Rattle.textwrap_base.specs.Units.{text_width}
 use Rattle.textwrap_base.specs.Words.{WordText, sizes_of}
 use Rattle.textwrap_base.proofs.Word.Overlong.{IsTight, broken_words-tight}
 use Rattle.textwrap_base.proofs.Word.Texts.{HasNoPenalty, text_width-nil}
-use Rattle.textwrap.specs.declared.options.Options.{Options}
-use Rattle.textwrap.specs.Paragraph.{empty_word, front_pieces, pieces_of, split_pieces_of, widths_of, width_after, later_width}
+use Rattle.textwrap.specs.Options.{Settings}
+use Rattle.textwrap.specs.Paragraph.{empty_word, front_pieces, pieces_of, IsDividedInto, widths_of, width_after, later_width}
 use Rattle.textwrap.specs.Fuzzing.{IsOneCharacter, OnlyCharactersPass}
 use Rattle.textwrap.proofs.Text.Lossless.{all-left, all-right}
-use Rattle.textwrap.proofs.Paragraph.Pieces.{split_pieces_of-measured, pieces_of-no_penalty}
+use Rattle.textwrap.specs.WordSeparators.{AreSeparated}
+use Rattle.textwrap.specs.WordSplitters.{ArePoints}
+use Rattle.textwrap.specs.declared.word_separators.WordSeparator.{WordSeparator}
+use Rattle.textwrap.specs.declared.word_splitters.WordSplitter.{WordSplitter}
+use Rattle.textwrap_base.specs.WrapAlgorithms.{Greedy}
+use Rattle.textwrap.proofs.Paragraph.Pieces.{ArePieces-is, split_pieces_of, split_pieces_of-measured, pieces_of-no_penalty}
 
 -- ---- a line
 
@@ -73,40 +78,43 @@ division_joined : (pieces : List WordText) (lines : List (List WordText)) → Is
 division_joined [] lines is = ap joined is
 division_joined (w ∷ ws) lines is = is.0
 
-pub long_lines : (options : Options) (paragraph : List ℕ) (division : List (List WordText)) → IsUtf8 paragraph → options.break_words ≡ true → IsGreedy sizes_of (widths_of options) (pieces_of options paragraph) division
-    → OnlyCharactersPass (widths_of options) 0 division
-long_lines options paragraph division utf8 breaks greedy = by_front (length options.initial_indent.now == 0) refl
+pub long_lines : (settings : Settings) (separator : WordSeparator) (splitter : WordSplitter) (paragraph : List ℕ) (division : List (List WordText)) → IsUtf8 paragraph → settings.break_words ≡ true
+    → IsDividedInto settings Greedy (AreSeparated separator) (ArePoints splitter) paragraph division → OnlyCharactersPass (widths_of settings) 0 division
+long_lines settings separator splitter paragraph division utf8 breaks (pieces, are, greedy_pieces) = by_front (length settings.initial_indent == 0) refl
   where
+    greedy : IsGreedy sizes_of (widths_of settings) (pieces_of settings separator splitter paragraph) division
+    greedy = subst (λ ws. IsGreedy sizes_of (widths_of settings) ws division) (ArePieces-is settings separator splitter paragraph pieces are) greedy_pieces
+
     limit : ℕ
-    limit = later_width options
+    limit = later_width settings
 
     broken : List WordText
-    broken = broken_words (later_width options) (split_pieces_of options paragraph)
+    broken = broken_words (later_width settings) (split_pieces_of separator splitter paragraph)
 
-    pieces_are : pieces_of options paragraph ≡ front_pieces options ++ broken_words (later_width options) (split_pieces_of options paragraph)
-    pieces_are = ap (λ b. cond b (front_pieces options ++ broken_words (later_width options) (split_pieces_of options paragraph)) (split_pieces_of options paragraph)) breaks
+    pieces_are : pieces_of settings separator splitter paragraph ≡ front_pieces settings ++ broken_words (later_width settings) (split_pieces_of separator splitter paragraph)
+    pieces_are = ap (λ b. cond b (front_pieces settings ++ broken_words (later_width settings) (split_pieces_of separator splitter paragraph)) (split_pieces_of separator splitter paragraph)) breaks
 
-    whole : joined division ≡ pieces_of options paragraph
-    whole = division_joined (pieces_of options paragraph) division greedy.admissible.division
+    whole : joined division ≡ pieces_of settings separator splitter paragraph
+    whole = division_joined (pieces_of settings separator splitter paragraph) division greedy.admissible.division
 
-    tight : All (IsTight (later_width options)) (joined division)
+    tight : All (IsTight (later_width settings)) (joined division)
     tight =
-        subst (All (IsTight (later_width options))) (sym (whole ∙ pieces_are))
-        (All-append (IsTight (later_width options)) (front_pieces options) broken (front-tight (later_width options) (length options.initial_indent.now == 0))
-        (broken_words-tight (later_width options) (split_pieces_of options paragraph) (split_pieces_of-measured options paragraph utf8)))
+        subst (All (IsTight (later_width settings))) (sym (whole ∙ pieces_are))
+        (All-append (IsTight (later_width settings)) (front_pieces settings) broken (front-tight (later_width settings) (length settings.initial_indent == 0))
+        (broken_words-tight (later_width settings) (split_pieces_of separator splitter paragraph) (split_pieces_of-measured separator splitter paragraph utf8)))
 
     none : All HasNoPenalty (joined division)
-    none = subst (All HasNoPenalty) (sym whole) (pieces_of-no_penalty options paragraph)
+    none = subst (All HasNoPenalty) (sym whole) (pieces_of-no_penalty settings separator splitter paragraph)
 
-    room : text_width options.initial_indent.now ≡ 0 → (k : ℕ) → 0 ≤ k → later_width options ≤ line_width (widths_of options) k
+    room : text_width settings.initial_indent ≡ 0 → (k : ℕ) → 0 ≤ k → later_width settings ≤ line_width (widths_of settings) k
     room narrow zero from = omega (arith, narrow)
-    room narrow (suc k) from = let same = later_is (width_after options options.initial_indent.now) (later_width options) (suc k) (omega arith) in omega (arith, same)
+    room narrow (suc k) from = let same = later_is (width_after settings settings.initial_indent) (later_width settings) (suc k) (omega arith) in omega (arith, same)
 
-    by_front : (b : Bool) → (length options.initial_indent.now == 0) ≡ b → OnlyCharactersPass (widths_of options) 0 division
+    by_front : (b : Bool) → (length settings.initial_indent == 0) ≡ b → OnlyCharactersPass (widths_of settings) 0 division
     by_front true unindented =
-        let empty = nil_from_length options.initial_indent.now (eqb-true (length options.initial_indent.now) 0 unindented) in
-        let narrow : text_width options.initial_indent.now ≡ 0 = ap text_width empty ∙ text_width-nil in
-        lines_pass (later_width options) (widths_of options) 0 division greedy.admissible.fit (room narrow) tight none
+        let empty = nil_from_length settings.initial_indent (eqb-true (length settings.initial_indent) 0 unindented) in
+        let narrow : text_width settings.initial_indent ≡ 0 = ap text_width empty ∙ text_width-nil in
+        lines_pass (later_width settings) (widths_of settings) 0 division greedy.admissible.fit (room narrow) tight none
     by_front false indented =
-        front_passes (width_after options options.initial_indent.now) (later_width options) division broken
+        front_passes (width_after settings settings.initial_indent) (later_width settings) division broken
         (whole ∙ pieces_are ∙ ap (λ b. cond b [] (empty_word ∷ []) ++ broken) indented) greedy.admissible.fit tight none

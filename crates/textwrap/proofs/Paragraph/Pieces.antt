@@ -1,7 +1,7 @@
 -- Lemmas on the pieces of a paragraph: they tile it, and blanks stand between them.
-use Rattle.std.proofs.Common.{◌≡◌, ◌≢◌, ℕ, suc, ◌<◌, ◌≤◌, Bool, true, false, cond, ◌==◌, List, [], ◌∷◌, ◌++◌, All, length, get_or, take, drop, map, refl, sym, ap, ◌∙◌, arith}
+use Rattle.std.proofs.Common.{subst, ◌≡◌, ◌↔◌, ◌≢◌, ℕ, suc, ◌<◌, ◌≤◌, Bool, true, false, cond, ◌==◌, List, [], ◌∷◌, ◌++◌, All, length, get_or, take, drop, map, refl, sym, ap, ◌∙◌, arith}
 use Rattle.std.specs.Iterator.{Drains, YieldsFirstBy}
-use Rattle.std.specs.List.{slice_range}
+use Rattle.std.specs.List.{flat_map, slice_range}
 use Rattle.std.specs.List.Sorted.{IsNonDecreasing}
 use Rattle.std.specs.Str.{IsUtf8, IsCharBoundary}
 use Rattle.std.specs.Vec.Iter.{into_iter_items, into_iter_len, into_iter_steps}
@@ -12,7 +12,9 @@ use Rattle.std.proofs.lemmas.Iterator.Consumers.{YieldsList-from_first}
 use Rattle.std.proofs.lemmas.List.{map-id}
 use Rattle.std.proofs.lemmas.List.Elements.{All-nil, All-cons, All-head, All-tail, All-append, All-map, All-weaker, filter_passes}
 use Rattle.std.proofs.lemmas.Str.{IsUtf8-drop, IsUtf8-between, IsUtf8-nil, IsCharBoundary-start}
-use Rattle.textwrap_base.specs.Words.{piece, WordText, tiled, word_of, chunks}
+use Rattle.textwrap_base.specs.Words.{piece, WordText, sizes_of, tiled, word_of, chunks}
+use Rattle.textwrap_base.specs.WrapAlgorithms.{Algorithm}
+use Rattle.textwrap_base.proofs.Division.Map.{IsDividedBy-whole}
 use Rattle.textwrap_base.specs.Breaking.{broken_words}
 use Rattle.textwrap_base.specs.Units.{text_width}
 use Rattle.textwrap_base.specs.Blanks.{is_blank}
@@ -22,14 +24,14 @@ use Rattle.textwrap_base.proofs.Word.BrokenTexts.{broken_words-measured, broken_
 use Rattle.textwrap_base.proofs.Word.Bounds.{IsBounded, IsBounded-measured}
 use Rattle.textwrap_base.proofs.Word.Texts.{IsMeasured, EndsInBlanks, HasNoPenalty, no_blanks, words_of-measured, text_width-nil}
 use Rattle.textwrap_base.proofs.Word.Tiling.{tiled-append, tiled-words_of}
-use Rattle.textwrap.specs.declared.options.Options.{Options}
+use Rattle.textwrap.specs.Options.{Settings}
 use Rattle.textwrap.specs.declared.word_separators.WordSeparator.{WordSeparator}
 use Rattle.textwrap.specs.declared.word_separators.WordSeparator.TheVariants.{AsciiSpace}
 use Rattle.textwrap.specs.declared.word_splitters.WordSplitter.{WordSplitter}
 use Rattle.textwrap.specs.declared.word_splitters.WordSplitter.TheVariants.{NoHyphenation, HyphenSplitter}
-use Rattle.textwrap.specs.Paragraph.{empty_word, front_pieces, pieces_of, split_pieces_of, later_width}
-use Rattle.textwrap.specs.WordSeparators.{separated_words}
-use Rattle.textwrap.specs.WordSplitters.{AreCuts, hyphen, ends_in_hyphen, is_hyphen_point, inner_offsets, cut_penalty, points_of, split_from, split_word, split_words}
+use Rattle.textwrap.specs.Paragraph.{empty_word, front_pieces, broken_pieces_of, ArePieces, pieces_of, later_width, widths_of, IsDividedInto}
+use Rattle.textwrap.specs.WordSeparators.{AreSeparated, separated_words}
+use Rattle.textwrap.specs.WordSplitters.{AreCuts, hyphen, ends_in_hyphen, is_hyphen_point, inner_offsets, cut_penalty, points_of, split_from, split_pieces, split_word, split_words, ArePoints, AreSplit}
 use Rattle.textwrap.proofs.Word.Splitting.{points_of-cuts, tiled-split_words}
 
 -- ---- the words that an iterator has given
@@ -44,6 +46,48 @@ given-vec {A} {Z} it items xs drained is len =
 
 pub word_of-nil : word_of [] ≡ empty_word
 word_of-nil = ap (λ n. record { word = []; whitespace = []; penalty = []; width = n }) text_width-nil
+
+-- ---- the built-in parts leave exactly the computed pieces
+
+abbrev pub split_pieces_of : WordSeparator → WordSplitter → List ℕ → List WordText
+split_pieces_of separator splitter paragraph = split_words splitter (separated_words separator paragraph)
+
+AreSeparated-is : (separator : WordSeparator) (line : List ℕ) (words : List WordText) → AreSeparated separator line words → words ≡ separated_words separator line
+AreSeparated-is AsciiSpace line words are = are
+
+AreSeparated-computed : (separator : WordSeparator) (line : List ℕ) → AreSeparated separator line (separated_words separator line)
+AreSeparated-computed AsciiSpace line = refl
+
+AreSplit-is : (splitter : WordSplitter) (words pieces : List WordText) → AreSplit (ArePoints splitter) words pieces → pieces ≡ split_words splitter words
+AreSplit-is splitter [] pieces are = are
+AreSplit-is splitter (w ∷ words) pieces (points, rest, points_are, rest_are, is) =
+    is ∙ ap (λ ps. split_pieces ps w ++ rest) points_are ∙ ap (λ l. split_word splitter w ++ l) (AreSplit-is splitter words rest rest_are)
+
+AreSplit-computed : (splitter : WordSplitter) (words : List WordText) → AreSplit (ArePoints splitter) words (split_words splitter words)
+AreSplit-computed splitter [] = refl
+AreSplit-computed splitter (w ∷ words) = (points_of splitter w.word, split_words splitter words, refl, AreSplit-computed splitter words, refl)
+
+pub ArePieces-is : (settings : Settings) (separator : WordSeparator) (splitter : WordSplitter) (paragraph : List ℕ) (pieces : List WordText)
+    → ArePieces settings (AreSeparated separator) (ArePoints splitter) paragraph pieces → pieces ≡ pieces_of settings separator splitter paragraph
+ArePieces-is settings separator splitter paragraph pieces (words, split, words_are, split_are, is) =
+    is ∙ ap (broken_pieces_of settings) (AreSplit-is splitter words split split_are ∙ ap (split_words splitter) (AreSeparated-is separator paragraph words words_are))
+
+pub ArePieces-computed : (settings : Settings) (separator : WordSeparator) (splitter : WordSplitter) (paragraph : List ℕ)
+    → ArePieces settings (AreSeparated separator) (ArePoints splitter) paragraph (pieces_of settings separator splitter paragraph)
+ArePieces-computed settings separator splitter paragraph = (
+  separated_words separator paragraph,
+  split_pieces_of separator splitter paragraph,
+  AreSeparated-computed separator paragraph,
+  AreSplit-computed splitter (separated_words separator paragraph),
+  refl,
+)
+
+pub ArePieces-unique : (settings : Settings) (separator : WordSeparator) (splitter : WordSplitter) (paragraph : List ℕ) (pieces : List WordText)
+    → ArePieces settings (AreSeparated separator) (ArePoints splitter) paragraph pieces ↔ (pieces ≡ pieces_of settings separator splitter paragraph)
+ArePieces-unique settings separator splitter paragraph pieces = (
+  ArePieces-is settings separator splitter paragraph pieces,
+  λ is. subst (ArePieces settings (AreSeparated separator) (ArePoints splitter) paragraph) (sym is) (ArePieces-computed settings separator splitter paragraph),
+)
 
 -- ---- words and their pieces are texts
 
@@ -74,42 +118,42 @@ split_words-measured splitter (w ∷ words) all =
     (split_from-measured w 0 (points_of splitter w.word) measured (IsCharBoundary-start w.word measured.utf8) cuts.in_order cuts.between (λ k lt. omega arith))
     (split_words-measured splitter words (All-tail IsMeasured w words all))
 
-pub split_pieces_of-measured : (options : Options) (paragraph : List ℕ) → IsUtf8 paragraph → All IsMeasured (split_pieces_of options paragraph)
-split_pieces_of-measured options paragraph utf8 =
-    split_words-measured options.word_splitter (separated_words options.word_separator paragraph) (separated-measured options.word_separator paragraph utf8)
+pub split_pieces_of-measured : (separator : WordSeparator) (splitter : WordSplitter) (paragraph : List ℕ) → IsUtf8 paragraph → All IsMeasured (split_pieces_of separator splitter paragraph)
+split_pieces_of-measured separator splitter paragraph utf8 =
+    split_words-measured splitter (separated_words separator paragraph) (separated-measured separator paragraph utf8)
 
 -- ---- the pieces tile the paragraph
 
-tiled-split_pieces_of : (options : Options) (paragraph : List ℕ) → IsUtf8 paragraph → tiled (split_pieces_of options paragraph) ≡ paragraph
-tiled-split_pieces_of options paragraph utf8 =
-    let words = separated_words options.word_separator paragraph in
-    tiled-split_words options.word_splitter words (All-weaker IsMeasured (λ w. IsUtf8 w.word) (λ w measured. measured.utf8) words (separated-measured options.word_separator paragraph utf8))
-    ∙ tiled-separated options.word_separator paragraph
+tiled-split_pieces_of : (separator : WordSeparator) (splitter : WordSplitter) (paragraph : List ℕ) → IsUtf8 paragraph → tiled (split_pieces_of separator splitter paragraph) ≡ paragraph
+tiled-split_pieces_of separator splitter paragraph utf8 =
+    let words = separated_words separator paragraph in
+    tiled-split_words splitter words (All-weaker IsMeasured (λ w. IsUtf8 w.word) (λ w measured. measured.utf8) words (separated-measured separator paragraph utf8))
+    ∙ tiled-separated separator paragraph
 
 pub wide-some : (limit : ℕ) (w : WordText) → IsMeasured w → limit < w.width → w.word ≢ []
 wide-some limit w measured wide none = let nothing : w.width ≡ 0 = measured.width ∙ ap text_width none ∙ text_width-nil in omega arith
 
-tiled-broken : (options : Options) (paragraph : List ℕ) → IsUtf8 paragraph → tiled (broken_words (later_width options) (split_pieces_of options paragraph)) ≡ paragraph
-tiled-broken options paragraph utf8 =
-    let words = split_pieces_of options paragraph in
-    let limit = later_width options in
-    let measured = split_pieces_of-measured options paragraph utf8 in
+tiled-broken : (settings : Settings) (separator : WordSeparator) (splitter : WordSplitter) (paragraph : List ℕ) → IsUtf8 paragraph → tiled (broken_words (later_width settings) (split_pieces_of separator splitter paragraph)) ≡ paragraph
+tiled-broken settings separator splitter paragraph utf8 =
+    let words = split_pieces_of separator splitter paragraph in
+    let limit = later_width settings in
+    let measured = split_pieces_of-measured separator splitter paragraph utf8 in
     tiled-broken_words limit words (All-weaker IsMeasured (λ w. IsUtf8 w.word) (λ w m. m.utf8) words measured)
     (All-weaker IsMeasured (λ w. limit < w.width → w.word ≢ []) (λ w m. wide-some limit w m) words measured)
-    ∙ tiled-split_pieces_of options paragraph utf8
+    ∙ tiled-split_pieces_of separator splitter paragraph utf8
 
 tiled-front : (b : Bool) → tiled (cond b [] (empty_word ∷ [])) ≡ []
 tiled-front true = refl
 tiled-front false = refl
 
-pub pieces_of-tile : (options : Options) (paragraph : List ℕ) → IsUtf8 paragraph → tiled (pieces_of options paragraph) ≡ paragraph
-pieces_of-tile options paragraph utf8 =
-    let split = split_pieces_of options paragraph in
-    let broken = broken_words (later_width options) split in
-    elim options.break_words as (λ b. tiled (cond b (front_pieces options ++ broken) split) ≡ paragraph) [
+pub pieces_of-tile : (settings : Settings) (separator : WordSeparator) (splitter : WordSplitter) (paragraph : List ℕ) → IsUtf8 paragraph → tiled (pieces_of settings separator splitter paragraph) ≡ paragraph
+pieces_of-tile settings separator splitter paragraph utf8 =
+    let split = split_pieces_of separator splitter paragraph in
+    let broken = broken_words (later_width settings) split in
+    elim settings.break_words as (λ b. tiled (cond b (front_pieces settings ++ broken) split) ≡ paragraph) [
       | true ↦
-          tiled-append (front_pieces options) broken ∙ ap (λ l. l ++ tiled broken) (tiled-front (length options.initial_indent.now == 0)) ∙ tiled-broken options paragraph utf8
-      | false ↦ tiled-split_pieces_of options paragraph utf8
+          tiled-append (front_pieces settings) broken ∙ ap (λ l. l ++ tiled broken) (tiled-front (length settings.initial_indent == 0)) ∙ tiled-broken settings separator splitter paragraph utf8
+      | false ↦ tiled-split_pieces_of separator splitter paragraph utf8
     ]
 
 -- ---- the pieces are text, with blanks between them
@@ -118,18 +162,18 @@ front-measured : (b : Bool) → All IsMeasured (cond b [] (empty_word ∷ []))
 front-measured true = All-nil IsMeasured
 front-measured false = All-cons IsMeasured empty_word [] (record { utf8 = IsUtf8-nil; width = sym text_width-nil; ending = record { blanks = no_blanks; none = λ _. refl } }) (All-nil IsMeasured)
 
-pub pieces_of-measured : (options : Options) (paragraph : List ℕ) → IsUtf8 paragraph → All IsMeasured (pieces_of options paragraph)
-pieces_of-measured options paragraph utf8 =
-    let split = split_pieces_of options paragraph in
-    let broken = broken_words (later_width options) split in
-    let measured = split_pieces_of-measured options paragraph utf8 in
-    elim options.break_words as (λ b. All IsMeasured (cond b (front_pieces options ++ broken) split)) [
-      | true ↦ All-append IsMeasured (front_pieces options) broken (front-measured (length options.initial_indent.now == 0)) (broken_words-measured (later_width options) split measured)
+pub pieces_of-measured : (settings : Settings) (separator : WordSeparator) (splitter : WordSplitter) (paragraph : List ℕ) → IsUtf8 paragraph → All IsMeasured (pieces_of settings separator splitter paragraph)
+pieces_of-measured settings separator splitter paragraph utf8 =
+    let split = split_pieces_of separator splitter paragraph in
+    let broken = broken_words (later_width settings) split in
+    let measured = split_pieces_of-measured separator splitter paragraph utf8 in
+    elim settings.break_words as (λ b. All IsMeasured (cond b (front_pieces settings ++ broken) split)) [
+      | true ↦ All-append IsMeasured (front_pieces settings) broken (front-measured (length settings.initial_indent == 0)) (broken_words-measured (later_width settings) split measured)
       | false ↦ measured
     ]
 
-pub pieces_of-blanks : (options : Options) (paragraph : List ℕ) → IsUtf8 paragraph → All EndsInBlanks (pieces_of options paragraph)
-pieces_of-blanks options paragraph utf8 = All-weaker IsMeasured EndsInBlanks (λ w measured. measured.ending) (pieces_of options paragraph) (pieces_of-measured options paragraph utf8)
+pub pieces_of-blanks : (settings : Settings) (separator : WordSeparator) (splitter : WordSplitter) (paragraph : List ℕ) → IsUtf8 paragraph → All EndsInBlanks (pieces_of settings separator splitter paragraph)
+pieces_of-blanks settings separator splitter paragraph utf8 = All-weaker IsMeasured EndsInBlanks (λ w measured. measured.ending) (pieces_of settings separator splitter paragraph) (pieces_of-measured settings separator splitter paragraph utf8)
 
 -- ---- they have no penalties, and so keep to their bytes
 
@@ -159,19 +203,36 @@ front-no_penalty : (b : Bool) → All HasNoPenalty (cond b [] (empty_word ∷ []
 front-no_penalty true = All-nil HasNoPenalty
 front-no_penalty false = All-cons HasNoPenalty empty_word [] refl (All-nil HasNoPenalty)
 
-pub pieces_of-no_penalty : (options : Options) (paragraph : List ℕ) → All HasNoPenalty (pieces_of options paragraph)
-pieces_of-no_penalty options paragraph =
-    let split = split_pieces_of options paragraph in
-    let broken = broken_words (later_width options) split in
-    let words = separated_words options.word_separator paragraph in
-    let none = split_words-no_penalty options.word_splitter words (separated-no_penalty options.word_separator paragraph) in
-    elim options.break_words as (λ b. All HasNoPenalty (cond b (front_pieces options ++ broken) split)) [
-      | true ↦ All-append HasNoPenalty (front_pieces options) broken (front-no_penalty (length options.initial_indent.now == 0)) (broken_words-no_penalty (later_width options) split none)
+pub pieces_of-no_penalty : (settings : Settings) (separator : WordSeparator) (splitter : WordSplitter) (paragraph : List ℕ) → All HasNoPenalty (pieces_of settings separator splitter paragraph)
+pieces_of-no_penalty settings separator splitter paragraph =
+    let split = split_pieces_of separator splitter paragraph in
+    let broken = broken_words (later_width settings) split in
+    let words = separated_words separator paragraph in
+    let none = split_words-no_penalty splitter words (separated-no_penalty separator paragraph) in
+    elim settings.break_words as (λ b. All HasNoPenalty (cond b (front_pieces settings ++ broken) split)) [
+      | true ↦ All-append HasNoPenalty (front_pieces settings) broken (front-no_penalty (length settings.initial_indent == 0)) (broken_words-no_penalty (later_width settings) split none)
       | false ↦ none
     ]
 
-pub pieces_of-bounded : (options : Options) (paragraph : List ℕ) → IsUtf8 paragraph → All IsBounded (pieces_of options paragraph)
-pieces_of-bounded options paragraph utf8 =
-    let measured = pieces_of-measured options paragraph utf8 in
-    let none = pieces_of-no_penalty options paragraph in
+pub pieces_of-bounded : (settings : Settings) (separator : WordSeparator) (splitter : WordSplitter) (paragraph : List ℕ) → IsUtf8 paragraph → All IsBounded (pieces_of settings separator splitter paragraph)
+pieces_of-bounded settings separator splitter paragraph utf8 =
+    let measured = pieces_of-measured settings separator splitter paragraph utf8 in
+    let none = pieces_of-no_penalty settings separator splitter paragraph in
     λ k d lt. IsBounded-measured _ (measured k d lt) (none k d lt)
+
+-- ---- what a division of them covers
+
+module _ (settings : Settings) (algorithm : Algorithm) (separator : WordSeparator) (splitter : WordSplitter) where
+  pub IsDividedInto-whole : (paragraph : List ℕ) (division : List (List WordText)) → IsDividedInto settings algorithm (AreSeparated separator) (ArePoints splitter) paragraph division
+      → flat_map (λ line. line) division ≡ pieces_of settings separator splitter paragraph
+  IsDividedInto-whole paragraph division (pieces, are, divided) =
+      IsDividedBy-whole sizes_of algorithm (widths_of settings) pieces division divided ∙ ArePieces-is settings separator splitter paragraph pieces are
+
+  pub IsDividedInto-tile : (paragraph : List ℕ) (division : List (List WordText)) → IsUtf8 paragraph → IsDividedInto settings algorithm (AreSeparated separator) (ArePoints splitter) paragraph division
+      → tiled (flat_map (λ line. line) division) ≡ paragraph
+  IsDividedInto-tile paragraph division utf8 divided = ap tiled (IsDividedInto-whole paragraph division divided) ∙ pieces_of-tile settings separator splitter paragraph utf8
+
+  pub IsDividedInto-blanks : (paragraph : List ℕ) (division : List (List WordText)) → IsUtf8 paragraph → IsDividedInto settings algorithm (AreSeparated separator) (ArePoints splitter) paragraph division
+      → All EndsInBlanks (flat_map (λ line. line) division)
+  IsDividedInto-blanks paragraph division utf8 divided =
+      subst (All EndsInBlanks) (sym (IsDividedInto-whole paragraph division divided)) (pieces_of-blanks settings separator splitter paragraph utf8)

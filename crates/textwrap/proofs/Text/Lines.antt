@@ -1,5 +1,5 @@
 -- Lemmas on the lines of a text.
-use Rattle.std.proofs.Common.{◌≡◌, ℕ, zero, suc, ◌+◌, ◌<◌, ◌||◌, nat_lt, Option, None, Some, MatchOption, true, false, List, [], ◌∷◌, ◌++◌, length, get_or, take, map, refl, sym, ap, ◌∙◌, subst, arith, append_assoc, append-nil, length-append}
+use Rattle.std.proofs.Common.{◌≡◌, ℕ, zero, suc, ◌+◌, ◌<◌, ◌||◌, nat_lt, Option, None, Some, MatchOption, cond, true, false, List, [], ◌∷◌, ◌++◌, length, get_or, take, map, refl, sym, ap, ◌∙◌, subst, arith, append_assoc, append-nil, length-append}
 use Rattle.std.specs.Borrow.{Bor}
 use Rattle.std.specs.Cow.{cow_str_bytes}
 use Rattle.std.specs.List.{flat_map}
@@ -10,12 +10,14 @@ use Rattle.std.proofs.lemmas.Bool.Decides.{nat_tests}
 use Rattle.std.proofs.lemmas.List.{take_more, map-append, length-map}
 use Rattle.std.proofs.lemmas.List.Concat.{flat_map-append}
 use Rattle.textwrap.specs.declared.line_ending.LineEnding.{LineEnding}
-use Rattle.textwrap.specs.declared.options.Options.{Options}
+use Rattle.textwrap.specs.Options.{Settings}
 use Rattle.textwrap.specs.LineEnding.{paragraphs_of, join_with}
-use Rattle.textwrap.specs.Paragraph.{Line, LineParts, Slice, line_view, line_from, line_bytes, is_whole, whole_parts, AreParagraphParts}
-use Rattle.textwrap.specs.Text.{AreGroups, AreTextGroups, lines_from}
+use Rattle.textwrap_base.specs.Blanks.{without_final_blanks}
+use Rattle.textwrap_base.specs.Words.{WordText, word_of}
+use Rattle.textwrap.specs.Paragraph.{Line, LineParts, line_view, line_from, line_bytes, parts_of, is_whole, AreParagraphParts}
+use Rattle.textwrap.specs.Text.{AreGroups, AreTextLines}
 use Rattle.textwrap.specs.Filling.{IsFilled}
-use Rattle.textwrap.proofs.Paragraph.Lines.{AreParagraphParts-whole}
+use Rattle.textwrap.proofs.Paragraph.Lines.{line_from-whole, AreParagraphParts-whole}
 
 -- ---- joined lines
 
@@ -61,37 +63,45 @@ abbrev pub bytes_left : Option (Bor (List ℕ)) → ℕ
 bytes_left None = 0
 bytes_left (Some rest) = length rest.now + 1
 
--- the lines are those of the paragraphs so far: with right lines of the paragraphs left they are the lines of the text
-pub record HasGroups (options : Options) (text : List ℕ) (lines : List Line) (left : List (List ℕ)) : Type 0 where
-  pub groups : List (List LineParts)
-  pub given : lines ≡ lines_from groups
-  pub more : (others : List (List LineParts)) → AreGroups options (nat_lt 0 (length lines)) left others → AreTextGroups options text (groups ++ others)
+module _ (settings : Settings) (Divides : List ℕ → List (List WordText) → Type 0) where
+  -- the lines are those of the paragraphs so far: with right lines of the paragraphs left they are the lines of the text
+  pub record HasGroups (text : List ℕ) (lines : List Line) (left : List (List ℕ)) : Type 0 where
+    pub groups : List (List LineParts)
+    pub given : lines ≡ map line_from (flat_map (λ parts. parts) groups)
+    pub more : (others : List (List LineParts)) → AreGroups settings Divides (nat_lt 0 (length lines)) left others
+        → AreGroups settings Divides false (paragraphs_of settings.line_ending text) (groups ++ others)
 
-pub HasGroups-start : (options : Options) (text : List ℕ) → HasGroups options text [] (paragraphs_of options.line_ending text)
-HasGroups-start options text = record { groups = []; given = refl; more = λ others defined. defined }
+  pub HasGroups-start : (text : List ℕ) → HasGroups text [] (paragraphs_of settings.line_ending text)
+  HasGroups-start text = record { groups = []; given = refl; more = λ others defined. defined }
 
-lines_from-push : (groups : List (List LineParts)) (parts : List LineParts) → lines_from (groups ++ parts ∷ []) ≡ lines_from groups ++ map line_from parts
-lines_from-push groups parts =
-    ap (map line_from) (flat_map-append (λ (ps : List LineParts). ps) groups (parts ∷ []) ∙ ap (λ ps. flat_map (λ p. p) groups ++ ps) (append-nil parts))
-    ∙ map-append line_from (flat_map (λ p. p) groups) parts
+  lines_from-push : (groups : List (List LineParts)) (parts : List LineParts)
+      → map line_from (flat_map (λ ps. ps) (groups ++ parts ∷ [])) ≡ map line_from (flat_map (λ ps. ps) groups) ++ map line_from parts
+  lines_from-push groups parts =
+      ap (map line_from) (flat_map-append (λ (ps : List LineParts). ps) groups (parts ∷ []) ∙ ap (λ ps. flat_map (λ p. p) groups ++ ps) (append-nil parts))
+      ∙ map-append line_from (flat_map (λ p. p) groups) parts
 
--- a line is out where one was out, or one was added
-is_later-or : (now before added : ℕ) → now ≡ before + added → nat_lt 0 now ≡ nat_lt 0 before || nat_lt 0 added
-is_later-or now before added is = grind (arith, nat_tests)
+  -- a line is out where one was out, or one was added
+  is_later-or : (now before added : ℕ) → now ≡ before + added → nat_lt 0 now ≡ nat_lt 0 before || nat_lt 0 added
+  is_later-or now before added is = grind (arith, nat_tests)
 
-pub HasGroups-more : (options : Options) (text : List ℕ) (lines more : List Line) (left after : List (List ℕ)) (paragraph : List ℕ) (parts : List LineParts) → HasGroups options text lines left
-    → left ≡ paragraph ∷ after → AreParagraphParts options (nat_lt 0 (length lines)) paragraph parts → more ≡ lines ++ map line_from parts → HasGroups options text more after
-HasGroups-more options text lines more left after paragraph parts so_far left_is defined more_is =
-    let is_later : nat_lt 0 (length more) ≡ nat_lt 0 (length lines) || nat_lt 0 (length parts) =
-    is_later-or (length more) (length lines) (length parts) (ap length more_is ∙ length-append lines (map line_from parts) ∙ ap (λ n. length lines + n) (length-map parts line_from)) in
-    record {
-      groups = so_far.groups ++ parts ∷ [];
-      given = more_is ∙ ap (λ l. l ++ map line_from parts) so_far.given ∙ sym (lines_from-push so_far.groups parts);
-      more = λ others rest.
-          subst (AreTextGroups options text) (sym (append_assoc so_far.groups (parts ∷ []) others))
-          (so_far.more (parts ∷ others)
-          (subst (λ ps. AreGroups options (nat_lt 0 (length lines)) ps (parts ∷ others)) (sym left_is) (defined, subst (λ b. AreGroups options b after others) is_later rest)));
-    }
+  pub HasGroups-more : (text : List ℕ) (lines more : List Line) (left after : List (List ℕ)) (paragraph : List ℕ) (parts : List LineParts) → HasGroups text lines left
+      → left ≡ paragraph ∷ after → AreParagraphParts settings Divides (nat_lt 0 (length lines)) paragraph parts → more ≡ lines ++ map line_from parts → HasGroups text more after
+  HasGroups-more text lines more left after paragraph parts so_far left_is defined more_is =
+      let is_later : nat_lt 0 (length more) ≡ nat_lt 0 (length lines) || nat_lt 0 (length parts) =
+      is_later-or (length more) (length lines) (length parts) (ap length more_is ∙ length-append lines (map line_from parts) ∙ ap (λ n. length lines + n) (length-map parts line_from)) in
+      record {
+        groups = so_far.groups ++ parts ∷ [];
+        given = more_is ∙ ap (λ l. l ++ map line_from parts) so_far.given ∙ sym (lines_from-push so_far.groups parts);
+        more = λ others rest.
+            subst (AreGroups settings Divides false (paragraphs_of settings.line_ending text)) (sym (append_assoc so_far.groups (parts ∷ []) others))
+            (so_far.more (parts ∷ others)
+            (subst (λ ps. AreGroups settings Divides (nat_lt 0 (length lines)) ps (parts ∷ others)) (sym left_is) (defined, subst (λ b. AreGroups settings Divides b after others) is_later rest)));
+      }
+
+  -- at the end they are lines of the whole text
+  pub HasGroups-end : (text : List ℕ) (lines : List Line) → HasGroups text lines [] → AreTextLines settings Divides text lines
+  HasGroups-end text lines all =
+      record { groups = all.groups; defined = subst (AreGroups settings Divides false (paragraphs_of settings.line_ending text)) (append-nil all.groups) (all.more [] refl); given = all.given }
 
 pub paragraphs_left-split : (ending : LineEnding) (rest : List ℕ) (after : Option (Bor (List ℕ))) (paragraph : List ℕ)
     → MatchOption after (paragraphs_of ending rest ≡ paragraph ∷ []) (λ a. paragraphs_of ending rest ≡ paragraph ∷ paragraphs_of ending a.now)
@@ -99,20 +109,16 @@ pub paragraphs_left-split : (ending : LineEnding) (rest : List ℕ) (after : Opt
 paragraphs_left-split ending rest None paragraph is = is
 paragraphs_left-split ending rest (Some after) paragraph is = is
 
--- at the end there are lines of the whole text
-pub HasGroups-end : (options : Options) (text : List ℕ) (lines : List Line) → (all : HasGroups options text lines []) → AreTextGroups options text all.groups
-HasGroups-end options text lines all = subst (AreTextGroups options text) (append-nil all.groups) (all.more [] refl)
-
 -- ---- a text that is one line as a whole
 
 pub no_more : {X A : Type 0} (B : X → Type 0) (after : Option X) → is_some after ≡ false → MatchOption after A B → A
 no_more B None none is = is
 no_more B (Some x) none is = cc
 
-pub IsFilled-whole : (options : Options) (text paragraph filled : List ℕ) → paragraphs_of options.line_ending text ≡ paragraph ∷ [] → is_whole options false paragraph ≡ true
-    → Slice filled ≡ line_from (whole_parts options paragraph) → IsFilled options text filled
-IsFilled-whole options text paragraph filled only whole is =
-    let parts = whole_parts options paragraph ∷ [] in
-    let defined : AreTextGroups options text (parts ∷ []) =
-    subst (λ paragraphs. AreGroups options false paragraphs (parts ∷ [])) (sym only) (AreParagraphParts-whole options false paragraph whole, refl) in
-    (lines_from (parts ∷ []), (parts ∷ [], defined, refl), ap line_bytes is)
+pub IsFilled-whole : (settings : Settings) (Divides : List ℕ → List (List WordText) → Type 0) (text paragraph filled : List ℕ) → paragraphs_of settings.line_ending text ≡ paragraph ∷ [] → is_whole settings false paragraph ≡ true
+    → filled ≡ cond settings.preserve_trailing_space paragraph (without_final_blanks paragraph) → IsFilled settings Divides text filled
+IsFilled-whole settings Divides text paragraph filled only whole is =
+    let parts = parts_of settings false (word_of paragraph ∷ []) ∷ [] in
+    let defined : AreGroups settings Divides false (paragraphs_of settings.line_ending text) (parts ∷ []) =
+    subst (λ paragraphs. AreGroups settings Divides false paragraphs (parts ∷ [])) (sym only) (AreParagraphParts-whole settings Divides false paragraph whole, refl) in
+    (map line_from parts, record { groups = parts ∷ []; defined = defined; given = refl }, is ∙ sym (ap line_bytes (line_from-whole settings false paragraph whole)))

@@ -1,5 +1,17 @@
-use Rattle.textwrap.proofs.Text.Unique.{divided_parts_one, paragraph_one, text_one, filled_one}
+use Rattle.textwrap.specs.Paragraph.{IsDividedInto}
+use Rattle.textwrap.specs.WordSeparators.{AreSeparated}
+use Rattle.textwrap.specs.WordSplitters.{ArePoints}
+use Rattle.textwrap.proofs.Text.Unique.{division_one, divided_parts_one, paragraph_one, text_one, filled_one}
 use Rattle.textwrap.proofs.laws.lines_are_unique.Goals as goal
 
 pub returns : goal.returns
-returns c = record { divided = divided_parts_one; paragraph = paragraph_one; text = text_one; filled = filled_one }
+returns c = record {
+  divided = λ settings algorithm separator splitter.
+      divided_parts_one settings (IsDividedInto settings algorithm (AreSeparated separator) (ArePoints splitter)) (division_one settings algorithm separator splitter);
+  paragraph = λ settings algorithm separator splitter.
+      paragraph_one settings (IsDividedInto settings algorithm (AreSeparated separator) (ArePoints splitter)) (division_one settings algorithm separator splitter);
+  text = λ settings algorithm separator splitter.
+      text_one settings (IsDividedInto settings algorithm (AreSeparated separator) (ArePoints splitter)) (division_one settings algorithm separator splitter);
+  filled = λ settings algorithm separator splitter.
+      filled_one settings (IsDividedInto settings algorithm (AreSeparated separator) (ArePoints splitter)) (division_one settings algorithm separator splitter);
+}

@@ -3,6 +3,7 @@ use denote.Text.{Utf8}
 use denote.Shadow.{shadow}
 use Rattle.std.specs.List.{flat_map}
 use Rattle.textwrap_base.specs.Words.{word_view, tiled}
+use Rattle.textwrap.specs.Options.{settings_view}
 use Rattle.textwrap.specs.Paragraph.{line_view, line_from, parts_from}
 use Rattle.textwrap.proofs.wrapping.push_lines.Given as goal
 
@@ -14,4 +15,4 @@ invariant-loop-pieces l =
     × (take (length l.initial.lines.items) l.lines.items ≡ l.initial.lines.items)
     × (map line_view l.lines.items
     ≡ map line_view l.initial.lines.items
-    ++ map line_from (parts_from l.options (nat_lt 0 (length l.initial.lines.items)) (map (λ line. map word_view line.now) (take l.pieces-index l.division))))
+    ++ map line_from (parts_from (settings_view l.options) (nat_lt 0 (length l.initial.lines.items)) (map (λ line. map word_view line.now) (take l.pieces-index l.division))))

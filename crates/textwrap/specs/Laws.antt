@@ -1,0 +1,72 @@
+-- What the laws say.
+use Rattle.std.specs.Prelude.{◌≡◌, ◌↔◌, ℕ, Bool, List, All, IsUtf8}
+use Rattle.textwrap_base.specs.Words.{WordText, tile_of, tiled}
+use Rattle.textwrap_base.specs.WrapAlgorithms.{Algorithm}
+use Rattle.textwrap.specs.Filling.{IsFilled}
+use Rattle.textwrap.specs.LineEnding.{AreParagraphs, paragraphs_of}
+use Rattle.textwrap.specs.Options.{Settings}
+use Rattle.textwrap.specs.Paragraph.{ArePieces, pieces_of, IsDividedInto, AreDividedParts, AreParagraphParts}
+use Rattle.textwrap.specs.Text.{AreTextLines}
+use Rattle.textwrap.specs.WordSeparators.{AreSeparated}
+use Rattle.textwrap.specs.WordSplitters.{AreCuts, ArePoints, points_of, split_pieces, split_words}
+use Rattle.textwrap.specs.declared.line_ending.LineEnding.{LineEnding}
+use Rattle.textwrap.specs.declared.word_separators.WordSeparator.{WordSeparator}
+use Rattle.textwrap.specs.declared.word_splitters.WordSplitter.{WordSplitter}
+
+-- a text has its paragraphs in one way, the computed one
+abbrev pub ParagraphsAreUnique : Type 0
+ParagraphsAreUnique =
+    (ending : LineEnding) (text : List ℕ) (paragraphs : List (List ℕ))
+    → AreParagraphs ending text paragraphs ↔ (paragraphs ≡ paragraphs_of ending text)
+
+-- by a built-in separator and splitter a paragraph has exactly the computed pieces
+abbrev pub PiecesAreUnique : Type 0
+PiecesAreUnique =
+    (settings : Settings) (separator : WordSeparator) (splitter : WordSplitter)
+    (paragraph : List ℕ) (pieces : List WordText)
+    → ArePieces settings (AreSeparated separator) (ArePoints splitter) paragraph pieces
+    ↔ (pieces ≡ pieces_of settings separator splitter paragraph)
+
+-- each value has one of these at most
+abbrev pub IsUnique : {B : Type 0} → (List ℕ → B → Type 0) → Type 0
+IsUnique {B} Is = (x : List ℕ) (first second : B) → Is x first → Is x second → first ≡ second
+
+-- whatever the settings and the algorithm, for the built-in separators and splitters
+abbrev pub ForBuiltIn : (Settings → (List ℕ → List (List WordText) → Type 0) → Type 0) → Type 0
+ForBuiltIn Holds =
+    (settings : Settings) (algorithm : Algorithm) (separator : WordSeparator)
+    (splitter : WordSplitter)
+    → Holds settings (IsDividedInto settings algorithm (AreSeparated separator) (ArePoints splitter))
+
+abbrev pub DividedLinesAreUnique : Type 0
+DividedLinesAreUnique =
+    ForBuiltIn (λ settings Divides. (is_later : Bool)
+    → IsUnique (AreDividedParts settings Divides is_later))
+
+abbrev pub ParagraphLinesAreUnique : Type 0
+ParagraphLinesAreUnique =
+    ForBuiltIn (λ settings Divides. (is_later : Bool)
+    → IsUnique (AreParagraphParts settings Divides is_later))
+
+abbrev pub TextLinesAreUnique : Type 0
+TextLinesAreUnique = ForBuiltIn (λ settings Divides. IsUnique (AreTextLines settings Divides))
+
+abbrev pub FilledTextIsUnique : Type 0
+FilledTextIsUnique = ForBuiltIn (λ settings Divides. IsUnique (IsFilled settings Divides))
+
+-- the points of a splitter are cuts of the word
+abbrev pub PointsAreCuts : Type 0
+PointsAreCuts =
+    (splitter : WordSplitter) (text : List ℕ) → IsUtf8 text → AreCuts text (points_of splitter text)
+
+-- the pieces at any cuts tile the word, with its whitespace
+abbrev pub SplitPiecesTile : Type 0
+SplitPiecesTile =
+    (points : List ℕ) (w : WordText) → AreCuts w.word points
+    → tiled (split_pieces points w) ≡ tile_of w
+
+-- so the pieces of words tile what the words do
+abbrev pub SplitWordsTile : Type 0
+SplitWordsTile =
+    (splitter : WordSplitter) (words : List WordText) → All (λ w. IsUtf8 w.word) words
+    → tiled (split_words splitter words) ≡ tiled words

@@ -3,7 +3,7 @@ use Rattle.std.proofs.Common.{◌≡◌, ℕ, List, [], ◌++◌, length, take, 
 use Rattle.std.specs.Io.KnownBytes.{Appends, Keeps}
 use Rattle.std.proofs.KnownBytes.{Appends-trans, Appends-kept}
 use Rattle.std.proofs.lemmas.List.{take_at}
-use Rattle.textwrap_cli.specs.Filling.{WritesBeginning}
+use Rattle.textwrap_cli.specs.Filling.{WritesPrefix}
 
 -- what is written so far, and the rest, are the bytes
 pub record WrittenSoFar (old new : Option (List ℕ)) (rest bytes : List ℕ) : Type 0 where
@@ -18,21 +18,21 @@ WrittenSoFar-more old mid new rest bytes count so_far more = record {
   appends = Appends-trans old mid new so_far.written (take count rest) so_far.appends more;
 }
 
-WritesBeginning-from : (old new : Option (List ℕ)) (rest bytes : List ℕ) → WrittenSoFar old new rest bytes → WritesBeginning old new bytes
-WritesBeginning-from old new rest bytes so_far =
+WritesPrefix-from : (old new : Option (List ℕ)) (rest bytes : List ℕ) → WrittenSoFar old new rest bytes → WritesPrefix old new bytes
+WritesPrefix-from old new rest bytes so_far =
     (length so_far.written, subst (Appends old new) (sym (ap (take (length so_far.written)) (sym so_far.whole) ∙ take_at so_far.written rest (length so_far.written) refl)) so_far.appends)
 
-pub WritesBeginning-nothing_more : (old mid new : Option (List ℕ)) (rest bytes : List ℕ) → WrittenSoFar old mid rest bytes → Appends mid new [] → WritesBeginning old new bytes
-WritesBeginning-nothing_more old mid new rest bytes so_far nothing =
-    WritesBeginning-from old new rest bytes record {
+pub WritesPrefix-nothing_more : (old mid new : Option (List ℕ)) (rest bytes : List ℕ) → WrittenSoFar old mid rest bytes → Appends mid new [] → WritesPrefix old new bytes
+WritesPrefix-nothing_more old mid new rest bytes so_far nothing =
+    WritesPrefix-from old new rest bytes record {
       written = so_far.written;
       whole = so_far.whole;
       appends = subst (Appends old new) (append-nil so_far.written) (Appends-trans old mid new so_far.written [] so_far.appends nothing);
     }
 
-pub WritesBeginning-kept : (old mid new : Option (List ℕ)) (rest bytes : List ℕ) → WrittenSoFar old mid rest bytes → Keeps mid new → WritesBeginning old new bytes
-WritesBeginning-kept old mid new rest bytes so_far kept =
-    WritesBeginning-from old new rest bytes record { written = so_far.written; whole = so_far.whole; appends = Appends-kept old mid new so_far.written so_far.appends kept }
+pub WritesPrefix-kept : (old mid new : Option (List ℕ)) (rest bytes : List ℕ) → WrittenSoFar old mid rest bytes → Keeps mid new → WritesPrefix old new bytes
+WritesPrefix-kept old mid new rest bytes so_far kept =
+    WritesPrefix-from old new rest bytes record { written = so_far.written; whole = so_far.whole; appends = Appends-kept old mid new so_far.written so_far.appends kept }
 
 -- where nothing is left, all is written
 pub Appends-whole : (old new : Option (List ℕ)) (rest bytes : List ℕ) → WrittenSoFar old new rest bytes → rest ≡ [] → Appends old new bytes

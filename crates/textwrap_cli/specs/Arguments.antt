@@ -3,9 +3,9 @@ use Rattle.std.specs.Prelude.{ℕ, ◌^◌, Bool, ◌&&◌, nat_lt, List, [], �
 use Rattle.std.specs.Option.{option_and_then, option_map}
 use Rattle.std.specs.Str.{all_ascii_digits, bytes_eq}
 use Rattle.std.specs.Str.Parse.{digits_value}
-use Rattle.textwrap.specs.Options.{default_algorithm}
+use Rattle.textwrap.specs.Penalties.{default_penalties}
 use Rattle.textwrap.specs.declared.wrap_algorithms.WrapAlgorithm.{WrapAlgorithm}
-use Rattle.textwrap.specs.declared.wrap_algorithms.WrapAlgorithm.TheVariants.{FirstFit}
+use Rattle.textwrap.specs.declared.wrap_algorithms.WrapAlgorithm.TheVariants.{FirstFit, OptimalFit}
 use Rattle.textwrap_cli.specs.declared.arguments.Settings.{Settings}
 
 -- one or more ASCII digits that are a number of 64 bits
@@ -18,7 +18,7 @@ width_of word = if is_width word then Some (digits_value 10 word) else None
 abbrev pub algorithm_of : List ℕ → Option WrapAlgorithm
 algorithm_of word =
     if bytes_eq word (codes "first") then Some FirstFit
-    else if bytes_eq word (codes "optimal") then Some default_algorithm
+    else if bytes_eq word (codes "optimal") then Some (OptimalFit default_penalties)
     else None
 
 -- the settings of a width and an algorithm, where both are there
@@ -28,6 +28,6 @@ settings_with width algorithm = option_and_then (λ w. option_map (λ a. record 
 -- the settings that the words after the program's name mean, if any
 abbrev pub settings_of : List (List ℕ) → Option Settings
 settings_of [] = None
-settings_of (width ∷ []) = settings_with width (Some default_algorithm)
+settings_of (width ∷ []) = settings_with width (Some (OptimalFit default_penalties))
 settings_of (width ∷ algorithm ∷ []) = settings_with width (algorithm_of algorithm)
 settings_of (width ∷ algorithm ∷ more ∷ words) = None

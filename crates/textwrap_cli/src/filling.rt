@@ -1,9 +1,9 @@
 //! The program's work: it reads a text, fills it and writes it.
 ghost use Rattle.std.specs.Prelude.{◌≡◌, ◌≢◌, ℕ, ◌<◌, ◌≤◌, List, [], length, take, string_bytes, Err, IfOk, OnOk, OnErr, IfErr, IsUtf8};
 ghost use Rattle.std.specs.Io.KnownBytes.{Appends, Keeps};
-ghost use Rattle.textwrap.specs.Options.{HasDefaultsWith};
-ghost use Rattle.textwrap.specs.Filling.{IsFilled};
-ghost use Rattle.textwrap_cli.specs.Filling.{fault_line, ReadsAll, FillsInput, ReadsNoText, WritesBeginning};
+ghost use Rattle.textwrap.specs.Filling.{IsFilledAt};
+ghost use Rattle.textwrap.specs.WrapAlgorithms.{algorithm_view};
+ghost use Rattle.textwrap_cli.specs.Filling.{fault_line, ReadsAll, FillsInput, ReadsNoText, WritesPrefix};
 
 use std::alloc::Global;
 use std::io::{Read, Write};
@@ -57,7 +57,7 @@ pub fn run<R: Read, W: Write>(
     // The whole input was read, and a beginning of its filled text may be written.
     ensures write { result ≡ Err RunError.Write → (output : List ℕ)
         × FillsInput width algorithm (R.remaining reader.old) (R.remaining reader.new) output
-        × WritesBeginning (W.contents writer.old) (W.contents writer.new) output }
+        × WritesPrefix (W.contents writer.old) (W.contents writer.new) output }
     ensures nothing_written { IfErr result (λ error. error ≢ RunError.Write → Keeps (W.contents writer.old) (W.contents writer.new)) }
 {
     let input = read_to_end(alloc, reader)?;
@@ -93,9 +93,8 @@ fn fill_input(
     algorithm: WrapAlgorithm,
 ) -> Result<String, RunError>
     ensures text { IfOk result (λ _. IsUtf8 input.now) }
-    ensures filled { IfOk result (λ filled. (options : Options)
-        × HasDefaultsWith width algorithm options
-        × IsFilled options input.now (string_bytes filled)) }
+    ensures filled { IfOk result (λ filled.
+        IsFilledAt width (algorithm_view algorithm) input.now (string_bytes filled)) }
     ensures not_utf8 { result ≡ Err RunError.NotUtf8 → ¬ IsUtf8 input.now }
     ensures no_text { ¬ IsUtf8 input.now → result ≡ Err RunError.NotUtf8 }
     ensures not_read { IfErr result (λ error. error ≢ RunError.Read) }
@@ -115,7 +114,7 @@ fn fill_input(
 /// Writes the bytes and flushes.
 fn write_to_end<W: Write>(writer: &mut W, bytes: &[u8]) -> Result<(), RunError>
     ensures ok { OnOk result (Appends (W.contents writer.old) (W.contents writer.new) bytes.now) }
-    ensures beginning { OnErr result (WritesBeginning (W.contents writer.old) (W.contents writer.new) bytes.now) }
+    ensures prefix { OnErr result (WritesPrefix (W.contents writer.old) (W.contents writer.new) bytes.now) }
     ensures only_write { IfErr result (λ error. error ≡ RunError.Write) }
 {
     let mut rest = bytes;

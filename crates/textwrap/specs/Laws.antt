@@ -36,7 +36,8 @@ abbrev pub ForBuiltIn : (Settings → (List ℕ → List (List WordText) → Typ
 ForBuiltIn Holds =
     (settings : Settings) (algorithm : Algorithm) (separator : WordSeparator)
     (splitter : WordSplitter)
-    → Holds settings (IsDividedInto settings algorithm (AreSeparated separator) (ArePoints splitter))
+    → Holds settings
+    (IsDividedInto settings algorithm (AreSeparated separator) (ArePoints splitter))
 
 abbrev pub DividedLinesAreUnique : Type 0
 DividedLinesAreUnique =

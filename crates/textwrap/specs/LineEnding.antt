@@ -30,8 +30,9 @@ join_with separator (x ∷ y ∷ xs) = x ++ separator ++ join_with separator (y 
 abbrev pub Lacks : List ℕ → List ℕ → Type 0
 Lacks ending text = (before after : List ℕ) → text ≢ before ++ (ending ++ after)
 
--- what paragraphs are: with the ending between each two they are the text, and none has an ending in it
-pub record AreParagraphs (ending : LineEnding) (text : List ℕ) (paragraphs : List (List ℕ)) : Type 0 where
+-- with the ending between each two paragraphs are the text, and none has an ending in it
+pub record AreParagraphs (ending : LineEnding) (text : List ℕ) (paragraphs : List (List ℕ))
+    : Type 0 where
   pub some : paragraphs ≢ []
   pub joined : join_with (ending_bytes ending) paragraphs ≡ text
   pub lacking : All (Lacks (ending_bytes ending)) paragraphs

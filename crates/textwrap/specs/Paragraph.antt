@@ -64,7 +64,7 @@ widths_of settings = width_after settings settings.initial_indent ∷ later_widt
 abbrev pub empty_word : WordText
 empty_word = record { word = []; whitespace = []; penalty = []; width = 0 }
 
--- where words are broken, an empty word stands in front, which may leave the first line to its indent
+-- where words are broken, an empty word in front may leave the first line to its indent
 abbrev pub front_pieces : Settings → List WordText
 front_pieces settings = if length settings.initial_indent == 0 then [] else empty_word ∷ []
 
@@ -78,8 +78,8 @@ broken_pieces_of settings split =
 abbrev pub ArePieces : Settings → (List ℕ → List WordText → Type 0) → (List ℕ → List ℕ → Type 0)
     → List ℕ → List WordText → Type 0
 ArePieces settings Words Points paragraph pieces =
-    (words : List WordText) × (split : List WordText) × Words paragraph words × AreSplit Points words split
-    × (pieces ≡ broken_pieces_of settings split)
+    (words : List WordText) × (split : List WordText)
+    × Words paragraph words × AreSplit Points words split × (pieces ≡ broken_pieces_of settings split)
 
 -- the same, computed
 abbrev pub pieces_of : Settings → WordSeparator → WordSplitter → List ℕ → List WordText

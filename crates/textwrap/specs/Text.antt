@@ -7,7 +7,7 @@ use Rattle.textwrap.specs.LineEnding.{paragraphs_of}
 use Rattle.textwrap.specs.Options.{Settings}
 use Rattle.textwrap.specs.Paragraph.{Line, LineParts, line_from, AreParagraphParts}
 
--- a group of lines for each paragraph, in order, where `is_later` says that a line stands before them
+-- a group of lines for each paragraph, where `is_later` says that a line stands before them
 abbrev pub AreGroups : Settings → (List ℕ → List (List WordText) → Type 0)
     → Bool → List (List ℕ) → List (List LineParts) → Type 0
 AreGroups settings Divides is_later [] groups = groups ≡ []

@@ -31,7 +31,8 @@ ends_in_hyphen text = last text == hyphen
 -- a hyphen between alphanumeric characters ends at the offset
 abbrev pub is_hyphen_point : List ℕ → ℕ → Bool
 is_hyphen_point text point =
-    ends_in_hyphen (take point text) && begins_alphanumeric (reverse (chars (take (point - 1) text))) && begins_alphanumeric (chars (drop point text))
+    ends_in_hyphen (take point text) && begins_alphanumeric (reverse (chars (take (point - 1) text)))
+    && begins_alphanumeric (chars (drop point text))
 
 -- the offsets within a text, without its ends
 abbrev pub inner_offsets : List ℕ → List ℕ
@@ -63,7 +64,8 @@ cut_penalty text point = if ends_in_hyphen (take point text) then [] else hyphen
 -- the pieces of what follows an offset: the last has the whitespace and the penalty of the word
 abbrev pub split_from : WordText → ℕ → List ℕ → List WordText
 split_from w start [] = piece (drop start w.word) w.whitespace w.penalty ∷ []
-split_from w start (point ∷ points) = piece (slice_range w.word start point) [] (cut_penalty w.word point) ∷ split_from w point points
+split_from w start (point ∷ points) =
+    piece (slice_range w.word start point) [] (cut_penalty w.word point) ∷ split_from w point points
 
 abbrev pub split_pieces : List ℕ → WordText → List WordText
 split_pieces points w = split_from w 0 points

@@ -16,7 +16,7 @@ use std::borrow::CowStr;
 /// a line feed and `baz`.
 ///
 /// # Errors
-/// Only want of memory. There is no overflow.
+/// [`WrapError::Memory`] where memory runs out, and no other. There is no overflow.
 pub fn fill(alloc: Global, text: &str, options: Options<'_>) -> Result<String, WrapError>
     ensures filled { IfOk result (λ filled. IsFilled (settings_view options.entry)
         (DividesBy options.entry) text.now (string_bytes filled)) }
@@ -33,7 +33,7 @@ pub fn fill(alloc: Global, text: &str, options: Options<'_>) -> Result<String, W
 /// The same text as [`fill`](crate::fill), always by way of a list of lines.
 ///
 /// # Errors
-/// Only want of memory. There is no overflow.
+/// [`WrapError::Memory`] where memory runs out, and no other. There is no overflow.
 pub fn fill_slow_path(alloc: Global, text: &str, options: Options<'_>) -> Result<String, WrapError>
     ensures filled { IfOk result (λ filled. IsFilled (settings_view options.entry)
         (DividesBy options.entry) text.now (string_bytes filled)) }
@@ -91,8 +91,8 @@ mod tests {
             ("aa bb cc dd", 8, "aa bb cc\ndd"),
         ] {
             let options = Options::new(width).wrap_algorithm(WrapAlgorithm::FirstFit);
-            let answer = fill(rt.alloc(), text, options)?;
-            assert_eq!(rt; answer.as_str(), filled, "{text:?} at {width}");
+            let text_filled = fill(rt.alloc(), text, options)?;
+            assert_eq!(rt; text_filled.as_str(), filled, "{text:?} at {width}");
         }
         Ok(())
     }
@@ -111,8 +111,8 @@ mod tests {
             ("ab\ncdefghijkl", 5, "ab\ncdefg\nhijkl"),
             ("foo  ", 10, "foo"),
         ] {
-            let answer = fill(rt.alloc(), text, Options::new(width))?;
-            assert_eq!(rt; answer.as_str(), filled, "{text:?} at {width}");
+            let text_filled = fill(rt.alloc(), text, Options::new(width))?;
+            assert_eq!(rt; text_filled.as_str(), filled, "{text:?} at {width}");
         }
         Ok(())
     }
@@ -144,8 +144,8 @@ mod tests {
             ),
         ];
         for (text, options, filled) in &rows {
-            let answer = fill(rt.alloc(), text, Options::from(options))?;
-            assert_eq!(rt; answer.as_str(), *filled, "{text:?}");
+            let text_filled = fill(rt.alloc(), text, Options::from(options))?;
+            assert_eq!(rt; text_filled.as_str(), *filled, "{text:?}");
         }
         Ok(())
     }

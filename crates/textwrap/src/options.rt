@@ -7,7 +7,7 @@ use crate::word_splitters::WordSplitter;
 use crate::wrap_algorithms::WrapAlgorithm;
 use std::alloc::AllocError;
 
-/// How a text is wrapped. None of its calls takes memory.
+/// How a text is wrapped. No call on it allocates.
 #[derive(Debug, Drop)]
 pub struct Options<'a> {
     /// The columns of a line, with its indent.
@@ -152,7 +152,8 @@ impl<'a> Options<'a> {
     /// The same options, keeping blanks at line ends or not.
     pub fn preserve_trailing_space(self, preserve_trailing_space: bool) -> Self
         ensures settings { settings_view result
-            ≡ record (settings_view self.entry) { preserve_trailing_space = preserve_trailing_space } }
+            ≡ record (settings_view self.entry) {
+                preserve_trailing_space = preserve_trailing_space } }
         ensures parts { KeepsParts self.entry result }
     {
         Options {
@@ -179,7 +180,7 @@ impl<'a, 'b> From<&'b Options<'a>> for Options<'a> {
     /// The same options.
     fn from(options: &'b Options<'a>) -> Options<'a> {
         Options {
-            // The clone of a splitter takes no memory, so it never fails.
+            // The clone of a splitter needs no memory, so it never fails.
             word_splitter: options.word_splitter.clone().unwrap(),
             ..*options
         }

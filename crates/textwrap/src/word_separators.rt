@@ -25,13 +25,14 @@ impl WordSeparator {
         WordSeparator::AsciiSpace
     }
 
-    /// The words of the line, in order. Each word's text and whitespace, one after the other, are
-    /// the line. An empty line has no words.
+    /// The words of the line, in order.
     ///
-    /// `"  foo bar"` has the words `"  "`, `"foo "` and `"bar"`, of which the first is blank.
+    /// `"  foo bar"` has the words `"  "`, `"foo "` and `"bar"`: blanks belong to the word before
+    /// them, or are a word without text where none is. Put one after the other, the words with
+    /// their whitespace are the line. An empty line has none.
     ///
     /// # Errors
-    /// None: finding the words takes no memory.
+    /// None: finding the words needs no memory.
     pub fn find_words<'a>(&self, _alloc: Global, line: &'a str) -> Result<Words<'a>, AllocError>
         ensures words { IfOk result (λ words. words ≡ separated_words self.now line.now) }
         ensures tiles { IfOk result (λ words. Tiles words line.now) }

@@ -13,20 +13,20 @@ use unicode::properties::{GeneralCategory, GeneralCategoryGroup, is_alphabetic};
 pub enum WordSplitter {
     /// Nowhere.
     NoHyphenation,
-    /// After each hyphen that stands between alphanumeric characters, so that a word such as
-    /// `--foo-bar` keeps its beginning.
+    /// After each hyphen that stands between alphanumeric characters: `--foo-bar` is split into
+    /// `--foo-` and `bar`.
     HyphenSplitter,
 }
 
 impl WordSplitter {
     ghost use Rattle.textwrap.specs.WordSplitters.{points_of};
 
-    /// The offsets, in bytes, at which the word may be split: increasing, inside the word and on
-    /// character boundaries. For `NoHyphenation` there are none, and the call takes no memory and
-    /// always succeeds.
+    /// The offsets in bytes at which the word may be split, 4 and 7 for `can-be-split`: increasing,
+    /// inside the word and on character boundaries. `NoHyphenation` has none; with it the call
+    /// needs no memory and always succeeds.
     ///
     /// # Errors
-    /// Only want of memory.
+    /// [`AllocError`] where memory runs out.
     pub fn split_points(&self, alloc: Global, word: &str) -> Result<Vec<usize>, AllocError>
         ensures points { IfOk result (λ points. points.items ≡ points_of self.now word.now) }
         ensures cuts { IfOk result (λ points. AreCuts word.now points.items) }
@@ -89,21 +89,24 @@ fn is_alphanumeric(ch: char) -> bool
     is_alphabetic(ch) || GeneralCategoryGroup::Number.contains(GeneralCategory::for_char(ch))
 }
 
-/// Splits each word at the points of the splitter. A piece that ends at a point has no whitespace,
-/// and the penalty `-` unless the word has a hyphen there already; the last piece has the
-/// whitespace and the penalty of the word. Each width is that of the piece's own text, also where
-/// a point stands inside an escape sequence. The iterator has to end.
+/// Splits each word at the points of the splitter.
+///
+/// `foo-bar` becomes `foo-` and `bar`. A piece before a point has no whitespace; its penalty is `-`
+/// where the word has no hyphen there, and else empty. The last piece keeps the whitespace and the
+/// penalty of the word. The width of a piece is measured in its own text, also where a point stands
+/// inside an escape sequence. The iterator has to end.
 ///
 /// # Errors
-/// Only want of memory.
+/// [`AllocError`] where memory runs out.
 pub fn split_words<'a, I: IntoIterator<Item = Word<'a>>>(
     alloc: Global,
     words: I,
     word_splitter: &WordSplitter,
 ) -> Result<Vec<Word<'a>>, AllocError>
-    requires ends { IsFiniteIterable I.into_iter_gives I.IntoIter.can_next I.IntoIter.remaining words }
-    ensures pieces { IfOk result (λ pieces. (it : I.IntoIter) × (given : List Word) × I.into_iter_gives words it
-        × Drains I.IntoIter.next_gives it given
+    requires ends { IsFiniteIterable
+        I.into_iter_gives I.IntoIter.can_next I.IntoIter.remaining words }
+    ensures pieces { IfOk result (λ pieces. (it : I.IntoIter) × (given : List Word)
+        × I.into_iter_gives words it × Drains I.IntoIter.next_gives it given
         × (map word_view pieces.items ≡ split_words word_splitter.now (map word_view given))) }
 {
     let mut pieces = Vec::new(alloc);

@@ -24,25 +24,27 @@ use std::alloc::{AllocError, Global};
 use std::borrow::CowStr;
 use textwrap_base::blanks::split_final_blanks;
 
-/// The lines of the text: its paragraphs are what stands between line endings, and each is wrapped
-/// by itself. A paragraph that has no indent, and fewer bytes than the width has columns, is one
-/// line. Any other is cut into words, which are split and broken where the options say so, and
-/// divided into lines by their algorithm.
+/// Wraps a text and returns its lines.
 ///
-/// Only blanks at the ends of lines are left off. A line to which no indent and no hyphen was added
-/// is borrowed from the text. At 5 columns `foo-bar baz` has the lines `foo-`, `bar` and `baz`, all
-/// of them borrowed.
+/// At 5 columns `foo-bar baz` has the lines `foo-`, `bar` and `baz`, all of them borrowed from the
+/// text. Each paragraph, the text between two line endings, is wrapped by itself. One that has no
+/// indent, and fewer bytes than the width has columns, stays one line. Any other is cut into words;
+/// these are split and broken as the options say, and divided into lines by their algorithm.
+///
+/// Only blanks at line ends are lost. A line with an indent or an added hyphen is a text of its
+/// own.
 ///
 /// # Errors
-/// Only want of memory. There is no overflow.
+/// [`WrapError::Memory`] where memory runs out, and no other. There is no overflow.
 pub fn wrap<'t>(
     alloc: Global,
     text: &'t str,
     options: Options<'_>,
 ) -> Result<Vec<CowStr<'t>>, WrapError>
     // The lines are those of the text, and lose only blanks.
-    ensures lines { IfOk result (λ lines. (are : AreTextLines
-        (settings_view options.entry) (DividesBy options.entry) text.now (map line_view lines.items))
+    ensures lines { IfOk result (λ lines.
+        (are : AreTextLines (settings_view options.entry) (DividesBy options.entry) text.now
+            (map line_view lines.items))
         × LosesOnlyBlanks (settings_view options.entry) text.now are.groups) }
     ensures only_memory { IfErr result (λ error. error ≡ WrapError.Memory alloc_error) }
 {
@@ -60,7 +62,8 @@ pub fn wrap<'t>(
 pub(crate) fn split_paragraph(text: &str, line_ending: LineEnding) -> (&str, Option<&str>)
     ensures paragraphs { MatchOption result.1
         (paragraphs_of line_ending text.now ≡ result.0.now ∷ [])
-        (λ after. paragraphs_of line_ending text.now ≡ result.0.now ∷ paragraphs_of line_ending after.now) }
+        (λ after. paragraphs_of line_ending text.now
+            ≡ result.0.now ∷ paragraphs_of line_ending after.now) }
     ensures shorter { IfSome result.1 (λ after. length after.now < length text.now) }
 {
     match text.split_once(line_ending.as_str()) {
@@ -73,7 +76,7 @@ pub(crate) fn split_paragraph(text: &str, line_ending: LineEnding) -> (&str, Opt
 /// initial indent. At an error the lines stay as they were.
 ///
 /// # Errors
-/// Only want of memory. There is no overflow.
+/// [`WrapError::Memory`] where memory runs out, and no other. There is no overflow.
 pub fn wrap_single_line<'t>(
     alloc: Global,
     line: &'t str,
@@ -98,14 +101,14 @@ pub fn wrap_single_line<'t>(
     wrap_single_line_slow_path(alloc, line, options, lines)
 }
 
-/// Whether a paragraph is one line as a whole, where `is_later` says that a line is out already.
+/// Whether a paragraph is one line as a whole. `is_later` says that a line stands before it.
 pub(crate) fn is_one_line(paragraph: &str, options: &Options<'_>, is_later: bool) -> bool
     ensures { result ≡ is_whole (settings_view options.now) is_later paragraph.now }
 {
     next_indent(options, is_later).is_empty() && paragraph.len() < options.width
 }
 
-/// The indent of the next line, where `is_later` says that a line is out already.
+/// The indent of the next line. `is_later` says that a line stands before it.
 fn next_indent<'a>(options: &Options<'a>, is_later: bool) -> &'a str
     ensures { result.now ≡ indent_of (settings_view options.now) is_later }
 {
@@ -127,11 +130,11 @@ pub(crate) fn whole_line<'t>(paragraph: &'t str, options: &Options<'_>) -> &'t s
     split_final_blanks(paragraph).0
 }
 
-/// Appends the lines of one paragraph whose pieces are divided, however short it is. At an error the
+/// Appends the lines of one paragraph, dividing its pieces however short it is. At an error the
 /// lines stay as they were.
 ///
 /// # Errors
-/// Only want of memory. There is no overflow.
+/// [`WrapError::Memory`] where memory runs out, and no other. There is no overflow.
 pub fn wrap_single_line_slow_path<'t>(
     alloc: Global,
     line: &'t str,
@@ -141,7 +144,7 @@ pub fn wrap_single_line_slow_path<'t>(
     ensures appended { AppendsLines (AreDividedParts (settings_view options.now)
         (DividesBy options.now) (nat_lt 0 (length lines.old.items)) line.now)
         lines.old.items lines.new.items result }
-    // By first fit, where words are broken, a line passes its width only where it is one piece, with
+    // By first fit, where words are broken, a line passes its width only where it is one piece with
     // one character that takes columns.
     ensures overlong { options.now.wrap_algorithm ≡ FirstFit → options.now.break_words ≡ true
         → OnOk result ((division : List (List WordText))
@@ -248,7 +251,8 @@ fn split_line<'t>(
     requires { StartsWith text.now (tiled (map word_view pieces.now)) }
     ensures line { IfOk result (λ line. line_view line.0
         ≡ line_from (parts_of (settings_view options.now) is_later (map word_view pieces.now))) }
-    ensures rest { IfOk result (λ line. line.1.now ≡ drop (length (tiled (map word_view pieces.now))) text.now) }
+    ensures rest { IfOk result (λ line. line.1.now
+        ≡ drop (length (tiled (map word_view pieces.now))) text.now) }
 {
     let Some((last, front)) = pieces.split_last() else {
         return Ok((CowStr::Borrowed(""), text));
@@ -305,7 +309,8 @@ fn assemble<'t>(
     penalty: &str,
 ) -> Result<CowStr<'t>, AllocError>
     ensures { IfOk result (λ line. line_view line
-        ≡ line_from (record { pieces = []; indent = indent.now; slice = slice.now; penalty = penalty.now; left_off = [] })) }
+        ≡ line_from (record { pieces = []; indent = indent.now; slice = slice.now;
+            penalty = penalty.now; left_off = [] })) }
 {
     if indent.is_empty() && penalty.is_empty() {
         return Ok(CowStr::Borrowed(slice));

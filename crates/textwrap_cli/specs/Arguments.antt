@@ -6,11 +6,12 @@ use Rattle.std.specs.Str.Parse.{digits_value}
 use Rattle.textwrap.specs.Penalties.{default_penalties}
 use Rattle.textwrap.specs.declared.wrap_algorithms.WrapAlgorithm.{WrapAlgorithm}
 use Rattle.textwrap.specs.declared.wrap_algorithms.WrapAlgorithm.TheVariants.{FirstFit, OptimalFit}
-use Rattle.textwrap_cli.specs.declared.arguments.Settings.{Settings}
+use Rattle.textwrap_cli.specs.declared.arguments.FillRequest.{FillRequest}
 
 -- one or more ASCII digits that are a number of 64 bits
 abbrev pub is_width : List ℕ → Bool
-is_width word = (nat_lt 0 (length word) && all_ascii_digits word) && nat_lt (digits_value 10 word) (2 ^ 64)
+is_width word =
+    (nat_lt 0 (length word) && all_ascii_digits word) && nat_lt (digits_value 10 word) (2 ^ 64)
 
 abbrev pub width_of : List ℕ → Option ℕ
 width_of word = if is_width word then Some (digits_value 10 word) else None
@@ -21,13 +22,14 @@ algorithm_of word =
     else if bytes_eq word (codes "optimal") then Some (OptimalFit default_penalties)
     else None
 
--- the settings of a width and an algorithm, where both are there
-abbrev pub settings_with : List ℕ → Option WrapAlgorithm → Option Settings
-settings_with width algorithm = option_and_then (λ w. option_map (λ a. record { width = w; algorithm = a }) algorithm) (width_of width)
+-- the request of a width and an algorithm, where both are there
+abbrev pub request_with : List ℕ → Option WrapAlgorithm → Option FillRequest
+request_with width algorithm =
+    option_and_then (λ w. option_map (λ a. record { width = w; algorithm = a }) algorithm) (width_of width)
 
--- the settings that the words after the program's name mean, if any
-abbrev pub settings_of : List (List ℕ) → Option Settings
-settings_of [] = None
-settings_of (width ∷ []) = settings_with width (Some (OptimalFit default_penalties))
-settings_of (width ∷ algorithm ∷ []) = settings_with width (algorithm_of algorithm)
-settings_of (width ∷ algorithm ∷ more ∷ words) = None
+-- the request that the words after the program's name mean, if any
+abbrev pub request_of : List (List ℕ) → Option FillRequest
+request_of [] = None
+request_of (width ∷ []) = request_with width (Some (OptimalFit default_penalties))
+request_of (width ∷ algorithm ∷ []) = request_with width (algorithm_of algorithm)
+request_of (width ∷ algorithm ∷ more ∷ words) = None

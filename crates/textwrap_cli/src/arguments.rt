@@ -1,38 +1,38 @@
 //! The program's arguments.
 ghost use Rattle.std.specs.Prelude.{◌≡◌, map, string_bytes};
 ghost use Rattle.std.specs.Str.{all_ascii_digits};
-ghost use Rattle.textwrap_cli.specs.Arguments.{width_of, algorithm_of, settings_with, settings_of};
+ghost use Rattle.textwrap_cli.specs.Arguments.{width_of, algorithm_of, request_with, request_of};
 
 use textwrap::wrap_algorithms::WrapAlgorithm;
 
 /// What the arguments ask for.
 #[derive(Debug, Drop, PartialEq)]
-pub struct Settings {
+pub(crate) struct FillRequest {
     /// The columns of a line.
     pub width: usize,
     /// How words are divided into lines.
     pub algorithm: WrapAlgorithm,
 }
 
-/// The settings that the words after the program's name mean: a width in ASCII digits, and `first`
+/// The request that the words after the program's name mean: a width in ASCII digits, and `first`
 /// or `optimal`, which may be left out. Any other words mean none. Takes no memory.
-pub fn arguments(words: &[String]) -> Option<Settings>
-    ensures { result ≡ settings_of (map string_bytes words.now) }
+pub(crate) fn arguments(words: &[String]) -> Option<FillRequest>
+    ensures { result ≡ request_of (map string_bytes words.now) }
 {
     match words {
-        [width] => parse_settings(width.as_str(), Some(WrapAlgorithm::new_optimal_fit())),
-        [width, algorithm] => parse_settings(width.as_str(), parse_algorithm(algorithm.as_str())),
+        [width] => parse_request(width.as_str(), Some(WrapAlgorithm::new_optimal_fit())),
+        [width, algorithm] => parse_request(width.as_str(), parse_algorithm(algorithm.as_str())),
         _ => None,
     }
 }
 
-/// The settings of a width and an algorithm, where both are there.
-fn parse_settings(width: &str, algorithm: Option<WrapAlgorithm>) -> Option<Settings>
-    ensures { result ≡ settings_with width.now algorithm }
+/// The request of a width and an algorithm, where both are there.
+fn parse_request(width: &str, algorithm: Option<WrapAlgorithm>) -> Option<FillRequest>
+    ensures { result ≡ request_with width.now algorithm }
 {
     let width = parse_width(width)?;
     let algorithm = algorithm?;
-    Some(Settings { width, algorithm })
+    Some(FillRequest { width, algorithm })
 }
 
 /// The number of one or more ASCII digits, where it fits. The standard `parse` also takes a sign.
@@ -91,9 +91,9 @@ mod tests {
             ("18446744073709551615", usize::MAX),
         ] {
             let words = strings(rt.alloc(), &[width, "first"])?;
-            let settings = arguments(&words).ok_or(width)?;
-            assert_eq!(rt; settings.width, number, "{width}");
-            assert_eq!(rt; settings.algorithm, WrapAlgorithm::FirstFit, "{width}");
+            let request = arguments(&words).ok_or(width)?;
+            assert_eq!(rt; request.width, number, "{width}");
+            assert_eq!(rt; request.algorithm, WrapAlgorithm::FirstFit, "{width}");
         }
         Ok(())
     }
@@ -103,10 +103,10 @@ mod tests {
         let rows: [&[&str]; 2] = [&["10"], &["10", "optimal"]];
         for words in rows {
             let words = strings(rt.alloc(), words)?;
-            let settings = arguments(&words).ok_or("10")?;
-            assert_eq!(rt; settings.width, 10, "{words:?}");
+            let request = arguments(&words).ok_or("10")?;
+            assert_eq!(rt; request.width, 10, "{words:?}");
             assert_eq!(rt;
-                settings.algorithm,
+                request.algorithm,
                 WrapAlgorithm::new_optimal_fit(),
                 "{words:?}"
             );

@@ -13,7 +13,7 @@ use textwrap::{Options, fill};
 
 /// Why the program did not write the whole filled text.
 #[derive(Clone, Copy, Debug, PartialEq, Eq)]
-pub enum RunError {
+pub(crate) enum RunError {
     /// A read failed.
     Read,
     /// The input is not UTF-8.
@@ -25,7 +25,7 @@ pub enum RunError {
 }
 
 /// What the program says of a fault on standard error.
-pub fn fault(error: &RunError) -> &'static str
+pub(crate) fn fault(error: &RunError) -> &'static str
     ensures { result.now ≡ fault_line error.now }
 {
     match error {
@@ -42,7 +42,7 @@ pub fn fault(error: &RunError) -> &'static str
 /// # Errors
 /// The first fault on this way. An interrupted read or write is an error like any other. A reader
 /// that never ends comes to `Memory`.
-pub fn run<R: Read, W: Write>(
+pub(crate) fn run<R: Read, W: Write>(
     alloc: Global,
     reader: &mut R,
     writer: &mut W,
@@ -53,12 +53,14 @@ pub fn run<R: Read, W: Write>(
     ensures ok { OnOk result ((output : List ℕ)
         × FillsInput width algorithm (R.remaining reader.old) (R.remaining reader.new) output
         × Appends (W.contents writer.old) (W.contents writer.new) output) }
-    ensures not_utf8 { result ≡ Err RunError.NotUtf8 → ReadsNoText (R.remaining reader.old) (R.remaining reader.new) }
-    // The whole input was read, and a beginning of its filled text may be written.
+    ensures not_utf8 { result ≡ Err RunError.NotUtf8
+        → ReadsNoText (R.remaining reader.old) (R.remaining reader.new) }
+    // The whole input was read, and a prefix of its filled text may be written.
     ensures write { result ≡ Err RunError.Write → (output : List ℕ)
         × FillsInput width algorithm (R.remaining reader.old) (R.remaining reader.new) output
         × WritesPrefix (W.contents writer.old) (W.contents writer.new) output }
-    ensures nothing_written { IfErr result (λ error. error ≢ RunError.Write → Keeps (W.contents writer.old) (W.contents writer.new)) }
+    ensures nothing_written { IfErr result (λ error. error ≢ RunError.Write
+        → Keeps (W.contents writer.old) (W.contents writer.new)) }
 {
     let input = read_to_end(alloc, reader)?;
     let filled = fill_input(alloc, &input, width, algorithm)?;
@@ -67,7 +69,8 @@ pub fn run<R: Read, W: Write>(
 
 /// Reads the reader to its end.
 fn read_to_end<R: Read>(alloc: Global, reader: &mut R) -> Result<Vec<u8>, RunError>
-    ensures ok { IfOk result (λ input. ReadsAll (R.remaining reader.old) (R.remaining reader.new) input.items) }
+    ensures ok { IfOk result (λ input.
+        ReadsAll (R.remaining reader.old) (R.remaining reader.new) input.items) }
     ensures not_not_utf8 { IfErr result (λ error. error ≢ RunError.NotUtf8) }
     ensures not_write { IfErr result (λ error. error ≢ RunError.Write) }
 {
@@ -85,7 +88,10 @@ fn read_to_end<R: Read>(alloc: Global, reader: &mut R) -> Result<Vec<u8>, RunErr
     Err(RunError::Memory)
 }
 
-/// The input filled, where it is text. Input that is none is told apart from want of memory.
+/// The filled text of the input.
+///
+/// # Errors
+/// `NotUtf8` exactly where the input is not UTF-8; `Memory` where memory runs out.
 fn fill_input(
     alloc: Global,
     input: &[u8],
@@ -114,7 +120,8 @@ fn fill_input(
 /// Writes the bytes and flushes.
 fn write_to_end<W: Write>(writer: &mut W, bytes: &[u8]) -> Result<(), RunError>
     ensures ok { OnOk result (Appends (W.contents writer.old) (W.contents writer.new) bytes.now) }
-    ensures prefix { OnErr result (WritesPrefix (W.contents writer.old) (W.contents writer.new) bytes.now) }
+    ensures prefix { OnErr result
+        (WritesPrefix (W.contents writer.old) (W.contents writer.new) bytes.now) }
     ensures only_write { IfErr result (λ error. error ≡ RunError.Write) }
 {
     let mut rest = bytes;
@@ -133,11 +140,12 @@ fn write_to_end<W: Write>(writer: &mut W, bytes: &[u8]) -> Result<(), RunError>
     }
 }
 
-/// Writes a beginning of the bytes, not an empty one, and answers its length.
+/// Writes some of the bytes, at least one, and returns how many.
 fn write_some<W: Write>(writer: &mut W, bytes: &[u8]) -> Result<usize, RunError>
     ensures some { IfOk result (λ count. 0 < count) }
     ensures within { IfOk result (λ count. count ≤ length bytes.now) }
-    ensures written { IfOk result (λ count. Appends (W.contents writer.old) (W.contents writer.new) (take count bytes.now)) }
+    ensures written { IfOk result (λ count.
+        Appends (W.contents writer.old) (W.contents writer.new) (take count bytes.now)) }
     ensures nothing { OnErr result (Appends (W.contents writer.old) (W.contents writer.new) []) }
     ensures only_write { IfErr result (λ error. error ≡ RunError.Write) }
 {

@@ -15,15 +15,15 @@ fn main(rt: HostRuntime) -> ExitCode {
     let Ok(words) = words_after_name(&rt) else {
         return complain(&rt, fault(&RunError::Memory), 1);
     };
-    let Some(settings) = arguments(&words) else {
+    let Some(request) = arguments(&words) else {
         return complain(&rt, "usage: textwrap_cli WIDTH [first|optimal]", 2);
     };
     let filled = run(
         rt.alloc(),
         &mut rt.reader(),
         &mut rt.stdout(),
-        settings.width,
-        settings.algorithm,
+        request.width,
+        request.algorithm,
     );
     match filled {
         Ok(()) => ExitCode::SUCCESS,
@@ -31,7 +31,7 @@ fn main(rt: HostRuntime) -> ExitCode {
     }
 }
 
-/// Prints a line on standard error. Where that fails the status alone has to tell.
+/// Prints a line on standard error. Where even that fails, the status alone shows the fault.
 fn complain(rt: &impl Eprint, line: &str, status: u8) -> ExitCode {
     let _printed = rt.eprintln(line);
     ExitCode::from(status)

@@ -71,8 +71,8 @@ fn the_slow_path_fills_alike(rt: HostRuntime) -> Result<(), Fail> {
         ),
     ];
     for (text, options, filled) in &rows {
-        let answer = fill_slow_path(rt.alloc(), text, Options::from(options))?;
-        assert_eq!(rt; answer.as_str(), *filled, "{text:?}");
+        let text_filled = fill_slow_path(rt.alloc(), text, Options::from(options))?;
+        assert_eq!(rt; text_filled.as_str(), *filled, "{text:?}");
     }
     Ok(())
 }

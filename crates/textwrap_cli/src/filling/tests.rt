@@ -150,7 +150,7 @@ fn a_read_that_fails_writes_nothing(rt: HostRuntime) {
 }
 
 #[test]
-fn a_write_or_flush_that_fails_leaves_a_beginning(rt: HostRuntime) {
+fn a_write_or_flush_that_fails_leaves_a_prefix(rt: HostRuntime) {
     let filled = b"foo bar\nbaz";
     for (room, fails) in [(0, false), (0, true), (5, false), (5, true), (11, false)] {
         let mut writer = Full {

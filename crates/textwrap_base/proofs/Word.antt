@@ -6,3 +6,4 @@ pub mod BrokenTexts
 pub mod Overlong
 pub mod Texts
 pub mod Tiling
+pub mod Words

@@ -5,6 +5,7 @@ pub mod Division
 pub mod Errors
 pub mod Escapes
 pub mod LineCosts
+pub mod Lists
 pub mod Minima
 pub mod OptimalFit
 pub mod Penalties

@@ -2,6 +2,7 @@
 use Rattle.std.specs.Prelude.{◌≡◌, ◌≢◌, ℕ, zero, suc, ◌-◌, ◌<◌, ◌≤◌, Bool, true, false, ◌==◌, ◌&&◌, ◌||◌, List, [], ◌∷◌, length, take, slice_index, if◌then◌else◌, unwrap_or, chars, sum_by, encode_utf8, filter, nat_lt, All, ⊤, ◌⊎◌}
 use Rattle.std.specs.Int.{is_in_range}
 use Rattle.std.specs.List.{flat_map}
+use Rattle.textwrap_base.specs.Lists.{last}
 use Rattle.unicode_width.specs.Width.{char_width}
 
 -- ---- what a unit is
@@ -32,18 +33,12 @@ is_command_start c = c == 93
 abbrev pub is_command_end : ℕ → ℕ → Bool
 is_command_end before c = (c == 7) || ((before == escape) && (c == 92))
 
-abbrev pub last : List ℕ → ℕ
-last cs = slice_index cs (length cs - 1)
-
-abbrev pub last_but_one : List ℕ → ℕ
-last_but_one cs = slice_index cs (length cs - 2)
-
 -- the sequence can end with the last of these characters, which follow its ESC
 abbrev pub ends : List ℕ → Bool
 ends [] = false
 ends (c ∷ cs) =
     if is_control_start c then is_control_end (last cs)
-    else if is_command_start c then is_command_end (last_but_one cs) (last cs)
+    else if is_command_start c then is_command_end (slice_index cs (length cs - 2)) (last cs)
     else true
 
 -- ESC, and all characters up to the first that ends the sequence

@@ -1,7 +1,8 @@
 -- Words: what a piece of a text is as a word, and the words of a line.
-use Rattle.std.specs.Prelude.{◌≡◌, ℕ, Bool, not, ◌&&◌, List, [], ◌∷◌, ◌++◌, length, map, if◌then◌else◌}
+use Rattle.std.specs.Prelude.{◌≡◌, ◌≢◌, ℕ, Bool, true, false, not, ◌&&◌, List, [], ◌∷◌, ◌++◌, length, slice_index, map, All, ⊤, if◌then◌else◌}
 use Rattle.std.specs.List.{flat_map, onto_first}
 use Rattle.textwrap_base.specs.Blanks.{is_blank, without_final_blanks, final_blanks}
+use Rattle.textwrap_base.specs.Lists.{last}
 use Rattle.textwrap_base.specs.Sizes.{Sizes}
 use Rattle.textwrap_base.specs.Units.{text_width}
 use Rattle.textwrap_base.specs.declared.words.Word.{Word}
@@ -36,17 +37,49 @@ piece text whitespace penalty = record { word = text; whitespace = whitespace; p
 
 -- a text as a word: its final blanks are the whitespace
 abbrev pub word_of : List ℕ → WordText
-word_of piece = record { word = without_final_blanks piece; whitespace = final_blanks piece; penalty = []; width = text_width (without_final_blanks piece) }
+word_of text = record {
+  word = without_final_blanks text;
+  whitespace = final_blanks text;
+  penalty = [];
+  width = text_width (without_final_blanks text);
+}
 
--- a line is cut between a blank and a following byte that is no blank
+-- ---- the words of a line
+
+-- a line is cut between a blank and a following byte that is none
 abbrev pub is_cut : ℕ → ℕ → Bool
 is_cut before after = is_blank before && not (is_blank after)
 
--- the pieces of a line, none for an empty line
+-- no place inside the chunk is a cut
+abbrev pub IsUncut : List ℕ → Type 0
+IsUncut chunk = (before after : List ℕ) (c d : ℕ) → chunk ≡ before ++ c ∷ d ∷ after → is_cut c d ≡ false
+
+-- there is a cut between each chunk and the next
+abbrev pub AreCutApart : List (List ℕ) → Type 0
+AreCutApart [] = ⊤
+AreCutApart (chunk ∷ []) = ⊤
+AreCutApart (chunk ∷ next ∷ chunks) = (is_cut (last chunk) (slice_index next 0) ≡ true) × AreCutApart (next ∷ chunks)
+
+-- the line is cut into chunks at each of its cuts, and nowhere else
+pub record AreChunks (line : List ℕ) (parts : List (List ℕ)) : Type 0 where
+  pub tiles : flat_map (λ chunk. chunk) parts ≡ line
+  pub nonempty : All (λ chunk. chunk ≢ []) parts
+  pub uncut : All IsUncut parts
+  pub cut : AreCutApart parts
+
+-- the words of a line are its chunks, each taken as a word
+abbrev pub AreWordsOf : List ℕ → List WordText → Type 0
+AreWordsOf line words = (parts : List (List ℕ)) × AreChunks line parts × (words ≡ map word_of parts)
+
+-- ---- the same, computed
+
+-- the chunks of a line, none of an empty line
 abbrev pub chunks : List ℕ → List (List ℕ)
 chunks [] = []
 chunks (c ∷ []) = (c ∷ []) ∷ []
-chunks (c ∷ d ∷ cs) = if is_cut c d then (c ∷ []) ∷ chunks (d ∷ cs) else onto_first c (chunks (d ∷ cs))
+chunks (c ∷ d ∷ cs) =
+    if is_cut c d then (c ∷ []) ∷ chunks (d ∷ cs)
+    else onto_first c (chunks (d ∷ cs))
 
 abbrev pub words_of : List ℕ → List WordText
 words_of line = map word_of (chunks line)

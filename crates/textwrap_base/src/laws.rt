@@ -8,7 +8,7 @@ ghost use Rattle.textwrap_base.specs.Penalties.{default_penalties};
 ghost use Rattle.textwrap_base.specs.Division.{IsGreedy, closed_width};
 ghost use Rattle.textwrap_base.specs.Table.{table, IsTable};
 ghost use Rattle.textwrap_base.specs.Units.{TextUnit, IsInUnits, units};
-ghost use Rattle.textwrap_base.specs.Words.{WordText, tile_of, tiled};
+ghost use Rattle.textwrap_base.specs.Words.{WordText, AreWordsOf, tile_of, tiled, words_of};
 ghost use Rattle.textwrap_base.specs.Worked.{worked_table, falling, uneven, uneven_lines};
 
 use crate::penalties::Penalties;
@@ -18,6 +18,12 @@ use crate::words::Fragment;
 /// its end. It is what `units` gives.
 pub fn units_are_unique()
     ensures { (cs : List ℕ) (us : List TextUnit) → IsInUnits cs us ↔ (us ≡ units cs) }
+{}
+
+/// A line has exactly one list of words: it is cut exactly between a blank and a byte that is none.
+/// It is what `words_of` gives.
+pub fn words_are_unique()
+    ensures { (line : List ℕ) (words : List WordText) → AreWordsOf line words ↔ (words ≡ words_of line) }
 {}
 
 /// A list of fragments has at most one greedy division, whatever the line widths.
@@ -83,6 +89,7 @@ mod tests {
     #[test]
     fn laws_hold_for_words() {
         units_are_unique();
+        words_are_unique();
         greedy_division_is_unique::<Word<'_>>();
         broken_pieces_are_unique();
         broken_pieces_tile();

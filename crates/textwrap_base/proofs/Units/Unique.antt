@@ -1,11 +1,13 @@
 -- A text is in units in exactly one way.
 use Rattle.std.proofs.Common.{◌≡◌, ◌≢◌, ◌↔◌, ◌⊎◌, inl, inr, ⊎_elim, ℕ, zero, suc, ◌+◌, ◌-◌, ◌<◌, ◌≤◌, Bool, true, false, cond, ◌==◌, List, [], ◌∷◌, ◌++◌, length, get_or, take, drop, refl, sym, ap, ◌∙◌, subst, arith, length-append, take-append-drop}
 use Rattle.std.specs.List.{flat_map}
+use Rattle.std.specs.Prelude.{slice_index}
 use Rattle.std.proofs.lemmas.Bool.{cases_Bool, cases_lt, eqb-true, eqb-false, true≢false}
 use Rattle.std.proofs.lemmas.Bool.Decides.{nat_tests}
 use Rattle.std.proofs.lemmas.List.{length_push, length-take-le, take-take, get_or_push, get_or_append_left, append-nil, append_assoc, take_at, take-append-le, take_all}
 use Rattle.textwrap_base.proofs.ListLemmas.{same_parts}
-use Rattle.textwrap_base.specs.Units.{TextUnit, Visible, Sequence, characters, escape, is_control_start, is_control_end, is_command_start, is_command_end, last, last_but_one, ends, IsWhole, IsOpen, AreUnits, IsInUnits, control_len, command_len, escape_len, taken_at, units_past, units}
+use Rattle.textwrap_base.specs.Lists.{last}
+use Rattle.textwrap_base.specs.Units.{TextUnit, Visible, Sequence, characters, escape, is_control_start, is_control_end, is_command_start, is_command_end, ends, IsWhole, IsOpen, AreUnits, IsInUnits, control_len, command_len, escape_len, taken_at, units_past, units}
 
 -- ---- how far a sequence goes
 
@@ -53,6 +55,9 @@ length-two front b c = omega (arith, length_push (front ++ b ∷ []) c, length_p
 
 last-push : (front : List ℕ) (c : ℕ) → last (front ++ c ∷ []) ≡ c
 last-push front c = let place : length front ≡ length (front ++ c ∷ []) - 1 = omega (arith, length_push front c) in get_or_push front c 0 _ place
+
+abbrev last_but_one : List ℕ → ℕ
+last_but_one cs = slice_index cs (length cs - 2)
 
 last_but_one-push : (front : List ℕ) (b c : ℕ) → last_but_one ((front ++ b ∷ []) ++ c ∷ []) ≡ b
 last_but_one-push front b c =

@@ -5,7 +5,7 @@ use Rattle.textwrap_base.specs.Units.{TextUnit, Visible, Sequence, characters, c
 use Rattle.textwrap_base.specs.Words.{WordText, word_view, piece}
 use Rattle.textwrap_base.specs.declared.words.breaking.BreakApart.{BreakApart}
 
--- ---- what the parts are into which the units of a text are broken
+-- ---- the parts into which the units of a text are broken
 
 -- the columns of a unit
 abbrev pub unit_width : TextUnit → ℕ
@@ -15,21 +15,24 @@ unit_width (Sequence cs) = 0
 abbrev pub units_width : List TextUnit → ℕ
 units_width us = sum_by unit_width us
 
--- a visible character that has columns before it in the part keeps to the limit
+-- with each visible character that has columns before it, the part keeps to the limit
 abbrev pub IsKept : ℕ → List TextUnit → Type 0
-IsKept limit part = (before after : List TextUnit) (c : ℕ) → part ≡ before ++ Visible c ∷ after → 0 < units_width before → units_width before + columns c ≤ limit
+IsKept limit part = (before after : List TextUnit) (c : ℕ) → part ≡ before ++ Visible c ∷ after
+    → 0 < units_width before → units_width before + columns c ≤ limit
 
--- the part has columns, and would pass the limit with the visible character that begins the next
+-- the part has columns, and would pass the limit with the visible character that the next starts with
 abbrev pub IsFull : ℕ → List TextUnit → List TextUnit → Type 0
-IsFull limit part next = (c : ℕ) × (after : List TextUnit) × (next ≡ Visible c ∷ after) × (0 < units_width part) × (limit < units_width part + columns c)
+IsFull limit part next = (c : ℕ) × (after : List TextUnit) × (next ≡ Visible c ∷ after)
+    × (0 < units_width part) × (limit < units_width part + columns c)
 
 -- each part but the last is full
 abbrev pub AllPartsFull : ℕ → List (List TextUnit) → Type 0
 AllPartsFull limit [] = ⊤
 AllPartsFull limit (part ∷ []) = ⊤
-AllPartsFull limit (part ∷ next ∷ parts) = IsFull limit part next × AllPartsFull limit (next ∷ parts)
+AllPartsFull limit (part ∷ next ∷ rest) = IsFull limit part next × AllPartsFull limit (next ∷ rest)
 
--- the units are cut into parts directly before visible characters, and exactly where a part would pass the limit
+-- the units are cut into parts directly before visible characters, and exactly where a part would
+-- pass the limit
 pub record AreBroken (limit : ℕ) (us : List TextUnit) (parts : List (List TextUnit)) : Type 0 where
   pub tiles : flat_map (λ part. part) parts ≡ us
   pub nonempty : All (λ part. part ≢ []) parts
@@ -46,11 +49,14 @@ units_text us = encode_utf8_all (flat_map characters us)
 abbrev pub pieces_with : List ℕ → List ℕ → List (List ℕ) → List WordText
 pieces_with whitespace penalty [] = []
 pieces_with whitespace penalty (text ∷ []) = piece text whitespace penalty ∷ []
-pieces_with whitespace penalty (text ∷ next ∷ texts) = piece text [] [] ∷ pieces_with whitespace penalty (next ∷ texts)
+pieces_with whitespace penalty (text ∷ next ∷ texts) =
+    piece text [] [] ∷ pieces_with whitespace penalty (next ∷ texts)
 
--- a word is broken into these pieces: one list alone is so
+-- a word is broken into these pieces; a law says that there is one such list
 abbrev pub AreBrokenPieces : ℕ → WordText → List WordText → Type 0
-AreBrokenPieces limit w pieces = (parts : List (List TextUnit)) × AreBroken limit (units (chars w.word)) parts × (pieces ≡ pieces_with w.whitespace w.penalty (map units_text parts))
+AreBrokenPieces limit w pieces = (parts : List (List TextUnit))
+    × AreBroken limit (units (chars w.word)) parts
+    × (pieces ≡ pieces_with w.whitespace w.penalty (map units_text parts))
 
 -- ---- the same, computed
 
@@ -59,7 +65,7 @@ abbrev pub is_due : ℕ → ℕ → TextUnit → Bool
 is_due limit width (Visible c) = nat_lt 0 width && nat_lt limit (width + columns c)
 is_due limit width (Sequence cs) = false
 
--- what a part with `width` columns takes of the units that follow it, and the parts after it
+-- what a part that has `width` columns takes of the units that follow it, and the parts after it
 abbrev pub parts_after : ℕ → ℕ → List TextUnit → List (List TextUnit)
 parts_after limit width [] = [] ∷ []
 parts_after limit width (u ∷ us) =
@@ -84,7 +90,7 @@ broken_word limit w = if nat_lt limit w.width then broken_pieces limit w else w 
 abbrev pub broken_words : ℕ → List WordText → List WordText
 broken_words limit words = flat_map (broken_word limit) words
 
--- ---- what the code's iterator has left
+-- ---- the pieces that an iterator over them has left
 
 abbrev pub pieces_left : BreakApart → List WordText
 pieces_left pieces = broken_pieces pieces.line_width (word_view pieces.rest)

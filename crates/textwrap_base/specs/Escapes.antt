@@ -1,11 +1,11 @@
--- What the states of the code that reads escape sequences mean.
+-- The states of the code that reads escape sequences, by what they say of the characters to come.
 use Rattle.std.specs.Prelude.{ℕ, List}
 use Rattle.std.specs.List.{flat_map}
 use Rattle.textwrap_base.specs.declared.words.escapes.State.{State}
 use Rattle.textwrap_base.specs.declared.words.escapes.State.TheVariants.{Text, Escape, Control, Command}
 use Rattle.textwrap_base.specs.Units.{escape_len, control_len, command_len, units_past, visible_of}
 
--- how many of the characters to come belong to the sequence that was begun
+-- how many of the characters to come belong to the sequence that is being read
 abbrev pub taken_in : State → List ℕ → ℕ
 taken_in Text cs = 0
 taken_in Escape cs = escape_len cs

@@ -4,6 +4,7 @@ pub mod Cost
 pub mod Division
 pub mod Errors
 pub mod Escapes
+pub mod Laws
 pub mod LineCosts
 pub mod Lists
 pub mod Minima

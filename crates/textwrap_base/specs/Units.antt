@@ -1,4 +1,5 @@
--- The units of a text, its visible characters and its escape sequences (ECMA-48), and the width of a text.
+-- The units of a text, which are its visible characters and its escape sequences (ECMA-48), and
+-- the width of a text in columns.
 use Rattle.std.specs.Prelude.{◌≡◌, ◌≢◌, ℕ, zero, suc, ◌-◌, ◌<◌, ◌≤◌, Bool, true, false, ◌==◌, ◌&&◌, ◌||◌, List, [], ◌∷◌, length, take, slice_index, if◌then◌else◌, unwrap_or, chars, sum_by, encode_utf8, filter, nat_lt, All, ⊤, ◌⊎◌}
 use Rattle.std.specs.Int.{is_in_range}
 use Rattle.std.specs.List.{flat_map}
@@ -33,7 +34,7 @@ is_command_start c = c == 93
 abbrev pub is_command_end : ℕ → ℕ → Bool
 is_command_end before c = (c == 7) || ((before == escape) && (c == 92))
 
--- the sequence can end with the last of these characters, which follow its ESC
+-- of characters after an ESC: the last is one that ends such a sequence, where none before it has
 abbrev pub ends : List ℕ → Bool
 ends [] = false
 ends (c ∷ cs) =
@@ -41,23 +42,20 @@ ends (c ∷ cs) =
     else if is_command_start c then is_command_end (slice_index cs (length cs - 2)) (last cs)
     else true
 
--- ESC, and all characters up to the first that ends the sequence
-abbrev pub IsSequence : List ℕ → Type 0
-IsSequence cs = (body : List ℕ) × (cs ≡ escape ∷ body) × (ends body ≡ true) × ((k : ℕ) → k < length body → ends (take k body) ≡ false)
-
--- ESC, and characters of which none ends the sequence
-abbrev pub IsOpenSequence : List ℕ → Type 0
-IsOpenSequence cs = (body : List ℕ) × (cs ≡ escape ∷ body) × ((k : ℕ) → k ≤ length body → ends (take k body) ≡ false)
-
+-- a visible character, or ESC and all characters up to the first that ends the sequence
 abbrev pub IsWhole : TextUnit → Type 0
 IsWhole (Visible c) = c ≢ escape
-IsWhole (Sequence cs) = IsSequence cs
+IsWhole (Sequence cs) =
+    (body : List ℕ) × (cs ≡ escape ∷ body) × (ends body ≡ true)
+    × ((k : ℕ) → k < length body → ends (take k body) ≡ false)
 
+-- ESC, and characters of which none ends the sequence
 abbrev pub IsOpen : TextUnit → Type 0
 IsOpen (Visible c) = ⊥
-IsOpen (Sequence cs) = IsOpenSequence cs
+IsOpen (Sequence cs) =
+    (body : List ℕ) × (cs ≡ escape ∷ body) × ((k : ℕ) → k ≤ length body → ends (take k body) ≡ false)
 
--- each unit is whole, but the last may be a sequence without its end
+-- each unit is whole, but the last may be a sequence without an end
 abbrev pub AreUnits : List TextUnit → Type 0
 AreUnits [] = ⊤
 AreUnits (u ∷ []) = IsWhole u ⊎ IsOpen u

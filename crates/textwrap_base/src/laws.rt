@@ -1,14 +1,13 @@
 //! Laws of the definitions that the contracts cite. Each is the contract of a function that does
 //! nothing, so that a proof may call on it.
-ghost use Rattle.std.specs.Prelude.{◌≡◌, ◌≢◌, ◌↔◌, ℕ, ◌<◌, List, [], ◌∷◌, All, IsUtf8, map, take};
-ghost use Rattle.std.specs.List.{flat_map};
-ghost use Rattle.textwrap_base.specs.Breaking.{AreBrokenPieces, broken_pieces, broken_words};
-ghost use Rattle.textwrap_base.specs.Cost.{IsChosen, division_cost};
+ghost use Rattle.std.specs.Prelude.{◌≡◌, [], ◌∷◌, map, take};
+ghost use Rattle.textwrap_base.specs.Cost.{division_cost};
+ghost use Rattle.textwrap_base.specs.Division.{closed_width};
+ghost use Rattle.textwrap_base.specs.Laws.{UnitsAreUnique, WordsAreUnique, GreedyDivisionIsUnique};
+ghost use Rattle.textwrap_base.specs.Laws.{BrokenPiecesAreUnique, BrokenTextsTile};
+ghost use Rattle.textwrap_base.specs.Laws.{BrokenPiecesTile, BrokenWordsTile};
+ghost use Rattle.textwrap_base.specs.Laws.{ChosenDivisionIsUnique, TableHasLeastCosts};
 ghost use Rattle.textwrap_base.specs.Penalties.{default_penalties};
-ghost use Rattle.textwrap_base.specs.Division.{IsGreedy, closed_width};
-ghost use Rattle.textwrap_base.specs.Table.{table, IsTable};
-ghost use Rattle.textwrap_base.specs.Units.{TextUnit, IsInUnits, units};
-ghost use Rattle.textwrap_base.specs.Words.{WordText, AreWordsOf, tile_of, tiled, words_of};
 ghost use Rattle.textwrap_base.specs.Worked.{worked_table, falling, uneven, uneven_lines};
 
 use crate::penalties::Penalties;
@@ -17,38 +16,31 @@ use crate::words::Fragment;
 /// A text has exactly one list of units: whole ones, of which the last may be a sequence without
 /// its end. It is what `units` gives.
 pub fn units_are_unique()
-    ensures { (cs : List ℕ) (us : List TextUnit) → IsInUnits cs us ↔ (us ≡ units cs) }
+    ensures { UnitsAreUnique }
 {}
 
-/// A line has exactly one list of words: it is cut exactly between a blank and a byte that is none.
-/// It is what `words_of` gives.
+/// A line has exactly one list of words: it is cut between a blank and a byte that is none, and
+/// nowhere else. It is what `words_of` gives.
 pub fn words_are_unique()
-    ensures { (line : List ℕ) (words : List WordText) → AreWordsOf line words ↔ (words ≡ words_of line) }
+    ensures { WordsAreUnique }
 {}
 
 /// A list of fragments has at most one greedy division, whatever the line widths.
 pub fn greedy_division_is_unique<T: Fragment>()
-    ensures { (widths : List ℕ) (fragments : _) (first second : _)
-        → IsGreedy T.sizes widths fragments first → IsGreedy T.sizes widths fragments second
-        → first ≡ second }
+    ensures { GreedyDivisionIsUnique T.sizes }
 {}
 
 /// A word can be broken into one list of pieces, and no other: the one that is computed.
 pub fn broken_pieces_are_unique()
-    ensures { (limit : ℕ) (w : WordText) (pieces : List WordText)
-        → AreBrokenPieces limit w pieces ↔ (pieces ≡ broken_pieces limit w) }
+    ensures { BrokenPiecesAreUnique }
 {}
 
 /// The pieces of a word tile its text, and where that is not empty its whitespace with it. So what
 /// words cover is covered by their pieces, where each word that is too wide has a text.
 pub fn broken_pieces_tile()
-    ensures texts { (limit : ℕ) (w : WordText) → IsUtf8 w.word
-        → flat_map (λ piece. piece.word) (broken_pieces limit w) ≡ w.word }
-    ensures pieces { (limit : ℕ) (w : WordText) → IsUtf8 w.word → w.word ≢ []
-        → tiled (broken_pieces limit w) ≡ tile_of w }
-    ensures words { (limit : ℕ) (words : List WordText) → All (λ w. IsUtf8 w.word) words
-        → All (λ w. limit < w.width → w.word ≢ []) words
-        → tiled (broken_words limit words) ≡ tiled words }
+    ensures texts { BrokenTextsTile }
+    ensures pieces { BrokenPiecesTile }
+    ensures words { BrokenWordsTile }
 {}
 
 /// Fragments have one chosen division at most, for any line widths.
@@ -57,15 +49,12 @@ pub fn chosen_division_is_unique<T: Fragment>(
     line_widths: &[usize],
     penalties: &Penalties,
 )
-    ensures { (lines others : List (List T))
-        → IsChosen T.sizes penalties.now line_widths.now fragments.now lines
-        → IsChosen T.sizes penalties.now line_widths.now fragments.now others
-        → lines ≡ others }
+    ensures { ChosenDivisionIsUnique T.sizes penalties.now line_widths.now fragments.now }
 {}
 
 /// Each entry of a table but the first is the least of what the entries before it give.
 pub fn table_has_least_costs()
-    ensures { (cost : ℕ → ℕ → ℕ → ℕ) (n : ℕ) → IsTable cost n (table cost n) }
+    ensures { TableHasLeastCosts }
 {}
 
 /// Two tables at the default penalties: one at line width 10, of fragments whose beginnings close at

@@ -1,0 +1,54 @@
+-- What the laws say of the definitions, each under a name that a caller can cite.
+use Rattle.std.specs.Prelude.{◌≡◌, ◌≢◌, ◌↔◌, ℕ, ◌<◌, List, [], All, IsUtf8}
+use Rattle.std.specs.List.{flat_map}
+use Rattle.textwrap_base.specs.Breaking.{AreBrokenPieces, broken_pieces, broken_words}
+use Rattle.textwrap_base.specs.Cost.{IsChosen}
+use Rattle.textwrap_base.specs.Division.{IsGreedy}
+use Rattle.textwrap_base.specs.Sizes.{Sizes}
+use Rattle.textwrap_base.specs.Table.{table, IsTable}
+use Rattle.textwrap_base.specs.Units.{TextUnit, IsInUnits, units}
+use Rattle.textwrap_base.specs.Words.{WordText, tile_of, tiled, AreWordsOf, words_of}
+use Rattle.textwrap_base.specs.declared.penalties.Penalties.{Penalties}
+
+abbrev pub UnitsAreUnique : Type 0
+UnitsAreUnique = (cs : List ℕ) (us : List TextUnit) → IsInUnits cs us ↔ (us ≡ units cs)
+
+abbrev pub WordsAreUnique : Type 0
+WordsAreUnique = (line : List ℕ) (words : List WordText)
+    → AreWordsOf line words ↔ (words ≡ words_of line)
+
+-- the same of the pieces into which a word can be broken
+abbrev pub BrokenPiecesAreUnique : Type 0
+BrokenPiecesAreUnique = (limit : ℕ) (w : WordText) (pieces : List WordText)
+    → AreBrokenPieces limit w pieces ↔ (pieces ≡ broken_pieces limit w)
+
+-- the texts of the pieces are the text of the word
+abbrev pub BrokenTextsTile : Type 0
+BrokenTextsTile = (limit : ℕ) (w : WordText) → IsUtf8 w.word
+    → flat_map (λ piece. piece.word) (broken_pieces limit w) ≡ w.word
+
+-- the pieces cover what the word does, where it has a text
+abbrev pub BrokenPiecesTile : Type 0
+BrokenPiecesTile = (limit : ℕ) (w : WordText) → IsUtf8 w.word → w.word ≢ []
+    → tiled (broken_pieces limit w) ≡ tile_of w
+
+-- the broken words cover what the words do, where each that is too wide has a text
+abbrev pub BrokenWordsTile : Type 0
+BrokenWordsTile = (limit : ℕ) (words : List WordText) → All (λ w. IsUtf8 w.word) words
+    → All (λ w. limit < w.width → w.word ≢ []) words
+    → tiled (broken_words limit words) ≡ tiled words
+
+-- fragments have at most one greedy division
+abbrev pub GreedyDivisionIsUnique : {X : Type 0} → (X → Sizes) → Type 0
+GreedyDivisionIsUnique {X} sizes = (widths : List ℕ) (fragments : List X) (lines others : List (List X))
+    → IsGreedy sizes widths fragments lines → IsGreedy sizes widths fragments others → lines ≡ others
+
+-- these fragments have at most one chosen division
+abbrev pub ChosenDivisionIsUnique : {X : Type 0} → (X → Sizes) → Penalties → List ℕ → List X → Type 0
+ChosenDivisionIsUnique {X} sizes penalties widths fragments = (lines others : List (List X))
+    → IsChosen sizes penalties widths fragments lines
+    → IsChosen sizes penalties widths fragments others → lines ≡ others
+
+-- a table has in each entry but the first the least of what the entries before it give
+abbrev pub TableHasLeastCosts : Type 0
+TableHasLeastCosts = (cost : ℕ → ℕ → ℕ → ℕ) (n : ℕ) → IsTable cost n (table cost n)

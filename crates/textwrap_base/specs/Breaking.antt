@@ -20,7 +20,7 @@ abbrev pub IsKept : ℕ → List TextUnit → Type 0
 IsKept limit part = (before after : List TextUnit) (c : ℕ) → part ≡ before ++ Visible c ∷ after
     → 0 < units_width before → units_width before + columns c ≤ limit
 
--- the part has columns, and would pass the limit with the visible character that the next starts with
+-- the part has columns, and would pass the limit with the visible character that starts the next
 abbrev pub IsFull : ℕ → List TextUnit → List TextUnit → Type 0
 IsFull limit part next = (c : ℕ) × (after : List TextUnit) × (next ≡ Visible c ∷ after)
     × (0 < units_width part) × (limit < units_width part + columns c)

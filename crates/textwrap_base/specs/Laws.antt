@@ -40,14 +40,15 @@ BrokenWordsTile = (limit : ℕ) (words : List WordText) → All (λ w. IsUtf8 w.
 
 -- fragments have at most one greedy division
 abbrev pub GreedyDivisionIsUnique : {X : Type 0} → (X → Sizes) → Type 0
-GreedyDivisionIsUnique {X} sizes = (widths : List ℕ) (fragments : List X) (lines others : List (List X))
-    → IsGreedy sizes widths fragments lines → IsGreedy sizes widths fragments others → lines ≡ others
+GreedyDivisionIsUnique {X} sizes = (widths : List ℕ) (xs : List X) (lines others : List (List X))
+    → IsGreedy sizes widths xs lines → IsGreedy sizes widths xs others → lines ≡ others
 
 -- these fragments have at most one chosen division
-abbrev pub ChosenDivisionIsUnique : {X : Type 0} → (X → Sizes) → Penalties → List ℕ → List X → Type 0
-ChosenDivisionIsUnique {X} sizes penalties widths fragments = (lines others : List (List X))
-    → IsChosen sizes penalties widths fragments lines
-    → IsChosen sizes penalties widths fragments others → lines ≡ others
+abbrev pub ChosenDivisionIsUnique : {X : Type 0}
+    → (X → Sizes) → Penalties → List ℕ → List X → Type 0
+ChosenDivisionIsUnique {X} sizes penalties widths xs = (lines others : List (List X))
+    → IsChosen sizes penalties widths xs lines → IsChosen sizes penalties widths xs others
+    → lines ≡ others
 
 -- a table has in each entry but the first the least of what the entries before it give
 abbrev pub TableHasLeastCosts : Type 0

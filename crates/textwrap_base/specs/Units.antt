@@ -53,7 +53,8 @@ IsWhole (Sequence cs) =
 abbrev pub IsOpen : TextUnit → Type 0
 IsOpen (Visible c) = ⊥
 IsOpen (Sequence cs) =
-    (body : List ℕ) × (cs ≡ escape ∷ body) × ((k : ℕ) → k ≤ length body → ends (take k body) ≡ false)
+    (body : List ℕ) × (cs ≡ escape ∷ body)
+    × ((k : ℕ) → k ≤ length body → ends (take k body) ≡ false)
 
 -- each unit is whole, but the last may be a sequence without an end
 abbrev pub AreUnits : List TextUnit → Type 0

@@ -15,8 +15,8 @@ pub record WordText : Type 0 where
   pub width : ℕ
 
 abbrev pub word_view : Word → WordText
-word_view w =
-    record { word = w.word.now; whitespace = w.whitespace.now; penalty = w.penalty.now; width = w.width }
+word_view w = record { word = w.word.now; whitespace = w.whitespace.now;
+    penalty = w.penalty.now; width = w.width }
 
 -- the widths of a word as a fragment: its columns, and the bytes of its whitespace and penalty
 abbrev pub sizes_of : WordText → Sizes

@@ -4,6 +4,7 @@ use Rattle.std.specs.List.{flat_map, sum_by}
 use Rattle.std.proofs.lemmas.Bool.{cases_Bool, cases_lt, eqb-true}
 use Rattle.std.proofs.lemmas.List.{append-nil, take-append-drop, drop_all, take_at, length-take-le}
 use Rattle.std.proofs.lemmas.List.Sums.{sum_by-cons}
+use Rattle.textwrap_base.proofs.ListLemmas.{nil_after}
 use Rattle.textwrap_base.specs.Units.{TextUnit, Visible, Sequence, characters, is_control_start, is_control_end, is_command_start, is_command_end, columns, control_len, command_len, escape_len, unit_at, taken_at, units_past, units, visible_of}
 use Rattle.textwrap_base.specs.Escapes.{taken_in, visible_in}
 use Rattle.textwrap_base.specs.Breaking.{unit_width, units_width}
@@ -12,11 +13,8 @@ use Rattle.textwrap_base.specs.declared.words.escapes.State.TheVariants.{Text, E
 
 -- ---- the units tile the characters
 
-drop-nil : (n : ℕ) → drop {A = ℕ} n [] ≡ []
-drop-nil n = drop_all n [] (omega arith)
-
 pub units_past-tile : (n : ℕ) (cs : List ℕ) → flat_map characters (units_past n cs) ≡ drop n cs
-units_past-tile n [] = sym (drop-nil n)
+units_past-tile n [] = sym (drop_all n [] (omega arith))
 units_past-tile zero (c ∷ cs) =
     elim (eqb c 27) as (λ b. characters (cond b (Sequence (c ∷ take (escape_len cs) cs)) (Visible c)) ++ flat_map characters (units_past (cond b (escape_len cs) 0) cs) ≡ c ∷ cs) [
       | true ↦ ap (λ ds. c ∷ ds) (ap (λ ds. take (escape_len cs) cs ++ ds) (units_past-tile (escape_len cs) cs) ∙ take-append-drop (escape_len cs) cs)
@@ -58,13 +56,9 @@ units_past-end n [] short = refl
 units_past-end zero (c ∷ cs) short = absurd (omega arith)
 units_past-end (suc n) (c ∷ cs) short = units_past-end n cs (omega arith)
 
-append-last : (xs ys : List TextUnit) → [] ≡ xs ++ ys → ys ≡ []
-append-last [] ys e = sym e
-append-last (x ∷ xs) ys e = cc
-
 -- where more units come, a unit does not reach the end
 more-left : (n : ℕ) (cs : List ℕ) (xs ys : List TextUnit) → units_past n cs ≡ xs ++ ys → ys ≢ [] → n < length cs
-more-left n cs xs ys e more = elim (cases_lt n (length cs)) [ inl lt ↦ lt | inr le ↦ absurd (more (append-last xs ys (sym (units_past-end n cs le) ∙ e))) ]
+more-left n cs xs ys e more = elim (cases_lt n (length cs)) [ inl lt ↦ lt | inr le ↦ absurd (more (nil_after xs ys (sym (units_past-end n cs le) ∙ e))) ]
 
 part-unit : (c : ℕ) (cs : List ℕ) (xs ys : List TextUnit) (b : Bool) → eqb c 27 ≡ b → units_past (cond b (escape_len cs) 0) cs ≡ xs ++ ys → ys ≢ []
     → units_past (cond b (escape_len cs) 0) (take (cond b (escape_len cs) 0) cs ++ flat_map characters xs) ≡ xs
@@ -183,7 +177,7 @@ same-rest : (a : Bool) (c : ℕ) (xs ys : List ℕ) → cond a (c ∷ xs) xs ≡
 same-rest true c xs ys e = cc
 same-rest false c xs ys e = e
 
--- what a step shows of every text tells the flag, and what the state that it gives takes of every text
+-- what a step shows of every text determines the flag, and what the state that it gives takes of every text
 pub step-is : (s next : State) (flag : Bool) (c : ℕ) → ((cs : List ℕ) → visible_in s (c ∷ cs) ≡ cond flag (c ∷ visible_in next cs) (visible_in next cs))
     → (flag ≡ shows s c) × ((cs : List ℕ) → taken_in next cs ≡ taken_in (next_of s c) cs)
 step-is s next flag c h =

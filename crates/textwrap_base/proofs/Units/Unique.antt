@@ -1,11 +1,11 @@
 -- A text is in units in exactly one way.
-use Rattle.std.proofs.Common.{◌≡◌, ◌≢◌, ◌↔◌, ◌⊎◌, inl, inr, ⊎_elim, ℕ, zero, suc, ◌+◌, ◌-◌, ◌<◌, ◌≤◌, Bool, true, false, cond, ◌==◌, List, [], ◌∷◌, ◌++◌, length, get_or, take, drop, refl, sym, ap, ◌∙◌, subst, arith, length-append, take-append-drop}
+use Rattle.std.proofs.Common.{◌≡◌, ◌≢◌, ◌↔◌, ◌⊎◌, inl, inr, ⊎_elim, ℕ, zero, suc, ◌<◌, ◌≤◌, Bool, true, false, cond, ◌==◌, List, [], ◌∷◌, ◌++◌, length, get_or, take, drop, refl, sym, ap, ◌∙◌, subst, arith, length-append}
 use Rattle.std.specs.List.{flat_map}
-use Rattle.std.specs.Prelude.{slice_index}
 use Rattle.std.proofs.lemmas.Bool.{cases_Bool, cases_lt, eqb-true, eqb-false, true≢false}
 use Rattle.std.proofs.lemmas.Bool.Decides.{nat_tests}
-use Rattle.std.proofs.lemmas.List.{length_push, length-take-le, take-take, get_or_push, get_or_append_left, append-nil, append_assoc, take_at, take-append-le, take_all}
-use Rattle.textwrap_base.proofs.ListLemmas.{same_parts}
+use Rattle.std.proofs.lemmas.List.{length-take-le, take-take, append-nil, append_assoc, take_at, take-append-le, take_all}
+use Rattle.textwrap_base.proofs.ListLemmas.{same_parts, last_but_one, last-push, last_but_one-push}
+use Rattle.textwrap_base.proofs.Units.Parts.{units-tile}
 use Rattle.textwrap_base.specs.Lists.{last}
 use Rattle.textwrap_base.specs.Units.{TextUnit, Visible, Sequence, characters, escape, is_control_start, is_control_end, is_command_start, is_command_end, ends, IsWhole, IsOpen, AreUnits, IsInUnits, control_len, command_len, escape_len, taken_at, units_past, units}
 
@@ -49,22 +49,6 @@ module _ (passes : List ℕ → Bool) (test : ℕ → ℕ → Bool) (len : ℕ �
       (λ l. ap passes (sym (append_assoc front (c ∷ []) l))) (StopsAt-len cs (front ++ c ∷ []) c (next c ∙ on) (passes-push front c))))
       (cases_Bool (test b c)))
 
--- the last of the characters
-length-two : (front : List ℕ) (b c : ℕ) → length ((front ++ b ∷ []) ++ c ∷ []) ≡ length front + 2
-length-two front b c = omega (arith, length_push (front ++ b ∷ []) c, length_push front b)
-
-last-push : (front : List ℕ) (c : ℕ) → last (front ++ c ∷ []) ≡ c
-last-push front c = let place : length front ≡ length (front ++ c ∷ []) - 1 = omega (arith, length_push front c) in get_or_push front c 0 _ place
-
-abbrev last_but_one : List ℕ → ℕ
-last_but_one cs = slice_index cs (length cs - 2)
-
-last_but_one-push : (front : List ℕ) (b c : ℕ) → last_but_one ((front ++ b ∷ []) ++ c ∷ []) ≡ b
-last_but_one-push front b c =
-    let place : length front ≡ length ((front ++ b ∷ []) ++ c ∷ []) - 2 = omega (arith, length-two front b c) in
-    let within : length ((front ++ b ∷ []) ++ c ∷ []) - 2 < length (front ++ b ∷ []) = omega (arith, length-two front b c, length_push front b) in
-    get_or_append_left (front ++ b ∷ []) (c ∷ []) 0 _ within ∙ get_or_push front b 0 _ place
-
 control-stops : (cs : List ℕ) → StopsAt (λ l. is_control_end (last l)) cs (control_len cs)
 control-stops cs =
     StopsAt-len (λ l. is_control_end (last l)) (λ b c. is_control_end c) (λ b l. control_len l) (λ b. refl) (λ b c l. refl)
@@ -91,7 +75,7 @@ escape-stops : (cs : List ℕ) → StopsAt ends cs (escape_len cs)
 escape-stops [] = record { within = omega arith; before = λ k below. absurd (omega arith); stop = inr (refl, refl) }
 escape-stops (c ∷ cs) = escape-cons c cs (is_control_start c) (is_command_start c) refl refl
 
--- ---- the units of a text are units, and its characters are theirs
+-- ---- the units of a text are units
 
 AreUnits-cons : (u : TextUnit) (us : List TextUnit) → IsWhole u → AreUnits us → AreUnits (u ∷ us)
 AreUnits-cons u [] whole rest = inl whole
@@ -126,19 +110,8 @@ AreUnits-units_past [] n = tt
 AreUnits-units_past (c ∷ cs) zero = AreUnits-at c cs (c == escape) refl (AreUnits-units_past cs (taken_at c cs))
 AreUnits-units_past (c ∷ cs) (suc n) = AreUnits-units_past cs n
 
-characters-at : (c : ℕ) (cs rest : List ℕ) (b : Bool) (n : ℕ) → rest ≡ drop (cond b n 0) cs → characters (cond b (Sequence (c ∷ take n cs)) (Visible c)) ++ rest ≡ c ∷ cs
-characters-at c cs rest true n is = ap (λ l. c ∷ (take n cs ++ l)) is ∙ ap (λ l. c ∷ l) (take-append-drop n cs)
-characters-at c cs rest false n is = ap (λ l. c ∷ l) is
-
-characters-units_past : (cs : List ℕ) (n : ℕ) → flat_map characters (units_past n cs) ≡ drop n cs
-characters-units_past [] zero = refl
-characters-units_past [] (suc n) = refl
-characters-units_past (c ∷ cs) zero =
-    characters-at c cs (flat_map characters (units_past (taken_at c cs) cs)) (c == escape) (escape_len cs) (characters-units_past cs (taken_at c cs))
-characters-units_past (c ∷ cs) (suc n) = characters-units_past cs n
-
 pub IsInUnits-units : (cs : List ℕ) → IsInUnits cs (units cs)
-IsInUnits-units cs = (characters-units_past cs 0, AreUnits-units_past cs 0)
+IsInUnits-units cs = (units-tile cs, AreUnits-units_past cs 0)
 
 -- ---- and no other list is
 

@@ -1,16 +1,14 @@
 -- Lemmas on the parts into which units are broken: the computed parts have the properties, and no others have.
 use Rattle.std.proofs.Common.{inl, inr, ◌≡◌, ◌≢◌, ℕ, ◌+◌, ◌<◌, ◌≤◌, true, false, cond, ltb, List, [], ◌∷◌, ◌++◌, refl, sym, ap, ◌∙◌, subst, zero-add, add-zero, arith, All}
 use Rattle.std.specs.Prelude.{⊤}
-use Rattle.std.specs.List.{flat_map, onto_first}
+use Rattle.std.specs.List.{onto_first}
 use Rattle.std.proofs.lemmas.Bool.{cases_Bool, and_parts, ltb-true}
 use Rattle.std.proofs.lemmas.Bool.Decides.{nat_tests}
 use Rattle.std.proofs.lemmas.List.Elements.{All-nil, All-cons, All-head, All-tail}
 use Rattle.std.proofs.lemmas.List.Sums.{sum_by-cons}
+use Rattle.textwrap_base.proofs.ListLemmas.{flat}
 use Rattle.textwrap_base.specs.Units.{TextUnit, Visible, Sequence, columns}
 use Rattle.textwrap_base.specs.Breaking.{unit_width, units_width, IsKept, AllPartsFull, AreBroken, is_due, parts_after, broken_units}
-
-abbrev pub flat : List (List TextUnit) → List TextUnit
-flat parts = flat_map (λ part. part) parts
 
 -- ---- the computed parts, one by one
 
@@ -131,10 +129,6 @@ whole limit width first (next ∷ parts) k (c, after, e, some, over) ks fs =
     (All-tail (IsKept limit) next parts ks) (AllPartsFull-tail limit next parts fs) in
     along limit width first (next ++ flat parts) (next ∷ parts) k
     (subst P (sym e) (rw (due-true limit (width + units_width first) c some over) (ap (λ ps. [] ∷ onto_first (Visible c) ps) rest)))
-
-append-nonempty : (xs ys : List TextUnit) → [] ≡ xs ++ ys → xs ≢ [] → ⊥
-append-nonempty [] ys e some = some refl
-append-nonempty (x ∷ xs) ys e some = cc
 
 pub AreBroken-unique : (limit : ℕ) (us : List TextUnit) (parts : List (List TextUnit)) → AreBroken limit us parts → parts ≡ broken_units limit us
 AreBroken-unique limit us [] h = ap (broken_units limit) h.tiles

@@ -3,7 +3,7 @@ use Rattle.std.proofs.Common.{inl, inr, ◌≡◌, ◌≢◌, ℕ, ◌+◌, ◌*
 use Rattle.std.specs.Prelude.{chars, All, IsUtf8, encode_utf8, encode_utf8_all}
 use Rattle.std.specs.List.{flat_map, sum_by}
 use Rattle.std.proofs.lemmas.Bool.{cases_Bool, ltb-true}
-use Rattle.std.proofs.lemmas.List.{append-nil, append_assoc, append_cancel_right, take-append-drop, length-append, length-drop, drop-drop, drop_at, drop_all}
+use Rattle.std.proofs.lemmas.List.{nil_from_length, append-nil, append_assoc, append_cancel_right, take-append-drop, length-append, length-drop, drop-drop, drop_at, drop_all}
 use Rattle.std.proofs.lemmas.List.Concat.{flat_map-append}
 use Rattle.std.proofs.lemmas.List.Elements.{All-head, All-tail}
 use Rattle.std.proofs.lemmas.List.Sums.{sum_by-cons}
@@ -18,11 +18,7 @@ use Rattle.textwrap_base.proofs.Word.Breaking.{taken_units, left_units, taken-le
 use Rattle.textwrap_base.proofs.Units.Widths.{columns-le}
 use Rattle.textwrap_base.proofs.Units.Parts.{units_in, next_of, shows, step-is, units_in-inside, units_in-text, units-tile, units-part, units_width-is}
 
-nil-length : (xs : List ℕ) → length xs ≡ 0 → xs ≡ []
-nil-length [] e = refl
-nil-length (x ∷ xs) e = cc
-
--- what the step of a reader tells
+-- what the step of a reader shows
 abbrev pub IsStep : State → ℕ → State → Bool → Type 0
 IsStep s c next flag = (cs : List ℕ) → visible_in s (c ∷ cs) ≡ cond flag (c ∷ visible_in next cs) (visible_in next cs)
 
@@ -176,12 +172,12 @@ pieces_with-more whitespace penalty text (next ∷ texts) some = refl
 
 -- one turn of the iterator that gives the pieces: at the end, at the last piece, and before it
 pub turn-none : (limit : ℕ) (whitespace penalty text : List ℕ) → length text ≡ 0 → pieces_with whitespace penalty (broken_texts limit text) ≡ []
-turn-none limit whitespace penalty text none = ap (λ t. pieces_with whitespace penalty (broken_texts limit t)) (nil-length text none) ∙ ap (pieces_with whitespace penalty) (broken_texts-nil limit)
+turn-none limit whitespace penalty text none = ap (λ t. pieces_with whitespace penalty (broken_texts limit t)) (nil_from_length text none) ∙ ap (pieces_with whitespace penalty) (broken_texts-nil limit)
 
 pub turn-last : (limit : ℕ) (whitespace penalty text front back : List ℕ) (width : ℕ) → broken_texts limit text ≡ front ∷ broken_texts limit back → width ≡ text_width front → length back ≡ 0
     → pieces_with whitespace penalty (broken_texts limit text) ≡ record { word = front; whitespace = whitespace; penalty = penalty; width = width } ∷ pieces_with whitespace penalty (broken_texts limit back)
 turn-last limit whitespace penalty text front back width first wide none =
-    let ended : broken_texts limit back ≡ [] = ap (broken_texts limit) (nil-length back none) ∙ broken_texts-nil limit in
+    let ended : broken_texts limit back ≡ [] = ap (broken_texts limit) (nil_from_length back none) ∙ broken_texts-nil limit in
     rw (first, ended, wide) refl
 
 pub turn-more : (limit : ℕ) (whitespace penalty text front back : List ℕ) (width : ℕ) → broken_texts limit text ≡ front ∷ broken_texts limit back → width ≡ text_width front → (length back ≡ 0 → ⊥) → IsUtf8 back
@@ -246,7 +242,7 @@ IsReading-cut limit text at rest s width c after next flag utf8 some h e step sh
 pub IsReading-end : (limit : ℕ) (text : List ℕ) (at : ℕ) (rest : List ℕ) (s : State) (width : ℕ) → IsUtf8 text → text ≢ []
     → IsReading limit text at rest s width → length rest ≡ 0 → IsFirstPiece limit text (length text) width
 IsReading-end limit text at rest s width utf8 some h none =
-    let ended : rest ≡ [] = nil-length rest none in
+    let ended : rest ≡ [] = nil_from_length rest none in
     let past = drop_all (length text) text (omega arith) in
     let found = IsInFirst-end limit (chars text) s width (subst (IsInFirst limit (chars text) s width) (ap chars ended ∙ chars-nil) h.inside) in
     IsFirstPiece-found limit text (length text) width utf8 some (omega arith) (subst IsUtf8 (sym past) IsUtf8-nil)

@@ -8,6 +8,7 @@ use Rattle.std.proofs.lemmas.List.{get_or_at, get_or-drop, get_or-reverse, lengt
 use Rattle.std.proofs.lemmas.List.Elements.{All-nil, All-cons, All-map, All-weaker}
 use Rattle.std.proofs.lemmas.List.Sums.{prefix_len_passes, prefix_len_stops, suffix_len_is}
 use Rattle.std.proofs.lemmas.Str.{IsUtf8-take, IsUtf8-drop, IsCharBoundary-end, IsCharBoundary-before_ascii, IsCharBoundary-after_ascii, chars-nil}
+use Rattle.textwrap_base.proofs.ListLemmas.{onto_front, onto_front-onto_first}
 use Rattle.textwrap_base.specs.Units.{columns, visible, text_width}
 use Rattle.textwrap_base.specs.Words.{WordText, word_of, is_cut, chunks, words_of}
 use Rattle.textwrap_base.specs.Blanks.{is_blank, trimmed_len, without_final_blanks, final_blanks}
@@ -40,19 +41,11 @@ ascii_seam before after c utf8 ascii =
 
 -- ---- the parts of a text, where bytes stand before the first
 
-abbrev pub onto_front : List ℕ → List (List ℕ) → List (List ℕ)
-onto_front before [] = before ∷ []
-onto_front before (part ∷ parts) = (before ++ part) ∷ parts
-
-pub onto_front-onto_first : (before : List ℕ) (c : ℕ) (parts : List (List ℕ)) → onto_front before (onto_first c parts) ≡ onto_front (before ++ c ∷ []) parts
-onto_front-onto_first before c [] = refl
-onto_front-onto_first before c (part ∷ parts) = ap (λ p. p ∷ parts) (sym (append_assoc before (c ∷ []) part))
-
 pub all_utf8-front : (parts : List (List ℕ)) → All IsUtf8 (onto_front [] parts) → All IsUtf8 parts
 all_utf8-front [] all = All-nil IsUtf8
 all_utf8-front (part ∷ parts) all = all
 
--- ---- the pieces of a line
+-- ---- the chunks of a line
 
 chunks-utf8_step : (before : List ℕ) (c d : ℕ) (cs : List ℕ) → IsUtf8 (before ++ c ∷ d ∷ cs) → (b : Bool) → is_cut c d ≡ b
     → (IsUtf8 (d ∷ cs) → All IsUtf8 (onto_front [] (chunks (d ∷ cs)))) → (IsUtf8 ((before ++ c ∷ []) ++ d ∷ cs) → All IsUtf8 (onto_front (before ++ c ∷ []) (chunks (d ∷ cs))))

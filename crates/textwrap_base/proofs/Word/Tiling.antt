@@ -5,26 +5,23 @@ use Rattle.std.specs.Str.{IsUtf8, IsCharBoundary}
 use Rattle.std.proofs.lemmas.List.{map-append, take_more}
 use Rattle.std.proofs.lemmas.List.Concat.{flat_map-append}
 use Rattle.std.proofs.lemmas.Str.{IsCharBoundary-after_ascii}
+use Rattle.textwrap_base.proofs.ListLemmas.{flat, flat-onto_first}
 use Rattle.textwrap_base.specs.declared.words.Word.{Word}
 use Rattle.textwrap_base.specs.Words.{WordText, word_view, word_of, tile_of, tiled, is_cut, chunks, words_of}
 use Rattle.textwrap_base.specs.Blanks.{trimmed_len}
 
--- ---- pieces
+-- ---- chunks
 
-join-onto_first : (c : ℕ) (parts : List (List ℕ)) → flat_map (λ part. part) (onto_first c parts) ≡ c ∷ flat_map (λ part. part) parts
-join-onto_first c [] = refl
-join-onto_first c (part ∷ parts) = refl
-
-pub join-chunks : (line : List ℕ) → flat_map (λ part. part) (chunks line) ≡ line
+pub join-chunks : (line : List ℕ) → flat (chunks line) ≡ line
 join-chunks [] = refl
 join-chunks (c ∷ []) = refl
 join-chunks (c ∷ d ∷ cs) =
-    elim (is_cut c d) as (λ b. flat_map (λ part. part) (cond b ((c ∷ []) ∷ chunks (d ∷ cs)) (onto_first c (chunks (d ∷ cs)))) ≡ c ∷ d ∷ cs) [
+    elim (is_cut c d) as (λ b. flat (cond b ((c ∷ []) ∷ chunks (d ∷ cs)) (onto_first c (chunks (d ∷ cs)))) ≡ c ∷ d ∷ cs) [
       | true ↦ ap (λ l. c ∷ l) (join-chunks (d ∷ cs))
-      | false ↦ join-onto_first c (chunks (d ∷ cs)) ∙ ap (λ l. c ∷ l) (join-chunks (d ∷ cs))
+      | false ↦ flat-onto_first c (chunks (d ∷ cs)) ∙ ap (λ l. c ∷ l) (join-chunks (d ∷ cs))
     ]
 
--- the first piece ends at the first cut
+-- the first chunk ends at the first cut
 pub chunks_first : (line : List ℕ) (n : ℕ) → 0 < n → n ≤ length line
     → ((k : ℕ) → k + 1 < n → is_cut (get_or line k 0) (get_or line (k + 1) 0) ≡ false)
     → ((k : ℕ) → k + 1 ≡ n → n < length line → is_cut (get_or line k 0) (get_or line n 0) ≡ true)
@@ -44,10 +41,10 @@ chunks_first (c ∷ d ∷ cs) (suc (suc n)) some within before at =
 
 -- ---- tiling
 
-tile_of-word_of : (piece : List ℕ) → tile_of (word_of piece) ≡ piece
-tile_of-word_of piece = take-append-drop (trimmed_len piece) piece
+tile_of-word_of : (text : List ℕ) → tile_of (word_of text) ≡ text
+tile_of-word_of text = take-append-drop (trimmed_len text) text
 
-tiled-map : (parts : List (List ℕ)) → tiled (map word_of parts) ≡ flat_map (λ part. part) parts
+tiled-map : (parts : List (List ℕ)) → tiled (map word_of parts) ≡ flat parts
 tiled-map [] = refl
 tiled-map (part ∷ parts) = ap (λ l. l ++ tiled (map word_of parts)) (tile_of-word_of part) ∙ ap (λ l. part ++ l) (tiled-map parts)
 

@@ -5,15 +5,8 @@ use Rattle.std.specs.List.{flat_map, onto_first}
 use Rattle.std.proofs.lemmas.List.Elements.{All-nil, All-cons, All-head, All-tail}
 use Rattle.textwrap_base.specs.Lists.{last}
 use Rattle.textwrap_base.specs.Words.{WordText, word_of, is_cut, IsUncut, AreCutApart, AreChunks, AreWordsOf, chunks, words_of}
+use Rattle.textwrap_base.proofs.ListLemmas.{flat, last-cons}
 use Rattle.textwrap_base.proofs.Word.Tiling.{join-chunks}
-
-abbrev flat : List (List ℕ) → List ℕ
-flat parts = flat_map (λ part. part) parts
-
-last-cons : (c d : ℕ) (cs : List ℕ) → last (c ∷ d ∷ cs) ≡ last (d ∷ cs)
-last-cons c d cs =
-    let place : length (c ∷ d ∷ cs) - 1 ≡ suc (length (d ∷ cs) - 1) = omega arith in
-    ap (λ k. get_or (c ∷ d ∷ cs) k 0) place
 
 -- ---- no other parts are the chunks
 

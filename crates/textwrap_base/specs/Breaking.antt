@@ -1,5 +1,6 @@
 -- The pieces of a word that is too wide for a line.
-use Rattle.std.specs.Prelude.{◌≡◌, ◌≢◌, ℕ, ◌+◌, ◌<◌, ◌≤◌, Bool, false, nat_lt, ◌&&◌, List, [], ◌∷◌, ◌++◌, All, map, if◌then◌else◌, chars, encode_utf8_all, sum_by, ⊤}
+use Rattle.std.specs.Prelude.{◌≡◌, ◌≢◌, ℕ, ◌+◌, ◌<◌, ◌≤◌, Bool, false, nat_lt, ◌&&◌, List, [], ◌∷◌}
+use Rattle.std.specs.Prelude.{◌++◌, All, map, if◌then◌else◌, chars, encode_utf8_all, sum_by, ⊤}
 use Rattle.std.specs.List.{flat_map, onto_first}
 use Rattle.textwrap_base.specs.Units.{TextUnit, Visible, Sequence, characters, columns, units}
 use Rattle.textwrap_base.specs.Words.{WordText, word_view, piece}

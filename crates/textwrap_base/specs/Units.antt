@@ -1,6 +1,8 @@
 -- The units of a text, which are its visible characters and its escape sequences (ECMA-48), and
 -- the width of a text in columns.
-use Rattle.std.specs.Prelude.{◌≡◌, ◌≢◌, ℕ, zero, suc, ◌-◌, ◌<◌, ◌≤◌, Bool, true, false, ◌==◌, ◌&&◌, ◌||◌, List, [], ◌∷◌, length, take, slice_index, if◌then◌else◌, unwrap_or, chars, sum_by, encode_utf8, filter, nat_lt, All, ⊤, ◌⊎◌}
+use Rattle.std.specs.Prelude.{◌≡◌, ◌≢◌, ℕ, zero, suc, ◌-◌, ◌<◌, ◌≤◌, Bool, true, false, ◌==◌, ◌&&◌}
+use Rattle.std.specs.Prelude.{◌||◌, List, [], ◌∷◌, length, take, slice_index, if◌then◌else◌}
+use Rattle.std.specs.Prelude.{unwrap_or, chars, sum_by, encode_utf8, filter, nat_lt, All, ⊤, ◌⊎◌}
 use Rattle.std.specs.Int.{is_in_range}
 use Rattle.std.specs.List.{flat_map}
 use Rattle.textwrap_base.specs.Lists.{last}

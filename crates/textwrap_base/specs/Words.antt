@@ -1,5 +1,6 @@
 -- Words by their texts: what a text is as a word, and the words of a line.
-use Rattle.std.specs.Prelude.{◌≡◌, ◌≢◌, ℕ, Bool, true, false, not, ◌&&◌, List, [], ◌∷◌, ◌++◌, length, slice_index, map, All, ⊤, if◌then◌else◌}
+use Rattle.std.specs.Prelude.{◌≡◌, ◌≢◌, ℕ, Bool, true, false, not, ◌&&◌, List, [], ◌∷◌, ◌++◌}
+use Rattle.std.specs.Prelude.{length, slice_index, map, All, ⊤, if◌then◌else◌}
 use Rattle.std.specs.List.{flat_map, onto_first}
 use Rattle.textwrap_base.specs.Blanks.{is_blank, without_final_blanks, final_blanks}
 use Rattle.textwrap_base.specs.Lists.{last}
@@ -15,8 +16,12 @@ pub record WordText : Type 0 where
   pub width : ℕ
 
 abbrev pub word_view : Word → WordText
-word_view w = record { word = w.word.now; whitespace = w.whitespace.now;
-    penalty = w.penalty.now; width = w.width }
+word_view w = record {
+  word = w.word.now;
+  whitespace = w.whitespace.now;
+  penalty = w.penalty.now;
+  width = w.width;
+}
 
 -- the widths of a word as a fragment: its columns, and the bytes of its whitespace and penalty
 abbrev pub sizes_of : WordText → Sizes

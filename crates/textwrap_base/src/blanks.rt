@@ -1,8 +1,9 @@
-//! The blanks at the end of a text.
+//! The blanks at the end of a text. A blank is U+0020 and nothing else.
 ghost use Rattle.std.specs.Prelude.{◌≡◌, ◌<◌, ◌≤◌, length, slice_index};
-ghost use Rattle.textwrap_base.specs.Blanks.{blank, trimmed_len, without_final_blanks, final_blanks};
+ghost use Rattle.textwrap_base.specs.Blanks.{blank, trimmed_len, without_final_blanks};
+ghost use Rattle.textwrap_base.specs.Blanks.{final_blanks};
 
-/// The text without its final blanks, and those blanks.
+/// Splits a text before its final blanks, of which there may be none. The call always succeeds.
 pub fn split_final_blanks<'a>(text: &'a str) -> (&'a str, &'a str)
     ensures front { result.0.now ≡ without_final_blanks text.now }
     ensures back { result.1.now ≡ final_blanks text.now }
@@ -10,7 +11,7 @@ pub fn split_final_blanks<'a>(text: &'a str) -> (&'a str, &'a str)
     text.split_at(trimmed_len(text.as_bytes()))
 }
 
-/// The length of the text without its final blanks.
+/// The bytes of a text before its final blanks.
 fn trimmed_len(bytes: &[u8]) -> usize
     ensures value { result ≡ trimmed_len bytes.now }
     ensures within { result ≤ length bytes.now }

@@ -1,4 +1,4 @@
-//! Columns of a text, fragments, and words: what the original has in its module `core`.
+//! The columns of a text, fragments and words: what the original has in its module `core`.
 ghost use Rattle.std.specs.Prelude.{◌≡◌, ℕ, ◌*◌, ◌≤◌, length};
 ghost use Rattle.textwrap_base.specs.Sizes.{Sizes};
 ghost use Rattle.textwrap_base.specs.Units.{columns, text_width};
@@ -13,10 +13,12 @@ use unicode_width::UnicodeWidthChar;
 mod breaking;
 mod escapes;
 
-/// The columns that a text takes in a terminal: the sum over its visible characters of the
-/// columns of each by itself (Unicode Standard Annex 11). Escape sequences (ECMA-48) take none.
+/// The width of a text in terminal columns. Each visible character counts as it would alone, by its
+/// East Asian width (Unicode Standard Annex #11): most take one column, wide ones two, and control
+/// characters and combining marks none. Escape sequences (ECMA-48) are not visible and take none.
 ///
-/// `display_width("Café")` is 4, and so is that of the same text in colour.
+/// `display_width("Café")` is 4, also where escape sequences colour the text. The call always
+/// succeeds and needs no memory.
 pub fn display_width(text: &str) -> usize
     ensures width { result ≡ text_width text.now }
     ensures bound { result ≤ 2 * length text.now }
@@ -31,51 +33,54 @@ pub fn display_width(text: &str) -> usize
     width
 }
 
-/// The columns of a character by itself, 0 where it has no width.
+/// The columns of a character alone, 0 for a control character.
 fn columns(ch: char) -> usize
     ensures { result ≡ columns ch }
 {
     ch.width().unwrap_or(0)
 }
 
-/// What a line is made of: a part that is never cut, in whole numbers of any unit.
+/// An item that is placed on a line and never cut. It has three widths, in one unit of the
+/// implementor's choice, such as columns.
 ///
-/// Each width is a function of the fragment's value.
+/// The widths depend on the value alone, so asking again gives the same.
 pub trait Fragment: Debug {
     ghost sizes: { Self → Sizes };
 
-    /// What the fragment takes on a line.
+    /// The width of the item itself.
     fn width(&self) -> usize
         ensures { result ≡ (sizes self.now).width };
 
-    /// What follows the fragment, where the line goes on.
+    /// The width of the space after it, which counts where another item follows on the line.
     fn whitespace_width(&self) -> usize
         ensures { result ≡ (sizes self.now).whitespace };
 
-    /// What the fragment takes more, where the line ends with it.
+    /// The width that it adds at the end of a line, as a hyphen does.
     fn penalty_width(&self) -> usize
         ensures { result ≡ (sizes self.now).penalty };
 }
 
-/// A word of a text, with the blanks that follow it.
+/// A word of a text and what follows it. The texts are borrowed, so a copy needs no memory.
 #[derive(Clone, Copy, Debug, PartialEq, Eq)]
 pub struct Word<'a> {
-    /// The text that is printed.
+    /// The text of the word.
     pub word: &'a str,
-    /// The blanks after it, printed where the line goes on, or where blanks at line ends are kept.
+    /// The blanks after it. A line shows them between this word and its next one, and at its end
+    /// only where blanks are preserved.
     pub whitespace: &'a str,
-    /// What is printed in place of the whitespace where the line ends with this word.
+    /// What a line that ends with this word shows instead of its blanks, such as a hyphen.
     pub penalty: &'a str,
-    /// The columns of `word`.
+    /// The columns of `word`, as `display_width` counts them.
     pub width: usize,
 }
 
 impl<'a> From<&'a str> for Word<'a> {
-    ghost from_gives = { λ piece result. word_view result ≡ word_of piece.now };
+    ghost from_gives = { λ text result. word_view result ≡ word_of text.now };
 
-    /// The piece without its final blanks, which are the whitespace. There is no penalty.
-    fn from(piece: &'a str) -> Word<'a> {
-        let (word, whitespace) = split_final_blanks(piece);
+    /// Takes the whole text as one word, whose whitespace is the blanks that the text ends in, and
+    /// which has no penalty. The call always succeeds and needs no memory.
+    fn from(text: &'a str) -> Word<'a> {
+        let (word, whitespace) = split_final_blanks(text);
         Word {
             word,
             whitespace,
@@ -86,7 +91,7 @@ impl<'a> From<&'a str> for Word<'a> {
 }
 
 impl<'a> Word<'a> {
-    /// The field `word`, to which the `Word` of the original derefs.
+    /// The field `word`, to which the original's `Word` dereferences.
     pub fn as_str(&self) -> &'a str
         ensures { result.now ≡ self.now.word.now }
     {
@@ -97,17 +102,17 @@ impl<'a> Word<'a> {
 impl<'a> Fragment for Word<'a> {
     ghost sizes = { λ word. sizes_of (word_view word) };
 
-    /// The field `width`, the columns of the word.
+    /// The field `width`, in columns.
     fn width(&self) -> usize {
         self.width
     }
 
-    /// The bytes of the whitespace.
+    /// The bytes of the whitespace, as many as its columns where it is blanks.
     fn whitespace_width(&self) -> usize {
         self.whitespace.len()
     }
 
-    /// The bytes of the penalty.
+    /// The bytes of the penalty, as many as its columns where it is printable ASCII.
     fn penalty_width(&self) -> usize {
         self.penalty.len()
     }

@@ -11,7 +11,7 @@ use Rattle.textwrap_base.specs.Units.{TextUnit, Visible, Sequence, characters, e
 
 -- ---- how far a sequence goes
 
--- n of the characters are the fewest that pass, or all where no beginning passes
+-- n of the characters are the fewest that pass, or all where no prefix passes
 record StopsAt (passes : List ℕ → Bool) (cs : List ℕ) (n : ℕ) : Type 0 where
   within : n ≤ length cs
   before : (k : ℕ) → k < n → passes (take k cs) ≡ false

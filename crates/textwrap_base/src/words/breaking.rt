@@ -1,5 +1,6 @@
-//! Words that are broken where they are too wide for a line.
-ghost use Rattle.std.specs.Prelude.{◌≡◌, ◌≢◌, ℕ, List, [], ◌∷◌, take, drop, map, IfOk, OnOk, ◌++◌, IsCharBoundary, IsUtf8};
+//! Breaking words that are too wide for a line.
+ghost use Rattle.std.specs.Prelude.{◌≡◌, ◌≢◌, ℕ, List, [], ◌∷◌, take, drop, map, IfOk, OnOk, ◌++◌};
+ghost use Rattle.std.specs.Prelude.{IsCharBoundary, IsUtf8};
 ghost use Rattle.std.specs.Iterator.{IsFiniteIterable, Drains};
 ghost use Rattle.textwrap_base.specs.Breaking.{broken_texts, broken_word, broken_words};
 ghost use Rattle.textwrap_base.specs.Units.{text_width};
@@ -9,11 +10,11 @@ use super::escapes::State;
 use super::{Word, columns};
 use std::alloc::{AllocError, Global};
 
-/// The pieces of a word, first to last, as `Word::break_apart` gives them. No turn takes memory,
-/// and after the last piece each turn answers `None`.
+/// An iterator over the pieces of a word, made by `Word::break_apart`. It gives them in order and
+/// needs no memory, and after the last piece it returns `None` each time.
 #[derive(Clone, Debug, Drop)]
 pub struct BreakApart<'a> {
-    /// What is left of the word; its `width` is not read.
+    /// The part of the word that is still to be broken. Its `width` is not read.
     rest: Word<'a>,
     line_width: usize,
 }
@@ -21,10 +22,13 @@ pub struct BreakApart<'a> {
 impl<'a> Word<'a> {
     ghost use Rattle.textwrap_base.specs.Breaking.{broken_pieces, pieces_left};
 
-    /// Breaks the word into pieces of at most `line_width` columns, without an added hyphen. A
-    /// piece is wider only where its first character with columns is. An escape sequence is never
-    /// cut, and stays with the piece before a cut. The last piece alone has the whitespace and the
-    /// penalty of the word. A word with an empty text has no pieces.
+    /// Breaks the word into pieces that fit into `line_width` columns. Each piece takes what fits;
+    /// it is wider than the line only where it has a single character with columns and that one is.
+    /// No hyphen is added, no escape sequence (ECMA-48) is cut, and a sequence at a cut belongs to
+    /// the piece before it.
+    ///
+    /// The last piece keeps the whitespace and the penalty of the word, and the others have none.
+    /// A word without text has no pieces. The call always succeeds and needs no memory.
     pub fn break_apart(&self, line_width: usize) -> BreakApart<'a>
         ensures { pieces_left result ≡ broken_pieces line_width (word_view self.now) }
     {
@@ -69,7 +73,7 @@ impl<'a> Iterator for BreakApart<'a> {
     }
 }
 
-/// The bytes and the columns of the first piece of a word's text.
+/// The bytes and the columns of the first piece of a text that is not empty.
 fn first_piece(text: &str, line_width: usize) -> (usize, usize)
     requires { text.now ≢ [] }
     ensures boundary { IsCharBoundary text.now result.0 }
@@ -94,19 +98,20 @@ fn first_piece(text: &str, line_width: usize) -> (usize, usize)
     (text.len(), width)
 }
 
-/// Breaks each word that is wider than the line, as `Word::break_apart` does, and keeps the others.
-/// The iterator has to end.
+/// Replaces each word whose field `width` is above `line_width` columns by its pieces, those of
+/// `Word::break_apart`, and keeps the other words. The iterator has to end.
 ///
 /// # Errors
-/// Only want of memory.
+/// Only where it is out of memory for the list.
 pub fn break_words<'a, I: IntoIterator<Item = Word<'a>>>(
     alloc: Global,
     words: I,
     line_width: usize,
 ) -> Result<Vec<Word<'a>>, AllocError>
-    requires ends { IsFiniteIterable I.into_iter_gives I.IntoIter.can_next I.IntoIter.remaining words }
-    ensures pieces { IfOk result (λ pieces. (it : I.IntoIter) × (given : List Word) × I.into_iter_gives words it
-        × Drains I.IntoIter.next_gives it given
+    requires ends { IsFiniteIterable I.into_iter_gives
+        I.IntoIter.can_next I.IntoIter.remaining words }
+    ensures pieces { IfOk result (λ pieces. (it : I.IntoIter) × (given : List Word)
+        × I.into_iter_gives words it × Drains I.IntoIter.next_gives it given
         × (map word_view pieces.items ≡ broken_words line_width (map word_view given))) }
 {
     let mut pieces = Vec::new(alloc);
@@ -116,7 +121,7 @@ pub fn break_words<'a, I: IntoIterator<Item = Word<'a>>>(
     Ok(pieces)
 }
 
-/// Adds a word, or its pieces where it is wider than the line.
+/// Appends a word, or its pieces where it is wider than the line.
 fn push_broken<'a>(
     pieces: &mut Vec<Word<'a>>,
     word: Word<'a>,

@@ -1,23 +1,27 @@
-//! Where the escape sequences of a text lie (ECMA-48), read character by character.
+//! Escape sequences in a text (ECMA-48), read one character at a time.
+//!
+//! ESC and `[` start a control sequence, which a character from `@` to `~` ends. ESC and `]` start
+//! an operating system command, which BEL ends, or ESC and `\`. ESC and any other character are a
+//! whole sequence. A sequence without an end goes on to the end of the text.
 ghost use Rattle.std.specs.Prelude.{◌≡◌, ℕ, List, ◌∷◌, if◌then◌else◌};
 
-/// What the next character belongs to.
+/// What the next character of a text belongs to.
 #[derive(Clone, Copy, Debug, PartialEq, Eq)]
 pub(super) enum State {
-    /// The text, outside a sequence.
+    /// No sequence: it is visible unless it is ESC.
     Text,
-    /// The sequence of the ESC just read.
+    /// The sequence of the ESC that was just read.
     Escape,
-    /// A control sequence, which began with ESC and `[`.
+    /// A control sequence, after its ESC and `[`.
     Control,
-    /// A command, which began with ESC and `]`, and its last character.
+    /// A command, after its ESC and `]`, with the last character read of it.
     Command(char),
 }
 
 impl State {
     ghost use Rattle.textwrap_base.specs.Escapes.{visible_in};
 
-    /// The state after a character, and whether that character is visible.
+    /// The state after a character, and whether the character is visible.
     pub(super) fn step(self, ch: char) -> (State, bool)
         ensures { (cs : List ℕ) → visible_in self (ch ∷ cs)
             ≡ (if result.1 then ch ∷ visible_in result.0 cs else visible_in result.0 cs) }

@@ -24,8 +24,8 @@ fn only_visible_characters_have_columns(rt: HostRuntime) {
 }
 
 #[test]
-fn a_word_is_a_piece_without_its_final_blanks(rt: HostRuntime) {
-    for (piece, word, whitespace, width) in [
+fn a_word_is_a_text_without_its_final_blanks(rt: HostRuntime) {
+    for (text, word, whitespace, width) in [
         ("", "", "", 0),
         ("foo", "foo", "", 3),
         ("bar  ", "bar", "  ", 3),
@@ -35,18 +35,18 @@ fn a_word_is_a_piece_without_its_final_blanks(rt: HostRuntime) {
         ("あ", "あ", "", 2),
         ("\u{301}", "\u{301}", "", 0),
     ] {
-        let of_piece = Word::from(piece);
+        let of_text = Word::from(text);
         let expected = Word {
             word,
             whitespace,
             penalty: "",
             width,
         };
-        assert_eq!(rt; of_piece, expected, "{piece:?}");
-        assert_eq!(rt; of_piece.as_str(), word, "{piece:?}");
-        assert_eq!(rt; of_piece.width(), width, "{piece:?}");
-        assert_eq!(rt; of_piece.whitespace_width(), whitespace.len(), "{piece:?}");
-        assert_eq!(rt; of_piece.penalty_width(), 0, "{piece:?}");
+        assert_eq!(rt; of_text, expected, "{text:?}");
+        assert_eq!(rt; of_text.as_str(), word, "{text:?}");
+        assert_eq!(rt; of_text.width(), width, "{text:?}");
+        assert_eq!(rt; of_text.whitespace_width(), whitespace.len(), "{text:?}");
+        assert_eq!(rt; of_text.penalty_width(), 0, "{text:?}");
     }
 }
 

@@ -13,6 +13,7 @@ pub use Rattle.textwrap_base.specs.Cost
 pub use Rattle.textwrap_base.specs.Division
 pub use Rattle.textwrap_base.specs.Errors
 pub use Rattle.textwrap_base.specs.LineCosts
+pub use Rattle.textwrap_base.specs.Lists
 pub use Rattle.textwrap_base.specs.Minima
 pub use Rattle.textwrap_base.specs.OptimalFit
 pub use Rattle.textwrap_base.specs.Penalties

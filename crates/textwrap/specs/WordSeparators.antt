@@ -1,11 +1,11 @@
 -- The words of a line, by the separator.
-use Rattle.std.specs.Prelude.{◌≡◌, ℕ, List}
-use Rattle.textwrap_base.specs.Words.{WordText, words_of}
+use Rattle.std.specs.Prelude.{ℕ, List}
+use Rattle.textwrap_base.specs.Words.{WordText, AreWordsOf, words_of}
 use Rattle.textwrap.specs.declared.word_separators.WordSeparator.{WordSeparator}
 use Rattle.textwrap.specs.declared.word_separators.WordSeparator.TheVariants.{AsciiSpace}
 
 abbrev pub AreSeparated : WordSeparator → List ℕ → List WordText → Type 0
-AreSeparated AsciiSpace line words = words ≡ words_of line
+AreSeparated AsciiSpace line words = AreWordsOf line words
 
 -- the same, computed
 abbrev pub separated_words : WordSeparator → List ℕ → List WordText

@@ -12,7 +12,7 @@ use Rattle.std.proofs.lemmas.Iterator.Consumers.{YieldsList-from_first}
 use Rattle.std.proofs.lemmas.List.{map-id}
 use Rattle.std.proofs.lemmas.List.Elements.{All-nil, All-cons, All-head, All-tail, All-append, All-map, All-weaker, filter_passes}
 use Rattle.std.proofs.lemmas.Str.{IsUtf8-drop, IsUtf8-between, IsUtf8-nil, IsCharBoundary-start}
-use Rattle.textwrap_base.specs.Words.{piece, WordText, sizes_of, tiled, word_of, chunks}
+use Rattle.textwrap_base.specs.Words.{piece, WordText, sizes_of, tiled, word_of, words_of, chunks}
 use Rattle.textwrap_base.specs.WrapAlgorithms.{Algorithm}
 use Rattle.textwrap_base.proofs.Division.Map.{IsDividedBy-whole}
 use Rattle.textwrap_base.specs.Breaking.{broken_words}
@@ -22,6 +22,7 @@ use Rattle.textwrap_base.proofs.Word.BrokenPieces.{tiled-broken_words}
 use Rattle.std.proofs.lemmas.Bool.{and_parts}
 use Rattle.textwrap_base.proofs.Word.BrokenTexts.{broken_words-measured, broken_words-no_penalty}
 use Rattle.textwrap_base.proofs.Word.Bounds.{IsBounded, IsBounded-measured}
+use Rattle.textwrap_base.proofs.Word.Words.{words_unique}
 use Rattle.textwrap_base.proofs.Word.Texts.{IsMeasured, EndsInBlanks, HasNoPenalty, no_blanks, words_of-measured, text_width-nil}
 use Rattle.textwrap_base.proofs.Word.Tiling.{tiled-append, tiled-words_of}
 use Rattle.textwrap.specs.Options.{Settings}
@@ -53,10 +54,10 @@ abbrev pub split_pieces_of : WordSeparator → WordSplitter → List ℕ → Lis
 split_pieces_of separator splitter paragraph = split_words splitter (separated_words separator paragraph)
 
 AreSeparated-is : (separator : WordSeparator) (line : List ℕ) (words : List WordText) → AreSeparated separator line words → words ≡ separated_words separator line
-AreSeparated-is AsciiSpace line words are = are
+AreSeparated-is AsciiSpace line words are = (words_unique line words).0 are
 
 AreSeparated-computed : (separator : WordSeparator) (line : List ℕ) → AreSeparated separator line (separated_words separator line)
-AreSeparated-computed AsciiSpace line = refl
+AreSeparated-computed AsciiSpace line = (words_unique line (words_of line)).1 refl
 
 AreSplit-is : (splitter : WordSplitter) (words pieces : List WordText) → AreSplit (ArePoints splitter) words pieces → pieces ≡ split_words splitter words
 AreSplit-is splitter [] pieces are = are

@@ -8,7 +8,8 @@ use Rattle.std.proofs.lemmas.List.Elements.{All-nil, All-cons, All-head, All-tai
 use Rattle.std.proofs.lemmas.Slice.Eq.{bytes_eq-Decides}
 use Rattle.textwrap.specs.declared.line_ending.LineEnding.{LineEnding}
 use Rattle.textwrap.specs.declared.line_ending.LineEnding.TheVariants.{CRLF, LF}
-use Rattle.textwrap_base.proofs.Word.Texts.{ascii_seam, onto_front, onto_front-onto_first, all_utf8-front}
+use Rattle.textwrap_base.proofs.Word.Texts.{ascii_seam, all_utf8-front}
+use Rattle.textwrap_base.proofs.ListLemmas.{onto_front, onto_front-onto_first}
 use Rattle.textwrap.specs.LineEnding.{ending_bytes, paragraphs_of, parts_past, join_with}
 
 pub ending_bytes-some : (ending : LineEnding) → 0 < length (ending_bytes ending)

@@ -37,8 +37,12 @@ pub record KeepsParts (old new : Options) : Type 0 where
 -- the defaults at a width
 abbrev pub settings_at : ℕ → Settings
 settings_at width = record {
-  width = width; line_ending = LF; initial_indent = []; subsequent_indent = [];
-  break_words = true; preserve_trailing_space = false;
+  width = width;
+  line_ending = LF;
+  initial_indent = [];
+  subsequent_indent = [];
+  break_words = true;
+  preserve_trailing_space = false;
 }
 
 abbrev pub default_algorithm : Algorithm

@@ -125,11 +125,17 @@ parts_of settings is_later [] =
 parts_of settings is_later (w ∷ words) =
     let last = last_piece w words in
     if keeps_whitespace settings last then record {
-      pieces = w ∷ words; indent = indent_of settings is_later;
-      slice = tiled (w ∷ words); penalty = []; left_off = [];
+      pieces = w ∷ words;
+      indent = indent_of settings is_later;
+      slice = tiled (w ∷ words);
+      penalty = [];
+      left_off = [];
     } else record {
-      pieces = w ∷ words; indent = indent_of settings is_later;
-      slice = covered (w ∷ words); penalty = last.penalty; left_off = last.whitespace;
+      pieces = w ∷ words;
+      indent = indent_of settings is_later;
+      slice = covered (w ∷ words);
+      penalty = last.penalty;
+      left_off = last.whitespace;
     }
 
 -- after the first of them, a line stands before each

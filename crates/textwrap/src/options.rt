@@ -153,7 +153,8 @@ impl<'a> Options<'a> {
     pub fn preserve_trailing_space(self, preserve_trailing_space: bool) -> Self
         ensures settings { settings_view result
             ≡ record (settings_view self.entry) {
-                preserve_trailing_space = preserve_trailing_space } }
+              preserve_trailing_space = preserve_trailing_space;
+            } }
         ensures parts { KeepsParts self.entry result }
     {
         Options {

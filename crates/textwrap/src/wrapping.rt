@@ -44,7 +44,7 @@ pub fn wrap<'t>(
     // The lines are those of the text, and lose only blanks.
     ensures lines { IfOk result (λ lines.
         (are : AreTextLines (settings_view options.entry) (DividesBy options.entry) text.now
-            (map line_view lines.items))
+        (map line_view lines.items))
         × LosesOnlyBlanks (settings_view options.entry) text.now are.groups) }
     ensures only_memory { IfErr result (λ error. error ≡ WrapError.Memory alloc_error) }
 {
@@ -63,7 +63,7 @@ pub(crate) fn split_paragraph(text: &str, line_ending: LineEnding) -> (&str, Opt
     ensures paragraphs { MatchOption result.1
         (paragraphs_of line_ending text.now ≡ result.0.now ∷ [])
         (λ after. paragraphs_of line_ending text.now
-            ≡ result.0.now ∷ paragraphs_of line_ending after.now) }
+        ≡ result.0.now ∷ paragraphs_of line_ending after.now) }
     ensures shorter { IfSome result.1 (λ after. length after.now < length text.now) }
 {
     match text.split_once(line_ending.as_str()) {
@@ -91,7 +91,7 @@ pub fn wrap_single_line<'t>(
     ensures as_slow_path { options.now.initial_indent.now ≡ [] → IsNarrow line.now
         → OnOk result ((parts : List LineParts)
         × AreDividedParts (settings_view options.now) (DividesBy options.now)
-            (nat_lt 0 (length lines.old.items)) line.now parts
+        (nat_lt 0 (length lines.old.items)) line.now parts
         × Adds lines.old.items lines.new.items parts) }
 {
     if is_one_line(line, options, !lines.is_empty()) {
@@ -150,7 +150,7 @@ pub fn wrap_single_line_slow_path<'t>(
         → OnOk result ((division : List (List WordText))
         × DividesBy options.now line.now division
         × Adds lines.old.items lines.new.items (parts_from (settings_view options.now)
-            (nat_lt 0 (length lines.old.items)) division)
+        (nat_lt 0 (length lines.old.items)) division)
         × OnlyCharactersPass (widths_of (settings_view options.now)) 0 division) }
 {
     let pieces = find_pieces(alloc, line, options)?;
@@ -173,7 +173,7 @@ fn find_pieces<'t>(
 ) -> Result<Vec<Word<'t>>, AllocError>
     ensures pieces { IfOk result (λ pieces. map word_view pieces.items
         ≡ pieces_of (settings_view options.now) options.now.word_separator
-            options.now.word_splitter paragraph.now) }
+        options.now.word_splitter paragraph.now) }
     ensures tiles { IfOk result (λ pieces. Tiles (map word_view pieces.items) paragraph.now) }
 {
     let words = options.word_separator.find_words(alloc, paragraph)?;
@@ -228,7 +228,7 @@ fn push_lines<'t>(
     requires { flat_map (λ line. tiled (map word_view line.now)) division.now ≡ paragraph.now }
     ensures lines { OnOk result (Adds lines.old.items lines.new.items
         (parts_from (settings_view options.now) (nat_lt 0 (length lines.old.items))
-            (map (λ line. map word_view line.now) division.now))) }
+        (map (λ line. map word_view line.now) division.now))) }
     ensures kept { take (length lines.old.items) lines.new.items ≡ lines.old.items }
 {
     let mut rest = paragraph;
@@ -309,8 +309,13 @@ fn assemble<'t>(
     penalty: &str,
 ) -> Result<CowStr<'t>, AllocError>
     ensures { IfOk result (λ line. line_view line
-        ≡ line_from (record { pieces = []; indent = indent.now; slice = slice.now;
-            penalty = penalty.now; left_off = [] })) }
+        ≡ line_from (record {
+          pieces = [];
+          indent = indent.now;
+          slice = slice.now;
+          penalty = penalty.now;
+          left_off = [];
+        })) }
 {
     if indent.is_empty() && penalty.is_empty() {
         return Ok(CowStr::Borrowed(slice));

@@ -3,7 +3,26 @@ use crate::wrap_algorithms::{Penalties, WrapAlgorithm};
 use std::process::Abort;
 use std::test::Fail;
 
-/// Asserts that the algorithm gives the text these lines, each of them borrowed.
+/// A line of the text itself, or one of its own.
+#[derive(Clone, Copy, Debug, Drop, PartialEq)]
+enum Kind {
+    Borrowed,
+    Owned,
+}
+
+use Kind::{Borrowed, Owned};
+
+/// The lines of a text, in this kind each.
+type Lines<'a> = &'a [(Kind, &'a str)];
+
+/// Asserts that the line has this text, borrowed or of its own.
+fn assert_line(rt: &impl Abort, line: &CowStr<'_>, kind: Kind, expected: &str) {
+    let is_borrowed = matches!(line, CowStr::Borrowed(_));
+    assert_eq!(rt; is_borrowed, kind == Borrowed, "{expected:?}");
+    assert_eq!(rt; line.as_str(), expected);
+}
+
+/// Asserts that the algorithm wraps the text into these lines, each of them borrowed.
 fn assert_lines(
     rt: &(impl Abort + AllocGlobal),
     text: &str,
@@ -15,8 +34,7 @@ fn assert_lines(
     let lines = wrap(rt.alloc(), text, options)?;
     assert_eq!(rt; lines.len(), expected.len(), "{text:?}");
     for (line, expected) in lines.iter().zip(expected) {
-        assert!(rt; matches!(line, CowStr::Borrowed(_)), "{text:?}");
-        assert_eq!(rt; line.as_str(), *expected, "{text:?}");
+        assert_line(rt, line, Borrowed, expected);
     }
     Ok(())
 }
@@ -136,18 +154,6 @@ fn options_from_a_width_have_the_least_cost(rt: HostRuntime) -> Result<(), Fail>
     Ok(())
 }
 
-/// A line of the text itself, or one of its own.
-#[derive(Clone, Copy, Debug, Drop, PartialEq)]
-enum Kind {
-    Borrowed,
-    Owned,
-}
-
-use Kind::{Borrowed, Owned};
-
-/// The lines of a text, in this kind each.
-type Lines<'a> = &'a [(Kind, &'a str)];
-
 /// Asserts that the text is wrapped into these lines.
 fn assert_wrapped(
     rt: &(impl Abort + AllocGlobal),
@@ -158,9 +164,7 @@ fn assert_wrapped(
     let lines = wrap(rt.alloc(), text, options)?;
     assert_eq!(rt; lines.len(), expected.len(), "{text:?}");
     for (line, (kind, expected)) in lines.iter().zip(expected) {
-        let is_borrowed = matches!(line, CowStr::Borrowed(_));
-        assert_eq!(rt; is_borrowed, *kind == Borrowed, "{text:?}");
-        assert_eq!(rt; line.as_str(), *expected, "{text:?}");
+        assert_line(rt, line, *kind, expected);
     }
     Ok(())
 }

@@ -124,18 +124,13 @@ parts_of settings is_later [] =
     record { pieces = []; indent = []; slice = []; penalty = []; left_off = [] }
 parts_of settings is_later (w ∷ words) =
     let last = last_piece w words in
-    if keeps_whitespace settings last then record {
+    let keeps = keeps_whitespace settings last in
+    record {
       pieces = w ∷ words;
       indent = indent_of settings is_later;
-      slice = tiled (w ∷ words);
-      penalty = [];
-      left_off = [];
-    } else record {
-      pieces = w ∷ words;
-      indent = indent_of settings is_later;
-      slice = covered (w ∷ words);
+      slice = if keeps then tiled (w ∷ words) else covered (w ∷ words);
       penalty = last.penalty;
-      left_off = last.whitespace;
+      left_off = if keeps then [] else last.whitespace;
     }
 
 -- after the first of them, a line stands before each

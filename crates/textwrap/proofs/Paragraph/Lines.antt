@@ -99,32 +99,24 @@ last_piece-push w (v ∷ ws) last = last_piece-push v ws last
 
 -- the same line by its last piece
 abbrev parts_ending : Settings → Bool → List WordText → WordText → LineParts
-parts_ending settings is_later line last =
-    cond (keeps_whitespace settings last) (record { pieces = line; indent = indent_of settings is_later; slice = tiled line; penalty = []; left_off = [] })
-    (record { pieces = line; indent = indent_of settings is_later; slice = covered line; penalty = last.penalty; left_off = last.whitespace })
+parts_ending settings is_later line last = record {
+  pieces = line;
+  indent = indent_of settings is_later;
+  slice = cond (keeps_whitespace settings last) (tiled line) (covered line);
+  penalty = last.penalty;
+  left_off = cond (keeps_whitespace settings last) [] last.whitespace;
+}
 
 parts_of-push : (settings : Settings) (is_later : Bool) (ws : List WordText) (last : WordText) → parts_of settings is_later (ws ++ last ∷ []) ≡ parts_ending settings is_later (ws ++ last ∷ []) last
 parts_of-push settings is_later [] last = refl
 parts_of-push settings is_later (w ∷ ws) last = ap (parts_ending settings is_later (w ∷ (ws ++ last ∷ []))) (last_piece-push w ws last)
 
-no_penalty : (settings : Settings) (last : WordText) → keeps_whitespace settings last ≡ true → last.penalty ≡ []
-no_penalty settings last keeps =
-    nil_from_length last.penalty (eqb-true (length last.penalty) 0 (and_parts settings.preserve_trailing_space (length last.penalty == 0) keeps).1)
-
 ending_line : (settings : Settings) (is_later : Bool) (line : List WordText) (last : WordText) (indent slice : List ℕ) (keeps : Bool) → indent ≡ indent_of settings is_later → keeps ≡ keeps_whitespace settings last
     → slice ≡ cond keeps (tiled line) (covered line)
-    → line_from (record { pieces = line; indent = indent; slice = slice; penalty = last.penalty; left_off = [] }) ≡ line_from (parts_ending settings is_later line last)
-ending_line settings is_later line last indent slice true indent_is keeps slice_is =
-    ap (λ i. line_from (record { pieces = line; indent = i; slice = slice; penalty = last.penalty; left_off = [] })) indent_is
-    ∙ ap (λ s. line_from (record { pieces = line; indent = indent_of settings is_later; slice = s; penalty = last.penalty; left_off = [] })) slice_is
-    ∙ ap (λ p. line_from (record { pieces = line; indent = indent_of settings is_later; slice = tiled line; penalty = p; left_off = [] })) (no_penalty settings last (sym keeps))
-    ∙ ap (λ b. line_from (cond b (record { pieces = line; indent = indent_of settings is_later; slice = tiled line; penalty = []; left_off = [] })
-    (record { pieces = line; indent = indent_of settings is_later; slice = covered line; penalty = last.penalty; left_off = last.whitespace }))) keeps
-ending_line settings is_later line last indent slice false indent_is keeps slice_is =
-    ap (λ i. line_from (record { pieces = line; indent = i; slice = slice; penalty = last.penalty; left_off = [] })) indent_is
-    ∙ ap (λ s. line_from (record { pieces = line; indent = indent_of settings is_later; slice = s; penalty = last.penalty; left_off = [] })) slice_is
-    ∙ ap (λ b. line_from (cond b (record { pieces = line; indent = indent_of settings is_later; slice = tiled line; penalty = []; left_off = [] })
-    (record { pieces = line; indent = indent_of settings is_later; slice = covered line; penalty = last.penalty; left_off = last.whitespace }))) keeps
+    → line_from (record { pieces = []; indent = indent; slice = slice; penalty = last.penalty; left_off = [] }) ≡ line_from (parts_ending settings is_later line last)
+ending_line settings is_later line last indent slice keeps indent_is keeps_is slice_is =
+    ap (λ i. line_from (record { pieces = []; indent = i; slice = slice; penalty = last.penalty; left_off = [] })) indent_is
+    ∙ ap (λ s. line_from (record { pieces = []; indent = indent_of settings is_later; slice = s; penalty = last.penalty; left_off = [] })) (slice_is ∙ ap (λ b. cond b (tiled line) (covered line)) keeps_is)
 
 -- a line made of the slice that its pieces cover
 pub line_from-parts_of : (settings : Settings) (is_later : Bool) (pieces front : List Word) (last : Word) (indent slice : List ℕ) (keeps : Bool) → pieces ≡ front ++ last ∷ [] → indent ≡ indent_of settings is_later
@@ -226,15 +218,14 @@ AreDividedParts-from v settings algorithm separator splitter is_later paragraph 
 
 -- ---- the line of a whole paragraph
 
-line_keeping : (pieces : List WordText) (indent tile cover : List ℕ) (last : WordText) (preserves : Bool) → indent ≡ [] → HasNoPenalty last
-    → line_from (cond (preserves && (length last.penalty == 0)) (record { pieces = pieces; indent = indent; slice = tile; penalty = []; left_off = [] }) (record { pieces = pieces; indent = indent; slice = cover; penalty = last.penalty; left_off = last.whitespace }))
-    ≡ Slice (cond preserves tile cover)
-line_keeping pieces indent tile cover last true none_before none =
-    ap (λ i. line_from (cond (true && (length last.penalty == 0)) (record { pieces = pieces; indent = i; slice = tile; penalty = []; left_off = [] }) (record { pieces = pieces; indent = i; slice = cover; penalty = last.penalty; left_off = last.whitespace }))) none_before
-    ∙ ap (λ p. line_from (cond (true && (length p == 0)) (record { pieces = pieces; indent = []; slice = tile; penalty = []; left_off = [] }) (record { pieces = pieces; indent = []; slice = cover; penalty = p; left_off = last.whitespace }))) none
-line_keeping pieces indent tile cover last false none_before none =
-    ap (λ i. line_from (record { pieces = pieces; indent = i; slice = cover; penalty = last.penalty; left_off = last.whitespace })) none_before
-    ∙ ap (λ p. line_from (record { pieces = pieces; indent = []; slice = cover; penalty = p; left_off = last.whitespace })) none
+line_keeping : (pieces : List WordText) (indent tile cover left_off : List ℕ) (last : WordText) (preserves : Bool) → indent ≡ [] → HasNoPenalty last
+    → line_from (record { pieces = pieces; indent = indent; slice = cond (preserves && (length last.penalty == 0)) tile cover; penalty = last.penalty; left_off = left_off }) ≡ Slice (cond preserves tile cover)
+line_keeping pieces indent tile cover left_off last true none_before none =
+    ap (λ i. line_from (record { pieces = pieces; indent = i; slice = cond (true && (length last.penalty == 0)) tile cover; penalty = last.penalty; left_off = left_off })) none_before
+    ∙ ap (λ p. line_from (record { pieces = pieces; indent = []; slice = cond (true && (length p == 0)) tile cover; penalty = p; left_off = left_off })) none
+line_keeping pieces indent tile cover left_off last false none_before none =
+    ap (λ i. line_from (record { pieces = pieces; indent = i; slice = cover; penalty = last.penalty; left_off = left_off })) none_before
+    ∙ ap (λ p. line_from (record { pieces = pieces; indent = []; slice = cover; penalty = p; left_off = left_off })) none
 
 last_piece-no_penalty : (w : WordText) (ws : List WordText) → All HasNoPenalty (w ∷ ws) → HasNoPenalty (last_piece w ws)
 last_piece-no_penalty w [] all = All-head HasNoPenalty w [] all
@@ -244,7 +235,7 @@ last_piece-no_penalty w (v ∷ ws) all = last_piece-no_penalty v ws (All-tail Ha
 pub line_from-pieces : (settings : Settings) (is_later : Bool) (ws : List WordText) → indent_of settings is_later ≡ [] → All HasNoPenalty ws → line_from (parts_of settings is_later ws) ≡ Slice (cond settings.preserve_trailing_space (tiled ws) (covered ws))
 line_from-pieces settings is_later [] unindented none = elim settings.preserve_trailing_space as (λ b. Slice [] ≡ Slice (cond b [] [])) [ true ↦ refl | false ↦ refl ]
 line_from-pieces settings is_later (w ∷ ws) unindented none =
-    line_keeping (w ∷ ws) (indent_of settings is_later) (tiled (w ∷ ws)) (covered (w ∷ ws)) (last_piece w ws) settings.preserve_trailing_space unindented (last_piece-no_penalty w ws none)
+    line_keeping (w ∷ ws) (indent_of settings is_later) (tiled (w ∷ ws)) (covered (w ∷ ws)) (parts_of settings is_later (w ∷ ws)).left_off (last_piece w ws) settings.preserve_trailing_space unindented (last_piece-no_penalty w ws none)
 
 whole_unindented : (settings : Settings) (is_later : Bool) (paragraph : List ℕ) → is_whole settings is_later paragraph ≡ true → indent_of settings is_later ≡ []
 whole_unindented settings is_later paragraph whole =

@@ -24,9 +24,13 @@ record LeavesBlanks (settings : Settings) (p : LineParts) : Type 0 where
 
 -- the parts of a line, by whether its last whitespace is kept
 abbrev parts_keeping : Settings → Bool → List WordText → WordText → Bool → LineParts
-parts_keeping settings is_later line last keeps =
-    cond keeps (record { pieces = line; indent = indent_of settings is_later; slice = tiled line; penalty = []; left_off = [] })
-    (record { pieces = line; indent = indent_of settings is_later; slice = covered line; penalty = last.penalty; left_off = last.whitespace })
+parts_keeping settings is_later line last keeps = record {
+  pieces = line;
+  indent = indent_of settings is_later;
+  slice = cond keeps (tiled line) (covered line);
+  penalty = last.penalty;
+  left_off = cond keeps [] last.whitespace;
+}
 
 pub covered-last : (w : WordText) (ws : List WordText) → covered (w ∷ ws) ++ (last_piece w ws).whitespace ≡ tiled (w ∷ ws)
 covered-last w [] = sym (append-nil (tile_of w))

@@ -1,6 +1,6 @@
 -- Lemmas on the words of a line, and on texts that words tile.
 use Rattle.std.proofs.Common.{◌≡◌, ℕ, zero, suc, ◌+◌, ◌<◌, ◌≤◌, true, false, cond, List, [], ◌∷◌, ◌++◌, length, get_or, take, drop, map, refl, sym, ap, ◌∙◌, subst, arith, add-one, take-append-drop, length-append, append-nil, ◌-◌}
-use Rattle.std.specs.List.{flat_map, onto_first}
+use Rattle.std.specs.List.{onto_first}
 use Rattle.std.specs.Str.{IsUtf8, IsCharBoundary}
 use Rattle.std.proofs.lemmas.List.{map-append, take_more}
 use Rattle.std.proofs.lemmas.List.Concat.{flat_map-append}

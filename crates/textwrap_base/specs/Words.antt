@@ -1,6 +1,6 @@
 -- Words by their texts: what a text is as a word, and the words of a line.
 use Rattle.std.specs.Prelude.{◌≡◌, ◌≢◌, ℕ, Bool, true, false, not, ◌&&◌, List, [], ◌∷◌, ◌++◌}
-use Rattle.std.specs.Prelude.{length, slice_index, map, All, ⊤, if◌then◌else◌}
+use Rattle.std.specs.Prelude.{length, slice_index, map, All, if◌then◌else◌}
 use Rattle.std.specs.List.{flat_map, onto_first}
 use Rattle.textwrap_base.specs.Blanks.{is_blank, without_final_blanks, final_blanks}
 use Rattle.textwrap_base.specs.Lists.{last}
@@ -58,15 +58,13 @@ is_cut before after = is_blank before && not (is_blank after)
 
 -- no place inside the chunk is a cut
 abbrev pub IsUncut : List ℕ → Type 0
-IsUncut chunk =
-    (before after : List ℕ) (c d : ℕ) → chunk ≡ before ++ c ∷ d ∷ after → is_cut c d ≡ false
+IsUncut chunk = (before after : List ℕ) (c d : ℕ)
+    → chunk ≡ before ++ c ∷ d ∷ after → is_cut c d ≡ false
 
--- there is a cut between each chunk and the next
+-- between each chunk and the next there is a cut
 abbrev pub AreCutApart : List (List ℕ) → Type 0
-AreCutApart [] = ⊤
-AreCutApart (chunk ∷ []) = ⊤
-AreCutApart (chunk ∷ next ∷ chunks) =
-    (is_cut (last chunk) (slice_index next 0) ≡ true) × AreCutApart (next ∷ chunks)
+AreCutApart chunks = (before after : List (List ℕ)) (chunk next : List ℕ)
+    → chunks ≡ before ++ chunk ∷ next ∷ after → is_cut (last chunk) (slice_index next 0) ≡ true
 
 -- the line is cut into chunks at each of its cuts, and nowhere else
 pub record AreChunks (line : List ℕ) (chunks : List (List ℕ)) : Type 0 where

@@ -1,5 +1,5 @@
 -- A line has exactly one list of words.
-use Rattle.std.proofs.Common.{◌≡◌, ◌≢◌, ◌↔◌, ℕ, Bool, true, false, cond, List, [], ◌∷◌, ◌++◌, All, length, get_or, drop, map, refl, sym, ap, ◌∙◌, subst, arith, length-append}
+use Rattle.std.proofs.Common.{◌≡◌, ◌≢◌, ◌↔◌, ℕ, ◌<◌, Bool, true, false, cond, List, [], ◌∷◌, ◌++◌, All, length, get_or, drop, map, refl, sym, ap, ◌∙◌, subst, arith, length-append}
 use Rattle.std.specs.Prelude.{slice_index, ⊤}
 use Rattle.std.specs.List.{onto_first}
 use Rattle.std.proofs.lemmas.List.Elements.{All-nil, All-cons, All-head, All-tail}
@@ -31,11 +31,10 @@ chunks-first c (d ∷ part) rest uncut cut =
 AreCutApart-head : (part : List ℕ) (parts : List (List ℕ)) → All (λ part. part ≢ []) parts → AreCutApart (part ∷ parts) → CutAfter part (flat parts)
 AreCutApart-head part [] some cut = tt
 AreCutApart-head part ([] ∷ parts) some cut = absurd (All-head (λ part. part ≢ []) [] parts some refl)
-AreCutApart-head part ((d ∷ next) ∷ parts) some cut = cut.0
+AreCutApart-head part ((d ∷ next) ∷ parts) some cut = cut [] parts part (d ∷ next) refl
 
 AreCutApart-tail : (part : List ℕ) (parts : List (List ℕ)) → AreCutApart (part ∷ parts) → AreCutApart parts
-AreCutApart-tail part [] cut = tt
-AreCutApart-tail part (next ∷ parts) cut = cut.1
+AreCutApart-tail part parts cut = λ before after left right e. cut (part ∷ before) after left right (ap (λ l. part ∷ l) e)
 
 chunks-flat : (parts : List (List ℕ)) → All (λ part. part ≢ []) parts → All IsUncut parts → AreCutApart parts → chunks (flat parts) ≡ parts
 chunks-flat [] some uncut cut = refl
@@ -66,9 +65,23 @@ IsUncut-cons c d part whole uncut [] after x y e =
     sym (ap (λ z. is_cut z d) first ∙ ap (is_cut x) second) ∙ whole
 IsUncut-cons c d part whole uncut (b ∷ before) after x y e = uncut before after x y (ap (drop 1) e)
 
+-- fewer than two parts have no place between them
+AreCutApart-few : (parts : List (List ℕ)) → length parts < 2 → AreCutApart parts
+AreCutApart-few parts few = λ before after left right e. absurd (omega (arith, ap length e, length-append before (left ∷ right ∷ after)))
+
+AreCutApart-cons : (part next : List ℕ) (parts : List (List ℕ)) → is_cut (last part) (slice_index next 0) ≡ true → AreCutApart (next ∷ parts) → AreCutApart (part ∷ next ∷ parts)
+AreCutApart-cons part next parts here cut [] after left right e =
+    let first : part ≡ left = ap (λ l. get_or l 0 []) e in
+    let second : next ≡ right = ap (λ l. get_or l 1 []) e in
+    sym (ap (λ l. is_cut (last l) (slice_index next 0)) first ∙ ap (λ l. is_cut (last left) (slice_index l 0)) second) ∙ here
+AreCutApart-cons part next parts here cut (b ∷ before) after left right e = cut before after left right (ap (drop 1) e)
+
 AreCutApart-longer : (c d : ℕ) (part : List ℕ) (parts : List (List ℕ)) → AreCutApart ((d ∷ part) ∷ parts) → AreCutApart ((c ∷ d ∷ part) ∷ parts)
-AreCutApart-longer c d part [] cut = tt
-AreCutApart-longer c d part (next ∷ parts) cut = (ap (λ l. is_cut l (slice_index next 0)) (last-cons c d part) ∙ cut.0, cut.1)
+AreCutApart-longer c d part parts cut [] after left right e =
+    let first : c ∷ d ∷ part ≡ left = ap (λ l. get_or l 0 []) e in
+    ap (λ x. is_cut x (slice_index right 0)) (ap last (sym first) ∙ last-cons c d part)
+    ∙ cut [] after (d ∷ part) right (ap (λ l. (d ∷ part) ∷ l) (ap (drop 1) e))
+AreCutApart-longer c d part parts cut (b ∷ before) after left right e = cut ((d ∷ part) ∷ before) after left right (ap (λ l. (d ∷ part) ∷ l) (ap (drop 1) e))
 
 chunks-from : (c : ℕ) (cs : List ℕ) → AreChunksFrom c (chunks (c ∷ cs))
 chunks-from c [] = record {
@@ -77,7 +90,7 @@ chunks-from c [] = record {
   shape = refl;
   nonempty = All-cons (λ part. part ≢ []) (c ∷ []) [] (λ e. cc) (All-nil (λ part. part ≢ []));
   uncut = All-cons IsUncut (c ∷ []) [] (IsUncut-one c) (All-nil IsUncut);
-  cut = tt;
+  cut = AreCutApart-few ((c ∷ []) ∷ []) (omega arith);
 }
 chunks-from c (d ∷ cs) = step (is_cut c d) refl (chunks-from d cs)
   where
@@ -88,7 +101,7 @@ chunks-from c (d ∷ cs) = step (is_cut c d) refl (chunks-from d cs)
       shape = ap (λ parts. (c ∷ []) ∷ parts) h.shape;
       nonempty = All-cons (λ part. part ≢ []) (c ∷ []) ((d ∷ h.first) ∷ h.rest) (λ e. cc) h.nonempty;
       uncut = All-cons IsUncut (c ∷ []) ((d ∷ h.first) ∷ h.rest) (IsUncut-one c) h.uncut;
-      cut = (is, h.cut);
+      cut = AreCutApart-cons (c ∷ []) (d ∷ h.first) h.rest is h.cut;
     }
     step false is h = record {
       first = d ∷ h.first;
@@ -100,7 +113,7 @@ chunks-from c (d ∷ cs) = step (is_cut c d) refl (chunks-from d cs)
     }
 
 AreChunks-chunks : (line : List ℕ) → AreChunks line (chunks line)
-AreChunks-chunks [] = record { tiles = refl; nonempty = All-nil (λ part. part ≢ []); uncut = All-nil IsUncut; cut = tt }
+AreChunks-chunks [] = record { tiles = refl; nonempty = All-nil (λ part. part ≢ []); uncut = All-nil IsUncut; cut = AreCutApart-few [] (omega arith) }
 AreChunks-chunks (c ∷ cs) =
     let h = chunks-from c cs in
     let same = sym h.shape in

@@ -8,7 +8,7 @@ blank = 32
 abbrev pub is_blank : ℕ → Bool
 is_blank c = c == blank
 
--- the length of a text without the blanks at its end
+-- how many bytes of a text come before the blanks at its end
 abbrev pub trimmed_len : List ℕ → ℕ
 trimmed_len bytes = length bytes - suffix_len is_blank bytes
 

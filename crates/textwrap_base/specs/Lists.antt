@@ -1,6 +1,6 @@
--- A word on lists that std does not have.
+-- What std has no word for, on lists of bytes or characters.
 use Rattle.std.specs.Prelude.{ℕ, ◌-◌, List, length, slice_index}
 
--- the last of some bytes or characters, 0 where there are none
+-- the last element, 0 where there is none
 abbrev pub last : List ℕ → ℕ
 last cs = slice_index cs (length cs - 1)

@@ -29,14 +29,14 @@ is_control_start c = c == 91
 abbrev pub is_control_end : ℕ → Bool
 is_control_end = is_in_range 0x40 0x7E
 
--- `]` begins a command, which BEL ends, or `\` directly after an ESC
+-- `]` begins an operating system command, which BEL ends, or `\` directly after an ESC
 abbrev pub is_command_start : ℕ → Bool
 is_command_start c = c == 93
 
 abbrev pub is_command_end : ℕ → ℕ → Bool
 is_command_end before c = (c == 7) || ((before == escape) && (c == 92))
 
--- of characters after an ESC: the last is one that ends such a sequence, where none before it has
+-- the last of these characters, which follow an ESC, ends its sequence, unless one before it did
 abbrev pub ends : List ℕ → Bool
 ends [] = false
 ends (c ∷ cs) =

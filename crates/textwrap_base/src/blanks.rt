@@ -11,7 +11,7 @@ pub fn split_final_blanks<'a>(text: &'a str) -> (&'a str, &'a str)
     text.split_at(trimmed_len(text.as_bytes()))
 }
 
-/// The bytes of a text before its final blanks.
+/// How many bytes of a text come before its final blanks.
 fn trimmed_len(bytes: &[u8]) -> usize
     ensures value { result ≡ trimmed_len bytes.now }
     ensures within { result ≤ length bytes.now }

@@ -1,5 +1,5 @@
 //! Laws of the definitions that the contracts cite. Each is the contract of a function that does
-//! nothing, so that a proof may call on it.
+//! nothing, so that a proof may call on it, and its statement has a name in `specs/Laws.antt`.
 ghost use Rattle.std.specs.Prelude.{◌≡◌, [], ◌∷◌, map, take};
 ghost use Rattle.textwrap_base.specs.Cost.{division_cost};
 ghost use Rattle.textwrap_base.specs.Division.{closed_width};
@@ -13,8 +13,8 @@ ghost use Rattle.textwrap_base.specs.Worked.{worked_table, falling, uneven, unev
 use crate::penalties::Penalties;
 use crate::words::Fragment;
 
-/// A text has exactly one list of units: whole ones, of which the last may be a sequence without
-/// its end. It is what `units` gives.
+/// A text has exactly one list of units: whole ones, of which the last may be an escape sequence
+/// without an end. It is what `units` gives.
 pub fn units_are_unique()
     ensures { UnitsAreUnique }
 {}
@@ -43,7 +43,7 @@ pub fn broken_pieces_tile()
     ensures words { BrokenWordsTile }
 {}
 
-/// Fragments have one chosen division at most, for any line widths.
+/// Fragments have at most one chosen division, whatever the line widths.
 pub fn chosen_division_is_unique<T: Fragment>(
     fragments: &[T],
     line_widths: &[usize],

@@ -51,7 +51,7 @@ escape-again (c ∷ cs) ds more = elim (cases_Bool (is_control_start c)) [
   ]
 ]
 
-units_past-end : (n : ℕ) (cs : List ℕ) → length cs ≤ n → units_past n cs ≡ []
+pub units_past-end : (n : ℕ) (cs : List ℕ) → length cs ≤ n → units_past n cs ≡ []
 units_past-end n [] short = refl
 units_past-end zero (c ∷ cs) short = absurd (omega arith)
 units_past-end (suc n) (c ∷ cs) short = units_past-end n cs (omega arith)

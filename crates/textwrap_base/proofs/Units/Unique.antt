@@ -5,7 +5,7 @@ use Rattle.std.proofs.lemmas.Bool.{cases_Bool, cases_lt, eqb-true, eqb-false, tr
 use Rattle.std.proofs.lemmas.Bool.Decides.{nat_tests}
 use Rattle.std.proofs.lemmas.List.{length-take-le, take-take, append-nil, append_assoc, take_at, take-append-le, take_all}
 use Rattle.textwrap_base.proofs.ListLemmas.{same_parts, last_but_one, last-push, last_but_one-push}
-use Rattle.textwrap_base.proofs.Units.Parts.{units-tile}
+use Rattle.textwrap_base.proofs.Units.Parts.{units-tile, units_past-end}
 use Rattle.textwrap_base.specs.Lists.{last}
 use Rattle.textwrap_base.specs.Units.{TextUnit, Visible, Sequence, characters, escape, is_control_start, is_control_end, is_command_start, is_command_end, ends, IsWhole, IsOpen, AreUnits, IsInUnits, control_len, command_len, escape_len, taken_at, units_past, units}
 
@@ -84,10 +84,6 @@ AreUnits-cons u (v ∷ us) whole rest = (whole, rest)
 AreUnits-open : (u : TextUnit) (us : List TextUnit) → IsOpen u → us ≡ [] → AreUnits (u ∷ us)
 AreUnits-open u us open_last none = subst (λ us. AreUnits (u ∷ us)) (sym none) (inr open_last)
 
-units_past-all : (cs : List ℕ) → units_past (length cs) cs ≡ []
-units_past-all [] = refl
-units_past-all (c ∷ cs) = units_past-all cs
-
 sequence-units : (cs : List ℕ) (n : ℕ) → StopsAt ends cs n → AreUnits (units_past n cs) → AreUnits (Sequence (escape ∷ take n cs) ∷ units_past n cs)
 sequence-units cs n stops rest =
     let len : length (take n cs) ≡ n = length-take-le n cs stops.within in
@@ -96,7 +92,7 @@ sequence-units cs n stops rest =
     (λ (passed : ends (take n cs) ≡ true). AreUnits-cons (Sequence (escape ∷ take n cs)) (units_past n cs) (take n cs, refl, passed, λ k below. before k (omega arith)) rest)
     (λ (all : (n ≡ length cs) × (ends (take n cs) ≡ false)).
     let upto : (k : ℕ) → k ≤ length (take n cs) → ends (take k (take n cs)) ≡ false = λ k most. ⊎_elim (before k) (λ (past : n ≤ k). ap ends (take_all k (take n cs) (omega arith)) ∙ all.1) (cases_lt k n) in
-    AreUnits-open (Sequence (escape ∷ take n cs)) (units_past n cs) (take n cs, refl, upto) (ap (λ m. units_past m cs) all.0 ∙ units_past-all cs))
+    AreUnits-open (Sequence (escape ∷ take n cs)) (units_past n cs) (take n cs, refl, upto) (ap (λ m. units_past m cs) all.0 ∙ units_past-end (length cs) cs (omega arith)))
     stops.stop
 
 AreUnits-at : (c : ℕ) (cs : List ℕ) (b : Bool) → (c == escape) ≡ b → AreUnits (units_past (cond b (escape_len cs) 0) cs)

@@ -73,7 +73,7 @@ impl<'a> Iterator for BreakApart<'a> {
     }
 }
 
-/// The bytes and the columns of the first piece of a text that is not empty.
+/// The first piece of a text that is not empty: its length in bytes, and its columns.
 fn first_piece(text: &str, line_width: usize) -> (usize, usize)
     requires { text.now ≢ [] }
     ensures boundary { IsCharBoundary text.now result.0 }

@@ -37,7 +37,7 @@ ForBuiltIn Holds =
     (settings : Settings) (algorithm : Algorithm) (separator : WordSeparator)
     (splitter : WordSplitter)
     → Holds settings
-    (IsDividedInto settings algorithm (AreSeparated separator) (ArePoints splitter))
+    (IsDividedInto settings (AreSeparated separator) (ArePoints splitter) algorithm)
 
 abbrev pub DividedLinesAreUnique : Type 0
 DividedLinesAreUnique =

@@ -50,59 +50,55 @@ Adds before after parts = map line_view after ≡ map line_view before ++ map li
 
 -- ---- what is divided
 
--- the columns that an indent leaves of a line
-abbrev pub width_after : Settings → List ℕ → ℕ
-width_after settings indent = settings.width - text_width indent
-
-abbrev pub later_width : Settings → ℕ
-later_width settings = width_after settings settings.subsequent_indent
-
--- the width of the first line, and of the others
-abbrev pub widths_of : Settings → List ℕ
-widths_of settings = width_after settings settings.initial_indent ∷ later_width settings ∷ []
-
 abbrev pub empty_word : WordText
 empty_word = record { word = []; whitespace = []; penalty = []; width = 0 }
 
--- where words are broken, an empty word in front may leave the first line to its indent
-abbrev pub front_pieces : Settings → List WordText
-front_pieces settings = if length settings.initial_indent == 0 then [] else empty_word ∷ []
+module _ (settings : Settings) where
+  -- the columns that an indent leaves of a line
+  abbrev pub width_after : List ℕ → ℕ
+  width_after indent = settings.width - text_width indent
 
--- the pieces that split words are broken into, where that is asked
-abbrev pub broken_pieces_of : Settings → List WordText → List WordText
-broken_pieces_of settings split =
-    if settings.break_words then front_pieces settings ++ broken_words (later_width settings) split
-    else split
+  abbrev pub later_width : ℕ
+  later_width = width_after settings.subsequent_indent
 
--- the paragraph is cut into words, these are split at points of theirs, and then broken
-abbrev pub ArePieces : Settings → (List ℕ → List WordText → Type 0) → (List ℕ → List ℕ → Type 0)
-    → List ℕ → List WordText → Type 0
-ArePieces settings Words Points paragraph pieces =
-    (words : List WordText) × (split : List WordText)
-    × Words paragraph words × AreSplit Points words split × (pieces ≡ broken_pieces_of settings split)
+  -- the width of the first line, and of the others
+  abbrev pub widths_of : List ℕ
+  widths_of = width_after settings.initial_indent ∷ later_width ∷ []
 
--- the same, computed
-abbrev pub pieces_of : Settings → WordSeparator → WordSplitter → List ℕ → List WordText
-pieces_of settings separator splitter paragraph =
-    broken_pieces_of settings (split_words splitter (separated_words separator paragraph))
+  -- where words are broken, an empty word in front may leave the first line to its indent
+  abbrev pub front_pieces : List WordText
+  front_pieces = if length settings.initial_indent == 0 then [] else empty_word ∷ []
 
--- the paragraph is cut into pieces, and these are divided so
-abbrev pub IsDividedInto : Settings → Algorithm → (List ℕ → List WordText → Type 0)
-    → (List ℕ → List ℕ → Type 0) → List ℕ → List (List WordText) → Type 0
-IsDividedInto settings algorithm Words Points paragraph division =
-    (pieces : List WordText) × ArePieces settings Words Points paragraph pieces
-    × IsDividedBy algorithm sizes_of (widths_of settings) pieces division
+  -- the pieces that split words are broken into, where that is asked
+  abbrev pub broken_pieces_of : List WordText → List WordText
+  broken_pieces_of split =
+      if settings.break_words then front_pieces ++ broken_words later_width split else split
+
+  -- the pieces of a paragraph: its words, split and broken
+  abbrev pub pieces_of : WordSeparator → WordSplitter → List ℕ → List WordText
+  pieces_of separator splitter paragraph =
+      broken_pieces_of (split_words splitter (separated_words separator paragraph))
+
+-- the same as a relation, where relations say what words a line may have, and what points a word
+module _ (settings : Settings) (Words : List ℕ → List WordText → Type 0)
+    (Points : List ℕ → List ℕ → Type 0) where
+  abbrev pub ArePieces : List ℕ → List WordText → Type 0
+  ArePieces paragraph pieces =
+      (words : List WordText) × (split : List WordText)
+      × Words paragraph words × AreSplit Points words split × (pieces ≡ broken_pieces_of settings split)
+
+  -- the paragraph is cut into pieces, and the algorithm divides them so
+  abbrev pub IsDividedInto : Algorithm → List ℕ → List (List WordText) → Type 0
+  IsDividedInto algorithm paragraph division =
+      (pieces : List WordText) × ArePieces paragraph pieces
+      × IsDividedBy algorithm sizes_of (widths_of settings) pieces division
 
 abbrev pub DividesBy : Options → List ℕ → List (List WordText) → Type 0
-DividesBy options =
-    IsDividedInto (settings_view options) (algorithm_view options.wrap_algorithm)
-    (AreSeparated options.word_separator) (ArePoints options.word_splitter)
+DividesBy o =
+    IsDividedInto (settings_view o) (AreSeparated o.word_separator) (ArePoints o.word_splitter)
+    (algorithm_view o.wrap_algorithm)
 
 -- ---- the lines of a division, where `is_later` says that a line stands before them
-
-abbrev pub indent_of : Settings → Bool → List ℕ
-indent_of settings is_later =
-    if is_later then settings.subsequent_indent else settings.initial_indent
 
 -- what pieces cover, without the last one's whitespace
 abbrev pub covered : List WordText → List ℕ
@@ -114,51 +110,54 @@ abbrev pub last_piece : WordText → List WordText → WordText
 last_piece w [] = w
 last_piece w (v ∷ words) = last_piece v words
 
--- the last whitespace is left off, unless blanks are preserved and no penalty stands in its place
-abbrev pub keeps_whitespace : Settings → WordText → Bool
-keeps_whitespace settings last = settings.preserve_trailing_space && (length last.penalty == 0)
+module _ (settings : Settings) where
+  abbrev pub indent_of : Bool → List ℕ
+  indent_of is_later = if is_later then settings.subsequent_indent else settings.initial_indent
 
--- a line without pieces is empty
-abbrev pub parts_of : Settings → Bool → List WordText → LineParts
-parts_of settings is_later [] =
-    record { pieces = []; indent = []; slice = []; penalty = []; left_off = [] }
-parts_of settings is_later (w ∷ words) =
-    let last = last_piece w words in
-    let keeps = keeps_whitespace settings last in
-    record {
-      pieces = w ∷ words;
-      indent = indent_of settings is_later;
-      slice = if keeps then tiled (w ∷ words) else covered (w ∷ words);
-      penalty = last.penalty;
-      left_off = if keeps then [] else last.whitespace;
-    }
+  -- the last whitespace is left off, unless blanks are preserved and no penalty stands in its place
+  abbrev pub keeps_whitespace : WordText → Bool
+  keeps_whitespace last = settings.preserve_trailing_space && (length last.penalty == 0)
 
--- after the first of them, a line stands before each
-abbrev pub parts_from : Settings → Bool → List (List WordText) → List LineParts
-parts_from settings is_later [] = []
-parts_from settings is_later (line ∷ lines) =
-    parts_of settings is_later line ∷ parts_from settings true lines
+  -- a line without pieces is empty
+  abbrev pub parts_of : Bool → List WordText → LineParts
+  parts_of is_later [] =
+      record { pieces = []; indent = []; slice = []; penalty = []; left_off = [] }
+  parts_of is_later (w ∷ words) =
+      let last = last_piece w words in
+      let keeps = keeps_whitespace last in
+      record {
+        pieces = w ∷ words;
+        indent = indent_of is_later;
+        slice = if keeps then tiled (w ∷ words) else covered (w ∷ words);
+        penalty = last.penalty;
+        left_off = if keeps then [] else last.whitespace;
+      }
 
--- the paragraph's lines, where the relation says what it is divided into
-abbrev pub AreDividedParts : Settings → (List ℕ → List (List WordText) → Type 0)
-    → Bool → List ℕ → List LineParts → Type 0
-AreDividedParts settings Divides is_later paragraph parts =
-    (division : List (List WordText)) × Divides paragraph division
-    × (parts ≡ parts_from settings is_later division)
+  -- after the first of them, a line stands before each
+  abbrev pub parts_from : Bool → List (List WordText) → List LineParts
+  parts_from is_later [] = []
+  parts_from is_later (line ∷ lines) = parts_of is_later line ∷ parts_from true lines
 
--- ---- the lines of a paragraph
+  -- without indent, a paragraph with fewer bytes than the width has columns is one line
+  abbrev pub is_whole : Bool → List ℕ → Bool
+  is_whole is_later paragraph =
+      (length (indent_of is_later) == 0) && nat_lt (length paragraph) settings.width
 
--- without indent, a paragraph with fewer bytes than the width has columns is one line
-abbrev pub is_whole : Settings → Bool → List ℕ → Bool
-is_whole settings is_later paragraph =
-    (length (indent_of settings is_later) == 0) && nat_lt (length paragraph) settings.width
+-- ---- the lines of a paragraph, where a relation says what it is divided into
 
--- a whole paragraph is a line of one piece, any other is divided
-abbrev pub IsLaidOut : Settings → (List ℕ → List (List WordText) → Type 0)
-    → Bool → List ℕ → List (List WordText) → Type 0
-IsLaidOut settings Divides is_later paragraph division =
-    MatchBool (is_whole settings is_later paragraph)
-    (division ≡ (word_of paragraph ∷ []) ∷ []) (Divides paragraph division)
+module _ (settings : Settings) (Divides : List ℕ → List (List WordText) → Type 0)
+    (is_later : Bool) where
+  -- the lines of its division
+  abbrev pub AreDividedParts : List ℕ → List LineParts → Type 0
+  AreDividedParts paragraph parts =
+      (division : List (List WordText)) × Divides paragraph division
+      × (parts ≡ parts_from settings is_later division)
+
+  -- a whole paragraph is a line of one piece, any other is divided
+  abbrev pub IsLaidOut : List ℕ → List (List WordText) → Type 0
+  IsLaidOut paragraph division =
+      MatchBool (is_whole settings is_later paragraph)
+      (division ≡ (word_of paragraph ∷ []) ∷ []) (Divides paragraph division)
 
 abbrev pub AreParagraphParts : Settings → (List ℕ → List (List WordText) → Type 0)
     → Bool → List ℕ → List LineParts → Type 0

@@ -7,21 +7,20 @@ use Rattle.textwrap.specs.LineEnding.{paragraphs_of}
 use Rattle.textwrap.specs.Options.{Settings}
 use Rattle.textwrap.specs.Paragraph.{Line, LineParts, line_from, AreParagraphParts}
 
--- a group of lines for each paragraph, where `is_later` says that a line stands before them
-abbrev pub AreGroups : Settings → (List ℕ → List (List WordText) → Type 0)
-    → Bool → List (List ℕ) → List (List LineParts) → Type 0
-AreGroups settings Divides is_later [] groups = groups ≡ []
-AreGroups settings Divides is_later (paragraph ∷ paragraphs) [] = ⊥
-AreGroups settings Divides is_later (paragraph ∷ paragraphs) (parts ∷ groups) =
-    AreParagraphParts settings Divides is_later paragraph parts
-    × AreGroups settings Divides (is_later || nat_lt 0 (length parts)) paragraphs groups
+module _ (settings : Settings) (Divides : List ℕ → List (List WordText) → Type 0) where
+  -- a group of lines for each paragraph, where `is_later` says that a line stands before them
+  abbrev pub AreGroups : Bool → List (List ℕ) → List (List LineParts) → Type 0
+  AreGroups is_later [] groups = groups ≡ []
+  AreGroups is_later (paragraph ∷ paragraphs) [] = ⊥
+  AreGroups is_later (paragraph ∷ paragraphs) (parts ∷ groups) =
+      AreParagraphParts settings Divides is_later paragraph parts
+      × AreGroups (is_later || nat_lt 0 (length parts)) paragraphs groups
 
--- the lines of a text are those of its paragraphs
-pub record AreTextLines (settings : Settings) (Divides : List ℕ → List (List WordText) → Type 0)
-    (text : List ℕ) (lines : List Line) : Type 0 where
-  pub groups : List (List LineParts)
-  pub defined : AreGroups settings Divides false (paragraphs_of settings.line_ending text) groups
-  pub given : lines ≡ map line_from (flat_map (λ parts. parts) groups)
+  -- the lines of a text are those of its paragraphs
+  pub record AreTextLines (text : List ℕ) (lines : List Line) : Type 0 where
+    pub groups : List (List LineParts)
+    pub defined : AreGroups false (paragraphs_of settings.line_ending text) groups
+    pub given : lines ≡ map line_from (flat_map (λ parts. parts) groups)
 
 -- in each paragraph the slices, each followed by what was left off, are the paragraph; only blanks
 -- were left off, and nothing where blanks are preserved

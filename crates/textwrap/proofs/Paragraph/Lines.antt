@@ -205,7 +205,7 @@ views-lines v (line ∷ lines) = ap (λ l. map word_view (v line) ∷ l) (views-
 -- a division of a paragraph's pieces gives its lines
 pub AreDividedParts-from : {D : Type 0} (v : D → List Word) (settings : Settings) (algorithm : Algorithm) (separator : WordSeparator) (splitter : WordSplitter) (is_later : Bool) (paragraph : List ℕ) (pieces : List Word) (division : List D)
     → map word_view pieces ≡ pieces_of settings separator splitter paragraph → IsDividedBy algorithm (λ word. sizes_of (word_view word)) (widths_of settings) pieces (map v division)
-    → AreDividedParts settings (IsDividedInto settings algorithm (AreSeparated separator) (ArePoints splitter)) is_later paragraph (parts_from settings is_later (map (λ line. map word_view (v line)) division))
+    → AreDividedParts settings (IsDividedInto settings (AreSeparated separator) (ArePoints splitter) algorithm) is_later paragraph (parts_from settings is_later (map (λ line. map word_view (v line)) division))
 AreDividedParts-from v settings algorithm separator splitter is_later paragraph pieces division views divided = (
   map (map word_view) (map v division),
   (

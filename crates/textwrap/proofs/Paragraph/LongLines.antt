@@ -79,7 +79,7 @@ division_joined [] lines is = ap joined is
 division_joined (w ∷ ws) lines is = is.0
 
 pub long_lines : (settings : Settings) (separator : WordSeparator) (splitter : WordSplitter) (paragraph : List ℕ) (division : List (List WordText)) → IsUtf8 paragraph → settings.break_words ≡ true
-    → IsDividedInto settings Greedy (AreSeparated separator) (ArePoints splitter) paragraph division → OnlyCharactersPass (widths_of settings) 0 division
+    → IsDividedInto settings (AreSeparated separator) (ArePoints splitter) Greedy paragraph division → OnlyCharactersPass (widths_of settings) 0 division
 long_lines settings separator splitter paragraph division utf8 breaks (pieces, are, greedy_pieces) = by_front (length settings.initial_indent == 0) refl
   where
     greedy : IsGreedy sizes_of (widths_of settings) (pieces_of settings separator splitter paragraph) division

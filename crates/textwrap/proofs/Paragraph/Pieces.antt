@@ -224,16 +224,16 @@ pieces_of-bounded settings separator splitter paragraph utf8 =
 -- ---- what a division of them covers
 
 module _ (settings : Settings) (algorithm : Algorithm) (separator : WordSeparator) (splitter : WordSplitter) where
-  pub IsDividedInto-whole : (paragraph : List ℕ) (division : List (List WordText)) → IsDividedInto settings algorithm (AreSeparated separator) (ArePoints splitter) paragraph division
+  pub IsDividedInto-whole : (paragraph : List ℕ) (division : List (List WordText)) → IsDividedInto settings (AreSeparated separator) (ArePoints splitter) algorithm paragraph division
       → flat_map (λ line. line) division ≡ pieces_of settings separator splitter paragraph
   IsDividedInto-whole paragraph division (pieces, are, divided) =
       IsDividedBy-whole sizes_of algorithm (widths_of settings) pieces division divided ∙ ArePieces-is settings separator splitter paragraph pieces are
 
-  pub IsDividedInto-tile : (paragraph : List ℕ) (division : List (List WordText)) → IsUtf8 paragraph → IsDividedInto settings algorithm (AreSeparated separator) (ArePoints splitter) paragraph division
+  pub IsDividedInto-tile : (paragraph : List ℕ) (division : List (List WordText)) → IsUtf8 paragraph → IsDividedInto settings (AreSeparated separator) (ArePoints splitter) algorithm paragraph division
       → tiled (flat_map (λ line. line) division) ≡ paragraph
   IsDividedInto-tile paragraph division utf8 divided = ap tiled (IsDividedInto-whole paragraph division divided) ∙ pieces_of-tile settings separator splitter paragraph utf8
 
-  pub IsDividedInto-blanks : (paragraph : List ℕ) (division : List (List WordText)) → IsUtf8 paragraph → IsDividedInto settings algorithm (AreSeparated separator) (ArePoints splitter) paragraph division
+  pub IsDividedInto-blanks : (paragraph : List ℕ) (division : List (List WordText)) → IsUtf8 paragraph → IsDividedInto settings (AreSeparated separator) (ArePoints splitter) algorithm paragraph division
       → All EndsInBlanks (flat_map (λ line. line) division)
   IsDividedInto-blanks paragraph division utf8 divided =
       subst (All EndsInBlanks) (sym (IsDividedInto-whole paragraph division divided)) (pieces_of-blanks settings separator splitter paragraph utf8)

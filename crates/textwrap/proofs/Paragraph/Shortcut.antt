@@ -78,7 +78,7 @@ module _ (settings : Settings) (algorithm : Algorithm) (separator : WordSeparato
   -- the lines of a paragraph are those of a division of its pieces
   abbrev pub HasDividedLines : Bool → List ℕ → List Line → Type 0
   HasDividedLines is_later paragraph lines =
-      (parts : List LineParts) × AreDividedParts settings (IsDividedInto settings algorithm (AreSeparated separator) (ArePoints splitter)) is_later paragraph parts × (map line_from parts ≡ lines)
+      (parts : List LineParts) × AreDividedParts settings (IsDividedInto settings (AreSeparated separator) (ArePoints splitter) algorithm) is_later paragraph parts × (map line_from parts ≡ lines)
 
   whole-divided : (is_later : Bool) (paragraph : List ℕ) → IsUtf8 paragraph → settings.initial_indent ≡ [] → IsNarrow paragraph → is_whole settings is_later paragraph ≡ true
       → HasDividedLines is_later paragraph (line_from (parts_of settings is_later (word_of paragraph ∷ [])) ∷ [])
@@ -96,10 +96,10 @@ module _ (settings : Settings) (algorithm : Algorithm) (separator : WordSeparato
       )
 
   pub paragraph-divided : (is_later : Bool) (paragraph : List ℕ) (parts : List LineParts) → IsUtf8 paragraph → settings.initial_indent ≡ [] → IsNarrow paragraph
-      → AreParagraphParts settings (IsDividedInto settings algorithm (AreSeparated separator) (ArePoints splitter)) is_later paragraph parts → HasDividedLines is_later paragraph (map line_from parts)
+      → AreParagraphParts settings (IsDividedInto settings (AreSeparated separator) (ArePoints splitter) algorithm) is_later paragraph parts → HasDividedLines is_later paragraph (map line_from parts)
   paragraph-divided is_later paragraph parts utf8 unindented narrow (division, laid_out, is) = by_case (is_whole settings is_later paragraph) refl laid_out
     where
-      by_case : (whole : Bool) → is_whole settings is_later paragraph ≡ whole → MatchBool whole (division ≡ (word_of paragraph ∷ []) ∷ []) (IsDividedInto settings algorithm (AreSeparated separator) (ArePoints splitter) paragraph division)
+      by_case : (whole : Bool) → is_whole settings is_later paragraph ≡ whole → MatchBool whole (division ≡ (word_of paragraph ∷ []) ∷ []) (IsDividedInto settings (AreSeparated separator) (ArePoints splitter) algorithm paragraph division)
           → HasDividedLines is_later paragraph (map line_from parts)
       by_case true is_true one =
           subst (HasDividedLines is_later paragraph) (sym (ap (map line_from) (is ∙ ap (parts_from settings is_later) one))) (whole-divided is_later paragraph utf8 unindented narrow is_true)

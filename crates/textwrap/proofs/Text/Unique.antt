@@ -27,7 +27,7 @@ divided_one Greedy sizes widths xs lines others equal one other = greedy_unique 
 divided_one (LeastCost penalties) sizes widths xs lines others equal one other = chosen_one sizes penalties widths xs lines others (one.chosen equal) (other.chosen equal)
 
 pub division_one : (settings : Settings) (algorithm : Algorithm) (separator : WordSeparator) (splitter : WordSplitter) (paragraph : List ℕ) (division other : List (List WordText))
-    → IsDividedInto settings algorithm (AreSeparated separator) (ArePoints splitter) paragraph division → IsDividedInto settings algorithm (AreSeparated separator) (ArePoints splitter) paragraph other → division ≡ other
+    → IsDividedInto settings (AreSeparated separator) (ArePoints splitter) algorithm paragraph division → IsDividedInto settings (AreSeparated separator) (ArePoints splitter) algorithm paragraph other → division ≡ other
 division_one settings algorithm separator splitter paragraph division other (pieces, are, divided) (others, others_are, others_divided) =
     let same = ArePieces-is settings separator splitter paragraph others others_are ∙ sym (ArePieces-is settings separator splitter paragraph pieces are) in
     divided_one algorithm sizes_of (widths_of settings) pieces division other (two_widths _ _) divided (subst (λ ws. IsDividedBy algorithm sizes_of (widths_of settings) ws other) same others_divided)

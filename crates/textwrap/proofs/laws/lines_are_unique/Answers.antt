@@ -7,11 +7,11 @@ use Rattle.textwrap.proofs.laws.lines_are_unique.Goals as goal
 pub returns : goal.returns
 returns c = record {
   divided = λ settings algorithm separator splitter.
-      divided_parts_one settings (IsDividedInto settings algorithm (AreSeparated separator) (ArePoints splitter)) (division_one settings algorithm separator splitter);
+      divided_parts_one settings (IsDividedInto settings (AreSeparated separator) (ArePoints splitter) algorithm) (division_one settings algorithm separator splitter);
   paragraph = λ settings algorithm separator splitter.
-      paragraph_one settings (IsDividedInto settings algorithm (AreSeparated separator) (ArePoints splitter)) (division_one settings algorithm separator splitter);
+      paragraph_one settings (IsDividedInto settings (AreSeparated separator) (ArePoints splitter) algorithm) (division_one settings algorithm separator splitter);
   text = λ settings algorithm separator splitter.
-      text_one settings (IsDividedInto settings algorithm (AreSeparated separator) (ArePoints splitter)) (division_one settings algorithm separator splitter);
+      text_one settings (IsDividedInto settings (AreSeparated separator) (ArePoints splitter) algorithm) (division_one settings algorithm separator splitter);
   filled = λ settings algorithm separator splitter.
-      filled_one settings (IsDividedInto settings algorithm (AreSeparated separator) (ArePoints splitter)) (division_one settings algorithm separator splitter);
+      filled_one settings (IsDividedInto settings (AreSeparated separator) (ArePoints splitter) algorithm) (division_one settings algorithm separator splitter);
 }

@@ -48,7 +48,7 @@ returns-in-Ok-clause-overlong c =
     let appended = returns-in-Ok-clause-appended c in
     let (parts, divided, added) = appended.lines in
     λ first breaks.
-    let greedy = subst (λ algorithm. IsDividedInto settings (algorithm_view algorithm) (AreSeparated options.word_separator) (ArePoints options.word_splitter) c.args.line.now divided.0) first divided.1 in (
+    let greedy = subst (λ algorithm. IsDividedInto settings (AreSeparated options.word_separator) (ArePoints options.word_splitter) (algorithm_view algorithm) c.args.line.now divided.0) first divided.1 in (
       divided.0,
       divided.1,
       added ∙ ap (λ ps. map line_view c.args.lines.now.items ++ map line_from ps) divided.2,

@@ -1,5 +1,5 @@
 -- Divisions of a list of fragments into lines, whatever the fragments are.
-use Rattle.std.specs.Prelude.{◌≡◌, ◌≢◌, ℕ, ◌+◌, ◌-◌, ◌<◌, ◌≤◌, min, List, [], ◌∷◌, ◌++◌, length, take, slice_index, All, ⊤}
+use Rattle.std.specs.Prelude.{◌≡◌, ◌≢◌, ℕ, ◌+◌, ◌-◌, ◌<◌, ◌≤◌, min, List, [], ◌∷◌, ◌++◌, length, take, slice_index, sum_by, All, ⊤}
 use Rattle.std.specs.List.{flat_map}
 use Rattle.textwrap_base.specs.Sizes.{Sizes}
 
@@ -12,6 +12,10 @@ abbrev pub closed_width : {X : Type 0} → (X → Sizes) → List X → ℕ
 closed_width sizes [] = 0
 closed_width sizes (x ∷ []) = (sizes x).width + (sizes x).penalty
 closed_width sizes (x ∷ y ∷ line) = (sizes x).width + (sizes x).whitespace + closed_width sizes (y ∷ line)
+
+-- what these fragments take where the line goes on after them
+abbrev pub open_width : {X : Type 0} → (X → Sizes) → List X → ℕ
+open_width sizes line = sum_by (λ x. (sizes x).width + (sizes x).whitespace) line
 
 -- the lines are the fragments in order, none of them empty; no fragments give one empty line
 abbrev pub IsDivision : {X : Type 0} → List X → List (List X) → Type 0

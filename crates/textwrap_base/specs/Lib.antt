@@ -14,5 +14,4 @@ pub mod Sizes
 pub mod Table
 pub mod Units
 pub mod Words
-pub mod Worked
 pub mod WrapAlgorithms

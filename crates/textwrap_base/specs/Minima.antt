@@ -1,6 +1,6 @@
 -- What a source of line costs shows: the costs that it gives, and the count of how often it was asked.
 use Rattle.std.specs.Prelude.{ℕ, ◌+◌, ◌-◌, ◌*◌, ◌/◌, ◌^◌, min, max, List}
-use Rattle.textwrap_base.specs.Sizes.{Sizes}
+use Rattle.textwrap_base.specs.Cost.{PricedSizes}
 use Rattle.textwrap_base.specs.declared.penalties.Penalties.{Penalties}
 
 -- n fragments, and the cost of the line from one to before another, by its number
@@ -16,9 +16,9 @@ counted count more = max count (min (count + more) (2 ^ 128 - 1))
 abbrev pub table_steps : ℕ → ℕ
 table_steps n = n * (n + 1) / 2
 
--- the sizes of fragments, the line widths and the penalties that their line costs come from, and how often one was asked
+-- the priced sizes of fragments, the line widths and the penalties that their line costs come from, and how often one was asked
 pub record LineCostsView : Type 0 where
-  pub sizes : List Sizes
+  pub priced : List PricedSizes
   pub widths : List ℕ
   pub penalties : Penalties
   pub steps : ℕ

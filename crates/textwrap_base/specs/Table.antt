@@ -1,9 +1,8 @@
 -- The table of least costs, for any list of line widths, and the division that it gives.
 use Rattle.std.specs.Prelude.{◌≡◌, ℕ, zero, suc, ◌+◌, ◌^◌, ◌<◌, ◌≤◌, ◌==◌, nat_lt, if◌then◌else◌, List, [], ◌∷◌, ◌++◌, length, map, slice_index, slice_index_or, slice_range, Option, None, Some, MatchOption, ⊤, ◌⊎◌}
-use Rattle.textwrap_base.specs.Sizes.{Sizes}
 use Rattle.textwrap_base.specs.Minima.{Costs}
 use Rattle.textwrap_base.specs.Division.{line_width, IsDivision}
-use Rattle.textwrap_base.specs.Cost.{line_cost, total_width}
+use Rattle.textwrap_base.specs.Cost.{PricedSizes, line_cost, total_width}
 use Rattle.textwrap_base.specs.declared.penalties.Penalties.{Penalties}
 use Rattle.textwrap_base.specs.declared.minima.Minimum.{Minimum}
 use Rattle.textwrap_base.specs.declared.minima.table.Entry.{Entry}
@@ -68,21 +67,21 @@ pub record IsTable (cost : ℕ → ℕ → ℕ → ℕ) (n : ℕ) (entries : Lis
 -- ---- the table of fragments
 
 -- the cost of the line from one fragment to before another, by its number
-abbrev pub line_costs : {X : Type 0} → (X → Sizes) → Penalties → List ℕ → List X → ℕ → ℕ → ℕ → ℕ
-line_costs sizes penalties widths fragments start end number =
-    line_cost sizes penalties (line_width widths number) (end == length fragments) (slice_range fragments start end)
+abbrev pub line_costs : {X : Type 0} → (X → PricedSizes) → Penalties → List ℕ → List X → ℕ → ℕ → ℕ → ℕ
+line_costs priced penalties widths fragments start end number =
+    line_cost priced penalties (line_width widths number) (end == length fragments) (slice_range fragments start end)
 
-abbrev pub fragment_costs : {X : Type 0} → (X → Sizes) → Penalties → List ℕ → List X → Costs
-fragment_costs sizes penalties widths fragments = record { ends = length fragments; cost = line_costs sizes penalties widths fragments }
+abbrev pub fragment_costs : {X : Type 0} → (X → PricedSizes) → Penalties → List ℕ → List X → Costs
+fragment_costs priced penalties widths fragments = record { ends = length fragments; cost = line_costs priced penalties widths fragments }
 
-abbrev pub fragments_table : {X : Type 0} → (X → Sizes) → Penalties → List ℕ → List X → List Entry
-fragments_table sizes penalties widths fragments = table (line_costs sizes penalties widths fragments) (length fragments)
+abbrev pub fragments_table : {X : Type 0} → (X → PricedSizes) → Penalties → List ℕ → List X → List Entry
+fragments_table priced penalties widths fragments = table (line_costs priced penalties widths fragments) (length fragments)
 
 -- the sum of all widths passes 128 bits, or the cost of an entry does
-abbrev pub TableOverflows : {X : Type 0} → (X → Sizes) → Penalties → List ℕ → List X → Type 0
-TableOverflows sizes penalties widths fragments =
-    (2 ^ 128 ≤ total_width sizes fragments)
-    ⊎ ((j : ℕ) × (j ≤ length fragments) × (2 ^ 128 ≤ (entry_at (fragments_table sizes penalties widths fragments) j).cost))
+abbrev pub TableOverflows : {X : Type 0} → (X → PricedSizes) → Penalties → List ℕ → List X → Type 0
+TableOverflows priced penalties widths fragments =
+    (2 ^ 128 ≤ total_width (λ x. (priced x).sizes) fragments)
+    ⊎ ((j : ℕ) × (j ≤ length fragments) × (2 ^ 128 ≤ (entry_at (fragments_table priced penalties widths fragments) j).cost))
 
 -- ---- the division by the table
 
@@ -92,6 +91,6 @@ FollowStarts starts at [] = ⊤
 FollowStarts starts at (line ∷ lines) = (slice_index starts (at + length line) ≡ at) × FollowStarts starts (at + length line) lines
 
 -- the division that follows the starts of the table back from its end
-pub record IsByTable {X : Type 0} (sizes : X → Sizes) (penalties : Penalties) (widths : List ℕ) (fragments : List X) (lines : List (List X)) : Type 0 where
+pub record IsByTable {X : Type 0} (priced : X → PricedSizes) (penalties : Penalties) (widths : List ℕ) (fragments : List X) (lines : List (List X)) : Type 0 where
   pub division : IsDivision fragments lines
-  pub starts : FollowStarts (map (λ entry. entry.start) (fragments_table sizes penalties widths fragments)) 0 lines
+  pub starts : FollowStarts (map (λ entry. entry.start) (fragments_table priced penalties widths fragments)) 0 lines

@@ -2,6 +2,7 @@
 use Rattle.std.specs.Prelude.{ℕ, List}
 use Rattle.textwrap_base.specs.Sizes.{Sizes}
 use Rattle.textwrap_base.specs.Division.{IsGreedy}
+use Rattle.textwrap_base.specs.Cost.{priced_at}
 use Rattle.textwrap_base.specs.OptimalFit.{IsByOptimalFit}
 use Rattle.textwrap_base.specs.Table.{TableOverflows}
 use Rattle.textwrap_base.specs.declared.penalties.Penalties.{Penalties}
@@ -20,9 +21,9 @@ algorithm_view (OptimalFit penalties) = LeastCost penalties
 -- the algorithm's division of the fragments
 abbrev pub IsDividedBy : {X : Type 0} → Algorithm → (X → Sizes) → List ℕ → List X → List (List X) → Type 0
 IsDividedBy Greedy sizes widths fragments lines = IsGreedy sizes widths fragments lines
-IsDividedBy (LeastCost penalties) sizes widths fragments lines = IsByOptimalFit sizes penalties widths fragments lines
+IsDividedBy (LeastCost penalties) sizes widths fragments lines = IsByOptimalFit (λ x. priced_at penalties (sizes x)) penalties widths fragments lines
 
 -- the algorithm refuses these with Overflow: the greedy one refuses none, the one of least cost where its table overflows
 abbrev pub OverflowsBy : {X : Type 0} → Algorithm → (X → Sizes) → List ℕ → List X → Type 0
 OverflowsBy Greedy sizes widths fragments = ⊥
-OverflowsBy (LeastCost penalties) sizes widths fragments = TableOverflows sizes penalties widths fragments
+OverflowsBy (LeastCost penalties) sizes widths fragments = TableOverflows (λ x. priced_at penalties (sizes x)) penalties widths fragments

@@ -1,14 +1,10 @@
 //! Laws of the definitions that the contracts cite. Each is the contract of a function that does
 //! nothing, so that a proof may call on it, and its statement has a name in `specs/Laws.antt`.
-ghost use Rattle.std.specs.Prelude.{◌≡◌, [], ◌∷◌, map, take};
-ghost use Rattle.textwrap_base.specs.Cost.{division_cost};
-ghost use Rattle.textwrap_base.specs.Division.{closed_width};
+ghost use Rattle.textwrap_base.specs.Cost.{priced_at};
 ghost use Rattle.textwrap_base.specs.Laws.{UnitsAreUnique, WordsAreUnique, GreedyDivisionIsUnique};
 ghost use Rattle.textwrap_base.specs.Laws.{BrokenPiecesAreUnique, BrokenTextsTile};
 ghost use Rattle.textwrap_base.specs.Laws.{BrokenPiecesTile, BrokenWordsTile};
 ghost use Rattle.textwrap_base.specs.Laws.{ChosenDivisionIsUnique, TableHasLeastCosts};
-ghost use Rattle.textwrap_base.specs.Penalties.{default_penalties};
-ghost use Rattle.textwrap_base.specs.Worked.{worked_table, falling, uneven, uneven_lines};
 
 use crate::penalties::Penalties;
 use crate::words::Fragment;
@@ -49,25 +45,13 @@ pub fn chosen_division_is_unique<T: Fragment>(
     line_widths: &[usize],
     penalties: &Penalties,
 )
-    ensures { ChosenDivisionIsUnique T.sizes penalties.now line_widths.now fragments.now }
+    ensures { ChosenDivisionIsUnique (λ x. priced_at penalties.now (T.sizes x)) penalties.now
+        line_widths.now fragments.now }
 {}
 
 /// Each entry of a table but the first is the least of what the entries before it give.
 pub fn table_has_least_costs()
     ensures { TableHasLeastCosts }
-{}
-
-/// Two tables at the default penalties: one at line width 10, of fragments whose beginnings close at
-/// widths that fall, and one at the line widths 10, 5 and 100, where it is not the least cost of
-/// all divisions.
-pub fn worked_tables_hold()
-    ensures closed { map (λ count. closed_width (λ sizes. sizes) (take count falling)) (1 ∷ 2 ∷ 3 ∷ 4 ∷ 5 ∷ [])
-        ≡ 10 ∷ 15 ∷ 25 ∷ 20 ∷ 30 ∷ [] }
-    ensures falling { worked_table (10 ∷ []) falling
-        ≡ (0, 0) ∷ (0, 1000) ∷ (1, 2025) ∷ (2, 3050) ∷ (1, 2000) ∷ (4, 3000) ∷ [] }
-    ensures uneven { worked_table (10 ∷ 5 ∷ 100 ∷ []) uneven
-        ≡ (0, 0) ∷ (0, 1025) ∷ (0, 1000) ∷ (2, 39500) ∷ [] }
-    ensures uneven_lines { division_cost (λ sizes. sizes) default_penalties (10 ∷ 5 ∷ 100 ∷ []) 3 uneven_lines ≡ 3050 }
 {}
 
 #[cfg(test)]
@@ -84,6 +68,5 @@ mod tests {
         broken_pieces_tile();
         chosen_division_is_unique(&[Word::from("foo")], &[10], &Penalties::new());
         table_has_least_costs();
-        worked_tables_hold();
     }
 }

@@ -2,7 +2,7 @@
 //! they are asked, and the table of least costs.
 ghost use Rattle.std.specs.Prelude.{◌≡◌, ℕ, ◌+◌, ◌^◌, ◌<◌, ◌≤◌, length, map, IfOk, OnOk, SomeIff};
 ghost use Rattle.textwrap_base.specs.Minima.{Costs, counted, table_steps};
-ghost use Rattle.textwrap_base.specs.Cost.{total_width};
+ghost use Rattle.textwrap_base.specs.Cost.{priced_at, total_width};
 ghost use Rattle.textwrap_base.specs.Errors.{Overflowed};
 ghost use Rattle.textwrap_base.specs.Table.{fragment_costs, fragments_table, minimum_of, TableOverflows};
 
@@ -111,11 +111,11 @@ pub fn table_minima<T: Fragment>(
     steps: &mut Steps,
 ) -> Result<Vec<Minimum>, WrapError>
     ensures entries { IfOk result (λ minima. minima.items
-        ≡ map minimum_of (fragments_table T.sizes penalties.now line_widths.now fragments.now)) }
+        ≡ map minimum_of (fragments_table (λ x. priced_at penalties.now (T.sizes x)) penalties.now line_widths.now fragments.now)) }
     ensures overflow_only { Overflowed result
-        → TableOverflows T.sizes penalties.now line_widths.now fragments.now }
+        → TableOverflows (λ x. priced_at penalties.now (T.sizes x)) penalties.now line_widths.now fragments.now }
     ensures ok_only { OnOk result
-        (¬ TableOverflows T.sizes penalties.now line_widths.now fragments.now) }
+        (¬ TableOverflows (λ x. priced_at penalties.now (T.sizes x)) penalties.now line_widths.now fragments.now) }
     ensures too_wide { 2 ^ 128 ≤ total_width T.sizes fragments.now → Overflowed result }
     ensures no_overflow { total_width T.sizes fragments.now < 2 ^ 64 → ¬ Overflowed result }
     ensures steps_ok { OnOk result

@@ -3,9 +3,8 @@ use Rattle.std.proofs.Common.{◌≡◌, ℕ, zero, suc, ◌+◌, ◌-◌, ◌<�
 use Rattle.std.proofs.lemmas.Bool.{cases_lt}
 use Rattle.std.proofs.lemmas.List.{append-nil, take-append-drop, take_all, length-take-le}
 use Rattle.std.proofs.lemmas.List.Elements.{All-nil}
-use Rattle.textwrap_base.specs.Sizes.{Sizes}
 use Rattle.textwrap_base.specs.Division.{line_width, IsDivision}
-use Rattle.textwrap_base.specs.Cost.{line_cost, division_cost, starts_back, AreNoLater, IsChosen, AreEqualFromSecond, Overflows}
+use Rattle.textwrap_base.specs.Cost.{PricedSizes, line_cost, division_cost, starts_back, AreNoLater, IsChosen, AreEqualFromSecond, Overflows}
 use Rattle.textwrap_base.specs.Table.{entry_at, line_costs, fragments_table, FollowStarts, IsByTable, TableOverflows}
 use Rattle.textwrap_base.specs.declared.minima.table.Entry.{Entry}
 use Rattle.textwrap_base.specs.declared.penalties.Penalties.{Penalties}
@@ -22,12 +21,12 @@ same_width widths h l m p q = same_by (cases_lt 1 (length widths))
     same_by (inl some) = h (min l (length widths - 1)) (omega arith) (omega arith) ∙ sym (h (min m (length widths - 1)) (omega arith) (omega arith))
     same_by (inr none) = let e : min l (length widths - 1) ≡ min m (length widths - 1) = omega arith in ap (λ n. get_or widths n 0) e
 
-pub line_costs-steady : {X : Type 0} (sizes : X → Sizes) (penalties : Penalties) (widths : List ℕ) (xs : List X) → AreEqualFromSecond widths → IsSteady (line_costs sizes penalties widths xs)
-line_costs-steady sizes penalties widths xs h i j l m p q = ap (λ w. line_cost sizes penalties w (eqb j (length xs)) (slice_range xs i j)) (same_width widths h l m p q)
+pub line_costs-steady : {X : Type 0} (priced : X → PricedSizes) (penalties : Penalties) (widths : List ℕ) (xs : List X) → AreEqualFromSecond widths → IsSteady (line_costs priced penalties widths xs)
+line_costs-steady priced penalties widths xs h i j l m p q = ap (λ w. line_cost priced penalties w (eqb j (length xs)) (slice_range xs i j)) (same_width widths h l m p q)
 
 -- ---- divisions of a beginning
 
-module _ {X : Type 0} (sizes : X → Sizes) (penalties : Penalties) (widths : List ℕ) (xs : List X) where
+module _ {X : Type 0} (priced : X → PricedSizes) (penalties : Penalties) (widths : List ℕ) (xs : List X) where
   begins : (lines : List (List X)) (j : ℕ) → joined lines ≡ take j xs → xs ≡ [] ++ (joined lines ++ drop j xs)
   begins lines j e = sym (take-append-drop j xs) ∙ ap (λ l. l ++ drop j xs) (sym e)
 
@@ -36,21 +35,21 @@ module _ {X : Type 0} (sizes : X → Sizes) (penalties : Penalties) (widths : Li
 
   begin_starts : (lines : List (List X)) (j : ℕ) → j ≤ length xs → joined lines ≡ take j xs → All (λ line. line ≢ []) lines → AreStarts (starts_back lines) j
   begin_starts lines j l e some = subst (λ n. AreStarts (starts_back lines) n) (length_begun lines j l e)
-      (starts_of_lines sizes penalties widths xs lines [] (drop j xs) 0 [] refl (begins lines j e) some refl)
+      (starts_of_lines priced penalties widths xs lines [] (drop j xs) 0 [] refl (begins lines j e) some refl)
 
-  begin_cost : (lines : List (List X)) (j : ℕ) → j ≤ length xs → joined lines ≡ take j xs → starts_cost (starts_back lines) (line_costs sizes penalties widths xs) j ≡ division_cost sizes penalties widths (length xs) lines
+  begin_cost : (lines : List (List X)) (j : ℕ) → j ≤ length xs → joined lines ≡ take j xs → starts_cost (starts_back lines) (line_costs priced penalties widths xs) j ≡ division_cost priced penalties widths (length xs) lines
   begin_cost lines j l e =
-      let c = cost_of_lines sizes penalties widths xs lines [] (drop j xs) 0 [] refl (begins lines j e) in
-      let k = ap (starts_cost (starts_back lines) (line_costs sizes penalties widths xs)) (length_begun lines j l e) in omega (arith, c, k)
+      let c = cost_of_lines priced penalties widths xs lines [] (drop j xs) 0 [] refl (begins lines j e) in
+      let k = ap (starts_cost (starts_back lines) (line_costs priced penalties widths xs)) (length_begun lines j l e) in omega (arith, c, k)
 
   begin_follow : (lines : List (List X)) (j : ℕ) (starts : List ℕ) → j ≤ length xs → joined lines ≡ take j xs → FollowStarts starts 0 lines → FollowBack (starts_back lines) starts j
   begin_follow lines j starts l e f = subst (λ n. FollowBack (starts_back lines) starts n) (length_begun lines j l e)
-      (follow_of_lines sizes penalties widths xs starts lines 0 [] f tt)
+      (follow_of_lines priced penalties widths xs starts lines 0 [] f tt)
 
 -- ---- the chosen division
 
-chosen-empty : {X : Type 0} (sizes : X → Sizes) (penalties : Penalties) (widths : List ℕ) (lines : List (List X)) → lines ≡ [] ∷ [] → IsChosen sizes penalties widths [] lines
-chosen-empty {X = X} sizes penalties widths lines e = record {
+chosen-empty : {X : Type 0} (priced : X → PricedSizes) (penalties : Penalties) (widths : List ℕ) (lines : List (List X)) → lines ≡ [] ∷ [] → IsChosen priced penalties widths [] lines
+chosen-empty {X = X} priced penalties widths lines e = record {
   division = e;
   least = λ others o. rw (e, o) (omega arith);
   earliest = λ others o same. let r : AreNoLater (starts_back {X = X} ([] ∷ [])) (starts_back {X = X} ([] ∷ [])) = inr (refl, tt) in rw (e, o) r;
@@ -63,83 +62,83 @@ whole xs lines p h =
     (tiles ∙ sym (take_all (length xs) xs (omega arith)), some)
 
 -- the division by the table costs what its last entry says
-by_table-cost : {X : Type 0} (sizes : X → Sizes) (penalties : Penalties) (widths : List ℕ) (xs : List X) (lines : List (List X)) → 0 < length xs → AreEqualFromSecond widths
-    → IsByTable sizes penalties widths xs lines → division_cost sizes penalties widths (length xs) lines ≡ (entry_at (fragments_table sizes penalties widths xs) (length xs)).cost
-by_table-cost sizes penalties widths xs lines p equal h =
+by_table-cost : {X : Type 0} (priced : X → PricedSizes) (penalties : Penalties) (widths : List ℕ) (xs : List X) (lines : List (List X)) → 0 < length xs → AreEqualFromSecond widths
+    → IsByTable priced penalties widths xs lines → division_cost priced penalties widths (length xs) lines ≡ (entry_at (fragments_table priced penalties widths xs) (length xs)).cost
+by_table-cost priced penalties widths xs lines p equal h =
     let (tiles, some) = whole xs lines p h.division in
-    sym (begin_cost sizes penalties widths xs lines (length xs) (omega arith) tiles)
-    ∙ table_followed (line_costs sizes penalties widths xs) (length xs) (fragments_table sizes penalties widths xs) (table-is_table (line_costs sizes penalties widths xs) (length xs)) (line_costs-steady sizes penalties widths xs equal)
-    (starts_back lines) (length xs) (omega arith) (begin_starts sizes penalties widths xs lines (length xs) (omega arith) tiles some)
-    (begin_follow sizes penalties widths xs lines (length xs) (map (λ (x : Entry). x.start) (fragments_table sizes penalties widths xs)) (omega arith) tiles h.starts)
+    sym (begin_cost priced penalties widths xs lines (length xs) (omega arith) tiles)
+    ∙ table_followed (line_costs priced penalties widths xs) (length xs) (fragments_table priced penalties widths xs) (table-is_table (line_costs priced penalties widths xs) (length xs)) (line_costs-steady priced penalties widths xs equal)
+    (starts_back lines) (length xs) (omega arith) (begin_starts priced penalties widths xs lines (length xs) (omega arith) tiles some)
+    (begin_follow priced penalties widths xs lines (length xs) (map (λ (x : Entry). x.start) (fragments_table priced penalties widths xs)) (omega arith) tiles h.starts)
 
 -- no division of a beginning costs less than its entry says
-begin-least : {X : Type 0} (sizes : X → Sizes) (penalties : Penalties) (widths : List ℕ) (xs : List X) (others : List (List X)) (j : ℕ) → j ≤ length xs → AreEqualFromSecond widths
+begin-least : {X : Type 0} (priced : X → PricedSizes) (penalties : Penalties) (widths : List ℕ) (xs : List X) (others : List (List X)) (j : ℕ) → j ≤ length xs → AreEqualFromSecond widths
     → joined others ≡ take j xs → All (λ line. line ≢ []) others
-    → (entry_at (fragments_table sizes penalties widths xs) j).cost ≤ division_cost sizes penalties widths (length xs) others
-begin-least sizes penalties widths xs others j l equal tiles some =
-    let cost = begin_cost sizes penalties widths xs others j l tiles in
-    let least = table_least (line_costs sizes penalties widths xs) (length xs) (fragments_table sizes penalties widths xs) (table-is_table (line_costs sizes penalties widths xs) (length xs)) (line_costs-steady sizes penalties widths xs equal)
-    (starts_back others) j l (begin_starts sizes penalties widths xs others j l tiles some) in
+    → (entry_at (fragments_table priced penalties widths xs) j).cost ≤ division_cost priced penalties widths (length xs) others
+begin-least priced penalties widths xs others j l equal tiles some =
+    let cost = begin_cost priced penalties widths xs others j l tiles in
+    let least = table_least (line_costs priced penalties widths xs) (length xs) (fragments_table priced penalties widths xs) (table-is_table (line_costs priced penalties widths xs) (length xs)) (line_costs-steady priced penalties widths xs equal)
+    (starts_back others) j l (begin_starts priced penalties widths xs others j l tiles some) in
     omega (arith, cost, least)
 
-chosen-earliest : {X : Type 0} (sizes : X → Sizes) (penalties : Penalties) (widths : List ℕ) (xs : List X) (lines others : List (List X)) → 0 < length xs → AreEqualFromSecond widths
-    → IsByTable sizes penalties widths xs lines → IsDivision xs others
-    → division_cost sizes penalties widths (length xs) others ≡ division_cost sizes penalties widths (length xs) lines → AreNoLater (starts_back lines) (starts_back others)
-chosen-earliest sizes penalties widths xs lines others p equal h o same =
+chosen-earliest : {X : Type 0} (priced : X → PricedSizes) (penalties : Penalties) (widths : List ℕ) (xs : List X) (lines others : List (List X)) → 0 < length xs → AreEqualFromSecond widths
+    → IsByTable priced penalties widths xs lines → IsDivision xs others
+    → division_cost priced penalties widths (length xs) others ≡ division_cost priced penalties widths (length xs) lines → AreNoLater (starts_back lines) (starts_back others)
+chosen-earliest priced penalties widths xs lines others p equal h o same =
     let (tiles, some) = whole xs lines p h.division in
     let (tiles_other, some_other) = whole xs others p o in
-    table_earliest (line_costs sizes penalties widths xs) (length xs) (fragments_table sizes penalties widths xs) (table-is_table (line_costs sizes penalties widths xs) (length xs)) (line_costs-steady sizes penalties widths xs equal)
+    table_earliest (line_costs priced penalties widths xs) (length xs) (fragments_table priced penalties widths xs) (table-is_table (line_costs priced penalties widths xs) (length xs)) (line_costs-steady priced penalties widths xs equal)
     (starts_back lines) (starts_back others) (length xs) (omega arith)
-    (begin_starts sizes penalties widths xs lines (length xs) (omega arith) tiles some)
-    (begin_follow sizes penalties widths xs lines (length xs) (map (λ (x : Entry). x.start) (fragments_table sizes penalties widths xs)) (omega arith) tiles h.starts)
-    (begin_starts sizes penalties widths xs others (length xs) (omega arith) tiles_other some_other)
-    (begin_cost sizes penalties widths xs others (length xs) (omega arith) tiles_other ∙ same ∙ by_table-cost sizes penalties widths xs lines p equal h)
+    (begin_starts priced penalties widths xs lines (length xs) (omega arith) tiles some)
+    (begin_follow priced penalties widths xs lines (length xs) (map (λ (x : Entry). x.start) (fragments_table priced penalties widths xs)) (omega arith) tiles h.starts)
+    (begin_starts priced penalties widths xs others (length xs) (omega arith) tiles_other some_other)
+    (begin_cost priced penalties widths xs others (length xs) (omega arith) tiles_other ∙ same ∙ by_table-cost priced penalties widths xs lines p equal h)
 
-pub by_table-chosen : {X : Type 0} (sizes : X → Sizes) (penalties : Penalties) (widths : List ℕ) (xs : List X) (lines : List (List X)) → AreEqualFromSecond widths
-    → IsByTable sizes penalties widths xs lines → IsChosen sizes penalties widths xs lines
-by_table-chosen sizes penalties widths [] lines equal h = chosen-empty sizes penalties widths lines h.division
-by_table-chosen sizes penalties widths (x ∷ xs) lines equal h =
+pub by_table-chosen : {X : Type 0} (priced : X → PricedSizes) (penalties : Penalties) (widths : List ℕ) (xs : List X) (lines : List (List X)) → AreEqualFromSecond widths
+    → IsByTable priced penalties widths xs lines → IsChosen priced penalties widths xs lines
+by_table-chosen priced penalties widths [] lines equal h = chosen-empty priced penalties widths lines h.division
+by_table-chosen priced penalties widths (x ∷ xs) lines equal h =
     let p : 0 < length (x ∷ xs) = omega arith in
-    let cost = by_table-cost sizes penalties widths (x ∷ xs) lines p equal h in
+    let cost = by_table-cost priced penalties widths (x ∷ xs) lines p equal h in
     record {
       division = h.division;
       least = λ others o.
           let (tiles, some) = whole (x ∷ xs) others p o in
-          let least = begin-least sizes penalties widths (x ∷ xs) others (length (x ∷ xs)) (omega arith) equal tiles some in omega (arith, cost, least);
-      earliest = λ others o same. chosen-earliest sizes penalties widths (x ∷ xs) lines others p equal h o same;
+          let least = begin-least priced penalties widths (x ∷ xs) others (length (x ∷ xs)) (omega arith) equal tiles some in omega (arith, cost, least);
+      earliest = λ others o same. chosen-earliest priced penalties widths (x ∷ xs) lines others p equal h o same;
     }
 
 -- ---- overflow
 
 -- an entry that passes is a beginning that passes
-pub table-overflows : {X : Type 0} (sizes : X → Sizes) (penalties : Penalties) (widths : List ℕ) (xs : List X) → AreEqualFromSecond widths
-    → TableOverflows sizes penalties widths xs → Overflows sizes penalties widths xs
-table-overflows sizes penalties widths xs equal (inl wide) = inl wide
-table-overflows {X = X} sizes penalties widths xs equal (inr (zero, l, past)) =
-    let first = ap (λ (e : Entry). e.cost) (entry-table_first (line_costs sizes penalties widths xs) (length xs)) in absurd (omega (arith, past, first))
-table-overflows {X = X} sizes penalties widths xs equal (inr (suc j, l, past)) =
+pub table-overflows : {X : Type 0} (priced : X → PricedSizes) (penalties : Penalties) (widths : List ℕ) (xs : List X) → AreEqualFromSecond widths
+    → TableOverflows priced penalties widths xs → Overflows priced penalties widths xs
+table-overflows priced penalties widths xs equal (inl wide) = inl wide
+table-overflows {X = X} priced penalties widths xs equal (inr (zero, l, past)) =
+    let first = ap (λ (e : Entry). e.cost) (entry-table_first (line_costs priced penalties widths xs) (length xs)) in absurd (omega (arith, past, first))
+table-overflows {X = X} priced penalties widths xs equal (inr (suc j, l, past)) =
     inr (
       suc j,
       l,
       λ others o.
           let len = length-take-le (suc j) xs l in
           let (tiles, some) = division_joined (take (suc j) xs) others (omega arith) o in
-          let least = begin-least sizes penalties widths xs others (suc j) l equal tiles some in omega (arith, past, least),
+          let least = begin-least priced penalties widths xs others (suc j) l equal tiles some in omega (arith, past, least),
     )
 
 -- a beginning that passes is an entry that passes
-pub overflows-table : {X : Type 0} (sizes : X → Sizes) (penalties : Penalties) (widths : List ℕ) (xs : List X) → AreEqualFromSecond widths
-    → Overflows sizes penalties widths xs → TableOverflows sizes penalties widths xs
-overflows-table sizes penalties widths xs equal (inl wide) = inl wide
-overflows-table {X = X} sizes penalties widths xs equal (inr (zero, l, passes)) = let cost = passes ([] ∷ []) refl in absurd (omega (arith, cost))
-overflows-table {X = X} sizes penalties widths xs equal (inr (suc j, l, passes)) =
-    let is = table-is_table (line_costs sizes penalties widths xs) (length xs) in
-    let steady = line_costs-steady sizes penalties widths xs equal in
-    let (starts, h, f) = starts_to (line_costs sizes penalties widths xs) (length xs) (fragments_table sizes penalties widths xs) is steady (suc j) l in
+pub overflows-table : {X : Type 0} (priced : X → PricedSizes) (penalties : Penalties) (widths : List ℕ) (xs : List X) → AreEqualFromSecond widths
+    → Overflows priced penalties widths xs → TableOverflows priced penalties widths xs
+overflows-table priced penalties widths xs equal (inl wide) = inl wide
+overflows-table {X = X} priced penalties widths xs equal (inr (zero, l, passes)) = let cost = passes ([] ∷ []) refl in absurd (omega (arith, cost))
+overflows-table {X = X} priced penalties widths xs equal (inr (suc j, l, passes)) =
+    let is = table-is_table (line_costs priced penalties widths xs) (length xs) in
+    let steady = line_costs-steady priced penalties widths xs equal in
+    let (starts, h, f) = starts_to (line_costs priced penalties widths xs) (length xs) (fragments_table priced penalties widths xs) is steady (suc j) l in
     let len = length-take-le (suc j) xs l in
     let tiles = joined_after starts xs (suc j) [] l h ∙ append-nil (take (suc j) xs) in
     let some = some_after starts xs (suc j) [] l h (All-nil (λ (line : List X). line ≢ [])) in
-    let cost = cost_after_starts sizes penalties widths starts xs (suc j) [] l h in
-    let followed = table_followed (line_costs sizes penalties widths xs) (length xs) (fragments_table sizes penalties widths xs) is steady starts (suc j) l h f in
+    let cost = cost_after_starts priced penalties widths starts xs (suc j) [] l h in
+    let followed = table_followed (line_costs priced penalties widths xs) (length xs) (fragments_table priced penalties widths xs) is steady starts (suc j) l h f in
     let past = passes (lines_after starts xs (suc j) []) (joined_division (take (suc j) xs) (lines_after starts xs (suc j) []) (omega arith) tiles some) in
     inr (suc j, l, omega (arith, cost, followed, past))

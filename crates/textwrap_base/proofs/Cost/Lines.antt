@@ -7,9 +7,8 @@ use Rattle.std.proofs.lemmas.List.Elements.{All-head, All-tail, All-cons}
 use Rattle.std.proofs.lemmas.Bool.{eqb-false}
 use Rattle.std.proofs.lemmas.List.Folds.{drop_split}
 use Rattle.std.proofs.Math.Seq.{take-add}
-use Rattle.textwrap_base.specs.Sizes.{Sizes}
 use Rattle.textwrap_base.specs.Division.{line_width, IsDivision}
-use Rattle.textwrap_base.specs.Cost.{line_cost, lines_cost, starts_from}
+use Rattle.textwrap_base.specs.Cost.{PricedSizes, line_cost, lines_cost, starts_from}
 use Rattle.textwrap_base.specs.Table.{line_costs, FollowStarts}
 use Rattle.textwrap_base.specs.declared.penalties.Penalties.{Penalties}
 use Rattle.textwrap_base.proofs.Cost.Measures.{length-slice}
@@ -36,7 +35,7 @@ slice_middle front line rest at end e k =
     let len : length line ≡ end - at = omega arith in
     rw (drop_at front (line ++ rest) at e) (take_at line rest (end - at) len)
 
-module _ {X : Type 0} (sizes : X → Sizes) (penalties : Penalties) (widths : List ℕ) (xs : List X) where
+module _ {X : Type 0} (priced : X → PricedSizes) (penalties : Penalties) (widths : List ℕ) (xs : List X) where
   -- the lines after `front`, whose own starts are `before`
   pub starts_of_lines : (lines : List (List X)) (front rest : List X) (at : ℕ) (before : List ℕ) → length front ≡ at → xs ≡ front ++ (joined lines ++ rest)
       → All (λ line. line ≢ []) lines → AreStarts before at
@@ -51,9 +50,9 @@ module _ {X : Type 0} (sizes : X → Sizes) (penalties : Penalties) (widths : Li
       rw (← e) more
 
   pub cost_of_lines : (lines : List (List X)) (front rest : List X) (at : ℕ) (before : List ℕ) → length front ≡ at → xs ≡ front ++ (joined lines ++ rest)
-      → starts_cost (reverse_aux (starts_from at lines) before) (line_costs sizes penalties widths xs) (at + length (joined lines))
-      ≡ starts_cost before (line_costs sizes penalties widths xs) at + lines_cost sizes penalties widths (length xs) (length before) at lines
-  cost_of_lines [] front rest at before len is = ap (starts_cost before (line_costs sizes penalties widths xs)) (let e : at + 0 ≡ at = omega arith in e) ∙ (let e : starts_cost before (line_costs sizes penalties widths xs) at ≡ starts_cost before (line_costs sizes penalties widths xs) at + 0 = omega arith in e)
+      → starts_cost (reverse_aux (starts_from at lines) before) (line_costs priced penalties widths xs) (at + length (joined lines))
+      ≡ starts_cost before (line_costs priced penalties widths xs) at + lines_cost priced penalties widths (length xs) (length before) at lines
+  cost_of_lines [] front rest at before len is = ap (starts_cost before (line_costs priced penalties widths xs)) (let e : at + 0 ≡ at = omega arith in e) ∙ (let e : starts_cost before (line_costs priced penalties widths xs) at ≡ starts_cost before (line_costs priced penalties widths xs) at + 0 = omega arith in e)
   cost_of_lines (line ∷ lines) front rest at before len is =
       let shape = is ∙ ap (λ (l : List X). front ++ l) (append_assoc line (joined lines) rest) in
       let is' : xs ≡ (front ++ line) ++ (joined lines ++ rest) = shape ∙ sym (append_assoc front line (joined lines ++ rest)) in
@@ -61,8 +60,8 @@ module _ {X : Type 0} (sizes : X → Sizes) (penalties : Penalties) (widths : Li
       let more = cost_of_lines lines (front ++ line) rest (at + length line) (at ∷ before) len' is' in
       let e : at + length line + length (joined lines) ≡ at + length (line ++ joined lines) = (let k = length-append line (joined lines) in omega arith) in
       let slice = ap (λ (l : List X). slice_range l at (at + length line)) shape ∙ slice_middle front line (joined lines ++ rest) at (at + length line) len refl in
-      let cost = ap (line_cost sizes penalties (line_width widths (length before)) (eqb (at + length line) (length xs))) slice in
-      let number = ap (λ m. lines_cost sizes penalties widths (length xs) m (at + length line) lines) (let q : suc (length before) ≡ length before + 1 = omega arith in q) in
+      let cost = ap (line_cost priced penalties (line_width widths (length before)) (eqb (at + length line) (length xs))) slice in
+      let number = ap (λ m. lines_cost priced penalties widths (length xs) m (at + length line) lines) (let q : suc (length before) ≡ length before + 1 = omega arith in q) in
       rw (← e) (more ∙ (omega (arith, cost, number)))
 
   pub follow_of_lines : (starts : List ℕ) (lines : List (List X)) (at : ℕ) (before : List ℕ) → FollowStarts starts at lines → FollowBack before starts at
@@ -126,15 +125,15 @@ some_after (i ∷ rest) xs j after l (h, hs) some =
     let nonempty : slice_range xs i j ≢ [] = λ q. let z = ap length q in omega (arith, z) in
     some_after rest xs i (slice_range xs i j ∷ after) (omega arith) hs (All-cons (λ line. line ≢ []) (slice_range xs i j) after nonempty some)
 
-pub cost_after_starts : {X : Type 0} (sizes : X → Sizes) (penalties : Penalties) (widths : List ℕ) (starts : List ℕ) (xs : List X) (j : ℕ) (after : List (List X)) → j ≤ length xs → AreStarts starts j
-    → lines_cost sizes penalties widths (length xs) 0 0 (lines_after starts xs j after)
-    ≡ starts_cost starts (line_costs sizes penalties widths xs) j + lines_cost sizes penalties widths (length xs) (length starts) j after
-cost_after_starts sizes penalties widths [] xs j after l h = ap (λ k. lines_cost sizes penalties widths (length xs) 0 k after) (sym h) ∙ (let e : lines_cost sizes penalties widths (length xs) 0 j after ≡ 0 + lines_cost sizes penalties widths (length xs) 0 j after = omega arith in e)
-cost_after_starts sizes penalties widths (i ∷ rest) xs j after l (h, hs) =
+pub cost_after_starts : {X : Type 0} (priced : X → PricedSizes) (penalties : Penalties) (widths : List ℕ) (starts : List ℕ) (xs : List X) (j : ℕ) (after : List (List X)) → j ≤ length xs → AreStarts starts j
+    → lines_cost priced penalties widths (length xs) 0 0 (lines_after starts xs j after)
+    ≡ starts_cost starts (line_costs priced penalties widths xs) j + lines_cost priced penalties widths (length xs) (length starts) j after
+cost_after_starts priced penalties widths [] xs j after l h = ap (λ k. lines_cost priced penalties widths (length xs) 0 k after) (sym h) ∙ (let e : lines_cost priced penalties widths (length xs) 0 j after ≡ 0 + lines_cost priced penalties widths (length xs) 0 j after = omega arith in e)
+cost_after_starts priced penalties widths (i ∷ rest) xs j after l (h, hs) =
     let len = length-slice xs i j l in
     let end : i + length (slice_range xs i j) ≡ j = omega arith in
-    let first = ap (λ k. line_cost sizes penalties (line_width widths (length rest)) (eqb k (length xs)) (slice_range xs i j)) end in
-    let more = ap (λ k. lines_cost sizes penalties widths (length xs) (length rest + 1) k after) end in
-    let number = ap (λ m. lines_cost sizes penalties widths (length xs) m j after) (let q : length rest + 1 ≡ suc (length rest) = omega arith in q) in
-    let before = cost_after_starts sizes penalties widths rest xs i (slice_range xs i j ∷ after) (omega arith) hs in
+    let first = ap (λ k. line_cost priced penalties (line_width widths (length rest)) (eqb k (length xs)) (slice_range xs i j)) end in
+    let more = ap (λ k. lines_cost priced penalties widths (length xs) (length rest + 1) k after) end in
+    let number = ap (λ m. lines_cost priced penalties widths (length xs) m j after) (let q : length rest + 1 ≡ suc (length rest) = omega arith in q) in
+    let before = cost_after_starts priced penalties widths rest xs i (slice_range xs i j ∷ after) (omega arith) hs in
     before ∙ (omega (arith, first, more, number))

@@ -1,49 +1,41 @@
 -- The closed width and the cost of a part of the fragments, from running sums of their widths.
-use Rattle.std.proofs.Common.{◌≡◌, ℕ, suc, ◌+◌, ◌-◌, ◌*◌, ◌^◌, ◌<◌, ◌≤◌, Bool, true, false, eqb, ltb, ◌&&◌, if◌then◌else◌, List, [], ◌∷◌, ◌++◌, length, get_or, take, drop, map, slice_range, ◌⊎◌, ◌≢◌, inl, inr, refl, sym, ◌∙◌, ap, arith, length-take, length-drop}
+use Rattle.std.proofs.Common.{◌≡◌, ℕ, suc, ◌+◌, ◌-◌, ◌*◌, ◌^◌, ◌<◌, ◌≤◌, Bool, true, false, eqb, ltb, ◌&&◌, if◌then◌else◌, List, [], ◌∷◌, ◌++◌, length, get_or, take, drop, map, All, slice_range, ◌⊎◌, ◌≢◌, inl, inr, refl, sym, ◌∙◌, ap, arith, length-take, length-drop}
 use Rattle.std.proofs.lemmas.List.{get_or_push, get_or_append_left, take_at, take-append-le, length-map, take_more, take-map, drop-map, get_or-drop, length_push}
-use Rattle.std.proofs.lemmas.List.Sums.{sum_by-cons, sum_by-append, sum_by_more_le_part, sum_by-take-le}
+use Rattle.std.proofs.lemmas.List.Sums.{sum_by-cons, sum_by_more_le_part, sum_by-take-le}
+use Rattle.std.proofs.lemmas.List.Elements.{All-nil, All-cons, All-head, All-tail}
 use Rattle.std.proofs.Math.Nat.{mul-le-mul}
 use Rattle.std.proofs.Math.Seq.{take-add}
 use Rattle.std.proofs.lemmas.Bool.Decides.{nat_tests}
 use Rattle.std.proofs.lemmas.Bool.{cases_eq}
 use mathlib.Core.Path.{fun_ext}
 use Rattle.textwrap_base.specs.Sizes.{Sizes}
-use Rattle.textwrap_base.specs.Division.{closed_width, line_width}
-use Rattle.textwrap_base.specs.Cost.{fit_cost, last_penalty, break_cost, line_cost, target, total_width}
+use Rattle.textwrap_base.specs.Division.{closed_width, open_width, line_width}
+use Rattle.textwrap_base.specs.Cost.{PricedSizes, priced_at, fit_cost, last_break_cost, line_cost, target, total_width}
 use Rattle.textwrap_base.specs.Penalties.{Are64Bits}
-use Rattle.textwrap_base.specs.LineCosts.{open_width, measured_sizes, AreMeasured}
+use Rattle.textwrap_base.specs.LineCosts.{measured, AreMeasured}
 use Rattle.textwrap_base.specs.Minima.{Costs}
 use Rattle.textwrap_base.specs.Table.{line_costs, fragment_costs}
 use Rattle.textwrap_base.specs.declared.minima.line_costs.Measure.{Measure}
 use Rattle.textwrap_base.specs.declared.penalties.Penalties.{Penalties}
+use Rattle.textwrap_base.proofs.Division.Greedy.{open_width-cons, open_width-append, closed_width-push, closed_width-map}
 
-module _ {X : Type 0} (sizes : X → Sizes) where
-  pub open_width-cons : (x : X) (xs : List X) → open_width sizes (x ∷ xs) ≡ (sizes x).width + (sizes x).whitespace + open_width sizes xs
-  open_width-cons x xs = sum_by-cons (λ (y : X). (sizes y).width + (sizes y).whitespace) x xs
+abbrev pub measured_sizes : Measure → Sizes
+measured_sizes m = (measured m).sizes
 
-  pub open_width-append : (xs ys : List X) → open_width sizes (xs ++ ys) ≡ open_width sizes xs + open_width sizes ys
-  open_width-append xs ys = sum_by-append (λ (y : X). (sizes y).width + (sizes y).whitespace) xs ys
-
+module _ {X : Type 0} (priced : X → PricedSizes) where
   -- ---- a line by its last fragment
 
-  pub closed_width-push : (xs : List X) (x : X) → closed_width sizes (xs ++ x ∷ []) ≡ open_width sizes xs + (sizes x).width + (sizes x).penalty
-  closed_width-push [] x = omega arith
-  closed_width-push (y ∷ []) x = omega arith
-  closed_width-push (y ∷ z ∷ xs) x =
-      let e = open_width-cons y (z ∷ xs) in
-      let h = closed_width-push (z ∷ xs) x in omega (arith, e, h)
-
-  pub last_penalty-push : (xs : List X) (x : X) → last_penalty sizes (xs ++ x ∷ []) ≡ (sizes x).penalty
-  last_penalty-push [] x = refl
-  last_penalty-push (y ∷ []) x = refl
-  last_penalty-push (y ∷ z ∷ xs) x = last_penalty-push (z ∷ xs) x
+  pub last_break_cost-push : (xs : List X) (x : X) → last_break_cost priced (xs ++ x ∷ []) ≡ (priced x).break_cost
+  last_break_cost-push [] x = refl
+  last_break_cost-push (y ∷ []) x = refl
+  last_break_cost-push (y ∷ z ∷ xs) x = last_break_cost-push (z ∷ xs) x
 
   pub line_cost-push : (penalties : Penalties) (width : ℕ) (is_last : Bool) (xs : List X) (x : X)
-      → line_cost sizes penalties width is_last (xs ++ x ∷ [])
-      ≡ penalties.nline_penalty + fit_cost penalties (target width) (closed_width sizes (xs ++ x ∷ [])) is_last (eqb (length (xs ++ x ∷ [])) 1) + break_cost penalties (sizes x).penalty
+      → line_cost priced penalties width is_last (xs ++ x ∷ [])
+      ≡ penalties.nline_penalty + fit_cost penalties (target width) (closed_width (λ y. (priced y).sizes) (xs ++ x ∷ [])) is_last (eqb (length (xs ++ x ∷ [])) 1) + (priced x).break_cost
   line_cost-push penalties width is_last [] x = refl
   line_cost-push penalties width is_last (y ∷ xs) x =
-      ap (λ n. penalties.nline_penalty + fit_cost penalties (target width) (closed_width sizes (y ∷ (xs ++ x ∷ []))) is_last (eqb (length (y ∷ (xs ++ x ∷ []))) 1) + break_cost penalties n) (last_penalty-push (y ∷ xs) x)
+      ap (λ n. penalties.nline_penalty + fit_cost penalties (target width) (closed_width (λ y. (priced y).sizes) (y ∷ (xs ++ x ∷ []))) is_last (eqb (length (y ∷ (xs ++ x ∷ []))) 1) + n) (last_break_cost-push (y ∷ xs) x)
 
 -- ---- a part of a list
 
@@ -72,16 +64,17 @@ length-slice xs i j l = length-take (j - i) (drop i xs) ∙ (let e = length-drop
 single_is : (i k : ℕ) → i ≤ k → eqb (k + 1 - i) 1 ≡ eqb (k + 1) (i + 1)
 single_is i k h = grind (arith, nat_tests)
 
-pub line_cost-slice : {X : Type 0} (sizes : X → Sizes) (penalties : Penalties) (width : ℕ) (is_last : Bool) (xs : List X) (i k : ℕ) (d : X) → i ≤ k → k < length xs
-    → line_cost sizes penalties width is_last (slice_range xs i (k + 1))
-    ≡ penalties.nline_penalty + fit_cost penalties (target width) (closed_width sizes (slice_range xs i (k + 1))) is_last (eqb (k + 1) (i + 1)) + break_cost penalties (sizes (get_or xs k d)).penalty
-line_cost-slice {X = X} sizes penalties width is_last xs i k d h l =
+pub line_cost-slice : {X : Type 0} (priced : X → PricedSizes) (penalties : Penalties) (width : ℕ) (is_last : Bool) (xs : List X) (i k : ℕ) (d : X) → i ≤ k → k < length xs
+    → line_cost priced penalties width is_last (slice_range xs i (k + 1))
+    ≡ penalties.nline_penalty + fit_cost penalties (target width) (closed_width (λ x. (priced x).sizes) (slice_range xs i (k + 1))) is_last (eqb (k + 1) (i + 1)) + (priced (get_or xs k d)).break_cost
+line_cost-slice {X = X} priced penalties width is_last xs i k d h l =
     let e = slice_push xs i k d h l in
     let len = length-slice xs i (k + 1) (omega arith) in
-    ap (line_cost sizes penalties width is_last) e
-    ∙ line_cost-push sizes penalties width is_last (slice_range xs i k) (get_or xs k d)
-    ∙ ap (λ (line : List X). penalties.nline_penalty + fit_cost penalties (target width) (closed_width sizes line) is_last (eqb (length line) 1) + break_cost penalties (sizes (get_or xs k d)).penalty) (sym e)
-    ∙ ap (λ (single : Bool). penalties.nline_penalty + fit_cost penalties (target width) (closed_width sizes (slice_range xs i (k + 1))) is_last single + break_cost penalties (sizes (get_or xs k d)).penalty)
+    let sizes : X → Sizes = λ x. (priced x).sizes in
+    ap (line_cost priced penalties width is_last) e
+    ∙ line_cost-push priced penalties width is_last (slice_range xs i k) (get_or xs k d)
+    ∙ ap (λ (line : List X). penalties.nline_penalty + fit_cost penalties (target width) (closed_width sizes line) is_last (eqb (length line) 1) + (priced (get_or xs k d)).break_cost) (sym e)
+    ∙ ap (λ (single : Bool). penalties.nline_penalty + fit_cost penalties (target width) (closed_width sizes (slice_range xs i (k + 1))) is_last single + (priced (get_or xs k d)).break_cost)
     (ap (λ n. eqb n 1) len ∙ single_is i k h)
 
 -- ---- the sizes alone
@@ -96,47 +89,44 @@ module _ {X : Type 0} (sizes : X → Sizes) where
   pub total_width-cons : (x : X) (xs : List X) → total_width sizes (x ∷ xs) ≡ (sizes x).width + (sizes x).whitespace + (sizes x).penalty + total_width sizes xs
   total_width-cons x xs = sum_by-cons (λ (y : X). (sizes y).width + (sizes y).whitespace + (sizes y).penalty) x xs
 
-  pub closed_width-map : (xs : List X) → closed_width (λ (s : Sizes). s) (map sizes xs) ≡ closed_width sizes xs
-  closed_width-map [] = refl
-  closed_width-map (x ∷ []) = refl
-  closed_width-map (x ∷ y ∷ xs) = ap (λ n. (sizes x).width + (sizes x).whitespace + n) (closed_width-map (y ∷ xs))
-
-  pub last_penalty-map : (xs : List X) → last_penalty (λ (s : Sizes). s) (map sizes xs) ≡ last_penalty sizes xs
-  last_penalty-map [] = refl
-  last_penalty-map (x ∷ []) = refl
-  last_penalty-map (x ∷ y ∷ xs) = last_penalty-map (y ∷ xs)
-
 pub total_width-map : {X : Type 0} (sizes : X → Sizes) (xs : List X) → total_width (λ (s : Sizes). s) (map sizes xs) ≡ total_width sizes xs
 total_width-map sizes [] = refl
 total_width-map sizes (x ∷ xs) =
     let h = total_width-map sizes xs in
     total_width-cons (λ (s : Sizes). s) (sizes x) (map sizes xs) ∙ ap (λ n. (sizes x).width + (sizes x).whitespace + (sizes x).penalty + n) h ∙ sym (total_width-cons sizes x xs)
 
-pub line_cost-map : {X : Type 0} (sizes : X → Sizes) (penalties : Penalties) (width : ℕ) (is_last : Bool) (line : List X)
-    → line_cost (λ (s : Sizes). s) penalties width is_last (map sizes line) ≡ line_cost sizes penalties width is_last line
-line_cost-map sizes penalties width is_last [] = refl
-line_cost-map sizes penalties width is_last (x ∷ line) =
-    let c = closed_width-map sizes (x ∷ line) in
-    let p = last_penalty-map sizes (x ∷ line) in
-    let n = length-map line sizes in
-    ap (λ n. penalties.nline_penalty + fit_cost penalties (target width) n is_last (eqb (suc (length (map sizes line))) 1) + break_cost penalties (last_penalty (λ (s : Sizes). s) (map sizes (x ∷ line)))) c
-    ∙ ap (λ n. penalties.nline_penalty + fit_cost penalties (target width) (closed_width sizes (x ∷ line)) is_last (eqb (suc n) 1) + break_cost penalties (last_penalty (λ (s : Sizes). s) (map sizes (x ∷ line)))) n
-    ∙ ap (λ n. penalties.nline_penalty + fit_cost penalties (target width) (closed_width sizes (x ∷ line)) is_last (eqb (suc (length line)) 1) + break_cost penalties n) p
+-- ---- the priced sizes alone
+
+pub last_break_cost-map : {X : Type 0} (priced : X → PricedSizes) (xs : List X) → last_break_cost (λ (p : PricedSizes). p) (map priced xs) ≡ last_break_cost priced xs
+last_break_cost-map priced [] = refl
+last_break_cost-map priced (x ∷ []) = refl
+last_break_cost-map priced (x ∷ y ∷ xs) = last_break_cost-map priced (y ∷ xs)
+
+pub line_cost-map : {X : Type 0} (priced : X → PricedSizes) (penalties : Penalties) (width : ℕ) (is_last : Bool) (line : List X)
+    → line_cost (λ (p : PricedSizes). p) penalties width is_last (map priced line) ≡ line_cost priced penalties width is_last line
+line_cost-map priced penalties width is_last [] = refl
+line_cost-map priced penalties width is_last (x ∷ line) =
+    let closed = closed_width-map priced (λ (y : PricedSizes). y.sizes) (x ∷ line) in
+    let end = last_break_cost-map priced (x ∷ line) in
+    let len = length-map line priced in
+    ap (λ n. penalties.nline_penalty + fit_cost penalties (target width) n is_last (eqb (suc (length (map priced line))) 1) + last_break_cost (λ (p : PricedSizes). p) (map priced (x ∷ line))) closed
+    ∙ ap (λ n. penalties.nline_penalty + fit_cost penalties (target width) (closed_width (λ y. (priced y).sizes) (x ∷ line)) is_last (eqb (suc n) 1) + last_break_cost (λ (p : PricedSizes). p) (map priced (x ∷ line))) len
+    ∙ ap (λ n. penalties.nline_penalty + fit_cost penalties (target width) (closed_width (λ y. (priced y).sizes) (x ∷ line)) is_last (eqb (suc (length line)) 1) + n) end
 
 pub slice-map : {X Y : Type 0} (f : X → Y) (xs : List X) (i j : ℕ) → slice_range (map f xs) i j ≡ map f (slice_range xs i j)
 slice-map f xs i j = ap (take (j - i)) (drop-map f i xs) ∙ take-map f (j - i) (drop i xs)
 
-pub line_costs-at : {X : Type 0} (sizes : X → Sizes) (penalties : Penalties) (widths : List ℕ) (xs : List X) (i j number : ℕ)
-    → line_costs (λ (s : Sizes). s) penalties widths (map sizes xs) i j number ≡ line_costs sizes penalties widths xs i j number
-line_costs-at sizes penalties widths xs i j number =
-    ap (λ n. line_cost (λ (s : Sizes). s) penalties (line_width widths number) (eqb j n) (slice_range (map sizes xs) i j)) (length-map xs sizes)
-    ∙ ap (λ line. line_cost (λ (s : Sizes). s) penalties (line_width widths number) (eqb j (length xs)) line) (slice-map sizes xs i j)
-    ∙ line_cost-map sizes penalties (line_width widths number) (eqb j (length xs)) (slice_range xs i j)
+pub line_costs-at : {X : Type 0} (priced : X → PricedSizes) (penalties : Penalties) (widths : List ℕ) (xs : List X) (i j number : ℕ)
+    → line_costs (λ (s : PricedSizes). s) penalties widths (map priced xs) i j number ≡ line_costs priced penalties widths xs i j number
+line_costs-at priced penalties widths xs i j number =
+    ap (λ n. line_cost (λ (s : PricedSizes). s) penalties (line_width widths number) (eqb j n) (slice_range (map priced xs) i j)) (length-map xs priced)
+    ∙ ap (λ line. line_cost (λ (s : PricedSizes). s) penalties (line_width widths number) (eqb j (length xs)) line) (slice-map priced xs i j)
+    ∙ line_cost-map priced penalties (line_width widths number) (eqb j (length xs)) (slice_range xs i j)
 
--- the costs of the sizes are those of the fragments
-pub line_costs-map : {X : Type 0} (sizes : X → Sizes) (penalties : Penalties) (widths : List ℕ) (xs : List X)
-    → line_costs (λ (s : Sizes). s) penalties widths (map sizes xs) ≡ line_costs sizes penalties widths xs
-line_costs-map sizes penalties widths xs = fun_ext (λ i. fun_ext (λ j. fun_ext (λ number. line_costs-at sizes penalties widths xs i j number)))
+-- the costs of the priced sizes are those of the fragments
+pub line_costs-map : {X : Type 0} (priced : X → PricedSizes) (penalties : Penalties) (widths : List ℕ) (xs : List X)
+    → line_costs (λ (s : PricedSizes). s) penalties widths (map priced xs) ≡ line_costs priced penalties widths xs
+line_costs-map priced penalties widths xs = fun_ext (λ i. fun_ext (λ j. fun_ext (λ number. line_costs-at priced penalties widths xs i j number)))
 
 -- ---- measures
 
@@ -163,6 +153,14 @@ measured_closed ms i k d h l m =
 
 -- ---- measures of fragments
 
+pub map-map : {X Y Z : Type 0} (f : X → Y) (g : Y → Z) (xs : List X) → map (λ x. g (f x)) xs ≡ map g (map f xs)
+map-map f g [] = refl
+map-map f g (x ∷ xs) = ap (λ l. g (f x) ∷ l) (map-map f g xs)
+
+pub sizes-same : {X Y : Type 0} (priced : X → PricedSizes) (others : Y → PricedSizes) (xs : List X) (ys : List Y) → map priced xs ≡ map others ys
+    → map (λ x. (priced x).sizes) xs ≡ map (λ y. (others y).sizes) ys
+sizes-same priced others xs ys e = map-map priced (λ (p : PricedSizes). p.sizes) xs ∙ ap (map (λ (p : PricedSizes). p.sizes)) e ∙ sym (map-map others (λ (p : PricedSizes). p.sizes) ys)
+
 -- equal sizes have equal widths
 pub open_width-same : {X Y : Type 0} (sizes : X → Sizes) (others : Y → Sizes) (xs : List X) (ys : List Y) → map sizes xs ≡ map others ys → open_width sizes xs ≡ open_width others ys
 open_width-same sizes others xs ys e = sym (open_width-map sizes xs) ∙ ap (open_width (λ (s : Sizes). s)) e ∙ open_width-map others ys
@@ -188,18 +186,18 @@ before_more ms m all now i d l = more_by (cases_eq i (length ms))
 
 -- what the code adds up is the cost of the line
 pub line_cost-measured : (penalties : Penalties) (width : ℕ) (ms : List Measure) (i j : ℕ) (d : Measure) → i < j → j ≤ length ms
-    → line_cost measured_sizes penalties width (eqb j (length ms)) (slice_range ms i j)
-    ≡ penalties.nline_penalty + fit_cost penalties (target width) (closed_width measured_sizes (slice_range ms i j)) (eqb j (length ms)) (eqb j (i + 1)) + break_cost penalties (get_or ms (j - 1) d).penalty
+    → line_cost measured penalties width (eqb j (length ms)) (slice_range ms i j)
+    ≡ penalties.nline_penalty + fit_cost penalties (target width) (closed_width measured_sizes (slice_range ms i j)) (eqb j (length ms)) (eqb j (i + 1)) + (get_or ms (j - 1) d).break_cost
 line_cost-measured penalties width ms i j d h l =
     let same : j - 1 + 1 ≡ j = omega arith in
-    rw same at (line_cost-slice measured_sizes penalties width (eqb j (length ms)) ms i (j - 1) d (omega arith) (omega arith))
+    rw same at (line_cost-slice measured penalties width (eqb j (length ms)) ms i (j - 1) d (omega arith) (omega arith))
 
-pub fragment_costs-map : {X : Type 0} (sizes : X → Sizes) (penalties : Penalties) (widths : List ℕ) (xs : List X)
-    → fragment_costs (λ (s : Sizes). s) penalties widths (map sizes xs) ≡ fragment_costs sizes penalties widths xs
-fragment_costs-map sizes penalties widths xs =
-    let with_ends : ℕ → Costs = λ n. record { ends = n; cost = line_costs (λ (s : Sizes). s) penalties widths (map sizes xs) } in
+pub fragment_costs-map : {X : Type 0} (priced : X → PricedSizes) (penalties : Penalties) (widths : List ℕ) (xs : List X)
+    → fragment_costs (λ (s : PricedSizes). s) penalties widths (map priced xs) ≡ fragment_costs priced penalties widths xs
+fragment_costs-map priced penalties widths xs =
+    let with_ends : ℕ → Costs = λ n. record { ends = n; cost = line_costs (λ (s : PricedSizes). s) penalties widths (map priced xs) } in
     let with_cost : (ℕ → ℕ → ℕ → ℕ) → Costs = λ cost. record { ends = length xs; cost = cost } in
-    ap with_ends (length-map xs sizes) ∙ ap with_cost (line_costs-map sizes penalties widths xs)
+    ap with_ends (length-map xs priced) ∙ ap with_cost (line_costs-map priced penalties widths xs)
 
 -- ---- one line of a beginning keeps to 128 bits where all widths keep to 64
 
@@ -229,16 +227,26 @@ fit_cost-le p t closed is_last is_single h k l =
       ]
     ]
 
-break_cost-le : (p : Penalties) (width : ℕ) → Are64Bits p → break_cost p width < 2 ^ 64
-break_cost-le p width h = let k = h.hyphen in elim (ltb 0 width) as (λ b. (if b then p.hyphen_penalty else 0) < 2 ^ 64) [ true ↦ k | false ↦ omega arith ]
+-- the hyphen penalty keeps to 64 bits, and so does what a fragment costs by it
+priced_at-fits : (p : Penalties) (sizes : Sizes) → Are64Bits p → (priced_at p sizes).break_cost < 2 ^ 64
+priced_at-fits p sizes h = let k = h.hyphen in elim (ltb 0 sizes.penalty) as (λ b. (if b then p.hyphen_penalty else 0) < 2 ^ 64) [ true ↦ k | false ↦ omega arith ]
 
-pub line_cost-fits : {X : Type 0} (sizes : X → Sizes) (p : Penalties) (width : ℕ) (is_last : Bool) (line : List X) → Are64Bits p → width < 2 ^ 64 → total_width sizes line < 2 ^ 64
-    → line_cost sizes p width is_last line < 2 ^ 128
-line_cost-fits sizes p width is_last [] h k l = omega arith
-line_cost-fits sizes p width is_last (x ∷ line) h k l =
-    let closed = closed_width-le sizes (x ∷ line) in
-    let fit = fit_cost-le p (target width) (closed_width sizes (x ∷ line)) is_last (eqb (length (x ∷ line)) 1) h (omega arith) (omega arith) in
-    let end = break_cost-le p (last_penalty sizes (x ∷ line)) h in
+pub priced_at-all_fit : {X : Type 0} (p : Penalties) (sizes : X → Sizes) (xs : List X) → Are64Bits p → All (λ x. (priced_at p (sizes x)).break_cost < 2 ^ 64) xs
+priced_at-all_fit p sizes [] h = All-nil (λ x. (priced_at p (sizes x)).break_cost < 2 ^ 64)
+priced_at-all_fit p sizes (x ∷ xs) h = All-cons (λ x. (priced_at p (sizes x)).break_cost < 2 ^ 64) x xs (priced_at-fits p (sizes x) h) (priced_at-all_fit p sizes xs h)
+
+last_break_cost-fits : {X : Type 0} (priced : X → PricedSizes) (line : List X) → All (λ x. (priced x).break_cost < 2 ^ 64) line → last_break_cost priced line < 2 ^ 64
+last_break_cost-fits priced [] all = omega arith
+last_break_cost-fits priced (x ∷ []) all = All-head (λ x. (priced x).break_cost < 2 ^ 64) x [] all
+last_break_cost-fits priced (x ∷ y ∷ line) all = last_break_cost-fits priced (y ∷ line) (All-tail (λ x. (priced x).break_cost < 2 ^ 64) x (y ∷ line) all)
+
+pub line_cost-fits : {X : Type 0} (priced : X → PricedSizes) (p : Penalties) (width : ℕ) (is_last : Bool) (line : List X) → Are64Bits p → All (λ x. (priced x).break_cost < 2 ^ 64) line → width < 2 ^ 64
+    → total_width (λ x. (priced x).sizes) line < 2 ^ 64 → line_cost priced p width is_last line < 2 ^ 128
+line_cost-fits priced p width is_last [] h breaks k l = omega arith
+line_cost-fits priced p width is_last (x ∷ line) h breaks k l =
+    let closed = closed_width-le (λ y. (priced y).sizes) (x ∷ line) in
+    let fit = fit_cost-le p (target width) (closed_width (λ y. (priced y).sizes) (x ∷ line)) is_last (eqb (length (x ∷ line)) 1) h (omega arith) (omega arith) in
+    let end = last_break_cost-fits priced (x ∷ line) breaks in
     let each = h.nline in omega (arith, fit, end, each)
 
 pub total_width-take : {X : Type 0} (sizes : X → Sizes) (xs : List X) (j : ℕ) → total_width sizes (take j xs) ≤ total_width sizes xs

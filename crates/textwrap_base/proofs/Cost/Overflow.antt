@@ -1,8 +1,8 @@
 -- Where the table of fragments overflows, and where it does not.
-use Rattle.std.proofs.Common.{◌≡◌, ℕ, zero, suc, ◌-◌, ◌^◌, ◌<◌, ◌≤◌, eqb, List, length, get_or, take, min, ap, arith, Result, Ok, Err, IsErrAnd}
-use Rattle.textwrap_base.specs.Sizes.{Sizes}
+use Rattle.std.proofs.Common.{◌≡◌, ℕ, zero, suc, ◌-◌, ◌^◌, ◌<◌, ◌≤◌, eqb, List, length, get_or, take, min, All, ap, arith, Result, Ok, Err, IsErrAnd}
+use Rattle.std.proofs.lemmas.List.Elements.{All-take}
 use Rattle.textwrap_base.specs.Division.{line_width}
-use Rattle.textwrap_base.specs.Cost.{total_width}
+use Rattle.textwrap_base.specs.Cost.{PricedSizes, total_width}
 use Rattle.textwrap_base.specs.Penalties.{Are64Bits}
 use Rattle.textwrap_base.specs.Errors.{Overflowed}
 use Rattle.textwrap_base.specs.Table.{entry_at, table, line_costs, fragments_table}
@@ -22,13 +22,13 @@ one_line cost n j l =
     let least' = rw first at least in omega (arith, least')
 
 -- where all widths together keep to 64 bits, each entry keeps to 128
-pub table-fits : {X : Type 0} (sizes : X → Sizes) (p : Penalties) (widths : List ℕ) (xs : List X) → Are64Bits p → ((i : ℕ) → get_or widths i 0 < 2 ^ 64) → total_width sizes xs < 2 ^ 64
-    → (j : ℕ) → j ≤ length xs → (entry_at (fragments_table sizes p widths xs) j).cost < 2 ^ 128
-table-fits sizes p widths xs h k l zero b = let e = ap (λ (x : Entry). x.cost) (entry-table_first (line_costs sizes p widths xs) (length xs)) in omega (arith, e)
-table-fits sizes p widths xs h k l (suc j) b =
-    let one = one_line (line_costs sizes p widths xs) (length xs) j b in
-    let part = total_width-take sizes xs (suc j - 0) in
-    let fits = line_cost-fits sizes p (line_width widths 0) (eqb (suc j) (length xs)) (take (suc j - 0) xs) h (k (min 0 (length widths - 1))) (omega arith) in
+pub table-fits : {X : Type 0} (priced : X → PricedSizes) (p : Penalties) (widths : List ℕ) (xs : List X) → Are64Bits p → All (λ x. (priced x).break_cost < 2 ^ 64) xs → ((i : ℕ) → get_or widths i 0 < 2 ^ 64) → total_width (λ x. (priced x).sizes) xs < 2 ^ 64
+    → (j : ℕ) → j ≤ length xs → (entry_at (fragments_table priced p widths xs) j).cost < 2 ^ 128
+table-fits priced p widths xs h breaks k l zero b = let e = ap (λ (x : Entry). x.cost) (entry-table_first (line_costs priced p widths xs) (length xs)) in omega (arith, e)
+table-fits priced p widths xs h breaks k l (suc j) b =
+    let one = one_line (line_costs priced p widths xs) (length xs) j b in
+    let part = total_width-take (λ x. (priced x).sizes) xs (suc j - 0) in
+    let fits = line_cost-fits priced p (line_width widths 0) (eqb (suc j) (length xs)) (take (suc j - 0) xs) h (All-take (λ x. (priced x).break_cost < 2 ^ 64) (suc j - 0) xs breaks) (k (min 0 (length widths - 1))) (omega arith) in
     omega (arith, one, fits)
 
 -- an error that is passed on

@@ -1,8 +1,7 @@
 -- Only one division is the chosen one.
 use Rattle.std.proofs.Common.{◌≡◌, ℕ, ◌+◌, inl, inr, List, [], ◌∷◌, length, get_or, take, drop, reverse, refl, sym, ◌∙◌, ap, arith}
 use Rattle.std.proofs.lemmas.List.{append-nil, reverse-reverse, take_at, drop_at}
-use Rattle.textwrap_base.specs.Sizes.{Sizes}
-use Rattle.textwrap_base.specs.Cost.{starts_from, starts_back, AreNoLater, IsChosen}
+use Rattle.textwrap_base.specs.Cost.{PricedSizes, starts_from, starts_back, AreNoLater, IsChosen}
 use Rattle.textwrap_base.specs.declared.penalties.Penalties.{Penalties}
 use Rattle.textwrap_base.proofs.Cost.Lines.{joined}
 
@@ -35,10 +34,10 @@ lines_same (l ∷ m ∷ lines) (o ∷ p ∷ others) at s j =
     let next = lines_same (m ∷ lines) (p ∷ others) (at + length l) (t ∙ ap (λ k. starts_from k (p ∷ others)) (let e : at + length o ≡ at + length l = omega arith in e)) rest in
     ap (λ x. x ∷ (m ∷ lines)) first ∙ ap (λ x. o ∷ x) next
 
-pub chosen_one : {X : Type 0} (sizes : X → Sizes) (penalties : Penalties) (widths : List ℕ) (xs : List X) (lines others : List (List X))
-    → IsChosen sizes penalties widths xs lines → IsChosen sizes penalties widths xs others → lines ≡ others
-chosen_one sizes penalties widths [] lines others h k = h.division ∙ sym k.division
-chosen_one sizes penalties widths (x ∷ xs) lines others h k =
+pub chosen_one : {X : Type 0} (priced : X → PricedSizes) (penalties : Penalties) (widths : List ℕ) (xs : List X) (lines others : List (List X))
+    → IsChosen priced penalties widths xs lines → IsChosen priced penalties widths xs others → lines ≡ others
+chosen_one priced penalties widths [] lines others h k = h.division ∙ sym k.division
+chosen_one priced penalties widths (x ∷ xs) lines others h k =
     let p = h.least others k.division in
     let q = k.least lines h.division in
     let back = starts_same (starts_back lines) (starts_back others) (h.earliest others k.division (omega arith)) (k.earliest lines h.division (omega arith)) in

@@ -1,26 +1,26 @@
 -- Lemmas on the widths of lines and on divisions.
-use Rattle.std.proofs.Common.{◌≡◌, ◌≢◌, ℕ, suc, ◌+◌, ◌<◌, ◌≤◌, List, [], ◌∷◌, ◌++◌, length, get_or, take, drop, refl, sym, ap, ◌∙◌, subst, arith, ⊎_elim, add-zero, length-drop, take-append-drop, All}
+use Rattle.std.proofs.Common.{◌≡◌, ◌≢◌, ℕ, suc, ◌+◌, ◌<◌, ◌≤◌, List, [], ◌∷◌, ◌++◌, length, get_or, map, take, drop, refl, sym, ap, ◌∙◌, subst, arith, ⊎_elim, add-zero, length-drop, take-append-drop, All}
 use Rattle.std.specs.List.{flat_map}
 use Rattle.std.proofs.lemmas.List.{take_all, take_more, take-append-le, length_push, length-take-le, nil_from_length, get_or-drop}
 use Rattle.std.proofs.lemmas.List.Elements.{All-nil, All-cons, All-head}
+use Rattle.std.proofs.lemmas.List.Sums.{sum_by-cons, sum_by-append}
 use Rattle.std.proofs.lemmas.Bool.{cases_lt}
 use Rattle.textwrap_base.specs.Sizes.{Sizes}
-use Rattle.textwrap_base.specs.Division.{line_width, closed_width, Fits, AllFit, AllFull, IsGreedy}
+use Rattle.textwrap_base.specs.Division.{line_width, closed_width, open_width, Fits, AllFit, AllFull, IsGreedy}
 
 module _ {X : Type 0} (sizes : X → Sizes) where
-  -- what a line takes that goes on after its last fragment
-  abbrev pub open_width : List X → ℕ
-  open_width [] = 0
-  open_width (x ∷ xs) = (sizes x).width + (sizes x).whitespace + open_width xs
+  pub open_width-cons : (x : X) (xs : List X) → open_width sizes (x ∷ xs) ≡ (sizes x).width + (sizes x).whitespace + open_width sizes xs
+  open_width-cons x xs = sum_by-cons (λ (y : X). (sizes y).width + (sizes y).whitespace) x xs
 
-  pub open_width-push : (xs : List X) (x : X) → open_width (xs ++ x ∷ []) ≡ open_width xs + ((sizes x).width + (sizes x).whitespace)
-  open_width-push [] x = omega arith
-  open_width-push (y ∷ ys) x = omega (arith, open_width-push ys x)
+  pub open_width-append : (xs ys : List X) → open_width sizes (xs ++ ys) ≡ open_width sizes xs + open_width sizes ys
+  open_width-append xs ys = sum_by-append (λ (y : X). (sizes y).width + (sizes y).whitespace) xs ys
 
-  pub closed_width-push : (xs : List X) (x : X) → closed_width sizes (xs ++ x ∷ []) ≡ open_width xs + ((sizes x).width + (sizes x).penalty)
+  pub closed_width-push : (xs : List X) (x : X) → closed_width sizes (xs ++ x ∷ []) ≡ open_width sizes xs + (sizes x).width + (sizes x).penalty
   closed_width-push [] x = omega arith
   closed_width-push (y ∷ []) x = omega arith
-  closed_width-push (y ∷ z ∷ ys) x = omega (arith, closed_width-push (z ∷ ys) x)
+  closed_width-push (y ∷ z ∷ xs) x =
+      let e = open_width-cons y (z ∷ xs) in
+      let h = closed_width-push (z ∷ xs) x in omega (arith, e, h)
 
   -- a line that fits takes one more fragment, if that is its first or it closes within the width
   Fits-push : (width : ℕ) (xs : List X) (x : X) → Fits sizes width xs → (0 < length xs → closed_width sizes (xs ++ x ∷ []) ≤ width) → Fits sizes width (xs ++ x ∷ [])
@@ -40,11 +40,12 @@ module _ {X : Type 0} (sizes : X → Sizes) where
   take_one_more xs i x within is = take_more xs i x within ∙ ap (λ y. take i xs ++ y ∷ []) (sym is)
 
   pub open_width-take : (xs : List X) (i : ℕ) (x : X) → i < length xs → x ≡ get_or xs i x
-      → open_width (take (i + 1) xs) ≡ open_width (take i xs) + ((sizes x).width + (sizes x).whitespace)
-  open_width-take xs i x within is = ap open_width (take_one_more xs i x within is) ∙ open_width-push (take i xs) x
+      → open_width sizes (take (i + 1) xs) ≡ open_width sizes (take i xs) + ((sizes x).width + (sizes x).whitespace)
+  open_width-take xs i x within is =
+      let more = ap (open_width sizes) (take_one_more xs i x within is) ∙ open_width-append (take i xs) (x ∷ []) in omega (arith, more)
 
   pub closed_width-take : (xs : List X) (i : ℕ) (x : X) → i < length xs → x ≡ get_or xs i x
-      → closed_width sizes (take (i + 1) xs) ≡ open_width (take i xs) + ((sizes x).width + (sizes x).penalty)
+      → closed_width sizes (take (i + 1) xs) ≡ open_width sizes (take i xs) + (sizes x).width + (sizes x).penalty
   closed_width-take xs i x within is = ap (closed_width sizes) (take_one_more xs i x within is) ∙ closed_width-push (take i xs) x
 
   pub Fits-take : (width : ℕ) (xs : List X) (i : ℕ) (x : X) → i < length xs → x ≡ get_or xs i x → Fits sizes width (take i xs)
@@ -54,6 +55,11 @@ module _ {X : Type 0} (sizes : X → Sizes) where
       let len : length (take i xs) ≡ i = length-take-le i xs (omega arith) in
       subst (Fits sizes width) (sym one_more)
       (Fits-push width (take i xs) x fits (λ some. subst (λ line. closed_width sizes line ≤ width) one_more (more (omega arith))))
+
+pub closed_width-map : {X Y : Type 0} (f : X → Y) (sizes : Y → Sizes) (xs : List X) → closed_width sizes (map f xs) ≡ closed_width (λ x. sizes (f x)) xs
+closed_width-map f sizes [] = refl
+closed_width-map f sizes (x ∷ []) = refl
+closed_width-map f sizes (x ∷ y ∷ xs) = ap (λ n. (sizes (f x)).width + (sizes (f x)).whitespace + n) (closed_width-map f sizes (y ∷ xs))
 
 -- a greedy division of the fragments that are left, from a line's number on; none are left by no lines
 pub record IsGreedyFrom {X : Type 0} (sizes : X → Sizes) (widths : List ℕ) (number : ℕ) (xs : List X) (lines : List (List X)) : Type 0 where

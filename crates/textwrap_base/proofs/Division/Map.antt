@@ -5,18 +5,15 @@ use Rattle.std.proofs.lemmas.List.{map-append, length-map, take-map}
 use Rattle.std.proofs.lemmas.List.Elements.{All-nil, All-cons, All-head, All-tail}
 use Rattle.textwrap_base.specs.Sizes.{Sizes}
 use Rattle.textwrap_base.specs.Division.{line_width, closed_width, IsDivision, Fits, AllFit, AllFull, IsGreedy}
+use Rattle.textwrap_base.specs.Cost.{priced_at}
 use Rattle.textwrap_base.specs.WrapAlgorithms.{Algorithm, Greedy, LeastCost, IsDividedBy}
+use Rattle.textwrap_base.proofs.Division.Greedy.{closed_width-map}
 use Rattle.textwrap_base.proofs.Cost.Map.{IsByOptimalFit-map}
 
 module _ {X Y : Type 0} (f : X → Y) (sizes : Y → Sizes) where
-  closed_width-map : (xs : List X) → closed_width sizes (map f xs) ≡ closed_width (λ x. sizes (f x)) xs
-  closed_width-map [] = refl
-  closed_width-map (x ∷ []) = refl
-  closed_width-map (x ∷ y ∷ xs) = ap (λ n. (sizes (f x)).width + (sizes (f x)).whitespace + n) (closed_width-map (y ∷ xs))
-
   Fits-map : (width : ℕ) (line : List X) → Fits (λ x. sizes (f x)) width line → Fits sizes width (map f line)
   Fits-map width line fits k two within =
-      subst (λ n. n ≤ width) (sym (ap (closed_width sizes) (take-map f k line) ∙ closed_width-map (take k line)))
+      subst (λ n. n ≤ width) (sym (ap (closed_width sizes) (take-map f k line) ∙ closed_width-map f sizes (take k line)))
       (fits k two (subst (λ n. k ≤ n) (length-map line f) within))
 
   AllFit-map : (widths : List ℕ) (number : ℕ) (lines : List (List X)) → AllFit (λ x. sizes (f x)) widths number lines → AllFit sizes widths number (map (map f) lines)
@@ -26,7 +23,7 @@ module _ {X Y : Type 0} (f : X → Y) (sizes : Y → Sizes) where
   full-map : (width : ℕ) (line next : List X) → width < closed_width (λ x. sizes (f x)) (line ++ take 1 next) → width < closed_width sizes (map f line ++ take 1 (map f next))
   full-map width line next full =
       subst (λ n. width < n)
-      (sym (ap (λ l. closed_width sizes (map f line ++ l)) (take-map f 1 next) ∙ ap (closed_width sizes) (sym (map-append f line (take 1 next))) ∙ closed_width-map (line ++ take 1 next)))
+      (sym (ap (λ l. closed_width sizes (map f line ++ l)) (take-map f 1 next) ∙ ap (closed_width sizes) (sym (map-append f line (take 1 next))) ∙ closed_width-map f sizes (line ++ take 1 next)))
       full
 
   AllFull-map : (widths : List ℕ) (number : ℕ) (lines : List (List X)) → AllFull (λ x. sizes (f x)) widths number lines → AllFull sizes widths number (map (map f) lines)
@@ -62,7 +59,7 @@ module _ {X Y : Type 0} (f : X → Y) (sizes : Y → Sizes) where
       → IsDividedBy algorithm sizes widths (map f xs) (map (map f) lines)
   IsDividedBy-map Greedy widths xs lines divided = IsGreedy-map widths xs lines divided
   IsDividedBy-map (LeastCost penalties) widths xs lines divided =
-      IsByOptimalFit-map f sizes penalties widths xs lines (IsDivision-map xs lines divided.by_table.division) divided
+      IsByOptimalFit-map f (λ y. priced_at penalties (sizes y)) penalties widths xs lines (IsDivision-map xs lines divided.by_table.division) divided
 
 -- the lines of a division are the fragments in order
 pub IsDivision-whole : {X : Type 0} (xs : List X) (lines : List (List X)) → IsDivision xs lines → flat_map (λ line. line) lines ≡ xs

@@ -7,7 +7,7 @@ use Rattle.std.proofs.lemmas.List.Elements.{All-nil, All-cons, All-head}
 use Rattle.unicode_width.specs.Width.{char_width}
 use Rattle.textwrap_base.specs.Sizes.{Sizes}
 use Rattle.textwrap_base.specs.Penalties.{default_penalties}
-use Rattle.textwrap_base.specs.Cost.{division_cost}
+use Rattle.textwrap_base.specs.Cost.{priced_at, division_cost}
 use Rattle.textwrap_base.specs.Division.{line_width, closed_width, AllFull, IsDivision, IsAdmissible, IsGreedy}
 use Rattle.textwrap_base.specs.Words.{sizes_of, words_of}
 use Rattle.textwrap_base.proofs.Division.Greedy.{IsGreedyFrom, IsGreedy-from}
@@ -165,7 +165,7 @@ IsGreedy-words = IsGreedy-from_test _ _ _ refl refl
 -- ---- what the lines of texts cost
 
 abbrev words_at : List ℕ → List ℕ → List (List ℕ) → ℕ
-words_at widths text lines = division_cost sizes_of default_penalties widths (length (words_of text)) (map words_of lines)
+words_at widths text lines = division_cost (λ w. priced_at default_penalties (sizes_of w)) default_penalties widths (length (words_of text)) (map words_of lines)
 
 cost-first_fit : words_at (10 ∷ []) (codes "To be, or not to be: that is the question") (codes "To be, or " ∷ codes "not to be: " ∷ codes "that is " ∷ codes "the " ∷ codes "question" ∷ []) ≡ 5059
 unfolding chars char_width
@@ -189,7 +189,7 @@ cost-library_later = refl
 
 -- two pieces on one line, or on two
 abbrev pieces_at : ℕ → List (List Sizes) → ℕ
-pieces_at width lines = division_cost itself default_penalties (width ∷ []) 2 lines
+pieces_at width lines = division_cost (priced_at default_penalties) default_penalties (width ∷ []) 2 lines
 
 cost-one_line : pieces_at 53 ((sized 3 1 0 ∷ sized 50 0 0 ∷ []) ∷ []) ≡ 3500
 cost-one_line = refl

@@ -1,10 +1,10 @@
 //! The line costs of fragments, from running sums of their widths.
-ghost use Rattle.std.specs.Prelude.{◌≡◌, ℕ, ◌+◌, ◌-◌, ◌*◌, ◌^◌, ◌<◌, ◌≤◌, length, map, max, IfOk, OnOk, SomeIff, ◌&&◌, nat_lt, ◌==◌, slice_range};
+ghost use Rattle.std.specs.Prelude.{◌≡◌, ℕ, ◌+◌, ◌-◌, ◌*◌, ◌^◌, ◌<◌, ◌≤◌, length, map, max, IfOk, OnOk, SomeIff, ◌&&◌, nat_lt, ◌==◌, if◌then◌else◌, slice_range};
 ghost use Rattle.textwrap_base.specs.Minima.{LineCostsView, counted};
-ghost use Rattle.textwrap_base.specs.Cost.{total_width, fit_cost, break_cost, line_cost, target};
+ghost use Rattle.textwrap_base.specs.Cost.{priced_at, total_width, fit_cost, line_cost, target};
 ghost use Rattle.textwrap_base.specs.Errors.{Overflowed};
 ghost use Rattle.textwrap_base.specs.Division.{line_width, closed_width};
-ghost use Rattle.textwrap_base.specs.LineCosts.{measured_sizes, AreMeasured};
+ghost use Rattle.textwrap_base.specs.LineCosts.{measured, AreMeasured};
 ghost use Rattle.textwrap_base.specs.Table.{fragment_costs, line_costs};
 
 use super::{CostSource, Steps};
@@ -15,13 +15,14 @@ use crate::wrap_algorithms::line_width;
 use std::alloc::{AllocError, Global};
 use std::marker::Model;
 
-/// A fragment's widths, and the widths and whitespace of all fragments before it.
+/// A fragment's widths and break cost, and the widths and whitespace of all fragments before it.
 #[derive(Clone, Copy)]
 struct Measure {
     before: u128,
     width: usize,
     whitespace: usize,
     penalty: usize,
+    break_cost: usize,
 }
 
 /// The costs of the lines of some fragments, at the line widths and penalties given, with a count
@@ -38,7 +39,7 @@ impl Model for LineCosts {
     ghost Value = { LineCostsView };
 
     ghost view = { λ s. record {
-      sizes = map measured_sizes s.measures.items;
+      priced = map measured s.measures.items;
       widths = s.line_widths.items;
       penalties = s.penalties;
       steps = s.steps;
@@ -60,7 +61,8 @@ impl LineCosts {
         penalties: &Penalties,
     ) -> Result<LineCosts, WrapError>
         ensures lines { IfOk result (λ costs. ⟦<LineCosts as CostSource>⟧.costs costs
-            ≡ fragment_costs T.sizes penalties.now line_widths.now fragments.now) }
+            ≡ fragment_costs (λ x. priced_at penalties.now (T.sizes x)) penalties.now
+            line_widths.now fragments.now) }
         ensures count { IfOk result (λ costs. ⟦<LineCosts as CostSource>⟧.steps costs ≡ 0) }
         ensures overflow_only { Overflowed result → 2 ^ 128 ≤ total_width T.sizes fragments.now }
         ensures too_wide { 2 ^ 128 ≤ total_width T.sizes fragments.now → Overflowed result }
@@ -69,7 +71,7 @@ impl LineCosts {
             return Err(WrapError::Overflow(OverflowError));
         }
         Ok(LineCosts {
-            measures: measures_of(alloc, fragments)?,
+            measures: measures_of(alloc, fragments, penalties)?,
             line_widths: Vec::from_slice(alloc, line_widths)?,
             penalties: *penalties,
             steps: Steps::new(),
@@ -85,7 +87,7 @@ impl LineCosts {
 }
 
 impl CostSource for LineCosts {
-    ghost costs = { λ s. fragment_costs (λ sizes. sizes) s.penalties s.widths s.sizes };
+    ghost costs = { λ s. fragment_costs (λ priced. priced) s.penalties s.widths s.priced };
 
     ghost steps = { λ s. s.steps };
 
@@ -118,7 +120,7 @@ fn line_cost(
     requires ordered { start < end }
     requires within { end ≤ length measures.now }
     requires measured { AreMeasured measures.now }
-    ensures { let cost = line_cost measured_sizes penalties.now line_width
+    ensures { let cost = line_cost measured penalties.now line_width
         (end == length measures.now) (slice_range measures.now start end)
         in SomeIff result (cost < 2 ^ 128) cost }
 {
@@ -127,7 +129,7 @@ fn line_cost(
         target: line_width.max(1),
         is_last: end == measures.len(),
         is_single: end == start + 1,
-        penalty: measures[end - 1].penalty,
+        break_cost: measures[end - 1].break_cost,
     };
     line.cost(penalties)
 }
@@ -139,7 +141,7 @@ struct CostedLine {
     target: usize,
     is_last: bool,
     is_single: bool,
-    penalty: usize,
+    break_cost: usize,
 }
 
 impl CostedLine {
@@ -147,16 +149,11 @@ impl CostedLine {
     fn cost(self, penalties: &Penalties) -> Option<u128>
         ensures { let cost = penalties.now.nline_penalty
             + fit_cost penalties.now self.target self.closed self.is_last self.is_single
-            + break_cost penalties.now self.penalty
+            + self.break_cost
             in SomeIff result (cost < 2 ^ 128) cost }
     {
-        let break_cost = if self.penalty > 0 {
-            penalties.hyphen_penalty
-        } else {
-            0
-        };
         let fit_cost = self.fit_cost(penalties)?;
-        fit_cost.checked_add(penalties.nline_penalty as u128 + break_cost as u128)
+        fit_cost.checked_add(penalties.nline_penalty as u128 + self.break_cost as u128)
     }
 
     /// The cost of missing the target, or `None` past 2^128-1.
@@ -186,7 +183,8 @@ fn closed_width(measures: &[Measure], start: usize, end: usize) -> u128
     requires ordered { start < end }
     requires within { end ≤ length measures.now }
     requires measured { AreMeasured measures.now }
-    ensures { result ≡ closed_width measured_sizes (slice_range measures.now start end) }
+    ensures { result ≡ closed_width (λ m. (measured m).sizes)
+        (slice_range measures.now start end) }
 {
     let last = measures[end - 1];
     last.before - measures[start].before + last.width as u128 + last.penalty as u128
@@ -208,11 +206,15 @@ fn total_width<T: Fragment>(fragments: &[T]) -> Option<u128>
 }
 
 /// The measures of the fragments.
-fn measures_of<T: Fragment>(alloc: Global, fragments: &[T]) -> Result<Vec<Measure>, AllocError>
+fn measures_of<T: Fragment>(
+    alloc: Global,
+    fragments: &[T],
+    penalties: &Penalties,
+) -> Result<Vec<Measure>, AllocError>
     requires { total_width T.sizes fragments.now < 2 ^ 128 }
     ensures measured { IfOk result (λ measures. AreMeasured measures.items) }
-    ensures sizes { IfOk result (λ measures.
-        map measured_sizes measures.items ≡ map T.sizes fragments.now) }
+    ensures priced { IfOk result (λ measures. map measured measures.items
+        ≡ map (λ x. priced_at penalties.now (T.sizes x)) fragments.now) }
 {
     let mut measures = Vec::new(alloc);
     let mut before = 0u128;
@@ -225,8 +227,20 @@ fn measures_of<T: Fragment>(alloc: Global, fragments: &[T]) -> Result<Vec<Measur
             width,
             whitespace,
             penalty,
+            break_cost: break_cost(penalties, penalty),
         })?;
         before += width as u128 + whitespace as u128;
     }
     Ok(measures)
+}
+
+/// What a line costs more that ends with a fragment of this penalty width.
+fn break_cost(penalties: &Penalties, penalty_width: usize) -> usize
+    ensures { result ≡ (if nat_lt 0 penalty_width then penalties.now.hyphen_penalty else 0) }
+{
+    if penalty_width > 0 {
+        penalties.hyphen_penalty
+    } else {
+        0
+    }
 }

@@ -1,7 +1,7 @@
 //! Optimal fit: the division of least cost.
 ghost use Rattle.std.specs.Prelude.{◌≡◌, ℕ, ◌+◌, ◌^◌, ◌<◌, ◌≤◌, length, map, slice_index, IfOk, OnOk};
 ghost use Rattle.textwrap_base.specs.Minima.{counted, table_steps};
-ghost use Rattle.textwrap_base.specs.Cost.{total_width, AreEqualFromSecond, IsChosen, Overflows};
+ghost use Rattle.textwrap_base.specs.Cost.{priced_at, total_width, AreEqualFromSecond, IsChosen, Overflows};
 ghost use Rattle.textwrap_base.specs.Errors.{Overflowed};
 ghost use Rattle.textwrap_base.specs.Division.{IsDivision};
 ghost use Rattle.textwrap_base.specs.Table.{fragments_table, TableOverflows, FollowStarts, IsByTable};
@@ -32,19 +32,19 @@ pub fn wrap_optimal_fit<'a, T: Fragment>(
     penalties: &Penalties,
 ) -> Result<Vec<&'a [T]>, WrapError>
     ensures chosen { AreEqualFromSecond line_widths.now → IfOk result (λ lines.
-        IsChosen T.sizes penalties.now line_widths.now fragments.now
+        IsChosen (λ x. priced_at penalties.now (T.sizes x)) penalties.now line_widths.now fragments.now
         (map (λ line. line.now) lines.items)) }
     ensures overflow_only { AreEqualFromSecond line_widths.now → Overflowed result
-        → Overflows T.sizes penalties.now line_widths.now fragments.now }
+        → Overflows (λ x. priced_at penalties.now (T.sizes x)) penalties.now line_widths.now fragments.now }
     ensures ok_only { AreEqualFromSecond line_widths.now → OnOk result
-        (¬ Overflows T.sizes penalties.now line_widths.now fragments.now) }
+        (¬ Overflows (λ x. priced_at penalties.now (T.sizes x)) penalties.now line_widths.now fragments.now) }
     ensures by_table { IfOk result (λ lines.
-        IsByTable T.sizes penalties.now line_widths.now fragments.now
+        IsByTable (λ x. priced_at penalties.now (T.sizes x)) penalties.now line_widths.now fragments.now
         (map (λ line. line.now) lines.items)) }
     ensures table_overflow_only { Overflowed result
-        → TableOverflows T.sizes penalties.now line_widths.now fragments.now }
+        → TableOverflows (λ x. priced_at penalties.now (T.sizes x)) penalties.now line_widths.now fragments.now }
     ensures table_ok_only { OnOk result
-        (¬ TableOverflows T.sizes penalties.now line_widths.now fragments.now) }
+        (¬ TableOverflows (λ x. priced_at penalties.now (T.sizes x)) penalties.now line_widths.now fragments.now) }
     ensures too_wide { 2 ^ 128 ≤ total_width T.sizes fragments.now → Overflowed result }
     ensures no_overflow { total_width T.sizes fragments.now < 2 ^ 64 → ¬ Overflowed result }
 {
@@ -65,19 +65,19 @@ pub fn wrap_optimal_fit_counted<'a, T: Fragment>(
     steps: &mut Steps,
 ) -> Result<Vec<&'a [T]>, WrapError>
     ensures chosen { AreEqualFromSecond line_widths.now → IfOk result (λ lines.
-        IsChosen T.sizes penalties.now line_widths.now fragments.now
+        IsChosen (λ x. priced_at penalties.now (T.sizes x)) penalties.now line_widths.now fragments.now
         (map (λ line. line.now) lines.items)) }
     ensures overflow_only { AreEqualFromSecond line_widths.now → Overflowed result
-        → Overflows T.sizes penalties.now line_widths.now fragments.now }
+        → Overflows (λ x. priced_at penalties.now (T.sizes x)) penalties.now line_widths.now fragments.now }
     ensures ok_only { AreEqualFromSecond line_widths.now → OnOk result
-        (¬ Overflows T.sizes penalties.now line_widths.now fragments.now) }
+        (¬ Overflows (λ x. priced_at penalties.now (T.sizes x)) penalties.now line_widths.now fragments.now) }
     ensures by_table { IfOk result (λ lines.
-        IsByTable T.sizes penalties.now line_widths.now fragments.now
+        IsByTable (λ x. priced_at penalties.now (T.sizes x)) penalties.now line_widths.now fragments.now
         (map (λ line. line.now) lines.items)) }
     ensures table_overflow_only { Overflowed result
-        → TableOverflows T.sizes penalties.now line_widths.now fragments.now }
+        → TableOverflows (λ x. priced_at penalties.now (T.sizes x)) penalties.now line_widths.now fragments.now }
     ensures table_ok_only { OnOk result
-        (¬ TableOverflows T.sizes penalties.now line_widths.now fragments.now) }
+        (¬ TableOverflows (λ x. priced_at penalties.now (T.sizes x)) penalties.now line_widths.now fragments.now) }
     ensures too_wide { 2 ^ 128 ≤ total_width T.sizes fragments.now → Overflowed result }
     ensures no_overflow { total_width T.sizes fragments.now < 2 ^ 64 → ¬ Overflowed result }
     ensures steps_ok { OnOk result

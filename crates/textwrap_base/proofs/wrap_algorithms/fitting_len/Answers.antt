@@ -1,6 +1,6 @@
 use Rattle.std.proofs.Common.{◌≡◌, ◌+◌, ◌<◌, ◌≤◌, take, ap, arith}
-use Rattle.textwrap_base.specs.Division.{closed_width}
-use Rattle.textwrap_base.proofs.Division.Greedy.{open_width, open_width-take, closed_width-take, Fits-take}
+use Rattle.textwrap_base.specs.Division.{open_width, closed_width}
+use Rattle.textwrap_base.proofs.Division.Greedy.{open_width-take, closed_width-take, Fits-take}
 use Rattle.textwrap_base.proofs.wrap_algorithms.fitting_len.Goals as goal
 use Rattle.textwrap_base.proofs.wrap_algorithms.fitting_len.Goals.{else-i-gt0-via-then-i-gt0+else-closed-line_width, else-i-gt0-via-else-i-gt0}
 

@@ -1,6 +1,5 @@
 use Rattle.std.proofs.Common.{◌≡◌, ◌<◌, ◌^◌, take}
-use Rattle.textwrap_base.specs.Division.{Fits}
-use Rattle.textwrap_base.proofs.Division.Greedy.{open_width}
+use Rattle.textwrap_base.specs.Division.{open_width, Fits}
 use Rattle.textwrap_base.proofs.wrap_algorithms.fitting_len.Given as goal
 
 abbrev pub invariant-loop-i : goal.invariant-loop-i

@@ -1,13 +1,15 @@
 use Rattle.std.proofs.Common.{arith, ◌∙◌, ap, take, map}
 use Rattle.std.proofs.lemmas.List.{take_all}
 use Rattle.textwrap_base.specs.Sizes.{Sizes}
-use Rattle.textwrap_base.specs.LineCosts.{measured_sizes}
-use Rattle.textwrap_base.proofs.Cost.Measures.{open_width-same, total_width-same, open_width-total}
+use Rattle.textwrap_base.specs.Cost.{priced_at}
+use Rattle.textwrap_base.specs.LineCosts.{measured}
+use Rattle.textwrap_base.proofs.Cost.Measures.{measured_sizes, sizes-same, open_width-same, total_width-same, open_width-total}
 use Rattle.textwrap_base.proofs.minima.line_costs.measures_of.Goals as goal
 
 pub overflow_add-before-in-loop-fragment : goal.overflow_add-before-in-loop-fragment
 overflow_add-before-in-loop-fragment g c =
-    let same = open_width-same measured_sizes g.T.Fragment.sizes c.loop-fragment.measures.items (take c.loop-fragment.fragment-index c.args.fragments.now) c.loop-fragment.invariant.sizes in
+    let sizes = sizes-same measured (λ x. priced_at c.args.penalties.now (g.T.Fragment.sizes x)) c.loop-fragment.measures.items (take c.loop-fragment.fragment-index c.args.fragments.now) c.loop-fragment.invariant.priced in
+    let same = open_width-same measured_sizes g.T.Fragment.sizes c.loop-fragment.measures.items (take c.loop-fragment.fragment-index c.args.fragments.now) sizes in
     let all = open_width-total g.T.Fragment.sizes c.args.fragments.now c.loop-fragment.fragment-index c.fragment-item.result (omega arith) in
     let is = ap g.T.Fragment.sizes c.fragment-item.is in
     let width = ap (λ (s : Sizes). s.width) is in
@@ -17,7 +19,8 @@ overflow_add-before-in-loop-fragment g c =
 pub returns-clause-measured : goal.returns-clause-measured
 returns-clause-measured g c =
     let all = take_all c.loop-fragment.fragment-index c.args.fragments.now (omega arith) in
-    let same = total_width-same measured_sizes g.T.Fragment.sizes c.loop-fragment.measures.items c.args.fragments.now (c.loop-fragment.invariant.sizes ∙ ap (map g.T.Fragment.sizes) all) in
+    let sizes = sizes-same measured (λ x. priced_at c.args.penalties.now (g.T.Fragment.sizes x)) c.loop-fragment.measures.items (take c.loop-fragment.fragment-index c.args.fragments.now) c.loop-fragment.invariant.priced in
+    let same = total_width-same measured_sizes g.T.Fragment.sizes c.loop-fragment.measures.items c.args.fragments.now (sizes ∙ ap (map g.T.Fragment.sizes) all) in
     record {
       before = c.loop-fragment.invariant.all;
       total = omega (arith, same, c.requires);

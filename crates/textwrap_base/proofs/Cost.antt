@@ -3,6 +3,7 @@ pub mod Lines
 pub mod Map
 pub mod Measures
 pub mod Overflow
+pub mod Results
 pub mod Rows
 pub mod Starts
 pub mod Steps

@@ -1,5 +1,5 @@
--- What a source of line costs shows: the costs that it gives, and the count of how often it was asked.
-use Rattle.std.specs.Prelude.{ℕ, ◌+◌, ◌-◌, ◌*◌, ◌/◌, ◌^◌, min, max, List}
+-- What a source of line costs shows: the costs that it gives, and how often it was asked for one.
+use Rattle.std.specs.Prelude.{◌≡◌, ℕ, ◌+◌, ◌-◌, ◌*◌, ◌/◌, ◌^◌, ◌≤◌, min, max, List, Result, OnOk}
 use Rattle.textwrap_base.specs.Cost.{PricedSizes}
 use Rattle.textwrap_base.specs.declared.penalties.Penalties.{Penalties}
 
@@ -16,7 +16,14 @@ counted count more = max count (min (count + more) (2 ^ 128 - 1))
 abbrev pub table_steps : ℕ → ℕ
 table_steps n = n * (n + 1) / 2
 
--- the priced sizes of fragments, the line widths and the penalties that their line costs come from, and how often one was asked
+-- the count went from old to new by the steps of a table over n fragments, or by fewer at an error
+pub record CountsSteps {A E : Type 0} (n old new : ℕ) (result : Result A E) : Type 0 where
+  pub ok : OnOk result (new ≡ counted old (table_steps n))
+  pub exact : OnOk result (old ≡ 0 → new ≡ table_steps n)
+  pub most : new ≤ old + table_steps n
+  pub least : old ≤ new
+
+-- what line costs come from, and how often one was asked for
 pub record LineCostsView : Type 0 where
   pub priced : List PricedSizes
   pub widths : List ℕ

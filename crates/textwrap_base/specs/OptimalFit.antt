@@ -1,10 +1,28 @@
 -- What optimal fit gives.
-use Rattle.std.specs.Prelude.{ℕ, List}
-use Rattle.textwrap_base.specs.Cost.{PricedSizes, AreEqualFromSecond, IsChosen}
-use Rattle.textwrap_base.specs.Table.{IsByTable}
+use Rattle.std.specs.Prelude.{ℕ, List, Result, IfOk, OnOk}
+use Rattle.textwrap_base.specs.Cost.{PricedSizes, total_width, AreEqualFromSecond, IsChosen, Overflows}
+use Rattle.textwrap_base.specs.Table.{IsByTable, TableOverflows}
+use Rattle.textwrap_base.specs.Errors.{Fits64Bits, Passes128Bits, Overflowed}
+use Rattle.textwrap_base.specs.declared.errors.WrapError.{WrapError}
 use Rattle.textwrap_base.specs.declared.penalties.Penalties.{Penalties}
 
--- optimal fit: the division by the table, which is the chosen one where the line widths are equal from the second on
-pub record IsByOptimalFit {X : Type 0} (priced : X → PricedSizes) (penalties : Penalties) (widths : List ℕ) (fragments : List X) (lines : List (List X)) : Type 0 where
-  pub by_table : IsByTable priced penalties widths fragments lines
-  pub chosen : AreEqualFromSecond widths → IsChosen priced penalties widths fragments lines
+module _ {X : Type 0} (priced : X → PricedSizes) (penalties : Penalties) (widths : List ℕ) where
+  -- the division by the table, the chosen one where the line widths are equal from the second on
+  pub record IsByOptimalFit (fragments : List X) (lines : List (List X)) : Type 0 where
+    pub by_table : IsByTable priced penalties widths fragments lines
+    pub chosen : AreEqualFromSecond widths → IsChosen priced penalties widths fragments lines
+
+  -- a call returned such a division, its lines being those of its value, or it refused: with
+  -- Overflow where a sum or a cost passes 128 bits, and there alone
+  pub record IsOptimalFitResult {A : Type 0} (xs : List X) (lines : A → List (List X))
+      (result : Result A WrapError) : Type 0 where
+    pub chosen : AreEqualFromSecond widths
+        → IfOk result (λ value. IsChosen priced penalties widths xs (lines value))
+    pub overflow_only : AreEqualFromSecond widths
+        → Overflowed result → Overflows priced penalties widths xs
+    pub ok_only : AreEqualFromSecond widths → OnOk result (¬ Overflows priced penalties widths xs)
+    pub by_table : IfOk result (λ value. IsByTable priced penalties widths xs (lines value))
+    pub table_overflow_only : Overflowed result → TableOverflows priced penalties widths xs
+    pub table_ok_only : OnOk result (¬ TableOverflows priced penalties widths xs)
+    pub too_wide : Passes128Bits (total_width (λ x. (priced x).sizes) xs) → Overflowed result
+    pub no_overflow : Fits64Bits (total_width (λ x. (priced x).sizes) xs) → ¬ Overflowed result

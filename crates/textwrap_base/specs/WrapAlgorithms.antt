@@ -18,12 +18,16 @@ abbrev pub algorithm_view : WrapAlgorithm → Algorithm
 algorithm_view FirstFit = Greedy
 algorithm_view (OptimalFit penalties) = LeastCost penalties
 
--- the algorithm's division of the fragments
-abbrev pub IsDividedBy : {X : Type 0} → Algorithm → (X → Sizes) → List ℕ → List X → List (List X) → Type 0
-IsDividedBy Greedy sizes widths fragments lines = IsGreedy sizes widths fragments lines
-IsDividedBy (LeastCost penalties) sizes widths fragments lines = IsByOptimalFit (λ x. priced_at penalties (sizes x)) penalties widths fragments lines
+module _ {X : Type 0} where
+  -- the algorithm's division of the fragments
+  abbrev pub IsDividedBy : Algorithm → (X → Sizes) → List ℕ → List X → List (List X) → Type 0
+  IsDividedBy Greedy sizes widths fragments lines = IsGreedy sizes widths fragments lines
+  IsDividedBy (LeastCost penalties) sizes widths fragments lines =
+      IsByOptimalFit (λ x. priced_at penalties (sizes x)) penalties widths fragments lines
 
--- the algorithm refuses these with Overflow: the greedy one refuses none, the one of least cost where its table overflows
-abbrev pub OverflowsBy : {X : Type 0} → Algorithm → (X → Sizes) → List ℕ → List X → Type 0
-OverflowsBy Greedy sizes widths fragments = ⊥
-OverflowsBy (LeastCost penalties) sizes widths fragments = TableOverflows (λ x. priced_at penalties (sizes x)) penalties widths fragments
+  -- the algorithm refuses these with Overflow: the greedy one refuses none, the one of least cost
+  -- where its table overflows
+  abbrev pub OverflowsBy : Algorithm → (X → Sizes) → List ℕ → List X → Type 0
+  OverflowsBy Greedy sizes widths fragments = ⊥
+  OverflowsBy (LeastCost penalties) sizes widths fragments =
+      TableOverflows (λ x. priced_at penalties (sizes x)) penalties widths fragments

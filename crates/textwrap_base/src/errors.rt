@@ -4,7 +4,7 @@ ghost use Rattle.std.specs.Prelude.{◌≡◌, alloc_error};
 use std::alloc::{AllocError, AllocFailed};
 use thiserror::Error;
 
-/// The cost of a beginning, or the sum of all widths, passes 128 bits.
+/// The cost of a prefix of the fragments, or the sum of all widths, needs more than 128 bits.
 #[derive(Debug, Drop, PartialEq, Eq, Error)]
 #[error("wrap_optimal_fit cost computation overflowed")]
 pub struct OverflowError;
@@ -15,7 +15,7 @@ pub enum WrapError {
     /// Memory ran out.
     #[error("out of memory")]
     Memory(AllocError),
-    /// A number passes 128 bits.
+    /// A number needs more than 128 bits.
     #[error(transparent)]
     Overflow(OverflowError),
 }
@@ -58,7 +58,7 @@ mod tests {
     }
 
     #[test]
-    fn a_refused_growth_is_want_of_memory(rt: HostRuntime) {
+    fn a_failed_allocation_is_out_of_memory(rt: HostRuntime) {
         let refused = WrapError::from(AllocFailed { value: "foo" });
         assert!(rt; matches!(refused, WrapError::Memory(_)));
         assert!(rt; matches!(WrapError::from(AllocError), WrapError::Memory(_)));

@@ -5,6 +5,7 @@
 pub mod blanks;
 mod errors;
 pub mod laws;
+mod line_widths;
 pub mod minima;
 mod penalties;
 #[cfg(test)]

@@ -1,9 +1,9 @@
 //! The least costs of dividing fragments into lines: sources of line costs, a count of how often
 //! they are asked, and the table of least costs.
 ghost use Rattle.std.specs.Prelude.{◌≡◌, ℕ, ◌+◌, ◌^◌, ◌<◌, ◌≤◌, length, map, IfOk, OnOk, SomeIff};
-ghost use Rattle.textwrap_base.specs.Minima.{Costs, counted, table_steps};
+ghost use Rattle.textwrap_base.specs.Minima.{Costs, CountsSteps, counted};
 ghost use Rattle.textwrap_base.specs.Cost.{priced_at, total_width};
-ghost use Rattle.textwrap_base.specs.Errors.{Overflowed};
+ghost use Rattle.textwrap_base.specs.Errors.{Fits64Bits, Fits128Bits, Passes128Bits, Overflowed};
 ghost use Rattle.textwrap_base.specs.Table.{fragment_costs, fragments_table, minimum_of, TableOverflows};
 
 use crate::errors::WrapError;
@@ -17,7 +17,7 @@ use table::{fill_table, minima_of};
 mod line_costs;
 mod table;
 
-/// A count of steps. One step is one call of `CostSource::candidate`.
+/// Counts how often line costs were asked for. Each call of `CostSource::candidate` is a step.
 #[derive(Debug, Drop)]
 pub struct Steps {
     count: u128,
@@ -44,7 +44,7 @@ impl Steps {
         self.count
     }
 
-    /// Counts `more` steps. Where the count would pass 2^128-1 it goes there.
+    /// Counts `more` steps. The count stays at 2^128-1, which it never passes.
     pub fn add(&mut self, more: u128)
         ensures { self.new ≡ counted self.old more }
     {
@@ -52,31 +52,32 @@ impl Steps {
     }
 }
 
-/// The cost of a beginning of the fragments in the table, and where its last line starts.
+/// What the table has for a prefix of the fragments: a cost, and where the last line starts.
 #[derive(Clone, Copy, Debug, PartialEq, Eq)]
 pub struct Minimum {
-    /// How many fragments stand before the last line.
+    /// How many fragments of the prefix the lines before its last take.
     pub start: usize,
-    /// The cost. Where the line widths are equal from the second on, no division of the beginning
-    /// costs less.
+    /// What the division costs that follows the starts back. Where all lines but the first have
+    /// one width, no other division of the prefix costs less.
     pub cost: u128,
 }
 
-/// Line costs over a number of fragments, and a count of how often one was asked.
+/// Where the table gets its line costs, with a count of how often it asked for one.
 pub trait CostSource {
     ghost costs: { Self → Costs };
 
     ghost steps: { Self → ℕ };
 
-    /// The number of fragments: lines end at 1 up to this.
+    /// The number of fragments. The last line of all ends there.
     fn ends(&self) -> usize
         ensures { result ≡ (costs self.now).ends };
 
-    /// `before` plus the cost of the line of the fragments `start` to `end - 1`, where its number,
-    /// counted from 0, is `line_number`. `None` where this passes 2^128-1. `start` has to be below
-    /// `end`, and `end` at most `ends`.
+    /// What the first `end` fragments cost if their last line starts at `start`: the cost `before`
+    /// of the lines in front of it, and that of this line, whose number is `line_number`, counted
+    /// from 0. `None` where the sum needs more than 128 bits. A caller has to keep `start` below
+    /// `end`, and `end` at most at `ends`.
     ///
-    /// Each call is one step of the source's count, which stays at 2^128-1.
+    /// The source counts each call as one step, up to 2^128-1.
     fn candidate(
         &mut self,
         start: usize,
@@ -87,22 +88,23 @@ pub trait CostSource {
         requires ordered { start < end }
         requires within { end ≤ (costs self.old).ends }
         ensures cost { SomeIff result
-            (before + (costs self.old).cost start end line_number < 2 ^ 128)
+            (Fits128Bits (before + (costs self.old).cost start end line_number))
             (before + (costs self.old).cost start end line_number) }
         ensures same { costs self.new ≡ costs self.old }
         ensures step { steps self.new ≡ counted (steps self.old) 1 };
 }
 
-/// The table of the beginnings of the fragments, from none to all of them, for any list of line
-/// widths. Entry 0 starts at 0 and costs 0. Entry j is the least over all i < j of the cost at
-/// i and that of the line from i to j, at the number that follows from the entries' starts. Among
-/// equals the earliest i stands.
+/// The table of least costs (after Knuth and Plass), for any list of line widths: a cost and a start
+/// for each prefix of the fragments, the empty one first. The empty prefix costs nothing. A longer
+/// one is a shorter one with one more line, so it costs what the shorter one has in the table and
+/// the cost of that line, and the shorter prefix is chosen for which this is least, of several the
+/// shortest. The lines are numbered along these choices.
 ///
-/// At `Ok` the steps go up by n(n + 1)/2 for n fragments, at `Err` by at most that.
+/// `steps` goes up by n(n + 1)/2 for n fragments at `Ok`, and by no more at `Err`.
 ///
 /// # Errors
-/// Overflow exactly where all widths together pass 2^128-1 or an entry's cost does, else want of
-/// memory. Where the widths pass there is no growth before the refusal.
+/// Overflow exactly where all widths together need more than 128 bits, or a cost in the table does.
+/// Otherwise out of memory only. Nothing is allocated before widths that are too large are refused.
 pub fn table_minima<T: Fragment>(
     alloc: Global,
     fragments: &[T],
@@ -110,32 +112,42 @@ pub fn table_minima<T: Fragment>(
     penalties: &Penalties,
     steps: &mut Steps,
 ) -> Result<Vec<Minimum>, WrapError>
-    ensures entries { IfOk result (λ minima. minima.items
-        ≡ map minimum_of (fragments_table (λ x. priced_at penalties.now (T.sizes x)) penalties.now line_widths.now fragments.now)) }
+    ensures entries { IfOk result (λ minima. minima.items ≡ map minimum_of
+        (fragments_table (λ x. priced_at penalties.now (T.sizes x)) penalties.now
+        line_widths.now fragments.now)) }
     ensures overflow_only { Overflowed result
-        → TableOverflows (λ x. priced_at penalties.now (T.sizes x)) penalties.now line_widths.now fragments.now }
+        → TableOverflows (λ x. priced_at penalties.now (T.sizes x)) penalties.now
+        line_widths.now fragments.now }
     ensures ok_only { OnOk result
-        (¬ TableOverflows (λ x. priced_at penalties.now (T.sizes x)) penalties.now line_widths.now fragments.now) }
-    ensures too_wide { 2 ^ 128 ≤ total_width T.sizes fragments.now → Overflowed result }
-    ensures no_overflow { total_width T.sizes fragments.now < 2 ^ 64 → ¬ Overflowed result }
-    ensures steps_ok { OnOk result
-        (steps.new ≡ counted steps.old (table_steps (length fragments.now))) }
-    ensures steps_exact { OnOk result
-        (steps.old ≡ 0 → steps.new ≡ table_steps (length fragments.now)) }
-    ensures steps_most { steps.new ≤ steps.old + table_steps (length fragments.now) }
-    ensures steps_least { steps.old ≤ steps.new }
+        (¬ TableOverflows (λ x. priced_at penalties.now (T.sizes x)) penalties.now
+        line_widths.now fragments.now) }
+    ensures too_wide { Passes128Bits (total_width T.sizes fragments.now) → Overflowed result }
+    ensures no_overflow { Fits64Bits (total_width T.sizes fragments.now) → ¬ Overflowed result }
+    ensures steps { CountsSteps (length fragments.now) steps.old steps.new result }
 {
-    let penalties = penalties.in_range();
+    let penalties = in_range(*penalties);
     let mut costs = LineCosts::new(alloc, fragments, line_widths, &penalties)?;
     let entries = fill_table(alloc, &mut costs);
     steps.add(costs.steps());
     Ok(minima_of(alloc, &entries?)?)
 }
 
+/// These penalties, known to keep to 64 bits each: a proof sees the range of what is passed by
+/// value, and not of what a reference leads to.
+fn in_range(penalties: Penalties) -> Penalties
+    ensures same { result ≡ penalties }
+    ensures nline { Fits64Bits result.nline_penalty }
+    ensures overflow { Fits64Bits result.overflow_penalty }
+    ensures short_last_line { Fits64Bits result.short_last_line_penalty }
+    ensures hyphen { Fits64Bits result.hyphen_penalty }
+{
+    penalties
+}
+
 #[cfg(test)]
 mod tests {
     use super::*;
-    use crate::testing::{FALLING, Piece};
+    use crate::testing::{Block, FALLING};
     use std::test::Fail;
 
     fn minimum(start: usize, cost: u128) -> Minimum {
@@ -146,15 +158,15 @@ mod tests {
     fn the_table_of_one_fragment(rt: HostRuntime) -> Result<(), Fail> {
         let mut steps = Steps::new();
         let mut penalties = Penalties::new();
-        let piece = [Piece(10, 0, 0)];
-        let minima = table_minima(rt.alloc(), &piece, &[10], &penalties, &mut steps)?;
+        let block = [Block(10, 0, 0)];
+        let minima = table_minima(rt.alloc(), &block, &[10], &penalties, &mut steps)?;
         assert_eq!(rt;
             minima.as_slice(),
             [minimum(0, 0), minimum(0, 1000)].as_slice()
         );
         assert_eq!(rt; steps.count(), 1);
         penalties.short_last_line_fraction = 0;
-        let minima = table_minima(rt.alloc(), &piece, &[10], &penalties, &mut steps)?;
+        let minima = table_minima(rt.alloc(), &block, &[10], &penalties, &mut steps)?;
         assert_eq!(rt;
             minima.as_slice(),
             [minimum(0, 0), minimum(0, 1025)].as_slice()
@@ -183,9 +195,9 @@ mod tests {
     #[test]
     fn the_table_of_three_line_widths(rt: HostRuntime) -> Result<(), Fail> {
         let mut steps = Steps::new();
-        let pieces = [Piece(5, 0, 0), Piece(5, 0, 0), Piece(20, 0, 0)];
+        let blocks = [Block(5, 0, 0), Block(5, 0, 0), Block(20, 0, 0)];
         let penalties = Penalties::new();
-        let minima = table_minima(rt.alloc(), &pieces, &[10, 5, 100], &penalties, &mut steps)?;
+        let minima = table_minima(rt.alloc(), &blocks, &[10, 5, 100], &penalties, &mut steps)?;
         let expected = [
             minimum(0, 0),
             minimum(0, 1025),

@@ -1,6 +1,6 @@
 //! What optimal fit charges for.
 ghost use Rattle.std.specs.Prelude.{◌≡◌};
-ghost use Rattle.textwrap_base.specs.Penalties.{default_penalties, Are64Bits};
+ghost use Rattle.textwrap_base.specs.Penalties.{default_penalties};
 
 /// What the lines of a division cost, in whole numbers of any unit (after Knuth and Plass,
 /// "Breaking Paragraphs into Lines", 1981).
@@ -8,9 +8,10 @@ ghost use Rattle.textwrap_base.specs.Penalties.{default_penalties, Are64Bits};
 pub struct Penalties {
     /// What each line costs.
     pub nline_penalty: usize,
-    /// What each unit costs that a line has past its target.
+    /// What each unit costs by which a line is wider than its target.
     pub overflow_penalty: usize,
-    /// A last line of one fragment is short where its width times this number is below the target.
+    /// A last line of a single fragment is short where its width times this number is below its
+    /// target. So 4 means less than a quarter.
     pub short_last_line_fraction: usize,
     /// What a short last line costs.
     pub short_last_line_penalty: usize,
@@ -19,8 +20,8 @@ pub struct Penalties {
 }
 
 impl Penalties {
-    /// The penalties that the original takes: 1000 a line, 2500 a unit too much, 25 for a last
-    /// line of one fragment below a quarter of its target, 25 for a hyphen.
+    /// The default penalties: 1000 for each line, 2500 for each unit too wide, 25 for a last line of
+    /// a single fragment below a quarter of its target, and 25 for a hyphen.
     pub fn new() -> Self
         ensures { result ≡ default_penalties }
     {
@@ -31,17 +32,6 @@ impl Penalties {
             short_last_line_penalty: 25,
             hyphen_penalty: 25,
         }
-    }
-}
-
-impl Penalties {
-    /// These penalties, known to keep to 64 bits each: a proof sees the range of what is passed by
-    /// value, and not of what a reference leads to.
-    pub(crate) fn in_range(self) -> Penalties
-        ensures same { result ≡ self }
-        ensures fits { Are64Bits result }
-    {
-        self
     }
 }
 

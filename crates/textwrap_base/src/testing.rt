@@ -3,12 +3,12 @@ ghost use Rattle.textwrap_base.specs.Sizes.{Sizes};
 
 use crate::words::Fragment;
 
-/// A fragment of a width, a whitespace width and a penalty width.
+/// A fragment with its width, its whitespace width and its penalty width.
 #[derive(Clone, Copy, Debug)]
-pub(crate) struct Piece(pub usize, pub usize, pub usize);
+pub(crate) struct Block(pub(crate) usize, pub(crate) usize, pub(crate) usize);
 
-impl Fragment for Piece {
-    ghost sizes = { λ piece. record { width = piece.0; whitespace = piece.1; penalty = piece.2 } };
+impl Fragment for Block {
+    ghost sizes = { λ block. record { width = block.0; whitespace = block.1; penalty = block.2 } };
 
     fn width(&self) -> usize {
         self.0
@@ -24,10 +24,10 @@ impl Fragment for Piece {
 }
 
 /// Fragments whose closed width falls: the fourth has none, and the third a penalty.
-pub(crate) const FALLING: [Piece; 5] = [
-    Piece(10, 0, 0),
-    Piece(5, 0, 0),
-    Piece(5, 0, 5),
-    Piece(0, 0, 0),
-    Piece(10, 0, 0),
+pub(crate) const FALLING: [Block; 5] = [
+    Block(10, 0, 0),
+    Block(5, 0, 0),
+    Block(5, 0, 5),
+    Block(0, 0, 0),
+    Block(10, 0, 0),
 ];

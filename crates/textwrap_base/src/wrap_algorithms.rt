@@ -1,10 +1,11 @@
 //! The division of fragments into lines.
-ghost use Rattle.std.specs.Prelude.{◌≡◌, ◌+◌, ◌≤◌, ◌<◌, ◌^◌, length, map, take, IfOk, OnOk};
-ghost use Rattle.textwrap_base.specs.Division.{line_width, closed_width, Fits, IsGreedy};
+ghost use Rattle.std.specs.Prelude.{◌≡◌, ◌+◌, ◌≤◌, ◌<◌, length, map, take, IfOk, OnOk};
+ghost use Rattle.textwrap_base.specs.Division.{closed_width, Fits, IsGreedy};
 ghost use Rattle.textwrap_base.specs.Penalties.{default_penalties};
 ghost use Rattle.textwrap_base.specs.Cost.{total_width};
-ghost use Rattle.textwrap_base.specs.Errors.{Overflowed};
+ghost use Rattle.textwrap_base.specs.Errors.{Fits64Bits, Overflowed};
 
+use crate::line_widths::line_width;
 pub use crate::errors::{OverflowError, WrapError};
 pub use crate::penalties::Penalties;
 use crate::words::{Fragment, Word};
@@ -18,7 +19,7 @@ mod optimal_fit;
 pub enum WrapAlgorithm {
     /// Each line takes fragments while they fit, as `wrap_first_fit` does.
     FirstFit,
-    /// The division of least cost at these penalties, as `wrap_optimal_fit` finds it.
+    /// The lines are those of least cost at these penalties, as `wrap_optimal_fit` finds them.
     OptimalFit(Penalties),
 }
 
@@ -51,13 +52,14 @@ impl WrapAlgorithm {
         line_widths: &[usize],
     ) -> Result<Vec<&'b [Word<'a>]>, WrapError>
         ensures divided { IfOk result (λ lines.
-            IsDividedBy (algorithm_view self.now) (λ word. sizes_of (word_view word)) line_widths.now words.now
-            (map (λ line. line.now) lines.items)) }
-        ensures overflow_only { Overflowed result
-            → OverflowsBy (algorithm_view self.now) (λ word. sizes_of (word_view word)) line_widths.now words.now }
-        ensures ok_only { OnOk result
-            (¬ OverflowsBy (algorithm_view self.now) (λ word. sizes_of (word_view word)) line_widths.now words.now) }
-        ensures no_overflow { total_width (λ word. sizes_of (word_view word)) words.now < 2 ^ 64
+            IsDividedBy (algorithm_view self.now) (λ word. sizes_of (word_view word))
+            line_widths.now words.now (map (λ line. line.now) lines.items)) }
+        ensures overflow_only { Overflowed result → OverflowsBy (algorithm_view self.now)
+            (λ word. sizes_of (word_view word)) line_widths.now words.now }
+        ensures ok_only { OnOk result (¬ OverflowsBy (algorithm_view self.now)
+            (λ word. sizes_of (word_view word)) line_widths.now words.now) }
+        ensures no_overflow {
+            Fits64Bits (total_width (λ word. sizes_of (word_view word)) words.now)
             → ¬ Overflowed result }
     {
         match self {
@@ -79,12 +81,12 @@ impl Default for WrapAlgorithm {
     }
 }
 
-/// Divides the fragments into lines, each of which takes fragments while they fit. A line's first
-/// fragment always stands. Line l, counted from 0, has the width `line_widths[l]`, or the last of
-/// them past the end, or 0 where there is none. No fragments give one empty line.
+/// Divides the fragments into lines, each of which takes fragments while they fit, and its first
+/// fragment in any case. Line l, counted from 0, may be `line_widths[l]` wide. The last width
+/// serves all later lines, and without any width it is 0. No fragments give one empty line.
 ///
 /// # Errors
-/// Only want of memory. There is no overflow, whatever the widths.
+/// Out of memory only. There is no overflow, whatever the widths.
 pub fn wrap_first_fit<'a, T: Fragment>(
     alloc: Global,
     fragments: &'a [T],
@@ -106,14 +108,6 @@ pub fn wrap_first_fit<'a, T: Fragment>(
         rest = after;
     }
     Ok(lines)
-}
-
-/// The width of line `number`, counted from 0.
-pub(crate) fn line_width(line_widths: &[usize], number: usize) -> usize
-    ensures { result ≡ line_width line_widths.now number }
-{
-    let last = line_widths.len().saturating_sub(1);
-    line_widths.get(number.min(last)).copied().unwrap_or(0)
 }
 
 /// How many of the fragments the first line takes: all that fit, and the first in any case.

@@ -24,7 +24,7 @@ same_width widths h l m p q = same_by (cases_lt 1 (length widths))
 pub line_costs-steady : {X : Type 0} (priced : X → PricedSizes) (penalties : Penalties) (widths : List ℕ) (xs : List X) → AreEqualFromSecond widths → IsSteady (line_costs priced penalties widths xs)
 line_costs-steady priced penalties widths xs h i j l m p q = ap (λ w. line_cost priced penalties w (eqb j (length xs)) (slice_range xs i j)) (same_width widths h l m p q)
 
--- ---- divisions of a beginning
+-- ---- divisions of a prefix
 
 module _ {X : Type 0} (priced : X → PricedSizes) (penalties : Penalties) (widths : List ℕ) (xs : List X) where
   begins : (lines : List (List X)) (j : ℕ) → joined lines ≡ take j xs → xs ≡ [] ++ (joined lines ++ drop j xs)
@@ -55,7 +55,7 @@ chosen-empty {X = X} priced penalties widths lines e = record {
   earliest = λ others o same. let r : AreNoLater (starts_back {X = X} ([] ∷ [])) (starts_back {X = X} ([] ∷ [])) = inr (refl, tt) in rw (e, o) r;
 }
 
--- a division of all fragments, told of the beginning of all
+-- a division of all fragments, as one of the prefix of all
 whole : {X : Type 0} (xs : List X) (lines : List (List X)) → 0 < length xs → IsDivision xs lines → (joined lines ≡ take (length xs) xs) × All (λ line. line ≢ []) lines
 whole xs lines p h =
     let (tiles, some) = division_joined xs lines p h in
@@ -71,7 +71,7 @@ by_table-cost priced penalties widths xs lines p equal h =
     (starts_back lines) (length xs) (omega arith) (begin_starts priced penalties widths xs lines (length xs) (omega arith) tiles some)
     (begin_follow priced penalties widths xs lines (length xs) (map (λ (x : Entry). x.start) (fragments_table priced penalties widths xs)) (omega arith) tiles h.starts)
 
--- no division of a beginning costs less than its entry says
+-- no division of a prefix costs less than its entry says
 begin-least : {X : Type 0} (priced : X → PricedSizes) (penalties : Penalties) (widths : List ℕ) (xs : List X) (others : List (List X)) (j : ℕ) → j ≤ length xs → AreEqualFromSecond widths
     → joined others ≡ take j xs → All (λ line. line ≢ []) others
     → (entry_at (fragments_table priced penalties widths xs) j).cost ≤ division_cost priced penalties widths (length xs) others
@@ -110,7 +110,7 @@ by_table-chosen priced penalties widths (x ∷ xs) lines equal h =
 
 -- ---- overflow
 
--- an entry that passes is a beginning that passes
+-- an entry that passes is a prefix that passes
 pub table-overflows : {X : Type 0} (priced : X → PricedSizes) (penalties : Penalties) (widths : List ℕ) (xs : List X) → AreEqualFromSecond widths
     → TableOverflows priced penalties widths xs → Overflows priced penalties widths xs
 table-overflows priced penalties widths xs equal (inl wide) = inl wide
@@ -126,7 +126,7 @@ table-overflows {X = X} priced penalties widths xs equal (inr (suc j, l, past)) 
           let least = begin-least priced penalties widths xs others (suc j) l equal tiles some in omega (arith, past, least),
     )
 
--- a beginning that passes is an entry that passes
+-- a prefix that passes is an entry that passes
 pub overflows-table : {X : Type 0} (priced : X → PricedSizes) (penalties : Penalties) (widths : List ℕ) (xs : List X) → AreEqualFromSecond widths
     → Overflows priced penalties widths xs → TableOverflows priced penalties widths xs
 overflows-table priced penalties widths xs equal (inl wide) = inl wide

@@ -1,5 +1,5 @@
 -- The closed width and the cost of a part of the fragments, from running sums of their widths.
-use Rattle.std.proofs.Common.{◌≡◌, ℕ, suc, ◌+◌, ◌-◌, ◌*◌, ◌^◌, ◌<◌, ◌≤◌, Bool, true, false, eqb, ltb, ◌&&◌, if◌then◌else◌, List, [], ◌∷◌, ◌++◌, length, get_or, take, drop, map, All, slice_range, ◌⊎◌, ◌≢◌, inl, inr, refl, sym, ◌∙◌, ap, arith, length-take, length-drop}
+use Rattle.std.proofs.Common.{◌≡◌, ℕ, suc, ◌+◌, ◌-◌, ◌*◌, ◌^◌, ◌<◌, ◌≤◌, Bool, true, false, eqb, ltb, ◌&&◌, if◌then◌else◌, List, [], ◌∷◌, ◌++◌, length, get_or, take, drop, map, All, slice_range, max, ◌⊎◌, ◌≢◌, inl, inr, refl, sym, ◌∙◌, ap, arith, length-take, length-drop}
 use Rattle.std.proofs.lemmas.List.{get_or_push, get_or_append_left, take_at, take-append-le, length-map, take_more, take-map, drop-map, get_or-drop, length_push}
 use Rattle.std.proofs.lemmas.List.Sums.{sum_by-cons, sum_by_more_le_part, sum_by-take-le}
 use Rattle.std.proofs.lemmas.List.Elements.{All-nil, All-cons, All-head, All-tail}
@@ -10,8 +10,7 @@ use Rattle.std.proofs.lemmas.Bool.{cases_eq}
 use mathlib.Core.Path.{fun_ext}
 use Rattle.textwrap_base.specs.Sizes.{Sizes}
 use Rattle.textwrap_base.specs.Division.{closed_width, open_width, line_width}
-use Rattle.textwrap_base.specs.Cost.{PricedSizes, priced_at, fit_cost, last_break_cost, line_cost, target, total_width}
-use Rattle.textwrap_base.specs.Penalties.{Are64Bits}
+use Rattle.textwrap_base.specs.Cost.{PricedSizes, priced_at, fit_cost, last_break_cost, line_cost, total_width}
 use Rattle.textwrap_base.specs.LineCosts.{measured, AreMeasured}
 use Rattle.textwrap_base.specs.Minima.{Costs}
 use Rattle.textwrap_base.specs.Table.{line_costs, fragment_costs}
@@ -32,10 +31,10 @@ module _ {X : Type 0} (priced : X → PricedSizes) where
 
   pub line_cost-push : (penalties : Penalties) (width : ℕ) (is_last : Bool) (xs : List X) (x : X)
       → line_cost priced penalties width is_last (xs ++ x ∷ [])
-      ≡ penalties.nline_penalty + fit_cost penalties (target width) (closed_width (λ y. (priced y).sizes) (xs ++ x ∷ [])) is_last (eqb (length (xs ++ x ∷ [])) 1) + (priced x).break_cost
+      ≡ penalties.nline_penalty + fit_cost penalties (max width 1) (closed_width (λ y. (priced y).sizes) (xs ++ x ∷ [])) is_last (eqb (length (xs ++ x ∷ [])) 1) + (priced x).break_cost
   line_cost-push penalties width is_last [] x = refl
   line_cost-push penalties width is_last (y ∷ xs) x =
-      ap (λ n. penalties.nline_penalty + fit_cost penalties (target width) (closed_width (λ y. (priced y).sizes) (y ∷ (xs ++ x ∷ []))) is_last (eqb (length (y ∷ (xs ++ x ∷ []))) 1) + n) (last_break_cost-push (y ∷ xs) x)
+      ap (λ n. penalties.nline_penalty + fit_cost penalties (max width 1) (closed_width (λ y. (priced y).sizes) (y ∷ (xs ++ x ∷ []))) is_last (eqb (length (y ∷ (xs ++ x ∷ []))) 1) + n) (last_break_cost-push (y ∷ xs) x)
 
 -- ---- a part of a list
 
@@ -66,15 +65,15 @@ single_is i k h = grind (arith, nat_tests)
 
 pub line_cost-slice : {X : Type 0} (priced : X → PricedSizes) (penalties : Penalties) (width : ℕ) (is_last : Bool) (xs : List X) (i k : ℕ) (d : X) → i ≤ k → k < length xs
     → line_cost priced penalties width is_last (slice_range xs i (k + 1))
-    ≡ penalties.nline_penalty + fit_cost penalties (target width) (closed_width (λ x. (priced x).sizes) (slice_range xs i (k + 1))) is_last (eqb (k + 1) (i + 1)) + (priced (get_or xs k d)).break_cost
+    ≡ penalties.nline_penalty + fit_cost penalties (max width 1) (closed_width (λ x. (priced x).sizes) (slice_range xs i (k + 1))) is_last (eqb (k + 1) (i + 1)) + (priced (get_or xs k d)).break_cost
 line_cost-slice {X = X} priced penalties width is_last xs i k d h l =
     let e = slice_push xs i k d h l in
     let len = length-slice xs i (k + 1) (omega arith) in
     let sizes : X → Sizes = λ x. (priced x).sizes in
     ap (line_cost priced penalties width is_last) e
     ∙ line_cost-push priced penalties width is_last (slice_range xs i k) (get_or xs k d)
-    ∙ ap (λ (line : List X). penalties.nline_penalty + fit_cost penalties (target width) (closed_width sizes line) is_last (eqb (length line) 1) + (priced (get_or xs k d)).break_cost) (sym e)
-    ∙ ap (λ (single : Bool). penalties.nline_penalty + fit_cost penalties (target width) (closed_width sizes (slice_range xs i (k + 1))) is_last single + (priced (get_or xs k d)).break_cost)
+    ∙ ap (λ (line : List X). penalties.nline_penalty + fit_cost penalties (max width 1) (closed_width sizes line) is_last (eqb (length line) 1) + (priced (get_or xs k d)).break_cost) (sym e)
+    ∙ ap (λ (single : Bool). penalties.nline_penalty + fit_cost penalties (max width 1) (closed_width sizes (slice_range xs i (k + 1))) is_last single + (priced (get_or xs k d)).break_cost)
     (ap (λ n. eqb n 1) len ∙ single_is i k h)
 
 -- ---- the sizes alone
@@ -109,9 +108,9 @@ line_cost-map priced penalties width is_last (x ∷ line) =
     let closed = closed_width-map priced (λ (y : PricedSizes). y.sizes) (x ∷ line) in
     let end = last_break_cost-map priced (x ∷ line) in
     let len = length-map line priced in
-    ap (λ n. penalties.nline_penalty + fit_cost penalties (target width) n is_last (eqb (suc (length (map priced line))) 1) + last_break_cost (λ (p : PricedSizes). p) (map priced (x ∷ line))) closed
-    ∙ ap (λ n. penalties.nline_penalty + fit_cost penalties (target width) (closed_width (λ y. (priced y).sizes) (x ∷ line)) is_last (eqb (suc n) 1) + last_break_cost (λ (p : PricedSizes). p) (map priced (x ∷ line))) len
-    ∙ ap (λ n. penalties.nline_penalty + fit_cost penalties (target width) (closed_width (λ y. (priced y).sizes) (x ∷ line)) is_last (eqb (suc (length line)) 1) + n) end
+    ap (λ n. penalties.nline_penalty + fit_cost penalties (max width 1) n is_last (eqb (suc (length (map priced line))) 1) + last_break_cost (λ (p : PricedSizes). p) (map priced (x ∷ line))) closed
+    ∙ ap (λ n. penalties.nline_penalty + fit_cost penalties (max width 1) (closed_width (λ y. (priced y).sizes) (x ∷ line)) is_last (eqb (suc n) 1) + last_break_cost (λ (p : PricedSizes). p) (map priced (x ∷ line))) len
+    ∙ ap (λ n. penalties.nline_penalty + fit_cost penalties (max width 1) (closed_width (λ y. (priced y).sizes) (x ∷ line)) is_last (eqb (suc (length line)) 1) + n) end
 
 pub slice-map : {X Y : Type 0} (f : X → Y) (xs : List X) (i j : ℕ) → slice_range (map f xs) i j ≡ map f (slice_range xs i j)
 slice-map f xs i j = ap (take (j - i)) (drop-map f i xs) ∙ take-map f (j - i) (drop i xs)
@@ -187,7 +186,7 @@ before_more ms m all now i d l = more_by (cases_eq i (length ms))
 -- what the code adds up is the cost of the line
 pub line_cost-measured : (penalties : Penalties) (width : ℕ) (ms : List Measure) (i j : ℕ) (d : Measure) → i < j → j ≤ length ms
     → line_cost measured penalties width (eqb j (length ms)) (slice_range ms i j)
-    ≡ penalties.nline_penalty + fit_cost penalties (target width) (closed_width measured_sizes (slice_range ms i j)) (eqb j (length ms)) (eqb j (i + 1)) + (get_or ms (j - 1) d).break_cost
+    ≡ penalties.nline_penalty + fit_cost penalties (max width 1) (closed_width measured_sizes (slice_range ms i j)) (eqb j (length ms)) (eqb j (i + 1)) + (get_or ms (j - 1) d).break_cost
 line_cost-measured penalties width ms i j d h l =
     let same : j - 1 + 1 ≡ j = omega arith in
     rw same at (line_cost-slice measured penalties width (eqb j (length ms)) ms i (j - 1) d (omega arith) (omega arith))
@@ -199,7 +198,14 @@ fragment_costs-map priced penalties widths xs =
     let with_cost : (ℕ → ℕ → ℕ → ℕ) → Costs = λ cost. record { ends = length xs; cost = cost } in
     ap with_ends (length-map xs priced) ∙ ap with_cost (line_costs-map priced penalties widths xs)
 
--- ---- one line of a beginning keeps to 128 bits where all widths keep to 64
+-- ---- one line of a prefix keeps to 128 bits where all widths keep to 64
+
+-- each penalty keeps to 64 bits
+pub record Are64Bits (penalties : Penalties) : Type 0 where
+  pub nline : penalties.nline_penalty < 2 ^ 64
+  pub overflow : penalties.overflow_penalty < 2 ^ 64
+  pub short_last_line : penalties.short_last_line_penalty < 2 ^ 64
+  pub hyphen : penalties.hyphen_penalty < 2 ^ 64
 
 pub closed_width-le : {X : Type 0} (sizes : X → Sizes) (line : List X) → closed_width sizes line ≤ total_width sizes line
 closed_width-le sizes [] = omega arith
@@ -245,7 +251,7 @@ pub line_cost-fits : {X : Type 0} (priced : X → PricedSizes) (p : Penalties) (
 line_cost-fits priced p width is_last [] h breaks k l = omega arith
 line_cost-fits priced p width is_last (x ∷ line) h breaks k l =
     let closed = closed_width-le (λ y. (priced y).sizes) (x ∷ line) in
-    let fit = fit_cost-le p (target width) (closed_width (λ y. (priced y).sizes) (x ∷ line)) is_last (eqb (length (x ∷ line)) 1) h (omega arith) (omega arith) in
+    let fit = fit_cost-le p (max width 1) (closed_width (λ y. (priced y).sizes) (x ∷ line)) is_last (eqb (length (x ∷ line)) 1) h (omega arith) (omega arith) in
     let end = last_break_cost-fits priced (x ∷ line) breaks in
     let each = h.nline in omega (arith, fit, end, each)
 

@@ -3,7 +3,6 @@ use Rattle.std.proofs.Common.{◌≡◌, ℕ, zero, suc, ◌-◌, ◌^◌, ◌<�
 use Rattle.std.proofs.lemmas.List.Elements.{All-take}
 use Rattle.textwrap_base.specs.Division.{line_width}
 use Rattle.textwrap_base.specs.Cost.{PricedSizes, total_width}
-use Rattle.textwrap_base.specs.Penalties.{Are64Bits}
 use Rattle.textwrap_base.specs.Errors.{Overflowed}
 use Rattle.textwrap_base.specs.Table.{entry_at, table, line_costs, fragments_table}
 use Rattle.textwrap_base.specs.declared.minima.table.Entry.{Entry}
@@ -11,9 +10,9 @@ use Rattle.textwrap_base.specs.declared.errors.WrapError.{WrapError}
 use Rattle.textwrap_base.specs.declared.errors.WrapError.TheVariants.{Memory, Overflow}
 use Rattle.textwrap_base.specs.declared.penalties.Penalties.{Penalties}
 use Rattle.textwrap_base.proofs.Cost.Table.{table-least, entry-table_first}
-use Rattle.textwrap_base.proofs.Cost.Measures.{line_cost-fits, total_width-take}
+use Rattle.textwrap_base.proofs.Cost.Measures.{Are64Bits, line_cost-fits, total_width-take}
 
--- one line is a division of each beginning
+-- one line is a division of each prefix
 one_line : (cost : ℕ → ℕ → ℕ → ℕ) (n j : ℕ) → j < n → (entry_at (table cost n) (suc j)).cost ≤ cost 0 (suc j) 0
 one_line cost n j l =
     let h = table-least cost n j l in

@@ -54,26 +54,26 @@ table-is_table cost n = record {
 pub start-at : (cost : ℕ → ℕ → ℕ → ℕ) (n : ℕ) (entries : List Entry) → IsTable cost n entries → (j : ℕ) → j ≤ n → get_or (map (λ (x : Entry). x.start) entries) j 0 ≡ (entry_at entries j).start
 start-at cost n entries is j l = let len = is.len in get_or-map (λ (x : Entry). x.start) entries j first_entry 0 (omega arith)
 
--- ---- the starts that are told
+-- ---- the starts that are reported
 
 pub starts_of_minima : (entries : List Entry) → map (λ (m : Minimum). m.start) (map minimum_of entries) ≡ map (λ (x : Entry). x.start) entries
 starts_of_minima [] = refl
 starts_of_minima (x ∷ entries) = ap (λ l. x.start ∷ l) (starts_of_minima entries)
 
-module _ (cost : ℕ → ℕ → ℕ → ℕ) (n : ℕ) (minima : List Minimum) (told : minima ≡ map minimum_of (table cost n)) where
-  pub starts_told : map (λ (m : Minimum). m.start) minima ≡ map (λ (x : Entry). x.start) (table cost n)
-  starts_told = ap (map (λ (m : Minimum). m.start)) told ∙ starts_of_minima (table cost n)
+module _ (cost : ℕ → ℕ → ℕ → ℕ) (n : ℕ) (minima : List Minimum) (reported : minima ≡ map minimum_of (table cost n)) where
+  pub starts_reported : map (λ (m : Minimum). m.start) minima ≡ map (λ (x : Entry). x.start) (table cost n)
+  starts_reported = ap (map (λ (m : Minimum). m.start)) reported ∙ starts_of_minima (table cost n)
 
-  pub length_told : length minima ≡ n + 1
-  length_told = ap length told ∙ length-map (table cost n) minimum_of ∙ length-table cost n
+  pub length_reported : length minima ≡ n + 1
+  length_reported = ap length reported ∙ length-map (table cost n) minimum_of ∙ length-table cost n
 
-  pub first_told : get_or (map (λ (m : Minimum). m.start) minima) 0 0 ≡ 0
-  first_told = ap (λ l. get_or l 0 0) starts_told ∙ start-at cost n (table cost n) (table-is_table cost n) 0 (omega arith) ∙ ap (λ (x : Entry). x.start) (entry-table_first cost n)
+  pub first_reported : get_or (map (λ (m : Minimum). m.start) minima) 0 0 ≡ 0
+  first_reported = ap (λ l. get_or l 0 0) starts_reported ∙ start-at cost n (table cost n) (table-is_table cost n) 0 (omega arith) ∙ ap (λ (x : Entry). x.start) (entry-table_first cost n)
 
-  pub later_told : (j : ℕ) → 0 < j → j ≤ n → get_or (map (λ (m : Minimum). m.start) minima) j 0 < j
-  later_told j p l =
+  pub later_reported : (j : ℕ) → 0 < j → j ≤ n → get_or (map (λ (m : Minimum). m.start) minima) j 0 < j
+  later_reported j p l =
       let is = table-is_table cost n in
-      let e = ap (λ l. get_or l j 0) starts_told ∙ start-at cost n (table cost n) is j l in
+      let e = ap (λ l. get_or l j 0) starts_reported ∙ start-at cost n (table cost n) is j l in
       let later = is.later j p l in
       let below = later.below in omega (arith, e, below)
 

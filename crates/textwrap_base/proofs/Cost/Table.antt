@@ -9,7 +9,7 @@ pub length-table : (cost : ℕ → ℕ → ℕ → ℕ) (n : ℕ) → length (ta
 unfolding table
 length-table cost zero = refl
 length-table cost (suc n) =
-    let e = length_push (table cost n) (cheapest n cost (table cost n) (suc n)) in
+    let e = length_push (table cost n) (cheapest cost n (table cost n) (suc n)) in
     let h = length-table cost n in omega arith
 
 -- an entry stays where the table goes on
@@ -17,14 +17,14 @@ pub entry-table_more : (cost : ℕ → ℕ → ℕ → ℕ) (n j : ℕ) → j �
 unfolding table
 entry-table_more cost n j h =
     let e = length-table cost n in
-    get_or_append_left (table cost n) (cheapest n cost (table cost n) (suc n) ∷ []) first_entry j (omega arith)
+    get_or_append_left (table cost n) (cheapest cost n (table cost n) (suc n) ∷ []) first_entry j (omega arith)
 
 -- its last entry is the cheapest
-pub entry-table_last : (cost : ℕ → ℕ → ℕ → ℕ) (n : ℕ) → entry_at (table cost (suc n)) (suc n) ≡ cheapest n cost (table cost n) (suc n)
+pub entry-table_last : (cost : ℕ → ℕ → ℕ → ℕ) (n : ℕ) → entry_at (table cost (suc n)) (suc n) ≡ cheapest cost n (table cost n) (suc n)
 unfolding table
 entry-table_last cost n =
     let e = length-table cost n in
-    get_or_push (table cost n) (cheapest n cost (table cost n) (suc n)) first_entry (suc n) (omega arith)
+    get_or_push (table cost n) (cheapest cost n (table cost n) (suc n)) first_entry (suc n) (omega arith)
 
 pub entry-table_first : (cost : ℕ → ℕ → ℕ → ℕ) (n : ℕ) → entry_at (table cost n) 0 ≡ first_entry
 unfolding table
@@ -94,7 +94,7 @@ module _ (cost : ℕ → ℕ → ℕ → ℕ) (entries : List Entry) (end : ℕ)
 -- ---- each entry of the table is the least
 
 -- the starts up to m
-pub cheapest-least : (m : ℕ) (cost : ℕ → ℕ → ℕ → ℕ) (entries : List Entry) (end : ℕ) → IsLeastBelow cost entries end (suc m) (cheapest m cost entries end)
+pub cheapest-least : (m : ℕ) (cost : ℕ → ℕ → ℕ → ℕ) (entries : List Entry) (end : ℕ) → IsLeastBelow cost entries end (suc m) (cheapest cost m entries end)
 cheapest-least zero cost entries end = record {
   below = omega arith;
   from_start = refl;
@@ -102,7 +102,7 @@ cheapest-least zero cost entries end = record {
   first = λ i l. absurd (omega arith);
 }
 cheapest-least (suc m) cost entries end =
-    rw add-one at (least_cheaper cost entries end (suc m) (cheapest m cost entries end) (cheapest-least m cost entries end))
+    rw add-one at (least_cheaper cost entries end (suc m) (cheapest cost m entries end) (cheapest-least m cost entries end))
 
 -- only one entry is the least
 pub least_one : (cost : ℕ → ℕ → ℕ → ℕ) (entries : List Entry) (end m : ℕ) (e f : Entry) → IsLeastBelow cost entries end m e → IsLeastBelow cost entries end m f → e ≡ f
@@ -162,7 +162,7 @@ pub table_next : (cost : ℕ → ℕ → ℕ → ℕ) (n : ℕ) (e : Entry) → 
 unfolding table
 table_next cost n e h =
     let h' = rw add-one at h in
-    rw (add-one, least_one cost (table cost n) (suc n) (suc n) e (cheapest n cost (table cost n) (suc n)) h' (cheapest-least n cost (table cost n) (suc n))) refl
+    rw (add-one, least_one cost (table cost n) (suc n) (suc n) e (cheapest cost n (table cost n) (suc n)) h' (cheapest-least n cost (table cost n) (suc n))) refl
 
 -- where no start gives a cost that fits, the next entry does not fit
 pub table_past : (cost : ℕ → ℕ → ℕ → ℕ) (n m : ℕ) → n < m

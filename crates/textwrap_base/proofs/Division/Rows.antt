@@ -15,7 +15,7 @@ use Rattle.textwrap_base.proofs.Division.Greedy.{IsGreedyFrom, IsGreedy-from}
 -- ---- a test of greedy divisions that computes
 
 module _ {X : Type 0} (sizes : X → Sizes) where
-  -- each beginning of two or more, but less than n fragments closes within the width
+  -- each prefix of two or more, but less than n fragments closes within the width
   abbrev fits_below : ℕ → List X → ℕ → Bool
   fits_below width line zero = true
   fits_below width line (suc n) = (ltb n 2 || leb (closed_width sizes (take n line)) width) && fits_below width line n

@@ -1,17 +1,17 @@
 //! The line costs of fragments, from running sums of their widths.
 ghost use Rattle.std.specs.Prelude.{◌≡◌, ℕ, ◌+◌, ◌-◌, ◌*◌, ◌^◌, ◌<◌, ◌≤◌, length, map, max, IfOk, OnOk, SomeIff, ◌&&◌, nat_lt, ◌==◌, if◌then◌else◌, slice_range};
 ghost use Rattle.textwrap_base.specs.Minima.{LineCostsView, counted};
-ghost use Rattle.textwrap_base.specs.Cost.{priced_at, total_width, fit_cost, line_cost, target};
-ghost use Rattle.textwrap_base.specs.Errors.{Overflowed};
+ghost use Rattle.textwrap_base.specs.Cost.{priced_at, total_width, fit_cost, line_cost};
+ghost use Rattle.textwrap_base.specs.Errors.{Fits128Bits, Passes128Bits, Overflowed};
 ghost use Rattle.textwrap_base.specs.Division.{line_width, closed_width};
 ghost use Rattle.textwrap_base.specs.LineCosts.{measured, AreMeasured};
 ghost use Rattle.textwrap_base.specs.Table.{fragment_costs, line_costs};
 
 use super::{CostSource, Steps};
+use crate::line_widths::line_width;
 use crate::errors::{OverflowError, WrapError};
 use crate::penalties::Penalties;
 use crate::words::Fragment;
-use crate::wrap_algorithms::line_width;
 use std::alloc::{AllocError, Global};
 use std::marker::Model;
 
@@ -52,8 +52,8 @@ impl LineCosts {
     /// The costs of the lines of these fragments.
     ///
     /// # Errors
-    /// Overflow exactly where all widths together pass 2^128-1, before any growth; else want of
-    /// memory.
+    /// Overflow exactly where all widths together need more than 128 bits, before anything is
+    /// allocated. Otherwise out of memory only.
     pub fn new<T: Fragment>(
         alloc: Global,
         fragments: &[T],
@@ -64,8 +64,10 @@ impl LineCosts {
             ≡ fragment_costs (λ x. priced_at penalties.now (T.sizes x)) penalties.now
             line_widths.now fragments.now) }
         ensures count { IfOk result (λ costs. ⟦<LineCosts as CostSource>⟧.steps costs ≡ 0) }
-        ensures overflow_only { Overflowed result → 2 ^ 128 ≤ total_width T.sizes fragments.now }
-        ensures too_wide { 2 ^ 128 ≤ total_width T.sizes fragments.now → Overflowed result }
+        ensures overflow_only { Overflowed result
+            → Passes128Bits (total_width T.sizes fragments.now) }
+        ensures too_wide { Passes128Bits (total_width T.sizes fragments.now)
+            → Overflowed result }
     {
         if total_width(fragments).is_none() {
             return Err(WrapError::Overflow(OverflowError));
@@ -78,7 +80,7 @@ impl LineCosts {
         })
     }
 
-    /// How often a cost was asked.
+    /// How often a cost was asked for.
     pub fn steps(&self) -> u128
         ensures { result ≡ self.now.steps }
     {
@@ -109,7 +111,7 @@ impl CostSource for LineCosts {
     }
 }
 
-/// The cost of the line of the fragments `start` to `end - 1`, or `None` past 2^128-1.
+/// The cost of the line of the fragments `start` to `end - 1`, or `None` where it needs more than 128 bits.
 fn line_cost(
     measures: &[Measure],
     penalties: &Penalties,
@@ -122,7 +124,7 @@ fn line_cost(
     requires measured { AreMeasured measures.now }
     ensures { let cost = line_cost measured penalties.now line_width
         (end == length measures.now) (slice_range measures.now start end)
-        in SomeIff result (cost < 2 ^ 128) cost }
+        in SomeIff result (Fits128Bits cost) cost }
 {
     let line = CostedLine {
         closed: closed_width(measures, start, end),
@@ -145,21 +147,21 @@ struct CostedLine {
 }
 
 impl CostedLine {
-    /// The cost of the line, or `None` past 2^128-1.
+    /// The cost of the line, or `None` where it needs more than 128 bits.
     fn cost(self, penalties: &Penalties) -> Option<u128>
         ensures { let cost = penalties.now.nline_penalty
             + fit_cost penalties.now self.target self.closed self.is_last self.is_single
             + self.break_cost
-            in SomeIff result (cost < 2 ^ 128) cost }
+            in SomeIff result (Fits128Bits cost) cost }
     {
         let fit_cost = self.fit_cost(penalties)?;
         fit_cost.checked_add(penalties.nline_penalty as u128 + self.break_cost as u128)
     }
 
-    /// The cost of missing the target, or `None` past 2^128-1.
+    /// The cost of missing the target, or `None` where it needs more than 128 bits.
     fn fit_cost(self, penalties: &Penalties) -> Option<u128>
-        ensures { let cost = fit_cost penalties.now self.target self.closed self.is_last self.is_single
-            in SomeIff result (cost < 2 ^ 128) cost }
+        ensures { let cost = fit_cost penalties.now self.target self.closed self.is_last
+            self.is_single in SomeIff result (Fits128Bits cost) cost }
     {
         let target = self.target as u128;
         if self.closed > target {
@@ -190,9 +192,9 @@ fn closed_width(measures: &[Measure], start: usize, end: usize) -> u128
     last.before - measures[start].before + last.width as u128 + last.penalty as u128
 }
 
-/// All widths, whitespace widths and penalty widths together, or `None` past 2^128-1.
+/// All widths, whitespace widths and penalty widths together, or `None` where it needs more than 128 bits.
 fn total_width<T: Fragment>(fragments: &[T]) -> Option<u128>
-    ensures { SomeIff result (total_width T.sizes fragments.now < 2 ^ 128)
+    ensures { SomeIff result (Fits128Bits (total_width T.sizes fragments.now))
         (total_width T.sizes fragments.now) }
 {
     let mut total = 0u128;
@@ -211,7 +213,7 @@ fn measures_of<T: Fragment>(
     fragments: &[T],
     penalties: &Penalties,
 ) -> Result<Vec<Measure>, AllocError>
-    requires { total_width T.sizes fragments.now < 2 ^ 128 }
+    requires { Fits128Bits (total_width T.sizes fragments.now) }
     ensures measured { IfOk result (λ measures. AreMeasured measures.items) }
     ensures priced { IfOk result (λ measures. map measured measures.items
         ≡ map (λ x. priced_at penalties.now (T.sizes x)) fragments.now) }

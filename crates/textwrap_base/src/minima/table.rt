@@ -1,14 +1,14 @@
 //! The table of least costs over any source of line costs.
 ghost use Rattle.std.specs.Prelude.{◌≡◌, ℕ, ◌+◌, ◌*◌, ◌^◌, ◌<◌, ◌≤◌, length, map, IfOk, OnOk, SomeIff, slice_index_or};
 ghost use Rattle.textwrap_base.specs.Minima.{counted, table_steps};
-ghost use Rattle.textwrap_base.specs.Errors.{Overflowed};
+ghost use Rattle.textwrap_base.specs.Errors.{Fits128Bits, Passes128Bits, Overflowed};
 ghost use Rattle.textwrap_base.specs.Table.{first_entry, entry_from, entry_at, cheaper_of, table, minimum_of, IsBestBelow};
 
 use super::{CostSource, Minimum};
 use crate::errors::{OverflowError, WrapError};
 use std::alloc::{AllocError, Global};
 
-/// The cost of a beginning, where its last line starts, and the number of the line after it.
+/// The cost of a prefix, where its last line starts, and the number of the line after it.
 #[derive(Clone, Copy)]
 pub(super) struct Entry {
     start: usize,
@@ -23,10 +23,12 @@ pub(super) fn fill_table<C: CostSource>(
 ) -> Result<Vec<Entry>, WrapError>
     ensures entries { IfOk result (λ entries.
         entries.items ≡ table (C.costs costs.old).cost (C.costs costs.old).ends) }
-    ensures overflow_only { Overflowed result → ((j : ℕ) × (j ≤ (C.costs costs.old).ends)
-        × (2 ^ 128 ≤ (entry_at (table (C.costs costs.old).cost (C.costs costs.old).ends) j).cost)) }
-    ensures ok_only { OnOk result ((j : ℕ) → j ≤ (C.costs costs.old).ends
-        → (entry_at (table (C.costs costs.old).cost (C.costs costs.old).ends) j).cost < 2 ^ 128) }
+    ensures overflow_only { let entries = table (C.costs costs.old).cost (C.costs costs.old).ends
+        in Overflowed result → ((j : ℕ) × (j ≤ (C.costs costs.old).ends)
+        × Passes128Bits (entry_at entries j).cost) }
+    ensures ok_only { let entries = table (C.costs costs.old).cost (C.costs costs.old).ends
+        in OnOk result ((j : ℕ) → j ≤ (C.costs costs.old).ends
+        → Fits128Bits (entry_at entries j).cost) }
     ensures same { C.costs costs.new ≡ C.costs costs.old }
     ensures steps_ok { OnOk result
         (C.steps costs.new ≡ counted (C.steps costs.old) (table_steps (C.costs costs.old).ends)) }
@@ -48,7 +50,7 @@ pub(super) fn fill_table<C: CostSource>(
     Ok(entries)
 }
 
-/// The cheapest entry for the end from the entries before it, the earliest among equals.
+/// The cheapest entry for the end from the entries before it, of several the earliest.
 fn cheapest<C: CostSource>(costs: &mut C, entries: &[Entry], end: usize) -> Option<Entry>
     requires within { end ≤ (C.costs costs.old).ends }
     requires len { length entries.now ≡ end }
@@ -75,7 +77,7 @@ fn entry_from<C: CostSource>(
     requires within { end ≤ (C.costs costs.old).ends }
     requires number { entry.now.line_number ≤ start }
     ensures entry { SomeIff result
-        ((entry_from (C.costs costs.old).cost start entry.now end).cost < 2 ^ 128)
+        (Fits128Bits (entry_from (C.costs costs.old).cost start entry.now end).cost)
         (entry_from (C.costs costs.old).cost start entry.now end) }
     ensures same { C.costs costs.new ≡ C.costs costs.old }
     ensures steps { C.steps costs.new ≡ counted (C.steps costs.old) 1 }
@@ -88,7 +90,7 @@ fn entry_from<C: CostSource>(
     })
 }
 
-/// The cheaper of two, the former among equals. `None` passes every number.
+/// The cheaper of two, the former where they cost the same. `None` passes every number.
 fn cheaper(best: Option<Entry>, other: Option<Entry>) -> Option<Entry>
     ensures { result ≡ cheaper_of best other }
 {
@@ -99,7 +101,7 @@ fn cheaper(best: Option<Entry>, other: Option<Entry>) -> Option<Entry>
     }
 }
 
-/// What is told of the entries.
+/// The starts and the costs of the entries, which are what a caller sees.
 pub(super) fn minima_of(alloc: Global, entries: &[Entry]) -> Result<Vec<Minimum>, AllocError>
     ensures { IfOk result (λ minima. minima.items ≡ map minimum_of entries.now) }
 {

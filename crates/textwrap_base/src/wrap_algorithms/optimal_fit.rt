@@ -1,10 +1,10 @@
 //! Optimal fit: the division of least cost.
-ghost use Rattle.std.specs.Prelude.{◌≡◌, ℕ, ◌+◌, ◌^◌, ◌<◌, ◌≤◌, length, map, slice_index, IfOk, OnOk};
-ghost use Rattle.textwrap_base.specs.Minima.{counted, table_steps};
-ghost use Rattle.textwrap_base.specs.Cost.{priced_at, total_width, AreEqualFromSecond, IsChosen, Overflows};
-ghost use Rattle.textwrap_base.specs.Errors.{Overflowed};
+ghost use Rattle.std.specs.Prelude.{◌≡◌, ℕ, ◌+◌, ◌<◌, ◌≤◌, length, map, slice_index, IfOk};
+ghost use Rattle.textwrap_base.specs.Minima.{CountsSteps};
+ghost use Rattle.textwrap_base.specs.Cost.{priced_at};
 ghost use Rattle.textwrap_base.specs.Division.{IsDivision};
-ghost use Rattle.textwrap_base.specs.Table.{fragments_table, TableOverflows, FollowStarts, IsByTable};
+ghost use Rattle.textwrap_base.specs.Table.{FollowStarts};
+ghost use Rattle.textwrap_base.specs.OptimalFit.{IsOptimalFitResult};
 
 use crate::errors::WrapError;
 use crate::minima::{Minimum, Steps, table_minima};
@@ -13,47 +13,34 @@ use crate::words::Fragment;
 use std::alloc::{AllocError, Global};
 
 /// Divides the fragments into the lines of least cost (after Knuth and Plass, "Breaking
-/// Paragraphs into Lines", 1981). Line l, counted from 0, has the width `line_widths[l]`, or the
-/// last of them past the end, or 0 where there is none. No fragments give one empty line.
+/// Paragraphs into Lines", 1981). Line l, counted from 0, may be `line_widths[l]` wide. The last
+/// width serves all later lines, and without any width it is 0. No fragments give one empty line.
 ///
-/// Where the line widths are equal from the second on, no division costs less. Among those of
-/// least cost it is the one whose last line starts earliest, then whose line before that starts
-/// earliest, and so on. For other line widths it follows the starts of `table_minima` back.
+/// Where all lines but the first have one width, each other division costs as much or more. Of
+/// several that cost the same, the last line starts as early as it can, then the line before it,
+/// and so on. For other line widths the lines are those to which the starts of `table_minima`
+/// lead, from the end back.
 ///
 /// # Errors
-/// Overflow exactly where all widths together pass 2^128-1 or a beginning's cost in the table does,
-/// which is its least where the line widths are equal from the second on; else want of memory.
-/// Where the widths pass there is no growth before the refusal. There is no overflow where all
-/// widths together keep to 64 bits.
+/// Overflow exactly where all widths together need more than 128 bits, or the cost of a prefix in
+/// the table does. That cost is the least of the prefix where all lines but the first have one
+/// width. Otherwise out of memory only. Nothing is allocated before widths that are too large are
+/// refused. There is no overflow where all widths together fit 64 bits.
 pub fn wrap_optimal_fit<'a, T: Fragment>(
     alloc: Global,
     fragments: &'a [T],
     line_widths: &[usize],
     penalties: &Penalties,
 ) -> Result<Vec<&'a [T]>, WrapError>
-    ensures chosen { AreEqualFromSecond line_widths.now → IfOk result (λ lines.
-        IsChosen (λ x. priced_at penalties.now (T.sizes x)) penalties.now line_widths.now fragments.now
-        (map (λ line. line.now) lines.items)) }
-    ensures overflow_only { AreEqualFromSecond line_widths.now → Overflowed result
-        → Overflows (λ x. priced_at penalties.now (T.sizes x)) penalties.now line_widths.now fragments.now }
-    ensures ok_only { AreEqualFromSecond line_widths.now → OnOk result
-        (¬ Overflows (λ x. priced_at penalties.now (T.sizes x)) penalties.now line_widths.now fragments.now) }
-    ensures by_table { IfOk result (λ lines.
-        IsByTable (λ x. priced_at penalties.now (T.sizes x)) penalties.now line_widths.now fragments.now
-        (map (λ line. line.now) lines.items)) }
-    ensures table_overflow_only { Overflowed result
-        → TableOverflows (λ x. priced_at penalties.now (T.sizes x)) penalties.now line_widths.now fragments.now }
-    ensures table_ok_only { OnOk result
-        (¬ TableOverflows (λ x. priced_at penalties.now (T.sizes x)) penalties.now line_widths.now fragments.now) }
-    ensures too_wide { 2 ^ 128 ≤ total_width T.sizes fragments.now → Overflowed result }
-    ensures no_overflow { total_width T.sizes fragments.now < 2 ^ 64 → ¬ Overflowed result }
+    ensures fit { IsOptimalFitResult (λ x. priced_at penalties.now (T.sizes x)) penalties.now
+        line_widths.now fragments.now (λ lines. map (λ line. line.now) lines.items) result }
 {
     let mut steps = Steps::new();
     wrap_optimal_fit_counted(alloc, fragments, line_widths, penalties, &mut steps)
 }
 
-/// What `wrap_optimal_fit` answers. `steps` goes up by one for each line cost that is asked: by
-/// n(n + 1)/2 for n fragments at `Ok`, by at most that at `Err`.
+/// Returns what `wrap_optimal_fit` returns. `steps` goes up by one for each line cost that was asked
+/// for: by n(n + 1)/2 for n fragments at `Ok`, and by no more at `Err`.
 ///
 /// # Errors
 /// Those of `wrap_optimal_fit`.
@@ -64,28 +51,9 @@ pub fn wrap_optimal_fit_counted<'a, T: Fragment>(
     penalties: &Penalties,
     steps: &mut Steps,
 ) -> Result<Vec<&'a [T]>, WrapError>
-    ensures chosen { AreEqualFromSecond line_widths.now → IfOk result (λ lines.
-        IsChosen (λ x. priced_at penalties.now (T.sizes x)) penalties.now line_widths.now fragments.now
-        (map (λ line. line.now) lines.items)) }
-    ensures overflow_only { AreEqualFromSecond line_widths.now → Overflowed result
-        → Overflows (λ x. priced_at penalties.now (T.sizes x)) penalties.now line_widths.now fragments.now }
-    ensures ok_only { AreEqualFromSecond line_widths.now → OnOk result
-        (¬ Overflows (λ x. priced_at penalties.now (T.sizes x)) penalties.now line_widths.now fragments.now) }
-    ensures by_table { IfOk result (λ lines.
-        IsByTable (λ x. priced_at penalties.now (T.sizes x)) penalties.now line_widths.now fragments.now
-        (map (λ line. line.now) lines.items)) }
-    ensures table_overflow_only { Overflowed result
-        → TableOverflows (λ x. priced_at penalties.now (T.sizes x)) penalties.now line_widths.now fragments.now }
-    ensures table_ok_only { OnOk result
-        (¬ TableOverflows (λ x. priced_at penalties.now (T.sizes x)) penalties.now line_widths.now fragments.now) }
-    ensures too_wide { 2 ^ 128 ≤ total_width T.sizes fragments.now → Overflowed result }
-    ensures no_overflow { total_width T.sizes fragments.now < 2 ^ 64 → ¬ Overflowed result }
-    ensures steps_ok { OnOk result
-        (steps.new ≡ counted steps.old (table_steps (length fragments.now))) }
-    ensures steps_exact { OnOk result
-        (steps.old ≡ 0 → steps.new ≡ table_steps (length fragments.now)) }
-    ensures steps_most { steps.new ≤ steps.old + table_steps (length fragments.now) }
-    ensures steps_least { steps.old ≤ steps.new }
+    ensures fit { IsOptimalFitResult (λ x. priced_at penalties.now (T.sizes x)) penalties.now
+        line_widths.now fragments.now (λ lines. map (λ line. line.now) lines.items) result }
+    ensures steps { CountsSteps (length fragments.now) steps.old steps.new result }
 {
     let minima = table_minima(alloc, fragments, line_widths, penalties, steps)?;
     Ok(lines_by(alloc, fragments, &minima)?)
@@ -136,19 +104,13 @@ fn line_start(minima: &[Minimum], end: usize) -> usize
 #[cfg(test)]
 mod tests {
     use super::*;
-    use crate::testing::{FALLING, Piece};
+    use crate::testing::{Block, FALLING};
     use crate::words::Word;
     use crate::wrap_algorithms::WrapAlgorithm;
     use std::test::Fail;
 
-    /// How many fragments each line of the optimal fit has.
-    fn optimal(
-        alloc: Global,
-        pieces: &[Piece],
-        line_widths: &[usize],
-        penalties: &Penalties,
-    ) -> Result<Vec<usize>, WrapError> {
-        let lines = wrap_optimal_fit(alloc, pieces, line_widths, penalties)?;
+    /// How many fragments each line has.
+    fn lens_of<T>(alloc: Global, lines: &[&[T]]) -> Result<Vec<usize>, WrapError> {
         let mut lens = Vec::new(alloc);
         for line in lines {
             lens.push(line.len())?;
@@ -156,19 +118,29 @@ mod tests {
         Ok(lens)
     }
 
-    fn is_refused(answer: Result<Vec<usize>, WrapError>) -> bool {
-        matches!(&answer, Err(WrapError::Overflow(_)))
+    /// How many fragments each line of the optimal fit has.
+    fn optimal(
+        alloc: Global,
+        blocks: &[Block],
+        line_widths: &[usize],
+        penalties: &Penalties,
+    ) -> Result<Vec<usize>, WrapError> {
+        lens_of(alloc, &wrap_optimal_fit(alloc, blocks, line_widths, penalties)?)
+    }
+
+    fn is_refused(result: Result<Vec<usize>, WrapError>) -> bool {
+        matches!(&result, Err(WrapError::Overflow(_)))
     }
 
     #[test]
-    fn two_pieces_share_a_line_while_that_costs_less(rt: HostRuntime) -> Result<(), Fail> {
-        let pieces = [Piece(3, 1, 0), Piece(50, 0, 0)];
+    fn two_blocks_share_a_line_while_that_costs_less(rt: HostRuntime) -> Result<(), Fail> {
+        let blocks = [Block(3, 1, 0), Block(50, 0, 0)];
         let penalties = Penalties::new();
-        let lens = optimal(rt.alloc(), &pieces, &[54], &penalties)?;
+        let lens = optimal(rt.alloc(), &blocks, &[54], &penalties)?;
         assert_eq!(rt; lens.as_slice(), [2].as_slice());
-        let lens = optimal(rt.alloc(), &pieces, &[53], &penalties)?;
+        let lens = optimal(rt.alloc(), &blocks, &[53], &penalties)?;
         assert_eq!(rt; lens.as_slice(), [2].as_slice());
-        let lens = optimal(rt.alloc(), &pieces, &[52], &penalties)?;
+        let lens = optimal(rt.alloc(), &blocks, &[52], &penalties)?;
         assert_eq!(rt; lens.as_slice(), [1, 1].as_slice());
         Ok(())
     }
@@ -185,7 +157,7 @@ mod tests {
         let mut penalties = Penalties::new();
         for fraction in [4, 0] {
             penalties.short_last_line_fraction = fraction;
-            let lens = optimal(rt.alloc(), &[Piece(10, 0, 0)], &[10], &penalties)?;
+            let lens = optimal(rt.alloc(), &[Block(10, 0, 0)], &[10], &penalties)?;
             assert_eq!(rt; lens.as_slice(), [1].as_slice(), "{fraction}");
         }
         Ok(())
@@ -209,8 +181,8 @@ mod tests {
 
     #[test]
     fn line_widths_that_differ_follow_the_table(rt: HostRuntime) -> Result<(), Fail> {
-        let pieces = [Piece(5, 0, 0), Piece(5, 0, 0), Piece(20, 0, 0)];
-        let lens = optimal(rt.alloc(), &pieces, &[10, 5, 100], &Penalties::new())?;
+        let blocks = [Block(5, 0, 0), Block(5, 0, 0), Block(20, 0, 0)];
+        let lens = optimal(rt.alloc(), &blocks, &[10, 5, 100], &Penalties::new())?;
         assert_eq!(rt; lens.as_slice(), [2, 1].as_slice());
         Ok(())
     }
@@ -219,36 +191,22 @@ mod tests {
     fn costs_past_128_bits_are_refused(rt: HostRuntime) -> Result<(), Fail> {
         let mut penalties = Penalties::new();
         penalties.overflow_penalty = usize::MAX;
-        let widest = Piece(usize::MAX, 0, 0);
+        let widest = Block(usize::MAX, 0, 0);
         let lens = optimal(rt.alloc(), &[widest], &[0], &penalties)?;
         assert_eq!(rt; lens.as_slice(), [1].as_slice());
         let refused = optimal(rt.alloc(), &[widest, widest], &[0], &penalties);
         assert!(rt; is_refused(refused));
-        let broken = [Piece(usize::MAX, 0, usize::MAX), Piece(0, 0, 0)];
+        let broken = [Block(usize::MAX, 0, usize::MAX), Block(0, 0, 0)];
         let refused = optimal(rt.alloc(), &broken, &[0], &penalties);
         assert!(rt; is_refused(refused));
         Ok(())
     }
 
-    /// How many words each line has.
-    fn lens_of(
-        alloc: Global,
-        algorithm: &WrapAlgorithm,
-        words: &[Word<'_>],
-        line_widths: &[usize],
-    ) -> Result<Vec<usize>, WrapError> {
-        let lines = algorithm.wrap(alloc, words, line_widths)?;
-        let mut lens = Vec::new(alloc);
-        for line in lines {
-            lens.push(line.len())?;
-        }
-        Ok(lens)
-    }
-
     #[test]
     fn an_algorithm_divides_words(rt: HostRuntime) -> Result<(), Fail> {
         let words = [Word::from("foo "), Word::from("bar")];
-        let lens = lens_of(rt.alloc(), &WrapAlgorithm::new(), &words, &[3])?;
+        let lines = WrapAlgorithm::new().wrap(rt.alloc(), &words, &[3])?;
+        let lens = lens_of(rt.alloc(), &lines)?;
         assert_eq!(rt; lens.as_slice(), [1, 1].as_slice());
         Ok(())
     }
@@ -267,9 +225,11 @@ mod tests {
             Word::from("the "),
             Word::from("question"),
         ];
-        let lens = lens_of(rt.alloc(), &WrapAlgorithm::new(), &words, &[10, 10])?;
+        let lines = WrapAlgorithm::new().wrap(rt.alloc(), &words, &[10, 10])?;
+        let lens = lens_of(rt.alloc(), &lines)?;
         assert_eq!(rt; lens.as_slice(), [2, 3, 2, 2, 1].as_slice());
-        let lens = lens_of(rt.alloc(), &WrapAlgorithm::FirstFit, &words, &[10, 10])?;
+        let lines = WrapAlgorithm::FirstFit.wrap(rt.alloc(), &words, &[10, 10])?;
+        let lens = lens_of(rt.alloc(), &lines)?;
         assert_eq!(rt; lens.as_slice(), [3, 3, 2, 1, 1].as_slice());
         Ok(())
     }

@@ -4,7 +4,7 @@ use Rattle.textwrap_base.specs.Minima.{Costs}
 use Rattle.textwrap_base.specs.Table.{table, entry_at, minimum_of, fragment_costs}
 use Rattle.textwrap_base.specs.declared.minima.table.Entry.{Entry}
 use Rattle.textwrap_base.proofs.Cost.Overflow.{table-fits, overflowed_on}
-use Rattle.textwrap_base.proofs.Cost.Measures.{priced_at-all_fit}
+use Rattle.textwrap_base.proofs.Cost.Measures.{Are64Bits, priced_at-all_fit}
 use Rattle.textwrap_base.proofs.minima.table_minima.Goals as goal
 
 pub returns-in_err-entries-clause-overflow_only : goal.returns-in_err-entries-clause-overflow_only
@@ -17,9 +17,15 @@ returns-in_err-entries-clause-overflow_only g c =
 pub returns-in_err-entries-clause-no_overflow : goal.returns-in_err-entries-clause-no_overflow
 returns-in_err-entries-clause-no_overflow g c =
     let lines = c.in_ok-costs.ensures.lines in
+    let kept : Are64Bits c.in_range-penalties.result = record {
+      nline = c.in_range-penalties.ensures.nline;
+      overflow = c.in_range-penalties.ensures.overflow;
+      short_last_line = c.in_range-penalties.ensures.short_last_line;
+      hyphen = c.in_range-penalties.ensures.hyphen;
+    } in
     λ narrow over.
-    let fits = table-fits (λ x. priced_at c.in_range-penalties.result (g.T.Fragment.sizes x)) c.in_range-penalties.result c.args.line_widths.now c.args.fragments.now c.in_range-penalties.ensures.fits
-    (priced_at-all_fit c.in_range-penalties.result g.T.Fragment.sizes c.args.fragments.now c.in_range-penalties.ensures.fits) (λ i. omega (arith, c.type_inv.line_widths i)) narrow in
+    let fits = table-fits (λ x. priced_at c.in_range-penalties.result (g.T.Fragment.sizes x)) c.in_range-penalties.result c.args.line_widths.now c.args.fragments.now kept
+    (priced_at-all_fit c.in_range-penalties.result g.T.Fragment.sizes c.args.fragments.now kept) (λ i. omega (arith, c.type_inv.line_widths i)) narrow in
     let past = subst (λ (l : Costs). (j : ℕ) × (j ≤ l.ends) × (2 ^ 128 ≤ (entry_at (table l.cost l.ends) j).cost)) lines
     (c.in_err-entries.ensures.overflow_only (overflowed_on (Vec Entry Global) c.from_residual-in_err-entries.result c.in_err-entries.field-0.0 c.from_residual-in_err-entries.ensures.1 over)) in
     let (j, l, p) = past in

@@ -15,15 +15,16 @@ pub record PricedSizes : Type 0 where
 
 -- the price of a fragment of these sizes: the hyphen penalty where it has a penalty width
 abbrev pub priced_at : Penalties → Sizes → PricedSizes
-priced_at penalties sizes = record { sizes = sizes;
-    break_cost = if nat_lt 0 sizes.penalty then penalties.hyphen_penalty else 0 }
+priced_at penalties s =
+    record { sizes = s; break_cost = if nat_lt 0 s.penalty then penalties.hyphen_penalty else 0 }
 
--- the cost of a closed width that misses what the line aims at, `is_last` where the line ends all fragments
+-- the cost of a closed width that misses what the line aims at, `is_last` where the line ends all
+-- fragments
 abbrev pub fit_cost : Penalties → ℕ → ℕ → Bool → Bool → ℕ
 fit_cost penalties aim closed is_last is_single =
     if nat_lt aim closed then (closed - aim) * penalties.overflow_penalty
     else if is_last then (if is_single && nat_lt (closed * penalties.short_last_line_fraction) aim
-        then penalties.short_last_line_penalty else 0)
+    then penalties.short_last_line_penalty else 0)
     else (aim - closed) * (aim - closed)
 
 -- the break cost of the last fragment
@@ -51,10 +52,6 @@ total_width sizes = sum_by (λ x. (sizes x).width + (sizes x).whitespace + (size
 abbrev pub starts_from : {X : Type 0} → ℕ → List (List X) → List ℕ
 starts_from at [] = []
 starts_from at (line ∷ lines) = at ∷ starts_from (at + length line) lines
-
--- where the lines start, the last line first
-abbrev pub starts_back : {X : Type 0} → List (List X) → List ℕ
-starts_back lines = reverse (starts_from 0 lines)
 
 -- the first starts that differ are earlier in the former
 abbrev pub AreNoLater : List ℕ → List ℕ → Type 0
@@ -86,12 +83,12 @@ module _ {X : Type 0} (priced : X → PricedSizes) (penalties : Penalties) (widt
         → division_cost (length fragments) lines ≤ division_cost (length fragments) others
     pub earliest : (others : List (List X)) → IsDivision fragments others
         → division_cost (length fragments) others ≡ division_cost (length fragments) lines
-        → AreNoLater (starts_back lines) (starts_back others)
+        → AreNoLater (reverse (starts_from 0 lines)) (reverse (starts_from 0 others))
 
   -- the sum of all widths passes 128 bits, or the cost of each division of some prefix does, and
   -- so the least one
   abbrev pub Overflows : List X → Type 0
-  Overflows fragments =
-      Passes128Bits (total_width (λ x. (priced x).sizes) fragments)
-      ⊎ ((j : ℕ) × (j ≤ length fragments) × ((lines : _) → IsDivision (take j fragments) lines
-        → Passes128Bits (division_cost (length fragments) lines)))
+  Overflows xs =
+      Passes128Bits (total_width (λ x. (priced x).sizes) xs)
+      ⊎ ((j : ℕ) × (j ≤ length xs) × ((lines : List (List X)) → IsDivision (take j xs) lines
+      → Passes128Bits (division_cost (length xs) lines)))

@@ -29,26 +29,20 @@ module _ {X : Type 0} (sizes : X → Sizes) where
   Fits width line = (k : ℕ) → 2 ≤ k → k ≤ length line → closed_width (take k line) ≤ width
 
 module _ {X : Type 0} (sizes : X → Sizes) (widths : List ℕ) where
-  -- each line fits its width, where `number` is that of the first
+  -- each line fits its width, where n is the number of the first
   abbrev pub AllFit : ℕ → List (List X) → Type 0
-  AllFit number [] = ⊤
-  AllFit number (line ∷ lines) =
-      Fits sizes (line_width widths number) line × AllFit (number + 1) lines
+  AllFit n [] = ⊤
+  AllFit n (line ∷ lines) = Fits sizes (line_width widths n) line × AllFit (n + 1) lines
 
   -- no line but the last has room for the fragment after it
   abbrev pub AllFull : ℕ → List (List X) → Type 0
-  AllFull number [] = ⊤
-  AllFull number (line ∷ []) = ⊤
-  AllFull number (line ∷ next ∷ lines) =
-      (line_width widths number < closed_width sizes (line ++ take 1 next))
-      × AllFull (number + 1) (next ∷ lines)
+  AllFull n [] = ⊤
+  AllFull n (line ∷ []) = ⊤
+  AllFull n (line ∷ next ∷ lines) =
+      (line_width widths n < closed_width sizes (line ++ take 1 next)) × AllFull (n + 1) (next ∷ lines)
 
-  -- a division whose lines all fit
-  pub record IsAdmissible (fragments : List X) (lines : List (List X)) : Type 0 where
+  -- first fit: each line fits, and none has room for more
+  pub record IsGreedy (fragments : List X) (lines : List (List X)) : Type 0 where
     pub division : IsDivision fragments lines
     pub fit : AllFit 0 lines
-
-  -- one in which no line has room for more, which is first fit
-  pub record IsGreedy (fragments : List X) (lines : List (List X)) : Type 0 where
-    pub admissible : IsAdmissible fragments lines
     pub full : AllFull 0 lines

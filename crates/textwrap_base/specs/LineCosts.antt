@@ -1,14 +1,16 @@
 -- The measures of fragments: their widths and break costs, and what stands before them on a line
 -- without end.
 use Rattle.std.specs.Prelude.{◌≡◌, ℕ, ◌<◌, List, length, take, slice_index_or}
+use Rattle.textwrap_base.specs.Sizes.{Sizes}
 use Rattle.textwrap_base.specs.Division.{open_width}
 use Rattle.textwrap_base.specs.Cost.{PricedSizes, total_width}
 use Rattle.textwrap_base.specs.Errors.{Fits128Bits}
 use Rattle.textwrap_base.specs.declared.minima.line_costs.Measure.{Measure}
 
 abbrev pub measured : Measure → PricedSizes
-measured m = record { break_cost = m.break_cost;
-    sizes = record { width = m.width; whitespace = m.whitespace; penalty = m.penalty } }
+measured m =
+    let sizes : Sizes = record { width = m.width; whitespace = m.whitespace; penalty = m.penalty } in
+    record { sizes = sizes; break_cost = m.break_cost }
 
 -- each measure knows the open width of those before it, and all widths together keep to 128 bits
 pub record AreMeasured (measures : List Measure) : Type 0 where

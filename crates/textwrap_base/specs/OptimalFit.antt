@@ -15,14 +15,11 @@ module _ {X : Type 0} (priced : X → PricedSizes) (penalties : Penalties) (widt
   -- a call returned such a division, its lines being those of its value, or it refused: with
   -- Overflow where a sum or a cost passes 128 bits, and there alone
   pub record IsOptimalFitResult {A : Type 0} (xs : List X) (lines : A → List (List X))
-      (result : Result A WrapError) : Type 0 where
-    pub chosen : AreEqualFromSecond widths
-        → IfOk result (λ value. IsChosen priced penalties widths xs (lines value))
-    pub overflow_only : AreEqualFromSecond widths
-        → Overflowed result → Overflows priced penalties widths xs
-    pub ok_only : AreEqualFromSecond widths → OnOk result (¬ Overflows priced penalties widths xs)
-    pub by_table : IfOk result (λ value. IsByTable priced penalties widths xs (lines value))
-    pub table_overflow_only : Overflowed result → TableOverflows priced penalties widths xs
-    pub table_ok_only : OnOk result (¬ TableOverflows priced penalties widths xs)
-    pub too_wide : Passes128Bits (total_width (λ x. (priced x).sizes) xs) → Overflowed result
-    pub no_overflow : Fits64Bits (total_width (λ x. (priced x).sizes) xs) → ¬ Overflowed result
+      (r : Result A WrapError) : Type 0 where
+    pub divided : IfOk r (λ value. IsByOptimalFit xs (lines value))
+    pub overflow_only : AreEqualFromSecond widths → Overflowed r → Overflows priced penalties widths xs
+    pub ok_only : AreEqualFromSecond widths → OnOk r (¬ Overflows priced penalties widths xs)
+    pub table_overflow_only : Overflowed r → TableOverflows priced penalties widths xs
+    pub table_ok_only : OnOk r (¬ TableOverflows priced penalties widths xs)
+    pub too_wide : Passes128Bits (total_width (λ x. (priced x).sizes) xs) → Overflowed r
+    pub no_overflow : Fits64Bits (total_width (λ x. (priced x).sizes) xs) → ¬ Overflowed r

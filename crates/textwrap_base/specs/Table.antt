@@ -32,10 +32,10 @@ abbrev pub minimum_of : Entry → Minimum
 minimum_of entry = record { start = entry.start; cost = entry.cost }
 
 module _ (cost : ℕ → ℕ → ℕ → ℕ) where
-  -- what a last line from `start` to `end` makes of the entry at its start
+  -- what a last line from fragment i to before j makes of the entry at i
   abbrev pub entry_from : ℕ → Entry → ℕ → Entry
-  entry_from start entry end = record { start = start; line_number = entry.line_number + 1;
-      cost = entry.cost + cost start end entry.line_number }
+  entry_from i e j =
+      record { start = i; cost = e.cost + cost i j e.line_number; line_number = e.line_number + 1 }
 
   -- the cheapest that the starts up to m give for the end, the earliest where several are
   abbrev pub cheapest : ℕ → List Entry → ℕ → Entry
@@ -77,11 +77,10 @@ FollowStarts starts at (line ∷ lines) =
     (slice_index starts (at + length line) ≡ at) × FollowStarts starts (at + length line) lines
 
 module _ {X : Type 0} (priced : X → PricedSizes) (penalties : Penalties) (widths : List ℕ) where
-  -- the cost of the line from one fragment to before another, by its number
+  -- the cost of the line from fragment i to before j, by its number
   abbrev pub line_costs : List X → ℕ → ℕ → ℕ → ℕ
-  line_costs fragments start end number =
-      line_cost priced penalties (line_width widths number) (end == length fragments)
-      (slice_range fragments start end)
+  line_costs xs i j number =
+      line_cost priced penalties (line_width widths number) (j == length xs) (slice_range xs i j)
 
   abbrev pub fragment_costs : List X → Costs
   fragment_costs fragments = record { ends = length fragments; cost = line_costs fragments }

@@ -5,8 +5,8 @@ ghost use Rattle.textwrap_base.specs.Penalties.{default_penalties};
 ghost use Rattle.textwrap_base.specs.Cost.{total_width};
 ghost use Rattle.textwrap_base.specs.Errors.{Fits64Bits, Overflowed};
 
-use crate::line_widths::line_width;
 pub use crate::errors::{OverflowError, WrapError};
+use crate::line_widths::line_width;
 pub use crate::penalties::Penalties;
 use crate::words::{Fragment, Word};
 pub use optimal_fit::{wrap_optimal_fit, wrap_optimal_fit_counted};
@@ -58,8 +58,7 @@ impl WrapAlgorithm {
             (λ word. sizes_of (word_view word)) line_widths.now words.now }
         ensures ok_only { OnOk result (¬ OverflowsBy (algorithm_view self.now)
             (λ word. sizes_of (word_view word)) line_widths.now words.now) }
-        ensures no_overflow {
-            Fits64Bits (total_width (λ word. sizes_of (word_view word)) words.now)
+        ensures no_overflow { Fits64Bits (total_width (λ word. sizes_of (word_view word)) words.now)
             → ¬ Overflowed result }
     {
         match self {

@@ -4,12 +4,12 @@ use Rattle.std.proofs.lemmas.Bool.{cases_lt}
 use Rattle.std.proofs.lemmas.List.{append-nil, take-append-drop, take_all, length-take-le}
 use Rattle.std.proofs.lemmas.List.Elements.{All-nil}
 use Rattle.textwrap_base.specs.Division.{line_width, IsDivision}
-use Rattle.textwrap_base.specs.Cost.{PricedSizes, line_cost, division_cost, starts_back, AreNoLater, IsChosen, AreEqualFromSecond, Overflows}
+use Rattle.textwrap_base.specs.Cost.{PricedSizes, line_cost, division_cost, AreNoLater, IsChosen, AreEqualFromSecond, Overflows}
 use Rattle.textwrap_base.specs.Table.{entry_at, line_costs, fragments_table, FollowStarts, IsByTable, TableOverflows}
 use Rattle.textwrap_base.specs.declared.minima.table.Entry.{Entry}
 use Rattle.textwrap_base.specs.declared.penalties.Penalties.{Penalties}
 use Rattle.textwrap_base.proofs.Cost.Table.{entry-table_first}
-use Rattle.textwrap_base.proofs.Cost.Lines.{joined, division_joined, joined_division, starts_of_lines, cost_of_lines, follow_of_lines, lines_after, joined_after, some_after, cost_after_starts}
+use Rattle.textwrap_base.proofs.Cost.Lines.{starts_back, joined, division_joined, joined_division, starts_of_lines, cost_of_lines, follow_of_lines, lines_after, joined_after, some_after, cost_after_starts}
 use Rattle.textwrap_base.proofs.Cost.Starts.{AreStarts, starts_cost, FollowBack, IsSteady, table-is_table, table_least, table_followed, table_earliest, starts_to}
 
 -- ---- equal line widths

@@ -14,6 +14,10 @@ use Rattle.textwrap_base.specs.declared.penalties.Penalties.{Penalties}
 use Rattle.textwrap_base.proofs.Cost.Measures.{length-slice}
 use Rattle.textwrap_base.proofs.Cost.Starts.{AreStarts, starts_cost, FollowBack}
 
+-- where the lines start, the last line first
+abbrev pub starts_back : {X : Type 0} → List (List X) → List ℕ
+starts_back lines = reverse (starts_from 0 lines)
+
 abbrev pub joined : {X : Type 0} → List (List X) → List X
 joined lines = flat_map (λ line. line) lines
 

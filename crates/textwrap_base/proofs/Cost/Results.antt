@@ -16,10 +16,9 @@ passed_on A B (Overflow overflow) over = over
 module _ {X A : Type 0} (priced : X → PricedSizes) (penalties : Penalties) (widths : List ℕ) (xs : List X) (lines : A → List (List X)) where
   pub optimal-returned : (value : A) → IsByTable priced penalties widths xs (lines value) → ¬ TableOverflows priced penalties widths xs → IsOptimalFitResult priced penalties widths xs lines (Ok value)
   optimal-returned value by none = record {
-    chosen = λ equal. by_table-chosen priced penalties widths xs (lines value) equal by;
+    divided = record { by_table = by; chosen = λ equal. by_table-chosen priced penalties widths xs (lines value) equal by };
     overflow_only = λ equal over. absurd over;
     ok_only = λ equal over. none (overflows-table priced penalties widths xs equal over);
-    by_table = by;
     table_overflow_only = λ over. absurd over;
     table_ok_only = none;
     too_wide = λ wide. absurd (none (inl wide));
@@ -29,10 +28,9 @@ module _ {X A : Type 0} (priced : X → PricedSizes) (penalties : Penalties) (wi
   refused : (e : WrapError) → (Overflowed {A = A} (Err e) → TableOverflows priced penalties widths xs) → (2 ^ 128 ≤ total_width (λ x. (priced x).sizes) xs → Overflowed {A = A} (Err e))
       → (total_width (λ x. (priced x).sizes) xs < 2 ^ 64 → ¬ Overflowed {A = A} (Err e)) → IsOptimalFitResult priced penalties widths xs lines (Err e)
   refused e table wide narrow = record {
-    chosen = λ equal. tt;
+    divided = tt;
     overflow_only = λ equal over. table-overflows priced penalties widths xs equal (table over);
     ok_only = λ equal. tt;
-    by_table = tt;
     table_overflow_only = table;
     table_ok_only = tt;
     too_wide = wide;

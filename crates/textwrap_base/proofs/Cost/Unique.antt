@@ -1,9 +1,9 @@
 -- Only one division is the chosen one.
 use Rattle.std.proofs.Common.{◌≡◌, ℕ, ◌+◌, inl, inr, List, [], ◌∷◌, length, get_or, take, drop, reverse, refl, sym, ◌∙◌, ap, arith}
 use Rattle.std.proofs.lemmas.List.{append-nil, reverse-reverse, take_at, drop_at}
-use Rattle.textwrap_base.specs.Cost.{PricedSizes, starts_from, starts_back, AreNoLater, IsChosen}
+use Rattle.textwrap_base.specs.Cost.{PricedSizes, starts_from, AreNoLater, IsChosen}
 use Rattle.textwrap_base.specs.declared.penalties.Penalties.{Penalties}
-use Rattle.textwrap_base.proofs.Cost.Lines.{joined}
+use Rattle.textwrap_base.proofs.Cost.Lines.{starts_back, joined}
 
 starts_same : (starts others : List ℕ) → AreNoLater starts others → AreNoLater others starts → starts ≡ others
 starts_same [] [] h k = refl

@@ -8,7 +8,7 @@ use Rattle.unicode_width.specs.Width.{char_width}
 use Rattle.textwrap_base.specs.Sizes.{Sizes}
 use Rattle.textwrap_base.specs.Penalties.{default_penalties}
 use Rattle.textwrap_base.specs.Cost.{priced_at, division_cost}
-use Rattle.textwrap_base.specs.Division.{line_width, closed_width, AllFull, IsDivision, IsAdmissible, IsGreedy}
+use Rattle.textwrap_base.specs.Division.{line_width, closed_width, AllFull, IsDivision, IsGreedy}
 use Rattle.textwrap_base.specs.Words.{sizes_of, words_of}
 use Rattle.textwrap_base.proofs.Division.Greedy.{IsGreedyFrom, IsGreedy-from}
 
@@ -124,15 +124,15 @@ IsDivision-not_empty_line : IsDivision (sized 5 0 0 ∷ []) ([] ∷ (sized 5 0 0
 IsDivision-not_empty_line division = All-head (λ line. line ≢ []) [] ((sized 5 0 0 ∷ []) ∷ []) division.1 refl
 
 -- all three close within the width, but the first two do not
-IsAdmissible-not_past_penalty : IsAdmissible itself (10 ∷ []) (sized 5 0 0 ∷ sized 5 0 5 ∷ sized 0 0 0 ∷ []) ((sized 5 0 0 ∷ sized 5 0 5 ∷ sized 0 0 0 ∷ []) ∷ []) → ⊥
-IsAdmissible-not_past_penalty admissible = let two : 15 ≤ 10 = admissible.fit.0 2 (omega arith) (omega arith) in omega arith
+IsGreedy-not_past_penalty : IsGreedy itself (10 ∷ []) (sized 5 0 0 ∷ sized 5 0 5 ∷ sized 0 0 0 ∷ []) ((sized 5 0 0 ∷ sized 5 0 5 ∷ sized 0 0 0 ∷ []) ∷ []) → ⊥
+IsGreedy-not_past_penalty greedy = let two : 15 ≤ 10 = greedy.fit.0 2 (omega arith) (omega arith) in omega arith
 
 -- the first line has room for the second fragment
 IsGreedy-not_room_left : IsGreedy itself (10 ∷ []) (sized 5 0 0 ∷ sized 5 0 0 ∷ []) ((sized 5 0 0 ∷ []) ∷ (sized 5 0 0 ∷ []) ∷ []) → ⊥
 IsGreedy-not_room_left greedy = let full : 10 < 10 = greedy.full.0 in omega arith
 
 IsGreedy-none : (widths : List ℕ) → IsGreedy itself widths [] ([] ∷ [])
-IsGreedy-none widths = record { admissible = record { division = refl; fit = (λ k two none. absurd (omega arith), tt) }; full = tt }
+IsGreedy-none widths = record { division = refl; fit = (λ k two none. absurd (omega arith), tt); full = tt }
 
 IsGreedy-before_penalty : IsGreedy itself (10 ∷ []) (sized 5 0 0 ∷ sized 5 0 5 ∷ sized 0 0 0 ∷ []) ((sized 5 0 0 ∷ []) ∷ (sized 5 0 5 ∷ sized 0 0 0 ∷ []) ∷ [])
 IsGreedy-before_penalty = IsGreedy-from_test _ _ _ refl refl

@@ -8,8 +8,8 @@ ghost use Rattle.textwrap_base.specs.LineCosts.{measured, AreMeasured};
 ghost use Rattle.textwrap_base.specs.Table.{fragment_costs, line_costs};
 
 use super::{CostSource, Steps};
-use crate::line_widths::line_width;
 use crate::errors::{OverflowError, WrapError};
+use crate::line_widths::line_width;
 use crate::penalties::Penalties;
 use crate::words::Fragment;
 use std::alloc::{AllocError, Global};

@@ -125,11 +125,12 @@ mod tests {
         line_widths: &[usize],
         penalties: &Penalties,
     ) -> Result<Vec<usize>, WrapError> {
-        lens_of(alloc, &wrap_optimal_fit(alloc, blocks, line_widths, penalties)?)
+        let lines = wrap_optimal_fit(alloc, blocks, line_widths, penalties)?;
+        lens_of(alloc, &lines)
     }
 
-    fn is_refused(result: Result<Vec<usize>, WrapError>) -> bool {
-        matches!(&result, Err(WrapError::Overflow(_)))
+    fn is_refused(lens: Result<Vec<usize>, WrapError>) -> bool {
+        matches!(&lens, Err(WrapError::Overflow(_)))
     }
 
     #[test]

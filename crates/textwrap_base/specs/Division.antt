@@ -39,7 +39,8 @@ module _ {X : Type 0} (sizes : X → Sizes) (widths : List ℕ) where
   AllFull n [] = ⊤
   AllFull n (line ∷ []) = ⊤
   AllFull n (line ∷ next ∷ lines) =
-      (line_width widths n < closed_width sizes (line ++ take 1 next)) × AllFull (n + 1) (next ∷ lines)
+      (line_width widths n < closed_width sizes (line ++ take 1 next))
+      × AllFull (n + 1) (next ∷ lines)
 
   -- first fit: each line fits, and none has room for more
   pub record IsGreedy (fragments : List X) (lines : List (List X)) : Type 0 where

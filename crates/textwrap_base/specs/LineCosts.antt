@@ -9,8 +9,8 @@ use Rattle.textwrap_base.specs.declared.minima.line_costs.Measure.{Measure}
 
 abbrev pub measured : Measure → PricedSizes
 measured m =
-    let sizes : Sizes = record { width = m.width; whitespace = m.whitespace; penalty = m.penalty } in
-    record { sizes = sizes; break_cost = m.break_cost }
+    let s : Sizes = record { width = m.width; whitespace = m.whitespace; penalty = m.penalty } in
+    record { sizes = s; break_cost = m.break_cost }
 
 -- each measure knows the open width of those before it, and all widths together keep to 128 bits
 pub record AreMeasured (measures : List Measure) : Type 0 where

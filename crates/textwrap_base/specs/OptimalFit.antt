@@ -17,7 +17,8 @@ module _ {X : Type 0} (priced : X → PricedSizes) (penalties : Penalties) (widt
   pub record IsOptimalFitResult {A : Type 0} (xs : List X) (lines : A → List (List X))
       (r : Result A WrapError) : Type 0 where
     pub divided : IfOk r (λ value. IsByOptimalFit xs (lines value))
-    pub overflow_only : AreEqualFromSecond widths → Overflowed r → Overflows priced penalties widths xs
+    pub overflow_only : AreEqualFromSecond widths → Overflowed r
+        → Overflows priced penalties widths xs
     pub ok_only : AreEqualFromSecond widths → OnOk r (¬ Overflows priced penalties widths xs)
     pub table_overflow_only : Overflowed r → TableOverflows priced penalties widths xs
     pub table_ok_only : OnOk r (¬ TableOverflows priced penalties widths xs)

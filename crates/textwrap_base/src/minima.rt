@@ -94,11 +94,11 @@ pub trait CostSource {
         ensures step { steps self.new ≡ counted (steps self.old) 1 };
 }
 
-/// The table of least costs (after Knuth and Plass), for any list of line widths: a cost and a start
-/// for each prefix of the fragments, the empty one first. The empty prefix costs nothing. A longer
-/// one is a shorter one with one more line, so it costs what the shorter one has in the table and
-/// the cost of that line, and the shorter prefix is chosen for which this is least, of several the
-/// shortest. The lines are numbered along these choices.
+/// The table of least costs (after Knuth and Plass), for any list of line widths: for each prefix
+/// of the fragments, the empty one first, a cost and the start of its last line. The empty prefix
+/// costs nothing. A longer one is a shorter prefix and a last line: it costs what the table has for
+/// the shorter one, and that line. Of these sums the table takes the least, of several the one with
+/// the earliest start. The numbers of the lines follow from the starts that were taken.
 ///
 /// `steps` goes up by n(n + 1)/2 for n fragments at `Ok`, and by no more at `Err`.
 ///

@@ -20,8 +20,8 @@ pub struct Penalties {
 }
 
 impl Penalties {
-    /// The default penalties: 1000 for each line, 2500 for each unit too wide, 25 for a last line of
-    /// a single fragment below a quarter of its target, and 25 for a hyphen.
+    /// The default penalties: 1000 for each line, 2500 for each unit too wide, 25 for a last line
+    /// of a single fragment below a quarter of its target, and 25 for a hyphen.
     pub fn new() -> Self
         ensures { result ≡ default_penalties }
     {

@@ -111,7 +111,8 @@ impl CostSource for LineCosts {
     }
 }
 
-/// The cost of the line of the fragments `start` to `end - 1`, or `None` where it needs more than 128 bits.
+/// The cost of the line of the fragments `start` to `end - 1`, or `None` where it needs more than
+/// 128 bits.
 fn line_cost(
     measures: &[Measure],
     penalties: &Penalties,
@@ -192,7 +193,8 @@ fn closed_width(measures: &[Measure], start: usize, end: usize) -> u128
     last.before - measures[start].before + last.width as u128 + last.penalty as u128
 }
 
-/// All widths, whitespace widths and penalty widths together, or `None` where it needs more than 128 bits.
+/// All widths, whitespace widths and penalty widths together, or `None` where they need more than
+/// 128 bits.
 fn total_width<T: Fragment>(fragments: &[T]) -> Option<u128>
     ensures { SomeIff result (Fits128Bits (total_width T.sizes fragments.now))
         (total_width T.sizes fragments.now) }

@@ -39,8 +39,8 @@ pub fn wrap_optimal_fit<'a, T: Fragment>(
     wrap_optimal_fit_counted(alloc, fragments, line_widths, penalties, &mut steps)
 }
 
-/// Returns what `wrap_optimal_fit` returns. `steps` goes up by one for each line cost that was asked
-/// for: by n(n + 1)/2 for n fragments at `Ok`, and by no more at `Err`.
+/// Returns what `wrap_optimal_fit` returns. `steps` goes up by one for each line cost that was
+/// asked for: by n(n + 1)/2 for n fragments at `Ok`, and by no more at `Err`.
 ///
 /// # Errors
 /// Those of `wrap_optimal_fit`.

@@ -2,7 +2,7 @@ use super::*;
 use crate::words::Word;
 use std::test::Fail;
 
-/// A task of a day: the hours that it takes, and those of sweeping after it and cleaning at night.
+/// A task of a day: its hours, and those of sweeping after it and of cleaning at night.
 #[derive(Debug, Drop)]
 struct Task {
     hours: usize,
@@ -21,7 +21,11 @@ impl Task {
 }
 
 impl Fragment for Task {
-    ghost sizes = { λ task. record { width = task.hours; whitespace = task.sweep; penalty = task.cleanup } };
+    ghost sizes = { λ task. record {
+      width = task.hours;
+      whitespace = task.sweep;
+      penalty = task.cleanup;
+    } };
 
     fn width(&self) -> usize {
         self.hours

@@ -2,7 +2,7 @@
 use Rattle.std.specs.Prelude.{◌≡◌, ◌≢◌, ◌↔◌, ℕ, ◌<◌, List, [], All, IsUtf8}
 use Rattle.std.specs.List.{flat_map}
 use Rattle.textwrap_base.specs.Breaking.{AreBrokenPieces, broken_pieces, broken_words}
-use Rattle.textwrap_base.specs.Cost.{IsChosen}
+use Rattle.textwrap_base.specs.Cost.{PricedSizes, IsChosen}
 use Rattle.textwrap_base.specs.Division.{IsGreedy}
 use Rattle.textwrap_base.specs.Sizes.{Sizes}
 use Rattle.textwrap_base.specs.Table.{table, IsTable}
@@ -47,9 +47,9 @@ GreedyDivisionIsUnique {X} sizes = (widths : List ℕ) (xs : List X) (lines othe
 
 -- these fragments have at most one chosen division
 abbrev pub ChosenDivisionIsUnique : {X : Type 0}
-    → (X → Sizes) → Penalties → List ℕ → List X → Type 0
-ChosenDivisionIsUnique {X} sizes penalties widths xs = (lines others : List (List X))
-    → IsChosen sizes penalties widths xs lines → IsChosen sizes penalties widths xs others
+    → (X → PricedSizes) → Penalties → List ℕ → List X → Type 0
+ChosenDivisionIsUnique {X} priced penalties widths xs = (lines others : List (List X))
+    → IsChosen priced penalties widths xs lines → IsChosen priced penalties widths xs others
     → lines ≡ others
 
 -- a table has in each entry but the first the least of what the entries before it give

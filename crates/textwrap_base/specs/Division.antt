@@ -42,8 +42,12 @@ module _ {X : Type 0} (sizes : X → Sizes) (widths : List ℕ) where
       (line_width widths n < closed_width sizes (line ++ take 1 next))
       × AllFull (n + 1) (next ∷ lines)
 
-  -- first fit: each line fits, and none has room for more
-  pub record IsGreedy (fragments : List X) (lines : List (List X)) : Type 0 where
+  -- a division whose lines all fit
+  pub record IsAdmissible (fragments : List X) (lines : List (List X)) : Type 0 where
     pub division : IsDivision fragments lines
     pub fit : AllFit 0 lines
+
+  -- one in which no line has room for more, which is first fit
+  pub record IsGreedy (fragments : List X) (lines : List (List X)) : Type 0 where
+    pub admissible : IsAdmissible fragments lines
     pub full : AllFull 0 lines

@@ -2,7 +2,7 @@
 use Rattle.std.proofs.Common.{◌≡◌, ℕ, Bool, true, false, MatchBool, ◌||◌, nat_lt, List, [], ◌∷◌, length, get_or, map, sym, ap, ◌∙◌, subst, arith}
 use Rattle.textwrap_base.specs.Sizes.{Sizes}
 use Rattle.textwrap_base.specs.WrapAlgorithms.{Algorithm, Greedy, LeastCost, IsDividedBy}
-use Rattle.textwrap_base.specs.Cost.{AreEqualFromSecond}
+use Rattle.textwrap_base.specs.Cost.{AreEqualFromSecond, priced_at}
 use Rattle.textwrap_base.specs.Words.{WordText, sizes_of, word_of}
 use Rattle.textwrap_base.proofs.Division.Unique.{greedy_unique}
 use Rattle.textwrap_base.proofs.Cost.Unique.{chosen_one}
@@ -24,7 +24,7 @@ two_widths first later k from within = let second : k ≡ 1 = omega (arith, from
 divided_one : {X : Type 0} (algorithm : Algorithm) (sizes : X → Sizes) (widths : List ℕ) (xs : List X) (lines others : List (List X)) → AreEqualFromSecond widths
     → IsDividedBy algorithm sizes widths xs lines → IsDividedBy algorithm sizes widths xs others → lines ≡ others
 divided_one Greedy sizes widths xs lines others equal one other = greedy_unique sizes widths xs lines others one other
-divided_one (LeastCost penalties) sizes widths xs lines others equal one other = chosen_one sizes penalties widths xs lines others (one.chosen equal) (other.chosen equal)
+divided_one (LeastCost penalties) sizes widths xs lines others equal one other = chosen_one (λ x. priced_at penalties (sizes x)) penalties widths xs lines others (one.chosen equal) (other.chosen equal)
 
 pub division_one : (settings : Settings) (algorithm : Algorithm) (separator : WordSeparator) (splitter : WordSplitter) (paragraph : List ℕ) (division other : List (List WordText))
     → IsDividedInto settings (AreSeparated separator) (ArePoints splitter) algorithm paragraph division → IsDividedInto settings (AreSeparated separator) (ArePoints splitter) algorithm paragraph other → division ≡ other

@@ -95,4 +95,4 @@ module _ {X : Type 0} (sizes : X → Sizes) (widths : List ℕ) where
 
   pub IsGreedy-from : (xs : List X) (lines : List (List X)) → 0 < length xs → IsGreedyFrom sizes widths 0 xs lines → IsGreedy sizes widths xs lines
   IsGreedy-from [] lines some greedy = absurd (omega arith)
-  IsGreedy-from (x ∷ xs) lines some greedy = record { division = (greedy.whole, greedy.nonempty); fit = greedy.fit; full = greedy.full }
+  IsGreedy-from (x ∷ xs) lines some greedy = record { admissible = record { division = (greedy.whole, greedy.nonempty); fit = greedy.fit }; full = greedy.full }

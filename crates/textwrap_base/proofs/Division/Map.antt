@@ -51,8 +51,7 @@ module _ {X Y : Type 0} (f : X → Y) (sizes : Y → Sizes) where
 
   pub IsGreedy-map : (widths : List ℕ) (xs : List X) (lines : List (List X)) → IsGreedy (λ x. sizes (f x)) widths xs lines → IsGreedy sizes widths (map f xs) (map (map f) lines)
   IsGreedy-map widths xs lines greedy = record {
-    division = IsDivision-map xs lines greedy.division;
-    fit = AllFit-map widths 0 lines greedy.fit;
+    admissible = record { division = IsDivision-map xs lines greedy.admissible.division; fit = AllFit-map widths 0 lines greedy.admissible.fit };
     full = AllFull-map widths 0 lines greedy.full;
   }
 
@@ -69,5 +68,5 @@ IsDivision-whole (x ∷ xs) lines division = division.0
 
 pub IsDividedBy-whole : {X : Type 0} (sizes : X → Sizes) (algorithm : Algorithm) (widths : List ℕ) (xs : List X) (lines : List (List X)) → IsDividedBy algorithm sizes widths xs lines
     → flat_map (λ line. line) lines ≡ xs
-IsDividedBy-whole sizes Greedy widths xs lines divided = IsDivision-whole xs lines divided.division
+IsDividedBy-whole sizes Greedy widths xs lines divided = IsDivision-whole xs lines divided.admissible.division
 IsDividedBy-whole sizes (LeastCost penalties) widths xs lines divided = IsDivision-whole xs lines divided.by_table.division

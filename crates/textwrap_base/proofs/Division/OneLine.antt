@@ -38,8 +38,7 @@ module _ {X : Type 0} (sizes : X → Sizes) where
 
   greedy_one : (widths : List ℕ) (xs : List X) → All HasNone xs → closed_width sizes xs ≤ line_width widths 0 → IsGreedy sizes widths xs (xs ∷ [])
   greedy_one widths xs none room = record {
-    division = division_one xs;
-    fit = (λ k two within. let part = closed-take xs k none in omega (arith, part, room), tt);
+    admissible = record { division = division_one xs; fit = (λ k two within. let part = closed-take xs k none in omega (arith, part, room), tt) };
     full = tt;
   }
 

@@ -125,14 +125,14 @@ IsDivision-not_empty_line division = All-head (λ line. line ≢ []) [] ((sized 
 
 -- all three close within the width, but the first two do not
 IsGreedy-not_past_penalty : IsGreedy itself (10 ∷ []) (sized 5 0 0 ∷ sized 5 0 5 ∷ sized 0 0 0 ∷ []) ((sized 5 0 0 ∷ sized 5 0 5 ∷ sized 0 0 0 ∷ []) ∷ []) → ⊥
-IsGreedy-not_past_penalty greedy = let two : 15 ≤ 10 = greedy.fit.0 2 (omega arith) (omega arith) in omega arith
+IsGreedy-not_past_penalty greedy = let two : 15 ≤ 10 = greedy.admissible.fit.0 2 (omega arith) (omega arith) in omega arith
 
 -- the first line has room for the second fragment
 IsGreedy-not_room_left : IsGreedy itself (10 ∷ []) (sized 5 0 0 ∷ sized 5 0 0 ∷ []) ((sized 5 0 0 ∷ []) ∷ (sized 5 0 0 ∷ []) ∷ []) → ⊥
 IsGreedy-not_room_left greedy = let full : 10 < 10 = greedy.full.0 in omega arith
 
 IsGreedy-none : (widths : List ℕ) → IsGreedy itself widths [] ([] ∷ [])
-IsGreedy-none widths = record { division = refl; fit = (λ k two none. absurd (omega arith), tt); full = tt }
+IsGreedy-none widths = record { admissible = record { division = refl; fit = (λ k two none. absurd (omega arith), tt) }; full = tt }
 
 IsGreedy-before_penalty : IsGreedy itself (10 ∷ []) (sized 5 0 0 ∷ sized 5 0 5 ∷ sized 0 0 0 ∷ []) ((sized 5 0 0 ∷ []) ∷ (sized 5 0 5 ∷ sized 0 0 0 ∷ []) ∷ [])
 IsGreedy-before_penalty = IsGreedy-from_test _ _ _ refl refl

@@ -57,8 +57,8 @@ module _ {X : Type 0} (sizes : X → Sizes) (widths : List ℕ) where
       cc
 
   from_IsGreedy : (x : X) (xs : List X) (lines : List (List X)) → IsGreedy sizes widths (x ∷ xs) lines → IsGreedyFrom sizes widths 0 (x ∷ xs) lines
-  from_IsGreedy x xs lines greedy = record { whole = greedy.division.0; nonempty = greedy.division.1; fit = greedy.fit; full = greedy.full }
+  from_IsGreedy x xs lines greedy = record { whole = greedy.admissible.division.0; nonempty = greedy.admissible.division.1; fit = greedy.admissible.fit; full = greedy.full }
 
   pub greedy_unique : (xs : List X) (first second : List (List X)) → IsGreedy sizes widths xs first → IsGreedy sizes widths xs second → first ≡ second
-  greedy_unique [] first second one other = one.division ∙ sym other.division
+  greedy_unique [] first second one other = one.admissible.division ∙ sym other.admissible.division
   greedy_unique (x ∷ xs) first second one other = same_lines first second 0 (x ∷ xs) (from_IsGreedy x xs first one) (from_IsGreedy x xs second other)

@@ -1,13 +1,12 @@
 -- The settings of a wrap, as values of the logic.
 use Rattle.std.specs.Prelude.{◌≡◌, ℕ, Bool, true, false, List, []}
 use Rattle.textwrap_base.specs.Penalties.{default_penalties}
-use Rattle.textwrap_base.specs.WrapAlgorithms.{Algorithm, LeastCost}
+use Rattle.textwrap_base.specs.WrapAlgorithms.{Algorithm, LeastCost, algorithm_view}
 use Rattle.textwrap.specs.declared.line_ending.LineEnding.{LineEnding}
 use Rattle.textwrap.specs.declared.line_ending.LineEnding.TheVariants.{LF}
 use Rattle.textwrap.specs.declared.options.Options.{Options}
 use Rattle.textwrap.specs.declared.word_separators.WordSeparator.TheVariants.{AsciiSpace}
 use Rattle.textwrap.specs.declared.word_splitters.WordSplitter.TheVariants.{HyphenSplitter}
-use Rattle.textwrap_base.specs.declared.wrap_algorithms.WrapAlgorithm.TheVariants.{OptimalFit}
 
 -- what the options say, but for the algorithm, the separator and the splitter
 pub record Settings : Type 0 where
@@ -51,6 +50,6 @@ default_algorithm = LeastCost default_penalties
 -- all fields have their defaults at this width
 pub record HasDefaults (width : ℕ) (options : Options) : Type 0 where
   pub settings : settings_view options ≡ settings_at width
-  pub algorithm : options.wrap_algorithm ≡ OptimalFit default_penalties
+  pub algorithm : algorithm_view options.wrap_algorithm ≡ default_algorithm
   pub separator : options.word_separator ≡ AsciiSpace
   pub splitter : options.word_splitter ≡ HyphenSplitter

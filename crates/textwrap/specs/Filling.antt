@@ -22,4 +22,5 @@ IsFilled settings Divides text filled =
 abbrev pub IsFilledAt : ℕ → Algorithm → List ℕ → List ℕ → Type 0
 IsFilledAt width algorithm =
     IsFilled (settings_at width)
-    (IsDividedInto (settings_at width) (AreSeparated AsciiSpace) (ArePoints HyphenSplitter) algorithm)
+    (IsDividedInto (settings_at width) (AreSeparated AsciiSpace)
+        (ArePoints HyphenSplitter) algorithm)

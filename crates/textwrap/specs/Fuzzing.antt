@@ -1,5 +1,6 @@
 -- What the calls on one paragraph promise.
-use Rattle.std.specs.Prelude.{◌≡◌, ℕ, ◌+◌, ◌<◌, List, [], ◌∷◌, length, take, ⊤, Result, OnOk, OnErr, IfErr, alloc_error}
+use Rattle.std.specs.Prelude.{◌≡◌, ℕ, ◌+◌, ◌<◌, List, [], ◌∷◌, length, take, ⊤, Result, OnOk, OnErr}
+use Rattle.std.specs.Prelude.{IfErr, alloc_error}
 use Rattle.std.specs.declared.borrow.CowStr.{CowStr}
 use Rattle.textwrap_base.specs.Division.{line_width, closed_width}
 use Rattle.textwrap_base.specs.Units.{column_characters}

@@ -5,7 +5,8 @@ use Rattle.textwrap_base.specs.WrapAlgorithms.{Algorithm}
 use Rattle.textwrap.specs.Filling.{IsFilled}
 use Rattle.textwrap.specs.LineEnding.{AreParagraphs, paragraphs_of}
 use Rattle.textwrap.specs.Options.{Settings}
-use Rattle.textwrap.specs.Paragraph.{ArePieces, pieces_of, IsDividedInto, AreDividedParts, AreParagraphParts}
+use Rattle.textwrap.specs.Paragraph.{ArePieces, pieces_of, IsDividedInto, AreDividedParts}
+use Rattle.textwrap.specs.Paragraph.{AreParagraphParts}
 use Rattle.textwrap.specs.Text.{AreTextLines}
 use Rattle.textwrap.specs.WordSeparators.{AreSeparated}
 use Rattle.textwrap.specs.WordSplitters.{AreCuts, ArePoints, points_of, split_pieces, split_words}

@@ -27,8 +27,8 @@ settings_view options = record {
   preserve_trailing_space = options.preserve_trailing_space;
 }
 
--- the algorithm, the separator and the splitter stay as they were
-pub record KeepsParts (old new : Options) : Type 0 where
+-- how words are found, split and divided stays as it was
+pub record KeepsMethods (old new : Options) : Type 0 where
   pub algorithm : new.wrap_algorithm ≡ old.wrap_algorithm
   pub separator : new.word_separator ≡ old.word_separator
   pub splitter : new.word_splitter ≡ old.word_splitter

@@ -1,5 +1,6 @@
 -- The lines of a paragraph.
-use Rattle.std.specs.Prelude.{◌≡◌, ℕ, ◌-◌, Bool, true, ◌&&◌, ◌==◌, List, [], ◌∷◌, ◌++◌, length, map, nat_lt, if◌then◌else◌, MatchBool}
+use Rattle.std.specs.Prelude.{◌≡◌, ℕ, ◌-◌, ◌^◌, Bool, true, ◌&&◌, ◌==◌, List, [], ◌∷◌, ◌++◌, length}
+use Rattle.std.specs.Prelude.{map, nat_lt, if◌then◌else◌, MatchBool}
 use Rattle.std.specs.String.{string_bytes}
 use Rattle.std.specs.declared.borrow.CowStr.{CowStr}
 use Rattle.std.specs.declared.borrow.CowStr.TheVariants.{Borrowed, Owned}
@@ -13,6 +14,10 @@ use Rattle.textwrap.specs.WordSplitters.{ArePoints, AreSplit, split_words}
 use Rattle.textwrap.specs.declared.options.Options.{Options}
 use Rattle.textwrap.specs.declared.word_separators.WordSeparator.{WordSeparator}
 use Rattle.textwrap.specs.declared.word_splitters.WordSplitter.{WordSplitter}
+
+-- each text has fewer bytes
+abbrev pub text_limit : ℕ
+text_limit = 2 ^ 63
 
 -- ---- a line
 
@@ -85,7 +90,8 @@ module _ (settings : Settings) (Words : List ℕ → List WordText → Type 0)
   abbrev pub ArePieces : List ℕ → List WordText → Type 0
   ArePieces paragraph pieces =
       (words : List WordText) × (split : List WordText)
-      × Words paragraph words × AreSplit Points words split × (pieces ≡ broken_pieces_of settings split)
+      × Words paragraph words × AreSplit Points words split
+          × (pieces ≡ broken_pieces_of settings split)
 
   -- the paragraph is cut into pieces, and the algorithm divides them so
   abbrev pub IsDividedInto : Algorithm → List ℕ → List (List WordText) → Type 0

@@ -1,5 +1,7 @@
 -- Where a word may be split, and the pieces of it.
-use Rattle.std.specs.Prelude.{◌≡◌, ℕ, ◌++◌, ◌-◌, ◌<◌, Bool, false, ◌==◌, ◌&&◌, ◌||◌, List, [], ◌∷◌, All, chars, drop, filter, if◌then◌else◌, length, reverse, slice_range, take, IsCharBoundary}
+use Rattle.std.specs.Prelude.{◌≡◌, ℕ, ◌++◌, ◌-◌, ◌<◌, Bool, false, ◌==◌, ◌&&◌, ◌||◌, List, [], ◌∷◌}
+use Rattle.std.specs.Prelude.{All, chars, drop, filter, if◌then◌else◌, length, reverse, slice_range}
+use Rattle.std.specs.Prelude.{take, IsCharBoundary}
 use Rattle.std.specs.List.{flat_map, range_with_len}
 use Rattle.std.specs.List.Sorted.{IsNonDecreasing}
 use Rattle.textwrap_base.specs.Words.{piece, WordText}
@@ -9,7 +11,8 @@ use Rattle.unicode.specs.GeneralCategoryGroup.{in_group}
 use Rattle.unicode.specs.declared.properties.GeneralCategoryGroup.TheVariants.{Number}
 use Rattle.unicode.specs.Binary.{is_alphabetic}
 use Rattle.textwrap.specs.declared.word_splitters.WordSplitter.{WordSplitter}
-use Rattle.textwrap.specs.declared.word_splitters.WordSplitter.TheVariants.{NoHyphenation, HyphenSplitter}
+use Rattle.textwrap.specs.declared.word_splitters.WordSplitter.TheVariants.{NoHyphenation}
+use Rattle.textwrap.specs.declared.word_splitters.WordSplitter.TheVariants.{HyphenSplitter}
 
 -- ---- the points
 
@@ -31,7 +34,8 @@ ends_in_hyphen text = last text == hyphen
 -- a hyphen between alphanumeric characters ends at the offset
 abbrev pub is_hyphen_point : List ℕ → ℕ → Bool
 is_hyphen_point text point =
-    ends_in_hyphen (take point text) && begins_alphanumeric (reverse (chars (take (point - 1) text)))
+    ends_in_hyphen (take point text) && begins_alphanumeric
+        (reverse (chars (take (point - 1) text)))
     && begins_alphanumeric (chars (drop point text))
 
 -- the offsets within a text, without its ends

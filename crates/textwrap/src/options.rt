@@ -31,7 +31,7 @@ pub struct Options<'a> {
 }
 
 impl<'a> Options<'a> {
-    ghost use Rattle.textwrap.specs.Options.{settings_view, HasDefaults, KeepsParts};
+    ghost use Rattle.textwrap.specs.Options.{settings_view, HasDefaults, KeepsMethods};
 
     /// Lines of `width` columns, ended by LF, without indents, with broken words, hyphens as split
     /// points, the default algorithm, and no blanks at line ends.
@@ -57,7 +57,7 @@ impl<'a> Options<'a> {
     pub fn width(self, width: usize) -> Self
         ensures settings { settings_view result
             ≡ record (settings_view self.entry) { width = width } }
-        ensures parts { KeepsParts self.entry result }
+        ensures methods { KeepsMethods self.entry result }
     {
         Options { width, ..self }
     }
@@ -66,7 +66,7 @@ impl<'a> Options<'a> {
     pub fn line_ending(self, line_ending: LineEnding) -> Self
         ensures settings { settings_view result
             ≡ record (settings_view self.entry) { line_ending = line_ending } }
-        ensures parts { KeepsParts self.entry result }
+        ensures methods { KeepsMethods self.entry result }
     {
         Options {
             line_ending,
@@ -78,7 +78,7 @@ impl<'a> Options<'a> {
     pub fn initial_indent(self, initial_indent: &'a str) -> Self
         ensures settings { settings_view result
             ≡ record (settings_view self.entry) { initial_indent = initial_indent.now } }
-        ensures parts { KeepsParts self.entry result }
+        ensures methods { KeepsMethods self.entry result }
     {
         Options {
             initial_indent,
@@ -90,7 +90,7 @@ impl<'a> Options<'a> {
     pub fn subsequent_indent(self, subsequent_indent: &'a str) -> Self
         ensures settings { settings_view result
             ≡ record (settings_view self.entry) { subsequent_indent = subsequent_indent.now } }
-        ensures parts { KeepsParts self.entry result }
+        ensures methods { KeepsMethods self.entry result }
     {
         Options {
             subsequent_indent,
@@ -102,7 +102,7 @@ impl<'a> Options<'a> {
     pub fn break_words(self, break_words: bool) -> Self
         ensures settings { settings_view result
             ≡ record (settings_view self.entry) { break_words = break_words } }
-        ensures parts { KeepsParts self.entry result }
+        ensures methods { KeepsMethods self.entry result }
     {
         Options {
             break_words,
@@ -155,7 +155,7 @@ impl<'a> Options<'a> {
             ≡ record (settings_view self.entry) {
               preserve_trailing_space = preserve_trailing_space;
             } }
-        ensures parts { KeepsParts self.entry result }
+        ensures methods { KeepsMethods self.entry result }
     {
         Options {
             preserve_trailing_space,

@@ -5,6 +5,7 @@ ghost use Rattle.std.specs.Str.{IsUtf8};
 ghost use Rattle.std.specs.Io.{StartsWith};
 ghost use Rattle.textwrap_base.specs.Blanks.{without_final_blanks};
 ghost use Rattle.textwrap_base.specs.Cost.{total_width};
+ghost use Rattle.textwrap_base.specs.Errors.{Fits64Bits};
 ghost use Rattle.textwrap_base.specs.WrapAlgorithms.{algorithm_view, IsDividedBy};
 ghost use Rattle.textwrap_base.specs.Units.{IsNarrow};
 ghost use Rattle.textwrap_base.specs.Words.{WordText, word_view, sizes_of, tiled, Tiles};
@@ -12,7 +13,7 @@ ghost use Rattle.textwrap_base.specs.declared.wrap_algorithms.WrapAlgorithm.TheV
 ghost use Rattle.textwrap.specs.Fuzzing.{AppendsLines, OnlyCharactersPass};
 ghost use Rattle.textwrap.specs.LineEnding.{paragraphs_of};
 ghost use Rattle.textwrap.specs.Options.{settings_view};
-ghost use Rattle.textwrap.specs.Paragraph.{LineParts, line_view, line_from, covered, pieces_of, widths_of, width_after, indent_of, is_whole, parts_of, parts_from, Adds, DividesBy, AreDividedParts, AreParagraphParts};
+ghost use Rattle.textwrap.specs.Paragraph.{text_limit, LineParts, line_view, line_from, covered, pieces_of, widths_of, width_after, indent_of, is_whole, parts_of, parts_from, Adds, DividesBy, AreDividedParts, AreParagraphParts};
 ghost use Rattle.textwrap.specs.Text.{AreTextLines, LosesOnlyBlanks};
 
 use crate::line_ending::LineEnding;
@@ -204,7 +205,7 @@ fn divide<'a, 'w>(
     pieces: &'w [Word<'a>],
     options: &Options<'_>,
 ) -> Result<Vec<&'w [Word<'a>]>, WrapError>
-    requires { total_width (λ word. sizes_of (word_view word)) pieces.now < 2 ^ 64 }
+    requires { Fits64Bits (total_width (λ word. sizes_of (word_view word)) pieces.now) }
     ensures divided { IfOk result (λ lines. IsDividedBy (algorithm_view options.now.wrap_algorithm)
         (λ word. sizes_of (word_view word)) (widths_of (settings_view options.now)) pieces.now
         (map (λ line. line.now) lines.items)) }
@@ -290,7 +291,7 @@ fn cut_line<'t>(
 
 /// The bytes of the pieces with their whitespace.
 fn tiled_len(pieces: &[Word<'_>]) -> usize
-    requires { length (tiled (map word_view pieces.now)) < 2 ^ 63 }
+    requires { length (tiled (map word_view pieces.now)) < text_limit }
     ensures len { result ≡ length (tiled (map word_view pieces.now)) }
     ensures utf8 { IsUtf8 (tiled (map word_view pieces.now)) }
 {

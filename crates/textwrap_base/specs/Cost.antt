@@ -1,6 +1,8 @@
 -- What a line and a division cost, and the division of least cost (after Knuth and Plass,
 -- "Breaking Paragraphs into Lines").
-use Rattle.std.specs.Prelude.{◌≡◌, ℕ, ◌+◌, ◌-◌, ◌*◌, ◌<◌, ◌≤◌, max, Bool, ◌==◌, ◌&&◌, nat_lt, if◌then◌else◌, List, [], ◌∷◌, length, take, reverse, slice_index, sum_by, ⊤, ◌⊎◌}
+use Rattle.std.specs.Prelude.{◌≡◌, ℕ, ◌+◌, ◌-◌, ◌*◌, ◌<◌, ◌≤◌, max, Bool, ◌==◌, ◌&&◌, nat_lt}
+use Rattle.std.specs.Prelude.{if◌then◌else◌, List, [], ◌∷◌, length, take, reverse, slice_index}
+use Rattle.std.specs.Prelude.{sum_by, ⊤, ◌⊎◌}
 use Rattle.textwrap_base.specs.Sizes.{Sizes}
 use Rattle.textwrap_base.specs.Division.{line_width, closed_width, IsDivision}
 use Rattle.textwrap_base.specs.Errors.{Passes128Bits}

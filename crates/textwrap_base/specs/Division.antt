@@ -1,5 +1,6 @@
 -- Divisions of a list of fragments into lines, whatever the fragments are.
-use Rattle.std.specs.Prelude.{◌≡◌, ◌≢◌, ℕ, ◌+◌, ◌-◌, ◌<◌, ◌≤◌, min, List, [], ◌∷◌, ◌++◌, length, take, slice_index, sum_by, All, ⊤}
+use Rattle.std.specs.Prelude.{◌≡◌, ◌≢◌, ℕ, ◌+◌, ◌-◌, ◌<◌, ◌≤◌, min, List, [], ◌∷◌, ◌++◌, length}
+use Rattle.std.specs.Prelude.{take, slice_index, sum_by, All, ⊤}
 use Rattle.std.specs.List.{flat_map}
 use Rattle.textwrap_base.specs.Sizes.{Sizes}
 

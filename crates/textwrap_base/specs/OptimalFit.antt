@@ -1,6 +1,7 @@
 -- What optimal fit gives.
 use Rattle.std.specs.Prelude.{ℕ, List, Result, IfOk, OnOk}
-use Rattle.textwrap_base.specs.Cost.{PricedSizes, total_width, AreEqualFromSecond, IsChosen, Overflows}
+use Rattle.textwrap_base.specs.Cost.{PricedSizes, total_width, AreEqualFromSecond, IsChosen}
+use Rattle.textwrap_base.specs.Cost.{Overflows}
 use Rattle.textwrap_base.specs.Table.{IsByTable, TableOverflows}
 use Rattle.textwrap_base.specs.Errors.{Fits64Bits, Passes128Bits, Overflowed}
 use Rattle.textwrap_base.specs.declared.errors.WrapError.{WrapError}

@@ -1,5 +1,7 @@
 -- The table of least costs, for any list of line widths, and the division that it gives.
-use Rattle.std.specs.Prelude.{◌≡◌, ℕ, zero, suc, ◌+◌, ◌<◌, ◌≤◌, ◌==◌, nat_lt, if◌then◌else◌, List, [], ◌∷◌, ◌++◌, length, map, slice_index, slice_index_or, slice_range, Option, None, Some, MatchOption, ⊤, ◌⊎◌}
+use Rattle.std.specs.Prelude.{◌≡◌, ℕ, zero, suc, ◌+◌, ◌<◌, ◌≤◌, ◌==◌, nat_lt, if◌then◌else◌, List}
+use Rattle.std.specs.Prelude.{[], ◌∷◌, ◌++◌, length, map, slice_index, slice_index_or, slice_range}
+use Rattle.std.specs.Prelude.{Option, None, Some, MatchOption, ⊤, ◌⊎◌}
 use Rattle.textwrap_base.specs.Minima.{Costs}
 use Rattle.textwrap_base.specs.Division.{line_width, IsDivision}
 use Rattle.textwrap_base.specs.Cost.{PricedSizes, line_cost, total_width}

@@ -7,7 +7,8 @@ use Rattle.textwrap_base.specs.OptimalFit.{IsByOptimalFit}
 use Rattle.textwrap_base.specs.Table.{TableOverflows}
 use Rattle.textwrap_base.specs.declared.penalties.Penalties.{Penalties}
 use Rattle.textwrap_base.specs.declared.wrap_algorithms.WrapAlgorithm.{WrapAlgorithm}
-use Rattle.textwrap_base.specs.declared.wrap_algorithms.WrapAlgorithm.TheVariants.{FirstFit, OptimalFit}
+use Rattle.textwrap_base.specs.declared.wrap_algorithms.WrapAlgorithm.TheVariants.{FirstFit}
+use Rattle.textwrap_base.specs.declared.wrap_algorithms.WrapAlgorithm.TheVariants.{OptimalFit}
 
 -- a way to divide fragments
 pub data Algorithm : Type 0 where

@@ -1,5 +1,6 @@
 -- What the program's arguments mean.
-use Rattle.std.specs.Prelude.{ℕ, ◌^◌, Bool, ◌&&◌, nat_lt, List, [], ◌∷◌, length, Option, Some, None, codes, if◌then◌else◌}
+use Rattle.std.specs.Prelude.{ℕ, ◌^◌, Bool, ◌&&◌, nat_lt, List, [], ◌∷◌, length, Option, Some, None}
+use Rattle.std.specs.Prelude.{codes, if◌then◌else◌}
 use Rattle.std.specs.Option.{option_and_then, option_map}
 use Rattle.std.specs.Str.{all_ascii_digits, bytes_eq}
 use Rattle.std.specs.Str.Parse.{digits_value}
@@ -25,7 +26,9 @@ algorithm_of word =
 -- the request of a width and an algorithm, where both are there
 abbrev pub request_with : List ℕ → Option WrapAlgorithm → Option FillRequest
 request_with width algorithm =
-    option_and_then (λ w. option_map (λ a. record { width = w; algorithm = a }) algorithm) (width_of width)
+    let with_width : ℕ → Option FillRequest =
+    λ w. option_map (λ a. record { width = w; algorithm = a }) algorithm in
+    option_and_then with_width (width_of width)
 
 -- the request that the words after the program's name mean, if any
 abbrev pub request_of : List (List ℕ) → Option FillRequest

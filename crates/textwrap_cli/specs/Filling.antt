@@ -3,8 +3,7 @@ use Rattle.std.specs.Prelude.{ℕ, List, Option, take, codes}
 use Rattle.std.specs.Str.{IsUtf8}
 use Rattle.std.specs.Io.KnownBytes.{Appends, Consumes, IsAtEnd}
 use Rattle.textwrap.specs.Filling.{IsFilledAt}
-use Rattle.textwrap.specs.WrapAlgorithms.{algorithm_view}
-use Rattle.textwrap.specs.declared.wrap_algorithms.WrapAlgorithm.{WrapAlgorithm}
+use Rattle.textwrap.specs.WrapAlgorithms.{Algorithm}
 use Rattle.textwrap_cli.specs.declared.filling.RunError.{RunError}
 use Rattle.textwrap_cli.specs.declared.filling.RunError.TheVariants.{Read, NotUtf8, Memory, Write}
 
@@ -13,10 +12,10 @@ abbrev pub ReadsAll : Option (List ℕ) → Option (List ℕ) → List ℕ → T
 ReadsAll old new input = Consumes old new input × IsAtEnd new
 
 -- the reader's input is text, and the output is that text filled at this width by this algorithm
-abbrev pub FillsInput : ℕ → WrapAlgorithm → Option (List ℕ) → Option (List ℕ) → List ℕ → Type 0
+abbrev pub FillsInput : ℕ → Algorithm → Option (List ℕ) → Option (List ℕ) → List ℕ → Type 0
 FillsInput width algorithm old new output =
     (input : List ℕ) × ReadsAll old new input × IsUtf8 input
-    × IsFilledAt width (algorithm_view algorithm) input output
+    × IsFilledAt width algorithm input output
 
 -- the reader's input is no text
 abbrev pub ReadsNoText : Option (List ℕ) → Option (List ℕ) → Type 0

@@ -51,13 +51,15 @@ pub(crate) fn run<R: Read, W: Write>(
 ) -> Result<(), RunError>
     // The whole input was read, and its filled text written.
     ensures ok { OnOk result ((output : List ℕ)
-        × FillsInput width algorithm (R.remaining reader.old) (R.remaining reader.new) output
+        × FillsInput width (algorithm_view algorithm)
+        (R.remaining reader.old) (R.remaining reader.new) output
         × Appends (W.contents writer.old) (W.contents writer.new) output) }
     ensures not_utf8 { result ≡ Err RunError.NotUtf8
         → ReadsNoText (R.remaining reader.old) (R.remaining reader.new) }
     // The whole input was read, and a prefix of its filled text may be written.
     ensures write { result ≡ Err RunError.Write → (output : List ℕ)
-        × FillsInput width algorithm (R.remaining reader.old) (R.remaining reader.new) output
+        × FillsInput width (algorithm_view algorithm)
+        (R.remaining reader.old) (R.remaining reader.new) output
         × WritesPrefix (W.contents writer.old) (W.contents writer.new) output }
     ensures nothing_written { IfErr result (λ error. error ≢ RunError.Write
         → Keeps (W.contents writer.old) (W.contents writer.new)) }

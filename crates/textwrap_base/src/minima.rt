@@ -1,10 +1,10 @@
 //! The least costs of dividing fragments into lines: sources of line costs, a count of how often
 //! they are asked, and the table of least costs.
-ghost use Rattle.std.specs.Prelude.{◌≡◌, ℕ, ◌+◌, ◌^◌, ◌<◌, ◌≤◌, length, map, IfOk, OnOk, SomeIff};
+ghost use Rattle.std.specs.Prelude.{◌≡◌, ℕ, ◌+◌, ◌<◌, ◌≤◌, length, map, IfOk, OnOk, SomeIff};
 ghost use Rattle.textwrap_base.specs.Minima.{Costs, CountsSteps, counted};
 ghost use Rattle.textwrap_base.specs.Cost.{priced_at, total_width};
 ghost use Rattle.textwrap_base.specs.Errors.{Fits64Bits, Fits128Bits, Passes128Bits, Overflowed};
-ghost use Rattle.textwrap_base.specs.Table.{fragment_costs, fragments_table, minimum_of, TableOverflows};
+ghost use Rattle.textwrap_base.specs.Table.{fragments_table, minimum_of, TableOverflows};
 
 use crate::errors::WrapError;
 use crate::penalties::Penalties;
@@ -74,8 +74,8 @@ pub trait CostSource {
 
     /// What the first `end` fragments cost if their last line starts at `start`: the cost `before`
     /// of the lines in front of it, and that of this line, whose number is `line_number`, counted
-    /// from 0. `None` where the sum needs more than 128 bits. A caller has to keep `start` below
-    /// `end`, and `end` at most at `ends`.
+    /// from 0. `None` where the sum needs more than 128 bits. `start` has to be below `end`, and
+    /// `end` at most `ends`.
     ///
     /// The source counts each call as one step, up to 2^128-1.
     fn candidate(
@@ -96,15 +96,15 @@ pub trait CostSource {
 
 /// The table of least costs (after Knuth and Plass), for any list of line widths: for each prefix
 /// of the fragments, the empty one first, a cost and the start of its last line. The empty prefix
-/// costs nothing. A longer one is a shorter prefix and a last line: it costs what the table has for
-/// the shorter one, and that line. Of these sums the table takes the least, of several the one with
-/// the earliest start. The numbers of the lines follow from the starts that were taken.
+/// costs nothing. A longer one is a shorter prefix and one more line, and costs what the table has
+/// for the shorter prefix and what that line costs. Of these sums the table takes the least, and of
+/// several the one with the earliest start. The lines are numbered along the starts so taken.
 ///
 /// `steps` goes up by n(n + 1)/2 for n fragments at `Ok`, and by no more at `Err`.
 ///
 /// # Errors
 /// Overflow exactly where all widths together need more than 128 bits, or a cost in the table does.
-/// Otherwise out of memory only. Nothing is allocated before widths that are too large are refused.
+/// Otherwise out of memory only. Widths that are too large are refused before anything is allocated.
 pub fn table_minima<T: Fragment>(
     alloc: Global,
     fragments: &[T],

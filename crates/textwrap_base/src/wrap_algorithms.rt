@@ -80,9 +80,9 @@ impl Default for WrapAlgorithm {
     }
 }
 
-/// Divides the fragments into lines, each of which takes fragments while they fit, and its first
-/// fragment in any case. Line l, counted from 0, may be `line_widths[l]` wide. The last width
-/// serves all later lines, and without any width it is 0. No fragments give one empty line.
+/// Divides the fragments into lines: each line takes fragments while they fit, and its first one in
+/// any case. Line l, counted from 0, may be `line_widths[l]` wide. The last width serves all later
+/// lines, and without any width it is 0. No fragments give one empty line.
 ///
 /// # Errors
 /// Out of memory only. There is no overflow, whatever the widths.

@@ -1,11 +1,11 @@
 //! The line costs of fragments, from running sums of their widths.
-ghost use Rattle.std.specs.Prelude.{◌≡◌, ℕ, ◌+◌, ◌-◌, ◌*◌, ◌^◌, ◌<◌, ◌≤◌, length, map, max, IfOk, OnOk, SomeIff, ◌&&◌, nat_lt, ◌==◌, if◌then◌else◌, slice_range};
-ghost use Rattle.textwrap_base.specs.Minima.{LineCostsView, counted};
+ghost use Rattle.std.specs.Prelude.{◌≡◌, ◌+◌, ◌<◌, ◌≤◌, length, map, IfOk, SomeIff, nat_lt, ◌==◌, if◌then◌else◌, slice_range};
+ghost use Rattle.textwrap_base.specs.Minima.{LineCostsView};
 ghost use Rattle.textwrap_base.specs.Cost.{priced_at, total_width, fit_cost, line_cost};
 ghost use Rattle.textwrap_base.specs.Errors.{Fits128Bits, Passes128Bits, Overflowed};
 ghost use Rattle.textwrap_base.specs.Division.{line_width, closed_width};
 ghost use Rattle.textwrap_base.specs.LineCosts.{measured, AreMeasured};
-ghost use Rattle.textwrap_base.specs.Table.{fragment_costs, line_costs};
+ghost use Rattle.textwrap_base.specs.Table.{fragment_costs};
 
 use super::{CostSource, Steps};
 use crate::errors::{OverflowError, WrapError};

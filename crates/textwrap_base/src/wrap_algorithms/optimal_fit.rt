@@ -24,8 +24,8 @@ use std::alloc::{AllocError, Global};
 /// # Errors
 /// Overflow exactly where all widths together need more than 128 bits, or the cost of a prefix in
 /// the table does. That cost is the least of the prefix where all lines but the first have one
-/// width. Otherwise out of memory only. Nothing is allocated before widths that are too large are
-/// refused. There is no overflow where all widths together fit 64 bits.
+/// width. Otherwise out of memory only. Widths that are too large are refused before anything is
+/// allocated. There is no overflow where all widths together fit 64 bits.
 pub fn wrap_optimal_fit<'a, T: Fragment>(
     alloc: Global,
     fragments: &'a [T],

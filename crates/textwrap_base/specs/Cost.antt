@@ -20,14 +20,13 @@ abbrev pub priced_at : Penalties → Sizes → PricedSizes
 priced_at penalties s =
     record { sizes = s; break_cost = if nat_lt 0 s.penalty then penalties.hyphen_penalty else 0 }
 
--- the cost of a closed width that misses what the line aims at, `is_last` where the line ends all
--- fragments
+-- the cost of a closed width that misses the target, `is_last` where the line ends all fragments
 abbrev pub fit_cost : Penalties → ℕ → ℕ → Bool → Bool → ℕ
-fit_cost penalties aim closed is_last is_single =
-    if nat_lt aim closed then (closed - aim) * penalties.overflow_penalty
-    else if is_last then (if is_single && nat_lt (closed * penalties.short_last_line_fraction) aim
-    then penalties.short_last_line_penalty else 0)
-    else (aim - closed) * (aim - closed)
+fit_cost penalties target closed is_last is_single =
+    let is_short = is_single && nat_lt (closed * penalties.short_last_line_fraction) target in
+    if nat_lt target closed then (closed - target) * penalties.overflow_penalty
+    else if is_last then (if is_short then penalties.short_last_line_penalty else 0)
+    else (target - closed) * (target - closed)
 
 -- the break cost of the last fragment
 abbrev pub last_break_cost : {X : Type 0} → (X → PricedSizes) → List X → ℕ
@@ -35,7 +34,7 @@ last_break_cost priced [] = 0
 last_break_cost priced (x ∷ []) = (priced x).break_cost
 last_break_cost priced (x ∷ y ∷ line) = last_break_cost priced (y ∷ line)
 
--- the cost of a line that aims at the width, or at 1 where that is 0; without fragments it has none
+-- the cost of a line, whose target is its width, or 1 where that is 0; no fragments cost nothing
 abbrev pub line_cost : {X : Type 0} → (X → PricedSizes) → Penalties → ℕ → Bool → List X → ℕ
 line_cost priced penalties width is_last [] = 0
 line_cost priced penalties width is_last (x ∷ line) =

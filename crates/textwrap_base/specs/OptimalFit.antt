@@ -13,8 +13,8 @@ module _ {X : Type 0} (priced : X → PricedSizes) (penalties : Penalties) (widt
     pub by_table : IsByTable priced penalties widths fragments lines
     pub chosen : AreEqualFromSecond widths → IsChosen priced penalties widths fragments lines
 
-  -- what a call returns: such a division, where `lines` gives the lines of the value, or an error.
-  -- It is Overflow only where a sum or a cost passes 128 bits, and where one does it is never Ok
+  -- what a call returns: such a division, where `lines` gives the lines of the value, or an error,
+  -- which is Overflow only where a sum or a cost passes 128 bits; where one does, it is never Ok
   pub record IsOptimalFitResult {A : Type 0} (xs : List X) (lines : A → List (List X))
       (r : Result A WrapError) : Type 0 where
     pub divided : IfOk r (λ value. IsByOptimalFit xs (lines value))

@@ -187,18 +187,18 @@ cost-library_later : words_at (18 ∷ []) (codes "textwrap: a small library for 
 unfolding chars char_width
 cost-library_later = refl
 
--- two pieces on one line, or on two
-abbrev pieces_at : ℕ → List (List Sizes) → ℕ
-pieces_at width lines = division_cost (priced_at default_penalties) default_penalties (width ∷ []) 2 lines
+-- two fragments on one line, or on two
+abbrev fragments_at : ℕ → List (List Sizes) → ℕ
+fragments_at width lines = division_cost (priced_at default_penalties) default_penalties (width ∷ []) 2 lines
 
-cost-one_line : pieces_at 53 ((sized 3 1 0 ∷ sized 50 0 0 ∷ []) ∷ []) ≡ 3500
+cost-one_line : fragments_at 53 ((sized 3 1 0 ∷ sized 50 0 0 ∷ []) ∷ []) ≡ 3500
 cost-one_line = refl
 
-cost-two_lines : pieces_at 53 ((sized 3 1 0 ∷ []) ∷ (sized 50 0 0 ∷ []) ∷ []) ≡ 4500
+cost-two_lines : fragments_at 53 ((sized 3 1 0 ∷ []) ∷ (sized 50 0 0 ∷ []) ∷ []) ≡ 4500
 cost-two_lines = refl
 
-cost-one_line_narrower : pieces_at 52 ((sized 3 1 0 ∷ sized 50 0 0 ∷ []) ∷ []) ≡ 6000
+cost-one_line_narrower : fragments_at 52 ((sized 3 1 0 ∷ sized 50 0 0 ∷ []) ∷ []) ≡ 6000
 cost-one_line_narrower = refl
 
-cost-two_lines_narrower : pieces_at 52 ((sized 3 1 0 ∷ []) ∷ (sized 50 0 0 ∷ []) ∷ []) ≡ 4401
+cost-two_lines_narrower : fragments_at 52 ((sized 3 1 0 ∷ []) ∷ (sized 50 0 0 ∷ []) ∷ []) ≡ 4401
 cost-two_lines_narrower = refl

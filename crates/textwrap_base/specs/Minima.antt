@@ -16,7 +16,7 @@ counted count more = max count (min (count + more) (2 ^ 128 - 1))
 abbrev pub table_steps : ℕ → ℕ
 table_steps n = n * (n + 1) / 2
 
--- the count went from old to new by the steps of a table over n fragments, or by fewer at an error
+-- the count went from old to new by the steps of a table over n fragments, by no more at an error
 pub record CountsSteps {A E : Type 0} (n old new : ℕ) (result : Result A E) : Type 0 where
   pub ok : OnOk result (new ≡ counted old (table_steps n))
   pub exact : OnOk result (old ≡ 0 → new ≡ table_steps n)

@@ -23,4 +23,4 @@ abbrev pub IsFilledAt : ℕ → Algorithm → List ℕ → List ℕ → Type 0
 IsFilledAt width algorithm =
     IsFilled (settings_at width)
     (IsDividedInto (settings_at width) (AreSeparated AsciiSpace)
-        (ArePoints HyphenSplitter) algorithm)
+    (ArePoints HyphenSplitter) algorithm)

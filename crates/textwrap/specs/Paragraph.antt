@@ -91,7 +91,7 @@ module _ (settings : Settings) (Words : List ℕ → List WordText → Type 0)
   ArePieces paragraph pieces =
       (words : List WordText) × (split : List WordText)
       × Words paragraph words × AreSplit Points words split
-          × (pieces ≡ broken_pieces_of settings split)
+      × (pieces ≡ broken_pieces_of settings split)
 
   -- the paragraph is cut into pieces, and the algorithm divides them so
   abbrev pub IsDividedInto : Algorithm → List ℕ → List (List WordText) → Type 0

@@ -35,7 +35,7 @@ ends_in_hyphen text = last text == hyphen
 abbrev pub is_hyphen_point : List ℕ → ℕ → Bool
 is_hyphen_point text point =
     ends_in_hyphen (take point text) && begins_alphanumeric
-        (reverse (chars (take (point - 1) text)))
+    (reverse (chars (take (point - 1) text)))
     && begins_alphanumeric (chars (drop point text))
 
 -- the offsets within a text, without its ends

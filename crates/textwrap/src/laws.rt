@@ -1,6 +1,9 @@
 //! Laws of the definitions that the contracts cite. Each is the contract of a function that does
 //! nothing, so that a proof may call on it.
-ghost use Rattle.textwrap.specs.Laws.{ParagraphsAreUnique, PiecesAreUnique, DividedLinesAreUnique, ParagraphLinesAreUnique, TextLinesAreUnique, FilledTextIsUnique, PointsAreCuts, SplitPiecesTile, SplitWordsTile};
+ghost use Rattle.textwrap.specs.Laws.{ParagraphsAreUnique, PiecesAreUnique, DividedLinesAreUnique};
+ghost use Rattle.textwrap.specs.Laws.{ParagraphLinesAreUnique, TextLinesAreUnique};
+ghost use Rattle.textwrap.specs.Laws.{FilledTextIsUnique, PointsAreCuts, SplitPiecesTile};
+ghost use Rattle.textwrap.specs.Laws.{SplitWordsTile};
 
 /// A text has its paragraphs in exactly one way: joined by the ending they are the text, and none
 /// has an ending in it. They are what `paragraphs_of` gives.

@@ -1,5 +1,6 @@
 //! How the words of a line are found.
-ghost use Rattle.std.specs.Prelude.{◌≡◌, ◌-◌, ◌<◌, ◌≤◌, List, ◌∷◌, length, take, drop, slice_index, IfOk, IsOk};
+ghost use Rattle.std.specs.Prelude.{◌≡◌, ◌-◌, ◌<◌, ◌≤◌, List, ◌∷◌, length, take, drop, slice_index};
+ghost use Rattle.std.specs.Prelude.{IfOk, IsOk};
 ghost use Rattle.std.specs.Iterator.{YieldsFirstBy, item_count};
 ghost use Rattle.textwrap_base.specs.Blanks.{blank};
 ghost use Rattle.textwrap_base.specs.Words.{WordText, word_view, words_of, is_cut, chunks, Tiles};

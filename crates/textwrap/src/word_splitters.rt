@@ -1,8 +1,11 @@
 //! Where words may be split, and the pieces that they are split into.
-ghost use Rattle.std.specs.Prelude.{◌≡◌, ℕ, ◌<◌, ◌≤◌, List, [], ◌++◌, length, map, reverse, slice_range, chars, IfOk, IsOk, OnOk, IsCharBoundary};
+ghost use Rattle.std.specs.Prelude.{◌≡◌, ℕ, ◌<◌, ◌≤◌, List, [], ◌++◌, length, map, reverse};
+ghost use Rattle.std.specs.Prelude.{slice_range, chars, IfOk, IsOk, OnOk, IsCharBoundary};
 ghost use Rattle.std.specs.Iterator.{IsFiniteIterable, Drains};
 ghost use Rattle.textwrap_base.specs.Words.{piece, word_view};
-ghost use Rattle.textwrap.specs.WordSplitters.{is_alphanumeric, begins_alphanumeric, ends_in_hyphen, is_hyphen_point, hyphen_points, AreCuts, cut_penalty, split_pieces, split_words};
+ghost use Rattle.textwrap.specs.WordSplitters.{is_alphanumeric, begins_alphanumeric};
+ghost use Rattle.textwrap.specs.WordSplitters.{ends_in_hyphen, is_hyphen_point, hyphen_points};
+ghost use Rattle.textwrap.specs.WordSplitters.{AreCuts, cut_penalty, split_pieces, split_words};
 
 use std::alloc::{AllocError, Global};
 use textwrap_base::words::{Word, display_width};

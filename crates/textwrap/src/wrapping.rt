@@ -1,5 +1,7 @@
 //! Wrapping a text into lines.
-ghost use Rattle.std.specs.Prelude.{◌≡◌, ℕ, List, ◌∷◌, [], ◌++◌, ◌^◌, ◌<◌, length, take, drop, map, nat_lt, if◌then◌else◌, alloc_error, true, IfOk, IfErr, IfSome, OnOk, MatchOption};
+ghost use Rattle.std.specs.Prelude.{◌≡◌, ℕ, List, ◌∷◌, [], ◌++◌, ◌^◌, ◌<◌, length, take, drop, map};
+ghost use Rattle.std.specs.Prelude.{nat_lt, if◌then◌else◌, alloc_error, true, IfOk, IfErr, IfSome};
+ghost use Rattle.std.specs.Prelude.{OnOk, MatchOption};
 ghost use Rattle.std.specs.List.{flat_map};
 ghost use Rattle.std.specs.Str.{IsUtf8};
 ghost use Rattle.std.specs.Io.{StartsWith};
@@ -13,7 +15,10 @@ ghost use Rattle.textwrap_base.specs.declared.wrap_algorithms.WrapAlgorithm.TheV
 ghost use Rattle.textwrap.specs.Fuzzing.{AppendsLines, OnlyCharactersPass};
 ghost use Rattle.textwrap.specs.LineEnding.{paragraphs_of};
 ghost use Rattle.textwrap.specs.Options.{settings_view};
-ghost use Rattle.textwrap.specs.Paragraph.{text_limit, LineParts, line_view, line_from, covered, pieces_of, widths_of, width_after, indent_of, is_whole, parts_of, parts_from, Adds, DividesBy, AreDividedParts, AreParagraphParts};
+ghost use Rattle.textwrap.specs.Paragraph.{text_limit, LineParts, line_view, line_from, covered};
+ghost use Rattle.textwrap.specs.Paragraph.{pieces_of, widths_of, width_after, indent_of, is_whole};
+ghost use Rattle.textwrap.specs.Paragraph.{parts_of, parts_from, Adds, DividesBy, AreDividedParts};
+ghost use Rattle.textwrap.specs.Paragraph.{AreParagraphParts};
 ghost use Rattle.textwrap.specs.Text.{AreTextLines, LosesOnlyBlanks};
 
 use crate::line_ending::LineEnding;

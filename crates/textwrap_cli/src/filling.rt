@@ -1,9 +1,11 @@
 //! The program's work: it reads a text, fills it and writes it.
-ghost use Rattle.std.specs.Prelude.{◌≡◌, ◌≢◌, ℕ, ◌<◌, ◌≤◌, List, [], length, take, string_bytes, Err, IfOk, OnOk, OnErr, IfErr, IsUtf8};
+ghost use Rattle.std.specs.Prelude.{◌≡◌, ◌≢◌, ℕ, ◌<◌, ◌≤◌, List, [], length, take, string_bytes};
+ghost use Rattle.std.specs.Prelude.{Err, IfOk, OnOk, OnErr, IfErr, IsUtf8};
 ghost use Rattle.std.specs.Io.KnownBytes.{Appends, Keeps};
 ghost use Rattle.textwrap.specs.Filling.{IsFilledAt};
 ghost use Rattle.textwrap.specs.WrapAlgorithms.{algorithm_view};
-ghost use Rattle.textwrap_cli.specs.Filling.{fault_line, ReadsAll, FillsInput, ReadsNoText, WritesPrefix};
+ghost use Rattle.textwrap_cli.specs.Filling.{fault_line, ReadsAll, FillsInput, ReadsNoText};
+ghost use Rattle.textwrap_cli.specs.Filling.{WritesPrefix};
 
 use std::alloc::Global;
 use std::io::{Read, Write};

@@ -1,18 +1,23 @@
--- Lemmas on lines that pass their width: by first fit, where words are broken, each is one piece with one character that takes columns.
-use Rattle.std.proofs.Common.{◌≡◌, ℕ, zero, suc, ◌+◌, ◌<◌, ◌≤◌, min, Bool, true, false, cond, ◌==◌, List, [], ◌∷◌, ◌++◌, All, length, get_or, refl, sym, ap, ◌∙◌, subst, arith}
+-- Lemmas on lines that pass their width: by first fit, where words are broken, each is one piece
+-- with one character that takes columns.
+use Rattle.std.proofs.Common.{◌≡◌, ℕ, zero, suc, ◌+◌, ◌<◌, ◌≤◌, min, Bool, true, false, cond, ◌==◌}
+use Rattle.std.proofs.Common.{List, [], ◌∷◌, ◌++◌, All, length, get_or, refl, sym, ap, ◌∙◌, subst}
+use Rattle.std.proofs.Common.{arith}
 use Rattle.std.specs.List.{flat_map}
 use Rattle.std.specs.Str.{IsUtf8}
 use Rattle.std.proofs.lemmas.List.{nil_from_length, take_all}
 use Rattle.std.proofs.lemmas.Bool.{eqb-true}
 use Rattle.std.proofs.lemmas.List.Elements.{All-nil, All-cons, All-head, All-append}
 use Rattle.textwrap_base.specs.Breaking.{broken_words}
-use Rattle.textwrap_base.specs.Division.{line_width, closed_width, IsDivision, Fits, AllFit, IsGreedy}
+use Rattle.textwrap_base.specs.Division.{line_width, closed_width, IsDivision, Fits, AllFit}
+use Rattle.textwrap_base.specs.Division.{IsGreedy}
 use Rattle.textwrap_base.specs.Units.{text_width}
 use Rattle.textwrap_base.specs.Words.{WordText, sizes_of}
 use Rattle.textwrap_base.proofs.Word.Overlong.{IsTight, broken_words-tight}
 use Rattle.textwrap_base.proofs.Word.Texts.{HasNoPenalty, text_width-nil}
 use Rattle.textwrap.specs.Options.{Settings}
-use Rattle.textwrap.specs.Paragraph.{empty_word, front_pieces, pieces_of, IsDividedInto, widths_of, width_after, later_width}
+use Rattle.textwrap.specs.Paragraph.{empty_word, front_pieces, pieces_of, IsDividedInto, widths_of}
+use Rattle.textwrap.specs.Paragraph.{width_after, later_width}
 use Rattle.textwrap.specs.Fuzzing.{IsOneCharacter, OnlyCharactersPass}
 use Rattle.textwrap.proofs.Text.Lossless.{all-left, all-right}
 use Rattle.textwrap.specs.WordSeparators.{AreSeparated}
@@ -20,70 +25,101 @@ use Rattle.textwrap.specs.WordSplitters.{ArePoints}
 use Rattle.textwrap.specs.declared.word_separators.WordSeparator.{WordSeparator}
 use Rattle.textwrap.specs.declared.word_splitters.WordSplitter.{WordSplitter}
 use Rattle.textwrap_base.specs.WrapAlgorithms.{Greedy}
-use Rattle.textwrap.proofs.Paragraph.Pieces.{ArePieces-is, split_pieces_of, split_pieces_of-measured, pieces_of-no_penalty}
+use Rattle.textwrap.proofs.Paragraph.Pieces.{ArePieces-is, split_pieces_of}
+use Rattle.textwrap.proofs.Paragraph.Pieces.{split_pieces_of-measured, pieces_of-no_penalty}
 
 -- ---- a line
 
 -- two pieces or more never pass
-two_fit : (width : ℕ) (w v : WordText) (ws : List WordText) → Fits sizes_of width (w ∷ v ∷ ws) → width < closed_width sizes_of (w ∷ v ∷ ws) → ⊥
+two_fit : (width : ℕ) (w v : WordText) (ws : List WordText) → Fits sizes_of width (w ∷ v ∷ ws)
+    → width < closed_width sizes_of (w ∷ v ∷ ws) → ⊥
 two_fit width w v ws fits past =
     let line = w ∷ v ∷ ws in
-    let within : closed_width sizes_of line ≤ width = subst (λ l. closed_width sizes_of l ≤ width) (take_all (length line) line (omega arith)) (fits (length line) (omega arith) (omega arith)) in omega (arith, within, past)
+    let within : closed_width sizes_of line ≤ width =
+    subst (λ l. closed_width sizes_of l ≤ width) (take_all (length line) line (omega arith))
+    (fits (length line) (omega arith) (omega arith)) in omega (arith, within, past)
 
-line_passes : (limit width : ℕ) (line : List WordText) → Fits sizes_of width line → limit ≤ width → All (IsTight limit) line → All HasNoPenalty line → width < closed_width sizes_of line → IsOneCharacter line
+line_passes : (limit width : ℕ) (line : List WordText) → Fits sizes_of width line → limit ≤ width
+    → All (IsTight limit) line → All HasNoPenalty line → width < closed_width sizes_of line
+    → IsOneCharacter line
 line_passes limit width [] fits room tight none past = absurd (omega arith)
 line_passes limit width (w ∷ []) fits room tight none past =
-    let plain : length w.penalty ≡ 0 = ap length (All-head HasNoPenalty w [] none) in (w, refl, All-head (IsTight limit) w [] tight (omega (arith, room, past, plain)))
-line_passes limit width (w ∷ v ∷ ws) fits room tight none past = absurd (two_fit width w v ws fits past)
+    let plain : length w.penalty ≡ 0 = ap length (All-head HasNoPenalty w [] none) in
+    (w, refl, All-head (IsTight limit) w [] tight (omega (arith, room, past, plain)))
+line_passes limit width (w ∷ v ∷ ws) fits room tight none past =
+    absurd (two_fit width w v ws fits past)
 
 -- ---- the lines of a division
 
 abbrev joined : List (List WordText) → List WordText
 joined lines = flat_map (λ line. line) lines
 
-lines_pass : (limit : ℕ) (widths : List ℕ) (number : ℕ) (lines : List (List WordText)) → AllFit sizes_of widths number lines → ((k : ℕ) → number ≤ k → limit ≤ line_width widths k)
-    → All (IsTight limit) (joined lines) → All HasNoPenalty (joined lines) → OnlyCharactersPass widths number lines
+lines_pass : (limit : ℕ) (widths : List ℕ) (number : ℕ) (lines : List (List WordText))
+    → AllFit sizes_of widths number lines → ((k : ℕ) → number ≤ k → limit ≤ line_width widths k)
+    → All (IsTight limit) (joined lines) → All HasNoPenalty (joined lines)
+    → OnlyCharactersPass widths number lines
 lines_pass limit widths number [] fit room tight none = tt
 lines_pass limit widths number (line ∷ lines) fit room tight none = (
-  line_passes limit (line_width widths number) line fit.0 (room number (omega arith)) (all-left (IsTight limit) line (joined lines) tight) (all-left HasNoPenalty line (joined lines) none),
-  lines_pass limit widths (number + 1) lines fit.1 (λ k from. room k (omega (arith, from))) (all-right (IsTight limit) line (joined lines) tight) (all-right HasNoPenalty line (joined lines) none),
+  line_passes limit (line_width widths number) line fit.0 (room number (omega arith))
+      (all-left (IsTight limit) line (joined lines) tight)
+      (all-left HasNoPenalty line (joined lines) none),
+  lines_pass limit widths (number + 1) lines fit.1 (λ k from. room k (omega (arith, from)))
+      (all-right (IsTight limit) line (joined lines) tight)
+      (all-right HasNoPenalty line (joined lines) none),
 )
 
 later_is : (first later k : ℕ) → 1 ≤ k → line_width (first ∷ later ∷ []) k ≡ later
-later_is first later k from = let last : min k 1 ≡ 1 = omega (arith, from) in ap (λ n. get_or (first ∷ later ∷ []) n 0) last
+later_is first later k from = let last : min k 1 ≡ 1 = omega (arith, from) in
+    ap (λ n. get_or (first ∷ later ∷ []) n 0) last
 
 -- an empty piece in front has room on the first line, however narrow
-first_passes : (width : ℕ) (line rest others : List WordText) → line ++ rest ≡ empty_word ∷ others → Fits sizes_of width line → width < closed_width sizes_of line → ⊥
+first_passes : (width : ℕ) (line rest others : List WordText) → line ++ rest ≡ empty_word ∷ others
+    → Fits sizes_of width line → width < closed_width sizes_of line → ⊥
 first_passes width [] rest others is fits past = absurd (omega arith)
 first_passes width (w ∷ []) rest others is fits past =
     let empty : w ≡ empty_word = cc in
-    let nothing : closed_width sizes_of (w ∷ []) ≡ 0 = ap (λ v. closed_width sizes_of (v ∷ [])) empty in omega (arith, nothing, past)
+    let nothing : closed_width sizes_of (w ∷ []) ≡ 0 =
+    ap (λ v. closed_width sizes_of (v ∷ [])) empty in omega (arith, nothing, past)
 first_passes width (w ∷ v ∷ ws) rest others is fits past = two_fit width w v ws fits past
 
-front_passes : (first later : ℕ) (lines : List (List WordText)) (others : List WordText) → joined lines ≡ empty_word ∷ others → AllFit sizes_of (first ∷ later ∷ []) 0 lines
-    → All (IsTight later) (joined lines) → All HasNoPenalty (joined lines) → OnlyCharactersPass (first ∷ later ∷ []) 0 lines
+front_passes : (first later : ℕ) (lines : List (List WordText)) (others : List WordText)
+    → joined lines ≡ empty_word ∷ others → AllFit sizes_of (first ∷ later ∷ []) 0 lines
+    → All (IsTight later) (joined lines) → All HasNoPenalty (joined lines)
+    → OnlyCharactersPass (first ∷ later ∷ []) 0 lines
 front_passes first later [] others is fit tight none = tt
 front_passes first later (line ∷ lines) others is fit tight none = (
-  λ past. absurd (first_passes (line_width (first ∷ later ∷ []) 0) line (joined lines) others is fit.0 past),
-  lines_pass later (first ∷ later ∷ []) 1 lines fit.1 (λ k from. let same = later_is first later k from in omega (arith, same)) (all-right (IsTight later) line (joined lines) tight) (all-right HasNoPenalty line (joined lines) none),
+  λ past. absurd (first_passes (line_width (first ∷ later ∷ []) 0) line
+      (joined lines) others is fit.0 past),
+  lines_pass later (first ∷ later ∷ []) 1 lines fit.1
+      (λ k from. let same = later_is first later k from in omega (arith, same))
+      (all-right (IsTight later) line (joined lines) tight)
+      (all-right HasNoPenalty line (joined lines) none),
 )
 
 -- ---- the lines of a paragraph
 
 front-tight : (limit : ℕ) (b : Bool) → All (IsTight limit) (cond b [] (empty_word ∷ []))
 front-tight limit true = All-nil (IsTight limit)
-front-tight limit false = All-cons (IsTight limit) empty_word [] (λ wide. absurd (omega (arith, wide))) (All-nil (IsTight limit))
+front-tight limit false = All-cons (IsTight limit) empty_word []
+    (λ wide. absurd (omega (arith, wide))) (All-nil (IsTight limit))
 
-division_joined : (pieces : List WordText) (lines : List (List WordText)) → IsDivision pieces lines → joined lines ≡ pieces
+division_joined : (pieces : List WordText) (lines : List (List WordText)) → IsDivision pieces lines
+    → joined lines ≡ pieces
 division_joined [] lines is = ap joined is
 division_joined (w ∷ ws) lines is = is.0
 
-pub long_lines : (settings : Settings) (separator : WordSeparator) (splitter : WordSplitter) (paragraph : List ℕ) (division : List (List WordText)) → IsUtf8 paragraph → settings.break_words ≡ true
-    → IsDividedInto settings (AreSeparated separator) (ArePoints splitter) Greedy paragraph division → OnlyCharactersPass (widths_of settings) 0 division
-long_lines settings separator splitter paragraph division utf8 breaks (pieces, are, greedy_pieces) = by_front (length settings.initial_indent == 0) refl
+pub long_lines : (settings : Settings) (separator : WordSeparator) (splitter : WordSplitter)
+    (paragraph : List ℕ) (division : List (List WordText)) → IsUtf8 paragraph → settings.break_words
+    ≡ true
+    → IsDividedInto settings (AreSeparated separator) (ArePoints splitter) Greedy paragraph division
+    → OnlyCharactersPass (widths_of settings) 0 division
+long_lines settings separator splitter paragraph division utf8 breaks (pieces, are, greedy_pieces) =
+    by_front (length settings.initial_indent == 0) refl
   where
-    greedy : IsGreedy sizes_of (widths_of settings) (pieces_of settings separator splitter paragraph) division
-    greedy = subst (λ ws. IsGreedy sizes_of (widths_of settings) ws division) (ArePieces-is settings separator splitter paragraph pieces are) greedy_pieces
+    greedy : IsGreedy sizes_of (widths_of settings)
+        (pieces_of settings separator splitter paragraph) division
+    greedy = subst (λ ws. IsGreedy sizes_of (widths_of settings) ws division)
+        (ArePieces-is settings separator splitter paragraph pieces are) greedy_pieces
 
     limit : ℕ
     limit = later_width settings
@@ -91,30 +127,46 @@ long_lines settings separator splitter paragraph division utf8 breaks (pieces, a
     broken : List WordText
     broken = broken_words (later_width settings) (split_pieces_of separator splitter paragraph)
 
-    pieces_are : pieces_of settings separator splitter paragraph ≡ front_pieces settings ++ broken_words (later_width settings) (split_pieces_of separator splitter paragraph)
-    pieces_are = ap (λ b. cond b (front_pieces settings ++ broken_words (later_width settings) (split_pieces_of separator splitter paragraph)) (split_pieces_of separator splitter paragraph)) breaks
+    pieces_are : pieces_of settings separator splitter paragraph
+        ≡ front_pieces settings ++ broken_words (later_width settings)
+        (split_pieces_of separator splitter paragraph)
+    pieces_are = ap (λ b. cond b (front_pieces settings ++ broken_words (later_width settings)
+        (split_pieces_of separator splitter paragraph))
+        (split_pieces_of separator splitter paragraph)) breaks
 
     whole : joined division ≡ pieces_of settings separator splitter paragraph
-    whole = division_joined (pieces_of settings separator splitter paragraph) division greedy.admissible.division
+    whole = division_joined (pieces_of settings separator splitter paragraph) division
+        greedy.admissible.division
 
     tight : All (IsTight (later_width settings)) (joined division)
     tight =
         subst (All (IsTight (later_width settings))) (sym (whole ∙ pieces_are))
-        (All-append (IsTight (later_width settings)) (front_pieces settings) broken (front-tight (later_width settings) (length settings.initial_indent == 0))
-        (broken_words-tight (later_width settings) (split_pieces_of separator splitter paragraph) (split_pieces_of-measured separator splitter paragraph utf8)))
+        (All-append (IsTight (later_width settings)) (front_pieces settings) broken
+        (front-tight (later_width settings) (length settings.initial_indent == 0))
+        (broken_words-tight (later_width settings) (split_pieces_of separator splitter paragraph)
+        (split_pieces_of-measured separator splitter paragraph utf8)))
 
     none : All HasNoPenalty (joined division)
-    none = subst (All HasNoPenalty) (sym whole) (pieces_of-no_penalty settings separator splitter paragraph)
+    none = subst (All HasNoPenalty) (sym whole)
+        (pieces_of-no_penalty settings separator splitter paragraph)
 
-    room : text_width settings.initial_indent ≡ 0 → (k : ℕ) → 0 ≤ k → later_width settings ≤ line_width (widths_of settings) k
+    room : text_width settings.initial_indent ≡ 0 → (k : ℕ) → 0 ≤ k
+        → later_width settings ≤ line_width (widths_of settings) k
     room narrow zero from = omega (arith, narrow)
-    room narrow (suc k) from = let same = later_is (width_after settings settings.initial_indent) (later_width settings) (suc k) (omega arith) in omega (arith, same)
+    room narrow (suc k) from = let same = later_is (width_after settings settings.initial_indent)
+        (later_width settings) (suc k) (omega arith) in omega (arith, same)
 
-    by_front : (b : Bool) → (length settings.initial_indent == 0) ≡ b → OnlyCharactersPass (widths_of settings) 0 division
+    by_front : (b : Bool) → (length settings.initial_indent == 0) ≡ b
+        → OnlyCharactersPass (widths_of settings) 0 division
     by_front true unindented =
-        let empty = nil_from_length settings.initial_indent (eqb-true (length settings.initial_indent) 0 unindented) in
-        let narrow : text_width settings.initial_indent ≡ 0 = ap text_width empty ∙ text_width-nil in
-        lines_pass (later_width settings) (widths_of settings) 0 division greedy.admissible.fit (room narrow) tight none
+        let empty = nil_from_length settings.initial_indent
+        (eqb-true (length settings.initial_indent) 0 unindented) in
+        let narrow : text_width settings.initial_indent ≡ 0 = ap text_width empty
+        ∙ text_width-nil in
+        lines_pass (later_width settings) (widths_of settings) 0 division greedy.admissible.fit
+        (room narrow) tight none
     by_front false indented =
-        front_passes (width_after settings settings.initial_indent) (later_width settings) division broken
-        (whole ∙ pieces_are ∙ ap (λ b. cond b [] (empty_word ∷ []) ++ broken) indented) greedy.admissible.fit tight none
+        front_passes (width_after settings settings.initial_indent)
+        (later_width settings) division broken
+        (whole ∙ pieces_are ∙ ap (λ b. cond b [] (empty_word ∷ []) ++ broken) indented)
+        greedy.admissible.fit tight none

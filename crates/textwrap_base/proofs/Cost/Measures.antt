@@ -1,6 +1,11 @@
 -- The closed width and the cost of a part of the fragments, from running sums of their widths.
-use Rattle.std.proofs.Common.{◌≡◌, ℕ, suc, ◌+◌, ◌-◌, ◌*◌, ◌^◌, ◌<◌, ◌≤◌, Bool, true, false, eqb, ltb, ◌&&◌, if◌then◌else◌, List, [], ◌∷◌, ◌++◌, length, get_or, take, drop, map, All, slice_range, max, ◌⊎◌, ◌≢◌, inl, inr, refl, sym, ◌∙◌, ap, arith, length-take, length-drop}
-use Rattle.std.proofs.lemmas.List.{get_or_push, get_or_append_left, take_at, take-append-le, length-map, take_more, take-map, drop-map, get_or-drop, length_push}
+use Rattle.std.proofs.Common.{◌≡◌, ℕ, suc, ◌+◌, ◌-◌, ◌*◌, ◌^◌, ◌<◌, ◌≤◌, Bool, true, false, eqb}
+use Rattle.std.proofs.Common.{ltb, ◌&&◌, if◌then◌else◌, List, [], ◌∷◌, ◌++◌, length, get_or, take}
+use Rattle.std.proofs.Common.{drop, map, All, slice_range, max, ◌⊎◌, ◌≢◌, inl, inr, refl, sym, ◌∙◌}
+use Rattle.std.proofs.Common.{ap, arith, length-take, length-drop}
+use Rattle.std.proofs.lemmas.List.{get_or_push, get_or_append_left, take_at, take-append-le}
+use Rattle.std.proofs.lemmas.List.{length-map, take_more, take-map, drop-map, get_or-drop}
+use Rattle.std.proofs.lemmas.List.{length_push}
 use Rattle.std.proofs.lemmas.List.Sums.{sum_by-cons, sum_by_more_le_part, sum_by-take-le}
 use Rattle.std.proofs.lemmas.List.Elements.{All-nil, All-cons, All-head, All-tail}
 use Rattle.std.proofs.Math.Nat.{mul-le-mul}
@@ -10,13 +15,15 @@ use Rattle.std.proofs.lemmas.Bool.{cases_eq}
 use mathlib.Core.Path.{fun_ext}
 use Rattle.textwrap_base.specs.Sizes.{Sizes}
 use Rattle.textwrap_base.specs.Division.{closed_width, open_width, line_width}
-use Rattle.textwrap_base.specs.Cost.{PricedSizes, priced_at, fit_cost, last_break_cost, line_cost, total_width}
+use Rattle.textwrap_base.specs.Cost.{PricedSizes, priced_at, fit_cost, last_break_cost, line_cost}
+use Rattle.textwrap_base.specs.Cost.{total_width}
 use Rattle.textwrap_base.specs.LineCosts.{measured, AreMeasured}
 use Rattle.textwrap_base.specs.Minima.{Costs}
 use Rattle.textwrap_base.specs.Table.{line_costs, fragment_costs}
 use Rattle.textwrap_base.specs.declared.minima.line_costs.Measure.{Measure}
 use Rattle.textwrap_base.specs.declared.penalties.Penalties.{Penalties}
-use Rattle.textwrap_base.proofs.Division.Greedy.{open_width-cons, open_width-append, closed_width-push, closed_width-map}
+use Rattle.textwrap_base.proofs.Division.Greedy.{open_width-cons, open_width-append}
+use Rattle.textwrap_base.proofs.Division.Greedy.{closed_width-push, closed_width-map}
 
 abbrev pub measured_sizes : Measure → Sizes
 measured_sizes m = (measured m).sizes
@@ -24,116 +31,170 @@ measured_sizes m = (measured m).sizes
 module _ {X : Type 0} (priced : X → PricedSizes) where
   -- ---- a line by its last fragment
 
-  pub last_break_cost-push : (xs : List X) (x : X) → last_break_cost priced (xs ++ x ∷ []) ≡ (priced x).break_cost
+  pub last_break_cost-push : (xs : List X) (x : X) → last_break_cost priced (xs ++ x ∷ [])
+      ≡ (priced x).break_cost
   last_break_cost-push [] x = refl
   last_break_cost-push (y ∷ []) x = refl
   last_break_cost-push (y ∷ z ∷ xs) x = last_break_cost-push (z ∷ xs) x
 
   pub line_cost-push : (penalties : Penalties) (width : ℕ) (is_last : Bool) (xs : List X) (x : X)
       → line_cost priced penalties width is_last (xs ++ x ∷ [])
-      ≡ penalties.nline_penalty + fit_cost penalties (max width 1) (closed_width (λ y. (priced y).sizes) (xs ++ x ∷ [])) is_last (eqb (length (xs ++ x ∷ [])) 1) + (priced x).break_cost
+      ≡ penalties.nline_penalty + fit_cost penalties (max width 1)
+      (closed_width (λ y. (priced y).sizes) (xs ++ x ∷ [])) is_last
+      (eqb (length (xs ++ x ∷ [])) 1) + (priced x).break_cost
   line_cost-push penalties width is_last [] x = refl
   line_cost-push penalties width is_last (y ∷ xs) x =
-      ap (λ n. penalties.nline_penalty + fit_cost penalties (max width 1) (closed_width (λ y. (priced y).sizes) (y ∷ (xs ++ x ∷ []))) is_last (eqb (length (y ∷ (xs ++ x ∷ []))) 1) + n) (last_break_cost-push (y ∷ xs) x)
+      ap (λ n. penalties.nline_penalty + fit_cost penalties (max width 1)
+      (closed_width (λ y. (priced y).sizes) (y ∷ (xs ++ x ∷ []))) is_last
+      (eqb (length (y ∷ (xs ++ x ∷ []))) 1) + n) (last_break_cost-push (y ∷ xs) x)
 
 -- ---- a part of a list
 
-pub slice_push : {X : Type 0} (xs : List X) (i k : ℕ) (d : X) → i ≤ k → k < length xs → slice_range xs i (k + 1) ≡ slice_range xs i k ++ get_or xs k d ∷ []
+pub slice_push : {X : Type 0} (xs : List X) (i k : ℕ) (d : X) → i ≤ k → k < length xs
+    → slice_range xs i (k + 1) ≡ slice_range xs i k ++ get_or xs k d ∷ []
 slice_push xs i k d h l =
     let e : k + 1 - i ≡ k - i + 1 = omega arith in
     let at : i + (k - i) ≡ k = omega arith in
     let within : k - i < length (drop i xs) = rw length-drop (omega arith) in
-    rw e (take_more (drop i xs) (k - i) d within ∙ ap (λ y. take (k - i) (drop i xs) ++ y ∷ []) (get_or-drop i xs (k - i) d ∙ ap (λ n. get_or xs n d) at))
+    rw e (take_more (drop i xs) (k - i) d within
+    ∙ ap (λ y. take (k - i) (drop i xs) ++ y ∷ [])
+    (get_or-drop i xs (k - i) d ∙ ap (λ n. get_or xs n d) at))
 
-pub open_width-slice : {X : Type 0} (sizes : X → Sizes) (xs : List X) (i k : ℕ) → i ≤ k → open_width sizes (take i xs) + open_width sizes (slice_range xs i k) ≡ open_width sizes (take k xs)
+pub open_width-slice : {X : Type 0} (sizes : X → Sizes) (xs : List X) (i k : ℕ) → i ≤ k
+    → open_width sizes (take i xs) + open_width sizes (slice_range xs i k)
+    ≡ open_width sizes (take k xs)
 open_width-slice sizes xs i k h =
     let at : i + (k - i) ≡ k = omega arith in
-    sym (open_width-append sizes (take i xs) (take (k - i) (drop i xs))) ∙ ap (open_width sizes) (sym (take-add i (k - i) xs)) ∙ ap (λ n. open_width sizes (take n xs)) at
+    sym (open_width-append sizes (take i xs) (take (k - i) (drop i xs)))
+    ∙ ap (open_width sizes) (sym (take-add i (k - i) xs))
+    ∙ ap (λ n. open_width sizes (take n xs)) at
 
 -- a line's closed width is a difference of running sums
-pub closed_width-slice : {X : Type 0} (sizes : X → Sizes) (xs : List X) (i k : ℕ) (d : X) → i ≤ k → k < length xs
-    → open_width sizes (take i xs) + closed_width sizes (slice_range xs i (k + 1)) ≡ open_width sizes (take k xs) + (sizes (get_or xs k d)).width + (sizes (get_or xs k d)).penalty
+pub closed_width-slice : {X : Type 0} (sizes : X → Sizes) (xs : List X) (i k : ℕ) (d : X) → i ≤ k
+    → k < length xs
+    → open_width sizes (take i xs) + closed_width sizes (slice_range xs i (k + 1))
+    ≡ open_width sizes (take k xs) + (sizes (get_or xs k d)).width +
+    (sizes (get_or xs k d)).penalty
 closed_width-slice sizes xs i k d h l =
-    let e = ap (closed_width sizes) (slice_push xs i k d h l) ∙ closed_width-push sizes (slice_range xs i k) (get_or xs k d) in
+    let e = ap (closed_width sizes) (slice_push xs i k d h l)
+    ∙ closed_width-push sizes (slice_range xs i k) (get_or xs k d) in
     let o = open_width-slice sizes xs i k h in omega (arith, e, o)
 
-pub length-slice : {X : Type 0} (xs : List X) (i j : ℕ) → j ≤ length xs → length (slice_range xs i j) ≡ j - i
+pub length-slice : {X : Type 0} (xs : List X) (i j : ℕ) → j ≤ length xs
+    → length (slice_range xs i j) ≡ j - i
 length-slice xs i j l = length-take (j - i) (drop i xs) ∙ (let e = length-drop i xs in omega arith)
 
 single_is : (i k : ℕ) → i ≤ k → eqb (k + 1 - i) 1 ≡ eqb (k + 1) (i + 1)
 single_is i k h = grind (arith, nat_tests)
 
-pub line_cost-slice : {X : Type 0} (priced : X → PricedSizes) (penalties : Penalties) (width : ℕ) (is_last : Bool) (xs : List X) (i k : ℕ) (d : X) → i ≤ k → k < length xs
+pub line_cost-slice : {X : Type 0} (priced : X → PricedSizes) (penalties : Penalties) (width : ℕ)
+    (is_last : Bool) (xs : List X) (i k : ℕ) (d : X) → i ≤ k → k < length xs
     → line_cost priced penalties width is_last (slice_range xs i (k + 1))
-    ≡ penalties.nline_penalty + fit_cost penalties (max width 1) (closed_width (λ x. (priced x).sizes) (slice_range xs i (k + 1))) is_last (eqb (k + 1) (i + 1)) + (priced (get_or xs k d)).break_cost
+    ≡ penalties.nline_penalty + fit_cost penalties (max width 1)
+    (closed_width (λ x. (priced x).sizes) (slice_range xs i (k + 1))) is_last
+    (eqb (k + 1) (i + 1)) + (priced (get_or xs k d)).break_cost
 line_cost-slice {X = X} priced penalties width is_last xs i k d h l =
     let e = slice_push xs i k d h l in
     let len = length-slice xs i (k + 1) (omega arith) in
     let sizes : X → Sizes = λ x. (priced x).sizes in
     ap (line_cost priced penalties width is_last) e
     ∙ line_cost-push priced penalties width is_last (slice_range xs i k) (get_or xs k d)
-    ∙ ap (λ (line : List X). penalties.nline_penalty + fit_cost penalties (max width 1) (closed_width sizes line) is_last (eqb (length line) 1) + (priced (get_or xs k d)).break_cost) (sym e)
-    ∙ ap (λ (single : Bool). penalties.nline_penalty + fit_cost penalties (max width 1) (closed_width sizes (slice_range xs i (k + 1))) is_last single + (priced (get_or xs k d)).break_cost)
+    ∙ ap (λ (line : List X). penalties.nline_penalty + fit_cost penalties (max width 1)
+    (closed_width sizes line) is_last (eqb (length line) 1) +
+    (priced (get_or xs k d)).break_cost) (sym e)
+    ∙ ap (λ (single : Bool). penalties.nline_penalty + fit_cost penalties (max width 1)
+    (closed_width sizes (slice_range xs i (k + 1))) is_last single +
+    (priced (get_or xs k d)).break_cost)
     (ap (λ n. eqb n 1) len ∙ single_is i k h)
 
 -- ---- the sizes alone
 
 module _ {X : Type 0} (sizes : X → Sizes) where
-  pub open_width-map : (xs : List X) → open_width (λ (s : Sizes). s) (map sizes xs) ≡ open_width sizes xs
+  pub open_width-map : (xs : List X) → open_width (λ (s : Sizes). s) (map sizes xs)
+      ≡ open_width sizes xs
   open_width-map [] = refl
   open_width-map (x ∷ xs) =
       let h = open_width-map xs in
-      open_width-cons (λ (s : Sizes). s) (sizes x) (map sizes xs) ∙ ap (λ n. (sizes x).width + (sizes x).whitespace + n) h ∙ sym (open_width-cons sizes x xs)
+      open_width-cons (λ (s : Sizes). s) (sizes x) (map sizes xs)
+      ∙ ap (λ n. (sizes x).width + (sizes x).whitespace + n) h
+      ∙ sym (open_width-cons sizes x xs)
 
-  pub total_width-cons : (x : X) (xs : List X) → total_width sizes (x ∷ xs) ≡ (sizes x).width + (sizes x).whitespace + (sizes x).penalty + total_width sizes xs
-  total_width-cons x xs = sum_by-cons (λ (y : X). (sizes y).width + (sizes y).whitespace + (sizes y).penalty) x xs
+  pub total_width-cons : (x : X) (xs : List X) → total_width sizes (x ∷ xs)
+      ≡ (sizes x).width + (sizes x).whitespace + (sizes x).penalty + total_width sizes xs
+  total_width-cons x xs = sum_by-cons (λ (y : X).
+      (sizes y).width + (sizes y).whitespace + (sizes y).penalty) x xs
 
-pub total_width-map : {X : Type 0} (sizes : X → Sizes) (xs : List X) → total_width (λ (s : Sizes). s) (map sizes xs) ≡ total_width sizes xs
+pub total_width-map : {X : Type 0} (sizes : X → Sizes) (xs : List X)
+    → total_width (λ (s : Sizes). s) (map sizes xs) ≡ total_width sizes xs
 total_width-map sizes [] = refl
 total_width-map sizes (x ∷ xs) =
     let h = total_width-map sizes xs in
-    total_width-cons (λ (s : Sizes). s) (sizes x) (map sizes xs) ∙ ap (λ n. (sizes x).width + (sizes x).whitespace + (sizes x).penalty + n) h ∙ sym (total_width-cons sizes x xs)
+    total_width-cons (λ (s : Sizes). s) (sizes x) (map sizes xs)
+    ∙ ap (λ n. (sizes x).width + (sizes x).whitespace + (sizes x).penalty + n) h
+    ∙ sym (total_width-cons sizes x xs)
 
 -- ---- the priced sizes alone
 
-pub last_break_cost-map : {X : Type 0} (priced : X → PricedSizes) (xs : List X) → last_break_cost (λ (p : PricedSizes). p) (map priced xs) ≡ last_break_cost priced xs
+pub last_break_cost-map : {X : Type 0} (priced : X → PricedSizes) (xs : List X)
+    → last_break_cost (λ (p : PricedSizes). p) (map priced xs) ≡ last_break_cost priced xs
 last_break_cost-map priced [] = refl
 last_break_cost-map priced (x ∷ []) = refl
 last_break_cost-map priced (x ∷ y ∷ xs) = last_break_cost-map priced (y ∷ xs)
 
-pub line_cost-map : {X : Type 0} (priced : X → PricedSizes) (penalties : Penalties) (width : ℕ) (is_last : Bool) (line : List X)
-    → line_cost (λ (p : PricedSizes). p) penalties width is_last (map priced line) ≡ line_cost priced penalties width is_last line
+pub line_cost-map : {X : Type 0} (priced : X → PricedSizes) (penalties : Penalties) (width : ℕ)
+    (is_last : Bool) (line : List X)
+    → line_cost (λ (p : PricedSizes). p) penalties width is_last (map priced line)
+    ≡ line_cost priced penalties width is_last line
 line_cost-map priced penalties width is_last [] = refl
 line_cost-map priced penalties width is_last (x ∷ line) =
     let closed = closed_width-map priced (λ (y : PricedSizes). y.sizes) (x ∷ line) in
     let end = last_break_cost-map priced (x ∷ line) in
     let len = length-map line priced in
-    ap (λ n. penalties.nline_penalty + fit_cost penalties (max width 1) n is_last (eqb (suc (length (map priced line))) 1) + last_break_cost (λ (p : PricedSizes). p) (map priced (x ∷ line))) closed
-    ∙ ap (λ n. penalties.nline_penalty + fit_cost penalties (max width 1) (closed_width (λ y. (priced y).sizes) (x ∷ line)) is_last (eqb (suc n) 1) + last_break_cost (λ (p : PricedSizes). p) (map priced (x ∷ line))) len
-    ∙ ap (λ n. penalties.nline_penalty + fit_cost penalties (max width 1) (closed_width (λ y. (priced y).sizes) (x ∷ line)) is_last (eqb (suc (length line)) 1) + n) end
+    ap (λ n. penalties.nline_penalty + fit_cost penalties (max width 1) n is_last
+    (eqb (suc (length (map priced line))) 1) + last_break_cost (λ (p : PricedSizes). p)
+    (map priced (x ∷ line))) closed
+    ∙ ap (λ n. penalties.nline_penalty + fit_cost penalties (max width 1)
+    (closed_width (λ y. (priced y).sizes) (x ∷ line)) is_last (eqb (suc n) 1) + last_break_cost
+    (λ (p : PricedSizes). p) (map priced (x ∷ line))) len
+    ∙ ap (λ n. penalties.nline_penalty + fit_cost penalties (max width 1)
+    (closed_width (λ y. (priced y).sizes) (x ∷ line)) is_last (eqb (suc (length line)) 1) + n)
+    end
 
-pub slice-map : {X Y : Type 0} (f : X → Y) (xs : List X) (i j : ℕ) → slice_range (map f xs) i j ≡ map f (slice_range xs i j)
+pub slice-map : {X Y : Type 0} (f : X → Y) (xs : List X) (i j : ℕ) → slice_range (map f xs) i j
+    ≡ map f (slice_range xs i j)
 slice-map f xs i j = ap (take (j - i)) (drop-map f i xs) ∙ take-map f (j - i) (drop i xs)
 
-pub line_costs-at : {X : Type 0} (priced : X → PricedSizes) (penalties : Penalties) (widths : List ℕ) (xs : List X) (i j number : ℕ)
-    → line_costs (λ (s : PricedSizes). s) penalties widths (map priced xs) i j number ≡ line_costs priced penalties widths xs i j number
+pub line_costs-at : {X : Type 0} (priced : X → PricedSizes) (penalties : Penalties)
+    (widths : List ℕ) (xs : List X) (i j number : ℕ)
+    → line_costs (λ (s : PricedSizes). s) penalties widths (map priced xs) i j number
+    ≡ line_costs priced penalties widths xs i j number
 line_costs-at priced penalties widths xs i j number =
-    ap (λ n. line_cost (λ (s : PricedSizes). s) penalties (line_width widths number) (eqb j n) (slice_range (map priced xs) i j)) (length-map xs priced)
-    ∙ ap (λ line. line_cost (λ (s : PricedSizes). s) penalties (line_width widths number) (eqb j (length xs)) line) (slice-map priced xs i j)
-    ∙ line_cost-map priced penalties (line_width widths number) (eqb j (length xs)) (slice_range xs i j)
+    ap (λ n. line_cost (λ (s : PricedSizes). s) penalties (line_width widths number) (eqb j n)
+    (slice_range (map priced xs) i j)) (length-map xs priced)
+    ∙ ap (λ line. line_cost (λ (s : PricedSizes). s) penalties (line_width widths number)
+    (eqb j (length xs)) line) (slice-map priced xs i j)
+    ∙ line_cost-map priced penalties (line_width widths number) (eqb j (length xs))
+    (slice_range xs i j)
 
 -- the costs of the priced sizes are those of the fragments
-pub line_costs-map : {X : Type 0} (priced : X → PricedSizes) (penalties : Penalties) (widths : List ℕ) (xs : List X)
-    → line_costs (λ (s : PricedSizes). s) penalties widths (map priced xs) ≡ line_costs priced penalties widths xs
-line_costs-map priced penalties widths xs = fun_ext (λ i. fun_ext (λ j. fun_ext (λ number. line_costs-at priced penalties widths xs i j number)))
+pub line_costs-map : {X : Type 0} (priced : X → PricedSizes) (penalties : Penalties)
+    (widths : List ℕ) (xs : List X)
+    → line_costs (λ (s : PricedSizes). s) penalties widths (map priced xs)
+    ≡ line_costs priced penalties widths xs
+line_costs-map priced penalties widths xs = fun_ext
+    (λ i. fun_ext (λ j. fun_ext (λ number. line_costs-at priced penalties widths xs i j number)))
 
 -- ---- measures
 
 -- with what stands before it, a fragment keeps to all widths together
-pub open_width-total : {X : Type 0} (sizes : X → Sizes) (xs : List X) (k : ℕ) (d : X) → k < length xs
-    → open_width sizes (take k xs) + ((sizes (get_or xs k d)).width + (sizes (get_or xs k d)).whitespace + (sizes (get_or xs k d)).penalty) ≤ total_width sizes xs
+pub open_width-total : {X : Type 0} (sizes : X → Sizes) (xs : List X) (k : ℕ) (d : X)
+    → k < length xs
+    → open_width sizes (take k xs) + ((sizes (get_or xs k d)).width +
+    (sizes (get_or xs k d)).whitespace + (sizes (get_or xs k d)).penalty) ≤ total_width sizes xs
 open_width-total {X = X} sizes xs k d l =
-    sum_by_more_le_part (λ (x : X). (sizes x).width + (sizes x).whitespace) (λ (x : X). (sizes x).width + (sizes x).whitespace + (sizes x).penalty) xs k d l (λ x. omega arith)
+    sum_by_more_le_part (λ (x : X). (sizes x).width + (sizes x).whitespace)
+    (λ (x : X). (sizes x).width + (sizes x).whitespace + (sizes x).penalty) xs k d l
+    (λ x. omega arith)
 
 pub before_fits : (ms : List Measure) (k : ℕ) (d : Measure) → k < length ms → AreMeasured ms
     → (get_or ms k d).before + (get_or ms k d).width + (get_or ms k d).penalty < 2 ^ 128
@@ -142,8 +203,10 @@ before_fits ms k d l h =
     let t = open_width-total measured_sizes ms k d l in
     let all = h.total in omega arith
 
-pub measured_closed : (ms : List Measure) (i k : ℕ) (d : Measure) → i ≤ k → k < length ms → AreMeasured ms
-    → (get_or ms k d).before - (get_or ms i d).before + (get_or ms k d).width + (get_or ms k d).penalty ≡ closed_width measured_sizes (slice_range ms i (k + 1))
+pub measured_closed : (ms : List Measure) (i k : ℕ) (d : Measure) → i ≤ k → k < length ms
+    → AreMeasured ms
+    → (get_or ms k d).before - (get_or ms i d).before + (get_or ms k d).width +
+    (get_or ms k d).penalty ≡ closed_width measured_sizes (slice_range ms i (k + 1))
 measured_closed ms i k d h l m =
     let b = m.before k d l in
     let a = m.before i d (omega arith) in
@@ -152,28 +215,40 @@ measured_closed ms i k d h l m =
 
 -- ---- measures of fragments
 
-pub map-map : {X Y Z : Type 0} (f : X → Y) (g : Y → Z) (xs : List X) → map (λ x. g (f x)) xs ≡ map g (map f xs)
+pub map-map : {X Y Z : Type 0} (f : X → Y) (g : Y → Z) (xs : List X) → map (λ x. g (f x)) xs
+    ≡ map g (map f xs)
 map-map f g [] = refl
 map-map f g (x ∷ xs) = ap (λ l. g (f x) ∷ l) (map-map f g xs)
 
-pub sizes-same : {X Y : Type 0} (priced : X → PricedSizes) (others : Y → PricedSizes) (xs : List X) (ys : List Y) → map priced xs ≡ map others ys
+pub sizes-same : {X Y : Type 0} (priced : X → PricedSizes) (others : Y → PricedSizes) (xs : List X)
+    (ys : List Y) → map priced xs ≡ map others ys
     → map (λ x. (priced x).sizes) xs ≡ map (λ y. (others y).sizes) ys
-sizes-same priced others xs ys e = map-map priced (λ (p : PricedSizes). p.sizes) xs ∙ ap (map (λ (p : PricedSizes). p.sizes)) e ∙ sym (map-map others (λ (p : PricedSizes). p.sizes) ys)
+sizes-same priced others xs ys e = map-map priced (λ (p : PricedSizes). p.sizes) xs
+    ∙ ap (map (λ (p : PricedSizes). p.sizes)) e
+    ∙ sym (map-map others (λ (p : PricedSizes). p.sizes) ys)
 
 -- equal sizes have equal widths
-pub open_width-same : {X Y : Type 0} (sizes : X → Sizes) (others : Y → Sizes) (xs : List X) (ys : List Y) → map sizes xs ≡ map others ys → open_width sizes xs ≡ open_width others ys
-open_width-same sizes others xs ys e = sym (open_width-map sizes xs) ∙ ap (open_width (λ (s : Sizes). s)) e ∙ open_width-map others ys
+pub open_width-same : {X Y : Type 0} (sizes : X → Sizes) (others : Y → Sizes) (xs : List X)
+    (ys : List Y) → map sizes xs ≡ map others ys → open_width sizes xs ≡ open_width others ys
+open_width-same sizes others xs ys e = sym (open_width-map sizes xs)
+    ∙ ap (open_width (λ (s : Sizes). s)) e ∙ open_width-map others ys
 
-pub total_width-same : {X Y : Type 0} (sizes : X → Sizes) (others : Y → Sizes) (xs : List X) (ys : List Y) → map sizes xs ≡ map others ys → total_width sizes xs ≡ total_width others ys
-total_width-same sizes others xs ys e = sym (total_width-map sizes xs) ∙ ap (total_width (λ (s : Sizes). s)) e ∙ total_width-map others ys
+pub total_width-same : {X Y : Type 0} (sizes : X → Sizes) (others : Y → Sizes) (xs : List X)
+    (ys : List Y) → map sizes xs ≡ map others ys → total_width sizes xs ≡ total_width others ys
+total_width-same sizes others xs ys e = sym (total_width-map sizes xs)
+    ∙ ap (total_width (λ (s : Sizes). s)) e ∙ total_width-map others ys
 
 -- one more measure
-pub before_more : (ms : List Measure) (m : Measure) → ((i : ℕ) (d : Measure) → i < length ms → (get_or ms i d).before ≡ open_width measured_sizes (take i ms))
+pub before_more : (ms : List Measure) (m : Measure)
+    → ((i : ℕ) (d : Measure) → i < length ms → (get_or ms i d).before
+    ≡ open_width measured_sizes (take i ms))
     → m.before ≡ open_width measured_sizes ms
-    → (i : ℕ) (d : Measure) → i < length (ms ++ m ∷ []) → (get_or (ms ++ m ∷ []) i d).before ≡ open_width measured_sizes (take i (ms ++ m ∷ []))
+    → (i : ℕ) (d : Measure) → i < length (ms ++ m ∷ []) → (get_or (ms ++ m ∷ []) i d).before
+    ≡ open_width measured_sizes (take i (ms ++ m ∷ []))
 before_more ms m all now i d l = more_by (cases_eq i (length ms))
   where
-    more_by : (i ≡ length ms) ⊎ (i ≢ length ms) → (get_or (ms ++ m ∷ []) i d).before ≡ open_width measured_sizes (take i (ms ++ m ∷ []))
+    more_by : (i ≡ length ms) ⊎ (i ≢ length ms) → (get_or (ms ++ m ∷ []) i d).before
+        ≡ open_width measured_sizes (take i (ms ++ m ∷ []))
     more_by (inl e) =
         let at = get_or_push ms m d i (sym e) in
         let front = take_at ms (m ∷ []) i (sym e) in rw (at, front) now
@@ -181,20 +256,31 @@ before_more ms m all now i d l = more_by (cases_eq i (length ms))
         let len = length_push ms m in
         let within : i < length ms = omega arith in
         let at = get_or_append_left ms (m ∷ []) d i within in
-        let front : take i (ms ++ m ∷ []) ≡ take i ms = take-append-le i ms (m ∷ []) (omega arith) in rw (at, front) (all i d within)
+        let front : take i (ms ++ m ∷ []) ≡ take i ms =
+        take-append-le i ms (m ∷ []) (omega arith) in rw (at, front) (all i d within)
 
 -- what the code adds up is the cost of the line
-pub line_cost-measured : (penalties : Penalties) (width : ℕ) (ms : List Measure) (i j : ℕ) (d : Measure) → i < j → j ≤ length ms
+pub line_cost-measured : (penalties : Penalties) (width : ℕ) (ms : List Measure) (i j : ℕ)
+    (d : Measure) → i < j → j ≤ length ms
     → line_cost measured penalties width (eqb j (length ms)) (slice_range ms i j)
-    ≡ penalties.nline_penalty + fit_cost penalties (max width 1) (closed_width measured_sizes (slice_range ms i j)) (eqb j (length ms)) (eqb j (i + 1)) + (get_or ms (j - 1) d).break_cost
+    ≡ penalties.nline_penalty + fit_cost penalties (max width 1)
+    (closed_width measured_sizes (slice_range ms i j)) (eqb j (length ms)) (eqb j (i + 1)) +
+    (get_or ms (j - 1) d).break_cost
 line_cost-measured penalties width ms i j d h l =
     let same : j - 1 + 1 ≡ j = omega arith in
-    rw same at (line_cost-slice measured penalties width (eqb j (length ms)) ms i (j - 1) d (omega arith) (omega arith))
+    rw same at (line_cost-slice measured penalties width (eqb j (length ms)) ms i (j - 1) d
+    (omega arith) (omega arith))
 
-pub fragment_costs-map : {X : Type 0} (priced : X → PricedSizes) (penalties : Penalties) (widths : List ℕ) (xs : List X)
-    → fragment_costs (λ (s : PricedSizes). s) penalties widths (map priced xs) ≡ fragment_costs priced penalties widths xs
+pub fragment_costs-map : {X : Type 0} (priced : X → PricedSizes) (penalties : Penalties)
+    (widths : List ℕ) (xs : List X)
+    → fragment_costs (λ (s : PricedSizes). s) penalties widths (map priced xs)
+    ≡ fragment_costs priced penalties widths xs
 fragment_costs-map priced penalties widths xs =
-    let with_ends : ℕ → Costs = λ n. record { ends = n; cost = line_costs (λ (s : PricedSizes). s) penalties widths (map priced xs) } in
+    let with_ends : ℕ → Costs = λ n. record {
+      ends = n;
+      cost =
+          line_costs (λ (s : PricedSizes). s) penalties widths (map priced xs);
+    } in
     let with_cost : (ℕ → ℕ → ℕ → ℕ) → Costs = λ cost. record { ends = length xs; cost = cost } in
     ap with_ends (length-map xs priced) ∙ ap with_cost (line_costs-map priced penalties widths xs)
 
@@ -207,7 +293,8 @@ pub record Are64Bits (penalties : Penalties) : Type 0 where
   pub short_last_line : penalties.short_last_line_penalty < 2 ^ 64
   pub hyphen : penalties.hyphen_penalty < 2 ^ 64
 
-pub closed_width-le : {X : Type 0} (sizes : X → Sizes) (line : List X) → closed_width sizes line ≤ total_width sizes line
+pub closed_width-le : {X : Type 0} (sizes : X → Sizes) (line : List X)
+    → closed_width sizes line ≤ total_width sizes line
 closed_width-le sizes [] = omega arith
 closed_width-le sizes (x ∷ []) = omega arith
 closed_width-le sizes (x ∷ y ∷ line) =
@@ -219,41 +306,64 @@ square_fits a b h k =
     let p : a ≤ 2 ^ 64 - 1 = omega arith in
     let q : b ≤ 2 ^ 64 - 1 = omega arith in mul-le-mul p q
 
-fit_cost-le : (p : Penalties) (t closed : ℕ) (is_last is_single : Bool) → Are64Bits p → t < 2 ^ 64 → closed < 2 ^ 64
+fit_cost-le : (p : Penalties) (t closed : ℕ) (is_last is_single : Bool) → Are64Bits p → t < 2 ^ 64
+    → closed < 2 ^ 64
     → fit_cost p t closed is_last is_single ≤ (2 ^ 64 - 1) * (2 ^ 64 - 1)
 fit_cost-le p t closed is_last is_single h k l =
     let over = square_fits (closed - t) p.overflow_penalty (omega arith) h.overflow in
     let gap = square_fits (t - closed) (t - closed) (omega arith) (omega arith) in
     let short = h.short_last_line in
-    elim (ltb t closed) as (λ b. (if b then (closed - t) * p.overflow_penalty else if is_last then (if is_single && ltb (closed * p.short_last_line_fraction) t then p.short_last_line_penalty else 0) else (t - closed) * (t - closed)) ≤ (2 ^ 64 - 1) * (2 ^ 64 - 1)) [
+    elim (ltb t closed) as (λ b. (if b then (closed - t) * p.overflow_penalty else if is_last
+    then (if is_single && ltb (closed * p.short_last_line_fraction) t
+    then p.short_last_line_penalty else 0) else (t - closed) * (t - closed)) ≤
+    (2 ^ 64 - 1) * (2 ^ 64 - 1)) [
       | true ↦ over
-      | false ↦ elim is_last as (λ b. (if b then (if is_single && ltb (closed * p.short_last_line_fraction) t then p.short_last_line_penalty else 0) else (t - closed) * (t - closed)) ≤ (2 ^ 64 - 1) * (2 ^ 64 - 1)) [
-        | true ↦ elim (is_single && ltb (closed * p.short_last_line_fraction) t) as (λ b. (if b then p.short_last_line_penalty else 0) ≤ (2 ^ 64 - 1) * (2 ^ 64 - 1)) [ true ↦ omega (arith, short) | false ↦ omega arith ]
-        | false ↦ gap
-      ]
+      | false ↦ elim is_last as (λ b. (if b then (if is_single && ltb
+          (closed * p.short_last_line_fraction) t then p.short_last_line_penalty else 0)
+          else (t - closed) * (t - closed)) ≤ (2 ^ 64 - 1) * (2 ^ 64 - 1)) [
+            | true ↦ elim (is_single && ltb (closed * p.short_last_line_fraction) t)
+                as (λ b. (if b then p.short_last_line_penalty else 0) ≤ (2 ^ 64 - 1) * (2 ^ 64 - 1))
+                [ true ↦ omega (arith, short) | false ↦ omega arith ]
+            | false ↦ gap
+          ]
     ]
 
 -- the hyphen penalty keeps to 64 bits, and so does what a fragment costs by it
-priced_at-fits : (p : Penalties) (sizes : Sizes) → Are64Bits p → (priced_at p sizes).break_cost < 2 ^ 64
-priced_at-fits p sizes h = let k = h.hyphen in elim (ltb 0 sizes.penalty) as (λ b. (if b then p.hyphen_penalty else 0) < 2 ^ 64) [ true ↦ k | false ↦ omega arith ]
+priced_at-fits : (p : Penalties) (sizes : Sizes) → Are64Bits p
+    → (priced_at p sizes).break_cost < 2 ^ 64
+priced_at-fits p sizes h = let k = h.hyphen in
+    elim (ltb 0 sizes.penalty) as (λ b. (if b then p.hyphen_penalty else 0) < 2 ^ 64)
+    [ true ↦ k | false ↦ omega arith ]
 
-pub priced_at-all_fit : {X : Type 0} (p : Penalties) (sizes : X → Sizes) (xs : List X) → Are64Bits p → All (λ x. (priced_at p (sizes x)).break_cost < 2 ^ 64) xs
+pub priced_at-all_fit : {X : Type 0} (p : Penalties) (sizes : X → Sizes) (xs : List X) → Are64Bits p
+    → All (λ x. (priced_at p (sizes x)).break_cost < 2 ^ 64) xs
 priced_at-all_fit p sizes [] h = All-nil (λ x. (priced_at p (sizes x)).break_cost < 2 ^ 64)
-priced_at-all_fit p sizes (x ∷ xs) h = All-cons (λ x. (priced_at p (sizes x)).break_cost < 2 ^ 64) x xs (priced_at-fits p (sizes x) h) (priced_at-all_fit p sizes xs h)
+priced_at-all_fit p sizes (x ∷ xs) h = All-cons
+    (λ x. (priced_at p (sizes x)).break_cost < 2 ^ 64) x xs (priced_at-fits p (sizes x) h)
+    (priced_at-all_fit p sizes xs h)
 
-last_break_cost-fits : {X : Type 0} (priced : X → PricedSizes) (line : List X) → All (λ x. (priced x).break_cost < 2 ^ 64) line → last_break_cost priced line < 2 ^ 64
+last_break_cost-fits : {X : Type 0} (priced : X → PricedSizes) (line : List X)
+    → All (λ x. (priced x).break_cost < 2 ^ 64) line → last_break_cost priced line < 2 ^ 64
 last_break_cost-fits priced [] all = omega arith
 last_break_cost-fits priced (x ∷ []) all = All-head (λ x. (priced x).break_cost < 2 ^ 64) x [] all
-last_break_cost-fits priced (x ∷ y ∷ line) all = last_break_cost-fits priced (y ∷ line) (All-tail (λ x. (priced x).break_cost < 2 ^ 64) x (y ∷ line) all)
+last_break_cost-fits priced (x ∷ y ∷ line) all =
+    last_break_cost-fits priced (y ∷ line) (All-tail (λ x. (priced x).break_cost < 2 ^ 64) x
+    (y ∷ line) all)
 
-pub line_cost-fits : {X : Type 0} (priced : X → PricedSizes) (p : Penalties) (width : ℕ) (is_last : Bool) (line : List X) → Are64Bits p → All (λ x. (priced x).break_cost < 2 ^ 64) line → width < 2 ^ 64
-    → total_width (λ x. (priced x).sizes) line < 2 ^ 64 → line_cost priced p width is_last line < 2 ^ 128
+pub line_cost-fits : {X : Type 0} (priced : X → PricedSizes) (p : Penalties) (width : ℕ)
+    (is_last : Bool) (line : List X) → Are64Bits p → All (λ x. (priced x).break_cost < 2 ^ 64) line
+    → width < 2 ^ 64
+    → total_width (λ x. (priced x).sizes) line < 2 ^ 64
+    → line_cost priced p width is_last line < 2 ^ 128
 line_cost-fits priced p width is_last [] h breaks k l = omega arith
 line_cost-fits priced p width is_last (x ∷ line) h breaks k l =
     let closed = closed_width-le (λ y. (priced y).sizes) (x ∷ line) in
-    let fit = fit_cost-le p (max width 1) (closed_width (λ y. (priced y).sizes) (x ∷ line)) is_last (eqb (length (x ∷ line)) 1) h (omega arith) (omega arith) in
+    let fit = fit_cost-le p (max width 1) (closed_width (λ y. (priced y).sizes) (x ∷ line)) is_last
+    (eqb (length (x ∷ line)) 1) h (omega arith) (omega arith) in
     let end = last_break_cost-fits priced (x ∷ line) breaks in
     let each = h.nline in omega (arith, fit, end, each)
 
-pub total_width-take : {X : Type 0} (sizes : X → Sizes) (xs : List X) (j : ℕ) → total_width sizes (take j xs) ≤ total_width sizes xs
-total_width-take {X = X} sizes xs j = sum_by-take-le (λ (x : X). (sizes x).width + (sizes x).whitespace + (sizes x).penalty) xs j
+pub total_width-take : {X : Type 0} (sizes : X → Sizes) (xs : List X) (j : ℕ)
+    → total_width sizes (take j xs) ≤ total_width sizes xs
+total_width-take {X = X} sizes xs j = sum_by-take-le
+    (λ (x : X). (sizes x).width + (sizes x).whitespace + (sizes x).penalty) xs j

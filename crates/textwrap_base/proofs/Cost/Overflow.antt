@@ -1,5 +1,6 @@
 -- Where the table of fragments overflows, and where it does not.
-use Rattle.std.proofs.Common.{◌≡◌, ℕ, zero, suc, ◌-◌, ◌^◌, ◌<◌, ◌≤◌, eqb, List, length, get_or, take, min, All, ap, arith, Result, Ok, Err, IsErrAnd}
+use Rattle.std.proofs.Common.{◌≡◌, ℕ, zero, suc, ◌-◌, ◌^◌, ◌<◌, ◌≤◌, eqb, List, length, get_or}
+use Rattle.std.proofs.Common.{take, min, All, ap, arith, Result, Ok, Err, IsErrAnd}
 use Rattle.std.proofs.lemmas.List.Elements.{All-take}
 use Rattle.textwrap_base.specs.Division.{line_width}
 use Rattle.textwrap_base.specs.Cost.{PricedSizes, total_width}
@@ -13,7 +14,8 @@ use Rattle.textwrap_base.proofs.Cost.Table.{table-least, entry-table_first}
 use Rattle.textwrap_base.proofs.Cost.Measures.{Are64Bits, line_cost-fits, total_width-take}
 
 -- one line is a division of each prefix
-one_line : (cost : ℕ → ℕ → ℕ → ℕ) (n j : ℕ) → j < n → (entry_at (table cost n) (suc j)).cost ≤ cost 0 (suc j) 0
+one_line : (cost : ℕ → ℕ → ℕ → ℕ) (n j : ℕ) → j < n
+    → (entry_at (table cost n) (suc j)).cost ≤ cost 0 (suc j) 0
 one_line cost n j l =
     let h = table-least cost n j l in
     let least = h.least 0 (omega arith) in
@@ -21,17 +23,24 @@ one_line cost n j l =
     let least' = rw first at least in omega (arith, least')
 
 -- where all widths together keep to 64 bits, each entry keeps to 128
-pub table-fits : {X : Type 0} (priced : X → PricedSizes) (p : Penalties) (widths : List ℕ) (xs : List X) → Are64Bits p → All (λ x. (priced x).break_cost < 2 ^ 64) xs → ((i : ℕ) → get_or widths i 0 < 2 ^ 64) → total_width (λ x. (priced x).sizes) xs < 2 ^ 64
+pub table-fits : {X : Type 0} (priced : X → PricedSizes) (p : Penalties) (widths : List ℕ)
+    (xs : List X) → Are64Bits p → All (λ x. (priced x).break_cost < 2 ^ 64) xs
+    → ((i : ℕ) → get_or widths i 0 < 2 ^ 64) → total_width (λ x. (priced x).sizes) xs < 2 ^ 64
     → (j : ℕ) → j ≤ length xs → (entry_at (fragments_table priced p widths xs) j).cost < 2 ^ 128
-table-fits priced p widths xs h breaks k l zero b = let e = ap (λ (x : Entry). x.cost) (entry-table_first (line_costs priced p widths xs) (length xs)) in omega (arith, e)
+table-fits priced p widths xs h breaks k l zero b = let e =
+    ap (λ (x : Entry). x.cost) (entry-table_first (line_costs priced p widths xs) (length xs)) in
+    omega (arith, e)
 table-fits priced p widths xs h breaks k l (suc j) b =
     let one = one_line (line_costs priced p widths xs) (length xs) j b in
     let part = total_width-take (λ x. (priced x).sizes) xs (suc j - 0) in
-    let fits = line_cost-fits priced p (line_width widths 0) (eqb (suc j) (length xs)) (take (suc j - 0) xs) h (All-take (λ x. (priced x).break_cost < 2 ^ 64) (suc j - 0) xs breaks) (k (min 0 (length widths - 1))) (omega arith) in
+    let fits = line_cost-fits priced p (line_width widths 0) (eqb (suc j) (length xs))
+    (take (suc j - 0) xs) h (All-take (λ x. (priced x).break_cost < 2 ^ 64)
+    (suc j - 0) xs breaks) (k (min 0 (length widths - 1))) (omega arith) in
     omega (arith, one, fits)
 
 -- an error that is passed on
-pub overflowed_on : {A : Type 0} (B : Type 0) (r : Result A WrapError) (e : WrapError) → IsErrAnd r (λ f. f ≡ e) → Overflowed r → Overflowed {A = B} (Err e)
+pub overflowed_on : {A : Type 0} (B : Type 0) (r : Result A WrapError) (e : WrapError)
+    → IsErrAnd r (λ f. f ≡ e) → Overflowed r → Overflowed {A = B} (Err e)
 overflowed_on B (Ok v) e h o = absurd o
 overflowed_on B (Err (Memory m)) e h o = absurd o
 overflowed_on B (Err (Overflow m)) e h o = rw (← h) tt

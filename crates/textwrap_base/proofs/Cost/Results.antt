@@ -1,5 +1,6 @@
 -- What a call by optimal fit returns, from what the table's call returned.
-use Rattle.std.proofs.Common.{◌≡◌, ℕ, ◌^◌, ◌<◌, ◌≤◌, inl, List, Result, Ok, Err, IsErrAnd, sym, subst}
+use Rattle.std.proofs.Common.{◌≡◌, ℕ, ◌^◌, ◌<◌, ◌≤◌, inl, List, Result, Ok, Err, IsErrAnd, sym}
+use Rattle.std.proofs.Common.{subst}
 use Rattle.textwrap_base.specs.Cost.{PricedSizes, total_width}
 use Rattle.textwrap_base.specs.Table.{TableOverflows, IsByTable}
 use Rattle.textwrap_base.specs.OptimalFit.{IsOptimalFitResult}
@@ -13,10 +14,17 @@ passed_on : (A B : Type 0) (e : WrapError) → Overflowed {A = A} (Err e) → Ov
 passed_on A B (Memory memory) over = over
 passed_on A B (Overflow overflow) over = over
 
-module _ {X A : Type 0} (priced : X → PricedSizes) (penalties : Penalties) (widths : List ℕ) (xs : List X) (lines : A → List (List X)) where
-  pub optimal-returned : (value : A) → IsByTable priced penalties widths xs (lines value) → ¬ TableOverflows priced penalties widths xs → IsOptimalFitResult priced penalties widths xs lines (Ok value)
+module _ {X A : Type 0} (priced : X → PricedSizes) (penalties : Penalties) (widths : List ℕ)
+    (xs : List X) (lines : A → List (List X)) where
+  pub optimal-returned : (value : A) → IsByTable priced penalties widths xs (lines value)
+      → ¬ TableOverflows priced penalties widths xs
+      → IsOptimalFitResult priced penalties widths xs lines (Ok value)
   optimal-returned value by none = record {
-    divided = record { by_table = by; chosen = λ equal. by_table-chosen priced penalties widths xs (lines value) equal by };
+    divided = record {
+      by_table = by;
+      chosen = λ equal.
+          by_table-chosen priced penalties widths xs (lines value) equal by;
+    };
     overflow_only = λ equal over. absurd over;
     ok_only = λ equal over. none (overflows-table priced penalties widths xs equal over);
     table_overflow_only = λ over. absurd over;
@@ -25,8 +33,11 @@ module _ {X A : Type 0} (priced : X → PricedSizes) (penalties : Penalties) (wi
     no_overflow = λ narrow over. over;
   }
 
-  refused : (e : WrapError) → (Overflowed {A = A} (Err e) → TableOverflows priced penalties widths xs) → (2 ^ 128 ≤ total_width (λ x. (priced x).sizes) xs → Overflowed {A = A} (Err e))
-      → (total_width (λ x. (priced x).sizes) xs < 2 ^ 64 → ¬ Overflowed {A = A} (Err e)) → IsOptimalFitResult priced penalties widths xs lines (Err e)
+  refused : (e : WrapError) → (Overflowed {A = A} (Err e)
+      → TableOverflows priced penalties widths xs)
+      → (2 ^ 128 ≤ total_width (λ x. (priced x).sizes) xs → Overflowed {A = A} (Err e))
+      → (total_width (λ x. (priced x).sizes) xs < 2 ^ 64 → ¬ Overflowed {A = A} (Err e))
+      → IsOptimalFitResult priced penalties widths xs lines (Err e)
   refused e table wide narrow = record {
     divided = tt;
     overflow_only = λ equal over. table-overflows priced penalties widths xs equal (table over);
@@ -38,10 +49,14 @@ module _ {X A : Type 0} (priced : X → PricedSizes) (penalties : Penalties) (wi
   }
 
   -- the error of a call before it, passed on
-  pub optimal-refused : (B : Type 0) (r : Result A WrapError) (e : WrapError) → IsErrAnd r (λ f. f ≡ e)
-      → (Overflowed {A = B} (Err e) → TableOverflows priced penalties widths xs) → (2 ^ 128 ≤ total_width (λ x. (priced x).sizes) xs → Overflowed {A = B} (Err e))
-      → (total_width (λ x. (priced x).sizes) xs < 2 ^ 64 → ¬ Overflowed {A = B} (Err e)) → IsOptimalFitResult priced penalties widths xs lines r
+  pub optimal-refused : (B : Type 0) (r : Result A WrapError) (e : WrapError)
+      → IsErrAnd r (λ f. f ≡ e)
+      → (Overflowed {A = B} (Err e) → TableOverflows priced penalties widths xs)
+      → (2 ^ 128 ≤ total_width (λ x. (priced x).sizes) xs → Overflowed {A = B} (Err e))
+      → (total_width (λ x. (priced x).sizes) xs < 2 ^ 64 → ¬ Overflowed {A = B} (Err e))
+      → IsOptimalFitResult priced penalties widths xs lines r
   optimal-refused B (Ok value) e is table wide narrow = absurd is
   optimal-refused B (Err f) e is table wide narrow =
       subst (λ d. IsOptimalFitResult priced penalties widths xs lines (Err d)) (sym is)
-      (refused e (λ over. table (passed_on A B e over)) (λ much. passed_on B A e (wide much)) (λ little over. narrow little (passed_on A B e over)))
+      (refused e (λ over. table (passed_on A B e over)) (λ much. passed_on B A e (wide much))
+      (λ little over. narrow little (passed_on A B e over)))

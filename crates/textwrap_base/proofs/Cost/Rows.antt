@@ -8,21 +8,29 @@ use Rattle.textwrap_base.specs.Table.{table, fragments_table}
 use Rattle.textwrap_base.specs.declared.minima.table.Entry.{Entry}
 
 abbrev sized : ℕ → ℕ → ℕ → Sizes
-sized width whitespace penalty = record { width = width; whitespace = whitespace; penalty = penalty }
+sized width whitespace penalty = record {
+  width = width;
+  whitespace = whitespace;
+  penalty =
+      penalty;
+}
 
 -- the start and the cost of each entry
 abbrev starts_and_costs : List ℕ → List Sizes → List (ℕ × ℕ)
-starts_and_costs widths fragments = map (λ (entry : Entry). (entry.start, entry.cost)) (fragments_table (priced_at default_penalties) default_penalties widths fragments)
+starts_and_costs widths fragments = map (λ (entry : Entry). (entry.start, entry.cost))
+    (fragments_table (priced_at default_penalties) default_penalties widths fragments)
 
 -- ---- fragments whose closed width falls with the fourth
 
 abbrev falling : List Sizes
 falling = sized 10 0 0 ∷ sized 5 0 0 ∷ sized 5 0 5 ∷ sized 0 0 0 ∷ sized 10 0 0 ∷ []
 
-closed_width-falling : map (λ count. closed_width (λ (sizes : Sizes). sizes) (take count falling)) (1 ∷ 2 ∷ 3 ∷ 4 ∷ 5 ∷ []) ≡ 10 ∷ 15 ∷ 25 ∷ 20 ∷ 30 ∷ []
+closed_width-falling : map (λ count. closed_width (λ (sizes : Sizes). sizes) (take count falling))
+    (1 ∷ 2 ∷ 3 ∷ 4 ∷ 5 ∷ []) ≡ 10 ∷ 15 ∷ 25 ∷ 20 ∷ 30 ∷ []
 closed_width-falling = refl
 
-table-falling : starts_and_costs (10 ∷ []) falling ≡ (0, 0) ∷ (0, 1000) ∷ (1, 2025) ∷ (2, 3050) ∷ (1, 2000) ∷ (4, 3000) ∷ []
+table-falling : starts_and_costs (10 ∷ []) falling
+    ≡ (0, 0) ∷ (0, 1000) ∷ (1, 2025) ∷ (2, 3050) ∷ (1, 2000) ∷ (4, 3000) ∷ []
 unfolding table
 table-falling = refl
 
@@ -31,9 +39,12 @@ table-falling = refl
 abbrev uneven : List Sizes
 uneven = sized 5 0 0 ∷ sized 5 0 0 ∷ sized 20 0 0 ∷ []
 
-table-uneven : starts_and_costs (10 ∷ 5 ∷ 100 ∷ []) uneven ≡ (0, 0) ∷ (0, 1025) ∷ (0, 1000) ∷ (2, 39500) ∷ []
+table-uneven : starts_and_costs (10 ∷ 5 ∷ 100 ∷ []) uneven
+    ≡ (0, 0) ∷ (0, 1025) ∷ (0, 1000) ∷ (2, 39500) ∷ []
 unfolding table
 table-uneven = refl
 
-cost-uneven_lines : division_cost (priced_at default_penalties) default_penalties (10 ∷ 5 ∷ 100 ∷ []) 3 ((sized 5 0 0 ∷ []) ∷ (sized 5 0 0 ∷ []) ∷ (sized 20 0 0 ∷ []) ∷ []) ≡ 3050
+cost-uneven_lines : division_cost (priced_at default_penalties) default_penalties
+    (10 ∷ 5 ∷ 100 ∷ []) 3 ((sized 5 0 0 ∷ []) ∷ (sized 5 0 0 ∷ []) ∷ (sized 20 0 0 ∷ []) ∷ [])
+    ≡ 3050
 cost-uneven_lines = refl

@@ -1,13 +1,17 @@
--- Divisions by the starts of their lines, the last line first: the table follows the chosen one back.
-use Rattle.std.proofs.Common.{◌≡◌, ℕ, zero, suc, ◌+◌, ◌<◌, ◌≤◌, ◌⊎◌, ◌≢◌, inl, inr, List, [], ◌∷◌, length, get_or, map, refl, sym, ◌∙◌, ap, subst, arith}
+-- Divisions by the starts of their lines, the last line first: the table follows the chosen one
+-- back.
+use Rattle.std.proofs.Common.{◌≡◌, ℕ, zero, suc, ◌+◌, ◌<◌, ◌≤◌, ◌⊎◌, ◌≢◌, inl, inr, List, [], ◌∷◌}
+use Rattle.std.proofs.Common.{length, get_or, map, refl, sym, ◌∙◌, ap, subst, arith}
 use Rattle.std.specs.Prelude.{⊤}
 use Rattle.std.proofs.lemmas.List.{get_or-map, length-map}
 use Rattle.std.proofs.lemmas.Bool.{cases_eq}
 use Rattle.textwrap_base.specs.Cost.{AreNoLater}
-use Rattle.textwrap_base.specs.Table.{first_entry, entry_from, entry_at, table, minimum_of, IsLeastBelow, IsTable}
+use Rattle.textwrap_base.specs.Table.{first_entry, entry_from, entry_at, table, minimum_of}
+use Rattle.textwrap_base.specs.Table.{IsLeastBelow, IsTable}
 use Rattle.textwrap_base.specs.declared.minima.Minimum.{Minimum}
 use Rattle.textwrap_base.specs.declared.minima.table.Entry.{Entry}
-use Rattle.textwrap_base.proofs.Cost.Table.{length-table, entry-table_first, entry-table_longer, table-least}
+use Rattle.textwrap_base.proofs.Cost.Table.{length-table, entry-table_first, entry-table_longer}
+use Rattle.textwrap_base.proofs.Cost.Table.{table-least}
 
 -- the starts of a division of j fragments, the last line first
 abbrev pub AreStarts : List ℕ → ℕ → Type 0
@@ -30,11 +34,13 @@ IsSteady cost = (i j l m : ℕ) → 1 ≤ l → 1 ≤ m → cost i j l ≡ cost 
 
 -- ---- the table is a table
 
-least_entries : (cost : ℕ → ℕ → ℕ → ℕ) (entries others : List Entry) (end m : ℕ) (e : Entry) → ((i : ℕ) → i < m → entry_at entries i ≡ entry_at others i)
+least_entries : (cost : ℕ → ℕ → ℕ → ℕ) (entries others : List Entry) (end m : ℕ) (e : Entry)
+    → ((i : ℕ) → i < m → entry_at entries i ≡ entry_at others i)
     → IsLeastBelow cost entries end m e → IsLeastBelow cost others end m e
 least_entries cost entries others end m e same h = record {
   below = h.below;
-  from_start = h.from_start ∙ ap (λ (x : Entry). entry_from cost e.start x end) (same e.start h.below);
+  from_start = h.from_start ∙ ap (λ (x : Entry). entry_from cost e.start x end)
+      (same e.start h.below);
   least = λ i l. rw (← same i l) (h.least i l);
   first = λ i l. let k : i < m = (let b = h.below in omega arith) in rw (← same i k) (h.first i l);
 }
@@ -46,31 +52,43 @@ table-is_table cost n = record {
   later = later;
 }
   where
-    later : (j : ℕ) → 0 < j → j ≤ n → IsLeastBelow cost (table cost n) j j (entry_at (table cost n) j)
+    later : (j : ℕ) → 0 < j → j ≤ n → IsLeastBelow cost (table cost n) j j
+        (entry_at (table cost n) j)
     later zero p l = absurd (omega arith)
-    later (suc j) p l = least_entries cost (table cost j) (table cost n) (suc j) (suc j) (entry_at (table cost n) (suc j))
-        (λ i k. sym (entry-table_longer cost n j i (omega arith) (omega arith))) (table-least cost n j l)
+    later (suc j) p l = least_entries cost (table cost j) (table cost n) (suc j) (suc j)
+        (entry_at (table cost n) (suc j))
+        (λ i k. sym (entry-table_longer cost n j i (omega arith) (omega arith)))
+        (table-least cost n j l)
 
-pub start-at : (cost : ℕ → ℕ → ℕ → ℕ) (n : ℕ) (entries : List Entry) → IsTable cost n entries → (j : ℕ) → j ≤ n → get_or (map (λ (x : Entry). x.start) entries) j 0 ≡ (entry_at entries j).start
-start-at cost n entries is j l = let len = is.len in get_or-map (λ (x : Entry). x.start) entries j first_entry 0 (omega arith)
+pub start-at : (cost : ℕ → ℕ → ℕ → ℕ) (n : ℕ) (entries : List Entry) → IsTable cost n entries
+    → (j : ℕ) → j ≤ n → get_or (map (λ (x : Entry). x.start) entries) j 0
+    ≡ (entry_at entries j).start
+start-at cost n entries is j l = let len = is.len in
+    get_or-map (λ (x : Entry). x.start) entries j first_entry 0 (omega arith)
 
 -- ---- the starts that are reported
 
-pub starts_of_minima : (entries : List Entry) → map (λ (m : Minimum). m.start) (map minimum_of entries) ≡ map (λ (x : Entry). x.start) entries
+pub starts_of_minima : (entries : List Entry) → map (λ (m : Minimum). m.start)
+    (map minimum_of entries) ≡ map (λ (x : Entry). x.start) entries
 starts_of_minima [] = refl
 starts_of_minima (x ∷ entries) = ap (λ l. x.start ∷ l) (starts_of_minima entries)
 
-module _ (cost : ℕ → ℕ → ℕ → ℕ) (n : ℕ) (minima : List Minimum) (reported : minima ≡ map minimum_of (table cost n)) where
-  pub starts_reported : map (λ (m : Minimum). m.start) minima ≡ map (λ (x : Entry). x.start) (table cost n)
+module _ (cost : ℕ → ℕ → ℕ → ℕ) (n : ℕ) (minima : List Minimum)
+    (reported : minima ≡ map minimum_of (table cost n)) where
+  pub starts_reported : map (λ (m : Minimum). m.start) minima
+      ≡ map (λ (x : Entry). x.start) (table cost n)
   starts_reported = ap (map (λ (m : Minimum). m.start)) reported ∙ starts_of_minima (table cost n)
 
   pub length_reported : length minima ≡ n + 1
   length_reported = ap length reported ∙ length-map (table cost n) minimum_of ∙ length-table cost n
 
   pub first_reported : get_or (map (λ (m : Minimum). m.start) minima) 0 0 ≡ 0
-  first_reported = ap (λ l. get_or l 0 0) starts_reported ∙ start-at cost n (table cost n) (table-is_table cost n) 0 (omega arith) ∙ ap (λ (x : Entry). x.start) (entry-table_first cost n)
+  first_reported = ap (λ l. get_or l 0 0) starts_reported
+      ∙ start-at cost n (table cost n) (table-is_table cost n) 0 (omega arith)
+      ∙ ap (λ (x : Entry). x.start) (entry-table_first cost n)
 
-  pub later_reported : (j : ℕ) → 0 < j → j ≤ n → get_or (map (λ (m : Minimum). m.start) minima) j 0 < j
+  pub later_reported : (j : ℕ) → 0 < j → j ≤ n
+      → get_or (map (λ (m : Minimum). m.start) minima) j 0 < j
   later_reported j p l =
       let is = table-is_table cost n in
       let e = ap (λ l. get_or l j 0) starts_reported ∙ start-at cost n (table cost n) is j l in
@@ -79,16 +97,19 @@ module _ (cost : ℕ → ℕ → ℕ → ℕ) (n : ℕ) (minima : List Minimum) 
 
 -- ---- what it follows
 
-module _ (cost : ℕ → ℕ → ℕ → ℕ) (n : ℕ) (entries : List Entry) (is : IsTable cost n entries) (steady : IsSteady cost) where
+module _ (cost : ℕ → ℕ → ℕ → ℕ) (n : ℕ) (entries : List Entry) (is : IsTable cost n entries)
+    (steady : IsSteady cost) where
   -- a line costs the same after each division of the fragments before it
-  cost_after : (rest : List ℕ) (i j : ℕ) → i ≤ n → AreStarts rest i → cost i j (length rest) ≡ cost i j (entry_at entries i).line_number
+  cost_after : (rest : List ℕ) (i j : ℕ) → i ≤ n → AreStarts rest i → cost i j (length rest)
+      ≡ cost i j (entry_at entries i).line_number
   cost_after [] i j l h = rw (h, is.first) refl
   cost_after (k ∷ rest) i j l (h, hs) =
       let later = is.later i (omega arith) l in
       let e = ap (λ (x : Entry). x.line_number) later.from_start in
       steady i j (length (k ∷ rest)) (entry_at entries i).line_number (omega arith) (omega arith)
 
-  pub table_least : (starts : List ℕ) (j : ℕ) → j ≤ n → AreStarts starts j → (entry_at entries j).cost ≤ starts_cost starts cost j
+  pub table_least : (starts : List ℕ) (j : ℕ) → j ≤ n → AreStarts starts j
+      → (entry_at entries j).cost ≤ starts_cost starts cost j
   table_least [] j l h = rw (h, is.first) (omega arith)
   table_least (i ∷ rest) j l (h, hs) =
       let later = is.later j (omega arith) l in
@@ -96,7 +117,9 @@ module _ (cost : ℕ → ℕ → ℕ → ℕ) (n : ℕ) (entries : List Entry) (
       let after = cost_after rest i j (omega arith) hs in
       let before = table_least rest i (omega arith) hs in omega (arith, least, after, before)
 
-  pub table_followed : (starts : List ℕ) (j : ℕ) → j ≤ n → AreStarts starts j → FollowBack starts (map (λ (x : Entry). x.start) entries) j → starts_cost starts cost j ≡ (entry_at entries j).cost
+  pub table_followed : (starts : List ℕ) (j : ℕ) → j ≤ n → AreStarts starts j
+      → FollowBack starts (map (λ (x : Entry). x.start) entries) j → starts_cost starts cost j
+      ≡ (entry_at entries j).cost
   table_followed [] j l h f = rw (h, is.first) refl
   table_followed (i ∷ rest) j l (h, hs) (f, fs) =
       let later = is.later j (omega arith) l in
@@ -106,7 +129,8 @@ module _ (cost : ℕ → ℕ → ℕ → ℕ) (n : ℕ) (entries : List Entry) (
       let after = cost_after rest i j (omega arith) hs in
       let before = table_followed rest i (omega arith) hs fs in omega (arith, e', after, before)
 
-  pub table_earliest : (starts others : List ℕ) (j : ℕ) → j ≤ n → AreStarts starts j → FollowBack starts (map (λ (x : Entry). x.start) entries) j → AreStarts others j
+  pub table_earliest : (starts others : List ℕ) (j : ℕ) → j ≤ n → AreStarts starts j
+      → FollowBack starts (map (λ (x : Entry). x.start) entries) j → AreStarts others j
       → starts_cost others cost j ≡ (entry_at entries j).cost → AreNoLater starts others
   table_earliest [] others j l h f o e = tt
   table_earliest (s ∷ rest) [] j l (h, hs) f o e = absurd (omega arith)
@@ -115,24 +139,35 @@ module _ (cost : ℕ → ℕ → ℕ → ℕ) (n : ℕ) (entries : List Entry) (
       let start = sym (start-at cost n entries is j l) ∙ f in
       let after = cost_after others i j (omega arith) os in
       let before = table_least others i (omega arith) os in
-      let no_less : i < s → ⊥ = λ k. let dearer = later.first i (omega (arith, start, k)) in omega (arith, dearer, after, before, e) in
+      let no_less : i < s → ⊥ = λ k. let dearer = later.first i (omega (arith, start, k)) in
+      omega (arith, dearer, after, before, e) in
       let least = later.least i o in
-      let same : starts_cost others cost i ≡ (entry_at entries i).cost = omega (arith, least, after, before, e) in
-      by_start s i (cases_eq s i) no_less (λ q. table_earliest rest others s (omega arith) hs fs (subst (λ k. AreStarts others k) (sym q) os) (rw q same))
+      let same : starts_cost others cost i ≡ (entry_at entries i).cost =
+      omega (arith, least, after, before, e) in
+      by_start s i (cases_eq s i) no_less (λ q.
+      table_earliest rest others s (omega arith) hs fs
+      (subst (λ k. AreStarts others k) (sym q) os) (rw q same))
     where
-      by_start : (s i : ℕ) → (s ≡ i) ⊎ (s ≢ i) → (i < s → ⊥) → (s ≡ i → AreNoLater rest others) → (s < i) ⊎ ((s ≡ i) × AreNoLater rest others)
+      by_start : (s i : ℕ) → (s ≡ i) ⊎ (s ≢ i) → (i < s → ⊥) → (s ≡ i → AreNoLater rest others)
+          → (s < i) ⊎ ((s ≡ i) × AreNoLater rest others)
       by_start s i (inl q) no_less next = inr (q, next q)
       by_start s i (inr ne) no_less next = inl (omega arith)
 
   -- the starts that the table gives for each end
-  starts_upto : (bound j : ℕ) → j ≤ bound → j ≤ n → (starts : List ℕ) × AreStarts starts j × FollowBack starts (map (λ (x : Entry). x.start) entries) j
+  starts_upto : (bound j : ℕ) → j ≤ bound → j ≤ n → (starts : List ℕ) × AreStarts starts j
+      × FollowBack starts (map (λ (x : Entry). x.start) entries) j
   starts_upto bound zero b l = ([], refl, tt)
   starts_upto zero (suc j) b l = absurd (omega arith)
   starts_upto (suc bound) (suc j) b l =
       let later = is.later (suc j) (omega arith) l in
       let below = later.below in
-      let (rest, h, f) = starts_upto bound (entry_at entries (suc j)).start (omega arith) (omega arith) in
-      ((entry_at entries (suc j)).start ∷ rest, (below, h), (start-at cost n entries is (suc j) l, f))
+      let (rest, h, f) = starts_upto bound (entry_at entries (suc j)).start (omega arith)
+      (omega arith) in (
+        (entry_at entries (suc j)).start ∷ rest,
+        (below, h),
+        (start-at cost n entries is (suc j) l, f),
+      )
 
-  pub starts_to : (j : ℕ) → j ≤ n → (starts : List ℕ) × AreStarts starts j × FollowBack starts (map (λ (x : Entry). x.start) entries) j
+  pub starts_to : (j : ℕ) → j ≤ n → (starts : List ℕ) × AreStarts starts j
+      × FollowBack starts (map (λ (x : Entry). x.start) entries) j
   starts_to j l = starts_upto j j (omega arith) l

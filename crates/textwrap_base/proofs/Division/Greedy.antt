@@ -1,21 +1,28 @@
 -- Lemmas on the widths of lines and on divisions.
-use Rattle.std.proofs.Common.{◌≡◌, ◌≢◌, ℕ, suc, ◌+◌, ◌<◌, ◌≤◌, List, [], ◌∷◌, ◌++◌, length, get_or, map, take, drop, refl, sym, ap, ◌∙◌, subst, arith, ⊎_elim, add-zero, length-drop, take-append-drop, All}
+use Rattle.std.proofs.Common.{◌≡◌, ◌≢◌, ℕ, suc, ◌+◌, ◌<◌, ◌≤◌, List, [], ◌∷◌, ◌++◌, length, get_or}
+use Rattle.std.proofs.Common.{map, take, drop, refl, sym, ap, ◌∙◌, subst, arith, ⊎_elim, add-zero}
+use Rattle.std.proofs.Common.{length-drop, take-append-drop, All}
 use Rattle.std.specs.List.{flat_map}
-use Rattle.std.proofs.lemmas.List.{take_all, take_more, take-append-le, length_push, length-take-le, nil_from_length, get_or-drop}
+use Rattle.std.proofs.lemmas.List.{take_all, take_more, take-append-le, length_push, length-take-le}
+use Rattle.std.proofs.lemmas.List.{nil_from_length, get_or-drop}
 use Rattle.std.proofs.lemmas.List.Elements.{All-nil, All-cons, All-head}
 use Rattle.std.proofs.lemmas.List.Sums.{sum_by-cons, sum_by-append}
 use Rattle.std.proofs.lemmas.Bool.{cases_lt}
 use Rattle.textwrap_base.specs.Sizes.{Sizes}
-use Rattle.textwrap_base.specs.Division.{line_width, closed_width, open_width, Fits, AllFit, AllFull, IsGreedy}
+use Rattle.textwrap_base.specs.Division.{line_width, closed_width, open_width, Fits, AllFit}
+use Rattle.textwrap_base.specs.Division.{AllFull, IsGreedy}
 
 module _ {X : Type 0} (sizes : X → Sizes) where
-  pub open_width-cons : (x : X) (xs : List X) → open_width sizes (x ∷ xs) ≡ (sizes x).width + (sizes x).whitespace + open_width sizes xs
+  pub open_width-cons : (x : X) (xs : List X) → open_width sizes (x ∷ xs)
+      ≡ (sizes x).width + (sizes x).whitespace + open_width sizes xs
   open_width-cons x xs = sum_by-cons (λ (y : X). (sizes y).width + (sizes y).whitespace) x xs
 
-  pub open_width-append : (xs ys : List X) → open_width sizes (xs ++ ys) ≡ open_width sizes xs + open_width sizes ys
+  pub open_width-append : (xs ys : List X) → open_width sizes (xs ++ ys)
+      ≡ open_width sizes xs + open_width sizes ys
   open_width-append xs ys = sum_by-append (λ (y : X). (sizes y).width + (sizes y).whitespace) xs ys
 
-  pub closed_width-push : (xs : List X) (x : X) → closed_width sizes (xs ++ x ∷ []) ≡ open_width sizes xs + (sizes x).width + (sizes x).penalty
+  pub closed_width-push : (xs : List X) (x : X) → closed_width sizes (xs ++ x ∷ [])
+      ≡ open_width sizes xs + (sizes x).width + (sizes x).penalty
   closed_width-push [] x = omega arith
   closed_width-push (y ∷ []) x = omega arith
   closed_width-push (y ∷ z ∷ xs) x =
@@ -23,76 +30,114 @@ module _ {X : Type 0} (sizes : X → Sizes) where
       let h = closed_width-push (z ∷ xs) x in omega (arith, e, h)
 
   -- a line that fits takes one more fragment, if that is its first or it closes within the width
-  Fits-push : (width : ℕ) (xs : List X) (x : X) → Fits sizes width xs → (0 < length xs → closed_width sizes (xs ++ x ∷ []) ≤ width) → Fits sizes width (xs ++ x ∷ [])
+  Fits-push : (width : ℕ) (xs : List X) (x : X) → Fits sizes width xs
+      → (0 < length xs → closed_width sizes (xs ++ x ∷ []) ≤ width)
+      → Fits sizes width (xs ++ x ∷ [])
   Fits-push width xs x fits more k two within =
       let len : length (xs ++ x ∷ []) ≡ length xs + 1 = length_push xs x in
       ⊎_elim
       (λ (before : k < length xs + 1).
       let inside : k ≤ length xs = omega arith in
-      subst (λ line. closed_width sizes line ≤ width) (sym (take-append-le k xs (x ∷ []) inside)) (fits k two inside))
+      subst (λ line. closed_width sizes line ≤ width) (sym (take-append-le k xs (x ∷ []) inside))
+      (fits k two inside))
       (λ (whole : length xs + 1 ≤ k).
       let all : length (xs ++ x ∷ []) ≤ k = omega arith in
-      subst (λ line. closed_width sizes line ≤ width) (sym (take_all k (xs ++ x ∷ []) all)) (more (omega arith)))
+      subst (λ line. closed_width sizes line ≤ width) (sym (take_all k (xs ++ x ∷ []) all))
+      (more (omega arith)))
       (cases_lt k (length xs + 1))
 
   -- the first i fragments and the one at i
-  pub take_one_more : (xs : List X) (i : ℕ) (x : X) → i < length xs → x ≡ get_or xs i x → take (i + 1) xs ≡ take i xs ++ x ∷ []
+  pub take_one_more : (xs : List X) (i : ℕ) (x : X) → i < length xs → x ≡ get_or xs i x
+      → take (i + 1) xs ≡ take i xs ++ x ∷ []
   take_one_more xs i x within is = take_more xs i x within ∙ ap (λ y. take i xs ++ y ∷ []) (sym is)
 
   pub open_width-take : (xs : List X) (i : ℕ) (x : X) → i < length xs → x ≡ get_or xs i x
-      → open_width sizes (take (i + 1) xs) ≡ open_width sizes (take i xs) + ((sizes x).width + (sizes x).whitespace)
+      → open_width sizes (take (i + 1) xs) ≡ open_width sizes (take i xs) +
+      ((sizes x).width + (sizes x).whitespace)
   open_width-take xs i x within is =
-      let more = ap (open_width sizes) (take_one_more xs i x within is) ∙ open_width-append (take i xs) (x ∷ []) in omega (arith, more)
+      let more = ap (open_width sizes) (take_one_more xs i x within is)
+      ∙ open_width-append (take i xs) (x ∷ []) in omega (arith, more)
 
   pub closed_width-take : (xs : List X) (i : ℕ) (x : X) → i < length xs → x ≡ get_or xs i x
-      → closed_width sizes (take (i + 1) xs) ≡ open_width sizes (take i xs) + (sizes x).width + (sizes x).penalty
-  closed_width-take xs i x within is = ap (closed_width sizes) (take_one_more xs i x within is) ∙ closed_width-push (take i xs) x
+      → closed_width sizes (take (i + 1) xs) ≡ open_width sizes (take i xs) + (sizes x).width +
+      (sizes x).penalty
+  closed_width-take xs i x within is = ap (closed_width sizes) (take_one_more xs i x within is)
+      ∙ closed_width-push (take i xs) x
 
-  pub Fits-take : (width : ℕ) (xs : List X) (i : ℕ) (x : X) → i < length xs → x ≡ get_or xs i x → Fits sizes width (take i xs)
+  pub Fits-take : (width : ℕ) (xs : List X) (i : ℕ) (x : X) → i < length xs → x ≡ get_or xs i x
+      → Fits sizes width (take i xs)
       → (0 < i → closed_width sizes (take (i + 1) xs) ≤ width) → Fits sizes width (take (i + 1) xs)
   Fits-take width xs i x within is fits more =
       let one_more = take_one_more xs i x within is in
       let len : length (take i xs) ≡ i = length-take-le i xs (omega arith) in
       subst (Fits sizes width) (sym one_more)
-      (Fits-push width (take i xs) x fits (λ some. subst (λ line. closed_width sizes line ≤ width) one_more (more (omega arith))))
+      (Fits-push width (take i xs) x fits (λ some.
+      subst (λ line. closed_width sizes line ≤ width) one_more (more (omega arith))))
 
-pub closed_width-map : {X Y : Type 0} (f : X → Y) (sizes : Y → Sizes) (xs : List X) → closed_width sizes (map f xs) ≡ closed_width (λ x. sizes (f x)) xs
+pub closed_width-map : {X Y : Type 0} (f : X → Y) (sizes : Y → Sizes) (xs : List X)
+    → closed_width sizes (map f xs) ≡ closed_width (λ x. sizes (f x)) xs
 closed_width-map f sizes [] = refl
 closed_width-map f sizes (x ∷ []) = refl
-closed_width-map f sizes (x ∷ y ∷ xs) = ap (λ n. (sizes (f x)).width + (sizes (f x)).whitespace + n) (closed_width-map f sizes (y ∷ xs))
+closed_width-map f sizes (x ∷ y ∷ xs) = ap (λ n. (sizes (f x)).width + (sizes (f x)).whitespace + n)
+    (closed_width-map f sizes (y ∷ xs))
 
--- a greedy division of the fragments that are left, from a line's number on; none are left by no lines
-pub record IsGreedyFrom {X : Type 0} (sizes : X → Sizes) (widths : List ℕ) (number : ℕ) (xs : List X) (lines : List (List X)) : Type 0 where
+-- a greedy division of the fragments that are left, from a line's number on; none are left by no
+-- lines
+pub record IsGreedyFrom {X : Type 0} (sizes : X → Sizes) (widths : List ℕ) (number : ℕ)
+    (xs : List X) (lines : List (List X)) : Type 0 where
   pub whole : flat_map (λ line. line) lines ≡ xs
   pub nonempty : All (λ line. line ≢ []) lines
   pub fit : AllFit sizes widths number lines
   pub full : AllFull sizes widths number lines
 
 module _ {X : Type 0} (sizes : X → Sizes) (widths : List ℕ) where
-  pub IsGreedyFrom-nil : (number : ℕ) (xs : List X) → length xs ≡ 0 → IsGreedyFrom sizes widths number xs []
-  IsGreedyFrom-nil number xs empty = record { whole = sym (nil_from_length xs empty); nonempty = All-nil (λ line. line ≢ []); fit = tt; full = tt }
+  pub IsGreedyFrom-nil : (number : ℕ) (xs : List X) → length xs ≡ 0
+      → IsGreedyFrom sizes widths number xs []
+  IsGreedyFrom-nil number xs empty = record {
+    whole = sym (nil_from_length xs empty);
+    nonempty =
+        All-nil (λ line. line ≢ []);
+    fit = tt;
+    full = tt;
+  }
 
-  full-cons : (number : ℕ) (xs : List X) (n : ℕ) → (n < length xs → line_width widths number < closed_width sizes (take (n + 1) xs)) → (tail : List (List X))
-      → flat_map (λ line. line) tail ≡ drop n xs → All (λ line. line ≢ []) tail → AllFull sizes widths (number + 1) tail → AllFull sizes widths number (take n xs ∷ tail)
+  full-cons : (number : ℕ) (xs : List X) (n : ℕ)
+      → (n < length xs → line_width widths number < closed_width sizes (take (n + 1) xs))
+      → (tail : List (List X))
+      → flat_map (λ line. line) tail ≡ drop n xs → All (λ line. line ≢ []) tail
+      → AllFull sizes widths (number + 1) tail → AllFull sizes widths number (take n xs ∷ tail)
   full-cons number xs n full [] whole nonempty tail = tt
-  full-cons number xs n full ([] ∷ lines) whole nonempty tail = absurd (All-head (λ line. line ≢ []) [] lines nonempty refl)
+  full-cons number xs n full ([] ∷ lines) whole nonempty tail =
+      absurd (All-head (λ line. line ≢ []) [] lines nonempty refl)
   full-cons number xs n full ((x ∷ line) ∷ lines) whole nonempty tail =
-      let len : length (drop n xs) ≡ suc (length (line ++ flat_map (λ l. l) lines)) = ap length (sym whole) in
+      let len : length (drop n xs) ≡ suc (length (line ++ flat_map (λ l. l) lines)) =
+      ap length (sym whole) in
       let within : n < length xs = omega (arith, length-drop n xs) in
-      let at : get_or xs n x ≡ x = ap (λ m. get_or xs m x) (sym (add-zero n)) ∙ sym (get_or-drop n xs 0 x) ∙ ap (λ l. get_or l 0 x) (sym whole) in
-      let next : take (n + 1) xs ≡ take n xs ++ x ∷ [] = take_more xs n x within ∙ ap (λ y. take n xs ++ y ∷ []) at in
+      let at : get_or xs n x ≡ x = ap (λ m. get_or xs m x) (sym (add-zero n))
+      ∙ sym (get_or-drop n xs 0 x) ∙ ap (λ l. get_or l 0 x) (sym whole) in
+      let next : take (n + 1) xs ≡ take n xs ++ x ∷ [] = take_more xs n x within
+      ∙ ap (λ y. take n xs ++ y ∷ []) at in
       (subst (λ l. line_width widths number < closed_width sizes l) next (full within), tail)
 
-  pub IsGreedyFrom-cons : (number : ℕ) (xs : List X) (n : ℕ) → 0 < n → n ≤ length xs → Fits sizes (line_width widths number) (take n xs)
-      → (n < length xs → line_width widths number < closed_width sizes (take (n + 1) xs)) → (tail : List (List X))
-      → IsGreedyFrom sizes widths (number + 1) (drop n xs) tail → IsGreedyFrom sizes widths number xs (take n xs ∷ tail)
+  pub IsGreedyFrom-cons : (number : ℕ) (xs : List X) (n : ℕ) → 0 < n → n ≤ length xs
+      → Fits sizes (line_width widths number) (take n xs)
+      → (n < length xs → line_width widths number < closed_width sizes (take (n + 1) xs))
+      → (tail : List (List X))
+      → IsGreedyFrom sizes widths (number + 1) (drop n xs) tail
+      → IsGreedyFrom sizes widths number xs (take n xs ∷ tail)
   IsGreedyFrom-cons number xs n some within fits full tail rest = record {
     whole = ap (λ l. take n xs ++ l) rest.whole ∙ take-append-drop n xs;
-    nonempty = All-cons (λ line. line ≢ []) (take n xs) tail (λ e. absurd (omega (arith, ap length e, length-take-le n xs within))) rest.nonempty;
+    nonempty = All-cons (λ line. line ≢ []) (take n xs) tail
+        (λ e. absurd (omega (arith, ap length e, length-take-le n xs within))) rest.nonempty;
     fit = (fits, rest.fit);
     full = full-cons number xs n full tail rest.whole rest.nonempty rest.full;
   }
 
-  pub IsGreedy-from : (xs : List X) (lines : List (List X)) → 0 < length xs → IsGreedyFrom sizes widths 0 xs lines → IsGreedy sizes widths xs lines
+  pub IsGreedy-from : (xs : List X) (lines : List (List X)) → 0 < length xs
+      → IsGreedyFrom sizes widths 0 xs lines → IsGreedy sizes widths xs lines
   IsGreedy-from [] lines some greedy = absurd (omega arith)
-  IsGreedy-from (x ∷ xs) lines some greedy = record { admissible = record { division = (greedy.whole, greedy.nonempty); fit = greedy.fit }; full = greedy.full }
+  IsGreedy-from (x ∷ xs) lines some greedy = record {
+    admissible =
+        record { division = (greedy.whole, greedy.nonempty); fit = greedy.fit };
+    full = greedy.full;
+  }

@@ -1,72 +1,107 @@
 -- A division of fragments is one of what a function makes of them.
-use Rattle.std.proofs.Common.{◌≡◌, ◌≢◌, ℕ, ◌+◌, ◌<◌, ◌≤◌, List, [], ◌∷◌, ◌++◌, take, map, All, refl, sym, ap, ◌∙◌, subst}
+use Rattle.std.proofs.Common.{◌≡◌, ◌≢◌, ℕ, ◌+◌, ◌<◌, ◌≤◌, List, [], ◌∷◌, ◌++◌, take, map, All, refl}
+use Rattle.std.proofs.Common.{sym, ap, ◌∙◌, subst}
 use Rattle.std.specs.List.{flat_map}
 use Rattle.std.proofs.lemmas.List.{map-append, length-map, take-map}
 use Rattle.std.proofs.lemmas.List.Elements.{All-nil, All-cons, All-head, All-tail}
 use Rattle.textwrap_base.specs.Sizes.{Sizes}
-use Rattle.textwrap_base.specs.Division.{line_width, closed_width, IsDivision, Fits, AllFit, AllFull, IsGreedy}
+use Rattle.textwrap_base.specs.Division.{line_width, closed_width, IsDivision, Fits, AllFit}
+use Rattle.textwrap_base.specs.Division.{AllFull, IsGreedy}
 use Rattle.textwrap_base.specs.Cost.{priced_at}
 use Rattle.textwrap_base.specs.WrapAlgorithms.{Algorithm, Greedy, LeastCost, IsDividedBy}
 use Rattle.textwrap_base.proofs.Division.Greedy.{closed_width-map}
 use Rattle.textwrap_base.proofs.Cost.Map.{IsByOptimalFit-map}
 
 module _ {X Y : Type 0} (f : X → Y) (sizes : Y → Sizes) where
-  Fits-map : (width : ℕ) (line : List X) → Fits (λ x. sizes (f x)) width line → Fits sizes width (map f line)
+  Fits-map : (width : ℕ) (line : List X) → Fits (λ x. sizes (f x)) width line
+      → Fits sizes width (map f line)
   Fits-map width line fits k two within =
-      subst (λ n. n ≤ width) (sym (ap (closed_width sizes) (take-map f k line) ∙ closed_width-map f sizes (take k line)))
+      subst (λ n. n ≤ width) (sym (ap (closed_width sizes) (take-map f k line)
+      ∙ closed_width-map f sizes (take k line)))
       (fits k two (subst (λ n. k ≤ n) (length-map line f) within))
 
-  AllFit-map : (widths : List ℕ) (number : ℕ) (lines : List (List X)) → AllFit (λ x. sizes (f x)) widths number lines → AllFit sizes widths number (map (map f) lines)
+  AllFit-map : (widths : List ℕ) (number : ℕ) (lines : List (List X))
+      → AllFit (λ x. sizes (f x)) widths number lines
+      → AllFit sizes widths number (map (map f) lines)
   AllFit-map widths number [] fit = tt
-  AllFit-map widths number (line ∷ lines) fit = (Fits-map (line_width widths number) line fit.0, AllFit-map widths (number + 1) lines fit.1)
+  AllFit-map widths number (line ∷ lines) fit =
+      (Fits-map (line_width widths number) line fit.0, AllFit-map widths (number + 1) lines fit.1)
 
-  full-map : (width : ℕ) (line next : List X) → width < closed_width (λ x. sizes (f x)) (line ++ take 1 next) → width < closed_width sizes (map f line ++ take 1 (map f next))
+  full-map : (width : ℕ) (line next : List X) → width < closed_width (λ x. sizes (f x))
+      (line ++ take 1 next) → width < closed_width sizes (map f line ++ take 1 (map f next))
   full-map width line next full =
       subst (λ n. width < n)
-      (sym (ap (λ l. closed_width sizes (map f line ++ l)) (take-map f 1 next) ∙ ap (closed_width sizes) (sym (map-append f line (take 1 next))) ∙ closed_width-map f sizes (line ++ take 1 next)))
+      (sym (ap (λ l. closed_width sizes (map f line ++ l)) (take-map f 1 next)
+      ∙ ap (closed_width sizes) (sym (map-append f line (take 1 next)))
+      ∙ closed_width-map f sizes (line ++ take 1 next)))
       full
 
-  AllFull-map : (widths : List ℕ) (number : ℕ) (lines : List (List X)) → AllFull (λ x. sizes (f x)) widths number lines → AllFull sizes widths number (map (map f) lines)
+  AllFull-map : (widths : List ℕ) (number : ℕ) (lines : List (List X))
+      → AllFull (λ x. sizes (f x)) widths number lines
+      → AllFull sizes widths number (map (map f) lines)
   AllFull-map widths number [] full = tt
   AllFull-map widths number (line ∷ []) full = tt
-  AllFull-map widths number (line ∷ next ∷ lines) full = (full-map (line_width widths number) line next full.0, AllFull-map widths (number + 1) (next ∷ lines) full.1)
+  AllFull-map widths number (line ∷ next ∷ lines) full = (
+    full-map (line_width widths number) line next full.0,
+    AllFull-map widths (number + 1) (next ∷ lines) full.1,
+  )
 
-  join-map : (lines : List (List X)) → flat_map (λ line. line) (map (map f) lines) ≡ map f (flat_map (λ line. line) lines)
+  join-map : (lines : List (List X)) → flat_map (λ line. line) (map (map f) lines)
+      ≡ map f (flat_map (λ line. line) lines)
   join-map [] = refl
-  join-map (line ∷ lines) = ap (λ l. map f line ++ l) (join-map lines) ∙ sym (map-append f line (flat_map (λ l. l) lines))
+  join-map (line ∷ lines) = ap (λ l. map f line ++ l) (join-map lines)
+      ∙ sym (map-append f line (flat_map (λ l. l) lines))
 
   nonempty-map : (line : List X) → line ≢ [] → map f line ≢ []
   nonempty-map [] some is = some refl
   nonempty-map (x ∷ line) some is = cc
 
-  all_nonempty-map : (lines : List (List X)) → All (λ line. line ≢ []) lines → All (λ line. line ≢ []) (map (map f) lines)
+  all_nonempty-map : (lines : List (List X)) → All (λ line. line ≢ []) lines
+      → All (λ line. line ≢ []) (map (map f) lines)
   all_nonempty-map [] all = All-nil (λ line. line ≢ [])
   all_nonempty-map (line ∷ lines) all =
-      All-cons (λ line. line ≢ []) (map f line) (map (map f) lines) (nonempty-map line (All-head (λ line. line ≢ []) line lines all))
+      All-cons (λ line. line ≢ []) (map f line) (map (map f) lines)
+      (nonempty-map line (All-head (λ line. line ≢ []) line lines all))
       (all_nonempty-map lines (All-tail (λ line. line ≢ []) line lines all))
 
-  pub IsDivision-map : (xs : List X) (lines : List (List X)) → IsDivision xs lines → IsDivision (map f xs) (map (map f) lines)
+  pub IsDivision-map : (xs : List X) (lines : List (List X)) → IsDivision xs lines
+      → IsDivision (map f xs) (map (map f) lines)
   IsDivision-map [] lines division = ap (map (map f)) division
-  IsDivision-map (x ∷ xs) lines division = (join-map lines ∙ ap (map f) division.0, all_nonempty-map lines division.1)
+  IsDivision-map (x ∷ xs) lines division = (
+    join-map lines ∙ ap (map f) division.0,
+    all_nonempty-map lines division.1,
+  )
 
-  pub IsGreedy-map : (widths : List ℕ) (xs : List X) (lines : List (List X)) → IsGreedy (λ x. sizes (f x)) widths xs lines → IsGreedy sizes widths (map f xs) (map (map f) lines)
+  pub IsGreedy-map : (widths : List ℕ) (xs : List X) (lines : List (List X))
+      → IsGreedy (λ x. sizes (f x)) widths xs lines
+      → IsGreedy sizes widths (map f xs) (map (map f) lines)
   IsGreedy-map widths xs lines greedy = record {
-    admissible = record { division = IsDivision-map xs lines greedy.admissible.division; fit = AllFit-map widths 0 lines greedy.admissible.fit };
+    admissible = record {
+      division = IsDivision-map xs lines greedy.admissible.division;
+      fit =
+          AllFit-map widths 0 lines greedy.admissible.fit;
+    };
     full = AllFull-map widths 0 lines greedy.full;
   }
 
-  pub IsDividedBy-map : (algorithm : Algorithm) (widths : List ℕ) (xs : List X) (lines : List (List X)) → IsDividedBy algorithm (λ x. sizes (f x)) widths xs lines
+  pub IsDividedBy-map : (algorithm : Algorithm) (widths : List ℕ) (xs : List X)
+      (lines : List (List X)) → IsDividedBy algorithm (λ x. sizes (f x)) widths xs lines
       → IsDividedBy algorithm sizes widths (map f xs) (map (map f) lines)
   IsDividedBy-map Greedy widths xs lines divided = IsGreedy-map widths xs lines divided
   IsDividedBy-map (LeastCost penalties) widths xs lines divided =
-      IsByOptimalFit-map f (λ y. priced_at penalties (sizes y)) penalties widths xs lines (IsDivision-map xs lines divided.by_table.division) divided
+      IsByOptimalFit-map f (λ y. priced_at penalties (sizes y)) penalties widths xs lines
+      (IsDivision-map xs lines divided.by_table.division) divided
 
 -- the lines of a division are the fragments in order
-pub IsDivision-whole : {X : Type 0} (xs : List X) (lines : List (List X)) → IsDivision xs lines → flat_map (λ line. line) lines ≡ xs
+pub IsDivision-whole : {X : Type 0} (xs : List X) (lines : List (List X)) → IsDivision xs lines
+    → flat_map (λ line. line) lines ≡ xs
 IsDivision-whole [] lines division = ap (flat_map (λ line. line)) division
 IsDivision-whole (x ∷ xs) lines division = division.0
 
-pub IsDividedBy-whole : {X : Type 0} (sizes : X → Sizes) (algorithm : Algorithm) (widths : List ℕ) (xs : List X) (lines : List (List X)) → IsDividedBy algorithm sizes widths xs lines
+pub IsDividedBy-whole : {X : Type 0} (sizes : X → Sizes) (algorithm : Algorithm) (widths : List ℕ)
+    (xs : List X) (lines : List (List X)) → IsDividedBy algorithm sizes widths xs lines
     → flat_map (λ line. line) lines ≡ xs
-IsDividedBy-whole sizes Greedy widths xs lines divided = IsDivision-whole xs lines divided.admissible.division
-IsDividedBy-whole sizes (LeastCost penalties) widths xs lines divided = IsDivision-whole xs lines divided.by_table.division
+IsDividedBy-whole sizes Greedy widths xs lines divided =
+    IsDivision-whole xs lines divided.admissible.division
+IsDividedBy-whole sizes (LeastCost penalties) widths xs lines divided =
+    IsDivision-whole xs lines divided.by_table.division

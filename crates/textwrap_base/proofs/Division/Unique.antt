@@ -1,5 +1,6 @@
 -- A list of fragments has at most one greedy division.
-use Rattle.std.proofs.Common.{◌≡◌, ◌≢◌, ℕ, ◌+◌, ◌<◌, ◌≤◌, List, [], ◌∷◌, ◌++◌, length, take, refl, sym, ap, ◌∙◌, subst, arith, length-append}
+use Rattle.std.proofs.Common.{◌≡◌, ◌≢◌, ℕ, ◌+◌, ◌<◌, ◌≤◌, List, [], ◌∷◌, ◌++◌, length, take, refl}
+use Rattle.std.proofs.Common.{sym, ap, ◌∙◌, subst, arith, length-append}
 use Rattle.std.specs.List.{flat_map}
 use Rattle.std.proofs.Math.Seq.{take-append-add}
 use Rattle.std.proofs.lemmas.List.{take-append-le}
@@ -14,11 +15,14 @@ some_from_nonempty [] some = absurd (some refl)
 some_from_nonempty (x ∷ xs) some = omega arith
 
 module _ {X : Type 0} (sizes : X → Sizes) (widths : List ℕ) where
-  AllFull-tail : (number : ℕ) (line : List X) (lines : List (List X)) → AllFull sizes widths number (line ∷ lines) → AllFull sizes widths (number + 1) lines
+  AllFull-tail : (number : ℕ) (line : List X) (lines : List (List X))
+      → AllFull sizes widths number (line ∷ lines) → AllFull sizes widths (number + 1) lines
   AllFull-tail number line [] full = tt
   AllFull-tail number line (next ∷ lines) full = full.1
 
-  IsGreedyFrom-tail : (number : ℕ) (xs line : List X) (lines : List (List X)) → IsGreedyFrom sizes widths number xs (line ∷ lines) → IsGreedyFrom sizes widths (number + 1) (flat_map (λ l. l) lines) lines
+  IsGreedyFrom-tail : (number : ℕ) (xs line : List X) (lines : List (List X))
+      → IsGreedyFrom sizes widths number xs (line ∷ lines)
+      → IsGreedyFrom sizes widths (number + 1) (flat_map (λ l. l) lines) lines
   IsGreedyFrom-tail number xs line lines greedy = record {
     whole = refl;
     nonempty = All-tail (λ l. l ≢ []) line lines greedy.nonempty;
@@ -27,38 +31,77 @@ module _ {X : Type 0} (sizes : X → Sizes) (widths : List ℕ) where
   }
 
   -- a full line is not shorter than one that fits
-  not_shorter : (number : ℕ) (xs line other : List X) (lines others : List (List X)) → IsGreedyFrom sizes widths number xs (line ∷ lines) → IsGreedyFrom sizes widths number xs (other ∷ others) → length line < length other → ⊥
+  not_shorter : (number : ℕ) (xs line other : List X) (lines others : List (List X))
+      → IsGreedyFrom sizes widths number xs (line ∷ lines)
+      → IsGreedyFrom sizes widths number xs (other ∷ others) → length line < length other → ⊥
   not_shorter number xs line other [] others first second short =
-      omega (arith, ap length (first.whole ∙ sym second.whole), length-append line [], length-append other (flat_map (λ l. l) others))
+      omega (
+        arith,
+        ap length (first.whole ∙ sym second.whole),
+        length-append line [],
+        length-append other (flat_map (λ l. l) others),
+      )
   not_shorter number xs line other ([] ∷ lines) others first second short =
       All-head (λ l. l ≢ []) [] lines (All-tail (λ l. l ≢ []) line ([] ∷ lines) first.nonempty) refl
   not_shorter number xs line other ((x ∷ next) ∷ lines) others first second short =
-      let some : 0 < length line = some_from_nonempty line (All-head (λ l. l ≢ []) line ((x ∷ next) ∷ lines) first.nonempty) in
+      let some : 0 < length line = some_from_nonempty line
+      (All-head (λ l. l ≢ []) line ((x ∷ next) ∷ lines) first.nonempty) in
       let rest : List X = (x ∷ next) ++ flat_map (λ l. l) lines in
-      let more : line ++ x ∷ [] ≡ take (length line + 1) other = sym (take-append-add line rest 1) ∙ ap (take (length line + 1)) (first.whole ∙ sym second.whole) ∙ take-append-le (length line + 1) other (flat_map (λ l. l) others) (omega arith) in
-      let within : closed_width sizes (take (length line + 1) other) ≤ line_width widths number = second.fit.0 (length line + 1) (omega arith) (omega arith) in
-      let past : line_width widths number < closed_width sizes (take (length line + 1) other) = subst (λ l. line_width widths number < closed_width sizes l) more first.full.0 in
+      let more : line ++ x ∷ [] ≡ take (length line + 1) other = sym (take-append-add line rest 1)
+      ∙ ap (take (length line + 1)) (first.whole ∙ sym second.whole)
+      ∙ take-append-le (length line + 1) other (flat_map (λ l. l) others) (omega arith) in
+      let within : closed_width sizes (take (length line + 1) other) ≤ line_width widths number =
+      second.fit.0 (length line + 1) (omega arith) (omega arith) in
+      let past : line_width widths number < closed_width sizes (take (length line + 1) other) =
+      subst (λ l. line_width widths number < closed_width sizes l) more first.full.0 in
       omega arith
 
-  some_fragments : (number : ℕ) (xs line : List X) (lines : List (List X)) → IsGreedyFrom sizes widths number xs (line ∷ lines) → 0 < length xs
+  some_fragments : (number : ℕ) (xs line : List X) (lines : List (List X))
+      → IsGreedyFrom sizes widths number xs (line ∷ lines) → 0 < length xs
   some_fragments number xs line lines greedy =
-      omega (arith, some_from_nonempty line (All-head (λ l. l ≢ []) line lines greedy.nonempty), length-append line (flat_map (λ l. l) lines), ap length greedy.whole)
+      omega (
+        arith,
+        some_from_nonempty line (All-head (λ l. l ≢ []) line lines greedy.nonempty),
+        length-append line (flat_map (λ l. l) lines),
+        ap length greedy.whole,
+      )
 
-  same_lines : (first second : List (List X)) (number : ℕ) (xs : List X) → IsGreedyFrom sizes widths number xs first → IsGreedyFrom sizes widths number xs second → first ≡ second
+  same_lines : (first second : List (List X)) (number : ℕ) (xs : List X)
+      → IsGreedyFrom sizes widths number xs first → IsGreedyFrom sizes widths number xs second
+      → first ≡ second
   same_lines [] [] number xs one other = refl
-  same_lines [] (line ∷ lines) number xs one other = absurd (omega (arith, some_fragments number xs line lines other, ap length one.whole))
-  same_lines (line ∷ lines) [] number xs one other = absurd (omega (arith, some_fragments number xs line lines one, ap length other.whole))
+  same_lines [] (line ∷ lines) number xs one other =
+      absurd (omega (arith, some_fragments number xs line lines other, ap length one.whole))
+  same_lines (line ∷ lines) [] number xs one other =
+      absurd (omega (arith, some_fragments number xs line lines one, ap length other.whole))
   same_lines (line ∷ lines) (other ∷ others) number xs first second =
-      let not_less : length line < length other → ⊥ = not_shorter number xs line other lines others first second in
-      let not_more : length other < length line → ⊥ = not_shorter number xs other line others lines second first in
-      let parts : (line ≡ other) × (flat_map (λ l. l) lines ≡ flat_map (λ l. l) others) = same_parts line other (flat_map (λ l. l) lines) (flat_map (λ l. l) others) (first.whole ∙ sym second.whole) (omega arith) in
-      let rest : IsGreedyFrom sizes widths (number + 1) (flat_map (λ l. l) lines) others = subst (λ ys. IsGreedyFrom sizes widths (number + 1) ys others) (sym parts.1) (IsGreedyFrom-tail number xs other others second) in
-      let tails : lines ≡ others = same_lines lines others (number + 1) (flat_map (λ l. l) lines) (IsGreedyFrom-tail number xs line lines first) rest in
+      let not_less : length line < length other → ⊥ =
+      not_shorter number xs line other lines others first second in
+      let not_more : length other < length line → ⊥ =
+      not_shorter number xs other line others lines second first in
+      let parts : (line ≡ other) × (flat_map (λ l. l) lines ≡ flat_map (λ l. l) others) =
+      same_parts line other (flat_map (λ l. l) lines) (flat_map (λ l. l) others)
+      (first.whole ∙ sym second.whole) (omega arith) in
+      let rest : IsGreedyFrom sizes widths (number + 1) (flat_map (λ l. l) lines) others =
+      subst (λ ys. IsGreedyFrom sizes widths (number + 1) ys others) (sym parts.1)
+      (IsGreedyFrom-tail number xs other others second) in
+      let tails : lines ≡ others = same_lines lines others (number + 1) (flat_map (λ l. l) lines)
+      (IsGreedyFrom-tail number xs line lines first) rest in
       cc
 
-  from_IsGreedy : (x : X) (xs : List X) (lines : List (List X)) → IsGreedy sizes widths (x ∷ xs) lines → IsGreedyFrom sizes widths 0 (x ∷ xs) lines
-  from_IsGreedy x xs lines greedy = record { whole = greedy.admissible.division.0; nonempty = greedy.admissible.division.1; fit = greedy.admissible.fit; full = greedy.full }
+  from_IsGreedy : (x : X) (xs : List X) (lines : List (List X))
+      → IsGreedy sizes widths (x ∷ xs) lines → IsGreedyFrom sizes widths 0 (x ∷ xs) lines
+  from_IsGreedy x xs lines greedy = record {
+    whole = greedy.admissible.division.0;
+    nonempty =
+        greedy.admissible.division.1;
+    fit = greedy.admissible.fit;
+    full = greedy.full;
+  }
 
-  pub greedy_unique : (xs : List X) (first second : List (List X)) → IsGreedy sizes widths xs first → IsGreedy sizes widths xs second → first ≡ second
+  pub greedy_unique : (xs : List X) (first second : List (List X)) → IsGreedy sizes widths xs first
+      → IsGreedy sizes widths xs second → first ≡ second
   greedy_unique [] first second one other = one.admissible.division ∙ sym other.admissible.division
-  greedy_unique (x ∷ xs) first second one other = same_lines first second 0 (x ∷ xs) (from_IsGreedy x xs first one) (from_IsGreedy x xs second other)
+  greedy_unique (x ∷ xs) first second one other =
+      same_lines first second 0 (x ∷ xs) (from_IsGreedy x xs first one)
+      (from_IsGreedy x xs second other)

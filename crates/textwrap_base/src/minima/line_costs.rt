@@ -1,5 +1,6 @@
 //! The line costs of fragments, from running sums of their widths.
-ghost use Rattle.std.specs.Prelude.{◌≡◌, ◌+◌, ◌<◌, ◌≤◌, length, map, IfOk, SomeIff, nat_lt, ◌==◌, if◌then◌else◌, slice_range};
+ghost use Rattle.std.specs.Prelude.{◌≡◌, ◌+◌, ◌<◌, ◌≤◌, length, map, IfOk, SomeIff, nat_lt, ◌==◌};
+ghost use Rattle.std.specs.Prelude.{if◌then◌else◌, slice_range};
 ghost use Rattle.textwrap_base.specs.Minima.{LineCostsView};
 ghost use Rattle.textwrap_base.specs.Cost.{priced_at, total_width, fit_cost, line_cost};
 ghost use Rattle.textwrap_base.specs.Errors.{Fits128Bits, Passes128Bits, Overflowed};

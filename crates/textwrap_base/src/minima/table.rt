@@ -2,7 +2,8 @@
 ghost use Rattle.std.specs.Prelude.{◌≡◌, ℕ, ◌+◌, ◌<◌, ◌≤◌, length, map, IfOk, OnOk, SomeIff};
 ghost use Rattle.textwrap_base.specs.Minima.{counted, table_steps};
 ghost use Rattle.textwrap_base.specs.Errors.{Fits128Bits, Passes128Bits, Overflowed};
-ghost use Rattle.textwrap_base.specs.Table.{entry_from, entry_at, cheaper_of, table, minimum_of, IsBestBelow};
+ghost use Rattle.textwrap_base.specs.Table.{entry_from, entry_at, cheaper_of, table, minimum_of};
+ghost use Rattle.textwrap_base.specs.Table.{IsBestBelow};
 
 use super::{CostSource, Minimum};
 use crate::errors::{OverflowError, WrapError};

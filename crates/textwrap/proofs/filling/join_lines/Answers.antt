@@ -13,15 +13,23 @@ loop-i-preserved c =
       | then-i-gt0+in_ok-push_str w ↦
           c.in_ok-push_str-2.ensures.bytes
           ∙ ap (λ l. l ++ c.as_str-in-loop-i.result.now)
-          (ap string_bytes w.joined-is ∙ w.in_ok-push_str.ensures.bytes ∙ ap (λ l. l ++ w.as_str.result.now) c.loop-i.invariant
-          ∙ ap (λ l. join_with separator (map line_bytes (map line_view (take c.loop-i.i c.args.lines.now))) ++ l) w.as_str.ensures)
-          ∙ ap (λ l. (join_with separator (map line_bytes (map line_view (take c.loop-i.i c.args.lines.now))) ++ separator) ++ l) c.as_str-in-loop-i.ensures.value
-          ∙ sym (join-take_more separator c.args.lines.now c.loop-i.i c.index-lines-i.result c.loop-i-test.true c.index-lines-i.is w.if-i-gt0.true)
+          (ap string_bytes w.joined-is ∙ w.in_ok-push_str.ensures.bytes
+          ∙ ap (λ l. l ++ w.as_str.result.now) c.loop-i.invariant
+          ∙ ap (λ l. join_with separator (map line_bytes
+          (map line_view (take c.loop-i.i c.args.lines.now))) ++ l) w.as_str.ensures)
+          ∙ ap (λ l. (join_with separator (map line_bytes
+          (map line_view (take c.loop-i.i c.args.lines.now))) ++ separator) ++ l)
+          c.as_str-in-loop-i.ensures.value
+          ∙ sym (join-take_more separator c.args.lines.now c.loop-i.i c.index-lines-i.result
+          c.loop-i-test.true c.index-lines-i.is w.if-i-gt0.true)
       | else-i-gt0 w ↦
           let first : c.loop-i.i ≡ 0 = omega arith in
           c.in_ok-push_str-2.ensures.bytes
           ∙ ap (λ l. l ++ c.as_str-in-loop-i.result.now)
-          (ap string_bytes w.joined-is ∙ c.loop-i.invariant ∙ ap (λ n. join_with separator (map line_bytes (map line_view (take n c.args.lines.now)))) first)
+          (ap string_bytes w.joined-is ∙ c.loop-i.invariant
+          ∙ ap (λ n. join_with separator (map line_bytes
+          (map line_view (take n c.args.lines.now)))) first)
           ∙ c.as_str-in-loop-i.ensures.value
-          ∙ sym (join-take_first separator c.args.lines.now c.loop-i.i c.index-lines-i.result c.loop-i-test.true c.index-lines-i.is first)
+          ∙ sym (join-take_first separator c.args.lines.now c.loop-i.i c.index-lines-i.result
+          c.loop-i-test.true c.index-lines-i.is first)
     ]

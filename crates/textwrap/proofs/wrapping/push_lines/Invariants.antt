@@ -7,7 +7,8 @@ use Rattle.textwrap.specs.Options.{settings_view}
 use Rattle.textwrap.specs.Paragraph.{line_view, line_from, parts_from}
 use Rattle.textwrap.proofs.wrapping.push_lines.Given as goal
 
--- the lines so far are out after those that were, and the rest of the paragraph is what the others tile
+-- the lines so far are out after those that were, and the rest of the paragraph is what the others
+-- tile
 abbrev pub invariant-loop-pieces : goal.invariant-loop-pieces
 invariant-loop-pieces l =
     shadow (Utf8 l.rest)
@@ -15,4 +16,5 @@ invariant-loop-pieces l =
     × (take (length l.initial.lines.items) l.lines.items ≡ l.initial.lines.items)
     × (map line_view l.lines.items
     ≡ map line_view l.initial.lines.items
-    ++ map line_from (parts_from (settings_view l.options) (nat_lt 0 (length l.initial.lines.items)) (map (λ line. map word_view line.now) (take l.pieces-index l.division))))
+    ++ map line_from (parts_from (settings_view l.options) (nat_lt 0 (length l.initial.lines.items))
+    (map (λ line. map word_view line.now) (take l.pieces-index l.division))))

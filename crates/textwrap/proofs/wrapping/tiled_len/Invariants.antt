@@ -6,4 +6,5 @@ use Rattle.textwrap.proofs.wrapping.tiled_len.Given as goal
 -- the pieces so far are measured, and are text
 abbrev pub invariant-loop-piece : goal.invariant-loop-piece
 invariant-loop-piece l =
-    (l.len ≡ length (tiled (map word_view (take l.piece-index l.pieces)))) × IsUtf8 (tiled (map word_view (take l.piece-index l.pieces)))
+    (l.len ≡ length (tiled (map word_view (take l.piece-index l.pieces))))
+    × IsUtf8 (tiled (map word_view (take l.piece-index l.pieces)))

@@ -7,6 +7,11 @@ use Rattle.textwrap_base.proofs.laws.broken_pieces_are_unique.Goals as goal
 
 pub returns : goal.returns
 returns c = λ limit w pieces. (
-  λ (parts, broken, is). is ∙ ap (λ ps. pieces_with w.whitespace w.penalty (map units_text ps)) (AreBroken-unique limit (units (chars w.word)) parts broken),
-  λ is. (broken_units limit (units (chars w.word)), AreBroken-exists limit (units (chars w.word)), is),
+  λ (parts, broken, is). is ∙ ap (λ ps. pieces_with w.whitespace w.penalty (map units_text ps))
+      (AreBroken-unique limit (units (chars w.word)) parts broken),
+  λ is. (
+    broken_units limit (units (chars w.word)),
+    AreBroken-exists limit (units (chars w.word)),
+    is,
+  ),
 )

@@ -3,4 +3,5 @@ use Rattle.textwrap_base.proofs.Cost.Unique.{chosen_one}
 use Rattle.textwrap_base.proofs.laws.chosen_division_is_unique.Goals as goal
 
 pub returns : goal.returns
-returns g c = chosen_one (λ x. priced_at c.args.penalties.now (g.T.Fragment.sizes x)) c.args.penalties.now c.args.line_widths.now c.args.fragments.now
+returns g c = chosen_one (λ x. priced_at c.args.penalties.now (g.T.Fragment.sizes x))
+    c.args.penalties.now c.args.line_widths.now c.args.fragments.now

@@ -6,4 +6,5 @@ use Rattle.textwrap_base.proofs.words.display_width.Given as goal
 
 -- the columns so far, and those of the characters to come, are the whole
 abbrev pub invariant-loop-ch : goal.invariant-loop-ch
-invariant-loop-ch l = l.width + columns_in l.state (drop (length l.yielded) (chars l.text)) ≡ text_width l.text
+invariant-loop-ch l = l.width + columns_in l.state (drop (length l.yielded) (chars l.text))
+    ≡ text_width l.text

@@ -1,8 +1,10 @@
 use Rattle.std.proofs.Common.{◌≡◌, ◌+◌, arith, rules, refl, ◌∙◌}
 use Rattle.textwrap_base.specs.Minima.{table_steps}
 use Rattle.textwrap_base.specs.Table.{table}
-use Rattle.textwrap_base.proofs.Cost.Table.{length-table, table_next, table_past, table_fits, table_pushed, numbers_of}
-use Rattle.textwrap_base.proofs.Cost.Steps.{table_steps_more, table_steps_mono, counted_more, counted_next}
+use Rattle.textwrap_base.proofs.Cost.Table.{length-table, table_next, table_past, table_fits}
+use Rattle.textwrap_base.proofs.Cost.Table.{table_pushed, numbers_of}
+use Rattle.textwrap_base.proofs.Cost.Steps.{table_steps_more, table_steps_mono, counted_more}
+use Rattle.textwrap_base.proofs.Cost.Steps.{counted_next}
 use Rattle.textwrap_base.proofs.minima.table.fill_table.Goals as goal
 
 pub loop-last-init : goal.loop-last-init
@@ -15,36 +17,57 @@ loop-last-init g c = record {
 }
 
 pub cheapest-requires-clause-len : goal.cheapest-requires-clause-len
-cheapest-requires-clause-len g c = rw (c.deref.ensures.value, c.loop-last.invariant.entries) (length-table (g.C.CostSource.costs c.args.costs.now).cost c.loop-last.last)
+cheapest-requires-clause-len g c = rw (c.deref.ensures.value, c.loop-last.invariant.entries)
+    (length-table (g.C.CostSource.costs c.args.costs.now).cost c.loop-last.last)
 
 pub cheapest-requires-clause-numbers : goal.cheapest-requires-clause-numbers
-cheapest-requires-clause-numbers g c = numbers_of (g.C.CostSource.costs c.args.costs.now).cost c.loop-last.last c.deref.result.now (c.deref.ensures.value ∙ c.loop-last.invariant.entries)
+cheapest-requires-clause-numbers g c = numbers_of
+    (g.C.CostSource.costs c.args.costs.now).cost c.loop-last.last c.deref.result.now
+    (c.deref.ensures.value ∙ c.loop-last.invariant.entries)
 
 pub returns-in_default-clause-overflow_only : goal.returns-in_default-clause-overflow_only
 returns-in_default-clause-overflow_only g c =
-    let best = rw (c.deref.ensures.value, c.loop-last.invariant.entries, c.loop-last.invariant.same) at c.in_default.ensures.best in
-    let past = table_past (g.C.CostSource.costs c.args.costs.now).cost c.loop-last.last (g.C.CostSource.costs c.args.costs.now).ends (omega arith) best in
+    let best = rw (c.deref.ensures.value, c.loop-last.invariant.entries, c.loop-last.invariant.same)
+    at c.in_default.ensures.best in
+    let past = table_past (g.C.CostSource.costs c.args.costs.now).cost c.loop-last.last
+    (g.C.CostSource.costs c.args.costs.now).ends (omega arith) best in
     λ _. (c.loop-last.last + 1, omega arith, past)
 
 pub returns-in_default-clause-steps_most : goal.returns-in_default-clause-steps_most
 returns-in_default-clause-steps_most g c =
-    let mono = table_steps_mono (c.loop-last.last + 1) (g.C.CostSource.costs c.args.costs.now).ends (omega arith) in
+    let mono = table_steps_mono (c.loop-last.last + 1) (g.C.CostSource.costs c.args.costs.now).ends
+    (omega arith) in
     let more = table_steps_more c.loop-last.last in
-    rw (c.cheapest.ensures.steps, c.loop-last.invariant.steps) (counted_more (g.C.CostSource.steps c.args.costs.now) (table_steps c.loop-last.last) (c.loop-last.last + 1) (table_steps (g.C.CostSource.costs c.args.costs.now).ends) (omega arith))
+    rw (c.cheapest.ensures.steps, c.loop-last.invariant.steps)
+    (counted_more (g.C.CostSource.steps c.args.costs.now) (table_steps c.loop-last.last)
+    (c.loop-last.last + 1) (table_steps (g.C.CostSource.costs c.args.costs.now).ends)
+    (omega arith))
 
 pub returns-in_err-push-2-clause-steps_most : goal.returns-in_err-push-2-clause-steps_most
 returns-in_err-push-2-clause-steps_most g c =
-    let mono = table_steps_mono (c.loop-last.last + 1) (g.C.CostSource.costs c.args.costs.now).ends (omega arith) in
+    let mono = table_steps_mono (c.loop-last.last + 1) (g.C.CostSource.costs c.args.costs.now).ends
+    (omega arith) in
     let more = table_steps_more c.loop-last.last in
-    rw (c.cheapest.ensures.steps, c.loop-last.invariant.steps) (counted_more (g.C.CostSource.steps c.args.costs.now) (table_steps c.loop-last.last) (c.loop-last.last + 1) (table_steps (g.C.CostSource.costs c.args.costs.now).ends) (omega arith))
+    rw (c.cheapest.ensures.steps, c.loop-last.invariant.steps)
+    (counted_more (g.C.CostSource.steps c.args.costs.now) (table_steps c.loop-last.last)
+    (c.loop-last.last + 1) (table_steps (g.C.CostSource.costs c.args.costs.now).ends)
+    (omega arith))
 
 pub loop-last-preserved : goal.loop-last-preserved
 loop-last-preserved g c =
-    let best = rw (c.deref.ensures.value, c.loop-last.invariant.entries, c.loop-last.invariant.same) at c.in-Some.ensures.best in
-    let more = table_next (g.C.CostSource.costs c.args.costs.now).cost c.loop-last.last c.in-Some.entry best.0 in
+    let best = rw (c.deref.ensures.value, c.loop-last.invariant.entries, c.loop-last.invariant.same)
+    at c.in-Some.ensures.best in
+    let more = table_next (g.C.CostSource.costs c.args.costs.now).cost c.loop-last.last
+    c.in-Some.entry best.0 in
     record {
-      entries = table_pushed (g.C.CostSource.costs c.args.costs.now).cost c.loop-last.last c.loop-last.entries.items c.push-in-loop-last.new.self.items c.in-Some.entry c.loop-last.invariant.entries c.in_ok-push-2.ensures.items more;
-      fits = table_fits (g.C.CostSource.costs c.args.costs.now).cost c.loop-last.last c.in-Some.entry more best.1 c.loop-last.invariant.fits;
+      entries = table_pushed (g.C.CostSource.costs c.args.costs.now).cost c.loop-last.last
+          c.loop-last.entries.items c.push-in-loop-last.new.self.items c.in-Some.entry
+          c.loop-last.invariant.entries c.in_ok-push-2.ensures.items more;
+      fits = table_fits (g.C.CostSource.costs c.args.costs.now).cost c.loop-last.last
+          c.in-Some.entry more best.1 c.loop-last.invariant.fits;
       same = c.cheapest.ensures.same ∙ c.loop-last.invariant.same;
-      steps = counted_next (g.C.CostSource.steps c.args.costs.now) (g.C.CostSource.steps c.loop-last.costs) (g.C.CostSource.steps c.cheapest.new.costs) c.loop-last.last c.loop-last.invariant.steps c.cheapest.ensures.steps;
+      steps = counted_next (g.C.CostSource.steps c.args.costs.now)
+          (g.C.CostSource.steps c.loop-last.costs)
+          (g.C.CostSource.steps c.cheapest.new.costs) c.loop-last.last
+          c.loop-last.invariant.steps c.cheapest.ensures.steps;
     }

@@ -6,4 +6,6 @@ use Rattle.textwrap_base.proofs.words.breaking.break_words.Given as goal
 
 abbrev pub invariant-loop-word : goal.invariant-loop-word
 invariant-loop-word g l =
-    g.I.IntoIter.Iterator.can_next l.word-iterator × IsFinite (g.I.IntoIter.Iterator.remaining l.word-iterator) × (map word_view l.pieces.items ≡ broken_words l.line_width (map word_view l.yielded))
+    g.I.IntoIter.Iterator.can_next l.word-iterator
+    × IsFinite (g.I.IntoIter.Iterator.remaining l.word-iterator)
+    × (map word_view l.pieces.items ≡ broken_words l.line_width (map word_view l.yielded))

@@ -7,9 +7,11 @@ use Rattle.textwrap_base.proofs.wrap_algorithms.optimal_fit.lines_by.Given as go
 abbrev pub invariant-loop-end : goal.invariant-loop-end
 invariant-loop-end g l = record {
   within : l.end ≤ length l.fragments;
-  tiles : flat_map (λ line. line) (reverse (map (λ line. line.now) l.lines.items)) ≡ drop l.end l.fragments;
+  tiles : flat_map (λ line. line) (reverse (map (λ line. line.now) l.lines.items))
+      ≡ drop l.end l.fragments;
   nonempty : All (λ line. line ≢ []) (reverse (map (λ line. line.now) l.lines.items));
-  follow : FollowStarts (map (λ (m : Minimum). m.start) l.minima) l.end (reverse (map (λ line. line.now) l.lines.items));
+  follow : FollowStarts (map (λ (m : Minimum). m.start) l.minima) l.end
+      (reverse (map (λ line. line.now) l.lines.items));
 }
 
 abbrev pub decreases-loop-end : goal.decreases-loop-end

@@ -6,6 +6,11 @@ use Rattle.textwrap_base.proofs.minima.line_costs.LineCosts.new.Goals as goal
 
 pub returns-clause-lines : goal.returns-clause-lines
 returns-clause-lines g c =
-    ap (λ (priced : List PricedSizes). fragment_costs (λ (x : PricedSizes). x) c.args.penalties.now c.in_ok-from_slice.field-0.items priced) c.in_ok-measures_of.ensures.priced
-    ∙ ap (λ (widths : List ℕ). fragment_costs (λ (x : PricedSizes). x) c.args.penalties.now widths (map (λ x. priced_at c.args.penalties.now (g.T.Fragment.sizes x)) c.args.fragments.now)) c.in_ok-from_slice.ensures.items
-    ∙ fragment_costs-map (λ x. priced_at c.args.penalties.now (g.T.Fragment.sizes x)) c.args.penalties.now c.args.line_widths.now c.args.fragments.now
+    ap (λ (priced : List PricedSizes). fragment_costs
+    (λ (x : PricedSizes). x) c.args.penalties.now c.in_ok-from_slice.field-0.items priced)
+    c.in_ok-measures_of.ensures.priced
+    ∙ ap (λ (widths : List ℕ). fragment_costs (λ (x : PricedSizes). x) c.args.penalties.now widths
+    (map (λ x. priced_at c.args.penalties.now (g.T.Fragment.sizes x)) c.args.fragments.now))
+    c.in_ok-from_slice.ensures.items
+    ∙ fragment_costs-map (λ x. priced_at c.args.penalties.now (g.T.Fragment.sizes x))
+    c.args.penalties.now c.args.line_widths.now c.args.fragments.now

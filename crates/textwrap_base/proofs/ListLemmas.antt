@@ -1,8 +1,12 @@
 -- Lemmas on lists.
+use Rattle.std.proofs.Common.{All, subst, ◌≤◌}
 use Rattle.std.proofs.Common.{◌≡◌, ℕ, suc, ◌+◌, ◌-◌, ◌<◌, List, [], ◌∷◌, ◌++◌, length, get_or, take}
 use Rattle.std.proofs.Common.{drop, map, refl, sym, ap, ◌∙◌, arith}
 use Rattle.std.specs.Prelude.{slice_index}
 use Rattle.std.specs.List.{flat_map, onto_first}
+use Rattle.std.specs.Io.{StartsWith}
+use Rattle.std.proofs.lemmas.List.Elements.{All-take, All-drop}
+use Rattle.std.proofs.lemmas.List.{drop_more, length-take, take-append-le}
 use Rattle.std.proofs.lemmas.List.{map-append, append_assoc, take_at, drop_at, length_push}
 use Rattle.std.proofs.lemmas.List.{get_or_push, get_or_append_left}
 use Rattle.textwrap_base.specs.Lists.{last}
@@ -15,8 +19,8 @@ map-push-append f xs ys x y rest pushed is =
     ∙ append_assoc (map f xs) (f x ∷ []) rest ∙ ap (λ z. map f xs ++ (z ∷ rest)) is
 
 -- a list is cut in one way into parts of given lengths
-pub same_parts : {X : Type 0} (xs ys rest others : List X) → xs ++ rest ≡ ys ++ others → length xs
-    ≡ length ys → (xs ≡ ys) × (rest ≡ others)
+pub same_parts : {X : Type 0} (xs ys rest others : List X) → xs ++ rest ≡ ys ++ others
+    → length xs ≡ length ys → (xs ≡ ys) × (rest ≡ others)
 same_parts xs ys rest others same len = (
   sym (take_at xs rest (length xs) refl) ∙ ap (take (length xs)) same
       ∙ take_at ys others (length xs) (sym len),
@@ -57,8 +61,8 @@ last_but_one-push front b c =
 abbrev pub flat : {X : Type 0} → List (List X) → List X
 flat parts = flat_map (λ part. part) parts
 
-pub flat-onto_first : {X : Type 0} (x : X) (parts : List (List X)) → flat (onto_first x parts)
-    ≡ x ∷ flat parts
+pub flat-onto_first : {X : Type 0} (x : X) (parts : List (List X))
+    → flat (onto_first x parts) ≡ x ∷ flat parts
 flat-onto_first x [] = refl
 flat-onto_first x (part ∷ parts) = refl
 
@@ -72,3 +76,39 @@ pub onto_front-onto_first : {X : Type 0} (before : List X) (x : X) (parts : List
 onto_front-onto_first before x [] = refl
 onto_front-onto_first before x (part ∷ parts) =
     ap (λ p. p ∷ parts) (sym (append_assoc before (x ∷ []) part))
+
+pub all-left : {X : Type 0} (P : X → Type 0) (xs ys : List X) → All P (xs ++ ys) → All P xs
+all-left P xs ys all = subst (All P) (take_at xs ys (length xs) refl)
+    (All-take P (length xs) (xs ++ ys) all)
+
+pub all-right : {X : Type 0} (P : X → Type 0) (xs ys : List X) → All P (xs ++ ys) → All P ys
+all-right P xs ys all = subst (All P) (drop_at xs ys (length xs) refl)
+    (All-drop P (length xs) (xs ++ ys) all)
+
+-- what the parts from place i on make begins with the part at i
+pub StartsWith-flat_map : {X : Type 0} (f : X → List ℕ) (xs : List X) (i : ℕ) (d : X)
+    (rest : List ℕ) → i < length xs → flat_map f (drop i xs) ≡ rest
+    → StartsWith rest (f (get_or xs i d))
+StartsWith-flat_map f xs i d rest within is =
+    ap (take (length (f (get_or xs i d)))) (sym is ∙ ap (flat_map f) (drop_more xs i d within))
+    ∙ take_at (f (get_or xs i d)) (flat_map f (drop (i + 1) xs))
+    (length (f (get_or xs i d))) refl
+
+-- and what those after it make follows
+pub flat_map-rest : {X : Type 0} (f : X → List ℕ) (xs : List X) (i : ℕ) (d : X)
+    (rest after : List ℕ) → i < length xs → flat_map f (drop i xs) ≡ rest
+    → after ≡ drop (length (f (get_or xs i d))) rest
+    → flat_map f (drop (i + 1) xs) ≡ after
+flat_map-rest f xs i d rest after within is past =
+    sym (past ∙ ap (drop (length (f (get_or xs i d))))
+    (sym is ∙ ap (flat_map f) (drop_more xs i d within))
+    ∙ drop_at (f (get_or xs i d)) (flat_map f (drop (i + 1) xs)) (length (f (get_or xs i d))) refl)
+
+-- what the lines began with stays where one is added
+pub start-kept : {X : Type 0} (start lines pushed : List X) (line : X)
+    → take (length start) lines ≡ start → pushed ≡ lines ++ line ∷ []
+    → take (length start) pushed ≡ start
+start-kept start lines pushed line kept is =
+    let within : length start ≤ length lines =
+    omega (arith, ap length kept, length-take (length start) lines) in
+    ap (take (length start)) is ∙ take-append-le (length start) lines (line ∷ []) within ∙ kept

@@ -104,7 +104,8 @@ pub trait CostSource {
 ///
 /// # Errors
 /// Overflow exactly where all widths together need more than 128 bits, or a cost in the table does.
-/// Otherwise out of memory only. Widths that are too large are refused before anything is allocated.
+/// Otherwise out of memory only. Widths that are too large are refused before anything is
+/// allocated.
 pub fn table_minima<T: Fragment>(
     alloc: Global,
     fragments: &[T],

@@ -30,5 +30,5 @@ width_of-is word (Err e) digits is =
 -- what `parse` answers of digits is the width that they mean
 pub width_of-parsed : {E : Type 0} (word : List ℕ) (r : Result ℕ E) → all_ascii_digits word ≡ true
     → ParsesUnsigned 64 10 word r → result_ok r ≡ width_of word
-width_of-parsed word r digits parsed = width_of-is word r digits
-    (parse_digits numerals 64 word r parsed digits)
+width_of-parsed word r digits parsed =
+    width_of-is word r digits (parse_digits numerals 64 word r parsed digits)

@@ -44,10 +44,10 @@ WritesPrefix-nothing_more old mid new rest bytes so_far nothing =
 pub WritesPrefix-kept : (old mid new : Option (List ℕ)) (rest bytes : List ℕ)
     → WrittenSoFar old mid rest bytes → Keeps mid new → WritesPrefix old new bytes
 WritesPrefix-kept old mid new rest bytes so_far kept =
-    WritesPrefix-from old new rest bytes record {
+    WritesPrefix-from old new rest bytes
+    record {
       written = so_far.written;
-      whole =
-          so_far.whole;
+      whole = so_far.whole;
       appends = Appends-kept old mid new so_far.written so_far.appends kept;
     }
 

@@ -80,11 +80,12 @@ split_from-space w start (point ∷ points) =
     ∙ split_from-space w point points
 
 split_word-ends : (splitter : WordSplitter) (w : WordText) → EndsAs (split_word splitter) w
-split_word-ends splitter w = record {
-  some = split_from-some w 0
-      (points_of splitter w.word);
-  space = split_from-space w 0 (points_of splitter w.word);
-}
+split_word-ends splitter w =
+    record {
+      some = split_from-some w 0 (points_of splitter w.word);
+      space = split_from-space w 0
+          (points_of splitter w.word);
+    }
 
 pieces_with-some : (whitespace penalty : List ℕ) (texts : List (List ℕ)) → texts ≢ []
     → 0 < length (pieces_with whitespace penalty texts)
@@ -130,8 +131,9 @@ broken_words-ends limit words measured =
 chunks-some : (line : List ℕ) → 0 < length line → 0 < length (chunks line)
 chunks-some [] some = absurd (omega arith)
 chunks-some (c ∷ []) some = omega arith
-chunks-some (c ∷ d ∷ cs) some = elim (is_cut c d)
-    as (λ b. 0 < length (cond b ((c ∷ []) ∷ chunks (d ∷ cs)) (onto_first c (chunks (d ∷ cs)))))
+chunks-some (c ∷ d ∷ cs) some =
+    elim (is_cut c d) as (λ b. 0 < length
+    (cond b ((c ∷ []) ∷ chunks (d ∷ cs)) (onto_first c (chunks (d ∷ cs)))))
     [ true ↦ omega arith | false ↦ onto_first-some c (chunks (d ∷ cs)) ]
   where
     onto_first-some : (c : ℕ) (parts : List (List ℕ)) → 0 < length (onto_first c parts)
@@ -164,21 +166,23 @@ two_chunks (c ∷ []) two = absurd (omega arith)
 two_chunks (c ∷ d ∷ cs) two = two_chunks_step c d cs (is_cut c d) refl (two_chunks (d ∷ cs)) two
 
 -- a byte in front of the first piece
-space-onto_first : (c : ℕ) (line : List ℕ) (parts : List (List ℕ)) → flat_map (λ part. part) parts
-    ≡ line → 0 < length line → last_space (map word_of parts) ≡ final_blanks line
+space-onto_first : (c : ℕ) (line : List ℕ) (parts : List (List ℕ))
+    → flat_map (λ part. part) parts ≡ line → 0 < length line
+    → last_space (map word_of parts) ≡ final_blanks line
     → (1 < length parts → 0 < trimmed_len line)
     → last_space (map word_of (onto_first c parts)) ≡ final_blanks (c ∷ line)
 space-onto_first c line [] tile some space two = let none = ap length tile in
     absurd (omega (arith, none))
 space-onto_first c line (part ∷ []) tile some space two =
     ap (λ l. final_blanks (c ∷ l)) (sym (append-nil part) ∙ tile)
-space-onto_first c line (part ∷ next ∷ parts) tile some space two = space
-    ∙ sym (final_blanks-more c line (two (omega arith))).1
+space-onto_first c line (part ∷ next ∷ parts) tile some space two =
+    space ∙ sym (final_blanks-more c line (two (omega arith))).1
 
 words_of-space_step : (c d : ℕ) (cs : List ℕ) (b : Bool) → is_cut c d ≡ b
     → last_space (words_of (d ∷ cs)) ≡ final_blanks (d ∷ cs)
-    → last_space (map word_of (cond b ((c ∷ []) ∷ chunks (d ∷ cs))
-    (onto_first c (chunks (d ∷ cs))))) ≡ final_blanks (c ∷ d ∷ cs)
+    → last_space (map word_of
+    (cond b ((c ∷ []) ∷ chunks (d ∷ cs)) (onto_first c (chunks (d ∷ cs))))) ≡ final_blanks
+    (c ∷ d ∷ cs)
 words_of-space_step c d cs true cut rest =
     last_space-append (word_of (c ∷ []) ∷ []) (words_of (d ∷ cs))
     (let some = chunks-some (d ∷ cs) (omega arith) in
@@ -213,8 +217,8 @@ pub pieces_of-space : (settings : Settings) (separator : WordSeparator) (splitte
 pieces_of-space settings separator splitter paragraph utf8 unindented =
     let split = split_pieces_of separator splitter paragraph in
     let limit = later_width settings in
-    let front : front_pieces settings ≡ [] = ap (λ i. cond (length i == 0) [] (empty_word ∷ []))
-    unindented in
+    let front : front_pieces settings ≡ [] =
+    ap (λ i. cond (length i == 0) [] (empty_word ∷ [])) unindented in
     elim settings.break_words as (λ b. last_space
     (cond b (front_pieces settings ++ broken_words limit split) split) ≡ final_blanks paragraph) [
       | true ↦
@@ -238,15 +242,17 @@ covered-pieces_of settings separator splitter paragraph utf8 unindented =
     let pieces = pieces_of settings separator splitter paragraph in
     let blanks = final_blanks paragraph in
     let whole : covered pieces ++ blanks ≡ paragraph =
-    ap (λ l. covered pieces ++ l) (sym (pieces_of-space settings separator splitter paragraph
-    utf8 unindented)) ∙ covered-space pieces
-    ∙ pieces_of-tile settings separator splitter paragraph utf8 in
+    ap (λ l. covered pieces ++ l)
+    (sym (pieces_of-space settings separator splitter paragraph utf8 unindented))
+    ∙ covered-space pieces ∙ pieces_of-tile settings separator splitter paragraph utf8
+    in
     let len : length (covered pieces) ≡ trimmed_len paragraph =
     omega (
       arith,
       ap length whole,
       length-append (covered pieces) blanks,
-      length-drop (trimmed_len paragraph) paragraph,
+      length-drop
+          (trimmed_len paragraph) paragraph,
     ) in
     sym (take_at (covered pieces) blanks (trimmed_len paragraph) len)
     ∙ ap (take (trimmed_len paragraph)) whole

@@ -12,8 +12,8 @@ use Rattle.std.proofs.lemmas.Bool.{and_parts, eqb-true}
 use Rattle.std.proofs.lemmas.Bool.Decides.{nat_tests}
 use Rattle.std.proofs.lemmas.Str.{IsUtf8-append, IsUtf8-drop, IsCharBoundary-from_take}
 use Rattle.std.proofs.lemmas.Str.{IsCharBoundary-from_rest}
-use Rattle.std.proofs.lemmas.List.{map-append, length-map, length-take, take-append-le, map_more}
-use Rattle.std.proofs.lemmas.List.{map_push, take_at, drop_at, drop_more, nil_from_length}
+use Rattle.std.proofs.lemmas.List.{map-append, length-map, map_more}
+use Rattle.std.proofs.lemmas.List.{map_push, take_at, drop_at, nil_from_length}
 use Rattle.textwrap_base.specs.declared.words.Word.{Word}
 use Rattle.textwrap_base.specs.Words.{WordText, word_view, word_of, sizes_of, tile_of, tiled, Tiles}
 use Rattle.textwrap_base.specs.WrapAlgorithms.{Algorithm, IsDividedBy}
@@ -45,15 +45,15 @@ covered-push (v ∷ u ∷ ws) w = ap (λ l. tile_of v ++ l) (covered-push (u ∷
 -- a text that begins with words, cut before the last one's whitespace
 pub record CutsBeforeWhitespace (text : List ℕ) (words front : List Word)
     (last : Word) : Type 0 where
-  pub line : take (length (tiled (map word_view front)) + length last.word.now) text
-      ≡ tiled (map word_view front) ++ last.word.now
+  pub line : take (length (tiled (map word_view front)) + length last.word.now) text ≡ tiled
+      (map word_view front) ++ last.word.now
   pub rest : drop (length (tiled (map word_view front)) + length last.word.now) text
       ≡ last.whitespace.now ++ drop (length (tiled (map word_view words))) text
   pub within : length (tiled (map word_view front)) + length last.word.now ≤ length text
   pub covers : covered (map word_view words) ≡ tiled (map word_view front) ++ last.word.now
 
-pub cuts_before_whitespace : (text : List ℕ) (words front : List Word) (last : Word) → words
-    ≡ front ++ last ∷ [] → StartsWith text (tiled (map word_view words))
+pub cuts_before_whitespace : (text : List ℕ) (words front : List Word) (last : Word)
+    → words ≡ front ++ last ∷ [] → StartsWith text (tiled (map word_view words))
     → CutsBeforeWhitespace text words front last
 cuts_before_whitespace text words front last is starts =
     let views : map word_view words ≡ map word_view front ++ word_view last ∷ [] =
@@ -93,19 +93,20 @@ module _ (text : List ℕ) (words front : List Word) (last : Word)
   IsCharBoundary-cut =
       IsCharBoundary-from_take text (length (tiled (map word_view front)) + length last.word.now)
       utf8 cut.within
-      (subst IsUtf8 (sym cut.line) (IsUtf8-append
-      (tiled (map word_view front)) last.word.now front_utf8 word_utf8))
+      (subst IsUtf8 (sym cut.line)
+      (IsUtf8-append (tiled (map word_view front)) last.word.now front_utf8 word_utf8))
 
-  pub IsCharBoundary-past_whitespace : (rest whitespace : List ℕ) → rest
-      ≡ drop (length (tiled (map word_view front)) + length last.word.now) text → whitespace
-      ≡ last.whitespace.now → IsUtf8 whitespace
+  pub IsCharBoundary-past_whitespace : (rest whitespace : List ℕ)
+      → rest ≡ drop (length (tiled (map word_view front)) + length last.word.now) text
+      → whitespace ≡ last.whitespace.now → IsUtf8 whitespace
       → IsCharBoundary rest (length whitespace)
   IsCharBoundary-past_whitespace rest whitespace is same whitespace_utf8 =
       let after = drop (length (tiled (map word_view words))) text in
       let seam : rest ≡ whitespace ++ after = is ∙ cut.rest ∙ ap (λ l. l ++ after) (sym same) in
-      let rest_utf8 : IsUtf8 rest = subst IsUtf8 (sym is)
-      (IsUtf8-drop text (length (tiled (map word_view front)) + length last.word.now) utf8
-      IsCharBoundary-cut) in
+      let rest_utf8 : IsUtf8 rest =
+      subst IsUtf8 (sym is) (IsUtf8-drop text
+      (length (tiled (map word_view front)) + length last.word.now) utf8 IsCharBoundary-cut)
+      in
       IsCharBoundary-from_take rest (length whitespace) rest_utf8
       (omega (arith, ap length seam, length-append whitespace after))
       (subst IsUtf8 (sym (ap (take (length whitespace)) seam
@@ -118,28 +119,9 @@ module _ (text : List ℕ) (words front : List Word) (last : Word)
   IsCharBoundary-whole whitespace same whitespace_utf8 =
       IsCharBoundary-from_rest text (length (tiled (map word_view front)) + length last.word.now)
       (length whitespace) cut.within
-      (IsCharBoundary-past_whitespace (drop (length
-      (tiled (map word_view front)) + length last.word.now) text) whitespace refl same
-      whitespace_utf8)
-
--- what the parts from place i on make begins with the part at i
-pub StartsWith-flat_map : {X : Type 0} (f : X → List ℕ) (xs : List X) (i : ℕ) (d : X)
-    (rest : List ℕ) → i < length xs → flat_map f (drop i xs) ≡ rest
-    → StartsWith rest (f (get_or xs i d))
-StartsWith-flat_map f xs i d rest within is =
-    ap (take (length (f (get_or xs i d)))) (sym is ∙ ap (flat_map f) (drop_more xs i d within))
-    ∙ take_at (f (get_or xs i d)) (flat_map f (drop (i + 1) xs))
-    (length (f (get_or xs i d))) refl
-
--- and what those after it make follows
-pub flat_map-rest : {X : Type 0} (f : X → List ℕ) (xs : List X) (i : ℕ) (d : X)
-    (rest after : List ℕ) → i < length xs → flat_map f (drop i xs) ≡ rest → after
-    ≡ drop (length (f (get_or xs i d))) rest
-    → flat_map f (drop (i + 1) xs) ≡ after
-flat_map-rest f xs i d rest after within is past =
-    sym (past ∙ ap (drop (length (f (get_or xs i d))))
-    (sym is ∙ ap (flat_map f) (drop_more xs i d within))
-    ∙ drop_at (f (get_or xs i d)) (flat_map f (drop (i + 1) xs)) (length (f (get_or xs i d))) refl)
+      (IsCharBoundary-past_whitespace
+      (drop (length (tiled (map word_view front)) + length last.word.now) text) whitespace refl
+      same whitespace_utf8)
 
 -- ---- the line of pieces of which the last is known
 
@@ -159,38 +141,33 @@ parts_ending settings is_later line last = record {
 }
 
 parts_of-push : (settings : Settings) (is_later : Bool) (ws : List WordText) (last : WordText)
-    → parts_of settings is_later (ws ++ last ∷ [])
-    ≡ parts_ending settings is_later (ws ++ last ∷ []) last
+    → parts_of settings is_later (ws ++ last ∷ []) ≡ parts_ending settings is_later
+    (ws ++ last ∷ []) last
 parts_of-push settings is_later [] last = refl
 parts_of-push settings is_later (w ∷ ws) last =
     ap (parts_ending settings is_later (w ∷ (ws ++ last ∷ []))) (last_piece-push w ws last)
 
 ending_line : (settings : Settings) (is_later : Bool) (line : List WordText) (last : WordText)
-    (indent slice : List ℕ) (keeps : Bool) → indent ≡ indent_of settings is_later → keeps
-    ≡ keeps_whitespace settings last
+    (indent slice : List ℕ) (keeps : Bool) → indent ≡ indent_of settings is_later
+    → keeps ≡ keeps_whitespace settings last
     → slice ≡ cond keeps (tiled line) (covered line)
-    → line_from (record {
+    → line_from
+    (record {
       pieces = [];
       indent = indent;
       slice = slice;
-      penalty =
-          last.penalty;
+      penalty = last.penalty;
       left_off = [];
     }) ≡ line_from (parts_ending settings is_later line last)
 ending_line settings is_later line last indent slice keeps indent_is keeps_is slice_is =
-    ap (λ i. line_from (record {
-      pieces = [];
-      indent = i;
-      slice = slice;
-      penalty =
-          last.penalty;
-      left_off = [];
-    })) indent_is
-    ∙ ap (λ s. line_from (record {
+    ap (λ i. line_from
+    (record { pieces = []; indent = i; slice = slice; penalty = last.penalty; left_off = [] }))
+    indent_is
+    ∙ ap (λ s. line_from
+    (record {
       pieces = [];
       indent = indent_of settings is_later;
-      slice =
-          s;
+      slice = s;
       penalty = last.penalty;
       left_off = [];
     }))
@@ -198,33 +175,32 @@ ending_line settings is_later line last indent slice keeps indent_is keeps_is sl
 
 -- a line made of the slice that its pieces cover
 pub line_from-parts_of : (settings : Settings) (is_later : Bool) (pieces front : List Word)
-    (last : Word) (indent slice : List ℕ) (keeps : Bool) → pieces ≡ front ++ last ∷ [] → indent
-    ≡ indent_of settings is_later
+    (last : Word) (indent slice : List ℕ) (keeps : Bool) → pieces ≡ front ++ last ∷ []
+    → indent ≡ indent_of settings is_later
     → keeps ≡ keeps_whitespace settings (word_view last)
     → slice ≡ cond keeps (tiled (map word_view (front ++ last ∷ [])))
     (covered (map word_view (front ++ last ∷ [])))
-    → line_from (record {
+    → line_from
+    (record {
       pieces = [];
       indent = indent;
       slice = slice;
-      penalty =
-          last.penalty.now;
+      penalty = last.penalty.now;
       left_off = [];
-    }) ≡ line_from
-    (parts_of settings is_later (map word_view pieces))
+    }) ≡ line_from (parts_of settings is_later (map word_view pieces))
 line_from-parts_of settings is_later pieces front last indent slice keeps is indent_is keeps_is
     slice_is =
     let line = map word_view (front ++ last ∷ []) in
     let views : line ≡ map word_view front ++ word_view last ∷ [] =
     map-append word_view front (last ∷ []) in
-    let ending : parts_of settings is_later line
-    ≡ parts_ending settings is_later line (word_view last) =
+    let ending : parts_of settings is_later line ≡ parts_ending settings is_later line
+    (word_view last) =
     ap (parts_of settings is_later) views ∙ parts_of-push settings is_later (map word_view front)
     (word_view last) ∙ ap (λ l. parts_ending settings is_later l (word_view last))
     (sym views) in
     ending_line settings is_later line (word_view last) indent slice keeps indent_is keeps_is
-    slice_is ∙ ap line_from (sym ending) ∙
-    ap (λ ps. line_from (parts_of settings is_later (map word_view ps))) (sym is)
+    slice_is ∙ ap line_from (sym ending)
+    ∙ ap (λ ps. line_from (parts_of settings is_later (map word_view ps))) (sym is)
 
 -- ---- the lines of a division
 
@@ -233,18 +209,17 @@ some_lines : (line : List WordText) (lines : List (List WordText))
 some_lines line lines = grind (arith, nat_tests)
 
 parts_from-later : (settings : Settings) (lines : List (List WordText)) (line : List WordText)
-    → parts_from settings true (lines ++ line ∷ [])
-    ≡ parts_from settings true lines ++ parts_of settings true line ∷ []
+    → parts_from settings true (lines ++ line ∷ []) ≡ parts_from settings true lines
+    ++ parts_of settings true line ∷ []
 parts_from-later settings [] line = refl
-parts_from-later settings (first ∷ lines) line =
-    ap (λ ps. parts_of settings true first ∷ ps) (parts_from-later settings lines line)
+parts_from-later settings (first ∷ lines) line = ap (λ ps. parts_of settings true first ∷ ps)
+    (parts_from-later settings lines line)
 
 -- one more line, whose indent depends on whether a line was out before it
 pub parts_from-push : (settings : Settings) (is_later : Bool) (lines : List (List WordText))
     (line : List WordText)
-    → parts_from settings is_later (lines ++ line ∷ [])
-    ≡ parts_from settings is_later lines ++ parts_of settings
-    (cond (nat_lt 0 (length lines)) true is_later) line ∷ []
+    → parts_from settings is_later (lines ++ line ∷ []) ≡ parts_from settings is_later lines
+    ++ parts_of settings (cond (nat_lt 0 (length lines)) true is_later) line ∷ []
 parts_from-push settings is_later [] line = refl
 parts_from-push settings is_later (first ∷ lines) line =
     ap (λ ps. parts_of settings is_later first ∷ ps) (parts_from-later settings lines line)
@@ -258,8 +233,8 @@ length-parts_from settings is_later [] = refl
 length-parts_from settings is_later (line ∷ lines) = ap suc (length-parts_from settings true lines)
 
 -- a line is out where one was out at the start, or one was added
-pub is_later-added : (now before added : ℕ) → now ≡ before + added → nat_lt 0 now
-    ≡ cond (nat_lt 0 added) true (nat_lt 0 before)
+pub is_later-added : (now before added : ℕ) → now ≡ before + added
+    → nat_lt 0 now ≡ cond (nat_lt 0 added) true (nat_lt 0 before)
 is_later-added now before added is = grind (arith, nat_tests)
 
 -- the lines that are out after those of a division
@@ -268,21 +243,12 @@ pub length-is_later : {Z : Type 0} (settings : Settings) (is_later : Bool)
     → map line_view lines ≡ map line_view start ++ map line_from
     (parts_from settings is_later division) → length lines ≡ length start + length division
 length-is_later settings is_later lines start division is =
-    sym (length-map lines line_view) ∙ ap length is
-    ∙ length-append (map line_view start) (map line_from
-    (parts_from settings is_later division))
+    sym (length-map lines line_view) ∙ ap length is ∙ length-append (map line_view start)
+    (map line_from (parts_from settings is_later division))
     ∙ ap (λ n. n + length (map line_from (parts_from settings is_later division)))
     (length-map start line_view)
     ∙ ap (λ n. length start + n) (length-map (parts_from settings is_later division) line_from
     ∙ length-parts_from settings is_later division)
-
--- what the lines began with stays where one is added
-pub start-kept : {X : Type 0} (start lines pushed : List X) (line : X) → take (length start) lines
-    ≡ start → pushed ≡ lines ++ line ∷ [] → take (length start) pushed ≡ start
-start-kept start lines pushed line kept is =
-    let within : length start ≤ length lines =
-    omega (arith, ap length kept, length-take (length start) lines) in
-    ap (take (length start)) is ∙ take-append-le (length start) lines (line ∷ []) within ∙ kept
 
 -- the line of the pieces at i is added
 pub lines-push : {Z D : Type 0} (v : D → List WordText) (settings : Settings) (division : List D)
@@ -290,9 +256,9 @@ pub lines-push : {Z D : Type 0} (v : D → List WordText) (settings : Settings) 
     → i < length division
     → map line_view lines ≡ map line_view start ++ map line_from
     (parts_from settings (nat_lt 0 (length start)) (map v (take i division)))
-    → is_out ≡ nat_lt 0 (length lines) → line_view line
-    ≡ line_from (parts_of settings is_out (v (get_or division i d))) → pushed
-    ≡ lines ++ line ∷ []
+    → is_out ≡ nat_lt 0 (length lines)
+    → line_view line ≡ line_from (parts_of settings is_out (v (get_or division i d)))
+    → pushed ≡ lines ++ line ∷ []
     → map line_view pushed ≡ map line_view start ++ map line_from
     (parts_from settings (nat_lt 0 (length start)) (map v (take (i + 1) division)))
 lines-push v settings division i d start lines pushed line is_out within so_far out_is line_is
@@ -300,8 +266,8 @@ lines-push v settings division i d start lines pushed line is_out within so_far 
     let is_later = nat_lt 0 (length start) in
     let before = map v (take i division) in
     let here = v (get_or division i d) in
-    let same_out : is_out ≡ cond (nat_lt 0 (length before)) true is_later = out_is
-    ∙ is_later-added (length lines) (length start) (length before)
+    let same_out : is_out ≡ cond (nat_lt 0 (length before)) true is_later =
+    out_is ∙ is_later-added (length lines) (length start) (length before)
     (length-is_later settings is_later lines start before so_far) in
     let parts : parts_from settings is_later (map v (take (i + 1) division))
     ≡ parts_from settings is_later before ++ parts_of settings is_out here ∷ [] =
@@ -311,12 +277,13 @@ lines-push v settings division i d start lines pushed line is_out within so_far 
     (sym same_out) in
     ap (map line_view) pushed_is ∙ map_push line_view lines line
     ∙ ap (λ l. l ++ line_view line ∷ []) so_far
-    ∙ ap (λ x. (map line_view start ++ map line_from (parts_from settings is_later before)) ++ x ∷
-    []) line_is
+    ∙ ap (λ x. (map line_view start ++ map line_from (parts_from settings is_later before))
+    ++ x ∷ []) line_is
     ∙ append_assoc (map line_view start) (map line_from (parts_from settings is_later before))
     (line_from (parts_of settings is_out here) ∷ [])
-    ∙ ap (λ l. map line_view start ++ l) (sym (ap (map line_from) parts
-    ∙ map_push line_from (parts_from settings is_later before) (parts_of settings is_out here)))
+    ∙ ap (λ l. map line_view start ++ l)
+    (sym (ap (map line_from) parts ∙ map_push line_from (parts_from settings is_later before)
+    (parts_of settings is_out here)))
 
 pub not_empty : (n m : ℕ) → n ≡ m → not (n == 0) ≡ nat_lt 0 m
 not_empty n m is = grind (arith, nat_tests)
@@ -324,8 +291,8 @@ not_empty n m is = grind (arith, nat_tests)
 -- ---- the lines of a division, where v gives each line's pieces
 
 pub tiled-lines : {D : Type 0} (v : D → List Word) (division : List D)
-    → flat_map (λ line. tiled (map word_view (v line))) division
-    ≡ tiled (map word_view (flat_map (λ line. line) (map v division)))
+    → flat_map (λ line. tiled (map word_view (v line))) division ≡ tiled
+    (map word_view (flat_map (λ line. line) (map v division)))
 tiled-lines v [] = refl
 tiled-lines v (line ∷ lines) =
     let others = flat_map (λ l. l) (map v lines) in
@@ -366,62 +333,57 @@ AreDividedParts-from v settings algorithm separator splitter is_later paragraph 
 
 line_keeping : (pieces : List WordText) (indent tile cover left_off : List ℕ) (last : WordText)
     (preserves : Bool) → indent ≡ [] → HasNoPenalty last
-    → line_from (record {
+    → line_from
+    (record {
       pieces = pieces;
       indent = indent;
-      slice =
-          cond (preserves && (length last.penalty == 0)) tile cover;
-      penalty =
-          last.penalty;
+      slice = cond
+          (preserves && (length last.penalty == 0)) tile cover;
+      penalty = last.penalty;
       left_off = left_off;
     }) ≡ Slice (cond preserves tile cover)
 line_keeping pieces indent tile cover left_off last true none_before none =
-    ap (λ i. line_from (record {
+    ap (λ i. line_from
+    (record {
       pieces = pieces;
       indent = i;
-      slice =
-          cond (true && (length last.penalty == 0)) tile cover;
+      slice = cond
+          (true && (length last.penalty == 0)) tile cover;
       penalty = last.penalty;
-      left_off =
-          left_off;
+      left_off = left_off;
     })) none_before
-    ∙ ap (λ p. line_from (record {
+    ∙ ap (λ p. line_from
+    (record {
       pieces = pieces;
       indent = [];
-      slice =
-          cond (true && (length p == 0)) tile cover;
+      slice = cond (true && (length p == 0)) tile cover;
       penalty = p;
       left_off = left_off;
     })) none
 line_keeping pieces indent tile cover left_off last false none_before none =
-    ap (λ i. line_from (record {
+    ap (λ i. line_from
+    (record {
       pieces = pieces;
       indent = i;
       slice = cover;
-      penalty =
-          last.penalty;
+      penalty = last.penalty;
       left_off = left_off;
     })) none_before
-    ∙ ap (λ p. line_from (record {
-      pieces = pieces;
-      indent = [];
-      slice = cover;
-      penalty =
-          p;
-      left_off = left_off;
-    })) none
+    ∙ ap (λ p. line_from
+    (record { pieces = pieces; indent = []; slice = cover; penalty = p; left_off = left_off }))
+    none
 
 last_piece-no_penalty : (w : WordText) (ws : List WordText) → All HasNoPenalty (w ∷ ws)
     → HasNoPenalty (last_piece w ws)
 last_piece-no_penalty w [] all = All-head HasNoPenalty w [] all
-last_piece-no_penalty w (v ∷ ws) all = last_piece-no_penalty v ws
-    (All-tail HasNoPenalty w (v ∷ ws) all)
+last_piece-no_penalty w (v ∷ ws) all =
+    last_piece-no_penalty v ws (All-tail HasNoPenalty w (v ∷ ws) all)
 
 -- pieces without penalties on a line without indent
 pub line_from-pieces : (settings : Settings) (is_later : Bool) (ws : List WordText)
     → indent_of settings is_later ≡ [] → All HasNoPenalty ws
-    → line_from (parts_of settings is_later ws)
-    ≡ Slice (cond settings.preserve_trailing_space (tiled ws) (covered ws))
+    → line_from (parts_of settings is_later ws) ≡ Slice
+    (cond settings.preserve_trailing_space (tiled ws) (covered ws))
 line_from-pieces settings is_later [] unindented none =
     elim settings.preserve_trailing_space as (λ b. Slice [] ≡ Slice (cond b [] []))
     [ true ↦ refl | false ↦ refl ]
@@ -434,15 +396,14 @@ line_from-pieces settings is_later (w ∷ ws) unindented none =
 whole_unindented : (settings : Settings) (is_later : Bool) (paragraph : List ℕ)
     → is_whole settings is_later paragraph ≡ true → indent_of settings is_later ≡ []
 whole_unindented settings is_later paragraph whole =
-    nil_from_length (indent_of settings is_later)
-    (eqb-true (length (indent_of settings is_later)) 0
+    nil_from_length (indent_of settings is_later) (eqb-true (length (indent_of settings is_later)) 0
     (and_parts (length (indent_of settings is_later) == 0)
     (nat_lt (length paragraph) settings.width) whole).0)
 
 pub line_from-whole : (settings : Settings) (is_later : Bool) (paragraph : List ℕ)
     → is_whole settings is_later paragraph ≡ true
-    → line_from (parts_of settings is_later (word_of paragraph ∷ []))
-    ≡ Slice (cond settings.preserve_trailing_space paragraph (without_final_blanks paragraph))
+    → line_from (parts_of settings is_later (word_of paragraph ∷ [])) ≡ Slice
+    (cond settings.preserve_trailing_space paragraph (without_final_blanks paragraph))
 line_from-whole settings is_later paragraph whole =
     line_from-pieces settings is_later (word_of paragraph ∷ [])
     (whole_unindented settings is_later paragraph whole)
@@ -450,9 +411,8 @@ line_from-whole settings is_later paragraph whole =
     ∙ ap (λ tile. Slice (cond settings.preserve_trailing_space tile
     (without_final_blanks paragraph))) (tiled-word_of paragraph)
 
-pub AreParagraphParts-whole : (settings : Settings)
-    (Divides : List ℕ → List (List WordText) → Type 0) (is_later : Bool) (paragraph : List ℕ)
-    → is_whole settings is_later paragraph ≡ true
+pub AreParagraphParts-whole : (settings : Settings) (Divides : List ℕ → List (List WordText)
+    → Type 0) (is_later : Bool) (paragraph : List ℕ) → is_whole settings is_later paragraph ≡ true
     → AreParagraphParts settings Divides is_later paragraph
     (parts_of settings is_later (word_of paragraph ∷ []) ∷ [])
 AreParagraphParts-whole settings Divides is_later paragraph whole =
@@ -463,29 +423,31 @@ AreParagraphParts-whole settings Divides is_later paragraph whole =
       refl,
     )
 
-pub AreParagraphParts-divided : (settings : Settings)
-    (Divides : List ℕ → List (List WordText) → Type 0) (is_later : Bool) (paragraph : List ℕ)
-    (parts : List LineParts) → is_whole settings is_later paragraph ≡ false
+pub AreParagraphParts-divided : (settings : Settings) (Divides : List ℕ → List (List WordText)
+    → Type 0) (is_later : Bool) (paragraph : List ℕ) (parts : List LineParts)
+    → is_whole settings is_later paragraph ≡ false
     → AreDividedParts settings Divides is_later paragraph parts
     → AreParagraphParts settings Divides is_later paragraph parts
-AreParagraphParts-divided settings Divides is_later paragraph parts longer (division, divided, is) = (
-  division,
-  subst (λ b. MatchBool b (division ≡ (word_of paragraph ∷ []) ∷ [])
-      (Divides paragraph division)) (sym longer) divided,
-  is,
-)
+AreParagraphParts-divided settings Divides is_later paragraph parts longer
+    (division, divided, is) = (
+      division,
+      subst (λ b. MatchBool b (division ≡ (word_of paragraph ∷ []) ∷ [])
+          (Divides paragraph division)) (sym longer) divided,
+      is,
+    )
 
 -- ---- the widths of the pieces
 
-sizes-word_view : (words : List Word) → map (λ word. sizes_of (word_view word)) words
-    ≡ map sizes_of (map word_view words)
+sizes-word_view : (words : List Word) → map (λ word. sizes_of (word_view word)) words ≡ map sizes_of
+    (map word_view words)
 sizes-word_view [] = refl
 sizes-word_view (w ∷ words) = ap (λ l. sizes_of (word_view w) ∷ l) (sizes-word_view words)
 
 -- the widths of a paragraph's pieces together are at most twice its bytes
 pub total_width-pieces : (settings : Settings) (separator : WordSeparator) (splitter : WordSplitter)
-    (paragraph : List ℕ) (words : List Word) → IsUtf8 paragraph → map word_view words
-    ≡ pieces_of settings separator splitter paragraph → Tiles (map word_view words) paragraph
+    (paragraph : List ℕ) (words : List Word) → IsUtf8 paragraph
+    → map word_view words ≡ pieces_of settings separator splitter paragraph
+    → Tiles (map word_view words) paragraph
     → total_width (λ word. sizes_of (word_view word)) words ≤ 2 * length paragraph
 total_width-pieces settings separator splitter paragraph words utf8 is tiles =
     let bounded = subst (All IsBounded) (sym is)

@@ -3,13 +3,12 @@
 use Rattle.std.proofs.Common.{◌≡◌, ℕ, zero, suc, ◌+◌, ◌<◌, ◌≤◌, min, Bool, true, false, cond, ◌==◌}
 use Rattle.std.proofs.Common.{List, [], ◌∷◌, ◌++◌, All, length, get_or, refl, sym, ap, ◌∙◌, subst}
 use Rattle.std.proofs.Common.{arith}
-use Rattle.std.specs.List.{flat_map}
 use Rattle.std.specs.Str.{IsUtf8}
 use Rattle.std.proofs.lemmas.List.{nil_from_length, take_all}
 use Rattle.std.proofs.lemmas.Bool.{eqb-true}
 use Rattle.std.proofs.lemmas.List.Elements.{All-nil, All-cons, All-head, All-append}
 use Rattle.textwrap_base.specs.Breaking.{broken_words}
-use Rattle.textwrap_base.specs.Division.{line_width, closed_width, IsDivision, Fits, AllFit}
+use Rattle.textwrap_base.specs.Division.{line_width, closed_width, Fits, AllFit}
 use Rattle.textwrap_base.specs.Division.{IsGreedy}
 use Rattle.textwrap_base.specs.Units.{text_width}
 use Rattle.textwrap_base.specs.Words.{WordText, sizes_of}
@@ -19,7 +18,8 @@ use Rattle.textwrap.specs.Options.{Settings}
 use Rattle.textwrap.specs.Paragraph.{empty_word, front_pieces, pieces_of, IsDividedInto, widths_of}
 use Rattle.textwrap.specs.Paragraph.{width_after, later_width}
 use Rattle.textwrap.specs.Fuzzing.{IsOneCharacter, OnlyCharactersPass}
-use Rattle.textwrap.proofs.Text.Lossless.{all-left, all-right}
+use Rattle.textwrap_base.proofs.Division.Map.{IsDivision-whole}
+use Rattle.textwrap_base.proofs.ListLemmas.{flat, all-left, all-right}
 use Rattle.textwrap.specs.WordSeparators.{AreSeparated}
 use Rattle.textwrap.specs.WordSplitters.{ArePoints}
 use Rattle.textwrap.specs.declared.word_separators.WordSeparator.{WordSeparator}
@@ -35,9 +35,9 @@ two_fit : (width : ℕ) (w v : WordText) (ws : List WordText) → Fits sizes_of 
     → width < closed_width sizes_of (w ∷ v ∷ ws) → ⊥
 two_fit width w v ws fits past =
     let line = w ∷ v ∷ ws in
-    let within : closed_width sizes_of line ≤ width =
-    subst (λ l. closed_width sizes_of l ≤ width) (take_all (length line) line (omega arith))
-    (fits (length line) (omega arith) (omega arith)) in omega (arith, within, past)
+    let within : closed_width sizes_of line ≤ width = subst (λ l. closed_width sizes_of l ≤ width)
+    (take_all (length line) line (omega arith)) (fits (length line) (omega arith) (omega arith))
+    in omega (arith, within, past)
 
 line_passes : (limit width : ℕ) (line : List WordText) → Fits sizes_of width line → limit ≤ width
     → All (IsTight limit) line → All HasNoPenalty line → width < closed_width sizes_of line
@@ -51,21 +51,18 @@ line_passes limit width (w ∷ v ∷ ws) fits room tight none past =
 
 -- ---- the lines of a division
 
-abbrev joined : List (List WordText) → List WordText
-joined lines = flat_map (λ line. line) lines
-
 lines_pass : (limit : ℕ) (widths : List ℕ) (number : ℕ) (lines : List (List WordText))
     → AllFit sizes_of widths number lines → ((k : ℕ) → number ≤ k → limit ≤ line_width widths k)
-    → All (IsTight limit) (joined lines) → All HasNoPenalty (joined lines)
+    → All (IsTight limit) (flat lines) → All HasNoPenalty (flat lines)
     → OnlyCharactersPass widths number lines
 lines_pass limit widths number [] fit room tight none = tt
 lines_pass limit widths number (line ∷ lines) fit room tight none = (
   line_passes limit (line_width widths number) line fit.0 (room number (omega arith))
-      (all-left (IsTight limit) line (joined lines) tight)
-      (all-left HasNoPenalty line (joined lines) none),
+      (all-left (IsTight limit) line (flat lines) tight)
+      (all-left HasNoPenalty line (flat lines) none),
   lines_pass limit widths (number + 1) lines fit.1 (λ k from. room k (omega (arith, from)))
-      (all-right (IsTight limit) line (joined lines) tight)
-      (all-right HasNoPenalty line (joined lines) none),
+      (all-right (IsTight limit) line (flat lines) tight)
+      (all-right HasNoPenalty line (flat lines) none),
 )
 
 later_is : (first later k : ℕ) → 1 ≤ k → line_width (first ∷ later ∷ []) k ≡ later
@@ -83,34 +80,30 @@ first_passes width (w ∷ []) rest others is fits past =
 first_passes width (w ∷ v ∷ ws) rest others is fits past = two_fit width w v ws fits past
 
 front_passes : (first later : ℕ) (lines : List (List WordText)) (others : List WordText)
-    → joined lines ≡ empty_word ∷ others → AllFit sizes_of (first ∷ later ∷ []) 0 lines
-    → All (IsTight later) (joined lines) → All HasNoPenalty (joined lines)
+    → flat lines ≡ empty_word ∷ others → AllFit sizes_of (first ∷ later ∷ []) 0 lines
+    → All (IsTight later) (flat lines) → All HasNoPenalty (flat lines)
     → OnlyCharactersPass (first ∷ later ∷ []) 0 lines
 front_passes first later [] others is fit tight none = tt
 front_passes first later (line ∷ lines) others is fit tight none = (
   λ past. absurd (first_passes (line_width (first ∷ later ∷ []) 0) line
-      (joined lines) others is fit.0 past),
+      (flat lines) others is fit.0 past),
   lines_pass later (first ∷ later ∷ []) 1 lines fit.1
       (λ k from. let same = later_is first later k from in omega (arith, same))
-      (all-right (IsTight later) line (joined lines) tight)
-      (all-right HasNoPenalty line (joined lines) none),
+      (all-right (IsTight later) line (flat lines) tight)
+      (all-right HasNoPenalty line (flat lines) none),
 )
 
 -- ---- the lines of a paragraph
 
 front-tight : (limit : ℕ) (b : Bool) → All (IsTight limit) (cond b [] (empty_word ∷ []))
 front-tight limit true = All-nil (IsTight limit)
-front-tight limit false = All-cons (IsTight limit) empty_word []
-    (λ wide. absurd (omega (arith, wide))) (All-nil (IsTight limit))
-
-division_joined : (pieces : List WordText) (lines : List (List WordText)) → IsDivision pieces lines
-    → joined lines ≡ pieces
-division_joined [] lines is = ap joined is
-division_joined (w ∷ ws) lines is = is.0
+front-tight limit false =
+    All-cons (IsTight limit) empty_word [] (λ wide. absurd (omega (arith, wide)))
+    (All-nil (IsTight limit))
 
 pub long_lines : (settings : Settings) (separator : WordSeparator) (splitter : WordSplitter)
-    (paragraph : List ℕ) (division : List (List WordText)) → IsUtf8 paragraph → settings.break_words
-    ≡ true
+    (paragraph : List ℕ) (division : List (List WordText)) → IsUtf8 paragraph
+    → settings.break_words ≡ true
     → IsDividedInto settings (AreSeparated separator) (ArePoints splitter) Greedy paragraph division
     → OnlyCharactersPass (widths_of settings) 0 division
 long_lines settings separator splitter paragraph division utf8 breaks (pieces, are, greedy_pieces) =
@@ -127,18 +120,17 @@ long_lines settings separator splitter paragraph division utf8 breaks (pieces, a
     broken : List WordText
     broken = broken_words (later_width settings) (split_pieces_of separator splitter paragraph)
 
-    pieces_are : pieces_of settings separator splitter paragraph
-        ≡ front_pieces settings ++ broken_words (later_width settings)
-        (split_pieces_of separator splitter paragraph)
+    pieces_are : pieces_of settings separator splitter paragraph ≡ front_pieces settings
+        ++ broken_words (later_width settings) (split_pieces_of separator splitter paragraph)
     pieces_are = ap (λ b. cond b (front_pieces settings ++ broken_words (later_width settings)
         (split_pieces_of separator splitter paragraph))
         (split_pieces_of separator splitter paragraph)) breaks
 
-    whole : joined division ≡ pieces_of settings separator splitter paragraph
-    whole = division_joined (pieces_of settings separator splitter paragraph) division
+    whole : flat division ≡ pieces_of settings separator splitter paragraph
+    whole = IsDivision-whole (pieces_of settings separator splitter paragraph) division
         greedy.admissible.division
 
-    tight : All (IsTight (later_width settings)) (joined division)
+    tight : All (IsTight (later_width settings)) (flat division)
     tight =
         subst (All (IsTight (later_width settings))) (sym (whole ∙ pieces_are))
         (All-append (IsTight (later_width settings)) (front_pieces settings) broken
@@ -146,7 +138,7 @@ long_lines settings separator splitter paragraph division utf8 breaks (pieces, a
         (broken_words-tight (later_width settings) (split_pieces_of separator splitter paragraph)
         (split_pieces_of-measured separator splitter paragraph utf8)))
 
-    none : All HasNoPenalty (joined division)
+    none : All HasNoPenalty (flat division)
     none = subst (All HasNoPenalty) (sym whole)
         (pieces_of-no_penalty settings separator splitter paragraph)
 

@@ -47,17 +47,18 @@ use Rattle.textwrap.proofs.Word.Splitting.{points_of-cuts, tiled-split_words}
 
 pub given-first : {S A B : Type 0} (v : A → B) (rest : S → List B) (s : S) (all : List B)
     (xs : List A) → Drains (YieldsFirstBy v rest) s xs → rest s ≡ all → map v xs ≡ all
-given-first v rest s all xs drained is = items_from_drains {steps = YieldsFirstBy v rest} {v =
-    v} {s = s} {all = all} xs (drained.1.0, drained.1.1, λ _. (drained.0, drained.1.2))
+given-first v rest s all xs drained is =
+    items_from_drains {steps = YieldsFirstBy v rest} {v = v} {s = s} {all = all} xs
+    (drained.1.0, drained.1.1, λ _. (drained.0, drained.1.2))
     (YieldsList-from_first v rest all is)
 
 pub given-vec : {A Z : Type 0} (it : IntoIter A Z) (items xs : List A)
-    → Drains (into_iter_steps {X = A} {Z = Z}) it xs → into_iter_items it ≡ items → into_iter_len it
-    ≡ length items → xs ≡ items
+    → Drains (into_iter_steps {X = A} {Z = Z}) it xs → into_iter_items it ≡ items
+    → into_iter_len it ≡ length items → xs ≡ items
 given-vec {A} {Z} it items xs drained is len =
     sym (map-id xs)
-    ∙ items_from_drains {steps = into_iter_steps {X = A} {Z = Z}} {v = λ y. y} {s = it} {all =
-    items} xs (drained.1.0, drained.1.1, λ _. (drained.0, drained.1.2))
+    ∙ items_from_drains {steps = into_iter_steps {X = A} {Z = Z}} {v = λ y.
+    y} {s = it} {all = items} xs (drained.1.0, drained.1.1, λ _. (drained.0, drained.1.2))
     (YieldsList-from_vec items is len)
 
 pub word_of-nil : word_of [] ≡ empty_word
@@ -82,8 +83,8 @@ AreSplit-is : (splitter : WordSplitter) (words pieces : List WordText)
     → AreSplit (ArePoints splitter) words pieces → pieces ≡ split_words splitter words
 AreSplit-is splitter [] pieces are = are
 AreSplit-is splitter (w ∷ words) pieces (points, rest, points_are, rest_are, is) =
-    is ∙ ap (λ ps. split_pieces ps w ++ rest) points_are
-    ∙ ap (λ l. split_word splitter w ++ l) (AreSplit-is splitter words rest rest_are)
+    is ∙ ap (λ ps. split_pieces ps w ++ rest) points_are ∙ ap (λ l. split_word splitter w ++ l)
+    (AreSplit-is splitter words rest rest_are)
 
 AreSplit-computed : (splitter : WordSplitter) (words : List WordText)
     → AreSplit (ArePoints splitter) words (split_words splitter words)
@@ -98,8 +99,8 @@ AreSplit-computed splitter (w ∷ words) = (
 
 pub ArePieces-is : (settings : Settings) (separator : WordSeparator) (splitter : WordSplitter)
     (paragraph : List ℕ) (pieces : List WordText)
-    → ArePieces settings (AreSeparated separator) (ArePoints splitter) paragraph pieces → pieces
-    ≡ pieces_of settings separator splitter paragraph
+    → ArePieces settings (AreSeparated separator) (ArePoints splitter) paragraph pieces
+    → pieces ≡ pieces_of settings separator splitter paragraph
 ArePieces-is settings separator splitter paragraph pieces (words, split, words_are, split_are, is) =
     is ∙ ap (broken_pieces_of settings) (AreSplit-is splitter words split split_are
     ∙ ap (split_words splitter) (AreSeparated-is separator paragraph words words_are))
@@ -145,21 +146,19 @@ split_from-measured w start [] measured at in_order cuts before =
     (record {
       utf8 = IsUtf8-drop w.word start measured.utf8 at;
       width = refl;
-      ending =
-          record { blanks = measured.ending.blanks; none = measured.ending.none };
+      ending = record { blanks = measured.ending.blanks; none = measured.ending.none };
     })
     (All-nil IsMeasured)
 split_from-measured w start (point ∷ points) measured at in_order cuts before =
-    let later : IsNonDecreasing points = λ i j d le lt.
-    in_order (suc i) (suc j) d (omega arith) (omega arith) in
+    let later : IsNonDecreasing points = λ i j d le lt. in_order (suc i) (suc j) d (omega arith)
+    (omega arith) in
     let next : IsCharBoundary w.word point = All-head (IsCharBoundary w.word) point points cuts in
     let first : IsMeasured (piece (slice_range w.word start point) [] (cut_penalty w.word point)) =
     record {
       utf8 = IsUtf8-between w.word start point measured.utf8
           (before 0 (omega arith)) at next;
       width = refl;
-      ending =
-          record { blanks = All-nil (λ c. is_blank c ≡ true); none = λ _. refl };
+      ending = record { blanks = All-nil (λ c. is_blank c ≡ true); none = λ _. refl };
     } in
     All-cons IsMeasured (piece (slice_range w.word start point) [] (cut_penalty w.word point))
     (split_from w point points) first
@@ -181,8 +180,8 @@ split_words-measured splitter (w ∷ words) all =
     (split_words-measured splitter words (All-tail IsMeasured w words all))
 
 pub split_pieces_of-measured : (separator : WordSeparator) (splitter : WordSplitter)
-    (paragraph : List ℕ) → IsUtf8 paragraph → All IsMeasured
-    (split_pieces_of separator splitter paragraph)
+    (paragraph : List ℕ) → IsUtf8 paragraph
+    → All IsMeasured (split_pieces_of separator splitter paragraph)
 split_pieces_of-measured separator splitter paragraph utf8 =
     split_words-measured splitter (separated_words separator paragraph)
     (separated-measured separator paragraph utf8)
@@ -193,8 +192,9 @@ tiled-split_pieces_of : (separator : WordSeparator) (splitter : WordSplitter) (p
     → IsUtf8 paragraph → tiled (split_pieces_of separator splitter paragraph) ≡ paragraph
 tiled-split_pieces_of separator splitter paragraph utf8 =
     let words = separated_words separator paragraph in
-    tiled-split_words splitter words (All-weaker IsMeasured (λ w. IsUtf8 w.word)
-    (λ w measured. measured.utf8) words (separated-measured separator paragraph utf8))
+    tiled-split_words splitter words
+    (All-weaker IsMeasured (λ w. IsUtf8 w.word) (λ w measured. measured.utf8) words
+    (separated-measured separator paragraph utf8))
     ∙ tiled-separated separator paragraph
 
 pub wide-some : (limit : ℕ) (w : WordText) → IsMeasured w → limit < w.width → w.word ≢ []
@@ -202,15 +202,15 @@ wide-some limit w measured wide none = let nothing : w.width ≡ 0 = measured.wi
     ∙ ap text_width none ∙ text_width-nil in omega arith
 
 tiled-broken : (settings : Settings) (separator : WordSeparator) (splitter : WordSplitter)
-    (paragraph : List ℕ) → IsUtf8 paragraph → tiled
-    (broken_words (later_width settings) (split_pieces_of separator splitter paragraph))
+    (paragraph : List ℕ) → IsUtf8 paragraph
+    → tiled (broken_words (later_width settings) (split_pieces_of separator splitter paragraph))
     ≡ paragraph
 tiled-broken settings separator splitter paragraph utf8 =
     let words = split_pieces_of separator splitter paragraph in
     let limit = later_width settings in
     let measured = split_pieces_of-measured separator splitter paragraph utf8 in
-    tiled-broken_words limit words (All-weaker IsMeasured (λ w. IsUtf8 w.word)
-    (λ w m. m.utf8) words measured)
+    tiled-broken_words limit words
+    (All-weaker IsMeasured (λ w. IsUtf8 w.word) (λ w m. m.utf8) words measured)
     (All-weaker IsMeasured (λ w. limit < w.width → w.word ≢ [])
     (λ w m. wide-some limit w m) words measured)
     ∙ tiled-split_pieces_of separator splitter paragraph utf8
@@ -220,8 +220,8 @@ tiled-front true = refl
 tiled-front false = refl
 
 pub pieces_of-tile : (settings : Settings) (separator : WordSeparator) (splitter : WordSplitter)
-    (paragraph : List ℕ) → IsUtf8 paragraph → tiled
-    (pieces_of settings separator splitter paragraph) ≡ paragraph
+    (paragraph : List ℕ) → IsUtf8 paragraph
+    → tiled (pieces_of settings separator splitter paragraph) ≡ paragraph
 pieces_of-tile settings separator splitter paragraph utf8 =
     let split = split_pieces_of separator splitter paragraph in
     let broken = broken_words (later_width settings) split in
@@ -242,13 +242,12 @@ front-measured false = All-cons IsMeasured empty_word []
     (record {
       utf8 = IsUtf8-nil;
       width = sym text_width-nil;
-      ending =
-          record { blanks = no_blanks; none = λ _. refl };
+      ending = record { blanks = no_blanks; none = λ _. refl };
     }) (All-nil IsMeasured)
 
 pub pieces_of-measured : (settings : Settings) (separator : WordSeparator) (splitter : WordSplitter)
-    (paragraph : List ℕ) → IsUtf8 paragraph → All IsMeasured
-    (pieces_of settings separator splitter paragraph)
+    (paragraph : List ℕ) → IsUtf8 paragraph
+    → All IsMeasured (pieces_of settings separator splitter paragraph)
 pieces_of-measured settings separator splitter paragraph utf8 =
     let split = split_pieces_of separator splitter paragraph in
     let broken = broken_words (later_width settings) split in
@@ -262,8 +261,8 @@ pieces_of-measured settings separator splitter paragraph utf8 =
     ]
 
 pub pieces_of-blanks : (settings : Settings) (separator : WordSeparator) (splitter : WordSplitter)
-    (paragraph : List ℕ) → IsUtf8 paragraph → All EndsInBlanks
-    (pieces_of settings separator splitter paragraph)
+    (paragraph : List ℕ) → IsUtf8 paragraph
+    → All EndsInBlanks (pieces_of settings separator splitter paragraph)
 pieces_of-blanks settings separator splitter paragraph utf8 =
     All-weaker IsMeasured EndsInBlanks (λ w measured. measured.ending)
     (pieces_of settings separator splitter paragraph)
@@ -279,20 +278,21 @@ separated-no_penalty AsciiSpace line = All-map HasNoPenalty word_of (chunks line
 points_of-hyphens : (splitter : WordSplitter) (text : List ℕ)
     → All (λ p. ends_in_hyphen (take p text) ≡ true) (points_of splitter text)
 points_of-hyphens NoHyphenation text = All-nil (λ p. ends_in_hyphen (take p text) ≡ true)
-points_of-hyphens HyphenSplitter text = λ k d lt.
-    (and_parts _ _ (and_parts _ _ (filter_passes (is_hyphen_point text)
-    (inner_offsets text) k d lt)).0).0
+points_of-hyphens HyphenSplitter text =
+    λ k d lt. (and_parts _ _ (and_parts _ _
+    (filter_passes (is_hyphen_point text) (inner_offsets text) k d lt)).0).0
 
 split_from-no_penalty : (w : WordText) (start : ℕ) (points : List ℕ) → HasNoPenalty w
     → All (λ p. ends_in_hyphen (take p w.word) ≡ true) points
     → All HasNoPenalty (split_from w start points)
-split_from-no_penalty w start [] none ends = All-cons HasNoPenalty
-    (piece (drop start w.word) w.whitespace w.penalty) [] none (All-nil HasNoPenalty)
+split_from-no_penalty w start [] none ends =
+    All-cons HasNoPenalty (piece (drop start w.word) w.whitespace w.penalty) [] none
+    (All-nil HasNoPenalty)
 split_from-no_penalty w start (point ∷ points) none ends =
     All-cons HasNoPenalty (piece (slice_range w.word start point) [] (cut_penalty w.word point))
     (split_from w point points)
-    (ap (λ b. cond b [] (hyphen ∷ [])) (All-head
-    (λ p. ends_in_hyphen (take p w.word) ≡ true) point points ends))
+    (ap (λ b. cond b [] (hyphen ∷ []))
+    (All-head (λ p. ends_in_hyphen (take p w.word) ≡ true) point points ends))
     (split_from-no_penalty w point points none
     (All-tail (λ p. ends_in_hyphen (take p w.word) ≡ true) point points ends))
 
@@ -326,8 +326,8 @@ pieces_of-no_penalty settings separator splitter paragraph =
     ]
 
 pub pieces_of-bounded : (settings : Settings) (separator : WordSeparator) (splitter : WordSplitter)
-    (paragraph : List ℕ) → IsUtf8 paragraph → All IsBounded
-    (pieces_of settings separator splitter paragraph)
+    (paragraph : List ℕ) → IsUtf8 paragraph
+    → All IsBounded (pieces_of settings separator splitter paragraph)
 pieces_of-bounded settings separator splitter paragraph utf8 =
     let measured = pieces_of-measured settings separator splitter paragraph utf8 in
     let none = pieces_of-no_penalty settings separator splitter paragraph in
@@ -338,16 +338,16 @@ pieces_of-bounded settings separator splitter paragraph utf8 =
 module _ (settings : Settings) (algorithm : Algorithm) (separator : WordSeparator)
     (splitter : WordSplitter) where
   pub IsDividedInto-whole : (paragraph : List ℕ) (division : List (List WordText))
-      → IsDividedInto settings (AreSeparated separator)
-      (ArePoints splitter) algorithm paragraph division
+      → IsDividedInto settings (AreSeparated separator) (ArePoints splitter) algorithm paragraph
+      division
       → flat_map (λ line. line) division ≡ pieces_of settings separator splitter paragraph
   IsDividedInto-whole paragraph division (pieces, are, divided) =
       IsDividedBy-whole sizes_of algorithm (widths_of settings) pieces division divided
       ∙ ArePieces-is settings separator splitter paragraph pieces are
 
   pub IsDividedInto-tile : (paragraph : List ℕ) (division : List (List WordText)) → IsUtf8 paragraph
-      → IsDividedInto settings (AreSeparated separator)
-      (ArePoints splitter) algorithm paragraph division
+      → IsDividedInto settings (AreSeparated separator) (ArePoints splitter) algorithm paragraph
+      division
       → tiled (flat_map (λ line. line) division) ≡ paragraph
   IsDividedInto-tile paragraph division utf8 divided =
       ap tiled (IsDividedInto-whole paragraph division divided)

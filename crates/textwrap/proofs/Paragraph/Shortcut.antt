@@ -22,7 +22,7 @@ use Rattle.textwrap.specs.Paragraph.{Line, LineParts, Slice, line_from, covered,
 use Rattle.textwrap.specs.Paragraph.{parts_of, pieces_of, widths_of, width_after, is_whole}
 use Rattle.textwrap.specs.Paragraph.{parts_from, IsDividedInto, AreDividedParts, AreParagraphParts}
 use Rattle.textwrap.proofs.Paragraph.LastBlanks.{covered-pieces_of}
-use Rattle.textwrap.proofs.Text.Lossless.{all-left, all-right}
+use Rattle.textwrap_base.proofs.ListLemmas.{all-left, all-right}
 use Rattle.textwrap.proofs.Paragraph.Lines.{line_from-pieces, line_from-whole}
 use Rattle.textwrap.specs.WordSeparators.{AreSeparated}
 use Rattle.textwrap.specs.WordSplitters.{ArePoints}
@@ -39,10 +39,10 @@ IsNarrowChar c = columns c ≤ length (encode_utf8 c)
 
 blanks-ascii : (bytes : List ℕ) → AreBlanks bytes → IsAscii bytes
 blanks-ascii [] blanks i = omega arith
-blanks-ascii (c ∷ cs) blanks zero = let is = eqb-true c 32
-    (All-head (λ d. is_blank d ≡ true) c cs blanks) in omega (arith, is)
-blanks-ascii (c ∷ cs) blanks (suc i) = blanks-ascii cs
-    (All-tail (λ d. is_blank d ≡ true) c cs blanks) i
+blanks-ascii (c ∷ cs) blanks zero = let is =
+    eqb-true c 32 (All-head (λ d. is_blank d ≡ true) c cs blanks) in omega (arith, is)
+blanks-ascii (c ∷ cs) blanks (suc i) =
+    blanks-ascii cs (All-tail (λ d. is_blank d ≡ true) c cs blanks) i
 
 narrow_words : (ws : List WordText) → All IsMeasured ws → All HasNoPenalty ws → IsNarrow (tiled ws)
     → All IsNarrowWord ws
@@ -52,7 +52,8 @@ narrow_words (w ∷ ws) measured none narrow =
     let parts : chars (tiled (w ∷ ws)) ≡ chars w.word ++ (chars w.whitespace ++ chars (tiled ws)) =
     ap chars (append_assoc w.word w.whitespace (tiled ws))
     ∙ chars-append w.word (w.whitespace ++ tiled ws) here.utf8
-    ∙ ap (λ cs. chars w.word ++ cs) (chars-append w.whitespace (tiled ws)
+    ∙ ap (λ cs. chars w.word ++ cs)
+    (chars-append w.whitespace (tiled ws)
     (IsUtf8-from_ascii w.whitespace (blanks-ascii w.whitespace here.ending.blanks))) in
     let all : All IsNarrowChar (chars w.word ++ (chars w.whitespace ++ chars (tiled ws))) =
     subst (All IsNarrowChar) parts narrow in
@@ -60,11 +61,10 @@ narrow_words (w ∷ ws) measured none narrow =
     (all-left IsNarrowChar (chars w.word) (chars w.whitespace ++ chars (tiled ws)) all) in
     let rest = all-right IsNarrowChar (chars w.whitespace) (chars (tiled ws))
     (all-right IsNarrowChar (chars w.word) (chars w.whitespace ++ chars (tiled ws)) all) in
-    All-cons IsNarrowWord w ws (record {
-      width =
-          subst (λ n. n ≤ length w.word) (sym here.width) word;
-      penalty =
-          All-head HasNoPenalty w ws none;
+    All-cons IsNarrowWord w ws
+    (record {
+      width = subst (λ n. n ≤ length w.word) (sym here.width) word;
+      penalty = All-head HasNoPenalty w ws none;
     })
     (narrow_words ws (All-tail IsMeasured w ws measured) (All-tail HasNoPenalty w ws none) rest)
 
@@ -83,12 +83,13 @@ closed-pieces_of settings separator splitter paragraph utf8 narrow =
 
 -- the line of all pieces, by whether its last whitespace is kept
 same_slice : (settings : Settings) (separator : WordSeparator) (splitter : WordSplitter)
-    (paragraph : List ℕ) (keeps : Bool) → tiled (pieces_of settings separator splitter paragraph)
-    ≡ paragraph → covered (pieces_of settings separator splitter paragraph)
+    (paragraph : List ℕ) (keeps : Bool)
+    → tiled (pieces_of settings separator splitter paragraph) ≡ paragraph
+    → covered (pieces_of settings separator splitter paragraph)
     ≡ without_final_blanks paragraph
     → cond keeps (tiled (pieces_of settings separator splitter paragraph))
-    (covered (pieces_of settings separator splitter paragraph))
-    ≡ cond keeps paragraph (without_final_blanks paragraph)
+    (covered (pieces_of settings separator splitter paragraph)) ≡ cond keeps paragraph
+    (without_final_blanks paragraph)
 same_slice settings separator splitter paragraph true tile covers = tile
 same_slice settings separator splitter paragraph false tile covers = covers
 
@@ -118,10 +119,10 @@ module _ (settings : Settings) (algorithm : Algorithm) (separator : WordSeparato
       paragraph parts × (map line_from parts ≡ lines)
 
   whole-divided : (is_later : Bool) (paragraph : List ℕ) → IsUtf8 paragraph
-      → settings.initial_indent ≡ [] → IsNarrow paragraph → is_whole settings is_later paragraph
-      ≡ true
-      → HasDividedLines is_later paragraph (line_from
-      (parts_of settings is_later (word_of paragraph ∷ [])) ∷ [])
+      → settings.initial_indent ≡ [] → IsNarrow paragraph
+      → is_whole settings is_later paragraph ≡ true
+      → HasDividedLines is_later paragraph
+      (line_from (parts_of settings is_later (word_of paragraph ∷ [])) ∷ [])
   whole-divided is_later paragraph utf8 unindented narrow whole =
       let pieces = pieces_of settings separator splitter paragraph in
       let tests = and_parts (length (indent_of settings is_later) == 0)
@@ -135,8 +136,8 @@ module _ (settings : Settings) (algorithm : Algorithm) (separator : WordSeparato
       (let closed = closed-pieces_of settings separator splitter paragraph utf8 narrow in
       omega (arith, closed, shorter, narrower)) in
       let none = All-weaker HasNoPenalty (λ w. length w.penalty ≡ 0)
-      (λ w none. ap length none) pieces (pieces_of-no_penalty settings separator splitter
-      paragraph) in (
+      (λ w none. ap length none) pieces
+      (pieces_of-no_penalty settings separator splitter paragraph) in (
         parts_of settings is_later pieces ∷ [],
         (
           pieces ∷ [],

@@ -25,8 +25,8 @@ starts_with-true ending xs rest is =
     (bytes_eq-Decides ending (take (length ending) xs)).1
     (sym (ap (take (length ending)) is ∙ take_at ending rest (length ending) refl))
 
-starts_with-rest : (ending xs : List ℕ) → starts_with nat_eq xs ending ≡ true → xs
-    ≡ ending ++ drop (length ending) xs
+starts_with-rest : (ending xs : List ℕ) → starts_with nat_eq xs ending ≡ true
+    → xs ≡ ending ++ drop (length ending) xs
 starts_with-rest ending xs starts =
     sym (take-append-drop (length ending) xs) ∙ ap (λ l. l ++ drop (length ending) xs)
     (sym ((bytes_eq-Decides ending (take (length ending) xs)).0 starts))
@@ -36,8 +36,8 @@ starts_with-false : (ending xs : List ℕ) → ((rest : List ℕ) → xs ≢ end
 starts_with-false ending xs lacks = false_from_ne_true (starts_with nat_eq xs ending)
     (λ starts. lacks (drop (length ending) xs) (starts_with-rest ending xs starts))
 
-parts_past-skip : (ending : List ℕ) (n : ℕ) (cs : List ℕ) → parts_past ending n cs
-    ≡ parts_past ending 0 (drop n cs)
+parts_past-skip : (ending : List ℕ) (n : ℕ) (cs : List ℕ)
+    → parts_past ending n cs ≡ parts_past ending 0 (drop n cs)
 parts_past-skip ending zero cs = refl
 parts_past-skip ending (suc n) [] = refl
 parts_past-skip ending (suc n) (c ∷ cs) = parts_past-skip ending n cs
@@ -51,8 +51,8 @@ drop-ending (e ∷ es) c cs some = let same : suc (length es) - 1 ≡ length es 
 
 -- the first part goes up to the first ending
 pub parts_past-first : (ending s rest : List ℕ) (i : ℕ) → 0 < length ending
-    → ((k : ℕ) → k < i → (others : List ℕ) → drop k s ≢ ending ++ others) → i ≤ length s → drop i s
-    ≡ ending ++ rest
+    → ((k : ℕ) → k < i → (others : List ℕ) → drop k s ≢ ending ++ others) → i ≤ length s
+    → drop i s ≡ ending ++ rest
     → parts_past ending 0 s ≡ take i s ∷ parts_past ending 0 rest
 parts_past-first ending [] rest i some before within here =
     absurd (omega (arith, ap length here, length-append ending rest, length-drop {A = ℕ} i []))
@@ -70,8 +70,9 @@ parts_past-first ending (c ∷ cs) rest (suc i) some before within here =
     (λ k below. before (suc k) (omega arith)) (omega arith) here)
 
 -- without an ending there is one part
-pub parts_past-none : (ending s : List ℕ) → ((k : ℕ) → k ≤ length s → (others : List ℕ)
-    → drop k s ≢ ending ++ others) → parts_past ending 0 s ≡ s ∷ []
+pub parts_past-none : (ending s : List ℕ)
+    → ((k : ℕ) → k ≤ length s → (others : List ℕ) → drop k s ≢ ending ++ others)
+    → parts_past ending 0 s ≡ s ∷ []
 parts_past-none ending [] lacks = refl
 parts_past-none ending (c ∷ cs) lacks =
     ap (λ b. cond b ([] ∷ parts_past ending (length ending - 1) cs)
@@ -88,8 +89,8 @@ onto_first-some c (part ∷ parts) = omega arith
 pub parts_past-some : (ending : List ℕ) (n : ℕ) (cs : List ℕ) → 0 < length (parts_past ending n cs)
 parts_past-some ending n [] = omega arith
 parts_past-some ending zero (c ∷ cs) =
-    elim (starts_with nat_eq (c ∷ cs) ending) as (λ b.
-    0 < length (cond b ([] ∷ parts_past ending (length ending - 1) cs)
+    elim (starts_with nat_eq (c ∷ cs) ending) as (λ b. 0 < length
+    (cond b ([] ∷ parts_past ending (length ending - 1) cs)
     (onto_first c (parts_past ending 0 cs)))) [
       | true ↦ omega arith
       | false ↦ onto_first-some c (parts_past ending 0 cs)
@@ -142,10 +143,10 @@ after_ascii (c ∷ front) rest ascii utf8 =
 utf8-cut : (ending : List ℕ) → 0 < length ending → All (λ c. c < 128) ending
     → (before : List ℕ) (c : ℕ) (cs : List ℕ) → IsUtf8 (before ++ c ∷ cs) → (b : Bool)
     → starts_with nat_eq (c ∷ cs) ending ≡ b
-    → (IsUtf8 (drop (length ending - 1) cs) → All IsUtf8
-    (onto_front [] (parts_past ending (length ending - 1) cs)))
-    → (IsUtf8 ((before ++ c ∷ []) ++ cs) → All IsUtf8
-    (onto_front (before ++ c ∷ []) (parts_past ending 0 cs)))
+    → (IsUtf8 (drop (length ending - 1) cs)
+    → All IsUtf8 (onto_front [] (parts_past ending (length ending - 1) cs)))
+    → (IsUtf8 ((before ++ c ∷ []) ++ cs)
+    → All IsUtf8 (onto_front (before ++ c ∷ []) (parts_past ending 0 cs)))
     → All IsUtf8 (onto_front before (cond b ([] ∷ parts_past ending (length ending - 1) cs)
     (onto_first c (parts_past ending 0 cs))))
 utf8-cut ending some ascii before c cs utf8 true starts after joined =
@@ -155,8 +156,7 @@ utf8-cut ending some ascii before c cs utf8 true starts after joined =
     ∙ get_or_append_left ending rest 0 0 some in
     let low : get_or ending 0 0 < 128 = ascii 0 0 some in
     let seam = ascii_seam before cs c utf8 (omega arith) in
-    let back : IsUtf8 (drop (length ending - 1) cs) =
-    subst IsUtf8 (drop-ending ending c cs some)
+    let back : IsUtf8 (drop (length ending - 1) cs) = subst IsUtf8 (drop-ending ending c cs some)
     (after_ascii ending rest ascii (subst IsUtf8 is seam.from)) in
     All-cons IsUtf8 (before ++ []) (parts_past ending (length ending - 1) cs)
     (subst IsUtf8 (sym (append-nil before)) seam.front)
@@ -193,5 +193,5 @@ paragraphs_of-utf8 ending text utf8 =
 
 pub join-paragraphs_of : (ending : LineEnding) (text : List ℕ)
     → join_with (ending_bytes ending) (paragraphs_of ending text) ≡ text
-join-paragraphs_of ending text = join-parts_past (ending_bytes ending)
-    (ending_bytes-some ending) 0 text
+join-paragraphs_of ending text =
+    join-parts_past (ending_bytes ending) (ending_bytes-some ending) 0 text

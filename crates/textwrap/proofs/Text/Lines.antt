@@ -25,8 +25,8 @@ use Rattle.textwrap.proofs.Paragraph.Lines.{line_from-whole, AreParagraphParts-w
 
 -- ---- joined lines
 
-pub line_bytes-line_view : {Z : Type 0} (line : CowStr Z) → line_bytes (line_view line)
-    ≡ cow_str_bytes line
+pub line_bytes-line_view : {Z : Type 0} (line : CowStr Z)
+    → line_bytes (line_view line) ≡ cow_str_bytes line
 line_bytes-line_view (Borrowed slice) = refl
 line_bytes-line_view (Owned built) = refl
 
@@ -41,11 +41,11 @@ join-push separator x (z ∷ xs) y =
 
 views-take : {Z : Type 0} (lines : List (CowStr Z)) (i : ℕ) (line : CowStr Z) → i < length lines
     → line ≡ get_or lines i line
-    → map line_bytes (map line_view (take (i + 1) lines))
-    ≡ map line_bytes (map line_view (take i lines)) ++ cow_str_bytes line ∷ []
+    → map line_bytes (map line_view (take (i + 1) lines)) ≡ map line_bytes
+    (map line_view (take i lines)) ++ cow_str_bytes line ∷ []
 views-take lines i line within is =
-    ap (λ l. map line_bytes (map line_view l))
-    (take_more lines i line within ∙ ap (λ x. take i lines ++ x ∷ []) (sym is))
+    ap (λ l. map line_bytes (map line_view l)) (take_more lines i line within
+    ∙ ap (λ x. take i lines ++ x ∷ []) (sym is))
     ∙ ap (map line_bytes) (map-append line_view (take i lines) (line ∷ []))
     ∙ map-append line_bytes (map line_view (take i lines)) (line_view line ∷ [])
     ∙ ap (λ x. map line_bytes (map line_view (take i lines)) ++ x ∷ []) (line_bytes-line_view line)
@@ -60,9 +60,9 @@ join-take_first separator lines i line within is first =
 
 pub join-take_more : {Z : Type 0} (separator : List ℕ) (lines : List (CowStr Z)) (i : ℕ)
     (line : CowStr Z) → i < length lines → line ≡ get_or lines i line → 0 < i
-    → join_with separator (map line_bytes (map line_view (take (i + 1) lines)))
-    ≡ (join_with separator (map line_bytes (map line_view (take i lines))) ++ separator) ++
-    cow_str_bytes line
+    → join_with separator (map line_bytes (map line_view (take (i + 1) lines))) ≡
+    (join_with separator (map line_bytes (map line_view (take i lines))) ++ separator)
+    ++ cow_str_bytes line
 join-take_more separator [] i line within is more = absurd (omega arith)
 join-take_more separator (first ∷ lines) zero line within is more = absurd (omega arith)
 join-take_more separator (first ∷ lines) (suc i) line within is more =
@@ -92,32 +92,32 @@ module _ (settings : Settings) (Divides : List ℕ → List (List WordText) → 
         → AreGroups settings Divides false (paragraphs_of settings.line_ending text)
         (groups ++ others)
 
-  pub HasGroups-start : (text : List ℕ) → HasGroups text []
-      (paragraphs_of settings.line_ending text)
+  pub HasGroups-start : (text : List ℕ)
+      → HasGroups text [] (paragraphs_of settings.line_ending text)
   HasGroups-start text = record { groups = []; given = refl; more = λ others defined. defined }
 
   lines_from-push : (groups : List (List LineParts)) (parts : List LineParts)
-      → map line_from (flat_map (λ ps. ps) (groups ++ parts ∷ []))
-      ≡ map line_from (flat_map (λ ps. ps) groups) ++ map line_from parts
+      → map line_from (flat_map (λ ps. ps) (groups ++ parts ∷ [])) ≡ map line_from
+      (flat_map (λ ps. ps) groups) ++ map line_from parts
   lines_from-push groups parts =
       ap (map line_from) (flat_map-append (λ (ps : List LineParts). ps) groups (parts ∷ [])
       ∙ ap (λ ps. flat_map (λ p. p) groups ++ ps) (append-nil parts))
       ∙ map-append line_from (flat_map (λ p. p) groups) parts
 
   -- a line is out where one was out, or one was added
-  is_later-or : (now before added : ℕ) → now ≡ before + added → nat_lt 0 now
-      ≡ nat_lt 0 before || nat_lt 0 added
+  is_later-or : (now before added : ℕ) → now ≡ before + added
+      → nat_lt 0 now ≡ nat_lt 0 before || nat_lt 0 added
   is_later-or now before added is = grind (arith, nat_tests)
 
   pub HasGroups-more : (text : List ℕ) (lines more : List Line) (left after : List (List ℕ))
       (paragraph : List ℕ) (parts : List LineParts) → HasGroups text lines left
-      → left ≡ paragraph ∷ after → AreParagraphParts settings Divides
-      (nat_lt 0 (length lines)) paragraph parts → more ≡ lines ++ map line_from parts
-      → HasGroups text more after
+      → left ≡ paragraph ∷ after
+      → AreParagraphParts settings Divides (nat_lt 0 (length lines)) paragraph parts
+      → more ≡ lines ++ map line_from parts → HasGroups text more after
   HasGroups-more text lines more left after paragraph parts so_far left_is defined more_is =
       let is_later : nat_lt 0 (length more) ≡ nat_lt 0 (length lines) || nat_lt 0 (length parts) =
-      is_later-or (length more) (length lines) (length parts)
-      (ap length more_is ∙ length-append lines (map line_from parts)
+      is_later-or (length more) (length lines) (length parts) (ap length more_is
+      ∙ length-append lines (map line_from parts)
       ∙ ap (λ n. length lines + n) (length-map parts line_from)) in
       record {
         groups = so_far.groups ++ parts ∷ [];

@@ -6,12 +6,12 @@ use Rattle.std.proofs.Common.{append_assoc, append-nil, take-append-drop}
 use Rattle.std.specs.List.{flat_map}
 use Rattle.std.specs.Str.{IsUtf8}
 use Rattle.std.proofs.lemmas.Bool.{true≢false}
-use Rattle.std.proofs.lemmas.List.{take_at, drop_at}
 use Rattle.std.proofs.lemmas.List.Elements.{All-nil, All-cons, All-head, All-tail, All-append}
-use Rattle.std.proofs.lemmas.List.Elements.{All-take, All-drop, All-weaker}
+use Rattle.std.proofs.lemmas.List.Elements.{All-weaker}
 use Rattle.textwrap_base.specs.Words.{WordText, tile_of, tiled, word_of}
 use Rattle.textwrap_base.specs.Blanks.{trimmed_len}
 use Rattle.textwrap_base.proofs.Word.Texts.{AreBlanks, EndsInBlanks, final_blanks-blank, no_blanks}
+use Rattle.textwrap_base.proofs.ListLemmas.{all-left, all-right}
 use Rattle.textwrap_base.proofs.Word.Tiling.{tiled-append}
 use Rattle.textwrap.specs.Options.{Settings}
 use Rattle.textwrap.specs.LineEnding.{paragraphs_of}
@@ -54,8 +54,8 @@ parts_of-tile : (settings : Settings) (is_later : Bool) (line : List WordText)
     → (parts_of settings is_later line).slice ++ (parts_of settings is_later line).left_off
     ≡ tiled line
 parts_of-tile settings is_later [] = refl
-parts_of-tile settings is_later (w ∷ ws) = tile-keeping settings is_later w ws
-    (keeps_whitespace settings (last_piece w ws))
+parts_of-tile settings is_later (w ∷ ws) =
+    tile-keeping settings is_later w ws (keeps_whitespace settings (last_piece w ws))
 
 last_piece-blanks : (w : WordText) (ws : List WordText) → All EndsInBlanks (w ∷ ws)
     → EndsInBlanks (last_piece w ws)
@@ -70,16 +70,16 @@ keeping-blanks settings is_later line last ending true is =
 keeping-blanks settings is_later line last ending false is =
     record {
       blanks = ending.blanks;
-      kept = λ preserved.
-          ending.none (ap (λ b. b && (length last.penalty == 0)) (sym preserved) ∙ is);
+      kept = λ preserved. ending.none
+          (ap (λ b. b && (length last.penalty == 0)) (sym preserved) ∙ is);
     }
 
 parts_of-blanks : (settings : Settings) (is_later : Bool) (line : List WordText)
     → All EndsInBlanks line → LeavesBlanks settings (parts_of settings is_later line)
 parts_of-blanks settings is_later [] all = record { blanks = no_blanks; kept = λ _. refl }
-parts_of-blanks settings is_later (w ∷ ws) all =
-    keeping-blanks settings is_later (w ∷ ws) (last_piece w ws) (last_piece-blanks w ws all)
-    (keeps_whitespace settings (last_piece w ws)) refl
+parts_of-blanks settings is_later (w ∷ ws) all = keeping-blanks settings is_later (w ∷ ws)
+    (last_piece w ws) (last_piece-blanks w ws all) (keeps_whitespace settings (last_piece w ws))
+    refl
 
 -- ---- the lines of a division
 
@@ -95,24 +95,17 @@ covered_by-parts_from settings is_later (line ∷ lines) =
     ∙ ap (λ l. tiled line ++ l) (covered_by-parts_from settings true lines)
     ∙ sym (tiled-append line (flat_map (λ l. l) lines))
 
-pub all-left : {X : Type 0} (P : X → Type 0) (xs ys : List X) → All P (xs ++ ys) → All P xs
-all-left P xs ys all = subst (All P) (take_at xs ys (length xs) refl)
-    (All-take P (length xs) (xs ++ ys) all)
-
-pub all-right : {X : Type 0} (P : X → Type 0) (xs ys : List X) → All P (xs ++ ys) → All P ys
-all-right P xs ys all = subst (All P) (drop_at xs ys (length xs) refl)
-    (All-drop P (length xs) (xs ++ ys) all)
-
 parts_from-blanks : (settings : Settings) (is_later : Bool) (division : List (List WordText))
     → All EndsInBlanks (flat_map (λ line. line) division)
     → All (LeavesBlanks settings) (parts_from settings is_later division)
 parts_from-blanks settings is_later [] all = All-nil (LeavesBlanks settings)
 parts_from-blanks settings is_later (line ∷ lines) all =
     All-cons (LeavesBlanks settings) (parts_of settings is_later line)
-    (parts_from settings true lines) (parts_of-blanks settings is_later line
+    (parts_from settings true lines)
+    (parts_of-blanks settings is_later line
     (all-left EndsInBlanks line (flat_map (λ l. l) lines) all))
-    (parts_from-blanks settings true lines (all-right EndsInBlanks line
-    (flat_map (λ l. l) lines) all))
+    (parts_from-blanks settings true lines
+    (all-right EndsInBlanks line (flat_map (λ l. l) lines) all))
 
 -- ---- the lines of a paragraph
 
@@ -120,11 +113,8 @@ pub tiled-word_of : (text : List ℕ) → tiled (word_of text ∷ []) ≡ text
 tiled-word_of text = append-nil (tile_of (word_of text)) ∙ take-append-drop (trimmed_len text) text
 
 word_of-blanks : (text : List ℕ) → EndsInBlanks (word_of text)
-word_of-blanks text = record {
-  blanks = final_blanks-blank text;
-  none = λ some.
-      absurd (true≢false some);
-}
+word_of-blanks text =
+    record { blanks = final_blanks-blank text; none = λ some. absurd (true≢false some) }
 
 module _ (settings : Settings) (Divides : List ℕ → List (List WordText) → Type 0)
     (tiles : (paragraph : List ℕ) (division : List (List WordText)) → IsUtf8 paragraph
@@ -172,28 +162,28 @@ module _ (settings : Settings) (Divides : List ℕ → List (List WordText) → 
   groups-tile is_later [] groups utf8 is = ap (map covered_by) is
   groups-tile is_later (paragraph ∷ paragraphs) [] utf8 defined = absurd defined
   groups-tile is_later (paragraph ∷ paragraphs) (parts ∷ groups) utf8 defined =
-      ap (λ p. p ∷ map covered_by groups) (parts-tile is_later paragraph parts
-      (All-head IsUtf8 paragraph paragraphs utf8) defined.0)
-      ∙ ap (λ ps. paragraph ∷ ps) (groups-tile
-      (is_later ||
-      nat_lt 0 (length parts)) paragraphs groups
-      (All-tail IsUtf8 paragraph paragraphs utf8) defined.1)
+      ap (λ p. p ∷ map covered_by groups)
+      (parts-tile is_later paragraph parts (All-head IsUtf8 paragraph paragraphs utf8)
+      defined.0)
+      ∙ ap (λ ps. paragraph ∷ ps)
+      (groups-tile (is_later ||
+      nat_lt 0 (length parts)) paragraphs groups (All-tail IsUtf8 paragraph paragraphs utf8)
+      defined.1)
 
   groups-blanks : (is_later : Bool) (paragraphs : List (List ℕ)) (groups : List (List LineParts))
       → All IsUtf8 paragraphs → AreGroups settings Divides is_later paragraphs groups
       → All (LeavesBlanks settings) (flat_map (λ parts. parts) groups)
-  groups-blanks is_later [] groups utf8 is = subst
-      (λ gs. All (LeavesBlanks settings) (flat_map (λ parts. parts) gs)) (sym is)
+  groups-blanks is_later [] groups utf8 is =
+      subst (λ gs. All (LeavesBlanks settings) (flat_map (λ parts. parts) gs)) (sym is)
       (All-nil (LeavesBlanks settings))
   groups-blanks is_later (paragraph ∷ paragraphs) [] utf8 defined = absurd defined
   groups-blanks is_later (paragraph ∷ paragraphs) (parts ∷ groups) utf8 defined =
       All-append (LeavesBlanks settings) parts (flat_map (λ ps. ps) groups)
-      (parts-blanks is_later paragraph parts
-      (All-head IsUtf8 paragraph paragraphs utf8) defined.0)
-      (groups-blanks
-      (is_later ||
-      nat_lt 0 (length parts)) paragraphs groups
-      (All-tail IsUtf8 paragraph paragraphs utf8) defined.1)
+      (parts-blanks is_later paragraph parts (All-head IsUtf8 paragraph paragraphs utf8)
+      defined.0)
+      (groups-blanks (is_later ||
+      nat_lt 0 (length parts)) paragraphs groups (All-tail IsUtf8 paragraph paragraphs utf8)
+      defined.1)
 
   -- the groups that the definition gives lose only blanks
   pub LosesOnlyBlanks-from : (text : List ℕ) (groups : List (List LineParts)) → IsUtf8 text

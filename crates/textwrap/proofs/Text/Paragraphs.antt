@@ -18,8 +18,8 @@ use Rattle.textwrap.proofs.Text.Endings.{join-paragraphs_of}
 -- ---- no part has an ending in it
 
 lacks-nil : (ending : List ℕ) → 0 < length ending → Lacks ending []
-lacks-nil ending some before after is = absurd
-    (omega (
+lacks-nil ending some before after is =
+    absurd (omega (
       arith,
       some,
       ap length is,
@@ -102,8 +102,8 @@ no_straddle CRLF text front (c ∷ d ∷ tail) rest others lacks is some here =
     ∙ ap (λ b. front ++ (13 ∷ b ∷ tail)) line_feed)
 
 parts_one : (ending : LineEnding) (parts : List (List ℕ)) → parts ≢ []
-    → All (Lacks (ending_bytes ending)) parts → parts_past (ending_bytes ending) 0
-    (join_with (ending_bytes ending) parts) ≡ parts
+    → All (Lacks (ending_bytes ending)) parts
+    → parts_past (ending_bytes ending) 0 (join_with (ending_bytes ending) parts) ≡ parts
 parts_one ending [] some all = absurd (some refl)
 parts_one ending (part ∷ []) some all =
     parts_past-none (ending_bytes ending) part

@@ -36,17 +36,17 @@ divided_one (LeastCost penalties) sizes widths xs lines others equal one other =
 
 pub division_one : (settings : Settings) (algorithm : Algorithm) (separator : WordSeparator)
     (splitter : WordSplitter) (paragraph : List ℕ) (division other : List (List WordText))
-    → IsDividedInto settings (AreSeparated separator)
-    (ArePoints splitter) algorithm paragraph division
-    → IsDividedInto settings (AreSeparated separator)
+    → IsDividedInto settings (AreSeparated separator) (ArePoints splitter) algorithm paragraph
+    division → IsDividedInto settings (AreSeparated separator)
     (ArePoints splitter) algorithm paragraph other → division ≡ other
 division_one settings algorithm separator splitter paragraph division other (pieces, are, divided)
     (others, others_are, others_divided) =
     let same = ArePieces-is settings separator splitter paragraph others others_are
     ∙ sym (ArePieces-is settings separator splitter paragraph pieces are) in
     divided_one algorithm sizes_of (widths_of settings) pieces division other
-    (two_widths _ _) divided (subst (λ ws.
-    IsDividedBy algorithm sizes_of (widths_of settings) ws other) same others_divided)
+    (two_widths _ _) divided (subst
+    (λ ws. IsDividedBy algorithm sizes_of (widths_of settings) ws other) same
+    others_divided)
 
 -- where a paragraph has one division
 module _ (settings : Settings) (Divides : List ℕ → List (List WordText) → Type 0)
@@ -56,13 +56,14 @@ module _ (settings : Settings) (Divides : List ℕ → List (List WordText) → 
       → AreDividedParts settings Divides is_later paragraph parts
       → AreDividedParts settings Divides is_later paragraph others → parts ≡ others
   divided_parts_one is_later paragraph parts others (division, divided, is)
-      (other, other_divided, other_is) = is ∙ ap (parts_from settings is_later)
+      (other, other_divided, other_is) =
+      is ∙ ap (parts_from settings is_later)
       (one paragraph division other divided other_divided) ∙ sym other_is
 
   laid_out_one : (paragraph : List ℕ) (division other : List (List WordText)) (whole : Bool)
       → MatchBool whole (division ≡ (word_of paragraph ∷ []) ∷ []) (Divides paragraph division)
-      → MatchBool whole (other ≡ (word_of paragraph ∷ []) ∷ []) (Divides paragraph other) → division
-      ≡ other
+      → MatchBool whole (other ≡ (word_of paragraph ∷ []) ∷ []) (Divides paragraph other)
+      → division ≡ other
   laid_out_one paragraph division other true is other_is = is ∙ sym other_is
   laid_out_one paragraph division other false divided other_divided =
       one paragraph division other divided other_divided
@@ -72,12 +73,14 @@ module _ (settings : Settings) (Divides : List ℕ → List (List WordText) → 
       → AreParagraphParts settings Divides is_later paragraph others → parts ≡ others
   paragraph_one is_later paragraph parts others (division, laid_out, is)
       (other, other_laid_out, other_is) =
-      is ∙ ap (parts_from settings is_later) (laid_out_one paragraph division other
-      (is_whole settings is_later paragraph) laid_out other_laid_out) ∙ sym other_is
+      is ∙ ap (parts_from settings is_later)
+      (laid_out_one paragraph division other (is_whole settings is_later paragraph) laid_out
+      other_laid_out) ∙ sym other_is
 
   groups_one : (is_later : Bool) (paragraphs : List (List ℕ))
-      (groups others : List (List LineParts)) → AreGroups settings Divides is_later paragraphs
-      groups → AreGroups settings Divides is_later paragraphs others → groups ≡ others
+      (groups others : List (List LineParts))
+      → AreGroups settings Divides is_later paragraphs groups
+      → AreGroups settings Divides is_later paragraphs others → groups ≡ others
   groups_one is_later [] groups others is other = is ∙ sym other
   groups_one is_later (paragraph ∷ paragraphs) [] others is other = absurd is
   groups_one is_later (paragraph ∷ paragraphs) (parts ∷ groups) [] is other = absurd other
@@ -93,8 +96,8 @@ module _ (settings : Settings) (Divides : List ℕ → List (List WordText) → 
       ap (λ ps. ps ∷ groups) same ∙ ap (λ gs. more ∷ gs) rest
 
   pub text_one : (text : List ℕ) (lines others : List Line)
-      → AreTextLines settings Divides text lines → AreTextLines settings Divides text others → lines
-      ≡ others
+      → AreTextLines settings Divides text lines → AreTextLines settings Divides text others
+      → lines ≡ others
   text_one text lines others is other =
       is.given ∙ ap (λ groups. map line_from (flat_map (λ parts. parts) groups))
       (groups_one false (paragraphs_of settings.line_ending text) is.groups other.groups

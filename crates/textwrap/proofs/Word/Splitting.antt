@@ -48,15 +48,14 @@ before-last text rest c e = (
   omega (arith, ap length e, length-append rest (encode c)),
   λ _ high.
       let at : get_or text (length rest) 0 ≡ get_or (encode c) 0 0 =
-      ap (λ t. get_or t (length rest) 0) e
-      ∙ ap (λ n. get_or (rest ++ encode c) n 0) (sym (add-zero (length rest)))
-      ∙ get_or-append-add rest (encode c) 0 0 in
+      ap (λ t. get_or t (length rest) 0) e ∙ ap (λ n. get_or (rest ++ encode c) n 0)
+      (sym (add-zero (length rest))) ∙ get_or-append-add rest (encode c) 0 0 in
       subst (λ n. 192 ≤ n) (sym at) (encode-lead c (subst (λ n. 128 ≤ n) at high)),
 )
 
 -- a text that is empty, or has a last character
-pub ends-none : (text : List ℕ) → length text ≡ 0 → begins_alphanumeric (reverse (chars text))
-    ≡ false
+pub ends-none : (text : List ℕ) → length text ≡ 0
+    → begins_alphanumeric (reverse (chars text)) ≡ false
 ends-none text none = ap (λ t. begins_alphanumeric (reverse (chars t))) (nil-length text none)
     ∙ ap (λ cs. begins_alphanumeric (reverse cs)) chars-nil
 
@@ -64,16 +63,18 @@ pub ends-some : (text rest : List ℕ) (c : ℕ) → IsUtf8 text → text ≡ re
     → begins_alphanumeric (reverse (chars text)) ≡ is_alphanumeric c
 ends-some text rest c utf8 e =
     let cut = before-last text rest c e in
-    let front : IsUtf8 rest = subst IsUtf8 (ap (take (length rest)) e
-    ∙ take_at rest (encode c) (length rest) refl) (IsUtf8-take text (length rest) utf8 cut) in
-    let back : IsUtf8 (encode c) = subst IsUtf8
-    (ap (drop (length rest)) e ∙ drop_at rest (encode c) (length rest) refl)
+    let front : IsUtf8 rest =
+    subst IsUtf8 (ap (take (length rest)) e ∙ take_at rest (encode c) (length rest) refl)
+    (IsUtf8-take text (length rest) utf8 cut) in
+    let back : IsUtf8 (encode c) =
+    subst IsUtf8 (ap (drop (length rest)) e ∙ drop_at rest (encode c) (length rest) refl)
     (IsUtf8-drop text (length rest) utf8 cut) in
-    let one : chars (encode c) ≡ c ∷ [] = chars_past_char (encode c) [] c back
-    (sym (append-nil (encode c))) ∙ ap (λ cs. c ∷ cs) chars-nil in
+    let one : chars (encode c) ≡ c ∷ [] =
+    chars_past_char (encode c) [] c back (sym (append-nil (encode c)))
+    ∙ ap (λ cs. c ∷ cs) chars-nil in
     ap (λ t. begins_alphanumeric (reverse (chars t))) e
-    ∙ ap (λ cs. begins_alphanumeric (reverse cs))
-    (chars-append rest (encode c) front ∙ ap (λ cs. chars rest ++ cs) one)
+    ∙ ap (λ cs. begins_alphanumeric (reverse cs)) (chars-append rest (encode c) front
+    ∙ ap (λ cs. chars rest ++ cs) one)
     ∙ ap begins_alphanumeric (reverse-append (chars rest) (c ∷ []))
 
 -- ---- the points
@@ -83,8 +84,8 @@ range-more a n =
     sym (map-id (range_with_len a (n + 1))) ∙ map-range_with_len_more (λ (x : ℕ). x) a n
     (a + n) refl ∙ ap (λ xs. xs ++ (a + n) ∷ []) (map-id (range_with_len a n))
 
-range-next : (point : ℕ) → 1 ≤ point → range_with_len 1 (point + 1 - 1)
-    ≡ range_with_len 1 (point - 1) ++ point ∷ []
+range-next : (point : ℕ) → 1 ≤ point
+    → range_with_len 1 (point + 1 - 1) ≡ range_with_len 1 (point - 1) ++ point ∷ []
 range-next point start =
     let n : point + 1 - 1 ≡ (point - 1) + 1 = omega arith in
     let at : 1 + (point - 1) ≡ point = omega arith in
@@ -97,10 +98,10 @@ filter-one test point items true is = rw (← is) refl
 filter-one test point items false is = rw (← is) (append-nil items)
 
 -- one more offset is looked at
-pub points-more : (test : ℕ → Bool) (point : ℕ) (items more : List ℕ) (b : Bool) → 1 ≤ point → items
-    ≡ filter test (range_with_len 1 (point - 1))
-    → b ≡ test point → more ≡ cond b (items ++ point ∷ []) items → more
-    ≡ filter test (range_with_len 1 (point + 1 - 1))
+pub points-more : (test : ℕ → Bool) (point : ℕ) (items more : List ℕ) (b : Bool) → 1 ≤ point
+    → items ≡ filter test (range_with_len 1 (point - 1))
+    → b ≡ test point → more ≡ cond b (items ++ point ∷ []) items
+    → more ≡ filter test (range_with_len 1 (point + 1 - 1))
 points-more test point items more b start so_far passes is =
     is ∙ sym (filter-one test point items b passes) ∙ ap (λ l. l ++ filter test (point ∷ [])) so_far
     ∙ sym (ap (filter test) (range-next point start)
@@ -151,30 +152,30 @@ hyphen_points-cuts text utf8 =
 
 pub points_of-cuts : (splitter : WordSplitter) (text : List ℕ) → IsUtf8 text
     → AreCuts text (points_of splitter text)
-points_of-cuts NoHyphenation text utf8 = record {
-  in_order = λ i j d le lt.
-      absurd (omega arith);
-  in_range = All-nil (λ p. p < length text);
-  between =
-      All-nil (IsCharBoundary text);
-}
+points_of-cuts NoHyphenation text utf8 =
+    record {
+      in_order = λ i j d le lt. absurd (omega arith);
+      in_range = All-nil
+          (λ p. p < length text);
+      between = All-nil (IsCharBoundary text);
+    }
 points_of-cuts HyphenSplitter text utf8 = hyphen_points-cuts text utf8
 
 slice-rest : (xs : List ℕ) (start point : ℕ) → start ≤ point
     → slice_range xs start point ++ drop point xs ≡ drop start xs
 slice-rest xs start point le =
     let there : start + (point - start) ≡ point = omega arith in
-    ap (λ ys. take (point - start) (drop start xs) ++ ys)
-    (ap (λ n. drop n xs) (sym there) ∙ sym (drop-drop (point - start) start xs))
-    ∙ take-append-drop (point - start) (drop start xs)
+    ap (λ ys. take (point - start) (drop start xs) ++ ys) (ap (λ n. drop n xs) (sym there)
+    ∙ sym (drop-drop (point - start) start xs)) ∙ take-append-drop (point - start)
+    (drop start xs)
 
 tiled-split_from : (w : WordText) (start : ℕ) (points : List ℕ) → IsNonDecreasing points
     → ((k : ℕ) → k < length points → start ≤ get_or points k 0)
     → tiled (split_from w start points) ≡ drop start w.word ++ w.whitespace
 tiled-split_from w start [] in_order before = append-nil (drop start w.word ++ w.whitespace)
 tiled-split_from w start (point ∷ points) in_order before =
-    let later : IsNonDecreasing points = λ i j d le lt.
-    in_order (suc i) (suc j) d (omega arith) (omega arith) in
+    let later : IsNonDecreasing points = λ i j d le lt. in_order (suc i) (suc j) d (omega arith)
+    (omega arith) in
     let rest = tiled-split_from w point points later
     (λ k lt. in_order 0 (suc k) 0 (omega arith) (omega arith)) in
     ap (λ l. l ++ tiled (split_from w point points)) (append-nil (slice_range w.word start point))
@@ -194,5 +195,5 @@ tiled-split_words splitter (w ∷ words) utf8 =
     (points_of-cuts splitter w.word (All-head (λ v. IsUtf8 v.word) w words utf8)) in
     flat_map-append tile_of (split_word splitter w) (split_words splitter words)
     ∙ ap (λ l. l ++ tiled (split_words splitter words)) first
-    ∙ ap (λ l. tile_of w ++ l) (tiled-split_words splitter words
-    (All-tail (λ v. IsUtf8 v.word) w words utf8))
+    ∙ ap (λ l. tile_of w ++ l)
+    (tiled-split_words splitter words (All-tail (λ v. IsUtf8 v.word) w words utf8))

@@ -5,8 +5,8 @@ use Rattle.unicode.specs.Width.Width.{char_width}
 use Rattle.textwrap.specs.WordSplitters.{split_pieces}
 use Rattle.textwrap_base.specs.Words.{word_of}
 
-split_pieces-nowhere : split_pieces [] (word_of (codes "foo-bar "))
-    ≡ word_of (codes "foo-bar ") ∷ []
+split_pieces-nowhere : split_pieces [] (word_of (codes "foo-bar ")) ≡ word_of
+    (codes "foo-bar ") ∷ []
 unfolding chars char_width
 split_pieces-nowhere = refl
 
@@ -14,8 +14,8 @@ split_pieces-blanks : split_pieces [] (word_of (codes "   ")) ≡ word_of (codes
 unfolding chars
 split_pieces-blanks = refl
 
-split_pieces-after_hyphen : split_pieces (4 ∷ []) (word_of (codes "foo-bar  "))
-    ≡ word_of (codes "foo-") ∷ word_of (codes "bar  ") ∷ []
+split_pieces-after_hyphen : split_pieces (4 ∷ []) (word_of (codes "foo-bar  ")) ≡ word_of
+    (codes "foo-") ∷ word_of (codes "bar  ") ∷ []
 unfolding chars char_width
 split_pieces-after_hyphen = refl
 
@@ -35,7 +35,7 @@ unfolding chars char_width
 split_pieces-empty = refl
 
 -- a point inside an escape sequence: the rest of it is visible in its own piece
-split_pieces-in_sequence : split_pieces (4 ∷ []) (word_of (codes "\u{1b}[3-1m"))
-    ≡ word_of (codes "\u{1b}[3-") ∷ word_of (codes "1m") ∷ []
+split_pieces-in_sequence : split_pieces (4 ∷ []) (word_of (codes "\u{1b}[3-1m")) ≡ word_of
+    (codes "\u{1b}[3-") ∷ word_of (codes "1m") ∷ []
 unfolding chars char_width
 split_pieces-in_sequence = refl

@@ -44,8 +44,8 @@ line_costs-steady priced penalties widths xs h i j l m p q =
 
 module _ {X : Type 0} (priced : X → PricedSizes) (penalties : Penalties) (widths : List ℕ)
     (xs : List X) where
-  begins : (lines : List (List X)) (j : ℕ) → joined lines ≡ take j xs → xs
-      ≡ [] ++ (joined lines ++ drop j xs)
+  begins : (lines : List (List X)) (j : ℕ) → joined lines ≡ take j xs
+      → xs ≡ [] ++ (joined lines ++ drop j xs)
   begins lines j e = sym (take-append-drop j xs) ∙ ap (λ l. l ++ drop j xs) (sym e)
 
   length_begun : (lines : List (List X)) (j : ℕ) → j ≤ length xs → joined lines ≡ take j xs
@@ -68,8 +68,9 @@ module _ {X : Type 0} (priced : X → PricedSizes) (penalties : Penalties) (widt
       let k = ap (starts_cost (starts_back lines) (line_costs priced penalties widths xs))
       (length_begun lines j l e) in omega (arith, c, k)
 
-  begin_follow : (lines : List (List X)) (j : ℕ) (starts : List ℕ) → j ≤ length xs → joined lines
-      ≡ take j xs → FollowStarts starts 0 lines → FollowBack (starts_back lines) starts j
+  begin_follow : (lines : List (List X)) (j : ℕ) (starts : List ℕ) → j ≤ length xs
+      → joined lines ≡ take j xs → FollowStarts starts 0 lines
+      → FollowBack (starts_back lines) starts j
   begin_follow lines j starts l e f = subst (λ n. FollowBack (starts_back lines) starts n)
       (length_begun lines j l e)
       (follow_of_lines priced penalties widths xs starts lines 0 [] f tt)
@@ -96,8 +97,8 @@ whole xs lines p h =
 by_table-cost : {X : Type 0} (priced : X → PricedSizes) (penalties : Penalties) (widths : List ℕ)
     (xs : List X) (lines : List (List X)) → 0 < length xs → AreEqualFromSecond widths
     → IsByTable priced penalties widths xs lines
-    → division_cost priced penalties widths (length xs) lines
-    ≡ (entry_at (fragments_table priced penalties widths xs) (length xs)).cost
+    → division_cost priced penalties widths (length xs) lines ≡
+    (entry_at (fragments_table priced penalties widths xs) (length xs)).cost
 by_table-cost priced penalties widths xs lines p equal h =
     let (tiles, some) = whole xs lines p h.division in
     sym (begin_cost priced penalties widths xs lines (length xs) (omega arith) tiles)
@@ -129,9 +130,8 @@ begin-least priced penalties widths xs others j l equal tiles some =
 chosen-earliest : {X : Type 0} (priced : X → PricedSizes) (penalties : Penalties) (widths : List ℕ)
     (xs : List X) (lines others : List (List X)) → 0 < length xs → AreEqualFromSecond widths
     → IsByTable priced penalties widths xs lines → IsDivision xs others
-    → division_cost priced penalties widths (length xs) others
-    ≡ division_cost priced penalties widths (length xs) lines
-    → AreNoLater (starts_back lines) (starts_back others)
+    → division_cost priced penalties widths (length xs) others ≡ division_cost priced penalties
+    widths (length xs) lines → AreNoLater (starts_back lines) (starts_back others)
 chosen-earliest priced penalties widths xs lines others p equal h o same =
     let (tiles, some) = whole xs lines p h.division in
     let (tiles_other, some_other) = whole xs others p o in
@@ -175,8 +175,9 @@ pub table-overflows : {X : Type 0} (priced : X → PricedSizes) (penalties : Pen
     → TableOverflows priced penalties widths xs → Overflows priced penalties widths xs
 table-overflows priced penalties widths xs equal (inl wide) = inl wide
 table-overflows {X = X} priced penalties widths xs equal (inr (zero, l, past)) =
-    let first = ap (λ (e : Entry). e.cost) (entry-table_first
-    (line_costs priced penalties widths xs) (length xs)) in absurd (omega (arith, past, first))
+    let first = ap (λ (e : Entry). e.cost)
+    (entry-table_first (line_costs priced penalties widths xs) (length xs)) in
+    absurd (omega (arith, past, first))
 table-overflows {X = X} priced penalties widths xs equal (inr (suc j, l, past)) =
     inr (
       suc j,

@@ -54,8 +54,8 @@ module _ {X : Type 0} (priced : X → PricedSizes) (penalties : Penalties) (widt
   starts_of_lines [] front rest at before len is some h = rw add-zero h
   starts_of_lines (line ∷ lines) front rest at before len is some h =
       let first = length_some line (All-head (λ line. line ≢ []) line lines some) in
-      let is' : xs ≡ (front ++ line) ++ (joined lines ++ rest) = is
-      ∙ ap (λ (l : List X). front ++ l) (append_assoc line (joined lines) rest)
+      let is' : xs ≡ (front ++ line) ++ (joined lines ++ rest) =
+      is ∙ ap (λ (l : List X). front ++ l) (append_assoc line (joined lines) rest)
       ∙ sym (append_assoc front line (joined lines ++ rest)) in
       let len' : length (front ++ line) ≡ at + length line = length-append front line
       ∙ ap (λ n. n + length line) len in
@@ -79,8 +79,8 @@ module _ {X : Type 0} (priced : X → PricedSizes) (penalties : Penalties) (widt
       omega arith in e)
   cost_of_lines (line ∷ lines) front rest at before len is =
       let shape = is ∙ ap (λ (l : List X). front ++ l) (append_assoc line (joined lines) rest) in
-      let is' : xs ≡ (front ++ line) ++ (joined lines ++ rest) = shape
-      ∙ sym (append_assoc front line (joined lines ++ rest)) in
+      let is' : xs ≡ (front ++ line) ++ (joined lines ++ rest) =
+      shape ∙ sym (append_assoc front line (joined lines ++ rest)) in
       let len' : length (front ++ line) ≡ at + length line = length-append front line
       ∙ ap (λ n. n + length line) len in
       let more = cost_of_lines lines (front ++ line) rest (at + length line)
@@ -107,16 +107,16 @@ module _ {X : Type 0} (priced : X → PricedSizes) (penalties : Penalties) (widt
       rw (← e) more
 
 -- one line more in front
-pub FollowStarts-same : {X : Type 0} (starts : List ℕ) (at end : ℕ) (lines : List (List X)) → at
-    ≡ end → FollowStarts starts end lines → FollowStarts starts at lines
+pub FollowStarts-same : {X : Type 0} (starts : List ℕ) (at end : ℕ) (lines : List (List X))
+    → at ≡ end → FollowStarts starts end lines → FollowStarts starts at lines
 FollowStarts-same starts at end lines e f = subst (λ k. FollowStarts starts k lines) (sym e) f
 
 pub reverse_map_push : {X Y : Type 0} (f : X → Y) (xs : List X) (x : X)
     → reverse (map f (xs ++ x ∷ [])) ≡ f x ∷ reverse (map f xs)
 reverse_map_push f xs x = ap reverse (map_push f xs x) ∙ reverse-append (map f xs) (f x ∷ [])
 
-reverse_aux-map : {X Y : Type 0} (f : X → Y) (xs front : List X) → map f (reverse_aux xs front)
-    ≡ reverse_aux (map f xs) (map f front)
+reverse_aux-map : {X Y : Type 0} (f : X → Y) (xs front : List X)
+    → map f (reverse_aux xs front) ≡ reverse_aux (map f xs) (map f front)
 reverse_aux-map f [] front = refl
 reverse_aux-map f (x ∷ xs) front = reverse_aux-map f xs (x ∷ front)
 
@@ -139,9 +139,10 @@ lines_more fragments starts lines start end below within at tiles some follow =
           ∙ sym (drop_split fragments start end (omega arith)),
       All-cons (λ line. line ≢ []) (slice_range fragments start end) lines nonempty some,
       (
-        ap (λ k. get_or starts k 0) e ∙ at,
-        FollowStarts-same starts
-            (start + length (slice_range fragments start end)) end lines e follow,
+        ap (λ k. get_or starts k 0) e
+            ∙ at,
+        FollowStarts-same starts (start + length (slice_range fragments start end)) end
+            lines e follow,
       ),
     )
 

@@ -12,11 +12,11 @@ use Rattle.textwrap_base.proofs.Cost.Chosen.{by_table-chosen}
 
 module _ {X Y : Type 0} (f : X → Y) (priced : Y → PricedSizes) where
   pub fragments_table-map : (penalties : Penalties) (widths : List ℕ) (xs : List X)
-      → fragments_table (λ x. priced (f x)) penalties widths xs
-      ≡ fragments_table priced penalties widths (map f xs)
+      → fragments_table (λ x. priced (f x)) penalties widths xs ≡ fragments_table priced penalties
+      widths (map f xs)
   fragments_table-map penalties widths xs =
-      ap (λ cost. table cost (length xs)) (sym
-      (line_costs-map (λ x. priced (f x)) penalties widths xs)
+      ap (λ cost. table cost (length xs))
+      (sym (line_costs-map (λ x. priced (f x)) penalties widths xs)
       ∙ ap (line_costs (λ (s : PricedSizes). s) penalties widths) (map-map f priced xs)
       ∙ line_costs-map priced penalties widths (map f xs))
       ∙ ap (table (line_costs priced penalties widths (map f xs))) (sym (length-map xs f))
@@ -26,7 +26,8 @@ module _ {X Y : Type 0} (f : X → Y) (priced : Y → PricedSizes) where
   FollowStarts-map starts at [] follow = tt
   FollowStarts-map starts at (line ∷ lines) (here, follow) =
       let len = ap (λ n. at + n) (length-map line f) in (
-        ap (λ n. get_or starts n 0) len ∙ here,
+        ap (λ n. get_or starts n 0) len
+            ∙ here,
         subst (λ n. FollowStarts starts n (map (map f) lines)) (sym len)
             (FollowStarts-map starts (at + length line) lines follow),
       )
@@ -36,8 +37,8 @@ module _ {X Y : Type 0} (f : X → Y) (priced : Y → PricedSizes) where
       → IsByOptimalFit (λ x. priced (f x)) penalties widths xs lines
       → IsByOptimalFit priced penalties widths (map f xs) (map (map f) lines)
   IsByOptimalFit-map penalties widths xs lines division optimal =
-      let starts = subst (λ (entries : List Entry).
-      FollowStarts (map (λ (entry : Entry). entry.start) entries) 0 (map (map f) lines))
+      let starts = subst (λ (entries : List Entry). FollowStarts
+      (map (λ (entry : Entry). entry.start) entries) 0 (map (map f) lines))
       (fragments_table-map penalties widths xs)
       (FollowStarts-map (map (λ (entry : Entry). entry.start)
       (fragments_table (λ x. priced (f x)) penalties widths xs)) 0 lines
@@ -46,6 +47,6 @@ module _ {X Y : Type 0} (f : X → Y) (priced : Y → PricedSizes) where
       record { division = division; starts = starts } in
       record {
         by_table = by_table;
-        chosen = λ equal.
-            by_table-chosen priced penalties widths (map f xs) (map (map f) lines) equal by_table;
+        chosen = λ equal. by_table-chosen priced penalties widths
+            (map f xs) (map (map f) lines) equal by_table;
       }

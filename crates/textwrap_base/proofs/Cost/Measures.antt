@@ -25,14 +25,18 @@ use Rattle.textwrap_base.specs.declared.penalties.Penalties.{Penalties}
 use Rattle.textwrap_base.proofs.Division.Greedy.{open_width-cons, open_width-append}
 use Rattle.textwrap_base.proofs.Division.Greedy.{closed_width-push, closed_width-map}
 
+-- a measure to name where a list has none
+abbrev pub no_measure : Measure
+no_measure = record { before = 0; width = 0; whitespace = 0; penalty = 0; break_cost = 0 }
+
 abbrev pub measured_sizes : Measure → Sizes
 measured_sizes m = (measured m).sizes
 
 module _ {X : Type 0} (priced : X → PricedSizes) where
   -- ---- a line by its last fragment
 
-  pub last_break_cost-push : (xs : List X) (x : X) → last_break_cost priced (xs ++ x ∷ [])
-      ≡ (priced x).break_cost
+  pub last_break_cost-push : (xs : List X) (x : X)
+      → last_break_cost priced (xs ++ x ∷ []) ≡ (priced x).break_cost
   last_break_cost-push [] x = refl
   last_break_cost-push (y ∷ []) x = refl
   last_break_cost-push (y ∷ z ∷ xs) x = last_break_cost-push (z ∷ xs) x
@@ -56,13 +60,12 @@ slice_push xs i k d h l =
     let e : k + 1 - i ≡ k - i + 1 = omega arith in
     let at : i + (k - i) ≡ k = omega arith in
     let within : k - i < length (drop i xs) = rw length-drop (omega arith) in
-    rw e (take_more (drop i xs) (k - i) d within
-    ∙ ap (λ y. take (k - i) (drop i xs) ++ y ∷ [])
+    rw e (take_more (drop i xs) (k - i) d within ∙ ap (λ y. take (k - i) (drop i xs) ++ y ∷ [])
     (get_or-drop i xs (k - i) d ∙ ap (λ n. get_or xs n d) at))
 
 pub open_width-slice : {X : Type 0} (sizes : X → Sizes) (xs : List X) (i k : ℕ) → i ≤ k
-    → open_width sizes (take i xs) + open_width sizes (slice_range xs i k)
-    ≡ open_width sizes (take k xs)
+    → open_width sizes (take i xs) + open_width sizes (slice_range xs i k) ≡ open_width sizes
+    (take k xs)
 open_width-slice sizes xs i k h =
     let at : i + (k - i) ≡ k = omega arith in
     sym (open_width-append sizes (take i xs) (take (k - i) (drop i xs)))
@@ -110,8 +113,8 @@ line_cost-slice {X = X} priced penalties width is_last xs i k d h l =
 -- ---- the sizes alone
 
 module _ {X : Type 0} (sizes : X → Sizes) where
-  pub open_width-map : (xs : List X) → open_width (λ (s : Sizes). s) (map sizes xs)
-      ≡ open_width sizes xs
+  pub open_width-map : (xs : List X)
+      → open_width (λ (s : Sizes). s) (map sizes xs) ≡ open_width sizes xs
   open_width-map [] = refl
   open_width-map (x ∷ xs) =
       let h = open_width-map xs in
@@ -119,10 +122,11 @@ module _ {X : Type 0} (sizes : X → Sizes) where
       ∙ ap (λ n. (sizes x).width + (sizes x).whitespace + n) h
       ∙ sym (open_width-cons sizes x xs)
 
-  pub total_width-cons : (x : X) (xs : List X) → total_width sizes (x ∷ xs)
-      ≡ (sizes x).width + (sizes x).whitespace + (sizes x).penalty + total_width sizes xs
-  total_width-cons x xs = sum_by-cons (λ (y : X).
-      (sizes y).width + (sizes y).whitespace + (sizes y).penalty) x xs
+  pub total_width-cons : (x : X) (xs : List X)
+      → total_width sizes (x ∷ xs) ≡ (sizes x).width + (sizes x).whitespace +
+      (sizes x).penalty + total_width sizes xs
+  total_width-cons x xs = sum_by-cons (λ (y : X). (sizes y).width + (sizes y).whitespace +
+      (sizes y).penalty) x xs
 
 pub total_width-map : {X : Type 0} (sizes : X → Sizes) (xs : List X)
     → total_width (λ (s : Sizes). s) (map sizes xs) ≡ total_width sizes xs
@@ -160,8 +164,8 @@ line_cost-map priced penalties width is_last (x ∷ line) =
     (closed_width (λ y. (priced y).sizes) (x ∷ line)) is_last (eqb (suc (length line)) 1) + n)
     end
 
-pub slice-map : {X Y : Type 0} (f : X → Y) (xs : List X) (i j : ℕ) → slice_range (map f xs) i j
-    ≡ map f (slice_range xs i j)
+pub slice-map : {X Y : Type 0} (f : X → Y) (xs : List X) (i j : ℕ)
+    → slice_range (map f xs) i j ≡ map f (slice_range xs i j)
 slice-map f xs i j = ap (take (j - i)) (drop-map f i xs) ∙ take-map f (j - i) (drop i xs)
 
 pub line_costs-at : {X : Type 0} (priced : X → PricedSizes) (penalties : Penalties)
@@ -181,16 +185,18 @@ pub line_costs-map : {X : Type 0} (priced : X → PricedSizes) (penalties : Pena
     (widths : List ℕ) (xs : List X)
     → line_costs (λ (s : PricedSizes). s) penalties widths (map priced xs)
     ≡ line_costs priced penalties widths xs
-line_costs-map priced penalties widths xs = fun_ext
-    (λ i. fun_ext (λ j. fun_ext (λ number. line_costs-at priced penalties widths xs i j number)))
+line_costs-map priced penalties widths xs =
+    fun_ext (λ i. fun_ext (λ j. fun_ext
+    (λ number. line_costs-at priced penalties widths xs i j number)))
 
 -- ---- measures
 
 -- with what stands before it, a fragment keeps to all widths together
 pub open_width-total : {X : Type 0} (sizes : X → Sizes) (xs : List X) (k : ℕ) (d : X)
     → k < length xs
-    → open_width sizes (take k xs) + ((sizes (get_or xs k d)).width +
-    (sizes (get_or xs k d)).whitespace + (sizes (get_or xs k d)).penalty) ≤ total_width sizes xs
+    → open_width sizes (take k xs) +
+    ((sizes (get_or xs k d)).width + (sizes (get_or xs k d)).whitespace +
+    (sizes (get_or xs k d)).penalty) ≤ total_width sizes xs
 open_width-total {X = X} sizes xs k d l =
     sum_by_more_le_part (λ (x : X). (sizes x).width + (sizes x).whitespace)
     (λ (x : X). (sizes x).width + (sizes x).whitespace + (sizes x).penalty) xs k d l
@@ -215,8 +221,8 @@ measured_closed ms i k d h l m =
 
 -- ---- measures of fragments
 
-pub map-map : {X Y Z : Type 0} (f : X → Y) (g : Y → Z) (xs : List X) → map (λ x. g (f x)) xs
-    ≡ map g (map f xs)
+pub map-map : {X Y Z : Type 0} (f : X → Y) (g : Y → Z) (xs : List X)
+    → map (λ x. g (f x)) xs ≡ map g (map f xs)
 map-map f g [] = refl
 map-map f g (x ∷ xs) = ap (λ l. g (f x) ∷ l) (map-map f g xs)
 
@@ -240,15 +246,15 @@ total_width-same sizes others xs ys e = sym (total_width-map sizes xs)
 
 -- one more measure
 pub before_more : (ms : List Measure) (m : Measure)
-    → ((i : ℕ) (d : Measure) → i < length ms → (get_or ms i d).before
-    ≡ open_width measured_sizes (take i ms))
+    → ((i : ℕ) (d : Measure) → i < length ms
+    → (get_or ms i d).before ≡ open_width measured_sizes (take i ms))
     → m.before ≡ open_width measured_sizes ms
-    → (i : ℕ) (d : Measure) → i < length (ms ++ m ∷ []) → (get_or (ms ++ m ∷ []) i d).before
-    ≡ open_width measured_sizes (take i (ms ++ m ∷ []))
+    → (i : ℕ) (d : Measure) → i < length (ms ++ m ∷ [])
+    → (get_or (ms ++ m ∷ []) i d).before ≡ open_width measured_sizes (take i (ms ++ m ∷ []))
 before_more ms m all now i d l = more_by (cases_eq i (length ms))
   where
-    more_by : (i ≡ length ms) ⊎ (i ≢ length ms) → (get_or (ms ++ m ∷ []) i d).before
-        ≡ open_width measured_sizes (take i (ms ++ m ∷ []))
+    more_by : (i ≡ length ms) ⊎ (i ≢ length ms)
+        → (get_or (ms ++ m ∷ []) i d).before ≡ open_width measured_sizes (take i (ms ++ m ∷ []))
     more_by (inl e) =
         let at = get_or_push ms m d i (sym e) in
         let front = take_at ms (m ∷ []) i (sym e) in rw (at, front) now
@@ -276,10 +282,11 @@ pub fragment_costs-map : {X : Type 0} (priced : X → PricedSizes) (penalties : 
     → fragment_costs (λ (s : PricedSizes). s) penalties widths (map priced xs)
     ≡ fragment_costs priced penalties widths xs
 fragment_costs-map priced penalties widths xs =
-    let with_ends : ℕ → Costs = λ n. record {
+    let with_ends : ℕ → Costs =
+    λ n. record {
       ends = n;
-      cost =
-          line_costs (λ (s : PricedSizes). s) penalties widths (map priced xs);
+      cost = line_costs (λ (s : PricedSizes). s) penalties widths
+          (map priced xs);
     } in
     let with_cost : (ℕ → ℕ → ℕ → ℕ) → Costs = λ cost. record { ends = length xs; cost = cost } in
     ap with_ends (length-map xs priced) ∙ ap with_cost (line_costs-map priced penalties widths xs)
@@ -313,16 +320,17 @@ fit_cost-le p t closed is_last is_single h k l =
     let over = square_fits (closed - t) p.overflow_penalty (omega arith) h.overflow in
     let gap = square_fits (t - closed) (t - closed) (omega arith) (omega arith) in
     let short = h.short_last_line in
-    elim (ltb t closed) as (λ b. (if b then (closed - t) * p.overflow_penalty else if is_last
-    then (if is_single && ltb (closed * p.short_last_line_fraction) t
-    then p.short_last_line_penalty else 0) else (t - closed) * (t - closed)) ≤
-    (2 ^ 64 - 1) * (2 ^ 64 - 1)) [
+    elim (ltb t closed) as (λ b.
+    (if b then (closed - t) * p.overflow_penalty else if is_last then (if is_single && ltb
+    (closed * p.short_last_line_fraction) t then p.short_last_line_penalty else 0)
+    else (t - closed) * (t - closed)) ≤ (2 ^ 64 - 1) * (2 ^ 64 - 1)) [
       | true ↦ over
-      | false ↦ elim is_last as (λ b. (if b then (if is_single && ltb
+      | false ↦ elim is_last as (λ b.
+          (if b then (if is_single && ltb
           (closed * p.short_last_line_fraction) t then p.short_last_line_penalty else 0)
           else (t - closed) * (t - closed)) ≤ (2 ^ 64 - 1) * (2 ^ 64 - 1)) [
-            | true ↦ elim (is_single && ltb (closed * p.short_last_line_fraction) t)
-                as (λ b. (if b then p.short_last_line_penalty else 0) ≤ (2 ^ 64 - 1) * (2 ^ 64 - 1))
+            | true ↦ elim (is_single && ltb (closed * p.short_last_line_fraction) t) as (λ b.
+                (if b then p.short_last_line_penalty else 0) ≤ (2 ^ 64 - 1) * (2 ^ 64 - 1))
                 [ true ↦ omega (arith, short) | false ↦ omega arith ]
             | false ↦ gap
           ]
@@ -338,8 +346,8 @@ priced_at-fits p sizes h = let k = h.hyphen in
 pub priced_at-all_fit : {X : Type 0} (p : Penalties) (sizes : X → Sizes) (xs : List X) → Are64Bits p
     → All (λ x. (priced_at p (sizes x)).break_cost < 2 ^ 64) xs
 priced_at-all_fit p sizes [] h = All-nil (λ x. (priced_at p (sizes x)).break_cost < 2 ^ 64)
-priced_at-all_fit p sizes (x ∷ xs) h = All-cons
-    (λ x. (priced_at p (sizes x)).break_cost < 2 ^ 64) x xs (priced_at-fits p (sizes x) h)
+priced_at-all_fit p sizes (x ∷ xs) h =
+    All-cons (λ x. (priced_at p (sizes x)).break_cost < 2 ^ 64) x xs (priced_at-fits p (sizes x) h)
     (priced_at-all_fit p sizes xs h)
 
 last_break_cost-fits : {X : Type 0} (priced : X → PricedSizes) (line : List X)
@@ -365,5 +373,5 @@ line_cost-fits priced p width is_last (x ∷ line) h breaks k l =
 
 pub total_width-take : {X : Type 0} (sizes : X → Sizes) (xs : List X) (j : ℕ)
     → total_width sizes (take j xs) ≤ total_width sizes xs
-total_width-take {X = X} sizes xs j = sum_by-take-le
-    (λ (x : X). (sizes x).width + (sizes x).whitespace + (sizes x).penalty) xs j
+total_width-take {X = X} sizes xs j =
+    sum_by-take-le (λ (x : X). (sizes x).width + (sizes x).whitespace + (sizes x).penalty) xs j

@@ -20,11 +20,12 @@ module _ {X A : Type 0} (priced : X → PricedSizes) (penalties : Penalties) (wi
       → ¬ TableOverflows priced penalties widths xs
       → IsOptimalFitResult priced penalties widths xs lines (Ok value)
   optimal-returned value by none = record {
-    divided = record {
-      by_table = by;
-      chosen = λ equal.
-          by_table-chosen priced penalties widths xs (lines value) equal by;
-    };
+    divided =
+        record {
+          by_table = by;
+          chosen = λ equal. by_table-chosen priced penalties widths xs
+              (lines value) equal by;
+        };
     overflow_only = λ equal over. absurd over;
     ok_only = λ equal over. none (overflows-table priced penalties widths xs equal over);
     table_overflow_only = λ over. absurd over;
@@ -33,8 +34,8 @@ module _ {X A : Type 0} (priced : X → PricedSizes) (penalties : Penalties) (wi
     no_overflow = λ narrow over. over;
   }
 
-  refused : (e : WrapError) → (Overflowed {A = A} (Err e)
-      → TableOverflows priced penalties widths xs)
+  refused : (e : WrapError)
+      → (Overflowed {A = A} (Err e) → TableOverflows priced penalties widths xs)
       → (2 ^ 128 ≤ total_width (λ x. (priced x).sizes) xs → Overflowed {A = A} (Err e))
       → (total_width (λ x. (priced x).sizes) xs < 2 ^ 64 → ¬ Overflowed {A = A} (Err e))
       → IsOptimalFitResult priced penalties widths xs lines (Err e)

@@ -1,19 +1,12 @@
 -- Worked tables at the default penalties: what their entries start at and cost.
 use Rattle.std.proofs.Common.{◌≡◌, ℕ, List, [], ◌∷◌, map, take, refl}
 use Rattle.textwrap_base.specs.Sizes.{Sizes}
+use Rattle.textwrap_base.proofs.Division.Rows.{sized}
 use Rattle.textwrap_base.specs.Penalties.{default_penalties}
 use Rattle.textwrap_base.specs.Division.{closed_width}
 use Rattle.textwrap_base.specs.Cost.{priced_at, division_cost}
 use Rattle.textwrap_base.specs.Table.{table, fragments_table}
 use Rattle.textwrap_base.specs.declared.minima.table.Entry.{Entry}
-
-abbrev sized : ℕ → ℕ → ℕ → Sizes
-sized width whitespace penalty = record {
-  width = width;
-  whitespace = whitespace;
-  penalty =
-      penalty;
-}
 
 -- the start and the cost of each entry
 abbrev starts_and_costs : List ℕ → List Sizes → List (ℕ × ℕ)
@@ -29,8 +22,8 @@ closed_width-falling : map (λ count. closed_width (λ (sizes : Sizes). sizes) (
     (1 ∷ 2 ∷ 3 ∷ 4 ∷ 5 ∷ []) ≡ 10 ∷ 15 ∷ 25 ∷ 20 ∷ 30 ∷ []
 closed_width-falling = refl
 
-table-falling : starts_and_costs (10 ∷ []) falling
-    ≡ (0, 0) ∷ (0, 1000) ∷ (1, 2025) ∷ (2, 3050) ∷ (1, 2000) ∷ (4, 3000) ∷ []
+table-falling : starts_and_costs (10 ∷ []) falling ≡ (0, 0) ∷ (0, 1000) ∷ (1, 2025) ∷ (2, 3050) ∷
+    (1, 2000) ∷ (4, 3000) ∷ []
 unfolding table
 table-falling = refl
 
@@ -39,8 +32,8 @@ table-falling = refl
 abbrev uneven : List Sizes
 uneven = sized 5 0 0 ∷ sized 5 0 0 ∷ sized 20 0 0 ∷ []
 
-table-uneven : starts_and_costs (10 ∷ 5 ∷ 100 ∷ []) uneven
-    ≡ (0, 0) ∷ (0, 1025) ∷ (0, 1000) ∷ (2, 39500) ∷ []
+table-uneven : starts_and_costs (10 ∷ 5 ∷ 100 ∷ []) uneven ≡ (0, 0) ∷ (0, 1025) ∷ (0, 1000) ∷
+    (2, 39500) ∷ []
 unfolding table
 table-uneven = refl
 

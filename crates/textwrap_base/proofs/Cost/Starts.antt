@@ -52,8 +52,8 @@ table-is_table cost n = record {
   later = later;
 }
   where
-    later : (j : ℕ) → 0 < j → j ≤ n → IsLeastBelow cost (table cost n) j j
-        (entry_at (table cost n) j)
+    later : (j : ℕ) → 0 < j → j ≤ n
+        → IsLeastBelow cost (table cost n) j j (entry_at (table cost n) j)
     later zero p l = absurd (omega arith)
     later (suc j) p l = least_entries cost (table cost j) (table cost n) (suc j) (suc j)
         (entry_at (table cost n) (suc j))
@@ -61,22 +61,22 @@ table-is_table cost n = record {
         (table-least cost n j l)
 
 pub start-at : (cost : ℕ → ℕ → ℕ → ℕ) (n : ℕ) (entries : List Entry) → IsTable cost n entries
-    → (j : ℕ) → j ≤ n → get_or (map (λ (x : Entry). x.start) entries) j 0
-    ≡ (entry_at entries j).start
+    → (j : ℕ) → j ≤ n → get_or (map (λ (x : Entry). x.start) entries) j 0 ≡
+    (entry_at entries j).start
 start-at cost n entries is j l = let len = is.len in
     get_or-map (λ (x : Entry). x.start) entries j first_entry 0 (omega arith)
 
 -- ---- the starts that are reported
 
-pub starts_of_minima : (entries : List Entry) → map (λ (m : Minimum). m.start)
-    (map minimum_of entries) ≡ map (λ (x : Entry). x.start) entries
+pub starts_of_minima : (entries : List Entry)
+    → map (λ (m : Minimum). m.start) (map minimum_of entries) ≡ map (λ (x : Entry). x.start) entries
 starts_of_minima [] = refl
 starts_of_minima (x ∷ entries) = ap (λ l. x.start ∷ l) (starts_of_minima entries)
 
 module _ (cost : ℕ → ℕ → ℕ → ℕ) (n : ℕ) (minima : List Minimum)
     (reported : minima ≡ map minimum_of (table cost n)) where
-  pub starts_reported : map (λ (m : Minimum). m.start) minima
-      ≡ map (λ (x : Entry). x.start) (table cost n)
+  pub starts_reported : map (λ (m : Minimum). m.start) minima ≡ map (λ (x : Entry). x.start)
+      (table cost n)
   starts_reported = ap (map (λ (m : Minimum). m.start)) reported ∙ starts_of_minima (table cost n)
 
   pub length_reported : length minima ≡ n + 1
@@ -100,8 +100,8 @@ module _ (cost : ℕ → ℕ → ℕ → ℕ) (n : ℕ) (minima : List Minimum)
 module _ (cost : ℕ → ℕ → ℕ → ℕ) (n : ℕ) (entries : List Entry) (is : IsTable cost n entries)
     (steady : IsSteady cost) where
   -- a line costs the same after each division of the fragments before it
-  cost_after : (rest : List ℕ) (i j : ℕ) → i ≤ n → AreStarts rest i → cost i j (length rest)
-      ≡ cost i j (entry_at entries i).line_number
+  cost_after : (rest : List ℕ) (i j : ℕ) → i ≤ n → AreStarts rest i
+      → cost i j (length rest) ≡ cost i j (entry_at entries i).line_number
   cost_after [] i j l h = rw (h, is.first) refl
   cost_after (k ∷ rest) i j l (h, hs) =
       let later = is.later i (omega arith) l in
@@ -118,8 +118,8 @@ module _ (cost : ℕ → ℕ → ℕ → ℕ) (n : ℕ) (entries : List Entry) (
       let before = table_least rest i (omega arith) hs in omega (arith, least, after, before)
 
   pub table_followed : (starts : List ℕ) (j : ℕ) → j ≤ n → AreStarts starts j
-      → FollowBack starts (map (λ (x : Entry). x.start) entries) j → starts_cost starts cost j
-      ≡ (entry_at entries j).cost
+      → FollowBack starts (map (λ (x : Entry). x.start) entries) j
+      → starts_cost starts cost j ≡ (entry_at entries j).cost
   table_followed [] j l h f = rw (h, is.first) refl
   table_followed (i ∷ rest) j l (h, hs) (f, fs) =
       let later = is.later j (omega arith) l in
@@ -144,8 +144,7 @@ module _ (cost : ℕ → ℕ → ℕ → ℕ) (n : ℕ) (entries : List Entry) (
       let least = later.least i o in
       let same : starts_cost others cost i ≡ (entry_at entries i).cost =
       omega (arith, least, after, before, e) in
-      by_start s i (cases_eq s i) no_less (λ q.
-      table_earliest rest others s (omega arith) hs fs
+      by_start s i (cases_eq s i) no_less (λ q. table_earliest rest others s (omega arith) hs fs
       (subst (λ k. AreStarts others k) (sym q) os) (rw q same))
     where
       by_start : (s i : ℕ) → (s ≡ i) ⊎ (s ≢ i) → (i < s → ⊥) → (s ≡ i → AreNoLater rest others)

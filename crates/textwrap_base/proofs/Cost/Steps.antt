@@ -21,6 +21,6 @@ pub counted_more : (count m n all : ℕ) → m + n ≤ all
     → counted (counted count m) n ≤ counted count all
 counted_more count m n all l = omega arith
 
-pub counted_next : (count before after n : ℕ) → before ≡ counted count (table_steps n) → after
-    ≡ counted before (n + 1) → after ≡ counted count (table_steps (n + 1))
+pub counted_next : (count before after n : ℕ) → before ≡ counted count (table_steps n)
+    → after ≡ counted before (n + 1) → after ≡ counted count (table_steps (n + 1))
 counted_next count before after n h k = let more = table_steps_more n in omega arith

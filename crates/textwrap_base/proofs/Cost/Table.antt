@@ -16,8 +16,8 @@ length-table cost (suc n) =
     let h = length-table cost n in omega arith
 
 -- an entry stays where the table goes on
-pub entry-table_more : (cost : ℕ → ℕ → ℕ → ℕ) (n j : ℕ) → j ≤ n → entry_at (table cost (suc n)) j
-    ≡ entry_at (table cost n) j
+pub entry-table_more : (cost : ℕ → ℕ → ℕ → ℕ) (n j : ℕ) → j ≤ n
+    → entry_at (table cost (suc n)) j ≡ entry_at (table cost n) j
 unfolding table
 entry-table_more cost n j h =
     let e = length-table cost n in
@@ -25,8 +25,8 @@ entry-table_more cost n j h =
     (omega arith)
 
 -- its last entry is the cheapest
-pub entry-table_last : (cost : ℕ → ℕ → ℕ → ℕ) (n : ℕ) → entry_at (table cost (suc n)) (suc n)
-    ≡ cheapest cost n (table cost n) (suc n)
+pub entry-table_last : (cost : ℕ → ℕ → ℕ → ℕ) (n : ℕ)
+    → entry_at (table cost (suc n)) (suc n) ≡ cheapest cost n (table cost n) (suc n)
 unfolding table
 entry-table_last cost n =
     let e = length-table cost n in
@@ -49,7 +49,8 @@ cheaper_fits e c h k = elim (ltb c.cost e.cost) as (λ b. (if b then c else e).c
 
 module _ (cost : ℕ → ℕ → ℕ → ℕ) (entries : List Entry) (end : ℕ) where
   -- the new start is the cheapest where all before it are dearer
-  pub least_new : (m : ℕ) → ((i : ℕ) → i < m → (entry_from cost m (entry_at entries m) end).cost <
+  pub least_new : (m : ℕ) → ((i : ℕ) → i < m
+      → (entry_from cost m (entry_at entries m) end).cost <
       (entry_from cost i (entry_at entries i) end).cost)
       → IsLeastBelow cost entries end (m + 1) (entry_from cost m (entry_at entries m) end)
   least_new m dearer = record {
@@ -82,8 +83,8 @@ module _ (cost : ℕ → ℕ → ℕ → ℕ) (entries : List Entry) (end : ℕ)
       least_at i (inr ne) l = h.least i (omega arith)
 
   pub least_cheaper : (m : ℕ) (e : Entry) → IsLeastBelow cost entries end m e
-      → IsLeastBelow cost entries end (m + 1) (cheaper e
-      (entry_from cost m (entry_at entries m) end))
+      → IsLeastBelow cost entries end (m + 1)
+      (cheaper e (entry_from cost m (entry_at entries m) end))
   least_cheaper m e h = least_by (cases_lt (entry_from cost m (entry_at entries m) end).cost e.cost)
     where
       least_by : ((entry_from cost m (entry_at entries m) end).cost < e.cost)
@@ -104,15 +105,15 @@ module _ (cost : ℕ → ℕ → ℕ → ℕ) (entries : List Entry) (end : ℕ)
           → 2 ^ 128 ≤ (entry_from cost i (entry_at entries i) end).cost
       past_at i (inl e) l = rw e (past_from_not _ misses)
       past_at i (inr ne) l = h i (omega arith)
-  best_more m None (Some c) h (fits, is) = rw is
-      (least_new m (λ i l. let k = h i l in omega (arith, fits)), fits)
+  best_more m None (Some c) h (fits, is) =
+      rw is (least_new m (λ i l. let k = h i l in omega (arith, fits)), fits)
   best_more m (Some e) None (h, fits) misses =
       (least_old m e h (let k = past_from_not _ misses in omega (arith, fits)), fits)
   best_more m (Some e) (Some c) (h, fits) (fits_new, is) =
       rw is (
         least_cheaper m e h,
-        cheaper_fits e
-            (entry_from cost m (entry_at entries m) end) fits fits_new,
+        cheaper_fits e (entry_from cost m (entry_at entries m) end) fits
+            fits_new,
       )
 
 -- ---- each entry of the table is the least
@@ -140,9 +141,8 @@ least_one cost entries end m e f h k =
     ap (λ (x : Entry). x.cost) k.from_start in
     let p = h.least f.start k.below in
     let q = k.least e.start h.below in
-    let starts : e.start ≡ f.start = least_start e.start f.start
-    (λ l. let d = k.first e.start l in omega arith)
-    (λ l. let d = h.first f.start l in omega arith) in
+    let starts : e.start ≡ f.start = least_start e.start f.start (λ l. let d = k.first e.start l in
+    omega arith) (λ l. let d = h.first f.start l in omega arith) in
     h.from_start ∙ ap (λ (i : ℕ). entry_from cost i (entry_at entries i) end) starts
     ∙ sym k.from_start
   where
@@ -155,11 +155,12 @@ pub table-least : (cost : ℕ → ℕ → ℕ → ℕ) (n j : ℕ) → j < n
 table-least cost zero j l = absurd (omega arith)
 table-least cost (suc n) j l = least_by (cases_eq j n) (λ k. table-least cost n j k)
   where
-    least_by : (j ≡ n) ⊎ (j ≢ n) → (j < n → IsLeastBelow cost (table cost j) (suc j) (suc j)
+    least_by : (j ≡ n) ⊎ (j ≢ n)
+        → (j < n → IsLeastBelow cost (table cost j) (suc j) (suc j)
         (entry_at (table cost n) (suc j)))
         → IsLeastBelow cost (table cost j) (suc j) (suc j) (entry_at (table cost (suc n)) (suc j))
-    least_by (inl e) before = rw (e, entry-table_last cost n)
-        (cheapest-least n cost (table cost n) (suc n))
+    least_by (inl e) before =
+        rw (e, entry-table_last cost n) (cheapest-least n cost (table cost n) (suc n))
     least_by (inr ne) before = rw (entry-table_more cost n (suc j) (omega arith))
         (before (omega arith))
 
@@ -167,11 +168,12 @@ table-least cost (suc n) j l = least_by (cases_eq j n) (λ k. table-least cost n
 pub entry-table_longer : (cost : ℕ → ℕ → ℕ → ℕ) (n j k : ℕ) → k ≤ j → j ≤ n
     → entry_at (table cost n) k ≡ entry_at (table cost j) k
 entry-table_longer cost zero j k h l = let e : j ≡ zero = omega arith in rw e refl
-entry-table_longer cost (suc n) j k h l = longer_by (cases_eq j (suc n))
-    (λ b. entry-table_longer cost n j k h b)
+entry-table_longer cost (suc n) j k h l =
+    longer_by (cases_eq j (suc n)) (λ b. entry-table_longer cost n j k h b)
   where
-    longer_by : (j ≡ suc n) ⊎ (j ≢ suc n) → (j ≤ n → entry_at (table cost n) k
-        ≡ entry_at (table cost j) k) → entry_at (table cost (suc n)) k ≡ entry_at (table cost j) k
+    longer_by : (j ≡ suc n) ⊎ (j ≢ suc n)
+        → (j ≤ n → entry_at (table cost n) k ≡ entry_at (table cost j) k)
+        → entry_at (table cost (suc n)) k ≡ entry_at (table cost j) k
     longer_by (inl e) before = rw e refl
     longer_by (inr ne) before = entry-table_more cost n k (omega arith) ∙ before (omega arith)
 
@@ -202,8 +204,8 @@ numbers_of cost n entries e k l =
 
 -- the best entry ends the next table
 pub table_next : (cost : ℕ → ℕ → ℕ → ℕ) (n : ℕ) (e : Entry)
-    → IsLeastBelow cost (table cost n) (n + 1) (n + 1) e → table cost n ++ e ∷ []
-    ≡ table cost (n + 1)
+    → IsLeastBelow cost (table cost n) (n + 1) (n + 1) e
+    → table cost n ++ e ∷ [] ≡ table cost (n + 1)
 unfolding table
 table_next cost n e h =
     let h' = rw add-one at h in
@@ -225,8 +227,8 @@ table_past cost n m l past =
     let p' = rw add-one at p in
     rw add-one (omega (arith, e, p'))
 
-pub table_fits : (cost : ℕ → ℕ → ℕ → ℕ) (n : ℕ) (e : Entry) → table cost n ++ e ∷ []
-    ≡ table cost (n + 1) → e.cost < 2 ^ 128
+pub table_fits : (cost : ℕ → ℕ → ℕ → ℕ) (n : ℕ) (e : Entry)
+    → table cost n ++ e ∷ [] ≡ table cost (n + 1) → e.cost < 2 ^ 128
     → ((j : ℕ) → j ≤ n → (entry_at (table cost n) j).cost < 2 ^ 128)
     → (j : ℕ) → j ≤ n + 1 → (entry_at (table cost (n + 1)) j).cost < 2 ^ 128
 table_fits cost n e is fits all j l = fits_by (cases_eq j (n + 1))
@@ -237,7 +239,7 @@ table_fits cost n e is fits all j l = fits_by (cases_eq j (n + 1))
     fits_by (inr ne) = rw (add-one, entry-table_more cost n j (omega arith)) (all j (omega arith))
 
 -- the step of the loop: one entry more, on a list that is the table so far
-pub table_pushed : (cost : ℕ → ℕ → ℕ → ℕ) (n : ℕ) (entries more : List Entry) (e : Entry) → entries
-    ≡ table cost n → more ≡ entries ++ e ∷ [] → table cost n ++ e ∷ [] ≡ table cost (n + 1) → more
-    ≡ table cost (n + 1)
+pub table_pushed : (cost : ℕ → ℕ → ℕ → ℕ) (n : ℕ) (entries more : List Entry) (e : Entry)
+    → entries ≡ table cost n → more ≡ entries ++ e ∷ []
+    → table cost n ++ e ∷ [] ≡ table cost (n + 1) → more ≡ table cost (n + 1)
 table_pushed cost n entries more e h k next = k ∙ ap (λ es. es ++ e ∷ []) h ∙ next

@@ -21,8 +21,8 @@ head : List ℕ → ℕ
 head starts = get_or starts 0 0
 
 -- the starts and the fragments give the lines
-lines_same : {X : Type 0} (lines others : List (List X)) (at : ℕ) → starts_from at lines
-    ≡ starts_from at others → joined lines ≡ joined others → lines ≡ others
+lines_same : {X : Type 0} (lines others : List (List X)) (at : ℕ)
+    → starts_from at lines ≡ starts_from at others → joined lines ≡ joined others → lines ≡ others
 lines_same [] [] at s j = refl
 lines_same [] (o ∷ others) at s j = cc
 lines_same (l ∷ lines) [] at s j = cc
@@ -48,8 +48,8 @@ lines_same (l ∷ m ∷ lines) (o ∷ p ∷ others) at s j =
 
 pub chosen_one : {X : Type 0} (priced : X → PricedSizes) (penalties : Penalties) (widths : List ℕ)
     (xs : List X) (lines others : List (List X))
-    → IsChosen priced penalties widths xs lines → IsChosen priced penalties widths xs others → lines
-    ≡ others
+    → IsChosen priced penalties widths xs lines → IsChosen priced penalties widths xs others
+    → lines ≡ others
 chosen_one priced penalties widths [] lines others h k = h.division ∙ sym k.division
 chosen_one priced penalties widths (x ∷ xs) lines others h k =
     let p = h.least others k.division in

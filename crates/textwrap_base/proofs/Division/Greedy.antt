@@ -13,16 +13,17 @@ use Rattle.textwrap_base.specs.Division.{line_width, closed_width, open_width, F
 use Rattle.textwrap_base.specs.Division.{AllFull, IsGreedy}
 
 module _ {X : Type 0} (sizes : X → Sizes) where
-  pub open_width-cons : (x : X) (xs : List X) → open_width sizes (x ∷ xs)
-      ≡ (sizes x).width + (sizes x).whitespace + open_width sizes xs
+  pub open_width-cons : (x : X) (xs : List X)
+      → open_width sizes (x ∷ xs) ≡ (sizes x).width + (sizes x).whitespace + open_width sizes xs
   open_width-cons x xs = sum_by-cons (λ (y : X). (sizes y).width + (sizes y).whitespace) x xs
 
-  pub open_width-append : (xs ys : List X) → open_width sizes (xs ++ ys)
-      ≡ open_width sizes xs + open_width sizes ys
+  pub open_width-append : (xs ys : List X)
+      → open_width sizes (xs ++ ys) ≡ open_width sizes xs + open_width sizes ys
   open_width-append xs ys = sum_by-append (λ (y : X). (sizes y).width + (sizes y).whitespace) xs ys
 
-  pub closed_width-push : (xs : List X) (x : X) → closed_width sizes (xs ++ x ∷ [])
-      ≡ open_width sizes xs + (sizes x).width + (sizes x).penalty
+  pub closed_width-push : (xs : List X) (x : X)
+      → closed_width sizes (xs ++ x ∷ []) ≡ open_width sizes xs + (sizes x).width +
+      (sizes x).penalty
   closed_width-push [] x = omega arith
   closed_width-push (y ∷ []) x = omega arith
   closed_width-push (y ∷ z ∷ xs) x =
@@ -71,8 +72,8 @@ module _ {X : Type 0} (sizes : X → Sizes) where
       let one_more = take_one_more xs i x within is in
       let len : length (take i xs) ≡ i = length-take-le i xs (omega arith) in
       subst (Fits sizes width) (sym one_more)
-      (Fits-push width (take i xs) x fits (λ some.
-      subst (λ line. closed_width sizes line ≤ width) one_more (more (omega arith))))
+      (Fits-push width (take i xs) x fits
+      (λ some. subst (λ line. closed_width sizes line ≤ width) one_more (more (omega arith))))
 
 pub closed_width-map : {X Y : Type 0} (f : X → Y) (sizes : Y → Sizes) (xs : List X)
     → closed_width sizes (map f xs) ≡ closed_width (λ x. sizes (f x)) xs
@@ -93,13 +94,13 @@ pub record IsGreedyFrom {X : Type 0} (sizes : X → Sizes) (widths : List ℕ) (
 module _ {X : Type 0} (sizes : X → Sizes) (widths : List ℕ) where
   pub IsGreedyFrom-nil : (number : ℕ) (xs : List X) → length xs ≡ 0
       → IsGreedyFrom sizes widths number xs []
-  IsGreedyFrom-nil number xs empty = record {
-    whole = sym (nil_from_length xs empty);
-    nonempty =
-        All-nil (λ line. line ≢ []);
-    fit = tt;
-    full = tt;
-  }
+  IsGreedyFrom-nil number xs empty =
+      record {
+        whole = sym (nil_from_length xs empty);
+        nonempty = All-nil (λ line. line ≢ []);
+        fit = tt;
+        full = tt;
+      }
 
   full-cons : (number : ℕ) (xs : List X) (n : ℕ)
       → (n < length xs → line_width widths number < closed_width sizes (take (n + 1) xs))
@@ -136,8 +137,8 @@ module _ {X : Type 0} (sizes : X → Sizes) (widths : List ℕ) where
   pub IsGreedy-from : (xs : List X) (lines : List (List X)) → 0 < length xs
       → IsGreedyFrom sizes widths 0 xs lines → IsGreedy sizes widths xs lines
   IsGreedy-from [] lines some greedy = absurd (omega arith)
-  IsGreedy-from (x ∷ xs) lines some greedy = record {
-    admissible =
-        record { division = (greedy.whole, greedy.nonempty); fit = greedy.fit };
-    full = greedy.full;
-  }
+  IsGreedy-from (x ∷ xs) lines some greedy =
+      record {
+        admissible = record { division = (greedy.whole, greedy.nonempty); fit = greedy.fit };
+        full = greedy.full;
+      }

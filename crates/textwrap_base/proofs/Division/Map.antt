@@ -27,8 +27,9 @@ module _ {X Y : Type 0} (f : X → Y) (sizes : Y → Sizes) where
   AllFit-map widths number (line ∷ lines) fit =
       (Fits-map (line_width widths number) line fit.0, AllFit-map widths (number + 1) lines fit.1)
 
-  full-map : (width : ℕ) (line next : List X) → width < closed_width (λ x. sizes (f x))
-      (line ++ take 1 next) → width < closed_width sizes (map f line ++ take 1 (map f next))
+  full-map : (width : ℕ) (line next : List X)
+      → width < closed_width (λ x. sizes (f x)) (line ++ take 1 next)
+      → width < closed_width sizes (map f line ++ take 1 (map f next))
   full-map width line next full =
       subst (λ n. width < n)
       (sym (ap (λ l. closed_width sizes (map f line ++ l)) (take-map f 1 next)
@@ -43,11 +44,12 @@ module _ {X Y : Type 0} (f : X → Y) (sizes : Y → Sizes) where
   AllFull-map widths number (line ∷ []) full = tt
   AllFull-map widths number (line ∷ next ∷ lines) full = (
     full-map (line_width widths number) line next full.0,
-    AllFull-map widths (number + 1) (next ∷ lines) full.1,
+    AllFull-map widths (number + 1)
+        (next ∷ lines) full.1,
   )
 
-  join-map : (lines : List (List X)) → flat_map (λ line. line) (map (map f) lines)
-      ≡ map f (flat_map (λ line. line) lines)
+  join-map : (lines : List (List X))
+      → flat_map (λ line. line) (map (map f) lines) ≡ map f (flat_map (λ line. line) lines)
   join-map [] = refl
   join-map (line ∷ lines) = ap (λ l. map f line ++ l) (join-map lines)
       ∙ sym (map-append f line (flat_map (λ l. l) lines))
@@ -67,20 +69,18 @@ module _ {X Y : Type 0} (f : X → Y) (sizes : Y → Sizes) where
   pub IsDivision-map : (xs : List X) (lines : List (List X)) → IsDivision xs lines
       → IsDivision (map f xs) (map (map f) lines)
   IsDivision-map [] lines division = ap (map (map f)) division
-  IsDivision-map (x ∷ xs) lines division = (
-    join-map lines ∙ ap (map f) division.0,
-    all_nonempty-map lines division.1,
-  )
+  IsDivision-map (x ∷ xs) lines division =
+      (join-map lines ∙ ap (map f) division.0, all_nonempty-map lines division.1)
 
   pub IsGreedy-map : (widths : List ℕ) (xs : List X) (lines : List (List X))
       → IsGreedy (λ x. sizes (f x)) widths xs lines
       → IsGreedy sizes widths (map f xs) (map (map f) lines)
   IsGreedy-map widths xs lines greedy = record {
-    admissible = record {
-      division = IsDivision-map xs lines greedy.admissible.division;
-      fit =
-          AllFit-map widths 0 lines greedy.admissible.fit;
-    };
+    admissible =
+        record {
+          division = IsDivision-map xs lines greedy.admissible.division;
+          fit = AllFit-map widths 0 lines greedy.admissible.fit;
+        };
     full = AllFull-map widths 0 lines greedy.full;
   }
 

@@ -50,11 +50,15 @@ module _ {X : Type 0} (sizes : X → Sizes) where
   greedy_one : (widths : List ℕ) (xs : List X) → All HasNone xs
       → closed_width sizes xs ≤ line_width widths 0 → IsGreedy sizes widths xs (xs ∷ [])
   greedy_one widths xs none room = record {
-    admissible = record {
-      division = division_one xs;
-      fit =
-          (λ k two within. let part = closed-take xs k none in omega (arith, part, room), tt);
-    };
+    admissible =
+        record {
+          division = division_one xs;
+          fit = (
+            λ k two within. let part = closed-take xs k none in
+                omega (arith, part, room),
+            tt,
+          );
+        };
     full = tt;
   }
 
@@ -96,8 +100,9 @@ module _ {X : Type 0} (priced : X → PricedSizes) (penalties : Penalties) (widt
       omega (arith, len))
 
   start_first : (e : Entry) → IsLeastBelow costs (fragments_table priced penalties widths xs)
-      (length xs) (length xs) e → (entry_at (fragments_table priced penalties widths xs) 0)
-      ≡ first_entry → (start : ℕ) → e.start ≡ start → start ≡ 0
+      (length xs) (length xs) e
+      → (entry_at (fragments_table priced penalties widths xs) 0) ≡ first_entry → (start : ℕ)
+      → e.start ≡ start → start ≡ 0
   start_first e least first zero is = refl
   start_first e least first (suc i) is =
       let entries = fragments_table priced penalties widths xs in
@@ -114,8 +119,8 @@ module _ {X : Type 0} (priced : X → PricedSizes) (penalties : Penalties) (widt
   last_start = start-at costs (length xs) (fragments_table priced penalties widths xs)
       (table-is_table costs (length xs)) (length xs) (omega arith) ∙ start_by (length xs) refl
     where
-      start_by : (n : ℕ) → length xs ≡ n → (entry_at (fragments_table priced penalties widths xs)
-          (length xs)).start ≡ 0
+      start_by : (n : ℕ) → length xs ≡ n
+          → (entry_at (fragments_table priced penalties widths xs) (length xs)).start ≡ 0
       start_by zero is =
           ap (λ n. (entry_at (fragments_table priced penalties widths xs) n).start) is
           ∙ ap (λ e. e.start) (table-is_table costs (length xs)).first
@@ -125,23 +130,25 @@ module _ {X : Type 0} (priced : X → PricedSizes) (penalties : Penalties) (widt
           (table.later (length xs) (omega (arith, is)) (omega arith)) table.first _ refl
 
   by_table_one : IsByTable priced penalties widths xs (xs ∷ [])
-  by_table_one = record {
-    division = division_one xs;
-    starts = (
-      ap (λ n. get_or (map (λ (e : Entry). e.start) (fragments_table priced penalties widths xs)) n
-          0) (zero-add (length xs)) ∙ last_start,
-      tt,
-    );
-  }
+  by_table_one =
+      record {
+        division = division_one xs;
+        starts = (
+          ap (λ n. get_or
+              (map (λ (e : Entry). e.start) (fragments_table priced penalties widths xs)) n 0)
+              (zero-add (length xs)) ∙ last_start,
+          tt,
+        );
+      }
 
 last-none : {X : Type 0} (penalties : Penalties) (sizes : X → Sizes) (xs : List X)
-    → All (λ x. (sizes x).penalty ≡ 0) xs → last_break_cost (λ x. priced_at penalties (sizes x)) xs
-    ≡ 0
+    → All (λ x. (sizes x).penalty ≡ 0) xs
+    → last_break_cost (λ x. priced_at penalties (sizes x)) xs ≡ 0
 last-none penalties sizes [] none = refl
 last-none penalties sizes (x ∷ []) none = let here =
     All-head (λ x. (sizes x).penalty ≡ 0) x [] none in rw here refl
-last-none penalties sizes (x ∷ y ∷ xs) none = last-none penalties sizes (y ∷ xs)
-    (All-tail (λ x. (sizes x).penalty ≡ 0) x (y ∷ xs) none)
+last-none penalties sizes (x ∷ y ∷ xs) none =
+    last-none penalties sizes (y ∷ xs) (All-tail (λ x. (sizes x).penalty ≡ 0) x (y ∷ xs) none)
 
 pub IsDividedBy-one_line : {X : Type 0} (algorithm : Algorithm) (sizes : X → Sizes)
     (widths : List ℕ) (xs : List X) → All (λ x. (sizes x).penalty ≡ 0) xs

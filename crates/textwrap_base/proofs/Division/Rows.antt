@@ -38,8 +38,8 @@ module _ {X : Type 0} (sizes : X → Sizes) where
       subst (λ m. closed_width sizes (take m line) ≤ width) same
       (⊎_elim
       (λ (single : ltb n 2 ≡ true). absurd (omega (arith, ltb-true n 2 single)))
-      (λ (closes : leb (closed_width sizes (take n line)) width ≡ true).
-      leb-true (closed_width sizes (take n line)) width closes)
+      (λ (closes : leb (closed_width sizes (take n line)) width ≡ true). leb-true
+      (closed_width sizes (take n line)) width closes)
       (or_cases (ltb n 2) (leb (closed_width sizes (take n line)) width) both.0)))
       (cases_lt k n)
 
@@ -65,19 +65,14 @@ module _ {X : Type 0} (sizes : X → Sizes) (widths : List ℕ) where
 
   are_greedy-true : (lines : List (List X)) (number : ℕ) → are_greedy number lines ≡ true
       → IsGreedyFrom sizes widths number (flat_map (λ line. line) lines) lines
-  are_greedy-true [] number passes = record {
-    whole = refl;
-    nonempty =
-        All-nil (λ line. line ≢ []);
-    fit = tt;
-    full = tt;
-  }
+  are_greedy-true [] number passes =
+      record { whole = refl; nonempty = All-nil (λ line. line ≢ []); fit = tt; full = tt }
   are_greedy-true (line ∷ lines) number passes =
       let width = line_width widths number in
       let both = and_parts (ltb 0 (length line) && fits_below sizes width line (length line + 1))
       (is_full sizes width line lines && are_greedy (number + 1) lines) passes in
-      let here = and_parts (ltb 0 (length line))
-      (fits_below sizes width line (length line + 1)) both.0 in
+      let here = and_parts (ltb 0 (length line)) (fits_below sizes width line (length line + 1))
+      both.0 in
       let after = and_parts (is_full sizes width line lines)
       (are_greedy (number + 1) lines) both.1 in
       let rest = are_greedy-true lines (number + 1) after.1 in
@@ -94,9 +89,9 @@ module _ {X : Type 0} (sizes : X → Sizes) (widths : List ℕ) where
         full = AllFull-cons number line lines after.0 rest.full;
       }
 
-  IsGreedy-from_test : (lines : List (List X)) → ltb 0 (length (flat_map (λ line. line) lines))
-      ≡ true → are_greedy 0 lines ≡ true → IsGreedy sizes widths
-      (flat_map (λ line. line) lines) lines
+  IsGreedy-from_test : (lines : List (List X))
+      → ltb 0 (length (flat_map (λ line. line) lines)) ≡ true → are_greedy 0 lines ≡ true
+      → IsGreedy sizes widths (flat_map (λ line. line) lines) lines
   IsGreedy-from_test lines some passes =
       IsGreedy-from sizes widths (flat_map (λ line. line) lines) lines
       (ltb-true 0 (length (flat_map (λ line. line) lines)) some)
@@ -119,13 +114,9 @@ line_width-none number = refl
 -- ---- what a line takes
 
 -- a fragment by its sizes
-abbrev sized : ℕ → ℕ → ℕ → Sizes
-sized width whitespace penalty = record {
-  width = width;
-  whitespace = whitespace;
-  penalty =
-      penalty;
-}
+abbrev pub sized : ℕ → ℕ → ℕ → Sizes
+sized width whitespace penalty =
+    record { width = width; whitespace = whitespace; penalty = penalty }
 
 -- which are its own
 abbrev itself : Sizes → Sizes
@@ -156,8 +147,8 @@ IsDivision-not_no_line : IsDivision {X = Sizes} [] [] → ⊥
 IsDivision-not_no_line division = cc
 
 IsDivision-not_empty_line : IsDivision (sized 5 0 0 ∷ []) ([] ∷ (sized 5 0 0 ∷ []) ∷ []) → ⊥
-IsDivision-not_empty_line division = All-head (λ line. line ≢ []) []
-    ((sized 5 0 0 ∷ []) ∷ []) division.1 refl
+IsDivision-not_empty_line division =
+    All-head (λ line. line ≢ []) [] ((sized 5 0 0 ∷ []) ∷ []) division.1 refl
 
 -- all three close within the width, but the first two do not
 IsGreedy-not_past_penalty : IsGreedy itself (10 ∷ []) (sized 5 0 0 ∷ sized 5 0 5 ∷ sized 0 0 0 ∷ [])
@@ -171,14 +162,14 @@ IsGreedy-not_room_left : IsGreedy itself (10 ∷ []) (sized 5 0 0 ∷ sized 5 0 
 IsGreedy-not_room_left greedy = let full : 10 < 10 = greedy.full.0 in omega arith
 
 IsGreedy-none : (widths : List ℕ) → IsGreedy itself widths [] ([] ∷ [])
-IsGreedy-none widths = record {
-  admissible = record {
-    division = refl;
-    fit =
-        (λ k two none. absurd (omega arith), tt);
-  };
-  full = tt;
-}
+IsGreedy-none widths =
+    record {
+      admissible = record {
+        division = refl;
+        fit = (λ k two none. absurd (omega arith), tt);
+      };
+      full = tt;
+    }
 
 IsGreedy-before_penalty : IsGreedy itself (10 ∷ []) (sized 5 0 0 ∷ sized 5 0 5 ∷ sized 0 0 0 ∷ [])
     ((sized 5 0 0 ∷ []) ∷ (sized 5 0 5 ∷ sized 0 0 0 ∷ []) ∷ [])
@@ -210,8 +201,8 @@ IsGreedy-largest : IsGreedy itself (0xFFFF_FFFF_FFFF_FFFF ∷ []) (largest ∷ l
 IsGreedy-largest = IsGreedy-from_test _ _ _ refl refl
 
 -- a line of a text, by its words
-IsGreedy-words : IsGreedy sizes_of (10 ∷ []) (words_of
-    (codes "To be, or not to be: that is the question"))
+IsGreedy-words : IsGreedy sizes_of (10 ∷ [])
+    (words_of (codes "To be, or not to be: that is the question"))
     (words_of (codes "To be, or ") ∷ words_of (codes "not to be: ") ∷ words_of
     (codes "that is ") ∷ words_of (codes "the ") ∷ words_of (codes "question") ∷ [])
 unfolding chars char_width
@@ -220,8 +211,9 @@ IsGreedy-words = IsGreedy-from_test _ _ _ refl refl
 -- ---- what the lines of texts cost
 
 abbrev words_at : List ℕ → List ℕ → List (List ℕ) → ℕ
-words_at widths text lines = division_cost (λ w. priced_at default_penalties (sizes_of w))
-    default_penalties widths (length (words_of text)) (map words_of lines)
+words_at widths text lines =
+    division_cost (λ w. priced_at default_penalties (sizes_of w)) default_penalties widths
+    (length (words_of text)) (map words_of lines)
 
 cost-first_fit : words_at (10 ∷ []) (codes "To be, or not to be: that is the question")
     (codes "To be, or " ∷ codes "not to be: " ∷ codes "that is " ∷ codes "the " ∷ codes "question" ∷

@@ -44,8 +44,9 @@ module _ {X : Type 0} (sizes : X → Sizes) (widths : List ℕ) where
   not_shorter number xs line other ([] ∷ lines) others first second short =
       All-head (λ l. l ≢ []) [] lines (All-tail (λ l. l ≢ []) line ([] ∷ lines) first.nonempty) refl
   not_shorter number xs line other ((x ∷ next) ∷ lines) others first second short =
-      let some : 0 < length line = some_from_nonempty line
-      (All-head (λ l. l ≢ []) line ((x ∷ next) ∷ lines) first.nonempty) in
+      let some : 0 < length line =
+      some_from_nonempty line (All-head (λ l. l ≢ []) line ((x ∷ next) ∷ lines) first.nonempty)
+      in
       let rest : List X = (x ∷ next) ++ flat_map (λ l. l) lines in
       let more : line ++ x ∷ [] ≡ take (length line + 1) other = sym (take-append-add line rest 1)
       ∙ ap (take (length line + 1)) (first.whole ∙ sym second.whole)
@@ -75,10 +76,10 @@ module _ {X : Type 0} (sizes : X → Sizes) (widths : List ℕ) where
   same_lines (line ∷ lines) [] number xs one other =
       absurd (omega (arith, some_fragments number xs line lines one, ap length other.whole))
   same_lines (line ∷ lines) (other ∷ others) number xs first second =
-      let not_less : length line < length other → ⊥ =
-      not_shorter number xs line other lines others first second in
-      let not_more : length other < length line → ⊥ =
-      not_shorter number xs other line others lines second first in
+      let not_less : length line < length other
+      → ⊥ = not_shorter number xs line other lines others first second in
+      let not_more : length other < length line
+      → ⊥ = not_shorter number xs other line others lines second first in
       let parts : (line ≡ other) × (flat_map (λ l. l) lines ≡ flat_map (λ l. l) others) =
       same_parts line other (flat_map (λ l. l) lines) (flat_map (λ l. l) others)
       (first.whole ∙ sym second.whole) (omega arith) in
@@ -91,13 +92,13 @@ module _ {X : Type 0} (sizes : X → Sizes) (widths : List ℕ) where
 
   from_IsGreedy : (x : X) (xs : List X) (lines : List (List X))
       → IsGreedy sizes widths (x ∷ xs) lines → IsGreedyFrom sizes widths 0 (x ∷ xs) lines
-  from_IsGreedy x xs lines greedy = record {
-    whole = greedy.admissible.division.0;
-    nonempty =
-        greedy.admissible.division.1;
-    fit = greedy.admissible.fit;
-    full = greedy.full;
-  }
+  from_IsGreedy x xs lines greedy =
+      record {
+        whole = greedy.admissible.division.0;
+        nonempty = greedy.admissible.division.1;
+        fit = greedy.admissible.fit;
+        full = greedy.full;
+      }
 
   pub greedy_unique : (xs : List X) (first second : List (List X)) → IsGreedy sizes widths xs first
       → IsGreedy sizes widths xs second → first ≡ second

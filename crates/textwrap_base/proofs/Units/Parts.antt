@@ -22,10 +22,12 @@ use Rattle.textwrap_base.specs.declared.words.escapes.State.TheVariants.{Command
 pub units_past-tile : (n : ℕ) (cs : List ℕ) → flat_map characters (units_past n cs) ≡ drop n cs
 units_past-tile n [] = sym (drop_all n [] (omega arith))
 units_past-tile zero (c ∷ cs) =
-    elim (eqb c 27) as (λ b. characters (cond b (Sequence (c ∷ take (escape_len cs) cs))
-    (Visible c)) ++ flat_map characters (units_past (cond b (escape_len cs) 0) cs) ≡ c ∷ cs) [
-      | true ↦ ap (λ ds. c ∷ ds) (ap (λ ds. take (escape_len cs) cs ++ ds)
-          (units_past-tile (escape_len cs) cs) ∙ take-append-drop (escape_len cs) cs)
+    elim (eqb c 27) as (λ b. characters
+    (cond b (Sequence (c ∷ take (escape_len cs) cs)) (Visible c)) ++ flat_map characters
+    (units_past (cond b (escape_len cs) 0) cs) ≡ c ∷ cs) [
+      | true ↦ ap (λ ds. c ∷ ds)
+          (ap (λ ds. take (escape_len cs) cs ++ ds) (units_past-tile (escape_len cs) cs)
+          ∙ take-append-drop (escape_len cs) cs)
       | false ↦ ap (λ ds. c ∷ ds) (units_past-tile 0 cs)
     ]
 units_past-tile (suc n) (c ∷ cs) = units_past-tile n cs
@@ -70,15 +72,20 @@ units_past-end (suc n) (c ∷ cs) short = units_past-end n cs (omega arith)
 -- where more units come, a unit does not reach the end
 more-left : (n : ℕ) (cs : List ℕ) (xs ys : List TextUnit) → units_past n cs ≡ xs ++ ys → ys ≢ []
     → n < length cs
-more-left n cs xs ys e more = elim (cases_lt n (length cs))
-    [ inl lt ↦ lt | inr le ↦ absurd (more (nil_after xs ys (sym (units_past-end n cs le) ∙ e))) ]
+more-left n cs xs ys e more =
+    elim (cases_lt n (length cs)) [
+      | inl lt ↦ lt
+      | inr le ↦ absurd
+          (more (nil_after xs ys (sym (units_past-end n cs le) ∙ e)))
+    ]
 
 part-unit : (c : ℕ) (cs : List ℕ) (xs ys : List TextUnit) (b : Bool) → eqb c 27 ≡ b
     → units_past (cond b (escape_len cs) 0) cs ≡ xs ++ ys → ys ≢ []
-    → units_past (cond b (escape_len cs) 0) (take
-    (cond b (escape_len cs) 0) cs ++ flat_map characters xs) ≡ xs
-    → units_past 0 (characters (cond b (Sequence (c ∷ take (escape_len cs) cs)) (Visible c)) ++
-    flat_map characters xs) ≡ cond b (Sequence (c ∷ take (escape_len cs) cs)) (Visible c) ∷ xs
+    → units_past (cond b (escape_len cs) 0)
+    (take (cond b (escape_len cs) 0) cs ++ flat_map characters xs) ≡ xs
+    → units_past 0 (characters (cond b (Sequence (c ∷ take (escape_len cs) cs)) (Visible c))
+    ++ flat_map characters xs) ≡ cond b (Sequence (c ∷ take (escape_len cs) cs))
+    (Visible c) ∷ xs
 part-unit c cs xs ys true is e more rest =
     let short = more-left (escape_len cs) cs xs ys e more in
     let again = escape-again cs (flat_map characters xs) short in
@@ -130,29 +137,33 @@ shows Text c = not (eqb c 27)
 shows _ c = false
 
 -- a character inside a sequence is taken from it
-taken-step : (s : State) (c : ℕ) (cs : List ℕ) → s ≢ Text → taken_in s (c ∷ cs)
-    ≡ suc (taken_in (next_of s c) cs)
+taken-step : (s : State) (c : ℕ) (cs : List ℕ) → s ≢ Text
+    → taken_in s (c ∷ cs) ≡ suc (taken_in (next_of s c) cs)
 taken-step Text c cs inside = absurd (inside refl)
 taken-step Escape c cs inside = elim (cases_Bool (is_control_start c)) [
   | inl t ↦ rw t refl
-  | inr f ↦ elim (cases_Bool (is_command_start c))
-      [ inl t ↦ rw (f, t) refl | inr g ↦ rw (f, g) refl ]
+  | inr f ↦ elim (cases_Bool (is_command_start c)) [
+    | inl t ↦ rw (f, t) refl
+    | inr g ↦ rw (f, g) refl
+  ]
 ]
-taken-step Control c cs inside = elim (cases_Bool (is_control_end c))
-    [ inl t ↦ rw t refl | inr f ↦ rw f refl ]
-taken-step (Command last) c cs inside = elim (cases_Bool (is_command_end last c))
-    [ inl t ↦ rw t refl | inr f ↦ rw f refl ]
+taken-step Control c cs inside =
+    elim (cases_Bool (is_control_end c)) [ inl t ↦ rw t refl | inr f ↦ rw f refl ]
+taken-step (Command last) c cs inside =
+    elim (cases_Bool (is_command_end last c)) [ inl t ↦ rw t refl | inr f ↦ rw f refl ]
 
-visible-inside : (s : State) (c : ℕ) (cs : List ℕ) → s ≢ Text → visible_in s (c ∷ cs)
-    ≡ visible_in (next_of s c) cs
+visible-inside : (s : State) (c : ℕ) (cs : List ℕ) → s ≢ Text
+    → visible_in s (c ∷ cs) ≡ visible_in (next_of s c) cs
 visible-inside s c cs inside = ap (λ n. flat_map visible_of (units_past n (c ∷ cs)))
     (taken-step s c cs inside)
 
-visible-step : (s : State) (c : ℕ) (cs : List ℕ) → visible_in s (c ∷ cs)
-    ≡ cond (shows s c) (c ∷ visible_in (next_of s c) cs) (visible_in (next_of s c) cs)
+visible-step : (s : State) (c : ℕ) (cs : List ℕ)
+    → visible_in s (c ∷ cs) ≡ cond (shows s c) (c ∷ visible_in (next_of s c) cs)
+    (visible_in (next_of s c) cs)
 visible-step Text c cs =
-    elim (eqb c 27) as (λ b. visible_of (cond b (Sequence (c ∷ take (escape_len cs) cs))
-    (Visible c)) ++ flat_map visible_of (units_past (cond b (escape_len cs) 0) cs)
+    elim (eqb c 27) as (λ b. visible_of
+    (cond b (Sequence (c ∷ take (escape_len cs) cs)) (Visible c)) ++ flat_map visible_of
+    (units_past (cond b (escape_len cs) 0) cs)
     ≡ cond (not b) (c ∷ visible_in (cond b Escape Text) cs) (visible_in (cond b Escape Text) cs))
     [ true ↦ refl | false ↦ refl ]
 visible-step Escape c cs = visible-inside Escape c cs (λ e. cc)
@@ -169,11 +180,11 @@ plain_of Control = Control
 plain_of (Command last) = cond (eqb last 27) (Command 27) (Command 0)
 
 abbrev state_showing : ℕ → ℕ → State
-state_showing a b = cond (eqb a 3) Text (cond (eqb a 2) Escape
-    (cond (eqb a 1) Control (cond (eqb b 1) (Command 27) (Command 0))))
+state_showing a b = cond (eqb a 3) Text
+    (cond (eqb a 2) Escape (cond (eqb a 1) Control (cond (eqb b 1) (Command 27) (Command 0))))
 
-command_len-start : (before : ℕ) (cs : List ℕ) → eqb before 27 ≡ false → command_len before cs
-    ≡ command_len 0 cs
+command_len-start : (before : ℕ) (cs : List ℕ) → eqb before 27 ≡ false
+    → command_len before cs ≡ command_len 0 cs
 command_len-start before [] plain = refl
 command_len-start before (c ∷ cs) plain = rw plain refl
 
@@ -191,8 +202,8 @@ state_showing-is : (s : State) → state_showing (length (visible_in s (48 ∷ 9
 state_showing-is Text = refl
 state_showing-is Escape = refl
 state_showing-is Control = refl
-state_showing-is (Command last) = elim (cases_Bool (eqb last 27))
-    [ inl t ↦ rw t refl | inr f ↦ rw f refl ]
+state_showing-is (Command last) =
+    elim (cases_Bool (eqb last 27)) [ inl t ↦ rw t refl | inr f ↦ rw f refl ]
 
 same-taken : (s t : State) → ((cs : List ℕ) → visible_in s cs ≡ visible_in t cs) → (cs : List ℕ)
     → taken_in s cs ≡ taken_in t cs
@@ -223,8 +234,8 @@ pub step-is : (s next : State) (flag : Bool) (c : ℕ)
     (visible_in next cs))
     → (flag ≡ shows s c) × ((cs : List ℕ) → taken_in next cs ≡ taken_in (next_of s c) cs)
 step-is s next flag c h =
-    let flag_is : flag ≡ shows s c = same-flag flag (shows s c) c
-    (sym (h []) ∙ visible-step s c []) in (
+    let flag_is : flag ≡ shows s c =
+    same-flag flag (shows s c) c (sym (h []) ∙ visible-step s c []) in (
       flag_is,
       same-taken next (next_of s c) (λ cs.
           same-rest flag c (visible_in next cs) (visible_in (next_of s c) cs)
@@ -237,12 +248,12 @@ step-is s next flag c h =
 abbrev pub units_in : State → List ℕ → List TextUnit
 units_in s cs = units_past (taken_in s cs) cs
 
-pub units_in-inside : (s : State) (c : ℕ) (cs : List ℕ) → s ≢ Text → units_in s (c ∷ cs)
-    ≡ units_in (next_of s c) cs
+pub units_in-inside : (s : State) (c : ℕ) (cs : List ℕ) → s ≢ Text
+    → units_in s (c ∷ cs) ≡ units_in (next_of s c) cs
 units_in-inside s c cs inside = ap (λ n. units_past n (c ∷ cs)) (taken-step s c cs inside)
 
-pub units_in-text : (c : ℕ) (cs : List ℕ) → units_in Text (c ∷ cs)
-    ≡ unit_at c cs ∷ units_in (next_of Text c) cs
+pub units_in-text : (c : ℕ) (cs : List ℕ)
+    → units_in Text (c ∷ cs) ≡ unit_at c cs ∷ units_in (next_of Text c) cs
 units_in-text c cs = elim (eqb c 27) as (λ b. unit_at c cs ∷ units_past
     (cond b (escape_len cs) 0) cs ≡ unit_at c cs ∷ units_in (cond b Escape Text) cs)
     [ true ↦ refl | false ↦ refl ]

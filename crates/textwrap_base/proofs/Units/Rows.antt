@@ -46,8 +46,8 @@ ends-other = refl
 units-none : units [] ≡ []
 units-none = refl
 
-units-coloured : units (codes "\u{1b}[31ma\u{1b}[0m")
-    ≡ Sequence (codes "\u{1b}[31m") ∷ Visible 97 ∷ Sequence (codes "\u{1b}[0m") ∷ []
+units-coloured : units (codes "\u{1b}[31ma\u{1b}[0m") ≡ Sequence
+    (codes "\u{1b}[31m") ∷ Visible 97 ∷ Sequence (codes "\u{1b}[0m") ∷ []
 units-coloured = refl
 
 units-last_without_end : units (codes "a\u{1b}]b") ≡ Visible 97 ∷ Sequence (codes "\u{1b}]b") ∷ []
@@ -131,8 +131,8 @@ text_width-link = refl
 chunks-none : chunks [] ≡ []
 chunks-none = refl
 
-chunks-three : chunks (codes "foo     bar  baz ")
-    ≡ codes "foo     " ∷ codes "bar  " ∷ codes "baz " ∷ []
+chunks-three : chunks (codes "foo     bar  baz ") ≡ codes "foo     " ∷ codes "bar  " ∷ codes "baz "
+    ∷ []
 chunks-three = refl
 
 chunks-leading_blanks : chunks (codes "   foo") ≡ codes "   " ∷ codes "foo" ∷ []
@@ -154,19 +154,13 @@ word_of-coloured : word_of (codes "\u{1b}[1mab\u{1b}[0m ")
       word = codes "\u{1b}[1mab\u{1b}[0m";
       whitespace = codes " ";
       penalty = [];
-      width =
-          2;
+      width = 2;
     }
 unfolding chars char_width
 word_of-coloured = refl
 
-word_of-blanks : word_of (codes "  ") ≡ record {
-  word = [];
-  whitespace = codes "  ";
-  penalty =
-      [];
-  width = 0;
-}
+word_of-blanks : word_of (codes "  ")
+    ≡ record { word = []; whitespace = codes "  "; penalty = []; width = 0 }
 unfolding chars
 word_of-blanks = refl
 
@@ -181,11 +175,7 @@ sizes_of-coloured : sizes_of (word_of (codes "\u{1b}[1mab\u{1b}[0m   "))
 unfolding chars char_width
 sizes_of-coloured = refl
 
-sizes_of-penalty : sizes_of (record {
-  word = codes "foo";
-  whitespace = codes "  ";
-  penalty =
-      codes "-";
-  width = 7;
-}) ≡ record { width = 7; whitespace = 2; penalty = 1 }
+sizes_of-penalty : sizes_of
+    (record { word = codes "foo"; whitespace = codes "  "; penalty = codes "-"; width = 7 })
+    ≡ record { width = 7; whitespace = 2; penalty = 1 }
 sizes_of-penalty = refl

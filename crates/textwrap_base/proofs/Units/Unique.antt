@@ -27,10 +27,13 @@ record StopsAt (passes : List ℕ → Bool) (cs : List ℕ) (n : ℕ) : Type 0 w
 StopsAt-cons : (whole tail : List ℕ → Bool) (c : ℕ) (cs : List ℕ) (n : ℕ) → whole [] ≡ false
     → ((l : List ℕ) → whole (c ∷ l) ≡ tail l) → StopsAt tail cs n → StopsAt whole (c ∷ cs) (suc n)
 StopsAt-cons whole tail c cs n none along stops =
-    let before : (k : ℕ) → k < suc n → whole (take k (c ∷ cs)) ≡ false = λ k.
-    elim k as (λ k. k < suc n → whole (take k (c ∷ cs)) ≡ false)
-    [ zero ↦ λ _. none | suc k ↦ λ below. along (take k cs) ∙ stops.before k (omega arith) ]
-    in
+    let before : (k : ℕ) → k < suc n → whole (take k (c ∷ cs)) ≡ false =
+    λ k. elim k as (λ k. k < suc n
+    → whole (take k (c ∷ cs)) ≡ false) [
+      | zero ↦ λ _. none
+      | suc k ↦ λ below.
+          along (take k cs) ∙ stops.before k (omega arith)
+    ] in
     record {
       within = omega (arith, stops.within);
       before = before;
@@ -55,11 +58,11 @@ module _ (passes : List ℕ → Bool) (test : ℕ → ℕ → Bool) (len : ℕ �
           stop = inr (refl, ap passes (append-nil front) ∙ none);
         })
     StopsAt-len (c ∷ cs) front b none next =
-        let first : (k : ℕ) → k < 1 → passes (front ++ take k (c ∷ cs)) ≡ false = λ k.
-        elim k as (λ k. k < 1 → passes (front ++ take k (c ∷ cs)) ≡ false) [
-          | zero ↦ λ _. ap passes (append-nil front) ∙ none
-          | suc k ↦ λ below.
-              absurd (omega arith)
+        let first : (k : ℕ) → k < 1 → passes (front ++ take k (c ∷ cs)) ≡ false =
+        λ k. elim k as (λ k. k < 1 → passes (front ++ take k (c ∷ cs)) ≡ false) [
+          | zero ↦ λ _.
+              ap passes (append-nil front) ∙ none
+          | suc k ↦ λ below. absurd (omega arith)
         ] in
         subst (StopsAt (λ l. passes (front ++ l)) (c ∷ cs)) (sym (len-cons b c cs))
         (⊎_elim
@@ -98,25 +101,27 @@ escape-cons c cs true command is_control is_command =
     rw is_control (StopsAt-cons ends (λ l. is_control_end (last l)) c cs (control_len cs) refl
     (λ l. rw is_control) (control-stops cs))
 escape-cons c cs false true is_control is_command =
-    rw (is_control, is_command) (StopsAt-cons ends
-    (λ l. is_command_end (last_but_one l) (last l)) c cs (command_len c cs) refl
-    (λ l. rw (is_control, is_command)) (command-stops c is_command cs))
+    rw (is_control, is_command)
+    (StopsAt-cons ends (λ l. is_command_end (last_but_one l) (last l)) c cs
+    (command_len c cs) refl (λ l. rw (is_control, is_command))
+    (command-stops c is_command cs))
 escape-cons c cs false false is_control is_command =
-    rw (is_control, is_command) (StopsAt-cons ends (λ l. true) c cs 0 refl
-    (λ l. rw (is_control, is_command)) (record {
+    rw (is_control, is_command)
+    (StopsAt-cons ends (λ l. true) c cs 0 refl (λ l. rw (is_control, is_command))
+    (record {
       within = omega arith;
-      before = λ k below.
-          absurd (omega arith);
+      before = λ k below. absurd (omega arith);
       stop = inl refl;
     }))
 
 escape-stops : (cs : List ℕ) → StopsAt ends cs (escape_len cs)
-escape-stops [] = record {
-  within = omega arith;
-  before = λ k below. absurd (omega arith);
-  stop =
-      inr (refl, refl);
-}
+escape-stops [] =
+    record {
+      within = omega arith;
+      before = λ k below. absurd (omega arith);
+      stop = inr
+          (refl, refl);
+    }
 escape-stops (c ∷ cs) = escape-cons c cs (is_control_start c) (is_command_start c) refl refl
 
 -- ---- the units of a text are units
@@ -132,14 +137,15 @@ sequence-units : (cs : List ℕ) (n : ℕ) → StopsAt ends cs n → AreUnits (u
     → AreUnits (Sequence (escape ∷ take n cs) ∷ units_past n cs)
 sequence-units cs n stops rest =
     let len : length (take n cs) ≡ n = length-take-le n cs stops.within in
-    let before : (k : ℕ) → k < n → ends (take k (take n cs)) ≡ false = λ k below.
-    ap ends (take-take k n cs (omega arith)) ∙ stops.before k below in
+    let before : (k : ℕ) → k < n → ends (take k (take n cs)) ≡ false =
+    λ k below. ap ends (take-take k n cs (omega arith)) ∙ stops.before k below in
     ⊎_elim
     (λ (passed : ends (take n cs) ≡ true). AreUnits-cons (Sequence (escape ∷ take n cs))
     (units_past n cs) (take n cs, refl, passed, λ k below. before k (omega arith)) rest)
     (λ (all : (n ≡ length cs) × (ends (take n cs) ≡ false)).
-    let upto : (k : ℕ) → k ≤ length (take n cs) → ends (take k (take n cs)) ≡ false = λ k most.
-    ⊎_elim (before k) (λ (past : n ≤ k). ap ends (take_all k (take n cs) (omega arith)) ∙ all.1)
+    let upto : (k : ℕ) → k ≤ length (take n cs) → ends (take k (take n cs)) ≡ false =
+    λ k most. ⊎_elim (before k)
+    (λ (past : n ≤ k). ap ends (take_all k (take n cs) (omega arith)) ∙ all.1)
     (cases_lt k n) in
     AreUnits-open (Sequence (escape ∷ take n cs)) (units_past n cs) (take n cs, refl, upto)
     (ap (λ m. units_past m cs) all.0 ∙ units_past-end (length cs) cs (omega arith)))
@@ -157,8 +163,8 @@ AreUnits-at c cs false is rest = AreUnits-cons (Visible c) (units_past 0 cs)
 
 AreUnits-units_past : (cs : List ℕ) (n : ℕ) → AreUnits (units_past n cs)
 AreUnits-units_past [] n = tt
-AreUnits-units_past (c ∷ cs) zero = AreUnits-at c cs (c == escape) refl
-    (AreUnits-units_past cs (taken_at c cs))
+AreUnits-units_past (c ∷ cs) zero =
+    AreUnits-at c cs (c == escape) refl (AreUnits-units_past cs (taken_at c cs))
 AreUnits-units_past (c ∷ cs) (suc n) = AreUnits-units_past cs n
 
 pub IsInUnits-units : (cs : List ℕ) → IsInUnits cs (units cs)
@@ -175,33 +181,22 @@ record Begins (cs : List ℕ) (us : List TextUnit) : Type 0 where
   rest : AreUnits us
 
 Begins-from : (cs : List ℕ) (us : List TextUnit) → AreUnits (Sequence cs ∷ us) → Begins cs us
-Begins-from cs [] (inl whole) = record {
-  body = whole.0;
-  shape = whole.1;
-  before = whole.3;
-  stop =
-      inl whole.2;
-  rest = tt;
-}
-Begins-from cs [] (inr open_last) = record {
-  body = open_last.0;
-  shape = open_last.1;
-  before =
-      λ k below. open_last.2 k (omega arith);
-  stop = inr refl;
-  rest = tt;
-}
-Begins-from cs (v ∷ us) (whole, rest) = record {
-  body = whole.0;
-  shape = whole.1;
-  before =
-      whole.3;
-  stop = inl whole.2;
-  rest = rest;
-}
+Begins-from cs [] (inl whole) =
+    record { body = whole.0; shape = whole.1; before = whole.3; stop = inl whole.2; rest = tt }
+Begins-from cs [] (inr open_last) =
+    record {
+      body = open_last.0;
+      shape = open_last.1;
+      before = λ k below. open_last.2 k
+          (omega arith);
+      stop = inr refl;
+      rest = tt;
+    }
+Begins-from cs (v ∷ us) (whole, rest) =
+    record { body = whole.0; shape = whole.1; before = whole.3; stop = inl whole.2; rest = rest }
 
-AreUnits-visible : (c : ℕ) (us : List TextUnit) → AreUnits (Visible c ∷ us) → (c ≢ escape)
-    × AreUnits us
+AreUnits-visible : (c : ℕ) (us : List TextUnit) → AreUnits (Visible c ∷ us)
+    → (c ≢ escape) × AreUnits us
 AreUnits-visible c [] (inl whole) = (whole, tt)
 AreUnits-visible c [] (inr open_last) = absurd open_last
 AreUnits-visible c (v ∷ us) (whole, rest) = (whole, rest)
@@ -226,14 +221,15 @@ module _ (xs ys : List ℕ) (us vs : List TextUnit) (first : Begins xs us) (seco
 
   same_sequence : (xs ≡ ys) × (flat_map characters us ≡ flat_map characters vs)
   same_sequence =
-      let not_less : length first.body < length second.body → ⊥ =
-      not_shorter first.body second.body (flat_map characters us)
+      let not_less : length first.body < length second.body
+      → ⊥ = not_shorter first.body second.body (flat_map characters us)
       (flat_map characters vs) same_bodies second.before
       (⊎_elim (λ (e : ends first.body ≡ true). inl e)
       (λ (e : us ≡ []). inr (ap (flat_map characters) e)) first.stop) in
-      let not_more : length second.body < length first.body → ⊥ =
-      not_shorter second.body first.body (flat_map characters vs) (flat_map characters us)
-      (sym same_bodies) first.before (⊎_elim (λ (e : ends second.body ≡ true). inl e)
+      let not_more : length second.body < length first.body
+      → ⊥ = not_shorter second.body first.body (flat_map characters vs) (flat_map characters us)
+      (sym same_bodies) first.before
+      (⊎_elim (λ (e : ends second.body ≡ true). inl e)
       (λ (e : vs ≡ []). inr (ap (flat_map characters) e)) second.stop) in
       let parts : (first.body ≡ second.body) × (flat_map characters us ≡ flat_map characters vs) =
       same_parts first.body second.body (flat_map characters us)
@@ -248,20 +244,20 @@ some_characters (Sequence cs) us are = let begins : Begins cs us = Begins-from c
 
 -- no visible character begins a sequence
 not_visible : (c : ℕ) (cs : List ℕ) (us vs : List TextUnit) → AreUnits (Visible c ∷ us)
-    → AreUnits (Sequence cs ∷ vs) → flat_map characters (Visible c ∷ us)
-    ≡ flat_map characters (Sequence cs ∷ vs) → ⊥
+    → AreUnits (Sequence cs ∷ vs) → flat_map characters (Visible c ∷ us) ≡ flat_map characters
+    (Sequence cs ∷ vs) → ⊥
 not_visible c cs us vs visible sequence same =
     let begins : Begins cs vs = Begins-from cs vs sequence in
-    (AreUnits-visible c us visible).0 (ap (λ l. get_or l 0 0)
-    (same ∙ ap (λ l. l ++ flat_map characters vs) begins.shape))
+    (AreUnits-visible c us visible).0
+    (ap (λ l. get_or l 0 0) (same ∙ ap (λ l. l ++ flat_map characters vs) begins.shape))
 
-units_same : (us vs : List TextUnit) → AreUnits us → AreUnits vs → flat_map characters us
-    ≡ flat_map characters vs → us ≡ vs
+units_same : (us vs : List TextUnit) → AreUnits us → AreUnits vs
+    → flat_map characters us ≡ flat_map characters vs → us ≡ vs
 units_same [] [] ours theirs same = refl
-units_same [] (v ∷ vs) ours theirs same = absurd
-    (omega (arith, some_characters v vs theirs, ap length same))
-units_same (u ∷ us) [] ours theirs same = absurd
-    (omega (arith, some_characters u us ours, ap length same))
+units_same [] (v ∷ vs) ours theirs same =
+    absurd (omega (arith, some_characters v vs theirs, ap length same))
+units_same (u ∷ us) [] ours theirs same =
+    absurd (omega (arith, some_characters u us ours, ap length same))
 units_same (Visible c ∷ us) (Visible d ∷ vs) ours theirs same =
     let tails : us ≡ vs = units_same us vs (AreUnits-visible c us ours).1
     (AreUnits-visible d vs theirs).1 (ap (drop 1) same) in

@@ -24,18 +24,18 @@ columns_in state cs = sum_by columns (visible_in state cs)
 -- one step over the character at place n
 pub columns_in-step : (state after : State) (is_visible : Bool) (cs : List ℕ) (n c : ℕ)
     → (n < length cs) × (c ≡ get_or cs n c)
-    → ((ds : List ℕ) → visible_in state (c ∷ ds)
-    ≡ cond is_visible (c ∷ visible_in after ds) (visible_in after ds))
+    → ((ds : List ℕ) → visible_in state (c ∷ ds) ≡ cond is_visible (c ∷ visible_in after ds)
+    (visible_in after ds))
     → columns_in state (drop n cs) ≡ cond is_visible (columns c) 0 + columns_in after
     (drop (n + 1) cs)
 columns_in-step state after true cs n c here step =
-    at_drop_more (columns_in state) cs n c here.0
-    ∙ ap (λ x. columns_in state (x ∷ drop (n + 1) cs)) (sym here.1)
+    at_drop_more (columns_in state) cs n c here.0 ∙ ap (λ x. columns_in state (x ∷ drop (n + 1) cs))
+    (sym here.1)
     ∙ ap (sum_by columns) (step (drop (n + 1) cs))
     ∙ sum_by-cons columns c (visible_in after (drop (n + 1) cs))
 columns_in-step state after false cs n c here step =
-    at_drop_more (columns_in state) cs n c here.0
-    ∙ ap (λ x. columns_in state (x ∷ drop (n + 1) cs)) (sym here.1)
+    at_drop_more (columns_in state) cs n c here.0 ∙ ap (λ x. columns_in state (x ∷ drop (n + 1) cs))
+    (sym here.1)
     ∙ ap (sum_by columns) (step (drop (n + 1) cs)) ∙ sym (zero-add _)
 
 columns-ascii : (c : ℕ) → c < 128 → columns c ≤ 1
@@ -43,12 +43,8 @@ unfolding char_width
 columns-ascii c low = grind (arith, nat_tests)
 
 pub columns-le : (c : ℕ) → columns c ≤ 2 * length (encode c)
-columns-le c = rw length-encode (grind (
-  arith,
-  nat_tests,
-  columns-ascii c,
-  width_or_zero-le false c,
-))
+columns-le c = rw length-encode
+    (grind (arith, nat_tests, columns-ascii c, width_or_zero-le false c))
 
 unit_at-le : (c : ℕ) (cs : List ℕ) → sum_by columns (visible_of (unit_at c cs)) ≤ columns c
 unit_at-le c cs = elim (eqb c 27) as (λ b. sum_by columns
@@ -56,10 +52,11 @@ unit_at-le c cs = elim (eqb c 27) as (λ b. sum_by columns
     [ true ↦ omega arith | false ↦ omega arith ]
 
 -- the visible characters from place n on have no more columns than all of them
-visible-le : (n : ℕ) (cs : List ℕ) → sum_by columns
-    (flat_map visible_of (units_past n cs)) ≤ sum_by columns cs
+visible-le : (n : ℕ) (cs : List ℕ)
+    → sum_by columns (flat_map visible_of (units_past n cs)) ≤ sum_by columns cs
 visible-le n [] = omega arith
-visible-le zero (c ∷ cs) = simp (sum_by-cons, sum_by-append)
+visible-le zero (c ∷ cs) =
+    simp (sum_by-cons, sum_by-append)
     (omega (arith, unit_at-le c cs, visible-le (taken_at c cs) cs))
 visible-le (suc n) (c ∷ cs) = simp sum_by-cons (omega (arith, visible-le n cs))
 

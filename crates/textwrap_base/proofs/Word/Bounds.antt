@@ -17,12 +17,12 @@ pub record IsBounded (w : WordText) : Type 0 where
   pub penalty : HasNoPenalty w
 
 pub IsBounded-measured : (w : WordText) → IsMeasured w → HasNoPenalty w → IsBounded w
-IsBounded-measured w measured none = record {
-  width =
-      subst (λ n. n ≤ 2 * length w.word) (sym measured.width)
-      (text_width-le w.word measured.utf8);
-  penalty = none;
-}
+IsBounded-measured w measured none =
+    record {
+      width = subst (λ n. n ≤ 2 * length w.word) (sym measured.width)
+          (text_width-le w.word measured.utf8);
+      penalty = none;
+    }
 
 pub total_width-bounded : (words : List WordText) → All IsBounded words
     → total_width sizes_of words ≤ 2 * length (tiled words)

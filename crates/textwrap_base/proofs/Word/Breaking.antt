@@ -19,29 +19,30 @@ use Rattle.textwrap_base.specs.Breaking.{is_due, parts_after, broken_units}
 -- what a part with `width` columns takes of the units that follow it, and what it leaves
 abbrev pub taken_units : ℕ → ℕ → List TextUnit → List TextUnit
 taken_units limit width [] = []
-taken_units limit width (u ∷ us) = cond (is_due limit width u) []
-    (u ∷ taken_units limit (width + unit_width u) us)
+taken_units limit width (u ∷ us) =
+    cond (is_due limit width u) [] (u ∷ taken_units limit (width + unit_width u) us)
 
 abbrev pub left_units : ℕ → ℕ → List TextUnit → List TextUnit
 left_units limit width [] = []
-left_units limit width (u ∷ us) = cond (is_due limit width u) (u ∷ us)
-    (left_units limit (width + unit_width u) us)
+left_units limit width (u ∷ us) =
+    cond (is_due limit width u) (u ∷ us) (left_units limit (width + unit_width u) us)
 
 -- no cut is due before the first unit of a part
 pub is_due-first : (limit : ℕ) (u : TextUnit) → is_due limit 0 u ≡ false
 is_due-first limit (Visible c) = refl
 is_due-first limit (Sequence cs) = refl
 
-broken_units-cons : (limit : ℕ) (u : TextUnit) (us : List TextUnit) → broken_units limit (u ∷ us)
-    ≡ onto_first u (parts_after limit (unit_width u) us)
+broken_units-cons : (limit : ℕ) (u : TextUnit) (us : List TextUnit)
+    → broken_units limit (u ∷ us) ≡ onto_first u (parts_after limit (unit_width u) us)
 broken_units-cons limit u us = rw (is_due-first limit u, zero-add) refl
 
-pub parts_after-is : (limit width : ℕ) (us : List TextUnit) → parts_after limit width us
-    ≡ taken_units limit width us ∷ broken_units limit (left_units limit width us)
+pub parts_after-is : (limit width : ℕ) (us : List TextUnit)
+    → parts_after limit width us ≡ taken_units limit width us ∷ broken_units limit
+    (left_units limit width us)
 parts_after-is limit width [] = refl
 parts_after-is limit width (u ∷ us) =
-    elim (is_due limit width u) as (λ b. cond b
-    ([] ∷ onto_first u (parts_after limit (unit_width u) us))
+    elim (is_due limit width u) as (λ b.
+    cond b ([] ∷ onto_first u (parts_after limit (unit_width u) us))
     (onto_first u (parts_after limit (width + unit_width u) us))
     ≡ cond b [] (u ∷ taken_units limit (width + unit_width u) us) ∷ broken_units limit
     (cond b (u ∷ us) (left_units limit (width + unit_width u) us))) [
@@ -53,9 +54,8 @@ pub taken-left : (limit width : ℕ) (us : List TextUnit)
     → taken_units limit width us ++ left_units limit width us ≡ us
 taken-left limit width [] = refl
 taken-left limit width (u ∷ us) =
-    elim (is_due limit width u) as (λ b. cond b []
-    (u ∷ taken_units limit (width + unit_width u) us) ++ cond b (u ∷ us)
-    (left_units limit (width + unit_width u) us) ≡ u ∷ us) [
+    elim (is_due limit width u) as (λ b. cond b [] (u ∷ taken_units limit (width + unit_width u) us)
+    ++ cond b (u ∷ us) (left_units limit (width + unit_width u) us) ≡ u ∷ us) [
       | true ↦ refl
       | false ↦ ap (λ vs. u ∷ vs) (taken-left limit (width + unit_width u) us)
     ]
@@ -70,14 +70,14 @@ IsKeptAfter limit width (u ∷ us) = (is_due limit width u ≡ false)
 
 -- the same said of each visible character
 abbrev EachKeeps : ℕ → ℕ → List TextUnit → Type 0
-EachKeeps limit width part = (before after : List TextUnit) (c : ℕ) → part
-    ≡ before ++ Visible c ∷ after → 0 < width + units_width before
+EachKeeps limit width part = (before after : List TextUnit) (c : ℕ)
+    → part ≡ before ++ Visible c ∷ after → 0 < width + units_width before
     → width + units_width before + columns c ≤ limit
 
 pub due-false : (limit width : ℕ) (c : ℕ) → (0 < width → width + columns c ≤ limit)
     → is_due limit width (Visible c) ≡ false
-due-false limit width c h = elim (cases_Bool (ltb 0 width))
-    [ inl t ↦ rw t (grind (arith, nat_tests)) | inr f ↦ rw f refl ]
+due-false limit width c h =
+    elim (cases_Bool (ltb 0 width)) [ inl t ↦ rw t (grind (arith, nat_tests)) | inr f ↦ rw f refl ]
 
 due-room : (limit width : ℕ) (c : ℕ) → is_due limit width (Visible c) ≡ false → 0 < width
     → width + columns c ≤ limit
@@ -85,8 +85,8 @@ due-room limit width c h some = grind (arith, nat_tests)
 
 first_kept : (limit width : ℕ) (u : TextUnit) (us : List TextUnit) → EachKeeps limit width (u ∷ us)
     → is_due limit width u ≡ false
-first_kept limit width (Visible c) us h = due-false limit width c
-    (λ some. omega (arith, h [] us c refl (omega arith)))
+first_kept limit width (Visible c) us h =
+    due-false limit width c (λ some. omega (arith, h [] us c refl (omega arith)))
 first_kept limit width (Sequence cs) us h = refl
 
 kept-after : (limit width : ℕ) (part : List TextUnit) → EachKeeps limit width part
@@ -113,12 +113,14 @@ kept-at limit width (u ∷ before) after c k some =
     )
 
 IsKept-after : (limit : ℕ) (part : List TextUnit) → IsKept limit part → IsKeptAfter limit 0 part
-IsKept-after limit part h = kept-after limit 0 part
-    (λ before after c e some. omega (arith, h before after c e (omega arith)))
+IsKept-after limit part h =
+    kept-after limit 0 part (λ before after c e some.
+    omega (arith, h before after c e (omega arith)))
 
 pub IsKept-from : (limit : ℕ) (part : List TextUnit) → IsKeptAfter limit 0 part → IsKept limit part
-IsKept-from limit part k = λ before after c e some.
-    omega (arith, kept-at limit 0 before after c (subst (IsKeptAfter limit 0) e k) (omega arith))
+IsKept-from limit part k =
+    λ before after c e some. omega
+    (arith, kept-at limit 0 before after c (subst (IsKeptAfter limit 0) e k) (omega arith))
 
 -- a part of `width` columns has no room for what begins the next
 abbrev IsFullAfter : ℕ → ℕ → List (List TextUnit) → Type 0
@@ -182,8 +184,8 @@ whole limit width first (next ∷ parts) k (c, after, e, some, over) ks fs =
 pub AreBroken-unique : (limit : ℕ) (us : List TextUnit) (parts : List (List TextUnit))
     → AreBroken limit us parts → parts ≡ broken_units limit us
 AreBroken-unique limit us [] h = ap (broken_units limit) h.tiles
-AreBroken-unique limit us ([] ∷ parts) h = absurd
-    (All-head (λ part. part ≢ []) [] parts h.nonempty refl)
+AreBroken-unique limit us ([] ∷ parts) h =
+    absurd (All-head (λ part. part ≢ []) [] parts h.nonempty refl)
 AreBroken-unique limit us ((u ∷ first) ∷ parts) h =
     let kept = IsKept-after limit (u ∷ first) (All-head (IsKept limit) (u ∷ first) parts h.kept) in
     let full = subst (λ n. IsFullAfter limit n parts) (sym (zero-add (units_width (u ∷ first))))
@@ -206,15 +208,15 @@ record AreBrokenAfter (limit width : ℕ) (us first : List TextUnit)
   full : AllPartsFull limit parts
 
 after-nil : (limit width : ℕ) → AreBrokenAfter limit width [] [] []
-after-nil limit width = record {
-  tiles = refl;
-  kept_first = tt;
-  full_first = tt;
-  nonempty =
-      All-nil (λ part. part ≢ []);
-  kept = All-nil (IsKept limit);
-  full = tt;
-}
+after-nil limit width =
+    record {
+      tiles = refl;
+      kept_first = tt;
+      full_first = tt;
+      nonempty = All-nil (λ part. part ≢ []);
+      kept = All-nil (IsKept limit);
+      full = tt;
+    }
 
 after-on : (limit width : ℕ) (u : TextUnit) (us first : List TextUnit)
     (parts : List (List TextUnit)) → is_due limit width u ≡ false
@@ -257,8 +259,8 @@ after-cut limit width u us first parts due h =
       full_first = subst (λ n. IsFullAfter limit n ((u ∷ first) ∷ parts)) (sym (add-zero width))
           (due-parts limit width u first parts due);
       nonempty = All-cons (λ part. part ≢ []) (u ∷ first) parts (λ e. cc) h.nonempty;
-      kept = All-cons (IsKept limit) (u ∷ first) parts
-          (IsKept-from limit (u ∷ first) kept_part) h.kept;
+      kept = All-cons (IsKept limit) (u ∷ first) parts (IsKept-from limit (u ∷ first) kept_part)
+          h.kept;
       full = AllPartsFull-cons limit (u ∷ first) parts full_part h.full;
     }
 
@@ -271,32 +273,33 @@ after-is limit width (u ∷ us) =
       | inl due ↦
           let e : (u ∷ taken_units limit (unit_width u) us) ∷ broken_units limit
           (left_units limit (unit_width u) us) ≡ broken_units limit (u ∷ us)
-          = sym (broken_units-cons limit u us ∙ ap (onto_first u)
-          (parts_after-is limit (unit_width u) us)) in
+          = sym (broken_units-cons limit u us
+          ∙ ap (onto_first u) (parts_after-is limit (unit_width u) us)) in
           rw due (subst (AreBrokenAfter limit width (u ∷ us) []) e
           (after-cut limit width u us _ _ due (after-is limit (unit_width u) us)))
       | inr on ↦ rw on (after-on limit width u us _ _ on (after-is limit (width + unit_width u) us))
     ]
 
 pub AreBroken-exists : (limit : ℕ) (us : List TextUnit) → AreBroken limit us (broken_units limit us)
-AreBroken-exists limit [] = record {
-  tiles = refl;
-  nonempty = All-nil (λ part. part ≢ []);
-  kept =
-      All-nil (IsKept limit);
-  full = tt;
-}
+AreBroken-exists limit [] =
+    record {
+      tiles = refl;
+      nonempty = All-nil (λ part. part ≢ []);
+      kept = All-nil (IsKept limit);
+      full = tt;
+    }
 AreBroken-exists limit (u ∷ us) =
     let first = u ∷ taken_units limit (unit_width u) us in
     let parts = broken_units limit (left_units limit (unit_width u) us) in
     let e : first ∷ parts ≡ broken_units limit (u ∷ us) =
-    sym (broken_units-cons limit u us ∙ ap (onto_first u)
-    (parts_after-is limit (unit_width u) us)) in
+    sym (broken_units-cons limit u us
+    ∙ ap (onto_first u) (parts_after-is limit (unit_width u) us)) in
     let h = after-is limit (unit_width u) us in
     let kept_part : IsKeptAfter limit 0 first = (
       is_due-first limit u,
-      subst (λ n. IsKeptAfter limit n
-          (taken_units limit (unit_width u) us)) (sym (zero-add (unit_width u))) h.kept_first,
+      subst
+          (λ n. IsKeptAfter limit n (taken_units limit (unit_width u) us))
+          (sym (zero-add (unit_width u))) h.kept_first,
     ) in
     let full_part = subst (λ n. IsFullAfter limit n parts)
     (sym (sum_by-cons unit_width u (taken_units limit (unit_width u) us))) h.full_first in

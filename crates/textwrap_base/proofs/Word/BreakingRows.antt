@@ -13,8 +13,8 @@ broken_units-none : broken_units 0 [] ≡ []
 broken_units-none = refl
 
 -- an escape sequence before a cut stays with the part before it
-broken_units-sequence : broken_units 1 (units (codes "a\u{1b}[0mb"))
-    ≡ (Visible 97 ∷ Sequence (codes "\u{1b}[0m") ∷ []) ∷ (Visible 98 ∷ []) ∷ []
+broken_units-sequence : broken_units 1 (units (codes "a\u{1b}[0mb")) ≡
+    (Visible 97 ∷ Sequence (codes "\u{1b}[0m") ∷ []) ∷ (Visible 98 ∷ []) ∷ []
 unfolding char_width
 broken_units-sequence = refl
 
@@ -28,13 +28,13 @@ broken_texts-just_fits : broken_texts 3 (codes "foo") ≡ codes "foo" ∷ []
 unfolding chars char_width encode
 broken_texts-just_fits = refl
 
-broken_texts-sequence_first : broken_texts 1 (codes "\u{1b}[1mab")
-    ≡ codes "\u{1b}[1ma" ∷ codes "b" ∷ []
+broken_texts-sequence_first : broken_texts 1 (codes "\u{1b}[1mab") ≡ codes "\u{1b}[1ma" ∷ codes "b"
+    ∷ []
 unfolding chars char_width encode
 broken_texts-sequence_first = refl
 
-broken_texts-sequence_last : broken_texts 1 (codes "ab\u{1b}[0m")
-    ≡ codes "a" ∷ codes "b\u{1b}[0m" ∷ []
+broken_texts-sequence_last : broken_texts 1 (codes "ab\u{1b}[0m") ≡ codes "a" ∷ codes "b\u{1b}[0m" ∷
+    []
 unfolding chars char_width encode
 broken_texts-sequence_last = refl
 
@@ -49,13 +49,13 @@ broken_texts-without_end = refl
 
 -- ---- pieces
 
-broken_pieces-ends : broken_pieces 3 (word_of (codes "Hello!  "))
-    ≡ word_of (codes "Hel") ∷ word_of (codes "lo!  ") ∷ []
+broken_pieces-ends : broken_pieces 3 (word_of (codes "Hello!  ")) ≡ word_of (codes "Hel") ∷ word_of
+    (codes "lo!  ") ∷ []
 unfolding chars char_width encode
 broken_pieces-ends = refl
 
-broken_pieces-sequence : broken_pieces 2 (word_of (codes "ab\u{1b}[0mcd"))
-    ≡ word_of (codes "ab\u{1b}[0m") ∷ word_of (codes "cd") ∷ []
+broken_pieces-sequence : broken_pieces 2 (word_of (codes "ab\u{1b}[0mcd")) ≡ word_of
+    (codes "ab\u{1b}[0m") ∷ word_of (codes "cd") ∷ []
 unfolding chars char_width encode
 broken_pieces-sequence = refl
 
@@ -64,20 +64,15 @@ unfolding chars
 broken_pieces-blanks = refl
 
 -- whitespace and penalty stand at the last piece alone
-broken_pieces-penalty : broken_pieces 1 (record {
-  word = codes "ab";
-  whitespace =
-      codes " ";
-  penalty = codes "-";
-  width = 9;
-})
+broken_pieces-penalty : broken_pieces 1
+    (record { word = codes "ab"; whitespace = codes " "; penalty = codes "-"; width = 9 })
     ≡ record { word = codes "a"; whitespace = []; penalty = []; width = 1 } ∷
     record { word = codes "b"; whitespace = codes " "; penalty = codes "-"; width = 1 } ∷ []
 unfolding chars char_width encode
 broken_pieces-penalty = refl
 
-broken_words-two : broken_words 2 (word_of (codes "ab ") ∷ word_of (codes "cdef ") ∷ [])
-    ≡ word_of (codes "ab ") ∷ word_of (codes "cd") ∷ word_of (codes "ef ") ∷ []
+broken_words-two : broken_words 2 (word_of (codes "ab ") ∷ word_of (codes "cdef ") ∷ []) ≡ word_of
+    (codes "ab ") ∷ word_of (codes "cd") ∷ word_of (codes "ef ") ∷ []
 unfolding chars char_width encode
 broken_words-two = refl
 

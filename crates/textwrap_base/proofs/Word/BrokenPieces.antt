@@ -33,50 +33,44 @@ use Rattle.textwrap_base.proofs.Units.Parts.{units_in-text, units-tile, units-pa
 
 -- what the step of a reader shows
 abbrev pub IsStep : State → ℕ → State → Bool → Type 0
-IsStep s c next flag = (cs : List ℕ) → visible_in s (c ∷ cs)
-    ≡ cond flag (c ∷ visible_in next cs) (visible_in next cs)
+IsStep s c next flag = (cs : List ℕ) → visible_in s (c ∷ cs) ≡ cond flag (c ∷ visible_in next cs)
+    (visible_in next cs)
 
 -- the reader stands in the first piece of `cs`, which has `width` columns up to here, with `rest`
 -- to come
 pub record IsInFirst (limit : ℕ) (cs : List ℕ) (state : State) (width : ℕ)
     (rest : List ℕ) : Type 0 where
   pub leaves : left_units limit 0 (units cs) ≡ left_units limit width (units_in state rest)
-  pub wide : units_width (taken_units limit 0 (units cs))
-      ≡ width + units_width (taken_units limit width (units_in state rest))
+  pub wide : units_width (taken_units limit 0 (units cs)) ≡ width + units_width
+      (taken_units limit width (units_in state rest))
 
 pub IsInFirst-start : (limit : ℕ) (cs : List ℕ) → IsInFirst limit cs Text 0 cs
-IsInFirst-start limit cs = record {
-  leaves = refl;
-  wide =
-      sym (zero-add (units_width (taken_units limit 0 (units cs))));
-}
+IsInFirst-start limit cs =
+    record { leaves = refl; wide = sym (zero-add (units_width (taken_units limit 0 (units cs)))) }
 
 -- the columns that a character adds
 abbrev pub added : Bool → ℕ → ℕ
 added flag c = cond flag (columns c) 0
 
 -- the reader goes over one unit of the text
-text-unit : (limit width c : ℕ) (cs : List ℕ) →
-    (shows Text c ≡ true → is_due limit width (Visible c) ≡ false)
+text-unit : (limit width c : ℕ) (cs : List ℕ)
+    → (shows Text c ≡ true → is_due limit width (Visible c) ≡ false)
     → (is_due limit width (unit_at c cs) ≡ false)
     × (unit_width (unit_at c cs) ≡ added (shows Text c) c)
 text-unit limit width c cs room =
     let P : Bool → Type 0 = λ b. (not b ≡ true → is_due limit width (Visible c) ≡ false)
     → (is_due limit width (cond b (Sequence (c ∷ take (escape_len cs) cs)) (Visible c)) ≡ false)
-    × (unit_width (cond b (Sequence (c ∷ take (escape_len cs) cs)) (Visible c))
-    ≡ added (not b) c) in
-    let at : (b : Bool) → P b = elim [
-      | true ↦ λ room. (refl, refl)
-      | false ↦ λ room.
-          (room refl, refl)
-    ] in
+    × (unit_width (cond b (Sequence (c ∷ take (escape_len cs) cs)) (Visible c)) ≡ added
+    (not b) c) in
+    let at : (b : Bool) → P b =
+    elim [ true ↦ λ room. (refl, refl) | false ↦ λ room. (room refl, refl) ] in
     at (eqb c 27) room
 
 -- what comes in the state after a character, with what that character adds
 record GoesOn (limit width : ℕ) (us : List TextUnit) (more : ℕ) (vs : List TextUnit) : Type 0 where
   leaves : left_units limit width us ≡ left_units limit (width + more) vs
-  wide : units_width (taken_units limit width us)
-      ≡ more + units_width (taken_units limit (width + more) vs)
+  wide : units_width (taken_units limit width us) ≡ more + units_width
+      (taken_units limit (width + more) vs)
 
 goes-unit : (limit width : ℕ) (u : TextUnit) (us : List TextUnit) → is_due limit width u ≡ false
     → GoesOn limit width (u ∷ us) (unit_width u) us
@@ -94,9 +88,9 @@ goes-nowhere limit width us = record {
 
 goes-inside : (limit width : ℕ) (s : State) (c : ℕ) (cs : List ℕ) → s ≢ Text
     → GoesOn limit width (units_in s (c ∷ cs)) 0 (units_in (next_of s c) cs)
-goes-inside limit width s c cs inside = subst (λ us.
-    GoesOn limit width us 0 (units_in (next_of s c) cs)) (sym (units_in-inside s c cs inside))
-    (goes-nowhere limit width (units_in (next_of s c) cs))
+goes-inside limit width s c cs inside =
+    subst (λ us. GoesOn limit width us 0 (units_in (next_of s c) cs))
+    (sym (units_in-inside s c cs inside)) (goes-nowhere limit width (units_in (next_of s c) cs))
 
 goes-on : (limit width : ℕ) (s : State) (c : ℕ) (cs : List ℕ)
     → (shows s c ≡ true → is_due limit width (Visible c) ≡ false)
@@ -163,8 +157,8 @@ units_text-append : (us vs : List TextUnit) → units_text (us ++ vs) ≡ units_
 units_text-append us vs = ap encode_utf8_all (flat_map-append characters us vs)
     ∙ encodes-append (flat_map characters us) (flat_map characters vs)
 
-texts-flat : (parts : List (List TextUnit)) → flat_map (λ text. text) (map units_text parts)
-    ≡ units_text (flat_map (λ part. part) parts)
+texts-flat : (parts : List (List TextUnit))
+    → flat_map (λ text. text) (map units_text parts) ≡ units_text (flat_map (λ part. part) parts)
 texts-flat [] = refl
 texts-flat (part ∷ parts) = ap (λ text. units_text part ++ text) (texts-flat parts)
     ∙ sym (units_text-append part (flat_map (λ p. p) parts))
@@ -184,8 +178,8 @@ broken_texts-nil limit = ap (λ cs. map units_text (broken_units limit (units cs
 
 pub broken_texts-some : (limit : ℕ) (text : List ℕ) → IsUtf8 text → text ≢ []
     → broken_texts limit text ≢ []
-broken_texts-some limit text utf8 some e = some
-    (sym (broken_texts-tile limit text utf8) ∙ ap (λ ts. flat_map (λ t. t) ts) e)
+broken_texts-some limit text utf8 some e =
+    some (sym (broken_texts-tile limit text utf8) ∙ ap (λ ts. flat_map (λ t. t) ts) e)
 
 -- the texts of the parts before a place where the first piece ends
 broken-first : (limit : ℕ) (us vs : List TextUnit) → us ≢ [] → left_units limit 0 us ≡ vs
@@ -211,12 +205,12 @@ IsFirstPiece-found limit text len width utf8 some within rest_utf8 found =
     let us = units (chars text) in
     let part = taken_units limit 0 us in
     let rest = units (chars (drop len text)) in
-    let front_utf8 = IsUtf8-take text len utf8
-    (IsCharBoundary-from_drop text len within rest_utf8) in
+    let front_utf8 = IsUtf8-take text len utf8 (IsCharBoundary-from_drop text len within rest_utf8)
+    in
     let split : us ≡ part ++ rest = sym (taken-left limit 0 us)
     ∙ ap (λ vs. part ++ vs) found.leaves in
-    let both : chars (take len text) ++ chars (drop len text)
-    ≡ flat_map characters part ++ chars (drop len text) =
+    let both : chars (take len text) ++ chars (drop len text) ≡ flat_map characters part ++ chars
+    (drop len text) =
     sym (chars-append (take len text) (drop len text) front_utf8)
     ∙ ap chars (take-append-drop len text) ∙ sym (units-tile (chars text))
     ∙ ap (λ vs. flat_map characters vs) split ∙ flat_map-append characters part rest
@@ -229,8 +223,8 @@ IsFirstPiece-found limit text len width utf8 some within rest_utf8 found =
     let text_is : units_text part ≡ take len text = ap encode_utf8_all (sym front)
     ∙ encodes-chars (take len text) front_utf8 in
     record {
-      first = ap (map units_text) (broken-first limit us rest
-          (units-some text utf8 some) found.leaves)
+      first = ap (map units_text)
+          (broken-first limit us rest (units-some text utf8 some) found.leaves)
           ∙ ap (λ t. t ∷ broken_texts limit (drop len text)) text_is;
       wide = sym found.wide ∙ sym (units_width-is part)
           ∙ ap (λ vs. sum_by columns (flat_map visible_of vs)) (sym own);
@@ -240,8 +234,8 @@ IsFirstPiece-found limit text len width utf8 some within rest_utf8 found =
 -- ---- the pieces as words
 
 pub pieces_with-more : (whitespace penalty text : List ℕ) (texts : List (List ℕ)) → texts ≢ []
-    → pieces_with whitespace penalty (text ∷ texts)
-    ≡ piece text [] [] ∷ pieces_with whitespace penalty texts
+    → pieces_with whitespace penalty (text ∷ texts) ≡ piece text [] [] ∷ pieces_with whitespace
+    penalty texts
 pieces_with-more whitespace penalty text [] some = absurd (some refl)
 pieces_with-more whitespace penalty text (next ∷ texts) some = refl
 
@@ -304,12 +298,12 @@ pub record IsReading (limit : ℕ) (text : List ℕ) (at : ℕ) (rest : List ℕ
 pub IsReading-start : (limit : ℕ) (text : List ℕ) (at : ℕ) (rest : List ℕ) → IsUtf8 text → at ≡ 0
     → rest ≡ text → IsReading limit text at rest Text 0
 IsReading-start limit text at rest utf8 zero_at whole =
-    rw (zero_at, whole) (record {
+    rw (zero_at, whole)
+    (record {
       utf8 = utf8;
       place = refl;
       within = omega arith;
-      bound =
-          omega arith;
+      bound = omega arith;
       inside = IsInFirst-start limit (chars text);
     })
 
@@ -322,7 +316,8 @@ IsReading-room limit text at rest state width c after h e =
       h.within,
       length-drop at text,
       ap length (h.place ∙ e),
-      length-append (encode_utf8 c) after,
+      length-append
+          (encode_utf8 c) after,
     )
 
 added-le : (flag : Bool) (c : ℕ) → added flag c ≤ 2 * length (encode_utf8 c)
@@ -392,14 +387,14 @@ tiled-broken_word limit w utf8 some = elim (cases_Bool (ltb limit w.width)) [
 ]
 
 pub tiled-broken_words : (limit : ℕ) (words : List WordText) → All (λ w. IsUtf8 w.word) words
-    → All (λ w. limit < w.width → w.word ≢ []) words → tiled (broken_words limit words)
-    ≡ tiled words
+    → All (λ w. limit < w.width → w.word ≢ []) words
+    → tiled (broken_words limit words) ≡ tiled words
 tiled-broken_words limit [] utf8 some = refl
 tiled-broken_words limit (w ∷ words) utf8 some =
     let first = tiled-broken_word limit w (All-head (λ v. IsUtf8 v.word) w words utf8)
     (All-head (λ v. limit < v.width → v.word ≢ []) w words some) in
     flat_map-append tile_of (broken_word limit w) (broken_words limit words)
     ∙ ap (λ l. l ++ tiled (broken_words limit words)) first
-    ∙ ap (λ l. tile_of w ++ l) (tiled-broken_words limit words
-    (All-tail (λ v. IsUtf8 v.word) w words utf8)
+    ∙ ap (λ l. tile_of w ++ l)
+    (tiled-broken_words limit words (All-tail (λ v. IsUtf8 v.word) w words utf8)
     (All-tail (λ v. limit < v.width → v.word ≢ []) w words some))

@@ -23,7 +23,8 @@ use Rattle.textwrap_base.proofs.Word.Texts.{IsMeasured, EndsInBlanks, HasNoPenal
 
 utf8-back : (xs ys : List ℕ) → IsUtf8 (encode_utf8_all (xs ++ ys)) → IsUtf8 (encode_utf8_all ys)
 utf8-back [] ys u = u
-utf8-back (x ∷ xs) ys u = utf8-back xs ys (IsUtf8-past_char (encode_utf8_all (x ∷ xs ++ ys))
+utf8-back (x ∷ xs) ys u =
+    utf8-back xs ys (IsUtf8-past_char (encode_utf8_all (x ∷ xs ++ ys))
     (encode_utf8_all (xs ++ ys)) x u refl)
 
 utf8-front : (xs ys : List ℕ) → IsUtf8 (encode_utf8_all (xs ++ ys)) → IsUtf8 (encode_utf8_all xs)
@@ -55,8 +56,9 @@ pub broken_texts-utf8 : (limit : ℕ) (text : List ℕ) → IsUtf8 text
     → All IsUtf8 (broken_texts limit text)
 broken_texts-utf8 limit text utf8 =
     let us = units (chars text) in
-    texts-utf8 (broken_units limit us) (subst IsUtf8
-    (sym (ap units_text (AreBroken-exists limit us).tiles ∙ units_text-chars text utf8)) utf8)
+    texts-utf8 (broken_units limit us)
+    (subst IsUtf8 (sym (ap units_text (AreBroken-exists limit us).tiles
+    ∙ units_text-chars text utf8)) utf8)
 
 -- ---- the pieces as words
 
@@ -69,16 +71,14 @@ pieces_with-measured whitespace penalty ending (text ∷ []) utf8 =
     (record {
       utf8 = All-head IsUtf8 text [] utf8;
       width = refl;
-      ending =
-          record { blanks = ending.blanks; none = ending.none };
+      ending = record { blanks = ending.blanks; none = ending.none };
     }) (All-nil IsMeasured)
 pieces_with-measured whitespace penalty ending (text ∷ next ∷ texts) utf8 =
     All-cons IsMeasured (piece text [] []) (pieces_with whitespace penalty (next ∷ texts))
     (record {
       utf8 = All-head IsUtf8 text (next ∷ texts) utf8;
       width = refl;
-      ending =
-          record { blanks = no_blanks; none = λ _. refl };
+      ending = record { blanks = no_blanks; none = λ _. refl };
     })
     (pieces_with-measured whitespace penalty ending (next ∷ texts)
     (All-tail IsUtf8 text (next ∷ texts) utf8))

@@ -68,8 +68,8 @@ no_columns (Visible c ∷ us) none = let sum = sum_by-cons unit_width (Visible c
 no_columns (Sequence cs ∷ us) none = let sum = sum_by-cons unit_width (Sequence cs) us in
     no_columns us (omega (arith, sum))
 
-width-push : (front : List TextUnit) (u : TextUnit) → units_width (front ++ u ∷ [])
-    ≡ units_width front + unit_width u
+width-push : (front : List TextUnit) (u : TextUnit)
+    → units_width (front ++ u ∷ []) ≡ units_width front + unit_width u
 width-push front u = let sum = sum_by-append unit_width front (u ∷ []) in let last =
     sum_by-cons unit_width u [] in omega (arith, sum, last)
 
@@ -94,8 +94,8 @@ module _ (limit : ℕ) where
   later : (front us : List TextUnit) → IsKept limit (front ++ us) → 0 < units_width front
       → (units_width us ≡ 0) ⊎ (units_width front + units_width us ≤ limit)
   later front [] kept some = inl refl
-  later front (u ∷ us) kept some = later_step front u us kept some
-      (later (front ++ u ∷ []) us (kept-push front u us kept)
+  later front (u ∷ us) kept some =
+      later_step front u us kept some (later (front ++ u ∷ []) us (kept-push front u us kept)
       (let push = width-push front u in omega (arith, some, push)))
 
   -- so units that pass the limit show one character that takes columns
@@ -187,8 +187,9 @@ module _ (limit : ℕ) where
       → All IsTight (cond b (broken_pieces limit w) (w ∷ []))
   broken_word-tight w utf8 true wide = pieces_with-tight w.whitespace w.penalty
       (broken_texts limit w.word) (broken_texts-tight w.word utf8)
-  broken_word-tight w utf8 false fits = All-cons IsTight w []
-      (λ wide. absurd (false≢true (sym fits ∙ ltb_wide limit w.width wide))) (All-nil IsTight)
+  broken_word-tight w utf8 false fits =
+      All-cons IsTight w [] (λ wide. absurd (false≢true (sym fits ∙ ltb_wide limit w.width wide)))
+      (All-nil IsTight)
     where
       ltb_wide : (a b : ℕ) → a < b → ltb a b ≡ true
       ltb_wide a b less = grind (arith, nat_tests, less)

@@ -42,8 +42,8 @@ ascii_seam before after c utf8 ascii =
     let len : length (before ++ c ∷ []) ≡ i + 1 = length_push before c in
     record {
       front = subst IsUtf8 (take_at before (c ∷ after) i refl) (IsUtf8-take bs i utf8 at);
-      through = subst IsUtf8 (ap (take (i + 1)) whole
-          ∙ take_at (before ++ c ∷ []) after (i + 1) len) (IsUtf8-take bs (i + 1) utf8 past);
+      through = subst IsUtf8 (ap (take (i + 1)) whole ∙ take_at (before ++ c ∷ []) after
+          (i + 1) len) (IsUtf8-take bs (i + 1) utf8 past);
       from = subst IsUtf8 (drop_at before (c ∷ after) i refl) (IsUtf8-drop bs i utf8 at);
       back = subst IsUtf8 (ap (drop (i + 1)) whole ∙ drop_at (before ++ c ∷ []) after (i + 1) len)
           (IsUtf8-drop bs (i + 1) utf8 past);
@@ -62,8 +62,8 @@ chunks-utf8_step : (before : List ℕ) (c d : ℕ) (cs : List ℕ) → IsUtf8 (b
     → (IsUtf8 (d ∷ cs) → All IsUtf8 (onto_front [] (chunks (d ∷ cs))))
     → (IsUtf8 ((before ++ c ∷ []) ++ d ∷ cs)
     → All IsUtf8 (onto_front (before ++ c ∷ []) (chunks (d ∷ cs))))
-    → All IsUtf8 (onto_front before (cond b ((c ∷ []) ∷ chunks (d ∷ cs))
-    (onto_first c (chunks (d ∷ cs)))))
+    → All IsUtf8 (onto_front before
+    (cond b ((c ∷ []) ∷ chunks (d ∷ cs)) (onto_first c (chunks (d ∷ cs)))))
 chunks-utf8_step before c d cs utf8 true cut after joined =
     let blank : c ≡ 32 = eqb-true c 32 (and_parts (is_blank c) (not (is_blank d)) cut).0 in
     let seam = ascii_seam before (d ∷ cs) c utf8 (omega arith) in
@@ -147,8 +147,8 @@ without_final_blanks-utf8 bytes utf8 =
     let n = trimmed_len bytes in
     let at : IsCharBoundary bytes n = elim (cases_lt n (length bytes)) [
       | inl less ↦
-          let blank : get_or bytes n 0 ≡ 32 = eqb-true (get_or bytes n 0) 32
-          (trimmed-blank bytes n 0 (omega arith) less) in
+          let blank : get_or bytes n 0 ≡ 32 =
+          eqb-true (get_or bytes n 0) 32 (trimmed-blank bytes n 0 (omega arith) less) in
           IsCharBoundary-before_ascii bytes n less (omega arith)
       | inr past ↦ let whole : length bytes ≡ n = omega arith in
           subst (IsCharBoundary bytes) whole (IsCharBoundary-end bytes)
@@ -174,8 +174,7 @@ words_of-measured line utf8 =
     (All-weaker IsUtf8 (λ bytes. IsMeasured (word_of bytes))
     (λ bytes bytes_utf8. record {
       utf8 = without_final_blanks-utf8 bytes bytes_utf8;
-      width =
-          refl;
+      width = refl;
       ending = record {
         blanks = final_blanks-blank bytes;
         none = λ some.

@@ -19,8 +19,8 @@ pub join-chunks : (line : List ℕ) → flat (chunks line) ≡ line
 join-chunks [] = refl
 join-chunks (c ∷ []) = refl
 join-chunks (c ∷ d ∷ cs) =
-    elim (is_cut c d) as (λ b. flat (cond b ((c ∷ []) ∷ chunks (d ∷ cs))
-    (onto_first c (chunks (d ∷ cs)))) ≡ c ∷ d ∷ cs) [
+    elim (is_cut c d) as (λ b.
+    flat (cond b ((c ∷ []) ∷ chunks (d ∷ cs)) (onto_first c (chunks (d ∷ cs)))) ≡ c ∷ d ∷ cs) [
       | true ↦ ap (λ l. c ∷ l) (join-chunks (d ∷ cs))
       | false ↦ flat-onto_first c (chunks (d ∷ cs)) ∙ ap (λ l. c ∷ l) (join-chunks (d ∷ cs))
     ]
@@ -65,8 +65,8 @@ pub tiled-push : (ws : List WordText) (w : WordText) → tiled (ws ++ w ∷ []) 
 tiled-push ws w = tiled-append ws (w ∷ []) ∙ ap (λ l. tiled ws ++ l) (append-nil (tile_of w))
 
 -- the first i words and the one at i, of which a and b are the text and the whitespace
-pub tiled-take : (words : List Word) (i : ℕ) (d : Word) (a b : List ℕ) → i < length words → a
-    ≡ (get_or words i d).word.now → b ≡ (get_or words i d).whitespace.now
+pub tiled-take : (words : List Word) (i : ℕ) (d : Word) (a b : List ℕ) → i < length words
+    → a ≡ (get_or words i d).word.now → b ≡ (get_or words i d).whitespace.now
     → tiled (map word_view (take (i + 1) words)) ≡ tiled (map word_view (take i words)) ++ (a ++ b)
 tiled-take words i d a b within word whitespace =
     ap (λ l. tiled (map word_view l)) (take_more words i d within)
@@ -101,6 +101,6 @@ IsCharBoundary-after_blank bs (suc n) utf8 some within blank =
       within,
       λ more.
           let byte : get_or bs n 0 ≡ 32 = sym (ap (λ k. get_or bs k 0) before) ∙ blank more in
-          (subst (IsCharBoundary bs) (add-one n)
-          (IsCharBoundary-after_ascii bs n utf8 (omega arith) (omega arith))).1 more,
+          (subst (IsCharBoundary bs) (add-one n) (IsCharBoundary-after_ascii bs n utf8 (omega arith)
+          (omega arith))).1 more,
     )

@@ -31,21 +31,21 @@ chunks-first : (c : ℕ) (part rest : List ℕ) → IsUncut (c ∷ part) → Cut
 chunks-first c [] [] uncut cut = refl
 chunks-first c [] (d ∷ rest) uncut cut = rw cut refl
 chunks-first c (d ∷ part) rest uncut cut =
-    rw (uncut [] part c d refl) (ap (onto_first c)
-    (chunks-first d part rest (IsUncut-tail c (d ∷ part) uncut)
+    rw (uncut [] part c d refl)
+    (ap (onto_first c) (chunks-first d part rest (IsUncut-tail c (d ∷ part) uncut)
     (CutAfter-tail c d part rest cut)))
 
 AreCutApart-head : (part : List ℕ) (parts : List (List ℕ)) → All (λ part. part ≢ []) parts
     → AreCutApart (part ∷ parts) → CutAfter part (flat parts)
 AreCutApart-head part [] some cut = tt
-AreCutApart-head part ([] ∷ parts) some cut = absurd
-    (All-head (λ part. part ≢ []) [] parts some refl)
+AreCutApart-head part ([] ∷ parts) some cut =
+    absurd (All-head (λ part. part ≢ []) [] parts some refl)
 AreCutApart-head part ((d ∷ next) ∷ parts) some cut = cut [] parts part (d ∷ next) refl
 
 AreCutApart-tail : (part : List ℕ) (parts : List (List ℕ)) → AreCutApart (part ∷ parts)
     → AreCutApart parts
-AreCutApart-tail part parts cut = λ before after left right e.
-    cut (part ∷ before) after left right (ap (λ l. part ∷ l) e)
+AreCutApart-tail part parts cut = λ before after left right e. cut (part ∷ before) after left right
+    (ap (λ l. part ∷ l) e)
 
 chunks-flat : (parts : List (List ℕ)) → All (λ part. part ≢ []) parts → All IsUncut parts
     → AreCutApart parts → chunks (flat parts) ≡ parts
@@ -70,8 +70,8 @@ record AreChunksFrom (d : ℕ) (parts : List (List ℕ)) : Type 0 where
   cut : AreCutApart ((d ∷ first) ∷ rest)
 
 IsUncut-one : (c : ℕ) → IsUncut (c ∷ [])
-IsUncut-one c = λ before after x y e. absurd (omega
-    (arith, ap length e, length-append before (x ∷ y ∷ after)))
+IsUncut-one c = λ before after x y e.
+    absurd (omega (arith, ap length e, length-append before (x ∷ y ∷ after)))
 
 IsUncut-cons : (c d : ℕ) (part : List ℕ) → is_cut c d ≡ false → IsUncut (d ∷ part)
     → IsUncut (c ∷ d ∷ part)
@@ -83,8 +83,9 @@ IsUncut-cons c d part whole uncut (b ∷ before) after x y e = uncut before afte
 
 -- fewer than two parts have no place between them
 AreCutApart-few : (parts : List (List ℕ)) → length parts < 2 → AreCutApart parts
-AreCutApart-few parts few = λ before after left right e.
-    absurd (omega (arith, ap length e, length-append before (left ∷ right ∷ after)))
+AreCutApart-few parts few =
+    λ before after left right e. absurd
+    (omega (arith, ap length e, length-append before (left ∷ right ∷ after)))
 
 AreCutApart-cons : (part next : List ℕ) (parts : List (List ℕ))
     → is_cut (last part) (slice_index next 0) ≡ true → AreCutApart (next ∷ parts)
@@ -141,13 +142,13 @@ chunks-from c (d ∷ cs) = step (is_cut c d) refl (chunks-from d cs)
     }
 
 AreChunks-chunks : (line : List ℕ) → AreChunks line (chunks line)
-AreChunks-chunks [] = record {
-  tiles = refl;
-  nonempty = All-nil (λ part. part ≢ []);
-  uncut =
-      All-nil IsUncut;
-  cut = AreCutApart-few [] (omega arith);
-}
+AreChunks-chunks [] =
+    record {
+      tiles = refl;
+      nonempty = All-nil (λ part. part ≢ []);
+      uncut = All-nil IsUncut;
+      cut = AreCutApart-few [] (omega arith);
+    }
 AreChunks-chunks (c ∷ cs) =
     let h = chunks-from c cs in
     let same = sym h.shape in

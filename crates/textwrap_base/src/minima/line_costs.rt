@@ -61,7 +61,7 @@ impl LineCosts {
         line_widths: &[usize],
         penalties: &Penalties,
     ) -> Result<LineCosts, WrapError>
-        ensures lines { IfOk result (λ costs. ⟦<LineCosts as CostSource>⟧.costs costs
+        ensures costs { IfOk result (λ costs. ⟦<LineCosts as CostSource>⟧.costs costs
             ≡ fragment_costs (λ x. priced_at penalties.now (T.sizes x)) penalties.now
             line_widths.now fragments.now) }
         ensures count { IfOk result (λ costs. ⟦<LineCosts as CostSource>⟧.steps costs ≡ 0) }

@@ -15,11 +15,12 @@ loop-i-preserved c =
           ∙ ap (λ l. l ++ c.as_str-in-loop-i.result.now)
           (ap string_bytes w.joined-is ∙ w.in_ok-push_str.ensures.bytes
           ∙ ap (λ l. l ++ w.as_str.result.now) c.loop-i.invariant
-          ∙ ap (λ l. join_with separator (map line_bytes
-          (map line_view (take c.loop-i.i c.args.lines.now))) ++ l) w.as_str.ensures)
-          ∙ ap (λ l. (join_with separator (map line_bytes
-          (map line_view (take c.loop-i.i c.args.lines.now))) ++ separator) ++ l)
-          c.as_str-in-loop-i.ensures.value
+          ∙ ap (λ l. join_with separator
+          (map line_bytes (map line_view (take c.loop-i.i c.args.lines.now))) ++ l)
+          w.as_str.ensures)
+          ∙ ap (λ l. (join_with separator
+          (map line_bytes (map line_view (take c.loop-i.i c.args.lines.now))) ++ separator)
+          ++ l) c.as_str-in-loop-i.ensures.value
           ∙ sym (join-take_more separator c.args.lines.now c.loop-i.i c.index-lines-i.result
           c.loop-i-test.true c.index-lines-i.is w.if-i-gt0.true)
       | else-i-gt0 w ↦
@@ -27,8 +28,8 @@ loop-i-preserved c =
           c.in_ok-push_str-2.ensures.bytes
           ∙ ap (λ l. l ++ c.as_str-in-loop-i.result.now)
           (ap string_bytes w.joined-is ∙ c.loop-i.invariant
-          ∙ ap (λ n. join_with separator (map line_bytes
-          (map line_view (take n c.args.lines.now)))) first)
+          ∙ ap (λ n. join_with separator
+          (map line_bytes (map line_view (take n c.args.lines.now)))) first)
           ∙ c.as_str-in-loop-i.ensures.value
           ∙ sym (join-take_first separator c.args.lines.now c.loop-i.i c.index-lines-i.result
           c.loop-i-test.true c.index-lines-i.is first)

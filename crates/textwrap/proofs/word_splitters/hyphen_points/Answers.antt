@@ -10,9 +10,8 @@ use Rattle.textwrap.proofs.word_splitters.hyphen_points.Goals.{else-is_hyphen_po
 pub loop-point-preserved : goal.loop-point-preserved
 loop-point-preserved c =
     let test = is_hyphen_point c.args.word.now in
-    let grown : c.if-is_hyphen_point.points.items
-    ≡ cond c.is_hyphen_point.result (c.loop-point.points.items ++ c.loop-point.point ∷ [])
-    c.loop-point.points.items =
+    let grown : c.if-is_hyphen_point.points.items ≡ cond c.is_hyphen_point.result
+    (c.loop-point.points.items ++ c.loop-point.point ∷ []) c.loop-point.points.items =
     elim c.if-is_hyphen_point.branch [
       | then-is_hyphen_point+in_ok-push w ↦ rw w.if-is_hyphen_point.true
           (ap (λ v. v.items) w.points-is ∙ w.in_ok-push.ensures.items)
@@ -26,8 +25,8 @@ loop-point-preserved c =
 pub returns-clause-points : goal.returns-clause-points
 returns-clause-points c =
     let whole : c.loop-point.point - 1 ≡ length c.args.word.now - 1 = omega arith in
-    c.loop-point.invariant.points ∙ ap (λ n. filter (is_hyphen_point c.args.word.now)
-    (range_with_len 1 n)) whole
+    c.loop-point.invariant.points
+    ∙ ap (λ n. filter (is_hyphen_point c.args.word.now) (range_with_len 1 n)) whole
 
 pub returns-clause-cuts : goal.returns-clause-cuts
 returns-clause-cuts c =

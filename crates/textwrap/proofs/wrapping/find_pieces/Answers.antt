@@ -19,9 +19,9 @@ returns-then-not-options-clause-pieces c =
     let words = given-first word_view (λ words. words) given.0
     (separated_words options.word_separator c.args.paragraph.now) given.1 given.3
     (given.2 ∙ c.in_ok-words.ensures.words) in
-    let split : map word_view c.in_ok-split.split.items
-    ≡ split_pieces_of options.word_separator options.word_splitter c.args.paragraph.now =
-    given.4 ∙ ap (split_words options.word_splitter) words in
+    let split : map word_view c.in_ok-split.split.items ≡ split_pieces_of options.word_separator
+    options.word_splitter c.args.paragraph.now = given.4
+    ∙ ap (split_words options.word_splitter) words in
     split ∙ ap (λ b. cond b (front_pieces settings ++ broken_words (later_width settings)
     (split_pieces_of options.word_separator options.word_splitter c.args.paragraph.now))
     (split_pieces_of options.word_separator options.word_splitter c.args.paragraph.now))
@@ -41,9 +41,8 @@ returns-clause-pieces c =
     let words = given-first word_view (λ words. words) given.0
     (separated_words options.word_separator paragraph) given.1 given.3
     (given.2 ∙ c.in_ok-words.ensures.words) in
-    let split : map word_view c.in_ok-split.split.items
-    ≡ split_pieces_of options.word_separator options.word_splitter paragraph = given.4
-    ∙ ap (split_words options.word_splitter) words in
+    let split : map word_view c.in_ok-split.split.items ≡ split_pieces_of options.word_separator
+    options.word_splitter paragraph = given.4 ∙ ap (split_words options.word_splitter) words in
     let more = c.in_ok-broken.ensures.pieces in
     let all = given-vec more.0 c.in_ok-split.split.items more.1 more.3 more.2.0
     (more.2.1 ∙ omega arith) in
@@ -52,20 +51,21 @@ returns-clause-pieces c =
     let broken : map word_view c.in_ok-broken.broken.items ≡ pieces =
     more.4 ∙ ap (λ ws. broken_words c.remaining_width-width.result (map word_view ws)) all
     ∙ ap (broken_words c.remaining_width-width.result) split
-    ∙ ap (λ n. broken_words n (split_pieces_of options.word_separator options.word_splitter
-    paragraph)) c.remaining_width-width.ensures in
+    ∙ ap (λ n. broken_words n
+    (split_pieces_of options.word_separator options.word_splitter paragraph))
+    c.remaining_width-width.ensures in
     let whole : map word_view c.if-not-is_empty.broken.items ≡ front_pieces settings ++ pieces =
     elim c.if-not-is_empty.branch [
       | then-not-is_empty+in_ok-insert w ↦
           ap (map word_view) (ap (λ v. v.items) w.broken-is ∙ w.in_ok-insert.ensures.items)
           ∙ ap (λ x. x ∷ map word_view c.in_ok-broken.broken.items)
           (w.from.ensures ∙ word_of-nil) ∙ ap (λ ws. empty_word ∷ ws) broken
-          ∙ ap (λ b. cond b [] (empty_word ∷ []) ++ pieces)
-          (sym w.if-not-is_empty.true ∙ c.is_empty.ensures)
+          ∙ ap (λ b. cond b [] (empty_word ∷ []) ++ pieces) (sym w.if-not-is_empty.true
+          ∙ c.is_empty.ensures)
       | else-not-is_empty w ↦
           ap (map word_view) (ap (λ v. v.items) w.broken-is) ∙ broken
-          ∙ ap (λ b. cond b [] (empty_word ∷ []) ++ pieces)
-          (sym w.if-not-is_empty.false ∙ c.is_empty.ensures)
+          ∙ ap (λ b. cond b [] (empty_word ∷ []) ++ pieces) (sym w.if-not-is_empty.false
+          ∙ c.is_empty.ensures)
     ] in
     whole ∙ ap (λ b. cond b (front_pieces settings ++ pieces)
     (split_pieces_of options.word_separator options.word_splitter paragraph))

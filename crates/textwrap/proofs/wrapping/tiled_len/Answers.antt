@@ -17,6 +17,7 @@ loop-piece-preserved c =
     c.as_bytes.ensures.value c.as_bytes-in-loop-piece.ensures.value in
     let lengths = simp length-append at (ap length more) in (
       omega arith,
-      subst IsUtf8 (sym more) (IsUtf8-append _ _ c.loop-piece.invariant.1
+      subst IsUtf8 (sym more)
+          (IsUtf8-append _ _ c.loop-piece.invariant.1
           (IsUtf8-append _ _ c.as_bytes.ensures.utf8 c.as_bytes-in-loop-piece.ensures.utf8)),
     )

@@ -26,8 +26,7 @@ returns-then-is_one_line-clause-appended c =
         AreParagraphParts-whole settings (DividesBy options) is_later c.args.line.now whole,
         ap (map line_view) c.in_ok-push.ensures.items
             ∙ map_push line_view start (Borrowed c.whole_line.result)
-            ∙ ap (λ l. map line_view start ++ l ∷ [])
-            (ap Slice c.whole_line.ensures
+            ∙ ap (λ l. map line_view start ++ l ∷ []) (ap Slice c.whole_line.ensures
             ∙ sym (line_from-whole settings is_later c.args.line.now whole)),
       );
       kept = ap (take (length start)) c.in_ok-push.ensures.items

@@ -14,10 +14,11 @@ use Rattle.textwrap.proofs.wrapping.wrap_single_line_slow_path.Goals as goal
 pub divide-requires : goal.divide-requires
 divide-requires c =
     let texts = ap (map word_view) c.deref.ensures.value in
-    let within = total_width-pieces (settings_view c.args.options.now)
-    c.args.options.now.word_separator c.args.options.now.word_splitter c.args.line.now
-    c.deref.result.now c.utf8.line (texts ∙ c.in_ok-pieces.ensures.pieces)
-    (ap tiled texts ∙ c.in_ok-pieces.ensures.tiles) in omega (arith, within)
+    let within = total_width-pieces
+    (settings_view c.args.options.now) c.args.options.now.word_separator
+    c.args.options.now.word_splitter c.args.line.now c.deref.result.now c.utf8.line
+    (texts ∙ c.in_ok-pieces.ensures.pieces) (ap tiled texts
+    ∙ c.in_ok-pieces.ensures.tiles) in omega (arith, within)
 
 pub push_lines-requires : goal.push_lines-requires
 push_lines-requires c =
@@ -42,8 +43,8 @@ returns-in-Ok-clause-appended c =
     c.in_ok-division.ensures.divided in
     record {
       lines = (
-        parts_from settings is_later (map (λ line. map word_view line.now)
-            c.in_ok-division.division.items),
+        parts_from settings is_later
+            (map (λ line. map word_view line.now) c.in_ok-division.division.items),
         parts,
         c.in-Ok.ensures.lines ∙ ap (λ l. map line_view c.args.lines.now.items ++ map line_from
             (parts_from settings is_later (map (λ line. map word_view line.now) l)))

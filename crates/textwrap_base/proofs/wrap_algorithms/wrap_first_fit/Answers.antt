@@ -11,8 +11,8 @@ use Rattle.textwrap_base.proofs.wrap_algorithms.wrap_first_fit.Goals as goal
 pub loop-rest-init : goal.loop-rest-init
 loop-rest-init g c = (
   grind (arith, nat_tests),
-  λ tail greedy.
-      rw c.new-lines.ensures.items (rw c.new-lines.ensures.len at greedy),
+  λ tail greedy. rw c.new-lines.ensures.items
+      (rw c.new-lines.ensures.len at greedy),
 )
 
 pub loop-rest-preserved : goal.loop-rest-preserved

@@ -7,25 +7,29 @@ use Rattle.textwrap_cli.proofs.WriteLemmas.{WritesPrefix-kept, Appends-whole}
 use Rattle.textwrap_cli.proofs.filling.write_to_end.Goals as goal
 
 pub loop-rest-init : goal.loop-rest-init
-loop-rest-init g c = record {
-  written = [];
-  whole = refl;
-  appends =
-      Appends-nil (g.W.Write.contents c.args.writer.now);
-}
+loop-rest-init g c =
+    record {
+      written = [];
+      whole = refl;
+      appends = Appends-nil
+          (g.W.Write.contents c.args.writer.now);
+    }
 
 pub loop-rest-preserved : goal.loop-rest-preserved
 loop-rest-preserved g c =
-    rw c.split_at.ensures.back (WrittenSoFar-more _ _ _ c.loop-rest.rest.now c.args.bytes.now
-    c.in-Ok.count c.loop-rest.invariant c.in-Ok.ensures.written)
+    rw c.split_at.ensures.back
+    (WrittenSoFar-more _ _ _ c.loop-rest.rest.now c.args.bytes.now c.in-Ok.count
+    c.loop-rest.invariant c.in-Ok.ensures.written)
 
 pub returns-in-Err-clause-prefix : goal.returns-in-Err-clause-prefix
-returns-in-Err-clause-prefix g c = WritesPrefix-nothing_more _ _ _ c.loop-rest.rest.now
-    c.args.bytes.now c.loop-rest.invariant c.in-Err.ensures.nothing
+returns-in-Err-clause-prefix g c =
+    WritesPrefix-nothing_more _ _ _ c.loop-rest.rest.now c.args.bytes.now c.loop-rest.invariant
+    c.in-Err.ensures.nothing
 
 pub returns-in-Err-flush-clause-prefix : goal.returns-in-Err-flush-clause-prefix
-returns-in-Err-flush-clause-prefix g c = WritesPrefix-kept _ _ _ c.loop-rest.rest.now
-    c.args.bytes.now c.loop-rest.invariant c.flush.ensures.bytes
+returns-in-Err-flush-clause-prefix g c =
+    WritesPrefix-kept _ _ _ c.loop-rest.rest.now c.args.bytes.now c.loop-rest.invariant
+    c.flush.ensures.bytes
 
 pub returns-in-Ok-flush-clause-ok : goal.returns-in-Ok-flush-clause-ok
 returns-in-Ok-flush-clause-ok g c =

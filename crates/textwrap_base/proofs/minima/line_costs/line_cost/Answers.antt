@@ -1,14 +1,7 @@
 use Rattle.std.proofs.Common.{rules}
-use Rattle.textwrap_base.proofs.Cost.Measures.{line_cost-measured}
+use Rattle.textwrap_base.proofs.Cost.Measures.{no_measure, line_cost-measured}
 use Rattle.textwrap_base.proofs.minima.line_costs.line_cost.Goals as goal
 
 pub returns : goal.returns
 returns c = rw (line_cost-measured c.args.penalties.now c.args.line_width c.args.measures.now
-    c.args.start c.args.end record {
-      before = 0;
-      width = 0;
-      whitespace = 0;
-      penalty =
-          0;
-      break_cost = 0;
-    } c.requires.ordered c.requires.within) (search rules)
+    c.args.start c.args.end no_measure c.requires.ordered c.requires.within) (search rules)

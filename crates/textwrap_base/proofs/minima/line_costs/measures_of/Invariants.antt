@@ -10,7 +10,7 @@ abbrev pub invariant-loop-fragment : goal.invariant-loop-fragment
 invariant-loop-fragment g l = record {
   priced : map measured l.measures.items ≡ map (λ x. priced_at l.penalties (g.T.Fragment.sizes x))
       (take l.fragment-index l.fragments);
-  all : (i : ℕ) (d : Measure) → i < length l.measures.items → (get_or l.measures.items i d).before
-      ≡ open_width measured_sizes (take i l.measures.items);
+  all : (i : ℕ) (d : Measure) → i < length l.measures.items
+      → (get_or l.measures.items i d).before ≡ open_width measured_sizes (take i l.measures.items);
   now : l.before ≡ open_width measured_sizes l.measures.items;
 }

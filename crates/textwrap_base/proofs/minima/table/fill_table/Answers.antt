@@ -21,8 +21,8 @@ cheapest-requires-clause-len g c = rw (c.deref.ensures.value, c.loop-last.invari
     (length-table (g.C.CostSource.costs c.args.costs.now).cost c.loop-last.last)
 
 pub cheapest-requires-clause-numbers : goal.cheapest-requires-clause-numbers
-cheapest-requires-clause-numbers g c = numbers_of
-    (g.C.CostSource.costs c.args.costs.now).cost c.loop-last.last c.deref.result.now
+cheapest-requires-clause-numbers g c =
+    numbers_of (g.C.CostSource.costs c.args.costs.now).cost c.loop-last.last c.deref.result.now
     (c.deref.ensures.value ∙ c.loop-last.invariant.entries)
 
 pub returns-in_default-clause-overflow_only : goal.returns-in_default-clause-overflow_only
@@ -67,7 +67,6 @@ loop-last-preserved g c =
           c.in-Some.entry more best.1 c.loop-last.invariant.fits;
       same = c.cheapest.ensures.same ∙ c.loop-last.invariant.same;
       steps = counted_next (g.C.CostSource.steps c.args.costs.now)
-          (g.C.CostSource.steps c.loop-last.costs)
-          (g.C.CostSource.steps c.cheapest.new.costs) c.loop-last.last
-          c.loop-last.invariant.steps c.cheapest.ensures.steps;
+          (g.C.CostSource.steps c.loop-last.costs) (g.C.CostSource.steps c.cheapest.new.costs)
+          c.loop-last.last c.loop-last.invariant.steps c.cheapest.ensures.steps;
     }

@@ -23,8 +23,8 @@ overflow_add-width c =
       IsReading-room _ _ _ _ _ _ _ _ c.loop-at.invariant s.1,
     )
 
-cut : (c : Then-width-columns) → IsFirstPiece c.args.line_width c.args.text.now c.in-Some.at
-    c.loop-at.width
+cut : (c : Then-width-columns)
+    → IsFirstPiece c.args.line_width c.args.text.now c.in-Some.at c.loop-at.width
 cut c =
     let s = c.in-Some.ensures.steps in
     let due = due-true c.args.line_width c.loop-at.width c.in-Some.ch c.if-width-gt0.true

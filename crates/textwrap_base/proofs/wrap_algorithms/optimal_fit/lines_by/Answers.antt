@@ -27,9 +27,9 @@ loop-end-preserved g c =
       tiles = ap joined shape ∙ more.0;
       nonempty = subst (λ (lines : List (List g.row.T.Denot)). All (λ line. line ≢ []) lines)
           (sym shape) more.1;
-      follow = subst (λ (lines : List (List g.row.T.Denot)).
-          FollowStarts (map (λ (m : Minimum). m.start) c.args.minima.now) c.line_start-start.result
-          lines) (sym shape) more.2;
+      follow = subst (λ (lines : List (List g.row.T.Denot)). FollowStarts
+          (map (λ (m : Minimum). m.start) c.args.minima.now) c.line_start-start.result lines)
+          (sym shape) more.2;
     }
 
 pub returns-clause-division : goal.returns-clause-division
@@ -37,12 +37,12 @@ returns-clause-division g c =
     let shape = ap (map (λ (line : Bor (List g.row.T.Denot)). line.now)) c.reverse.ensures.items
     ∙ reverse-map (λ (line : Bor (List g.row.T.Denot)). line.now) c.loop-end.lines.items in
     let start : c.loop-end.end ≡ 0 = omega arith in
-    let some = some_from_test (length c.args.fragments.now)
-    (sym c.is_empty.ensures ∙ c.if-is_empty.false) in
+    let some = some_from_test (length c.args.fragments.now) (sym c.is_empty.ensures
+    ∙ c.if-is_empty.false) in
     let tiles = c.loop-end.invariant.tiles ∙ ap (λ n. drop n c.args.fragments.now) start in
     subst (λ (lines : List (List g.row.T.Denot)). IsDivision c.args.fragments.now lines) (sym shape)
-    (joined_division c.args.fragments.now (reverse
-    (map (λ line. line.now) c.loop-end.lines.items)) some tiles
+    (joined_division c.args.fragments.now
+    (reverse (map (λ line. line.now) c.loop-end.lines.items)) some tiles
     c.loop-end.invariant.nonempty)
 
 pub returns-clause-follow : goal.returns-clause-follow
@@ -50,8 +50,8 @@ returns-clause-follow g c =
     let shape = ap (map (λ (line : Bor (List g.row.T.Denot)). line.now)) c.reverse.ensures.items
     ∙ reverse-map (λ (line : Bor (List g.row.T.Denot)). line.now) c.loop-end.lines.items in
     let start : c.loop-end.end ≡ 0 = omega arith in
-    subst (λ (lines : List (List g.row.T.Denot)).
-    FollowStarts (map (λ (m : Minimum). m.start) c.args.minima.now) 0 lines) (sym shape)
+    subst (λ (lines : List (List g.row.T.Denot)). FollowStarts
+    (map (λ (m : Minimum). m.start) c.args.minima.now) 0 lines) (sym shape)
     (subst (λ n. FollowStarts (map (λ (m : Minimum). m.start) c.args.minima.now) n
     (reverse (map (λ line. line.now) c.loop-end.lines.items))) start
     c.loop-end.invariant.follow)

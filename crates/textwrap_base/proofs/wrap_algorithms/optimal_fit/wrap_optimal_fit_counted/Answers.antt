@@ -11,30 +11,30 @@ pub lines_by-requires-clause-len : goal.lines_by-requires-clause-len
 lines_by-requires-clause-len g c =
     length_reported (line_costs (λ x. priced_at c.args.penalties.now (g.T.Fragment.sizes x))
     c.args.penalties.now c.args.line_widths.now c.args.fragments.now)
-    (length c.args.fragments.now) c.deref.result.now
-    (c.deref.ensures.value ∙ c.in_ok-minima.ensures.entries)
+    (length c.args.fragments.now) c.deref.result.now (c.deref.ensures.value
+    ∙ c.in_ok-minima.ensures.entries)
 
 pub lines_by-requires-clause-first : goal.lines_by-requires-clause-first
 lines_by-requires-clause-first g c =
     first_reported (line_costs (λ x. priced_at c.args.penalties.now (g.T.Fragment.sizes x))
     c.args.penalties.now c.args.line_widths.now c.args.fragments.now)
-    (length c.args.fragments.now) c.deref.result.now
-    (c.deref.ensures.value ∙ c.in_ok-minima.ensures.entries)
+    (length c.args.fragments.now) c.deref.result.now (c.deref.ensures.value
+    ∙ c.in_ok-minima.ensures.entries)
 
 pub lines_by-requires-clause-later : goal.lines_by-requires-clause-later
 lines_by-requires-clause-later g c =
     later_reported (line_costs (λ x. priced_at c.args.penalties.now (g.T.Fragment.sizes x))
     c.args.penalties.now c.args.line_widths.now c.args.fragments.now)
-    (length c.args.fragments.now) c.deref.result.now
-    (c.deref.ensures.value ∙ c.in_ok-minima.ensures.entries)
+    (length c.args.fragments.now) c.deref.result.now (c.deref.ensures.value
+    ∙ c.in_ok-minima.ensures.entries)
 
 pub returns-clause-fit : goal.returns-clause-fit
 returns-clause-fit g c =
-    let starts = starts_reported (line_costs (λ x.
-    priced_at c.args.penalties.now (g.T.Fragment.sizes x)) c.args.penalties.now
-    c.args.line_widths.now c.args.fragments.now)
-    (length c.args.fragments.now) c.deref.result.now
-    (c.deref.ensures.value ∙ c.in_ok-minima.ensures.entries) in
+    let starts = starts_reported
+    (line_costs (λ x. priced_at c.args.penalties.now (g.T.Fragment.sizes x))
+    c.args.penalties.now c.args.line_widths.now c.args.fragments.now)
+    (length c.args.fragments.now) c.deref.result.now (c.deref.ensures.value
+    ∙ c.in_ok-minima.ensures.entries) in
     optimal-returned (λ x. priced_at c.args.penalties.now (g.T.Fragment.sizes x))
     c.args.penalties.now c.args.line_widths.now c.args.fragments.now
     (λ (lines : Vec (Bor (List g.row.T.Denot)) Global).
@@ -42,8 +42,7 @@ returns-clause-fit g c =
     c.in_ok-lines_by.field-0
     record {
       division = c.in_ok-lines_by.ensures.division;
-      starts =
-          rw starts at c.in_ok-lines_by.ensures.follow;
+      starts = rw starts at c.in_ok-lines_by.ensures.follow;
     } c.in_ok-minima.ensures.ok_only
 
 pub returns-in_err-minima-clause-fit : goal.returns-in_err-minima-clause-fit

@@ -8,9 +8,8 @@ use Rattle.textwrap_base.proofs.minima.line_costs.LineCostsCostSource.candidate.
 
 pub returns-clause-cost : goal.returns-clause-cost
 returns-clause-cost c =
-    let cost = ap (λ (s : LineCostsView). line_costs
-    (λ (x : PricedSizes). x) s.penalties s.widths s.priced c.args.start c.args.end
-    c.args.line_number) (sym c.self.view_is)
+    let cost = ap (λ (s : LineCostsView). line_costs (λ (x : PricedSizes). x) s.penalties s.widths
+    s.priced c.args.start c.args.end c.args.line_number) (sym c.self.view_is)
     ∙ line_costs-at measured c.self.inside.penalties c.self.inside.line_widths.items
     c.self.inside.measures.items c.args.start c.args.end c.args.line_number in
     let found = rw (c.deref-2.ensures.value, c.line_width-width.ensures, c.deref.ensures.value) at
@@ -19,9 +18,8 @@ returns-clause-cost c =
 
 pub returns-in_err-cost-clause-cost : goal.returns-in_err-cost-clause-cost
 returns-in_err-cost-clause-cost c =
-    let cost = ap (λ (s : LineCostsView). line_costs
-    (λ (x : PricedSizes). x) s.penalties s.widths s.priced c.args.start c.args.end
-    c.args.line_number) (sym c.self.view_is)
+    let cost = ap (λ (s : LineCostsView). line_costs (λ (x : PricedSizes). x) s.penalties s.widths
+    s.priced c.args.start c.args.end c.args.line_number) (sym c.self.view_is)
     ∙ line_costs-at measured c.self.inside.penalties c.self.inside.line_widths.items
     c.self.inside.measures.items c.args.start c.args.end c.args.line_number in
     let past = rw (c.deref-2.ensures.value, c.line_width-width.ensures, c.deref.ensures.value) at

@@ -78,8 +78,8 @@ pub(crate) fn split_paragraph(text: &str, line_ending: LineEnding) -> (&str, Opt
     }
 }
 
-/// Appends the lines of one paragraph, as [`wrap`] does. The first of a list of lines has the
-/// initial indent. At an error the lines stay as they were.
+/// Appends the lines of one paragraph, as [`wrap`] does for each. The initial indent is used only
+/// where the list has no line yet. At an error the list stays as it was.
 ///
 /// # Errors
 /// [`WrapError::Memory`] where memory runs out, and no other. There is no overflow.
@@ -137,7 +137,7 @@ pub(crate) fn whole_line<'t>(paragraph: &'t str, options: &Options<'_>) -> &'t s
 }
 
 /// Appends the lines of one paragraph, dividing its pieces however short it is. At an error the
-/// lines stay as they were.
+/// list stays as it was.
 ///
 /// # Errors
 /// [`WrapError::Memory`] where memory runs out, and no other. There is no overflow.

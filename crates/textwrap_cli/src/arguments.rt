@@ -15,7 +15,7 @@ pub(crate) struct FillRequest {
 }
 
 /// The request that the words after the program's name mean: a width in ASCII digits, and `first`
-/// or `optimal`, which may be left out. Any other words mean none. Takes no memory.
+/// or `optimal`, which may be left out. Any other words mean none. The call needs no memory.
 pub(crate) fn arguments(words: &[String]) -> Option<FillRequest>
     ensures { result ≡ request_of (map string_bytes words.now) }
 {

@@ -22,11 +22,11 @@ pub(crate) enum RunError {
     NotUtf8,
     /// Memory ran out, while reading or filling.
     Memory,
-    /// A write or the flush failed, or a write took nothing.
+    /// A write or the flush failed, or a write took no bytes.
     Write,
 }
 
-/// What the program says of a fault on standard error.
+/// The line that the program prints on standard error where it fails.
 pub(crate) fn fault(error: &RunError) -> &'static str
     ensures { result.now ≡ fault_line error.now }
 {
@@ -38,12 +38,16 @@ pub(crate) fn fault(error: &RunError) -> &'static str
     }
 }
 
-/// Reads the reader to its end, and writes the text that it gave, filled with lines of `width`
-/// columns by the algorithm. Nothing is written before the whole text is filled.
+/// Does the work of the program: what the reader gives is filled with lines of `width` columns by
+/// the algorithm, and the filled text goes to the writer.
+///
+/// The steps are to read everything, to check that it is UTF-8, to fill it, to write the result and
+/// to flush the writer. Each waits for the one before, so a fault found while reading or filling
+/// leaves the writer untouched.
 ///
 /// # Errors
-/// The first fault on this way. An interrupted read or write is an error like any other. A reader
-/// that never ends comes to `Memory`.
+/// That of the first step that fails. No read or write is tried again, not even an interrupted one.
+/// Input without an end uses up all memory, which is `Memory`.
 pub(crate) fn run<R: Read, W: Write>(
     alloc: Global,
     reader: &mut R,

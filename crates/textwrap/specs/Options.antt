@@ -18,13 +18,13 @@ pub record Settings : Type 0 where
   pub preserve_trailing_space : Bool
 
 abbrev pub settings_view : Options → Settings
-settings_view options = record {
-  width = options.width;
-  line_ending = options.line_ending;
-  initial_indent = options.initial_indent.now;
-  subsequent_indent = options.subsequent_indent.now;
-  break_words = options.break_words;
-  preserve_trailing_space = options.preserve_trailing_space;
+settings_view o = record {
+  width = o.width;
+  line_ending = o.line_ending;
+  initial_indent = o.initial_indent.now;
+  subsequent_indent = o.subsequent_indent.now;
+  break_words = o.break_words;
+  preserve_trailing_space = o.preserve_trailing_space;
 }
 
 -- how words are found, split and divided stays as it was

@@ -120,7 +120,7 @@ module _ (settings : Settings) where
   abbrev pub indent_of : Bool → List ℕ
   indent_of is_later = if is_later then settings.subsequent_indent else settings.initial_indent
 
-  -- the last whitespace is left off, unless blanks are preserved and no penalty stands in its place
+  -- a line keeps the whitespace at its end where that is asked, and no penalty stands in its place
   abbrev pub keeps_whitespace : WordText → Bool
   keeps_whitespace last = settings.preserve_trailing_space && (length last.penalty == 0)
 

@@ -12,7 +12,7 @@ use textwrap_base::words::Word;
 /// Where a line is cut into words.
 #[derive(Clone, Copy, Debug, PartialEq)]
 pub enum WordSeparator {
-    /// Between a blank and a following character that is no blank.
+    /// Before each character that is no blank but comes right after one.
     AsciiSpace,
 }
 

@@ -22,7 +22,7 @@ pub(crate) enum RunError {
     NotUtf8,
     /// Memory ran out, while reading or filling.
     Memory,
-    /// A write or the flush failed, or a write took no bytes.
+    /// The output could not be written and flushed; a write of 0 bytes counts as a failure.
     Write,
 }
 

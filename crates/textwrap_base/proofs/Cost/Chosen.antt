@@ -1,4 +1,4 @@
--- Where the line widths are equal from the second on, the division by the table is the chosen one.
+-- The table gives the chosen division, if all lines but the first have one width.
 use Rattle.std.proofs.Common.{◌≡◌, ℕ, zero, suc, ◌+◌, ◌-◌, ◌<◌, ◌≤◌, ◌⊎◌, ◌≢◌, min, eqb, inl, inr}
 use Rattle.std.proofs.Common.{List, [], ◌∷◌, ◌++◌, length, get_or, map, take, drop, All}
 use Rattle.std.proofs.Common.{slice_range, refl, sym, ◌∙◌, ap, subst, arith}

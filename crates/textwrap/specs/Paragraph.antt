@@ -43,11 +43,13 @@ pub record LineParts : Type 0 where
   pub penalty : List ℕ
   pub left_off : List ℕ
 
--- a slice where nothing is added, and else a text of its own
+-- a slice where nothing is added before or after it, and else a text of its own
+abbrev pub assembled_line : List ℕ → List ℕ → List ℕ → Line
+assembled_line indent slice penalty =
+    if length (indent ++ penalty) == 0 then Slice slice else Built (indent ++ slice ++ penalty)
+
 abbrev pub line_from : LineParts → Line
-line_from p =
-    if length (p.indent ++ p.penalty) == 0 then Slice p.slice
-    else Built (p.indent ++ p.slice ++ p.penalty)
+line_from p = assembled_line p.indent p.slice p.penalty
 
 -- lines with these parts were added
 abbrev pub Adds : {Z : Type 0} → List (CowStr Z) → List (CowStr Z) → List LineParts → Type 0

@@ -71,7 +71,7 @@ mod tests {
 
     #[test]
     fn lines_are_joined(rt: HostRuntime) -> Result<(), Fail> {
-        for (text, width, filled) in [
+        for (text, width, expected) in [
             ("", 10, ""),
             ("foo bar baz", 10, "foo bar\nbaz"),
             (
@@ -91,15 +91,15 @@ mod tests {
             ("aa bb cc dd", 8, "aa bb cc\ndd"),
         ] {
             let options = Options::new(width).wrap_algorithm(WrapAlgorithm::FirstFit);
-            let text_filled = fill(rt.alloc(), text, options)?;
-            assert_eq!(rt; text_filled.as_str(), filled, "{text:?} at {width}");
+            let filled = fill(rt.alloc(), text, options)?;
+            assert_eq!(rt; filled.as_str(), expected, "{text:?} at {width}");
         }
         Ok(())
     }
 
     #[test]
     fn lines_of_least_cost_are_joined(rt: HostRuntime) -> Result<(), Fail> {
-        for (text, width, filled) in [
+        for (text, width, expected) in [
             ("foo bar baz", 10, "foo bar\nbaz"),
             (
                 "To be, or not to be: that is the question\n",
@@ -111,8 +111,8 @@ mod tests {
             ("ab\ncdefghijkl", 5, "ab\ncdefg\nhijkl"),
             ("foo  ", 10, "foo"),
         ] {
-            let text_filled = fill(rt.alloc(), text, Options::new(width))?;
-            assert_eq!(rt; text_filled.as_str(), filled, "{text:?} at {width}");
+            let filled = fill(rt.alloc(), text, Options::new(width))?;
+            assert_eq!(rt; filled.as_str(), expected, "{text:?} at {width}");
         }
         Ok(())
     }
@@ -143,9 +143,9 @@ mod tests {
                 "* foo bar\n  baz",
             ),
         ];
-        for (text, options, filled) in &rows {
-            let text_filled = fill(rt.alloc(), text, Options::from(options))?;
-            assert_eq!(rt; text_filled.as_str(), *filled, "{text:?}");
+        for (text, options, expected) in &rows {
+            let filled = fill(rt.alloc(), text, Options::from(options))?;
+            assert_eq!(rt; filled.as_str(), *expected, "{text:?}");
         }
         Ok(())
     }

@@ -15,7 +15,8 @@ ghost use Rattle.textwrap_base.specs.declared.wrap_algorithms.WrapAlgorithm.TheV
 ghost use Rattle.textwrap.specs.Fuzzing.{AppendsLines, OnlyCharactersPass};
 ghost use Rattle.textwrap.specs.LineEnding.{paragraphs_of};
 ghost use Rattle.textwrap.specs.Options.{settings_view};
-ghost use Rattle.textwrap.specs.Paragraph.{text_limit, LineParts, line_view, line_from, covered};
+ghost use Rattle.textwrap.specs.Paragraph.{text_limit, LineParts, line_view, assembled_line};
+ghost use Rattle.textwrap.specs.Paragraph.{line_from, covered};
 ghost use Rattle.textwrap.specs.Paragraph.{pieces_of, widths_of, width_after, indent_of, is_whole};
 ghost use Rattle.textwrap.specs.Paragraph.{parts_of, parts_from, Adds, DividesBy, AreDividedParts};
 ghost use Rattle.textwrap.specs.Paragraph.{AreParagraphParts};
@@ -315,13 +316,7 @@ fn assemble<'t>(
     penalty: &str,
 ) -> Result<CowStr<'t>, AllocError>
     ensures { IfOk result (λ line. line_view line
-        ≡ line_from (record {
-          pieces = [];
-          indent = indent.now;
-          slice = slice.now;
-          penalty = penalty.now;
-          left_off = [];
-        })) }
+        ≡ assembled_line indent.now slice.now penalty.now) }
 {
     if indent.is_empty() && penalty.is_empty() {
         return Ok(CowStr::Borrowed(slice));

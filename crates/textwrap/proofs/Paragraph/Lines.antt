@@ -31,7 +31,8 @@ use Rattle.textwrap.proofs.Paragraph.Pieces.{ArePieces-computed, pieces_of-bound
 use Rattle.textwrap.proofs.Text.Lossless.{tiled-word_of}
 use Rattle.textwrap_base.specs.Blanks.{without_final_blanks}
 use Rattle.textwrap_base.proofs.Word.Texts.{HasNoPenalty}
-use Rattle.textwrap.specs.Paragraph.{LineParts, line_view, line_from, covered, last_piece}
+use Rattle.textwrap.specs.Paragraph.{LineParts, line_view, assembled_line, line_from, covered}
+use Rattle.textwrap.specs.Paragraph.{last_piece}
 use Rattle.textwrap.specs.Paragraph.{keeps_whitespace, indent_of, parts_of, parts_from, pieces_of}
 use Rattle.textwrap.specs.Paragraph.{widths_of, is_whole, Slice, IsDividedInto, AreDividedParts}
 use Rattle.textwrap.specs.Paragraph.{AreParagraphParts}
@@ -151,26 +152,10 @@ ending_line : (settings : Settings) (is_later : Bool) (line : List WordText) (la
     (indent slice : List ℕ) (keeps : Bool) → indent ≡ indent_of settings is_later
     → keeps ≡ keeps_whitespace settings last
     → slice ≡ cond keeps (tiled line) (covered line)
-    → line_from
-    (record {
-      pieces = [];
-      indent = indent;
-      slice = slice;
-      penalty = last.penalty;
-      left_off = [];
-    }) ≡ line_from (parts_ending settings is_later line last)
+    → assembled_line indent slice last.penalty ≡ line_from (parts_ending settings is_later line last)
 ending_line settings is_later line last indent slice keeps indent_is keeps_is slice_is =
-    ap (λ i. line_from
-    (record { pieces = []; indent = i; slice = slice; penalty = last.penalty; left_off = [] }))
-    indent_is
-    ∙ ap (λ s. line_from
-    (record {
-      pieces = [];
-      indent = indent_of settings is_later;
-      slice = s;
-      penalty = last.penalty;
-      left_off = [];
-    }))
+    ap (λ i. assembled_line i slice last.penalty) indent_is
+    ∙ ap (λ s. assembled_line (indent_of settings is_later) s last.penalty)
     (slice_is ∙ ap (λ b. cond b (tiled line) (covered line)) keeps_is)
 
 -- a line made of the slice that its pieces cover
@@ -180,14 +165,8 @@ pub line_from-parts_of : (settings : Settings) (is_later : Bool) (pieces front :
     → keeps ≡ keeps_whitespace settings (word_view last)
     → slice ≡ cond keeps (tiled (map word_view (front ++ last ∷ [])))
     (covered (map word_view (front ++ last ∷ [])))
-    → line_from
-    (record {
-      pieces = [];
-      indent = indent;
-      slice = slice;
-      penalty = last.penalty.now;
-      left_off = [];
-    }) ≡ line_from (parts_of settings is_later (map word_view pieces))
+    → assembled_line indent slice last.penalty.now
+    ≡ line_from (parts_of settings is_later (map word_view pieces))
 line_from-parts_of settings is_later pieces front last indent slice keeps is indent_is keeps_is
     slice_is =
     let line = map word_view (front ++ last ∷ []) in
@@ -331,47 +310,17 @@ AreDividedParts-from v settings algorithm separator splitter is_later paragraph 
 
 -- ---- the line of a whole paragraph
 
-line_keeping : (pieces : List WordText) (indent tile cover left_off : List ℕ) (last : WordText)
-    (preserves : Bool) → indent ≡ [] → HasNoPenalty last
-    → line_from
-    (record {
-      pieces = pieces;
-      indent = indent;
-      slice = cond
-          (preserves && (length last.penalty == 0)) tile cover;
-      penalty = last.penalty;
-      left_off = left_off;
-    }) ≡ Slice (cond preserves tile cover)
-line_keeping pieces indent tile cover left_off last true none_before none =
-    ap (λ i. line_from
-    (record {
-      pieces = pieces;
-      indent = i;
-      slice = cond
-          (true && (length last.penalty == 0)) tile cover;
-      penalty = last.penalty;
-      left_off = left_off;
-    })) none_before
-    ∙ ap (λ p. line_from
-    (record {
-      pieces = pieces;
-      indent = [];
-      slice = cond (true && (length p == 0)) tile cover;
-      penalty = p;
-      left_off = left_off;
-    })) none
-line_keeping pieces indent tile cover left_off last false none_before none =
-    ap (λ i. line_from
-    (record {
-      pieces = pieces;
-      indent = i;
-      slice = cover;
-      penalty = last.penalty;
-      left_off = left_off;
-    })) none_before
-    ∙ ap (λ p. line_from
-    (record { pieces = pieces; indent = []; slice = cover; penalty = p; left_off = left_off }))
-    none
+line_keeping : (indent tile cover : List ℕ) (last : WordText) (preserves : Bool) → indent ≡ []
+    → HasNoPenalty last
+    → assembled_line indent (cond (preserves && (length last.penalty == 0)) tile cover) last.penalty
+    ≡ Slice (cond preserves tile cover)
+line_keeping indent tile cover last true none_before none =
+    ap (λ i. assembled_line i (cond (true && (length last.penalty == 0)) tile cover) last.penalty)
+    none_before
+    ∙ ap (λ p. assembled_line [] (cond (true && (length p == 0)) tile cover) p) none
+line_keeping indent tile cover last false none_before none =
+    ap (λ i. assembled_line i cover last.penalty) none_before
+    ∙ ap (λ p. assembled_line [] cover p) none
 
 last_piece-no_penalty : (w : WordText) (ws : List WordText) → All HasNoPenalty (w ∷ ws)
     → HasNoPenalty (last_piece w ws)
@@ -388,8 +337,7 @@ line_from-pieces settings is_later [] unindented none =
     elim settings.preserve_trailing_space as (λ b. Slice [] ≡ Slice (cond b [] []))
     [ true ↦ refl | false ↦ refl ]
 line_from-pieces settings is_later (w ∷ ws) unindented none =
-    line_keeping (w ∷ ws) (indent_of settings is_later) (tiled (w ∷ ws)) (covered (w ∷ ws))
-    (parts_of settings is_later (w ∷ ws)).left_off
+    line_keeping (indent_of settings is_later) (tiled (w ∷ ws)) (covered (w ∷ ws))
     (last_piece w ws) settings.preserve_trailing_space unindented
     (last_piece-no_penalty w ws none)
 

@@ -70,9 +70,9 @@ fn the_slow_path_fills_alike(rt: HostRuntime) -> Result<(), Fail> {
             "foo  ",
         ),
     ];
-    for (text, options, filled) in &rows {
-        let text_filled = fill_slow_path(rt.alloc(), text, Options::from(options))?;
-        assert_eq!(rt; text_filled.as_str(), *filled, "{text:?}");
+    for (text, options, expected) in &rows {
+        let filled = fill_slow_path(rt.alloc(), text, Options::from(options))?;
+        assert_eq!(rt; filled.as_str(), *expected, "{text:?}");
     }
     Ok(())
 }

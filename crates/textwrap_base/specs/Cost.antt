@@ -93,3 +93,11 @@ module _ {X : Type 0} (priced : X → PricedSizes) (penalties : Penalties) (widt
       Passes128Bits (total_width (λ x. (priced x).sizes) xs)
       ⊎ ((j : ℕ) × (j ≤ length xs) × ((lines : List (List X)) → IsDivision (take j xs) lines
       → Passes128Bits (division_cost (length xs) lines)))
+
+  -- a division of the first j fragments has this cost, and none has less
+  pub record IsLeastCost (xs : List X) (j cost : ℕ) : Type 0 where
+    pub lines : List (List X)
+    pub division : IsDivision (take j xs) lines
+    pub reached : division_cost (length xs) lines ≡ cost
+    pub least : (others : List (List X)) → IsDivision (take j xs) others
+        → cost ≤ division_cost (length xs) others

@@ -2,10 +2,10 @@
 use Rattle.std.specs.Prelude.{◌≡◌, ◌≢◌, ◌↔◌, ℕ, ◌<◌, List, [], All, IsUtf8}
 use Rattle.std.specs.List.{flat_map}
 use Rattle.textwrap_base.specs.Breaking.{AreBrokenPieces, broken_pieces, broken_words}
-use Rattle.textwrap_base.specs.Cost.{PricedSizes, IsChosen}
+use Rattle.textwrap_base.specs.Cost.{PricedSizes, AreEqualFromSecond, IsChosen, Overflows}
 use Rattle.textwrap_base.specs.Division.{IsGreedy}
 use Rattle.textwrap_base.specs.Sizes.{Sizes}
-use Rattle.textwrap_base.specs.Table.{table, IsTable}
+use Rattle.textwrap_base.specs.Table.{table, IsTable, IsByTable, TableOverflows}
 use Rattle.textwrap_base.specs.Units.{TextUnit, IsInUnits, units}
 use Rattle.textwrap_base.specs.Words.{WordText, tile_of, tiled, AreWordsOf, words_of}
 use Rattle.textwrap_base.specs.declared.penalties.Penalties.{Penalties}
@@ -51,6 +51,20 @@ abbrev pub ChosenDivisionIsUnique : {X : Type 0}
 ChosenDivisionIsUnique {X} priced penalties widths xs = (lines others : List (List X))
     → IsChosen priced penalties widths xs lines → IsChosen priced penalties widths xs others
     → lines ≡ others
+
+-- these fragments have at most one division by the table, whatever the line widths
+abbrev pub TableDivisionIsUnique : {X : Type 0}
+    → (X → PricedSizes) → Penalties → List ℕ → List X → Type 0
+TableDivisionIsUnique {X} priced penalties widths xs = (lines others : List (List X))
+    → IsByTable priced penalties widths xs lines → IsByTable priced penalties widths xs others
+    → lines ≡ others
+
+-- where the line widths are equal from the second on, the table overflows exactly where the sum of
+-- all widths or the least cost of a prefix does
+abbrev pub TableOverflowIsOverflow : {X : Type 0}
+    → (X → PricedSizes) → Penalties → List ℕ → List X → Type 0
+TableOverflowIsOverflow priced penalties widths xs = AreEqualFromSecond widths
+    → TableOverflows priced penalties widths xs ↔ Overflows priced penalties widths xs
 
 -- a table has in each entry but the first the least of what the entries before it give
 abbrev pub TableHasLeastCosts : Type 0

@@ -1,5 +1,5 @@
 -- What a source of line costs shows: the costs that it gives, and how often it was asked for one.
-use Rattle.std.specs.Prelude.{◌≡◌, ℕ, ◌+◌, ◌-◌, ◌*◌, ◌/◌, ◌^◌, ◌≤◌, min, max, List, Result, OnOk}
+use Rattle.std.specs.Prelude.{ℕ, ◌+◌, ◌-◌, ◌*◌, ◌/◌, ◌^◌, min, max, List}
 use Rattle.textwrap_base.specs.Cost.{PricedSizes}
 use Rattle.textwrap_base.specs.declared.penalties.Penalties.{Penalties}
 
@@ -15,13 +15,6 @@ counted count more = max count (min (count + more) (2 ^ 128 - 1))
 -- the steps of a table over n fragments: one for each line from a start to a later end
 abbrev pub table_steps : ℕ → ℕ
 table_steps n = n * (n + 1) / 2
-
--- the count went from old to new by the steps of a table over n fragments, by no more at an error
-pub record CountsSteps {A E : Type 0} (n old new : ℕ) (result : Result A E) : Type 0 where
-  pub ok : OnOk result (new ≡ counted old (table_steps n))
-  pub exact : OnOk result (old ≡ 0 → new ≡ table_steps n)
-  pub most : new ≤ old + table_steps n
-  pub least : old ≤ new
 
 -- what line costs come from, and how often one was asked for
 pub record LineCostsView : Type 0 where

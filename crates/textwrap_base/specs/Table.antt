@@ -1,11 +1,12 @@
 -- The table of least costs, for any list of line widths, and the division that it gives.
 use Rattle.std.specs.Prelude.{◌≡◌, ℕ, zero, suc, ◌+◌, ◌<◌, ◌≤◌, ◌==◌, nat_lt, if◌then◌else◌, List}
 use Rattle.std.specs.Prelude.{[], ◌∷◌, ◌++◌, length, map, slice_index, slice_index_or, slice_range}
-use Rattle.std.specs.Prelude.{Option, None, Some, MatchOption, ⊤, ◌⊎◌}
-use Rattle.textwrap_base.specs.Minima.{Costs}
+use Rattle.std.specs.Prelude.{Option, None, Some, MatchOption, Result, OnOk, ⊤, ◌⊎◌}
+use Rattle.textwrap_base.specs.Minima.{Costs, counted, table_steps}
 use Rattle.textwrap_base.specs.Division.{line_width, IsDivision}
 use Rattle.textwrap_base.specs.Cost.{PricedSizes, line_cost, total_width}
-use Rattle.textwrap_base.specs.Errors.{Fits128Bits, Passes128Bits}
+use Rattle.textwrap_base.specs.Errors.{Fits128Bits, Passes128Bits, Overflowed}
+use Rattle.textwrap_base.specs.declared.errors.WrapError.{WrapError}
 use Rattle.textwrap_base.specs.declared.penalties.Penalties.{Penalties}
 use Rattle.textwrap_base.specs.declared.minima.Minimum.{Minimum}
 use Rattle.textwrap_base.specs.declared.minima.table.Entry.{Entry}
@@ -70,7 +71,18 @@ unfoldable pub table : (ℕ → ℕ → ℕ → ℕ) → ℕ → List Entry
 table cost zero = first_entry ∷ []
 table cost (suc n) = table cost n ++ cheapest cost n (table cost n) (suc n) ∷ []
 
--- ---- the table of fragments, and the division by it
+-- the cost of entry j, of n, passes 128 bits, and that of no entry before it
+pub record IsFirstPast (entries : List Entry) (n j : ℕ) : Type 0 where
+  pub within : j ≤ n
+  pub past : Passes128Bits (entry_at entries j).cost
+  pub before : (k : ℕ) → k < j → Fits128Bits (entry_at entries k).cost
+
+-- the count went from old to new by the steps up to the first entry that passes
+abbrev pub StopsAtOverflow : List Entry → ℕ → ℕ → ℕ → Type 0
+StopsAtOverflow entries n old new =
+    (j : ℕ) × IsFirstPast entries n j × (new ≡ counted old (table_steps j))
+
+-- ---- the table of fragments, the division by it, and its steps
 
 -- each of the lines that follow `at` fragments starts where the list of starts says at its end
 abbrev pub FollowStarts : {X : Type 0} → List ℕ → ℕ → List (List X) → Type 0
@@ -100,3 +112,15 @@ module _ {X : Type 0} (priced : X → PricedSizes) (penalties : Penalties) (widt
   pub record IsByTable (fragments : List X) (lines : List (List X)) : Type 0 where
     pub division : IsDivision fragments lines
     pub starts : FollowStarts (map (λ entry. entry.start) (fragments_table fragments)) 0 lines
+
+  -- the count went from old to new by the steps of the whole table, at an error by no more: by those
+  -- up to the first entry that passes 128 bits, or by none where the sum of all widths passes
+  pub record CountsSteps {A : Type 0} (xs : List X) (old new : ℕ) (result : Result A WrapError)
+      : Type 0 where
+    pub ok : OnOk result (new ≡ counted old (table_steps (length xs)))
+    pub exact : OnOk result (old ≡ 0 → new ≡ table_steps (length xs))
+    pub most : new ≤ old + table_steps (length xs)
+    pub least : old ≤ new
+    pub too_wide : Passes128Bits (total_width (λ x. (priced x).sizes) xs) → new ≡ old
+    pub overflow : Fits128Bits (total_width (λ x. (priced x).sizes) xs) → Overflowed result
+        → StopsAtOverflow (fragments_table xs) (length xs) old new

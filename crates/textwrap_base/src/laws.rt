@@ -4,7 +4,8 @@ ghost use Rattle.textwrap_base.specs.Cost.{priced_at};
 ghost use Rattle.textwrap_base.specs.Laws.{UnitsAreUnique, WordsAreUnique, GreedyDivisionIsUnique};
 ghost use Rattle.textwrap_base.specs.Laws.{BrokenPiecesAreUnique, BrokenTextsTile};
 ghost use Rattle.textwrap_base.specs.Laws.{BrokenPiecesTile, BrokenWordsTile};
-ghost use Rattle.textwrap_base.specs.Laws.{ChosenDivisionIsUnique, TableHasLeastCosts};
+ghost use Rattle.textwrap_base.specs.Laws.{ChosenDivisionIsUnique, TableDivisionIsUnique};
+ghost use Rattle.textwrap_base.specs.Laws.{TableOverflowIsOverflow, TableHasLeastCosts};
 
 use crate::penalties::Penalties;
 use crate::words::Fragment;
@@ -49,6 +50,28 @@ pub fn chosen_division_is_unique<T: Fragment>(
         line_widths.now fragments.now }
 {}
 
+/// Fragments have at most one division by the table, whatever the line widths. So
+/// `wrap_optimal_fit` and `wrap_optimal_fit_counted` return the same lines.
+pub fn table_division_is_unique<T: Fragment>(
+    fragments: &[T],
+    line_widths: &[usize],
+    penalties: &Penalties,
+)
+    ensures { TableDivisionIsUnique (λ x. priced_at penalties.now (T.sizes x)) penalties.now
+        line_widths.now fragments.now }
+{}
+
+/// Where all lines but the first have one width, the table overflows exactly where all widths
+/// together need more than 128 bits, or the least cost of some prefix of the fragments does.
+pub fn table_overflow_is_overflow<T: Fragment>(
+    fragments: &[T],
+    line_widths: &[usize],
+    penalties: &Penalties,
+)
+    ensures { TableOverflowIsOverflow (λ x. priced_at penalties.now (T.sizes x)) penalties.now
+        line_widths.now fragments.now }
+{}
+
 /// Each entry of a table but the first is the least of what the entries before it give.
 pub fn table_has_least_costs()
     ensures { TableHasLeastCosts }
@@ -66,7 +89,10 @@ mod tests {
         greedy_division_is_unique::<Word<'_>>();
         broken_pieces_are_unique();
         broken_pieces_tile();
-        chosen_division_is_unique(&[Word::from("foo")], &[10], &Penalties::new());
+        let words = [Word::from("foo")];
+        chosen_division_is_unique(&words, &[10], &Penalties::new());
+        table_division_is_unique(&words, &[10], &Penalties::new());
+        table_overflow_is_overflow(&words, &[10], &Penalties::new());
         table_has_least_costs();
     }
 }

@@ -1,10 +1,12 @@
 //! The least costs of dividing fragments into lines: sources of line costs, a count of how often
 //! they are asked, and the table of least costs.
-ghost use Rattle.std.specs.Prelude.{◌≡◌, ℕ, ◌+◌, ◌<◌, ◌≤◌, length, map, IfOk, OnOk, SomeIff};
-ghost use Rattle.textwrap_base.specs.Minima.{Costs, CountsSteps, counted};
-ghost use Rattle.textwrap_base.specs.Cost.{priced_at, total_width};
+ghost use Rattle.std.specs.Prelude.{◌≡◌, ℕ, ◌+◌, ◌<◌, ◌≤◌, length, map, slice_index, IfOk, OnOk};
+ghost use Rattle.std.specs.Prelude.{SomeIff};
+ghost use Rattle.textwrap_base.specs.Minima.{Costs, counted};
+ghost use Rattle.textwrap_base.specs.Cost.{priced_at, total_width, AreEqualFromSecond, IsLeastCost};
 ghost use Rattle.textwrap_base.specs.Errors.{Fits64Bits, Fits128Bits, Passes128Bits, Overflowed};
 ghost use Rattle.textwrap_base.specs.Table.{fragments_table, minimum_of, TableOverflows};
+ghost use Rattle.textwrap_base.specs.Table.{CountsSteps};
 
 use crate::errors::WrapError;
 use crate::penalties::Penalties;
@@ -100,12 +102,14 @@ pub trait CostSource {
 /// for the shorter prefix and what that line costs. Of these sums the table takes the least, and of
 /// several the one with the earliest start. The lines are numbered along the starts so taken.
 ///
-/// `steps` goes up by n(n + 1)/2 for n fragments at `Ok`, and by no more at `Err`.
+/// `steps` goes up by n(n + 1)/2 for n fragments at `Ok`, and by no more at `Err`: at an overflow
+/// by j(j + 1)/2, where the cost of j fragments is the first that does not fit, and not at all
+/// where the widths are too large.
 ///
 /// # Errors
-/// Overflow exactly where all widths together need more than 128 bits, or a cost in the table does.
-/// Otherwise out of memory only. Widths that are too large are refused before anything is
-/// allocated.
+/// Overflow only where all widths together need more than 128 bits, or a cost in the table does;
+/// and in these cases the call never succeeds. Widths that are too large are refused before
+/// anything is allocated; else memory may run out first.
 pub fn table_minima<T: Fragment>(
     alloc: Global,
     fragments: &[T],
@@ -124,7 +128,13 @@ pub fn table_minima<T: Fragment>(
         line_widths.now fragments.now) }
     ensures too_wide { Passes128Bits (total_width T.sizes fragments.now) → Overflowed result }
     ensures no_overflow { Fits64Bits (total_width T.sizes fragments.now) → ¬ Overflowed result }
-    ensures steps { CountsSteps (length fragments.now) steps.old steps.new result }
+    // Where all lines but the first have one width, each cost is the least of its prefix.
+    ensures least { IfOk result (λ minima. AreEqualFromSecond line_widths.now
+        → (j : ℕ) → j ≤ length fragments.now
+        → IsLeastCost (λ x. priced_at penalties.now (T.sizes x)) penalties.now line_widths.now
+        fragments.now j (slice_index (map (λ minimum. minimum.cost) minima.items) j)) }
+    ensures steps { CountsSteps (λ x. priced_at penalties.now (T.sizes x)) penalties.now
+        line_widths.now fragments.now steps.old steps.new result }
 {
     let penalties = in_range(*penalties);
     let mut costs = LineCosts::new(alloc, fragments, line_widths, &penalties)?;
@@ -156,56 +166,47 @@ mod tests {
     }
 
     #[test]
-    fn the_table_of_one_fragment(rt: HostRuntime) -> Result<(), Fail> {
-        let mut steps = Steps::new();
+    fn tables_have_the_least_costs_and_the_earliest_starts(rt: HostRuntime) -> Result<(), Fail> {
+        let one = [Block(10, 0, 0)];
+        let growing = [Block(5, 0, 0), Block(5, 0, 0), Block(20, 0, 0)];
+        let rows: [(&[Block], &[usize], usize, &[Minimum], u128); 4] = [
+            (&one, &[10], 4, &[minimum(0, 0), minimum(0, 1000)], 1),
+            (&one, &[10], 0, &[minimum(0, 0), minimum(0, 1025)], 1),
+            (
+                &FALLING,
+                &[10],
+                4,
+                &[
+                    minimum(0, 0),
+                    minimum(0, 1000),
+                    minimum(1, 2025),
+                    minimum(2, 3050),
+                    minimum(1, 2000),
+                    minimum(4, 3000),
+                ],
+                15,
+            ),
+            (
+                &growing,
+                &[10, 5, 100],
+                4,
+                &[
+                    minimum(0, 0),
+                    minimum(0, 1025),
+                    minimum(0, 1000),
+                    minimum(2, 39500),
+                ],
+                6,
+            ),
+        ];
         let mut penalties = Penalties::new();
-        let block = [Block(10, 0, 0)];
-        let minima = table_minima(rt.alloc(), &block, &[10], &penalties, &mut steps)?;
-        assert_eq!(rt;
-            minima.as_slice(),
-            [minimum(0, 0), minimum(0, 1000)].as_slice()
-        );
-        assert_eq!(rt; steps.count(), 1);
-        penalties.short_last_line_fraction = 0;
-        let minima = table_minima(rt.alloc(), &block, &[10], &penalties, &mut steps)?;
-        assert_eq!(rt;
-            minima.as_slice(),
-            [minimum(0, 0), minimum(0, 1025)].as_slice()
-        );
-        assert_eq!(rt; steps.count(), 2);
-        Ok(())
-    }
-
-    #[test]
-    fn the_table_where_closed_widths_fall(rt: HostRuntime) -> Result<(), Fail> {
-        let mut steps = Steps::new();
-        let minima = table_minima(rt.alloc(), &FALLING, &[10], &Penalties::new(), &mut steps)?;
-        let expected = [
-            minimum(0, 0),
-            minimum(0, 1000),
-            minimum(1, 2025),
-            minimum(2, 3050),
-            minimum(1, 2000),
-            minimum(4, 3000),
-        ];
-        assert_eq!(rt; minima.as_slice(), expected.as_slice());
-        assert_eq!(rt; steps.count(), 15);
-        Ok(())
-    }
-
-    #[test]
-    fn the_table_of_three_line_widths(rt: HostRuntime) -> Result<(), Fail> {
-        let mut steps = Steps::new();
-        let blocks = [Block(5, 0, 0), Block(5, 0, 0), Block(20, 0, 0)];
-        let penalties = Penalties::new();
-        let minima = table_minima(rt.alloc(), &blocks, &[10, 5, 100], &penalties, &mut steps)?;
-        let expected = [
-            minimum(0, 0),
-            minimum(0, 1025),
-            minimum(0, 1000),
-            minimum(2, 39500),
-        ];
-        assert_eq!(rt; minima.as_slice(), expected.as_slice());
+        for (blocks, line_widths, fraction, expected, count) in rows {
+            penalties.short_last_line_fraction = fraction;
+            let mut steps = Steps::new();
+            let minima = table_minima(rt.alloc(), blocks, line_widths, &penalties, &mut steps)?;
+            assert_eq!(rt; minima.as_slice(), expected, "{blocks:?} {fraction}");
+            assert_eq!(rt; steps.count(), count, "{blocks:?} {fraction}");
+        }
         Ok(())
     }
 

@@ -1,5 +1,5 @@
 -- The table gives the chosen division, if all lines but the first have one width.
-use Rattle.std.proofs.Common.{◌≡◌, ℕ, zero, suc, ◌+◌, ◌-◌, ◌<◌, ◌≤◌, ◌⊎◌, ◌≢◌, min, eqb, inl, inr}
+use Rattle.std.proofs.Common.{◌≡◌, ◌↔◌, ℕ, zero, suc, ◌+◌, ◌-◌, ◌<◌, ◌≤◌, ◌⊎◌, ◌≢◌, min, eqb, inl, inr}
 use Rattle.std.proofs.Common.{List, [], ◌∷◌, ◌++◌, length, get_or, map, take, drop, All}
 use Rattle.std.proofs.Common.{slice_range, refl, sym, ◌∙◌, ap, subst, arith}
 use Rattle.std.proofs.lemmas.Bool.{cases_lt}
@@ -7,7 +7,7 @@ use Rattle.std.proofs.lemmas.List.{append-nil, take-append-drop, take_all, lengt
 use Rattle.std.proofs.lemmas.List.Elements.{All-nil}
 use Rattle.textwrap_base.specs.Division.{line_width, IsDivision}
 use Rattle.textwrap_base.specs.Cost.{PricedSizes, line_cost, division_cost, AreNoLater, IsChosen}
-use Rattle.textwrap_base.specs.Cost.{AreEqualFromSecond, Overflows}
+use Rattle.textwrap_base.specs.Cost.{AreEqualFromSecond, Overflows, IsLeastCost}
 use Rattle.textwrap_base.specs.Table.{entry_at, line_costs, fragments_table, FollowStarts}
 use Rattle.textwrap_base.specs.Table.{IsByTable, TableOverflows}
 use Rattle.textwrap_base.specs.declared.minima.table.Entry.{Entry}
@@ -52,7 +52,7 @@ module _ {X : Type 0} (priced : X → PricedSizes) (penalties : Penalties) (widt
       → 0 + length (joined lines) ≡ j
   length_begun lines j l e = let k = ap length e ∙ length-take-le j xs l in omega (arith, k)
 
-  begin_starts : (lines : List (List X)) (j : ℕ) → j ≤ length xs → joined lines ≡ take j xs
+  pub begin_starts : (lines : List (List X)) (j : ℕ) → j ≤ length xs → joined lines ≡ take j xs
       → All (λ line. line ≢ []) lines → AreStarts (starts_back lines) j
   begin_starts lines j l e some = subst (λ n. AreStarts (starts_back lines) n)
       (length_begun lines j l e)
@@ -68,7 +68,7 @@ module _ {X : Type 0} (priced : X → PricedSizes) (penalties : Penalties) (widt
       let k = ap (starts_cost (starts_back lines) (line_costs priced penalties widths xs))
       (length_begun lines j l e) in omega (arith, c, k)
 
-  begin_follow : (lines : List (List X)) (j : ℕ) (starts : List ℕ) → j ≤ length xs
+  pub begin_follow : (lines : List (List X)) (j : ℕ) (starts : List ℕ) → j ≤ length xs
       → joined lines ≡ take j xs → FollowStarts starts 0 lines
       → FollowBack (starts_back lines) starts j
   begin_follow lines j starts l e f = subst (λ n. FollowBack (starts_back lines) starts n)
@@ -87,7 +87,7 @@ chosen-empty {X = X} priced penalties widths lines e = record {
 }
 
 -- a division of all fragments, as one of the prefix of all
-whole : {X : Type 0} (xs : List X) (lines : List (List X)) → 0 < length xs → IsDivision xs lines
+pub whole : {X : Type 0} (xs : List X) (lines : List (List X)) → 0 < length xs → IsDivision xs lines
     → (joined lines ≡ take (length xs) xs) × All (λ line. line ≢ []) lines
 whole xs lines p h =
     let (tiles, some) = division_joined xs lines p h in
@@ -167,36 +167,19 @@ by_table-chosen priced penalties widths (x ∷ xs) lines equal h =
           (x ∷ xs) lines others p equal h o same;
     }
 
--- ---- overflow
+-- ---- each entry has the least cost of its prefix
 
--- an entry that passes is a prefix that passes
-pub table-overflows : {X : Type 0} (priced : X → PricedSizes) (penalties : Penalties)
-    (widths : List ℕ) (xs : List X) → AreEqualFromSecond widths
-    → TableOverflows priced penalties widths xs → Overflows priced penalties widths xs
-table-overflows priced penalties widths xs equal (inl wide) = inl wide
-table-overflows {X = X} priced penalties widths xs equal (inr (zero, l, past)) =
+-- a division of the prefix costs what its entry says
+entry-reached : {X : Type 0} (priced : X → PricedSizes) (penalties : Penalties) (widths : List ℕ)
+    (xs : List X) (j : ℕ) → j ≤ length xs → AreEqualFromSecond widths
+    → (lines : List (List X)) × IsDivision (take j xs) lines
+    × (division_cost priced penalties widths (length xs) lines
+    ≡ (entry_at (fragments_table priced penalties widths xs) j).cost)
+entry-reached priced penalties widths xs zero l equal =
     let first = ap (λ (e : Entry). e.cost)
     (entry-table_first (line_costs priced penalties widths xs) (length xs)) in
-    absurd (omega (arith, past, first))
-table-overflows {X = X} priced penalties widths xs equal (inr (suc j, l, past)) =
-    inr (
-      suc j,
-      l,
-      λ others o.
-          let len = length-take-le (suc j) xs l in
-          let (tiles, some) = division_joined (take (suc j) xs) others (omega arith) o in
-          let least = begin-least priced penalties widths xs others (suc j) l equal tiles some in
-          omega (arith, past, least),
-    )
-
--- a prefix that passes is an entry that passes
-pub overflows-table : {X : Type 0} (priced : X → PricedSizes) (penalties : Penalties)
-    (widths : List ℕ) (xs : List X) → AreEqualFromSecond widths
-    → Overflows priced penalties widths xs → TableOverflows priced penalties widths xs
-overflows-table priced penalties widths xs equal (inl wide) = inl wide
-overflows-table {X = X} priced penalties widths xs equal (inr (zero, l, passes)) = let cost =
-    passes ([] ∷ []) refl in absurd (omega (arith, cost))
-overflows-table {X = X} priced penalties widths xs equal (inr (suc j, l, passes)) =
+    ([] ∷ [], refl, sym first)
+entry-reached {X = X} priced penalties widths xs (suc j) l equal =
     let is = table-is_table (line_costs priced penalties widths xs) (length xs) in
     let steady = line_costs-steady priced penalties widths xs equal in
     let (starts, h, f) = starts_to (line_costs priced penalties widths xs) (length xs)
@@ -206,8 +189,71 @@ overflows-table {X = X} priced penalties widths xs equal (inr (suc j, l, passes)
     let some = some_after starts xs (suc j) [] l h (All-nil (λ (line : List X). line ≢ [])) in
     let cost = cost_after_starts priced penalties widths starts xs (suc j) [] l h in
     let followed = table_followed (line_costs priced penalties widths xs) (length xs)
-    (fragments_table priced penalties widths xs) is steady starts (suc j) l h f in
-    let past = passes (lines_after starts xs (suc j) [])
-    (joined_division (take (suc j) xs) (lines_after starts xs (suc j) [])
-    (omega arith) tiles some) in
-    inr (suc j, l, omega (arith, cost, followed, past))
+    (fragments_table priced penalties widths xs) is steady starts (suc j) l h f in (
+      lines_after starts xs (suc j) [],
+      joined_division (take (suc j) xs) (lines_after starts xs (suc j) []) (omega arith) tiles some,
+      (let same : division_cost priced penalties widths (length xs)
+          (lines_after starts xs (suc j) [])
+          ≡ (entry_at (fragments_table priced penalties widths xs) (suc j)).cost =
+          omega (arith, cost, followed) in same),
+    )
+
+entry-least : {X : Type 0} (priced : X → PricedSizes) (penalties : Penalties) (widths : List ℕ)
+    (xs : List X) (j : ℕ) → j ≤ length xs → AreEqualFromSecond widths → (others : List (List X))
+    → IsDivision (take j xs) others
+    → (entry_at (fragments_table priced penalties widths xs) j).cost
+    ≤ division_cost priced penalties widths (length xs) others
+entry-least priced penalties widths xs zero l equal others o =
+    let first = ap (λ (e : Entry). e.cost)
+    (entry-table_first (line_costs priced penalties widths xs) (length xs)) in
+    omega (arith, first)
+entry-least priced penalties widths xs (suc j) l equal others o =
+    let len = length-take-le (suc j) xs l in
+    let (tiles, some) = division_joined (take (suc j) xs) others (omega arith) o in
+    begin-least priced penalties widths xs others (suc j) l equal tiles some
+
+pub entry-least_cost : {X : Type 0} (priced : X → PricedSizes) (penalties : Penalties)
+    (widths : List ℕ) (xs : List X) (j : ℕ) → j ≤ length xs → AreEqualFromSecond widths
+    → IsLeastCost priced penalties widths xs j
+    (entry_at (fragments_table priced penalties widths xs) j).cost
+entry-least_cost priced penalties widths xs j l equal =
+    let (lines, division, reached) = entry-reached priced penalties widths xs j l equal in
+    record {
+      lines = lines;
+      division = division;
+      reached = reached;
+      least = entry-least priced penalties widths xs j l equal;
+    }
+
+-- ---- overflow
+
+-- an entry that passes is a prefix that passes
+pub table-overflows : {X : Type 0} (priced : X → PricedSizes) (penalties : Penalties)
+    (widths : List ℕ) (xs : List X) → AreEqualFromSecond widths
+    → TableOverflows priced penalties widths xs → Overflows priced penalties widths xs
+table-overflows priced penalties widths xs equal (inl wide) = inl wide
+table-overflows priced penalties widths xs equal (inr (j, l, past)) =
+    inr (
+      j,
+      l,
+      λ others o. let least = entry-least priced penalties widths xs j l equal others o in
+          omega (arith, past, least),
+    )
+
+-- a prefix that passes is an entry that passes
+pub overflows-table : {X : Type 0} (priced : X → PricedSizes) (penalties : Penalties)
+    (widths : List ℕ) (xs : List X) → AreEqualFromSecond widths
+    → Overflows priced penalties widths xs → TableOverflows priced penalties widths xs
+overflows-table priced penalties widths xs equal (inl wide) = inl wide
+overflows-table priced penalties widths xs equal (inr (j, l, passes)) =
+    let (lines, division, reached) = entry-reached priced penalties widths xs j l equal in
+    let past = passes lines division in
+    inr (j, l, omega (arith, past, reached))
+
+pub table_overflow-is : {X : Type 0} (priced : X → PricedSizes) (penalties : Penalties)
+    (widths : List ℕ) (xs : List X) → AreEqualFromSecond widths
+    → TableOverflows priced penalties widths xs ↔ Overflows priced penalties widths xs
+table_overflow-is priced penalties widths xs equal = (
+  table-overflows priced penalties widths xs equal,
+  overflows-table priced penalties widths xs equal,
+)

@@ -1,8 +1,10 @@
 -- What a call by optimal fit returns, from what the table's call returned.
-use Rattle.std.proofs.Common.{◌≡◌, ℕ, ◌^◌, ◌<◌, ◌≤◌, inl, List, Result, Ok, Err, IsErrAnd, sym}
+use Rattle.std.proofs.Common.{◌≡◌, ℕ, ◌+◌, ◌^◌, ◌<◌, ◌≤◌, inl, List, length, Result, Ok, Err, IsErrAnd, sym}
 use Rattle.std.proofs.Common.{subst}
 use Rattle.textwrap_base.specs.Cost.{PricedSizes, total_width}
-use Rattle.textwrap_base.specs.Table.{TableOverflows, IsByTable}
+use Rattle.textwrap_base.specs.Minima.{table_steps}
+use Rattle.textwrap_base.specs.Table.{fragments_table, TableOverflows, IsByTable, StopsAtOverflow}
+use Rattle.textwrap_base.specs.Table.{CountsSteps}
 use Rattle.textwrap_base.specs.OptimalFit.{IsOptimalFitResult}
 use Rattle.textwrap_base.specs.Errors.{Overflowed}
 use Rattle.textwrap_base.specs.declared.errors.WrapError.{WrapError}
@@ -61,3 +63,23 @@ module _ {X A : Type 0} (priced : X → PricedSizes) (penalties : Penalties) (wi
       subst (λ d. IsOptimalFitResult priced penalties widths xs lines (Err d)) (sym is)
       (refused e (λ over. table (passed_on A B e over)) (λ much. passed_on B A e (wide much))
       (λ little over. narrow little (passed_on A B e over)))
+
+-- the steps of a call that passes on an error
+pub steps-refused : {X A : Type 0} (B : Type 0) (priced : X → PricedSizes) (penalties : Penalties)
+    (widths : List ℕ) (xs : List X) (old new : ℕ) (r : Result A WrapError) (e : WrapError)
+    → IsErrAnd r (λ f. f ≡ e) → new ≤ old + table_steps (length xs) → old ≤ new
+    → (2 ^ 128 ≤ total_width (λ x. (priced x).sizes) xs → new ≡ old)
+    → (Overflowed {A = B} (Err e)
+    → StopsAtOverflow (fragments_table priced penalties widths xs) (length xs) old new)
+    → CountsSteps priced penalties widths xs old new r
+steps-refused B priced penalties widths xs old new (Ok value) e is most least wide stops = absurd is
+steps-refused {A = A} B priced penalties widths xs old new (Err f) e is most least wide stops
+    = record {
+      ok = tt;
+      exact = tt;
+      most = most;
+      least = least;
+      too_wide = wide;
+      overflow = λ fits over. stops (passed_on A B e
+          (subst (λ d. Overflowed {A = A} (Err d)) is over));
+    }

@@ -66,18 +66,31 @@ pub start-at : (cost : ℕ → ℕ → ℕ → ℕ) (n : ℕ) (entries : List En
 start-at cost n entries is j l = let len = is.len in
     get_or-map (λ (x : Entry). x.start) entries j first_entry 0 (omega arith)
 
--- ---- the starts that are reported
+-- ---- the starts and costs that are reported
 
 pub starts_of_minima : (entries : List Entry)
     → map (λ (m : Minimum). m.start) (map minimum_of entries) ≡ map (λ (x : Entry). x.start) entries
 starts_of_minima [] = refl
 starts_of_minima (x ∷ entries) = ap (λ l. x.start ∷ l) (starts_of_minima entries)
 
+costs_of_minima : (entries : List Entry)
+    → map (λ (m : Minimum). m.cost) (map minimum_of entries) ≡ map (λ (x : Entry). x.cost) entries
+costs_of_minima [] = refl
+costs_of_minima (x ∷ entries) = ap (λ l. x.cost ∷ l) (costs_of_minima entries)
+
 module _ (cost : ℕ → ℕ → ℕ → ℕ) (n : ℕ) (minima : List Minimum)
     (reported : minima ≡ map minimum_of (table cost n)) where
   pub starts_reported : map (λ (m : Minimum). m.start) minima ≡ map (λ (x : Entry). x.start)
       (table cost n)
   starts_reported = ap (map (λ (m : Minimum). m.start)) reported ∙ starts_of_minima (table cost n)
+
+  pub cost_reported : (j : ℕ) → j ≤ n
+      → get_or (map (λ (m : Minimum). m.cost) minima) j 0 ≡ (entry_at (table cost n) j).cost
+  cost_reported j l =
+      let len = length-table cost n in
+      ap (λ ms. get_or (map (λ (m : Minimum). m.cost) ms) j 0) reported
+      ∙ ap (λ cs. get_or cs j 0) (costs_of_minima (table cost n))
+      ∙ get_or-map (λ (x : Entry). x.cost) (table cost n) j first_entry 0 (omega (arith, len, l))
 
   pub length_reported : length minima ≡ n + 1
   length_reported = ap length reported ∙ length-map (table cost n) minimum_of ∙ length-table cost n

@@ -1,10 +1,14 @@
--- Only one division is the chosen one.
+-- Only one division is the chosen one, and only one follows the table.
 use Rattle.std.proofs.Common.{◌≡◌, ℕ, ◌+◌, inl, inr, List, [], ◌∷◌, length, get_or, take, drop}
-use Rattle.std.proofs.Common.{reverse, refl, sym, ◌∙◌, ap, arith}
+use Rattle.std.proofs.Common.{map, reverse, refl, sym, ◌∙◌, ap, subst, arith}
 use Rattle.std.proofs.lemmas.List.{append-nil, reverse-reverse, take_at, drop_at}
 use Rattle.textwrap_base.specs.Cost.{PricedSizes, starts_from, AreNoLater, IsChosen}
 use Rattle.textwrap_base.specs.declared.penalties.Penalties.{Penalties}
+use Rattle.textwrap_base.specs.Table.{fragments_table, IsByTable}
+use Rattle.textwrap_base.specs.declared.minima.table.Entry.{Entry}
+use Rattle.textwrap_base.proofs.Cost.Chosen.{begin_starts, begin_follow, whole}
 use Rattle.textwrap_base.proofs.Cost.Lines.{starts_back, joined}
+use Rattle.textwrap_base.proofs.Cost.Starts.{AreStarts, FollowBack}
 
 starts_same : (starts others : List ℕ) → AreNoLater starts others → AreNoLater others starts
     → starts ≡ others
@@ -46,6 +50,13 @@ lines_same (l ∷ m ∷ lines) (o ∷ p ∷ others) at s j =
     (let e : at + length o ≡ at + length l = omega arith in e)) rest in
     ap (λ x. x ∷ (m ∷ lines)) first ∙ ap (λ x. o ∷ x) next
 
+-- so do the starts from the last line back
+lines_back_same : {X : Type 0} (lines others : List (List X)) → starts_back lines ≡ starts_back others
+    → joined lines ≡ joined others → lines ≡ others
+lines_back_same lines others back same =
+    lines_same lines others 0 (sym (reverse-reverse (starts_from 0 lines)) ∙ ap reverse back
+    ∙ reverse-reverse (starts_from 0 others)) same
+
 pub chosen_one : {X : Type 0} (priced : X → PricedSizes) (penalties : Penalties) (widths : List ℕ)
     (xs : List X) (lines others : List (List X))
     → IsChosen priced penalties widths xs lines → IsChosen priced penalties widths xs others
@@ -56,6 +67,36 @@ chosen_one priced penalties widths (x ∷ xs) lines others h k =
     let q = k.least lines h.division in
     let back = starts_same (starts_back lines) (starts_back others)
     (h.earliest others k.division (omega arith)) (k.earliest lines h.division (omega arith)) in
-    let starts = sym (reverse-reverse (starts_from 0 lines)) ∙ ap reverse back
-    ∙ reverse-reverse (starts_from 0 others) in
-    lines_same lines others 0 starts (h.division.0 ∙ sym k.division.0)
+    lines_back_same lines others back (h.division.0 ∙ sym k.division.0)
+
+-- ---- only one division follows the table
+
+follow_one : (starts others follow : List ℕ) (j : ℕ) → AreStarts starts j → AreStarts others j
+    → FollowBack starts follow j → FollowBack others follow j → starts ≡ others
+follow_one [] [] follow j h k f g = refl
+follow_one [] (o ∷ others) follow j h (k, ks) f g = absurd (omega (arith, h, k))
+follow_one (s ∷ starts) [] follow j (h, hs) k f g = absurd (omega (arith, h, k))
+follow_one (s ∷ starts) (o ∷ others) follow j (h, hs) (k, ks) (f, fs) (g, gs) =
+    let same : o ≡ s = sym g ∙ f in
+    let rest = follow_one starts others follow s hs (subst (AreStarts others) same ks) fs
+    (subst (FollowBack others follow) same gs) in
+    ap (λ l. s ∷ l) rest ∙ ap (λ n. n ∷ others) (sym same)
+
+pub by_table_one : {X : Type 0} (priced : X → PricedSizes) (penalties : Penalties) (widths : List ℕ)
+    (xs : List X) (lines others : List (List X))
+    → IsByTable priced penalties widths xs lines → IsByTable priced penalties widths xs others
+    → lines ≡ others
+by_table_one priced penalties widths [] lines others h k = h.division ∙ sym k.division
+by_table_one priced penalties widths (x ∷ xs) lines others h k =
+    let all = x ∷ xs in
+    let n = length all in
+    let follow = map (λ (e : Entry). e.start) (fragments_table priced penalties widths all) in
+    let (tiles, some) = whole all lines (omega arith) h.division in
+    let (other_tiles, other_some) = whole all others (omega arith) k.division in
+    lines_back_same lines others
+    (follow_one (starts_back lines) (starts_back others) follow n
+    (begin_starts priced penalties widths all lines n (omega arith) tiles some)
+    (begin_starts priced penalties widths all others n (omega arith) other_tiles other_some)
+    (begin_follow priced penalties widths all lines n follow (omega arith) tiles h.starts)
+    (begin_follow priced penalties widths all others n follow (omega arith) other_tiles k.starts))
+    (h.division.0 ∙ sym k.division.0)

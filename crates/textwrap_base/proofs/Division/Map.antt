@@ -1,6 +1,6 @@
 -- A division of fragments is one of what a function makes of them.
 use Rattle.std.proofs.Common.{◌≡◌, ◌≢◌, ℕ, ◌+◌, ◌<◌, ◌≤◌, List, [], ◌∷◌, ◌++◌, take, map, All, refl}
-use Rattle.std.proofs.Common.{sym, ap, ◌∙◌, subst}
+use Rattle.std.proofs.Common.{sym, ap, ◌∙◌, subst, arith, length}
 use Rattle.std.specs.List.{flat_map}
 use Rattle.std.proofs.lemmas.List.{map-append, length-map, take-map}
 use Rattle.std.proofs.lemmas.List.Elements.{All-nil, All-cons, All-head, All-tail}
@@ -105,3 +105,18 @@ IsDividedBy-whole sizes Greedy widths xs lines divided =
     IsDivision-whole xs lines divided.admissible.division
 IsDividedBy-whole sizes (LeastCost penalties) widths xs lines divided =
     IsDivision-whole xs lines divided.by_table.division
+
+-- there is a line at least
+IsDivision-some : {X : Type 0} (xs : List X) (lines : List (List X)) → IsDivision xs lines
+    → 0 < length lines
+IsDivision-some [] lines division = omega (arith, ap length division)
+IsDivision-some (x ∷ xs) [] division = cc
+IsDivision-some (x ∷ xs) (line ∷ lines) division = omega arith
+
+pub IsDividedBy-some : {X : Type 0} (sizes : X → Sizes) (algorithm : Algorithm) (widths : List ℕ)
+    (xs : List X) (lines : List (List X)) → IsDividedBy algorithm sizes widths xs lines
+    → 0 < length lines
+IsDividedBy-some sizes Greedy widths xs lines divided =
+    IsDivision-some xs lines divided.admissible.division
+IsDividedBy-some sizes (LeastCost penalties) widths xs lines divided =
+    IsDivision-some xs lines divided.by_table.division

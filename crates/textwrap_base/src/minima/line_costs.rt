@@ -53,8 +53,8 @@ impl LineCosts {
     /// The costs of the lines of these fragments.
     ///
     /// # Errors
-    /// Overflow exactly where all widths together need more than 128 bits, before anything is
-    /// allocated. Otherwise out of memory only.
+    /// Overflow exactly where all widths together need more than 128 bits, which is found before
+    /// anything is allocated. Otherwise out of memory.
     pub fn new<T: Fragment>(
         alloc: Global,
         fragments: &[T],

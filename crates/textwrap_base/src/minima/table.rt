@@ -1,9 +1,9 @@
 //! The table of least costs over any source of line costs.
 ghost use Rattle.std.specs.Prelude.{◌≡◌, ℕ, ◌+◌, ◌<◌, ◌≤◌, length, map, IfOk, OnOk, SomeIff};
 ghost use Rattle.textwrap_base.specs.Minima.{counted, table_steps};
-ghost use Rattle.textwrap_base.specs.Errors.{Fits128Bits, Passes128Bits, Overflowed};
+ghost use Rattle.textwrap_base.specs.Errors.{Fits128Bits, Overflowed};
 ghost use Rattle.textwrap_base.specs.Table.{entry_from, entry_at, cheaper_of, table, minimum_of};
-ghost use Rattle.textwrap_base.specs.Table.{IsBestBelow};
+ghost use Rattle.textwrap_base.specs.Table.{IsBestBelow, StopsAtOverflow};
 
 use super::{CostSource, Minimum};
 use crate::errors::{OverflowError, WrapError};
@@ -24,9 +24,9 @@ pub(super) fn fill_table<C: CostSource>(
 ) -> Result<Vec<Entry>, WrapError>
     ensures entries { IfOk result (λ entries.
         entries.items ≡ table (C.costs costs.old).cost (C.costs costs.old).ends) }
-    ensures overflow_only { let entries = table (C.costs costs.old).cost (C.costs costs.old).ends
-        in Overflowed result → ((j : ℕ) × (j ≤ (C.costs costs.old).ends)
-        × Passes128Bits (entry_at entries j).cost) }
+    ensures overflow { let entries = table (C.costs costs.old).cost (C.costs costs.old).ends
+        in Overflowed result → StopsAtOverflow entries (C.costs costs.old).ends
+        (C.steps costs.old) (C.steps costs.new) }
     ensures ok_only { let entries = table (C.costs costs.old).cost (C.costs costs.old).ends
         in OnOk result ((j : ℕ) → j ≤ (C.costs costs.old).ends
         → Fits128Bits (entry_at entries j).cost) }

@@ -148,17 +148,6 @@ mod tests {
 
     const MAX: usize = usize::MAX;
 
-    /// The word with this text is broken at the limit into these pieces.
-    type Row<'a> = (&'a str, usize, &'a [&'a str]);
-
-    fn assert_rows(rt: &impl Abort, alloc: Global, rows: &[Row<'_>]) -> Result<(), Fail> {
-        for (text, line_width, wanted) in rows {
-            let pieces: Vec<Word<'_>> = Word::from(*text).break_apart(*line_width).collect(alloc)?;
-            assert_words(rt, pieces.as_slice(), wanted);
-        }
-        Ok(())
-    }
-
     fn assert_words(rt: &impl Abort, words: &[Word<'_>], wanted: &[&str]) {
         assert_eq!(rt; words.len(), wanted.len());
         for (word, text) in words.iter().zip(wanted) {
@@ -168,57 +157,42 @@ mod tests {
 
     #[test]
     fn a_word_is_cut_where_it_would_pass_the_limit(rt: HostRuntime) -> Result<(), Fail> {
-        assert_rows(
-            &rt,
-            rt.alloc(),
-            &[
-                ("Hello!  ", 3, &["Hel", "lo!  "]),
-                ("Hello!  ", 5, &["Hello", "!  "]),
-                ("Hello!  ", 6, &["Hello!  "]),
-                ("foobar", 0, &["f", "o", "o", "b", "a", "r"]),
-                ("foobar", 1, &["f", "o", "o", "b", "a", "r"]),
-                ("foobar", MAX, &["foobar"]),
-                ("안녕하세요", 8, &["안녕하세", "요"]),
-                ("あ", 0, &["あ"]),
-                ("あ", 1, &["あ"]),
-                ("あ", MAX, &["あ"]),
-                ("あ\u{301}", 1, &["あ", "\u{301}"]),
-                ("あ\u{301}", 2, &["あ\u{301}"]),
-            ],
-        )
-    }
-
-    #[test]
-    fn a_word_without_text_has_no_pieces(rt: HostRuntime) -> Result<(), Fail> {
-        assert_rows(
-            &rt,
-            rt.alloc(),
-            &[
-                ("   ", 0, &[]),
-                ("", 0, &[]),
-                ("", 1, &[]),
-                ("  ", MAX, &[]),
-            ],
-        )
-    }
-
-    #[test]
-    fn an_escape_sequence_stays_whole_before_a_cut(rt: HostRuntime) -> Result<(), Fail> {
-        assert_rows(
-            &rt,
-            rt.alloc(),
-            &[
-                ("ab\x1b[0mcd", 2, &["ab\x1b[0m", "cd"]),
-                ("\x1b[1mab", 1, &["\x1b[1ma", "b"]),
-                ("ab\x1b[0m ", 1, &["a", "b\x1b[0m "]),
-                ("a\x1b[0mb", 0, &["a\x1b[0m", "b"]),
-                ("\x1b[1m\x1b[0m ", 0, &["\x1b[1m\x1b[0m "]),
-                ("\x1b]8;;u\x1b\\ab", 1, &["\x1b]8;;u\x1b\\a", "b"]),
-                ("ab\x1b[1", 1, &["a", "b\x1b[1"]),
-                ("\x1b[1", 0, &["\x1b[1"]),
-                ("1mab", 2, &["1m", "ab"]),
-            ],
-        )
+        let rows: [(&str, usize, &[&str]); 25] = [
+            ("Hello!  ", 3, &["Hel", "lo!  "]),
+            ("Hello!  ", 5, &["Hello", "!  "]),
+            ("Hello!  ", 6, &["Hello!  "]),
+            ("foobar", 0, &["f", "o", "o", "b", "a", "r"]),
+            ("foobar", 1, &["f", "o", "o", "b", "a", "r"]),
+            ("foobar", MAX, &["foobar"]),
+            ("안녕하세요", 8, &["안녕하세", "요"]),
+            ("あ", 0, &["あ"]),
+            ("あ", 1, &["あ"]),
+            ("あ", MAX, &["あ"]),
+            ("あ\u{301}", 1, &["あ", "\u{301}"]),
+            ("あ\u{301}", 2, &["あ\u{301}"]),
+            // A word without text has no pieces.
+            ("   ", 0, &[]),
+            ("", 0, &[]),
+            ("", 1, &[]),
+            ("  ", MAX, &[]),
+            // An escape sequence stays whole, and before a cut.
+            ("ab\x1b[0mcd", 2, &["ab\x1b[0m", "cd"]),
+            ("\x1b[1mab", 1, &["\x1b[1ma", "b"]),
+            ("ab\x1b[0m ", 1, &["a", "b\x1b[0m "]),
+            ("a\x1b[0mb", 0, &["a\x1b[0m", "b"]),
+            ("\x1b[1m\x1b[0m ", 0, &["\x1b[1m\x1b[0m "]),
+            ("\x1b]8;;u\x1b\\ab", 1, &["\x1b]8;;u\x1b\\a", "b"]),
+            ("ab\x1b[1", 1, &["a", "b\x1b[1"]),
+            ("\x1b[1", 0, &["\x1b[1"]),
+            ("1mab", 2, &["1m", "ab"]),
+        ];
+        for (text, line_width, wanted) in rows {
+            let pieces: Vec<Word<'_>> = Word::from(text)
+                .break_apart(line_width)
+                .collect(rt.alloc())?;
+            assert_words(&rt, pieces.as_slice(), wanted);
+        }
+        Ok(())
     }
 
     #[test]
@@ -247,6 +221,8 @@ mod tests {
         let words = [Word::from("ab "), Word::from("cdef ")];
         let broken = break_words(rt.alloc(), words, 2)?;
         assert_words(&rt, broken.as_slice(), &["ab ", "cd", "ef "]);
+        let broken = break_words(rt.alloc(), words, 1)?;
+        assert_words(&rt, broken.as_slice(), &["a", "b ", "c", "d", "e", "f "]);
         let blank = break_words(rt.alloc(), [Word::from("   ")], 0)?;
         assert_words(&rt, blank.as_slice(), &["   "]);
         let none: [Word<'_>; 0] = [];

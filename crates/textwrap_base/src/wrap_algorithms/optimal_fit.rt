@@ -1,9 +1,8 @@
 //! Optimal fit: the division of least cost.
 ghost use Rattle.std.specs.Prelude.{◌≡◌, ℕ, ◌+◌, ◌<◌, ◌≤◌, length, map, slice_index, IfOk};
-ghost use Rattle.textwrap_base.specs.Minima.{CountsSteps};
 ghost use Rattle.textwrap_base.specs.Cost.{priced_at};
 ghost use Rattle.textwrap_base.specs.Division.{IsDivision};
-ghost use Rattle.textwrap_base.specs.Table.{FollowStarts};
+ghost use Rattle.textwrap_base.specs.Table.{FollowStarts, CountsSteps};
 ghost use Rattle.textwrap_base.specs.OptimalFit.{IsOptimalFitResult};
 
 use crate::errors::WrapError;
@@ -22,10 +21,11 @@ use std::alloc::{AllocError, Global};
 /// lead, from the end back.
 ///
 /// # Errors
-/// Overflow exactly where all widths together need more than 128 bits, or the cost of a prefix in
-/// the table does. That cost is the least of the prefix where all lines but the first have one
-/// width. Otherwise out of memory only. Widths that are too large are refused before anything is
-/// allocated. There is no overflow where all widths together fit 64 bits.
+/// Overflow only where all widths together need more than 128 bits, or the cost of a prefix in the
+/// table does; and in these cases the call never succeeds. That cost is the least of the prefix
+/// where all lines but the first have one width. Widths that are too large are refused before
+/// anything is allocated; else memory may run out first. There is no overflow where all widths
+/// together fit 64 bits.
 pub fn wrap_optimal_fit<'a, T: Fragment>(
     alloc: Global,
     fragments: &'a [T],
@@ -53,7 +53,8 @@ pub fn wrap_optimal_fit_counted<'a, T: Fragment>(
 ) -> Result<Vec<&'a [T]>, WrapError>
     ensures fit { IsOptimalFitResult (λ x. priced_at penalties.now (T.sizes x)) penalties.now
         line_widths.now fragments.now (λ lines. map (λ line. line.now) lines.items) result }
-    ensures steps { CountsSteps (length fragments.now) steps.old steps.new result }
+    ensures steps { CountsSteps (λ x. priced_at penalties.now (T.sizes x)) penalties.now
+        line_widths.now fragments.now steps.old steps.new result }
 {
     let minima = table_minima(alloc, fragments, line_widths, penalties, steps)?;
     Ok(lines_by(alloc, fragments, &minima)?)
@@ -118,103 +119,59 @@ mod tests {
         Ok(lens)
     }
 
-    /// How many fragments each line of the optimal fit has.
-    fn optimal(
-        alloc: Global,
-        blocks: &[Block],
-        line_widths: &[usize],
-        penalties: &Penalties,
-    ) -> Result<Vec<usize>, WrapError> {
-        let lines = wrap_optimal_fit(alloc, blocks, line_widths, penalties)?;
-        lens_of(alloc, &lines)
-    }
-
-    fn is_refused(lens: Result<Vec<usize>, WrapError>) -> bool {
-        matches!(&lens, Err(WrapError::Overflow(_)))
+    fn is_refused<T>(lines: &Result<T, WrapError>) -> bool {
+        matches!(lines, Err(WrapError::Overflow(_)))
     }
 
     #[test]
-    fn two_blocks_share_a_line_while_that_costs_less(rt: HostRuntime) -> Result<(), Fail> {
-        let blocks = [Block(3, 1, 0), Block(50, 0, 0)];
-        let penalties = Penalties::new();
-        let lens = optimal(rt.alloc(), &blocks, &[54], &penalties)?;
-        assert_eq!(rt; lens.as_slice(), [2].as_slice());
-        let lens = optimal(rt.alloc(), &blocks, &[53], &penalties)?;
-        assert_eq!(rt; lens.as_slice(), [2].as_slice());
-        let lens = optimal(rt.alloc(), &blocks, &[52], &penalties)?;
-        assert_eq!(rt; lens.as_slice(), [1, 1].as_slice());
-        Ok(())
-    }
-
-    #[test]
-    fn no_fragments_are_one_empty_line(rt: HostRuntime) -> Result<(), Fail> {
-        let lens = optimal(rt.alloc(), &[], &[], &Penalties::new())?;
-        assert_eq!(rt; lens.as_slice(), [0].as_slice());
-        Ok(())
-    }
-
-    #[test]
-    fn a_fragment_is_a_line(rt: HostRuntime) -> Result<(), Fail> {
-        let mut penalties = Penalties::new();
-        for fraction in [4, 0] {
-            penalties.short_last_line_fraction = fraction;
-            let lens = optimal(rt.alloc(), &[Block(10, 0, 0)], &[10], &penalties)?;
-            assert_eq!(rt; lens.as_slice(), [1].as_slice(), "{fraction}");
+    fn fragments_are_divided_at_least_cost(rt: HostRuntime) -> Result<(), Fail> {
+        let pair = [Block(3, 1, 0), Block(50, 0, 0)];
+        let growing = [Block(5, 0, 0), Block(5, 0, 0), Block(20, 0, 0)];
+        let rows: [(&str, &[Block], &[usize], &[usize]); 7] = [
+            ("no fragments are one empty line", &[], &[], &[0]),
+            ("a fragment is a line", &[Block(10, 0, 0)], &[10], &[1]),
+            ("two fit", &pair, &[54], &[2]),
+            (
+                "one column too many costs less than a gap",
+                &pair,
+                &[53],
+                &[2],
+            ),
+            ("two columns too many cost more", &pair, &[52], &[1, 1]),
+            ("closed widths may fall", &FALLING, &[10], &[1, 3, 1]),
+            ("line widths that differ", &growing, &[10, 5, 100], &[2, 1]),
+        ];
+        for (name, blocks, line_widths, expected) in rows {
+            let lines = wrap_optimal_fit(rt.alloc(), blocks, line_widths, &Penalties::new())?;
+            let lens = lens_of(rt.alloc(), &lines)?;
+            assert_eq!(rt; lens.as_slice(), expected, "{name}");
         }
         Ok(())
     }
 
     #[test]
-    fn closed_widths_may_fall(rt: HostRuntime) -> Result<(), Fail> {
-        let lens = optimal(rt.alloc(), &FALLING, &[10], &Penalties::new())?;
-        assert_eq!(rt; lens.as_slice(), [1, 3, 1].as_slice());
-        let mut steps = Steps::new();
-        let _lines = wrap_optimal_fit_counted(
-            rt.alloc(),
-            &FALLING,
-            &[10],
-            &Penalties::new(),
-            &mut steps,
-        )?;
-        assert_eq!(rt; steps.count(), 15);
-        Ok(())
-    }
-
-    #[test]
-    fn line_widths_that_differ_follow_the_table(rt: HostRuntime) -> Result<(), Fail> {
-        let blocks = [Block(5, 0, 0), Block(5, 0, 0), Block(20, 0, 0)];
-        let lens = optimal(rt.alloc(), &blocks, &[10, 5, 100], &Penalties::new())?;
-        assert_eq!(rt; lens.as_slice(), [2, 1].as_slice());
-        Ok(())
-    }
-
-    #[test]
-    fn costs_past_128_bits_are_refused(rt: HostRuntime) -> Result<(), Fail> {
+    fn costs_past_128_bits_are_refused(rt: HostRuntime) {
         let mut penalties = Penalties::new();
         penalties.overflow_penalty = usize::MAX;
         let widest = Block(usize::MAX, 0, 0);
-        let lens = optimal(rt.alloc(), &[widest], &[0], &penalties)?;
-        assert_eq!(rt; lens.as_slice(), [1].as_slice());
-        let refused = optimal(rt.alloc(), &[widest, widest], &[0], &penalties);
-        assert!(rt; is_refused(refused));
         let broken = [Block(usize::MAX, 0, usize::MAX), Block(0, 0, 0)];
-        let refused = optimal(rt.alloc(), &broken, &[0], &penalties);
-        assert!(rt; is_refused(refused));
-        Ok(())
+        let rows: [(&[Block], bool, u128); 3] = [
+            (&[widest], true, 1),
+            (&[widest, widest], false, 3),
+            (&broken, false, 1),
+        ];
+        for (blocks, fits, count) in rows {
+            let mut steps = Steps::new();
+            let lines = wrap_optimal_fit_counted(rt.alloc(), blocks, &[0], &penalties, &mut steps);
+            assert_eq!(rt; lines.is_ok(), fits, "{blocks:?}");
+            assert_eq!(rt; is_refused(&lines), !fits, "{blocks:?}");
+            assert_eq!(rt; steps.count(), count, "{blocks:?}");
+        }
     }
 
     #[test]
-    fn an_algorithm_divides_words(rt: HostRuntime) -> Result<(), Fail> {
-        let words = [Word::from("foo "), Word::from("bar")];
-        let lines = WrapAlgorithm::new().wrap(rt.alloc(), &words, &[3])?;
-        let lens = lens_of(rt.alloc(), &lines)?;
-        assert_eq!(rt; lens.as_slice(), [1, 1].as_slice());
-        Ok(())
-    }
-
-    #[test]
-    fn optimal_fit_looks_ahead_where_first_fit_does_not(rt: HostRuntime) -> Result<(), Fail> {
-        let words = [
+    fn algorithms_divide_words(rt: HostRuntime) -> Result<(), Fail> {
+        let hamlet = [
             Word::from("To "),
             Word::from("be, "),
             Word::from("or "),
@@ -226,12 +183,34 @@ mod tests {
             Word::from("the "),
             Word::from("question"),
         ];
-        let lines = WrapAlgorithm::new().wrap(rt.alloc(), &words, &[10, 10])?;
-        let lens = lens_of(rt.alloc(), &lines)?;
-        assert_eq!(rt; lens.as_slice(), [2, 3, 2, 2, 1].as_slice());
-        let lines = WrapAlgorithm::FirstFit.wrap(rt.alloc(), &words, &[10, 10])?;
-        let lens = lens_of(rt.alloc(), &lines)?;
-        assert_eq!(rt; lens.as_slice(), [3, 3, 2, 1, 1].as_slice());
+        let optimal = WrapAlgorithm::new();
+        let first = WrapAlgorithm::FirstFit;
+        let rows: [(WrapAlgorithm, &[Word<'_>], &[usize], &[usize]); 5] = [
+            (optimal, &[], &[10], &[0]),
+            (first, &[], &[10], &[0]),
+            (optimal, &hamlet[..2], &[3], &[1, 1]),
+            (optimal, &hamlet, &[10, 10], &[2, 3, 2, 2, 1]),
+            (first, &hamlet, &[10, 10], &[3, 3, 2, 1, 1]),
+        ];
+        for (algorithm, words, line_widths, expected) in rows {
+            let lines = algorithm.wrap(rt.alloc(), words, line_widths)?;
+            let lens = lens_of(rt.alloc(), &lines)?;
+            assert_eq!(rt; lens.as_slice(), expected, "{algorithm:?} {words:?}");
+        }
+        Ok(())
+    }
+
+    #[test]
+    fn words_too_wide_for_128_bits_are_refused_by_cost_alone(rt: HostRuntime) -> Result<(), Fail> {
+        let mut penalties = Penalties::new();
+        penalties.overflow_penalty = usize::MAX;
+        let mut widest = Word::from("x");
+        widest.width = usize::MAX;
+        let words = [widest, widest];
+        let refused = WrapAlgorithm::OptimalFit(penalties).wrap(rt.alloc(), &words, &[0]);
+        assert!(rt; is_refused(&refused));
+        let lines = WrapAlgorithm::FirstFit.wrap(rt.alloc(), &words, &[0])?;
+        assert_eq!(rt; lines.len(), 2);
         Ok(())
     }
 

@@ -1,8 +1,12 @@
-use Rattle.std.proofs.Common.{Vec, Global, arith, ◌∙◌, ap, subst, map, ℕ, ◌≤◌, ◌<◌, ◌^◌, inl, inr}
-use Rattle.textwrap_base.specs.Cost.{priced_at}
-use Rattle.textwrap_base.specs.Minima.{Costs}
-use Rattle.textwrap_base.specs.Table.{table, entry_at, minimum_of, fragment_costs}
+use Rattle.std.proofs.Common.{◌≡◌, Vec, Global, arith, ◌∙◌, ap, sym, subst, map, length, ℕ, ◌≤◌, ◌<◌, ◌^◌, inl, inr}
+use Rattle.textwrap_base.specs.Cost.{PricedSizes, priced_at, IsLeastCost}
+use Rattle.textwrap_base.specs.Minima.{Costs, counted, table_steps}
+use Rattle.textwrap_base.specs.Table.{table, entry_at, minimum_of, fragment_costs, line_costs}
+use Rattle.textwrap_base.specs.Table.{IsFirstPast}
+use Rattle.textwrap_base.proofs.Cost.Results.{steps-refused}
 use Rattle.textwrap_base.specs.declared.minima.table.Entry.{Entry}
+use Rattle.textwrap_base.proofs.Cost.Chosen.{entry-least_cost}
+use Rattle.textwrap_base.proofs.Cost.Starts.{cost_reported}
 use Rattle.textwrap_base.proofs.Cost.Overflow.{table-fits, overflowed_on}
 use Rattle.textwrap_base.proofs.Cost.Measures.{Are64Bits, priced_at-all_fit}
 use Rattle.textwrap_base.proofs.minima.table_minima.Goals as goal
@@ -12,11 +16,12 @@ returns-in_err-entries-clause-overflow_only g c =
     let lines = c.in_ok-costs.ensures.costs
     ∙ ap (λ p. fragment_costs (λ x. priced_at p (g.T.Fragment.sizes x)) p c.args.line_widths.now
     c.args.fragments.now) c.in_range-penalties.ensures.same in
-    λ over. inr (subst (λ (l : Costs). (j : ℕ) × (j ≤ l.ends)
-    × (2 ^ 128 ≤ (entry_at (table l.cost l.ends) j).cost)) lines
-    (c.in_err-entries.ensures.overflow_only
+    λ over.
+    let (j, first, steps) = c.in_err-entries.ensures.overflow
     (overflowed_on (Vec Entry Global) c.from_residual-in_err-entries.result
-    c.in_err-entries.field-0.0 c.from_residual-in_err-entries.ensures.1 over)))
+    c.in_err-entries.field-0.0 c.from_residual-in_err-entries.ensures.1 over) in
+    inr (subst (λ (l : Costs). (j : ℕ) × (j ≤ l.ends)
+    × (2 ^ 128 ≤ (entry_at (table l.cost l.ends) j).cost)) lines (j, first.within, first.past))
 
 pub returns-in_err-entries-clause-no_overflow : goal.returns-in_err-entries-clause-no_overflow
 returns-in_err-entries-clause-no_overflow g c =
@@ -32,12 +37,11 @@ returns-in_err-entries-clause-no_overflow g c =
     c.in_range-penalties.result c.args.line_widths.now c.args.fragments.now kept
     (priced_at-all_fit c.in_range-penalties.result g.T.Fragment.sizes c.args.fragments.now kept)
     (λ i. omega (arith, c.type_inv.line_widths i)) narrow in
-    let past = subst (λ (l : Costs). (j : ℕ) × (j ≤ l.ends)
-    × (2 ^ 128 ≤ (entry_at (table l.cost l.ends) j).cost)) lines
-    (c.in_err-entries.ensures.overflow_only
+    let (i, first, steps) = c.in_err-entries.ensures.overflow
     (overflowed_on (Vec Entry Global) c.from_residual-in_err-entries.result
-    c.in_err-entries.field-0.0 c.from_residual-in_err-entries.ensures.1 over)) in
-    let (j, l, p) = past in
+    c.in_err-entries.field-0.0 c.from_residual-in_err-entries.ensures.1 over) in
+    let (j, l, p) = subst (λ (l : Costs). (j : ℕ) × (j ≤ l.ends)
+    × (2 ^ 128 ≤ (entry_at (table l.cost l.ends) j).cost)) lines (i, first.within, first.past) in
     let f = fits j l in omega (arith, f, p)
 
 pub returns-clause-entries : goal.returns-clause-entries
@@ -63,3 +67,44 @@ returns-clause-ok_only g c =
       | inr (j, l, past) ↦ let f = fits j l in
           omega (arith, f, past)
     ]
+
+pub returns-clause-least : goal.returns-clause-least
+returns-clause-least g c =
+    let priced : g.row.T.Denot → PricedSizes =
+    λ x. priced_at c.args.penalties.now (g.T.Fragment.sizes x) in
+    let widths = c.args.line_widths.now in
+    let fragments = c.args.fragments.now in
+    let entries = returns-clause-entries g c in
+    λ equal j l. subst (IsLeastCost priced c.args.penalties.now widths fragments j)
+    (sym (cost_reported (line_costs priced c.args.penalties.now widths fragments)
+    (length fragments) _ entries j l))
+    (entry-least_cost priced c.args.penalties.now widths fragments j l equal)
+
+pub returns-in_err-entries-clause-steps : goal.returns-in_err-entries-clause-steps
+returns-in_err-entries-clause-steps g c =
+    let lines = c.in_ok-costs.ensures.costs
+    ∙ ap (λ p. fragment_costs (λ x. priced_at p (g.T.Fragment.sizes x)) p c.args.line_widths.now
+    c.args.fragments.now) c.in_range-penalties.ensures.same in
+    let after = c.fill_table-entries.new.costs.steps in
+    let given = c.in_ok-costs.costs.priced in
+    let ends : length given ≡ length c.args.fragments.now = ap (λ (l : Costs). l.ends) lines in
+    let all = ap table_steps ends in
+    let count : c.in_ok-costs.costs.steps ≡ 0 = c.in_ok-costs.ensures.count in
+    let asked : c.steps.result ≡ after = c.steps.ensures in
+    let added : c.add.new.self ≡ counted c.args.steps.now c.steps.result = c.add.ensures in
+    let most : after ≤ counted c.in_ok-costs.costs.steps (table_steps (length given)) =
+    c.in_err-entries.ensures.steps_most in
+    steps-refused (Vec Entry Global)
+    (λ x. priced_at c.args.penalties.now (g.T.Fragment.sizes x)) c.args.penalties.now
+    c.args.line_widths.now c.args.fragments.now c.args.steps.now c.add.new.self
+    c.from_residual-in_err-entries.result c.in_err-entries.field-0.0
+    c.from_residual-in_err-entries.ensures.1
+    (omega (arith, most, all, count, asked, added)) (omega (arith, added))
+    (λ wide. absurd (c.in_ok-costs.ensures.too_wide wide))
+    (λ over.
+    let (j, first, steps) = c.in_err-entries.ensures.overflow over in
+    let upto : after ≡ counted c.in_ok-costs.costs.steps (table_steps j) = steps in (
+      j,
+      subst (λ (l : Costs). IsFirstPast (table l.cost l.ends) l.ends j) lines first,
+      omega (arith, upto, count, asked, added),
+    ))

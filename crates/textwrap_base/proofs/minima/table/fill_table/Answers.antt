@@ -1,8 +1,9 @@
-use Rattle.std.proofs.Common.{◌≡◌, ◌+◌, arith, rules, refl, ◌∙◌}
+use Rattle.std.proofs.Common.{◌≡◌, ◌+◌, ◌<◌, ◌^◌, arith, rules, refl, sym, ◌∙◌, subst}
 use Rattle.textwrap_base.specs.Minima.{table_steps}
 use Rattle.textwrap_base.specs.Table.{table}
 use Rattle.textwrap_base.proofs.Cost.Table.{length-table, table_next, table_past, table_fits}
-use Rattle.textwrap_base.proofs.Cost.Table.{table_pushed, numbers_of}
+use Rattle.textwrap_base.specs.declared.minima.table.Entry.{Entry}
+use Rattle.textwrap_base.proofs.Cost.Table.{table_pushed, numbers_of, entry-table_longer}
 use Rattle.textwrap_base.proofs.Cost.Steps.{table_steps_more, table_steps_mono, counted_more}
 use Rattle.textwrap_base.proofs.Cost.Steps.{counted_next}
 use Rattle.textwrap_base.proofs.minima.table.fill_table.Goals as goal
@@ -25,13 +26,28 @@ cheapest-requires-clause-numbers g c =
     numbers_of (g.C.CostSource.costs c.args.costs.now).cost c.loop-last.last c.deref.result.now
     (c.deref.ensures.value ∙ c.loop-last.invariant.entries)
 
-pub returns-in_default-clause-overflow_only : goal.returns-in_default-clause-overflow_only
-returns-in_default-clause-overflow_only g c =
+pub returns-in_default-clause-overflow : goal.returns-in_default-clause-overflow
+returns-in_default-clause-overflow g c =
+    let cost = (g.C.CostSource.costs c.args.costs.now).cost in
+    let n = (g.C.CostSource.costs c.args.costs.now).ends in
+    let last = c.loop-last.last in
     let best = rw (c.deref.ensures.value, c.loop-last.invariant.entries, c.loop-last.invariant.same)
     at c.in_default.ensures.best in
-    let past = table_past (g.C.CostSource.costs c.args.costs.now).cost c.loop-last.last
-    (g.C.CostSource.costs c.args.costs.now).ends (omega arith) best in
-    λ _. (c.loop-last.last + 1, omega arith, past)
+    let past = table_past cost last n (omega arith) best in
+    λ _. (
+      last + 1,
+      record {
+        within = omega arith;
+        past = past;
+        before = λ k less.
+            let same = entry-table_longer cost n last k (omega (arith, less)) (omega arith) in
+            let fits = c.loop-last.invariant.fits k (omega (arith, less)) in
+            subst (λ (e : Entry). e.cost < 2 ^ 128) (sym same) fits;
+      },
+      counted_next (g.C.CostSource.steps c.args.costs.now)
+          (g.C.CostSource.steps c.loop-last.costs) (g.C.CostSource.steps c.cheapest.new.costs)
+          last c.loop-last.invariant.steps c.cheapest.ensures.steps,
+    )
 
 pub returns-in_default-clause-steps_most : goal.returns-in_default-clause-steps_most
 returns-in_default-clause-steps_most g c =

@@ -2,4 +2,5 @@ pub mod Endings
 pub mod Lines
 pub mod Lossless
 pub mod Paragraphs
+pub mod Promises
 pub mod Unique

@@ -18,9 +18,12 @@ IsFilled settings Divides text filled =
     (lines : List Line) × AreTextLines settings Divides text lines
     × (filled ≡ join_with (ending_bytes settings.line_ending) (map line_bytes lines))
 
+-- the text filled by these settings and this algorithm, with the default separator and splitter
+abbrev pub IsFilledBy : Settings → Algorithm → List ℕ → List ℕ → Type 0
+IsFilledBy settings algorithm =
+    IsFilled settings
+    (IsDividedInto settings (AreSeparated AsciiSpace) (ArePoints HyphenSplitter) algorithm)
+
 -- the text filled at a width by an algorithm, all else by the defaults
 abbrev pub IsFilledAt : ℕ → Algorithm → List ℕ → List ℕ → Type 0
-IsFilledAt width algorithm =
-    IsFilled (settings_at width)
-    (IsDividedInto (settings_at width) (AreSeparated AsciiSpace)
-    (ArePoints HyphenSplitter) algorithm)
+IsFilledAt width algorithm = IsFilledBy (settings_at width) algorithm

@@ -6,13 +6,18 @@ use Rattle.textwrap.specs.Filling.{IsFilled}
 use Rattle.textwrap.specs.LineEnding.{AreParagraphs, paragraphs_of}
 use Rattle.textwrap.specs.Options.{Settings}
 use Rattle.textwrap.specs.Paragraph.{ArePieces, pieces_of, IsDividedInto, AreDividedParts}
-use Rattle.textwrap.specs.Paragraph.{AreParagraphParts}
-use Rattle.textwrap.specs.Text.{AreTextLines}
+use Rattle.textwrap.specs.Paragraph.{AreParagraphParts, Line}
+use Rattle.textwrap.specs.Text.{AreTextLines, IsWrapped}
 use Rattle.textwrap.specs.WordSeparators.{AreSeparated}
 use Rattle.textwrap.specs.WordSplitters.{AreCuts, ArePoints, points_of, split_pieces, split_words}
 use Rattle.textwrap.specs.declared.line_ending.LineEnding.{LineEnding}
 use Rattle.textwrap.specs.declared.word_separators.WordSeparator.{WordSeparator}
 use Rattle.textwrap.specs.declared.word_splitters.WordSplitter.{WordSplitter}
+pub use Rattle.textwrap_base.specs.Laws.{UnitsAreUnique, WordsAreUnique, BrokenPiecesAreUnique}
+pub use Rattle.textwrap_base.specs.Laws.{BrokenTextsTile, BrokenPiecesTile, BrokenWordsTile}
+pub use Rattle.textwrap_base.specs.Laws.{GreedyDivisionIsUnique, ChosenDivisionIsUnique}
+pub use Rattle.textwrap_base.specs.Laws.{TableDivisionIsUnique, TableOverflowIsOverflow}
+pub use Rattle.textwrap_base.specs.Laws.{TableHasLeastCosts}
 
 -- a text has its paragraphs in one way, the computed one
 abbrev pub ParagraphsAreUnique : Type 0
@@ -55,6 +60,15 @@ TextLinesAreUnique = ForBuiltIn (λ settings Divides. IsUnique (AreTextLines set
 
 abbrev pub FilledTextIsUnique : Type 0
 FilledTextIsUnique = ForBuiltIn (λ settings Divides. IsUnique (IsFilled settings Divides))
+
+-- by built-in parts the lines of a text lose only blanks, add only indents, and keep to their widths
+abbrev pub TextLinesAreWrapped : Type 0
+TextLinesAreWrapped =
+    (settings : Settings) (algorithm : Algorithm) (separator : WordSeparator)
+    (splitter : WordSplitter) (text : List ℕ) (lines : List Line) → IsUtf8 text
+    → let Divides : List ℕ → List (List WordText) → Type 0 =
+    IsDividedInto settings (AreSeparated separator) (ArePoints splitter) algorithm in
+    AreTextLines settings Divides text lines → IsWrapped settings algorithm Divides text lines
 
 -- the points of a splitter are cuts of the word
 abbrev pub PointsAreCuts : Type 0

@@ -1,12 +1,13 @@
 -- The lines of a paragraph.
-use Rattle.std.specs.Prelude.{◌≡◌, ℕ, ◌-◌, ◌^◌, Bool, true, ◌&&◌, ◌==◌, List, [], ◌∷◌, ◌++◌, length}
-use Rattle.std.specs.Prelude.{map, nat_lt, if◌then◌else◌, MatchBool}
+use Rattle.std.specs.Prelude.{◌≡◌, ℕ, ◌+◌, ◌-◌, ◌^◌, ◌<◌, ◌≤◌, Bool, true, ◌&&◌, ◌==◌, nat_lt}
+use Rattle.std.specs.Prelude.{List, [], ◌∷◌, ◌++◌, All, length, map, if◌then◌else◌, MatchBool, ⊤}
 use Rattle.std.specs.String.{string_bytes}
 use Rattle.std.specs.declared.borrow.CowStr.{CowStr}
 use Rattle.std.specs.declared.borrow.CowStr.TheVariants.{Borrowed, Owned}
 use Rattle.textwrap_base.specs.WrapAlgorithms.{Algorithm, algorithm_view, IsDividedBy}
 use Rattle.textwrap_base.specs.Breaking.{broken_words}
-use Rattle.textwrap_base.specs.Units.{text_width}
+use Rattle.textwrap_base.specs.Division.{line_width, closed_width}
+use Rattle.textwrap_base.specs.Units.{text_width, IsNarrow, column_characters}
 use Rattle.textwrap_base.specs.Words.{WordText, sizes_of, tiled, word_of}
 use Rattle.textwrap.specs.Options.{Settings, settings_view}
 use Rattle.textwrap.specs.WordSeparators.{AreSeparated, separated_words}
@@ -171,3 +172,36 @@ abbrev pub AreParagraphParts : Settings → (List ℕ → List (List WordText) �
     → Bool → List ℕ → List LineParts → Type 0
 AreParagraphParts settings Divides is_later =
     AreDividedParts settings (IsLaidOut settings Divides is_later) is_later
+
+-- ---- what the lines of built-in parts keep to
+
+-- the indent of a line of these pieces: without any it has none
+abbrev pub indent_before : Settings → Bool → List WordText → List ℕ
+indent_before settings is_later [] = []
+indent_before settings is_later (w ∷ words) = indent_of settings is_later
+
+-- each line begins with its indent
+abbrev pub AreIndented : Settings → Bool → List LineParts → Type 0
+AreIndented settings is_later [] = ⊤
+AreIndented settings is_later (p ∷ parts) =
+    (p.indent ≡ indent_before settings is_later p.pieces) × AreIndented settings true parts
+
+-- one piece, with one character that takes columns
+abbrev pub IsOneCharacter : List WordText → Type 0
+IsOneCharacter line = (w : WordText) × (line ≡ w ∷ []) × (length (column_characters w.word) ≡ 1)
+
+-- each line that closes past its width is one such piece, where `number` is that of the first line
+abbrev pub OnlyCharactersPass : List ℕ → ℕ → List (List WordText) → Type 0
+OnlyCharactersPass widths number [] = ⊤
+OnlyCharactersPass widths number (line ∷ lines) =
+    (line_width widths number < closed_width sizes_of line → IsOneCharacter line)
+    × OnlyCharactersPass widths (number + 1) lines
+
+-- no line of a divided paragraph but such a one passes the width that it was divided for; a whole
+-- paragraph keeps to the width if no character of it takes more columns than its bytes
+abbrev pub KeepToWidths : Settings → Bool → List ℕ → List LineParts → Type 0
+KeepToWidths settings is_later paragraph parts =
+    let lines = map (λ p. p.pieces) parts in
+    MatchBool (is_whole settings is_later paragraph)
+    (IsNarrow paragraph → All (λ line. closed_width sizes_of line ≤ settings.width) lines)
+    (OnlyCharactersPass (widths_of settings) 0 lines)

@@ -3,6 +3,3 @@
 
 pub use crate::filling::fill_slow_path;
 pub use crate::wrapping::{wrap_single_line, wrap_single_line_slow_path};
-
-#[cfg(test)]
-mod tests;

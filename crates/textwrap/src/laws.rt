@@ -2,8 +2,14 @@
 //! nothing, so that a proof may call on it.
 ghost use Rattle.textwrap.specs.Laws.{ParagraphsAreUnique, PiecesAreUnique, DividedLinesAreUnique};
 ghost use Rattle.textwrap.specs.Laws.{ParagraphLinesAreUnique, TextLinesAreUnique};
-ghost use Rattle.textwrap.specs.Laws.{FilledTextIsUnique, PointsAreCuts, SplitPiecesTile};
-ghost use Rattle.textwrap.specs.Laws.{SplitWordsTile};
+ghost use Rattle.textwrap.specs.Laws.{FilledTextIsUnique, TextLinesAreWrapped, PointsAreCuts};
+ghost use Rattle.textwrap.specs.Laws.{SplitPiecesTile, SplitWordsTile};
+
+pub use textwrap_base::laws::{
+    broken_pieces_are_unique, broken_pieces_tile, chosen_division_is_unique,
+    greedy_division_is_unique, table_division_is_unique, table_has_least_costs,
+    table_overflow_is_overflow, units_are_unique, words_are_unique,
+};
 
 /// A text has its paragraphs in exactly one way: joined by the ending they are the text, and none
 /// has an ending in it. They are what `paragraphs_of` gives.
@@ -24,6 +30,13 @@ pub fn lines_are_unique()
     ensures paragraph { ParagraphLinesAreUnique }
     ensures text { TextLinesAreUnique }
     ensures filled { FilledTextIsUnique }
+{}
+
+/// With a built-in separator and splitter, the lines of a text, and so those that `fill` joins, are
+/// at least one, lose only blanks and add only indents. By first fit, where words are broken, they
+/// keep to their widths.
+pub fn text_lines_are_wrapped()
+    ensures { TextLinesAreWrapped }
 {}
 
 /// The points of a splitter are cuts of the word, and the pieces at any cuts tile it, with its

@@ -9,7 +9,7 @@ pub use options::Options;
 pub use textwrap_base::{minima, words, wrap_algorithms};
 pub use word_separators::WordSeparator;
 pub use word_splitters::WordSplitter;
-pub use wrap_algorithms::WrapAlgorithm;
+pub use wrap_algorithms::{WrapAlgorithm, WrapError};
 pub use wrapping::wrap;
 
 mod filling;

@@ -23,14 +23,3 @@ impl LineEnding {
         }
     }
 }
-
-#[cfg(test)]
-mod tests {
-    use super::*;
-
-    #[test]
-    fn each_ending_has_its_text(rt: HostRuntime) {
-        assert_eq!(rt; LineEnding::CRLF.as_str(), "\r\n");
-        assert_eq!(rt; LineEnding::LF.as_str(), "\n");
-    }
-}

@@ -201,6 +201,3 @@ impl<'a> Clone for Options<'a> {
         Ok(Options::from(self))
     }
 }
-
-#[cfg(test)]
-mod tests;

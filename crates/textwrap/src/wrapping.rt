@@ -12,15 +12,15 @@ ghost use Rattle.textwrap_base.specs.WrapAlgorithms.{algorithm_view, IsDividedBy
 ghost use Rattle.textwrap_base.specs.Units.{IsNarrow};
 ghost use Rattle.textwrap_base.specs.Words.{WordText, word_view, sizes_of, tiled, Tiles};
 ghost use Rattle.textwrap_base.specs.declared.wrap_algorithms.WrapAlgorithm.TheVariants.{FirstFit};
-ghost use Rattle.textwrap.specs.Fuzzing.{AppendsLines, OnlyCharactersPass};
+ghost use Rattle.textwrap.specs.Fuzzing.{AppendsLines};
 ghost use Rattle.textwrap.specs.LineEnding.{paragraphs_of};
 ghost use Rattle.textwrap.specs.Options.{settings_view};
 ghost use Rattle.textwrap.specs.Paragraph.{text_limit, LineParts, line_view, assembled_line};
 ghost use Rattle.textwrap.specs.Paragraph.{line_from, covered};
 ghost use Rattle.textwrap.specs.Paragraph.{pieces_of, widths_of, width_after, indent_of, is_whole};
 ghost use Rattle.textwrap.specs.Paragraph.{parts_of, parts_from, Adds, DividesBy, AreDividedParts};
-ghost use Rattle.textwrap.specs.Paragraph.{AreParagraphParts};
-ghost use Rattle.textwrap.specs.Text.{AreTextLines, LosesOnlyBlanks};
+ghost use Rattle.textwrap.specs.Paragraph.{AreParagraphParts, OnlyCharactersPass};
+ghost use Rattle.textwrap.specs.Text.{IsWrapped};
 
 use crate::line_ending::LineEnding;
 use crate::options::Options;
@@ -38,8 +38,10 @@ use textwrap_base::blanks::split_final_blanks;
 /// indent, and fewer bytes than the width has columns, stays one line. Any other is cut into words;
 /// these are split and broken as the options say, and divided into lines by their algorithm.
 ///
-/// Only blanks at line ends are lost. A line with an indent or an added hyphen is a text of its
-/// own.
+/// There is always at least one line. Only blanks at line ends are lost, and only the indents are
+/// added; a line with an indent is a text of its own. By first fit, where words are broken, no line
+/// of a divided paragraph passes the width that it was divided for, but one that is a single piece
+/// with one character that takes columns.
 ///
 /// # Errors
 /// [`WrapError::Memory`] where memory runs out, and no other. There is no overflow.
@@ -48,11 +50,11 @@ pub fn wrap<'t>(
     text: &'t str,
     options: Options<'_>,
 ) -> Result<Vec<CowStr<'t>>, WrapError>
-    // The lines are those of the text, and lose only blanks.
-    ensures lines { IfOk result (λ lines.
-        (are : AreTextLines (settings_view options.entry) (DividesBy options.entry) text.now
-        (map line_view lines.items))
-        × LosesOnlyBlanks (settings_view options.entry) text.now are.groups) }
+    // The lines are those of the text, at least one. They lose only blanks and add only indents,
+    // and by first fit, where words are broken, they keep to their widths.
+    ensures lines { IfOk result (λ lines. IsWrapped (settings_view options.entry)
+        (algorithm_view options.entry.wrap_algorithm) (DividesBy options.entry) text.now
+        (map line_view lines.items)) }
     ensures only_memory { IfErr result (λ error. error ≡ WrapError.Memory alloc_error) }
 {
     let mut lines = Vec::new(alloc);
@@ -326,6 +328,3 @@ fn assemble<'t>(
     line.push_str(penalty)?;
     Ok(CowStr::Owned(line))
 }
-
-#[cfg(test)]
-mod tests;

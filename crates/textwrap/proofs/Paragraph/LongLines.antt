@@ -16,8 +16,7 @@ use Rattle.textwrap_base.proofs.Word.Overlong.{IsTight, broken_words-tight}
 use Rattle.textwrap_base.proofs.Word.Texts.{HasNoPenalty, text_width-nil}
 use Rattle.textwrap.specs.Options.{Settings}
 use Rattle.textwrap.specs.Paragraph.{empty_word, front_pieces, pieces_of, IsDividedInto, widths_of}
-use Rattle.textwrap.specs.Paragraph.{width_after, later_width}
-use Rattle.textwrap.specs.Fuzzing.{IsOneCharacter, OnlyCharactersPass}
+use Rattle.textwrap.specs.Paragraph.{width_after, later_width, IsOneCharacter, OnlyCharactersPass}
 use Rattle.textwrap_base.proofs.Division.Map.{IsDivision-whole}
 use Rattle.textwrap_base.proofs.ListLemmas.{flat, all-left, all-right}
 use Rattle.textwrap.specs.WordSeparators.{AreSeparated}

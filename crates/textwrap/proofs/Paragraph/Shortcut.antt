@@ -44,7 +44,7 @@ blanks-ascii (c ∷ cs) blanks zero = let is =
 blanks-ascii (c ∷ cs) blanks (suc i) =
     blanks-ascii cs (All-tail (λ d. is_blank d ≡ true) c cs blanks) i
 
-narrow_words : (ws : List WordText) → All IsMeasured ws → All HasNoPenalty ws → IsNarrow (tiled ws)
+pub narrow_words : (ws : List WordText) → All IsMeasured ws → All HasNoPenalty ws → IsNarrow (tiled ws)
     → All IsNarrowWord ws
 narrow_words [] measured none narrow = All-nil IsNarrowWord
 narrow_words (w ∷ ws) measured none narrow =

@@ -88,8 +88,8 @@ module _ (settings : Settings) (Divides : List ℕ → List (List WordText) → 
     pub groups : List (List LineParts)
     pub given : lines ≡ map line_from (flat_map (λ parts. parts) groups)
     pub more : (others : List (List LineParts))
-        → AreGroups settings Divides (nat_lt 0 (length lines)) left others
-        → AreGroups settings Divides false (paragraphs_of settings.line_ending text)
+        → AreGroups (AreParagraphParts settings Divides) (nat_lt 0 (length lines)) left others
+        → AreGroups (AreParagraphParts settings Divides) false (paragraphs_of settings.line_ending text)
         (groups ++ others)
 
   pub HasGroups-start : (text : List ℕ)
@@ -124,13 +124,13 @@ module _ (settings : Settings) (Divides : List ℕ → List (List WordText) → 
         given = more_is ∙ ap (λ l. l ++ map line_from parts) so_far.given
             ∙ sym (lines_from-push so_far.groups parts);
         more = λ others rest.
-            subst (AreGroups settings Divides false (paragraphs_of settings.line_ending text))
+            subst (AreGroups (AreParagraphParts settings Divides) false (paragraphs_of settings.line_ending text))
             (sym (append_assoc so_far.groups (parts ∷ []) others))
             (so_far.more (parts ∷ others)
-            (subst (λ ps. AreGroups settings Divides (nat_lt 0 (length lines)) ps (parts ∷ others))
+            (subst (λ ps. AreGroups (AreParagraphParts settings Divides) (nat_lt 0 (length lines)) ps (parts ∷ others))
             (sym left_is) (
               defined,
-              subst (λ b. AreGroups settings Divides b after others)
+              subst (λ b. AreGroups (AreParagraphParts settings Divides) b after others)
                   is_later rest,
             )));
       }
@@ -142,7 +142,7 @@ module _ (settings : Settings) (Divides : List ℕ → List (List WordText) → 
       record {
         groups = all.groups;
         defined = subst
-            (AreGroups settings Divides false (paragraphs_of settings.line_ending text))
+            (AreGroups (AreParagraphParts settings Divides) false (paragraphs_of settings.line_ending text))
             (append-nil all.groups) (all.more [] refl);
         given = all.given;
       }
@@ -169,9 +169,9 @@ pub IsFilled-whole : (settings : Settings) (Divides : List ℕ → List (List Wo
     → IsFilled settings Divides text filled
 IsFilled-whole settings Divides text paragraph filled only whole is =
     let parts = parts_of settings false (word_of paragraph ∷ []) ∷ [] in
-    let defined : AreGroups settings Divides false (paragraphs_of settings.line_ending text)
+    let defined : AreGroups (AreParagraphParts settings Divides) false (paragraphs_of settings.line_ending text)
     (parts ∷ []) =
-    subst (λ paragraphs. AreGroups settings Divides false paragraphs (parts ∷ [])) (sym only)
+    subst (λ paragraphs. AreGroups (AreParagraphParts settings Divides) false paragraphs (parts ∷ [])) (sym only)
     (AreParagraphParts-whole settings Divides false paragraph whole, refl) in (
       map line_from parts,
       record { groups = parts ∷ []; defined = defined; given = refl },

@@ -112,7 +112,7 @@ parts_from-blanks settings is_later (line ∷ lines) all =
 pub tiled-word_of : (text : List ℕ) → tiled (word_of text ∷ []) ≡ text
 tiled-word_of text = append-nil (tile_of (word_of text)) ∙ take-append-drop (trimmed_len text) text
 
-word_of-blanks : (text : List ℕ) → EndsInBlanks (word_of text)
+pub word_of-blanks : (text : List ℕ) → EndsInBlanks (word_of text)
 word_of-blanks text =
     record { blanks = final_blanks-blank text; none = λ some. absurd (true≢false some) }
 
@@ -157,7 +157,7 @@ module _ (settings : Settings) (Divides : List ℕ → List (List WordText) → 
   -- ---- the lines of a text
 
   groups-tile : (is_later : Bool) (paragraphs : List (List ℕ)) (groups : List (List LineParts))
-      → All IsUtf8 paragraphs → AreGroups settings Divides is_later paragraphs groups
+      → All IsUtf8 paragraphs → AreGroups (AreParagraphParts settings Divides) is_later paragraphs groups
       → map covered_by groups ≡ paragraphs
   groups-tile is_later [] groups utf8 is = ap (map covered_by) is
   groups-tile is_later (paragraph ∷ paragraphs) [] utf8 defined = absurd defined
@@ -171,7 +171,7 @@ module _ (settings : Settings) (Divides : List ℕ → List (List WordText) → 
       defined.1)
 
   groups-blanks : (is_later : Bool) (paragraphs : List (List ℕ)) (groups : List (List LineParts))
-      → All IsUtf8 paragraphs → AreGroups settings Divides is_later paragraphs groups
+      → All IsUtf8 paragraphs → AreGroups (AreParagraphParts settings Divides) is_later paragraphs groups
       → All (LeavesBlanks settings) (flat_map (λ parts. parts) groups)
   groups-blanks is_later [] groups utf8 is =
       subst (λ gs. All (LeavesBlanks settings) (flat_map (λ parts. parts) gs)) (sym is)
@@ -187,7 +187,7 @@ module _ (settings : Settings) (Divides : List ℕ → List (List WordText) → 
 
   -- the groups that the definition gives lose only blanks
   pub LosesOnlyBlanks-from : (text : List ℕ) (groups : List (List LineParts)) → IsUtf8 text
-      → AreGroups settings Divides false (paragraphs_of settings.line_ending text) groups
+      → AreGroups (AreParagraphParts settings Divides) false (paragraphs_of settings.line_ending text) groups
       → LosesOnlyBlanks settings text groups
   LosesOnlyBlanks-from text groups utf8 defined =
       let paragraphs = paragraphs_of settings.line_ending text in

@@ -79,8 +79,8 @@ module _ (settings : Settings) (Divides : List ℕ → List (List WordText) → 
 
   groups_one : (is_later : Bool) (paragraphs : List (List ℕ))
       (groups others : List (List LineParts))
-      → AreGroups settings Divides is_later paragraphs groups
-      → AreGroups settings Divides is_later paragraphs others → groups ≡ others
+      → AreGroups (AreParagraphParts settings Divides) is_later paragraphs groups
+      → AreGroups (AreParagraphParts settings Divides) is_later paragraphs others → groups ≡ others
   groups_one is_later [] groups others is other = is ∙ sym other
   groups_one is_later (paragraph ∷ paragraphs) [] others is other = absurd is
   groups_one is_later (paragraph ∷ paragraphs) (parts ∷ groups) [] is other = absurd other
@@ -90,7 +90,7 @@ module _ (settings : Settings) (Divides : List ℕ → List (List WordText) → 
       groups_one
       (is_later ||
       nat_lt 0 (length parts)) paragraphs groups others is.1
-      (subst (λ ps. AreGroups settings Divides
+      (subst (λ ps. AreGroups (AreParagraphParts settings Divides)
       (is_later ||
       nat_lt 0 (length ps)) paragraphs others) (sym same) other.1) in
       ap (λ ps. ps ∷ groups) same ∙ ap (λ gs. more ∷ gs) rest

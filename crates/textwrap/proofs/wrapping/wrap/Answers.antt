@@ -3,10 +3,9 @@ use Rattle.std.proofs.lemmas.List.{length-map}
 use Rattle.textwrap_base.specs.WrapAlgorithms.{algorithm_view}
 use Rattle.textwrap.specs.Options.{settings_view}
 use Rattle.textwrap.specs.Paragraph.{line_view, DividesBy, AreParagraphParts}
-use Rattle.textwrap.proofs.Paragraph.Pieces.{IsDividedInto-tile, IsDividedInto-blanks}
-use Rattle.textwrap.proofs.Text.Lossless.{LosesOnlyBlanks-from}
 use Rattle.textwrap.proofs.Text.Lines.{paragraphs_left, paragraphs_left-split, HasGroups}
 use Rattle.textwrap.proofs.Text.Lines.{HasGroups-more, HasGroups-end}
+use Rattle.textwrap.proofs.Text.Promises.{IsWrapped-from}
 use Rattle.textwrap.proofs.wrapping.wrap.Goals as goal
 
 pub loop-rest-preserved : goal.loop-rest-preserved
@@ -37,10 +36,5 @@ returns-clause-lines c =
     let all : HasGroups settings (DividesBy options) c.args.text.now lines [] =
     subst (HasGroups settings (DividesBy options) c.args.text.now lines)
     (ap (paragraphs_left options.line_ending) c.in_default.is) c.loop-rest.invariant in
-    let are = HasGroups-end settings (DividesBy options) c.args.text.now lines all in (
-      are,
-      LosesOnlyBlanks-from settings (DividesBy options)
-          (IsDividedInto-tile settings algorithm options.word_separator options.word_splitter)
-          (IsDividedInto-blanks settings algorithm options.word_separator options.word_splitter)
-          c.args.text.now are.groups c.utf8.text are.defined,
-    )
+    IsWrapped-from settings algorithm options.word_separator options.word_splitter c.args.text.now
+    lines c.utf8.text (HasGroups-end settings (DividesBy options) c.args.text.now lines all)

@@ -1,9 +1,9 @@
 -- Lemmas on what a writer took.
-use Rattle.std.proofs.Common.{◌≡◌, ℕ, List, [], ◌++◌, length, take, drop, Option, refl, sym, ap}
-use Rattle.std.proofs.Common.{◌∙◌, subst, append_assoc, append-nil, take-append-drop}
+use Rattle.std.proofs.Common.{◌≡◌, ℕ, List, [], ◌++◌, take, drop, Option, sym, ap}
+use Rattle.std.proofs.Common.{◌∙◌, subst, append_assoc, append-nil, take-append-drop, Result, Ok, Err}
+use Rattle.std.proofs.Common.{OnOk, OnErr}
 use Rattle.std.specs.Io.KnownBytes.{Appends, Keeps}
 use Rattle.std.proofs.KnownBytes.{Appends-trans, Appends-kept}
-use Rattle.std.proofs.lemmas.List.{take_at}
 use Rattle.textwrap_cli.specs.Filling.{WritesPrefix}
 
 -- what is written so far, and the rest, are the bytes
@@ -24,12 +24,7 @@ WrittenSoFar-more old mid new rest bytes count so_far more = record {
 
 WritesPrefix-from : (old new : Option (List ℕ)) (rest bytes : List ℕ)
     → WrittenSoFar old new rest bytes → WritesPrefix old new bytes
-WritesPrefix-from old new rest bytes so_far = (
-  length so_far.written,
-  subst (Appends old new)
-      (sym (ap (take (length so_far.written)) (sym so_far.whole)
-      ∙ take_at so_far.written rest (length so_far.written) refl)) so_far.appends,
-)
+WritesPrefix-from old new rest bytes so_far = (so_far.written, rest, so_far.whole, so_far.appends)
 
 pub WritesPrefix-nothing_more : (old mid new : Option (List ℕ)) (rest bytes : List ℕ)
     → WrittenSoFar old mid rest bytes → Appends mid new [] → WritesPrefix old new bytes
@@ -57,3 +52,31 @@ pub Appends-whole : (old new : Option (List ℕ)) (rest bytes : List ℕ)
 Appends-whole old new rest bytes so_far none =
     subst (Appends old new) (sym (append-nil so_far.written)
     ∙ ap (λ l. so_far.written ++ l) (sym none) ∙ so_far.whole) so_far.appends
+
+-- a prefix of a line is one of the line and what follows it
+pub WritesPrefix-longer : (old new : Option (List ℕ)) (bytes more : List ℕ)
+    → WritesPrefix old new bytes → WritesPrefix old new (bytes ++ more)
+WritesPrefix-longer old new bytes more (written, rest, whole, appends) = (
+  written,
+  rest ++ more,
+  sym (append_assoc written rest more) ∙ ap (λ l. l ++ more) whole,
+  appends,
+)
+
+-- what was written to the end, or to a fault, is one
+pub WritesPrefix-result : {A E : Type 0} (old new : Option (List ℕ)) (bytes : List ℕ)
+    (result : Result A E) → OnOk result (Appends old new bytes)
+    → OnErr result (WritesPrefix old new bytes) → WritesPrefix old new bytes
+WritesPrefix-result old new bytes (Ok value) appends prefix =
+    (bytes, [], append-nil bytes, appends)
+WritesPrefix-result old new bytes (Err error) appends prefix = prefix
+
+-- and one of what follows a line that was written goes on from it
+pub WritesPrefix-after : (old mid new : Option (List ℕ)) (bytes more : List ℕ)
+    → Appends old mid bytes → WritesPrefix mid new more → WritesPrefix old new (bytes ++ more)
+WritesPrefix-after old mid new bytes more first (written, rest, whole, appends) = (
+  bytes ++ written,
+  rest,
+  append_assoc bytes written rest ∙ ap (λ l. bytes ++ l) whole,
+  Appends-trans old mid new bytes written first appends,
+)

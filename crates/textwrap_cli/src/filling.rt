@@ -1,11 +1,12 @@
 //! The program's work: it reads a text, fills it and writes it.
-ghost use Rattle.std.specs.Prelude.{◌≡◌, ◌≢◌, ℕ, ◌<◌, ◌≤◌, List, [], length, take, string_bytes};
+ghost use Rattle.std.specs.Prelude.{◌≡◌, ◌≢◌, ◌<◌, ◌≤◌, [], length, take, string_bytes};
 ghost use Rattle.std.specs.Prelude.{Err, IfOk, OnOk, OnErr, IfErr, IsUtf8};
-ghost use Rattle.std.specs.Io.KnownBytes.{Appends, Keeps};
+ghost use Rattle.std.specs.Io.KnownBytes.{Appends};
+ghost use Rattle.std.specs.Result.{result_err};
 ghost use Rattle.textwrap.specs.Filling.{IsFilledAt};
 ghost use Rattle.textwrap.specs.WrapAlgorithms.{algorithm_view};
-ghost use Rattle.textwrap_cli.specs.Filling.{fault_line, ReadsAll, FillsInput, ReadsNoText};
-ghost use Rattle.textwrap_cli.specs.Filling.{WritesPrefix};
+ghost use Rattle.textwrap_cli.specs.Filling.{fault_line, ReadsAll, FillsTo, Runs, WritesPrefix};
+ghost use Rattle.textwrap_cli.specs.Program.{TriesLine};
 
 use std::alloc::Global;
 use std::io::{Read, Write};
@@ -55,27 +56,15 @@ pub(crate) fn run<R: Read, W: Write>(
     width: usize,
     algorithm: WrapAlgorithm,
 ) -> Result<(), RunError>
-    // The whole input was read, and its filled text written.
-    ensures ok { OnOk result ((output : List ℕ)
-        × FillsInput width (algorithm_view algorithm)
-        (R.remaining reader.old) (R.remaining reader.new) output
-        × Appends (W.contents writer.old) (W.contents writer.new) output) }
-    ensures not_utf8 { result ≡ Err RunError.NotUtf8
-        → ReadsNoText (R.remaining reader.old) (R.remaining reader.new) }
-    // The whole input was read, and a prefix of its filled text may be written.
-    ensures write { result ≡ Err RunError.Write → (output : List ℕ)
-        × FillsInput width (algorithm_view algorithm)
-        (R.remaining reader.old) (R.remaining reader.new) output
-        × WritesPrefix (W.contents writer.old) (W.contents writer.new) output }
-    ensures nothing_written { IfErr result (λ error. error ≢ RunError.Write
-        → Keeps (W.contents writer.old) (W.contents writer.new)) }
+    ensures { Runs width (algorithm_view algorithm)
+        (R.remaining reader.old) (R.remaining reader.new)
+        (W.contents writer.old) (W.contents writer.new) (result_err result) }
 {
     let input = read_to_end(alloc, reader)?;
-    let filled = fill_input(alloc, &input, width, algorithm)?;
-    write_to_end(writer, filled.as_bytes())
+    write_filled(alloc, &input, writer, width, algorithm)
 }
 
-/// Reads the reader to its end.
+/// Reads the reader to its end, which is the first read that gives nothing.
 fn read_to_end<R: Read>(alloc: Global, reader: &mut R) -> Result<Vec<u8>, RunError>
     ensures ok { IfOk result (λ input.
         ReadsAll (R.remaining reader.old) (R.remaining reader.new) input.items) }
@@ -96,6 +85,21 @@ fn read_to_end<R: Read>(alloc: Global, reader: &mut R) -> Result<Vec<u8>, RunErr
     Err(RunError::Memory)
 }
 
+/// Writes the filled text of the input.
+fn write_filled<W: Write>(
+    alloc: Global,
+    input: &[u8],
+    writer: &mut W,
+    width: usize,
+    algorithm: WrapAlgorithm,
+) -> Result<(), RunError>
+    ensures { FillsTo width (algorithm_view algorithm) input.now
+        (W.contents writer.old) (W.contents writer.new) (result_err result) }
+{
+    let filled = fill_input(alloc, input, width, algorithm)?;
+    write_to_end(writer, filled.as_bytes())
+}
+
 /// The filled text of the input.
 ///
 /// # Errors
@@ -106,11 +110,10 @@ fn fill_input(
     width: usize,
     algorithm: WrapAlgorithm,
 ) -> Result<String, RunError>
-    ensures text { IfOk result (λ _. IsUtf8 input.now) }
+    ensures text { result ≢ Err RunError.NotUtf8 → IsUtf8 input.now }
     ensures filled { IfOk result (λ filled.
         IsFilledAt width (algorithm_view algorithm) input.now (string_bytes filled)) }
     ensures not_utf8 { result ≡ Err RunError.NotUtf8 → ¬ IsUtf8 input.now }
-    ensures no_text { ¬ IsUtf8 input.now → result ≡ Err RunError.NotUtf8 }
     ensures not_read { IfErr result (λ error. error ≢ RunError.Read) }
     ensures not_write { IfErr result (λ error. error ≢ RunError.Write) }
 {
@@ -123,6 +126,14 @@ fn fill_input(
         Err(WrapError::Memory(_)) => Err(RunError::Memory),
         Err(WrapError::Overflow(_)) => unreachable!(),
     }
+}
+
+/// Writes a line and its line feed.
+pub(crate) fn write_line<W: Write>(writer: &mut W, line: &str) -> Result<(), RunError>
+    ensures { TriesLine (W.contents writer.old) (W.contents writer.new) line.now }
+{
+    write_to_end(writer, line.as_bytes())?;
+    write_to_end(writer, b"\n")
 }
 
 /// Writes the bytes and flushes.

@@ -2,38 +2,28 @@
 //! the algorithm is optimal fit.
 #![tactic(auto)]
 
-use arguments::arguments;
-use filling::{RunError, fault, run};
+use filling::{RunError, fault};
+use program::{complain, execute};
 use std::env::Env;
 use std::process::ExitCode;
 use std::{env, io};
 
 mod arguments;
 mod filling;
+mod program;
 
 fn main(rt: HostRuntime) -> ExitCode {
-    let Ok(words) = words_after_name(&rt) else {
-        return complain(&rt, fault(&RunError::Memory), 1);
+    let mut messages = rt.stderr();
+    let status = match words_after_name(&rt) {
+        Ok(words) => execute(
+            rt.alloc(),
+            &words,
+            &mut rt.reader(),
+            &mut rt.stdout(),
+            &mut messages,
+        ),
+        Err(_) => complain(&mut messages, fault(&RunError::Memory), 1),
     };
-    let Some(request) = arguments(&words) else {
-        return complain(&rt, "usage: textwrap_cli WIDTH [first|optimal]", 2);
-    };
-    let filled = run(
-        rt.alloc(),
-        &mut rt.reader(),
-        &mut rt.stdout(),
-        request.width,
-        request.algorithm,
-    );
-    match filled {
-        Ok(()) => ExitCode::SUCCESS,
-        Err(error) => complain(&rt, fault(&error), 1),
-    }
-}
-
-/// Prints a line on standard error. Where even that fails, the status alone shows the fault.
-fn complain(rt: &impl Eprint, line: &str, status: u8) -> ExitCode {
-    let _printed = rt.eprintln(line);
     ExitCode::from(status)
 }
 

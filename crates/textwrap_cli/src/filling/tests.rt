@@ -25,6 +25,47 @@ impl Read for CutOff {
     }
 }
 
+/// A reader that gives three bytes, then none, as at the end, and then three more.
+#[derive(Drop)]
+struct Terminal {
+    reads: usize,
+}
+
+impl Read for Terminal {
+    fn read(&mut self, buffer: &mut [u8]) -> io::Result<usize> {
+        self.reads = self.reads.saturating_add(1);
+        if self.reads == 2 || buffer.len() < 3 {
+            return Ok(0);
+        }
+        buffer[..3].copy_from_slice(b"foo");
+        Ok(3)
+    }
+}
+
+/// A writer that takes five bytes at a time, and knows how often it was flushed, and whether
+/// anything was written after that.
+#[derive(Drop)]
+struct Flushed {
+    taken: Vec<u8>,
+    flushes: usize,
+    is_flushed: bool,
+}
+
+impl Write for Flushed {
+    fn write(&mut self, bytes: &[u8]) -> io::Result<usize> {
+        let count = bytes.len().min(5);
+        self.taken.extend_from_slice(&bytes[..count])?;
+        self.is_flushed = false;
+        Ok(count)
+    }
+
+    fn flush(&mut self) -> io::Result<()> {
+        self.flushes = self.flushes.saturating_add(1);
+        self.is_flushed = true;
+        Ok(())
+    }
+}
+
 /// A writer that takes so many bytes. After them a write is interrupted or takes nothing, or a
 /// flush fails, but only once: tried again, it would succeed.
 #[derive(Drop)]
@@ -96,6 +137,45 @@ fn the_input_is_filled(rt: HostRuntime) -> Result<(), Fail> {
         assert!(rt; reader.is_empty(), "{input:?}");
     }
     Ok(())
+}
+
+#[test]
+fn a_long_input_is_filled_whole(rt: HostRuntime) -> Result<(), Fail> {
+    let mut input = Vec::new(rt.alloc());
+    let mut output = Vec::new(rt.alloc());
+    for _ in 0..17000 {
+        input.extend_from_slice(b"foo bar baz\n")?;
+        output.extend_from_slice(b"foo bar\nbaz\n")?;
+    }
+    let first = WrapAlgorithm::FirstFit;
+    let mut writer = Vec::new(rt.alloc());
+    let done = run(rt.alloc(), &mut input.as_slice(), &mut writer, 10, first);
+    assert_eq!(rt; done, Ok(()));
+    assert!(rt; writer == output);
+    Ok(())
+}
+
+#[test]
+fn the_end_is_read_once_and_the_output_flushed_once(rt: HostRuntime) {
+    let mut reader = Terminal { reads: 0 };
+    let mut writer = Flushed {
+        taken: Vec::new(rt.alloc()),
+        flushes: 0,
+        is_flushed: false,
+    };
+    let first = WrapAlgorithm::FirstFit;
+    let done = run(rt.alloc(), &mut reader, &mut writer, 2, first);
+    assert_eq!(rt; done, Ok(()));
+    assert_eq!(rt; reader.reads, 2);
+    assert_eq!(rt; writer.taken.as_slice(), b"fo\no".as_slice());
+    assert_eq!(rt; writer.flushes, 1);
+    assert!(rt; writer.is_flushed);
+    let input = b"foo bar baz";
+    let done = run(rt.alloc(), &mut input.as_slice(), &mut writer, 10, first);
+    assert_eq!(rt; done, Ok(()));
+    assert_eq!(rt; writer.taken.as_slice(), b"fo\nofoo bar\nbaz".as_slice());
+    assert_eq!(rt; writer.flushes, 2);
+    assert!(rt; writer.is_flushed);
 }
 
 #[test]

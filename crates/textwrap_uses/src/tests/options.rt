@@ -1,7 +1,8 @@
-use super::*;
+//! Options and their builders.
 use WordSplitter::{HyphenSplitter, NoHyphenation};
 use std::process::Abort;
 use std::test::Fail;
+use textwrap::{LineEnding, Options, WordSeparator, WordSplitter, WrapAlgorithm};
 
 /// Options that differ from the defaults of 80 columns in each field.
 fn unlike_defaults<'a>() -> Options<'a> {
@@ -142,4 +143,10 @@ fn a_copy_has_all_fields(rt: HostRuntime) -> Result<(), Fail> {
     assert_same(&rt, "from", &Options::from(&options), &options);
     assert_same(&rt, "clone", &options.clone()?, &options);
     Ok(())
+}
+
+#[test]
+fn each_ending_has_its_text(rt: HostRuntime) {
+    assert_eq!(rt; LineEnding::CRLF.as_str(), "\r\n");
+    assert_eq!(rt; LineEnding::LF.as_str(), "\n");
 }

@@ -1,8 +1,8 @@
-use super::*;
-use crate::options::Options;
-use crate::wrap_algorithms::WrapAlgorithm;
+//! The calls of the module `fuzzing`.
 use std::borrow::CowStr;
 use std::test::Fail;
+use textwrap::fuzzing::{fill_slow_path, wrap_single_line, wrap_single_line_slow_path};
+use textwrap::{Options, WrapAlgorithm};
 
 #[test]
 fn a_later_paragraph_takes_the_shortcut_past_an_initial_indent(

@@ -1,7 +1,9 @@
-use super::*;
-use crate::wrap_algorithms::{Penalties, WrapAlgorithm};
+//! The lines of `wrap`.
+use std::borrow::CowStr;
 use std::process::Abort;
 use std::test::Fail;
+use textwrap::wrap_algorithms::{Penalties, WrapError};
+use textwrap::{LineEnding, Options, WrapAlgorithm, wrap};
 
 /// A line of the text itself, or one of its own.
 #[derive(Clone, Copy, Debug, Drop, PartialEq)]
@@ -40,8 +42,8 @@ fn assert_lines(
 }
 
 #[test]
-fn a_paragraph_has_the_lines_of_first_fit(rt: HostRuntime) -> Result<(), Fail> {
-    let rows: [(&str, usize, &[&str]); 8] = [
+fn paragraphs_have_the_lines_of_first_fit(rt: HostRuntime) -> Result<(), Fail> {
+    let rows: [(&str, usize, &[&str]); 14] = [
         (
             "To be, or not to be: that is the question",
             10,
@@ -58,16 +60,6 @@ fn a_paragraph_has_the_lines_of_first_fit(rt: HostRuntime) -> Result<(), Fail> {
         ("  foo bar", 4, &["", "foo", "bar"]),
         (" foobar baz", 6, &["", "foobar", "baz"]),
         ("foo bar", usize::MAX, &["foo bar"]),
-    ];
-    for (text, width, lines) in rows {
-        assert_lines(&rt, text, width, WrapAlgorithm::FirstFit, lines)?;
-    }
-    Ok(())
-}
-
-#[test]
-fn each_paragraph_is_wrapped_by_itself(rt: HostRuntime) -> Result<(), Fail> {
-    let rows: [(&str, usize, &[&str]); 6] = [
         ("", 10, &[""]),
         ("", 0, &[""]),
         ("a\n\nb", 10, &["a", "", "b"]),
@@ -82,7 +74,7 @@ fn each_paragraph_is_wrapped_by_itself(rt: HostRuntime) -> Result<(), Fail> {
 }
 
 #[test]
-fn a_paragraph_has_the_lines_of_least_cost(rt: HostRuntime) -> Result<(), Fail> {
+fn paragraphs_have_the_lines_of_least_cost(rt: HostRuntime) -> Result<(), Fail> {
     let rows: [(&str, usize, &[&str]); 14] = [
         (
             "textwrap: a small library for wrapping text.",
@@ -122,11 +114,6 @@ fn a_paragraph_has_the_lines_of_least_cost(rt: HostRuntime) -> Result<(), Fail> 
     for (text, width, lines) in rows {
         assert_lines(&rt, text, width, WrapAlgorithm::new(), lines)?;
     }
-    Ok(())
-}
-
-#[test]
-fn a_last_line_is_short_below_the_fraction(rt: HostRuntime) -> Result<(), Fail> {
     let penalties = Penalties {
         short_last_line_fraction: 10,
         ..Penalties::new()
@@ -138,19 +125,6 @@ fn a_last_line_is_short_below_the_fraction(rt: HostRuntime) -> Result<(), Fail> 
         WrapAlgorithm::OptimalFit(penalties),
         &["This is a demo of the short last line", "penalty."],
     )?;
-    Ok(())
-}
-
-#[test]
-fn options_from_a_width_have_the_least_cost(rt: HostRuntime) -> Result<(), Fail> {
-    let text = "textwrap: a small library for wrapping text.";
-    let lines = wrap(rt.alloc(), text, Options::from(18))?;
-    let [first, second, third] = lines.as_slice() else {
-        return Err(Fail::from("three lines"));
-    };
-    assert_eq!(rt; first.as_str(), "textwrap: a");
-    assert_eq!(rt; second.as_str(), "small library for");
-    assert_eq!(rt; third.as_str(), "wrapping text.");
     Ok(())
 }
 
@@ -171,7 +145,12 @@ fn assert_wrapped(
 
 #[test]
 fn words_are_split_and_broken(rt: HostRuntime) -> Result<(), Fail> {
-    let rows: [(&str, Options<'_>, Lines<'_>); 10] = [
+    let rows: [(&str, Options<'_>, Lines<'_>); 11] = [
+        (
+            "wrapping text",
+            Options::from(9),
+            &[(Borrowed, "wrapping"), (Borrowed, "text")],
+        ),
         (
             "foo-bar",
             Options::new(5),
@@ -359,6 +338,35 @@ fn blanks_and_endings_are_as_chosen(rt: HostRuntime) -> Result<(), Fail> {
     ];
     for (text, options, lines) in &rows {
         assert_wrapped(&rt, text, Options::from(options), lines)?;
+    }
+    Ok(())
+}
+
+#[test]
+fn a_text_of_many_paragraphs_is_wrapped_whole(rt: HostRuntime) -> Result<(), Fail> {
+    let mut text = String::new(rt.alloc());
+    for _ in 0..300 {
+        text.push_str("To be,\tor not\r\nto be\n\n")?;
+    }
+    let options = Options::new(10).wrap_algorithm(WrapAlgorithm::FirstFit);
+    let lines = wrap(rt.alloc(), &text, Options::from(&options))?;
+    let paragraph = ["To be,\tor", "not\r", "to be", ""];
+    assert_eq!(rt; lines.len(), 1201);
+    for (i, line) in lines.iter().enumerate() {
+        let expected = if i < 1200 { paragraph[i % 4] } else { "" };
+        assert_line(&rt, line, Borrowed, expected);
+    }
+    let lines = wrap(rt.alloc(), &text, options.line_ending(LineEnding::CRLF))?;
+    assert_eq!(rt; lines.len(), 601);
+    for (i, line) in lines.iter().enumerate() {
+        let expected = match i {
+            0 => "To be,\tor",
+            1 => "not",
+            600 => "to be\n\n",
+            _ if i % 2 == 0 => "to be\n\nTo",
+            _ => "be,\tor not",
+        };
+        assert_line(&rt, line, Borrowed, expected);
     }
     Ok(())
 }

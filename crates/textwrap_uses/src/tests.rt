@@ -1,0 +1,4 @@
+mod callers;
+mod options;
+mod slow_path;
+mod words;

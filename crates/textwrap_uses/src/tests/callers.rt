@@ -1,0 +1,60 @@
+//! The callers of this crate.
+use crate::checking::is_filled;
+use crate::help::help_entry;
+use crate::mail::{quote, sent_lines};
+use crate::planning::{Task, days};
+use std::borrow::CowStr;
+use std::test::Fail;
+use textwrap::Options;
+
+#[test]
+fn a_help_entry_has_its_flag_and_its_text(rt: HostRuntime) -> Result<(), Fail> {
+    let entry = help_entry(rt.alloc(), "-w      ", "The width of a line.", 20)?;
+    assert_eq!(rt; entry.as_str(), "-w      The width of\n        a line.");
+    Ok(())
+}
+
+#[test]
+fn mail_is_quoted_and_sent(rt: HostRuntime) -> Result<(), Fail> {
+    let quoted = quote(rt.alloc(), "foo bar baz\nfoo", 9)?;
+    assert_eq!(rt; quoted.as_str(), "> foo bar\n> baz\n> foo");
+    let options = Options::new(7);
+    for _ in 0..2 {
+        let lines = sent_lines(rt.alloc(), "foo bar baz\r\nfoo", &options)?;
+        assert_eq!(rt; lines.len(), 3);
+        for (line, expected) in lines.iter().zip(["foo bar", "baz", "foo"]) {
+            assert!(rt; matches!(line, CowStr::Borrowed(_)));
+            assert_eq!(rt; line.as_str(), expected);
+        }
+    }
+    Ok(())
+}
+
+#[test]
+fn a_filled_text_is_filled_already(rt: HostRuntime) -> Result<(), Fail> {
+    for (text, width, expected) in [
+        ("foo bar\nbaz", 7, true),
+        ("foo bar baz", 7, false),
+        ("foo ", 7, false),
+        ("", 0, true),
+    ] {
+        assert_eq!(rt; is_filled(rt.alloc(), text, width)?, expected, "{text:?}");
+    }
+    Ok(())
+}
+
+#[test]
+fn tasks_fill_days(rt: HostRuntime) -> Result<(), Fail> {
+    let task = |hours| Task {
+        hours,
+        sweep: 1,
+        cleanup: 2,
+    };
+    let tasks = [task(2), task(3), task(4), task(1)];
+    let plan = days(rt.alloc(), &tasks)?;
+    assert_eq!(rt; plan.len(), 2);
+    for day in &plan {
+        assert_eq!(rt; day.len(), 2);
+    }
+    Ok(())
+}

@@ -1,0 +1,80 @@
+//! The text of `fill`.
+use std::test::Fail;
+use textwrap::{LineEnding, Options, WrapAlgorithm, fill};
+
+#[test]
+fn lines_are_joined(rt: HostRuntime) -> Result<(), Fail> {
+    let hamlet = "To be, or not to be: that is the question\n";
+    let by_first = "To be, or\nnot to be:\nthat is\nthe\nquestion\n";
+    let by_cost = "To be,\nor not to\nbe: that\nis the\nquestion\n";
+    let first = WrapAlgorithm::FirstFit;
+    let optimal = WrapAlgorithm::new();
+    for (text, width, algorithm, expected) in [
+        ("", 10, first, ""),
+        ("foo bar baz", 10, first, "foo bar\nbaz"),
+        ("foo bar baz", 10, optimal, "foo bar\nbaz"),
+        (hamlet, 10, first, by_first),
+        (hamlet, 10, optimal, by_cost),
+        ("test\n\na\n\n", 80, first, "test\n\na\n\n"),
+        ("test\n\na\n\n", 80, optimal, "test\n\na\n\n"),
+        ("  \n \n  \n ", 80, first, "\n\n\n"),
+        ("  \n \n  \n ", 80, optimal, "\n\n\n"),
+        ("1 3 5 7\n1 3 5 7", 5, first, "1 3 5\n7\n1 3 5\n7"),
+        ("aa bb cc dd", 5, first, "aa bb\ncc dd"),
+        ("aa bb cc dd", 8, first, "aa bb cc\ndd"),
+        ("ab\ncdefghijkl", 5, optimal, "ab\ncdefg\nhijkl"),
+        ("foo  ", 10, optimal, "foo"),
+    ] {
+        let options = Options::new(width).wrap_algorithm(algorithm);
+        let filled = fill(rt.alloc(), text, options)?;
+        assert_eq!(rt; filled.as_str(), expected, "{text:?} at {width}");
+    }
+    Ok(())
+}
+
+#[test]
+fn endings_and_blanks_are_as_chosen(rt: HostRuntime) -> Result<(), Fail> {
+    let rows = [
+        (
+            "foo bar\r\nfoobar",
+            Options::new(4).line_ending(LineEnding::CRLF),
+            "foo\r\nbar\r\nfoob\r\nar",
+        ),
+        (
+            "foo  ",
+            Options::new(10).preserve_trailing_space(true),
+            "foo  ",
+        ),
+        (
+            "foo\u{a0}bar\u{2011}baz",
+            Options::new(5).break_words(false),
+            "foo\u{a0}bar\u{2011}baz",
+        ),
+        (
+            "foo bar baz",
+            Options::new(10)
+                .initial_indent("* ")
+                .subsequent_indent("  "),
+            "* foo bar\n  baz",
+        ),
+    ];
+    for (text, options, expected) in &rows {
+        let filled = fill(rt.alloc(), text, Options::from(options))?;
+        assert_eq!(rt; filled.as_str(), *expected, "{text:?}");
+    }
+    Ok(())
+}
+
+#[test]
+fn a_text_of_many_paragraphs_is_filled_whole(rt: HostRuntime) -> Result<(), Fail> {
+    let mut text = String::new(rt.alloc());
+    let mut expected = String::new(rt.alloc());
+    for _ in 0..300 {
+        text.push_str("To be,\tor not\r\nto be\n\n")?;
+        expected.push_str("To be,\tor\nnot\r\nto be\n\n")?;
+    }
+    let options = Options::new(10).wrap_algorithm(WrapAlgorithm::FirstFit);
+    let filled = fill(rt.alloc(), &text, options)?;
+    assert_eq!(rt; filled.as_str(), expected.as_str());
+    Ok(())
+}

@@ -129,3 +129,7 @@ IsNarrow bytes = All (λ c. columns c ≤ length (encode_utf8 c)) (chars bytes)
 -- the visible characters of the text that take columns
 abbrev pub column_characters : List ℕ → List ℕ
 column_characters bytes = filter (λ c. nat_lt 0 (columns c)) (visible (chars bytes))
+
+-- a printable character of ASCII, which takes one column
+abbrev pub is_printable : ℕ → Bool
+is_printable = is_in_range 0x20 0x7E

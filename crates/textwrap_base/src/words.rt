@@ -1,7 +1,8 @@
 //! The columns of a text, fragments and words: what the original has in its module `core`.
 ghost use Rattle.std.specs.Prelude.{◌≡◌, ℕ, ◌*◌, ◌≤◌, length};
+ghost use Rattle.std.specs.List.{list_all};
 ghost use Rattle.textwrap_base.specs.Sizes.{Sizes};
-ghost use Rattle.textwrap_base.specs.Units.{columns, text_width};
+ghost use Rattle.textwrap_base.specs.Units.{columns, text_width, is_printable};
 ghost use Rattle.textwrap_base.specs.Words.{word_view, sizes_of, word_of};
 
 use crate::blanks::split_final_blanks;
@@ -23,6 +24,9 @@ pub fn display_width(text: &str) -> usize
     ensures width { result ≡ text_width text.now }
     ensures bound { result ≤ 2 * length text.now }
 {
+    if is_plain(text.as_bytes()) {
+        return text.len();
+    }
     let mut state = State::Text;
     let mut width = 0;
     for ch in text.chars() {
@@ -31,6 +35,18 @@ pub fn display_width(text: &str) -> usize
         state = next;
     }
     width
+}
+
+/// Whether each byte is a printable ASCII character, which takes one column.
+fn is_plain(bytes: &[u8]) -> bool
+    ensures { result ≡ list_all is_printable bytes.now }
+{
+    for byte in bytes {
+        if *byte < b' ' || *byte > b'~' {
+            return false;
+        }
+    }
+    true
 }
 
 /// The columns of a character alone, 0 for a control character.

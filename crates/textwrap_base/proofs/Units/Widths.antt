@@ -1,20 +1,21 @@
 -- Lemmas on the units of a text and their columns.
 use Rattle.std.proofs.Common.{◌≡◌, ℕ, zero, suc, ◌+◌, ◌*◌, ◌<◌, ◌≤◌, Bool, true, false, cond, eqb}
 use Rattle.std.proofs.Common.{List, [], ◌∷◌, length, get_or, take, drop, sym, ap, subst, zero-add}
-use Rattle.std.proofs.Common.{◌∙◌, arith, length-append, All}
-use Rattle.std.specs.List.{flat_map, sum_by}
-use Rattle.std.specs.Str.{chars, IsUtf8}
+use Rattle.std.proofs.Common.{◌∙◌, arith, length-append, All, refl}
+use Rattle.std.specs.List.{flat_map, sum_by, list_all}
+use Rattle.std.specs.Str.{chars, IsUtf8, IsAscii}
 use lib.Utf8.{encode, encodes}
+use Rattle.std.proofs.lemmas.Bool.{and_parts}
 use Rattle.std.proofs.lemmas.Bool.Decides.{nat_tests}
 use Rattle.std.proofs.lemmas.List.{at_drop_more}
 use Rattle.std.proofs.lemmas.List.Elements.{All-head, All-tail}
 use Rattle.std.proofs.lemmas.List.Sums.{sum_by-cons, sum_by-append}
-use Rattle.std.proofs.lemmas.Str.{length-encode, encodes-chars}
+use Rattle.std.proofs.lemmas.Str.{length-encode, encodes-chars, chars-IsAscii}
 use Rattle.unicode_width.specs.Width.{char_width}
 use Rattle.unicode_width.proofs.Rules.{width_or_zero-le}
 use Rattle.textwrap_base.specs.declared.words.escapes.State.{State}
 use Rattle.textwrap_base.specs.Units.{Visible, Sequence, escape_len, unit_at, taken_at, units_past}
-use Rattle.textwrap_base.specs.Units.{visible_of, columns, text_width, IsNarrow}
+use Rattle.textwrap_base.specs.Units.{visible_of, columns, text_width, IsNarrow, is_printable}
 use Rattle.textwrap_base.specs.Escapes.{visible_in}
 
 -- the columns of the characters to come
@@ -88,3 +89,36 @@ text_width-narrow bytes utf8 narrow =
     subst (λ x. sum_by columns (chars bytes) ≤ length x) (encodes-chars bytes utf8)
     (columns-narrow (chars bytes) narrow) in
     omega (arith, visible-le 0 (chars bytes), once)
+
+-- ---- a text of printable ASCII characters: each takes one byte and one column
+
+printable-columns : (c : ℕ) → is_printable c ≡ true → columns c ≡ 1
+unfolding char_width
+printable-columns c printable = grind (arith, nat_tests)
+
+printable-no_escape : (c : ℕ) → is_printable c ≡ true → eqb c 27 ≡ false
+printable-no_escape c printable = grind (arith, nat_tests)
+
+printable-ascii : (c : ℕ) → is_printable c ≡ true → c < 128
+printable-ascii c printable = grind (arith, nat_tests)
+
+plain-columns : (cs : List ℕ) → list_all is_printable cs ≡ true
+    → sum_by columns (flat_map visible_of (units_past 0 cs)) ≡ length cs
+plain-columns [] plain = refl
+plain-columns (c ∷ cs) plain =
+    let parts = and_parts (is_printable c) (list_all is_printable cs) plain in
+    rw (printable-no_escape c parts.0)
+    (simp sum_by-cons (omega (arith, printable-columns c parts.0, plain-columns cs parts.1)))
+
+plain-ascii : (bytes : List ℕ) → list_all is_printable bytes ≡ true → IsAscii bytes
+plain-ascii [] plain i = omega arith
+plain-ascii (c ∷ cs) plain zero =
+    printable-ascii c (and_parts (is_printable c) (list_all is_printable cs) plain).0
+plain-ascii (c ∷ cs) plain (suc i) =
+    plain-ascii cs (and_parts (is_printable c) (list_all is_printable cs) plain).1 i
+
+pub text_width-plain : (bytes : List ℕ) → list_all is_printable bytes ≡ true
+    → text_width bytes ≡ length bytes
+text_width-plain bytes plain =
+    ap (λ cs. sum_by columns (flat_map visible_of (units_past 0 cs)))
+    (chars-IsAscii bytes (plain-ascii bytes plain)) ∙ plain-columns bytes plain

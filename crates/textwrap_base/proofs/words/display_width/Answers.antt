@@ -1,10 +1,12 @@
-use Rattle.std.proofs.Common.{◌≡◌, length, cond, ◌∙◌, arith}
+use Rattle.std.proofs.Common.{◌≡◌, true, length, cond, sym, ◌∙◌, arith}
 use Rattle.std.proofs.lemmas.Iterator.{YieldsList-from_chars}
 use Rattle.std.proofs.lemmas.Iterator.Consumers.{YieldsList-turn, YieldsList-end}
 use Rattle.std.proofs.lemmas.List.{at_drop_all, length_push}
+use Rattle.std.specs.List.{list_all}
 use Rattle.std.specs.Str.{chars}
 use Rattle.textwrap_base.proofs.Units.Widths.{text_width-le, columns_in, columns_in-step}
-use Rattle.textwrap_base.specs.Units.{columns}
+use Rattle.textwrap_base.proofs.Units.Widths.{text_width-plain}
+use Rattle.textwrap_base.specs.Units.{columns, is_printable}
 use Rattle.textwrap_base.proofs.words.display_width.Goals as goal
 use Rattle.textwrap_base.proofs.words.display_width.Goals.{then-is_visible, else-is_visible}
 
@@ -46,3 +48,8 @@ returns c =
     (length c.loop-ch.yielded) (omega (arith, t.1)) in
     let wide = text_width-le c.args.text.now c.utf8.text in
     grind arith
+
+pub returns-then-is_plain-clause-width : goal.returns-then-is_plain-clause-width
+returns-then-is_plain-clause-width c =
+    let plain : list_all is_printable c.args.text.now ≡ true = cc in
+    sym (text_width-plain c.args.text.now plain)

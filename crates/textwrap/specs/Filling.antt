@@ -4,12 +4,8 @@ use Rattle.textwrap_base.specs.Words.{WordText}
 use Rattle.textwrap_base.specs.WrapAlgorithms.{Algorithm}
 use Rattle.textwrap.specs.LineEnding.{ending_bytes, join_with}
 use Rattle.textwrap.specs.Options.{Settings, settings_at}
-use Rattle.textwrap.specs.Paragraph.{Line, line_bytes, IsDividedInto}
+use Rattle.textwrap.specs.Paragraph.{Line, line_bytes, DividesByDefault}
 use Rattle.textwrap.specs.Text.{AreTextLines}
-use Rattle.textwrap.specs.WordSeparators.{AreSeparated}
-use Rattle.textwrap.specs.WordSplitters.{ArePoints}
-use Rattle.textwrap.specs.declared.word_separators.WordSeparator.TheVariants.{AsciiSpace}
-use Rattle.textwrap.specs.declared.word_splitters.WordSplitter.TheVariants.{HyphenSplitter}
 
 -- the lines of a text, joined by the line ending
 abbrev pub IsFilled : Settings → (List ℕ → List (List WordText) → Type 0)
@@ -20,9 +16,7 @@ IsFilled settings Divides text filled =
 
 -- the text filled by these settings and this algorithm, with the default separator and splitter
 abbrev pub IsFilledBy : Settings → Algorithm → List ℕ → List ℕ → Type 0
-IsFilledBy settings algorithm =
-    IsFilled settings
-    (IsDividedInto settings (AreSeparated AsciiSpace) (ArePoints HyphenSplitter) algorithm)
+IsFilledBy settings algorithm = IsFilled settings (DividesByDefault settings algorithm)
 
 -- the text filled at a width by an algorithm, all else by the defaults
 abbrev pub IsFilledAt : ℕ → Algorithm → List ℕ → List ℕ → Type 0

@@ -14,7 +14,9 @@ use Rattle.textwrap.specs.WordSeparators.{AreSeparated, separated_words}
 use Rattle.textwrap.specs.WordSplitters.{ArePoints, AreSplit, split_words}
 use Rattle.textwrap.specs.declared.options.Options.{Options}
 use Rattle.textwrap.specs.declared.word_separators.WordSeparator.{WordSeparator}
+use Rattle.textwrap.specs.declared.word_separators.WordSeparator.TheVariants.{AsciiSpace}
 use Rattle.textwrap.specs.declared.word_splitters.WordSplitter.{WordSplitter}
+use Rattle.textwrap.specs.declared.word_splitters.WordSplitter.TheVariants.{HyphenSplitter}
 
 -- each text has fewer bytes
 abbrev pub text_limit : ℕ
@@ -106,6 +108,11 @@ abbrev pub DividesBy : Options → List ℕ → List (List WordText) → Type 0
 DividesBy o =
     IsDividedInto (settings_view o) (AreSeparated o.word_separator) (ArePoints o.word_splitter)
     (algorithm_view o.wrap_algorithm)
+
+-- the same for these settings and this algorithm, with the default separator and splitter
+abbrev pub DividesByDefault : Settings → Algorithm → List ℕ → List (List WordText) → Type 0
+DividesByDefault settings algorithm =
+    IsDividedInto settings (AreSeparated AsciiSpace) (ArePoints HyphenSplitter) algorithm
 
 -- ---- the lines of a division, where `is_later` says that a line stands before them
 

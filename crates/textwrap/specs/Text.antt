@@ -8,7 +8,7 @@ use Rattle.textwrap.specs.LineEnding.{paragraphs_of}
 use Rattle.textwrap.specs.Options.{Settings}
 use Rattle.textwrap_base.specs.WrapAlgorithms.{Algorithm, Greedy}
 use Rattle.textwrap.specs.Paragraph.{Line, LineParts, line_from, AreParagraphParts, AreIndented}
-use Rattle.textwrap.specs.Paragraph.{KeepToWidths}
+use Rattle.textwrap.specs.Paragraph.{KeepToWidths, DividesByDefault}
 
 module _ (Are : Bool → List ℕ → List LineParts → Type 0) where
   -- a group of lines for each paragraph, where `is_later` says that a line stands before them
@@ -27,6 +27,10 @@ pub record AreTextLines (settings : Settings)
   pub defined : AreGroups (AreParagraphParts settings Divides) false
       (paragraphs_of settings.line_ending text) groups
   pub given : lines ≡ map line_from (flat_map (λ parts. parts) groups)
+
+-- the lines of a text by these settings and this algorithm, with the default separator and splitter
+abbrev pub AreLinesBy : Settings → Algorithm → List ℕ → List Line → Type 0
+AreLinesBy settings algorithm = AreTextLines settings (DividesByDefault settings algorithm)
 
 -- in each paragraph the slices, each followed by what was left off, are the paragraph; only blanks
 -- were left off, and nothing where blanks are preserved

@@ -94,7 +94,8 @@ impl<'a> From<&'a str> for Word<'a> {
     ghost from_gives = { λ text result. word_view result ≡ word_of text.now };
 
     /// Takes the whole text as one word, whose whitespace is the blanks that the text ends in, and
-    /// which has no penalty. The call always succeeds and needs no memory.
+    /// which has no penalty: `Word::from("foo  ")` is `foo` and two blanks, of 3 columns. The call
+    /// always succeeds and needs no memory.
     fn from(text: &'a str) -> Word<'a> {
         let (word, whitespace) = split_final_blanks(text);
         Word {

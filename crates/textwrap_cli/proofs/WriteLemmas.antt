@@ -63,6 +63,10 @@ WritesPrefix-longer old new bytes more (written, rest, whole, appends) = (
   appends,
 )
 
+pub OnErr-from : {A E P : Type 0} (result : Result A E) → P → OnErr result P
+OnErr-from (Ok value) p = tt
+OnErr-from (Err error) p = p
+
 -- what was written to the end, or to a fault, is one
 pub WritesPrefix-result : {A E : Type 0} (old new : Option (List ℕ)) (bytes : List ℕ)
     (result : Result A E) → OnOk result (Appends old new bytes)

@@ -1,12 +1,12 @@
 //! The program's work: it reads a text, fills it and writes it.
-ghost use Rattle.std.specs.Prelude.{◌≡◌, ◌≢◌, ◌<◌, ◌≤◌, [], length, take, string_bytes};
+ghost use Rattle.std.specs.Prelude.{◌≡◌, ◌≢◌, ◌<◌, ◌≤◌, [], ◌∷◌, ◌++◌, length, take, string_bytes};
 ghost use Rattle.std.specs.Prelude.{Err, IfOk, OnOk, OnErr, IfErr, IsUtf8};
 ghost use Rattle.std.specs.Io.KnownBytes.{Appends};
 ghost use Rattle.std.specs.Result.{result_err};
 ghost use Rattle.textwrap.specs.Filling.{IsFilledAt};
 ghost use Rattle.textwrap.specs.WrapAlgorithms.{algorithm_view};
 ghost use Rattle.textwrap_cli.specs.Filling.{fault_line, ReadsAll, FillsTo, Runs, WritesPrefix};
-ghost use Rattle.textwrap_cli.specs.Program.{TriesLine};
+ghost use Rattle.textwrap_cli.specs.Program.{line_feed, TriesLine};
 
 use std::alloc::Global;
 use std::io::{Read, Write};
@@ -130,7 +130,10 @@ fn fill_input(
 
 /// Writes a line and its line feed.
 pub(crate) fn write_line<W: Write>(writer: &mut W, line: &str) -> Result<(), RunError>
-    ensures { TriesLine (W.contents writer.old) (W.contents writer.new) line.now }
+    ensures ok { OnOk result (Appends (W.contents writer.old) (W.contents writer.new)
+        (line.now ++ line_feed ∷ [])) }
+    ensures prefix { OnErr result
+        (TriesLine (W.contents writer.old) (W.contents writer.new) line.now) }
 {
     write_to_end(writer, line.as_bytes())?;
     write_to_end(writer, b"\n")

@@ -45,7 +45,7 @@ fn words_and_input_give_output_messages_and_status(rt: HostRuntime) -> Result<()
         (&["10"], HAMLET.as_bytes(), optimal, "", 0),
         (&["10", "optimal"], HAMLET.as_bytes(), optimal, "", 0),
         (&["10", "first"], HAMLET.as_bytes(), first, "", 0),
-        (&["4", "first"], b"foo bar", "foo\nbar", "", 0),
+        (&["2", "first"], b"abc", "ab\nc", "", 0),
         (&["10", "first"], &[0xFF], "", no_text, 1),
         (&[], HAMLET.as_bytes(), "", usage, 2),
         (&["10", "first", "x"], HAMLET.as_bytes(), "", usage, 2),

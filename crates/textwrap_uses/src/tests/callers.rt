@@ -1,5 +1,5 @@
 //! The callers of this crate.
-use crate::checking::is_filled;
+use crate::checking::{is_filled, line_count};
 use crate::help::help_entry;
 use crate::mail::{quote, sent_lines};
 use crate::planning::{Task, days};
@@ -39,6 +39,14 @@ fn a_filled_text_is_filled_already(rt: HostRuntime) -> Result<(), Fail> {
         ("", 0, true),
     ] {
         assert_eq!(rt; is_filled(rt.alloc(), text, width)?, expected, "{text:?}");
+    }
+    Ok(())
+}
+
+#[test]
+fn lines_are_counted(rt: HostRuntime) -> Result<(), Fail> {
+    for (text, count) in [("To be, or not to be", 2), ("", 1), ("one\ntwo", 2)] {
+        assert_eq!(rt; line_count(rt.alloc(), text, 10)?, count, "{text:?}");
     }
     Ok(())
 }

@@ -1,0 +1,12 @@
+use Rattle.std.proofs.Common.{rules, map}
+use Rattle.std.proofs.lemmas.List.{length-map}
+use Rattle.textwrap.specs.Paragraph.{line_view}
+use Rattle.textwrap_uses.proofs.checking.line_count.Goals as goal
+
+pub returns-clause-counted : goal.returns-clause-counted
+returns-clause-counted c =
+    let wrapped = c.in_ok-lines.ensures.lines in (
+      map line_view c.in_ok-lines.lines.items,
+      search (rules, wrapped.are),
+      search (rules, length-map),
+    )

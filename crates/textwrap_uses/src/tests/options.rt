@@ -58,83 +58,18 @@ fn a_width_has_the_defaults(rt: HostRuntime) {
 }
 
 #[test]
-fn each_builder_changes_its_field_alone(rt: HostRuntime) {
-    let unlike = unlike_defaults;
-    let optimal = WrapAlgorithm::new_optimal_fit();
-    let rows = [
-        (
-            "width",
-            unlike().width(0),
-            Options {
-                width: 0,
-                ..unlike()
-            },
-        ),
-        (
-            "line_ending",
-            unlike().line_ending(LineEnding::LF),
-            Options {
-                line_ending: LineEnding::LF,
-                ..unlike()
-            },
-        ),
-        (
-            "initial_indent",
-            unlike().initial_indent("-->"),
-            Options {
-                initial_indent: "-->",
-                ..unlike()
-            },
-        ),
-        (
-            "subsequent_indent",
-            unlike().subsequent_indent("-->"),
-            Options {
-                subsequent_indent: "-->",
-                ..unlike()
-            },
-        ),
-        (
-            "break_words",
-            unlike().break_words(true),
-            Options {
-                break_words: true,
-                ..unlike()
-            },
-        ),
-        (
-            "wrap_algorithm",
-            unlike().wrap_algorithm(optimal),
-            Options {
-                wrap_algorithm: optimal,
-                ..unlike()
-            },
-        ),
-        (
-            "word_separator",
-            unlike().word_separator(WordSeparator::new()),
-            unlike(),
-        ),
-        (
-            "word_splitter",
-            unlike().word_splitter(HyphenSplitter),
-            Options {
-                word_splitter: HyphenSplitter,
-                ..unlike()
-            },
-        ),
-        (
-            "preserve_trailing_space",
-            unlike().preserve_trailing_space(false),
-            Options {
-                preserve_trailing_space: false,
-                ..unlike()
-            },
-        ),
-    ];
-    for (name, options, expected) in &rows {
-        assert_same(&rt, name, options, expected);
-    }
+fn each_field_has_its_builder(rt: HostRuntime) {
+    let options = Options::new(80)
+        .width(7)
+        .line_ending(LineEnding::CRLF)
+        .initial_indent("* ")
+        .subsequent_indent("  ")
+        .break_words(false)
+        .wrap_algorithm(WrapAlgorithm::FirstFit)
+        .word_separator(WordSeparator::new())
+        .word_splitter(NoHyphenation)
+        .preserve_trailing_space(true);
+    assert_same(&rt, "all builders", &options, &unlike_defaults());
 }
 
 #[test]

@@ -1,2 +1,0 @@
-mod filling;
-mod wrapping;

@@ -116,6 +116,35 @@ pub word_of-blanks : (text : List ℕ) → EndsInBlanks (word_of text)
 word_of-blanks text =
     record { blanks = final_blanks-blank text; none = λ some. absurd (true≢false some) }
 
+-- ---- what holds of each paragraph's lines holds of the text's
+
+pub groups-map : (Are Keep : Bool → List ℕ → List LineParts → Type 0)
+    → ((is_later : Bool) (paragraph : List ℕ) (parts : List LineParts) → IsUtf8 paragraph
+    → Are is_later paragraph parts → Keep is_later paragraph parts)
+    → (is_later : Bool) (paragraphs : List (List ℕ)) (groups : List (List LineParts))
+    → All IsUtf8 paragraphs → AreGroups Are is_later paragraphs groups
+    → AreGroups Keep is_later paragraphs groups
+groups-map Are Keep each is_later [] groups utf8 are = are
+groups-map Are Keep each is_later (paragraph ∷ paragraphs) [] utf8 are = absurd are
+groups-map Are Keep each is_later (paragraph ∷ paragraphs) (parts ∷ groups) utf8 are = (
+  each is_later paragraph parts (All-head IsUtf8 paragraph paragraphs utf8) are.0,
+  groups-map Are Keep each (is_later || nat_lt 0 (length parts)) paragraphs groups
+      (All-tail IsUtf8 paragraph paragraphs utf8) are.1,
+)
+
+pub groups-all : (Keeps : LineParts → Type 0) (is_later : Bool) (paragraphs : List (List ℕ))
+    (groups : List (List LineParts))
+    → AreGroups (λ is_later paragraph parts. All Keeps parts) is_later paragraphs groups
+    → All Keeps (flat_map (λ ps. ps) groups)
+groups-all Keeps is_later [] groups are =
+    subst (λ gs. All Keeps (flat_map (λ ps. ps) gs)) (sym are) (All-nil Keeps)
+groups-all Keeps is_later (paragraph ∷ paragraphs) [] are = absurd are
+groups-all Keeps is_later (paragraph ∷ paragraphs) (parts ∷ groups) are =
+    All-append Keeps parts (flat_map (λ ps. ps) groups) are.0
+    (groups-all Keeps (is_later || nat_lt 0 (length parts)) paragraphs groups are.1)
+
+-- ---- the lines of a paragraph that is divided so
+
 module _ (settings : Settings) (Divides : List ℕ → List (List WordText) → Type 0)
     (tiles : (paragraph : List ℕ) (division : List (List WordText)) → IsUtf8 paragraph
     → Divides paragraph division → tiled (flat_map (λ line. line) division) ≡ paragraph)
@@ -170,21 +199,6 @@ module _ (settings : Settings) (Divides : List ℕ → List (List WordText) → 
       nat_lt 0 (length parts)) paragraphs groups (All-tail IsUtf8 paragraph paragraphs utf8)
       defined.1)
 
-  groups-blanks : (is_later : Bool) (paragraphs : List (List ℕ)) (groups : List (List LineParts))
-      → All IsUtf8 paragraphs → AreGroups (AreParagraphParts settings Divides) is_later paragraphs groups
-      → All (LeavesBlanks settings) (flat_map (λ parts. parts) groups)
-  groups-blanks is_later [] groups utf8 is =
-      subst (λ gs. All (LeavesBlanks settings) (flat_map (λ parts. parts) gs)) (sym is)
-      (All-nil (LeavesBlanks settings))
-  groups-blanks is_later (paragraph ∷ paragraphs) [] utf8 defined = absurd defined
-  groups-blanks is_later (paragraph ∷ paragraphs) (parts ∷ groups) utf8 defined =
-      All-append (LeavesBlanks settings) parts (flat_map (λ ps. ps) groups)
-      (parts-blanks is_later paragraph parts (All-head IsUtf8 paragraph paragraphs utf8)
-      defined.0)
-      (groups-blanks (is_later ||
-      nat_lt 0 (length parts)) paragraphs groups (All-tail IsUtf8 paragraph paragraphs utf8)
-      defined.1)
-
   -- the groups that the definition gives lose only blanks
   pub LosesOnlyBlanks-from : (text : List ℕ) (groups : List (List LineParts)) → IsUtf8 text
       → AreGroups (AreParagraphParts settings Divides) false (paragraphs_of settings.line_ending text) groups
@@ -193,7 +207,10 @@ module _ (settings : Settings) (Divides : List ℕ → List (List WordText) → 
       let paragraphs = paragraphs_of settings.line_ending text in
       let all = paragraphs_of-utf8 settings.line_ending text utf8 in
       let parts = flat_map (λ ps. ps) groups in
-      let leaves = groups-blanks false paragraphs groups all defined in
+      let leaves = groups-all (LeavesBlanks settings) false paragraphs groups
+      (groups-map (AreParagraphParts settings Divides)
+      (λ is_later paragraph parts. All (LeavesBlanks settings) parts) parts-blanks false paragraphs
+      groups all defined) in
       record {
         tile = groups-tile false paragraphs groups all defined;
         blanks = All-weaker (LeavesBlanks settings) (λ p. AreBlanks p.left_off)

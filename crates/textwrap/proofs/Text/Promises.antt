@@ -32,6 +32,7 @@ use Rattle.textwrap.proofs.Paragraph.Pieces.{IsDividedInto-blanks, pieces_of-no_
 use Rattle.textwrap.proofs.Paragraph.Shortcut.{narrow_words}
 use Rattle.textwrap.proofs.Text.Endings.{paragraphs_of-utf8, parts_past-some}
 use Rattle.textwrap.proofs.Text.Lossless.{LosesOnlyBlanks-from, tiled-word_of, word_of-blanks}
+use Rattle.textwrap.proofs.Text.Lossless.{groups-map, groups-all}
 
 -- ---- the lines of a division
 
@@ -107,32 +108,7 @@ whole_line-within settings is_later paragraph utf8 whole narrow =
     (subst IsNarrow (sym (tiled-word_of paragraph)) narrow))) in
     omega (arith, within, shorter)
 
--- ---- what holds of each paragraph's lines holds of the text's
-
-groups-map : (Are Keep : Bool → List ℕ → List LineParts → Type 0)
-    → ((is_later : Bool) (paragraph : List ℕ) (parts : List LineParts) → IsUtf8 paragraph
-    → Are is_later paragraph parts → Keep is_later paragraph parts)
-    → (is_later : Bool) (paragraphs : List (List ℕ)) (groups : List (List LineParts))
-    → All IsUtf8 paragraphs → AreGroups Are is_later paragraphs groups
-    → AreGroups Keep is_later paragraphs groups
-groups-map Are Keep each is_later [] groups utf8 are = are
-groups-map Are Keep each is_later (paragraph ∷ paragraphs) [] utf8 are = absurd are
-groups-map Are Keep each is_later (paragraph ∷ paragraphs) (parts ∷ groups) utf8 are = (
-  each is_later paragraph parts (All-head IsUtf8 paragraph paragraphs utf8) are.0,
-  groups-map Are Keep each (is_later || nat_lt 0 (length parts)) paragraphs groups
-      (All-tail IsUtf8 paragraph paragraphs utf8) are.1,
-)
-
-groups-all : (Keeps : LineParts → Type 0) (is_later : Bool) (paragraphs : List (List ℕ))
-    (groups : List (List LineParts))
-    → AreGroups (λ is_later paragraph parts. All Keeps parts) is_later paragraphs groups
-    → All Keeps (flat groups)
-groups-all Keeps is_later [] groups are =
-    subst (λ gs. All Keeps (flat gs)) (sym are) (All-nil Keeps)
-groups-all Keeps is_later (paragraph ∷ paragraphs) [] are = absurd are
-groups-all Keeps is_later (paragraph ∷ paragraphs) (parts ∷ groups) are =
-    All-append Keeps parts (flat groups) are.0
-    (groups-all Keeps (is_later || nat_lt 0 (length parts)) paragraphs groups are.1)
+-- ---- the lines of a text
 
 or_false : (b : Bool) → b || false ≡ b
 or_false true = refl

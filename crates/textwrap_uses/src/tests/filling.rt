@@ -64,17 +64,3 @@ fn endings_and_blanks_are_as_chosen(rt: HostRuntime) -> Result<(), Fail> {
     }
     Ok(())
 }
-
-#[test]
-fn a_text_of_many_paragraphs_is_filled_whole(rt: HostRuntime) -> Result<(), Fail> {
-    let mut text = String::new(rt.alloc());
-    let mut expected = String::new(rt.alloc());
-    for _ in 0..300 {
-        text.push_str("To be,\tor not\r\nto be\n\n")?;
-        expected.push_str("To be,\tor\nnot\r\nto be\n\n")?;
-    }
-    let options = Options::new(10).wrap_algorithm(WrapAlgorithm::FirstFit);
-    let filled = fill(rt.alloc(), &text, options)?;
-    assert_eq!(rt; filled.as_str(), expected.as_str());
-    Ok(())
-}

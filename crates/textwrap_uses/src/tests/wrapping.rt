@@ -3,7 +3,7 @@ use std::borrow::CowStr;
 use std::process::Abort;
 use std::test::Fail;
 use textwrap::wrap_algorithms::{Penalties, WrapError};
-use textwrap::{LineEnding, Options, WrapAlgorithm, wrap};
+use textwrap::{LineEnding, Options, WrapAlgorithm, fill, wrap};
 
 /// A line of the text itself, or one of its own.
 #[derive(Clone, Copy, Debug, Drop, PartialEq)]
@@ -343,7 +343,7 @@ fn blanks_and_endings_are_as_chosen(rt: HostRuntime) -> Result<(), Fail> {
 }
 
 #[test]
-fn a_text_of_many_paragraphs_is_wrapped_whole(rt: HostRuntime) -> Result<(), Fail> {
+fn a_text_of_many_paragraphs_is_wrapped_and_filled_whole(rt: HostRuntime) -> Result<(), Fail> {
     let mut text = String::new(rt.alloc());
     for _ in 0..300 {
         text.push_str("To be,\tor not\r\nto be\n\n")?;
@@ -356,6 +356,8 @@ fn a_text_of_many_paragraphs_is_wrapped_whole(rt: HostRuntime) -> Result<(), Fai
         let expected = if i < 1200 { paragraph[i % 4] } else { "" };
         assert_line(&rt, line, Borrowed, expected);
     }
+    let filled = fill(rt.alloc(), &text, Options::from(&options))?;
+    assert_eq!(rt; filled.as_str().len(), text.as_str().len());
     let lines = wrap(rt.alloc(), &text, options.line_ending(LineEnding::CRLF))?;
     assert_eq!(rt; lines.len(), 601);
     for (i, line) in lines.iter().enumerate() {

@@ -28,7 +28,7 @@ abbrev pub FollowBack : List ℕ → List ℕ → ℕ → Type 0
 FollowBack [] starts j = ⊤
 FollowBack (i ∷ rest) starts j = (get_or starts j 0 ≡ i) × FollowBack rest starts i
 
--- a line that is not the first costs the same whatever its number
+-- after the first line, the number of a line does not change its cost
 abbrev pub IsSteady : (ℕ → ℕ → ℕ → ℕ) → Type 0
 IsSteady cost = (i j l m : ℕ) → 1 ≤ l → 1 ≤ m → cost i j l ≡ cost i j m
 

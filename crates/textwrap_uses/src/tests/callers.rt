@@ -1,9 +1,9 @@
 //! The callers of this crate.
+use super::are_borrowed;
 use crate::checking::{is_filled, line_count};
 use crate::help::help_entry;
 use crate::mail::{quote, sent_lines};
 use crate::planning::{Task, days};
-use std::borrow::CowStr;
 use std::test::Fail;
 use textwrap::Options;
 
@@ -15,17 +15,21 @@ fn a_help_entry_has_its_flag_and_its_text(rt: HostRuntime) -> Result<(), Fail> {
 }
 
 #[test]
-fn mail_is_quoted_and_sent(rt: HostRuntime) -> Result<(), Fail> {
+fn mail_is_quoted(rt: HostRuntime) -> Result<(), Fail> {
     let quoted = quote(rt.alloc(), "foo bar baz\nfoo", 9)?;
     assert_eq!(rt; quoted.as_str(), "> foo bar\n> baz\n> foo");
+    Ok(())
+}
+
+#[test]
+fn mail_is_sent_twice_by_the_same_options(rt: HostRuntime) -> Result<(), Fail> {
     let options = Options::new(7);
     for _ in 0..2 {
         let lines = sent_lines(rt.alloc(), "foo bar baz\r\nfoo", &options)?;
-        assert_eq!(rt; lines.len(), 3);
-        for (line, expected) in lines.iter().zip(["foo bar", "baz", "foo"]) {
-            assert!(rt; matches!(line, CowStr::Borrowed(_)));
-            assert_eq!(rt; line.as_str(), expected);
-        }
+        assert!(rt;
+            are_borrowed(&lines, &["foo bar", "baz", "foo"]),
+            "{lines:?}"
+        );
     }
     Ok(())
 }

@@ -34,33 +34,42 @@ fn lines_are_joined(rt: HostRuntime) -> Result<(), Fail> {
 
 #[test]
 fn endings_and_blanks_are_as_chosen(rt: HostRuntime) -> Result<(), Fail> {
-    let rows = [
+    for (text, width, ending, preserve, expected) in [
         (
             "foo bar\r\nfoobar",
-            Options::new(4).line_ending(LineEnding::CRLF),
+            4,
+            LineEnding::CRLF,
+            false,
             "foo\r\nbar\r\nfoob\r\nar",
         ),
-        (
-            "foo  ",
-            Options::new(10).preserve_trailing_space(true),
-            "foo  ",
-        ),
+        ("foo  ", 10, LineEnding::LF, true, "foo  "),
+    ] {
+        let options = Options::new(width)
+            .line_ending(ending)
+            .preserve_trailing_space(preserve);
+        let filled = fill(rt.alloc(), text, options)?;
+        assert_eq!(rt; filled.as_str(), expected, "{text:?}");
+    }
+    Ok(())
+}
+
+#[test]
+fn long_words_stay_whole_and_lines_are_indented(rt: HostRuntime) -> Result<(), Fail> {
+    for (text, width, indents, expected) in [
         (
             "foo\u{a0}bar\u{2011}baz",
-            Options::new(5).break_words(false),
+            5,
+            ["", ""],
             "foo\u{a0}bar\u{2011}baz",
         ),
-        (
-            "foo bar baz",
-            Options::new(10)
-                .initial_indent("* ")
-                .subsequent_indent("  "),
-            "* foo bar\n  baz",
-        ),
-    ];
-    for (text, options, expected) in &rows {
-        let filled = fill(rt.alloc(), text, Options::from(options))?;
-        assert_eq!(rt; filled.as_str(), *expected, "{text:?}");
+        ("foo bar baz", 10, ["* ", "  "], "* foo bar\n  baz"),
+    ] {
+        let options = Options::new(width)
+            .initial_indent(indents[0])
+            .subsequent_indent(indents[1])
+            .break_words(false);
+        let filled = fill(rt.alloc(), text, options)?;
+        assert_eq!(rt; filled.as_str(), expected, "{text:?}");
     }
     Ok(())
 }

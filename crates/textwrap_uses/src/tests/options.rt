@@ -1,6 +1,5 @@
 //! Options and their builders.
 use WordSplitter::{HyphenSplitter, NoHyphenation};
-use std::process::Abort;
 use std::test::Fail;
 use textwrap::{LineEnding, Options, WordSeparator, WordSplitter, WrapAlgorithm};
 
@@ -19,25 +18,17 @@ fn unlike_defaults<'a>() -> Options<'a> {
     }
 }
 
-/// Asserts that the options agree in each field.
-fn assert_same(rt: &impl Abort, name: &str, options: &Options<'_>, expected: &Options<'_>) {
-    assert_eq!(rt; options.width, expected.width, "{name}");
-    assert_eq!(rt; options.line_ending, expected.line_ending, "{name}");
-    assert_eq!(rt; options.initial_indent, expected.initial_indent, "{name}");
-    assert_eq!(rt;
-        options.subsequent_indent,
-        expected.subsequent_indent,
-        "{name}"
-    );
-    assert_eq!(rt; options.break_words, expected.break_words, "{name}");
-    assert_eq!(rt; options.wrap_algorithm, expected.wrap_algorithm, "{name}");
-    assert_eq!(rt; options.word_separator, expected.word_separator, "{name}");
-    assert_eq!(rt; options.word_splitter, expected.word_splitter, "{name}");
-    assert_eq!(rt;
-        options.preserve_trailing_space,
-        expected.preserve_trailing_space,
-        "{name}"
-    );
+/// Whether the options agree in each field.
+fn are_same(options: &Options<'_>, expected: &Options<'_>) -> bool {
+    options.width == expected.width
+        && options.line_ending == expected.line_ending
+        && options.initial_indent == expected.initial_indent
+        && options.subsequent_indent == expected.subsequent_indent
+        && options.break_words == expected.break_words
+        && options.wrap_algorithm == expected.wrap_algorithm
+        && options.word_separator == expected.word_separator
+        && options.word_splitter == expected.word_splitter
+        && options.preserve_trailing_space == expected.preserve_trailing_space
 }
 
 #[test]
@@ -53,8 +44,8 @@ fn a_width_has_the_defaults(rt: HostRuntime) {
         word_splitter: HyphenSplitter,
         preserve_trailing_space: false,
     };
-    assert_same(&rt, "new", &Options::new(80), &defaults);
-    assert_same(&rt, "from", &Options::from(80), &defaults);
+    assert!(rt; are_same(&Options::new(80), &defaults));
+    assert!(rt; are_same(&Options::from(80), &defaults));
 }
 
 #[test]
@@ -69,14 +60,14 @@ fn each_field_has_its_builder(rt: HostRuntime) {
         .word_separator(WordSeparator::new())
         .word_splitter(NoHyphenation)
         .preserve_trailing_space(true);
-    assert_same(&rt, "all builders", &options, &unlike_defaults());
+    assert!(rt; are_same(&options, &unlike_defaults()));
 }
 
 #[test]
 fn a_copy_has_all_fields(rt: HostRuntime) -> Result<(), Fail> {
     let options = unlike_defaults();
-    assert_same(&rt, "from", &Options::from(&options), &options);
-    assert_same(&rt, "clone", &options.clone()?, &options);
+    assert!(rt; are_same(&Options::from(&options), &options));
+    assert!(rt; are_same(&options.clone()?, &options));
     Ok(())
 }
 

@@ -1,4 +1,5 @@
 //! The calls of the module `fuzzing`.
+use super::are_borrowed;
 use std::borrow::CowStr;
 use std::test::Fail;
 use textwrap::fuzzing::{fill_slow_path, wrap_single_line, wrap_single_line_slow_path};
@@ -16,63 +17,43 @@ fn a_later_paragraph_takes_the_shortcut_past_an_initial_indent(
     wrap_single_line(rt.alloc(), "foobar ba", &options, &mut lines)?;
     wrap_single_line_slow_path(rt.alloc(), "foobar ba", &options, &mut lines)?;
     let expected = ["x", "foobar ba", "foobar", "ba"];
-    assert_eq!(rt; lines.len(), expected.len());
-    for (line, expected) in lines.iter().zip(expected) {
-        assert!(rt; matches!(line, CowStr::Borrowed(_)), "{expected:?}");
-        assert_eq!(rt; line.as_str(), expected);
-    }
+    assert!(rt; are_borrowed(&lines, &expected), "{lines:?}");
     Ok(())
 }
 
 #[test]
 fn the_shortcut_gives_the_lines_of_the_slow_path(rt: HostRuntime) -> Result<(), Fail> {
-    let rows = [
-        ("", Options::new(1), ""),
-        ("  ", Options::new(3), ""),
-        ("  foo-bar  ", Options::new(12), "  foo-bar"),
-        (
-            "foo  ",
-            Options::new(6).preserve_trailing_space(true),
-            "foo  ",
-        ),
-        (
-            "안녕 하세요",
-            Options::new(20).wrap_algorithm(WrapAlgorithm::FirstFit),
-            "안녕 하세요",
-        ),
-        (
-            "foobar",
-            Options::new(7).subsequent_indent("12345"),
-            "foobar",
-        ),
-    ];
-    for (paragraph, options, line) in &rows {
+    for (paragraph, width, indent, preserve, line) in [
+        ("", 1, "", false, ""),
+        ("  ", 3, "", false, ""),
+        ("  foo-bar  ", 12, "", false, "  foo-bar"),
+        ("foo  ", 6, "", true, "foo  "),
+        ("안녕 하세요", 20, "", false, "안녕 하세요"),
+        ("foobar", 7, "12345", false, "foobar"),
+    ] {
+        let options = Options::new(width)
+            .subsequent_indent(indent)
+            .preserve_trailing_space(preserve);
         let mut short = Vec::new(rt.alloc());
-        wrap_single_line(rt.alloc(), paragraph, options, &mut short)?;
+        wrap_single_line(rt.alloc(), paragraph, &options, &mut short)?;
         let mut slow = Vec::new(rt.alloc());
-        wrap_single_line_slow_path(rt.alloc(), paragraph, options, &mut slow)?;
-        assert_eq!(rt; short.len(), 1, "{paragraph:?}");
-        assert_eq!(rt; slow.len(), 1, "{paragraph:?}");
-        assert_eq!(rt; short[0].as_str(), *line, "{paragraph:?}");
-        assert_eq!(rt; slow[0].as_str(), *line, "{paragraph:?}");
+        wrap_single_line_slow_path(rt.alloc(), paragraph, &options, &mut slow)?;
+        assert!(rt; are_borrowed(&short, &[line]), "{paragraph:?}");
+        assert!(rt; are_borrowed(&slow, &[line]), "{paragraph:?}");
     }
     Ok(())
 }
 
 #[test]
 fn the_slow_path_fills_alike(rt: HostRuntime) -> Result<(), Fail> {
-    let rows = [
-        ("ab\ncdefghijkl", Options::new(5), "ab\ncdefg\nhijkl"),
-        ("foo bar  ", Options::new(10), "foo bar"),
-        (
-            "foo  ",
-            Options::new(10).preserve_trailing_space(true),
-            "foo  ",
-        ),
-    ];
-    for (text, options, expected) in &rows {
-        let filled = fill_slow_path(rt.alloc(), text, Options::from(options))?;
-        assert_eq!(rt; filled.as_str(), *expected, "{text:?}");
+    for (text, width, preserve, expected) in [
+        ("ab\ncdefghijkl", 5, false, "ab\ncdefg\nhijkl"),
+        ("foo bar  ", 10, false, "foo bar"),
+        ("foo  ", 10, true, "foo  "),
+    ] {
+        let options = Options::new(width).preserve_trailing_space(preserve);
+        let filled = fill_slow_path(rt.alloc(), text, options)?;
+        assert_eq!(rt; filled.as_str(), expected, "{text:?}");
     }
     Ok(())
 }

@@ -1,4 +1,5 @@
 //! The lines of `wrap`.
+use super::are_borrowed;
 use std::borrow::CowStr;
 use std::process::Abort;
 use std::test::Fail;
@@ -17,27 +18,35 @@ use Kind::{Borrowed, Owned};
 /// The lines of a text, in this kind each.
 type Lines<'a> = &'a [(Kind, &'a str)];
 
-/// Asserts that the line has this text, borrowed or of its own.
-fn assert_line(rt: &impl Abort, line: &CowStr<'_>, kind: Kind, expected: &str) {
-    let is_borrowed = matches!(line, CowStr::Borrowed(_));
-    assert_eq!(rt; is_borrowed, kind == Borrowed, "{expected:?}");
-    assert_eq!(rt; line.as_str(), expected);
+/// Whether the line has this text, borrowed or of its own.
+fn is_line(line: &CowStr<'_>, kind: Kind, expected: &str) -> bool {
+    matches!(line, CowStr::Borrowed(_)) == (kind == Borrowed) && line.as_str() == expected
 }
 
-/// Asserts that the algorithm wraps the text into these lines, each of them borrowed.
-fn assert_lines(
+/// Asserts that the text is wrapped into these lines.
+fn assert_wrapped(
     rt: &(impl Abort + AllocGlobal),
     text: &str,
-    width: usize,
-    algorithm: WrapAlgorithm,
-    expected: &[&str],
+    options: Options<'_>,
+    expected: Lines<'_>,
 ) -> Result<(), WrapError> {
-    let options = Options::new(width).wrap_algorithm(algorithm);
     let lines = wrap(rt.alloc(), text, options)?;
     assert_eq!(rt; lines.len(), expected.len(), "{text:?}");
-    for (line, expected) in lines.iter().zip(expected) {
-        assert_line(rt, line, Borrowed, expected);
+    for (line, (kind, expected)) in lines.iter().zip(expected) {
+        assert!(rt; is_line(line, *kind, expected), "{line:?}");
     }
+    Ok(())
+}
+
+/// Asserts that the text is wrapped into these lines, each of them borrowed.
+fn assert_borrowed(
+    rt: &(impl Abort + AllocGlobal),
+    text: &str,
+    options: Options<'_>,
+    expected: &[&str],
+) -> Result<(), WrapError> {
+    let lines = wrap(rt.alloc(), text, options)?;
+    assert!(rt; are_borrowed(&lines, expected), "{text:?}");
     Ok(())
 }
 
@@ -68,7 +77,8 @@ fn paragraphs_have_the_lines_of_first_fit(rt: HostRuntime) -> Result<(), Fail> {
         ("1 3 5 7\n1 3 5 7", 5, &["1 3 5", "7", "1 3 5", "7"]),
     ];
     for (text, width, lines) in rows {
-        assert_lines(&rt, text, width, WrapAlgorithm::FirstFit, lines)?;
+        let options = Options::new(width).wrap_algorithm(WrapAlgorithm::FirstFit);
+        assert_borrowed(&rt, text, options, lines)?;
     }
     Ok(())
 }
@@ -112,149 +122,77 @@ fn paragraphs_have_the_lines_of_least_cost(rt: HostRuntime) -> Result<(), Fail> 
         ("  \n \n  \n ", 80, &["", "", "", ""]),
     ];
     for (text, width, lines) in rows {
-        assert_lines(&rt, text, width, WrapAlgorithm::new(), lines)?;
+        assert_borrowed(&rt, text, Options::new(width), lines)?;
     }
     let penalties = Penalties {
         short_last_line_fraction: 10,
         ..Penalties::new()
     };
-    assert_lines(
+    assert_borrowed(
         &rt,
         "This is a demo of the short last line penalty.",
-        37,
-        WrapAlgorithm::OptimalFit(penalties),
+        Options::new(37).wrap_algorithm(WrapAlgorithm::OptimalFit(penalties)),
         &["This is a demo of the short last line", "penalty."],
     )?;
     Ok(())
 }
 
-/// Asserts that the text is wrapped into these lines.
-fn assert_wrapped(
-    rt: &(impl Abort + AllocGlobal),
-    text: &str,
-    options: Options<'_>,
-    expected: Lines<'_>,
-) -> Result<(), WrapError> {
-    let lines = wrap(rt.alloc(), text, options)?;
-    assert_eq!(rt; lines.len(), expected.len(), "{text:?}");
-    for (line, (kind, expected)) in lines.iter().zip(expected) {
-        assert_line(rt, line, *kind, expected);
-    }
-    Ok(())
-}
-
 #[test]
 fn words_are_split_and_broken(rt: HostRuntime) -> Result<(), Fail> {
-    let rows: [(&str, Options<'_>, Lines<'_>); 11] = [
-        (
-            "wrapping text",
-            Options::from(9),
-            &[(Borrowed, "wrapping"), (Borrowed, "text")],
-        ),
-        (
-            "foo-bar",
-            Options::new(5),
-            &[(Borrowed, "foo-"), (Borrowed, "bar")],
-        ),
-        (
-            "foo-bar baz",
-            Options::new(5),
-            &[(Borrowed, "foo-"), (Borrowed, "bar"), (Borrowed, "baz")],
-        ),
-        (
-            "foo-bar-baz",
-            Options::new(9),
-            &[(Borrowed, "foo-bar-"), (Borrowed, "baz")],
-        ),
-        (
-            "testx y",
-            Options::new(4),
-            &[(Borrowed, "test"), (Borrowed, "x y")],
-        ),
-        (
-            "Ｈｅｌｌｏ",
-            Options::new(5),
-            &[(Borrowed, "Ｈｅ"), (Borrowed, "ｌｌ"), (Borrowed, "ｏ")],
-        ),
-        (
-            "안녕하세요",
-            Options::new(8),
-            &[(Borrowed, "안녕하세"), (Borrowed, "요")],
-        ),
-        (
-            "foobar",
-            Options::new(0),
-            &[
-                (Borrowed, "f"),
-                (Borrowed, "o"),
-                (Borrowed, "o"),
-                (Borrowed, "b"),
-                (Borrowed, "a"),
-                (Borrowed, "r"),
-            ],
-        ),
-        (
-            "small  large   tiny",
-            Options::new(3).break_words(false),
-            &[(Borrowed, "small"), (Borrowed, "large"), (Borrowed, "tiny")],
-        ),
+    let rows: [(&str, usize, bool, &[&str]); 11] = [
+        ("wrapping text", 9, true, &["wrapping", "text"]),
+        ("foo-bar", 5, true, &["foo-", "bar"]),
+        ("foo-bar baz", 5, true, &["foo-", "bar", "baz"]),
+        ("foo-bar-baz", 9, true, &["foo-bar-", "baz"]),
+        ("testx y", 4, true, &["test", "x y"]),
+        ("Ｈｅｌｌｏ", 5, true, &["Ｈｅ", "ｌｌ", "ｏ"]),
+        ("안녕하세요", 8, true, &["안녕하세", "요"]),
+        ("foobar", 0, true, &["f", "o", "o", "b", "a", "r"]),
+        ("small  large   tiny", 3, false, &["small", "large", "tiny"]),
         (
             "The --foo-bar flag.",
-            Options::new(5).break_words(false),
-            &[
-                (Borrowed, "The"),
-                (Borrowed, "--foo-"),
-                (Borrowed, "bar"),
-                (Borrowed, "flag."),
-            ],
+            5,
+            false,
+            &["The", "--foo-", "bar", "flag."],
         ),
         (
             "This is a little example.",
-            Options::new(4),
-            &[
-                (Borrowed, "This"),
-                (Borrowed, "is a"),
-                (Borrowed, "litt"),
-                (Borrowed, "le"),
-                (Borrowed, "exam"),
-                (Borrowed, "ple."),
-            ],
+            4,
+            true,
+            &["This", "is a", "litt", "le", "exam", "ple."],
         ),
     ];
-    for (text, options, lines) in &rows {
-        assert_wrapped(&rt, text, Options::from(options), lines)?;
+    for (text, width, break_words, lines) in rows {
+        assert_borrowed(
+            &rt,
+            text,
+            Options::new(width).break_words(break_words),
+            lines,
+        )?;
     }
     Ok(())
 }
 
 #[test]
 fn lines_are_indented(rt: HostRuntime) -> Result<(), Fail> {
-    let rows: [(&str, Options<'_>, Lines<'_>); 10] = [
-        (
-            "",
-            Options::new(10).initial_indent("!!!"),
-            &[(Owned, "!!!")],
-        ),
-        (
-            "",
-            Options::new(10).initial_indent("!!!").break_words(false),
-            &[(Borrowed, "")],
-        ),
+    let rows: [(&str, usize, [&str; 2], Lines<'_>); 8] = [
+        ("", 10, ["!!!", ""], &[(Owned, "!!!")]),
         (
             "foobarbaz",
-            Options::new(5).initial_indent("-->"),
+            5,
+            ["-->", ""],
             &[(Owned, "-->"), (Borrowed, "fooba"), (Borrowed, "rbaz")],
         ),
         (
             "foobarbaz",
-            Options::new(5).initial_indent("* ").subsequent_indent("  "),
+            5,
+            ["* ", "  "],
             &[(Owned, "* foo"), (Owned, "  bar"), (Owned, "  baz")],
         ),
         (
             "This is a little example.",
-            Options::new(12)
-                .initial_indent("* ")
-                .subsequent_indent("  "),
+            12,
+            ["* ", "  "],
             &[
                 (Owned, "* This is"),
                 (Owned, "  a little"),
@@ -263,7 +201,8 @@ fn lines_are_indented(rt: HostRuntime) -> Result<(), Fail> {
         ),
         (
             "x x x x x x x x x x x x x",
-            Options::new(10).initial_indent("👉👉"),
+            10,
+            ["👉👉", ""],
             &[
                 (Owned, "👉👉x x x"),
                 (Borrowed, "x x x x x"),
@@ -272,7 +211,8 @@ fn lines_are_indented(rt: HostRuntime) -> Result<(), Fail> {
         ),
         (
             "Wrapping text all day long.",
-            Options::new(15).subsequent_indent("...."),
+            15,
+            ["", "...."],
             &[
                 (Borrowed, "Wrapping text"),
                 (Owned, "....all day"),
@@ -281,63 +221,55 @@ fn lines_are_indented(rt: HostRuntime) -> Result<(), Fail> {
         ),
         (
             "a\n\nb",
-            Options::new(10).subsequent_indent("> "),
+            10,
+            ["", "> "],
             &[(Borrowed, "a"), (Borrowed, ""), (Owned, "> b")],
         ),
         (
             "aaa\nbbb ccc",
-            Options::new(7).subsequent_indent("    "),
+            7,
+            ["", "    "],
             &[(Borrowed, "aaa"), (Owned, "    bbb ccc")],
         ),
-        (
-            "x\nfoobar bar",
-            Options::new(10)
-                .initial_indent(">>>")
-                .wrap_algorithm(WrapAlgorithm::FirstFit),
-            &[(Owned, ">>>x"), (Borrowed, "foobar"), (Borrowed, "bar")],
-        ),
     ];
-    for (text, options, lines) in &rows {
-        assert_wrapped(&rt, text, Options::from(options), lines)?;
+    for (text, width, [initial, subsequent], lines) in rows {
+        let options = Options::new(width)
+            .initial_indent(initial)
+            .subsequent_indent(subsequent);
+        assert_wrapped(&rt, text, options, lines)?;
     }
     Ok(())
 }
 
 #[test]
+fn an_initial_indent_is_not_repeated(rt: HostRuntime) -> Result<(), Fail> {
+    let options = Options::new(10).initial_indent(">>>");
+    let lines = [(Owned, ">>>x"), (Borrowed, "foobar"), (Borrowed, "bar")];
+    let by_first = Options::from(&options).wrap_algorithm(WrapAlgorithm::FirstFit);
+    assert_wrapped(&rt, "x\nfoobar bar", by_first, &lines)?;
+    assert_borrowed(&rt, "", options.break_words(false), &[""])?;
+    Ok(())
+}
+
+#[test]
 fn blanks_and_endings_are_as_chosen(rt: HostRuntime) -> Result<(), Fail> {
-    let rows: [(&str, Options<'_>, Lines<'_>); 5] = [
-        (
-            "foo bar baz",
-            Options::new(10).preserve_trailing_space(true),
-            &[(Borrowed, "foo bar "), (Borrowed, "baz")],
-        ),
+    let rows: [(&str, usize, LineEnding, &[&str]); 5] = [
+        ("foo bar baz", 10, LineEnding::LF, &["foo bar ", "baz"]),
         (
             "foo     bar     baz  ",
-            Options::new(5).preserve_trailing_space(true),
-            &[
-                (Borrowed, "foo     "),
-                (Borrowed, "bar     "),
-                (Borrowed, "baz  "),
-            ],
+            5,
+            LineEnding::LF,
+            &["foo     ", "bar     ", "baz  "],
         ),
-        (
-            "foo  ",
-            Options::new(10).preserve_trailing_space(true),
-            &[(Borrowed, "foo  ")],
-        ),
-        (
-            "a\r\nb\nc",
-            Options::new(10).line_ending(LineEnding::CRLF),
-            &[(Borrowed, "a"), (Borrowed, "b\nc")],
-        ),
-        (
-            "a\r\r\nb",
-            Options::new(10).line_ending(LineEnding::CRLF),
-            &[(Borrowed, "a\r"), (Borrowed, "b")],
-        ),
+        ("foo  ", 10, LineEnding::LF, &["foo  "]),
+        ("a\r\nb\nc", 10, LineEnding::CRLF, &["a", "b\nc"]),
+        ("a\r\r\nb", 10, LineEnding::CRLF, &["a\r", "b"]),
     ];
-    for (text, options, lines) in &rows {
-        assert_wrapped(&rt, text, Options::from(options), lines)?;
+    for (text, width, ending, lines) in rows {
+        let options = Options::new(width)
+            .line_ending(ending)
+            .preserve_trailing_space(true);
+        assert_borrowed(&rt, text, options, lines)?;
     }
     Ok(())
 }
@@ -354,21 +286,9 @@ fn a_text_of_many_paragraphs_is_wrapped_and_filled_whole(rt: HostRuntime) -> Res
     assert_eq!(rt; lines.len(), 1201);
     for (i, line) in lines.iter().enumerate() {
         let expected = if i < 1200 { paragraph[i % 4] } else { "" };
-        assert_line(&rt, line, Borrowed, expected);
+        assert!(rt; is_line(line, Borrowed, expected), "{line:?}");
     }
-    let filled = fill(rt.alloc(), &text, Options::from(&options))?;
+    let filled = fill(rt.alloc(), &text, options)?;
     assert_eq!(rt; filled.as_str().len(), text.as_str().len());
-    let lines = wrap(rt.alloc(), &text, options.line_ending(LineEnding::CRLF))?;
-    assert_eq!(rt; lines.len(), 601);
-    for (i, line) in lines.iter().enumerate() {
-        let expected = match i {
-            0 => "To be,\tor",
-            1 => "not",
-            600 => "to be\n\n",
-            _ if i % 2 == 0 => "to be\n\nTo",
-            _ => "be,\tor not",
-        };
-        assert_line(&rt, line, Borrowed, expected);
-    }
     Ok(())
 }

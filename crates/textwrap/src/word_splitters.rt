@@ -2,10 +2,12 @@
 ghost use Rattle.std.specs.Prelude.{◌≡◌, ℕ, ◌<◌, ◌≤◌, List, [], ◌++◌, length, map, reverse};
 ghost use Rattle.std.specs.Prelude.{slice_range, chars, IfOk, IsOk, OnOk, IsCharBoundary};
 ghost use Rattle.std.specs.Iterator.{IsFiniteIterable, Drains};
+ghost use Rattle.textwrap_base.specs.Units.{text_width};
 ghost use Rattle.textwrap_base.specs.Words.{piece, word_view};
 ghost use Rattle.textwrap.specs.WordSplitters.{is_alphanumeric, begins_alphanumeric};
 ghost use Rattle.textwrap.specs.WordSplitters.{ends_in_hyphen, is_hyphen_point, hyphen_points};
-ghost use Rattle.textwrap.specs.WordSplitters.{AreCuts, cut_penalty, split_pieces, split_words};
+ghost use Rattle.textwrap.specs.WordSplitters.{AreCuts, cut_penalty, split_pieces, split_word};
+ghost use Rattle.textwrap.specs.WordSplitters.{split_words};
 
 use std::alloc::{AllocError, Global};
 use textwrap_base::words::{Word, display_width};
@@ -48,6 +50,9 @@ fn hyphen_points(alloc: Global, word: &str) -> Result<Vec<usize>, AllocError>
     ensures cuts { IfOk result (λ points. AreCuts word.now points.items) }
 {
     let mut points = Vec::new(alloc);
+    if !word.as_bytes().contains(&b'-') {
+        return Ok(points);
+    }
     for point in 1..word.len() {
         if is_hyphen_point(word, point) {
             points.push(point)?;
@@ -118,6 +123,26 @@ pub fn split_words<'a, I: IntoIterator<Item = Word<'a>>>(
         push_split(&mut pieces, word, &points)?;
     }
     Ok(pieces)
+}
+
+/// Adds the pieces of a word whose width is known to be that of its text. A word that stays whole
+/// is not measured again.
+pub(crate) fn push_measured<'a>(
+    alloc: Global,
+    pieces: &mut Vec<Word<'a>>,
+    word: Word<'a>,
+    word_splitter: &WordSplitter,
+) -> Result<(), AllocError>
+    requires { word.width ≡ text_width word.word.now }
+    ensures { OnOk result (map word_view pieces.new.items ≡ map word_view pieces.old.items
+        ++ split_word word_splitter.now (word_view word.entry)) }
+{
+    let points = word_splitter.split_points(alloc, word.word)?;
+    if points.is_empty() {
+        pieces.push(word)?;
+        return Ok(());
+    }
+    push_split(pieces, word, &points)
 }
 
 /// Adds the pieces of a word that is split at these points.

@@ -21,10 +21,12 @@ ghost use Rattle.textwrap.specs.Paragraph.{pieces_of, widths_of, width_after, in
 ghost use Rattle.textwrap.specs.Paragraph.{parts_of, parts_from, Adds, DividesBy, AreDividedParts};
 ghost use Rattle.textwrap.specs.Paragraph.{AreParagraphParts, OnlyCharactersPass};
 ghost use Rattle.textwrap.specs.Text.{IsWrapped};
+ghost use Rattle.textwrap.specs.WordSeparators.{separated_words};
+ghost use Rattle.textwrap.specs.WordSplitters.{split_words};
 
 use crate::line_ending::LineEnding;
 use crate::options::Options;
-use crate::word_splitters::split_words;
+use crate::word_splitters::push_measured;
 use crate::words::{Word, break_words, display_width};
 use crate::wrap_algorithms::WrapError;
 use std::alloc::{AllocError, Global};
@@ -185,8 +187,7 @@ fn find_pieces<'t>(
         options.now.word_splitter paragraph.now) }
     ensures tiles { IfOk result (λ pieces. Tiles (map word_view pieces.items) paragraph.now) }
 {
-    let words = options.word_separator.find_words(alloc, paragraph)?;
-    let split = split_words(alloc, words, &options.word_splitter)?;
+    let split = find_split_words(alloc, paragraph, options)?;
     if !options.break_words {
         return Ok(split);
     }
@@ -197,6 +198,23 @@ fn find_pieces<'t>(
         broken.insert(0, Word::from(""))?;
     }
     Ok(broken)
+}
+
+/// The words of a paragraph, split.
+fn find_split_words<'t>(
+    alloc: Global,
+    paragraph: &'t str,
+    options: &Options<'_>,
+) -> Result<Vec<Word<'t>>, AllocError>
+    ensures { IfOk result (λ pieces. map word_view pieces.items
+        ≡ split_words options.now.word_splitter
+        (separated_words options.now.word_separator paragraph.now)) }
+{
+    let mut pieces = Vec::new(alloc);
+    for word in options.word_separator.find_words(alloc, paragraph)? {
+        push_measured(alloc, &mut pieces, word, &options.word_splitter)?;
+    }
+    Ok(pieces)
 }
 
 /// The columns that an indent leaves of a line.

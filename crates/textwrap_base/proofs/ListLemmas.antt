@@ -4,7 +4,6 @@ use Rattle.std.proofs.Common.{◌≡◌, ℕ, suc, ◌+◌, ◌-◌, ◌<◌, Li
 use Rattle.std.proofs.Common.{drop, map, refl, sym, ap, ◌∙◌, arith}
 use Rattle.std.specs.Prelude.{slice_index}
 use Rattle.std.specs.List.{flat_map, onto_first}
-use Rattle.std.specs.Io.{StartsWith}
 use Rattle.std.proofs.lemmas.List.Elements.{All-take, All-drop}
 use Rattle.std.proofs.lemmas.List.{drop_more, length-take, take-append-le}
 use Rattle.std.proofs.lemmas.List.{map-append, append_assoc, take_at, drop_at, length_push}
@@ -85,16 +84,7 @@ pub all-right : {X : Type 0} (P : X → Type 0) (xs ys : List X) → All P (xs +
 all-right P xs ys all = subst (All P) (drop_at xs ys (length xs) refl)
     (All-drop P (length xs) (xs ++ ys) all)
 
--- what the parts from place i on make begins with the part at i
-pub StartsWith-flat_map : {X : Type 0} (f : X → List ℕ) (xs : List X) (i : ℕ) (d : X)
-    (rest : List ℕ) → i < length xs → flat_map f (drop i xs) ≡ rest
-    → StartsWith rest (f (get_or xs i d))
-StartsWith-flat_map f xs i d rest within is =
-    ap (take (length (f (get_or xs i d)))) (sym is ∙ ap (flat_map f) (drop_more xs i d within))
-    ∙ take_at (f (get_or xs i d)) (flat_map f (drop (i + 1) xs))
-    (length (f (get_or xs i d))) refl
-
--- and what those after it make follows
+-- what the parts after place i make follows what the part at i makes
 pub flat_map-rest : {X : Type 0} (f : X → List ℕ) (xs : List X) (i : ℕ) (d : X)
     (rest after : List ℕ) → i < length xs → flat_map f (drop i xs) ≡ rest
     → after ≡ drop (length (f (get_or xs i d))) rest

@@ -1,8 +1,8 @@
 -- Lemmas on the pieces of a paragraph: they tile it, and blanks stand between them.
 use Rattle.std.proofs.Common.{subst, ◌≡◌, ◌↔◌, ◌≢◌, ℕ, suc, ◌<◌, ◌≤◌, Bool, true, false, cond, ◌==◌}
-use Rattle.std.proofs.Common.{List, [], ◌∷◌, ◌++◌, All, length, get_or, take, drop, map, refl, sym}
+use Rattle.std.proofs.Common.{List, [], ◌∷◌, ◌++◌, All, length, get_or, take, drop, refl, sym}
 use Rattle.std.proofs.Common.{ap, ◌∙◌, arith}
-use Rattle.std.specs.Iterator.{Drains, YieldsFirstBy}
+use Rattle.std.specs.Iterator.{Drains}
 use Rattle.std.specs.List.{flat_map, slice_range}
 use Rattle.std.specs.List.Sorted.{IsNonDecreasing}
 use Rattle.std.specs.Str.{IsUtf8, IsCharBoundary}
@@ -10,7 +10,6 @@ use Rattle.std.specs.Vec.Iter.{into_iter_items, into_iter_len, into_iter_steps}
 use Rattle.std.specs.declared.vec.IntoIter.{IntoIter}
 use Rattle.std.proofs.lemmas.Iterator.{items_from_drains}
 use Rattle.std.proofs.lemmas.Iterator.Adapters.{YieldsList-from_vec}
-use Rattle.std.proofs.lemmas.Iterator.Consumers.{YieldsList-from_first}
 use Rattle.std.proofs.lemmas.List.{map-id}
 use Rattle.std.proofs.lemmas.List.Elements.{All-nil, All-cons, All-head, All-tail, All-append}
 use Rattle.std.proofs.lemmas.List.Elements.{All-map, All-weaker, filter_passes}
@@ -44,13 +43,6 @@ use Rattle.textwrap.specs.WordSplitters.{split_pieces, split_word, split_words, 
 use Rattle.textwrap.proofs.Word.Splitting.{points_of-cuts, tiled-split_words}
 
 -- ---- the words that an iterator has given
-
-pub given-first : {S A B : Type 0} (v : A → B) (rest : S → List B) (s : S) (all : List B)
-    (xs : List A) → Drains (YieldsFirstBy v rest) s xs → rest s ≡ all → map v xs ≡ all
-given-first v rest s all xs drained is =
-    items_from_drains {steps = YieldsFirstBy v rest} {v = v} {s = s} {all = all} xs
-    (drained.1.0, drained.1.1, λ _. (drained.0, drained.1.2))
-    (YieldsList-from_first v rest all is)
 
 pub given-vec : {A Z : Type 0} (it : IntoIter A Z) (items xs : List A)
     → Drains (into_iter_steps {X = A} {Z = Z}) it xs → into_iter_items it ≡ items
@@ -129,7 +121,7 @@ ArePieces-unique settings separator splitter paragraph pieces = (
 
 -- ---- words and their pieces are texts
 
-separated-measured : (separator : WordSeparator) (line : List ℕ) → IsUtf8 line
+pub separated-measured : (separator : WordSeparator) (line : List ℕ) → IsUtf8 line
     → All IsMeasured (separated_words separator line)
 separated-measured AsciiSpace line utf8 = words_of-measured line utf8
 

@@ -92,10 +92,6 @@ module _ (settings : Settings) (Divides : List ℕ → List (List WordText) → 
         → AreGroups (AreParagraphParts settings Divides) false (paragraphs_of settings.line_ending text)
         (groups ++ others)
 
-  pub HasGroups-start : (text : List ℕ)
-      → HasGroups text [] (paragraphs_of settings.line_ending text)
-  HasGroups-start text = record { groups = []; given = refl; more = λ others defined. defined }
-
   lines_from-push : (groups : List (List LineParts)) (parts : List LineParts)
       → map line_from (flat_map (λ ps. ps) (groups ++ parts ∷ [])) ≡ map line_from
       (flat_map (λ ps. ps) groups) ++ map line_from parts

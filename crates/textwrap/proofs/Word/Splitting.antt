@@ -1,24 +1,26 @@
 -- Lemmas on the points at which words are split, and on their pieces.
 use Rattle.std.proofs.Common.{◌≡◌, ℕ, suc, ◌+◌, ◌-◌, ◌<◌, ◌≤◌, Bool, true, false, cond, ltb, List}
 use Rattle.std.proofs.Common.{[], ◌∷◌, ◌++◌, refl, sym, ap, ◌∙◌, subst, add-zero, arith, length}
-use Rattle.std.proofs.Common.{take, drop, get_or}
+use Rattle.std.proofs.Common.{take, drop, get_or, ◌==◌, ◌||◌}
 use Rattle.std.specs.Prelude.{chars, reverse, filter, slice_range, All, IsUtf8, IsCharBoundary}
-use Rattle.std.specs.List.{range_with_len}
+use Rattle.std.specs.List.{list_any, range_with_len}
 use Rattle.std.specs.List.Sorted.{IsNonDecreasing}
 use lib.Utf8.{encode}
-use Rattle.std.proofs.lemmas.Bool.{and_parts, cond_both, eqb-true, ltb-true}
+use Rattle.std.proofs.lemmas.Bool.{and_parts, cond_both, eqb-true, false≢true, ltb-true}
 use Rattle.std.proofs.lemmas.List.{map-id, reverse-append, append-nil, append_assoc, drop-drop}
 use Rattle.std.proofs.lemmas.List.{take-append-drop, length-append, length-take, take_at, drop_at}
 use Rattle.std.proofs.lemmas.List.{get_or-append-add, get_or-take}
 use Rattle.std.proofs.lemmas.List.Concat.{flat_map-append}
 use Rattle.std.proofs.lemmas.List.Elements.{All-filter, All-head, All-nil, All-tail, filter-append}
 use Rattle.std.proofs.lemmas.List.Elements.{filter_passes}
+use Rattle.std.proofs.lemmas.List.Folds.{list_any_at, list_any-append}
 use Rattle.std.proofs.lemmas.List.FromFn.{get_or-range_with_len, length-range_with_len}
 use Rattle.std.proofs.lemmas.List.FromFn.{map-range_with_len_more}
 use Rattle.std.proofs.lemmas.List.Kept.{IsNonDecreasingBy-filter}
 use Rattle.std.proofs.lemmas.Str.{IsUtf8-take, IsUtf8-drop, IsCharBoundary-after_ascii}
 use Rattle.std.proofs.lemmas.Str.{chars-append, chars-nil, chars_past_char}
 use Rattle.textwrap.specs.WordSplitters.{is_alphanumeric, begins_alphanumeric, is_hyphen_point}
+use Rattle.textwrap.specs.WordSplitters.{hyphen, ends_in_hyphen}
 use Rattle.textwrap.specs.WordSplitters.{inner_offsets, hyphen_points, points_of, AreCuts}
 use Rattle.textwrap.specs.WordSplitters.{split_from, split_pieces, split_word, split_words}
 use Rattle.textwrap.specs.declared.word_splitters.WordSplitter.{WordSplitter}
@@ -132,6 +134,30 @@ after-hyphen text point utf8 start inside is =
     let next : point - 1 + 1 ≡ point = omega arith in
     subst (IsCharBoundary text) next (IsCharBoundary-after_ascii text (point - 1) utf8 (omega arith)
     (omega (arith, here)))
+
+-- a text without hyphens has no points
+any-ends : (text : List ℕ) → ends_in_hyphen text ≡ true → list_any (λ c. c == hyphen) text ≡ true
+any-ends [] ends = absurd (false≢true ends)
+any-ends (c ∷ cs) ends =
+    list_any_at (λ b. b == hyphen) (c ∷ cs) (length (c ∷ cs) - 1) 0 (omega arith) ends
+
+any-take : (n : ℕ) (text : List ℕ) → list_any (λ c. c == hyphen) (take n text) ≡ true
+    → list_any (λ c. c == hyphen) text ≡ true
+any-take n text any = ap (list_any (λ c. c == hyphen)) (sym (take-append-drop n text))
+    ∙ list_any-append (λ c. c == hyphen) (take n text) (drop n text)
+    ∙ ap (λ b. b || list_any (λ c. c == hyphen) (drop n text)) any
+
+pub hyphen_points-none : (text : List ℕ) → list_any (λ c. c == hyphen) text ≡ false
+    → hyphen_points text ≡ []
+hyphen_points-none text none =
+    nothing (hyphen_points text) (filter_passes (is_hyphen_point text) (inner_offsets text))
+  where
+    nothing : (points : List ℕ) → All (λ p. is_hyphen_point text p ≡ true) points → points ≡ []
+    nothing [] all = refl
+    nothing (p ∷ points) all =
+        let found = All-head (λ p. is_hyphen_point text p ≡ true) p points all in
+        let ends = (and_parts _ _ (and_parts _ _ found).0).0 in
+        absurd (false≢true (sym none ∙ any-take p text (any-ends (take p text) ends)))
 
 pub hyphen_points-cuts : (text : List ℕ) → IsUtf8 text → AreCuts text (hyphen_points text)
 hyphen_points-cuts text utf8 =

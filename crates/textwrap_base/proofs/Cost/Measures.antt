@@ -1,17 +1,14 @@
 -- The closed width and the cost of a part of the fragments, from running sums of their widths.
 use Rattle.std.proofs.Common.{◌≡◌, ℕ, suc, ◌+◌, ◌-◌, ◌*◌, ◌^◌, ◌<◌, ◌≤◌, Bool, true, false, eqb}
 use Rattle.std.proofs.Common.{ltb, ◌&&◌, if◌then◌else◌, List, [], ◌∷◌, ◌++◌, length, get_or, take}
-use Rattle.std.proofs.Common.{drop, map, All, slice_range, max, ◌⊎◌, ◌≢◌, inl, inr, refl, sym, ◌∙◌}
+use Rattle.std.proofs.Common.{drop, map, All, slice_range, max, refl, sym, ◌∙◌}
 use Rattle.std.proofs.Common.{ap, arith, length-take, length-drop}
-use Rattle.std.proofs.lemmas.List.{get_or_push, get_or_append_left, take_at, take-append-le}
 use Rattle.std.proofs.lemmas.List.{length-map, take_more, take-map, drop-map, get_or-drop}
-use Rattle.std.proofs.lemmas.List.{length_push}
 use Rattle.std.proofs.lemmas.List.Sums.{sum_by-cons, sum_by_more_le_part, sum_by-take-le}
 use Rattle.std.proofs.lemmas.List.Elements.{All-nil, All-cons, All-head, All-tail}
 use Rattle.std.proofs.Math.Nat.{mul-le-mul}
 use Rattle.std.proofs.Math.Seq.{take-add}
 use Rattle.std.proofs.lemmas.Bool.Decides.{nat_tests}
-use Rattle.std.proofs.lemmas.Bool.{cases_eq}
 use mathlib.Core.Path.{fun_ext}
 use Rattle.textwrap_base.specs.Sizes.{Sizes}
 use Rattle.textwrap_base.specs.Division.{closed_width, open_width, line_width}
@@ -243,27 +240,6 @@ pub total_width-same : {X Y : Type 0} (sizes : X → Sizes) (others : Y → Size
     (ys : List Y) → map sizes xs ≡ map others ys → total_width sizes xs ≡ total_width others ys
 total_width-same sizes others xs ys e = sym (total_width-map sizes xs)
     ∙ ap (total_width (λ (s : Sizes). s)) e ∙ total_width-map others ys
-
--- one more measure
-pub before_more : (ms : List Measure) (m : Measure)
-    → ((i : ℕ) (d : Measure) → i < length ms
-    → (get_or ms i d).before ≡ open_width measured_sizes (take i ms))
-    → m.before ≡ open_width measured_sizes ms
-    → (i : ℕ) (d : Measure) → i < length (ms ++ m ∷ [])
-    → (get_or (ms ++ m ∷ []) i d).before ≡ open_width measured_sizes (take i (ms ++ m ∷ []))
-before_more ms m all now i d l = more_by (cases_eq i (length ms))
-  where
-    more_by : (i ≡ length ms) ⊎ (i ≢ length ms)
-        → (get_or (ms ++ m ∷ []) i d).before ≡ open_width measured_sizes (take i (ms ++ m ∷ []))
-    more_by (inl e) =
-        let at = get_or_push ms m d i (sym e) in
-        let front = take_at ms (m ∷ []) i (sym e) in rw (at, front) now
-    more_by (inr ne) =
-        let len = length_push ms m in
-        let within : i < length ms = omega arith in
-        let at = get_or_append_left ms (m ∷ []) d i within in
-        let front : take i (ms ++ m ∷ []) ≡ take i ms =
-        take-append-le i ms (m ∷ []) (omega arith) in rw (at, front) (all i d within)
 
 -- what the code adds up is the cost of the line
 pub line_cost-measured : (penalties : Penalties) (width : ℕ) (ms : List Measure) (i j : ℕ)

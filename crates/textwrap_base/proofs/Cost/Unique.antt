@@ -21,9 +21,6 @@ starts_same (s ∷ starts) (o ∷ others) (inr (h, hs)) (inl k) = absurd (omega 
 starts_same (s ∷ starts) (o ∷ others) (inr (h, hs)) (inr (k, ks)) = let rest =
     starts_same starts others hs ks in cc
 
-head : List ℕ → ℕ
-head starts = get_or starts 0 0
-
 -- the starts and the fragments give the lines
 lines_same : {X : Type 0} (lines others : List (List X)) (at : ℕ)
     → starts_from at lines ≡ starts_from at others → joined lines ≡ joined others → lines ≡ others

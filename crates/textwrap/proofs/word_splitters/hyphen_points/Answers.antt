@@ -1,8 +1,9 @@
-use Rattle.std.proofs.Common.{◌≡◌, ◌-◌, ◌++◌, [], ◌∷◌, cond, length, sym, ap, ◌∙◌, subst, arith}
-use Rattle.std.specs.List.{range_with_len}
+use Rattle.std.proofs.Common.{◌≡◌, ◌-◌, ◌++◌, [], ◌∷◌, ◌==◌, cond, false, length, sym, ap, ◌∙◌}
+use Rattle.std.proofs.Common.{subst, arith}
+use Rattle.std.specs.List.{list_any, range_with_len}
 use Rattle.std.specs.Prelude.{filter}
-use Rattle.textwrap.specs.WordSplitters.{is_hyphen_point, AreCuts}
-use Rattle.textwrap.proofs.Word.Splitting.{points-more, hyphen_points-cuts}
+use Rattle.textwrap.specs.WordSplitters.{is_hyphen_point, hyphen, AreCuts}
+use Rattle.textwrap.proofs.Word.Splitting.{points-more, hyphen_points-cuts, hyphen_points-none}
 use Rattle.textwrap.proofs.word_splitters.hyphen_points.Goals as goal
 use Rattle.textwrap.proofs.word_splitters.hyphen_points.Goals.{then-is_hyphen_point+in_ok-push}
 use Rattle.textwrap.proofs.word_splitters.hyphen_points.Goals.{else-is_hyphen_point}
@@ -34,3 +35,10 @@ returns-clause-cuts c =
     let points = c.loop-point.invariant.points
     ∙ ap (λ n. filter (is_hyphen_point c.args.word.now) (range_with_len 1 n)) whole in
     subst (AreCuts c.args.word.now) (sym points) (hyphen_points-cuts c.args.word.now c.utf8.word)
+
+pub returns-then-not-contains-clause-points : goal.returns-then-not-contains-clause-points
+returns-then-not-contains-clause-points c =
+    let none : list_any (λ b. b == hyphen) c.args.word.now ≡ false =
+    ap (list_any (λ b. b == hyphen)) (sym c.as_bytes.ensures.value)
+    ∙ sym c.contains.ensures.value ∙ c.if-not-contains.true in
+    c.new-points.ensures.items ∙ sym (hyphen_points-none c.args.word.now none)

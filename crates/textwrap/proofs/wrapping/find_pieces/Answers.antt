@@ -3,9 +3,7 @@ use Rattle.textwrap_base.specs.Breaking.{broken_words}
 use Rattle.textwrap_base.specs.Words.{word_view, tiled}
 use Rattle.textwrap.specs.Options.{settings_view}
 use Rattle.textwrap.specs.Paragraph.{empty_word, front_pieces, later_width}
-use Rattle.textwrap.specs.WordSeparators.{separated_words}
-use Rattle.textwrap.specs.WordSplitters.{split_words}
-use Rattle.textwrap.proofs.Paragraph.Pieces.{split_pieces_of, given-first, given-vec, word_of-nil}
+use Rattle.textwrap.proofs.Paragraph.Pieces.{split_pieces_of, given-vec, word_of-nil}
 use Rattle.textwrap.proofs.Paragraph.Pieces.{pieces_of-tile}
 use Rattle.textwrap.proofs.wrapping.find_pieces.Goals as goal
 use Rattle.textwrap.proofs.wrapping.find_pieces.Goals.{then-not-is_empty+in_ok-insert}
@@ -15,13 +13,8 @@ pub returns-then-not-options-clause-pieces : goal.returns-then-not-options-claus
 returns-then-not-options-clause-pieces c =
     let options = c.args.options.now in
     let settings = settings_view options in
-    let given = c.in_ok-split.ensures.pieces in
-    let words = given-first word_view (λ words. words) given.0
-    (separated_words options.word_separator c.args.paragraph.now) given.1 given.3
-    (given.2 ∙ c.in_ok-words.ensures.words) in
     let split : map word_view c.in_ok-split.split.items ≡ split_pieces_of options.word_separator
-    options.word_splitter c.args.paragraph.now = given.4
-    ∙ ap (split_words options.word_splitter) words in
+    options.word_splitter c.args.paragraph.now = c.in_ok-split.ensures in
     split ∙ ap (λ b. cond b (front_pieces settings ++ broken_words (later_width settings)
     (split_pieces_of options.word_separator options.word_splitter c.args.paragraph.now))
     (split_pieces_of options.word_separator options.word_splitter c.args.paragraph.now))
@@ -37,12 +30,8 @@ returns-clause-pieces c =
     let options = c.args.options.now in
     let settings = settings_view options in
     let paragraph = c.args.paragraph.now in
-    let given = c.in_ok-split.ensures.pieces in
-    let words = given-first word_view (λ words. words) given.0
-    (separated_words options.word_separator paragraph) given.1 given.3
-    (given.2 ∙ c.in_ok-words.ensures.words) in
     let split : map word_view c.in_ok-split.split.items ≡ split_pieces_of options.word_separator
-    options.word_splitter paragraph = given.4 ∙ ap (split_words options.word_splitter) words in
+    options.word_splitter paragraph = c.in_ok-split.ensures in
     let more = c.in_ok-broken.ensures.pieces in
     let all = given-vec more.0 c.in_ok-split.split.items more.1 more.3 more.2.0
     (more.2.1 ∙ omega arith) in

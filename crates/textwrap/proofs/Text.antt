@@ -1,4 +1,8 @@
+pub mod Breaks
 pub mod Endings
+pub mod InPlace
+pub mod InPlaceLines
+pub mod InPlaceRows
 pub mod Lines
 pub mod Lossless
 pub mod Paragraphs

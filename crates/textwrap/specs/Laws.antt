@@ -1,18 +1,24 @@
 -- What the laws say.
-use Rattle.std.specs.Prelude.{◌≡◌, ◌↔◌, ℕ, Bool, List, All, IsUtf8}
+use Rattle.std.specs.Prelude.{◌≡◌, ◌↔◌, ℕ, Bool, false, List, All, IsUtf8, map}
+use Rattle.textwrap_base.specs.Blanks.{without_final_blanks}
+use Rattle.textwrap_base.specs.Units.{IsNarrow}
 use Rattle.textwrap_base.specs.Words.{WordText, tile_of, tiled}
-use Rattle.textwrap_base.specs.WrapAlgorithms.{Algorithm}
+use Rattle.textwrap_base.specs.WrapAlgorithms.{Algorithm, Greedy}
 use Rattle.textwrap.specs.Filling.{IsFilled}
+use Rattle.textwrap.specs.InPlace.{IsFilledInPlace}
 use Rattle.textwrap.specs.LineEnding.{AreParagraphs, paragraphs_of}
-use Rattle.textwrap.specs.Options.{Settings}
+use Rattle.textwrap.specs.Options.{Settings, settings_at}
 use Rattle.textwrap.specs.Paragraph.{ArePieces, pieces_of, IsDividedInto, AreDividedParts}
-use Rattle.textwrap.specs.Paragraph.{AreParagraphParts, Line}
+use Rattle.textwrap.specs.Paragraph.{AreParagraphParts, Line, Slice}
 use Rattle.textwrap.specs.Text.{AreTextLines, IsWrapped}
 use Rattle.textwrap.specs.WordSeparators.{AreSeparated}
 use Rattle.textwrap.specs.WordSplitters.{AreCuts, ArePoints, points_of, split_pieces, split_words}
 use Rattle.textwrap.specs.declared.line_ending.LineEnding.{LineEnding}
+use Rattle.textwrap.specs.declared.line_ending.LineEnding.TheVariants.{LF}
 use Rattle.textwrap.specs.declared.word_separators.WordSeparator.{WordSeparator}
+use Rattle.textwrap.specs.declared.word_separators.WordSeparator.TheVariants.{AsciiSpace}
 use Rattle.textwrap.specs.declared.word_splitters.WordSplitter.{WordSplitter}
+use Rattle.textwrap.specs.declared.word_splitters.WordSplitter.TheVariants.{NoHyphenation}
 pub use Rattle.textwrap_base.specs.Laws.{UnitsAreUnique, WordsAreUnique, BrokenPiecesAreUnique}
 pub use Rattle.textwrap_base.specs.Laws.{BrokenTextsTile, BrokenPiecesTile, BrokenWordsTile}
 pub use Rattle.textwrap_base.specs.Laws.{GreedyDivisionIsUnique, ChosenDivisionIsUnique}
@@ -60,6 +66,24 @@ TextLinesAreUnique = ForBuiltIn (λ settings Divides. IsUnique (AreTextLines set
 
 abbrev pub FilledTextIsUnique : Type 0
 FilledTextIsUnique = ForBuiltIn (λ settings Divides. IsUnique (IsFilled settings Divides))
+
+-- a text is filled in place in one way at each width
+abbrev pub FilledInPlaceIsUnique : Type 0
+FilledInPlaceIsUnique = (width : ℕ) → IsUnique (IsFilledInPlace width)
+
+-- the defaults at a width, but words stay whole
+abbrev pub unbroken_at : ℕ → Settings
+unbroken_at width = record (settings_at width) { break_words = false }
+
+-- where no character takes more columns than its bytes, the lines of a text that is filled in
+-- place, without the blanks at their ends, are those that first fit gives of whole words
+abbrev pub FilledInPlaceIsWrapped : Type 0
+FilledInPlaceIsWrapped =
+    (width : ℕ) (text filled : List ℕ) → IsUtf8 text → IsNarrow text
+    → IsFilledInPlace width text filled
+    → AreTextLines (unbroken_at width) (IsDividedInto (unbroken_at width)
+    (AreSeparated AsciiSpace) (ArePoints NoHyphenation) Greedy) text
+    (map (λ line. Slice (without_final_blanks line)) (paragraphs_of LF filled))
 
 -- by built-in parts the lines of a text lose only blanks, add only indents, and keep to their widths
 abbrev pub TextLinesAreWrapped : Type 0

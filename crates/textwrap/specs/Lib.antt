@@ -1,5 +1,6 @@
 pub mod Filling
 pub mod Fuzzing
+pub mod InPlace
 pub mod Laws
 pub mod LineEnding
 pub mod Options

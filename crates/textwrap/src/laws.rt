@@ -4,6 +4,7 @@ ghost use Rattle.textwrap.specs.Laws.{ParagraphsAreUnique, PiecesAreUnique, Divi
 ghost use Rattle.textwrap.specs.Laws.{ParagraphLinesAreUnique, TextLinesAreUnique};
 ghost use Rattle.textwrap.specs.Laws.{FilledTextIsUnique, TextLinesAreWrapped, PointsAreCuts};
 ghost use Rattle.textwrap.specs.Laws.{SplitPiecesTile, SplitWordsTile};
+ghost use Rattle.textwrap.specs.Laws.{FilledInPlaceIsUnique, FilledInPlaceIsWrapped};
 
 pub use textwrap_base::laws::{
     broken_pieces_are_unique, broken_pieces_tile, chosen_division_is_unique,
@@ -45,4 +46,13 @@ pub fn split_pieces_tile()
     ensures cuts { PointsAreCuts }
     ensures pieces { SplitPiecesTile }
     ensures words { SplitWordsTile }
+{}
+
+/// At each width a text is filled in place in one way. Where no character of it takes more columns
+/// than its bytes, its new lines, each without the blanks at its end, are those that `wrap` gives
+/// of the old text by first fit, with the default settings but words neither split nor broken. All
+/// of these are borrowed.
+pub fn filled_in_place_is_wrapped()
+    ensures unique { FilledInPlaceIsUnique }
+    ensures wrapped { FilledInPlaceIsWrapped }
 {}

@@ -4,6 +4,7 @@
 #![tactic(auto)]
 
 pub use filling::fill;
+pub use inplace::fill_inplace;
 pub use line_ending::LineEnding;
 pub use options::Options;
 pub use textwrap_base::{minima, words, wrap_algorithms};
@@ -14,6 +15,7 @@ pub use wrapping::wrap;
 
 mod filling;
 pub mod fuzzing;
+mod inplace;
 pub mod laws;
 mod line_ending;
 mod options;

@@ -316,7 +316,7 @@ fn cut_line<'t>(
 }
 
 /// The bytes of the pieces with their whitespace.
-fn tiled_len(pieces: &[Word<'_>]) -> usize
+pub(crate) fn tiled_len(pieces: &[Word<'_>]) -> usize
     requires { length (tiled (map word_view pieces.now)) < text_limit }
     ensures len { result ≡ length (tiled (map word_view pieces.now)) }
     ensures utf8 { IsUtf8 (tiled (map word_view pieces.now)) }

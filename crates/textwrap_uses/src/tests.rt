@@ -1,5 +1,6 @@
 mod callers;
 mod filling;
+mod inplace;
 mod options;
 mod slow_path;
 mod words;

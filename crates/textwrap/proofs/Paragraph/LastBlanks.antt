@@ -13,7 +13,7 @@ use Rattle.textwrap_base.specs.Breaking.{broken_pieces, broken_texts, broken_wor
 use Rattle.textwrap_base.specs.Breaking.{pieces_with}
 use Rattle.textwrap_base.specs.Blanks.{is_blank, trimmed_len, without_final_blanks, final_blanks}
 use Rattle.textwrap_base.proofs.Word.BrokenPieces.{broken_texts-some}
-use Rattle.textwrap_base.proofs.Word.Tiling.{join-chunks}
+use Rattle.textwrap_base.proofs.Word.Tiling.{join-chunks, tiled-words_of}
 use Rattle.textwrap_base.proofs.Word.Texts.{IsMeasured, trimmed-past, final_blanks-more}
 use Rattle.textwrap.specs.Options.{Settings}
 use Rattle.textwrap.specs.declared.word_separators.WordSeparator.{WordSeparator}
@@ -234,25 +234,31 @@ covered-space : (ws : List WordText) → covered ws ++ last_space ws ≡ tiled w
 covered-space [] = refl
 covered-space (w ∷ ws) = covered-last w ws
 
+-- words that tile a text and end as it does cover it without the blanks at its end
+covered-tiled : (ws : List WordText) (text : List ℕ) → last_space ws ≡ final_blanks text
+    → tiled ws ≡ text → covered ws ≡ without_final_blanks text
+covered-tiled ws text space tile =
+    let blanks = final_blanks text in
+    let whole : covered ws ++ blanks ≡ text =
+    ap (λ l. covered ws ++ l) (sym space) ∙ covered-space ws ∙ tile in
+    let len : length (covered ws) ≡ trimmed_len text =
+    omega (
+      arith,
+      ap length whole,
+      length-append (covered ws) blanks,
+      length-drop (trimmed_len text) text,
+    ) in
+    sym (take_at (covered ws) blanks (trimmed_len text) len) ∙ ap (take (trimmed_len text)) whole
+
+pub covered-words_of : (line : List ℕ) → covered (words_of line) ≡ without_final_blanks line
+covered-words_of line =
+    covered-tiled (words_of line) line (words_of-space line) (tiled-words_of line)
+
 -- the pieces of the whole paragraph cover it without the blanks at its end
 pub covered-pieces_of : (settings : Settings) (separator : WordSeparator) (splitter : WordSplitter)
     (paragraph : List ℕ) → IsUtf8 paragraph → settings.initial_indent ≡ []
     → covered (pieces_of settings separator splitter paragraph) ≡ without_final_blanks paragraph
 covered-pieces_of settings separator splitter paragraph utf8 unindented =
-    let pieces = pieces_of settings separator splitter paragraph in
-    let blanks = final_blanks paragraph in
-    let whole : covered pieces ++ blanks ≡ paragraph =
-    ap (λ l. covered pieces ++ l)
-    (sym (pieces_of-space settings separator splitter paragraph utf8 unindented))
-    ∙ covered-space pieces ∙ pieces_of-tile settings separator splitter paragraph utf8
-    in
-    let len : length (covered pieces) ≡ trimmed_len paragraph =
-    omega (
-      arith,
-      ap length whole,
-      length-append (covered pieces) blanks,
-      length-drop
-          (trimmed_len paragraph) paragraph,
-    ) in
-    sym (take_at (covered pieces) blanks (trimmed_len paragraph) len)
-    ∙ ap (take (trimmed_len paragraph)) whole
+    covered-tiled (pieces_of settings separator splitter paragraph) paragraph
+    (pieces_of-space settings separator splitter paragraph utf8 unindented)
+    (pieces_of-tile settings separator splitter paragraph utf8)

@@ -1,0 +1,27 @@
+use Rattle.std.proofs.Common.{ap, ◌∙◌, subst, arith}
+use Rattle.textwrap.specs.declared.line_ending.LineEnding.TheVariants.{LF}
+use Rattle.textwrap.proofs.Text.Breaks.{HasBreaks, HasBreaks-more, HasBreaks-end}
+use Rattle.textwrap.proofs.Text.Breaks.{bytes_left-split}
+use Rattle.textwrap.proofs.Text.Lines.{paragraphs_left, paragraphs_left-split, bytes_left}
+use Rattle.textwrap.proofs.inplace.find_breaks.Goals as goal
+
+pub loop-rest-preserved : goal.loop-rest-preserved
+loop-rest-preserved c =
+    let part = c.split_paragraph.result.0.now in
+    let after = c.split_paragraph.result.1 in
+    let first = paragraphs_left-split LF c.in-Some.text.now after part
+    c.split_paragraph.ensures.paragraphs in
+    let added = c.in_ok-push_breaks.ensures in
+    let len = bytes_left-split c.in-Some.text.now part after first in
+    let room = ap bytes_left c.in-Some.is in (
+      HasBreaks-more c.args.width c.args.text.now c.loop-rest.breaks.items
+          c.push_breaks.new.breaks.items c.loop-rest.start part
+          (paragraphs_left LF c.loop-rest.rest) (paragraphs_left LF after) added.0
+          c.loop-rest.invariant.0 (ap (paragraphs_left LF) c.in-Some.is ∙ first) added.1 added.2,
+      omega (arith, c.loop-rest.invariant.1, len, room),
+    )
+
+pub returns : goal.returns
+returns c = HasBreaks-end c.args.width c.args.text.now c.loop-rest.breaks.items c.loop-rest.start
+    (subst (HasBreaks c.args.width c.args.text.now c.loop-rest.breaks.items c.loop-rest.start)
+    (ap (paragraphs_left LF) c.in_default.is) c.loop-rest.invariant.0)

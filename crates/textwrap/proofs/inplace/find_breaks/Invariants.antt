@@ -1,0 +1,14 @@
+use Rattle.std.proofs.Common.{◌+◌, ◌≤◌, length}
+use Rattle.textwrap.specs.declared.line_ending.LineEnding.TheVariants.{LF}
+use Rattle.textwrap.proofs.Text.Breaks.{HasBreaks}
+use Rattle.textwrap.proofs.Text.Lines.{paragraphs_left, bytes_left}
+use Rattle.textwrap.proofs.inplace.find_breaks.Given as goal
+
+-- the places so far, and those of the parts left, are the places of the text
+abbrev pub invariant-loop-rest : goal.invariant-loop-rest
+invariant-loop-rest l =
+    HasBreaks l.width l.text l.breaks.items l.start (paragraphs_left LF l.rest)
+    × (l.start + bytes_left l.rest ≤ length l.text + 1)
+
+abbrev pub decreases-loop-rest : goal.decreases-loop-rest
+decreases-loop-rest l = bytes_left l.rest

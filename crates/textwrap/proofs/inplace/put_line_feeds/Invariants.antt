@@ -1,0 +1,9 @@
+use Rattle.std.proofs.Common.{◌≡◌, length, drop}
+use Rattle.textwrap.specs.InPlace.{with_line_feeds}
+use Rattle.textwrap.proofs.inplace.put_line_feeds.Given as goal
+
+-- line feeds in the places left make of the bytes what they are to become
+abbrev pub invariant-loop-place : goal.invariant-loop-place
+invariant-loop-place l =
+    (length l.bytes ≡ length l.fn.bytes)
+    × (with_line_feeds (drop l.place-index l.places) l.bytes ≡ with_line_feeds l.places l.fn.bytes)

@@ -1,10 +1,14 @@
 pub mod Breaks
+pub mod Dedenting
 pub mod Endings
 pub mod InPlace
 pub mod InPlaceLines
 pub mod InPlaceRows
+pub mod Indentation
+pub mod IndentationRows
 pub mod Lines
 pub mod Lossless
+pub mod Margins
 pub mod Paragraphs
 pub mod Promises
 pub mod Unique

@@ -5,7 +5,7 @@ use Rattle.std.specs.List.{flat_map}
 use Rattle.textwrap_base.specs.Blanks.{blank}
 use Rattle.textwrap_base.specs.Division.{IsGreedy}
 use Rattle.textwrap_base.specs.Words.{WordText, sizes_of, tiled, words_of}
-use Rattle.textwrap.specs.LineEnding.{ending_bytes, join_with, paragraphs_of}
+use Rattle.textwrap.specs.LineEnding.{ending_bytes, join_with, line_feed, paragraphs_of}
 use Rattle.textwrap.specs.declared.line_ending.LineEnding.TheVariants.{LF}
 
 -- the texts of a part's lines, where each but the last leaves its last byte to a line feed
@@ -28,9 +28,6 @@ IsFilledInPlace width text filled =
     (divisions : List (List (List WordText)))
     × AreDividedAt width (paragraphs_of LF text) divisions
     × (filled ≡ join_with (ending_bytes LF) (flat_map broken_lines divisions))
-
-abbrev pub line_feed : ℕ
-line_feed = 10
 
 -- each byte is as it was, or was a blank and is a line feed
 abbrev pub OnlyBlanksChange : List ℕ → List ℕ → Type 0

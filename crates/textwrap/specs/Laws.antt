@@ -1,11 +1,18 @@
 -- What the laws say.
-use Rattle.std.specs.Prelude.{◌≡◌, ◌↔◌, ℕ, Bool, false, List, All, IsUtf8, map}
+use Rattle.std.specs.Prelude.{◌≡◌, ◌↔◌, ◌⊎◌, ℕ, Bool, false, List, ◌++◌, All, IsUtf8, length}
+use Rattle.std.specs.Prelude.{drop, map}
+use Rattle.std.specs.Io.{StartsWith}
+use Rattle.std.specs.List.{flat_map}
+use Rattle.std.specs.Str.{chars, trim_end}
+use Rattle.std.specs.Str.Lines.{lines}
 use Rattle.textwrap_base.specs.Blanks.{without_final_blanks}
 use Rattle.textwrap_base.specs.Units.{IsNarrow}
 use Rattle.textwrap_base.specs.Words.{WordText, tile_of, tiled}
 use Rattle.textwrap_base.specs.WrapAlgorithms.{Algorithm, Greedy}
 use Rattle.textwrap.specs.Filling.{IsFilled}
 use Rattle.textwrap.specs.InPlace.{IsFilledInPlace}
+use Rattle.textwrap.specs.Indentation.{is_blank_line, ended_parts, indented, indented_part}
+use Rattle.textwrap.specs.Indentation.{HasNoLineFeed, AreEndedParts, IsMarginOf, margin_of}
 use Rattle.textwrap.specs.LineEnding.{AreParagraphs, paragraphs_of}
 use Rattle.textwrap.specs.Options.{Settings, settings_at}
 use Rattle.textwrap.specs.Paragraph.{ArePieces, pieces_of, IsDividedInto, AreDividedParts}
@@ -110,3 +117,43 @@ abbrev pub SplitWordsTile : Type 0
 SplitWordsTile =
     (splitter : WordSplitter) (words : List WordText) → All (λ w. IsUtf8 w.word) words
     → tiled (split_words splitter words) ≡ tiled words
+
+-- a text has its ended parts in one way, the computed one
+abbrev pub EndedPartsAreUnique : Type 0
+EndedPartsAreUnique =
+    (text : List ℕ) (parts : List (List ℕ)) → AreEndedParts text parts ↔ (parts ≡ ended_parts text)
+
+-- with a prefix without line feeds, the parts of the indented text are the parts, each indented
+abbrev pub IndentsAreParts : Type 0
+IndentsAreParts =
+    (prefix text : List ℕ) → IsUtf8 prefix → HasNoLineFeed prefix
+    → ended_parts (indented prefix text) ≡ map (indented_part prefix) (ended_parts text)
+
+-- the prefix has no whitespace at its end, or no part is blank
+abbrev pub KeepsPrefix : List ℕ → List ℕ → Type 0
+KeepsPrefix prefix text =
+    (trim_end prefix ≡ prefix) ⊎ All (λ part. is_blank_line part ≡ false) (ended_parts text)
+
+-- then the whole prefix stands before each part
+abbrev pub WholeIndents : Type 0
+WholeIndents =
+    (prefix text : List ℕ) → KeepsPrefix prefix text
+    → indented prefix text ≡ flat_map (λ part. prefix ++ part) (ended_parts text)
+
+-- and taken off again it leaves the parts, and so the text
+abbrev pub IndentsComeOff : Type 0
+IndentsComeOff =
+    (prefix text : List ℕ) → HasNoLineFeed prefix → KeepsPrefix prefix text
+    → let parts : List (List ℕ) = ended_parts (indented prefix text) in
+    (map (drop (length prefix)) parts ≡ ended_parts text)
+    × (flat_map (drop (length prefix)) parts ≡ text)
+
+-- a text has one margin, the computed one
+abbrev pub MarginsAreUnique : Type 0
+MarginsAreUnique = (text margin : List ℕ) → IsMarginOf text margin ↔ (margin ≡ margin_of text)
+
+-- each line that is not blank begins with the margin
+abbrev pub LinesBeginWithMargin : Type 0
+LinesBeginWithMargin =
+    (text : List ℕ) → All (λ line. is_blank_line line ≡ false
+    → StartsWith (chars line) (margin_of text)) (lines text)

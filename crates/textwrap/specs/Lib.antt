@@ -1,6 +1,7 @@
 pub mod Filling
 pub mod Fuzzing
 pub mod InPlace
+pub mod Indentation
 pub mod Laws
 pub mod LineEnding
 pub mod Options

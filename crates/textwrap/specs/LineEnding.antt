@@ -5,9 +5,15 @@ use Rattle.std.specs.List.{onto_first, starts_with}
 use Rattle.textwrap.specs.declared.line_ending.LineEnding.{LineEnding}
 use Rattle.textwrap.specs.declared.line_ending.LineEnding.TheVariants.{CRLF, LF}
 
+abbrev pub carriage_return : ℕ
+carriage_return = 13
+
+abbrev pub line_feed : ℕ
+line_feed = 10
+
 abbrev pub ending_bytes : LineEnding → List ℕ
-ending_bytes CRLF = 13 ∷ 10 ∷ []
-ending_bytes LF = 10 ∷ []
+ending_bytes CRLF = carriage_return ∷ line_feed ∷ []
+ending_bytes LF = line_feed ∷ []
 
 -- the parts of a text round each place where the ending stands, after n bytes of an ending
 abbrev pub parts_past : List ℕ → ℕ → List ℕ → List (List ℕ)

@@ -5,6 +5,8 @@ ghost use Rattle.textwrap.specs.Laws.{ParagraphLinesAreUnique, TextLinesAreUniqu
 ghost use Rattle.textwrap.specs.Laws.{FilledTextIsUnique, TextLinesAreWrapped, PointsAreCuts};
 ghost use Rattle.textwrap.specs.Laws.{SplitPiecesTile, SplitWordsTile};
 ghost use Rattle.textwrap.specs.Laws.{FilledInPlaceIsUnique, FilledInPlaceIsWrapped};
+ghost use Rattle.textwrap.specs.Laws.{EndedPartsAreUnique, IndentsAreParts, WholeIndents};
+ghost use Rattle.textwrap.specs.Laws.{IndentsComeOff, MarginsAreUnique, LinesBeginWithMargin};
 
 pub use textwrap_base::laws::{
     broken_pieces_are_unique, broken_pieces_tile, chosen_division_is_unique,
@@ -55,4 +57,22 @@ pub fn split_pieces_tile()
 pub fn filled_in_place_is_wrapped()
     ensures unique { FilledInPlaceIsUnique }
     ensures wrapped { FilledInPlaceIsWrapped }
+{}
+
+/// A text is cut after each line feed in exactly one way. A prefix without line feeds leaves the
+/// cuts where they are: the parts of the indented text are those of the text, each indented. Where
+/// the prefix has no whitespace at its end, or no part is blank, the whole prefix stands before
+/// each part, and taken off again it leaves the text.
+pub fn indents_are_parts()
+    ensures cut { EndedPartsAreUnique }
+    ensures parts { IndentsAreParts }
+    ensures whole { WholeIndents }
+    ensures come_off { IndentsComeOff }
+{}
+
+/// A text has exactly one margin, the one that `margin_of` gives, and each line that is not blank
+/// begins with it.
+pub fn margins_are_unique()
+    ensures unique { MarginsAreUnique }
+    ensures begins { LinesBeginWithMargin }
 {}

@@ -4,6 +4,7 @@
 #![tactic(auto)]
 
 pub use filling::fill;
+pub use indentation::{dedent, indent};
 pub use inplace::fill_inplace;
 pub use line_ending::LineEnding;
 pub use options::Options;
@@ -15,6 +16,7 @@ pub use wrapping::wrap;
 
 mod filling;
 pub mod fuzzing;
+mod indentation;
 mod inplace;
 pub mod laws;
 mod line_ending;

@@ -1,6 +1,7 @@
 mod callers;
 mod filling;
 mod inplace;
+mod indentation;
 mod options;
 mod slow_path;
 mod words;

@@ -17,7 +17,8 @@ use Rattle.textwrap_base.proofs.Word.Tiling.{tiled-append}
 use Rattle.textwrap.specs.LineEnding.{ending_bytes, paragraphs_of}
 use Rattle.textwrap.specs.declared.line_ending.LineEnding.TheVariants.{LF}
 use Rattle.textwrap_base.specs.declared.words.Word.{Word}
-use Rattle.textwrap.specs.InPlace.{broken_lines, AreDividedAt, line_feed, breaks_of, breaks_from}
+use Rattle.textwrap.specs.InPlace.{broken_lines, AreDividedAt, breaks_of, breaks_from}
+use Rattle.textwrap.specs.LineEnding.{line_feed}
 use Rattle.textwrap.specs.InPlace.{ends_from, with_line_feeds, IsFilledInPlace}
 use Rattle.textwrap.proofs.Text.Endings.{join_with-cons, join-paragraphs_of, parts_past-some}
 use Rattle.textwrap.proofs.Text.Lines.{paragraphs_left, bytes_left}

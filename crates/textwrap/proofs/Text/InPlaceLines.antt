@@ -26,7 +26,8 @@ use Rattle.textwrap_base.proofs.Word.Words.{words_unique}
 use Rattle.textwrap.specs.declared.line_ending.LineEnding.TheVariants.{LF}
 use Rattle.textwrap.specs.declared.word_separators.WordSeparator.TheVariants.{AsciiSpace}
 use Rattle.textwrap.specs.declared.word_splitters.WordSplitter.TheVariants.{NoHyphenation}
-use Rattle.textwrap.specs.InPlace.{broken_lines, AreDividedAt, IsFilledInPlace, line_feed}
+use Rattle.textwrap.specs.InPlace.{broken_lines, AreDividedAt, IsFilledInPlace}
+use Rattle.textwrap.specs.LineEnding.{line_feed}
 use Rattle.textwrap.specs.Laws.{unbroken_at}
 use Rattle.textwrap.specs.LineEnding.{ending_bytes, paragraphs_of, join_with, Lacks}
 use Rattle.textwrap.specs.Paragraph.{Line, LineParts, Slice, line_from, covered, indent_of}

@@ -1,0 +1,23 @@
+use Rattle.std.proofs.Common.{◌≡◌, ◌-◌, length, take, sym, ap, ◌∙◌, subst}
+use Rattle.std.specs.Str.{IsCharBoundary, encode_utf8_all}
+use Rattle.std.proofs.lemmas.Str.{chars_from_encodes}
+use Rattle.textwrap.specs.Indentation.{leading_whitespace}
+use Rattle.textwrap.proofs.Text.Dedenting.{from_start, leading-cut, leading-len}
+use Rattle.textwrap.proofs.indentation.leading_whitespace.Goals as goal
+
+pub range-requires-clause-end_boundary : goal.range-requires-clause-end_boundary
+range-requires-clause-end_boundary c =
+    let line = c.args.line.now in
+    subst (IsCharBoundary line) (sym (ap (λ t. length line - length t) c.trim_start.ensures.trim
+    ∙ leading-len line c.utf8.line)) (leading-cut line c.utf8.line).boundary
+
+pub returns : goal.returns
+returns c =
+    let line = c.args.line.now in
+    let len : length line - length c.trim_start.result.now
+    ≡ length (encode_utf8_all (leading_whitespace line)) =
+    ap (λ t. length line - length t) c.trim_start.ensures.trim ∙ leading-len line c.utf8.line in
+    sym (chars_from_encodes (leading_whitespace line) c.range.result.now c.range.utf8
+    (sym (c.range.ensures.value ∙ from_start line (length line - length c.trim_start.result.now)
+    ∙ ap (λ n. take n line) len
+    ∙ (leading-cut line c.utf8.line).front)))

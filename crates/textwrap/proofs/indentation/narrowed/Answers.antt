@@ -1,0 +1,86 @@
+use Rattle.std.proofs.Common.{◌+◌, length, take, drop, sym, ap, ◌∙◌, subst, arith}
+use Rattle.std.proofs.Common.{take-append-drop}
+use Rattle.std.specs.Str.{IsCharBoundary, chars}
+use Rattle.std.proofs.lemmas.Iterator.{YieldsList-from_chars, YieldsList-from_zip}
+use Rattle.std.proofs.lemmas.Iterator.Consumers.{YieldsList-turn, YieldsList-end}
+use Rattle.std.proofs.lemmas.List.{length_push}
+use Rattle.std.proofs.lemmas.Str.{chars_from_encodes}
+use Rattle.textwrap.proofs.Text.Dedenting.{from_start, AreAt, zip_at, IsCut, cut_text}
+use Rattle.textwrap.proofs.Text.Dedenting.{narrowed-stop, narrowed-step, narrowed-done}
+use Rattle.textwrap.proofs.Text.Dedenting.{encoded-more, encoded-within}
+use Rattle.textwrap.proofs.indentation.narrowed.Goals as goal
+use Rattle.textwrap.proofs.indentation.narrowed.Goals.{In-Some}
+
+-- the characters of this turn
+turn : (c : In-Some) → AreAt (chars c.args.margin.now) (chars c.args.line.now)
+    (length c.loop-ours.yielded) c.in-Some.ours c.in-Some.theirs
+turn c =
+    let t = YieldsList-turn (YieldsList-from_zip {s = c.into_iter-ours-iterator.result}
+    (YieldsList-from_chars c.args.margin.now c.utf8.margin cc)
+    (YieldsList-from_chars c.args.line.now c.utf8.line cc)) c.loop-ours.yielded
+    _ c.loop-ours.yielded_by _ c.next.new.self (c.in-Some.ours, c.in-Some.theirs) c.in-Some.is
+    c.next.ensures.steps in
+    zip_at (chars c.args.margin.now) (chars c.args.line.now) (length c.loop-ours.yielded)
+    c.in-Some.ours c.in-Some.theirs t.0 t.1
+
+-- the margin before them
+cut : (c : In-Some) → IsCut c.args.margin.now
+    (take (length c.loop-ours.yielded) (chars c.args.margin.now))
+    (drop (length c.loop-ours.yielded) (chars c.args.margin.now))
+cut c =
+    let ms = chars c.args.margin.now in
+    let n = length c.loop-ours.yielded in
+    cut_text c.args.margin.now (take n ms) (drop n ms) c.utf8.margin (sym (take-append-drop n ms))
+
+pub range-requires-clause-end_boundary : goal.range-requires-clause-end_boundary
+range-requires-clause-end_boundary c =
+    subst (IsCharBoundary c.args.margin.now) (sym c.loop-ours.invariant.len)
+    (cut (goal.at.range-requires-clause-end_boundary c).In-Some).boundary
+
+pub returns-then-ours-theirs : goal.returns-then-ours-theirs
+returns-then-ours-theirs c =
+    let ms = chars c.args.margin.now in
+    let n = length c.loop-ours.yielded in
+    let at = (goal.at.returns-then-ours-theirs c).In-Some in
+    sym (chars_from_encodes (take n ms) c.range.result.now c.range.utf8
+    (sym (c.range.ensures.value ∙ from_start c.args.margin.now c.loop-ours.len
+    ∙ ap (λ k. take k c.args.margin.now) c.loop-ours.invariant.len
+    ∙ (cut at).front)))
+    ∙ narrowed-stop ms (chars c.args.line.now) n c.in-Some.ours c.in-Some.theirs (turn at)
+    c.if-ours-theirs.true c.loop-ours.invariant.same
+
+pub overflow_add-len : goal.overflow_add-len
+overflow_add-len c =
+    let ms = chars c.args.margin.now in
+    let n = length c.loop-ours.yielded in
+    let here = turn (goal.at.overflow_add-len c).In-Some in
+    omega (
+      arith,
+      encoded-more ms n c.in-Some.ours here.in_margin here.ours,
+      encoded-within c.args.margin.now (n + 1) c.utf8.margin,
+      c.len_utf8-len.ensures.len,
+    )
+
+pub loop-ours-preserved : goal.loop-ours-preserved
+loop-ours-preserved c =
+    let ms = chars c.args.margin.now in
+    let n = length c.loop-ours.yielded in
+    let here = turn (goal.at.loop-ours-preserved c).In-Some in
+    record {
+      len = rw length_push (omega (
+        arith,
+        encoded-more ms n c.in-Some.ours here.in_margin here.ours,
+        c.len_utf8-len.ensures.len,
+      ));
+      same = rw length_push (narrowed-step ms (chars c.args.line.now) n c.in-Some.ours
+          c.in-Some.theirs here c.if-ours-theirs.false c.loop-ours.invariant.same);
+    }
+
+pub returns : goal.returns
+returns c =
+    let t = YieldsList-end (YieldsList-from_zip {s = c.into_iter-ours-iterator.result}
+    (YieldsList-from_chars c.args.margin.now c.utf8.margin cc)
+    (YieldsList-from_chars c.args.line.now c.utf8.line cc)) c.loop-ours.yielded
+    _ c.loop-ours.yielded_by _ c.next.new.self c.in-None.is c.next.ensures.steps in
+    narrowed-done (chars c.args.margin.now) (chars c.args.line.now) (length c.loop-ours.yielded)
+    t.1 c.loop-ours.invariant.same

@@ -1,0 +1,22 @@
+use Rattle.std.proofs.Common.{◌≡◌, [], cond, false, length, drop, sym, ap, ◌∙◌}
+use Rattle.std.specs.Str.{chars, encode_utf8_all}
+use Rattle.textwrap.specs.Indentation.{is_blank_line}
+use Rattle.textwrap.proofs.Text.Dedenting.{after-margin}
+use Rattle.textwrap.proofs.indentation.without_margin.Goals as goal
+
+pub range_from-requires : goal.range_from-requires
+range_from-requires c =
+    let full : is_blank_line c.args.line.now ≡ false =
+    sym c.is_blank_line.ensures ∙ c.if-is_blank_line.false in
+    λ some. (after-margin c.args.line.now c.args.margin.now c.utf8.line c.utf8.margin
+    (c.requires full)).0
+
+pub returns : goal.returns
+returns c =
+    let full : is_blank_line c.args.line.now ≡ false =
+    sym c.is_blank_line.ensures ∙ c.if-is_blank_line.false in
+    let rest = drop (length (chars c.args.margin.now)) (chars c.args.line.now) in
+    c.range_from.ensures.value
+    ∙ (after-margin c.args.line.now c.args.margin.now c.utf8.line c.utf8.margin
+    (c.requires full)).1
+    ∙ sym (ap (λ b. cond b [] (encode_utf8_all rest)) full)

@@ -1,0 +1,12 @@
+use Rattle.textwrap.proofs.Text.Indentation.{ended_parts_one, ended_parts-indented}
+use Rattle.textwrap.proofs.Text.Indentation.{indented-whole, indents-removed, text-removed}
+use Rattle.textwrap.proofs.laws.indents_are_parts.Goals as goal
+
+pub returns : goal.returns
+returns c = record {
+  cut = ended_parts_one;
+  parts = ended_parts-indented;
+  whole = indented-whole;
+  come_off = λ prefix text free whole.
+      (indents-removed prefix text free whole, text-removed prefix text free whole);
+}

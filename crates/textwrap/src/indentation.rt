@@ -1,0 +1,115 @@
+//! Indenting and dedenting a text.
+ghost use Rattle.std.specs.Prelude.{◌≡◌, false, chars, string_bytes, IfOk};
+ghost use Rattle.std.specs.Io.{StartsWith};
+ghost use Rattle.textwrap.specs.Indentation.{is_blank_line, indented, leading_whitespace, narrowed};
+ghost use Rattle.textwrap.specs.Indentation.{margin_of, without_margin, dedented};
+
+use std::alloc::{AllocError, Global};
+
+/// Puts a prefix before each line of a text.
+///
+/// With `"> "`, `"a\r\n\r\n"` becomes `"> a\r\n>\r\n"`. Each line feed ends a line; after the last
+/// one there is a line only where more text follows. A line that is empty, or whitespace alone
+/// (Unicode's `White_Space`), gets the prefix without its trailing whitespace. All else stays as it
+/// is, the line endings too.
+///
+/// # Errors
+/// [`AllocError`] where memory runs out.
+pub fn indent(alloc: Global, s: &str, prefix: &str) -> Result<String, AllocError>
+    ensures indented { IfOk result (λ text. string_bytes text ≡ indented prefix.now s.now) }
+{
+    let bare_prefix = prefix.trim_end();
+    let mut text = String::new(alloc);
+    for part in s.split_inclusive('\n') {
+        let indent = if is_blank_line(part) {
+            bare_prefix
+        } else {
+            prefix
+        };
+        text.push_str(indent)?;
+        text.push_str(part)?;
+    }
+    Ok(text)
+}
+
+/// Removes the whitespace that all lines of a text begin with, its margin.
+///
+/// `"    foo\n  bar\n   \n    baz"` becomes `"  foo\nbar\n\n  baz"`. The margin is the whitespace
+/// at the start of the first line that is not whitespace alone, up to the place where some later
+/// line goes on otherwise: a tab and a space differ. A later line of whitespace alone shortens the
+/// margin too, but not by being short. Lines of whitespace alone become empty, and before a line
+/// feed one carriage return is dropped. A text that ends in a line feed still does.
+///
+/// # Errors
+/// [`AllocError`] where memory runs out.
+pub fn dedent(alloc: Global, s: &str) -> Result<String, AllocError>
+    ensures dedented { IfOk result (λ text. string_bytes text ≡ dedented s.now) }
+{
+    let margin = margin_of(s);
+    let mut text = String::new(alloc);
+    for (i, line) in s.lines().enumerate() {
+        if i > 0 {
+            text.push('\n')?;
+        }
+        text.push_str(without_margin(line, margin))?;
+    }
+    if s.ends_with('\n') {
+        text.push('\n')?;
+    }
+    Ok(text)
+}
+
+/// Whether a text is whitespace alone, or empty.
+fn is_blank_line(text: &str) -> bool
+    ensures { result ≡ is_blank_line text.now }
+{
+    text.trim_start().is_empty()
+}
+
+/// The margin of a text: the leading whitespace of its first line that is not blank, up to the
+/// place where some later line goes on otherwise.
+fn margin_of(s: &str) -> &str
+    ensures { chars result.now ≡ margin_of s.now }
+{
+    let mut margin = None;
+    for line in s.lines() {
+        margin = match margin {
+            Some(margin) => Some(narrowed(margin, line)),
+            None if is_blank_line(line) => None,
+            None => Some(leading_whitespace(line)),
+        };
+    }
+    margin.unwrap_or("")
+}
+
+/// The whitespace that a line begins with.
+fn leading_whitespace(line: &str) -> &str
+    ensures { chars result.now ≡ leading_whitespace line.now }
+{
+    &line[..line.len() - line.trim_start().len()]
+}
+
+/// The margin up to the place where the line goes on otherwise.
+fn narrowed<'t>(margin: &'t str, line: &str) -> &'t str
+    ensures { chars result.now ≡ narrowed (chars margin.now) (chars line.now) }
+{
+    let mut len = 0;
+    for (ours, theirs) in margin.chars().zip(line.chars()) {
+        if ours != theirs {
+            return &margin[..len];
+        }
+        len += ours.len_utf8();
+    }
+    margin
+}
+
+/// A line without the margin, and nothing of a blank line.
+fn without_margin<'t>(line: &'t str, margin: &str) -> &'t str
+    requires { is_blank_line line.now ≡ false → StartsWith (chars line.now) (chars margin.now) }
+    ensures { result.now ≡ without_margin (chars margin.now) line.now }
+{
+    if is_blank_line(line) {
+        return "";
+    }
+    &line[margin.len()..]
+}

@@ -25,9 +25,10 @@ use std::mem;
 /// broken, are divided by first fit, and the last blank before each later line becomes a line feed.
 /// All other bytes stay, so the length stays too.
 ///
-/// The new lines, without the blanks at their ends, are those of `wrap` by first fit with words kept
-/// whole, if no character takes more columns than its bytes (`laws::filled_in_place_is_wrapped`).
-/// With the tables of the crate `unicode_width` this holds of every text: all characters were tried.
+/// The new lines, without the blanks at their ends, are those of `wrap` by first fit with words
+/// kept whole, if no character takes more columns than its bytes
+/// (`laws::filled_in_place_is_wrapped`). With the tables of the crate `unicode_width` this holds of
+/// every text: all characters were tried.
 ///
 /// # Errors
 /// [`AllocError`] where memory runs out. Then the text is as it was.

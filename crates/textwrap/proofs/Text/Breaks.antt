@@ -326,10 +326,6 @@ pub record HasBreaks (width : ℕ) (text breaks : List ℕ) (start : ℕ) (left 
       → (all : List (List (List WordText))) × AreDividedAt width (paragraphs_of LF text) all
       × (breaks ++ breaks_from start divisions ≡ breaks_from 0 all)
 
-pub HasBreaks-start : (width : ℕ) (text : List ℕ)
-    → HasBreaks width text [] 0 (paragraphs_of LF text)
-HasBreaks-start width text = record { more = λ divisions divided. (divisions, divided, refl) }
-
 pub HasBreaks-more : (width : ℕ) (text breaks more : List ℕ) (start : ℕ) (part : List ℕ)
     (left after : List (List ℕ)) (lines : List (List WordText))
     → HasBreaks width text breaks start left → left ≡ part ∷ after

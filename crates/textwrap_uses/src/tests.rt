@@ -1,7 +1,7 @@
 mod callers;
 mod filling;
-mod inplace;
 mod indentation;
+mod inplace;
 mod options;
 mod slow_path;
 mod words;

@@ -1,6 +1,6 @@
 -- What the laws say.
 use Rattle.std.specs.Prelude.{◌≡◌, ◌↔◌, ◌⊎◌, ℕ, Bool, false, List, ◌++◌, All, IsUtf8, length}
-use Rattle.std.specs.Prelude.{drop, map}
+use Rattle.std.specs.Prelude.{drop, map, ◌≢◌, []}
 use Rattle.std.specs.Io.{StartsWith}
 use Rattle.std.specs.List.{flat_map}
 use Rattle.std.specs.Str.{chars, trim_end}
@@ -13,10 +13,11 @@ use Rattle.textwrap.specs.Filling.{IsFilled}
 use Rattle.textwrap.specs.InPlace.{IsFilledInPlace}
 use Rattle.textwrap.specs.Indentation.{is_blank_line, ended_parts, indented, indented_part}
 use Rattle.textwrap.specs.Indentation.{HasNoLineFeed, AreEndedParts, IsMarginOf, margin_of}
-use Rattle.textwrap.specs.LineEnding.{AreParagraphs, paragraphs_of}
+use Rattle.textwrap.specs.LineEnding.{AreParagraphs, line_feed, paragraphs_of}
 use Rattle.textwrap.specs.Options.{Settings, settings_at}
 use Rattle.textwrap.specs.Paragraph.{ArePieces, pieces_of, IsDividedInto, AreDividedParts}
 use Rattle.textwrap.specs.Paragraph.{AreParagraphParts, Line, Slice}
+use Rattle.textwrap.specs.Refilling.{IsCommonPrefix, common_prefix, IsRefilled, IsPlain, blanked}
 use Rattle.textwrap.specs.Text.{AreTextLines, IsWrapped}
 use Rattle.textwrap.specs.WordSeparators.{AreSeparated}
 use Rattle.textwrap.specs.WordSplitters.{AreCuts, ArePoints, points_of, split_pieces, split_words}
@@ -157,3 +158,48 @@ abbrev pub LinesBeginWithMargin : Type 0
 LinesBeginWithMargin =
     (text : List ℕ) → All (λ line. is_blank_line line ≡ false
     → StartsWith (chars line) (margin_of text)) (lines text)
+
+-- texts have one common prefix, the computed one
+abbrev pub CommonPrefixesAreUnique : Type 0
+CommonPrefixesAreUnique =
+    (texts : List (List ℕ)) (prefix : List ℕ)
+    → IsCommonPrefix texts prefix ↔ (prefix ≡ common_prefix texts)
+
+-- no line is indented
+pub record IsUnindented (settings : Settings) : Type 0 where
+  pub initial : settings.initial_indent ≡ []
+  pub subsequent : settings.subsequent_indent ≡ []
+
+-- a plain text that is refilled without indents is filled, a blank in the place of each line feed
+abbrev pub RefilledIsFilled : Type 0
+RefilledIsFilled =
+    (settings : Settings) (separator : WordSeparator) (splitter : WordSplitter)
+    (algorithm : Algorithm) (text refilled : List ℕ) → IsUnindented settings → IsPlain text
+    → IsRefilled settings (AreSeparated separator) (ArePoints splitter) algorithm text refilled
+    ↔ IsFilled settings (IsDividedInto settings (AreSeparated separator) (ArePoints splitter)
+    algorithm) (blanked text) refilled
+
+-- the text filled at a width by an algorithm, its words neither split nor broken
+abbrev pub IsFilledUnbroken : ℕ → Algorithm → List ℕ → List ℕ → Type 0
+IsFilledUnbroken width algorithm =
+    IsFilled (unbroken_at width) (IsDividedInto (unbroken_at width) (AreSeparated AsciiSpace)
+    (ArePoints NoHyphenation) algorithm)
+
+-- a plain text without line feeds, so filled, is plain, and is the text but for blanks that became
+-- line feeds
+abbrev pub FilledIsPlain : Type 0
+FilledIsPlain =
+    (width : ℕ) (algorithm : Algorithm) (text filled : List ℕ) → IsPlain text
+    → All (λ c. c ≢ line_feed) text → IsFilledUnbroken width algorithm text filled
+    → IsPlain filled × (blanked filled ≡ text)
+
+-- so what is refilled after that, without indents, is what filling the text gives at once, whatever
+-- the second settings, separator, splitter and algorithm
+abbrev pub FilledTwiceIsFilledOnce : Type 0
+FilledTwiceIsFilledOnce =
+    (width : ℕ) (first second : Algorithm) (settings : Settings) (separator : WordSeparator)
+    (splitter : WordSplitter) (text filled refilled : List ℕ) → IsUnindented settings
+    → IsPlain text → All (λ c. c ≢ line_feed) text → IsFilledUnbroken width first text filled
+    → IsRefilled settings (AreSeparated separator) (ArePoints splitter) second filled refilled
+    ↔ IsFilled settings (IsDividedInto settings (AreSeparated separator) (ArePoints splitter)
+    second) text refilled

@@ -6,6 +6,7 @@ pub mod Laws
 pub mod LineEnding
 pub mod Options
 pub mod Paragraph
+pub mod Refilling
 pub mod Text
 pub mod WordSeparators
 pub mod WordSplitters

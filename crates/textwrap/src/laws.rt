@@ -3,10 +3,11 @@
 ghost use Rattle.textwrap.specs.Laws.{ParagraphsAreUnique, PiecesAreUnique, DividedLinesAreUnique};
 ghost use Rattle.textwrap.specs.Laws.{ParagraphLinesAreUnique, TextLinesAreUnique};
 ghost use Rattle.textwrap.specs.Laws.{FilledTextIsUnique, TextLinesAreWrapped, PointsAreCuts};
-ghost use Rattle.textwrap.specs.Laws.{SplitPiecesTile, SplitWordsTile};
 ghost use Rattle.textwrap.specs.Laws.{FilledInPlaceIsUnique, FilledInPlaceIsWrapped};
 ghost use Rattle.textwrap.specs.Laws.{EndedPartsAreUnique, IndentsAreParts, WholeIndents};
 ghost use Rattle.textwrap.specs.Laws.{IndentsComeOff, MarginsAreUnique, LinesBeginWithMargin};
+ghost use Rattle.textwrap.specs.Laws.{SplitPiecesTile, SplitWordsTile, CommonPrefixesAreUnique};
+ghost use Rattle.textwrap.specs.Laws.{RefilledIsFilled, FilledIsPlain, FilledTwiceIsFilledOnce};
 
 pub use textwrap_base::laws::{
     broken_pieces_are_unique, broken_pieces_tile, chosen_division_is_unique,
@@ -75,4 +76,22 @@ pub fn indents_are_parts()
 pub fn margins_are_unique()
     ensures unique { MarginsAreUnique }
     ensures begins { LinesBeginWithMargin }
+{}
+
+/// Texts have exactly one common prefix: each begins with it, and with none that is longer. It is
+/// what `common_prefix` gives.
+pub fn common_prefixes_are_unique()
+    ensures { CommonPrefixesAreUnique }
+{}
+
+/// A plain text is words with one blank or one line feed between each two, and no word of it begins
+/// with a prefix character. Without indents, `refill` gives of it what `fill` gives of the text
+/// with a blank in the place of each line feed. If it has no line feeds and is filled with words
+/// neither split nor broken, the filled text is plain too, and only blanks became line feeds. So
+/// `refill` after such a `fill` gives what a single `fill` gives with the options of the second
+/// call.
+pub fn refilling_is_filling()
+    ensures refilled { RefilledIsFilled }
+    ensures plain { FilledIsPlain }
+    ensures twice { FilledTwiceIsFilledOnce }
 {}

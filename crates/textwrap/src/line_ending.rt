@@ -1,6 +1,10 @@
 //! What ends a line.
 ghost use Rattle.std.specs.Prelude.{◌≡◌};
 
+pub(crate) use lines::NonEmptyLines;
+
+mod lines;
+
 /// A line ending.
 #[derive(Clone, Copy, Debug, PartialEq, Eq)]
 pub enum LineEnding {

@@ -3,6 +3,7 @@ mod filling;
 mod indentation;
 mod inplace;
 mod options;
+mod refilling;
 mod slow_path;
 mod words;
 mod wrapping;

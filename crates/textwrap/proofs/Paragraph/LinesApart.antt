@@ -60,7 +60,7 @@ some-flat : (chunk : List ℕ) (chunks : List (List ℕ)) → chunk ≢ []
 some-flat [] chunks some = absurd (some refl)
 some-flat (c ∷ chunk) chunks some = omega arith
 
-last-append : (text more : List ℕ) → 0 < length more → last (text ++ more) ≡ last more
+pub last-append : (text more : List ℕ) → 0 < length more → last (text ++ more) ≡ last more
 last-append text more some =
     let len = length-append text more in
     let place : length (text ++ more) - 1 - length text ≡ length more - 1 = omega (arith, len) in
@@ -177,7 +177,7 @@ pub record IsBroken (part : List ℕ) (lines : List (List WordText)) : Type 0 wh
   pub some : 0 < length lines
   pub apart : AreLinesApart lines
 
-apart_from : (words : List WordText) (lines : List (List WordText)) → IsDivision words lines
+pub apart_from : (words : List WordText) (lines : List (List WordText)) → IsDivision words lines
     → AreWordsOf (tiled words) words → AreLinesApart lines
 apart_from [] lines division are = subst AreLinesApart (sym division) are
 apart_from (w ∷ words) lines division are = lines_apart lines division.1

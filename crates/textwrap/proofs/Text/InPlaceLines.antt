@@ -151,7 +151,7 @@ words-no_penalty line (chunks, are, is) =
 -- ---- the lines of a part
 
 -- a line of the new text as a line of the wrapped one
-abbrev trimmed_line : List ℕ → Line
+abbrev pub trimmed_line : List ℕ → Line
 trimmed_line line = Slice (without_final_blanks line)
 
 unindented : (width : ℕ) (is_later : Bool) → indent_of (unbroken_at width) is_later ≡ []
@@ -166,7 +166,7 @@ line_from-words width is_later line words =
     (words-no_penalty line words)
     ∙ ap Slice (covered-words line words)
 
-lines_from-broken : (width : ℕ) (is_later : Bool) (lines : List (List WordText))
+pub lines_from-broken : (width : ℕ) (is_later : Bool) (lines : List (List WordText))
     → AreLinesApart lines
     → map line_from (parts_from (unbroken_at width) is_later lines)
     ≡ map trimmed_line (broken_lines lines)
@@ -237,10 +237,10 @@ split_words-none : (parts : List (List ℕ))
 split_words-none [] = refl
 split_words-none (part ∷ parts) = ap (λ ws. word_of part ∷ ws) (split_words-none parts)
 
-abbrev pieces_in : ℕ → List ℕ → List WordText
+abbrev pub pieces_in : ℕ → List ℕ → List WordText
 pieces_in width part = pieces_of (unbroken_at width) AsciiSpace NoHyphenation part
 
-pieces_of-unbroken : (width : ℕ) (part : List ℕ) → pieces_in width part ≡ words_of part
+pub pieces_of-unbroken : (width : ℕ) (part : List ℕ) → pieces_in width part ≡ words_of part
 pieces_of-unbroken width part = split_words-none (chunks part)
 
 -- ---- the lines of a part are those of a paragraph

@@ -1,0 +1,154 @@
+-- Lemmas on what unfilling gives: lines begin with their indents, are joined, and show their ending.
+use Rattle.std.proofs.Common.{◌≡◌, ℕ, Bool, true, false, cond, List, [], ◌∷◌, ◌++◌, length}
+use Rattle.std.proofs.Common.{drop, map, filter, All, refl, sym, ap, ◌∙◌, subst, arith, get_or}
+use Rattle.std.proofs.Common.{append_assoc, append-nil}
+use Rattle.std.specs.Prelude.{Option, Some, None, ◌==◌, ◌&&◌, nat_eq, is_some, unwrap_or}
+use Rattle.std.specs.Io.{StartsWith}
+use Rattle.std.specs.List.{flat_map, slice_split, ends_with}
+use Rattle.std.specs.Str.Lines.{lines, lines_of_parts, strip_carriage_return}
+use Rattle.std.proofs.lemmas.Bool.Decides.{nat_tests}
+use Rattle.std.proofs.lemmas.List.{nil_from_length}
+use Rattle.std.proofs.lemmas.List.Elements.{All-nil, All-cons, All-head, All-tail, All-filter}
+use Rattle.textwrap_base.specs.Blanks.{blank}
+use Rattle.textwrap.specs.declared.line_ending.LineEnding.{LineEnding}
+use Rattle.textwrap.specs.declared.line_ending.LineEnding.TheVariants.{CRLF, LF}
+use Rattle.textwrap.specs.LineEnding.{ending_bytes, join_with}
+use Rattle.textwrap.specs.Refilling.{EndedLine, ended_lines_of, ended_lines, has_text}
+use Rattle.textwrap.specs.Refilling.{nonempty_lines, line_prefix, common_prefix, unfilled_initial}
+use Rattle.textwrap.specs.Refilling.{unfilled_subsequent, joined_text, without_indents}
+use Rattle.textwrap.specs.Refilling.{detected_among, detected_ending, keeps_ending}
+use Rattle.textwrap.proofs.Text.Prefixes.{common_prefix-begins, StartsWith-trans}
+use Rattle.textwrap.proofs.Text.Prefixes.{line_prefix-begins}
+
+-- ---- the lines with their endings are std's lines
+
+abbrev texts_of : List EndedLine → List (List ℕ)
+texts_of es = map (λ e. e.line) es
+
+texts_of-last : (part : List ℕ) (b : Bool)
+    → texts_of (cond b [] (record { line = part; ending = None } ∷ [])) ≡ cond b [] (part ∷ [])
+texts_of-last part true = refl
+texts_of-last part false = refl
+
+texts_of-parts : (parts : List (List ℕ)) → texts_of (ended_lines_of parts) ≡ lines_of_parts parts
+texts_of-parts [] = refl
+texts_of-parts (part ∷ []) = texts_of-last part (length part == 0)
+texts_of-parts (part ∷ next ∷ parts) =
+    ap (λ ls. strip_carriage_return part ∷ ls) (texts_of-parts (next ∷ parts))
+
+pub texts_of-ended_lines : (text : List ℕ) → texts_of (ended_lines text) ≡ lines text
+texts_of-ended_lines text = texts_of-parts (slice_split (λ b. b == 10) text)
+
+-- ---- the lines that are not empty begin with their indents
+
+begins-each : (indent : List ℕ) (es : List EndedLine)
+    → All (λ t. StartsWith t indent) (map line_prefix (texts_of es))
+    → All (λ e. StartsWith e.line indent) es
+begins-each indent [] all = All-nil (λ e. StartsWith e.line indent)
+begins-each indent (e ∷ es) all =
+    All-cons (λ l. StartsWith l.line indent) e es
+    (StartsWith-trans e.line (line_prefix e.line) indent (line_prefix-begins e.line)
+    (All-head (λ t. StartsWith t indent) (line_prefix e.line) (map line_prefix (texts_of es)) all))
+    (begins-each indent es
+    (All-tail (λ t. StartsWith t indent) (line_prefix e.line) (map line_prefix (texts_of es)) all))
+
+-- the first line begins with the first indent, all others with the second
+abbrev BeginWith : List ℕ → List ℕ → List EndedLine → Type 0
+BeginWith initial subsequent es = (e : EndedLine) (rest : List EndedLine) → es ≡ e ∷ rest
+    → StartsWith e.line initial × All (λ l. StartsWith l.line subsequent) rest
+
+begin-cut : (first : EndedLine) (es : List EndedLine) (b : Bool) → has_text first ≡ b
+    → BeginWith (line_prefix first.line) (common_prefix (map line_prefix (texts_of es)))
+    (cond b (first ∷ filter has_text es) (filter has_text es))
+begin-cut first es true some e rest is =
+    let subsequent = common_prefix (map line_prefix (texts_of es)) in
+    let each = All-filter has_text (λ l. StartsWith l.line subsequent) es
+    (begins-each subsequent es (common_prefix-begins (map line_prefix (texts_of es)))) in
+    let same : first ≡ e = cc in
+    let others : filter has_text es ≡ rest = cc in (
+      subst (λ l. StartsWith l.line (line_prefix first.line)) same
+          (line_prefix-begins first.line),
+      subst (All (λ l. StartsWith l.line subsequent)) others each,
+    )
+begin-cut first es false none e rest is =
+    let subsequent = common_prefix (map line_prefix (texts_of es)) in
+    let each = All-filter has_text (λ l. StartsWith l.line subsequent) es
+    (begins-each subsequent es (common_prefix-begins (map line_prefix (texts_of es)))) in
+    let empty : length first.line ≡ 0 = grind (arith, nat_tests) in (
+      subst (λ line. StartsWith e.line (line_prefix line)) (sym (nil_from_length first.line empty))
+          refl,
+      All-tail (λ l. StartsWith l.line subsequent) e rest
+          (subst (All (λ l. StartsWith l.line subsequent)) is each),
+    )
+
+begin-lines : (es : List EndedLine)
+    → BeginWith (line_prefix (get_or (texts_of es) 0 []))
+    (common_prefix (map line_prefix (drop 1 (texts_of es)))) (filter has_text es)
+begin-lines [] = λ e rest is. cc
+begin-lines (first ∷ es) = begin-cut first es (has_text first) refl
+
+pub lines-begin : (text : List ℕ) (e : EndedLine) (rest : List EndedLine)
+    → nonempty_lines text ≡ e ∷ rest
+    → StartsWith e.line (unfilled_initial text)
+    × All (λ l. StartsWith l.line (unfilled_subsequent text)) rest
+lines-begin text =
+    subst (λ ls. BeginWith (line_prefix (get_or ls 0 []))
+    (common_prefix (map line_prefix (drop 1 ls))) (nonempty_lines text))
+    (texts_of-ended_lines text) (begin-lines (ended_lines text))
+
+-- ---- joined lines
+
+-- what the later lines add, each after a blank and less so many bytes
+abbrev pub added_lines : ℕ → List EndedLine → List ℕ
+added_lines n es = flat_map (λ e. blank ∷ drop n e.line) es
+
+join-added : (first : List ℕ) (n : ℕ) (es : List EndedLine)
+    → join_with (blank ∷ []) (first ∷ map (drop n) (texts_of es)) ≡ first ++ added_lines n es
+join-added first n [] = sym (append-nil first)
+join-added first n (e ∷ es) =
+    ap (λ l. (first ++ blank ∷ []) ++ l) (join-added (drop n e.line) n es)
+    ∙ append_assoc first (blank ∷ []) (drop n e.line ++ added_lines n es)
+
+pub joined_text-none : (text : List ℕ) → nonempty_lines text ≡ [] → joined_text text ≡ []
+joined_text-none text none =
+    ap (λ es. join_with (blank ∷ []) (without_indents (unfilled_initial text)
+    (unfilled_subsequent text) (texts_of es))) none
+
+pub joined_text-some : (text initial subsequent : List ℕ) (e : EndedLine) (rest : List EndedLine)
+    → initial ≡ unfilled_initial text → subsequent ≡ unfilled_subsequent text
+    → nonempty_lines text ≡ e ∷ rest
+    → drop (length initial) e.line ++ added_lines (length subsequent) rest ≡ joined_text text
+joined_text-some text initial subsequent e rest first later some =
+    ap (λ l. drop (length l) e.line ++ added_lines (length subsequent) rest) first
+    ∙ ap (λ l. drop (length (unfilled_initial text)) e.line ++ added_lines (length l) rest) later
+    ∙ sym (ap (λ es. join_with (blank ∷ []) (without_indents (unfilled_initial text)
+    (unfilled_subsequent text) (texts_of es))) some
+    ∙ join-added (drop (length (unfilled_initial text)) e.line)
+    (length (unfilled_subsequent text)) rest)
+
+-- ---- the detected ending
+
+-- two endings count as the one that is detected among them
+pub detected_among-two : (first second : Option LineEnding) (others : List (Option LineEnding))
+    → detected_among (detected_among (first ∷ second ∷ []) ∷ others)
+    ≡ detected_among (first ∷ second ∷ others)
+detected_among-two None None others = refl
+detected_among-two None (Some CRLF) others = refl
+detected_among-two None (Some LF) others = refl
+detected_among-two (Some CRLF) None others = refl
+detected_among-two (Some CRLF) (Some CRLF) others = refl
+detected_among-two (Some CRLF) (Some LF) others = refl
+detected_among-two (Some LF) None others = refl
+detected_among-two (Some LF) (Some CRLF) others = refl
+detected_among-two (Some LF) (Some LF) others = refl
+
+pub detected_among-one : (ending : Option LineEnding) → detected_among (ending ∷ []) ≡ ending
+detected_among-one None = refl
+detected_among-one (Some CRLF) = refl
+detected_among-one (Some LF) = refl
+
+pub keeps_ending-some : (text : List ℕ) (ending : LineEnding)
+    → detected_ending text ≡ Some ending
+    → keeps_ending text ≡ ends_with nat_eq text (ending_bytes ending)
+keeps_ending-some text ending is =
+    ap (λ d. is_some d && ends_with nat_eq text (ending_bytes (unwrap_or d LF))) is

@@ -1,0 +1,20 @@
+use Rattle.std.proofs.Common.{◌≡◌, ◌++◌, length, drop, map, max, IfSome}
+use Rattle.std.specs.List.{fold}
+use Rattle.std.specs.Str.{IsAscii}
+use Rattle.textwrap_base.specs.Units.{text_width}
+use Rattle.textwrap.specs.Refilling.{line_prefix, common_prefix, unfilled_width}
+use Rattle.textwrap.specs.Refilling.{unfilled_subsequent}
+use Rattle.textwrap.proofs.Text.Layout.{later_lines, texts_in}
+use Rattle.textwrap.proofs.refilling.find_layout.Given as goal
+
+-- the widest line so far, and the lines to come, make the width; what the later lines have had in
+-- common so far, and the prefixes to come, make the subsequent indent
+abbrev pub invariant-loop-line : goal.invariant-loop-line
+invariant-loop-line l = record {
+  width : fold max l.width (map text_width (drop (length l.yielded) (later_lines l.text)))
+      ≡ unfilled_width l.text;
+  common : common_prefix (texts_in l.common
+      ++ map line_prefix (drop (length l.yielded) (later_lines l.text)))
+      ≡ unfilled_subsequent l.text;
+  ascii : IfSome l.common (λ common. IsAscii common.now);
+}

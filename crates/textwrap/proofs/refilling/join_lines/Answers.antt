@@ -1,0 +1,14 @@
+use Rattle.std.proofs.Common.{nat_eq, sym, ap, ◌∙◌}
+use Rattle.std.specs.List.{ends_with}
+use Rattle.std.proofs.lemmas.Str.Pattern.{ends_text}
+use Rattle.textwrap.proofs.Text.Unfilling.{keeps_ending-some}
+use Rattle.textwrap.proofs.refilling.join_lines.Goals as goal
+
+pub returns-clause-keeps : goal.returns-clause-keeps
+returns-clause-keeps c =
+    let text = c.args.text.now in
+    ends_text c.ends_with-keeps_ending.result c.as_str.result.now text
+    c.ends_with-keeps_ending.ensures.cases
+    ∙ ap (ends_with nat_eq text) c.as_str.ensures
+    ∙ sym (keeps_ending-some text c.in-Some.ending
+    (sym c.in_ok-joined.ensures.detected ∙ c.in-Some.is))

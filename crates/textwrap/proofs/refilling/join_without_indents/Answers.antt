@@ -1,0 +1,76 @@
+use Rattle.std.proofs.Common.{◌≡◌, [], ◌∷◌, ◌++◌, length, drop, map, All, subst, sym, ap, ◌∙◌}
+use Rattle.std.proofs.Common.{append_assoc}
+use Rattle.std.specs.Io.{StartsWith}
+use Rattle.std.specs.String.{string_bytes}
+use Rattle.std.proofs.lemmas.List.Elements.{All-head, All-tail}
+use Rattle.textwrap_base.specs.Blanks.{blank}
+use Rattle.textwrap.specs.Refilling.{ended_line_view, detected_among}
+use Rattle.textwrap.proofs.Text.Unfilling.{lines-begin, added_lines, joined_text-some}
+use Rattle.textwrap.proofs.Text.Unfilling.{detected_among-two}
+use Rattle.textwrap.proofs.refilling.join_without_indents.Goals as goal
+
+pub without_indent-requires : goal.without_indent-requires
+without_indent-requires c =
+    subst (StartsWith c.in-Some.first.now) (sym c.requires.initial)
+    (lines-begin c.args.text.now (ended_line_view (c.in-Some.first, c.in-Some.ending))
+    c.next.new.self c.in-Some.ensures.steps).0
+
+pub loop-line-init : goal.loop-line-init
+loop-line-init c =
+    let text = c.args.text.now in
+    let first = ended_line_view (c.in-Some.first, c.in-Some.ending) in
+    let steps = c.in-Some.ensures.steps in
+    let left = c.into_iter-line-iterator.ensures.into_iter_gives in
+    let piece = c.without_indent.result.now in
+    let pushed : string_bytes c.push_str.new.self ≡ drop (length c.args.initial_indent.now)
+    c.in-Some.first.now = c.in_ok-push_str.ensures.bytes
+    ∙ ap (λ l. l ++ piece) c.new-joined.ensures.bytes ∙ c.without_indent.ensures in
+    record {
+      joined = ap (λ l. l ++ added_lines (length c.args.subsequent_indent.now)
+          c.into_iter-line-iterator.result) pushed
+          ∙ ap (λ es. drop (length c.args.initial_indent.now) c.in-Some.first.now
+          ++ added_lines (length c.args.subsequent_indent.now) es) left
+          ∙ joined_text-some text c.args.initial_indent.now c.args.subsequent_indent.now first
+          c.next.new.self c.requires.initial c.requires.subsequent steps;
+      begins = subst (All (λ e. StartsWith e.line c.args.subsequent_indent.now)) (sym left)
+          (subst (λ l. All (λ e. StartsWith e.line l) c.next.new.self)
+          (sym c.requires.subsequent) (lines-begin text first c.next.new.self steps).1);
+      detected = ap (λ es. detected_among (c.in-Some.ending ∷ map (λ e. e.ending) es)) left
+          ∙ ap (λ es. detected_among (map (λ e. e.ending) es)) (sym steps);
+    }
+
+pub without_indent-requires-in-loop-line : goal.without_indent-requires-in-loop-line
+without_indent-requires-in-loop-line c =
+    let line = ended_line_view (c.in-Some-2.line, c.in-Some-2.ending) in
+    All-head (λ e. StartsWith e.line c.args.subsequent_indent.now) line
+    c.next-in-loop-line.new.self
+    (subst (All (λ e. StartsWith e.line c.args.subsequent_indent.now)) c.in-Some-2.ensures.steps
+    c.loop-line.invariant.begins)
+
+pub loop-line-preserved : goal.loop-line-preserved
+loop-line-preserved c =
+    let line = ended_line_view (c.in-Some-2.line, c.in-Some-2.ending) in
+    let left = c.next-in-loop-line.new.self in
+    let steps = c.in-Some-2.ensures.steps in
+    let before = string_bytes c.loop-line.joined in
+    let n = length c.args.subsequent_indent.now in
+    let piece = drop n c.in-Some-2.line.now in
+    let pushed : string_bytes c.push_str-in-loop-line-2.new.self ≡ before ++ blank ∷ piece =
+    c.in_ok-push_str-3.ensures.bytes
+    ∙ ap (λ l. l ++ c.without_indent-in-loop-line.result.now) c.in_ok-push_str-2.ensures.bytes
+    ∙ ap (λ l. (before ++ blank ∷ []) ++ l) c.without_indent-in-loop-line.ensures
+    ∙ append_assoc before (blank ∷ []) piece in
+    record {
+      joined = ap (λ l. l ++ added_lines n left) pushed
+          ∙ append_assoc before (blank ∷ piece) (added_lines n left)
+          ∙ ap (λ es. before ++ added_lines n es) (sym steps) ∙ c.loop-line.invariant.joined;
+      begins = All-tail (λ e. StartsWith e.line c.args.subsequent_indent.now) line left
+          (subst (All (λ e. StartsWith e.line c.args.subsequent_indent.now)) steps
+          c.loop-line.invariant.begins);
+      detected = ap (λ d. detected_among (d ∷ map (λ e. e.ending) left))
+          c.stronger_ending-detected.ensures
+          ∙ detected_among-two c.loop-line.detected c.in-Some-2.ending
+          (map (λ e. e.ending) left)
+          ∙ ap (λ es. detected_among (c.loop-line.detected ∷ map (λ e. e.ending) es)) (sym steps)
+          ∙ c.loop-line.invariant.detected;
+    }

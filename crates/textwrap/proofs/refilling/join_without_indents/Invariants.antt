@@ -1,0 +1,17 @@
+use Rattle.std.proofs.Common.{◌≡◌, ◌∷◌, ◌++◌, length, map, All}
+use Rattle.std.specs.Io.{StartsWith}
+use Rattle.std.specs.String.{string_bytes}
+use Rattle.textwrap.specs.Refilling.{joined_text, detected_among, detected_ending}
+use Rattle.textwrap.proofs.Text.Unfilling.{added_lines}
+use Rattle.textwrap.proofs.refilling.join_without_indents.Given as goal
+
+-- the text so far, and what the lines to come add, are the joined text; these lines begin with
+-- their indent; and the ending so far stands for those that came
+abbrev pub invariant-loop-line : goal.invariant-loop-line
+invariant-loop-line l = record {
+  joined : string_bytes l.joined ++ added_lines (length l.subsequent_indent) l.line-iterator
+      ≡ joined_text l.text;
+  begins : All (λ e. StartsWith e.line l.subsequent_indent) l.line-iterator;
+  detected : detected_among (l.detected ∷ map (λ e. e.ending) l.line-iterator)
+      ≡ detected_ending l.text;
+}

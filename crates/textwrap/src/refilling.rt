@@ -1,0 +1,212 @@
+//! Unfilling, which joins the lines of a filled text, and refilling, which fills them again.
+ghost use Rattle.std.specs.Prelude.{◌≡◌, [], ◌∷◌, ◌++◌, length, drop, alloc_error, IfOk, IfErr};
+ghost use Rattle.std.specs.Prelude.{IfSome, string_bytes, map, option_to_list};
+ghost use Rattle.std.specs.Io.{StartsWith};
+ghost use Rattle.std.specs.Str.{IsAscii};
+ghost use Rattle.textwrap_base.specs.WrapAlgorithms.{algorithm_view};
+ghost use Rattle.textwrap.specs.Options.{default_algorithm, settings_at, settings_view};
+ghost use Rattle.textwrap.specs.Refilling.{is_prefix_character, line_prefix, common_start};
+ghost use Rattle.textwrap.specs.Refilling.{unfilled_text, unfilled_settings, joined_text};
+ghost use Rattle.textwrap.specs.Refilling.{keeps_ending, IsRefilled, HasDefaultMethods};
+ghost use Rattle.textwrap.specs.Refilling.{unfilled_width, unfilled_initial, unfilled_subsequent};
+ghost use Rattle.textwrap.specs.Refilling.{with_indents_of};
+ghost use Rattle.textwrap.specs.Refilling.{detected_among, detected_ending, common_prefix};
+ghost use Rattle.textwrap.specs.WordSeparators.{AreSeparated};
+ghost use Rattle.textwrap.specs.WordSplitters.{ArePoints};
+ghost use Rattle.textwrap.specs.declared.word_separators.WordSeparator.TheVariants.{AsciiSpace};
+ghost use Rattle.textwrap.specs.declared.word_splitters.WordSplitter.TheVariants.{HyphenSplitter};
+
+use crate::filling::fill;
+use crate::line_ending::{LineEnding, NonEmptyLines};
+use crate::options::Options;
+use crate::words::display_width;
+use crate::wrap_algorithms::WrapError;
+use std::alloc::{AllocError, Global};
+
+/// Joins the lines of a filled text, and finds out how it was filled.
+///
+/// The indents are what the lines begin with of blanks and `-`, `+`, `*`, `>`, `#`, `/`: the first
+/// line's is the initial indent, and what all later lines have in common is the subsequent indent.
+/// Without their indents, the lines that are not empty are joined by blanks. `"* foo\n  bar\n"`
+/// becomes `"foo bar\n"`, with the indents `"* "` and two blanks and a width of 5 columns, which is
+/// that of the widest line.
+///
+/// The line ending is LF where a line that is not empty ends in it, else CRLF where one ends in
+/// that; if the text ends in it, so does the unfilled text. Where there is none, it is LF. All other
+/// options are the defaults.
+///
+/// # Errors
+/// [`AllocError`] where memory runs out.
+pub fn unfill<'t>(alloc: Global, text: &'t str) -> Result<(String, Options<'t>), AllocError>
+    ensures text { IfOk result (λ unfilled. string_bytes unfilled.0 ≡ unfilled_text text.now) }
+    ensures settings { IfOk result (λ unfilled. settings_view unfilled.1
+        ≡ unfilled_settings text.now) }
+    ensures algorithm { IfOk result (λ unfilled. algorithm_view unfilled.1.wrap_algorithm
+        ≡ default_algorithm) }
+    ensures separator { IfOk result (λ unfilled. unfilled.1.word_separator ≡ AsciiSpace) }
+    ensures splitter { IfOk result (λ unfilled. unfilled.1.word_splitter ≡ HyphenSplitter) }
+{
+    let (mut unfilled, options, keeps_ending) = join_lines(alloc, text)?;
+    if keeps_ending {
+        unfilled.push_str(options.line_ending.as_str())?;
+    }
+    Ok((unfilled, options))
+}
+
+/// Fills a filled text again, with the indents that it has.
+///
+/// The text is unfilled as [`unfill`] does it, and filled with the options, but for the indents,
+/// which are its own. Where the unfilled text ends in a line ending, the new text ends in that of
+/// the options. At 8 columns `"> foo bar baz\n"` becomes `"> foo\n> bar\n> baz\n"`.
+///
+/// # Errors
+/// [`WrapError::Memory`] where memory runs out, and no other. There is no overflow.
+pub fn refill(alloc: Global, filled_text: &str, options: Options<'_>) -> Result<String, WrapError>
+    ensures refilled { IfOk result (λ refilled. IsRefilled (settings_view options.entry)
+        (AreSeparated options.entry.word_separator) (ArePoints options.entry.word_splitter)
+        (algorithm_view options.entry.wrap_algorithm) filled_text.now (string_bytes refilled)) }
+    ensures only_memory { IfErr result (λ error. error ≡ WrapError.Memory alloc_error) }
+{
+    let line_ending = options.line_ending;
+    let (unfilled, found, keeps_ending) = join_lines(alloc, filled_text)?;
+    let options = Options {
+        initial_indent: found.initial_indent,
+        subsequent_indent: found.subsequent_indent,
+        ..options
+    };
+    let mut refilled = fill(alloc, &unfilled, options)?;
+    if keeps_ending {
+        refilled.push_str(line_ending.as_str())?;
+    }
+    Ok(refilled)
+}
+
+/// The joined lines of the text without an ending, the options that it seems to have been filled
+/// with, and whether it ends in their line ending.
+fn join_lines<'t>(alloc: Global, text: &'t str) -> Result<(String, Options<'t>, bool), AllocError>
+    ensures joined { IfOk result (λ unfilled. string_bytes unfilled.0 ≡ joined_text text.now) }
+    ensures settings { IfOk result (λ unfilled. settings_view unfilled.1
+        ≡ unfilled_settings text.now) }
+    ensures methods { IfOk result (λ unfilled. HasDefaultMethods unfilled.1) }
+    ensures keeps { IfOk result (λ unfilled. unfilled.2 ≡ keeps_ending text.now) }
+{
+    let layout = find_layout(text);
+    let (joined, detected) = join_without_indents(
+        alloc,
+        text,
+        layout.initial_indent,
+        layout.subsequent_indent,
+    )?;
+    let Some(ending) = detected else {
+        return Ok((joined, layout, false));
+    };
+    let keeps_ending = text.ends_with(ending.as_str());
+    Ok((joined, layout.line_ending(ending), keeps_ending))
+}
+
+/// The width and the indents of the text, all else by the defaults.
+fn find_layout(text: &str) -> Options<'_>
+    ensures settings { settings_view result
+        ≡ with_indents_of text.now (settings_at (unfilled_width text.now)) }
+    ensures methods { HasDefaultMethods result }
+{
+    let first = text.lines().next().unwrap_or("");
+    let mut width = display_width(first);
+    let mut common = None;
+    for line in text.lines().skip(1) {
+        width = width.max(display_width(line));
+        common = Some(narrow(common, line_prefix(line)));
+    }
+    Options {
+        initial_indent: line_prefix(first),
+        subsequent_indent: common.unwrap_or(""),
+        ..Options::new(width)
+    }
+}
+
+/// The lines of the text that are not empty, without its indents and joined by blanks, and the
+/// ending that is detected among them.
+fn join_without_indents(
+    alloc: Global,
+    text: &str,
+    initial_indent: &str,
+    subsequent_indent: &str,
+) -> Result<(String, Option<LineEnding>), AllocError>
+    requires initial { initial_indent.now ≡ unfilled_initial text.now }
+    requires subsequent { subsequent_indent.now ≡ unfilled_subsequent text.now }
+    ensures joined { IfOk result (λ unfilled. string_bytes unfilled.0 ≡ joined_text text.now) }
+    ensures detected { IfOk result (λ unfilled. unfilled.1 ≡ detected_ending text.now) }
+{
+    let mut joined = String::new(alloc);
+    let mut lines = NonEmptyLines(text);
+    let Some((first, ending)) = lines.next() else {
+        return Ok((joined, None));
+    };
+    joined.push_str(without_indent(first, initial_indent))?;
+    let mut detected = ending;
+    for (line, ending) in lines {
+        joined.push_str(" ")?;
+        joined.push_str(without_indent(line, subsequent_indent))?;
+        detected = stronger_ending(detected, ending);
+    }
+    Ok((joined, detected))
+}
+
+/// The line without the indent that it begins with.
+fn without_indent<'t>(line: &'t str, indent: &str) -> &'t str
+    requires { StartsWith line.now indent.now }
+    ensures { result.now ≡ drop (length indent.now) line.now }
+{
+    &line[indent.len()..]
+}
+
+/// The ending that counts: LF before CRLF, and any before none.
+fn stronger_ending(first: Option<LineEnding>, second: Option<LineEnding>) -> Option<LineEnding>
+    ensures { result ≡ detected_among (first ∷ second ∷ []) }
+{
+    match (first, second) {
+        (None, ending) => ending,
+        (Some(LineEnding::CRLF), Some(LineEnding::LF)) => second,
+        _ => first,
+    }
+}
+
+/// What the texts so far have in common, if there are any, and this one has too.
+fn narrow<'a>(common: Option<&'a str>, text: &'a str) -> &'a str
+    requires { IfSome common (λ common. IsAscii common.now) }
+    ensures { result.now ≡ common_prefix (map (λ text. text.now) (option_to_list common.entry)
+        ++ text.now ∷ []) }
+{
+    match common {
+        Some(common) => common_start(common, text),
+        None => text,
+    }
+}
+
+/// What the line begins with of the characters of an indent.
+fn line_prefix(line: &str) -> &str
+    ensures { result.now ≡ line_prefix line.now }
+{
+    let len = line
+        .bytes()
+        .take_while(|byte| is_prefix_character(*byte))
+        .count();
+    &line[..len]
+}
+
+/// Whether an indent may have this character.
+fn is_prefix_character(byte: u8) -> bool
+    ensures { result ≡ is_prefix_character byte }
+{
+    matches!(byte, b' ' | b'-' | b'+' | b'*' | b'>' | b'#' | b'/')
+}
+
+/// What both texts begin with, of which the first is ASCII.
+fn common_start<'a>(first: &'a str, second: &str) -> &'a str
+    requires { IsAscii first.now }
+    ensures { result.now ≡ common_start first.now second.now }
+{
+    let pairs = first.bytes().zip(second.bytes());
+    let len = pairs.take_while(|(one, other)| one == other).count();
+    &first[..len]
+}

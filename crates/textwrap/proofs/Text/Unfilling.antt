@@ -109,11 +109,6 @@ join-added first n (e ∷ es) =
     ap (λ l. (first ++ blank ∷ []) ++ l) (join-added (drop n e.line) n es)
     ∙ append_assoc first (blank ∷ []) (drop n e.line ++ added_lines n es)
 
-pub joined_text-none : (text : List ℕ) → nonempty_lines text ≡ [] → joined_text text ≡ []
-joined_text-none text none =
-    ap (λ es. join_with (blank ∷ []) (without_indents (unfilled_initial text)
-    (unfilled_subsequent text) (texts_of es))) none
-
 pub joined_text-some : (text initial subsequent : List ℕ) (e : EndedLine) (rest : List EndedLine)
     → initial ≡ unfilled_initial text → subsequent ≡ unfilled_subsequent text
     → nonempty_lines text ≡ e ∷ rest
@@ -141,11 +136,6 @@ detected_among-two (Some CRLF) (Some LF) others = refl
 detected_among-two (Some LF) None others = refl
 detected_among-two (Some LF) (Some CRLF) others = refl
 detected_among-two (Some LF) (Some LF) others = refl
-
-pub detected_among-one : (ending : Option LineEnding) → detected_among (ending ∷ []) ≡ ending
-detected_among-one None = refl
-detected_among-one (Some CRLF) = refl
-detected_among-one (Some LF) = refl
 
 pub keeps_ending-some : (text : List ℕ) (ending : LineEnding)
     → detected_ending text ≡ Some ending

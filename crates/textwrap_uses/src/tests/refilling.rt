@@ -1,6 +1,6 @@
 //! `unfill` and `refill`.
 use std::test::Fail;
-use textwrap::{LineEnding, Options, WordSplitter, fill, refill, unfill};
+use textwrap::{LineEnding, Options, WordSplitter, WrapAlgorithm, fill, refill, unfill};
 
 #[test]
 fn texts_are_unfilled(rt: HostRuntime) -> Result<(), Fail> {
@@ -87,6 +87,9 @@ fn texts_are_refilled(rt: HostRuntime) -> Result<(), Fail> {
         let given = refill(rt.alloc(), text, options)?;
         assert_eq!(rt; given.as_str(), refilled, "{text:?} at {width}");
     }
+    let first = Options::new(8).wrap_algorithm(WrapAlgorithm::FirstFit);
+    let given = refill(rt.alloc(), "aa bb\ncc dd", first)?;
+    assert_eq!(rt; given.as_str(), "aa bb cc\ndd");
     Ok(())
 }
 

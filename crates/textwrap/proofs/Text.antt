@@ -19,5 +19,8 @@ pub mod Prefixes
 pub mod Promises
 pub mod Refilling
 pub mod RefillingRows
+pub mod Table
+pub mod TableLaws
+pub mod TableRows
 pub mod Unfilling
 pub mod Unique

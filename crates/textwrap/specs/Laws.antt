@@ -1,14 +1,16 @@
 -- What the laws say.
 use Rattle.std.specs.Prelude.{◌≡◌, ◌↔◌, ◌⊎◌, ℕ, Bool, false, List, ◌++◌, All, IsUtf8, length}
-use Rattle.std.specs.Prelude.{drop, map, ◌≢◌, []}
+use Rattle.std.specs.Prelude.{◌≢◌, ◌+◌, ◌-◌, ◌*◌, ◌≤◌, [], drop, map, replicate, sum_by}
 use Rattle.std.specs.Io.{StartsWith}
 use Rattle.std.specs.List.{flat_map}
 use Rattle.std.specs.Str.{chars, trim_end}
 use Rattle.std.specs.Str.Lines.{lines}
 use Rattle.textwrap_base.specs.Blanks.{without_final_blanks}
-use Rattle.textwrap_base.specs.Units.{IsNarrow}
+use Rattle.textwrap_base.specs.Units.{IsNarrow, text_width}
 use Rattle.textwrap_base.specs.Words.{WordText, tile_of, tiled}
 use Rattle.textwrap_base.specs.WrapAlgorithms.{Algorithm, Greedy}
+use Rattle.textwrap.specs.Columns.{Layout, layout_of, inner_width, row_count, cells, row_text}
+use Rattle.textwrap.specs.Columns.{row_parts, cells_by_column}
 use Rattle.textwrap.specs.Filling.{IsFilled}
 use Rattle.textwrap.specs.InPlace.{IsFilledInPlace}
 use Rattle.textwrap.specs.Indentation.{is_blank_line, ended_parts, indented, indented_part}
@@ -203,3 +205,28 @@ FilledTwiceIsFilledOnce =
     → IsRefilled settings (AreSeparated separator) (ArePoints splitter) second filled refilled
     ↔ IsFilled settings (IsDividedInto settings (AreSeparated separator) (ArePoints splitter)
     second) text refilled
+
+-- the parts of a row make its text
+abbrev pub RowsAreParts : Type 0
+RowsAreParts =
+    (layout : Layout) (row : List (List ℕ))
+    → flat_map (λ part. part) (row_parts layout row) ≡ row_text layout row
+
+-- where no line is wider than a column, and the gaps leave room for all columns, the parts of each
+-- row take together the columns of the gaps and the inner width, and these are the width
+abbrev pub RowsAreEven : Type 0
+RowsAreEven =
+    (width columns : ℕ) (left middle right : List ℕ) (lines : List (List ℕ)) (r : ℕ)
+    → let inner : ℕ = inner_width width columns left middle right in
+    let layout : Layout = layout_of width columns left middle right in
+    let row : List (List ℕ) = cells lines (row_count lines columns) columns r in
+    let gaps : ℕ = text_width left + text_width right + (columns - 1) * text_width middle in
+    1 ≤ columns → columns * layout.column_width ≤ inner
+    → All (λ line. text_width line ≤ layout.column_width) lines
+    → (sum_by text_width (row_parts layout row) ≡ gaps + inner) × (gaps + inner ≡ width)
+
+-- the cells of a table, one column after another, are the lines, and then empty ones
+abbrev pub ColumnsKeepLines : Type 0
+ColumnsKeepLines =
+    (lines : List (List ℕ)) (columns : ℕ) → 1 ≤ columns
+    → (empty : ℕ) × (cells_by_column lines columns ≡ lines ++ replicate empty [])

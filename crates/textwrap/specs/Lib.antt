@@ -1,3 +1,4 @@
+pub mod Columns
 pub mod Filling
 pub mod Fuzzing
 pub mod InPlace

@@ -8,6 +8,7 @@ ghost use Rattle.textwrap.specs.Laws.{EndedPartsAreUnique, IndentsAreParts, Whol
 ghost use Rattle.textwrap.specs.Laws.{IndentsComeOff, MarginsAreUnique, LinesBeginWithMargin};
 ghost use Rattle.textwrap.specs.Laws.{SplitPiecesTile, SplitWordsTile, CommonPrefixesAreUnique};
 ghost use Rattle.textwrap.specs.Laws.{RefilledIsFilled, FilledIsPlain, FilledTwiceIsFilledOnce};
+ghost use Rattle.textwrap.specs.Laws.{RowsAreParts, RowsAreEven, ColumnsKeepLines};
 
 pub use textwrap_base::laws::{
     broken_pieces_are_unique, broken_pieces_tile, chosen_division_is_unique,
@@ -94,4 +95,18 @@ pub fn refilling_is_filling()
     ensures refilled { RefilledIsFilled }
     ensures plain { FilledIsPlain }
     ensures twice { FilledTwiceIsFilledOnce }
+{}
+
+/// In a row of columns, the gaps, the lines in its cells, their blanks and the spare blanks are its
+/// text. Where no line is wider than a column, and the gaps leave room for all columns, these
+/// parts, each measured by itself, take together exactly the width.
+pub fn rows_are_even()
+    ensures parts { RowsAreParts }
+    ensures even { RowsAreEven }
+{}
+
+/// The cells of a table, read one column after another, are the lines, and after these empty ones.
+/// So no line is lost, and none is shown twice.
+pub fn columns_keep_lines()
+    ensures { ColumnsKeepLines }
 {}

@@ -3,6 +3,7 @@
 //! [`fill`] cuts a text into lines for a width and joins them, [`wrap`] gives the lines alone.
 #![tactic(auto)]
 
+pub use columns::wrap_columns;
 pub use filling::fill;
 pub use indentation::{dedent, indent};
 pub use inplace::fill_inplace;
@@ -15,6 +16,7 @@ pub use word_splitters::WordSplitter;
 pub use wrap_algorithms::{WrapAlgorithm, WrapError};
 pub use wrapping::wrap;
 
+mod columns;
 mod filling;
 pub mod fuzzing;
 mod indentation;

@@ -1,4 +1,5 @@
 mod callers;
+mod columns;
 mod filling;
 mod indentation;
 mod inplace;

@@ -1,0 +1,195 @@
+-- Lemmas on the rows of a table.
+use Rattle.std.proofs.Common.{◌≡◌, ℕ, zero, suc, ◌+◌, ◌-◌, ◌*◌, ◌<◌, ◌≤◌, ◌⊎◌, List, [], ◌∷◌, ◌++◌}
+use Rattle.std.proofs.Common.{length, get_or, map, refl, sym, ap, ◌∙◌, arith, append_assoc}
+use Rattle.std.proofs.Common.{append-nil, inl, inr, subst}
+use Rattle.std.specs.List.{range_with_len, repeat}
+use Rattle.std.specs.declared.borrow.CowStr.{CowStr}
+use Rattle.std.specs.Cow.{cow_str_bytes}
+use Rattle.std.proofs.lemmas.List.{get_or-map, get_or_past, length-map}
+use Rattle.std.proofs.lemmas.List.{map-append, flat_map_more}
+use Rattle.std.proofs.lemmas.List.Concat.{flat_map-append}
+use Rattle.std.proofs.lemmas.List.FromFn.{map-range_with_len_more}
+use Rattle.textwrap.specs.Columns.{Layout, blanks, cell, cells, padded, row_text, gapped}
+use Rattle.textwrap.specs.LineEnding.{join_with}
+use Rattle.textwrap.specs.Options.{Settings, settings_view, KeepsMethods}
+use Rattle.textwrap.specs.Paragraph.{Line, line_view, line_bytes, IsDividedInto, DividesBy}
+use Rattle.textwrap.specs.Text.{AreTextLines}
+use Rattle.textwrap.specs.WordSeparators.{AreSeparated}
+use Rattle.textwrap.specs.WordSplitters.{ArePoints}
+use Rattle.textwrap.specs.declared.options.Options.{Options}
+use Rattle.textwrap_base.specs.WrapAlgorithms.{algorithm_view}
+use Rattle.textwrap_base.specs.Units.{text_width}
+use Rattle.textwrap_base.proofs.Word.Texts.{text_width-nil}
+use Rattle.textwrap.proofs.Text.Lines.{line_bytes-line_view}
+
+-- ---- runs
+
+pub repeat_more : (n : ℕ) (xs : List ℕ) → repeat n xs ++ xs ≡ repeat (n + 1) xs
+repeat_more zero xs = sym (append-nil xs)
+repeat_more (suc n) xs =
+    let more : suc (n + 1) ≡ suc n + 1 = omega arith in
+    append_assoc xs (repeat n xs) xs ∙ ap (λ l. xs ++ l) (repeat_more n xs)
+    ∙ ap (λ k. repeat k xs) more
+
+-- one more text after what stands before a run of it
+pub run_more : (before after xs : List ℕ) (n : ℕ) → after ≡ before ++ repeat n xs
+    → after ++ xs ≡ before ++ repeat (n + 1) xs
+run_more before after xs n is =
+    ap (λ l. l ++ xs) is ∙ append_assoc before (repeat n xs) xs
+    ∙ ap (λ l. before ++ l) (repeat_more n xs)
+
+-- ---- cells
+
+-- the text of the line that a cell shows
+pub cell_is : {Z : Type 0} (lines : List (CowStr Z)) (line : CowStr Z) (step first c at : ℕ)
+    → at ≡ first + c * step → at < length lines → line ≡ get_or lines at line
+    → cell (map line_bytes (map line_view lines)) step first c ≡ cow_str_bytes line
+cell_is lines line step first c at place within is =
+    ap (λ n. get_or (map line_bytes (map line_view lines)) n []) (sym place)
+    ∙ get_or-map line_bytes (map line_view lines) at (line_view line) []
+    (omega (arith, length-map lines line_view))
+    ∙ ap line_bytes (get_or-map line_view lines at line (line_view line) within)
+    ∙ ap (λ l. line_bytes (line_view l)) (sym is)
+    ∙ line_bytes-line_view line
+
+-- the later cells with one more
+pub gapped-more : (layout : Layout) (lines : List (List ℕ)) (step first later : ℕ)
+    (before row : List ℕ)
+    → row ≡ before ++ gapped layout (map (cell lines step first) (range_with_len 1 later))
+    → (row ++ layout.middle) ++ padded layout.column_width (cell lines step first (later + 1))
+    ≡ before ++ gapped layout (map (cell lines step first) (range_with_len 1 (later + 1)))
+gapped-more layout lines step first later before row is =
+    let cs = map (cell lines step first) (range_with_len 1 later) in
+    let c = cell lines step first (later + 1) in
+    append_assoc row layout.middle (padded layout.column_width c)
+    ∙ ap (λ l. l ++ (layout.middle ++ padded layout.column_width c)) is
+    ∙ flat_map_more (λ text. layout.middle ++ padded layout.column_width text) before cs c
+    ∙ ap (λ l. before ++ gapped layout l)
+    (sym (map-range_with_len_more (cell lines step first) 1 later (later + 1) (omega arith)))
+
+pub range-split : (a n m : ℕ) → range_with_len a (n + m) ≡ range_with_len a n ++ range_with_len (a + n) m
+range-split a zero m =
+    let none : zero + m ≡ m = omega arith in
+    let here : a + zero ≡ a = omega arith in
+    ap (range_with_len a) none ∙ ap (λ k. range_with_len k m) (sym here)
+range-split a (suc n) m =
+    let more : suc n + m ≡ suc (n + m) = omega arith in
+    let on : (a + 1) + n ≡ a + suc n = omega arith in
+    ap (range_with_len a) more
+    ∙ ap (λ l. a ∷ l) (range-split (a + 1) n m ∙ ap (λ k. range_with_len (a + 1) n
+    ++ range_with_len k m) on)
+
+padded-nil : (width : ℕ) → padded width [] ≡ blanks width
+padded-nil width =
+    let all : width - text_width [] ≡ width = omega (arith, text_width-nil) in ap blanks all
+
+-- the cells after the last line
+gapped-missing : (layout : Layout) (lines : List (List ℕ)) (step first c count : ℕ)
+    → length lines ≤ first + c * step
+    → gapped layout (map (cell lines step first) (range_with_len c count))
+    ≡ repeat count (layout.middle ++ blanks layout.column_width)
+gapped-missing layout lines step first c zero past = refl
+gapped-missing layout lines step first c (suc count) past =
+    let later : length lines ≤ first + (c + 1) * step = omega arith in
+    ap (λ l. (layout.middle ++ padded layout.column_width l)
+    ++ gapped layout (map (cell lines step first) (range_with_len (c + 1) count)))
+    (get_or_past lines (first + c * step) [] past)
+    ∙ ap (λ l. (layout.middle ++ l)
+    ++ gapped layout (map (cell lines step first) (range_with_len (c + 1) count)))
+    (padded-nil layout.column_width)
+    ∙ ap (λ l. (layout.middle ++ blanks layout.column_width) ++ l)
+    (gapped-missing layout lines step first (c + 1) count later)
+
+-- joined cells are the first, and the others after the middle gap each
+join-gapped : (layout : Layout) (x : List ℕ) (xs : List (List ℕ))
+    → join_with layout.middle (map (padded layout.column_width) (x ∷ xs))
+    ≡ padded layout.column_width x ++ gapped layout xs
+join-gapped layout x [] = sym (append-nil (padded layout.column_width x))
+join-gapped layout x (y ∷ ys) =
+    let px = padded layout.column_width x in
+    let py = padded layout.column_width y in
+    ap (λ l. (px ++ layout.middle) ++ l) (join-gapped layout y ys)
+    ∙ append_assoc px layout.middle (py ++ gapped layout ys)
+    ∙ ap (λ l. px ++ l) (sym (append_assoc layout.middle py (gapped layout ys)))
+
+-- the later cells: those of lines, and a run of those without
+gapped-all : (layout : Layout) (lines : List (List ℕ)) (step first later count : ℕ)
+    → (count ≡ 0) ⊎ (length lines ≤ first + (later + 1) * step)
+    → gapped layout (map (cell lines step first) (range_with_len 1 later))
+    ++ repeat count (layout.middle ++ blanks layout.column_width)
+    ≡ gapped layout (map (cell lines step first) (range_with_len 1 (later + count)))
+gapped-all layout lines step first later count (inl none) =
+    let same : later + count ≡ later = omega (arith, none) in
+    ap (λ n. gapped layout (map (cell lines step first) (range_with_len 1 later))
+    ++ repeat n (layout.middle ++ blanks layout.column_width)) none
+    ∙ append-nil (gapped layout (map (cell lines step first) (range_with_len 1 later)))
+    ∙ ap (λ n. gapped layout (map (cell lines step first) (range_with_len 1 n))) (sym same)
+gapped-all layout lines step first later count (inr past) =
+    let at = cell lines step first in
+    let here : later + 1 ≡ 1 + later = omega arith in
+    let from : length lines ≤ first + (1 + later) * step = omega arith in
+    ap (λ l. gapped layout (map at (range_with_len 1 later)) ++ l)
+    (sym (gapped-missing layout lines step first (1 + later) count from))
+    ∙ sym (flat_map-append (λ text. layout.middle ++ padded layout.column_width text)
+    (map at (range_with_len 1 later)) (map at (range_with_len (1 + later) count)))
+    ∙ ap (gapped layout) (sym (map-append at (range_with_len 1 later)
+    (range_with_len (1 + later) count)) ∙ ap (map at) (sym (range-split 1 later count)))
+
+-- a row, part by part
+pub row_text-parts : (layout : Layout) (lines : List (List ℕ)) (step first later count : ℕ)
+    → (count ≡ 0) ⊎ (length lines ≤ first + (later + 1) * step)
+    → layout.columns ≡ suc (later + count)
+    → ((((layout.left ++ padded layout.column_width (cell lines step first 0))
+    ++ gapped layout (map (cell lines step first) (range_with_len 1 later)))
+    ++ repeat count (layout.middle ++ blanks layout.column_width))
+    ++ blanks layout.spare_width) ++ layout.right
+    ≡ row_text layout (cells lines step layout.columns first)
+row_text-parts layout lines step first later count all columns =
+    let at = cell lines step first in
+    let head = padded layout.column_width (at 0) in
+    let some = gapped layout (map at (range_with_len 1 later)) in
+    let run = repeat count (layout.middle ++ blanks layout.column_width) in
+    let joined : head ++ (some ++ run)
+    ≡ join_with layout.middle (map (padded layout.column_width)
+    (cells lines step layout.columns first)) =
+    ap (λ l. head ++ l) (gapped-all layout lines step first later count all)
+    ∙ sym (join-gapped layout (at 0) (map at (range_with_len 1 (later + count))))
+    ∙ ap (λ n. join_with layout.middle (map (padded layout.column_width)
+    (map at (range_with_len 0 n)))) (sym columns) in
+    ap (λ l. (l ++ blanks layout.spare_width) ++ layout.right)
+    (append_assoc (layout.left ++ head) some run
+    ∙ append_assoc layout.left head (some ++ run)
+    ∙ ap (λ l. layout.left ++ l) joined)
+
+-- the same where the run fills the columns up
+pub row_text-written : (layout : Layout) (lines : List (List ℕ)) (step first later : ℕ)
+    → (later + 1 ≡ layout.columns) ⊎ (length lines ≤ first + (later + 1) * step)
+    → later + 1 ≤ layout.columns
+    → ((((layout.left ++ padded layout.column_width (cell lines step first 0))
+    ++ gapped layout (map (cell lines step first) (range_with_len 1 later)))
+    ++ repeat (layout.columns - 1 - later) (layout.middle ++ blanks layout.column_width))
+    ++ blanks layout.spare_width) ++ layout.right
+    ≡ row_text layout (cells lines step layout.columns first)
+row_text-written layout lines step first later (inl full) within =
+    row_text-parts layout lines step first later (layout.columns - 1 - later)
+    (inl (omega arith)) (omega arith)
+row_text-written layout lines step first later (inr past) within =
+    row_text-parts layout lines step first later (layout.columns - 1 - later)
+    (inr past) (omega arith)
+
+-- ---- the lines at the width of a column
+
+pub AreTextLines-methods : (old new : Options) (settings : Settings) (text : List ℕ)
+    (lines : List Line) → settings_view new ≡ settings → KeepsMethods old new
+    → AreTextLines (settings_view new) (DividesBy new) text lines
+    → AreTextLines settings (IsDividedInto settings (AreSeparated old.word_separator)
+    (ArePoints old.word_splitter) (algorithm_view old.wrap_algorithm)) text lines
+AreTextLines-methods old new settings text lines same keeps are =
+    subst (λ a. AreTextLines settings (IsDividedInto settings (AreSeparated old.word_separator)
+    (ArePoints old.word_splitter) (algorithm_view a)) text lines) keeps.algorithm
+    (subst (λ p. AreTextLines settings (IsDividedInto settings (AreSeparated old.word_separator)
+    (ArePoints p) (algorithm_view new.wrap_algorithm)) text lines) keeps.splitter
+    (subst (λ s. AreTextLines settings (IsDividedInto settings (AreSeparated s)
+    (ArePoints new.word_splitter) (algorithm_view new.wrap_algorithm)) text lines) keeps.separator
+    (subst (λ s. AreTextLines s (IsDividedInto s (AreSeparated new.word_separator)
+    (ArePoints new.word_splitter) (algorithm_view new.wrap_algorithm)) text lines) same are)))

@@ -1,0 +1,19 @@
+use Rattle.std.proofs.Common.{ℕ, List, ◌∷◌, [], ◌++◌, map, ap, sym, ◌∙◌, arith}
+use Rattle.std.proofs.lemmas.List.{map-append}
+use Rattle.std.proofs.lemmas.List.FromFn.{map-range_with_len_more}
+use Rattle.std.specs.List.{range_with_len}
+use Rattle.std.specs.String.{string_bytes}
+use Rattle.textwrap.specs.Columns.{layout_view, row_text, cells}
+use Rattle.textwrap.specs.Paragraph.{line_view, line_bytes}
+use Rattle.textwrap.proofs.columns.table_rows.Goals as goal
+
+pub loop-r-preserved : goal.loop-r-preserved
+loop-r-preserved c =
+    let lines = map line_bytes (map line_view c.args.lines.now) in
+    let row : ℕ → List ℕ = λ r. row_text (layout_view c.args.table.now)
+    (cells lines c.div_ceil-count.result c.args.table.now.columns r) in
+    ap (map string_bytes) c.in_ok-push.ensures.items
+    ∙ map-append string_bytes c.loop-r.rows.items (c.in_ok-table_row.field-0 ∷ [])
+    ∙ ap (λ l. l ++ string_bytes c.in_ok-table_row.field-0 ∷ []) c.loop-r.invariant
+    ∙ ap (λ l. map row (range_with_len 0 c.loop-r.r) ++ l ∷ []) c.in_ok-table_row.ensures
+    ∙ sym (map-range_with_len_more row 0 c.loop-r.r c.loop-r.r (omega arith))

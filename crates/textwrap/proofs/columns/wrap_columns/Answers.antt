@@ -1,0 +1,45 @@
+use Rattle.std.proofs.Common.{◌≡◌, ◌*◌, map, ap, ◌∙◌, arith}
+use Rattle.textwrap.specs.Columns.{column_width, inner_width, layout_of, table_rows}
+use Rattle.textwrap.specs.Options.{settings_view}
+use Rattle.textwrap.specs.Paragraph.{line_view, line_bytes}
+use Rattle.textwrap.proofs.Text.Table.{AreTextLines-methods}
+use Rattle.textwrap.proofs.columns.wrap_columns.Goals as goal
+
+pub returns-clause-rows : goal.returns-clause-rows
+returns-clause-rows c =
+    let columns = c.args.columns in
+    let left = c.args.left_gap.now in
+    let middle = c.args.middle_gap.now in
+    let right = c.args.right_gap.now in
+    let layout = layout_of c.args.options.width columns left middle right in
+    let narrow = record (settings_view c.args.options) { width = layout.column_width } in
+    let inner = inner_width c.args.options.width columns left middle right in
+    let inner_is : c.inner_width-inner.result ≡ inner = c.inner_width-inner.ensures in
+    let width_is : c.column_width-column_width.result ≡ layout.column_width =
+    c.column_width-column_width.ensures ∙ ap (λ i. column_width i columns) inner_is in
+    let spare_is : c.saturating_sub.result ≡ layout.spare_width =
+    omega (
+      arith,
+      c.saturating_sub.ensures,
+      c.saturating_mul.ensures,
+      inner_is,
+      ap (λ w. columns * w) width_is,
+    ) in (
+      map line_view c.in_ok-lines.lines.items,
+      AreTextLines-methods c.args.options c.width.result narrow c.args.text.now
+          (map line_view c.in_ok-lines.lines.items)
+          (c.width.ensures.settings
+          ∙ ap (λ w. record (settings_view c.args.options) { width = w }) width_is)
+          c.width.ensures.methods c.in_ok-lines.ensures.lines.are,
+      c.in_ok-table_rows.ensures
+          ∙ ap (λ l. table_rows (record layout {
+            column_width = c.column_width-column_width.result;
+            spare_width = c.saturating_sub.result;
+          }) (map line_bytes (map line_view l))) c.deref.ensures.value
+          ∙ ap (λ w. table_rows (record layout {
+            column_width = w;
+            spare_width = c.saturating_sub.result;
+          }) (map line_bytes (map line_view c.in_ok-lines.lines.items))) width_is
+          ∙ ap (λ s. table_rows (record layout { spare_width = s })
+          (map line_bytes (map line_view c.in_ok-lines.lines.items))) spare_is,
+    )

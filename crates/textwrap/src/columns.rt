@@ -45,8 +45,8 @@ struct Table<'a> {
 /// The columns are filled one after another, so that the last one may be shorter. Each line is
 /// padded with blanks to the width of its column, as [`display_width`] measures it, and the last
 /// column gets the blanks that the division leaves over. A line that is wider than its column is
-/// not cut, and where the gaps leave no room, rows are wider than the options say. No row has a
-/// line ending in it.
+/// not cut, and where the gaps leave no room, rows are wider than the options say. The rows are not
+/// joined: no line ending is added.
 ///
 /// # Errors
 /// [`WrapError::Memory`] where memory runs out, and no other. There is no overflow.

@@ -76,6 +76,7 @@ fn texts_stand_in_columns(rt: HostRuntime) -> Result<(), Fail> {
         // An empty paragraph is a line of its own.
         ("a\n\nb", 3, 8, "", "|", "", "a |  |b "),
     ] {
+        assert!(rt; columns >= 1);
         let options = Options::new(width);
         let rows = wrap_columns(rt.alloc(), text, columns, options, left, middle, right)?;
         let table = joined(rt.alloc(), &rows)?;

@@ -85,8 +85,8 @@ FilledInPlaceIsUnique = (width : ℕ) → IsUnique (IsFilledInPlace width)
 abbrev pub unbroken_at : ℕ → Settings
 unbroken_at width = record (settings_at width) { break_words = false }
 
--- where no character takes more columns than its bytes, the lines of a text that is filled in
--- place, without the blanks at their ends, are those that first fit gives of whole words
+-- a text of narrow characters that is filled in place has the lines that first fit gives of whole
+-- words, but for the blanks that its lines end in
 abbrev pub FilledInPlaceIsWrapped : Type 0
 FilledInPlaceIsWrapped =
     (width : ℕ) (text filled : List ℕ) → IsUtf8 text → IsNarrow text

@@ -22,8 +22,8 @@ use std::mem;
 ///
 /// At 10 columns `foo  bar    baz` becomes `foo  bar   `, a line feed and `baz`. Each part, the
 /// text between two line feeds, is filled by itself: its words, cut at blanks and never split or
-/// broken, are divided by first fit, and the last blank before each later line becomes a line feed.
-/// All other bytes stay, so the length stays too.
+/// broken, are divided by first fit. Every line of a part but its last ends in a blank, and this
+/// blank is turned into the line feed. All other bytes stay, so the length stays too.
 ///
 /// The new lines, without the blanks at their ends, are those of `wrap` by first fit with words
 /// kept whole, if no character takes more columns than its bytes

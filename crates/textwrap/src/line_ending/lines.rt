@@ -7,7 +7,7 @@ ghost use Rattle.textwrap.specs.Refilling.{nonempty_lines};
 use super::LineEnding;
 use std::marker::Model;
 
-/// The lines of a text that are not empty, each with the ending that follows it, if one does. To
+/// An iterator over the lines of a text, without the empty ones, that says of each how it ends. To
 /// contracts it is the list of the lines to come.
 #[derive(Drop)]
 pub(crate) struct NonEmptyLines<'a>(pub(crate) &'a str);

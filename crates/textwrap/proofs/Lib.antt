@@ -1,3 +1,1 @@
-pub mod Paragraph
 pub mod Text
-pub mod Word

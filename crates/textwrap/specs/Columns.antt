@@ -6,10 +6,10 @@ use Rattle.std.specs.List.{flat_map, range_with_len}
 use Rattle.textwrap_base.specs.Blanks.{blank}
 use Rattle.textwrap_base.specs.Units.{text_width}
 use Rattle.textwrap_base.specs.Words.{WordText}
-use Rattle.textwrap.specs.LineEnding.{join_with}
-use Rattle.textwrap.specs.Options.{Settings}
-use Rattle.textwrap.specs.Paragraph.{Line, line_bytes}
-use Rattle.textwrap.specs.Text.{AreTextLines}
+use Rattle.textwrap_lines.specs.LineEnding.{join_with}
+use Rattle.textwrap_lines.specs.Options.{Settings}
+use Rattle.textwrap_lines.specs.Paragraph.{Line, line_bytes}
+use Rattle.textwrap_lines.specs.Text.{AreTextLines}
 use Rattle.textwrap.specs.declared.columns.Table.{Table}
 
 abbrev pub blanks : ℕ → List ℕ

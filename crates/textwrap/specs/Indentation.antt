@@ -8,7 +8,7 @@ use Rattle.std.specs.List.{take_while}
 use Rattle.std.specs.Str.{chars, trim_end, encode_utf8_all}
 use Rattle.std.specs.Str.Lines.{lines}
 use Rattle.textwrap_base.specs.Lists.{last}
-use Rattle.textwrap.specs.LineEnding.{line_feed}
+use Rattle.textwrap_lines.specs.LineEnding.{line_feed}
 
 -- whitespace alone, or empty
 abbrev pub is_blank_line : List ℕ → Bool

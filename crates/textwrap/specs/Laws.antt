@@ -1,5 +1,5 @@
 -- What the laws say.
-use Rattle.std.specs.Prelude.{◌≡◌, ◌↔◌, ◌⊎◌, ℕ, Bool, false, List, ◌++◌, All, IsUtf8, length}
+use Rattle.std.specs.Prelude.{◌≡◌, ◌↔◌, ◌⊎◌, ℕ, false, List, ◌++◌, All, IsUtf8, length}
 use Rattle.std.specs.Prelude.{◌≢◌, ◌+◌, ◌-◌, ◌*◌, ◌≤◌, [], drop, map, replicate, sum_by}
 use Rattle.std.specs.Io.{StartsWith}
 use Rattle.std.specs.List.{flat_map}
@@ -7,75 +7,35 @@ use Rattle.std.specs.Str.{chars, trim_end}
 use Rattle.std.specs.Str.Lines.{lines}
 use Rattle.textwrap_base.specs.Blanks.{without_final_blanks}
 use Rattle.textwrap_base.specs.Units.{IsNarrow, text_width}
-use Rattle.textwrap_base.specs.Words.{WordText, tile_of, tiled}
 use Rattle.textwrap_base.specs.WrapAlgorithms.{Algorithm, Greedy}
+use Rattle.textwrap_lines.specs.Filling.{IsFilled}
+use Rattle.textwrap_lines.specs.LineEnding.{line_feed, paragraphs_of}
+use Rattle.textwrap_lines.specs.Options.{Settings, settings_at}
+use Rattle.textwrap_lines.specs.Paragraph.{IsDividedInto, Slice}
+use Rattle.textwrap_lines.specs.Text.{AreTextLines}
+use Rattle.textwrap_lines.specs.WordSeparators.{AreSeparated}
+use Rattle.textwrap_lines.specs.WordSplitters.{ArePoints}
+use Rattle.textwrap_lines.specs.declared.line_ending.LineEnding.TheVariants.{LF}
+use Rattle.textwrap_lines.specs.declared.word_separators.WordSeparator.{WordSeparator}
+use Rattle.textwrap_lines.specs.declared.word_separators.WordSeparator.TheVariants.{AsciiSpace}
+use Rattle.textwrap_lines.specs.declared.word_splitters.WordSplitter.{WordSplitter}
+use Rattle.textwrap_lines.specs.declared.word_splitters.WordSplitter.TheVariants.{NoHyphenation}
 use Rattle.textwrap.specs.Columns.{Layout, layout_of, inner_width, row_count, cells, row_text}
 use Rattle.textwrap.specs.Columns.{row_parts, cells_by_column}
-use Rattle.textwrap.specs.Filling.{IsFilled}
 use Rattle.textwrap.specs.InPlace.{IsFilledInPlace}
 use Rattle.textwrap.specs.Indentation.{is_blank_line, ended_parts, indented, indented_part}
 use Rattle.textwrap.specs.Indentation.{HasNoLineFeed, AreEndedParts, IsMarginOf, margin_of}
-use Rattle.textwrap.specs.LineEnding.{AreParagraphs, line_feed, paragraphs_of}
-use Rattle.textwrap.specs.Options.{Settings, settings_at}
-use Rattle.textwrap.specs.Paragraph.{ArePieces, pieces_of, IsDividedInto, AreDividedParts}
-use Rattle.textwrap.specs.Paragraph.{AreParagraphParts, Line, Slice}
 use Rattle.textwrap.specs.Refilling.{IsCommonPrefix, common_prefix, IsRefilled, IsPlain, blanked}
-use Rattle.textwrap.specs.Text.{AreTextLines, IsWrapped}
-use Rattle.textwrap.specs.WordSeparators.{AreSeparated}
-use Rattle.textwrap.specs.WordSplitters.{AreCuts, ArePoints, points_of, split_pieces, split_words}
-use Rattle.textwrap.specs.declared.line_ending.LineEnding.{LineEnding}
-use Rattle.textwrap.specs.declared.line_ending.LineEnding.TheVariants.{LF}
-use Rattle.textwrap.specs.declared.word_separators.WordSeparator.{WordSeparator}
-use Rattle.textwrap.specs.declared.word_separators.WordSeparator.TheVariants.{AsciiSpace}
-use Rattle.textwrap.specs.declared.word_splitters.WordSplitter.{WordSplitter}
-use Rattle.textwrap.specs.declared.word_splitters.WordSplitter.TheVariants.{NoHyphenation}
 pub use Rattle.textwrap_base.specs.Laws.{UnitsAreUnique, WordsAreUnique, BrokenPiecesAreUnique}
 pub use Rattle.textwrap_base.specs.Laws.{BrokenTextsTile, BrokenPiecesTile, BrokenWordsTile}
 pub use Rattle.textwrap_base.specs.Laws.{GreedyDivisionIsUnique, ChosenDivisionIsUnique}
 pub use Rattle.textwrap_base.specs.Laws.{TableDivisionIsUnique, TableOverflowIsOverflow}
 pub use Rattle.textwrap_base.specs.Laws.{TableHasLeastCosts}
-
--- a text has its paragraphs in one way, the computed one
-abbrev pub ParagraphsAreUnique : Type 0
-ParagraphsAreUnique =
-    (ending : LineEnding) (text : List ℕ) (paragraphs : List (List ℕ))
-    → AreParagraphs ending text paragraphs ↔ (paragraphs ≡ paragraphs_of ending text)
-
--- by a built-in separator and splitter a paragraph has exactly the computed pieces
-abbrev pub PiecesAreUnique : Type 0
-PiecesAreUnique =
-    (settings : Settings) (separator : WordSeparator) (splitter : WordSplitter)
-    (paragraph : List ℕ) (pieces : List WordText)
-    → ArePieces settings (AreSeparated separator) (ArePoints splitter) paragraph pieces
-    ↔ (pieces ≡ pieces_of settings separator splitter paragraph)
-
--- each value has one of these at most
-abbrev pub IsUnique : {B : Type 0} → (List ℕ → B → Type 0) → Type 0
-IsUnique {B} Is = (x : List ℕ) (first second : B) → Is x first → Is x second → first ≡ second
-
--- whatever the settings and the algorithm, for the built-in separators and splitters
-abbrev pub ForBuiltIn : (Settings → (List ℕ → List (List WordText) → Type 0) → Type 0) → Type 0
-ForBuiltIn Holds =
-    (settings : Settings) (algorithm : Algorithm) (separator : WordSeparator)
-    (splitter : WordSplitter)
-    → Holds settings
-    (IsDividedInto settings (AreSeparated separator) (ArePoints splitter) algorithm)
-
-abbrev pub DividedLinesAreUnique : Type 0
-DividedLinesAreUnique =
-    ForBuiltIn (λ settings Divides. (is_later : Bool)
-    → IsUnique (AreDividedParts settings Divides is_later))
-
-abbrev pub ParagraphLinesAreUnique : Type 0
-ParagraphLinesAreUnique =
-    ForBuiltIn (λ settings Divides. (is_later : Bool)
-    → IsUnique (AreParagraphParts settings Divides is_later))
-
-abbrev pub TextLinesAreUnique : Type 0
-TextLinesAreUnique = ForBuiltIn (λ settings Divides. IsUnique (AreTextLines settings Divides))
-
-abbrev pub FilledTextIsUnique : Type 0
-FilledTextIsUnique = ForBuiltIn (λ settings Divides. IsUnique (IsFilled settings Divides))
+pub use Rattle.textwrap_lines.specs.Laws.{ParagraphsAreUnique, PiecesAreUnique, IsUnique}
+pub use Rattle.textwrap_lines.specs.Laws.{ForBuiltIn, DividedLinesAreUnique}
+pub use Rattle.textwrap_lines.specs.Laws.{ParagraphLinesAreUnique, TextLinesAreUnique}
+pub use Rattle.textwrap_lines.specs.Laws.{FilledTextIsUnique, TextLinesAreWrapped, PointsAreCuts}
+pub use Rattle.textwrap_lines.specs.Laws.{SplitPiecesTile, SplitWordsTile}
 
 -- a text is filled in place in one way at each width
 abbrev pub FilledInPlaceIsUnique : Type 0
@@ -94,32 +54,6 @@ FilledInPlaceIsWrapped =
     → AreTextLines (unbroken_at width) (IsDividedInto (unbroken_at width)
     (AreSeparated AsciiSpace) (ArePoints NoHyphenation) Greedy) text
     (map (λ line. Slice (without_final_blanks line)) (paragraphs_of LF filled))
-
--- by built-in parts the lines of a text lose only blanks, add only indents, and keep to their widths
-abbrev pub TextLinesAreWrapped : Type 0
-TextLinesAreWrapped =
-    (settings : Settings) (algorithm : Algorithm) (separator : WordSeparator)
-    (splitter : WordSplitter) (text : List ℕ) (lines : List Line) → IsUtf8 text
-    → let Divides : List ℕ → List (List WordText) → Type 0 =
-    IsDividedInto settings (AreSeparated separator) (ArePoints splitter) algorithm in
-    AreTextLines settings Divides text lines → IsWrapped settings algorithm Divides text lines
-
--- the points of a splitter are cuts of the word
-abbrev pub PointsAreCuts : Type 0
-PointsAreCuts =
-    (splitter : WordSplitter) (text : List ℕ) → IsUtf8 text → AreCuts text (points_of splitter text)
-
--- the pieces at any cuts tile the word, with its whitespace
-abbrev pub SplitPiecesTile : Type 0
-SplitPiecesTile =
-    (points : List ℕ) (w : WordText) → AreCuts w.word points
-    → tiled (split_pieces points w) ≡ tile_of w
-
--- so the pieces of words tile what the words do
-abbrev pub SplitWordsTile : Type 0
-SplitWordsTile =
-    (splitter : WordSplitter) (words : List WordText) → All (λ w. IsUtf8 w.word) words
-    → tiled (split_words splitter words) ≡ tiled words
 
 -- a text has its ended parts in one way, the computed one
 abbrev pub EndedPartsAreUnique : Type 0

@@ -12,15 +12,15 @@ use Rattle.textwrap_base.specs.Lists.{last}
 use Rattle.textwrap_base.specs.Units.{text_width}
 use Rattle.textwrap_base.specs.Words.{WordText}
 use Rattle.textwrap_base.specs.WrapAlgorithms.{Algorithm, algorithm_view}
-use Rattle.textwrap.specs.Filling.{IsFilled}
-use Rattle.textwrap.specs.LineEnding.{carriage_return, line_feed, ending_bytes, join_with}
-use Rattle.textwrap.specs.Options.{Settings, settings_at, default_algorithm}
-use Rattle.textwrap.specs.Paragraph.{IsDividedInto}
-use Rattle.textwrap.specs.declared.line_ending.LineEnding.{LineEnding}
-use Rattle.textwrap.specs.declared.line_ending.LineEnding.TheVariants.{CRLF, LF}
-use Rattle.textwrap.specs.declared.options.Options.{Options}
-use Rattle.textwrap.specs.declared.word_separators.WordSeparator.TheVariants.{AsciiSpace}
-use Rattle.textwrap.specs.declared.word_splitters.WordSplitter.TheVariants.{HyphenSplitter}
+use Rattle.textwrap_lines.specs.Filling.{IsFilled}
+use Rattle.textwrap_lines.specs.LineEnding.{carriage_return, line_feed, ending_bytes, join_with}
+use Rattle.textwrap_lines.specs.Options.{Settings, settings_at, default_algorithm}
+use Rattle.textwrap_lines.specs.Paragraph.{IsDividedInto}
+use Rattle.textwrap_lines.specs.declared.line_ending.LineEnding.{LineEnding}
+use Rattle.textwrap_lines.specs.declared.line_ending.LineEnding.TheVariants.{CRLF, LF}
+use Rattle.textwrap_lines.specs.declared.options.Options.{Options}
+use Rattle.textwrap_lines.specs.declared.word_separators.WordSeparator.TheVariants.{AsciiSpace}
+use Rattle.textwrap_lines.specs.declared.word_splitters.WordSplitter.TheVariants.{HyphenSplitter}
 
 -- ---- lines with their endings
 

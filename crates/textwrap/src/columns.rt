@@ -3,19 +3,18 @@ ghost use Rattle.std.specs.Prelude.{◌≡◌, ◌+◌, ◌-◌, ◌*◌, ◌<�
 ghost use Rattle.std.specs.Prelude.{string_bytes, IfOk, IfErr, OnOk, ◌⊎◌};
 ghost use Rattle.std.specs.List.{range_with_len, repeat};
 ghost use Rattle.textwrap_base.specs.WrapAlgorithms.{algorithm_view};
-ghost use Rattle.textwrap.specs.Columns.{blanks, inner_width, column_width, layout_view, cell, cells};
-ghost use Rattle.textwrap.specs.Columns.{padded, gapped, row_text, table_rows, IsInColumns};
-ghost use Rattle.textwrap.specs.Options.{settings_view};
-ghost use Rattle.textwrap.specs.Paragraph.{line_view, line_bytes, IsDividedInto};
-ghost use Rattle.textwrap.specs.WordSeparators.{AreSeparated};
-ghost use Rattle.textwrap.specs.WordSplitters.{ArePoints};
+ghost use Rattle.textwrap.specs.Columns.{blanks, inner_width, column_width, layout_view, cell};
+ghost use Rattle.textwrap.specs.Columns.{cells, padded, gapped, row_text, table_rows, IsInColumns};
+ghost use Rattle.textwrap_lines.specs.Options.{settings_view};
+ghost use Rattle.textwrap_lines.specs.Paragraph.{line_view, line_bytes, IsDividedInto};
+ghost use Rattle.textwrap_lines.specs.WordSeparators.{AreSeparated};
+ghost use Rattle.textwrap_lines.specs.WordSplitters.{ArePoints};
 
-use crate::options::Options;
 use crate::words::display_width;
 use crate::wrap_algorithms::WrapError;
-use crate::wrapping::wrap;
 use std::alloc::{AllocError, Global};
 use std::borrow::CowStr;
+use textwrap_lines::{Options, wrap};
 
 /// What the rows of a table have in common.
 #[derive(Drop)]

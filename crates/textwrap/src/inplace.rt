@@ -6,17 +6,16 @@ ghost use Rattle.textwrap_base.specs.Division.{IsGreedy};
 ghost use Rattle.textwrap_base.specs.Words.{WordText, word_view, sizes_of, words_of, tiled};
 ghost use Rattle.textwrap.specs.InPlace.{IsFilledInPlace, OnlyBlanksChange, AreDividedAt};
 ghost use Rattle.textwrap.specs.InPlace.{breaks_from, breaks_of, ends_from, with_line_feeds};
-ghost use Rattle.textwrap.specs.LineEnding.{paragraphs_of};
-ghost use Rattle.textwrap.specs.Paragraph.{text_limit};
-ghost use Rattle.textwrap.specs.declared.line_ending.LineEnding.TheVariants.{LF};
+ghost use Rattle.textwrap_lines.specs.LineEnding.{paragraphs_of};
+ghost use Rattle.textwrap_lines.specs.Paragraph.{text_limit};
+ghost use Rattle.textwrap_lines.specs.declared.line_ending.LineEnding.TheVariants.{LF};
 
-use crate::line_ending::LineEnding;
-use crate::word_separators::WordSeparator;
 use crate::words::Word;
 use crate::wrap_algorithms::wrap_first_fit;
-use crate::wrapping::{split_paragraph, tiled_len};
 use std::alloc::{AllocError, Global};
 use std::mem;
+use textwrap_lines::parts::{split_paragraph, tiled_len};
+use textwrap_lines::{LineEnding, WordSeparator};
 
 /// Fills a text in its own place: a blank before each new line becomes a line feed.
 ///

@@ -1,56 +1,18 @@
 //! Laws of the definitions that the contracts cite. Each is the contract of a function that does
 //! nothing, so that a proof may call on it.
-ghost use Rattle.textwrap.specs.Laws.{ParagraphsAreUnique, PiecesAreUnique, DividedLinesAreUnique};
-ghost use Rattle.textwrap.specs.Laws.{ParagraphLinesAreUnique, TextLinesAreUnique};
-ghost use Rattle.textwrap.specs.Laws.{FilledTextIsUnique, TextLinesAreWrapped, PointsAreCuts};
 ghost use Rattle.textwrap.specs.Laws.{FilledInPlaceIsUnique, FilledInPlaceIsWrapped};
 ghost use Rattle.textwrap.specs.Laws.{EndedPartsAreUnique, IndentsAreParts, WholeIndents};
 ghost use Rattle.textwrap.specs.Laws.{IndentsComeOff, MarginsAreUnique, LinesBeginWithMargin};
-ghost use Rattle.textwrap.specs.Laws.{SplitPiecesTile, SplitWordsTile, CommonPrefixesAreUnique};
-ghost use Rattle.textwrap.specs.Laws.{RefilledIsFilled, FilledIsPlain, FilledTwiceIsFilledOnce};
-ghost use Rattle.textwrap.specs.Laws.{RowsAreParts, RowsAreEven, ColumnsKeepLines};
+ghost use Rattle.textwrap.specs.Laws.{CommonPrefixesAreUnique, RefilledIsFilled, FilledIsPlain};
+ghost use Rattle.textwrap.specs.Laws.{FilledTwiceIsFilledOnce, RowsAreParts, RowsAreEven};
+ghost use Rattle.textwrap.specs.Laws.{ColumnsKeepLines};
 
-pub use textwrap_base::laws::{
+pub use textwrap_lines::laws::{
     broken_pieces_are_unique, broken_pieces_tile, chosen_division_is_unique,
-    greedy_division_is_unique, table_division_is_unique, table_has_least_costs,
-    table_overflow_is_overflow, units_are_unique, words_are_unique,
+    greedy_division_is_unique, lines_are_unique, paragraphs_are_unique, pieces_are_unique,
+    split_pieces_tile, table_division_is_unique, table_has_least_costs, table_overflow_is_overflow,
+    text_lines_are_wrapped, units_are_unique, words_are_unique,
 };
-
-/// A text has its paragraphs in exactly one way: joined by the ending they are the text, and none
-/// has an ending in it. They are what `paragraphs_of` gives.
-pub fn paragraphs_are_unique()
-    ensures { ParagraphsAreUnique }
-{}
-
-/// By a built-in separator and a built-in splitter a paragraph is cut into exactly the pieces that
-/// `pieces_of` gives.
-pub fn pieces_are_unique()
-    ensures { PiecesAreUnique }
-{}
-
-/// A paragraph has one list of lines, as a whole or divided, a text has one, and one filled text,
-/// whatever the options. So the contracts of `wrap`, `fill` and `fuzzing` leave them no choice.
-pub fn lines_are_unique()
-    ensures divided { DividedLinesAreUnique }
-    ensures paragraph { ParagraphLinesAreUnique }
-    ensures text { TextLinesAreUnique }
-    ensures filled { FilledTextIsUnique }
-{}
-
-/// With a built-in separator and splitter, the lines of a text, and so those that `fill` joins, are
-/// at least one, lose only blanks and add only indents. By first fit, where words are broken, they
-/// keep to their widths.
-pub fn text_lines_are_wrapped()
-    ensures { TextLinesAreWrapped }
-{}
-
-/// The points of a splitter are cuts of the word, and the pieces at any cuts tile it, with its
-/// whitespace. So the pieces of a list of words tile what the words do.
-pub fn split_pieces_tile()
-    ensures cuts { PointsAreCuts }
-    ensures pieces { SplitPiecesTile }
-    ensures words { SplitWordsTile }
-{}
 
 /// At each width a text is filled in place in one way. Where no character of it takes more columns
 /// than its bytes, its new lines, each without the blanks at its end, are those that `wrap` gives

@@ -4,24 +4,25 @@ ghost use Rattle.std.specs.Prelude.{IfSome, string_bytes, map, option_to_list};
 ghost use Rattle.std.specs.Io.{StartsWith};
 ghost use Rattle.std.specs.Str.{IsAscii};
 ghost use Rattle.textwrap_base.specs.WrapAlgorithms.{algorithm_view};
-ghost use Rattle.textwrap.specs.Options.{default_algorithm, settings_at, settings_view};
+ghost use Rattle.textwrap_lines.specs.Options.{default_algorithm, settings_at, settings_view};
 ghost use Rattle.textwrap.specs.Refilling.{is_prefix_character, line_prefix, common_start};
 ghost use Rattle.textwrap.specs.Refilling.{unfilled_text, unfilled_settings, joined_text};
 ghost use Rattle.textwrap.specs.Refilling.{keeps_ending, IsRefilled, HasDefaultMethods};
 ghost use Rattle.textwrap.specs.Refilling.{unfilled_width, unfilled_initial, unfilled_subsequent};
 ghost use Rattle.textwrap.specs.Refilling.{with_indents_of};
 ghost use Rattle.textwrap.specs.Refilling.{detected_among, detected_ending, common_prefix};
-ghost use Rattle.textwrap.specs.WordSeparators.{AreSeparated};
-ghost use Rattle.textwrap.specs.WordSplitters.{ArePoints};
-ghost use Rattle.textwrap.specs.declared.word_separators.WordSeparator.TheVariants.{AsciiSpace};
-ghost use Rattle.textwrap.specs.declared.word_splitters.WordSplitter.TheVariants.{HyphenSplitter};
+ghost use Rattle.textwrap_lines.specs.WordSeparators.{AreSeparated};
+ghost use Rattle.textwrap_lines.specs.WordSplitters.{ArePoints};
+ghost use Rattle.textwrap_lines.specs.declared.word_separators.WordSeparator.TheVariants.{AsciiSpace};
+ghost use Rattle.textwrap_lines.specs.declared.word_splitters.WordSplitter.TheVariants.{HyphenSplitter};
 
-use crate::filling::fill;
-use crate::line_ending::{LineEnding, NonEmptyLines};
-use crate::options::Options;
 use crate::words::display_width;
 use crate::wrap_algorithms::WrapError;
+use lines::NonEmptyLines;
 use std::alloc::{AllocError, Global};
+use textwrap_lines::{LineEnding, Options, fill};
+
+mod lines;
 
 /// Joins the lines of a filled text, and finds out how it was filled.
 ///

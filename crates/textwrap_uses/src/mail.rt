@@ -4,7 +4,7 @@ ghost use Rattle.textwrap.specs.Filling.{IsFilledBy};
 ghost use Rattle.textwrap.specs.Options.{settings_at, settings_view, default_algorithm};
 ghost use Rattle.textwrap.specs.Paragraph.{line_view, DividesBy};
 ghost use Rattle.textwrap.specs.Text.{AreTextLines};
-ghost use Rattle.textwrap.specs.declared.line_ending.LineEnding.TheVariants.{CRLF};
+ghost use Rattle.textwrap.specs.declared.LineEnding.TheVariants.{CRLF};
 
 use std::alloc::Global;
 use std::borrow::CowStr;

@@ -14,15 +14,15 @@ use Rattle.textwrap_base.specs.Words.{WordText, word_view, sizes_of, tiled, word
 use Rattle.textwrap_base.proofs.Division.Map.{IsGreedy-map}
 use Rattle.textwrap_base.proofs.ListLemmas.{flat}
 use Rattle.textwrap_base.proofs.Word.Tiling.{tiled-append}
-use Rattle.textwrap.specs.LineEnding.{ending_bytes, paragraphs_of}
-use Rattle.textwrap.specs.declared.line_ending.LineEnding.TheVariants.{LF}
+use Rattle.textwrap_lines.specs.LineEnding.{ending_bytes, paragraphs_of}
+use Rattle.textwrap_lines.specs.declared.line_ending.LineEnding.TheVariants.{LF}
 use Rattle.textwrap_base.specs.declared.words.Word.{Word}
 use Rattle.textwrap.specs.InPlace.{broken_lines, AreDividedAt, breaks_of, breaks_from}
-use Rattle.textwrap.specs.LineEnding.{line_feed}
+use Rattle.textwrap_lines.specs.LineEnding.{line_feed}
 use Rattle.textwrap.specs.InPlace.{ends_from, with_line_feeds, IsFilledInPlace}
-use Rattle.textwrap.proofs.Text.Endings.{join_with-cons, join-paragraphs_of, parts_past-some}
-use Rattle.textwrap.proofs.Text.Lines.{paragraphs_left, bytes_left}
-use Rattle.textwrap.proofs.Paragraph.LinesApart.{shortened, AreLinesApart, IsBroken-greedy}
+use Rattle.textwrap_lines.proofs.Text.Endings.{join_with-cons, join-paragraphs_of, parts_past-some}
+use Rattle.textwrap_lines.proofs.Text.Lines.{paragraphs_left, bytes_left}
+use Rattle.textwrap_lines.proofs.Paragraph.LinesApart.{shortened, AreLinesApart, IsBroken-greedy}
 use Rattle.textwrap.proofs.Text.InPlace.{feed_joined, broken_lines-some, tiled-broken}
 use Rattle.textwrap.proofs.Text.InPlace.{join-append, length-joined, all_broken-some}
 use Rattle.textwrap.proofs.Text.InPlace.{divisions-some}

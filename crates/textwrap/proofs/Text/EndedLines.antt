@@ -10,7 +10,7 @@ use Rattle.std.proofs.lemmas.List.Splits.{slice_split_first, slice_split_none, l
 use Rattle.std.proofs.lemmas.List.Sums.{prefix_len_passes}
 use Rattle.textwrap_base.specs.Lists.{last}
 use Rattle.textwrap_base.proofs.ListLemmas.{last-push}
-use Rattle.textwrap.specs.declared.line_ending.LineEnding.TheVariants.{CRLF, LF}
+use Rattle.textwrap_lines.specs.declared.line_ending.LineEnding.TheVariants.{CRLF, LF}
 use Rattle.textwrap.specs.Refilling.{EndedLine, line_before_feed, ended_lines_of, ended_lines}
 
 abbrev pub is_feed : ℕ → Bool

@@ -11,15 +11,15 @@ use Rattle.textwrap_base.specs.Division.{IsGreedy}
 use Rattle.textwrap_base.specs.Words.{WordText, sizes_of, tiled, words_of}
 use Rattle.textwrap_base.proofs.ListLemmas.{flat}
 use Rattle.textwrap_base.proofs.Word.Tiling.{tiled-append}
-use Rattle.textwrap.specs.LineEnding.{ending_bytes, join_with, paragraphs_of}
-use Rattle.textwrap.specs.declared.line_ending.LineEnding.TheVariants.{LF}
+use Rattle.textwrap_lines.specs.LineEnding.{ending_bytes, join_with, paragraphs_of}
+use Rattle.textwrap_lines.specs.declared.line_ending.LineEnding.TheVariants.{LF}
 use Rattle.textwrap_base.proofs.Word.Texts.{ascii_seam}
 use Rattle.textwrap.specs.InPlace.{broken_lines, AreDividedAt}
-use Rattle.textwrap.specs.LineEnding.{line_feed}
+use Rattle.textwrap_lines.specs.LineEnding.{line_feed}
 use Rattle.textwrap.specs.InPlace.{OnlyBlanksChange, IsFilledInPlace}
-use Rattle.textwrap.proofs.Text.Endings.{join_with-cons, join-paragraphs_of, parts_past-some}
-use Rattle.textwrap.proofs.Paragraph.LinesApart.{shortened, AreLinesApart, IsBroken}
-use Rattle.textwrap.proofs.Paragraph.LinesApart.{IsBroken-greedy}
+use Rattle.textwrap_lines.proofs.Text.Endings.{join_with-cons, join-paragraphs_of, parts_past-some}
+use Rattle.textwrap_lines.proofs.Paragraph.LinesApart.{shortened, AreLinesApart, IsBroken}
+use Rattle.textwrap_lines.proofs.Paragraph.LinesApart.{IsBroken-greedy}
 
 -- ---- the lines in a row
 

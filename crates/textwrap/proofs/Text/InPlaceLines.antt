@@ -23,28 +23,30 @@ use Rattle.textwrap_base.proofs.ListLemmas.{flat, all-left, all-right}
 use Rattle.textwrap_base.proofs.Word.Texts.{HasNoPenalty, text_width-nil}
 use Rattle.textwrap_base.proofs.Word.Tiling.{tiled-words_of}
 use Rattle.textwrap_base.proofs.Word.Words.{words_unique}
-use Rattle.textwrap.specs.declared.line_ending.LineEnding.TheVariants.{LF}
-use Rattle.textwrap.specs.declared.word_separators.WordSeparator.TheVariants.{AsciiSpace}
-use Rattle.textwrap.specs.declared.word_splitters.WordSplitter.TheVariants.{NoHyphenation}
+use Rattle.textwrap_lines.specs.declared.line_ending.LineEnding.TheVariants.{LF}
+use Rattle.textwrap_lines.specs.declared.word_separators.WordSeparator.TheVariants.{AsciiSpace}
+use Rattle.textwrap_lines.specs.declared.word_splitters.WordSplitter.TheVariants.{NoHyphenation}
 use Rattle.textwrap.specs.InPlace.{broken_lines, AreDividedAt, IsFilledInPlace}
-use Rattle.textwrap.specs.LineEnding.{line_feed}
+use Rattle.textwrap_lines.specs.LineEnding.{line_feed}
 use Rattle.textwrap.specs.Laws.{unbroken_at}
-use Rattle.textwrap.specs.LineEnding.{ending_bytes, paragraphs_of, join_with, Lacks}
-use Rattle.textwrap.specs.Paragraph.{Line, LineParts, Slice, line_from, covered, indent_of}
-use Rattle.textwrap.specs.Paragraph.{is_whole, parts_of, parts_from, pieces_of, widths_of}
-use Rattle.textwrap.specs.Paragraph.{IsDividedInto, ArePieces, AreParagraphParts}
-use Rattle.textwrap.specs.Text.{AreGroups, AreTextLines}
-use Rattle.textwrap.specs.WordSeparators.{AreSeparated}
-use Rattle.textwrap.specs.WordSplitters.{ArePoints, split_words}
-use Rattle.textwrap.proofs.Paragraph.LastBlanks.{covered-words_of}
-use Rattle.textwrap.proofs.Paragraph.Lines.{line_from-pieces, line_from-whole}
-use Rattle.textwrap.proofs.Paragraph.Lines.{AreParagraphParts-whole, AreParagraphParts-divided}
-use Rattle.textwrap.proofs.Paragraph.Pieces.{ArePieces-computed}
-use Rattle.textwrap.proofs.Paragraph.Shortcut.{closed-pieces_of}
-use Rattle.textwrap.proofs.Text.Endings.{join-paragraphs_of, paragraphs_of-utf8, parts_past-some}
-use Rattle.textwrap.proofs.Paragraph.LinesApart.{shortened, AreLinesApart, IsBroken-greedy}
+use Rattle.textwrap_lines.specs.LineEnding.{ending_bytes, paragraphs_of, join_with, Lacks}
+use Rattle.textwrap_lines.specs.Paragraph.{Line, LineParts, Slice, line_from, covered, indent_of}
+use Rattle.textwrap_lines.specs.Paragraph.{is_whole, parts_of, parts_from, pieces_of, widths_of}
+use Rattle.textwrap_lines.specs.Paragraph.{IsDividedInto, ArePieces, AreParagraphParts}
+use Rattle.textwrap_lines.specs.Text.{AreGroups, AreTextLines}
+use Rattle.textwrap_lines.specs.WordSeparators.{AreSeparated}
+use Rattle.textwrap_lines.specs.WordSplitters.{ArePoints, split_words}
+use Rattle.textwrap_lines.proofs.Paragraph.LastBlanks.{covered-words_of}
+use Rattle.textwrap_lines.proofs.Paragraph.Lines.{line_from-pieces, line_from-whole}
+use Rattle.textwrap_lines.proofs.Paragraph.Lines.{AreParagraphParts-whole}
+use Rattle.textwrap_lines.proofs.Paragraph.Lines.{AreParagraphParts-divided}
+use Rattle.textwrap_lines.proofs.Paragraph.Pieces.{ArePieces-computed}
+use Rattle.textwrap_lines.proofs.Paragraph.Shortcut.{closed-pieces_of}
+use Rattle.textwrap_lines.proofs.Text.Endings.{join-paragraphs_of, paragraphs_of-utf8}
+use Rattle.textwrap_lines.proofs.Text.Endings.{parts_past-some}
+use Rattle.textwrap_lines.proofs.Paragraph.LinesApart.{shortened, AreLinesApart, IsBroken-greedy}
 use Rattle.textwrap.proofs.Text.InPlace.{feed_joined, join-broken, divisions-some}
-use Rattle.textwrap.proofs.Text.Paragraphs.{paragraphs_one}
+use Rattle.textwrap_lines.proofs.Text.Paragraphs.{paragraphs_one}
 
 -- ---- there is one text filled in place
 

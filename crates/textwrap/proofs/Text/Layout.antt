@@ -12,7 +12,7 @@ use Rattle.std.proofs.lemmas.List.{drop_more, get_or_default}
 use denote.Ref.{Bor}
 use Rattle.textwrap_base.specs.Units.{text_width}
 use Rattle.textwrap_base.proofs.Word.Texts.{text_width-nil}
-use Rattle.textwrap.specs.Options.{Settings, settings_at}
+use Rattle.textwrap_lines.specs.Options.{Settings, settings_at}
 use Rattle.textwrap.specs.Refilling.{line_prefix, common_prefix}
 use Rattle.textwrap.proofs.Text.Prefixes.{line_prefix-ascii, common_start-ascii}
 

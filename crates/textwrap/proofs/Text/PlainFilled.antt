@@ -13,22 +13,22 @@ use Rattle.textwrap_base.proofs.ListLemmas.{flat, all-right}
 use Rattle.textwrap_base.proofs.Word.Tiling.{tiled-words_of}
 use Rattle.textwrap_base.proofs.Word.Words.{words_unique}
 use Rattle.textwrap.specs.InPlace.{broken_lines}
-use Rattle.textwrap.specs.LineEnding.{line_feed}
+use Rattle.textwrap_lines.specs.LineEnding.{line_feed}
 use Rattle.textwrap.specs.Laws.{unbroken_at, IsFilledUnbroken}
-use Rattle.textwrap.specs.LineEnding.{ending_bytes, paragraphs_of}
-use Rattle.textwrap.specs.Paragraph.{LineParts, line_bytes, line_from, parts_from, is_whole}
-use Rattle.textwrap.specs.Paragraph.{widths_of, IsDividedInto, AreParagraphParts}
+use Rattle.textwrap_lines.specs.LineEnding.{ending_bytes, paragraphs_of}
+use Rattle.textwrap_lines.specs.Paragraph.{LineParts, line_bytes, line_from, parts_from, is_whole}
+use Rattle.textwrap_lines.specs.Paragraph.{widths_of, IsDividedInto, AreParagraphParts}
 use Rattle.textwrap.specs.Refilling.{IsPlainLine, IsPlain, blanked}
-use Rattle.textwrap.specs.Text.{AreGroups}
-use Rattle.textwrap.specs.WordSeparators.{AreSeparated}
-use Rattle.textwrap.specs.WordSplitters.{ArePoints}
-use Rattle.textwrap.specs.declared.line_ending.LineEnding.TheVariants.{LF}
-use Rattle.textwrap.specs.declared.word_separators.WordSeparator.TheVariants.{AsciiSpace}
-use Rattle.textwrap.specs.declared.word_splitters.WordSplitter.TheVariants.{NoHyphenation}
-use Rattle.textwrap.proofs.Paragraph.Lines.{line_from-whole}
-use Rattle.textwrap.proofs.Paragraph.LinesApart.{apart_from}
-use Rattle.textwrap.proofs.Paragraph.Pieces.{ArePieces-is}
-use Rattle.textwrap.proofs.Text.Endings.{parts_past-none}
+use Rattle.textwrap_lines.specs.Text.{AreGroups}
+use Rattle.textwrap_lines.specs.WordSeparators.{AreSeparated}
+use Rattle.textwrap_lines.specs.WordSplitters.{ArePoints}
+use Rattle.textwrap_lines.specs.declared.line_ending.LineEnding.TheVariants.{LF}
+use Rattle.textwrap_lines.specs.declared.word_separators.WordSeparator.TheVariants.{AsciiSpace}
+use Rattle.textwrap_lines.specs.declared.word_splitters.WordSplitter.TheVariants.{NoHyphenation}
+use Rattle.textwrap_lines.proofs.Paragraph.Lines.{line_from-whole}
+use Rattle.textwrap_lines.proofs.Paragraph.LinesApart.{apart_from}
+use Rattle.textwrap_lines.proofs.Paragraph.Pieces.{ArePieces-is}
+use Rattle.textwrap_lines.proofs.Text.Endings.{parts_past-none}
 use Rattle.textwrap.proofs.Text.InPlace.{blank_joined, feed_joined, tiled-broken, all_broken-some}
 use Rattle.textwrap.proofs.Text.InPlaceLines.{lines_from-broken, pieces_of-unbroken, trimmed_line}
 use Rattle.textwrap.proofs.Text.PlainLines.{solid, unblank-solid, plain_parts, blanked-joined}

@@ -12,10 +12,10 @@ use Rattle.textwrap_base.specs.Blanks.{blank, trimmed_len, without_final_blanks}
 use Rattle.textwrap_base.specs.Lists.{last}
 use Rattle.textwrap_base.proofs.ListLemmas.{all-right}
 use Rattle.textwrap_base.proofs.Word.Texts.{trimmed-past}
-use Rattle.textwrap.specs.LineEnding.{line_feed}
+use Rattle.textwrap_lines.specs.LineEnding.{line_feed}
 use Rattle.textwrap.specs.Refilling.{is_prefix_character, line_prefix, IsPlainByte, IsPlainWord}
 use Rattle.textwrap.specs.Refilling.{IsPlainLine, blanked}
-use Rattle.textwrap.proofs.Paragraph.LinesApart.{last-append}
+use Rattle.textwrap_lines.proofs.Paragraph.LinesApart.{last-append}
 use Rattle.textwrap.proofs.Text.InPlace.{blank_joined, feed_joined}
 
 -- ---- what plain lines begin and end with

@@ -14,22 +14,22 @@ use Rattle.std.proofs.lemmas.Slice.Eq.{bytes_eq-Decides}
 use Rattle.textwrap_base.specs.Lists.{last}
 use Rattle.textwrap_base.specs.Words.{WordText}
 use Rattle.textwrap_base.specs.WrapAlgorithms.{Algorithm}
-use Rattle.textwrap.specs.Filling.{IsFilled}
-use Rattle.textwrap.specs.LineEnding.{line_feed}
+use Rattle.textwrap_lines.specs.Filling.{IsFilled}
+use Rattle.textwrap_lines.specs.LineEnding.{line_feed}
 use Rattle.textwrap.specs.Laws.{IsFilledUnbroken, IsUnindented}
-use Rattle.textwrap.specs.LineEnding.{ending_bytes}
-use Rattle.textwrap.specs.Options.{Settings}
-use Rattle.textwrap.specs.Paragraph.{IsDividedInto}
+use Rattle.textwrap_lines.specs.LineEnding.{ending_bytes}
+use Rattle.textwrap_lines.specs.Options.{Settings}
+use Rattle.textwrap_lines.specs.Paragraph.{IsDividedInto}
 use Rattle.textwrap.specs.Refilling.{line_prefix, IsPlainLine, EndedLine, line_before_feed}
 use Rattle.textwrap.specs.Refilling.{ended_lines_of, has_text, nonempty_lines, common_start}
 use Rattle.textwrap.specs.Refilling.{common_prefix, unfilled_initial, unfilled_subsequent}
 use Rattle.textwrap.specs.Refilling.{detected_ending, unfilled_ending, keeps_ending}
 use Rattle.textwrap.specs.Refilling.{without_indents, joined_text, added_ending, with_indents_of}
 use Rattle.textwrap.specs.Refilling.{IsRefilled, IsPlain, blanked}
-use Rattle.textwrap.specs.declared.line_ending.LineEnding.{LineEnding}
-use Rattle.textwrap.specs.declared.line_ending.LineEnding.TheVariants.{CRLF, LF}
-use Rattle.textwrap.proofs.Paragraph.LinesApart.{last-append}
-use Rattle.textwrap.proofs.Text.Endings.{ending_bytes-some}
+use Rattle.textwrap_lines.specs.declared.line_ending.LineEnding.{LineEnding}
+use Rattle.textwrap_lines.specs.declared.line_ending.LineEnding.TheVariants.{CRLF, LF}
+use Rattle.textwrap_lines.proofs.Paragraph.LinesApart.{last-append}
+use Rattle.textwrap_lines.proofs.Text.Endings.{ending_bytes-some}
 use Rattle.textwrap.proofs.Text.InPlace.{blank_joined, feed_joined}
 use Rattle.textwrap.proofs.Text.PlainFilled.{filled-plain}
 use Rattle.textwrap.proofs.Text.PlainLines.{IsSolid, solid, blanked-joined}

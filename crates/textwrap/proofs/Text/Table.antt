@@ -10,17 +10,17 @@ use Rattle.std.proofs.lemmas.List.{map-append, flat_map_more}
 use Rattle.std.proofs.lemmas.List.Concat.{flat_map-append}
 use Rattle.std.proofs.lemmas.List.FromFn.{map-range_with_len_more}
 use Rattle.textwrap.specs.Columns.{Layout, blanks, cell, cells, padded, row_text, gapped}
-use Rattle.textwrap.specs.LineEnding.{join_with}
-use Rattle.textwrap.specs.Options.{Settings, settings_view, KeepsMethods}
-use Rattle.textwrap.specs.Paragraph.{Line, line_view, line_bytes, IsDividedInto, DividesBy}
-use Rattle.textwrap.specs.Text.{AreTextLines}
-use Rattle.textwrap.specs.WordSeparators.{AreSeparated}
-use Rattle.textwrap.specs.WordSplitters.{ArePoints}
-use Rattle.textwrap.specs.declared.options.Options.{Options}
+use Rattle.textwrap_lines.specs.LineEnding.{join_with}
+use Rattle.textwrap_lines.specs.Options.{Settings, settings_view, KeepsMethods}
+use Rattle.textwrap_lines.specs.Paragraph.{Line, line_view, line_bytes, IsDividedInto, DividesBy}
+use Rattle.textwrap_lines.specs.Text.{AreTextLines}
+use Rattle.textwrap_lines.specs.WordSeparators.{AreSeparated}
+use Rattle.textwrap_lines.specs.WordSplitters.{ArePoints}
+use Rattle.textwrap_lines.specs.declared.options.Options.{Options}
 use Rattle.textwrap_base.specs.WrapAlgorithms.{algorithm_view}
 use Rattle.textwrap_base.specs.Units.{text_width}
 use Rattle.textwrap_base.proofs.Word.Texts.{text_width-nil}
-use Rattle.textwrap.proofs.Text.Lines.{line_bytes-line_view}
+use Rattle.textwrap_lines.proofs.Text.Lines.{line_bytes-line_view}
 
 -- ---- runs
 

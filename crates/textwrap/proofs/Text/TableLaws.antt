@@ -15,7 +15,7 @@ use Rattle.textwrap_base.proofs.Word.Texts.{text_width-nil}
 use Rattle.textwrap.specs.Columns.{Layout, layout_of, inner_width, blanks, cell, cells}
 use Rattle.textwrap.specs.Columns.{padded, row_text, row_count, cell_parts, row_parts}
 use Rattle.textwrap.specs.Columns.{column_cells, cells_by_column}
-use Rattle.textwrap.specs.LineEnding.{join_with}
+use Rattle.textwrap_lines.specs.LineEnding.{join_with}
 use Rattle.textwrap.proofs.Text.Table.{range-split}
 
 -- ---- the parts of a row

@@ -10,9 +10,9 @@ use Rattle.std.proofs.lemmas.Bool.Decides.{nat_tests}
 use Rattle.std.proofs.lemmas.List.{nil_from_length}
 use Rattle.std.proofs.lemmas.List.Elements.{All-nil, All-cons, All-head, All-tail, All-filter}
 use Rattle.textwrap_base.specs.Blanks.{blank}
-use Rattle.textwrap.specs.declared.line_ending.LineEnding.{LineEnding}
-use Rattle.textwrap.specs.declared.line_ending.LineEnding.TheVariants.{CRLF, LF}
-use Rattle.textwrap.specs.LineEnding.{ending_bytes, join_with}
+use Rattle.textwrap_lines.specs.declared.line_ending.LineEnding.{LineEnding}
+use Rattle.textwrap_lines.specs.declared.line_ending.LineEnding.TheVariants.{CRLF, LF}
+use Rattle.textwrap_lines.specs.LineEnding.{ending_bytes, join_with}
 use Rattle.textwrap.specs.Refilling.{EndedLine, ended_lines_of, ended_lines, has_text}
 use Rattle.textwrap.specs.Refilling.{nonempty_lines, line_prefix, common_prefix, unfilled_initial}
 use Rattle.textwrap.specs.Refilling.{unfilled_subsequent, joined_text, without_indents}

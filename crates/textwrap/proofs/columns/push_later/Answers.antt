@@ -1,7 +1,7 @@
 use Rattle.std.proofs.Common.{◌++◌, ◌+◌, map, ap, ◌∙◌, arith, sym}
 use Rattle.std.specs.String.{string_bytes}
 use Rattle.textwrap.specs.Columns.{layout_view, padded}
-use Rattle.textwrap.specs.Paragraph.{line_view, line_bytes}
+use Rattle.textwrap_lines.specs.Paragraph.{line_view, line_bytes}
 use Rattle.textwrap.proofs.Text.Table.{cell_is, gapped-more}
 use Rattle.textwrap.proofs.columns.push_later.Goals as goal
 

@@ -2,7 +2,7 @@ use Rattle.std.proofs.Common.{◌≡◌, ◌+◌, ◌-◌, ◌*◌, ◌≤◌, �
 use Rattle.std.specs.List.{range_with_len}
 use Rattle.std.specs.String.{string_bytes}
 use Rattle.textwrap.specs.Columns.{layout_view, gapped, cell}
-use Rattle.textwrap.specs.Paragraph.{line_view, line_bytes}
+use Rattle.textwrap_lines.specs.Paragraph.{line_view, line_bytes}
 use Rattle.textwrap.proofs.columns.push_later.Given as goal
 
 -- the later cells so far, where the next line stands, and that there is a column for each

@@ -2,7 +2,7 @@ use Rattle.std.proofs.Common.{◌≡◌, ◌++◌, ◌+◌, ◌-◌, ◌*◌, �
 use Rattle.std.proofs.lemmas.List.{length-map}
 use Rattle.std.specs.List.{range_with_len, repeat}
 use Rattle.textwrap.specs.Columns.{layout_view, blanks, cell, padded, gapped}
-use Rattle.textwrap.specs.Paragraph.{line_view, line_bytes}
+use Rattle.textwrap_lines.specs.Paragraph.{line_view, line_bytes}
 use Rattle.textwrap.proofs.Text.Table.{cell_is, row_text-written}
 use Rattle.textwrap.proofs.columns.table_row.Goals as goal
 

@@ -4,7 +4,7 @@ use Rattle.std.proofs.lemmas.List.FromFn.{map-range_with_len_more}
 use Rattle.std.specs.List.{range_with_len}
 use Rattle.std.specs.String.{string_bytes}
 use Rattle.textwrap.specs.Columns.{layout_view, row_text, cells}
-use Rattle.textwrap.specs.Paragraph.{line_view, line_bytes}
+use Rattle.textwrap_lines.specs.Paragraph.{line_view, line_bytes}
 use Rattle.textwrap.proofs.columns.table_rows.Goals as goal
 
 pub loop-r-preserved : goal.loop-r-preserved

@@ -1,7 +1,7 @@
 use Rattle.std.proofs.Common.{◌≡◌, ◌*◌, map, ap, ◌∙◌, arith}
 use Rattle.textwrap.specs.Columns.{column_width, inner_width, layout_of, table_rows}
-use Rattle.textwrap.specs.Options.{settings_view}
-use Rattle.textwrap.specs.Paragraph.{line_view, line_bytes}
+use Rattle.textwrap_lines.specs.Options.{settings_view}
+use Rattle.textwrap_lines.specs.Paragraph.{line_view, line_bytes}
 use Rattle.textwrap.proofs.Text.Table.{AreTextLines-methods}
 use Rattle.textwrap.proofs.columns.wrap_columns.Goals as goal
 

@@ -1,8 +1,8 @@
 use Rattle.std.proofs.Common.{ap, ◌∙◌, subst, arith}
-use Rattle.textwrap.specs.declared.line_ending.LineEnding.TheVariants.{LF}
+use Rattle.textwrap_lines.specs.declared.line_ending.LineEnding.TheVariants.{LF}
 use Rattle.textwrap.proofs.Text.Breaks.{HasBreaks, HasBreaks-more, HasBreaks-end}
 use Rattle.textwrap.proofs.Text.Breaks.{bytes_left-split}
-use Rattle.textwrap.proofs.Text.Lines.{paragraphs_left, paragraphs_left-split, bytes_left}
+use Rattle.textwrap_lines.proofs.Text.Lines.{paragraphs_left, paragraphs_left-split, bytes_left}
 use Rattle.textwrap.proofs.inplace.find_breaks.Goals as goal
 
 pub loop-rest-preserved : goal.loop-rest-preserved

@@ -1,7 +1,7 @@
 use Rattle.std.proofs.Common.{◌+◌, ◌≤◌, length}
-use Rattle.textwrap.specs.declared.line_ending.LineEnding.TheVariants.{LF}
+use Rattle.textwrap_lines.specs.declared.line_ending.LineEnding.TheVariants.{LF}
 use Rattle.textwrap.proofs.Text.Breaks.{HasBreaks}
-use Rattle.textwrap.proofs.Text.Lines.{paragraphs_left, bytes_left}
+use Rattle.textwrap_lines.proofs.Text.Lines.{paragraphs_left, bytes_left}
 use Rattle.textwrap.proofs.inplace.find_breaks.Given as goal
 
 -- the places so far, and those of the parts left, are the places of the text

@@ -1,6 +1,6 @@
 use Rattle.std.proofs.Common.{map}
 use Rattle.textwrap_base.specs.Words.{word_view, tiled}
-use Rattle.textwrap.specs.Paragraph.{text_limit}
+use Rattle.textwrap_lines.specs.Paragraph.{text_limit}
 use Rattle.textwrap.proofs.Text.Breaks.{one-below, past-one, ends-one}
 use Rattle.textwrap.proofs.inplace.push_ends.Goals as goal
 

@@ -1,5 +1,5 @@
-use Rattle.textwrap.specs.WordSeparators.{AreSeparated}
-use Rattle.textwrap.specs.WordSplitters.{ArePoints}
+use Rattle.textwrap_lines.specs.WordSeparators.{AreSeparated}
+use Rattle.textwrap_lines.specs.WordSplitters.{ArePoints}
 use Rattle.textwrap.proofs.Text.PlainFilled.{filled-plain}
 use Rattle.textwrap.proofs.Text.Refilling.{refilled-filled, refilled-twice}
 use Rattle.textwrap.proofs.laws.refilling_is_filling.Goals as goal

@@ -1,5 +1,0 @@
-use Rattle.textwrap.proofs.Text.Paragraphs.{paragraphs_one}
-use Rattle.textwrap.proofs.laws.paragraphs_are_unique.Goals as goal
-
-pub returns : goal.returns
-returns c = paragraphs_one

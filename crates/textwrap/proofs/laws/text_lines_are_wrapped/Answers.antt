@@ -1,5 +1,0 @@
-use Rattle.textwrap.proofs.Text.Promises.{IsWrapped-from}
-use Rattle.textwrap.proofs.laws.text_lines_are_wrapped.Goals as goal
-
-pub returns : goal.returns
-returns c = IsWrapped-from

@@ -1,0 +1,3 @@
+pub mod Paragraph
+pub mod Text
+pub mod Word

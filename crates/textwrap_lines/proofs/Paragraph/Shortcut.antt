@@ -1,0 +1,173 @@
+-- Lemmas on the shortcut: a paragraph that is a line as a whole is that line too where its pieces
+-- are divided, if none of its characters takes more columns than its bytes.
+use Rattle.std.proofs.Common.{◌≡◌, ℕ, zero, suc, ◌≤◌, Bool, true, false, cond, ◌==◌, nat_lt}
+use Rattle.std.proofs.Common.{MatchBool, List, [], ◌∷◌, ◌++◌, All, length, map, refl, sym, ap, ◌∙◌}
+use Rattle.std.proofs.Common.{subst, arith, append_assoc}
+use Rattle.std.specs.Prelude.{chars, encode_utf8}
+use Rattle.std.specs.Str.{IsUtf8, IsAscii}
+use Rattle.std.proofs.lemmas.Bool.{and_parts, eqb-true, ltb-true}
+use Rattle.std.proofs.lemmas.List.{nil_from_length}
+use Rattle.std.proofs.lemmas.List.Elements.{All-nil, All-cons, All-head, All-tail, All-weaker}
+use Rattle.std.proofs.lemmas.Str.{IsUtf8-from_ascii, chars-append}
+use Rattle.textwrap_base.specs.Division.{closed_width}
+use Rattle.textwrap_base.specs.Units.{columns, text_width, IsNarrow}
+use Rattle.textwrap_base.specs.Words.{WordText, sizes_of, tiled, word_of}
+use Rattle.textwrap_base.specs.Blanks.{is_blank, without_final_blanks}
+use Rattle.textwrap_base.proofs.Division.OneLine.{IsDividedBy-one_line}
+use Rattle.textwrap_base.proofs.Units.Widths.{text_width-narrow}
+use Rattle.textwrap_base.proofs.Word.Texts.{AreBlanks, IsMeasured, HasNoPenalty, text_width-nil}
+use Rattle.textwrap_base.proofs.Word.Bounds.{IsNarrowWord, closed_width-narrow}
+use Rattle.textwrap_lines.specs.Options.{Settings}
+use Rattle.textwrap_lines.specs.Paragraph.{Line, LineParts, Slice, line_from, covered, indent_of}
+use Rattle.textwrap_lines.specs.Paragraph.{parts_of, pieces_of, widths_of, width_after, is_whole}
+use Rattle.textwrap_lines.specs.Paragraph.{parts_from, IsDividedInto, AreDividedParts}
+use Rattle.textwrap_lines.specs.Paragraph.{AreParagraphParts}
+use Rattle.textwrap_lines.proofs.Paragraph.LastBlanks.{covered-pieces_of}
+use Rattle.textwrap_base.proofs.ListLemmas.{all-left, all-right}
+use Rattle.textwrap_lines.proofs.Paragraph.Lines.{line_from-pieces, line_from-whole}
+use Rattle.textwrap_lines.specs.WordSeparators.{AreSeparated}
+use Rattle.textwrap_lines.specs.WordSplitters.{ArePoints}
+use Rattle.textwrap_lines.specs.declared.word_separators.WordSeparator.{WordSeparator}
+use Rattle.textwrap_lines.specs.declared.word_splitters.WordSplitter.{WordSplitter}
+use Rattle.textwrap_base.specs.WrapAlgorithms.{Algorithm}
+use Rattle.textwrap_lines.proofs.Paragraph.Pieces.{ArePieces-computed, pieces_of-measured}
+use Rattle.textwrap_lines.proofs.Paragraph.Pieces.{pieces_of-no_penalty, pieces_of-tile}
+
+-- ---- the pieces close within the paragraph's bytes
+
+abbrev IsNarrowChar : ℕ → Type 0
+IsNarrowChar c = columns c ≤ length (encode_utf8 c)
+
+blanks-ascii : (bytes : List ℕ) → AreBlanks bytes → IsAscii bytes
+blanks-ascii [] blanks i = omega arith
+blanks-ascii (c ∷ cs) blanks zero = let is =
+    eqb-true c 32 (All-head (λ d. is_blank d ≡ true) c cs blanks) in omega (arith, is)
+blanks-ascii (c ∷ cs) blanks (suc i) =
+    blanks-ascii cs (All-tail (λ d. is_blank d ≡ true) c cs blanks) i
+
+pub narrow_words : (ws : List WordText) → All IsMeasured ws → All HasNoPenalty ws → IsNarrow (tiled ws)
+    → All IsNarrowWord ws
+narrow_words [] measured none narrow = All-nil IsNarrowWord
+narrow_words (w ∷ ws) measured none narrow =
+    let here = All-head IsMeasured w ws measured in
+    let parts : chars (tiled (w ∷ ws)) ≡ chars w.word ++ (chars w.whitespace ++ chars (tiled ws)) =
+    ap chars (append_assoc w.word w.whitespace (tiled ws))
+    ∙ chars-append w.word (w.whitespace ++ tiled ws) here.utf8
+    ∙ ap (λ cs. chars w.word ++ cs)
+    (chars-append w.whitespace (tiled ws)
+    (IsUtf8-from_ascii w.whitespace (blanks-ascii w.whitespace here.ending.blanks))) in
+    let all : All IsNarrowChar (chars w.word ++ (chars w.whitespace ++ chars (tiled ws))) =
+    subst (All IsNarrowChar) parts narrow in
+    let word = text_width-narrow w.word here.utf8
+    (all-left IsNarrowChar (chars w.word) (chars w.whitespace ++ chars (tiled ws)) all) in
+    let rest = all-right IsNarrowChar (chars w.whitespace) (chars (tiled ws))
+    (all-right IsNarrowChar (chars w.word) (chars w.whitespace ++ chars (tiled ws)) all) in
+    All-cons IsNarrowWord w ws
+    (record {
+      width = subst (λ n. n ≤ length w.word) (sym here.width) word;
+      penalty = All-head HasNoPenalty w ws none;
+    })
+    (narrow_words ws (All-tail IsMeasured w ws measured) (All-tail HasNoPenalty w ws none) rest)
+
+pub closed-pieces_of : (settings : Settings) (separator : WordSeparator) (splitter : WordSplitter)
+    (paragraph : List ℕ) → IsUtf8 paragraph → IsNarrow paragraph
+    → closed_width sizes_of (pieces_of settings separator splitter paragraph) ≤ length paragraph
+closed-pieces_of settings separator splitter paragraph utf8 narrow =
+    let pieces = pieces_of settings separator splitter paragraph in
+    let tile = pieces_of-tile settings separator splitter paragraph utf8 in
+    let words = narrow_words pieces (pieces_of-measured settings separator splitter paragraph utf8)
+    (pieces_of-no_penalty settings separator splitter paragraph)
+    (subst IsNarrow (sym tile) narrow) in
+    subst (λ l. closed_width sizes_of pieces ≤ length l) tile (closed_width-narrow pieces words)
+
+-- ---- they are one line
+
+-- the line of all pieces, by whether its last whitespace is kept
+same_slice : (settings : Settings) (separator : WordSeparator) (splitter : WordSplitter)
+    (paragraph : List ℕ) (keeps : Bool)
+    → tiled (pieces_of settings separator splitter paragraph) ≡ paragraph
+    → covered (pieces_of settings separator splitter paragraph)
+    ≡ without_final_blanks paragraph
+    → cond keeps (tiled (pieces_of settings separator splitter paragraph))
+    (covered (pieces_of settings separator splitter paragraph)) ≡ cond keeps paragraph
+    (without_final_blanks paragraph)
+same_slice settings separator splitter paragraph true tile covers = tile
+same_slice settings separator splitter paragraph false tile covers = covers
+
+same_line : (settings : Settings) (separator : WordSeparator) (splitter : WordSplitter)
+    (is_later : Bool) (paragraph : List ℕ) → IsUtf8 paragraph → settings.initial_indent ≡ []
+    → indent_of settings is_later ≡ []
+    → is_whole settings is_later paragraph ≡ true
+    → line_from (parts_of settings is_later (pieces_of settings separator splitter paragraph))
+    ≡ line_from (parts_of settings is_later (word_of paragraph ∷ []))
+same_line settings separator splitter is_later paragraph utf8 unindented without whole =
+    line_from-pieces settings is_later (pieces_of settings separator splitter paragraph) without
+    (pieces_of-no_penalty settings separator splitter paragraph)
+    ∙ ap Slice (same_slice settings separator splitter paragraph settings.preserve_trailing_space
+    (pieces_of-tile settings separator splitter paragraph utf8)
+    (covered-pieces_of settings separator splitter paragraph utf8 unindented))
+    ∙ sym (line_from-whole settings is_later paragraph whole)
+
+-- ---- the shortcut
+
+module _ (settings : Settings) (algorithm : Algorithm) (separator : WordSeparator)
+    (splitter : WordSplitter) where
+  -- the lines of a paragraph are those of a division of its pieces
+  abbrev pub HasDividedLines : Bool → List ℕ → List Line → Type 0
+  HasDividedLines is_later paragraph lines =
+      (parts : List LineParts) × AreDividedParts settings
+      (IsDividedInto settings (AreSeparated separator) (ArePoints splitter) algorithm) is_later
+      paragraph parts × (map line_from parts ≡ lines)
+
+  whole-divided : (is_later : Bool) (paragraph : List ℕ) → IsUtf8 paragraph
+      → settings.initial_indent ≡ [] → IsNarrow paragraph
+      → is_whole settings is_later paragraph ≡ true
+      → HasDividedLines is_later paragraph
+      (line_from (parts_of settings is_later (word_of paragraph ∷ [])) ∷ [])
+  whole-divided is_later paragraph utf8 unindented narrow whole =
+      let pieces = pieces_of settings separator splitter paragraph in
+      let tests = and_parts (length (indent_of settings is_later) == 0)
+      (nat_lt (length paragraph) settings.width) whole in
+      let without = nil_from_length (indent_of settings is_later)
+      (eqb-true (length (indent_of settings is_later)) 0 tests.0) in
+      let shorter = ltb-true (length paragraph) settings.width tests.1 in
+      let narrower : text_width settings.initial_indent ≡ 0 = ap text_width unindented
+      ∙ text_width-nil in
+      let room : closed_width sizes_of pieces ≤ width_after settings settings.initial_indent =
+      (let closed = closed-pieces_of settings separator splitter paragraph utf8 narrow in
+      omega (arith, closed, shorter, narrower)) in
+      let none = All-weaker HasNoPenalty (λ w. length w.penalty ≡ 0)
+      (λ w none. ap length none) pieces
+      (pieces_of-no_penalty settings separator splitter paragraph) in (
+        parts_of settings is_later pieces ∷ [],
+        (
+          pieces ∷ [],
+          (
+            pieces,
+            ArePieces-computed settings separator splitter paragraph,
+            IsDividedBy-one_line algorithm sizes_of (widths_of settings) pieces none room,
+          ),
+          refl,
+        ),
+        ap (λ l. l ∷ []) (same_line settings separator splitter is_later paragraph utf8 unindented
+            without whole),
+      )
+
+  pub paragraph-divided : (is_later : Bool) (paragraph : List ℕ) (parts : List LineParts)
+      → IsUtf8 paragraph → settings.initial_indent ≡ [] → IsNarrow paragraph
+      → AreParagraphParts settings (IsDividedInto settings (AreSeparated separator)
+      (ArePoints splitter) algorithm) is_later paragraph parts
+      → HasDividedLines is_later paragraph (map line_from parts)
+  paragraph-divided is_later paragraph parts utf8 unindented narrow (division, laid_out, is) =
+      by_case (is_whole settings is_later paragraph) refl laid_out
+    where
+      by_case : (whole : Bool) → is_whole settings is_later paragraph ≡ whole
+          → MatchBool whole (division ≡ (word_of paragraph ∷ []) ∷ [])
+          (IsDividedInto settings (AreSeparated separator)
+          (ArePoints splitter) algorithm paragraph division)
+          → HasDividedLines is_later paragraph (map line_from parts)
+      by_case true is_true one =
+          subst (HasDividedLines is_later paragraph)
+          (sym (ap (map line_from) (is ∙ ap (parts_from settings is_later) one)))
+          (whole-divided is_later paragraph utf8 unindented narrow is_true)
+      by_case false is_false divided = (parts, (division, divided, is), refl)

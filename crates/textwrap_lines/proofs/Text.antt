@@ -1,0 +1,6 @@
+pub mod Endings
+pub mod Lines
+pub mod Lossless
+pub mod Paragraphs
+pub mod Promises
+pub mod Unique

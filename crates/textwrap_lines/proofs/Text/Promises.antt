@@ -1,0 +1,259 @@
+-- Lemmas on what the lines of a text keep to: there is one at least, they lose only blanks, add
+-- only indents, and by first fit, where words are broken, they keep to their widths.
+use Rattle.std.proofs.Common.{◌≡◌, ℕ, suc, ◌<◌, ◌≤◌, Bool, true, false, ◌==◌}
+use Rattle.std.proofs.Common.{◌||◌, nat_lt, MatchBool, List, [], ◌∷◌, ◌++◌, All, length, map, refl}
+use Rattle.std.proofs.Common.{sym, ap, ◌∙◌, subst, arith, length-append}
+use Rattle.std.specs.Str.{IsUtf8}
+use Rattle.std.proofs.lemmas.Bool.{and_parts, ltb-true}
+use Rattle.std.proofs.lemmas.Bool.Decides.{nat_tests}
+use Rattle.std.proofs.lemmas.List.{length-map}
+use Rattle.std.proofs.lemmas.List.Elements.{All-nil, All-cons, All-head, All-tail}
+use Rattle.textwrap_base.specs.Division.{closed_width}
+use Rattle.textwrap_base.specs.Units.{IsNarrow}
+use Rattle.textwrap_base.specs.Words.{WordText, sizes_of, word_of}
+use Rattle.textwrap_base.specs.WrapAlgorithms.{Algorithm, Greedy}
+use Rattle.textwrap_base.proofs.Division.Map.{IsDividedBy-some}
+use Rattle.textwrap_base.proofs.ListLemmas.{flat, all-left, all-right}
+use Rattle.textwrap_base.proofs.Word.Bounds.{closed_width-narrow}
+use Rattle.textwrap_base.proofs.Word.Texts.{HasNoPenalty, IsMeasured, without_final_blanks-utf8}
+use Rattle.textwrap_lines.specs.LineEnding.{paragraphs_of, ending_bytes}
+use Rattle.textwrap_lines.specs.Options.{Settings}
+use Rattle.textwrap_lines.specs.Paragraph.{Line, LineParts, line_from, indent_of, last_piece}
+use Rattle.textwrap_lines.specs.Paragraph.{parts_of, parts_from, is_whole, widths_of, IsDividedInto}
+use Rattle.textwrap_lines.specs.Paragraph.{AreIndented, indent_before, AreParagraphParts}
+use Rattle.textwrap_lines.specs.Paragraph.{KeepToWidths, OnlyCharactersPass}
+use Rattle.textwrap_lines.specs.Text.{AreGroups, AreTextLines, IsWrapped}
+use Rattle.textwrap_lines.specs.WordSeparators.{AreSeparated}
+use Rattle.textwrap_lines.specs.WordSplitters.{ArePoints}
+use Rattle.textwrap_lines.specs.declared.word_separators.WordSeparator.{WordSeparator}
+use Rattle.textwrap_lines.specs.declared.word_splitters.WordSplitter.{WordSplitter}
+use Rattle.textwrap_lines.proofs.Paragraph.LongLines.{long_lines}
+use Rattle.textwrap_lines.proofs.Paragraph.Pieces.{IsDividedInto-whole, IsDividedInto-tile}
+use Rattle.textwrap_lines.proofs.Paragraph.Pieces.{IsDividedInto-blanks, pieces_of-no_penalty}
+use Rattle.textwrap_lines.proofs.Paragraph.Shortcut.{narrow_words}
+use Rattle.textwrap_lines.proofs.Text.Endings.{paragraphs_of-utf8, parts_past-some}
+use Rattle.textwrap_lines.proofs.Text.Lossless.{LosesOnlyBlanks-from, tiled-word_of, word_of-blanks}
+use Rattle.textwrap_lines.proofs.Text.Lossless.{groups-map, groups-all}
+
+-- ---- the lines of a division
+
+parts_of-indented : (settings : Settings) (is_later : Bool) (line : List WordText)
+    → (parts_of settings is_later line).indent
+    ≡ indent_before settings is_later (parts_of settings is_later line).pieces
+parts_of-indented settings is_later [] = refl
+parts_of-indented settings is_later (w ∷ ws) = refl
+
+parts_from-indented : (settings : Settings) (is_later : Bool) (division : List (List WordText))
+    → AreIndented settings is_later (parts_from settings is_later division)
+parts_from-indented settings is_later [] = tt
+parts_from-indented settings is_later (line ∷ lines) =
+    (parts_of-indented settings is_later line, parts_from-indented settings true lines)
+
+parts_of-pieces : (settings : Settings) (is_later : Bool) (line : List WordText)
+    → (parts_of settings is_later line).pieces ≡ line
+parts_of-pieces settings is_later [] = refl
+parts_of-pieces settings is_later (w ∷ ws) = refl
+
+parts_from-pieces : (settings : Settings) (is_later : Bool) (division : List (List WordText))
+    → map (λ p. p.pieces) (parts_from settings is_later division) ≡ division
+parts_from-pieces settings is_later [] = refl
+parts_from-pieces settings is_later (line ∷ lines) =
+    ap (λ ws. ws ∷ map (λ p. p.pieces) (parts_from settings true lines))
+    (parts_of-pieces settings is_later line)
+    ∙ ap (λ ls. line ∷ ls) (parts_from-pieces settings true lines)
+
+abbrev HasNoHyphen : LineParts → Type 0
+HasNoHyphen p = p.penalty ≡ []
+
+last_piece-no_penalty : (w : WordText) (ws : List WordText) → All HasNoPenalty (w ∷ ws)
+    → HasNoPenalty (last_piece w ws)
+last_piece-no_penalty w [] all = All-head HasNoPenalty w [] all
+last_piece-no_penalty w (v ∷ ws) all =
+    last_piece-no_penalty v ws (All-tail HasNoPenalty w (v ∷ ws) all)
+
+parts_of-no_hyphen : (settings : Settings) (is_later : Bool) (line : List WordText)
+    → All HasNoPenalty line → HasNoHyphen (parts_of settings is_later line)
+parts_of-no_hyphen settings is_later [] all = refl
+parts_of-no_hyphen settings is_later (w ∷ ws) all = last_piece-no_penalty w ws all
+
+parts_from-no_hyphen : (settings : Settings) (is_later : Bool) (division : List (List WordText))
+    → All HasNoPenalty (flat division)
+    → All HasNoHyphen (parts_from settings is_later division)
+parts_from-no_hyphen settings is_later [] all = All-nil HasNoHyphen
+parts_from-no_hyphen settings is_later (line ∷ lines) all =
+    All-cons HasNoHyphen (parts_of settings is_later line) (parts_from settings true lines)
+    (parts_of-no_hyphen settings is_later line (all-left HasNoPenalty line (flat lines) all))
+    (parts_from-no_hyphen settings true lines (all-right HasNoPenalty line (flat lines) all))
+
+-- ---- a line that is a whole paragraph
+
+whole_line-within : (settings : Settings) (is_later : Bool) (paragraph : List ℕ)
+    → IsUtf8 paragraph → is_whole settings is_later paragraph ≡ true → IsNarrow paragraph
+    → closed_width sizes_of (word_of paragraph ∷ []) ≤ settings.width
+whole_line-within settings is_later paragraph utf8 whole narrow =
+    let tests = and_parts (length (indent_of settings is_later) == 0)
+    (nat_lt (length paragraph) settings.width) whole in
+    let shorter = ltb-true (length paragraph) settings.width tests.1 in
+    let line = word_of paragraph ∷ [] in
+    let measured : All IsMeasured line = All-cons IsMeasured (word_of paragraph) []
+    (record {
+      utf8 = without_final_blanks-utf8 paragraph utf8;
+      width = refl;
+      ending = word_of-blanks paragraph;
+    }) (All-nil IsMeasured) in
+    let none : All HasNoPenalty line =
+    All-cons HasNoPenalty (word_of paragraph) [] refl (All-nil HasNoPenalty) in
+    let within : closed_width sizes_of line ≤ length paragraph =
+    subst (λ bytes. closed_width sizes_of line ≤ length bytes) (tiled-word_of paragraph)
+    (closed_width-narrow line (narrow_words line measured none
+    (subst IsNarrow (sym (tiled-word_of paragraph)) narrow))) in
+    omega (arith, within, shorter)
+
+-- ---- the lines of a text
+
+or_false : (b : Bool) → b || false ≡ b
+or_false true = refl
+or_false false = refl
+
+some_later : (b : Bool) (n : ℕ) → b || nat_lt 0 (suc n) ≡ true
+some_later true n = refl
+some_later false n = grind (arith, nat_tests)
+
+AreIndented-append : (settings : Settings) (is_later : Bool) (parts others : List LineParts)
+    → AreIndented settings is_later parts
+    → AreIndented settings (is_later || nat_lt 0 (length parts)) others
+    → AreIndented settings is_later (parts ++ others)
+AreIndented-append settings is_later [] others here after =
+    subst (λ b. AreIndented settings b others) (or_false is_later) after
+AreIndented-append settings is_later (p ∷ parts) others here after = (
+  here.0,
+  AreIndented-append settings true parts others here.1
+      (subst (λ b. AreIndented settings b others) (some_later is_later (length parts)) after),
+)
+
+groups-indented : (settings : Settings) (is_later : Bool) (paragraphs : List (List ℕ))
+    (groups : List (List LineParts))
+    → AreGroups (λ is_later paragraph parts. AreIndented settings is_later parts) is_later
+    paragraphs groups
+    → AreIndented settings is_later (flat groups)
+groups-indented settings is_later [] groups are =
+    subst (λ gs. AreIndented settings is_later (flat gs)) (sym are) tt
+groups-indented settings is_later (paragraph ∷ paragraphs) [] are = absurd are
+groups-indented settings is_later (paragraph ∷ paragraphs) (parts ∷ groups) are =
+    AreIndented-append settings is_later parts (flat groups) are.0
+    (groups-indented settings (is_later || nat_lt 0 (length parts)) paragraphs groups are.1)
+
+groups-some : (settings : Settings) (paragraphs : List (List ℕ)) (groups : List (List LineParts))
+    → 0 < length paragraphs
+    → AreGroups (λ is_later paragraph parts. 0 < length parts) false paragraphs groups
+    → 0 < length (flat groups)
+groups-some settings [] groups some are = absurd (omega arith)
+groups-some settings (paragraph ∷ paragraphs) [] some are = absurd are
+groups-some settings (paragraph ∷ paragraphs) (parts ∷ groups) some are =
+    omega (arith, length-append parts (flat groups), are.0)
+
+-- ---- the lines of a paragraph, and of a text
+
+module _ (settings : Settings) (algorithm : Algorithm) (separator : WordSeparator)
+    (splitter : WordSplitter) where
+  abbrev Divides : List ℕ → List (List WordText) → Type 0
+  Divides = IsDividedInto settings (AreSeparated separator) (ArePoints splitter) algorithm
+
+  abbrev AreParts : Bool → List ℕ → List LineParts → Type 0
+  AreParts = AreParagraphParts settings Divides
+
+  paragraph-some : (is_later : Bool) (paragraph : List ℕ) (parts : List LineParts)
+      → IsUtf8 paragraph → AreParts is_later paragraph parts → 0 < length parts
+  paragraph-some is_later paragraph parts utf8 (division, laid_out, is) =
+      let lines : length parts ≡ length division =
+      sym (length-map parts (λ p. p.pieces)) ∙ ap (λ ps. length (map (λ p. p.pieces) ps)) is
+      ∙ ap length (parts_from-pieces settings is_later division) in
+      omega (arith, lines, some (is_whole settings is_later paragraph) laid_out)
+    where
+      some : (whole : Bool)
+          → MatchBool whole (division ≡ (word_of paragraph ∷ []) ∷ []) (Divides paragraph division)
+          → 0 < length division
+      some true one = omega (arith, ap length one)
+      some false (pieces, are, divided) =
+          IsDividedBy-some sizes_of algorithm (widths_of settings) pieces division divided
+
+  paragraph-indented : (is_later : Bool) (paragraph : List ℕ) (parts : List LineParts)
+      → IsUtf8 paragraph → AreParts is_later paragraph parts
+      → AreIndented settings is_later parts
+  paragraph-indented is_later paragraph parts utf8 (division, laid_out, is) =
+      subst (AreIndented settings is_later) (sym is)
+      (parts_from-indented settings is_later division)
+
+  paragraph-no_hyphen : (is_later : Bool) (paragraph : List ℕ) (parts : List LineParts)
+      → IsUtf8 paragraph → AreParts is_later paragraph parts → All HasNoHyphen parts
+  paragraph-no_hyphen is_later paragraph parts utf8 (division, laid_out, is) =
+      subst (All HasNoHyphen) (sym is)
+      (parts_from-no_hyphen settings is_later division
+      (none (is_whole settings is_later paragraph) laid_out))
+    where
+      none : (whole : Bool)
+          → MatchBool whole (division ≡ (word_of paragraph ∷ []) ∷ []) (Divides paragraph division)
+          → All HasNoPenalty (flat division)
+      none true one = subst (λ d. All HasNoPenalty (flat d)) (sym one)
+          (All-cons HasNoPenalty (word_of paragraph) [] refl (All-nil HasNoPenalty))
+      none false divided = subst (All HasNoPenalty)
+          (sym (IsDividedInto-whole settings algorithm separator splitter paragraph division
+          divided))
+          (pieces_of-no_penalty settings separator splitter paragraph)
+
+  paragraph-keeps : algorithm ≡ Greedy → settings.break_words ≡ true → (is_later : Bool)
+      (paragraph : List ℕ) (parts : List LineParts) → IsUtf8 paragraph
+      → AreParts is_later paragraph parts → KeepToWidths settings is_later paragraph parts
+  paragraph-keeps greedy breaks is_later paragraph parts utf8 (division, laid_out, is) =
+      subst (λ lines. MatchBool (is_whole settings is_later paragraph)
+      (IsNarrow paragraph → All (λ line. closed_width sizes_of line ≤ settings.width) lines)
+      (OnlyCharactersPass (widths_of settings) 0 lines))
+      (sym (ap (map (λ p. p.pieces)) is ∙ parts_from-pieces settings is_later division))
+      (by_case (is_whole settings is_later paragraph) refl laid_out)
+    where
+      by_case : (whole : Bool) → is_whole settings is_later paragraph ≡ whole
+          → MatchBool whole (division ≡ (word_of paragraph ∷ []) ∷ []) (Divides paragraph division)
+          → MatchBool whole
+          (IsNarrow paragraph
+          → All (λ line. closed_width sizes_of line ≤ settings.width) division)
+          (OnlyCharactersPass (widths_of settings) 0 division)
+      by_case true whole one = λ narrow.
+          subst (All (λ line. closed_width sizes_of line ≤ settings.width)) (sym one)
+          (All-cons (λ line. closed_width sizes_of line ≤ settings.width)
+          (word_of paragraph ∷ []) []
+          (whole_line-within settings is_later paragraph utf8 whole narrow)
+          (All-nil (λ line. closed_width sizes_of line ≤ settings.width)))
+      by_case false whole divided =
+          long_lines settings separator splitter paragraph division utf8 breaks
+          (subst (λ a. IsDividedInto settings (AreSeparated separator) (ArePoints splitter) a
+          paragraph division) greedy divided)
+
+  pub IsWrapped-from : (text : List ℕ) (lines : List Line) → IsUtf8 text
+      → AreTextLines settings Divides text lines
+      → IsWrapped settings algorithm Divides text lines
+  IsWrapped-from text lines utf8 are =
+      let paragraphs = paragraphs_of settings.line_ending text in
+      let all = paragraphs_of-utf8 settings.line_ending text utf8 in
+      record {
+        are = are;
+        some =
+            let some = groups-some settings paragraphs are.groups
+            (parts_past-some (ending_bytes settings.line_ending) 0 text)
+            (groups-map AreParts (λ is_later paragraph parts. 0 < length parts) paragraph-some
+            false paragraphs are.groups all are.defined) in
+            omega (arith, some, ap length are.given, length-map (flat are.groups) line_from);
+        loses = LosesOnlyBlanks-from settings Divides
+            (IsDividedInto-tile settings algorithm separator splitter)
+            (IsDividedInto-blanks settings algorithm separator splitter)
+            text are.groups utf8 are.defined;
+        adds = record {
+          indents = groups-indented settings false paragraphs are.groups
+              (groups-map AreParts (λ is_later paragraph parts. AreIndented settings is_later parts)
+              paragraph-indented false paragraphs are.groups all are.defined);
+          no_hyphen = groups-all HasNoHyphen false paragraphs are.groups
+              (groups-map AreParts (λ is_later paragraph parts. All HasNoHyphen parts)
+              paragraph-no_hyphen false paragraphs are.groups all are.defined);
+        };
+        keeps = λ greedy breaks. groups-map AreParts (KeepToWidths settings)
+            (paragraph-keeps greedy breaks) false paragraphs are.groups all are.defined;
+      }

@@ -1,0 +1,112 @@
+-- Lemmas on the lines of a text: the definitions leave one list of lines, and one filled text.
+use Rattle.std.proofs.Common.{◌≡◌, ℕ, Bool, true, false, MatchBool, ◌||◌, nat_lt, List, [], ◌∷◌}
+use Rattle.std.proofs.Common.{length, get_or, map, sym, ap, ◌∙◌, subst, arith}
+use Rattle.textwrap_base.specs.Sizes.{Sizes}
+use Rattle.textwrap_base.specs.WrapAlgorithms.{Algorithm, Greedy, LeastCost, IsDividedBy}
+use Rattle.textwrap_base.specs.Cost.{AreEqualFromSecond, priced_at}
+use Rattle.textwrap_base.specs.Words.{WordText, sizes_of, word_of}
+use Rattle.textwrap_base.proofs.Division.Unique.{greedy_unique}
+use Rattle.textwrap_base.proofs.Cost.Unique.{chosen_one}
+use Rattle.textwrap_lines.specs.Options.{Settings}
+use Rattle.textwrap_lines.specs.LineEnding.{ending_bytes, join_with, paragraphs_of}
+use Rattle.std.specs.List.{flat_map}
+use Rattle.textwrap_lines.specs.Paragraph.{Line, LineParts, line_from, line_bytes, parts_from}
+use Rattle.textwrap_lines.specs.Paragraph.{widths_of, is_whole, IsDividedInto, AreDividedParts}
+use Rattle.textwrap_lines.specs.Paragraph.{AreParagraphParts}
+use Rattle.textwrap_lines.specs.WordSeparators.{AreSeparated}
+use Rattle.textwrap_lines.specs.WordSplitters.{ArePoints}
+use Rattle.textwrap_lines.specs.declared.word_separators.WordSeparator.{WordSeparator}
+use Rattle.textwrap_lines.specs.declared.word_splitters.WordSplitter.{WordSplitter}
+use Rattle.textwrap_lines.proofs.Paragraph.Pieces.{ArePieces-is}
+use Rattle.textwrap_lines.specs.Text.{AreGroups, AreTextLines}
+use Rattle.textwrap_lines.specs.Filling.{IsFilled}
+
+two_widths : (first later : ℕ) → AreEqualFromSecond (first ∷ later ∷ [])
+two_widths first later k from within = let second : k ≡ 1 = omega (arith, from, within) in
+    ap (λ n. get_or (first ∷ later ∷ []) n 0) second
+
+divided_one : {X : Type 0} (algorithm : Algorithm) (sizes : X → Sizes) (widths : List ℕ)
+    (xs : List X) (lines others : List (List X)) → AreEqualFromSecond widths
+    → IsDividedBy algorithm sizes widths xs lines → IsDividedBy algorithm sizes widths xs others
+    → lines ≡ others
+divided_one Greedy sizes widths xs lines others equal one other =
+    greedy_unique sizes widths xs lines others one other
+divided_one (LeastCost penalties) sizes widths xs lines others equal one other =
+    chosen_one (λ x. priced_at penalties (sizes x)) penalties widths xs lines others
+    (one.chosen equal) (other.chosen equal)
+
+pub division_one : (settings : Settings) (algorithm : Algorithm) (separator : WordSeparator)
+    (splitter : WordSplitter) (paragraph : List ℕ) (division other : List (List WordText))
+    → IsDividedInto settings (AreSeparated separator) (ArePoints splitter) algorithm paragraph
+    division → IsDividedInto settings (AreSeparated separator)
+    (ArePoints splitter) algorithm paragraph other → division ≡ other
+division_one settings algorithm separator splitter paragraph division other (pieces, are, divided)
+    (others, others_are, others_divided) =
+    let same = ArePieces-is settings separator splitter paragraph others others_are
+    ∙ sym (ArePieces-is settings separator splitter paragraph pieces are) in
+    divided_one algorithm sizes_of (widths_of settings) pieces division other
+    (two_widths _ _) divided (subst
+    (λ ws. IsDividedBy algorithm sizes_of (widths_of settings) ws other) same
+    others_divided)
+
+-- where a paragraph has one division
+module _ (settings : Settings) (Divides : List ℕ → List (List WordText) → Type 0)
+    (one : (paragraph : List ℕ) (division other : List (List WordText)) → Divides paragraph division
+    → Divides paragraph other → division ≡ other) where
+  pub divided_parts_one : (is_later : Bool) (paragraph : List ℕ) (parts others : List LineParts)
+      → AreDividedParts settings Divides is_later paragraph parts
+      → AreDividedParts settings Divides is_later paragraph others → parts ≡ others
+  divided_parts_one is_later paragraph parts others (division, divided, is)
+      (other, other_divided, other_is) =
+      is ∙ ap (parts_from settings is_later)
+      (one paragraph division other divided other_divided) ∙ sym other_is
+
+  laid_out_one : (paragraph : List ℕ) (division other : List (List WordText)) (whole : Bool)
+      → MatchBool whole (division ≡ (word_of paragraph ∷ []) ∷ []) (Divides paragraph division)
+      → MatchBool whole (other ≡ (word_of paragraph ∷ []) ∷ []) (Divides paragraph other)
+      → division ≡ other
+  laid_out_one paragraph division other true is other_is = is ∙ sym other_is
+  laid_out_one paragraph division other false divided other_divided =
+      one paragraph division other divided other_divided
+
+  pub paragraph_one : (is_later : Bool) (paragraph : List ℕ) (parts others : List LineParts)
+      → AreParagraphParts settings Divides is_later paragraph parts
+      → AreParagraphParts settings Divides is_later paragraph others → parts ≡ others
+  paragraph_one is_later paragraph parts others (division, laid_out, is)
+      (other, other_laid_out, other_is) =
+      is ∙ ap (parts_from settings is_later)
+      (laid_out_one paragraph division other (is_whole settings is_later paragraph) laid_out
+      other_laid_out) ∙ sym other_is
+
+  groups_one : (is_later : Bool) (paragraphs : List (List ℕ))
+      (groups others : List (List LineParts))
+      → AreGroups (AreParagraphParts settings Divides) is_later paragraphs groups
+      → AreGroups (AreParagraphParts settings Divides) is_later paragraphs others → groups ≡ others
+  groups_one is_later [] groups others is other = is ∙ sym other
+  groups_one is_later (paragraph ∷ paragraphs) [] others is other = absurd is
+  groups_one is_later (paragraph ∷ paragraphs) (parts ∷ groups) [] is other = absurd other
+  groups_one is_later (paragraph ∷ paragraphs) (parts ∷ groups) (more ∷ others) is other =
+      let same = paragraph_one is_later paragraph parts more is.0 other.0 in
+      let rest =
+      groups_one
+      (is_later ||
+      nat_lt 0 (length parts)) paragraphs groups others is.1
+      (subst (λ ps. AreGroups (AreParagraphParts settings Divides)
+      (is_later ||
+      nat_lt 0 (length ps)) paragraphs others) (sym same) other.1) in
+      ap (λ ps. ps ∷ groups) same ∙ ap (λ gs. more ∷ gs) rest
+
+  pub text_one : (text : List ℕ) (lines others : List Line)
+      → AreTextLines settings Divides text lines → AreTextLines settings Divides text others
+      → lines ≡ others
+  text_one text lines others is other =
+      is.given ∙ ap (λ groups. map line_from (flat_map (λ parts. parts) groups))
+      (groups_one false (paragraphs_of settings.line_ending text) is.groups other.groups
+      is.defined other.defined) ∙ sym other.given
+
+  pub filled_one : (text filled other_filled : List ℕ) → IsFilled settings Divides text filled
+      → IsFilled settings Divides text other_filled → filled ≡ other_filled
+  filled_one text filled other_filled (lines, defined, joined)
+      (others, others_defined, others_joined) =
+      joined ∙ ap (λ ls. join_with (ending_bytes settings.line_ending) (map line_bytes ls))
+      (text_one text lines others defined others_defined) ∙ sym others_joined

@@ -1,0 +1,5 @@
+use Rattle.textwrap_lines.proofs.Paragraph.Pieces.{ArePieces-unique}
+use Rattle.textwrap_lines.proofs.laws.pieces_are_unique.Goals as goal
+
+pub returns : goal.returns
+returns c = ArePieces-unique

@@ -1,0 +1,40 @@
+use Rattle.std.proofs.Common.{[], nat_lt, map, sym, ap, ◌∙◌, subst}
+use Rattle.std.proofs.lemmas.List.{length-map}
+use Rattle.textwrap_base.specs.WrapAlgorithms.{algorithm_view}
+use Rattle.textwrap_lines.specs.Options.{settings_view}
+use Rattle.textwrap_lines.specs.Paragraph.{line_view, DividesBy, AreParagraphParts}
+use Rattle.textwrap_lines.proofs.Text.Lines.{paragraphs_left, paragraphs_left-split, HasGroups}
+use Rattle.textwrap_lines.proofs.Text.Lines.{HasGroups-more, HasGroups-end}
+use Rattle.textwrap_lines.proofs.Text.Promises.{IsWrapped-from}
+use Rattle.textwrap_lines.proofs.wrapping.wrap.Goals as goal
+
+pub loop-rest-preserved : goal.loop-rest-preserved
+loop-rest-preserved c =
+    let options = c.args.options in
+    let before = c.loop-rest.lines.items in
+    let paragraph = c.split_paragraph.result.0.now in
+    let after = c.split_paragraph.result.1 in
+    let added = c.in_ok-wrap_single_line.ensures.appended.lines in
+    HasGroups-more (settings_view options) (DividesBy options) c.args.text.now
+    (map line_view before) (map line_view c.wrap_single_line.new.lines.items)
+    (paragraphs_left options.line_ending c.loop-rest.rest)
+    (paragraphs_left options.line_ending after)
+    paragraph added.0 c.loop-rest.invariant
+    (ap (paragraphs_left options.line_ending) c.in-Some.is
+    ∙ paragraphs_left-split options.line_ending c.in-Some.text.now after paragraph
+    c.split_paragraph.ensures.paragraphs)
+    (subst (λ n. AreParagraphParts (settings_view options) (DividesBy options)
+    (nat_lt 0 n) paragraph added.0) (sym (length-map before line_view)) added.1)
+    added.2
+
+pub returns-clause-lines : goal.returns-clause-lines
+returns-clause-lines c =
+    let options = c.args.options in
+    let settings = settings_view options in
+    let algorithm = algorithm_view options.wrap_algorithm in
+    let lines = map line_view c.loop-rest.lines.items in
+    let all : HasGroups settings (DividesBy options) c.args.text.now lines [] =
+    subst (HasGroups settings (DividesBy options) c.args.text.now lines)
+    (ap (paragraphs_left options.line_ending) c.in_default.is) c.loop-rest.invariant in
+    IsWrapped-from settings algorithm options.word_separator options.word_splitter c.args.text.now
+    lines c.utf8.text (HasGroups-end settings (DividesBy options) c.args.text.now lines all)

@@ -1,0 +1,64 @@
+//! Filling: a wrapped text as one text.
+ghost use Rattle.std.specs.Prelude.{◌≡◌, map, alloc_error, string_bytes, IfOk, IfErr};
+ghost use Rattle.textwrap_lines.specs.LineEnding.{ending_bytes, join_with};
+ghost use Rattle.textwrap_lines.specs.Options.{settings_view};
+ghost use Rattle.textwrap_lines.specs.Paragraph.{line_view, line_bytes, DividesBy};
+ghost use Rattle.textwrap_lines.specs.Filling.{IsFilled};
+
+use crate::line_ending::LineEnding;
+use crate::options::Options;
+use crate::wrapping::{is_one_line, split_paragraph, whole_line, wrap};
+use std::alloc::{AllocError, Global};
+use std::borrow::CowStr;
+use textwrap_base::wrap_algorithms::WrapError;
+
+/// The lines of [`wrap`], joined by the line ending. At 10 columns `foo bar baz` becomes `foo bar`,
+/// a line feed and `baz`.
+///
+/// # Errors
+/// [`WrapError::Memory`] where memory runs out, and no other. There is no overflow.
+pub fn fill(alloc: Global, text: &str, options: Options<'_>) -> Result<String, WrapError>
+    ensures filled { IfOk result (λ filled. IsFilled (settings_view options.entry)
+        (DividesBy options.entry) text.now (string_bytes filled)) }
+    ensures only_memory { IfErr result (λ error. error ≡ WrapError.Memory alloc_error) }
+{
+    let (paragraph, after) = split_paragraph(text, options.line_ending);
+    // A single line is joined to none, so it needs no list.
+    if after.is_none() && is_one_line(paragraph, &options, false) {
+        return Ok(String::from_str(alloc, whole_line(paragraph, &options))?);
+    }
+    fill_slow_path(alloc, text, options)
+}
+
+/// The same text as [`fill`](crate::fill), always by way of a list of lines.
+///
+/// # Errors
+/// [`WrapError::Memory`] where memory runs out, and no other. There is no overflow.
+pub fn fill_slow_path(alloc: Global, text: &str, options: Options<'_>) -> Result<String, WrapError>
+    ensures filled { IfOk result (λ filled. IsFilled (settings_view options.entry)
+        (DividesBy options.entry) text.now (string_bytes filled)) }
+    ensures only_memory { IfErr result (λ error. error ≡ WrapError.Memory alloc_error) }
+{
+    let line_ending = options.line_ending;
+    let lines = wrap(alloc, text, options)?;
+    Ok(join_lines(alloc, &lines, line_ending)?)
+}
+
+/// The lines with the line ending between each two.
+fn join_lines(
+    alloc: Global,
+    lines: &[CowStr<'_>],
+    line_ending: LineEnding,
+) -> Result<String, AllocError>
+    ensures { IfOk result (λ joined. string_bytes joined
+        ≡ join_with (ending_bytes line_ending) (map line_bytes (map line_view lines.now))) }
+{
+    let mut joined = String::new(alloc);
+    for (i, line) in lines.iter().enumerate() {
+        if i > 0 {
+            joined.push_str(line_ending.as_str())?;
+        }
+        joined.push_str(line.as_str())?;
+    }
+    Ok(joined)
+}

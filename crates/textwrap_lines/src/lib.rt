@@ -1,0 +1,20 @@
+//! The middle of `textwrap`: a text cut into lines for a width, and these lines joined. The crate
+//! `textwrap` passes its public items on, but for the module `parts`.
+#![tactic(auto)]
+
+pub use filling::fill;
+pub use line_ending::LineEnding;
+pub use options::Options;
+pub use word_separators::WordSeparator;
+pub use word_splitters::WordSplitter;
+pub use wrapping::wrap;
+
+mod filling;
+pub mod fuzzing;
+pub mod laws;
+mod line_ending;
+mod options;
+pub mod parts;
+pub mod word_separators;
+pub mod word_splitters;
+mod wrapping;

@@ -1,0 +1,203 @@
+//! The settings of a wrap.
+ghost use Rattle.std.specs.Prelude.{◌≡◌, [], false, true, IsOk, MatchResult, ⊤};
+
+use crate::line_ending::LineEnding;
+use crate::word_separators::WordSeparator;
+use crate::word_splitters::WordSplitter;
+use std::alloc::AllocError;
+use textwrap_base::wrap_algorithms::WrapAlgorithm;
+
+/// How a text is wrapped. No call on it allocates.
+#[derive(Debug, Drop)]
+pub struct Options<'a> {
+    /// The columns of a line, with its indent.
+    pub width: usize,
+    /// What ends a paragraph, and joins the lines of a filled text.
+    pub line_ending: LineEnding,
+    /// What is printed before the first line.
+    pub initial_indent: &'a str,
+    /// What is printed before each later line.
+    pub subsequent_indent: &'a str,
+    /// Whether a word that is too wide for a line is broken.
+    pub break_words: bool,
+    /// How words are divided into lines.
+    pub wrap_algorithm: WrapAlgorithm,
+    /// Where a paragraph is cut into words.
+    pub word_separator: WordSeparator,
+    /// Where a word may be split.
+    pub word_splitter: WordSplitter,
+    /// Whether blanks at line ends are kept.
+    pub preserve_trailing_space: bool,
+}
+
+impl<'a> Options<'a> {
+    ghost use Rattle.textwrap_lines.specs.Options.{settings_view, HasDefaults, KeepsMethods};
+
+    /// Lines of `width` columns, ended by LF, without indents, with broken words, hyphens as split
+    /// points, the default algorithm, and no blanks at line ends.
+    pub fn new(width: usize) -> Self
+        ensures { HasDefaults width result }
+    {
+        // Hyphens are split points that need no dictionary.
+        let word_splitter = WordSplitter::HyphenSplitter;
+        Options {
+            width,
+            line_ending: LineEnding::LF,
+            initial_indent: "",
+            subsequent_indent: "",
+            break_words: true,
+            wrap_algorithm: WrapAlgorithm::new(),
+            word_separator: WordSeparator::new(),
+            word_splitter,
+            preserve_trailing_space: false,
+        }
+    }
+
+    /// The same options with this width, in columns.
+    pub fn width(self, width: usize) -> Self
+        ensures settings { settings_view result
+            ≡ record (settings_view self.entry) { width = width } }
+        ensures methods { KeepsMethods self.entry result }
+    {
+        Options { width, ..self }
+    }
+
+    /// The same options with this line ending.
+    pub fn line_ending(self, line_ending: LineEnding) -> Self
+        ensures settings { settings_view result
+            ≡ record (settings_view self.entry) { line_ending = line_ending } }
+        ensures methods { KeepsMethods self.entry result }
+    {
+        Options {
+            line_ending,
+            ..self
+        }
+    }
+
+    /// The same options with this indent of the first line.
+    pub fn initial_indent(self, initial_indent: &'a str) -> Self
+        ensures settings { settings_view result
+            ≡ record (settings_view self.entry) { initial_indent = initial_indent.now } }
+        ensures methods { KeepsMethods self.entry result }
+    {
+        Options {
+            initial_indent,
+            ..self
+        }
+    }
+
+    /// The same options with this indent of the later lines.
+    pub fn subsequent_indent(self, subsequent_indent: &'a str) -> Self
+        ensures settings { settings_view result
+            ≡ record (settings_view self.entry) { subsequent_indent = subsequent_indent.now } }
+        ensures methods { KeepsMethods self.entry result }
+    {
+        Options {
+            subsequent_indent,
+            ..self
+        }
+    }
+
+    /// The same options, breaking words or not.
+    pub fn break_words(self, break_words: bool) -> Self
+        ensures settings { settings_view result
+            ≡ record (settings_view self.entry) { break_words = break_words } }
+        ensures methods { KeepsMethods self.entry result }
+    {
+        Options {
+            break_words,
+            ..self
+        }
+    }
+
+    /// The same options with this algorithm.
+    pub fn wrap_algorithm(self, wrap_algorithm: WrapAlgorithm) -> Self
+        ensures settings { settings_view result ≡ settings_view self.entry }
+        ensures algorithm { result.wrap_algorithm ≡ wrap_algorithm }
+        ensures separator { result.word_separator ≡ self.entry.word_separator }
+        ensures splitter { result.word_splitter ≡ self.entry.word_splitter }
+    {
+        Options {
+            wrap_algorithm,
+            ..self
+        }
+    }
+
+    /// The same options with this separator of words.
+    pub fn word_separator(self, word_separator: WordSeparator) -> Self
+        ensures settings { settings_view result ≡ settings_view self.entry }
+        ensures algorithm { result.wrap_algorithm ≡ self.entry.wrap_algorithm }
+        ensures separator { result.word_separator ≡ word_separator }
+        ensures splitter { result.word_splitter ≡ self.entry.word_splitter }
+    {
+        Options {
+            word_separator,
+            ..self
+        }
+    }
+
+    /// The same options with this splitter of words.
+    pub fn word_splitter(self, word_splitter: WordSplitter) -> Self
+        ensures settings { settings_view result ≡ settings_view self.entry }
+        ensures algorithm { result.wrap_algorithm ≡ self.entry.wrap_algorithm }
+        ensures separator { result.word_separator ≡ self.entry.word_separator }
+        ensures splitter { result.word_splitter ≡ word_splitter }
+    {
+        Options {
+            word_splitter,
+            ..self
+        }
+    }
+
+    /// The same options, keeping blanks at line ends or not.
+    pub fn preserve_trailing_space(self, preserve_trailing_space: bool) -> Self
+        ensures settings { settings_view result
+            ≡ record (settings_view self.entry) {
+              preserve_trailing_space = preserve_trailing_space;
+            } }
+        ensures methods { KeepsMethods self.entry result }
+    {
+        Options {
+            preserve_trailing_space,
+            ..self
+        }
+    }
+}
+
+impl<'a> From<usize> for Options<'a> {
+    ghost use Rattle.textwrap_lines.specs.Options.{HasDefaults};
+
+    ghost from_gives = { HasDefaults };
+
+    /// The same as `Options::new`.
+    fn from(width: usize) -> Options<'a> {
+        Options::new(width)
+    }
+}
+
+impl<'a, 'b> From<&'b Options<'a>> for Options<'a> {
+    ghost from_gives = { λ options copy. copy ≡ options.now };
+
+    /// The same options.
+    fn from(options: &'b Options<'a>) -> Options<'a> {
+        Options {
+            // The clone of a splitter needs no memory, so it never fails.
+            word_splitter: options.word_splitter.clone().unwrap(),
+            ..*options
+        }
+    }
+}
+
+impl<'a> Clone for Options<'a> {
+    ghost is_clone = { λ options copy. copy ≡ options };
+
+    ghost is_infallible = { λ _. ⊤ };
+
+    /// The same options. Never fails.
+    fn clone(&self) -> Result<Options<'a>, AllocError>
+        ensures cases { MatchResult result (λ copy. copy ≡ self.now) (λ _. ¬ ⊤) }
+        ensures succeeds { IsOk result }
+    {
+        Ok(Options::from(self))
+    }
+}

@@ -1,0 +1,4 @@
+//! What [`wrap`](crate::wrap) and filling in place share: the first paragraph of a text, and how
+//! long pieces are. The crate `textwrap` uses this module, but does not re-export it.
+
+pub use crate::wrapping::{split_paragraph, tiled_len};

@@ -1,0 +1,350 @@
+//! Wrapping a text into lines.
+ghost use Rattle.std.specs.Prelude.{◌≡◌, ℕ, List, ◌∷◌, [], ◌++◌, ◌^◌, ◌<◌, length, take, drop, map};
+ghost use Rattle.std.specs.Prelude.{nat_lt, if◌then◌else◌, alloc_error, true, IfOk, IfErr, IfSome};
+ghost use Rattle.std.specs.Prelude.{OnOk, MatchOption};
+ghost use Rattle.std.specs.List.{flat_map};
+ghost use Rattle.std.specs.Str.{IsUtf8};
+ghost use Rattle.std.specs.Io.{StartsWith};
+ghost use Rattle.textwrap_base.specs.Blanks.{without_final_blanks};
+ghost use Rattle.textwrap_base.specs.Cost.{total_width};
+ghost use Rattle.textwrap_base.specs.Errors.{Fits64Bits};
+ghost use Rattle.textwrap_base.specs.WrapAlgorithms.{algorithm_view, IsDividedBy};
+ghost use Rattle.textwrap_base.specs.Units.{IsNarrow};
+ghost use Rattle.textwrap_base.specs.Words.{WordText, word_view, sizes_of, tiled, Tiles};
+ghost use Rattle.textwrap_base.specs.declared.wrap_algorithms.WrapAlgorithm.TheVariants.{FirstFit};
+ghost use Rattle.textwrap_lines.specs.Fuzzing.{AppendsLines};
+ghost use Rattle.textwrap_lines.specs.LineEnding.{paragraphs_of};
+ghost use Rattle.textwrap_lines.specs.Options.{settings_view};
+ghost use Rattle.textwrap_lines.specs.Paragraph.{text_limit, LineParts, line_view, assembled_line};
+ghost use Rattle.textwrap_lines.specs.Paragraph.{line_from, covered};
+ghost use Rattle.textwrap_lines.specs.Paragraph.{pieces_of, widths_of, width_after, indent_of};
+ghost use Rattle.textwrap_lines.specs.Paragraph.{is_whole, parts_of, parts_from, Adds, DividesBy};
+ghost use Rattle.textwrap_lines.specs.Paragraph.{AreDividedParts, AreParagraphParts};
+ghost use Rattle.textwrap_lines.specs.Paragraph.{OnlyCharactersPass};
+ghost use Rattle.textwrap_lines.specs.Text.{IsWrapped};
+ghost use Rattle.textwrap_lines.specs.WordSeparators.{separated_words};
+ghost use Rattle.textwrap_lines.specs.WordSplitters.{split_words};
+
+use crate::line_ending::LineEnding;
+use crate::options::Options;
+use crate::word_splitters::push_measured;
+use std::alloc::{AllocError, Global};
+use std::borrow::CowStr;
+use textwrap_base::blanks::split_final_blanks;
+use textwrap_base::words::{Word, break_words, display_width};
+use textwrap_base::wrap_algorithms::WrapError;
+
+/// Wraps a text and returns its lines.
+///
+/// At 5 columns `foo-bar baz` has the lines `foo-`, `bar` and `baz`, all of them borrowed from the
+/// text. Each paragraph, the text between two line endings, is wrapped by itself. One that has no
+/// indent, and fewer bytes than the width has columns, stays one line. Any other is cut into words;
+/// these are split and broken as the options say, and divided into lines by their algorithm.
+///
+/// There is always at least one line. Only blanks at line ends are lost, and only the indents are
+/// added; a line with an indent is a text of its own. By first fit, where words are broken, no line
+/// of a divided paragraph passes the width that it was divided for, but one that is a single piece
+/// with one character that takes columns.
+///
+/// # Errors
+/// [`WrapError::Memory`] where memory runs out, and no other. There is no overflow.
+pub fn wrap<'t>(
+    alloc: Global,
+    text: &'t str,
+    options: Options<'_>,
+) -> Result<Vec<CowStr<'t>>, WrapError>
+    // The lines are those of the text, at least one. They lose only blanks and add only indents,
+    // and by first fit, where words are broken, they keep to their widths.
+    ensures lines { IfOk result (λ lines. IsWrapped (settings_view options.entry)
+        (algorithm_view options.entry.wrap_algorithm) (DividesBy options.entry) text.now
+        (map line_view lines.items)) }
+    ensures only_memory { IfErr result (λ error. error ≡ WrapError.Memory alloc_error) }
+{
+    let mut lines = Vec::new(alloc);
+    let mut rest = Some(text);
+    while let Some(text) = rest {
+        let (paragraph, after) = split_paragraph(text, options.line_ending);
+        wrap_single_line(alloc, paragraph, &options, &mut lines)?;
+        rest = after;
+    }
+    Ok(lines)
+}
+
+/// The first paragraph of the text, and what follows its ending, if it has one. Cut at LF, the text
+/// `"a\nb\nc"` has the first paragraph `"a"`, which `"b\nc"` follows; nothing follows in `"a"`.
+pub fn split_paragraph(text: &str, line_ending: LineEnding) -> (&str, Option<&str>)
+    ensures paragraphs { MatchOption result.1
+        (paragraphs_of line_ending text.now ≡ result.0.now ∷ [])
+        (λ after. paragraphs_of line_ending text.now
+        ≡ result.0.now ∷ paragraphs_of line_ending after.now) }
+    ensures shorter { IfSome result.1 (λ after. length after.now < length text.now) }
+{
+    match text.split_once(line_ending.as_str()) {
+        Some((paragraph, after)) => (paragraph, Some(after)),
+        None => (text, None),
+    }
+}
+
+/// Appends the lines of one paragraph, as [`wrap`] does for each. The initial indent is used only
+/// where the list has no line yet. At an error the list stays as it was.
+///
+/// # Errors
+/// [`WrapError::Memory`] where memory runs out, and no other. There is no overflow.
+pub fn wrap_single_line<'t>(
+    alloc: Global,
+    line: &'t str,
+    options: &Options<'_>,
+    lines: &mut Vec<CowStr<'t>>,
+) -> Result<(), WrapError>
+    ensures appended { AppendsLines (AreParagraphParts (settings_view options.now)
+        (DividesBy options.now) (nat_lt 0 (length lines.old.items)) line.now)
+        lines.old.items lines.new.items result }
+    // Without an initial indent, and without characters that take more columns than bytes, these
+    // are lines of the slow path.
+    ensures as_slow_path { options.now.initial_indent.now ≡ [] → IsNarrow line.now
+        → OnOk result ((parts : List LineParts)
+        × AreDividedParts (settings_view options.now) (DividesBy options.now)
+        (nat_lt 0 (length lines.old.items)) line.now parts
+        × Adds lines.old.items lines.new.items parts) }
+{
+    if is_one_line(line, options, !lines.is_empty()) {
+        lines.push(CowStr::Borrowed(whole_line(line, options)))?;
+        return Ok(());
+    }
+    wrap_single_line_slow_path(alloc, line, options, lines)
+}
+
+/// Whether a paragraph is one line as a whole. `is_later` says that a line stands before it.
+pub(crate) fn is_one_line(paragraph: &str, options: &Options<'_>, is_later: bool) -> bool
+    ensures { result ≡ is_whole (settings_view options.now) is_later paragraph.now }
+{
+    next_indent(options, is_later).is_empty() && paragraph.len() < options.width
+}
+
+/// The indent of the next line. `is_later` says that a line stands before it.
+fn next_indent<'a>(options: &Options<'a>, is_later: bool) -> &'a str
+    ensures { result.now ≡ indent_of (settings_view options.now) is_later }
+{
+    if is_later {
+        options.subsequent_indent
+    } else {
+        options.initial_indent
+    }
+}
+
+/// The paragraph as one line.
+pub(crate) fn whole_line<'t>(paragraph: &'t str, options: &Options<'_>) -> &'t str
+    ensures { result.now ≡ (if options.now.preserve_trailing_space then paragraph.now
+        else without_final_blanks paragraph.now) }
+{
+    if options.preserve_trailing_space {
+        return paragraph;
+    }
+    split_final_blanks(paragraph).0
+}
+
+/// Appends the lines of one paragraph, dividing its pieces however short it is. At an error the
+/// list stays as it was.
+///
+/// # Errors
+/// [`WrapError::Memory`] where memory runs out, and no other. There is no overflow.
+pub fn wrap_single_line_slow_path<'t>(
+    alloc: Global,
+    line: &'t str,
+    options: &Options<'_>,
+    lines: &mut Vec<CowStr<'t>>,
+) -> Result<(), WrapError>
+    ensures appended { AppendsLines (AreDividedParts (settings_view options.now)
+        (DividesBy options.now) (nat_lt 0 (length lines.old.items)) line.now)
+        lines.old.items lines.new.items result }
+    // By first fit, where words are broken, a line passes its width only where it is one piece with
+    // one character that takes columns.
+    ensures overlong { options.now.wrap_algorithm ≡ FirstFit → options.now.break_words ≡ true
+        → OnOk result ((division : List (List WordText))
+        × DividesBy options.now line.now division
+        × Adds lines.old.items lines.new.items (parts_from (settings_view options.now)
+        (nat_lt 0 (length lines.old.items)) division)
+        × OnlyCharactersPass (widths_of (settings_view options.now)) 0 division) }
+{
+    let pieces = find_pieces(alloc, line, options)?;
+    let division = divide(alloc, &pieces, options)?;
+    let count = lines.len();
+    match push_lines(alloc, line, &division, options, lines) {
+        Ok(()) => Ok(()),
+        Err(error) => {
+            lines.truncate(count);
+            Err(WrapError::Memory(error))
+        }
+    }
+}
+
+/// The pieces of a paragraph that are divided.
+fn find_pieces<'t>(
+    alloc: Global,
+    paragraph: &'t str,
+    options: &Options<'_>,
+) -> Result<Vec<Word<'t>>, AllocError>
+    ensures pieces { IfOk result (λ pieces. map word_view pieces.items
+        ≡ pieces_of (settings_view options.now) options.now.word_separator
+        options.now.word_splitter paragraph.now) }
+    ensures tiles { IfOk result (λ pieces. Tiles (map word_view pieces.items) paragraph.now) }
+{
+    let split = find_split_words(alloc, paragraph, options)?;
+    if !options.break_words {
+        return Ok(split);
+    }
+    let width = remaining_width(options, options.subsequent_indent);
+    let mut broken = break_words(alloc, split, width)?;
+    if !options.initial_indent.is_empty() {
+        // Where the first word has no room beside the indent, the first line is the indent alone.
+        broken.insert(0, Word::from(""))?;
+    }
+    Ok(broken)
+}
+
+/// The words of a paragraph, split.
+fn find_split_words<'t>(
+    alloc: Global,
+    paragraph: &'t str,
+    options: &Options<'_>,
+) -> Result<Vec<Word<'t>>, AllocError>
+    ensures { IfOk result (λ pieces. map word_view pieces.items
+        ≡ split_words options.now.word_splitter
+        (separated_words options.now.word_separator paragraph.now)) }
+{
+    let mut pieces = Vec::new(alloc);
+    for word in options.word_separator.find_words(alloc, paragraph)? {
+        push_measured(alloc, &mut pieces, word, &options.word_splitter)?;
+    }
+    Ok(pieces)
+}
+
+/// The columns that an indent leaves of a line.
+fn remaining_width(options: &Options<'_>, indent: &str) -> usize
+    ensures { result ≡ width_after (settings_view options.now) indent.now }
+{
+    options.width.saturating_sub(display_width(indent))
+}
+
+/// The pieces divided by the algorithm of the options. There is no overflow, since all widths
+/// together keep to 64 bits.
+fn divide<'a, 'w>(
+    alloc: Global,
+    pieces: &'w [Word<'a>],
+    options: &Options<'_>,
+) -> Result<Vec<&'w [Word<'a>]>, WrapError>
+    requires { Fits64Bits (total_width (λ word. sizes_of (word_view word)) pieces.now) }
+    ensures divided { IfOk result (λ lines. IsDividedBy (algorithm_view options.now.wrap_algorithm)
+        (λ word. sizes_of (word_view word)) (widths_of (settings_view options.now)) pieces.now
+        (map (λ line. line.now) lines.items)) }
+    ensures only_memory { IfErr result (λ error. error ≡ WrapError.Memory alloc_error) }
+{
+    let line_widths = [
+        remaining_width(options, options.initial_indent),
+        remaining_width(options, options.subsequent_indent),
+    ];
+    options.wrap_algorithm.wrap(alloc, pieces, &line_widths)
+}
+
+/// Appends the line of each list of pieces, which together tile the paragraph.
+fn push_lines<'t>(
+    alloc: Global,
+    paragraph: &'t str,
+    division: &[&[Word<'_>]],
+    options: &Options<'_>,
+    lines: &mut Vec<CowStr<'t>>,
+) -> Result<(), AllocError>
+    requires { flat_map (λ line. tiled (map word_view line.now)) division.now ≡ paragraph.now }
+    ensures lines { OnOk result (Adds lines.old.items lines.new.items
+        (parts_from (settings_view options.now) (nat_lt 0 (length lines.old.items))
+        (map (λ line. map word_view line.now) division.now))) }
+    ensures kept { take (length lines.old.items) lines.new.items ≡ lines.old.items }
+{
+    let mut rest = paragraph;
+    for pieces in division {
+        let (line, after) = split_line(alloc, rest, pieces, options, !lines.is_empty())?;
+        lines.push(line)?;
+        rest = after;
+    }
+    Ok(())
+}
+
+/// The line of the pieces with which the text begins, and the text after them.
+fn split_line<'t>(
+    alloc: Global,
+    text: &'t str,
+    pieces: &[Word<'_>],
+    options: &Options<'_>,
+    is_later: bool,
+) -> Result<(CowStr<'t>, &'t str), AllocError>
+    requires { StartsWith text.now (tiled (map word_view pieces.now)) }
+    ensures line { IfOk result (λ line. line_view line.0
+        ≡ line_from (parts_of (settings_view options.now) is_later (map word_view pieces.now))) }
+    ensures rest { IfOk result (λ line. line.1.now
+        ≡ drop (length (tiled (map word_view pieces.now))) text.now) }
+{
+    let Some((last, front)) = pieces.split_last() else {
+        return Ok((CowStr::Borrowed(""), text));
+    };
+    let indent = next_indent(options, is_later);
+    let keeps_whitespace = options.preserve_trailing_space && last.penalty.is_empty();
+    let (slice, rest) = cut_line(text, front, last, keeps_whitespace);
+    Ok((assemble(alloc, indent, slice, last.penalty)?, rest))
+}
+
+/// The slice of the text that the pieces cover, with or without the last whitespace, and the text
+/// after that whitespace.
+fn cut_line<'t>(
+    text: &'t str,
+    front: &[Word<'_>],
+    last: &Word<'_>,
+    keeps_whitespace: bool,
+) -> (&'t str, &'t str)
+    requires { StartsWith text.now (tiled (map word_view (front.now ++ last.now ∷ []))) }
+    ensures slice { result.0.now
+        ≡ (if keeps_whitespace then tiled (map word_view (front.now ++ last.now ∷ []))
+        else covered (map word_view (front.now ++ last.now ∷ []))) }
+    ensures rest { result.1.now
+        ≡ drop (length (tiled (map word_view (front.now ++ last.now ∷ [])))) text.now }
+{
+    let whitespace_len = last.whitespace.as_bytes().len();
+    let covered_len = tiled_len(front) + last.word.as_bytes().len();
+    if keeps_whitespace {
+        return text.split_at(covered_len + whitespace_len);
+    }
+    let (slice, rest) = text.split_at(covered_len);
+    let (_whitespace, rest) = rest.split_at(whitespace_len);
+    (slice, rest)
+}
+
+/// The bytes of the pieces with their whitespace: 8 for `"foo "` and `"bar "`.
+pub fn tiled_len(pieces: &[Word<'_>]) -> usize
+    requires { length (tiled (map word_view pieces.now)) < text_limit }
+    ensures len { result ≡ length (tiled (map word_view pieces.now)) }
+    ensures utf8 { IsUtf8 (tiled (map word_view pieces.now)) }
+{
+    let mut len = 0;
+    for piece in pieces {
+        len += piece.word.as_bytes().len() + piece.whitespace.as_bytes().len();
+    }
+    len
+}
+
+/// The slice, with the indent before it and the penalty after it. Copies only where one is added.
+fn assemble<'t>(
+    alloc: Global,
+    indent: &str,
+    slice: &'t str,
+    penalty: &str,
+) -> Result<CowStr<'t>, AllocError>
+    ensures { IfOk result (λ line. line_view line
+        ≡ assembled_line indent.now slice.now penalty.now) }
+{
+    if indent.is_empty() && penalty.is_empty() {
+        return Ok(CowStr::Borrowed(slice));
+    }
+    let mut line = String::from_str(alloc, indent)?;
+    line.push_str(slice)?;
+    line.push_str(penalty)?;
+    Ok(CowStr::Owned(line))
+}

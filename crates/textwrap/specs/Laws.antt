@@ -11,15 +11,10 @@ use Rattle.textwrap_base.specs.WrapAlgorithms.{Algorithm, Greedy}
 use Rattle.textwrap_lines.specs.Filling.{IsFilled}
 use Rattle.textwrap_lines.specs.LineEnding.{line_feed, paragraphs_of}
 use Rattle.textwrap_lines.specs.Options.{Settings, settings_at}
-use Rattle.textwrap_lines.specs.Paragraph.{IsDividedInto, Slice}
+use Rattle.textwrap_lines.specs.Paragraph.{DividesAs, Slice}
 use Rattle.textwrap_lines.specs.Text.{AreTextLines}
-use Rattle.textwrap_lines.specs.WordSeparators.{AreSeparated}
-use Rattle.textwrap_lines.specs.WordSplitters.{ArePoints}
+use Rattle.textwrap_lines.specs.WordSplitters.{Splitter, Whole}
 use Rattle.textwrap_lines.specs.declared.line_ending.LineEnding.TheVariants.{LF}
-use Rattle.textwrap_lines.specs.declared.word_separators.WordSeparator.{WordSeparator}
-use Rattle.textwrap_lines.specs.declared.word_separators.WordSeparator.TheVariants.{AsciiSpace}
-use Rattle.textwrap_lines.specs.declared.word_splitters.WordSplitter.{WordSplitter}
-use Rattle.textwrap_lines.specs.declared.word_splitters.WordSplitter.TheVariants.{NoHyphenation}
 use Rattle.textwrap.specs.Columns.{Layout, layout_of, inner_width, row_count, cells, row_text}
 use Rattle.textwrap.specs.Columns.{row_parts, cells_by_column}
 use Rattle.textwrap.specs.InPlace.{IsFilledInPlace}
@@ -32,6 +27,7 @@ pub use Rattle.textwrap_base.specs.Laws.{GreedyDivisionIsUnique, ChosenDivisionI
 pub use Rattle.textwrap_base.specs.Laws.{TableDivisionIsUnique, TableOverflowIsOverflow}
 pub use Rattle.textwrap_base.specs.Laws.{TableHasLeastCosts}
 pub use Rattle.textwrap_lines.specs.Laws.{ParagraphsAreUnique, PiecesAreUnique, IsUnique}
+pub use Rattle.textwrap_lines.specs.Laws.{WordsAtAreUnique}
 pub use Rattle.textwrap_lines.specs.Laws.{ForBuiltIn, DividedLinesAreUnique}
 pub use Rattle.textwrap_lines.specs.Laws.{ParagraphLinesAreUnique, TextLinesAreUnique}
 pub use Rattle.textwrap_lines.specs.Laws.{FilledTextIsUnique, TextLinesAreWrapped, PointsAreCuts}
@@ -51,8 +47,7 @@ abbrev pub FilledInPlaceIsWrapped : Type 0
 FilledInPlaceIsWrapped =
     (width : ℕ) (text filled : List ℕ) → IsUtf8 text → IsNarrow text
     → IsFilledInPlace width text filled
-    → AreTextLines (unbroken_at width) (IsDividedInto (unbroken_at width)
-    (AreSeparated AsciiSpace) (ArePoints NoHyphenation) Greedy) text
+    → AreTextLines (unbroken_at width) (DividesAs Whole Greedy (unbroken_at width)) text
     (map (λ line. Slice (without_final_blanks line)) (paragraphs_of LF filled))
 
 -- a text has its ended parts in one way, the computed one
@@ -109,17 +104,15 @@ pub record IsUnindented (settings : Settings) : Type 0 where
 -- a plain text that is refilled without indents is filled, a blank in the place of each line feed
 abbrev pub RefilledIsFilled : Type 0
 RefilledIsFilled =
-    (settings : Settings) (separator : WordSeparator) (splitter : WordSplitter)
-    (algorithm : Algorithm) (text refilled : List ℕ) → IsUnindented settings → IsPlain text
-    → IsRefilled settings (AreSeparated separator) (ArePoints splitter) algorithm text refilled
-    ↔ IsFilled settings (IsDividedInto settings (AreSeparated separator) (ArePoints splitter)
-    algorithm) (blanked text) refilled
+    (settings : Settings) (splitter : Splitter) (algorithm : Algorithm) (text refilled : List ℕ)
+    → IsUnindented settings → IsPlain text
+    → IsRefilled settings (DividesAs splitter algorithm) text refilled
+    ↔ IsFilled settings (DividesAs splitter algorithm settings) (blanked text) refilled
 
 -- the text filled at a width by an algorithm, its words neither split nor broken
 abbrev pub IsFilledUnbroken : ℕ → Algorithm → List ℕ → List ℕ → Type 0
 IsFilledUnbroken width algorithm =
-    IsFilled (unbroken_at width) (IsDividedInto (unbroken_at width) (AreSeparated AsciiSpace)
-    (ArePoints NoHyphenation) algorithm)
+    IsFilled (unbroken_at width) (DividesAs Whole algorithm (unbroken_at width))
 
 -- a plain text without line feeds, so filled, is plain, and is the text but for blanks that became
 -- line feeds
@@ -130,15 +123,14 @@ FilledIsPlain =
     → IsPlain filled × (blanked filled ≡ text)
 
 -- so what is refilled after that, without indents, is what filling the text gives at once, whatever
--- the second settings, separator, splitter and algorithm
+-- the second settings, splitter and algorithm
 abbrev pub FilledTwiceIsFilledOnce : Type 0
 FilledTwiceIsFilledOnce =
-    (width : ℕ) (first second : Algorithm) (settings : Settings) (separator : WordSeparator)
-    (splitter : WordSplitter) (text filled refilled : List ℕ) → IsUnindented settings
+    (width : ℕ) (first second : Algorithm) (settings : Settings) (splitter : Splitter)
+    (text filled refilled : List ℕ) → IsUnindented settings
     → IsPlain text → All (λ c. c ≢ line_feed) text → IsFilledUnbroken width first text filled
-    → IsRefilled settings (AreSeparated separator) (ArePoints splitter) second filled refilled
-    ↔ IsFilled settings (IsDividedInto settings (AreSeparated separator) (ArePoints splitter)
-    second) text refilled
+    → IsRefilled settings (DividesAs splitter second) filled refilled
+    ↔ IsFilled settings (DividesAs splitter second settings) text refilled
 
 -- the parts of a row make its text
 abbrev pub RowsAreParts : Type 0

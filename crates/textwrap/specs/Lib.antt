@@ -9,6 +9,7 @@ pub use Rattle.textwrap_base.specs.Cost
 pub use Rattle.textwrap_base.specs.Division
 pub use Rattle.textwrap_base.specs.Errors
 pub use Rattle.textwrap_base.specs.LineCosts
+pub use Rattle.textwrap_base.specs.LineEnds
 pub use Rattle.textwrap_base.specs.Lists
 pub use Rattle.textwrap_base.specs.Minima
 pub use Rattle.textwrap_base.specs.OptimalFit
@@ -18,11 +19,13 @@ pub use Rattle.textwrap_base.specs.Table
 pub use Rattle.textwrap_base.specs.Units
 pub use Rattle.textwrap_base.specs.Words
 pub use Rattle.textwrap_base.specs.WrapAlgorithms
+pub use Rattle.textwrap_lines.specs.Cuts
 pub use Rattle.textwrap_lines.specs.Filling
 pub use Rattle.textwrap_lines.specs.Fuzzing
 pub use Rattle.textwrap_lines.specs.LineEnding
 pub use Rattle.textwrap_lines.specs.Options
 pub use Rattle.textwrap_lines.specs.Paragraph
 pub use Rattle.textwrap_lines.specs.Text
+pub use Rattle.textwrap_lines.specs.WordOffsets
 pub use Rattle.textwrap_lines.specs.WordSeparators
 pub use Rattle.textwrap_lines.specs.WordSplitters

@@ -11,14 +11,15 @@ use Rattle.textwrap_base.specs.Blanks.{blank}
 use Rattle.textwrap_base.specs.Lists.{last}
 use Rattle.textwrap_base.specs.Units.{text_width}
 use Rattle.textwrap_base.specs.Words.{WordText}
-use Rattle.textwrap_base.specs.WrapAlgorithms.{Algorithm, algorithm_view}
+use Rattle.textwrap_base.specs.Penalties.{default_penalties}
+use Rattle.textwrap_base.specs.declared.wrap_algorithms.WrapAlgorithm.TheVariants.{OptimalFit}
 use Rattle.textwrap_lines.specs.Filling.{IsFilled}
 use Rattle.textwrap_lines.specs.LineEnding.{carriage_return, line_feed, ending_bytes, join_with}
-use Rattle.textwrap_lines.specs.Options.{Settings, settings_at, default_algorithm}
-use Rattle.textwrap_lines.specs.Paragraph.{IsDividedInto}
+use Rattle.textwrap_lines.specs.Options.{Settings, settings_at}
 use Rattle.textwrap_lines.specs.declared.line_ending.LineEnding.{LineEnding}
 use Rattle.textwrap_lines.specs.declared.line_ending.LineEnding.TheVariants.{CRLF, LF}
 use Rattle.textwrap_lines.specs.declared.options.Options.{Options}
+use Rattle.textwrap.specs.declared.refilling.Layout.{Layout}
 use Rattle.textwrap_lines.specs.declared.word_separators.WordSeparator.TheVariants.{AsciiSpace}
 use Rattle.textwrap_lines.specs.declared.word_splitters.WordSplitter.TheVariants.{HyphenSplitter}
 
@@ -149,8 +150,9 @@ with_indents_of text settings = record settings {
 }
 
 -- words are found, split and divided into lines by the defaults
-pub record HasDefaultMethods (options : Options) : Type 0 where
-  pub algorithm : algorithm_view options.wrap_algorithm ≡ default_algorithm
+pub record HasDefaultMethods {E C : Type 0} {e : _} {c : _} (options : Options E C e c)
+    : Type 0 where
+  pub algorithm : options.wrap_algorithm ≡ OptimalFit default_penalties
   pub separator : options.word_separator ≡ AsciiSpace
   pub splitter : options.word_splitter ≡ HyphenSplitter
 
@@ -160,16 +162,23 @@ unfilled_settings text =
     let layout = with_indents_of text (settings_at (unfilled_width text)) in
     record layout { line_ending = unfilled_ending text }
 
+-- a layout as settings, all else by the defaults
+abbrev pub layout_settings : Layout → Settings
+layout_settings l = record (settings_at l.width) {
+  line_ending = l.line_ending;
+  initial_indent = l.initial_indent.now;
+  subsequent_indent = l.subsequent_indent.now;
+}
+
 -- ---- the text filled again
 
 -- the text, unfilled without its ending and filled with its own indents; the ending of the settings
--- stands in the place of its own. Relations say what words a line may have, and what points a word
-abbrev pub IsRefilled : Settings → (List ℕ → List WordText → Type 0)
-    → (List ℕ → List ℕ → Type 0) → Algorithm → List ℕ → List ℕ → Type 0
-IsRefilled settings Words Points algorithm text refilled =
+-- stands in the place of its own. A relation says what a paragraph is divided into under any settings
+abbrev pub IsRefilled : Settings → (Settings → List ℕ → List (List WordText) → Type 0)
+    → List ℕ → List ℕ → Type 0
+IsRefilled settings Divides text refilled =
     let indented = with_indents_of text settings in
-    (filled : List ℕ)
-    × IsFilled indented (IsDividedInto indented Words Points algorithm) (joined_text text) filled
+    (filled : List ℕ) × IsFilled indented (Divides indented) (joined_text text) filled
     × (refilled ≡ filled ++ added_ending (keeps_ending text) settings.line_ending)
 
 -- ---- plain text

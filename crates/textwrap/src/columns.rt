@@ -2,13 +2,10 @@
 ghost use Rattle.std.specs.Prelude.{◌≡◌, ◌+◌, ◌-◌, ◌*◌, ◌<◌, ◌≤◌, ◌++◌, [], length, map, alloc_error};
 ghost use Rattle.std.specs.Prelude.{string_bytes, IfOk, IfErr, OnOk, ◌⊎◌};
 ghost use Rattle.std.specs.List.{range_with_len, repeat};
-ghost use Rattle.textwrap_base.specs.WrapAlgorithms.{algorithm_view};
 ghost use Rattle.textwrap.specs.Columns.{blanks, inner_width, column_width, layout_view, cell};
 ghost use Rattle.textwrap.specs.Columns.{cells, padded, gapped, row_text, table_rows, IsInColumns};
-ghost use Rattle.textwrap_lines.specs.Options.{settings_view};
-ghost use Rattle.textwrap_lines.specs.Paragraph.{line_view, line_bytes, IsDividedInto};
-ghost use Rattle.textwrap_lines.specs.WordSeparators.{AreSeparated};
-ghost use Rattle.textwrap_lines.specs.WordSplitters.{ArePoints};
+ghost use Rattle.textwrap_lines.specs.Options.{settings_view, MayOverflow};
+ghost use Rattle.textwrap_lines.specs.Paragraph.{line_view, line_bytes, DividesUnder};
 
 use crate::words::display_width;
 use crate::wrap_algorithms::WrapError;
@@ -48,7 +45,7 @@ struct Table<'a> {
 /// joined: no line ending is added.
 ///
 /// # Errors
-/// [`WrapError::Memory`] where memory runs out, and no other. There is no overflow.
+/// Those of `wrap`.
 pub fn wrap_columns(
     alloc: Global,
     text: &str,
@@ -60,11 +57,10 @@ pub fn wrap_columns(
 ) -> Result<Vec<String>, WrapError>
     requires { 1 ≤ columns }
     ensures rows { IfOk result (λ rows. IsInColumns (settings_view options.entry)
-        (λ settings. IsDividedInto settings (AreSeparated options.entry.word_separator)
-        (ArePoints options.entry.word_splitter) (algorithm_view options.entry.wrap_algorithm))
-        columns text.now left_gap.now middle_gap.now right_gap.now
+        (DividesUnder options.entry) columns text.now left_gap.now middle_gap.now right_gap.now
         (map string_bytes rows.items)) }
-    ensures only_memory { IfErr result (λ error. error ≡ WrapError.Memory alloc_error) }
+    ensures only_memory { ¬ MayOverflow options.entry
+        → IfErr result (λ error. error ≡ WrapError.Memory alloc_error) }
 {
     let inner = inner_width(options.width, columns, left_gap, middle_gap, right_gap);
     let column_width = column_width(inner, columns);

@@ -11,7 +11,7 @@ pub use textwrap_lines::laws::{
     broken_pieces_are_unique, broken_pieces_tile, chosen_division_is_unique,
     greedy_division_is_unique, lines_are_unique, paragraphs_are_unique, pieces_are_unique,
     split_pieces_tile, table_division_is_unique, table_has_least_costs, table_overflow_is_overflow,
-    text_lines_are_wrapped, units_are_unique, words_are_unique,
+    text_lines_are_wrapped, units_are_unique, words_are_unique, words_at_are_unique,
 };
 
 /// At each width a text is filled in place in one way. Where no character of it takes more columns

@@ -3,24 +3,26 @@ ghost use Rattle.std.specs.Prelude.{◌≡◌, [], ◌∷◌, ◌++◌, length, 
 ghost use Rattle.std.specs.Prelude.{IfSome, string_bytes, map, option_to_list};
 ghost use Rattle.std.specs.Io.{StartsWith};
 ghost use Rattle.std.specs.Str.{IsAscii};
-ghost use Rattle.textwrap_base.specs.WrapAlgorithms.{algorithm_view};
-ghost use Rattle.textwrap_lines.specs.Options.{default_algorithm, settings_at, settings_view};
+ghost use Rattle.textwrap_base.specs.Penalties.{default_penalties};
+ghost use Rattle.textwrap_base.specs.declared.wrap_algorithms.WrapAlgorithm.TheVariants.{OptimalFit};
+ghost use Rattle.textwrap_lines.specs.Options.{settings_at, settings_view};
+ghost use Rattle.textwrap_lines.specs.Options.{MayOverflow};
+ghost use Rattle.textwrap_lines.specs.Paragraph.{DividesUnder};
 ghost use Rattle.textwrap.specs.Refilling.{is_prefix_character, line_prefix, common_start};
 ghost use Rattle.textwrap.specs.Refilling.{unfilled_text, unfilled_settings, joined_text};
 ghost use Rattle.textwrap.specs.Refilling.{keeps_ending, IsRefilled, HasDefaultMethods};
+ghost use Rattle.textwrap.specs.Refilling.{layout_settings};
 ghost use Rattle.textwrap.specs.Refilling.{unfilled_width, unfilled_initial, unfilled_subsequent};
 ghost use Rattle.textwrap.specs.Refilling.{with_indents_of};
 ghost use Rattle.textwrap.specs.Refilling.{detected_among, detected_ending, common_prefix};
-ghost use Rattle.textwrap_lines.specs.WordSeparators.{AreSeparated};
-ghost use Rattle.textwrap_lines.specs.WordSplitters.{ArePoints};
 ghost use Rattle.textwrap_lines.specs.declared.word_separators.WordSeparator.TheVariants.{AsciiSpace};
 ghost use Rattle.textwrap_lines.specs.declared.word_splitters.WordSplitter.TheVariants.{HyphenSplitter};
 
 use crate::words::display_width;
-use crate::wrap_algorithms::WrapError;
+use crate::wrap_algorithms::{Penalties, WrapAlgorithm, WrapError};
 use lines::NonEmptyLines;
 use std::alloc::{AllocError, Global};
-use textwrap_lines::{LineEnding, Options, fill};
+use textwrap_lines::{LineEnding, Options, WordSeparator, WordSplitter, fill};
 
 mod lines;
 
@@ -42,16 +44,16 @@ pub fn unfill<'t>(alloc: Global, text: &'t str) -> Result<(String, Options<'t>),
     ensures text { IfOk result (λ unfilled. string_bytes unfilled.0 ≡ unfilled_text text.now) }
     ensures settings { IfOk result (λ unfilled. settings_view unfilled.1
         ≡ unfilled_settings text.now) }
-    ensures algorithm { IfOk result (λ unfilled. algorithm_view unfilled.1.wrap_algorithm
-        ≡ default_algorithm) }
+    ensures algorithm { IfOk result (λ unfilled. unfilled.1.wrap_algorithm
+        ≡ OptimalFit default_penalties) }
     ensures separator { IfOk result (λ unfilled. unfilled.1.word_separator ≡ AsciiSpace) }
     ensures splitter { IfOk result (λ unfilled. unfilled.1.word_splitter ≡ HyphenSplitter) }
 {
-    let (mut unfilled, options, keeps_ending) = join_lines(alloc, text)?;
+    let (mut unfilled, layout, keeps_ending) = join_lines(alloc, text)?;
     if keeps_ending {
-        unfilled.push_str(options.line_ending.as_str())?;
+        unfilled.push_str(layout.line_ending.as_str())?;
     }
-    Ok((unfilled, options))
+    Ok((unfilled, with_layout(layout)))
 }
 
 /// Fills a filled text again, with the indents that it has.
@@ -61,18 +63,18 @@ pub fn unfill<'t>(alloc: Global, text: &'t str) -> Result<(String, Options<'t>),
 /// the options. At 8 columns `"> foo bar baz\n"` becomes `"> foo\n> bar\n> baz\n"`.
 ///
 /// # Errors
-/// [`WrapError::Memory`] where memory runs out, and no other. There is no overflow.
+/// Those of `wrap`.
 pub fn refill(alloc: Global, filled_text: &str, options: Options<'_>) -> Result<String, WrapError>
     ensures refilled { IfOk result (λ refilled. IsRefilled (settings_view options.entry)
-        (AreSeparated options.entry.word_separator) (ArePoints options.entry.word_splitter)
-        (algorithm_view options.entry.wrap_algorithm) filled_text.now (string_bytes refilled)) }
-    ensures only_memory { IfErr result (λ error. error ≡ WrapError.Memory alloc_error) }
+        (DividesUnder options.entry) filled_text.now (string_bytes refilled)) }
+    ensures only_memory { ¬ MayOverflow options.entry
+        → IfErr result (λ error. error ≡ WrapError.Memory alloc_error) }
 {
     let line_ending = options.line_ending;
-    let (unfilled, found, keeps_ending) = join_lines(alloc, filled_text)?;
+    let (unfilled, layout, keeps_ending) = join_lines(alloc, filled_text)?;
     let options = Options {
-        initial_indent: found.initial_indent,
-        subsequent_indent: found.subsequent_indent,
+        initial_indent: layout.initial_indent,
+        subsequent_indent: layout.subsequent_indent,
         ..options
     };
     let mut refilled = fill(alloc, &unfilled, options)?;
@@ -82,13 +84,42 @@ pub fn refill(alloc: Global, filled_text: &str, options: Options<'_>) -> Result<
     Ok(refilled)
 }
 
-/// The joined lines of the text without an ending, the options that it seems to have been filled
-/// with, and whether it ends in their line ending.
-fn join_lines<'t>(alloc: Global, text: &'t str) -> Result<(String, Options<'t>, bool), AllocError>
+/// How a text seems to have been filled.
+#[derive(Clone, Copy)]
+struct Layout<'t> {
+    /// The columns of its widest line.
+    width: usize,
+    line_ending: LineEnding,
+    initial_indent: &'t str,
+    subsequent_indent: &'t str,
+}
+
+/// The options with this layout, all else by the defaults.
+fn with_layout(layout: Layout<'_>) -> Options<'_>
+    ensures settings { settings_view result ≡ layout_settings layout.entry }
+    ensures methods { HasDefaultMethods result }
+{
+    // Field by field: options that `Options::new` has made would be handed out by two crates, and
+    // the checker tells only within one crate that they hold no function of its own.
+    Options {
+        width: layout.width,
+        line_ending: layout.line_ending,
+        initial_indent: layout.initial_indent,
+        subsequent_indent: layout.subsequent_indent,
+        break_words: true,
+        wrap_algorithm: WrapAlgorithm::OptimalFit(Penalties::new()),
+        word_separator: WordSeparator::AsciiSpace,
+        word_splitter: WordSplitter::HyphenSplitter,
+        preserve_trailing_space: false,
+    }
+}
+
+/// The joined lines of the text without an ending, its layout, and whether it ends in the line
+/// ending of that.
+fn join_lines<'t>(alloc: Global, text: &'t str) -> Result<(String, Layout<'t>, bool), AllocError>
     ensures joined { IfOk result (λ unfilled. string_bytes unfilled.0 ≡ joined_text text.now) }
-    ensures settings { IfOk result (λ unfilled. settings_view unfilled.1
+    ensures layout { IfOk result (λ unfilled. layout_settings unfilled.1
         ≡ unfilled_settings text.now) }
-    ensures methods { IfOk result (λ unfilled. HasDefaultMethods unfilled.1) }
     ensures keeps { IfOk result (λ unfilled. unfilled.2 ≡ keeps_ending text.now) }
 {
     let layout = find_layout(text);
@@ -102,14 +133,17 @@ fn join_lines<'t>(alloc: Global, text: &'t str) -> Result<(String, Options<'t>, 
         return Ok((joined, layout, false));
     };
     let keeps_ending = text.ends_with(ending.as_str());
-    Ok((joined, layout.line_ending(ending), keeps_ending))
+    let layout = Layout {
+        line_ending: ending,
+        ..layout
+    };
+    Ok((joined, layout, keeps_ending))
 }
 
-/// The width and the indents of the text, all else by the defaults.
-fn find_layout(text: &str) -> Options<'_>
-    ensures settings { settings_view result
+/// The width and the indents of the text, and LF.
+fn find_layout(text: &str) -> Layout<'_>
+    ensures { layout_settings result
         ≡ with_indents_of text.now (settings_at (unfilled_width text.now)) }
-    ensures methods { HasDefaultMethods result }
 {
     let first = text.lines().next().unwrap_or("");
     let mut width = display_width(first);
@@ -118,10 +152,11 @@ fn find_layout(text: &str) -> Options<'_>
         width = width.max(display_width(line));
         common = Some(narrow(common, line_prefix(line)));
     }
-    Options {
+    Layout {
+        width,
+        line_ending: LineEnding::LF,
         initial_indent: line_prefix(first),
         subsequent_indent: common.unwrap_or(""),
-        ..Options::new(width)
     }
 }
 

@@ -1,3 +1,4 @@
+pub mod Ends
 pub mod Greedy
 pub mod Map
 pub mod OneLine

@@ -1,4 +1,5 @@
 pub mod Parts
 pub mod Rows
+pub mod Stripped
 pub mod Unique
 pub mod Widths

@@ -1,9 +1,9 @@
 -- The states of the code that reads escape sequences, by what they say of the characters to come.
 use Rattle.std.specs.Prelude.{ℕ, List}
 use Rattle.std.specs.List.{flat_map}
-use Rattle.textwrap_base.specs.declared.words.escapes.State.{State}
-use Rattle.textwrap_base.specs.declared.words.escapes.State.TheVariants.{Text, Escape, Control}
-use Rattle.textwrap_base.specs.declared.words.escapes.State.TheVariants.{Command}
+use Rattle.textwrap_base.specs.declared.escapes.State.{State}
+use Rattle.textwrap_base.specs.declared.escapes.State.TheVariants.{Text, Escape, Control}
+use Rattle.textwrap_base.specs.declared.escapes.State.TheVariants.{Command}
 use Rattle.textwrap_base.specs.Units.{escape_len, control_len, command_len, units_past, visible_of}
 
 -- how many of the characters to come belong to the sequence that is being read

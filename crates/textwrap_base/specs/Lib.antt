@@ -6,6 +6,7 @@ pub mod Errors
 pub mod Escapes
 pub mod Laws
 pub mod LineCosts
+pub mod LineEnds
 pub mod Lists
 pub mod Minima
 pub mod OptimalFit

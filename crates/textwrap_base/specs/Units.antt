@@ -2,7 +2,8 @@
 -- the width of a text in columns.
 use Rattle.std.specs.Prelude.{◌≡◌, ◌≢◌, ℕ, zero, suc, ◌-◌, ◌<◌, ◌≤◌, Bool, true, false, ◌==◌, ◌&&◌}
 use Rattle.std.specs.Prelude.{◌||◌, List, [], ◌∷◌, length, take, slice_index, if◌then◌else◌}
-use Rattle.std.specs.Prelude.{unwrap_or, chars, sum_by, encode_utf8, filter, nat_lt, All, ⊤, ◌⊎◌}
+use Rattle.std.specs.Prelude.{unwrap_or, chars, sum_by, encode_utf8, encode_utf8_all, filter}
+use Rattle.std.specs.Prelude.{nat_lt, All, ⊤, ◌⊎◌}
 use Rattle.std.specs.Int.{is_in_range}
 use Rattle.std.specs.List.{flat_map}
 use Rattle.textwrap_base.specs.Lists.{last}
@@ -104,7 +105,7 @@ units_past (suc n) (c ∷ cs) = units_past n cs
 abbrev pub units : List ℕ → List TextUnit
 units cs = units_past 0 cs
 
--- ---- width
+-- ---- what is visible, and width
 
 abbrev pub visible_of : TextUnit → List ℕ
 visible_of (Visible c) = c ∷ []
@@ -113,6 +114,10 @@ visible_of (Sequence cs) = []
 -- the visible characters among these
 abbrev pub visible : List ℕ → List ℕ
 visible cs = flat_map visible_of (units cs)
+
+-- a text, given by its bytes, without its escape sequences
+abbrev pub stripped : List ℕ → List ℕ
+stripped bytes = encode_utf8_all (visible (chars bytes))
 
 -- the columns of a character by itself, 0 where it has no width
 abbrev pub columns : ℕ → ℕ

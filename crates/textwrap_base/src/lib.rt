@@ -4,6 +4,7 @@
 
 pub mod blanks;
 mod errors;
+pub mod escapes;
 pub mod laws;
 mod line_widths;
 pub mod minima;

@@ -1,18 +1,18 @@
 //! The columns of a text, fragments and words: what the original has in its module `core`.
-ghost use Rattle.std.specs.Prelude.{◌≡◌, ℕ, ◌*◌, ◌≤◌, length};
+ghost use Rattle.std.specs.Prelude.{◌≡◌, ◌≢◌, ℕ, ◌*◌, ◌≤◌, length, All, IfOk, string_bytes};
 ghost use Rattle.std.specs.List.{list_all};
 ghost use Rattle.textwrap_base.specs.Sizes.{Sizes};
-ghost use Rattle.textwrap_base.specs.Units.{columns, text_width, is_printable};
+ghost use Rattle.textwrap_base.specs.Units.{columns, text_width, is_printable, escape, stripped};
 ghost use Rattle.textwrap_base.specs.Words.{word_view, sizes_of, word_of};
 
 use crate::blanks::split_final_blanks;
+use crate::escapes::State;
 pub use breaking::{BreakApart, break_words};
-use escapes::State;
+use std::alloc::{AllocError, Global};
 use std::fmt::Debug;
 use unicode_width::UnicodeWidthChar;
 
 mod breaking;
-mod escapes;
 
 /// The width of a text in terminal columns. Each visible character counts as it would alone, by its
 /// East Asian width (Unicode Standard Annex #11): most take one column, wide ones two, and control
@@ -35,6 +35,29 @@ pub fn display_width(text: &str) -> usize
         state = next;
     }
     width
+}
+
+/// The visible characters of a text, in order: a copy without its escape sequences (ECMA-48).
+///
+/// A sequence without an end goes on to the end of the text, and is left out with it: `"a\x1b[1mb"`
+/// becomes `"ab"`, and `"a\x1b[12"` becomes `"a"`. A text without ESC stays as it is.
+///
+/// # Errors
+/// [`AllocError`] where memory runs out.
+pub fn strip_ansi_escape_sequences(alloc: Global, text: &str) -> Result<String, AllocError>
+    ensures stripped { IfOk result (λ plain. string_bytes plain ≡ stripped text.now) }
+    ensures no_escape { IfOk result (λ plain. All (λ byte. byte ≢ escape) (string_bytes plain)) }
+{
+    let mut plain = String::new(alloc);
+    let mut state = State::Text;
+    for ch in text.chars() {
+        let (next, is_kept) = state.step(ch);
+        if is_kept {
+            plain.push(ch)?;
+        }
+        state = next;
+    }
+    Ok(plain)
 }
 
 /// Whether each byte is a printable ASCII character, which takes one column.

@@ -1,5 +1,6 @@
 //! The division of fragments into lines.
-ghost use Rattle.std.specs.Prelude.{◌≡◌, ◌+◌, ◌≤◌, ◌<◌, length, map, take, IfOk, OnOk};
+ghost use Rattle.std.specs.Prelude.{◌≡◌, ◌+◌, ◌≤◌, ◌<◌, length, map, take, IfOk, OnOk, IsSomeAnd};
+ghost use Rattle.std.specs.Option.{ForSome};
 ghost use Rattle.textwrap_base.specs.Division.{closed_width, Fits, IsGreedy};
 ghost use Rattle.textwrap_base.specs.Penalties.{default_penalties};
 ghost use Rattle.textwrap_base.specs.Cost.{total_width};
@@ -9,18 +10,24 @@ pub use crate::errors::{OverflowError, WrapError};
 use crate::line_widths::line_width;
 pub use crate::penalties::Penalties;
 use crate::words::{Fragment, Word};
+use at_ends::wrap_at_ends;
+pub use line_ends::{EndsFunction, LineEnds};
 pub use optimal_fit::{wrap_optimal_fit, wrap_optimal_fit_counted};
 use std::alloc::{AllocError, Global};
 
+mod at_ends;
+mod line_ends;
 mod optimal_fit;
 
 /// How fragments are divided into lines.
-#[derive(Clone, Copy, Debug, PartialEq)]
+#[derive(Clone, Copy, Debug)]
 pub enum WrapAlgorithm {
     /// Each line takes fragments while they fit, as `wrap_first_fit` does.
     FirstFit,
     /// The lines are those of least cost at these penalties, as `wrap_optimal_fit` finds them.
     OptimalFit(Penalties),
+    /// The lines end where a function of the caller says.
+    Custom(LineEnds),
 }
 
 impl WrapAlgorithm {
@@ -38,7 +45,7 @@ impl WrapAlgorithm {
         WrapAlgorithm::OptimalFit(Penalties::new())
     }
 
-    ghost use Rattle.textwrap_base.specs.WrapAlgorithms.{algorithm_view, IsDividedBy, OverflowsBy};
+    ghost use Rattle.textwrap_base.specs.WrapAlgorithms.{algorithm_view, MayDivide, OverflowsBy};
     ghost use Rattle.textwrap_base.specs.Words.{sizes_of, word_view};
 
     /// Divides the words into lines by this algorithm.
@@ -51,13 +58,12 @@ impl WrapAlgorithm {
         words: &'b [Word<'a>],
         line_widths: &[usize],
     ) -> Result<Vec<&'b [Word<'a>]>, WrapError>
-        ensures divided { IfOk result (λ lines.
-            IsDividedBy (algorithm_view self.now) (λ word. sizes_of (word_view word))
-            line_widths.now words.now (map (λ line. line.now) lines.items)) }
-        ensures overflow_only { Overflowed result → OverflowsBy (algorithm_view self.now)
-            (λ word. sizes_of (word_view word)) line_widths.now words.now }
-        ensures ok_only { OnOk result (¬ OverflowsBy (algorithm_view self.now)
-            (λ word. sizes_of (word_view word)) line_widths.now words.now) }
+        ensures divided { IfOk result (λ lines. MayDivide self.now word_view line_widths.now
+            words.now (map (λ line. line.now) lines.items)) }
+        ensures overflow_only { Overflowed result → IsSomeAnd (algorithm_view self.now) (λ algorithm.
+            OverflowsBy algorithm (λ word. sizes_of (word_view word)) line_widths.now words.now) }
+        ensures ok_only { OnOk result (ForSome (algorithm_view self.now) (λ algorithm.
+            ¬ OverflowsBy algorithm (λ word. sizes_of (word_view word)) line_widths.now words.now)) }
         ensures no_overflow { Fits64Bits (total_width (λ word. sizes_of (word_view word)) words.now)
             → ¬ Overflowed result }
     {
@@ -66,6 +72,31 @@ impl WrapAlgorithm {
             WrapAlgorithm::OptimalFit(penalties) => {
                 wrap_optimal_fit(alloc, words, line_widths, penalties)
             }
+            WrapAlgorithm::Custom(line_ends) => {
+                Ok(wrap_at_ends(alloc, words, line_widths, *line_ends)?)
+            }
+        }
+    }
+}
+
+impl PartialEq for WrapAlgorithm {
+    ghost use Rattle.std.proofs.Common.{rules};
+    ghost use Rattle.std.specs.Cmp.Rules.{comparing};
+    ghost use Rattle.textwrap_base.specs.WrapAlgorithms.{are_equal};
+
+    ghost eq = { are_equal ⟦<Penalties as PartialEq>⟧.eq };
+
+    ghost laws = { Prim.search (comparing, rules) };
+
+    /// Whether both are first fit, or both optimal fit with the same penalties. No function of a
+    /// caller is known to be equal to another, or to itself.
+    fn eq(&self, other: &WrapAlgorithm) -> bool {
+        match (self, other) {
+            (WrapAlgorithm::FirstFit, WrapAlgorithm::FirstFit) => true,
+            (WrapAlgorithm::OptimalFit(penalties), WrapAlgorithm::OptimalFit(others)) => {
+                penalties == others
+            }
+            _ => false,
         }
     }
 }

@@ -1,7 +1,7 @@
 -- What the program leaves behind, and the status that it ends with.
 use Rattle.std.specs.Prelude.{◌≡◌, ℕ, List, [], ◌∷◌, ◌++◌, Option, None, Some, codes}
 use Rattle.std.specs.Io.KnownBytes.{Keeps}
-use Rattle.textwrap.specs.WrapAlgorithms.{algorithm_view}
+use Rattle.textwrap_cli.specs.Arguments.{algorithm_view}
 use Rattle.textwrap_cli.specs.Filling.{WritesPrefix, Runs, fault_line}
 use Rattle.textwrap_cli.specs.declared.arguments.FillRequest.{FillRequest}
 use Rattle.textwrap_cli.specs.declared.filling.RunError.{RunError}

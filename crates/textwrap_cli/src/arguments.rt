@@ -3,7 +3,14 @@ ghost use Rattle.std.specs.Prelude.{◌≡◌, map, string_bytes};
 ghost use Rattle.std.specs.Str.{all_ascii_digits};
 ghost use Rattle.textwrap_cli.specs.Arguments.{width_of, algorithm_of, request_with, request_of};
 
-use textwrap::wrap_algorithms::WrapAlgorithm;
+/// How words are divided into lines: one of the two ways that the arguments can name.
+#[derive(Clone, Copy, Debug, PartialEq, Eq)]
+pub(crate) enum Algorithm {
+    /// Each line takes words while they fit.
+    FirstFit,
+    /// The lines are those of least cost at the default penalties.
+    OptimalFit,
+}
 
 /// What the arguments ask for.
 #[derive(Debug, Drop, PartialEq)]
@@ -11,7 +18,7 @@ pub(crate) struct FillRequest {
     /// The columns of a line.
     pub width: usize,
     /// How words are divided into lines.
-    pub algorithm: WrapAlgorithm,
+    pub algorithm: Algorithm,
 }
 
 /// The request that the words after the program's name mean: a width in ASCII digits, and `first`
@@ -20,14 +27,14 @@ pub(crate) fn arguments(words: &[String]) -> Option<FillRequest>
     ensures { result ≡ request_of (map string_bytes words.now) }
 {
     match words {
-        [width] => parse_request(width.as_str(), Some(WrapAlgorithm::new_optimal_fit())),
+        [width] => parse_request(width.as_str(), Some(Algorithm::OptimalFit)),
         [width, algorithm] => parse_request(width.as_str(), parse_algorithm(algorithm.as_str())),
         _ => None,
     }
 }
 
 /// The request of a width and an algorithm, where both are there.
-fn parse_request(width: &str, algorithm: Option<WrapAlgorithm>) -> Option<FillRequest>
+fn parse_request(width: &str, algorithm: Option<Algorithm>) -> Option<FillRequest>
     ensures { result ≡ request_with width.now algorithm }
 {
     let width = parse_width(width)?;
@@ -58,13 +65,13 @@ fn is_all_digits(bytes: &[u8]) -> bool
 }
 
 /// The algorithm of that name.
-fn parse_algorithm(word: &str) -> Option<WrapAlgorithm>
+fn parse_algorithm(word: &str) -> Option<Algorithm>
     ensures { result ≡ algorithm_of word.now }
 {
     if word == "first" {
-        return Some(WrapAlgorithm::FirstFit);
+        return Some(Algorithm::FirstFit);
     }
-    (word == "optimal").then_some(WrapAlgorithm::new_optimal_fit())
+    (word == "optimal").then_some(Algorithm::OptimalFit)
 }
 
 #[cfg(test)]
@@ -93,7 +100,7 @@ mod tests {
             let words = strings(rt.alloc(), &[width, "first"])?;
             let request = arguments(&words).ok_or(width)?;
             assert_eq!(rt; request.width, number, "{width}");
-            assert_eq!(rt; request.algorithm, WrapAlgorithm::FirstFit, "{width}");
+            assert_eq!(rt; request.algorithm, Algorithm::FirstFit, "{width}");
         }
         Ok(())
     }
@@ -105,11 +112,7 @@ mod tests {
             let words = strings(rt.alloc(), words)?;
             let request = arguments(&words).ok_or("10")?;
             assert_eq!(rt; request.width, 10, "{words:?}");
-            assert_eq!(rt;
-                request.algorithm,
-                WrapAlgorithm::new_optimal_fit(),
-                "{words:?}"
-            );
+            assert_eq!(rt; request.algorithm, Algorithm::OptimalFit, "{words:?}");
         }
         Ok(())
     }

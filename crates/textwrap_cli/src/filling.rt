@@ -4,15 +4,16 @@ ghost use Rattle.std.specs.Prelude.{Err, IfOk, OnOk, OnErr, IfErr, IsUtf8};
 ghost use Rattle.std.specs.Io.KnownBytes.{Appends};
 ghost use Rattle.std.specs.Result.{result_err};
 ghost use Rattle.textwrap.specs.Filling.{IsFilledAt};
-ghost use Rattle.textwrap.specs.WrapAlgorithms.{algorithm_view};
+ghost use Rattle.textwrap_cli.specs.Arguments.{algorithm_view};
 ghost use Rattle.textwrap_cli.specs.Filling.{fault_line, ReadsAll, FillsTo, Runs, WritesPrefix};
 ghost use Rattle.textwrap_cli.specs.Program.{line_feed, TriesLine};
 
+use crate::arguments::Algorithm;
 use std::alloc::Global;
 use std::io::{Read, Write};
 use std::str;
-use textwrap::wrap_algorithms::{WrapAlgorithm, WrapError};
-use textwrap::{Options, fill};
+use textwrap::wrap_algorithms::Penalties;
+use textwrap::{Options, WrapAlgorithm, WrapError, fill};
 
 /// Why the program did not write the whole filled text.
 #[derive(Clone, Copy, Debug, PartialEq, Eq)]
@@ -54,7 +55,7 @@ pub(crate) fn run<R: Read, W: Write>(
     reader: &mut R,
     writer: &mut W,
     width: usize,
-    algorithm: WrapAlgorithm,
+    algorithm: Algorithm,
 ) -> Result<(), RunError>
     ensures { Runs width (algorithm_view algorithm)
         (R.remaining reader.old) (R.remaining reader.new)
@@ -91,7 +92,7 @@ fn write_filled<W: Write>(
     input: &[u8],
     writer: &mut W,
     width: usize,
-    algorithm: WrapAlgorithm,
+    algorithm: Algorithm,
 ) -> Result<(), RunError>
     ensures { FillsTo width (algorithm_view algorithm) input.now
         (W.contents writer.old) (W.contents writer.new) (result_err result) }
@@ -108,7 +109,7 @@ fn fill_input(
     alloc: Global,
     input: &[u8],
     width: usize,
-    algorithm: WrapAlgorithm,
+    algorithm: Algorithm,
 ) -> Result<String, RunError>
     ensures text { result ≢ Err RunError.NotUtf8 → IsUtf8 input.now }
     ensures filled { IfOk result (λ filled.
@@ -119,6 +120,10 @@ fn fill_input(
 {
     let Ok(text) = str::from_utf8(input) else {
         return Err(RunError::NotUtf8);
+    };
+    let algorithm = match algorithm {
+        Algorithm::FirstFit => WrapAlgorithm::FirstFit,
+        Algorithm::OptimalFit => WrapAlgorithm::OptimalFit(Penalties::new()),
     };
     let options = Options::new(width).wrap_algorithm(algorithm);
     match fill(alloc, text, options) {

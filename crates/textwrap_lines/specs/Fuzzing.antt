@@ -5,10 +5,11 @@ use Rattle.textwrap_base.specs.declared.errors.WrapError.{WrapError}
 use Rattle.textwrap_base.specs.declared.errors.WrapError.TheVariants.{Memory}
 use Rattle.textwrap_lines.specs.Paragraph.{LineParts, Adds}
 
--- at Ok such lines follow those that were there, at Err these stay; memory alone may run out
-pub record AppendsLines {Z A : Type 0} (Are : List LineParts → Type 0) (old new : List (CowStr Z))
-    (result : Result A WrapError) : Type 0 where
+-- at Ok such lines follow those that were there, at Err these stay; where widths can't overflow,
+-- memory alone may run out
+pub record AppendsLines {Z A : Type 0} (Overflow : Type 0) (Are : List LineParts → Type 0)
+    (old new : List (CowStr Z)) (result : Result A WrapError) : Type 0 where
   pub lines : OnOk result ((parts : List LineParts) × Are parts × Adds old new parts)
   pub kept : OnOk result (take (length old) new ≡ old)
   pub unchanged : OnErr result (new ≡ old)
-  pub only_memory : IfErr result (λ error. error ≡ Memory alloc_error)
+  pub only_memory : ¬ Overflow → IfErr result (λ error. error ≡ Memory alloc_error)

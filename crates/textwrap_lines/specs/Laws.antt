@@ -1,19 +1,18 @@
 -- What the laws say.
-use Rattle.std.specs.Prelude.{◌≡◌, ◌↔◌, ℕ, Bool, List, All, IsUtf8}
-use Rattle.textwrap_base.specs.Words.{WordText, tile_of, tiled}
+use Rattle.std.specs.Prelude.{◌≡◌, ◌↔◌, ℕ, Bool, List, All, IsUtf8, Some}
+use Rattle.textwrap_base.specs.Words.{WordText, AreWordsOf, tile_of, tiled}
 use Rattle.textwrap_base.specs.WrapAlgorithms.{Algorithm}
+use Rattle.textwrap_lines.specs.Cuts.{AreCuts}
 use Rattle.textwrap_lines.specs.Filling.{IsFilled}
 use Rattle.textwrap_lines.specs.LineEnding.{AreParagraphs, paragraphs_of}
 use Rattle.textwrap_lines.specs.Options.{Settings}
-use Rattle.textwrap_lines.specs.Paragraph.{ArePieces, pieces_of, IsDividedInto, AreDividedParts}
+use Rattle.textwrap_lines.specs.Paragraph.{ArePieces, pieces_of, DividesAs, AreDividedParts}
 use Rattle.textwrap_lines.specs.Paragraph.{AreParagraphParts, Line}
 use Rattle.textwrap_lines.specs.Text.{AreTextLines, IsWrapped}
-use Rattle.textwrap_lines.specs.WordSeparators.{AreSeparated}
-use Rattle.textwrap_lines.specs.WordSplitters.{AreCuts, ArePoints, points_of, split_pieces}
+use Rattle.textwrap_lines.specs.WordOffsets.{AreWordsAt, words_at}
+use Rattle.textwrap_lines.specs.WordSplitters.{Splitter, ArePoints, points_of, split_pieces}
 use Rattle.textwrap_lines.specs.WordSplitters.{split_words}
 use Rattle.textwrap_lines.specs.declared.line_ending.LineEnding.{LineEnding}
-use Rattle.textwrap_lines.specs.declared.word_separators.WordSeparator.{WordSeparator}
-use Rattle.textwrap_lines.specs.declared.word_splitters.WordSplitter.{WordSplitter}
 pub use Rattle.textwrap_base.specs.Laws.{UnitsAreUnique, WordsAreUnique, BrokenPiecesAreUnique}
 pub use Rattle.textwrap_base.specs.Laws.{BrokenTextsTile, BrokenPiecesTile, BrokenWordsTile}
 pub use Rattle.textwrap_base.specs.Laws.{GreedyDivisionIsUnique, ChosenDivisionIsUnique}
@@ -26,25 +25,27 @@ ParagraphsAreUnique =
     (ending : LineEnding) (text : List ℕ) (paragraphs : List (List ℕ))
     → AreParagraphs ending text paragraphs ↔ (paragraphs ≡ paragraphs_of ending text)
 
--- by a built-in separator and splitter a paragraph has exactly the computed pieces
+-- a line has one list of words at offsets of its visible text, the computed one
+abbrev pub WordsAtAreUnique : Type 0
+WordsAtAreUnique = (offsets line : List ℕ) (words : List WordText)
+    → AreWordsAt offsets line words ↔ (words ≡ words_at offsets line)
+
+-- by built-in parts a paragraph has exactly the computed pieces
 abbrev pub PiecesAreUnique : Type 0
 PiecesAreUnique =
-    (settings : Settings) (separator : WordSeparator) (splitter : WordSplitter)
-    (paragraph : List ℕ) (pieces : List WordText)
-    → ArePieces settings (AreSeparated separator) (ArePoints splitter) paragraph pieces
-    ↔ (pieces ≡ pieces_of settings separator splitter paragraph)
+    (settings : Settings) (splitter : Splitter) (paragraph : List ℕ) (pieces : List WordText)
+    → ArePieces settings AreWordsOf (ArePoints splitter) paragraph pieces
+    ↔ (pieces ≡ pieces_of settings splitter paragraph)
 
 -- each value has one of these at most
 abbrev pub IsUnique : {B : Type 0} → (List ℕ → B → Type 0) → Type 0
 IsUnique {B} Is = (x : List ℕ) (first second : B) → Is x first → Is x second → first ≡ second
 
--- whatever the settings and the algorithm, for the built-in separators and splitters
+-- whatever the settings, for built-in parts
 abbrev pub ForBuiltIn : (Settings → (List ℕ → List (List WordText) → Type 0) → Type 0) → Type 0
 ForBuiltIn Holds =
-    (settings : Settings) (algorithm : Algorithm) (separator : WordSeparator)
-    (splitter : WordSplitter)
-    → Holds settings
-    (IsDividedInto settings (AreSeparated separator) (ArePoints splitter) algorithm)
+    (settings : Settings) (algorithm : Algorithm) (splitter : Splitter)
+    → Holds settings (DividesAs splitter algorithm settings)
 
 abbrev pub DividedLinesAreUnique : Type 0
 DividedLinesAreUnique =
@@ -65,16 +66,17 @@ FilledTextIsUnique = ForBuiltIn (λ settings Divides. IsUnique (IsFilled setting
 -- by built-in parts the lines of a text lose only blanks, add only indents, and keep to their widths
 abbrev pub TextLinesAreWrapped : Type 0
 TextLinesAreWrapped =
-    (settings : Settings) (algorithm : Algorithm) (separator : WordSeparator)
-    (splitter : WordSplitter) (text : List ℕ) (lines : List Line) → IsUtf8 text
+    (settings : Settings) (algorithm : Algorithm) (splitter : Splitter) (text : List ℕ)
+    (lines : List Line) → IsUtf8 text
     → let Divides : List ℕ → List (List WordText) → Type 0 =
-    IsDividedInto settings (AreSeparated separator) (ArePoints splitter) algorithm in
-    AreTextLines settings Divides text lines → IsWrapped settings algorithm Divides text lines
+    DividesAs splitter algorithm settings in
+    AreTextLines settings Divides text lines
+    → IsWrapped settings (Some splitter) (Some algorithm) Divides text lines
 
 -- the points of a splitter are cuts of the word
 abbrev pub PointsAreCuts : Type 0
 PointsAreCuts =
-    (splitter : WordSplitter) (text : List ℕ) → IsUtf8 text → AreCuts text (points_of splitter text)
+    (splitter : Splitter) (text : List ℕ) → IsUtf8 text → AreCuts text (points_of splitter text)
 
 -- the pieces at any cuts tile the word, with its whitespace
 abbrev pub SplitPiecesTile : Type 0
@@ -85,5 +87,5 @@ SplitPiecesTile =
 -- so the pieces of words tile what the words do
 abbrev pub SplitWordsTile : Type 0
 SplitWordsTile =
-    (splitter : WordSplitter) (words : List WordText) → All (λ w. IsUtf8 w.word) words
+    (splitter : Splitter) (words : List WordText) → All (λ w. IsUtf8 w.word) words
     → tiled (split_words splitter words) ≡ tiled words

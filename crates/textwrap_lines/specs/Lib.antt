@@ -1,3 +1,4 @@
+pub mod Cuts
 pub mod Filling
 pub mod Fuzzing
 pub mod Laws
@@ -5,14 +6,17 @@ pub mod LineEnding
 pub mod Options
 pub mod Paragraph
 pub mod Text
+pub mod WordOffsets
 pub mod WordSeparators
 pub mod WordSplitters
+pub mod WordsLeft
 pub use Rattle.textwrap_base.specs.Blanks
 pub use Rattle.textwrap_base.specs.Breaking
 pub use Rattle.textwrap_base.specs.Cost
 pub use Rattle.textwrap_base.specs.Division
 pub use Rattle.textwrap_base.specs.Errors
 pub use Rattle.textwrap_base.specs.LineCosts
+pub use Rattle.textwrap_base.specs.LineEnds
 pub use Rattle.textwrap_base.specs.Lists
 pub use Rattle.textwrap_base.specs.Minima
 pub use Rattle.textwrap_base.specs.OptimalFit

@@ -1,12 +1,13 @@
 -- The settings of a wrap, as values of the logic.
-use Rattle.std.specs.Prelude.{◌≡◌, ℕ, Bool, true, false, List, []}
+use Rattle.std.specs.Prelude.{◌≡◌, ◌≢◌, ℕ, Bool, true, false, List, [], Some, None}
 use Rattle.textwrap_base.specs.Penalties.{default_penalties}
 use Rattle.textwrap_base.specs.WrapAlgorithms.{Algorithm, LeastCost, algorithm_view}
+use Rattle.textwrap_base.specs.declared.penalties.Penalties.{Penalties}
+use Rattle.textwrap_lines.specs.WordSplitters.{Splitter, AtHyphens, splitter_view}
 use Rattle.textwrap_lines.specs.declared.line_ending.LineEnding.{LineEnding}
 use Rattle.textwrap_lines.specs.declared.line_ending.LineEnding.TheVariants.{LF}
 use Rattle.textwrap_lines.specs.declared.options.Options.{Options}
 use Rattle.textwrap_lines.specs.declared.word_separators.WordSeparator.TheVariants.{AsciiSpace}
-use Rattle.textwrap_lines.specs.declared.word_splitters.WordSplitter.TheVariants.{HyphenSplitter}
 
 -- what the options say, but for the algorithm, the separator and the splitter
 pub record Settings : Type 0 where
@@ -17,7 +18,7 @@ pub record Settings : Type 0 where
   pub break_words : Bool
   pub preserve_trailing_space : Bool
 
-abbrev pub settings_view : Options → Settings
+abbrev pub settings_view : {E C : Type 0} {e : _} {c : _} → Options E C e c → Settings
 settings_view o = record {
   width = o.width;
   line_ending = o.line_ending;
@@ -28,7 +29,8 @@ settings_view o = record {
 }
 
 -- how words are found, split and divided stays as it was
-pub record KeepsMethods (old new : Options) : Type 0 where
+pub record KeepsMethods {E C : Type 0} {e : _} {c : _} (old new : Options E C e c)
+    : Type 0 where
   pub algorithm : new.wrap_algorithm ≡ old.wrap_algorithm
   pub separator : new.word_separator ≡ old.word_separator
   pub splitter : new.word_splitter ≡ old.word_splitter
@@ -47,9 +49,28 @@ settings_at width = record {
 abbrev pub default_algorithm : Algorithm
 default_algorithm = LeastCost default_penalties
 
+-- words stand between blanks, and neither the splitter nor the algorithm is a function of the caller
+pub record HasBuiltInParts {E C : Type 0} {e : _} {c : _} (o : Options E C e c)
+    : Type 0 where
+  pub separator : o.word_separator ≡ AsciiSpace
+  pub splitter : splitter_view o.word_splitter ≢ None
+  pub algorithm : algorithm_view o.wrap_algorithm ≢ None
+
+-- these are the settings, words stand between blanks, and the splitter and the algorithm are these
+pub record HasParts {E C : Type 0} {e : _} {c : _} (o : Options E C e c) (settings : Settings)
+    (splitter : Splitter) (algorithm : Algorithm) : Type 0 where
+  pub settings_are : settings_view o ≡ settings
+  pub separator : o.word_separator ≡ AsciiSpace
+  pub splitter_is : splitter_view o.word_splitter ≡ Some splitter
+  pub algorithm_is : algorithm_view o.wrap_algorithm ≡ Some algorithm
+
+-- the caller says where words are split, and optimal fit divides them: there alone can widths overflow
+abbrev pub MayOverflow : {E C : Type 0} {e : _} {c : _} → Options E C e c → Type 0
+MayOverflow o =
+    (splitter_view o.word_splitter ≡ None)
+    × ((penalties : Penalties)
+    × (algorithm_view o.wrap_algorithm ≡ Some (LeastCost penalties)))
+
 -- all fields have their defaults at this width
-pub record HasDefaults (width : ℕ) (options : Options) : Type 0 where
-  pub settings : settings_view options ≡ settings_at width
-  pub algorithm : algorithm_view options.wrap_algorithm ≡ default_algorithm
-  pub separator : options.word_separator ≡ AsciiSpace
-  pub splitter : options.word_splitter ≡ HyphenSplitter
+abbrev pub HasDefaults : {E C : Type 0} {e : _} {c : _} → ℕ → Options E C e c → Type 0
+HasDefaults width o = HasParts o (settings_at width) AtHyphens default_algorithm

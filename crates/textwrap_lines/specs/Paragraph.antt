@@ -4,19 +4,16 @@ use Rattle.std.specs.Prelude.{List, [], ◌∷◌, ◌++◌, All, length, map, i
 use Rattle.std.specs.String.{string_bytes}
 use Rattle.std.specs.declared.borrow.CowStr.{CowStr}
 use Rattle.std.specs.declared.borrow.CowStr.TheVariants.{Borrowed, Owned}
-use Rattle.textwrap_base.specs.WrapAlgorithms.{Algorithm, algorithm_view, IsDividedBy}
+use Rattle.textwrap_base.specs.WrapAlgorithms.{Algorithm, IsDividedBy, MayDivide}
 use Rattle.textwrap_base.specs.Breaking.{broken_words}
 use Rattle.textwrap_base.specs.Division.{line_width, closed_width}
 use Rattle.textwrap_base.specs.Units.{text_width, IsNarrow, column_characters}
-use Rattle.textwrap_base.specs.Words.{WordText, sizes_of, tiled, word_of}
+use Rattle.textwrap_base.specs.Words.{WordText, sizes_of, tiled, word_of, words_of, AreWordsOf}
 use Rattle.textwrap_lines.specs.Options.{Settings, settings_view}
-use Rattle.textwrap_lines.specs.WordSeparators.{AreSeparated, separated_words}
-use Rattle.textwrap_lines.specs.WordSplitters.{ArePoints, AreSplit, split_words}
+use Rattle.textwrap_lines.specs.WordSeparators.{MaySeparate}
+use Rattle.textwrap_lines.specs.WordSplitters.{Splitter, AtHyphens, ArePoints, AreSplit, MaySplit}
+use Rattle.textwrap_lines.specs.WordSplitters.{split_words}
 use Rattle.textwrap_lines.specs.declared.options.Options.{Options}
-use Rattle.textwrap_lines.specs.declared.word_separators.WordSeparator.{WordSeparator}
-use Rattle.textwrap_lines.specs.declared.word_separators.WordSeparator.TheVariants.{AsciiSpace}
-use Rattle.textwrap_lines.specs.declared.word_splitters.WordSplitter.{WordSplitter}
-use Rattle.textwrap_lines.specs.declared.word_splitters.WordSplitter.TheVariants.{HyphenSplitter}
 
 -- each text has fewer bytes
 abbrev pub text_limit : ℕ
@@ -84,12 +81,12 @@ module _ (settings : Settings) where
   broken_pieces_of split =
       if settings.break_words then front_pieces ++ broken_words later_width split else split
 
-  -- the pieces of a paragraph: its words, split and broken
-  abbrev pub pieces_of : WordSeparator → WordSplitter → List ℕ → List WordText
-  pieces_of separator splitter paragraph =
-      broken_pieces_of (split_words splitter (separated_words separator paragraph))
+  -- the pieces of a paragraph by built-in parts: its words, split and broken
+  abbrev pub pieces_of : Splitter → List ℕ → List WordText
+  pieces_of splitter paragraph = broken_pieces_of (split_words splitter (words_of paragraph))
 
--- the same as a relation, where relations say what words a line may have, and what points a word
+-- the same as a relation, where relations say what words a line may have, what points a word, and
+-- what lines of these widths a list of pieces
 module _ (settings : Settings) (Words : List ℕ → List WordText → Type 0)
     (Points : List ℕ → List ℕ → Type 0) where
   abbrev pub ArePieces : List ℕ → List WordText → Type 0
@@ -98,21 +95,33 @@ module _ (settings : Settings) (Words : List ℕ → List WordText → Type 0)
       × Words paragraph words × AreSplit Points words split
       × (pieces ≡ broken_pieces_of settings split)
 
-  -- the paragraph is cut into pieces, and the algorithm divides them so
-  abbrev pub IsDividedInto : Algorithm → List ℕ → List (List WordText) → Type 0
-  IsDividedInto algorithm paragraph division =
+  -- the paragraph is cut into pieces, and these are divided so
+  abbrev pub IsDividedInto : (List ℕ → List WordText → List (List WordText) → Type 0)
+      → List ℕ → List (List WordText) → Type 0
+  IsDividedInto Lines paragraph division =
       (pieces : List WordText) × ArePieces paragraph pieces
-      × IsDividedBy algorithm sizes_of (widths_of settings) pieces division
+      × Lines (widths_of settings) pieces division
 
-abbrev pub DividesBy : Options → List ℕ → List (List WordText) → Type 0
-DividesBy o =
-    IsDividedInto (settings_view o) (AreSeparated o.word_separator) (ArePoints o.word_splitter)
-    (algorithm_view o.wrap_algorithm)
+-- a paragraph may be divided so by the separator, the splitter and the algorithm of the options,
+-- under these settings
+abbrev pub DividesUnder : {E C : Type 0} {e : _} {c : _} → Options E C e c → Settings
+    → List ℕ → List (List WordText) → Type 0
+DividesUnder o settings =
+    IsDividedInto settings (MaySeparate o.word_separator) (MaySplit o.word_splitter)
+    (MayDivide o.wrap_algorithm (λ w. w))
 
--- the same for these settings and this algorithm, with the default separator and splitter
+abbrev pub DividesBy : {E C : Type 0} {e : _} {c : _} → Options E C e c
+    → List ℕ → List (List WordText) → Type 0
+DividesBy o = DividesUnder o (settings_view o)
+
+-- the same by built-in parts: words between blanks, and this splitter and algorithm
+abbrev pub DividesAs : Splitter → Algorithm → Settings → List ℕ → List (List WordText) → Type 0
+DividesAs splitter algorithm settings =
+    IsDividedInto settings AreWordsOf (ArePoints splitter) (IsDividedBy algorithm sizes_of)
+
+-- the same by the default separator and splitter
 abbrev pub DividesByDefault : Settings → Algorithm → List ℕ → List (List WordText) → Type 0
-DividesByDefault settings algorithm =
-    IsDividedInto settings (AreSeparated AsciiSpace) (ArePoints HyphenSplitter) algorithm
+DividesByDefault settings algorithm = DividesAs AtHyphens algorithm settings
 
 -- ---- the lines of a division, where `is_later` says that a line stands before them
 

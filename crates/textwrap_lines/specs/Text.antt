@@ -1,11 +1,13 @@
 -- The lines of a text.
-use Rattle.std.specs.Prelude.{◌≡◌, ℕ, ◌<◌, Bool, true, false, ◌||◌, nat_lt, List, [], ◌∷◌, ◌++◌}
-use Rattle.std.specs.Prelude.{length, map, All}
+use Rattle.std.specs.Prelude.{◌≡◌, ◌≢◌, ℕ, ◌<◌, Bool, true, false, ◌||◌, nat_lt, List, [], ◌∷◌}
+use Rattle.std.specs.Prelude.{◌++◌, length, map, All, Option, Some, None}
+use Rattle.std.specs.Io.{StartsWith}
 use Rattle.std.specs.List.{flat_map}
 use Rattle.textwrap_base.specs.Blanks.{is_blank}
 use Rattle.textwrap_base.specs.Words.{WordText}
 use Rattle.textwrap_lines.specs.LineEnding.{paragraphs_of}
 use Rattle.textwrap_lines.specs.Options.{Settings}
+use Rattle.textwrap_lines.specs.WordSplitters.{Splitter}
 use Rattle.textwrap_base.specs.WrapAlgorithms.{Algorithm, Greedy}
 use Rattle.textwrap_lines.specs.Paragraph.{Line, LineParts, line_from, AreParagraphParts}
 use Rattle.textwrap_lines.specs.Paragraph.{AreIndented, KeepToWidths, DividesByDefault}
@@ -32,28 +34,37 @@ pub record AreTextLines (settings : Settings)
 abbrev pub AreLinesBy : Settings → Algorithm → List ℕ → List Line → Type 0
 AreLinesBy settings algorithm = AreTextLines settings (DividesByDefault settings algorithm)
 
--- in each paragraph the slices, each followed by what was left off, are the paragraph; only blanks
--- were left off, and nothing where blanks are preserved
+-- what lines cover: their slices, each followed by what was left off
+abbrev pub covered_by : List LineParts → List ℕ
+covered_by parts = flat_map (λ p. p.slice ++ p.left_off) parts
+
+-- in each paragraph the lines cover its beginning; what was left off is blanks, and nothing where
+-- blanks are preserved
 pub record LosesOnlyBlanks (settings : Settings) (text : List ℕ) (groups : List (List LineParts))
     : Type 0 where
-  pub tile : map (λ parts. flat_map (λ p. p.slice ++ p.left_off) parts) groups
-      ≡ paragraphs_of settings.line_ending text
+  pub begin : AreGroups (λ is_later paragraph parts. StartsWith paragraph (covered_by parts)) false
+      (paragraphs_of settings.line_ending text) groups
   pub blanks : All (λ p. All (λ c. is_blank c ≡ true) p.left_off) (flat_map (λ parts. parts) groups)
   pub kept : settings.preserve_trailing_space ≡ true
       → All (λ p. p.left_off ≡ []) (flat_map (λ parts. parts) groups)
 
--- only the indents are added, each in its place
-pub record AddsOnlyIndents (settings : Settings) (groups : List (List LineParts)) : Type 0 where
+-- each line begins with its indent, and where the splitter is built in, nothing else is added
+pub record AddsOnlyIndents (settings : Settings) (splitter : Option Splitter)
+    (groups : List (List LineParts)) : Type 0 where
   pub indents : AreIndented settings false (flat_map (λ parts. parts) groups)
-  pub no_hyphen : All (λ p. p.penalty ≡ []) (flat_map (λ parts. parts) groups)
+  pub no_hyphen : splitter ≢ None → All (λ p. p.penalty ≡ []) (flat_map (λ parts. parts) groups)
 
--- the lines of a text, and what they keep to with built-in parts
-pub record IsWrapped (settings : Settings) (algorithm : Algorithm)
-    (Divides : List ℕ → List (List WordText) → Type 0) (text : List ℕ) (lines : List Line)
-    : Type 0 where
+-- the lines of a text, and what they keep to. Where a caller gives the ends of lines, the last words
+-- of a paragraph may be lost; where a caller gives the points of words, hyphens may be added, and
+-- lines may be wider
+pub record IsWrapped (settings : Settings) (splitter : Option Splitter)
+    (algorithm : Option Algorithm) (Divides : List ℕ → List (List WordText) → Type 0)
+    (text : List ℕ) (lines : List Line) : Type 0 where
   pub are : AreTextLines settings Divides text lines
-  pub some : 0 < length lines
+  pub some : algorithm ≢ None → 0 < length lines
   pub loses : LosesOnlyBlanks settings text are.groups
-  pub adds : AddsOnlyIndents settings are.groups
-  pub keeps : algorithm ≡ Greedy → settings.break_words ≡ true
+  pub tile : algorithm ≢ None
+      → map covered_by are.groups ≡ paragraphs_of settings.line_ending text
+  pub adds : AddsOnlyIndents settings splitter are.groups
+  pub keeps : algorithm ≡ Some Greedy → splitter ≢ None → settings.break_words ≡ true
       → AreGroups (KeepToWidths settings) false (paragraphs_of settings.line_ending text) are.groups

@@ -1,9 +1,8 @@
 -- Where a word may be split, and the pieces of it.
-use Rattle.std.specs.Prelude.{◌≡◌, ℕ, ◌++◌, ◌-◌, ◌<◌, Bool, false, ◌==◌, ◌&&◌, ◌||◌, List, [], ◌∷◌}
-use Rattle.std.specs.Prelude.{All, chars, drop, filter, if◌then◌else◌, length, reverse, slice_range}
-use Rattle.std.specs.Prelude.{take, IsCharBoundary}
+use Rattle.std.specs.Prelude.{◌≡◌, ℕ, ◌++◌, ◌-◌, Bool, true, false, ◌==◌, ◌&&◌, ◌||◌, List, [], ◌∷◌}
+use Rattle.std.specs.Prelude.{chars, drop, filter, if◌then◌else◌, length, reverse, slice_range}
+use Rattle.std.specs.Prelude.{take, Option, Some, None, Ok}
 use Rattle.std.specs.List.{flat_map, range_with_len}
-use Rattle.std.specs.List.Sorted.{IsNonDecreasing}
 use Rattle.textwrap_base.specs.Words.{piece, WordText}
 use Rattle.textwrap_base.specs.Lists.{last}
 use Rattle.unicode.specs.GeneralCategory.{general_category}
@@ -12,7 +11,8 @@ use Rattle.unicode.specs.declared.properties.GeneralCategoryGroup.TheVariants.{N
 use Rattle.unicode.specs.Binary.{is_alphabetic}
 use Rattle.textwrap_lines.specs.declared.word_splitters.WordSplitter.{WordSplitter}
 use Rattle.textwrap_lines.specs.declared.word_splitters.WordSplitter.TheVariants.{NoHyphenation}
-use Rattle.textwrap_lines.specs.declared.word_splitters.WordSplitter.TheVariants.{HyphenSplitter}
+use Rattle.textwrap_lines.specs.declared.word_splitters.WordSplitter.TheVariants.{HyphenSplitter, Custom}
+use Rattle.textwrap_lines.specs.declared.word_splitters.word_cuts.WordCuts.{WordCuts}
 
 -- ---- the points
 
@@ -45,19 +45,48 @@ inner_offsets text = range_with_len 1 (length text - 1)
 abbrev pub hyphen_points : List ℕ → List ℕ
 hyphen_points text = filter (is_hyphen_point text) (inner_offsets text)
 
-abbrev pub points_of : WordSplitter → List ℕ → List ℕ
-points_of NoHyphenation text = []
-points_of HyphenSplitter text = hyphen_points text
+-- a built-in way to split words: nowhere, or after hyphens
+pub data Splitter : Type 0 where
+  Whole : Splitter
+  AtHyphens : Splitter
 
--- the splitter may give these points
-abbrev pub ArePoints : WordSplitter → List ℕ → List ℕ → Type 0
+abbrev pub points_of : Splitter → List ℕ → List ℕ
+points_of Whole text = []
+points_of AtHyphens text = hyphen_points text
+
+-- the splitter gives these points
+abbrev pub ArePoints : Splitter → List ℕ → List ℕ → Type 0
 ArePoints splitter text points = points ≡ points_of splitter text
 
--- a text may be cut at these offsets, one after another
-pub record AreCuts (text points : List ℕ) : Type 0 where
-  pub in_order : IsNonDecreasing points
-  pub in_range : All (λ point. point < length text) points
-  pub between : All (IsCharBoundary text) points
+-- ---- the points of a splitter of the library: a built-in one, or one of a caller
+
+-- which built-in splitter it is, if it is one
+abbrev pub splitter_view : {F : Type 0} {f : _} → WordSplitter F f → Option Splitter
+splitter_view NoHyphenation = Some Whole
+splitter_view HyphenSplitter = Some AtHyphens
+splitter_view (Custom given) = None
+
+-- the caller's function may give these points for this text
+abbrev pub MayPoint : {F : Type 0} {f : _} → WordCuts F f → List ℕ → List ℕ → Type 0
+MayPoint {f = f} given text points =
+    (alloc : _) × (asked : _) × (answer : _) × (asked.now ≡ text) × (answer.items ≡ points)
+    × f.post given.function (alloc, (asked, tt)) (Ok answer)
+
+-- the splitter may give these points for this text
+abbrev pub MaySplit : {F : Type 0} {f : _} → WordSplitter F f → List ℕ → List ℕ → Type 0
+MaySplit NoHyphenation text points = ArePoints Whole text points
+MaySplit HyphenSplitter text points = ArePoints AtHyphens text points
+MaySplit (Custom given) text points = MayPoint given text points
+
+-- equal are the same built-in splitters: a function of a caller is known to be equal to none
+abbrev pub are_equal : {F : Type 0} {f : _} → WordSplitter F f → WordSplitter F f → Bool
+are_equal NoHyphenation NoHyphenation = true
+are_equal NoHyphenation HyphenSplitter = false
+are_equal NoHyphenation (Custom others) = false
+are_equal HyphenSplitter NoHyphenation = false
+are_equal HyphenSplitter HyphenSplitter = true
+are_equal HyphenSplitter (Custom others) = false
+are_equal (Custom given) other = false
 
 -- ---- the pieces
 
@@ -74,11 +103,11 @@ split_from w start (point ∷ points) =
 abbrev pub split_pieces : List ℕ → WordText → List WordText
 split_pieces points w = split_from w 0 points
 
-abbrev pub split_word : WordSplitter → WordText → List WordText
+abbrev pub split_word : Splitter → WordText → List WordText
 split_word splitter w = split_pieces (points_of splitter w.word) w
 
 -- the words, each replaced by its pieces
-abbrev pub split_words : WordSplitter → List WordText → List WordText
+abbrev pub split_words : Splitter → List WordText → List WordText
 split_words splitter words = flat_map (split_word splitter) words
 
 -- the words, each replaced by its pieces at points of its

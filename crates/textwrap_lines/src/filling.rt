@@ -1,8 +1,10 @@
 //! Filling: a wrapped text as one text.
 ghost use Rattle.std.specs.Prelude.{◌≡◌, map, alloc_error, string_bytes, IfOk, IfErr};
 ghost use Rattle.textwrap_lines.specs.LineEnding.{ending_bytes, join_with};
-ghost use Rattle.textwrap_lines.specs.Options.{settings_view};
-ghost use Rattle.textwrap_lines.specs.Paragraph.{line_view, line_bytes, DividesBy};
+ghost use Rattle.textwrap_lines.specs.Options.{Settings, settings_view, HasParts, MayOverflow};
+ghost use Rattle.textwrap_lines.specs.WordSplitters.{Splitter};
+ghost use Rattle.textwrap_base.specs.WrapAlgorithms.{Algorithm};
+ghost use Rattle.textwrap_lines.specs.Paragraph.{line_view, line_bytes, DividesAs, DividesBy};
 ghost use Rattle.textwrap_lines.specs.Filling.{IsFilled};
 
 use crate::line_ending::LineEnding;
@@ -16,11 +18,17 @@ use textwrap_base::wrap_algorithms::WrapError;
 /// a line feed and `baz`.
 ///
 /// # Errors
-/// [`WrapError::Memory`] where memory runs out, and no other. There is no overflow.
+/// Those of [`wrap`].
 pub fn fill(alloc: Global, text: &str, options: Options<'_>) -> Result<String, WrapError>
     ensures filled { IfOk result (λ filled. IsFilled (settings_view options.entry)
         (DividesBy options.entry) text.now (string_bytes filled)) }
-    ensures only_memory { IfErr result (λ error. error ≡ WrapError.Memory alloc_error) }
+    // The same text, where all parts are built in and can be named.
+    ensures built_in { IfOk result (λ filled.
+        (settings : Settings) (splitter : Splitter) (algorithm : Algorithm)
+        → HasParts options.entry settings splitter algorithm → IsFilled settings
+        (DividesAs splitter algorithm settings) text.now (string_bytes filled)) }
+    ensures only_memory { ¬ MayOverflow options.entry
+        → IfErr result (λ error. error ≡ WrapError.Memory alloc_error) }
 {
     let (paragraph, after) = split_paragraph(text, options.line_ending);
     // A single line is joined to none, so it needs no list.
@@ -33,11 +41,17 @@ pub fn fill(alloc: Global, text: &str, options: Options<'_>) -> Result<String, W
 /// The same text as [`fill`](crate::fill), always by way of a list of lines.
 ///
 /// # Errors
-/// [`WrapError::Memory`] where memory runs out, and no other. There is no overflow.
+/// Those of [`wrap`].
 pub fn fill_slow_path(alloc: Global, text: &str, options: Options<'_>) -> Result<String, WrapError>
     ensures filled { IfOk result (λ filled. IsFilled (settings_view options.entry)
         (DividesBy options.entry) text.now (string_bytes filled)) }
-    ensures only_memory { IfErr result (λ error. error ≡ WrapError.Memory alloc_error) }
+    // The same text, where all parts are built in and can be named.
+    ensures built_in { IfOk result (λ filled.
+        (settings : Settings) (splitter : Splitter) (algorithm : Algorithm)
+        → HasParts options.entry settings splitter algorithm → IsFilled settings
+        (DividesAs splitter algorithm settings) text.now (string_bytes filled)) }
+    ensures only_memory { ¬ MayOverflow options.entry
+        → IfErr result (λ error. error ≡ WrapError.Memory alloc_error) }
 {
     let line_ending = options.line_ending;
     let lines = wrap(alloc, text, options)?;

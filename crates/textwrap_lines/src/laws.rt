@@ -4,7 +4,7 @@ ghost use Rattle.textwrap_lines.specs.Laws.{ParagraphsAreUnique, PiecesAreUnique
 ghost use Rattle.textwrap_lines.specs.Laws.{DividedLinesAreUnique, ParagraphLinesAreUnique};
 ghost use Rattle.textwrap_lines.specs.Laws.{TextLinesAreUnique, FilledTextIsUnique};
 ghost use Rattle.textwrap_lines.specs.Laws.{TextLinesAreWrapped, PointsAreCuts, SplitPiecesTile};
-ghost use Rattle.textwrap_lines.specs.Laws.{SplitWordsTile};
+ghost use Rattle.textwrap_lines.specs.Laws.{SplitWordsTile, WordsAtAreUnique};
 
 pub use textwrap_base::laws::{
     broken_pieces_are_unique, broken_pieces_tile, chosen_division_is_unique,
@@ -16,6 +16,12 @@ pub use textwrap_base::laws::{
 /// has an ending in it. They are what `paragraphs_of` gives.
 pub fn paragraphs_are_unique()
     ensures { ParagraphsAreUnique }
+{}
+
+/// A line has exactly one list of words at offsets of its visible text: its parts between all places
+/// where a cut stands, and no others. It is what `words_at` gives.
+pub fn words_at_are_unique()
+    ensures { WordsAtAreUnique }
 {}
 
 /// By a built-in separator and a built-in splitter a paragraph is cut into exactly the pieces that

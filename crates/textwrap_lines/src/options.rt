@@ -5,7 +5,7 @@ use crate::line_ending::LineEnding;
 use crate::word_separators::WordSeparator;
 use crate::word_splitters::WordSplitter;
 use std::alloc::AllocError;
-use textwrap_base::wrap_algorithms::WrapAlgorithm;
+use textwrap_base::wrap_algorithms::{Penalties, WrapAlgorithm};
 
 /// How a text is wrapped. No call on it allocates.
 #[derive(Debug, Drop)]
@@ -46,7 +46,7 @@ impl<'a> Options<'a> {
             initial_indent: "",
             subsequent_indent: "",
             break_words: true,
-            wrap_algorithm: WrapAlgorithm::new(),
+            wrap_algorithm: WrapAlgorithm::OptimalFit(Penalties::new()),
             word_separator: WordSeparator::new(),
             word_splitter,
             preserve_trailing_space: false,
@@ -180,11 +180,7 @@ impl<'a, 'b> From<&'b Options<'a>> for Options<'a> {
 
     /// The same options.
     fn from(options: &'b Options<'a>) -> Options<'a> {
-        Options {
-            // The clone of a splitter needs no memory, so it never fails.
-            word_splitter: options.word_splitter.clone().unwrap(),
-            ..*options
-        }
+        Options { ..*options }
     }
 }
 

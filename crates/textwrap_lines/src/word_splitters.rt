@@ -5,26 +5,32 @@ ghost use Rattle.std.specs.Iterator.{IsFiniteIterable, Drains};
 ghost use Rattle.textwrap_base.specs.Units.{text_width};
 ghost use Rattle.textwrap_base.specs.Words.{piece, word_view};
 ghost use Rattle.textwrap_lines.specs.WordSplitters.{is_alphanumeric, begins_alphanumeric};
-ghost use Rattle.textwrap_lines.specs.WordSplitters.{ends_in_hyphen, is_hyphen_point};
-ghost use Rattle.textwrap_lines.specs.WordSplitters.{hyphen_points, AreCuts, cut_penalty};
-ghost use Rattle.textwrap_lines.specs.WordSplitters.{split_pieces, split_word, split_words};
+ghost use Rattle.textwrap_lines.specs.WordSplitters.{ends_in_hyphen, is_hyphen_point, hyphen_points};
+ghost use Rattle.textwrap_lines.specs.Cuts.{AreCuts};
+ghost use Rattle.textwrap_lines.specs.WordSplitters.{cut_penalty, split_pieces, AreSplit};
+ghost use Rattle.textwrap_lines.specs.WordSplitters.{MayPoint, MaySplit};
 
 use std::alloc::{AllocError, Global};
 use textwrap_base::words::{Word, display_width};
 use unicode::properties::{GeneralCategory, GeneralCategoryGroup, is_alphabetic};
+pub use word_cuts::{PointFunction, WordCuts};
+
+mod word_cuts;
 
 /// Where a word may be split, when the line ends within it.
-#[derive(Clone, Debug, Drop, PartialEq)]
+#[derive(Clone, Copy, Debug)]
 pub enum WordSplitter {
     /// Nowhere.
     NoHyphenation,
     /// After each hyphen that stands between alphanumeric characters: `--foo-bar` is split into
     /// `--foo-` and `bar`.
     HyphenSplitter,
+    /// Where a function of the caller says.
+    Custom(WordCuts),
 }
 
 impl WordSplitter {
-    ghost use Rattle.textwrap_lines.specs.WordSplitters.{points_of};
+    ghost use Rattle.textwrap_lines.specs.WordSplitters.{MaySplit};
 
     /// The offsets in bytes at which the word may be split, 4 and 7 for `can-be-split`: increasing,
     /// inside the word and on character boundaries. `NoHyphenation` has none; with it the call
@@ -33,15 +39,69 @@ impl WordSplitter {
     /// # Errors
     /// [`AllocError`] where memory runs out.
     pub fn split_points(&self, alloc: Global, word: &str) -> Result<Vec<usize>, AllocError>
-        ensures points { IfOk result (λ points. points.items ≡ points_of self.now word.now) }
+        ensures points { IfOk result (λ points. MaySplit self.now word.now points.items) }
         ensures cuts { IfOk result (λ points. AreCuts word.now points.items) }
         ensures none { self.now ≡ WordSplitter.NoHyphenation → IsOk result }
     {
         match self {
             WordSplitter::NoHyphenation => Ok(Vec::new(alloc)),
             WordSplitter::HyphenSplitter => hyphen_points(alloc, word),
+            WordSplitter::Custom(word_cuts) => given_points(alloc, word, *word_cuts),
         }
     }
+}
+
+/// Something that says where words may be split, as a [`WordSplitter`] does.
+pub trait SplitPoints {
+    /// The points that it may give for a word.
+    ghost may_split: { Self → List ℕ → List ℕ → Type 0 };
+
+    /// The offsets in bytes at which the word may be split.
+    ///
+    /// # Errors
+    /// [`AllocError`] where memory runs out.
+    fn split_points(&self, alloc: Global, word: &str) -> Result<Vec<usize>, AllocError>
+        ensures points { IfOk result (λ points. may_split self.now word.now points.items) }
+        ensures cuts { IfOk result (λ points. AreCuts word.now points.items) };
+}
+
+impl SplitPoints for WordSplitter {
+    ghost use Rattle.textwrap_lines.specs.WordSplitters.{MaySplit};
+
+    ghost may_split = { MaySplit };
+
+    fn split_points(&self, alloc: Global, word: &str) -> Result<Vec<usize>, AllocError> {
+        WordSplitter::split_points(self, alloc, word)
+    }
+}
+
+impl PartialEq for WordSplitter {
+    ghost use Rattle.std.proofs.Common.{rules};
+    ghost use Rattle.std.specs.Cmp.Rules.{comparing};
+    ghost use Rattle.textwrap_lines.specs.WordSplitters.{are_equal};
+
+    ghost eq = { are_equal };
+
+    ghost laws = { Prim.search (comparing, rules) };
+
+    /// Whether both are the same built-in splitter. No function of a caller is known to be equal to
+    /// another, or to itself.
+    fn eq(&self, other: &WordSplitter) -> bool {
+        match (self, other) {
+            (WordSplitter::NoHyphenation, WordSplitter::NoHyphenation) => true,
+            (WordSplitter::HyphenSplitter, WordSplitter::HyphenSplitter) => true,
+            _ => false,
+        }
+    }
+}
+
+/// The points that the caller's function gives.
+fn given_points(alloc: Global, word: &str, word_cuts: WordCuts) -> Result<Vec<usize>, AllocError>
+    ensures points { IfOk result (λ points. MayPoint word_cuts word.now points.items) }
+    ensures cuts { IfOk result (λ points. AreCuts word.now points.items) }
+{
+    let points = (word_cuts.function)(alloc, word)?;
+    Ok(points)
 }
 
 /// The offsets after the hyphens between alphanumeric characters.
@@ -106,16 +166,16 @@ fn is_alphanumeric(ch: char) -> bool
 ///
 /// # Errors
 /// [`AllocError`] where memory runs out.
-pub fn split_words<'a, I: IntoIterator<Item = Word<'a>>>(
+pub fn split_words<'a, I: IntoIterator<Item = Word<'a>>, S: SplitPoints>(
     alloc: Global,
     words: I,
-    word_splitter: &WordSplitter,
+    word_splitter: &S,
 ) -> Result<Vec<Word<'a>>, AllocError>
     requires ends { IsFiniteIterable
         I.into_iter_gives I.IntoIter.can_next I.IntoIter.remaining words }
     ensures pieces { IfOk result (λ pieces. (it : I.IntoIter) × (given : List Word)
         × I.into_iter_gives words it × Drains I.IntoIter.next_gives it given
-        × (map word_view pieces.items ≡ split_words word_splitter.now (map word_view given))) }
+        × AreSplit (S.may_split word_splitter.now) (map word_view given) (map word_view pieces.items)) }
 {
     let mut pieces = Vec::new(alloc);
     for word in words {
@@ -134,15 +194,17 @@ pub(crate) fn push_measured<'a>(
     word_splitter: &WordSplitter,
 ) -> Result<(), AllocError>
     requires { word.width ≡ text_width word.word.now }
-    ensures { OnOk result (map word_view pieces.new.items ≡ map word_view pieces.old.items
-        ++ split_word word_splitter.now (word_view word.entry)) }
+    ensures { OnOk result ((points : List ℕ) × MaySplit word_splitter.now word.entry.word.now points
+        × (map word_view pieces.new.items ≡ map word_view pieces.old.items
+        ++ split_pieces points (word_view word.entry))) }
 {
     let points = word_splitter.split_points(alloc, word.word)?;
     if points.is_empty() {
         pieces.push(word)?;
         return Ok(());
     }
-    push_split(pieces, word, &points)
+    push_split(pieces, word, &points)?;
+    Ok(())
 }
 
 /// Adds the pieces of a word that is split at these points.

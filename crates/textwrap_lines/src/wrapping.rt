@@ -1,29 +1,31 @@
 //! Wrapping a text into lines.
 ghost use Rattle.std.specs.Prelude.{◌≡◌, ℕ, List, ◌∷◌, [], ◌++◌, ◌^◌, ◌<◌, length, take, drop, map};
 ghost use Rattle.std.specs.Prelude.{nat_lt, if◌then◌else◌, alloc_error, true, IfOk, IfErr, IfSome};
-ghost use Rattle.std.specs.Prelude.{OnOk, MatchOption};
+ghost use Rattle.std.specs.Prelude.{◌≢◌, OnOk, MatchOption, Some, None};
 ghost use Rattle.std.specs.List.{flat_map};
 ghost use Rattle.std.specs.Str.{IsUtf8};
 ghost use Rattle.std.specs.Io.{StartsWith};
 ghost use Rattle.textwrap_base.specs.Blanks.{without_final_blanks};
 ghost use Rattle.textwrap_base.specs.Cost.{total_width};
-ghost use Rattle.textwrap_base.specs.Errors.{Fits64Bits};
-ghost use Rattle.textwrap_base.specs.WrapAlgorithms.{algorithm_view, IsDividedBy};
+ghost use Rattle.textwrap_base.specs.Errors.{Fits64Bits, Overflowed};
+ghost use Rattle.textwrap_base.specs.WrapAlgorithms.{Algorithm, algorithm_view, LeastCost, MayDivide};
 ghost use Rattle.textwrap_base.specs.Units.{IsNarrow};
 ghost use Rattle.textwrap_base.specs.Words.{WordText, word_view, sizes_of, tiled, Tiles};
+ghost use Rattle.textwrap_base.specs.declared.penalties.Penalties.{Penalties};
 ghost use Rattle.textwrap_base.specs.declared.wrap_algorithms.WrapAlgorithm.TheVariants.{FirstFit};
 ghost use Rattle.textwrap_lines.specs.Fuzzing.{AppendsLines};
 ghost use Rattle.textwrap_lines.specs.LineEnding.{paragraphs_of};
-ghost use Rattle.textwrap_lines.specs.Options.{settings_view};
+ghost use Rattle.textwrap_lines.specs.Options.{Settings, settings_view, HasBuiltInParts};
+ghost use Rattle.textwrap_lines.specs.Options.{HasParts, MayOverflow};
 ghost use Rattle.textwrap_lines.specs.Paragraph.{text_limit, LineParts, line_view, assembled_line};
 ghost use Rattle.textwrap_lines.specs.Paragraph.{line_from, covered};
-ghost use Rattle.textwrap_lines.specs.Paragraph.{pieces_of, widths_of, width_after, indent_of};
+ghost use Rattle.textwrap_lines.specs.Paragraph.{ArePieces, widths_of, width_after, indent_of};
 ghost use Rattle.textwrap_lines.specs.Paragraph.{is_whole, parts_of, parts_from, Adds, DividesBy};
 ghost use Rattle.textwrap_lines.specs.Paragraph.{AreDividedParts, AreParagraphParts};
-ghost use Rattle.textwrap_lines.specs.Paragraph.{OnlyCharactersPass};
-ghost use Rattle.textwrap_lines.specs.Text.{IsWrapped};
-ghost use Rattle.textwrap_lines.specs.WordSeparators.{separated_words};
-ghost use Rattle.textwrap_lines.specs.WordSplitters.{split_words};
+ghost use Rattle.textwrap_lines.specs.Paragraph.{DividesAs, OnlyCharactersPass};
+ghost use Rattle.textwrap_lines.specs.Text.{AreTextLines, IsWrapped};
+ghost use Rattle.textwrap_lines.specs.WordSeparators.{MaySeparate};
+ghost use Rattle.textwrap_lines.specs.WordSplitters.{AreSplit, MaySplit, Splitter, splitter_view};
 
 use crate::line_ending::LineEnding;
 use crate::options::Options;
@@ -41,24 +43,34 @@ use textwrap_base::wrap_algorithms::WrapError;
 /// indent, and fewer bytes than the width has columns, stays one line. Any other is cut into words;
 /// these are split and broken as the options say, and divided into lines by their algorithm.
 ///
-/// There is always at least one line. Only blanks at line ends are lost, and only the indents are
-/// added; a line with an indent is a text of its own. By first fit, where words are broken, no line
+/// By built-in parts there is always at least one line. Only blanks at line ends are lost, and only
+/// the indents are added; a line with an indent is a text of its own. By first fit, where words are
+/// broken, no line
 /// of a divided paragraph passes the width that it was divided for, but one that is a single piece
 /// with one character that takes columns.
 ///
 /// # Errors
-/// [`WrapError::Memory`] where memory runs out, and no other. There is no overflow.
+/// [`WrapError::Memory`] where memory runs out, or a function of the caller says so.
+/// [`WrapError::Overflow`] only where a function of the caller gives the points of words and optimal
+/// fit divides them.
 pub fn wrap<'t>(
     alloc: Global,
     text: &'t str,
     options: Options<'_>,
 ) -> Result<Vec<CowStr<'t>>, WrapError>
-    // The lines are those of the text, at least one. They lose only blanks and add only indents,
-    // and by first fit, where words are broken, they keep to their widths.
+    // The lines are those of the text. By a built-in algorithm they are at least one, and lose only
+    // blanks. By a built-in splitter they add only indents, and by first fit, where words are
+    // broken, they keep to their widths.
     ensures lines { IfOk result (λ lines. IsWrapped (settings_view options.entry)
-        (algorithm_view options.entry.wrap_algorithm) (DividesBy options.entry) text.now
-        (map line_view lines.items)) }
-    ensures only_memory { IfErr result (λ error. error ≡ WrapError.Memory alloc_error) }
+        (splitter_view options.entry.word_splitter) (algorithm_view options.entry.wrap_algorithm)
+        (DividesBy options.entry) text.now (map line_view lines.items)) }
+    // The same lines, where all parts are built in and can be named.
+    ensures built_in { IfOk result (λ lines.
+        (settings : Settings) (splitter : Splitter) (algorithm : Algorithm)
+        → HasParts options.entry settings splitter algorithm → AreTextLines settings
+        (DividesAs splitter algorithm settings) text.now (map line_view lines.items)) }
+    ensures only_memory { ¬ MayOverflow options.entry
+        → IfErr result (λ error. error ≡ WrapError.Memory alloc_error) }
 {
     let mut lines = Vec::new(alloc);
     let mut rest = Some(text);
@@ -89,20 +101,22 @@ pub fn split_paragraph(text: &str, line_ending: LineEnding) -> (&str, Option<&st
 /// where the list has no line yet. At an error the list stays as it was.
 ///
 /// # Errors
-/// [`WrapError::Memory`] where memory runs out, and no other. There is no overflow.
+/// [`WrapError::Memory`] where memory runs out, or a function of the caller says so.
+/// [`WrapError::Overflow`] only where a function of the caller gives the points of words and optimal
+/// fit divides them.
 pub fn wrap_single_line<'t>(
     alloc: Global,
     line: &'t str,
     options: &Options<'_>,
     lines: &mut Vec<CowStr<'t>>,
 ) -> Result<(), WrapError>
-    ensures appended { AppendsLines (AreParagraphParts (settings_view options.now)
-        (DividesBy options.now) (nat_lt 0 (length lines.old.items)) line.now)
-        lines.old.items lines.new.items result }
-    // Without an initial indent, and without characters that take more columns than bytes, these
-    // are lines of the slow path.
-    ensures as_slow_path { options.now.initial_indent.now ≡ [] → IsNarrow line.now
-        → OnOk result ((parts : List LineParts)
+    ensures appended { AppendsLines (MayOverflow options.now)
+        (AreParagraphParts (settings_view options.now) (DividesBy options.now)
+        (nat_lt 0 (length lines.old.items)) line.now) lines.old.items lines.new.items result }
+    // By built-in parts, without an initial indent, and without characters that take more columns
+    // than bytes, these are lines of the slow path.
+    ensures as_slow_path { HasBuiltInParts options.now → options.now.initial_indent.now ≡ []
+        → IsNarrow line.now → OnOk result ((parts : List LineParts)
         × AreDividedParts (settings_view options.now) (DividesBy options.now)
         (nat_lt 0 (length lines.old.items)) line.now parts
         × Adds lines.old.items lines.new.items parts) }
@@ -147,19 +161,22 @@ pub(crate) fn whole_line<'t>(paragraph: &'t str, options: &Options<'_>) -> &'t s
 /// list stays as it was.
 ///
 /// # Errors
-/// [`WrapError::Memory`] where memory runs out, and no other. There is no overflow.
+/// [`WrapError::Memory`] where memory runs out, or a function of the caller says so.
+/// [`WrapError::Overflow`] only where a function of the caller gives the points of words and optimal
+/// fit divides them.
 pub fn wrap_single_line_slow_path<'t>(
     alloc: Global,
     line: &'t str,
     options: &Options<'_>,
     lines: &mut Vec<CowStr<'t>>,
 ) -> Result<(), WrapError>
-    ensures appended { AppendsLines (AreDividedParts (settings_view options.now)
-        (DividesBy options.now) (nat_lt 0 (length lines.old.items)) line.now)
-        lines.old.items lines.new.items result }
-    // By first fit, where words are broken, a line passes its width only where it is one piece with
-    // one character that takes columns.
-    ensures overlong { options.now.wrap_algorithm ≡ FirstFit → options.now.break_words ≡ true
+    ensures appended { AppendsLines (MayOverflow options.now)
+        (AreDividedParts (settings_view options.now) (DividesBy options.now)
+        (nat_lt 0 (length lines.old.items)) line.now) lines.old.items lines.new.items result }
+    // By first fit and a built-in splitter, where words are broken, a line passes its width only
+    // where it is one piece with one character that takes columns.
+    ensures overlong { options.now.wrap_algorithm ≡ FirstFit
+        → splitter_view options.now.word_splitter ≢ None → options.now.break_words ≡ true
         → OnOk result ((division : List (List WordText))
         × DividesBy options.now line.now division
         × Adds lines.old.items lines.new.items (parts_from (settings_view options.now)
@@ -184,9 +201,9 @@ fn find_pieces<'t>(
     paragraph: &'t str,
     options: &Options<'_>,
 ) -> Result<Vec<Word<'t>>, AllocError>
-    ensures pieces { IfOk result (λ pieces. map word_view pieces.items
-        ≡ pieces_of (settings_view options.now) options.now.word_separator
-        options.now.word_splitter paragraph.now) }
+    ensures pieces { IfOk result (λ pieces. ArePieces (settings_view options.now)
+        (MaySeparate options.now.word_separator) (MaySplit options.now.word_splitter) paragraph.now
+        (map word_view pieces.items)) }
     ensures tiles { IfOk result (λ pieces. Tiles (map word_view pieces.items) paragraph.now) }
 {
     let split = find_split_words(alloc, paragraph, options)?;
@@ -208,9 +225,9 @@ fn find_split_words<'t>(
     paragraph: &'t str,
     options: &Options<'_>,
 ) -> Result<Vec<Word<'t>>, AllocError>
-    ensures { IfOk result (λ pieces. map word_view pieces.items
-        ≡ split_words options.now.word_splitter
-        (separated_words options.now.word_separator paragraph.now)) }
+    ensures { IfOk result (λ pieces. (words : List WordText)
+        × MaySeparate options.now.word_separator paragraph.now words
+        × AreSplit (MaySplit options.now.word_splitter) words (map word_view pieces.items)) }
 {
     let mut pieces = Vec::new(alloc);
     for word in options.word_separator.find_words(alloc, paragraph)? {
@@ -226,18 +243,18 @@ fn remaining_width(options: &Options<'_>, indent: &str) -> usize
     options.width.saturating_sub(display_width(indent))
 }
 
-/// The pieces divided by the algorithm of the options. There is no overflow, since all widths
-/// together keep to 64 bits.
+/// The pieces divided by the algorithm of the options.
 fn divide<'a, 'w>(
     alloc: Global,
     pieces: &'w [Word<'a>],
     options: &Options<'_>,
 ) -> Result<Vec<&'w [Word<'a>]>, WrapError>
-    requires { Fits64Bits (total_width (λ word. sizes_of (word_view word)) pieces.now) }
-    ensures divided { IfOk result (λ lines. IsDividedBy (algorithm_view options.now.wrap_algorithm)
-        (λ word. sizes_of (word_view word)) (widths_of (settings_view options.now)) pieces.now
-        (map (λ line. line.now) lines.items)) }
-    ensures only_memory { IfErr result (λ error. error ≡ WrapError.Memory alloc_error) }
+    ensures divided { IfOk result (λ lines. MayDivide options.now.wrap_algorithm word_view
+        (widths_of (settings_view options.now)) pieces.now (map (λ line. line.now) lines.items)) }
+    ensures overflow_only { Overflowed result → (penalties : Penalties)
+        × (algorithm_view options.now.wrap_algorithm ≡ Some (LeastCost penalties)) }
+    ensures no_overflow { Fits64Bits (total_width (λ word. sizes_of (word_view word)) pieces.now)
+        → ¬ Overflowed result }
 {
     let line_widths = [
         remaining_width(options, options.initial_indent),
@@ -246,7 +263,7 @@ fn divide<'a, 'w>(
     options.wrap_algorithm.wrap(alloc, pieces, &line_widths)
 }
 
-/// Appends the line of each list of pieces, which together tile the paragraph.
+/// Appends the line of each list of pieces. Together they tile the paragraph, or its beginning.
 fn push_lines<'t>(
     alloc: Global,
     paragraph: &'t str,
@@ -254,7 +271,8 @@ fn push_lines<'t>(
     options: &Options<'_>,
     lines: &mut Vec<CowStr<'t>>,
 ) -> Result<(), AllocError>
-    requires { flat_map (λ line. tiled (map word_view line.now)) division.now ≡ paragraph.now }
+    requires { StartsWith paragraph.now
+        (flat_map (λ line. tiled (map word_view line.now)) division.now) }
     ensures lines { OnOk result (Adds lines.old.items lines.new.items
         (parts_from (settings_view options.now) (nat_lt 0 (length lines.old.items))
         (map (λ line. map word_view line.now) division.now))) }

@@ -20,5 +20,6 @@ pub fn help_entry(alloc: Global, flag: &str, text: &str, width: usize) -> Result
     let options = Options::new(width)
         .initial_indent(flag)
         .subsequent_indent("        ");
-    fill(alloc, text, options)
+    let entry = fill(alloc, text, options)?;
+    Ok(entry)
 }

@@ -6,6 +6,7 @@
 pub mod checking;
 pub mod help;
 pub mod mail;
+pub mod paths;
 pub mod planning;
 #[cfg(test)]
 mod tests;

@@ -2,6 +2,7 @@
 ghost use Rattle.std.specs.Prelude.{◌≡◌, codes, map, string_bytes, IfOk, IfErr, alloc_error};
 ghost use Rattle.textwrap.specs.Filling.{IsFilledBy};
 ghost use Rattle.textwrap.specs.Options.{settings_at, settings_view, default_algorithm};
+ghost use Rattle.textwrap.specs.Options.{MayOverflow};
 ghost use Rattle.textwrap.specs.Paragraph.{line_view, DividesBy};
 ghost use Rattle.textwrap.specs.Text.{AreTextLines};
 ghost use Rattle.textwrap.specs.declared.LineEnding.TheVariants.{CRLF};
@@ -23,7 +24,8 @@ pub fn quote(alloc: Global, mail: &str, width: usize) -> Result<String, WrapErro
     let options = Options::new(width)
         .initial_indent("> ")
         .subsequent_indent("> ");
-    fill(alloc, mail, options)
+    let quoted = fill(alloc, mail, options)?;
+    Ok(quoted)
 }
 
 /// The lines of a mail as it is sent, with CRLF between its paragraphs. The options are lent, so
@@ -37,8 +39,10 @@ pub fn sent_lines<'m>(
         (record (settings_view options.now) { line_ending = CRLF })
         (DividesBy (record options.now { line_ending = CRLF })) mail.now
         (map line_view lines.items)) }
-    ensures only_memory { IfErr result (λ error. error ≡ WrapError.Memory alloc_error) }
+    ensures only_memory { ¬ MayOverflow options.now
+        → IfErr result (λ error. error ≡ WrapError.Memory alloc_error) }
 {
     let options = Options::from(options).line_ending(LineEnding::CRLF);
-    wrap(alloc, mail, options)
+    let lines = wrap(alloc, mail, options)?;
+    Ok(lines)
 }

@@ -24,17 +24,16 @@ use Rattle.textwrap_base.proofs.Word.Texts.{HasNoPenalty, text_width-nil}
 use Rattle.textwrap_base.proofs.Word.Tiling.{tiled-words_of}
 use Rattle.textwrap_base.proofs.Word.Words.{words_unique}
 use Rattle.textwrap_lines.specs.declared.line_ending.LineEnding.TheVariants.{LF}
-use Rattle.textwrap_lines.specs.declared.word_separators.WordSeparator.TheVariants.{AsciiSpace}
-use Rattle.textwrap_lines.specs.declared.word_splitters.WordSplitter.TheVariants.{NoHyphenation}
+use Rattle.textwrap_lines.specs.WordSplitters.{Whole}
 use Rattle.textwrap.specs.InPlace.{broken_lines, AreDividedAt, IsFilledInPlace}
 use Rattle.textwrap_lines.specs.LineEnding.{line_feed}
 use Rattle.textwrap.specs.Laws.{unbroken_at}
 use Rattle.textwrap_lines.specs.LineEnding.{ending_bytes, paragraphs_of, join_with, Lacks}
 use Rattle.textwrap_lines.specs.Paragraph.{Line, LineParts, Slice, line_from, covered, indent_of}
 use Rattle.textwrap_lines.specs.Paragraph.{is_whole, parts_of, parts_from, pieces_of, widths_of}
-use Rattle.textwrap_lines.specs.Paragraph.{IsDividedInto, ArePieces, AreParagraphParts}
+use Rattle.textwrap_lines.specs.Paragraph.{DividesAs, ArePieces, AreParagraphParts}
 use Rattle.textwrap_lines.specs.Text.{AreGroups, AreTextLines}
-use Rattle.textwrap_lines.specs.WordSeparators.{AreSeparated}
+use Rattle.textwrap_base.specs.Words.{AreWordsOf}
 use Rattle.textwrap_lines.specs.WordSplitters.{ArePoints, split_words}
 use Rattle.textwrap_lines.proofs.Paragraph.LastBlanks.{covered-words_of}
 use Rattle.textwrap_lines.proofs.Paragraph.Lines.{line_from-pieces, line_from-whole}
@@ -235,12 +234,12 @@ widths_of-unbroken width =
 -- ---- whole words are pieces
 
 split_words-none : (parts : List (List ℕ))
-    → split_words NoHyphenation (map word_of parts) ≡ map word_of parts
+    → split_words Whole (map word_of parts) ≡ map word_of parts
 split_words-none [] = refl
 split_words-none (part ∷ parts) = ap (λ ws. word_of part ∷ ws) (split_words-none parts)
 
 abbrev pub pieces_in : ℕ → List ℕ → List WordText
-pieces_in width part = pieces_of (unbroken_at width) AsciiSpace NoHyphenation part
+pieces_in width part = pieces_of (unbroken_at width) Whole part
 
 pub pieces_of-unbroken : (width : ℕ) (part : List ℕ) → pieces_in width part ≡ words_of part
 pieces_of-unbroken width part = split_words-none (chunks part)
@@ -249,7 +248,7 @@ pieces_of-unbroken width part = split_words-none (chunks part)
 
 abbrev Divides : ℕ → List ℕ → List (List WordText) → Type 0
 Divides width =
-    IsDividedInto (unbroken_at width) (AreSeparated AsciiSpace) (ArePoints NoHyphenation) Greedy
+    DividesAs Whole Greedy (unbroken_at width)
 
 module _ (width : ℕ) (is_later : Bool) (part : List ℕ) (lines : List (List WordText))
     (utf8 : IsUtf8 part) (narrow : IsNarrow part)
@@ -262,7 +261,7 @@ module _ (width : ℕ) (is_later : Bool) (part : List ℕ) (lines : List (List W
       (nat_lt (length part) width) whole).1 in
       let closed : closed_width sizes_of (words_of part) ≤ length part =
       subst (λ ws. closed_width sizes_of ws ≤ length part) (pieces_of-unbroken width part)
-      (closed-pieces_of (unbroken_at width) AsciiSpace NoHyphenation part utf8 narrow) in
+      (closed-pieces_of (unbroken_at width) Whole part utf8 narrow) in
       let none : All (λ w. (sizes_of w).penalty ≡ 0) (words_of part) =
       All-map (λ w. (sizes_of w).penalty ≡ 0) word_of (chunks part) (λ k d lt. refl) in
       let room : closed_width sizes_of (words_of part) ≤ line_width (width ∷ []) 0 =
@@ -273,9 +272,9 @@ module _ (width : ℕ) (is_later : Bool) (part : List ℕ) (lines : List (List W
   divides : Divides width part lines
   divides = (
     words_of part,
-    subst (λ ws. ArePieces (unbroken_at width) (AreSeparated AsciiSpace) (ArePoints NoHyphenation)
+    subst (λ ws. ArePieces (unbroken_at width) AreWordsOf (ArePoints Whole)
         part ws) (pieces_of-unbroken width part)
-        (ArePieces-computed (unbroken_at width) AsciiSpace NoHyphenation part),
+        (ArePieces-computed (unbroken_at width) Whole part),
     subst (λ ws. IsGreedy sizes_of ws (words_of part) lines) (sym (widths_of-unbroken width))
         (IsGreedy-same sizes_of (width ∷ []) (width ∷ width ∷ [])
         (λ number. line_width-one width number ∙ sym (line_width-two width number))

@@ -90,11 +90,11 @@ with_indents initial subsequent settings =
     record settings { initial_indent = initial; subsequent_indent = subsequent }
 
 -- the defaults at a width, with these indents
-pub settings-with : (new : Settings) (width found : ℕ)
-    (initial subsequent first later : List ℕ) → new ≡ settings_at width → width ≡ found
-    → initial ≡ first → subsequent ≡ later
-    → with_indents initial subsequent new ≡ with_indents first later (settings_at found)
-settings-with new width found initial subsequent first later defaults wide begins goes_on =
-    ap (with_indents initial subsequent) (defaults ∙ ap settings_at wide)
+pub settings-with : (width found : ℕ) (initial subsequent first later : List ℕ)
+    → width ≡ found → initial ≡ first → subsequent ≡ later
+    → with_indents initial subsequent (settings_at width)
+    ≡ with_indents first later (settings_at found)
+settings-with width found initial subsequent first later wide begins goes_on =
+    ap (λ w. with_indents initial subsequent (settings_at w)) wide
     ∙ ap (λ i. with_indents i subsequent (settings_at found)) begins
     ∙ ap (λ i. with_indents first i (settings_at found)) goes_on

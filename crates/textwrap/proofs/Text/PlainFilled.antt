@@ -17,14 +17,11 @@ use Rattle.textwrap_lines.specs.LineEnding.{line_feed}
 use Rattle.textwrap.specs.Laws.{unbroken_at, IsFilledUnbroken}
 use Rattle.textwrap_lines.specs.LineEnding.{ending_bytes, paragraphs_of}
 use Rattle.textwrap_lines.specs.Paragraph.{LineParts, line_bytes, line_from, parts_from, is_whole}
-use Rattle.textwrap_lines.specs.Paragraph.{widths_of, IsDividedInto, AreParagraphParts}
+use Rattle.textwrap_lines.specs.Paragraph.{widths_of, DividesAs, AreParagraphParts}
 use Rattle.textwrap.specs.Refilling.{IsPlainLine, IsPlain, blanked}
 use Rattle.textwrap_lines.specs.Text.{AreGroups}
-use Rattle.textwrap_lines.specs.WordSeparators.{AreSeparated}
-use Rattle.textwrap_lines.specs.WordSplitters.{ArePoints}
 use Rattle.textwrap_lines.specs.declared.line_ending.LineEnding.TheVariants.{LF}
-use Rattle.textwrap_lines.specs.declared.word_separators.WordSeparator.TheVariants.{AsciiSpace}
-use Rattle.textwrap_lines.specs.declared.word_splitters.WordSplitter.TheVariants.{NoHyphenation}
+use Rattle.textwrap_lines.specs.WordSplitters.{Whole}
 use Rattle.textwrap_lines.proofs.Paragraph.Lines.{line_from-whole}
 use Rattle.textwrap_lines.proofs.Paragraph.LinesApart.{apart_from}
 use Rattle.textwrap_lines.proofs.Paragraph.Pieces.{ArePieces-is}
@@ -45,7 +42,7 @@ pub record IsCutAtBlanks (text filled : List ℕ) : Type 0 where
 
 abbrev Divides : ℕ → Algorithm → List ℕ → List (List WordText) → Type 0
 Divides width algorithm =
-    IsDividedInto (unbroken_at width) (AreSeparated AsciiSpace) (ArePoints NoHyphenation) algorithm
+    DividesAs Whole algorithm (unbroken_at width)
 
 division-by : {X : Type 0} (algorithm : Algorithm) (sizes : X → Sizes) (widths : List ℕ)
     (xs : List X) (lines : List (List X)) → IsDividedBy algorithm sizes widths xs lines
@@ -68,7 +65,7 @@ module _ (width : ℕ) (algorithm : Algorithm) (text : List ℕ) where
       → IsCutAtBlanks text (joined_lines (parts_from (unbroken_at width) false division))
   cut-division division (pieces, are, divided) =
       let words : pieces ≡ words_of text =
-      ArePieces-is (unbroken_at width) AsciiSpace NoHyphenation text pieces are
+      ArePieces-is (unbroken_at width) Whole text pieces are
       ∙ pieces_of-unbroken width text in
       let lines = division-by algorithm sizes_of (widths_of (unbroken_at width)) pieces division
       divided in

@@ -19,7 +19,6 @@ use Rattle.textwrap_lines.specs.LineEnding.{line_feed}
 use Rattle.textwrap.specs.Laws.{IsFilledUnbroken, IsUnindented}
 use Rattle.textwrap_lines.specs.LineEnding.{ending_bytes}
 use Rattle.textwrap_lines.specs.Options.{Settings}
-use Rattle.textwrap_lines.specs.Paragraph.{IsDividedInto}
 use Rattle.textwrap.specs.Refilling.{line_prefix, IsPlainLine, EndedLine, line_before_feed}
 use Rattle.textwrap.specs.Refilling.{ended_lines_of, has_text, nonempty_lines, common_start}
 use Rattle.textwrap.specs.Refilling.{common_prefix, unfilled_initial, unfilled_subsequent}
@@ -211,13 +210,12 @@ unfilled-plain text (parts, plain, is) =
       keeps = keeps-plain parts plain;
     })
 
-module _ (Words : List ℕ → List WordText → Type 0) (Points : List ℕ → List ℕ → Type 0)
-    (algorithm : Algorithm) where
+module _ (Divides : Settings → List ℕ → List (List WordText) → Type 0) where
   abbrev FilledBy : Settings → List ℕ → List ℕ → Type 0
-  FilledBy settings = IsFilled settings (IsDividedInto settings Words Points algorithm)
+  FilledBy settings = IsFilled settings (Divides settings)
 
   pub refilled-filled : (settings : Settings) (text refilled : List ℕ) → IsUnindented settings
-      → IsPlain text → IsRefilled settings Words Points algorithm text refilled
+      → IsPlain text → IsRefilled settings Divides text refilled
       ↔ FilledBy settings (blanked text) refilled
   refilled-filled settings text refilled unindented plain =
       let of_text = unfilled-plain text plain in
@@ -247,10 +245,10 @@ module _ (Words : List ℕ → List WordText → Type 0) (Points : List ℕ → 
   pub refilled-twice : (width : ℕ) (first : Algorithm) (settings : Settings)
       (text filled refilled : List ℕ) → IsUnindented settings → IsPlain text
       → All (λ c. c ≢ line_feed) text → IsFilledUnbroken width first text filled
-      → IsRefilled settings Words Points algorithm filled refilled
+      → IsRefilled settings Divides filled refilled
       ↔ FilledBy settings text refilled
   refilled-twice width first settings text filled refilled unindented plain none given =
       let cut = filled-plain width first text filled plain none given in
-      subst (λ t. IsRefilled settings Words Points algorithm filled refilled
+      subst (λ t. IsRefilled settings Divides filled refilled
       ↔ FilledBy settings t refilled) cut.1
       (refilled-filled settings filled refilled unindented cut.0)

@@ -13,11 +13,16 @@ use Rattle.textwrap.specs.Columns.{Layout, blanks, cell, cells, padded, row_text
 use Rattle.textwrap_lines.specs.LineEnding.{join_with}
 use Rattle.textwrap_lines.specs.Options.{Settings, settings_view, KeepsMethods}
 use Rattle.textwrap_lines.specs.Paragraph.{Line, line_view, line_bytes, IsDividedInto, DividesBy}
+use Rattle.textwrap_lines.specs.Paragraph.{DividesUnder}
 use Rattle.textwrap_lines.specs.Text.{AreTextLines}
-use Rattle.textwrap_lines.specs.WordSeparators.{AreSeparated}
-use Rattle.textwrap_lines.specs.WordSplitters.{ArePoints}
+use Rattle.textwrap_lines.specs.WordSeparators.{MaySeparate}
+use Rattle.textwrap_lines.specs.WordSplitters.{MaySplit}
+use Rattle.textwrap_base.specs.Words.{WordText}
+use Rattle.textwrap_base.specs.declared.wrap_algorithms.WrapAlgorithm.{WrapAlgorithm}
 use Rattle.textwrap_lines.specs.declared.options.Options.{Options}
-use Rattle.textwrap_base.specs.WrapAlgorithms.{algorithm_view}
+use Rattle.textwrap_lines.specs.declared.word_separators.WordSeparator.{WordSeparator}
+use Rattle.textwrap_lines.specs.declared.word_splitters.WordSplitter.{WordSplitter}
+use Rattle.textwrap_base.specs.WrapAlgorithms.{MayDivide}
 use Rattle.textwrap_base.specs.Units.{text_width}
 use Rattle.textwrap_base.proofs.Word.Texts.{text_width-nil}
 use Rattle.textwrap_lines.proofs.Text.Lines.{line_bytes-line_view}
@@ -179,17 +184,23 @@ row_text-written layout lines step first later (inr past) within =
 
 -- ---- the lines at the width of a column
 
-pub AreTextLines-methods : (old new : Options) (settings : Settings) (text : List ℕ)
-    (lines : List Line) → settings_view new ≡ settings → KeepsMethods old new
-    → AreTextLines (settings_view new) (DividesBy new) text lines
-    → AreTextLines settings (IsDividedInto settings (AreSeparated old.word_separator)
-    (ArePoints old.word_splitter) (algorithm_view old.wrap_algorithm)) text lines
-AreTextLines-methods old new settings text lines same keeps are =
-    subst (λ a. AreTextLines settings (IsDividedInto settings (AreSeparated old.word_separator)
-    (ArePoints old.word_splitter) (algorithm_view a)) text lines) keeps.algorithm
-    (subst (λ p. AreTextLines settings (IsDividedInto settings (AreSeparated old.word_separator)
-    (ArePoints p) (algorithm_view new.wrap_algorithm)) text lines) keeps.splitter
-    (subst (λ s. AreTextLines settings (IsDividedInto settings (AreSeparated s)
-    (ArePoints new.word_splitter) (algorithm_view new.wrap_algorithm)) text lines) keeps.separator
-    (subst (λ s. AreTextLines s (IsDividedInto s (AreSeparated new.word_separator)
-    (ArePoints new.word_splitter) (algorithm_view new.wrap_algorithm)) text lines) same are)))
+module _ {E C : Type 0} {e : _} {c : _} where
+  abbrev Divides : WordSeparator C c → WordSplitter C c → WrapAlgorithm E e → Settings
+      → List ℕ → List (List WordText) → Type 0
+  Divides separator splitter algorithm settings =
+      IsDividedInto settings (MaySeparate separator) (MaySplit splitter)
+      (MayDivide algorithm (λ w. w))
+
+  pub AreTextLines-methods : (old new : Options E C e c)
+      (settings : Settings) (text : List ℕ) (lines : List Line) → settings_view new ≡ settings
+      → KeepsMethods old new → AreTextLines (settings_view new) (DividesBy new) text lines
+      → AreTextLines settings (DividesUnder old settings) text lines
+  AreTextLines-methods old new settings text lines same keeps are =
+      subst (λ a. AreTextLines settings (Divides old.word_separator old.word_splitter a settings)
+      text lines) keeps.algorithm
+      (subst (λ p. AreTextLines settings
+      (Divides old.word_separator p new.wrap_algorithm settings) text lines) keeps.splitter
+      (subst (λ s. AreTextLines settings
+      (Divides s new.word_splitter new.wrap_algorithm settings) text lines) keeps.separator
+      (subst (λ s. AreTextLines s
+      (Divides new.word_separator new.word_splitter new.wrap_algorithm s) text lines) same are)))

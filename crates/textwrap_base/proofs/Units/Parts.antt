@@ -13,9 +13,9 @@ use Rattle.textwrap_base.specs.Units.{control_len, command_len, escape_len, unit
 use Rattle.textwrap_base.specs.Units.{units_past, units, visible_of}
 use Rattle.textwrap_base.specs.Escapes.{taken_in, visible_in}
 use Rattle.textwrap_base.specs.Breaking.{unit_width, units_width}
-use Rattle.textwrap_base.specs.declared.words.escapes.State.{State}
-use Rattle.textwrap_base.specs.declared.words.escapes.State.TheVariants.{Text, Escape, Control}
-use Rattle.textwrap_base.specs.declared.words.escapes.State.TheVariants.{Command}
+use Rattle.textwrap_base.specs.declared.escapes.State.{State}
+use Rattle.textwrap_base.specs.declared.escapes.State.TheVariants.{Text, Escape, Control}
+use Rattle.textwrap_base.specs.declared.escapes.State.TheVariants.{Command}
 
 -- ---- the units tile the characters
 
@@ -137,7 +137,7 @@ shows Text c = not (eqb c 27)
 shows _ c = false
 
 -- a character inside a sequence is taken from it
-taken-step : (s : State) (c : ℕ) (cs : List ℕ) → s ≢ Text
+pub taken-step : (s : State) (c : ℕ) (cs : List ℕ) → s ≢ Text
     → taken_in s (c ∷ cs) ≡ suc (taken_in (next_of s c) cs)
 taken-step Text c cs inside = absurd (inside refl)
 taken-step Escape c cs inside = elim (cases_Bool (is_control_start c)) [

@@ -13,7 +13,7 @@ use Rattle.std.proofs.lemmas.List.Sums.{sum_by-cons, sum_by-append}
 use Rattle.std.proofs.lemmas.Str.{length-encode, encodes-chars, chars-IsAscii}
 use Rattle.unicode_width.specs.Width.{char_width}
 use Rattle.unicode_width.proofs.Rules.{width_or_zero-le}
-use Rattle.textwrap_base.specs.declared.words.escapes.State.{State}
+use Rattle.textwrap_base.specs.declared.escapes.State.{State}
 use Rattle.textwrap_base.specs.Units.{Visible, Sequence, escape_len, unit_at, taken_at, units_past}
 use Rattle.textwrap_base.specs.Units.{visible_of, columns, text_width, IsNarrow, is_printable}
 use Rattle.textwrap_base.specs.Escapes.{visible_in}

@@ -22,9 +22,9 @@ use Rattle.textwrap_base.specs.Words.{WordText, tile_of, tiled, piece}
 use Rattle.textwrap_base.specs.Breaking.{unit_width, units_width, units_text, is_due, pieces_with}
 use Rattle.textwrap_base.specs.Breaking.{broken_units, broken_texts, broken_pieces, broken_word}
 use Rattle.textwrap_base.specs.Breaking.{broken_words}
-use Rattle.textwrap_base.specs.declared.words.escapes.State.{State}
-use Rattle.textwrap_base.specs.declared.words.escapes.State.TheVariants.{Text, Escape, Control}
-use Rattle.textwrap_base.specs.declared.words.escapes.State.TheVariants.{Command}
+use Rattle.textwrap_base.specs.declared.escapes.State.{State}
+use Rattle.textwrap_base.specs.declared.escapes.State.TheVariants.{Text, Escape, Control}
+use Rattle.textwrap_base.specs.declared.escapes.State.TheVariants.{Command}
 use Rattle.textwrap_base.proofs.Word.Breaking.{taken_units, left_units, taken-left, parts_after-is}
 use Rattle.textwrap_base.proofs.Word.Breaking.{AreBroken-exists}
 use Rattle.textwrap_base.proofs.Units.Widths.{columns-le}

@@ -21,7 +21,7 @@ use Rattle.textwrap_base.proofs.Word.Texts.{IsMeasured, EndsInBlanks, HasNoPenal
 
 -- ---- the texts of broken pieces
 
-utf8-back : (xs ys : List ℕ) → IsUtf8 (encode_utf8_all (xs ++ ys)) → IsUtf8 (encode_utf8_all ys)
+pub utf8-back : (xs ys : List ℕ) → IsUtf8 (encode_utf8_all (xs ++ ys)) → IsUtf8 (encode_utf8_all ys)
 utf8-back [] ys u = u
 utf8-back (x ∷ xs) ys u =
     utf8-back xs ys (IsUtf8-past_char (encode_utf8_all (x ∷ xs ++ ys))

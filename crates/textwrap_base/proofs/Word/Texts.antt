@@ -168,19 +168,21 @@ pub record IsMeasured (w : WordText) : Type 0 where
   pub width : w.width ≡ text_width w.word
   pub ending : EndsInBlanks w
 
+pub word_of-measured : (bytes : List ℕ) → IsUtf8 bytes → IsMeasured (word_of bytes)
+word_of-measured bytes utf8 = record {
+  utf8 = without_final_blanks-utf8 bytes utf8;
+  width = refl;
+  ending = record {
+    blanks = final_blanks-blank bytes;
+    none = λ some.
+        absurd (false≢true (sym some));
+  };
+}
+
 pub words_of-measured : (line : List ℕ) → IsUtf8 line → All IsMeasured (words_of line)
 words_of-measured line utf8 =
     All-map IsMeasured word_of (chunks line)
-    (All-weaker IsUtf8 (λ bytes. IsMeasured (word_of bytes))
-    (λ bytes bytes_utf8. record {
-      utf8 = without_final_blanks-utf8 bytes bytes_utf8;
-      width = refl;
-      ending = record {
-        blanks = final_blanks-blank bytes;
-        none = λ some.
-            absurd (false≢true (sym some));
-      };
-    })
+    (All-weaker IsUtf8 (λ bytes. IsMeasured (word_of bytes)) word_of-measured
     (chunks line) (chunks-utf8 line utf8))
 
 pub text_width-nil : text_width [] ≡ 0

@@ -50,7 +50,7 @@ chunks_first (c ∷ d ∷ cs) (suc (suc n)) some within before at =
 tile_of-word_of : (text : List ℕ) → tile_of (word_of text) ≡ text
 tile_of-word_of text = take-append-drop (trimmed_len text) text
 
-tiled-map : (parts : List (List ℕ)) → tiled (map word_of parts) ≡ flat parts
+pub tiled-map : (parts : List (List ℕ)) → tiled (map word_of parts) ≡ flat parts
 tiled-map [] = refl
 tiled-map (part ∷ parts) = ap (λ l. l ++ tiled (map word_of parts)) (tile_of-word_of part)
     ∙ ap (λ l. part ++ l) (tiled-map parts)

@@ -6,8 +6,8 @@ ghost use Rattle.textwrap_base.specs.Breaking.{broken_texts, broken_word, broken
 ghost use Rattle.textwrap_base.specs.Units.{text_width};
 ghost use Rattle.textwrap_base.specs.Words.{word_view};
 
-use super::escapes::State;
 use super::{Word, columns};
+use crate::escapes::State;
 use std::alloc::{AllocError, Global};
 
 /// An iterator over the pieces of a word, made by `Word::break_apart`. It gives them in order and

@@ -1,4 +1,5 @@
 use super::*;
+use std::test::Fail;
 
 #[test]
 fn only_visible_characters_have_columns(rt: HostRuntime) {
@@ -21,6 +22,29 @@ fn only_visible_characters_have_columns(rt: HostRuntime) {
     ] {
         assert_eq!(rt; display_width(text), columns, "{text:?}");
     }
+}
+
+#[test]
+fn only_visible_characters_are_left(rt: HostRuntime) -> Result<(), Fail> {
+    for (text, visible) in [
+        ("", ""),
+        ("Café  Plain", "Café  Plain"),
+        ("a\u{1b}[1mb", "ab"),
+        (
+            "\u{1b}]8;;http://example.com\u{1b}\\This is a link\u{1b}]8;;\u{1b}\\",
+            "This is a link",
+        ),
+        ("\u{1b}[12", ""),
+        ("a\u{1b}", "a"),
+        ("\u{1b}\u{1b}[31m", "[31m"),
+        ("\u{1b}!x", "x"),
+        ("\u{1b}]a\u{7}b", "b"),
+        ("あ\u{1b}[0m\u{301}", "あ\u{301}"),
+    ] {
+        let stripped = strip_ansi_escape_sequences(rt.alloc(), text)?;
+        assert_eq!(rt; stripped.as_str(), visible, "{text:?}");
+    }
+    Ok(())
 }
 
 #[test]

@@ -1,3 +1,6 @@
+ghost use Rattle.std.specs.Prelude.{IfOk};
+ghost use Rattle.textwrap_base.specs.LineEnds.{AreEnds};
+
 use super::*;
 use crate::words::Word;
 use std::test::Fail;
@@ -109,4 +112,63 @@ fn words_are_divided(rt: HostRuntime) -> Result<(), Fail> {
     assert_eq!(rt; lines[0], &words[..2]);
     assert_eq!(rt; lines[1], &words[2..]);
     Ok(())
+}
+
+/// Takes the widths of the lines for their ends, but for those that fall or pass the words. Refuses
+/// a single word.
+fn widths_as_ends(
+    alloc: Global,
+    words: &[Word<'_>],
+    line_widths: &[usize],
+) -> Result<Vec<usize>, AllocError>
+    ensures { IfOk result (λ ends. AreEnds words.now ends.items) }
+{
+    if words.len() == 1 {
+        return Err(AllocError);
+    }
+    let mut ends = Vec::new(alloc);
+    let mut last = 0;
+    for end in line_widths {
+        if *end >= last && *end <= words.len() {
+            ends.push(*end)?;
+            last = *end;
+        }
+    }
+    Ok(ends)
+}
+
+#[test]
+fn lines_end_where_the_function_says(rt: HostRuntime) -> Result<(), Fail> {
+    let words = [
+        Word::from("one "),
+        Word::from("two "),
+        Word::from("three "),
+        Word::from("four "),
+        Word::from("five "),
+        Word::from("six"),
+    ];
+    let algorithm = WrapAlgorithm::Custom(LineEnds::new(widths_as_ends));
+    let rows: [(&[usize], &[usize]); 5] = [
+        (&[1, 3, 6], &[1, 2, 3]),
+        (&[2, 2], &[2, 0]),
+        (&[], &[]),
+        (&[0, 6], &[0, 6]),
+        (&[4, 3, 7, 5], &[4, 1]),
+    ];
+    for (line_widths, lens) in rows {
+        let lines = algorithm.wrap(rt.alloc(), &words, line_widths)?;
+        assert_eq!(rt; lines.len(), lens.len(), "{line_widths:?}");
+        for (line, len) in lines.iter().zip(lens) {
+            assert_eq!(rt; line.len(), *len, "{line_widths:?}");
+        }
+    }
+    Ok(())
+}
+
+#[test]
+fn a_function_may_refuse(rt: HostRuntime) {
+    let algorithm = WrapAlgorithm::Custom(LineEnds::new(widths_as_ends));
+    let words = [Word::from("foo")];
+    let refused = algorithm.wrap(rt.alloc(), &words, &[1]);
+    assert!(rt; matches!(refused, Err(WrapError::Memory(_))));
 }

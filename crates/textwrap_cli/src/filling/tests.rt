@@ -103,8 +103,8 @@ impl Write for Full {
 fn the_input_is_filled(rt: HostRuntime) -> Result<(), Fail> {
     let hamlet = "To be, or not to be: that is the question";
     let with_line_feed = "To be, or not to be: that is the question\n";
-    let first = WrapAlgorithm::FirstFit;
-    let optimal = WrapAlgorithm::new_optimal_fit();
+    let first = Algorithm::FirstFit;
+    let optimal = Algorithm::OptimalFit;
     for (input, algorithm, output) in [
         ("", first, ""),
         ("", optimal, ""),
@@ -147,7 +147,7 @@ fn a_long_input_is_filled_whole(rt: HostRuntime) -> Result<(), Fail> {
         input.extend_from_slice(b"foo bar baz\n")?;
         output.extend_from_slice(b"foo bar\nbaz\n")?;
     }
-    let first = WrapAlgorithm::FirstFit;
+    let first = Algorithm::FirstFit;
     let mut writer = Vec::new(rt.alloc());
     let done = run(rt.alloc(), &mut input.as_slice(), &mut writer, 10, first);
     assert_eq!(rt; done, Ok(()));
@@ -163,7 +163,7 @@ fn the_end_is_read_once_and_the_output_flushed_once(rt: HostRuntime) {
         flushes: 0,
         is_flushed: false,
     };
-    let first = WrapAlgorithm::FirstFit;
+    let first = Algorithm::FirstFit;
     let done = run(rt.alloc(), &mut reader, &mut writer, 2, first);
     assert_eq!(rt; done, Ok(()));
     assert_eq!(rt; reader.reads, 2);
@@ -181,12 +181,8 @@ fn the_end_is_read_once_and_the_output_flushed_once(rt: HostRuntime) {
 #[test]
 fn words_are_split_and_broken(rt: HostRuntime) -> Result<(), Fail> {
     for (input, algorithm, output) in [
-        ("foo-bar", WrapAlgorithm::new_optimal_fit(), "foo-\nbar"),
-        (
-            "abcdefgh\nijkl",
-            WrapAlgorithm::FirstFit,
-            "abcde\nfgh\nijkl",
-        ),
+        ("foo-bar", Algorithm::OptimalFit, "foo-\nbar"),
+        ("abcdefgh\nijkl", Algorithm::FirstFit, "abcde\nfgh\nijkl"),
     ] {
         let mut reader = input.as_bytes();
         let mut writer = Vec::new(rt.alloc());
@@ -206,7 +202,7 @@ fn input_that_is_no_text_writes_nothing(rt: HostRuntime) {
         &mut reader,
         &mut writer,
         10,
-        WrapAlgorithm::FirstFit,
+        Algorithm::FirstFit,
     );
     assert_eq!(rt; done, Err(RunError::NotUtf8));
     assert!(rt; writer.is_empty());
@@ -223,7 +219,7 @@ fn a_read_that_fails_writes_nothing(rt: HostRuntime) {
         },
         &mut writer,
         10,
-        WrapAlgorithm::FirstFit,
+        Algorithm::FirstFit,
     );
     assert_eq!(rt; done, Err(RunError::Read));
     assert!(rt; writer.is_empty());
@@ -243,7 +239,7 @@ fn a_write_or_flush_that_fails_leaves_a_prefix(rt: HostRuntime) {
             &mut b"foo bar baz".as_slice(),
             &mut writer,
             10,
-            WrapAlgorithm::FirstFit,
+            Algorithm::FirstFit,
         );
         assert_eq!(rt; done, Err(RunError::Write), "{room}");
         assert_eq!(rt; writer.taken.as_slice(), &filled[..room], "{room}");

@@ -16,15 +16,12 @@ use Rattle.textwrap_base.proofs.Word.BrokenPieces.{broken_texts-some}
 use Rattle.textwrap_base.proofs.Word.Tiling.{join-chunks, tiled-words_of}
 use Rattle.textwrap_base.proofs.Word.Texts.{IsMeasured, trimmed-past, final_blanks-more}
 use Rattle.textwrap_lines.specs.Options.{Settings}
-use Rattle.textwrap_lines.specs.declared.word_separators.WordSeparator.{WordSeparator}
-use Rattle.textwrap_lines.specs.declared.word_separators.WordSeparator.TheVariants.{AsciiSpace}
-use Rattle.textwrap_lines.specs.declared.word_splitters.WordSplitter.{WordSplitter}
+use Rattle.textwrap_lines.specs.WordSplitters.{Splitter}
 use Rattle.textwrap_lines.specs.WordSplitters.{cut_penalty, points_of, split_from, split_word}
 use Rattle.textwrap_lines.proofs.Paragraph.Pieces.{split_pieces_of, wide-some}
 use Rattle.textwrap_lines.proofs.Paragraph.Pieces.{split_pieces_of-measured, pieces_of-tile}
 use Rattle.textwrap_lines.specs.Paragraph.{covered, empty_word, front_pieces, last_piece}
 use Rattle.textwrap_lines.specs.Paragraph.{later_width, pieces_of}
-use Rattle.textwrap_lines.specs.WordSeparators.{separated_words}
 use Rattle.textwrap_lines.proofs.Text.Lossless.{covered-last}
 
 -- ---- the whitespace of the last word
@@ -79,7 +76,7 @@ split_from-space w start (point ∷ points) =
     (split_from w point points) (split_from-some w point points)
     ∙ split_from-space w point points
 
-split_word-ends : (splitter : WordSplitter) (w : WordText) → EndsAs (split_word splitter) w
+split_word-ends : (splitter : Splitter) (w : WordText) → EndsAs (split_word splitter) w
 split_word-ends splitter w =
     record {
       some = split_from-some w 0 (points_of splitter w.word);
@@ -199,23 +196,19 @@ words_of-space (c ∷ d ∷ cs) = words_of-space_step c d cs (is_cut c d) refl (
 
 -- ---- the last piece of a paragraph
 
-separated-space : (separator : WordSeparator) (line : List ℕ)
-    → last_space (separated_words separator line) ≡ final_blanks line
-separated-space AsciiSpace line = words_of-space line
-
-split_pieces_of-space : (separator : WordSeparator) (splitter : WordSplitter) (paragraph : List ℕ)
-    → last_space (split_pieces_of separator splitter paragraph) ≡ final_blanks paragraph
-split_pieces_of-space separator splitter paragraph =
-    flat_map-space (split_word splitter) (separated_words separator paragraph)
+split_pieces_of-space : (splitter : Splitter) (paragraph : List ℕ)
+    → last_space (split_pieces_of splitter paragraph) ≡ final_blanks paragraph
+split_pieces_of-space splitter paragraph =
+    flat_map-space (split_word splitter) (words_of paragraph)
     (λ k d lt. split_word-ends splitter _)
-    ∙ separated-space separator paragraph
+    ∙ words_of-space paragraph
 
 -- where no empty word stands in front
-pub pieces_of-space : (settings : Settings) (separator : WordSeparator) (splitter : WordSplitter)
+pub pieces_of-space : (settings : Settings) (splitter : Splitter)
     (paragraph : List ℕ) → IsUtf8 paragraph → settings.initial_indent ≡ []
-    → last_space (pieces_of settings separator splitter paragraph) ≡ final_blanks paragraph
-pieces_of-space settings separator splitter paragraph utf8 unindented =
-    let split = split_pieces_of separator splitter paragraph in
+    → last_space (pieces_of settings splitter paragraph) ≡ final_blanks paragraph
+pieces_of-space settings splitter paragraph utf8 unindented =
+    let split = split_pieces_of splitter paragraph in
     let limit = later_width settings in
     let front : front_pieces settings ≡ [] =
     ap (λ i. cond (length i == 0) [] (empty_word ∷ [])) unindented in
@@ -225,9 +218,9 @@ pieces_of-space settings separator splitter paragraph utf8 unindented =
           ap (λ ws. last_space (ws ++ broken_words limit split)) front
           ∙ flat_map-space (broken_word limit) split
           (broken_words-ends limit split
-          (split_pieces_of-measured separator splitter paragraph utf8))
-          ∙ split_pieces_of-space separator splitter paragraph
-      | false ↦ split_pieces_of-space separator splitter paragraph
+          (split_pieces_of-measured settings splitter paragraph utf8))
+          ∙ split_pieces_of-space splitter paragraph
+      | false ↦ split_pieces_of-space splitter paragraph
     ]
 
 covered-space : (ws : List WordText) → covered ws ++ last_space ws ≡ tiled ws
@@ -255,10 +248,10 @@ covered-words_of line =
     covered-tiled (words_of line) line (words_of-space line) (tiled-words_of line)
 
 -- the pieces of the whole paragraph cover it without the blanks at its end
-pub covered-pieces_of : (settings : Settings) (separator : WordSeparator) (splitter : WordSplitter)
+pub covered-pieces_of : (settings : Settings) (splitter : Splitter)
     (paragraph : List ℕ) → IsUtf8 paragraph → settings.initial_indent ≡ []
-    → covered (pieces_of settings separator splitter paragraph) ≡ without_final_blanks paragraph
-covered-pieces_of settings separator splitter paragraph utf8 unindented =
-    covered-tiled (pieces_of settings separator splitter paragraph) paragraph
-    (pieces_of-space settings separator splitter paragraph utf8 unindented)
-    (pieces_of-tile settings separator splitter paragraph utf8)
+    → covered (pieces_of settings splitter paragraph) ≡ without_final_blanks paragraph
+covered-pieces_of settings splitter paragraph utf8 unindented =
+    covered-tiled (pieces_of settings splitter paragraph) paragraph
+    (pieces_of-space settings splitter paragraph utf8 unindented)
+    (pieces_of-tile settings splitter paragraph utf8)

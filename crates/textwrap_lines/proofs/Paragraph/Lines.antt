@@ -6,6 +6,7 @@ use Rattle.std.proofs.Common.{length-append, take-append-drop, ◌*◌, All}
 use Rattle.std.specs.List.{flat_map}
 use Rattle.std.proofs.lemmas.List.Elements.{All-nil, All-cons, All-head, All-tail}
 use Rattle.std.specs.Io.{StartsWith}
+use Rattle.std.proofs.Transfers.{starts_with_of_append}
 use Rattle.std.specs.Str.{IsUtf8, IsCharBoundary}
 use Rattle.std.specs.declared.borrow.CowStr.{CowStr}
 use Rattle.std.proofs.lemmas.Bool.{and_parts, eqb-true}
@@ -16,26 +17,35 @@ use Rattle.std.proofs.lemmas.List.{map-append, length-map, map_more}
 use Rattle.std.proofs.lemmas.List.{map_push, take_at, drop_at, nil_from_length}
 use Rattle.textwrap_base.specs.declared.words.Word.{Word}
 use Rattle.textwrap_base.specs.Words.{WordText, word_view, word_of, sizes_of, tile_of, tiled, Tiles}
-use Rattle.textwrap_base.specs.WrapAlgorithms.{Algorithm, IsDividedBy}
+use Rattle.textwrap_base.specs.WrapAlgorithms.{MayDivide}
+use Rattle.textwrap_base.specs.declared.wrap_algorithms.WrapAlgorithm.{WrapAlgorithm}
 use Rattle.textwrap_base.specs.Cost.{total_width}
-use Rattle.textwrap_base.proofs.Division.Map.{IsDividedBy-map}
+use Rattle.textwrap_base.proofs.Division.Ends.{MayDivide-map}
 use Rattle.textwrap_base.proofs.Cost.Measures.{total_width-same}
 use Rattle.textwrap_base.proofs.Word.Bounds.{IsBounded, total_width-bounded}
 use Rattle.textwrap_base.proofs.Word.Tiling.{tiled-append, tiled-push}
 use Rattle.textwrap_lines.specs.Options.{Settings}
-use Rattle.textwrap_lines.specs.WordSeparators.{AreSeparated}
-use Rattle.textwrap_lines.specs.WordSplitters.{ArePoints}
-use Rattle.textwrap_lines.specs.declared.word_separators.WordSeparator.{WordSeparator}
-use Rattle.textwrap_lines.specs.declared.word_splitters.WordSplitter.{WordSplitter}
-use Rattle.textwrap_lines.proofs.Paragraph.Pieces.{ArePieces-computed, pieces_of-bounded}
 use Rattle.textwrap_lines.proofs.Text.Lossless.{tiled-word_of}
 use Rattle.textwrap_base.specs.Blanks.{without_final_blanks}
 use Rattle.textwrap_base.proofs.Word.Texts.{HasNoPenalty}
 use Rattle.textwrap_lines.specs.Paragraph.{LineParts, line_view, assembled_line, line_from, covered}
 use Rattle.textwrap_lines.specs.Paragraph.{last_piece}
 use Rattle.textwrap_lines.specs.Paragraph.{keeps_whitespace, indent_of, parts_of, parts_from}
-use Rattle.textwrap_lines.specs.Paragraph.{pieces_of, widths_of, is_whole, Slice, IsDividedInto}
+use Rattle.textwrap_lines.specs.Paragraph.{ArePieces, widths_of, is_whole, Slice, IsDividedInto}
 use Rattle.textwrap_lines.specs.Paragraph.{AreDividedParts, AreParagraphParts}
+
+-- what begins with two parts, one after the other
+pub starts-parts : (xs first next : List ℕ) → StartsWith xs (first ++ next)
+    → StartsWith xs first × StartsWith (drop (length first) xs) next
+starts-parts xs first next starts =
+    let rest = drop (length (first ++ next)) xs in
+    let whole : xs ≡ first ++ (next ++ rest) =
+    sym (take-append-drop (length (first ++ next)) xs) ∙ ap (λ l. l ++ rest) starts
+    ∙ append_assoc first next rest in (
+      starts_with_of_append xs first (next ++ rest) whole,
+      starts_with_of_append (drop (length first) xs) next rest
+          (ap (drop (length first)) whole ∙ drop_at first (next ++ rest) (length first) refl),
+    )
 
 covered-push : (ws : List WordText) (w : WordText) → covered (ws ++ w ∷ []) ≡ tiled ws ++ w.word
 covered-push [] w = refl
@@ -285,25 +295,21 @@ views-lines v [] = refl
 views-lines v (line ∷ lines) = ap (λ l. map word_view (v line) ∷ l) (views-lines v lines)
 
 -- a division of a paragraph's pieces gives its lines
-pub AreDividedParts-from : {D : Type 0} (v : D → List Word) (settings : Settings)
-    (algorithm : Algorithm) (separator : WordSeparator) (splitter : WordSplitter) (is_later : Bool)
-    (paragraph : List ℕ) (pieces : List Word) (division : List D)
-    → map word_view pieces ≡ pieces_of settings separator splitter paragraph
-    → IsDividedBy algorithm (λ word. sizes_of (word_view word)) (widths_of settings) pieces
-    (map v division)
-    → AreDividedParts settings (IsDividedInto settings (AreSeparated separator)
-    (ArePoints splitter) algorithm) is_later paragraph
+pub AreDividedParts-from : {D F : Type 0} {f : _} (v : D → List Word) (settings : Settings)
+    (Words : List ℕ → List WordText → Type 0) (Points : List ℕ → List ℕ → Type 0)
+    (algorithm : WrapAlgorithm F f) (is_later : Bool) (paragraph : List ℕ) (pieces : List Word)
+    (division : List D) → ArePieces settings Words Points paragraph (map word_view pieces)
+    → MayDivide algorithm word_view (widths_of settings) pieces (map v division)
+    → AreDividedParts settings
+    (IsDividedInto settings Words Points (MayDivide algorithm (λ w. w))) is_later paragraph
     (parts_from settings is_later (map (λ line. map word_view (v line)) division))
-AreDividedParts-from v settings algorithm separator splitter is_later paragraph pieces division
-    views divided = (
+AreDividedParts-from v settings Words Points algorithm is_later paragraph pieces division are
+    divided = (
       map (map word_view) (map v division),
       (
-        pieces_of settings separator splitter paragraph,
-        ArePieces-computed settings separator splitter paragraph,
-        subst (λ ws. IsDividedBy algorithm sizes_of (widths_of settings) ws
-            (map (map word_view) (map v division))) views
-            (IsDividedBy-map word_view sizes_of algorithm (widths_of settings) pieces
-            (map v division) divided),
+        map word_view pieces,
+        are,
+        MayDivide-map algorithm word_view (widths_of settings) pieces (map v division) divided,
       ),
       ap (parts_from settings is_later) (views-lines v division),
     )
@@ -391,15 +397,11 @@ sizes-word_view : (words : List Word) → map (λ word. sizes_of (word_view word
 sizes-word_view [] = refl
 sizes-word_view (w ∷ words) = ap (λ l. sizes_of (word_view w) ∷ l) (sizes-word_view words)
 
--- the widths of a paragraph's pieces together are at most twice its bytes
-pub total_width-pieces : (settings : Settings) (separator : WordSeparator) (splitter : WordSplitter)
-    (paragraph : List ℕ) (words : List Word) → IsUtf8 paragraph
-    → map word_view words ≡ pieces_of settings separator splitter paragraph
-    → Tiles (map word_view words) paragraph
+-- the widths of pieces without penalties are together at most twice the bytes that they tile
+pub total_width-pieces : (paragraph : List ℕ) (words : List Word)
+    → All IsBounded (map word_view words) → Tiles (map word_view words) paragraph
     → total_width (λ word. sizes_of (word_view word)) words ≤ 2 * length paragraph
-total_width-pieces settings separator splitter paragraph words utf8 is tiles =
-    let bounded = subst (All IsBounded) (sym is)
-    (pieces_of-bounded settings separator splitter paragraph utf8) in
+total_width-pieces paragraph words bounded tiles =
     let within = total_width-bounded (map word_view words) bounded in
     let same = total_width-same (λ word. sizes_of (word_view word)) sizes_of words
     (map word_view words) (sizes-word_view words) in

@@ -1,7 +1,7 @@
 -- Lemmas on lines that pass their width: by first fit, where words are broken, each is one piece
 -- with one character that takes columns.
 use Rattle.std.proofs.Common.{◌≡◌, ℕ, zero, suc, ◌+◌, ◌<◌, ◌≤◌, min, Bool, true, false, cond, ◌==◌}
-use Rattle.std.proofs.Common.{List, [], ◌∷◌, ◌++◌, All, length, get_or, refl, sym, ap, ◌∙◌, subst}
+use Rattle.std.proofs.Common.{List, [], ◌∷◌, ◌++◌, All, length, get_or, take, refl, sym, ap, ◌∙◌, subst}
 use Rattle.std.proofs.Common.{arith}
 use Rattle.std.specs.Str.{IsUtf8}
 use Rattle.std.proofs.lemmas.List.{nil_from_length, take_all}
@@ -9,24 +9,20 @@ use Rattle.std.proofs.lemmas.Bool.{eqb-true}
 use Rattle.std.proofs.lemmas.List.Elements.{All-nil, All-cons, All-head, All-append}
 use Rattle.textwrap_base.specs.Breaking.{broken_words}
 use Rattle.textwrap_base.specs.Division.{line_width, closed_width, Fits, AllFit}
-use Rattle.textwrap_base.specs.Division.{IsGreedy}
 use Rattle.textwrap_base.specs.Units.{text_width}
 use Rattle.textwrap_base.specs.Words.{WordText, sizes_of}
 use Rattle.textwrap_base.proofs.Word.Overlong.{IsTight, broken_words-tight}
 use Rattle.textwrap_base.proofs.Word.Texts.{HasNoPenalty, text_width-nil}
 use Rattle.textwrap_lines.specs.Options.{Settings}
-use Rattle.textwrap_lines.specs.Paragraph.{empty_word, front_pieces, pieces_of, IsDividedInto}
+use Rattle.textwrap_lines.specs.Paragraph.{empty_word, front_pieces, IsDividedInto}
 use Rattle.textwrap_lines.specs.Paragraph.{widths_of, width_after, later_width, IsOneCharacter}
 use Rattle.textwrap_lines.specs.Paragraph.{OnlyCharactersPass}
 use Rattle.textwrap_base.proofs.Division.Map.{IsDivision-whole}
 use Rattle.textwrap_base.proofs.ListLemmas.{flat, all-left, all-right}
-use Rattle.textwrap_lines.specs.WordSeparators.{AreSeparated}
-use Rattle.textwrap_lines.specs.WordSplitters.{ArePoints}
-use Rattle.textwrap_lines.specs.declared.word_separators.WordSeparator.{WordSeparator}
-use Rattle.textwrap_lines.specs.declared.word_splitters.WordSplitter.{WordSplitter}
-use Rattle.textwrap_base.specs.WrapAlgorithms.{Greedy}
-use Rattle.textwrap_lines.proofs.Paragraph.Pieces.{ArePieces-is, split_pieces_of}
-use Rattle.textwrap_lines.proofs.Paragraph.Pieces.{split_pieces_of-measured, pieces_of-no_penalty}
+use Rattle.textwrap_lines.specs.Cuts.{AreCuts}
+use Rattle.textwrap_lines.specs.WordSplitters.{ends_in_hyphen}
+use Rattle.textwrap_base.specs.WrapAlgorithms.{Greedy, IsDividedBy}
+use Rattle.textwrap_lines.proofs.Paragraph.Pieces.{AreTexts, split-measured, pieces-no_penalty}
 
 -- ---- a line
 
@@ -101,64 +97,66 @@ front-tight limit false =
     All-cons (IsTight limit) empty_word [] (λ wide. absurd (omega (arith, wide)))
     (All-nil (IsTight limit))
 
-pub long_lines : (settings : Settings) (separator : WordSeparator) (splitter : WordSplitter)
-    (paragraph : List ℕ) (division : List (List WordText)) → IsUtf8 paragraph
-    → settings.break_words ≡ true
-    → IsDividedInto settings (AreSeparated separator) (ArePoints splitter) Greedy paragraph division
-    → OnlyCharactersPass (widths_of settings) 0 division
-long_lines settings separator splitter paragraph division utf8 breaks (pieces, are, greedy_pieces) =
-    by_front (length settings.initial_indent == 0) refl
-  where
-    greedy : IsGreedy sizes_of (widths_of settings)
-        (pieces_of settings separator splitter paragraph) division
-    greedy = subst (λ ws. IsGreedy sizes_of (widths_of settings) ws division)
-        (ArePieces-is settings separator splitter paragraph pieces are) greedy_pieces
+module _ (settings : Settings) (Words : List ℕ → List WordText → Type 0)
+    (Points : List ℕ → List ℕ → Type 0)
+    (texts : (line : List ℕ) (words : List WordText) → IsUtf8 line → Words line words
+    → AreTexts line words)
+    (cuts : (text points : List ℕ) → IsUtf8 text → Points text points → AreCuts text points)
+    (hyphens : (text points : List ℕ) → Points text points
+    → All (λ p. ends_in_hyphen (take p text) ≡ true) points) where
+  pub long_lines : (paragraph : List ℕ) (division : List (List WordText)) → IsUtf8 paragraph
+      → settings.break_words ≡ true
+      → IsDividedInto settings Words Points (IsDividedBy Greedy sizes_of) paragraph division
+      → OnlyCharactersPass (widths_of settings) 0 division
+  long_lines paragraph division utf8 breaks (pieces, are, greedy) =
+      by_front (length settings.initial_indent == 0) refl
+    where
+      split : List WordText
+      split = are.1
 
-    limit : ℕ
-    limit = later_width settings
+      limit : ℕ
+      limit = later_width settings
 
-    broken : List WordText
-    broken = broken_words (later_width settings) (split_pieces_of separator splitter paragraph)
+      broken : List WordText
+      broken = broken_words (later_width settings) split
 
-    pieces_are : pieces_of settings separator splitter paragraph ≡ front_pieces settings
-        ++ broken_words (later_width settings) (split_pieces_of separator splitter paragraph)
-    pieces_are = ap (λ b. cond b (front_pieces settings ++ broken_words (later_width settings)
-        (split_pieces_of separator splitter paragraph))
-        (split_pieces_of separator splitter paragraph)) breaks
+      pieces_are : pieces ≡ front_pieces settings ++ broken_words (later_width settings) split
+      pieces_are = are.4 ∙ ap (λ b. cond b
+          (front_pieces settings ++ broken_words (later_width settings) split) split) breaks
 
-    whole : flat division ≡ pieces_of settings separator splitter paragraph
-    whole = IsDivision-whole (pieces_of settings separator splitter paragraph) division
-        greedy.admissible.division
+      whole : flat division ≡ pieces
+      whole = IsDivision-whole pieces division greedy.admissible.division
 
-    tight : All (IsTight (later_width settings)) (flat division)
-    tight =
-        subst (All (IsTight (later_width settings))) (sym (whole ∙ pieces_are))
-        (All-append (IsTight (later_width settings)) (front_pieces settings) broken
-        (front-tight (later_width settings) (length settings.initial_indent == 0))
-        (broken_words-tight (later_width settings) (split_pieces_of separator splitter paragraph)
-        (split_pieces_of-measured separator splitter paragraph utf8)))
+      tight : All (IsTight (later_width settings)) (flat division)
+      tight =
+          subst (All (IsTight (later_width settings))) (sym (whole ∙ pieces_are))
+          (All-append (IsTight (later_width settings)) (front_pieces settings) broken
+          (front-tight (later_width settings) (length settings.initial_indent == 0))
+          (broken_words-tight (later_width settings) split
+          (split-measured settings Words Points texts cuts paragraph split utf8
+          (are.0, are.2, are.3))))
 
-    none : All HasNoPenalty (flat division)
-    none = subst (All HasNoPenalty) (sym whole)
-        (pieces_of-no_penalty settings separator splitter paragraph)
+      none : All HasNoPenalty (flat division)
+      none = subst (All HasNoPenalty) (sym whole)
+          (pieces-no_penalty settings Words Points texts cuts hyphens paragraph pieces utf8 are)
 
-    room : text_width settings.initial_indent ≡ 0 → (k : ℕ) → 0 ≤ k
-        → later_width settings ≤ line_width (widths_of settings) k
-    room narrow zero from = omega (arith, narrow)
-    room narrow (suc k) from = let same = later_is (width_after settings settings.initial_indent)
-        (later_width settings) (suc k) (omega arith) in omega (arith, same)
+      room : text_width settings.initial_indent ≡ 0 → (k : ℕ) → 0 ≤ k
+          → later_width settings ≤ line_width (widths_of settings) k
+      room narrow zero from = omega (arith, narrow)
+      room narrow (suc k) from = let same = later_is (width_after settings settings.initial_indent)
+          (later_width settings) (suc k) (omega arith) in omega (arith, same)
 
-    by_front : (b : Bool) → (length settings.initial_indent == 0) ≡ b
-        → OnlyCharactersPass (widths_of settings) 0 division
-    by_front true unindented =
-        let empty = nil_from_length settings.initial_indent
-        (eqb-true (length settings.initial_indent) 0 unindented) in
-        let narrow : text_width settings.initial_indent ≡ 0 = ap text_width empty
-        ∙ text_width-nil in
-        lines_pass (later_width settings) (widths_of settings) 0 division greedy.admissible.fit
-        (room narrow) tight none
-    by_front false indented =
-        front_passes (width_after settings settings.initial_indent)
-        (later_width settings) division broken
-        (whole ∙ pieces_are ∙ ap (λ b. cond b [] (empty_word ∷ []) ++ broken) indented)
-        greedy.admissible.fit tight none
+      by_front : (b : Bool) → (length settings.initial_indent == 0) ≡ b
+          → OnlyCharactersPass (widths_of settings) 0 division
+      by_front true unindented =
+          let empty = nil_from_length settings.initial_indent
+          (eqb-true (length settings.initial_indent) 0 unindented) in
+          let narrow : text_width settings.initial_indent ≡ 0 = ap text_width empty
+          ∙ text_width-nil in
+          lines_pass (later_width settings) (widths_of settings) 0 division greedy.admissible.fit
+          (room narrow) tight none
+      by_front false indented =
+          front_passes (width_after settings settings.initial_indent)
+          (later_width settings) division broken
+          (whole ∙ pieces_are ∙ ap (λ b. cond b [] (empty_word ∷ []) ++ broken) indented)
+          greedy.admissible.fit tight none

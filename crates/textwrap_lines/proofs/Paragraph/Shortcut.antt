@@ -1,6 +1,6 @@
 -- Lemmas on the shortcut: a paragraph that is a line as a whole is that line too where its pieces
 -- are divided, if none of its characters takes more columns than its bytes.
-use Rattle.std.proofs.Common.{◌≡◌, ℕ, zero, suc, ◌≤◌, Bool, true, false, cond, ◌==◌, nat_lt}
+use Rattle.std.proofs.Common.{◌≡◌, ◌≢◌, ℕ, zero, suc, ◌≤◌, Bool, true, false, cond, ◌==◌, nat_lt}
 use Rattle.std.proofs.Common.{MatchBool, List, [], ◌∷◌, ◌++◌, All, length, map, refl, sym, ap, ◌∙◌}
 use Rattle.std.proofs.Common.{subst, arith, append_assoc}
 use Rattle.std.specs.Prelude.{chars, encode_utf8}
@@ -20,15 +20,18 @@ use Rattle.textwrap_base.proofs.Word.Bounds.{IsNarrowWord, closed_width-narrow}
 use Rattle.textwrap_lines.specs.Options.{Settings}
 use Rattle.textwrap_lines.specs.Paragraph.{Line, LineParts, Slice, line_from, covered, indent_of}
 use Rattle.textwrap_lines.specs.Paragraph.{parts_of, pieces_of, widths_of, width_after, is_whole}
-use Rattle.textwrap_lines.specs.Paragraph.{parts_from, IsDividedInto, AreDividedParts}
+use Rattle.textwrap_lines.specs.Paragraph.{parts_from, IsDividedInto, DividesAs, AreDividedParts}
 use Rattle.textwrap_lines.specs.Paragraph.{AreParagraphParts}
 use Rattle.textwrap_lines.proofs.Paragraph.LastBlanks.{covered-pieces_of}
 use Rattle.textwrap_base.proofs.ListLemmas.{all-left, all-right}
 use Rattle.textwrap_lines.proofs.Paragraph.Lines.{line_from-pieces, line_from-whole}
-use Rattle.textwrap_lines.specs.WordSeparators.{AreSeparated}
-use Rattle.textwrap_lines.specs.WordSplitters.{ArePoints}
-use Rattle.textwrap_lines.specs.declared.word_separators.WordSeparator.{WordSeparator}
-use Rattle.textwrap_lines.specs.declared.word_splitters.WordSplitter.{WordSplitter}
+use Rattle.textwrap_lines.specs.WordSeparators.{MaySeparate}
+use Rattle.textwrap_lines.specs.WordSplitters.{Splitter, Whole, AtHyphens, MaySplit, splitter_view}
+use Rattle.textwrap_lines.specs.declared.word_separators.WordSeparator as separators
+use Rattle.textwrap_lines.specs.declared.word_splitters.WordSplitter as splitters
+use Rattle.textwrap_base.specs.declared.wrap_algorithms.WrapAlgorithm as algorithms
+use Rattle.textwrap_base.specs.WrapAlgorithms.{Greedy, LeastCost, MayDivide, algorithm_view}
+use Rattle.std.specs.Prelude.{None}
 use Rattle.textwrap_base.specs.WrapAlgorithms.{Algorithm}
 use Rattle.textwrap_lines.proofs.Paragraph.Pieces.{ArePieces-computed, pieces_of-measured}
 use Rattle.textwrap_lines.proofs.Paragraph.Pieces.{pieces_of-no_penalty, pieces_of-tile}
@@ -69,54 +72,53 @@ narrow_words (w ∷ ws) measured none narrow =
     })
     (narrow_words ws (All-tail IsMeasured w ws measured) (All-tail HasNoPenalty w ws none) rest)
 
-pub closed-pieces_of : (settings : Settings) (separator : WordSeparator) (splitter : WordSplitter)
+pub closed-pieces_of : (settings : Settings) (splitter : Splitter)
     (paragraph : List ℕ) → IsUtf8 paragraph → IsNarrow paragraph
-    → closed_width sizes_of (pieces_of settings separator splitter paragraph) ≤ length paragraph
-closed-pieces_of settings separator splitter paragraph utf8 narrow =
-    let pieces = pieces_of settings separator splitter paragraph in
-    let tile = pieces_of-tile settings separator splitter paragraph utf8 in
-    let words = narrow_words pieces (pieces_of-measured settings separator splitter paragraph utf8)
-    (pieces_of-no_penalty settings separator splitter paragraph)
+    → closed_width sizes_of (pieces_of settings splitter paragraph) ≤ length paragraph
+closed-pieces_of settings splitter paragraph utf8 narrow =
+    let pieces = pieces_of settings splitter paragraph in
+    let tile = pieces_of-tile settings splitter paragraph utf8 in
+    let words = narrow_words pieces (pieces_of-measured settings splitter paragraph utf8)
+    (pieces_of-no_penalty settings splitter paragraph utf8)
     (subst IsNarrow (sym tile) narrow) in
     subst (λ l. closed_width sizes_of pieces ≤ length l) tile (closed_width-narrow pieces words)
 
 -- ---- they are one line
 
 -- the line of all pieces, by whether its last whitespace is kept
-same_slice : (settings : Settings) (separator : WordSeparator) (splitter : WordSplitter)
+same_slice : (settings : Settings) (splitter : Splitter)
     (paragraph : List ℕ) (keeps : Bool)
-    → tiled (pieces_of settings separator splitter paragraph) ≡ paragraph
-    → covered (pieces_of settings separator splitter paragraph)
+    → tiled (pieces_of settings splitter paragraph) ≡ paragraph
+    → covered (pieces_of settings splitter paragraph)
     ≡ without_final_blanks paragraph
-    → cond keeps (tiled (pieces_of settings separator splitter paragraph))
-    (covered (pieces_of settings separator splitter paragraph)) ≡ cond keeps paragraph
+    → cond keeps (tiled (pieces_of settings splitter paragraph))
+    (covered (pieces_of settings splitter paragraph)) ≡ cond keeps paragraph
     (without_final_blanks paragraph)
-same_slice settings separator splitter paragraph true tile covers = tile
-same_slice settings separator splitter paragraph false tile covers = covers
+same_slice settings splitter paragraph true tile covers = tile
+same_slice settings splitter paragraph false tile covers = covers
 
-same_line : (settings : Settings) (separator : WordSeparator) (splitter : WordSplitter)
+same_line : (settings : Settings) (splitter : Splitter)
     (is_later : Bool) (paragraph : List ℕ) → IsUtf8 paragraph → settings.initial_indent ≡ []
     → indent_of settings is_later ≡ []
     → is_whole settings is_later paragraph ≡ true
-    → line_from (parts_of settings is_later (pieces_of settings separator splitter paragraph))
+    → line_from (parts_of settings is_later (pieces_of settings splitter paragraph))
     ≡ line_from (parts_of settings is_later (word_of paragraph ∷ []))
-same_line settings separator splitter is_later paragraph utf8 unindented without whole =
-    line_from-pieces settings is_later (pieces_of settings separator splitter paragraph) without
-    (pieces_of-no_penalty settings separator splitter paragraph)
-    ∙ ap Slice (same_slice settings separator splitter paragraph settings.preserve_trailing_space
-    (pieces_of-tile settings separator splitter paragraph utf8)
-    (covered-pieces_of settings separator splitter paragraph utf8 unindented))
+same_line settings splitter is_later paragraph utf8 unindented without whole =
+    line_from-pieces settings is_later (pieces_of settings splitter paragraph) without
+    (pieces_of-no_penalty settings splitter paragraph utf8)
+    ∙ ap Slice (same_slice settings splitter paragraph settings.preserve_trailing_space
+    (pieces_of-tile settings splitter paragraph utf8)
+    (covered-pieces_of settings splitter paragraph utf8 unindented))
     ∙ sym (line_from-whole settings is_later paragraph whole)
 
 -- ---- the shortcut
 
-module _ (settings : Settings) (algorithm : Algorithm) (separator : WordSeparator)
-    (splitter : WordSplitter) where
+module _ (settings : Settings) (algorithm : Algorithm) (splitter : Splitter) where
   -- the lines of a paragraph are those of a division of its pieces
   abbrev pub HasDividedLines : Bool → List ℕ → List Line → Type 0
   HasDividedLines is_later paragraph lines =
       (parts : List LineParts) × AreDividedParts settings
-      (IsDividedInto settings (AreSeparated separator) (ArePoints splitter) algorithm) is_later
+      (DividesAs splitter algorithm settings) is_later
       paragraph parts × (map line_from parts ≡ lines)
 
   whole-divided : (is_later : Bool) (paragraph : List ℕ) → IsUtf8 paragraph
@@ -125,7 +127,7 @@ module _ (settings : Settings) (algorithm : Algorithm) (separator : WordSeparato
       → HasDividedLines is_later paragraph
       (line_from (parts_of settings is_later (word_of paragraph ∷ [])) ∷ [])
   whole-divided is_later paragraph utf8 unindented narrow whole =
-      let pieces = pieces_of settings separator splitter paragraph in
+      let pieces = pieces_of settings splitter paragraph in
       let tests = and_parts (length (indent_of settings is_later) == 0)
       (nat_lt (length paragraph) settings.width) whole in
       let without = nil_from_length (indent_of settings is_later)
@@ -134,40 +136,75 @@ module _ (settings : Settings) (algorithm : Algorithm) (separator : WordSeparato
       let narrower : text_width settings.initial_indent ≡ 0 = ap text_width unindented
       ∙ text_width-nil in
       let room : closed_width sizes_of pieces ≤ width_after settings settings.initial_indent =
-      (let closed = closed-pieces_of settings separator splitter paragraph utf8 narrow in
+      (let closed = closed-pieces_of settings splitter paragraph utf8 narrow in
       omega (arith, closed, shorter, narrower)) in
       let none = All-weaker HasNoPenalty (λ w. length w.penalty ≡ 0)
       (λ w none. ap length none) pieces
-      (pieces_of-no_penalty settings separator splitter paragraph) in (
+      (pieces_of-no_penalty settings splitter paragraph utf8) in (
         parts_of settings is_later pieces ∷ [],
         (
           pieces ∷ [],
           (
             pieces,
-            ArePieces-computed settings separator splitter paragraph,
+            ArePieces-computed settings splitter paragraph,
             IsDividedBy-one_line algorithm sizes_of (widths_of settings) pieces none room,
           ),
           refl,
         ),
-        ap (λ l. l ∷ []) (same_line settings separator splitter is_later paragraph utf8 unindented
+        ap (λ l. l ∷ []) (same_line settings splitter is_later paragraph utf8 unindented
             without whole),
       )
 
   pub paragraph-divided : (is_later : Bool) (paragraph : List ℕ) (parts : List LineParts)
       → IsUtf8 paragraph → settings.initial_indent ≡ [] → IsNarrow paragraph
-      → AreParagraphParts settings (IsDividedInto settings (AreSeparated separator)
-      (ArePoints splitter) algorithm) is_later paragraph parts
+      → AreParagraphParts settings (DividesAs splitter algorithm settings) is_later paragraph parts
       → HasDividedLines is_later paragraph (map line_from parts)
   paragraph-divided is_later paragraph parts utf8 unindented narrow (division, laid_out, is) =
       by_case (is_whole settings is_later paragraph) refl laid_out
     where
       by_case : (whole : Bool) → is_whole settings is_later paragraph ≡ whole
           → MatchBool whole (division ≡ (word_of paragraph ∷ []) ∷ [])
-          (IsDividedInto settings (AreSeparated separator)
-          (ArePoints splitter) algorithm paragraph division)
+          (DividesAs splitter algorithm settings paragraph division)
           → HasDividedLines is_later paragraph (map line_from parts)
       by_case true is_true one =
           subst (HasDividedLines is_later paragraph)
           (sym (ap (map line_from) (is ∙ ap (parts_from settings is_later) one)))
           (whole-divided is_later paragraph utf8 unindented narrow is_true)
       by_case false is_false divided = (parts, (division, divided, is), refl)
+
+-- the same by the parts of any options, where they are built in
+module _ {E C : Type 0} {e : _} {c : _} (settings : Settings) where
+  abbrev Divides : separators.WordSeparator C c → splitters.WordSplitter C c
+      → algorithms.WrapAlgorithm E e → List ℕ → List (List WordText) → Type 0
+  Divides separator splitter algorithm =
+      IsDividedInto settings (MaySeparate separator) (MaySplit splitter)
+      (MayDivide algorithm (λ w. w))
+
+  pub paragraph-divided-by : (separator : separators.WordSeparator C c)
+      (splitter : splitters.WordSplitter C c) (algorithm : algorithms.WrapAlgorithm E e)
+      → separator ≡ separators.TheVariants.AsciiSpace → splitter_view splitter ≢ None
+      → algorithm_view algorithm ≢ None → (is_later : Bool) (paragraph : List ℕ)
+      (parts : List LineParts) → IsUtf8 paragraph → settings.initial_indent ≡ []
+      → IsNarrow paragraph
+      → AreParagraphParts settings (Divides separator splitter algorithm) is_later paragraph parts
+      → (others : List LineParts)
+      × AreDividedParts settings (Divides separator splitter algorithm) is_later paragraph others
+      × (map line_from others ≡ map line_from parts)
+  paragraph-divided-by (separators.TheVariants.Custom given) splitter algorithm is s_built a_built =
+      cc
+  paragraph-divided-by separators.TheVariants.AsciiSpace (splitters.TheVariants.Custom given)
+      algorithm is s_built a_built = absurd (s_built refl)
+  paragraph-divided-by separators.TheVariants.AsciiSpace splitter
+      (algorithms.TheVariants.Custom given) is s_built a_built = absurd (a_built refl)
+  paragraph-divided-by separators.TheVariants.AsciiSpace splitters.TheVariants.NoHyphenation
+      algorithms.TheVariants.FirstFit is s_built a_built =
+      paragraph-divided settings Greedy Whole
+  paragraph-divided-by separators.TheVariants.AsciiSpace splitters.TheVariants.NoHyphenation
+      (algorithms.TheVariants.OptimalFit penalties) is s_built a_built =
+      paragraph-divided settings (LeastCost penalties) Whole
+  paragraph-divided-by separators.TheVariants.AsciiSpace splitters.TheVariants.HyphenSplitter
+      algorithms.TheVariants.FirstFit is s_built a_built =
+      paragraph-divided settings Greedy AtHyphens
+  paragraph-divided-by separators.TheVariants.AsciiSpace splitters.TheVariants.HyphenSplitter
+      (algorithms.TheVariants.OptimalFit penalties) is s_built a_built =
+      paragraph-divided settings (LeastCost penalties) AtHyphens

@@ -4,7 +4,9 @@ use Rattle.std.proofs.Common.{◌≡◌, ℕ, Bool, true, false, cond, ◌==◌,
 use Rattle.std.proofs.Common.{List, [], ◌∷◌, ◌++◌, All, length, map, refl, sym, ap, ◌∙◌, subst}
 use Rattle.std.proofs.Common.{append_assoc, append-nil, take-append-drop}
 use Rattle.std.specs.List.{flat_map}
+use Rattle.std.specs.Io.{StartsWith}
 use Rattle.std.specs.Str.{IsUtf8}
+use Rattle.std.proofs.Transfers.{starts_with_of_eq}
 use Rattle.std.proofs.lemmas.Bool.{true≢false}
 use Rattle.std.proofs.lemmas.List.Elements.{All-nil, All-cons, All-head, All-tail, All-append}
 use Rattle.std.proofs.lemmas.List.Elements.{All-weaker}
@@ -18,7 +20,7 @@ use Rattle.textwrap_lines.specs.LineEnding.{paragraphs_of}
 use Rattle.textwrap_lines.specs.Paragraph.{LineParts, covered, indent_of, keeps_whitespace}
 use Rattle.textwrap_lines.specs.Paragraph.{last_piece, parts_of, parts_from, is_whole}
 use Rattle.textwrap_lines.specs.Paragraph.{AreParagraphParts}
-use Rattle.textwrap_lines.specs.Text.{AreGroups, LosesOnlyBlanks}
+use Rattle.textwrap_lines.specs.Text.{AreGroups, covered_by, LosesOnlyBlanks}
 use Rattle.textwrap_lines.proofs.Text.Endings.{paragraphs_of-utf8}
 
 -- only blanks are left off, and nothing where blanks are preserved
@@ -84,9 +86,6 @@ parts_of-blanks settings is_later (w ∷ ws) all = keeping-blanks settings is_la
 
 -- ---- the lines of a division
 
-abbrev covered_by : List LineParts → List ℕ
-covered_by parts = flat_map (λ p. p.slice ++ p.left_off) parts
-
 covered_by-parts_from : (settings : Settings) (is_later : Bool) (division : List (List WordText))
     → covered_by (parts_from settings is_later division) ≡ tiled (flat_map (λ line. line) division)
 covered_by-parts_from settings is_later [] = refl
@@ -147,17 +146,18 @@ groups-all Keeps is_later (paragraph ∷ paragraphs) (parts ∷ groups) are =
 -- ---- the lines of a paragraph that is divided so
 
 module _ (settings : Settings) (Divides : List ℕ → List (List WordText) → Type 0)
-    (tiles : (paragraph : List ℕ) (division : List (List WordText)) → IsUtf8 paragraph
-    → Divides paragraph division → tiled (flat_map (λ line. line) division) ≡ paragraph)
+    (begin : (paragraph : List ℕ) (division : List (List WordText)) → IsUtf8 paragraph
+    → Divides paragraph division → StartsWith paragraph (tiled (flat_map (λ line. line) division)))
     (blanks : (paragraph : List ℕ) (division : List (List WordText)) → IsUtf8 paragraph
     → Divides paragraph division → All EndsInBlanks (flat_map (λ line. line) division)) where
-  laid_out-tile : (paragraph : List ℕ) (division : List (List WordText)) → IsUtf8 paragraph
+  laid_out-begin : (paragraph : List ℕ) (division : List (List WordText)) → IsUtf8 paragraph
       → (whole : Bool)
       → MatchBool whole (division ≡ (word_of paragraph ∷ []) ∷ []) (Divides paragraph division)
-      → tiled (flat_map (λ line. line) division) ≡ paragraph
-  laid_out-tile paragraph division utf8 true is = ap (λ d. tiled (flat_map (λ line. line) d)) is
-      ∙ tiled-word_of paragraph
-  laid_out-tile paragraph division utf8 false divided = tiles paragraph division utf8 divided
+      → StartsWith paragraph (tiled (flat_map (λ line. line) division))
+  laid_out-begin paragraph division utf8 true is =
+      starts_with_of_eq paragraph (tiled (flat_map (λ line. line) division))
+      (sym (ap (λ d. tiled (flat_map (λ line. line) d)) is ∙ tiled-word_of paragraph))
+  laid_out-begin paragraph division utf8 false divided = begin paragraph division utf8 divided
 
   laid_out-blanks : (paragraph : List ℕ) (division : List (List WordText)) → IsUtf8 paragraph
       → (whole : Bool)
@@ -169,11 +169,13 @@ module _ (settings : Settings) (Divides : List ℕ → List (List WordText) → 
       (All-nil EndsInBlanks))
   laid_out-blanks paragraph division utf8 false divided = blanks paragraph division utf8 divided
 
-  parts-tile : (is_later : Bool) (paragraph : List ℕ) (parts : List LineParts) → IsUtf8 paragraph
-      → AreParagraphParts settings Divides is_later paragraph parts → covered_by parts ≡ paragraph
-  parts-tile is_later paragraph parts utf8 (division, laid_out, is) =
-      ap covered_by is ∙ covered_by-parts_from settings is_later division
-      ∙ laid_out-tile paragraph division utf8 (is_whole settings is_later paragraph) laid_out
+  parts-begin : (is_later : Bool) (paragraph : List ℕ) (parts : List LineParts)
+      → IsUtf8 paragraph → AreParagraphParts settings Divides is_later paragraph parts
+      → StartsWith paragraph (covered_by parts)
+  parts-begin is_later paragraph parts utf8 (division, laid_out, is) =
+      subst (StartsWith paragraph)
+      (sym (ap covered_by is ∙ covered_by-parts_from settings is_later division))
+      (laid_out-begin paragraph division utf8 (is_whole settings is_later paragraph) laid_out)
 
   parts-blanks : (is_later : Bool) (paragraph : List ℕ) (parts : List LineParts) → IsUtf8 paragraph
       → AreParagraphParts settings Divides is_later paragraph parts
@@ -185,20 +187,6 @@ module _ (settings : Settings) (Divides : List ℕ → List (List WordText) → 
       (is_whole settings is_later paragraph) laid_out))
 
   -- ---- the lines of a text
-
-  groups-tile : (is_later : Bool) (paragraphs : List (List ℕ)) (groups : List (List LineParts))
-      → All IsUtf8 paragraphs → AreGroups (AreParagraphParts settings Divides) is_later paragraphs groups
-      → map covered_by groups ≡ paragraphs
-  groups-tile is_later [] groups utf8 is = ap (map covered_by) is
-  groups-tile is_later (paragraph ∷ paragraphs) [] utf8 defined = absurd defined
-  groups-tile is_later (paragraph ∷ paragraphs) (parts ∷ groups) utf8 defined =
-      ap (λ p. p ∷ map covered_by groups)
-      (parts-tile is_later paragraph parts (All-head IsUtf8 paragraph paragraphs utf8)
-      defined.0)
-      ∙ ap (λ ps. paragraph ∷ ps)
-      (groups-tile (is_later ||
-      nat_lt 0 (length parts)) paragraphs groups (All-tail IsUtf8 paragraph paragraphs utf8)
-      defined.1)
 
   -- the groups that the definition gives lose only blanks
   pub LosesOnlyBlanks-from : (text : List ℕ) (groups : List (List LineParts)) → IsUtf8 text
@@ -213,9 +201,45 @@ module _ (settings : Settings) (Divides : List ℕ → List (List WordText) → 
       (λ is_later paragraph parts. All (LeavesBlanks settings) parts) parts-blanks false paragraphs
       groups all defined) in
       record {
-        tile = groups-tile false paragraphs groups all defined;
+        begin = groups-map (AreParagraphParts settings Divides)
+            (λ is_later paragraph parts. StartsWith paragraph (covered_by parts)) parts-begin false
+            paragraphs groups all defined;
         blanks = All-weaker (LeavesBlanks settings) (λ p. AreBlanks p.left_off)
             (λ p leaves. leaves.blanks) parts leaves;
         kept = λ preserved. All-weaker (LeavesBlanks settings) (λ p. p.left_off ≡ [])
             (λ p left. left.kept preserved) parts leaves;
       }
+
+-- ---- the lines of a text whose paragraphs are divided whole
+
+module _ (settings : Settings) (Divides : List ℕ → List (List WordText) → Type 0)
+    (tiles : (paragraph : List ℕ) (division : List (List WordText)) → IsUtf8 paragraph
+    → Divides paragraph division → tiled (flat_map (λ line. line) division) ≡ paragraph) where
+  laid_out-tile : (paragraph : List ℕ) (division : List (List WordText)) → IsUtf8 paragraph
+      → (whole : Bool)
+      → MatchBool whole (division ≡ (word_of paragraph ∷ []) ∷ []) (Divides paragraph division)
+      → tiled (flat_map (λ line. line) division) ≡ paragraph
+  laid_out-tile paragraph division utf8 true is = ap (λ d. tiled (flat_map (λ line. line) d)) is
+      ∙ tiled-word_of paragraph
+  laid_out-tile paragraph division utf8 false divided = tiles paragraph division utf8 divided
+
+  parts-tile : (is_later : Bool) (paragraph : List ℕ) (parts : List LineParts) → IsUtf8 paragraph
+      → AreParagraphParts settings Divides is_later paragraph parts → covered_by parts ≡ paragraph
+  parts-tile is_later paragraph parts utf8 (division, laid_out, is) =
+      ap covered_by is ∙ covered_by-parts_from settings is_later division
+      ∙ laid_out-tile paragraph division utf8 (is_whole settings is_later paragraph) laid_out
+
+  pub groups-tile : (is_later : Bool) (paragraphs : List (List ℕ)) (groups : List (List LineParts))
+      → All IsUtf8 paragraphs
+      → AreGroups (AreParagraphParts settings Divides) is_later paragraphs groups
+      → map covered_by groups ≡ paragraphs
+  groups-tile is_later [] groups utf8 is = ap (map covered_by) is
+  groups-tile is_later (paragraph ∷ paragraphs) [] utf8 defined = absurd defined
+  groups-tile is_later (paragraph ∷ paragraphs) (parts ∷ groups) utf8 defined =
+      ap (λ p. p ∷ map covered_by groups)
+      (parts-tile is_later paragraph parts (All-head IsUtf8 paragraph paragraphs utf8)
+      defined.0)
+      ∙ ap (λ ps. paragraph ∷ ps)
+      (groups-tile (is_later ||
+      nat_lt 0 (length parts)) paragraphs groups (All-tail IsUtf8 paragraph paragraphs utf8)
+      defined.1)

@@ -1,38 +1,50 @@
 -- Lemmas on what the lines of a text keep to: there is one at least, they lose only blanks, add
 -- only indents, and by first fit, where words are broken, they keep to their widths.
-use Rattle.std.proofs.Common.{◌≡◌, ℕ, suc, ◌<◌, ◌≤◌, Bool, true, false, ◌==◌}
+use Rattle.std.proofs.Common.{◌≡◌, ◌≢◌, ℕ, suc, take, append-nil, ◌<◌, ◌≤◌, Bool, true, false, ◌==◌}
 use Rattle.std.proofs.Common.{◌||◌, nat_lt, MatchBool, List, [], ◌∷◌, ◌++◌, All, length, map, refl}
 use Rattle.std.proofs.Common.{sym, ap, ◌∙◌, subst, arith, length-append}
+use Rattle.std.specs.Io.{StartsWith}
+use Rattle.std.specs.Prelude.{Option, Some, None}
 use Rattle.std.specs.Str.{IsUtf8}
+use Rattle.std.proofs.Transfers.{starts_with_of_append}
 use Rattle.std.proofs.lemmas.Bool.{and_parts, ltb-true}
 use Rattle.std.proofs.lemmas.Bool.Decides.{nat_tests}
 use Rattle.std.proofs.lemmas.List.{length-map}
 use Rattle.std.proofs.lemmas.List.Elements.{All-nil, All-cons, All-head, All-tail}
 use Rattle.textwrap_base.specs.Division.{closed_width}
 use Rattle.textwrap_base.specs.Units.{IsNarrow}
-use Rattle.textwrap_base.specs.Words.{WordText, sizes_of, word_of}
-use Rattle.textwrap_base.specs.WrapAlgorithms.{Algorithm, Greedy}
-use Rattle.textwrap_base.proofs.Division.Map.{IsDividedBy-some}
+use Rattle.textwrap_base.specs.Words.{WordText, AreWordsOf, sizes_of, tiled, word_of}
+use Rattle.textwrap_base.specs.WrapAlgorithms.{Algorithm, Greedy, LeastCost, IsDividedBy}
+use Rattle.textwrap_base.specs.WrapAlgorithms.{MayDivide, algorithm_view}
+use Rattle.textwrap_base.proofs.Division.Map.{IsDividedBy-some, IsDividedBy-whole}
 use Rattle.textwrap_base.proofs.ListLemmas.{flat, all-left, all-right}
 use Rattle.textwrap_base.proofs.Word.Bounds.{closed_width-narrow}
 use Rattle.textwrap_base.proofs.Word.Texts.{HasNoPenalty, IsMeasured, without_final_blanks-utf8}
 use Rattle.textwrap_lines.specs.LineEnding.{paragraphs_of, ending_bytes}
-use Rattle.textwrap_lines.specs.Options.{Settings}
+use Rattle.textwrap_lines.specs.Paragraph.{DividesAs, DividesBy}
+use Rattle.textwrap_lines.specs.Options.{Settings, settings_view}
 use Rattle.textwrap_lines.specs.Paragraph.{Line, LineParts, line_from, indent_of, last_piece}
 use Rattle.textwrap_lines.specs.Paragraph.{parts_of, parts_from, is_whole, widths_of, IsDividedInto}
 use Rattle.textwrap_lines.specs.Paragraph.{AreIndented, indent_before, AreParagraphParts}
 use Rattle.textwrap_lines.specs.Paragraph.{KeepToWidths, OnlyCharactersPass}
 use Rattle.textwrap_lines.specs.Text.{AreGroups, AreTextLines, IsWrapped}
-use Rattle.textwrap_lines.specs.WordSeparators.{AreSeparated}
-use Rattle.textwrap_lines.specs.WordSplitters.{ArePoints}
-use Rattle.textwrap_lines.specs.declared.word_separators.WordSeparator.{WordSeparator}
-use Rattle.textwrap_lines.specs.declared.word_splitters.WordSplitter.{WordSplitter}
+use Rattle.textwrap_lines.specs.WordSeparators.{MaySeparate}
+use Rattle.textwrap_lines.specs.WordSplitters.{Splitter, ArePoints, MaySplit, splitter_view}
+use Rattle.textwrap_lines.specs.WordSplitters.{ends_in_hyphen}
+use Rattle.textwrap_lines.specs.Cuts.{AreCuts}
+use Rattle.textwrap_lines.specs.declared.options.Options.{Options}
 use Rattle.textwrap_lines.proofs.Paragraph.LongLines.{long_lines}
-use Rattle.textwrap_lines.proofs.Paragraph.Pieces.{IsDividedInto-whole, IsDividedInto-tile}
-use Rattle.textwrap_lines.proofs.Paragraph.Pieces.{IsDividedInto-blanks, pieces_of-no_penalty}
+use Rattle.textwrap_lines.proofs.Paragraph.Pieces.{AreTexts, AreTexts-words, ArePoints-cuts}
+use Rattle.textwrap_lines.proofs.Paragraph.Pieces.{ArePoints-hyphens, pieces-tile}
+use Rattle.textwrap_lines.proofs.Paragraph.Pieces.{pieces-no_penalty, divided-begin, divided-blanks}
+use Rattle.textwrap_lines.proofs.Word.GivenCuts.{MaySeparate-texts, MaySplit-cuts}
+use Rattle.textwrap_lines.proofs.Word.GivenCuts.{MaySplit-hyphens}
+use Rattle.textwrap_base.proofs.Division.Ends.{Begins, MayDivide-begins, MayDivide-whole}
+use Rattle.textwrap_base.proofs.Division.Ends.{MayDivide-some, MayDivide-greedy}
 use Rattle.textwrap_lines.proofs.Paragraph.Shortcut.{narrow_words}
 use Rattle.textwrap_lines.proofs.Text.Endings.{paragraphs_of-utf8, parts_past-some}
 use Rattle.textwrap_lines.proofs.Text.Lossless.{LosesOnlyBlanks-from, tiled-word_of, word_of-blanks}
+use Rattle.textwrap_lines.proofs.Text.Lossless.{groups-tile}
 use Rattle.textwrap_lines.proofs.Text.Lossless.{groups-map, groups-all}
 
 -- ---- the lines of a division
@@ -154,17 +166,20 @@ groups-some settings (paragraph ∷ paragraphs) (parts ∷ groups) some are =
 
 -- ---- the lines of a paragraph, and of a text
 
-module _ (settings : Settings) (algorithm : Algorithm) (separator : WordSeparator)
-    (splitter : WordSplitter) where
+module _ (settings : Settings) (Words : List ℕ → List WordText → Type 0)
+    (Points : List ℕ → List ℕ → Type 0)
+    (Lines : List ℕ → List WordText → List (List WordText) → Type 0) where
   abbrev Divides : List ℕ → List (List WordText) → Type 0
-  Divides = IsDividedInto settings (AreSeparated separator) (ArePoints splitter) algorithm
+  Divides = IsDividedInto settings Words Points Lines
 
   abbrev AreParts : Bool → List ℕ → List LineParts → Type 0
   AreParts = AreParagraphParts settings Divides
 
-  paragraph-some : (is_later : Bool) (paragraph : List ℕ) (parts : List LineParts)
+  paragraph-some : ((widths : List ℕ) (pieces : List WordText) (division : List (List WordText))
+      → Lines widths pieces division → 0 < length division)
+      → (is_later : Bool) (paragraph : List ℕ) (parts : List LineParts)
       → IsUtf8 paragraph → AreParts is_later paragraph parts → 0 < length parts
-  paragraph-some is_later paragraph parts utf8 (division, laid_out, is) =
+  paragraph-some divided-some is_later paragraph parts utf8 (division, laid_out, is) =
       let lines : length parts ≡ length division =
       sym (length-map parts (λ p. p.pieces)) ∙ ap (λ ps. length (map (λ p. p.pieces) ps)) is
       ∙ ap length (parts_from-pieces settings is_later division) in
@@ -175,7 +190,7 @@ module _ (settings : Settings) (algorithm : Algorithm) (separator : WordSeparato
           → 0 < length division
       some true one = omega (arith, ap length one)
       some false (pieces, are, divided) =
-          IsDividedBy-some sizes_of algorithm (widths_of settings) pieces division divided
+          divided-some (widths_of settings) pieces division divided
 
   paragraph-indented : (is_later : Bool) (paragraph : List ℕ) (parts : List LineParts)
       → IsUtf8 paragraph → AreParts is_later paragraph parts
@@ -184,76 +199,166 @@ module _ (settings : Settings) (algorithm : Algorithm) (separator : WordSeparato
       subst (AreIndented settings is_later) (sym is)
       (parts_from-indented settings is_later division)
 
-  paragraph-no_hyphen : (is_later : Bool) (paragraph : List ℕ) (parts : List LineParts)
-      → IsUtf8 paragraph → AreParts is_later paragraph parts → All HasNoHyphen parts
-  paragraph-no_hyphen is_later paragraph parts utf8 (division, laid_out, is) =
-      subst (All HasNoHyphen) (sym is)
-      (parts_from-no_hyphen settings is_later division
-      (none (is_whole settings is_later paragraph) laid_out))
-    where
-      none : (whole : Bool)
-          → MatchBool whole (division ≡ (word_of paragraph ∷ []) ∷ []) (Divides paragraph division)
-          → All HasNoPenalty (flat division)
-      none true one = subst (λ d. All HasNoPenalty (flat d)) (sym one)
-          (All-cons HasNoPenalty (word_of paragraph) [] refl (All-nil HasNoPenalty))
-      none false divided = subst (All HasNoPenalty)
-          (sym (IsDividedInto-whole settings algorithm separator splitter paragraph division
-          divided))
-          (pieces_of-no_penalty settings separator splitter paragraph)
+  -- what the separator, the splitter and the algorithm keep to
+  module _ (texts : (line : List ℕ) (words : List WordText) → IsUtf8 line → Words line words
+      → AreTexts line words)
+      (cuts : (text points : List ℕ) → IsUtf8 text → Points text points → AreCuts text points)
+      (begins : (widths : List ℕ) (pieces : List WordText) (division : List (List WordText))
+      → Lines widths pieces division → Begins pieces (flat division)) where
+    paragraph-no_hyphen : ((text points : List ℕ) → Points text points
+        → All (λ p. ends_in_hyphen (take p text) ≡ true) points)
+        → (is_later : Bool) (paragraph : List ℕ) (parts : List LineParts)
+        → IsUtf8 paragraph → AreParts is_later paragraph parts → All HasNoHyphen parts
+    paragraph-no_hyphen hyphens is_later paragraph parts utf8 (division, laid_out, is) =
+        subst (All HasNoHyphen) (sym is)
+        (parts_from-no_hyphen settings is_later division
+        (none (is_whole settings is_later paragraph) laid_out))
+      where
+        none : (whole : Bool)
+            → MatchBool whole (division ≡ (word_of paragraph ∷ []) ∷ [])
+            (Divides paragraph division) → All HasNoPenalty (flat division)
+        none true one = subst (λ d. All HasNoPenalty (flat d)) (sym one)
+            (All-cons HasNoPenalty (word_of paragraph) [] refl (All-nil HasNoPenalty))
+        none false (pieces, are, divided) =
+            let (rest, whole) = begins (widths_of settings) pieces division divided in
+            all-left HasNoPenalty (flat division) rest
+            (subst (All HasNoPenalty) (sym whole)
+            (pieces-no_penalty settings Words Points texts cuts hyphens paragraph pieces utf8 are))
 
-  paragraph-keeps : algorithm ≡ Greedy → settings.break_words ≡ true → (is_later : Bool)
-      (paragraph : List ℕ) (parts : List LineParts) → IsUtf8 paragraph
-      → AreParts is_later paragraph parts → KeepToWidths settings is_later paragraph parts
-  paragraph-keeps greedy breaks is_later paragraph parts utf8 (division, laid_out, is) =
-      subst (λ lines. MatchBool (is_whole settings is_later paragraph)
-      (IsNarrow paragraph → All (λ line. closed_width sizes_of line ≤ settings.width) lines)
-      (OnlyCharactersPass (widths_of settings) 0 lines))
-      (sym (ap (map (λ p. p.pieces)) is ∙ parts_from-pieces settings is_later division))
-      (by_case (is_whole settings is_later paragraph) refl laid_out)
-    where
-      by_case : (whole : Bool) → is_whole settings is_later paragraph ≡ whole
-          → MatchBool whole (division ≡ (word_of paragraph ∷ []) ∷ []) (Divides paragraph division)
-          → MatchBool whole
-          (IsNarrow paragraph
-          → All (λ line. closed_width sizes_of line ≤ settings.width) division)
-          (OnlyCharactersPass (widths_of settings) 0 division)
-      by_case true whole one = λ narrow.
-          subst (All (λ line. closed_width sizes_of line ≤ settings.width)) (sym one)
-          (All-cons (λ line. closed_width sizes_of line ≤ settings.width)
-          (word_of paragraph ∷ []) []
-          (whole_line-within settings is_later paragraph utf8 whole narrow)
-          (All-nil (λ line. closed_width sizes_of line ≤ settings.width)))
-      by_case false whole divided =
-          long_lines settings separator splitter paragraph division utf8 breaks
-          (subst (λ a. IsDividedInto settings (AreSeparated separator) (ArePoints splitter) a
-          paragraph division) greedy divided)
+    paragraph-keeps : ((text points : List ℕ) → Points text points
+        → All (λ p. ends_in_hyphen (take p text) ≡ true) points)
+        → ((widths : List ℕ) (pieces : List WordText) (division : List (List WordText))
+        → Lines widths pieces division → IsDividedBy Greedy sizes_of widths pieces division)
+        → settings.break_words ≡ true → (is_later : Bool)
+        (paragraph : List ℕ) (parts : List LineParts) → IsUtf8 paragraph
+        → AreParts is_later paragraph parts → KeepToWidths settings is_later paragraph parts
+    paragraph-keeps hyphens greedy breaks is_later paragraph parts utf8 (division, laid_out, is) =
+        subst (λ lines. MatchBool (is_whole settings is_later paragraph)
+        (IsNarrow paragraph → All (λ line. closed_width sizes_of line ≤ settings.width) lines)
+        (OnlyCharactersPass (widths_of settings) 0 lines))
+        (sym (ap (map (λ p. p.pieces)) is ∙ parts_from-pieces settings is_later division))
+        (by_case (is_whole settings is_later paragraph) refl laid_out)
+      where
+        by_case : (whole : Bool) → is_whole settings is_later paragraph ≡ whole
+            → MatchBool whole (division ≡ (word_of paragraph ∷ []) ∷ [])
+            (Divides paragraph division)
+            → MatchBool whole
+            (IsNarrow paragraph
+            → All (λ line. closed_width sizes_of line ≤ settings.width) division)
+            (OnlyCharactersPass (widths_of settings) 0 division)
+        by_case true whole one = λ narrow.
+            subst (All (λ line. closed_width sizes_of line ≤ settings.width)) (sym one)
+            (All-cons (λ line. closed_width sizes_of line ≤ settings.width)
+            (word_of paragraph ∷ []) []
+            (whole_line-within settings is_later paragraph utf8 whole narrow)
+            (All-nil (λ line. closed_width sizes_of line ≤ settings.width)))
+        by_case false whole (pieces, are, divided) =
+            long_lines settings Words Points texts cuts hyphens paragraph division utf8 breaks
+            (pieces, are, greedy (widths_of settings) pieces division divided)
 
-  pub IsWrapped-from : (text : List ℕ) (lines : List Line) → IsUtf8 text
-      → AreTextLines settings Divides text lines
-      → IsWrapped settings algorithm Divides text lines
-  IsWrapped-from text lines utf8 are =
-      let paragraphs = paragraphs_of settings.line_ending text in
-      let all = paragraphs_of-utf8 settings.line_ending text utf8 in
-      record {
-        are = are;
-        some =
-            let some = groups-some settings paragraphs are.groups
-            (parts_past-some (ending_bytes settings.line_ending) 0 text)
-            (groups-map AreParts (λ is_later paragraph parts. 0 < length parts) paragraph-some
-            false paragraphs are.groups all are.defined) in
-            omega (arith, some, ap length are.given, length-map (flat are.groups) line_from);
-        loses = LosesOnlyBlanks-from settings Divides
-            (IsDividedInto-tile settings algorithm separator splitter)
-            (IsDividedInto-blanks settings algorithm separator splitter)
-            text are.groups utf8 are.defined;
-        adds = record {
-          indents = groups-indented settings false paragraphs are.groups
-              (groups-map AreParts (λ is_later paragraph parts. AreIndented settings is_later parts)
-              paragraph-indented false paragraphs are.groups all are.defined);
-          no_hyphen = groups-all HasNoHyphen false paragraphs are.groups
-              (groups-map AreParts (λ is_later paragraph parts. All HasNoHyphen parts)
-              paragraph-no_hyphen false paragraphs are.groups all are.defined);
-        };
-        keeps = λ greedy breaks. groups-map AreParts (KeepToWidths settings)
-            (paragraph-keeps greedy breaks) false paragraphs are.groups all are.defined;
-      }
+    divided-tile : ((widths : List ℕ) (pieces : List WordText) (division : List (List WordText))
+        → Lines widths pieces division → flat division ≡ pieces)
+        → (paragraph : List ℕ) (division : List (List WordText)) → IsUtf8 paragraph
+        → Divides paragraph division → tiled (flat division) ≡ paragraph
+    divided-tile whole paragraph division utf8 (pieces, are, divided) =
+        ap tiled (whole (widths_of settings) pieces division divided)
+        ∙ pieces-tile settings Words Points texts cuts paragraph pieces utf8 are
+
+    divided-starts : (paragraph : List ℕ) (division : List (List WordText)) → IsUtf8 paragraph
+        → Divides paragraph division → StartsWith paragraph (tiled (flat division))
+    divided-starts paragraph division utf8 divided =
+        let (rest, is) = divided-begin settings Words Points texts cuts Lines begins paragraph
+        division utf8 divided in
+        starts_with_of_append paragraph (tiled (flat division)) rest (sym is)
+
+    -- what is promised where the splitter and the algorithm are built in
+    pub IsWrapped-by : (splitter : Option Splitter) (algorithm : Option Algorithm)
+        → (splitter ≢ None → (text points : List ℕ) → Points text points
+        → All (λ p. ends_in_hyphen (take p text) ≡ true) points)
+        → (algorithm ≢ None → (widths : List ℕ) (pieces : List WordText)
+        (division : List (List WordText)) → Lines widths pieces division → flat division ≡ pieces)
+        → (algorithm ≢ None → (widths : List ℕ) (pieces : List WordText)
+        (division : List (List WordText)) → Lines widths pieces division → 0 < length division)
+        → (algorithm ≡ Some Greedy → (widths : List ℕ) (pieces : List WordText)
+        (division : List (List WordText)) → Lines widths pieces division
+        → IsDividedBy Greedy sizes_of widths pieces division)
+        → (text : List ℕ) (lines : List Line) → IsUtf8 text
+        → AreTextLines settings Divides text lines
+        → IsWrapped settings splitter algorithm Divides text lines
+    IsWrapped-by splitter algorithm hyphens whole divided-some greedy text lines utf8 are =
+        let paragraphs = paragraphs_of settings.line_ending text in
+        let all = paragraphs_of-utf8 settings.line_ending text utf8 in
+        record {
+          are = are;
+          some = λ built_in.
+              let some = groups-some settings paragraphs are.groups
+              (parts_past-some (ending_bytes settings.line_ending) 0 text)
+              (groups-map AreParts (λ is_later paragraph parts. 0 < length parts)
+              (paragraph-some (divided-some built_in))
+              false paragraphs are.groups all are.defined) in
+              omega (arith, some, ap length are.given, length-map (flat are.groups) line_from);
+          loses = LosesOnlyBlanks-from settings Divides divided-starts
+              (divided-blanks settings Words Points texts cuts Lines begins)
+              text are.groups utf8 are.defined;
+          tile = λ built_in. groups-tile settings Divides (divided-tile (whole built_in)) false
+              paragraphs are.groups all are.defined;
+          adds = record {
+            indents = groups-indented settings false paragraphs are.groups
+                (groups-map AreParts
+                (λ is_later paragraph parts. AreIndented settings is_later parts)
+                paragraph-indented false paragraphs are.groups all are.defined);
+            no_hyphen = λ built_in. groups-all HasNoHyphen false paragraphs are.groups
+                (groups-map AreParts (λ is_later paragraph parts. All HasNoHyphen parts)
+                (paragraph-no_hyphen (hyphens built_in)) false paragraphs are.groups all
+                are.defined);
+          };
+          keeps = λ first built_in breaks. groups-map AreParts (KeepToWidths settings)
+              (paragraph-keeps (hyphens built_in) (greedy first) breaks) false paragraphs are.groups
+              all are.defined;
+        }
+
+-- by built-in parts
+greedy-is : (algorithm : Algorithm) → Some algorithm ≡ Some Greedy → algorithm ≡ Greedy
+greedy-is Greedy is = refl
+greedy-is (LeastCost penalties) is = cc
+
+pub IsWrapped-from : (settings : Settings) (algorithm : Algorithm) (splitter : Splitter)
+    (text : List ℕ) (lines : List Line) → IsUtf8 text
+    → AreTextLines settings (DividesAs splitter algorithm settings) text lines
+    → IsWrapped settings (Some splitter) (Some algorithm) (DividesAs splitter algorithm settings)
+    text lines
+IsWrapped-from settings algorithm splitter text lines utf8 are =
+    IsWrapped-by settings AreWordsOf (ArePoints splitter) (IsDividedBy algorithm sizes_of)
+    AreTexts-words (ArePoints-cuts splitter)
+    (λ widths pieces division divided. (
+      [],
+      append-nil (flat division)
+          ∙ IsDividedBy-whole sizes_of algorithm widths pieces division divided,
+    ))
+    (Some splitter) (Some algorithm) (λ _. ArePoints-hyphens splitter)
+    (λ _. IsDividedBy-whole sizes_of algorithm) (λ _. IsDividedBy-some sizes_of algorithm)
+    (λ first widths pieces division divided.
+    subst (λ a. IsDividedBy a sizes_of widths pieces division) (greedy-is algorithm first) divided)
+    text lines utf8 are
+
+-- by any options
+module _ {E C : Type 0} {e : _} {c : _} (options : Options E C e c) where
+  pub IsWrapped-options : (text : List ℕ) (lines : List Line) → IsUtf8 text
+      → AreTextLines (settings_view options) (DividesBy options) text lines
+      → IsWrapped (settings_view options) (splitter_view options.word_splitter)
+      (algorithm_view options.wrap_algorithm) (DividesBy options) text lines
+  IsWrapped-options text lines utf8 are =
+      let algorithm = options.wrap_algorithm in
+      IsWrapped-by (settings_view options) (MaySeparate options.word_separator)
+      (MaySplit options.word_splitter) (MayDivide algorithm (λ w. w))
+      (MaySeparate-texts options.word_separator) (MaySplit-cuts options.word_splitter)
+      (MayDivide-begins algorithm (λ w. w))
+      (splitter_view options.word_splitter) (algorithm_view algorithm)
+      (MaySplit-hyphens options.word_splitter)
+      (λ built_in widths pieces division. MayDivide-whole algorithm (λ w. w) widths pieces division
+      built_in)
+      (λ built_in widths pieces division. MayDivide-some algorithm (λ w. w) widths pieces division
+      built_in)
+      (λ first widths pieces division. MayDivide-greedy algorithm (λ w. w) widths pieces division
+      first)
+      text lines utf8 are

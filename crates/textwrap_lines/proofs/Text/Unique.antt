@@ -11,12 +11,9 @@ use Rattle.textwrap_lines.specs.Options.{Settings}
 use Rattle.textwrap_lines.specs.LineEnding.{ending_bytes, join_with, paragraphs_of}
 use Rattle.std.specs.List.{flat_map}
 use Rattle.textwrap_lines.specs.Paragraph.{Line, LineParts, line_from, line_bytes, parts_from}
-use Rattle.textwrap_lines.specs.Paragraph.{widths_of, is_whole, IsDividedInto, AreDividedParts}
+use Rattle.textwrap_lines.specs.Paragraph.{widths_of, is_whole, DividesAs, AreDividedParts}
 use Rattle.textwrap_lines.specs.Paragraph.{AreParagraphParts}
-use Rattle.textwrap_lines.specs.WordSeparators.{AreSeparated}
-use Rattle.textwrap_lines.specs.WordSplitters.{ArePoints}
-use Rattle.textwrap_lines.specs.declared.word_separators.WordSeparator.{WordSeparator}
-use Rattle.textwrap_lines.specs.declared.word_splitters.WordSplitter.{WordSplitter}
+use Rattle.textwrap_lines.specs.WordSplitters.{Splitter}
 use Rattle.textwrap_lines.proofs.Paragraph.Pieces.{ArePieces-is}
 use Rattle.textwrap_lines.specs.Text.{AreGroups, AreTextLines}
 use Rattle.textwrap_lines.specs.Filling.{IsFilled}
@@ -35,15 +32,13 @@ divided_one (LeastCost penalties) sizes widths xs lines others equal one other =
     chosen_one (λ x. priced_at penalties (sizes x)) penalties widths xs lines others
     (one.chosen equal) (other.chosen equal)
 
-pub division_one : (settings : Settings) (algorithm : Algorithm) (separator : WordSeparator)
-    (splitter : WordSplitter) (paragraph : List ℕ) (division other : List (List WordText))
-    → IsDividedInto settings (AreSeparated separator) (ArePoints splitter) algorithm paragraph
-    division → IsDividedInto settings (AreSeparated separator)
-    (ArePoints splitter) algorithm paragraph other → division ≡ other
-division_one settings algorithm separator splitter paragraph division other (pieces, are, divided)
+pub division_one : (settings : Settings) (algorithm : Algorithm) (splitter : Splitter) (paragraph : List ℕ) (division other : List (List WordText))
+    → DividesAs splitter algorithm settings paragraph
+    division → DividesAs splitter algorithm settings paragraph other → division ≡ other
+division_one settings algorithm splitter paragraph division other (pieces, are, divided)
     (others, others_are, others_divided) =
-    let same = ArePieces-is settings separator splitter paragraph others others_are
-    ∙ sym (ArePieces-is settings separator splitter paragraph pieces are) in
+    let same = ArePieces-is settings splitter paragraph others others_are
+    ∙ sym (ArePieces-is settings splitter paragraph pieces are) in
     divided_one algorithm sizes_of (widths_of settings) pieces division other
     (two_widths _ _) divided (subst
     (λ ws. IsDividedBy algorithm sizes_of (widths_of settings) ws other) same

@@ -7,7 +7,7 @@ use Rattle.std.specs.List.{list_any, range_with_len}
 use Rattle.std.specs.List.Sorted.{IsNonDecreasing}
 use lib.Utf8.{encode}
 use Rattle.std.proofs.lemmas.Bool.{and_parts, cond_both, eqb-true, false≢true, ltb-true}
-use Rattle.std.proofs.lemmas.List.{map-id, reverse-append, append-nil, append_assoc, drop-drop}
+use Rattle.std.proofs.lemmas.List.{map-id, reverse-append, append-nil, append_assoc}
 use Rattle.std.proofs.lemmas.List.{take-append-drop, length-append, length-take, take_at, drop_at}
 use Rattle.std.proofs.lemmas.List.{get_or-append-add, get_or-take}
 use Rattle.std.proofs.lemmas.List.Concat.{flat_map-append}
@@ -21,11 +21,12 @@ use Rattle.std.proofs.lemmas.Str.{IsUtf8-take, IsUtf8-drop, IsCharBoundary-after
 use Rattle.std.proofs.lemmas.Str.{chars-append, chars-nil, chars_past_char}
 use Rattle.textwrap_lines.specs.WordSplitters.{is_alphanumeric, begins_alphanumeric}
 use Rattle.textwrap_lines.specs.WordSplitters.{is_hyphen_point, hyphen, ends_in_hyphen}
-use Rattle.textwrap_lines.specs.WordSplitters.{inner_offsets, hyphen_points, points_of, AreCuts}
+use Rattle.textwrap_lines.specs.WordSplitters.{inner_offsets, hyphen_points, points_of}
+use Rattle.textwrap_lines.specs.Cuts.{AreCuts}
 use Rattle.textwrap_lines.specs.WordSplitters.{split_from, split_pieces, split_word, split_words}
-use Rattle.textwrap_lines.specs.declared.word_splitters.WordSplitter.{WordSplitter}
-use Rattle.textwrap_lines.specs.declared.word_splitters.WordSplitter.TheVariants.{NoHyphenation}
-use Rattle.textwrap_lines.specs.declared.word_splitters.WordSplitter.TheVariants.{HyphenSplitter}
+use Rattle.textwrap_lines.specs.WordSplitters.{AreSplit}
+use Rattle.textwrap_lines.specs.WordSplitters.{Splitter, Whole, AtHyphens}
+use Rattle.textwrap_base.proofs.Division.Ends.{slice-rest}
 use Rattle.textwrap_base.specs.Words.{WordText, tile_of, tiled}
 
 nil-length : (xs : List ℕ) → length xs ≡ 0 → xs ≡ []
@@ -176,24 +177,16 @@ hyphen_points-cuts text utf8 =
 
 -- ---- tiling
 
-pub points_of-cuts : (splitter : WordSplitter) (text : List ℕ) → IsUtf8 text
+pub points_of-cuts : (splitter : Splitter) (text : List ℕ) → IsUtf8 text
     → AreCuts text (points_of splitter text)
-points_of-cuts NoHyphenation text utf8 =
+points_of-cuts Whole text utf8 =
     record {
       in_order = λ i j d le lt. absurd (omega arith);
       in_range = All-nil
           (λ p. p < length text);
       between = All-nil (IsCharBoundary text);
     }
-points_of-cuts HyphenSplitter text utf8 = hyphen_points-cuts text utf8
-
-slice-rest : (xs : List ℕ) (start point : ℕ) → start ≤ point
-    → slice_range xs start point ++ drop point xs ≡ drop start xs
-slice-rest xs start point le =
-    let there : start + (point - start) ≡ point = omega arith in
-    ap (λ ys. take (point - start) (drop start xs) ++ ys) (ap (λ n. drop n xs) (sym there)
-    ∙ sym (drop-drop (point - start) start xs)) ∙ take-append-drop (point - start)
-    (drop start xs)
+points_of-cuts AtHyphens text utf8 = hyphen_points-cuts text utf8
 
 tiled-split_from : (w : WordText) (start : ℕ) (points : List ℕ) → IsNonDecreasing points
     → ((k : ℕ) → k < length points → start ≤ get_or points k 0)
@@ -213,7 +206,7 @@ pub tiled-split_pieces : (points : List ℕ) (w : WordText) → AreCuts w.word p
     → tiled (split_pieces points w) ≡ tile_of w
 tiled-split_pieces points w cuts = tiled-split_from w 0 points cuts.in_order (λ k lt. omega arith)
 
-pub tiled-split_words : (splitter : WordSplitter) (words : List WordText)
+pub tiled-split_words : (splitter : Splitter) (words : List WordText)
     → All (λ w. IsUtf8 w.word) words → tiled (split_words splitter words) ≡ tiled words
 tiled-split_words splitter [] utf8 = refl
 tiled-split_words splitter (w ∷ words) utf8 =
@@ -223,3 +216,24 @@ tiled-split_words splitter (w ∷ words) utf8 =
     ∙ ap (λ l. l ++ tiled (split_words splitter words)) first
     ∙ ap (λ l. tile_of w ++ l)
     (tiled-split_words splitter words (All-tail (λ v. IsUtf8 v.word) w words utf8))
+
+-- one word more is split
+pub AreSplit-push : (Points : List ℕ → List ℕ → Type 0) (words pieces : List WordText)
+    (w : WordText) (points : List ℕ) → AreSplit Points words pieces → Points w.word points
+    → AreSplit Points (words ++ w ∷ []) (pieces ++ split_pieces points w)
+AreSplit-push Points [] pieces w points are here = (
+  points,
+  [],
+  here,
+  refl,
+  ap (λ l. l ++ split_pieces points w) are
+      ∙ sym (append-nil (split_pieces points w)),
+)
+AreSplit-push Points (v ∷ words) pieces w points (given, rest, given_are, rest_are, is) here = (
+  given,
+  rest ++ split_pieces points w,
+  given_are,
+  AreSplit-push Points words rest w points rest_are here,
+  ap (λ l. l ++ split_pieces points w) is
+      ∙ append_assoc (split_pieces given v) rest (split_pieces points w),
+)

@@ -3,6 +3,7 @@ use super::are_borrowed;
 use crate::checking::{is_filled, line_count};
 use crate::help::help_entry;
 use crate::mail::{quote, sent_lines};
+use crate::paths::path_lines;
 use crate::planning::{Task, days};
 use std::test::Fail;
 use textwrap::Options;
@@ -36,21 +37,23 @@ fn mail_is_sent_twice_by_the_same_options(rt: HostRuntime) -> Result<(), Fail> {
 
 #[test]
 fn a_filled_text_is_filled_already(rt: HostRuntime) -> Result<(), Fail> {
-    for (text, width, expected) in [
+    for &(text, width, expected) in &[
         ("foo bar\nbaz", 7, true),
         ("foo bar baz", 7, false),
         ("foo ", 7, false),
         ("", 0, true),
     ] {
-        assert_eq!(rt; is_filled(rt.alloc(), text, width)?, expected, "{text:?}");
+        let filled = is_filled(rt.alloc(), text, width)?;
+        assert!(rt; filled == expected, "{text:?}");
     }
     Ok(())
 }
 
 #[test]
 fn lines_are_counted(rt: HostRuntime) -> Result<(), Fail> {
-    for (text, count) in [("To be, or not to be", 2), ("", 1), ("one\ntwo", 2)] {
-        assert_eq!(rt; line_count(rt.alloc(), text, 10)?, count, "{text:?}");
+    for &(text, count) in &[("To be, or not to be", 2), ("", 1), ("one\ntwo", 2)] {
+        let lines = line_count(rt.alloc(), text, 10)?;
+        assert!(rt; lines == count, "{text:?}");
     }
     Ok(())
 }
@@ -67,6 +70,26 @@ fn tasks_fill_days(rt: HostRuntime) -> Result<(), Fail> {
     assert_eq!(rt; plan.len(), 2);
     for day in &plan {
         assert_eq!(rt; day.len(), 2);
+    }
+    Ok(())
+}
+
+#[test]
+fn paths_are_cut_after_slashes(rt: HostRuntime) -> Result<(), Fail> {
+    let rows: &[(&str, usize, &[&str])] = &[
+        (
+            "/usr/local/share/doc",
+            10,
+            &["/usr/", "local/", "share/doc"],
+        ),
+        ("/a b/c d/", 5, &["/a b/", "c d/"]),
+        ("añ/b", 4, &["añ/b"]),
+        ("añ/b", 3, &["añ/", "b"]),
+        ("names", 3, &["nam", "es"]),
+    ];
+    for &(path, width, lines) in rows {
+        let given = path_lines(rt.alloc(), path, width)?;
+        assert!(rt; are_borrowed(&given, lines), "{given:?}");
     }
     Ok(())
 }

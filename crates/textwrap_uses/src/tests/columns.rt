@@ -1,5 +1,8 @@
 //! Texts in columns beside one another.
+use super::with_indents;
+use LineEnding::{CRLF, LF};
 use std::alloc::{AllocError, Global};
+use std::process::Abort;
 use std::test::Fail;
 use textwrap::{LineEnding, Options, WrapError, wrap_columns};
 
@@ -15,10 +18,27 @@ fn joined(alloc: Global, rows: &[String]) -> Result<String, AllocError> {
     Ok(joined)
 }
 
+/// Asserts that the text has these rows, with a line feed between each two, in columns between
+/// these gaps.
+fn assert_rows(
+    rt: &(impl Abort + AllocGlobal),
+    text: &str,
+    columns: usize,
+    options: Options<'_>,
+    gaps: [&str; 3],
+    expected: &str,
+) -> Result<(), WrapError> {
+    assert!(rt; columns >= 1);
+    let [left, middle, right] = gaps;
+    let rows = wrap_columns(rt.alloc(), text, columns, options, left, middle, right)?;
+    let table = joined(rt.alloc(), &rows)?;
+    assert_eq!(rt; table.as_str(), expected, "{text:?} in {columns}");
+    Ok(())
+}
+
 #[test]
 fn texts_stand_in_columns(rt: HostRuntime) -> Result<(), Fail> {
-    let words = "Words and a few emojis 😍 wrapped in ⓶ columns";
-    for (text, columns, width, left, middle, right, expected) in [
+    for &(text, columns, width, left, middle, right, expected) in &[
         ("a b c d", 4, 7, "", "", "", "abcd   "),
         (
             "Foo Bar Baz Quux",
@@ -41,7 +61,7 @@ fn texts_stand_in_columns(rt: HostRuntime) -> Result<(), Fail> {
             "----> x !!! z <----\n----> y !!!   <----",
         ),
         (
-            words,
+            "Words and a few emojis 😍 wrapped in ⓶ columns",
             2,
             30,
             "✨ ",
@@ -76,66 +96,54 @@ fn texts_stand_in_columns(rt: HostRuntime) -> Result<(), Fail> {
         // An empty paragraph is a line of its own.
         ("a\n\nb", 3, 8, "", "|", "", "a |  |b "),
     ] {
-        assert!(rt; columns >= 1);
-        let options = Options::new(width);
-        let rows = wrap_columns(rt.alloc(), text, columns, options, left, middle, right)?;
-        let table = joined(rt.alloc(), &rows)?;
-        assert_eq!(rt;
-            table.as_str(),
-            expected,
-            "{text:?} in {columns} at {width}"
-        );
+        let gaps = [left, middle, right];
+        assert_rows(&rt, text, columns, Options::new(width), gaps, expected)?;
     }
     Ok(())
 }
 
 #[test]
 fn the_other_options_are_kept(rt: HostRuntime) -> Result<(), Fail> {
-    let (lf, crlf) = (LineEnding::LF, LineEnding::CRLF);
-    for (text, columns, width, ending, indents, breaks, preserves, expected) in [
+    for &(text, columns, width, ending, initial, subsequent, breaks, preserves, expected) in &[
         // A word that may not be broken passes its column, in any place.
-        ("foobar", 1, 3, lf, ("", ""), false, false, "foobar"),
-        ("a foobar", 2, 6, lf, ("", ""), false, false, "a |foobar "),
-        ("foobar a", 2, 6, lf, ("", ""), false, false, "foobar|a  "),
+        ("foobar", 1, 3, LF, "", "", false, false, "foobar"),
+        ("a foobar", 2, 6, LF, "", "", false, false, "a |foobar "),
+        ("foobar a", 2, 6, LF, "", "", false, false, "foobar|a  "),
         // The indents are those of the first line and of all later ones, whatever their columns.
         (
             "a b c",
             3,
             14,
-            lf,
-            ("* ", "- "),
+            LF,
+            "* ",
+            "- ",
             true,
             false,
             "* a |- b |- c ",
         ),
-        ("a b c", 2, 9, lf, ("", "  "), true, false, "a b |  c "),
+        ("a b c", 2, 9, LF, "", "  ", true, false, "a b |  c "),
         // A row has no line ending in it.
-        ("a\r\nb", 2, 5, crlf, ("", ""), true, false, "a |b "),
-        ("a\nb c", 1, 3, crlf, ("", ""), true, false, "a\nb \nc  "),
+        ("a\r\nb", 2, 5, CRLF, "", "", true, false, "a |b "),
+        ("a\nb c", 1, 3, CRLF, "", "", true, false, "a\nb \nc  "),
         // Blanks that are kept count as any others.
-        ("a  \nb", 2, 9, lf, ("", ""), true, true, "a   |b   "),
-        ("  ", 1, 5, lf, ("", ""), true, true, "     "),
+        ("a  \nb", 2, 9, LF, "", "", true, true, "a   |b   "),
+        ("  ", 1, 5, LF, "", "", true, true, "     "),
     ] {
         let options = Options {
             line_ending: ending,
-            initial_indent: indents.0,
-            subsequent_indent: indents.1,
             break_words: breaks,
             preserve_trailing_space: preserves,
-            ..Options::new(width)
+            ..with_indents(width, initial, subsequent)
         };
-        let rows = wrap_columns(rt.alloc(), text, columns, options, "", "|", "")?;
-        let table = joined(rt.alloc(), &rows)?;
-        assert_eq!(rt;
-            table.as_str(),
-            expected,
-            "{text:?} in {columns} at {width}"
-        );
+        assert_rows(&rt, text, columns, options, ["", "|", ""], expected)?;
     }
-    // More cells than any memory has are refused at once.
+    Ok(())
+}
+
+#[test]
+fn more_cells_than_any_memory_has_are_refused_at_once(rt: HostRuntime) {
     for gap in ["", "xx"] {
         let rows = wrap_columns(rt.alloc(), "a", 1 << 63, Options::new(80), "", gap, "");
         assert!(rt; matches!(rows, Err(WrapError::Memory(_))));
     }
-    Ok(())
 }

@@ -1,16 +1,20 @@
 //! Indented and dedented texts.
+use super::assert_text;
 use std::test::Fail;
 use textwrap::{dedent, indent};
 
 #[test]
 fn lines_get_the_prefix(rt: HostRuntime) -> Result<(), Fail> {
-    let testing = "This is a test.\n\r\nTesting.\r\n\n";
-    for (text, prefix, expected) in [
+    for &(text, prefix, expected) in &[
         ("", "# ", ""),
         ("\n", "  ", "\n"),
         ("a\r\n\r\n", "> ", "> a\r\n>\r\n"),
         (" \t  Foo   ", "->", "-> \t  Foo   "),
-        (testing, "  ", "  This is a test.\n\r\n  Testing.\r\n\n"),
+        (
+            "This is a test.\n\r\nTesting.\r\n\n",
+            "  ",
+            "  This is a test.\n\r\n  Testing.\r\n\n",
+        ),
         (
             "foo = 123\n\nprint(foo)\n",
             "# ",
@@ -31,14 +35,14 @@ fn lines_get_the_prefix(rt: HostRuntime) -> Result<(), Fail> {
         ("a\n \nb\n", "", "a\n \nb\n"),
     ] {
         let indented = indent(rt.alloc(), text, prefix)?;
-        assert_eq!(rt; indented.as_str(), expected, "{text:?} with {prefix:?}");
+        assert_text(&rt, text, indented.as_str(), expected);
     }
     Ok(())
 }
 
 #[test]
 fn lines_lose_the_margin(rt: HostRuntime) -> Result<(), Fail> {
-    for (text, expected) in [
+    for &(text, expected) in &[
         ("", ""),
         ("\n", "\n"),
         ("\r\n", "\n"),
@@ -66,7 +70,7 @@ fn lines_lose_the_margin(rt: HostRuntime) -> Result<(), Fail> {
         ("  a\r\n  b\r", "a\nb\r"),
     ] {
         let dedented = dedent(rt.alloc(), text)?;
-        assert_eq!(rt; dedented.as_str(), expected, "{text:?}");
+        assert_text(&rt, text, dedented.as_str(), expected);
     }
     Ok(())
 }

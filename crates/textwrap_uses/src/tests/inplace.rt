@@ -1,10 +1,11 @@
 //! The text that `fill_inplace` leaves.
+use super::assert_text;
 use std::test::Fail;
 use textwrap::fill_inplace;
 
 #[test]
 fn blanks_before_new_lines_become_line_feeds(rt: HostRuntime) -> Result<(), Fail> {
-    for (text, width, expected) in [
+    for &(text, width, expected) in &[
         ("foo  bar    baz", 10, "foo  bar   \nbaz"),
         ("Hello   World!", 10, "Hello  \nWorld!"),
         ("", 0, ""),
@@ -34,7 +35,7 @@ fn blanks_before_new_lines_become_line_feeds(rt: HostRuntime) -> Result<(), Fail
     ] {
         let mut filled = String::from_str(rt.alloc(), text)?;
         fill_inplace(rt.alloc(), &mut filled, width)?;
-        assert_eq!(rt; filled.as_str(), expected, "{text:?} at {width}");
+        assert_text(&rt, text, filled.as_str(), expected);
     }
     Ok(())
 }

@@ -1,101 +1,137 @@
 //! `unfill` and `refill`.
+use super::{assert_text, by_first_fit, with_indents};
+use LineEnding::{CRLF, LF};
+use std::alloc::{AllocError, Global};
 use std::test::Fail;
-use textwrap::{LineEnding, Options, WordSplitter, WrapAlgorithm, fill, refill, unfill};
+use textwrap::{LineEnding, Options, WordSplitter, WrapError, fill, refill, unfill};
+
+/// Whether the options have this width, these indents and this ending.
+fn have_layout(
+    options: &Options<'_>,
+    width: usize,
+    indents: [&str; 2],
+    ending: LineEnding,
+) -> bool {
+    options.width == width
+        && options.initial_indent == indents[0]
+        && options.subsequent_indent == indents[1]
+        && options.line_ending == ending
+}
+
+/// Whether `unfill` gives this text, and options with this width, these indents and this ending.
+fn is_unfilled(
+    alloc: Global,
+    text: &str,
+    unfilled: &str,
+    width: usize,
+    indents: [&str; 2],
+    ending: LineEnding,
+) -> Result<bool, AllocError> {
+    let (given, options) = unfill(alloc, text)?;
+    Ok(given.as_str() == unfilled && have_layout(&options, width, indents, ending))
+}
 
 #[test]
 fn texts_are_unfilled(rt: HostRuntime) -> Result<(), Fail> {
-    for (text, unfilled, width, initial, subsequent, ending) in [
-        ("", "", 0, "", "", "\n"),
-        ("foo\n*\n/", "foo * /", 3, "", "", "\n"),
+    for &(text, unfilled, width, initial, subsequent, ending) in &[
+        ("", "", 0, "", "", LF),
+        ("foo\n*\n/", "foo * /", 3, "", "", LF),
         (
             "    // foo bar\n    // baz\n    // quux",
             "foo bar baz quux",
             14,
             "    // ",
             "    // ",
-            "\n",
+            LF,
         ),
-        ("foo\n##\n\n\r", "foo ## \r", 3, "", "", "\n"),
-        (
-            "  foo\n    bar\n  baz",
-            "foo   bar baz",
-            7,
-            "  ",
-            "  ",
-            "\n",
-        ),
-        ("######\nfoo", " foo", 6, "######", "", "\n"),
-        ("foo\r\nbar\n\r\n\n", "foo bar\n", 3, "", "", "\n"),
-        ("foo\r\n\n", "foo", 3, "", "", "\r\n"),
-        ("\n", "", 0, "", "", "\n"),
-        ("-> *\n-> #\n-> /", " # /", 4, "-> *", "-> ", "\n"),
-        ("foo\r\nbar\r\n", "foo bar\r\n", 3, "", "", "\r\n"),
-        ("foo\nbar\r\n", "foo bar\n", 3, "", "", "\n"),
-        ("foo\r\nbar", "foo bar", 3, "", "", "\r\n"),
-        ("foo\nbar\r", "foo bar\r", 3, "", "", "\n"),
-        ("> foo\n\n> bar\n", "foo > bar\n", 5, "> ", "", "\n"),
-        ("#\n  foo\n  bar", " foo bar", 5, "#", "  ", "\n"),
-        ("\n  foo", "  foo", 5, "", "  ", "\n"),
+        ("foo\n##\n\n\r", "foo ## \r", 3, "", "", LF),
+        ("  foo\n    bar\n  baz", "foo   bar baz", 7, "  ", "  ", LF),
+        ("######\nfoo", " foo", 6, "######", "", LF),
+        ("foo\r\nbar\n\r\n\n", "foo bar\n", 3, "", "", LF),
+        ("foo\r\n\n", "foo", 3, "", "", CRLF),
+        ("\n", "", 0, "", "", LF),
+        ("-> *\n-> #\n-> /", " # /", 4, "-> *", "-> ", LF),
+        ("foo\r\nbar\r\n", "foo bar\r\n", 3, "", "", CRLF),
+        ("foo\nbar\r\n", "foo bar\n", 3, "", "", LF),
+        ("foo\r\nbar", "foo bar", 3, "", "", CRLF),
+        ("foo\nbar\r", "foo bar\r", 3, "", "", LF),
+        ("> foo\n\n> bar\n", "foo > bar\n", 5, "> ", "", LF),
+        ("#\n  foo\n  bar", " foo bar", 5, "#", "  ", LF),
+        ("\n  foo", "  foo", 5, "", "  ", LF),
         (
             "foo\n안녕하세요\nbarbarbar",
             "foo 안녕하세요 barbarbar",
             10,
             "",
             "",
-            "\n",
+            LF,
         ),
-        ("> é\n> è", "é è", 3, "> ", "> ", "\n"),
+        ("> é\n> è", "é è", 3, "> ", "> ", LF),
     ] {
-        let (given, options) = unfill(rt.alloc(), text)?;
-        assert_eq!(rt; given.as_str(), unfilled, "{text:?}");
-        assert_eq!(rt; options.width, width, "{text:?}");
-        assert_eq!(rt; options.initial_indent, initial, "{text:?}");
-        assert_eq!(rt; options.subsequent_indent, subsequent, "{text:?}");
-        assert_eq!(rt; options.line_ending.as_str(), ending, "{text:?}");
+        let indents = [initial, subsequent];
+        let is_right = is_unfilled(rt.alloc(), text, unfilled, width, indents, ending)?;
+        assert!(rt; is_right, "{text:?}");
     }
     Ok(())
 }
 
 #[test]
 fn texts_are_refilled(rt: HostRuntime) -> Result<(), Fail> {
-    let crlf = LineEnding::CRLF;
-    let lf = LineEnding::LF;
-    for (text, width, ending, refilled) in [
-        ("", 5, lf, ""),
-        ("foo bar baz", 5, lf, "foo\nbar\nbaz"),
+    for &(text, width, ending, refilled) in &[
+        ("", 5, LF, ""),
+        ("foo bar baz", 5, LF, "foo\nbar\nbaz"),
         (
             "> Memory\n> safety without garbage\n> collection.\n",
             20,
-            lf,
+            LF,
             "> Memory safety\n> without garbage\n> collection.\n",
         ),
         (
             "- This is my\n  list item.\n",
             20,
-            lf,
+            LF,
             "- This is my list\n  item.\n",
         ),
-        ("foo\r\nbar\n", 5, crlf, "foo\r\nbar\r\n"),
-        ("/// foo\n/// bar baz\n", 12, lf, "/// foo bar\n/// baz\n"),
-        ("foo bar", 4, crlf, "foo\r\nbar"),
-        ("foo\r\nbar\r\n", 10, crlf, "foo bar\r\n"),
-        ("foo\r\nbar\r\n", 10, lf, "foo bar\n"),
-        ("foo\nbar\r\n", 10, crlf, "foo bar\r\n"),
-        ("foo\nbar\n", 10, crlf, "foo bar\r\n"),
+        ("foo\r\nbar\n", 5, CRLF, "foo\r\nbar\r\n"),
+        ("/// foo\n/// bar baz\n", 12, LF, "/// foo bar\n/// baz\n"),
+        ("foo bar", 4, CRLF, "foo\r\nbar"),
+        ("foo\r\nbar\r\n", 10, CRLF, "foo bar\r\n"),
+        ("foo\r\nbar\r\n", 10, LF, "foo bar\n"),
+        ("foo\nbar\r\n", 10, CRLF, "foo bar\r\n"),
+        ("foo\nbar\n", 10, CRLF, "foo bar\r\n"),
     ] {
-        let options = Options::new(width).line_ending(ending).initial_indent("!");
+        let options = with_indents(width, "!", "").line_ending(ending);
         let given = refill(rt.alloc(), text, options)?;
-        assert_eq!(rt; given.as_str(), refilled, "{text:?} at {width}");
+        assert_text(&rt, text, given.as_str(), refilled);
     }
-    let first = Options::new(8).wrap_algorithm(WrapAlgorithm::FirstFit);
-    let given = refill(rt.alloc(), "aa bb\ncc dd", first)?;
-    assert_eq!(rt; given.as_str(), "aa bb cc\ndd");
     Ok(())
 }
 
 #[test]
+fn texts_are_refilled_by_the_chosen_algorithm(rt: HostRuntime) -> Result<(), Fail> {
+    let text = "aa bb\ncc dd";
+    let given = refill(rt.alloc(), text, by_first_fit(8))?;
+    assert_text(&rt, text, given.as_str(), "aa bb cc\ndd");
+    Ok(())
+}
+
+/// The text, filled at the first width with its words kept whole, and refilled at the second.
+fn filled_twice(
+    alloc: Global,
+    text: &str,
+    first: usize,
+    second: usize,
+) -> Result<String, WrapError> {
+    let whole_words = Options::new(first)
+        .break_words(false)
+        .word_splitter(WordSplitter::NoHyphenation);
+    let filled = fill(alloc, text, whole_words)?;
+    refill(alloc, &filled, Options::new(second))
+}
+
+#[test]
 fn a_plain_text_filled_again_is_filled_once(rt: HostRuntime) -> Result<(), Fail> {
-    for text in [
+    for &text in &[
         "",
         "a",
         "aa bb cc dd",
@@ -108,13 +144,9 @@ fn a_plain_text_filled_again_is_filled_once(rt: HostRuntime) -> Result<(), Fail>
         "averyveryverylongword and some others",
     ] {
         for width in 1..41 {
-            let whole_words = Options::new(width)
-                .break_words(false)
-                .word_splitter(WordSplitter::NoHyphenation);
-            let filled = fill(rt.alloc(), text, whole_words)?;
-            let again = refill(rt.alloc(), &filled, Options::new(41 - width))?;
+            let again = filled_twice(rt.alloc(), text, width, 41 - width)?;
             let once = fill(rt.alloc(), text, Options::new(41 - width))?;
-            assert_eq!(rt; again.as_str(), once.as_str(), "{text:?} at {width}");
+            assert_text(&rt, text, again.as_str(), once.as_str());
         }
     }
     Ok(())

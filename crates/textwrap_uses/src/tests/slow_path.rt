@@ -1,17 +1,16 @@
 //! The calls of the module `fuzzing`.
-use super::are_borrowed;
+use super::{are_borrowed, assert_text, with_endings, with_indents};
+use std::alloc::Global;
 use std::borrow::CowStr;
 use std::test::Fail;
 use textwrap::fuzzing::{fill_slow_path, wrap_single_line, wrap_single_line_slow_path};
-use textwrap::{Options, WrapAlgorithm};
+use textwrap::{LineEnding, Options, WrapAlgorithm, WrapError};
 
 #[test]
 fn a_later_paragraph_takes_the_shortcut_past_an_initial_indent(
     rt: HostRuntime,
 ) -> Result<(), Fail> {
-    let options = Options::new(10)
-        .initial_indent(">>>")
-        .wrap_algorithm(WrapAlgorithm::FirstFit);
+    let options = with_indents(10, ">>>", "").wrap_algorithm(WrapAlgorithm::FirstFit);
     let mut lines = Vec::new(rt.alloc());
     lines.push(CowStr::Borrowed("x"))?;
     wrap_single_line(rt.alloc(), "foobar ba", &options, &mut lines)?;
@@ -21,9 +20,31 @@ fn a_later_paragraph_takes_the_shortcut_past_an_initial_indent(
     Ok(())
 }
 
+/// The lines of a paragraph by itself, by `wrap_single_line`.
+fn lines_of_shortcut<'p>(
+    alloc: Global,
+    paragraph: &'p str,
+    options: &Options<'_>,
+) -> Result<Vec<CowStr<'p>>, WrapError> {
+    let mut lines = Vec::new(alloc);
+    wrap_single_line(alloc, paragraph, options, &mut lines)?;
+    Ok(lines)
+}
+
+/// The lines of a paragraph by itself, by `wrap_single_line_slow_path`.
+fn lines_of_slow_path<'p>(
+    alloc: Global,
+    paragraph: &'p str,
+    options: &Options<'_>,
+) -> Result<Vec<CowStr<'p>>, WrapError> {
+    let mut lines = Vec::new(alloc);
+    wrap_single_line_slow_path(alloc, paragraph, options, &mut lines)?;
+    Ok(lines)
+}
+
 #[test]
 fn the_shortcut_gives_the_lines_of_the_slow_path(rt: HostRuntime) -> Result<(), Fail> {
-    for (paragraph, width, indent, preserve, line) in [
+    for &(paragraph, width, indent, preserve, line) in &[
         ("", 1, "", false, ""),
         ("  ", 3, "", false, ""),
         ("  foo-bar  ", 12, "", false, "  foo-bar"),
@@ -31,14 +52,10 @@ fn the_shortcut_gives_the_lines_of_the_slow_path(rt: HostRuntime) -> Result<(), 
         ("안녕 하세요", 20, "", false, "안녕 하세요"),
         ("foobar", 7, "12345", false, "foobar"),
     ] {
-        let options = Options::new(width)
-            .subsequent_indent(indent)
-            .preserve_trailing_space(preserve);
-        let mut short = Vec::new(rt.alloc());
-        wrap_single_line(rt.alloc(), paragraph, &options, &mut short)?;
-        let mut slow = Vec::new(rt.alloc());
-        wrap_single_line_slow_path(rt.alloc(), paragraph, &options, &mut slow)?;
+        let options = with_indents(width, "", indent).preserve_trailing_space(preserve);
+        let short = lines_of_shortcut(rt.alloc(), paragraph, &options)?;
         assert!(rt; are_borrowed(&short, &[line]), "{paragraph:?}");
+        let slow = lines_of_slow_path(rt.alloc(), paragraph, &options)?;
         assert!(rt; are_borrowed(&slow, &[line]), "{paragraph:?}");
     }
     Ok(())
@@ -46,14 +63,14 @@ fn the_shortcut_gives_the_lines_of_the_slow_path(rt: HostRuntime) -> Result<(), 
 
 #[test]
 fn the_slow_path_fills_alike(rt: HostRuntime) -> Result<(), Fail> {
-    for (text, width, preserve, expected) in [
+    for &(text, width, preserve, expected) in &[
         ("ab\ncdefghijkl", 5, false, "ab\ncdefg\nhijkl"),
         ("foo bar  ", 10, false, "foo bar"),
         ("foo  ", 10, true, "foo  "),
     ] {
-        let options = Options::new(width).preserve_trailing_space(preserve);
+        let options = with_endings(width, LineEnding::LF, preserve);
         let filled = fill_slow_path(rt.alloc(), text, options)?;
-        assert_eq!(rt; filled.as_str(), expected, "{text:?}");
+        assert_text(&rt, text, filled.as_str(), expected);
     }
     Ok(())
 }

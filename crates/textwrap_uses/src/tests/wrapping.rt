@@ -1,5 +1,6 @@
 //! The lines of `wrap`.
-use super::are_borrowed;
+use super::{are_borrowed, by_first_fit, with_endings, with_indents};
+use std::alloc::{AllocError, Global};
 use std::borrow::CowStr;
 use std::process::Abort;
 use std::test::Fail;
@@ -8,7 +9,7 @@ use textwrap::{LineEnding, Options, WrapAlgorithm, fill, wrap};
 
 /// A line of the text itself, or one of its own.
 #[derive(Clone, Copy, Debug, Drop, PartialEq)]
-enum Kind {
+pub(super) enum Kind {
     Borrowed,
     Owned,
 }
@@ -16,30 +17,37 @@ enum Kind {
 use Kind::{Borrowed, Owned};
 
 /// The lines of a text, in this kind each.
-type Lines<'a> = &'a [(Kind, &'a str)];
+pub(super) type Lines<'a> = &'a [(Kind, &'a str)];
 
 /// Whether the line has this text, borrowed or of its own.
 fn is_line(line: &CowStr<'_>, kind: Kind, expected: &str) -> bool {
     matches!(line, CowStr::Borrowed(_)) == (kind == Borrowed) && line.as_str() == expected
 }
 
+/// Whether the lines are these, each of its kind.
+fn are_lines(lines: &[CowStr<'_>], expected: Lines<'_>) -> bool {
+    for (line, (kind, expected)) in lines.iter().zip(expected) {
+        if !is_line(line, *kind, expected) {
+            return false;
+        }
+    }
+    lines.len() == expected.len()
+}
+
 /// Asserts that the text is wrapped into these lines.
-fn assert_wrapped(
+pub(super) fn assert_wrapped(
     rt: &(impl Abort + AllocGlobal),
     text: &str,
     options: Options<'_>,
     expected: Lines<'_>,
 ) -> Result<(), WrapError> {
     let lines = wrap(rt.alloc(), text, options)?;
-    assert_eq!(rt; lines.len(), expected.len(), "{text:?}");
-    for (line, (kind, expected)) in lines.iter().zip(expected) {
-        assert!(rt; is_line(line, *kind, expected), "{line:?}");
-    }
+    assert!(rt; are_lines(&lines, expected), "{text:?} has {lines:?}");
     Ok(())
 }
 
 /// Asserts that the text is wrapped into these lines, each of them borrowed.
-fn assert_borrowed(
+pub(super) fn assert_borrowed(
     rt: &(impl Abort + AllocGlobal),
     text: &str,
     options: Options<'_>,
@@ -52,7 +60,7 @@ fn assert_borrowed(
 
 #[test]
 fn paragraphs_have_the_lines_of_first_fit(rt: HostRuntime) -> Result<(), Fail> {
-    let rows: [(&str, usize, &[&str]); 14] = [
+    let rows: &[(&str, usize, &[&str])] = &[
         (
             "To be, or not to be: that is the question",
             10,
@@ -76,16 +84,15 @@ fn paragraphs_have_the_lines_of_first_fit(rt: HostRuntime) -> Result<(), Fail> {
         ("  \n \n  \n ", 80, &["", "", "", ""]),
         ("1 3 5 7\n1 3 5 7", 5, &["1 3 5", "7", "1 3 5", "7"]),
     ];
-    for (text, width, lines) in rows {
-        let options = Options::new(width).wrap_algorithm(WrapAlgorithm::FirstFit);
-        assert_borrowed(&rt, text, options, lines)?;
+    for &(text, width, lines) in rows {
+        assert_borrowed(&rt, text, by_first_fit(width), lines)?;
     }
     Ok(())
 }
 
 #[test]
 fn paragraphs_have_the_lines_of_least_cost(rt: HostRuntime) -> Result<(), Fail> {
-    let rows: [(&str, usize, &[&str]); 14] = [
+    let rows: &[(&str, usize, &[&str])] = &[
         (
             "textwrap: a small library for wrapping text.",
             18,
@@ -121,7 +128,7 @@ fn paragraphs_have_the_lines_of_least_cost(rt: HostRuntime) -> Result<(), Fail> 
         ("test\n\na\n\n", 80, &["test", "", "a", "", ""]),
         ("  \n \n  \n ", 80, &["", "", "", ""]),
     ];
-    for (text, width, lines) in rows {
+    for &(text, width, lines) in rows {
         assert_borrowed(&rt, text, Options::new(width), lines)?;
     }
     let penalties = Penalties {
@@ -139,7 +146,7 @@ fn paragraphs_have_the_lines_of_least_cost(rt: HostRuntime) -> Result<(), Fail> 
 
 #[test]
 fn words_are_split_and_broken(rt: HostRuntime) -> Result<(), Fail> {
-    let rows: [(&str, usize, bool, &[&str]); 11] = [
+    let rows: &[(&str, usize, bool, &[&str])] = &[
         ("wrapping text", 9, true, &["wrapping", "text"]),
         ("foo-bar", 5, true, &["foo-", "bar"]),
         ("foo-bar baz", 5, true, &["foo-", "bar", "baz"]),
@@ -162,7 +169,7 @@ fn words_are_split_and_broken(rt: HostRuntime) -> Result<(), Fail> {
             &["This", "is a", "litt", "le", "exam", "ple."],
         ),
     ];
-    for (text, width, break_words, lines) in rows {
+    for &(text, width, break_words, lines) in rows {
         assert_borrowed(
             &rt,
             text,
@@ -175,24 +182,27 @@ fn words_are_split_and_broken(rt: HostRuntime) -> Result<(), Fail> {
 
 #[test]
 fn lines_are_indented(rt: HostRuntime) -> Result<(), Fail> {
-    let rows: [(&str, usize, [&str; 2], Lines<'_>); 8] = [
-        ("", 10, ["!!!", ""], &[(Owned, "!!!")]),
+    let rows: &[(&str, usize, &str, &str, Lines<'_>)] = &[
+        ("", 10, "!!!", "", &[(Owned, "!!!")]),
         (
             "foobarbaz",
             5,
-            ["-->", ""],
+            "-->",
+            "",
             &[(Owned, "-->"), (Borrowed, "fooba"), (Borrowed, "rbaz")],
         ),
         (
             "foobarbaz",
             5,
-            ["* ", "  "],
+            "* ",
+            "  ",
             &[(Owned, "* foo"), (Owned, "  bar"), (Owned, "  baz")],
         ),
         (
             "This is a little example.",
             12,
-            ["* ", "  "],
+            "* ",
+            "  ",
             &[
                 (Owned, "* This is"),
                 (Owned, "  a little"),
@@ -202,7 +212,8 @@ fn lines_are_indented(rt: HostRuntime) -> Result<(), Fail> {
         (
             "x x x x x x x x x x x x x",
             10,
-            ["👉👉", ""],
+            "👉👉",
+            "",
             &[
                 (Owned, "👉👉x x x"),
                 (Borrowed, "x x x x x"),
@@ -212,7 +223,8 @@ fn lines_are_indented(rt: HostRuntime) -> Result<(), Fail> {
         (
             "Wrapping text all day long.",
             15,
-            ["", "...."],
+            "",
+            "....",
             &[
                 (Borrowed, "Wrapping text"),
                 (Owned, "....all day"),
@@ -222,20 +234,20 @@ fn lines_are_indented(rt: HostRuntime) -> Result<(), Fail> {
         (
             "a\n\nb",
             10,
-            ["", "> "],
+            "",
+            "> ",
             &[(Borrowed, "a"), (Borrowed, ""), (Owned, "> b")],
         ),
         (
             "aaa\nbbb ccc",
             7,
-            ["", "    "],
+            "",
+            "    ",
             &[(Borrowed, "aaa"), (Owned, "    bbb ccc")],
         ),
     ];
-    for (text, width, [initial, subsequent], lines) in rows {
-        let options = Options::new(width)
-            .initial_indent(initial)
-            .subsequent_indent(subsequent);
+    for &(text, width, initial, subsequent, lines) in rows {
+        let options = with_indents(width, initial, subsequent);
         assert_wrapped(&rt, text, options, lines)?;
     }
     Ok(())
@@ -253,7 +265,7 @@ fn an_initial_indent_is_not_repeated(rt: HostRuntime) -> Result<(), Fail> {
 
 #[test]
 fn blanks_and_endings_are_as_chosen(rt: HostRuntime) -> Result<(), Fail> {
-    let rows: [(&str, usize, LineEnding, &[&str]); 5] = [
+    let rows: &[(&str, usize, LineEnding, &[&str])] = &[
         ("foo bar baz", 10, LineEnding::LF, &["foo bar ", "baz"]),
         (
             "foo     bar     baz  ",
@@ -265,30 +277,44 @@ fn blanks_and_endings_are_as_chosen(rt: HostRuntime) -> Result<(), Fail> {
         ("a\r\nb\nc", 10, LineEnding::CRLF, &["a", "b\nc"]),
         ("a\r\r\nb", 10, LineEnding::CRLF, &["a\r", "b"]),
     ];
-    for (text, width, ending, lines) in rows {
-        let options = Options::new(width)
-            .line_ending(ending)
-            .preserve_trailing_space(true);
-        assert_borrowed(&rt, text, options, lines)?;
+    for &(text, width, ending, lines) in rows {
+        assert_borrowed(&rt, text, with_endings(width, ending, true), lines)?;
     }
     Ok(())
 }
 
-#[test]
-fn a_text_of_many_paragraphs_is_wrapped_and_filled_whole(rt: HostRuntime) -> Result<(), Fail> {
-    let mut text = String::new(rt.alloc());
+/// 300 times the same paragraph of three lines and an empty one.
+fn many_paragraphs(alloc: Global) -> Result<String, AllocError> {
+    let mut text = String::new(alloc);
     for _ in 0..300 {
         text.push_str("To be,\tor not\r\nto be\n\n")?;
     }
-    let options = Options::new(10).wrap_algorithm(WrapAlgorithm::FirstFit);
-    let lines = wrap(rt.alloc(), &text, Options::from(&options))?;
-    let paragraph = ["To be,\tor", "not\r", "to be", ""];
-    assert_eq!(rt; lines.len(), 1201);
+    Ok(text)
+}
+
+/// Whether the lines are 300 times these, and an empty one.
+fn are_repeated(lines: &[CowStr<'_>], paragraph: &[&str; 4]) -> bool {
     for (i, line) in lines.iter().enumerate() {
         let expected = if i < 1200 { paragraph[i % 4] } else { "" };
-        assert!(rt; is_line(line, Borrowed, expected), "{line:?}");
+        if !is_line(line, Borrowed, expected) {
+            return false;
+        }
     }
-    let filled = fill(rt.alloc(), &text, options)?;
-    assert_eq!(rt; filled.as_str().len(), text.as_str().len());
+    lines.len() == 1201
+}
+
+#[test]
+fn a_text_of_many_paragraphs_is_wrapped_whole(rt: HostRuntime) -> Result<(), Fail> {
+    let text = many_paragraphs(rt.alloc())?;
+    let lines = wrap(rt.alloc(), &text, by_first_fit(10))?;
+    assert!(rt; are_repeated(&lines, &["To be,\tor", "not\r", "to be", ""]));
+    Ok(())
+}
+
+#[test]
+fn a_text_of_many_paragraphs_is_filled_whole(rt: HostRuntime) -> Result<(), Fail> {
+    let text = many_paragraphs(rt.alloc())?;
+    let filled = fill(rt.alloc(), &text, by_first_fit(10))?;
+    assert!(rt; filled.as_str().len() == text.as_str().len());
     Ok(())
 }

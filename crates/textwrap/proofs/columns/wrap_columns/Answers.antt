@@ -6,7 +6,7 @@ use Rattle.textwrap.proofs.Text.Table.{AreTextLines-methods}
 use Rattle.textwrap.proofs.columns.wrap_columns.Goals as goal
 
 pub returns-clause-rows : goal.returns-clause-rows
-returns-clause-rows c =
+returns-clause-rows g c =
     let columns = c.args.columns in
     let left = c.args.left_gap.now in
     let middle = c.args.middle_gap.now in

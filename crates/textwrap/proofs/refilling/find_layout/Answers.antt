@@ -8,7 +8,6 @@ use Rattle.std.proofs.lemmas.Iterator.Consumers.{YieldsList-turn, YieldsList-end
 use Rattle.std.proofs.lemmas.Iterator.Splits.{YieldsList-from_lines}
 use Rattle.std.proofs.lemmas.List.{length_push, drop_all}
 use Rattle.textwrap_base.specs.Units.{text_width}
-use Rattle.textwrap_lines.specs.Options.{settings_view}
 use Rattle.textwrap.specs.Refilling.{line_prefix, common_prefix, unfilled_width, unfilled_initial}
 use Rattle.textwrap.specs.Refilling.{unfilled_subsequent}
 use Rattle.textwrap.proofs.Text.Layout.{width-first, first_line, width-more, common-more}
@@ -56,8 +55,8 @@ loop-line-preserved c =
           (narrowed-ascii c.loop-line.common line c.loop-line.invariant.ascii);
     }
 
-pub returns-clause-settings : goal.returns-clause-settings
-returns-clause-settings c =
+pub returns : goal.returns
+returns c =
     let text = c.args.text.now in
     let texts = later_lines text in
     let end = YieldsList-end (YieldsList-from_skip 1 (YieldsList-from_lines text (cc)) (cc))
@@ -78,5 +77,4 @@ returns-clause-settings c =
     ∙ ap common_prefix (sym (append-nil (texts_in c.loop-line.common)))
     ∙ ap (λ ls. common_prefix (texts_in c.loop-line.common ++ map line_prefix ls)) (sym none)
     ∙ c.loop-line.invariant.common in
-    settings-with (settings_view c.new.result) c.loop-line.width _ _ _ _ _ c.new.ensures.settings
-    width initial subsequent
+    settings-with c.loop-line.width _ _ _ _ _ width initial subsequent

@@ -2,7 +2,8 @@ use Rattle.std.proofs.Common.{◌≡◌, ◌-◌, ◌++◌, [], ◌∷◌, ◌==
 use Rattle.std.proofs.Common.{subst, arith}
 use Rattle.std.specs.List.{list_any, range_with_len}
 use Rattle.std.specs.Prelude.{filter}
-use Rattle.textwrap_lines.specs.WordSplitters.{is_hyphen_point, hyphen, AreCuts}
+use Rattle.textwrap_lines.specs.WordSplitters.{is_hyphen_point, hyphen}
+use Rattle.textwrap_lines.specs.Cuts.{AreCuts}
 use Rattle.textwrap_lines.proofs.Word.Splitting.{points-more, hyphen_points-cuts}
 use Rattle.textwrap_lines.proofs.Word.Splitting.{hyphen_points-none}
 use Rattle.textwrap_lines.proofs.word_splitters.hyphen_points.Goals as goal

@@ -1,48 +1,50 @@
 use Rattle.std.proofs.Common.{◌≡◌, [], ◌∷◌, ◌++◌, cond, map, sym, ap, ◌∙◌, arith}
 use Rattle.textwrap_base.specs.Breaking.{broken_words}
-use Rattle.textwrap_base.specs.Words.{word_view, tiled}
+use Rattle.textwrap_base.specs.Words.{word_view}
 use Rattle.textwrap_lines.specs.Options.{settings_view}
 use Rattle.textwrap_lines.specs.Paragraph.{empty_word, front_pieces, later_width}
-use Rattle.textwrap_lines.proofs.Paragraph.Pieces.{split_pieces_of, given-vec, word_of-nil}
-use Rattle.textwrap_lines.proofs.Paragraph.Pieces.{pieces_of-tile}
+use Rattle.textwrap_lines.specs.WordSeparators.{MaySeparate}
+use Rattle.textwrap_lines.specs.WordSplitters.{MaySplit}
+use Rattle.textwrap_lines.proofs.Paragraph.Pieces.{given-vec, word_of-nil, pieces-tile}
+use Rattle.textwrap_lines.proofs.Word.GivenCuts.{MaySeparate-texts, MaySplit-cuts}
 use Rattle.textwrap_lines.proofs.wrapping.find_pieces.Goals as goal
 use Rattle.textwrap_lines.proofs.wrapping.find_pieces.Goals.{then-not-is_empty+in_ok-insert}
 use Rattle.textwrap_lines.proofs.wrapping.find_pieces.Goals.{else-not-is_empty}
 
 pub returns-then-not-options-clause-pieces : goal.returns-then-not-options-clause-pieces
-returns-then-not-options-clause-pieces c =
-    let options = c.args.options.now in
-    let settings = settings_view options in
-    let split : map word_view c.in_ok-split.split.items ≡ split_pieces_of options.word_separator
-    options.word_splitter c.args.paragraph.now = c.in_ok-split.ensures in
-    split ∙ ap (λ b. cond b (front_pieces settings ++ broken_words (later_width settings)
-    (split_pieces_of options.word_separator options.word_splitter c.args.paragraph.now))
-    (split_pieces_of options.word_separator options.word_splitter c.args.paragraph.now))
-    (sym c.if-not-options.true)
+returns-then-not-options-clause-pieces g c =
+    let settings = settings_view c.args.options.now in
+    let split = map word_view c.in_ok-split.split.items in
+    let (words, words_are, split_are) = c.in_ok-split.ensures in (
+      words,
+      split,
+      words_are,
+      split_are,
+      ap (λ b. cond b (front_pieces settings ++ broken_words (later_width settings) split) split)
+          (sym c.if-not-options.true),
+    )
 
 pub returns-then-not-options-clause-tiles : goal.returns-then-not-options-clause-tiles
-returns-then-not-options-clause-tiles c = ap tiled (returns-then-not-options-clause-pieces c)
-    ∙ pieces_of-tile (settings_view c.args.options.now) c.args.options.now.word_separator
-    c.args.options.now.word_splitter c.args.paragraph.now c.utf8.paragraph
+returns-then-not-options-clause-tiles g c =
+    let options = c.args.options.now in
+    pieces-tile (settings_view options) (MaySeparate options.word_separator)
+    (MaySplit options.word_splitter) (MaySeparate-texts options.word_separator)
+    (MaySplit-cuts options.word_splitter) c.args.paragraph.now
+    (map word_view c.in_ok-split.split.items) c.utf8.paragraph
+    (returns-then-not-options-clause-pieces g c)
 
 pub returns-clause-pieces : goal.returns-clause-pieces
-returns-clause-pieces c =
-    let options = c.args.options.now in
-    let settings = settings_view options in
-    let paragraph = c.args.paragraph.now in
-    let split : map word_view c.in_ok-split.split.items ≡ split_pieces_of options.word_separator
-    options.word_splitter paragraph = c.in_ok-split.ensures in
+returns-clause-pieces g c =
+    let settings = settings_view c.args.options.now in
+    let split = map word_view c.in_ok-split.split.items in
+    let (words, words_are, split_are) = c.in_ok-split.ensures in
     let more = c.in_ok-broken.ensures.pieces in
     let all = given-vec more.0 c.in_ok-split.split.items more.1 more.3 more.2.0
     (more.2.1 ∙ omega arith) in
-    let pieces = broken_words (later_width settings)
-    (split_pieces_of options.word_separator options.word_splitter paragraph) in
+    let pieces = broken_words (later_width settings) split in
     let broken : map word_view c.in_ok-broken.broken.items ≡ pieces =
     more.4 ∙ ap (λ ws. broken_words c.remaining_width-width.result (map word_view ws)) all
-    ∙ ap (broken_words c.remaining_width-width.result) split
-    ∙ ap (λ n. broken_words n
-    (split_pieces_of options.word_separator options.word_splitter paragraph))
-    c.remaining_width-width.ensures in
+    ∙ ap (λ n. broken_words n split) c.remaining_width-width.ensures in
     let whole : map word_view c.if-not-is_empty.broken.items ≡ front_pieces settings ++ pieces =
     elim c.if-not-is_empty.branch [
       | then-not-is_empty+in_ok-insert w ↦
@@ -55,12 +57,20 @@ returns-clause-pieces c =
           ap (map word_view) (ap (λ v. v.items) w.broken-is) ∙ broken
           ∙ ap (λ b. cond b [] (empty_word ∷ []) ++ pieces) (sym w.if-not-is_empty.false
           ∙ c.is_empty.ensures)
-    ] in
-    whole ∙ ap (λ b. cond b (front_pieces settings ++ pieces)
-    (split_pieces_of options.word_separator options.word_splitter paragraph))
-    (sym c.if-not-options.false)
+    ] in (
+      words,
+      split,
+      words_are,
+      split_are,
+      whole ∙ ap (λ b. cond b (front_pieces settings ++ pieces) split)
+          (sym c.if-not-options.false),
+    )
 
 pub returns-clause-tiles : goal.returns-clause-tiles
-returns-clause-tiles c = ap tiled (returns-clause-pieces c)
-    ∙ pieces_of-tile (settings_view c.args.options.now) c.args.options.now.word_separator
-    c.args.options.now.word_splitter c.args.paragraph.now c.utf8.paragraph
+returns-clause-tiles g c =
+    let options = c.args.options.now in
+    pieces-tile (settings_view options) (MaySeparate options.word_separator)
+    (MaySplit options.word_splitter) (MaySeparate-texts options.word_separator)
+    (MaySplit-cuts options.word_splitter) c.args.paragraph.now
+    (map word_view c.if-not-is_empty.broken.items) c.utf8.paragraph
+    (returns-clause-pieces g c)

@@ -1,39 +1,53 @@
-use Rattle.std.proofs.Common.{◌≡◌, ◌++◌, All, map, subst, sym, ap, ◌∙◌, append_assoc}
+use Rattle.std.proofs.Common.{[], ◌∷◌, ◌++◌, All, map, subst, sym, ap, ◌∙◌, append_assoc}
+use Rattle.std.proofs.Common.{append-nil}
 use Rattle.std.proofs.lemmas.List.Elements.{All-tail}
 use Rattle.textwrap_base.specs.Words.{word_view}
 use Rattle.textwrap_base.proofs.Word.Texts.{IsMeasured}
-use Rattle.textwrap_lines.specs.WordSeparators.{separated_words}
-use Rattle.textwrap_lines.specs.WordSplitters.{split_word, split_words}
-use Rattle.textwrap_lines.proofs.Paragraph.Pieces.{separated-measured}
+use Rattle.textwrap_lines.specs.WordSeparators.{MaySeparate}
+use Rattle.textwrap_lines.specs.WordSplitters.{AreSplit, MaySplit}
+use Rattle.textwrap_lines.proofs.Word.GivenCuts.{MaySeparate-texts}
+use Rattle.textwrap_lines.proofs.Word.Splitting.{AreSplit-push}
 use Rattle.textwrap_lines.proofs.wrapping.find_split_words.Goals as goal
 
 pub loop-word-init : goal.loop-word-init
-loop-word-init c =
+loop-word-init g c =
     let options = c.args.options.now in
-    let words : c.into_iter-word-iterator.result
-    ≡ separated_words options.word_separator c.args.paragraph.now =
-    c.into_iter-word-iterator.ensures.into_iter_gives ∙ c.in_ok-word-items.ensures.words in
-    let none = ap (λ items. map word_view items
-    ++ split_words options.word_splitter c.into_iter-word-iterator.result)
-    c.new-pieces.ensures.items in
+    let paragraph = c.args.paragraph.now in
+    let words = subst (MaySeparate options.word_separator paragraph)
+    (sym c.into_iter-word-iterator.ensures.into_iter_gives) c.in_ok-word-items.ensures.words in
     record {
-      pieces = none ∙ ap (split_words options.word_splitter) words;
-      measured = subst (All IsMeasured) (sym words)
-          (separated-measured options.word_separator c.args.paragraph.now c.utf8.paragraph);
+      words = ([], words, ap (map word_view) c.new-pieces.ensures.items);
+      measured = (MaySeparate-texts options.word_separator paragraph
+          c.into_iter-word-iterator.result c.utf8.paragraph words).measured;
     }
 
 pub loop-word-preserved : goal.loop-word-preserved
-loop-word-preserved c =
-    let splitter = c.args.options.now.word_splitter in
+loop-word-preserved g c =
+    let options = c.args.options.now in
+    let word = word_view c.in-Some.word in
+    let left = c.next.new.self in
     let step = c.in-Some.ensures.steps in
-    let before = map word_view c.loop-word.pieces.items in
-    let left = split_words splitter c.next.new.self in
-    let pushed = ap (λ pieces. pieces ++ left) c.in_ok-push_measured.ensures in
+    let (before, words, split) = c.loop-word.invariant.words in
+    let (points, may, pushed) = c.in_ok-push_measured.ensures in
     record {
-      pieces = pushed
-          ∙ append_assoc before (split_word splitter (word_view c.in-Some.word)) left
-          ∙ ap (λ words. before ++ split_words splitter words) (sym step)
-          ∙ c.loop-word.invariant.pieces;
-      measured = All-tail IsMeasured (word_view c.in-Some.word) c.next.new.self
+      words = (
+        before ++ word ∷ [],
+        subst (MaySeparate options.word_separator c.args.paragraph.now)
+            (ap (λ ws. before ++ ws) step ∙ sym (append_assoc before (word ∷ []) left)) words,
+        subst (AreSplit (MaySplit options.word_splitter) (before ++ word ∷ [])) (sym pushed)
+            (AreSplit-push (MaySplit options.word_splitter) before
+            (map word_view c.loop-word.pieces.items) word points split may),
+      );
+      measured = All-tail IsMeasured word left
           (subst (All IsMeasured) step c.loop-word.invariant.measured);
     }
+
+pub returns : goal.returns
+returns g c =
+    let options = c.args.options.now in
+    let (before, words, split) = c.loop-word.invariant.words in (
+      before,
+      subst (MaySeparate options.word_separator c.args.paragraph.now)
+          (ap (λ ws. before ++ ws) c.in-None.ensures.steps.0 ∙ append-nil before) words,
+      split,
+    )

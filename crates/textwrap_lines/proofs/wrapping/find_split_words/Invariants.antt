@@ -1,16 +1,16 @@
-use Rattle.std.proofs.Common.{◌≡◌, ◌++◌, All, map}
-use Rattle.textwrap_base.specs.Words.{word_view}
+use Rattle.std.proofs.Common.{◌++◌, All, List, map}
+use Rattle.textwrap_base.specs.Words.{WordText, word_view}
 use Rattle.textwrap_base.proofs.Word.Texts.{IsMeasured}
-use Rattle.textwrap_lines.specs.WordSeparators.{separated_words}
-use Rattle.textwrap_lines.specs.WordSplitters.{split_words}
+use Rattle.textwrap_lines.specs.WordSeparators.{MaySeparate}
+use Rattle.textwrap_lines.specs.WordSplitters.{AreSplit, MaySplit}
 use Rattle.textwrap_lines.proofs.wrapping.find_split_words.Given as goal
 
--- the pieces so far, and those of the words that are left, are those of all words; and each word
--- that is left is measured
+-- the pieces so far are those of the words before the ones that are left, and each of these is
+-- measured
 abbrev pub invariant-loop-word : goal.invariant-loop-word
-invariant-loop-word l = record {
-  pieces : map word_view l.pieces.items ++ split_words l.options.word_splitter l.word-iterator
-      ≡ split_words l.options.word_splitter
-      (separated_words l.options.word_separator l.paragraph);
+invariant-loop-word g l = record {
+  words : (before : List WordText)
+      × MaySeparate l.options.word_separator l.paragraph (before ++ l.word-iterator)
+      × AreSplit (MaySplit l.options.word_splitter) before (map word_view l.pieces.items);
   measured : All IsMeasured l.word-iterator;
 }

@@ -7,7 +7,7 @@ use Rattle.textwrap_lines.proofs.wrapping.split_line.Goals as goal
 use Rattle.textwrap_lines.proofs.wrapping.split_line.Goals.{then-options, else-options}
 
 pub returns-clause-line : goal.returns-clause-line
-returns-clause-line c =
+returns-clause-line g c =
     let keeps : c.if-options.keeps_whitespace ≡ keeps_whitespace (settings_view c.args.options.now)
     (word_view c.in-Some.last.now) =
     elim c.if-options.branch [

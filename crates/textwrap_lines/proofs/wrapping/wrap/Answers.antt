@@ -1,15 +1,15 @@
 use Rattle.std.proofs.Common.{[], nat_lt, map, sym, ap, ◌∙◌, subst}
 use Rattle.std.proofs.lemmas.List.{length-map}
-use Rattle.textwrap_base.specs.WrapAlgorithms.{algorithm_view}
 use Rattle.textwrap_lines.specs.Options.{settings_view}
 use Rattle.textwrap_lines.specs.Paragraph.{line_view, DividesBy, AreParagraphParts}
 use Rattle.textwrap_lines.proofs.Text.Lines.{paragraphs_left, paragraphs_left-split, HasGroups}
 use Rattle.textwrap_lines.proofs.Text.Lines.{HasGroups-more, HasGroups-end}
-use Rattle.textwrap_lines.proofs.Text.Promises.{IsWrapped-from}
+use Rattle.textwrap_lines.proofs.Text.Promises.{IsWrapped-options}
+use Rattle.textwrap_lines.proofs.Paragraph.BuiltIn.{lines-as}
 use Rattle.textwrap_lines.proofs.wrapping.wrap.Goals as goal
 
 pub loop-rest-preserved : goal.loop-rest-preserved
-loop-rest-preserved c =
+loop-rest-preserved g c =
     let options = c.args.options in
     let before = c.loop-rest.lines.items in
     let paragraph = c.split_paragraph.result.0.now in
@@ -28,13 +28,17 @@ loop-rest-preserved c =
     added.2
 
 pub returns-clause-lines : goal.returns-clause-lines
-returns-clause-lines c =
+returns-clause-lines g c =
     let options = c.args.options in
     let settings = settings_view options in
-    let algorithm = algorithm_view options.wrap_algorithm in
     let lines = map line_view c.loop-rest.lines.items in
     let all : HasGroups settings (DividesBy options) c.args.text.now lines [] =
     subst (HasGroups settings (DividesBy options) c.args.text.now lines)
     (ap (paragraphs_left options.line_ending) c.in_default.is) c.loop-rest.invariant in
-    IsWrapped-from settings algorithm options.word_separator options.word_splitter c.args.text.now
-    lines c.utf8.text (HasGroups-end settings (DividesBy options) c.args.text.now lines all)
+    IsWrapped-options options c.args.text.now lines c.utf8.text
+    (HasGroups-end settings (DividesBy options) c.args.text.now lines all)
+
+pub returns-clause-built_in : goal.returns-clause-built_in
+returns-clause-built_in g c = λ settings splitter algorithm parts.
+    lines-as c.args.options settings splitter algorithm parts c.args.text.now
+    (map line_view c.loop-rest.lines.items) (returns-clause-lines g c).are

@@ -6,8 +6,8 @@ use Rattle.textwrap_lines.proofs.wrapping.wrap.Given as goal
 
 -- the lines so far, and those of the paragraphs left, are the lines of the text
 abbrev pub invariant-loop-rest : goal.invariant-loop-rest
-invariant-loop-rest l = HasGroups (settings_view l.options) (DividesBy l.options) l.text
+invariant-loop-rest g l = HasGroups (settings_view l.options) (DividesBy l.options) l.text
     (map line_view l.lines.items) (paragraphs_left l.options.line_ending l.rest)
 
 abbrev pub decreases-loop-rest : goal.decreases-loop-rest
-decreases-loop-rest l = bytes_left l.rest
+decreases-loop-rest g l = bytes_left l.rest

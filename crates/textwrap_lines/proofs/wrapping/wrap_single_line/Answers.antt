@@ -3,16 +3,15 @@ use Rattle.std.proofs.Common.{arith}
 use Rattle.std.proofs.lemmas.List.{map_push, take_at}
 use Rattle.std.specs.declared.borrow.CowStr.TheVariants.{Borrowed}
 use Rattle.textwrap_base.specs.Words.{word_of}
-use Rattle.textwrap_base.specs.WrapAlgorithms.{algorithm_view}
 use Rattle.textwrap_lines.specs.Options.{settings_view}
 use Rattle.textwrap_lines.specs.Paragraph.{Slice, line_view, parts_of, is_whole, DividesBy}
 use Rattle.textwrap_lines.proofs.Paragraph.Lines.{not_empty, line_from-whole}
 use Rattle.textwrap_lines.proofs.Paragraph.Lines.{AreParagraphParts-whole}
-use Rattle.textwrap_lines.proofs.Paragraph.Shortcut.{paragraph-divided}
+use Rattle.textwrap_lines.proofs.Paragraph.Shortcut.{paragraph-divided-by}
 use Rattle.textwrap_lines.proofs.wrapping.wrap_single_line.Goals as goal
 
 pub returns-then-is_one_line-clause-appended : goal.returns-then-is_one_line-clause-appended
-returns-then-is_one_line-clause-appended c =
+returns-then-is_one_line-clause-appended g c =
     let options = c.args.options.now in
     let settings = settings_view options in
     let start = c.args.lines.now.items in
@@ -33,17 +32,18 @@ returns-then-is_one_line-clause-appended c =
       kept = ap (take (length start)) c.in_ok-push.ensures.items
           ∙ take_at start (Borrowed c.whole_line.result ∷ []) (length start) refl;
       unchanged = tt;
-      only_memory = tt;
+      only_memory = λ _. tt;
     }
 
 pub returns-then-is_one_line-clause-as_slow_path : goal.returns-then-is_one_line-clause-as_slow_path
-returns-then-is_one_line-clause-as_slow_path c =
+returns-then-is_one_line-clause-as_slow_path g c =
     let options = c.args.options.now in
     let start = c.args.lines.now.items in
-    let appended = returns-then-is_one_line-clause-appended c in
+    let appended = returns-then-is_one_line-clause-appended g c in
     let (parts, defined, added) = appended.lines in
-    λ unindented narrow.
-    let divided = paragraph-divided (settings_view options)
-    (algorithm_view options.wrap_algorithm) options.word_separator options.word_splitter
-    (nat_lt 0 (length start)) c.args.line.now parts c.utf8.line unindented narrow defined in
+    λ built_in unindented narrow.
+    let divided = paragraph-divided-by (settings_view options) options.word_separator
+    options.word_splitter options.wrap_algorithm built_in.separator built_in.splitter
+    built_in.algorithm (nat_lt 0 (length start)) c.args.line.now parts c.utf8.line unindented narrow
+    defined in
     (divided.0, divided.1, added ∙ ap (λ ls. map line_view start ++ ls) (sym divided.2))

@@ -1,7 +1,7 @@
 use Rattle.std.proofs.Common.{subst}
 use Rattle.std.specs.Str.{IsCharBoundary}
 use Rattle.textwrap_base.proofs.Word.Tiling.{IsCharBoundary-after_blank}
-use Rattle.textwrap_lines.proofs.word_separators.WordsIterator.next.Goals as goal
+use Rattle.textwrap_lines.proofs.word_separators.words.WordsIterator.next.Goals as goal
 
 pub split_at-requires : goal.split_at-requires
 split_at-requires c =

@@ -7,7 +7,7 @@ ghost use Rattle.std.specs.Prelude.{◌≡◌, ℕ, List, ◌∷◌, if◌then�
 
 /// What the next character of a text belongs to.
 #[derive(Clone, Copy, Debug, PartialEq, Eq)]
-pub(super) enum State {
+pub enum State {
     /// No sequence: it is visible unless it is ESC.
     Text,
     /// The sequence of the ESC that was just read.
@@ -22,7 +22,7 @@ impl State {
     ghost use Rattle.textwrap_base.specs.Escapes.{visible_in};
 
     /// The state after a character, and whether the character is visible.
-    pub(super) fn step(self, ch: char) -> (State, bool)
+    pub fn step(self, ch: char) -> (State, bool)
         ensures { (cs : List ℕ) → visible_in self (ch ∷ cs)
             ≡ (if result.1 then ch ∷ visible_in result.0 cs else visible_in result.0 cs) }
     {

@@ -1,0 +1,41 @@
+//! A function of the caller that says where lines end.
+ghost use Rattle.std.specs.Prelude.{◌≡◌};
+ghost use Rattle.std.specs.Result.{ForOk};
+ghost use Rattle.textwrap_base.specs.LineEnds.{AreEnds};
+
+use crate::words::Word;
+use std::alloc::{AllocError, Global};
+use std::fmt;
+
+/// A function that says where lines of words end, given the words and the widths of the lines: see
+/// [`LineEnds`].
+pub type EndsFunction = fn(Global, &[Word<'_>], &[usize]) -> Result<Vec<usize>, AllocError>;
+
+/// A function of the caller that divides words into lines.
+#[derive(Clone, Copy)]
+pub struct LineEnds {
+    pub(crate) function: EndsFunction,
+    ghost callable: { IsAlwaysCallable function },
+    ghost answers: { (alloc : _) (words : _) (widths : _) (answer : _)
+        → post function alloc words widths answer
+        → ForOk answer (λ ends. AreEnds words.now ends.items) },
+}
+
+impl LineEnds {
+    /// Divides words by this function.
+    pub fn new(function: EndsFunction) -> LineEnds
+        requires callable { IsAlwaysCallable function }
+        requires answers { (alloc : _) (words : _) (widths : _) (answer : _)
+            → post function alloc words widths answer
+            → ForOk answer (λ ends. AreEnds words.now ends.items) }
+        ensures { result.function ≡ function }
+    {
+        LineEnds { function }
+    }
+}
+
+impl fmt::Debug for LineEnds {
+    fn fmt<W: fmt::Write>(&self, f: &mut fmt::Formatter<W>) -> fmt::Result {
+        f.write_str("LineEnds")
+    }
+}

@@ -1,0 +1,75 @@
+-- Lemmas on overflow: only where a caller gives the points of words, and optimal fit divides them.
+use Rattle.std.proofs.Common.{◌≡◌, ◌≢◌, ℕ, ◌<◌, ◌^◌, List, length, map, refl, ◌∙◌, arith}
+use Rattle.std.specs.Prelude.{Some, None, Err, IsErrAnd, IsSomeAnd, Result, Ok, alloc_error}
+use Rattle.std.specs.Str.{IsUtf8}
+use Rattle.std.specs.declared.borrow.CowStr.{CowStr}
+use Rattle.textwrap_base.specs.Cost.{total_width}
+use Rattle.textwrap_base.specs.Errors.{Fits64Bits, Overflowed}
+use Rattle.textwrap_base.specs.Sizes.{Sizes}
+use Rattle.textwrap_base.specs.Words.{word_view, sizes_of, Tiles}
+use Rattle.textwrap_base.specs.WrapAlgorithms.{LeastCost, OverflowsBy, algorithm_view}
+use Rattle.textwrap_base.specs.declared.errors.WrapError.{WrapError}
+use Rattle.textwrap_base.specs.declared.errors.WrapError.TheVariants.{Memory, Overflow}
+use Rattle.textwrap_base.specs.declared.penalties.Penalties.{Penalties}
+use Rattle.textwrap_base.specs.declared.words.Word.{Word}
+use Rattle.textwrap_base.specs.declared.wrap_algorithms.WrapAlgorithm as algorithms
+use Rattle.textwrap_lines.specs.Fuzzing.{AppendsLines}
+use Rattle.textwrap_lines.specs.Options.{MayOverflow, settings_view}
+use Rattle.textwrap_lines.specs.Paragraph.{ArePieces, LineParts}
+use Rattle.textwrap_lines.specs.WordSeparators.{MaySeparate}
+use Rattle.textwrap_lines.specs.WordSplitters.{MaySplit, splitter_view}
+use Rattle.textwrap_lines.specs.declared.options.Options.{Options}
+use Rattle.textwrap_lines.specs.declared.word_splitters.WordSplitter as splitters
+use Rattle.textwrap_lines.proofs.Paragraph.Lines.{total_width-pieces}
+use Rattle.textwrap_lines.proofs.Paragraph.Pieces.{pieces-bounded}
+use Rattle.textwrap_lines.proofs.Word.GivenCuts.{MaySeparate-texts, MaySplit-cuts}
+use Rattle.textwrap_lines.proofs.Word.GivenCuts.{MaySplit-hyphens}
+
+-- an algorithm that refuses with Overflow is optimal fit
+pub overflow-optimal : {E X : Type 0} {e : _} (algorithm : algorithms.WrapAlgorithm E e)
+    (sizes : X → Sizes) (widths : List ℕ) (xs : List X)
+    → IsSomeAnd (algorithm_view algorithm) (λ a. OverflowsBy a sizes widths xs)
+    → (penalties : Penalties) × (algorithm_view algorithm ≡ Some (LeastCost penalties))
+overflow-optimal algorithms.TheVariants.FirstFit sizes widths xs overflows = absurd overflows
+overflow-optimal (algorithms.TheVariants.OptimalFit penalties) sizes widths xs overflows =
+    (penalties, refl)
+overflow-optimal (algorithms.TheVariants.Custom given) sizes widths xs overflows =
+    absurd overflows
+
+-- whether a splitter is built in can be told
+built_in-or : {C : Type 0} {c : _} (splitter : splitters.WordSplitter C c) {P : Type 0}
+    → (splitter_view splitter ≡ None → P) → (splitter_view splitter ≢ None → P) → P
+built_in-or splitters.TheVariants.NoHyphenation given built_in = built_in (λ is. cc)
+built_in-or splitters.TheVariants.HyphenSplitter given built_in = built_in (λ is. cc)
+built_in-or (splitters.TheVariants.Custom points) given built_in = given refl
+
+module _ {E C : Type 0} {e : _} {c : _} (options : Options E C e c) where
+  pub only-memory : (A : Type 0) (paragraph : List ℕ) (pieces : List Word) (error : WrapError)
+      → IsUtf8 paragraph → length paragraph < 2 ^ 63
+      → ArePieces (settings_view options) (MaySeparate options.word_separator)
+      (MaySplit options.word_splitter) paragraph (map word_view pieces)
+      → Tiles (map word_view pieces) paragraph
+      → (Overflowed {A = A} (Err error) → (penalties : Penalties)
+      × (algorithm_view options.wrap_algorithm ≡ Some (LeastCost penalties)))
+      → (Fits64Bits (total_width (λ word. sizes_of (word_view word)) pieces)
+      → ¬ Overflowed {A = A} (Err error))
+      → ¬ MayOverflow options → error ≡ Memory alloc_error
+  only-memory A paragraph pieces (Memory error) utf8 short are tile overflow_only fits never = refl
+  only-memory A paragraph pieces (Overflow error) utf8 short are tile overflow_only fits never =
+      absurd (built_in-or options.word_splitter (λ given. never (given, overflow_only tt))
+      (λ built_in.
+      let bounded = pieces-bounded (settings_view options) (MaySeparate options.word_separator)
+      (MaySplit options.word_splitter) (MaySeparate-texts options.word_separator)
+      (MaySplit-cuts options.word_splitter) (MaySplit-hyphens options.word_splitter built_in)
+      paragraph (map word_view pieces) utf8 are in
+      let within = total_width-pieces paragraph pieces bounded tile in
+      fits (omega (arith, within)) tt))
+
+-- a call that fails leaves the lines as they were
+pub appends-none : {Z A : Type 0} (Refuses : Type 0) (Are : List LineParts → Type 0)
+    (lines : List (CowStr Z)) (result : Result A WrapError) (error : WrapError)
+    → IsErrAnd result (λ e. e ≡ error) → (¬ Refuses → error ≡ Memory alloc_error)
+    → AppendsLines Refuses Are lines lines result
+appends-none Refuses Are lines (Ok value) error is only = absurd is
+appends-none Refuses Are lines (Err e) error is only =
+    record { lines = tt; kept = tt; unchanged = refl; only_memory = λ never. is ∙ only never }

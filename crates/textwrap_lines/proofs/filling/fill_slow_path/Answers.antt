@@ -1,0 +1,7 @@
+use Rattle.std.proofs.Common.{rules}
+use Rattle.textwrap_lines.proofs.Paragraph.BuiltIn.{filled-as}
+use Rattle.textwrap_lines.proofs.filling.fill_slow_path.Goals as goal
+
+pub returns-clause-built_in : goal.returns-clause-built_in
+returns-clause-built_in g c = λ settings splitter algorithm parts.
+    filled-as c.args.options settings splitter algorithm parts c.args.text.now _ (search rules)

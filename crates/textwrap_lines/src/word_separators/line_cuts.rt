@@ -1,0 +1,39 @@
+//! A function of the caller that says where lines are cut into words.
+ghost use Rattle.std.specs.Prelude.{◌≡◌, IsUtf8};
+ghost use Rattle.std.specs.Result.{ForOk};
+ghost use Rattle.textwrap_lines.specs.Cuts.{AreInnerCuts};
+
+use std::alloc::{AllocError, Global};
+use std::fmt;
+
+/// A function that says where a line is cut into words: see [`LineCuts`].
+pub type CutFunction = fn(Global, &str) -> Result<Vec<usize>, AllocError>;
+
+/// A function of the caller that says where a line is cut into words.
+#[derive(Clone, Copy)]
+pub struct LineCuts {
+    pub(crate) function: CutFunction,
+    ghost callable: { IsAlwaysCallable function },
+    ghost answers: { (alloc : _) (line : _) (answer : _) → IsUtf8 line.now
+        → post function alloc line answer
+        → ForOk answer (λ cuts. AreInnerCuts line.now cuts.items) },
+}
+
+impl LineCuts {
+    /// Cuts lines where this function says.
+    pub fn new(function: CutFunction) -> LineCuts
+        requires callable { IsAlwaysCallable function }
+        requires answers { (alloc : _) (line : _) (answer : _) → IsUtf8 line.now
+            → post function alloc line answer
+            → ForOk answer (λ cuts. AreInnerCuts line.now cuts.items) }
+        ensures { result.function ≡ function }
+    {
+        LineCuts { function }
+    }
+}
+
+impl fmt::Debug for LineCuts {
+    fn fmt<W: fmt::Write>(&self, f: &mut fmt::Formatter<W>) -> fmt::Result {
+        f.write_str("LineCuts")
+    }
+}

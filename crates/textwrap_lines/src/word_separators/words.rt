@@ -1,0 +1,134 @@
+//! The words of a line, one after the other.
+ghost use Rattle.std.specs.Prelude.{◌≡◌, ℕ, ◌-◌, ◌<◌, ◌≤◌, List, ◌∷◌, IfOk, length, map, take, drop};
+ghost use Rattle.std.specs.Prelude.{slice_index};
+ghost use Rattle.std.specs.Iterator.{YieldsFirstBy, item_count};
+ghost use Rattle.textwrap_base.specs.Blanks.{blank};
+ghost use Rattle.textwrap_base.specs.Words.{Tiles, WordText, word_view, word_of, words_of, is_cut, chunks};
+ghost use Rattle.textwrap_lines.specs.Cuts.{AreCuts, parts_between};
+ghost use Rattle.textwrap_lines.specs.WordSeparators.{MayCut};
+ghost use Rattle.textwrap_lines.specs.WordsLeft.{words_left};
+
+use super::line_cuts::LineCuts;
+use std::alloc::{AllocError, Global};
+use std::marker::Model;
+use std::vec;
+use textwrap_base::words::Word;
+
+/// The words of a line, one after the other. To contracts it is the list of the words to come.
+#[derive(Debug, Drop)]
+pub struct Words<'a> {
+    source: Source<'a>,
+}
+
+/// Where the words to come are taken from.
+#[derive(Debug, Drop)]
+enum Source<'a> {
+    /// What is left of a line that is cut at its blanks.
+    Line(&'a str),
+    /// What is left of the words that were found.
+    Found(vec::IntoIter<Word<'a>>),
+}
+
+impl<'a> Words<'a> {
+    /// The words of a line that is cut at its blanks.
+    pub(super) fn of_line(line: &'a str) -> Words<'a>
+        ensures { result ≡ words_of line.now }
+    {
+        Words {
+            source: Source::Line(line),
+        }
+    }
+
+    /// The words of a line that is cut where the caller's function says.
+    ///
+    /// # Errors
+    /// Out of memory, also where the function says so.
+    pub(super) fn at_cuts(
+        alloc: Global,
+        line: &'a str,
+        line_cuts: LineCuts,
+    ) -> Result<Words<'a>, AllocError>
+        ensures words { IfOk result (λ words. (cuts : List ℕ) × MayCut line_cuts line.now cuts
+            × (words ≡ map word_of (parts_between cuts line.now))) }
+        ensures tiles { IfOk result (λ words. Tiles words line.now) }
+    {
+        let cuts = (line_cuts.function)(alloc, line)?;
+        let words = words_between(alloc, line, &cuts)?;
+        Ok(Words {
+            source: Source::Found(words.into_iter()),
+        })
+    }
+}
+
+/// The parts of a line between these cuts, each as a word.
+pub(super) fn words_between<'a>(
+    alloc: Global,
+    line: &'a str,
+    cuts: &[usize],
+) -> Result<Vec<Word<'a>>, AllocError>
+    requires { AreCuts line.now cuts.now }
+    ensures { IfOk result (λ words.
+        map word_view words.items ≡ map word_of (parts_between cuts.now line.now)) }
+{
+    let mut words = Vec::new(alloc);
+    if line.is_empty() {
+        return Ok(words);
+    }
+    let mut start = 0;
+    for cut in cuts {
+        words.push(Word::from(&line[start..*cut]))?;
+        start = *cut;
+    }
+    words.push(Word::from(&line[start..]))?;
+    Ok(words)
+}
+
+impl<'a> Model for Words<'a> {
+    ghost Value = { List WordText };
+
+    ghost view = { λ words. words_left words.source };
+}
+
+impl<'a> Iterator for Words<'a> {
+    type Item = Word<'a>;
+
+    ghost next_gives = { YieldsFirstBy word_view (λ words. words) };
+
+    ghost remaining = { item_count (λ words. words) };
+
+    fn next(&mut self) -> Option<Word<'a>> {
+        match &mut self.source {
+            Source::Line(rest) => {
+                if rest.is_empty() {
+                    return None;
+                }
+                let (chunk, after) = rest.split_at(chunk_len(rest.as_bytes()));
+                *rest = after;
+                Some(Word::from(chunk))
+            }
+            Source::Found(words) => words.next(),
+        }
+    }
+}
+
+/// The length of what becomes the first word.
+fn chunk_len(line: &[u8]) -> usize
+    requires { 0 < length line.now }
+    ensures first { chunks line.now ≡ take result line.now ∷ chunks (drop result line.now) }
+    ensures some { 0 < result }
+    ensures within { result ≤ length line.now }
+    ensures after_blank { result < length line.now → slice_index line.now (result - 1) ≡ blank }
+{
+    let mut end = 1;
+    while end < line.len() && !is_cut(line[end - 1], line[end]) {
+        end += 1;
+    }
+    end
+}
+
+/// Whether a line is cut between two bytes.
+fn is_cut(before: u8, after: u8) -> bool
+    ensures { result ≡ is_cut before after }
+{
+    before == b' ' && after != b' '
+}

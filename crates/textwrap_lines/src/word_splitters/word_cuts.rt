@@ -1,0 +1,39 @@
+//! A function of the caller that says where words may be split.
+ghost use Rattle.std.specs.Prelude.{◌≡◌, IsUtf8};
+ghost use Rattle.std.specs.Result.{ForOk};
+ghost use Rattle.textwrap_lines.specs.Cuts.{AreCuts};
+
+use std::alloc::{AllocError, Global};
+use std::fmt;
+
+/// A function that says where a word may be split: see [`WordCuts`].
+pub type PointFunction = fn(Global, &str) -> Result<Vec<usize>, AllocError>;
+
+/// A function of the caller that says where a word may be split.
+#[derive(Clone, Copy)]
+pub struct WordCuts {
+    pub(crate) function: PointFunction,
+    ghost callable: { IsAlwaysCallable function },
+    ghost answers: { (alloc : _) (word : _) (answer : _) → IsUtf8 word.now
+        → post function alloc word answer
+        → ForOk answer (λ points. AreCuts word.now points.items) },
+}
+
+impl WordCuts {
+    /// Splits words where this function says.
+    pub fn new(function: PointFunction) -> WordCuts
+        requires callable { IsAlwaysCallable function }
+        requires answers { (alloc : _) (word : _) (answer : _) → IsUtf8 word.now
+            → post function alloc word answer
+            → ForOk answer (λ points. AreCuts word.now points.items) }
+        ensures { result.function ≡ function }
+    {
+        WordCuts { function }
+    }
+}
+
+impl fmt::Debug for WordCuts {
+    fn fmt<W: fmt::Write>(&self, f: &mut fmt::Formatter<W>) -> fmt::Result {
+        f.write_str("WordCuts")
+    }
+}

@@ -1,0 +1,18 @@
+use Rattle.std.proofs.Common.{map, subst}
+use Rattle.textwrap.specs.Options.{settings_view}
+use Rattle.textwrap.specs.Paragraph.{line_view, DividesUnder}
+use Rattle.textwrap.specs.Text.{AreTextLines}
+use Rattle.textwrap.specs.declared.LineEnding.TheVariants.{CRLF}
+use Rattle.textwrap.proofs.Text.Table.{AreTextLines-methods}
+use Rattle.textwrap_uses.proofs.mail.sent_lines.Goals as goal
+
+pub returns-clause-lines : goal.returns-clause-lines
+returns-clause-lines g c =
+    let lines = map line_view c.in_ok-lines.lines.items in
+    subst (λ options. AreTextLines (record (settings_view options) { line_ending = CRLF })
+    (DividesUnder options (record (settings_view options) { line_ending = CRLF })) c.args.mail.now
+    lines) c.from.ensures
+    (AreTextLines-methods c.from.result c.line_ending-options.result
+    (record (settings_view c.from.result) { line_ending = CRLF }) c.args.mail.now lines
+    c.line_ending-options.ensures.settings c.line_ending-options.ensures.methods
+    c.in_ok-lines.ensures.lines.are)

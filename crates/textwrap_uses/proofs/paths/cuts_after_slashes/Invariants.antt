@@ -1,0 +1,10 @@
+use Rattle.std.proofs.Common.{◌-◌, ◌<◌, length, get_or}
+use Rattle.textwrap.specs.Cuts.{AreInnerCuts}
+use Rattle.textwrap_uses.proofs.paths.cuts_after_slashes.Given as goal
+
+-- the cuts so far, all before this offset
+abbrev pub invariant-loop-cut : goal.invariant-loop-cut
+invariant-loop-cut l = record {
+  cuts : AreInnerCuts l.path l.cuts.items;
+  before : get_or l.cuts.items (length l.cuts.items - 1) 0 < l.cut;
+}

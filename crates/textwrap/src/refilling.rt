@@ -99,6 +99,7 @@ fn with_layout(layout: Layout<'_>) -> Options<'_>
     ensures settings { settings_view result ≡ layout_settings layout.entry }
     ensures methods { HasDefaultMethods result }
 {
+    let word_splitter = WordSplitter::HyphenSplitter;
     // Field by field: options that `Options::new` has made would be handed out by two crates, and
     // the checker tells only within one crate that they hold no function of its own.
     Options {
@@ -109,7 +110,7 @@ fn with_layout(layout: Layout<'_>) -> Options<'_>
         break_words: true,
         wrap_algorithm: WrapAlgorithm::OptimalFit(Penalties::new()),
         word_separator: WordSeparator::AsciiSpace,
-        word_splitter: WordSplitter::HyphenSplitter,
+        word_splitter,
         preserve_trailing_space: false,
     }
 }

@@ -91,12 +91,13 @@ impl PartialEq for WrapAlgorithm {
     /// Whether both are first fit, or both optimal fit with the same penalties. No function of a
     /// caller is known to be equal to another, or to itself.
     fn eq(&self, other: &WrapAlgorithm) -> bool {
-        match (self, other) {
-            (WrapAlgorithm::FirstFit, WrapAlgorithm::FirstFit) => true,
-            (WrapAlgorithm::OptimalFit(penalties), WrapAlgorithm::OptimalFit(others)) => {
-                penalties == others
-            }
-            _ => false,
+        match self {
+            WrapAlgorithm::FirstFit => matches!(other, WrapAlgorithm::FirstFit),
+            WrapAlgorithm::OptimalFit(penalties) => match other {
+                WrapAlgorithm::OptimalFit(others) => penalties == others,
+                _ => false,
+            },
+            WrapAlgorithm::Custom(_) => false,
         }
     }
 }

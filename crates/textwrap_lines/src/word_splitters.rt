@@ -87,10 +87,10 @@ impl PartialEq for WordSplitter {
     /// Whether both are the same built-in splitter. No function of a caller is known to be equal to
     /// another, or to itself.
     fn eq(&self, other: &WordSplitter) -> bool {
-        match (self, other) {
-            (WordSplitter::NoHyphenation, WordSplitter::NoHyphenation) => true,
-            (WordSplitter::HyphenSplitter, WordSplitter::HyphenSplitter) => true,
-            _ => false,
+        match self {
+            WordSplitter::NoHyphenation => matches!(other, WordSplitter::NoHyphenation),
+            WordSplitter::HyphenSplitter => matches!(other, WordSplitter::HyphenSplitter),
+            WordSplitter::Custom(_) => false,
         }
     }
 }

@@ -5,6 +5,7 @@
 
 pub mod checking;
 pub mod help;
+pub mod lists;
 pub mod mail;
 pub mod paths;
 pub mod planning;

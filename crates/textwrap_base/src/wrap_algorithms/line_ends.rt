@@ -14,7 +14,8 @@ pub type EndsFunction = fn(Global, &[Word<'_>], &[usize]) -> Result<Vec<usize>, 
 /// A function of the caller that divides words into lines.
 #[derive(Clone, Copy)]
 pub struct LineEnds {
-    pub(crate) function: EndsFunction,
+    /// The function.
+    pub function: EndsFunction,
     ghost callable: { IsAlwaysCallable function },
     ghost answers: { (alloc : _) (words : _) (widths : _) (answer : _)
         → post function alloc words widths answer

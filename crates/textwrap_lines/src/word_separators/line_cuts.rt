@@ -12,7 +12,8 @@ pub type CutFunction = fn(Global, &str) -> Result<Vec<usize>, AllocError>;
 /// A function of the caller that says where a line is cut into words.
 #[derive(Clone, Copy)]
 pub struct LineCuts {
-    pub(crate) function: CutFunction,
+    /// The function.
+    pub function: CutFunction,
     ghost callable: { IsAlwaysCallable function },
     ghost answers: { (alloc : _) (line : _) (answer : _) → IsUtf8 line.now
         → post function alloc line answer

@@ -12,7 +12,8 @@ pub type PointFunction = fn(Global, &str) -> Result<Vec<usize>, AllocError>;
 /// A function of the caller that says where a word may be split.
 #[derive(Clone, Copy)]
 pub struct WordCuts {
-    pub(crate) function: PointFunction,
+    /// The function.
+    pub function: PointFunction,
     ghost callable: { IsAlwaysCallable function },
     ghost answers: { (alloc : _) (word : _) (answer : _) → IsUtf8 word.now
         → post function alloc word answer

@@ -2,6 +2,7 @@
 use super::are_borrowed;
 use crate::checking::{is_filled, line_count};
 use crate::help::help_entry;
+use crate::lists::listed_lines;
 use crate::mail::{quote, sent_lines};
 use crate::paths::path_lines;
 use crate::planning::{Task, days};
@@ -90,6 +91,22 @@ fn paths_are_cut_after_slashes(rt: HostRuntime) -> Result<(), Fail> {
     for &(path, width, lines) in rows {
         let given = path_lines(rt.alloc(), path, width)?;
         assert!(rt; are_borrowed(&given, lines), "{given:?}");
+    }
+    Ok(())
+}
+
+#[test]
+fn words_are_listed(rt: HostRuntime) -> Result<(), Fail> {
+    let rows: &[(&str, usize, &[&str])] = &[
+        ("a superset", 8, &["a", "super-", "set"]),
+        ("a superset", 11, &["a superset"]),
+        ("super supersonic", 6, &["super", "super-", "sonic"]),
+        ("one\ntwo three", 5, &["one", "two", "three"]),
+    ];
+    for &(text, width, expected) in rows {
+        let lines = listed_lines(rt.alloc(), text, width)?;
+        let texts = lines.iter().map(|line| line.as_str());
+        assert!(rt; texts.eq(expected.iter().copied()), "{lines:?}");
     }
     Ok(())
 }

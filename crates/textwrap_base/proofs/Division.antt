@@ -1,4 +1,5 @@
 pub mod Ends
+pub mod Fewest
 pub mod Greedy
 pub mod Map
 pub mod OneLine

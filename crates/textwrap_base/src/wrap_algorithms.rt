@@ -1,7 +1,7 @@
 //! The division of fragments into lines.
 ghost use Rattle.std.specs.Prelude.{◌≡◌, ◌+◌, ◌≤◌, ◌<◌, length, map, take, IfOk, OnOk, IsSomeAnd};
 ghost use Rattle.std.specs.Option.{ForSome};
-ghost use Rattle.textwrap_base.specs.Division.{closed_width, Fits, IsGreedy};
+ghost use Rattle.textwrap_base.specs.Division.{closed_width, Fits, IsAdmissible, IsGreedy};
 ghost use Rattle.textwrap_base.specs.Penalties.{default_penalties};
 ghost use Rattle.textwrap_base.specs.Cost.{total_width};
 ghost use Rattle.textwrap_base.specs.Errors.{Fits64Bits, Overflowed};
@@ -114,7 +114,9 @@ impl Default for WrapAlgorithm {
 
 /// Divides the fragments into lines: each line takes fragments while they fit, and its first one in
 /// any case. Line l, counted from 0, may be `line_widths[l]` wide. The last width serves all later
-/// lines, and without any width it is 0. No fragments give one empty line.
+/// lines, and without any width it is 0. No fragments give one empty line. A line fits if each of
+/// its prefixes of two or more fragments closes within its width, and no division whose lines all
+/// fit has fewer lines.
 ///
 /// # Errors
 /// Out of memory only. There is no overflow, whatever the widths.
@@ -125,6 +127,9 @@ pub fn wrap_first_fit<'a, T: Fragment>(
 ) -> Result<Vec<&'a [T]>, AllocError>
     ensures greedy { IfOk result (λ lines.
         IsGreedy T.sizes line_widths.now fragments.now (map (λ line. line.now) lines.items)) }
+    ensures fewest { IfOk result (λ lines. (others : _) →
+        IsAdmissible T.sizes line_widths.now fragments.now others
+        → length lines.items ≤ length others) }
 {
     let mut lines = Vec::new(alloc);
     if fragments.is_empty() {

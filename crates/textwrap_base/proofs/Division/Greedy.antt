@@ -1,8 +1,9 @@
 -- Lemmas on the widths of lines and on divisions.
 use Rattle.std.proofs.Common.{◌≡◌, ◌≢◌, ℕ, suc, ◌+◌, ◌<◌, ◌≤◌, List, [], ◌∷◌, ◌++◌, length, get_or}
 use Rattle.std.proofs.Common.{map, take, drop, refl, sym, ap, ◌∙◌, subst, arith, ⊎_elim, add-zero}
-use Rattle.std.proofs.Common.{length-drop, take-append-drop, All}
+use Rattle.std.proofs.Common.{length-drop, length-append, take-append-drop, append_assoc, All}
 use Rattle.std.specs.List.{flat_map}
+use Rattle.std.proofs.Math.Seq.{take-append-add}
 use Rattle.std.proofs.lemmas.List.{take_all, take_more, take-append-le, length_push, length-take-le}
 use Rattle.std.proofs.lemmas.List.{nil_from_length, get_or-drop}
 use Rattle.std.proofs.lemmas.List.Elements.{All-nil, All-cons, All-head}
@@ -11,6 +12,10 @@ use Rattle.std.proofs.lemmas.Bool.{cases_lt}
 use Rattle.textwrap_base.specs.Sizes.{Sizes}
 use Rattle.textwrap_base.specs.Division.{line_width, closed_width, open_width, Fits, AllFit}
 use Rattle.textwrap_base.specs.Division.{AllFull, IsGreedy}
+
+pub some_from_nonempty : {X : Type 0} (xs : List X) → xs ≢ [] → 0 < length xs
+some_from_nonempty [] some = absurd (some refl)
+some_from_nonempty (x ∷ xs) some = omega arith
 
 module _ {X : Type 0} (sizes : X → Sizes) where
   pub open_width-cons : (x : X) (xs : List X)
@@ -74,6 +79,39 @@ module _ {X : Type 0} (sizes : X → Sizes) where
       subst (Fits sizes width) (sym one_more)
       (Fits-push width (take i xs) x fits
       (λ some. subst (λ line. closed_width sizes line ≤ width) one_more (more (omega arith))))
+
+  -- the end of a line closes within the whole
+  closed_width-end : (before line : List X)
+      → closed_width sizes line ≤ closed_width sizes (before ++ line)
+  closed_width-end [] line = omega arith
+  closed_width-end (x ∷ []) [] = omega arith
+  closed_width-end (x ∷ []) (y ∷ line) = omega arith
+  closed_width-end (x ∷ y ∷ before) line =
+      let rest = closed_width-end (y ∷ before) line in omega (arith, rest)
+
+  -- where a line has no room for the fragment after it, no line that fits and begins no later ends
+  -- after it
+  pub full_line_ends_last : (width : ℕ) (before line next rest other others : List X)
+      → other ++ others ≡ (before ++ line) ++ (next ++ rest) → line ≢ [] → next ≢ []
+      → width < closed_width sizes (line ++ take 1 next) → Fits sizes width other
+      → length other ≤ length (before ++ line)
+  full_line_ends_last width before line [] rest other others same some more full fits =
+      absurd (more refl)
+  full_line_ends_last width before line (x ∷ next) rest other others same some more full fits =
+      ⊎_elim
+      (λ (past : length (before ++ line) < length other).
+      let n : ℕ = length (before ++ line) + 1 in
+      let two : 2 ≤ n = omega (arith, length-append before line, some_from_nonempty line some) in
+      let front : before ++ (line ++ x ∷ []) ≡ take n other =
+      sym (append_assoc before line (x ∷ []))
+      ∙ sym (take-append-add (before ++ line) ((x ∷ next) ++ rest) 1)
+      ∙ ap (take n) (sym same) ∙ take-append-le n other others (omega arith) in
+      let within : closed_width sizes (before ++ (line ++ x ∷ [])) ≤ width =
+      subst (λ l. closed_width sizes l ≤ width) (sym front) (fits n two (omega arith)) in
+      let end = closed_width-end before (line ++ x ∷ []) in
+      absurd (omega (arith, within, end, full)))
+      (λ (within : length other ≤ length (before ++ line)). within)
+      (cases_lt (length (before ++ line)) (length other))
 
 pub closed_width-map : {X Y : Type 0} (f : X → Y) (sizes : Y → Sizes) (xs : List X)
     → closed_width sizes (map f xs) ≡ closed_width (λ x. sizes (f x)) xs

@@ -1,18 +1,13 @@
 -- A list of fragments has at most one greedy division.
-use Rattle.std.proofs.Common.{◌≡◌, ◌≢◌, ℕ, ◌+◌, ◌<◌, ◌≤◌, List, [], ◌∷◌, ◌++◌, length, take, refl}
-use Rattle.std.proofs.Common.{sym, ap, ◌∙◌, subst, arith, length-append}
+use Rattle.std.proofs.Common.{◌≡◌, ◌≢◌, ℕ, ◌+◌, ◌<◌, ◌≤◌, List, [], ◌∷◌, length, refl, sym, ap, ◌∙◌}
+use Rattle.std.proofs.Common.{subst, arith, length-append}
 use Rattle.std.specs.List.{flat_map}
-use Rattle.std.proofs.Math.Seq.{take-append-add}
-use Rattle.std.proofs.lemmas.List.{take-append-le}
 use Rattle.std.proofs.lemmas.List.Elements.{All-head, All-tail}
 use Rattle.textwrap_base.specs.Sizes.{Sizes}
-use Rattle.textwrap_base.specs.Division.{line_width, closed_width, AllFull, IsGreedy}
-use Rattle.textwrap_base.proofs.ListLemmas.{same_parts}
-use Rattle.textwrap_base.proofs.Division.Greedy.{IsGreedyFrom}
-
-some_from_nonempty : {X : Type 0} (xs : List X) → xs ≢ [] → 0 < length xs
-some_from_nonempty [] some = absurd (some refl)
-some_from_nonempty (x ∷ xs) some = omega arith
+use Rattle.textwrap_base.specs.Division.{line_width, AllFull, IsGreedy}
+use Rattle.textwrap_base.proofs.ListLemmas.{flat, same_parts}
+use Rattle.textwrap_base.proofs.Division.Greedy.{IsGreedyFrom, some_from_nonempty}
+use Rattle.textwrap_base.proofs.Division.Greedy.{full_line_ends_last}
 
 module _ {X : Type 0} (sizes : X → Sizes) (widths : List ℕ) where
   AllFull-tail : (number : ℕ) (line : List X) (lines : List (List X))
@@ -41,20 +36,13 @@ module _ {X : Type 0} (sizes : X → Sizes) (widths : List ℕ) where
         length-append line [],
         length-append other (flat_map (λ l. l) others),
       )
-  not_shorter number xs line other ([] ∷ lines) others first second short =
-      All-head (λ l. l ≢ []) [] lines (All-tail (λ l. l ≢ []) line ([] ∷ lines) first.nonempty) refl
-  not_shorter number xs line other ((x ∷ next) ∷ lines) others first second short =
-      let some : 0 < length line =
-      some_from_nonempty line (All-head (λ l. l ≢ []) line ((x ∷ next) ∷ lines) first.nonempty)
-      in
-      let rest : List X = (x ∷ next) ++ flat_map (λ l. l) lines in
-      let more : line ++ x ∷ [] ≡ take (length line + 1) other = sym (take-append-add line rest 1)
-      ∙ ap (take (length line + 1)) (first.whole ∙ sym second.whole)
-      ∙ take-append-le (length line + 1) other (flat_map (λ l. l) others) (omega arith) in
-      let within : closed_width sizes (take (length line + 1) other) ≤ line_width widths number =
-      second.fit.0 (length line + 1) (omega arith) (omega arith) in
-      let past : line_width widths number < closed_width sizes (take (length line + 1) other) =
-      subst (λ l. line_width widths number < closed_width sizes l) more first.full.0 in
+  not_shorter number xs line other (next ∷ lines) others first second short =
+      let later = All-tail (λ l. l ≢ []) line (next ∷ lines) first.nonempty in
+      let within : length other ≤ length line =
+      full_line_ends_last sizes (line_width widths number) [] line next (flat lines) other
+      (flat others) (second.whole ∙ sym first.whole)
+      (All-head (λ l. l ≢ []) line (next ∷ lines) first.nonempty)
+      (All-head (λ l. l ≢ []) next lines later) first.full.0 second.fit.0 in
       omega arith
 
   some_fragments : (number : ℕ) (xs line : List X) (lines : List (List X))

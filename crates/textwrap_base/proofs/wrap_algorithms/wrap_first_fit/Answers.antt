@@ -1,8 +1,9 @@
-use Rattle.std.proofs.Common.{◌≡◌, [], ◌∷◌, ◌+◌, ◌<◌, take, length, vec_len, sym, ap, ◌∙◌, subst}
-use Rattle.std.proofs.Common.{arith}
-use Rattle.textwrap_base.specs.Division.{line_width, closed_width, Fits}
+use Rattle.std.proofs.Common.{◌≡◌, [], ◌∷◌, ◌+◌, ◌<◌, ◌≤◌, take, length, map, vec_len, sym, ap, ◌∙◌}
+use Rattle.std.proofs.Common.{subst, arith}
+use Rattle.textwrap_base.specs.Division.{line_width, closed_width, Fits, IsGreedy}
 use Rattle.std.proofs.lemmas.Bool.Decides.{nat_tests}
-use Rattle.std.proofs.lemmas.List.{append-nil}
+use Rattle.std.proofs.lemmas.List.{append-nil, length-map}
+use Rattle.textwrap_base.proofs.Division.Fewest.{greedy_fewest}
 use Rattle.textwrap_base.proofs.Division.Greedy.{IsGreedyFrom, IsGreedyFrom-nil, IsGreedyFrom-cons}
 use Rattle.textwrap_base.proofs.Division.Greedy.{IsGreedy-from}
 use Rattle.textwrap_base.proofs.ListLemmas.{map-push-append}
@@ -46,11 +47,17 @@ loop-rest-preserved g c = (
 pub returns : goal.returns
 returns g c =
     let none : length c.loop-rest.rest.now ≡ 0 = grind (arith, nat_tests) in
+    let greedy : IsGreedy g.T.Fragment.sizes c.args.line_widths.now c.args.fragments.now
+    (map (λ line. line.now) c.loop-rest.lines.items) =
+    IsGreedy-from g.T.Fragment.sizes c.args.line_widths.now c.args.fragments.now _
+    c.loop-rest.invariant.0
+    (rw append-nil at (c.loop-rest.invariant.1 []
+    (IsGreedyFrom-nil g.T.Fragment.sizes c.args.line_widths.now
+    (vec_len c.loop-rest.lines) c.loop-rest.rest.now none))) in
     record {
-      greedy =
-          IsGreedy-from g.T.Fragment.sizes c.args.line_widths.now c.args.fragments.now _
-          c.loop-rest.invariant.0
-          (rw append-nil at (c.loop-rest.invariant.1 []
-          (IsGreedyFrom-nil g.T.Fragment.sizes c.args.line_widths.now
-          (vec_len c.loop-rest.lines) c.loop-rest.rest.now none)));
+      greedy = greedy;
+      fewest = λ others admissible.
+          subst (λ n. n ≤ length others) (length-map c.loop-rest.lines.items (λ line. line.now))
+          (greedy_fewest g.T.Fragment.sizes c.args.line_widths.now c.args.fragments.now
+          (map (λ line. line.now) c.loop-rest.lines.items) others greedy admissible);
     }

@@ -36,7 +36,7 @@ struct Table<'a> {
 /// `|Foo |Bar |Baz |Quux   |`. The gaps stand before the first column, between each two, and after
 /// the last one. The width of the options is that of a whole row: what the gaps leave of it is
 /// divided evenly, at least 1 to a column, and the text is wrapped at that width with all other
-/// options as they are.
+/// options as they are. There has to be at least one column.
 ///
 /// The columns are filled one after another, so that the last one may be shorter. Each line is
 /// padded with blanks to the width of its column, as [`display_width`] measures it, and the last

@@ -1,5 +1,8 @@
 //! Laws of the definitions that the contracts cite. Each is the contract of a function that does
 //! nothing, so that a proof may call on it.
+//!
+//! A law has no example: its statement is all there is to it. A call is written
+//! `margins_are_unique();`.
 ghost use Rattle.textwrap.specs.Laws.{FilledInPlaceIsUnique, FilledInPlaceIsWrapped};
 ghost use Rattle.textwrap.specs.Laws.{EndedPartsAreUnique, IndentsAreParts, WholeIndents};
 ghost use Rattle.textwrap.specs.Laws.{IndentsComeOff, MarginsAreUnique, LinesBeginWithMargin};

@@ -1,6 +1,13 @@
 //! Word wrapping and paragraph filling.
 //!
 //! [`fill`] cuts a text into lines for a width and joins them, [`wrap`] gives the lines alone.
+//!
+//! ```rust
+//! let options = Options::new(12).initial_indent("* ").subsequent_indent("  ");
+//! let entry = fill(alloc, "This is a little example.", options)?;
+//! ```
+//!
+//! The entry is `"* This is\n  a little\n  example."`.
 #![tactic(auto)]
 
 pub use columns::wrap_columns;

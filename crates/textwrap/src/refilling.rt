@@ -35,8 +35,8 @@ mod lines;
 /// that of the widest line.
 ///
 /// The line ending is LF where a line that is not empty ends in it, else CRLF where one ends in
-/// that; if the text ends in it, so does the unfilled text. Where there is none, it is LF. All other
-/// options are the defaults.
+/// that; if the text ends in it, so does the unfilled text. Where there is none, it is LF. All
+/// other options are the defaults.
 ///
 /// # Errors
 /// [`AllocError`] where memory runs out.
@@ -60,7 +60,7 @@ pub fn unfill<'t>(alloc: Global, text: &'t str) -> Result<(String, Options<'t>),
 ///
 /// The text is unfilled as [`unfill`] does it, and filled with the options, but for the indents,
 /// which are its own. Where the unfilled text ends in a line ending, the new text ends in that of
-/// the options. At 8 columns `"> foo bar baz\n"` becomes `"> foo\n> bar\n> baz\n"`.
+/// the options. At 12 columns `"/// foo\n/// bar baz\n"` becomes `"/// foo bar\n/// baz\n"`.
 ///
 /// # Errors
 /// Those of `wrap`.

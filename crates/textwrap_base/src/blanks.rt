@@ -1,9 +1,11 @@
-//! The blanks at the end of a text. A blank is U+0020 and nothing else.
+//! The blanks at the end of a text, such as the two of `"bar  "`. A blank is U+0020 and nothing
+//! else.
 ghost use Rattle.std.specs.Prelude.{◌≡◌, ◌<◌, ◌≤◌, length, slice_index};
 ghost use Rattle.textwrap_base.specs.Blanks.{blank, trimmed_len, without_final_blanks};
 ghost use Rattle.textwrap_base.specs.Blanks.{final_blanks};
 
-/// Splits a text before its final blanks, of which there may be none. The call always succeeds.
+/// Splits a text before its final blanks, of which there may be none: `"bar  "` into `"bar"` and
+/// two blanks. The call always succeeds.
 pub fn split_final_blanks<'a>(text: &'a str) -> (&'a str, &'a str)
     ensures front { result.0.now ≡ without_final_blanks text.now }
     ensures back { result.1.now ≡ final_blanks text.now }

@@ -2,10 +2,11 @@
 //!
 //! ESC and `[` start a control sequence, which a character from `@` to `~` ends. ESC and `]` start
 //! an operating system command, which BEL ends, or ESC and `\`. ESC and any other character are a
-//! whole sequence. A sequence without an end goes on to the end of the text.
+//! whole sequence. A sequence without an end goes on to the end of the text. In `"a\x1b[1mb"` the
+//! sequence is `"\x1b[1m"`, and `"ab"` is visible.
 ghost use Rattle.std.specs.Prelude.{◌≡◌, ℕ, List, ◌∷◌, if◌then◌else◌};
 
-/// What the next character of a text belongs to.
+/// What the next character of a text belongs to. After `"\x1b["` it is `State::Control`.
 #[derive(Clone, Copy, Debug, PartialEq, Eq)]
 pub enum State {
     /// No sequence: it is visible unless it is ESC.
@@ -21,7 +22,8 @@ pub enum State {
 impl State {
     ghost use Rattle.textwrap_base.specs.Escapes.{visible_in};
 
-    /// The state after a character, and whether the character is visible.
+    /// The state after a character, and whether the character is visible. As `m` ends a control
+    /// sequence, `State::Control.step('m')` is `(State::Text, false)`.
     pub fn step(self, ch: char) -> (State, bool)
         ensures { (cs : List ℕ) → visible_in self (ch ∷ cs)
             ≡ (if result.1 then ch ∷ visible_in result.0 cs else visible_in result.0 cs) }

@@ -1,5 +1,9 @@
 //! Laws of the definitions that the contracts cite. Each is the contract of a function that does
 //! nothing, so that a proof may call on it, and its statement has a name in `specs/Laws.antt`.
+//!
+//! A law has no example: its statement is all there is to it. A call is written
+//! `units_are_unique();`, or where the law is about given values
+//! `chosen_division_is_unique(&words, &[10], &penalties);`.
 ghost use Rattle.textwrap_base.specs.Cost.{priced_at};
 ghost use Rattle.textwrap_base.specs.Laws.{UnitsAreUnique, WordsAreUnique, GreedyDivisionIsUnique};
 ghost use Rattle.textwrap_base.specs.Laws.{BrokenPiecesAreUnique, BrokenTextsTile};

@@ -1,5 +1,6 @@
-//! The lower half of `textwrap`: widths of texts, words and fragments, and the division of
-//! fragments into lines. The crate `textwrap` passes its public modules on.
+//! The lowest part of `textwrap`: widths of texts, words and fragments, and the division of
+//! fragments into lines. The crate `textwrap` passes its public modules on, but for `blanks` and
+//! `escapes`. The modules and their items have the examples.
 #![tactic(auto)]
 
 pub mod blanks;

@@ -1,5 +1,7 @@
 //! The least costs of dividing fragments into lines: sources of line costs, a count of how often
-//! they are asked, and the table of least costs.
+//! they are asked, and the table of least costs. At the line width 10 and the default penalties,
+//! the least cost of two fragments of width 5, without whitespace or penalty, is 1000: that of one
+//! line.
 ghost use Rattle.std.specs.Prelude.{◌≡◌, ℕ, ◌+◌, ◌<◌, ◌≤◌, length, map, slice_index, IfOk, OnOk};
 ghost use Rattle.std.specs.Prelude.{SomeIff};
 ghost use Rattle.textwrap_base.specs.Minima.{Costs, counted};
@@ -19,7 +21,8 @@ use table::{fill_table, minima_of};
 mod line_costs;
 mod table;
 
-/// Counts how often line costs were asked for. Each call of `CostSource::candidate` is a step.
+/// Counts how often line costs were asked for. Each call of `CostSource::candidate` is a step, and
+/// a table of 5 fragments takes 15 of them.
 #[derive(Debug, Drop)]
 pub struct Steps {
     count: u128,
@@ -32,21 +35,22 @@ impl Model for Steps {
 }
 
 impl Steps {
-    /// A count of 0.
+    /// A count of 0: `Steps::new().count()` is 0.
     pub fn new() -> Self
         ensures { result ≡ 0 }
     {
         Steps { count: 0 }
     }
 
-    /// The steps so far.
+    /// The steps so far: 3 after `add(1)` and `add(2)` on a new count.
     pub fn count(&self) -> u128
         ensures { result ≡ self.now }
     {
         self.count
     }
 
-    /// Counts `more` steps. The count stays at 2^128-1, which it never passes.
+    /// Counts `more` steps. The count stays at 2^128-1, which it never passes: `add(u128::MAX - 1)`
+    /// and `add(2)` on a new count lead there.
     pub fn add(&mut self, more: u128)
         ensures { self.new ≡ counted self.old more }
     {
@@ -54,7 +58,9 @@ impl Steps {
     }
 }
 
-/// What the table has for a prefix of the fragments: a cost, and where the last line starts.
+/// What the table has for a prefix of the fragments: a cost, and where the last line starts. By
+/// `Minimum { start: 2, cost: 39500 }` the lines before the last take two fragments, and all lines
+/// together cost 39500.
 #[derive(Clone, Copy, Debug, PartialEq, Eq)]
 pub struct Minimum {
     /// How many fragments of the prefix the lines before its last take.
@@ -65,12 +71,15 @@ pub struct Minimum {
 }
 
 /// Where the table gets its line costs, with a count of how often it asked for one.
+///
+/// [`LineCosts`] is such a source. The examples below are for the words `foo` and `bar`, with a
+/// blank between them, at the line width 10 and the default penalties.
 pub trait CostSource {
     ghost costs: { Self → Costs };
 
     ghost steps: { Self → ℕ };
 
-    /// The number of fragments. The last line of all ends there.
+    /// The number of fragments, 2 in the example. The last line of all ends there.
     fn ends(&self) -> usize
         ensures { result ≡ (costs self.now).ends };
 
@@ -78,6 +87,9 @@ pub trait CostSource {
     /// of the lines in front of it, and that of this line, whose number is `line_number`, counted
     /// from 0. `None` where the sum needs more than 128 bits. `start` has to be below `end`, and
     /// `end` at most `ends`.
+    ///
+    /// In the example `candidate(0, 2, 0, 0)` is `Some(1000)`, a line of both words, and
+    /// `candidate(1, 2, 1, 1049)` is `Some(2049)`, a line of `bar` after one of `foo`.
     ///
     /// The source counts each call as one step, up to 2^128-1.
     fn candidate(
@@ -101,6 +113,10 @@ pub trait CostSource {
 /// costs nothing. A longer one is a shorter prefix and one more line, and costs what the table has
 /// for the shorter prefix and what that line costs. Of these sums the table takes the least, and of
 /// several the one with the earliest start. The lines are numbered along the starts so taken.
+///
+/// At the line widths 10, 5 and 100 and the default penalties, fragments of the widths 5, 5 and 20,
+/// without whitespace or penalty, have the costs 0, 1025, 1000 and 39500. The last line starts at
+/// the fragment 2, counted from 0.
 ///
 /// `steps` goes up by n(n + 1)/2 for n fragments at `Ok`, and by no more at `Err`: at an overflow
 /// by j(j + 1)/2, where the cost of j fragments is the first that does not fit, and not at all

@@ -3,7 +3,8 @@ ghost use Rattle.std.specs.Prelude.{◌≡◌};
 ghost use Rattle.textwrap_base.specs.Penalties.{default_penalties};
 
 /// What the lines of a division cost, in whole numbers of any unit (after Knuth and Plass,
-/// "Breaking Paragraphs into Lines", 1981).
+/// "Breaking Paragraphs into Lines", 1981). By the default penalties, a line that is one unit too
+/// wide and has no hyphen at its end costs 3500.
 #[derive(Clone, Copy, Debug, PartialEq, Eq)]
 pub struct Penalties {
     /// What each line costs.

@@ -1,4 +1,5 @@
-//! The columns of a text, fragments and words: what the original has in its module `core`.
+//! The columns of a text, fragments and words: what the original has in its module `core`. The text
+//! `foo bar` has 7 columns, and its word `foo` is a fragment of width 3, with a blank after it.
 ghost use Rattle.std.specs.Prelude.{◌≡◌, ◌≢◌, ℕ, ◌*◌, ◌≤◌, length, All, IfOk, string_bytes};
 ghost use Rattle.std.specs.List.{list_all};
 ghost use Rattle.textwrap_base.specs.Sizes.{Sizes};
@@ -80,26 +81,29 @@ fn columns(ch: char) -> usize
 }
 
 /// An item that is placed on a line and never cut. It has three widths, in one unit of the
-/// implementor's choice, such as columns.
+/// implementor's choice, such as columns: for `Word::from("foo ")` these are 3, 1 and 0.
 ///
 /// The widths depend on the value alone, so asking again gives the same.
 pub trait Fragment: Debug {
     ghost sizes: { Self → Sizes };
 
-    /// The width of the item itself.
+    /// The width of the item itself: 3 for `Word::from("foo ")`.
     fn width(&self) -> usize
         ensures { result ≡ (sizes self.now).width };
 
-    /// The width of the space after it, which counts where another item follows on the line.
+    /// The width of the space after it, which counts where another item follows on the line: 1 for
+    /// `Word::from("foo ")`.
     fn whitespace_width(&self) -> usize
         ensures { result ≡ (sizes self.now).whitespace };
 
-    /// The width that it adds at the end of a line, as a hyphen does.
+    /// The width that it adds at the end of a line, as a hyphen does: 1 for a word whose penalty is
+    /// `-`.
     fn penalty_width(&self) -> usize
         ensures { result ≡ (sizes self.now).penalty };
 }
 
 /// A word of a text and what follows it. The texts are borrowed, so a copy needs no memory.
+/// `Word::from("foo ")` has the word `foo`, one blank, no penalty and the width 3.
 #[derive(Clone, Copy, Debug, PartialEq, Eq)]
 pub struct Word<'a> {
     /// The text of the word.
@@ -131,7 +135,8 @@ impl<'a> From<&'a str> for Word<'a> {
 }
 
 impl<'a> Word<'a> {
-    /// The field `word`, to which the original's `Word` dereferences.
+    /// The field `word`, to which the original's `Word` dereferences: `"foo"` for
+    /// `Word::from("foo ")`.
     pub fn as_str(&self) -> &'a str
         ensures { result.now ≡ self.now.word.now }
     {

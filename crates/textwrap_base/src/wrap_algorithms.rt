@@ -1,4 +1,5 @@
-//! The division of fragments into lines.
+//! The division of fragments into lines. At the line width 10, the words of `foo bar baz` make two
+//! lines, `foo bar` and `baz`.
 ghost use Rattle.std.specs.Prelude.{◌≡◌, ◌+◌, ◌≤◌, ◌<◌, length, map, take, IfOk, OnOk, IsSomeAnd};
 ghost use Rattle.std.specs.Option.{ForSome};
 ghost use Rattle.textwrap_base.specs.Division.{closed_width, Fits, IsAdmissible, IsGreedy};
@@ -19,7 +20,8 @@ mod at_ends;
 mod line_ends;
 mod optimal_fit;
 
-/// How fragments are divided into lines.
+/// How fragments are divided into lines. At 10 columns `To be, or not to be: that is the question`
+/// has by first fit the first line `To be, or`, and by optimal fit `To be,`.
 #[derive(Clone, Copy, Debug)]
 pub enum WrapAlgorithm {
     /// Each line takes fragments while they fit, as `wrap_first_fit` does.
@@ -31,14 +33,14 @@ pub enum WrapAlgorithm {
 }
 
 impl WrapAlgorithm {
-    /// Optimal fit with the default penalties.
+    /// Optimal fit with the default penalties: `WrapAlgorithm::OptimalFit(Penalties::new())`.
     pub fn new() -> Self
         ensures { result ≡ WrapAlgorithm.OptimalFit default_penalties }
     {
         WrapAlgorithm::new_optimal_fit()
     }
 
-    /// Optimal fit with the default penalties.
+    /// Optimal fit with the default penalties, the same as `WrapAlgorithm::new()`.
     pub fn new_optimal_fit() -> Self
         ensures { result ≡ WrapAlgorithm.OptimalFit default_penalties }
     {
@@ -48,10 +50,12 @@ impl WrapAlgorithm {
     ghost use Rattle.textwrap_base.specs.WrapAlgorithms.{algorithm_view, MayDivide, OverflowsBy};
     ghost use Rattle.textwrap_base.specs.Words.{sizes_of, word_view};
 
-    /// Divides the words into lines by this algorithm.
+    /// Divides the words into lines by this algorithm: at the line width 10, `WrapAlgorithm::new()`
+    /// divides those of `foo bar baz` into a line of two words and one of one.
     ///
     /// # Errors
-    /// That of `wrap_first_fit` or of `wrap_optimal_fit`.
+    /// Those of `wrap_first_fit` or of `wrap_optimal_fit`. With a function of the caller, out of
+    /// memory only, also where the function says so.
     pub fn wrap<'a, 'b>(
         &self,
         alloc: Global,
@@ -117,6 +121,9 @@ impl Default for WrapAlgorithm {
 /// lines, and without any width it is 0. No fragments give one empty line. A line fits if each of
 /// its prefixes of two or more fragments closes within its width, and no division whose lines all
 /// fit has fewer lines.
+///
+/// At the line widths 10 and 5, four fragments of width 5, without whitespace or penalty, make
+/// lines of 2, 1 and 1.
 ///
 /// # Errors
 /// Out of memory only. There is no overflow, whatever the widths.

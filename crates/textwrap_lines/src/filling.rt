@@ -38,7 +38,8 @@ pub fn fill(alloc: Global, text: &str, options: Options<'_>) -> Result<String, W
     fill_slow_path(alloc, text, options)
 }
 
-/// The same text as [`fill`](crate::fill), always by way of a list of lines.
+/// The same text as [`fill`](crate::fill), always by way of a list of lines. At 5 columns
+/// `"ab\ncdefghijkl"` becomes `"ab\ncdefg\nhijkl"`.
 ///
 /// # Errors
 /// Those of [`wrap`].

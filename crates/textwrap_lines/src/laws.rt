@@ -1,5 +1,8 @@
 //! Laws of the definitions that the contracts cite. Each is the contract of a function that does
 //! nothing, so that a proof may call on it.
+//!
+//! A law has no example: its statement is all there is to it. A call is written
+//! `lines_are_unique();`.
 ghost use Rattle.textwrap_lines.specs.Laws.{ParagraphsAreUnique, PiecesAreUnique};
 ghost use Rattle.textwrap_lines.specs.Laws.{DividedLinesAreUnique, ParagraphLinesAreUnique};
 ghost use Rattle.textwrap_lines.specs.Laws.{TextLinesAreUnique, FilledTextIsUnique};
@@ -18,8 +21,8 @@ pub fn paragraphs_are_unique()
     ensures { ParagraphsAreUnique }
 {}
 
-/// A line has exactly one list of words at offsets of its visible text: its parts between all places
-/// where a cut stands, and no others. It is what `words_at` gives.
+/// A line has exactly one list of words at offsets of its visible text: its parts between all
+/// places where a cut stands, and no others. It is what `words_at` gives.
 pub fn words_at_are_unique()
     ensures { WordsAtAreUnique }
 {}

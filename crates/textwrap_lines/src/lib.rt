@@ -1,5 +1,5 @@
 //! The middle of `textwrap`: a text cut into lines for a width, and these lines joined. The crate
-//! `textwrap` passes its public items on, but for the module `parts`.
+//! `textwrap` passes its public items on, but for the module `parts`. The items have the examples.
 #![tactic(auto)]
 
 pub use filling::fill;

@@ -1,7 +1,7 @@
 //! What ends a line.
 ghost use Rattle.std.specs.Prelude.{◌≡◌};
 
-/// A line ending.
+/// A line ending. Cut at `LineEnding::CRLF`, `"a\r\nb\nc"` has the paragraphs `"a"` and `"b\nc"`.
 #[derive(Clone, Copy, Debug, PartialEq, Eq)]
 pub enum LineEnding {
     /// Carriage return and line feed.

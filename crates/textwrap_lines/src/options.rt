@@ -8,6 +8,16 @@ use std::alloc::AllocError;
 use textwrap_base::wrap_algorithms::{Penalties, WrapAlgorithm};
 
 /// How a text is wrapped. No call on it allocates.
+///
+/// Each field has a builder of the same name. The builders have no examples of their own: all are
+/// called as these two are.
+///
+/// ```rust
+/// let options = Options::new(12).initial_indent("* ").subsequent_indent("  ");
+/// ```
+///
+/// By these options `This is a little example.` has the lines `* This is`, `  a little` and
+/// `  example.`.
 #[derive(Debug, Drop)]
 pub struct Options<'a> {
     /// The columns of a line, with its indent.
@@ -34,7 +44,8 @@ impl<'a> Options<'a> {
     ghost use Rattle.textwrap_lines.specs.Options.{settings_view, HasDefaults, KeepsMethods};
 
     /// Lines of `width` columns, ended by LF, without indents, with broken words, hyphens as split
-    /// points, the default algorithm, and no blanks at line ends.
+    /// points, the default algorithm, and no blanks at line ends. By `Options::new(10)` the text
+    /// `foo bar baz` has the lines `foo bar` and `baz`.
     pub fn new(width: usize) -> Self
         ensures { HasDefaults width result }
     {
@@ -178,7 +189,8 @@ impl<'a> From<usize> for Options<'a> {
 impl<'a, 'b> From<&'b Options<'a>> for Options<'a> {
     ghost from_gives = { λ options copy. copy ≡ options.now };
 
-    /// The same options.
+    /// The same options. `wrap(alloc, text, Options::from(&options))` leaves `options` for further
+    /// calls.
     fn from(options: &'b Options<'a>) -> Options<'a> {
         Options { ..*options }
     }

@@ -1,4 +1,4 @@
-//! How the words of a line are found.
+//! How the words of a line are found: those of `"foo bar"` are `"foo "` and `"bar"`.
 ghost use Rattle.std.specs.Prelude.{◌≡◌, IfOk, IsOk};
 
 pub use line_cuts::{CutFunction, LineCuts};
@@ -11,7 +11,7 @@ mod line_cuts;
 mod offsets;
 mod words;
 
-/// Where a line is cut into words.
+/// Where a line is cut into words: by `AsciiSpace` the line `"foo bar"` into `"foo "` and `"bar"`.
 #[derive(Clone, Copy, Debug)]
 pub enum WordSeparator {
     /// Before each character that is no blank but comes right after one.
@@ -24,7 +24,7 @@ impl WordSeparator {
     ghost use Rattle.textwrap_base.specs.Words.{Tiles};
     ghost use Rattle.textwrap_lines.specs.WordSeparators.{MaySeparate};
 
-    /// Cuts at blanks.
+    /// Cuts at blanks: `WordSeparator::AsciiSpace`.
     pub fn new() -> Self
         ensures { result ≡ WordSeparator.AsciiSpace }
     {

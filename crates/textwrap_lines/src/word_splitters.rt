@@ -1,4 +1,5 @@
-//! Where words may be split, and the pieces that they are split into.
+//! Where words may be split, and the pieces that they are split into: `foo-bar` after its hyphen,
+//! into `foo-` and `bar`.
 ghost use Rattle.std.specs.Prelude.{◌≡◌, ℕ, ◌<◌, ◌≤◌, List, [], ◌++◌, length, map, reverse};
 ghost use Rattle.std.specs.Prelude.{slice_range, chars, IfOk, IsOk, OnOk, IsCharBoundary};
 ghost use Rattle.std.specs.Iterator.{IsFiniteIterable, Drains};
@@ -17,7 +18,8 @@ pub use word_cuts::{PointFunction, WordCuts};
 
 mod word_cuts;
 
-/// Where a word may be split, when the line ends within it.
+/// Where a word may be split, when the line ends within it: `can-be-split` by `HyphenSplitter` at 4
+/// and 7.
 #[derive(Clone, Copy, Debug)]
 pub enum WordSplitter {
     /// Nowhere.
@@ -32,12 +34,13 @@ pub enum WordSplitter {
 impl WordSplitter {
     ghost use Rattle.textwrap_lines.specs.WordSplitters.{MaySplit};
 
-    /// The offsets in bytes at which the word may be split, 4 and 7 for `can-be-split`: increasing,
-    /// inside the word and on character boundaries. `NoHyphenation` has none; with it the call
-    /// needs no memory and always succeeds.
+    /// The offsets in bytes at which the word may be split, 4 and 7 for `can-be-split` by
+    /// `HyphenSplitter`: below the length of the word and on character boundaries, and none below
+    /// the one before it. Those of a built-in splitter increase, inside the word. `NoHyphenation`
+    /// has none; with it the call needs no memory and always succeeds.
     ///
     /// # Errors
-    /// [`AllocError`] where memory runs out.
+    /// [`AllocError`] where memory runs out, or a function of the caller says so.
     pub fn split_points(&self, alloc: Global, word: &str) -> Result<Vec<usize>, AllocError>
         ensures points { IfOk result (λ points. MaySplit self.now word.now points.items) }
         ensures cuts { IfOk result (λ points. AreCuts word.now points.items) }
@@ -51,15 +54,17 @@ impl WordSplitter {
     }
 }
 
-/// Something that says where words may be split, as a [`WordSplitter`] does.
+/// Something that says where words may be split, as a [`WordSplitter`] does: `HyphenSplitter` says
+/// 4 for `foo-bar`.
 pub trait SplitPoints {
     /// The points that it may give for a word.
     ghost may_split: { Self → List ℕ → List ℕ → Type 0 };
 
-    /// The offsets in bytes at which the word may be split.
+    /// The offsets in bytes at which the word may be split, by `HyphenSplitter` 4 for `foo-bar`:
+    /// below the length of the word and on character boundaries, and none below the one before it.
     ///
     /// # Errors
-    /// [`AllocError`] where memory runs out.
+    /// [`AllocError`] where memory runs out, or the splitter says so.
     fn split_points(&self, alloc: Global, word: &str) -> Result<Vec<usize>, AllocError>
         ensures points { IfOk result (λ points. may_split self.now word.now points.items) }
         ensures cuts { IfOk result (λ points. AreCuts word.now points.items) };
@@ -165,7 +170,7 @@ fn is_alphanumeric(ch: char) -> bool
 /// inside an escape sequence. The iterator has to end.
 ///
 /// # Errors
-/// [`AllocError`] where memory runs out.
+/// [`AllocError`] where memory runs out, or the splitter says so.
 pub fn split_words<'a, I: IntoIterator<Item = Word<'a>>, S: SplitPoints>(
     alloc: Global,
     words: I,

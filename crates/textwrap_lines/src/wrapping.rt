@@ -45,14 +45,13 @@ use textwrap_base::wrap_algorithms::WrapError;
 ///
 /// By built-in parts there is always at least one line. Only blanks at line ends are lost, and only
 /// the indents are added; a line with an indent is a text of its own. By first fit, where words are
-/// broken, no line
-/// of a divided paragraph passes the width that it was divided for, but one that is a single piece
-/// with one character that takes columns.
+/// broken, no line of a divided paragraph passes the width that it was divided for, but one that is
+/// a single piece with one character that takes columns.
 ///
 /// # Errors
 /// [`WrapError::Memory`] where memory runs out, or a function of the caller says so.
-/// [`WrapError::Overflow`] only where a function of the caller gives the points of words and optimal
-/// fit divides them.
+/// [`WrapError::Overflow`] only where a function of the caller gives the points of words and
+/// optimal fit divides them.
 pub fn wrap<'t>(
     alloc: Global,
     text: &'t str,
@@ -100,10 +99,13 @@ pub fn split_paragraph(text: &str, line_ending: LineEnding) -> (&str, Option<&st
 /// Appends the lines of one paragraph, as [`wrap`] does for each. The initial indent is used only
 /// where the list has no line yet. At an error the list stays as it was.
 ///
+/// At 10 columns, by first fit and with the initial indent `>>>`, `foobar ba` is appended as one
+/// line, if a line stands before it.
+///
 /// # Errors
 /// [`WrapError::Memory`] where memory runs out, or a function of the caller says so.
-/// [`WrapError::Overflow`] only where a function of the caller gives the points of words and optimal
-/// fit divides them.
+/// [`WrapError::Overflow`] only where a function of the caller gives the points of words and
+/// optimal fit divides them.
 pub fn wrap_single_line<'t>(
     alloc: Global,
     line: &'t str,
@@ -160,10 +162,14 @@ pub(crate) fn whole_line<'t>(paragraph: &'t str, options: &Options<'_>) -> &'t s
 /// Appends the lines of one paragraph, dividing its pieces however short it is. At an error the
 /// list stays as it was.
 ///
+/// At 10 columns, by first fit and with the initial indent `>>>`, `foobar ba` is appended as
+/// `foobar` and `ba`, if a line stands before it: the first line of each paragraph is divided for
+/// the 7 columns that the indent leaves.
+///
 /// # Errors
 /// [`WrapError::Memory`] where memory runs out, or a function of the caller says so.
-/// [`WrapError::Overflow`] only where a function of the caller gives the points of words and optimal
-/// fit divides them.
+/// [`WrapError::Overflow`] only where a function of the caller gives the points of words and
+/// optimal fit divides them.
 pub fn wrap_single_line_slow_path<'t>(
     alloc: Global,
     line: &'t str,

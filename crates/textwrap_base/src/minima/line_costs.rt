@@ -27,7 +27,8 @@ struct Measure {
 }
 
 /// The costs of the lines of some fragments, at the line widths and penalties given, with a count
-/// of its own from 0.
+/// of its own from 0. At the line width 10 and the default penalties, a line of the words `foo` and
+/// `bar`, with a blank between them, costs 1000.
 #[derive(Drop)]
 pub struct LineCosts {
     measures: Vec<Measure>,
@@ -50,7 +51,8 @@ impl Model for LineCosts {
 }
 
 impl LineCosts {
-    /// The costs of the lines of these fragments.
+    /// The costs of the lines of these fragments. On lines of 10 columns those of words are
+    /// `LineCosts::new(alloc, &words, &[10], &penalties)?`.
     ///
     /// # Errors
     /// Overflow exactly where all widths together need more than 128 bits, which is found before
@@ -81,7 +83,7 @@ impl LineCosts {
         })
     }
 
-    /// How often a cost was asked for.
+    /// How often a cost was asked for: 1 after the first call of `candidate`.
     pub fn steps(&self) -> u128
         ensures { result ≡ self.now.steps }
     {

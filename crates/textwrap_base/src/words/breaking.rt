@@ -11,7 +11,8 @@ use crate::escapes::State;
 use std::alloc::{AllocError, Global};
 
 /// An iterator over the pieces of a word, made by `Word::break_apart`. It gives them in order and
-/// needs no memory, and after the last piece it returns `None` each time.
+/// needs no memory, and after the last piece it returns `None` each time: for `"Hello!  "` at 3
+/// columns, `"Hel"`, `"lo!  "`, and then `None`.
 #[derive(Clone, Debug, Drop)]
 pub struct BreakApart<'a> {
     /// The part of the word that is still to be broken. Its `width` is not read.
@@ -27,8 +28,9 @@ impl<'a> Word<'a> {
     /// No hyphen is added, no escape sequence (ECMA-48) is cut, and a sequence at a cut belongs to
     /// the piece before it.
     ///
-    /// The last piece keeps the whitespace and the penalty of the word, and the others have none.
-    /// A word without text has no pieces. The call always succeeds and needs no memory.
+    /// The last piece keeps the whitespace and the penalty of the word, and the others have none:
+    /// at 3 columns `"Hello!  "` becomes `"Hel"` and `"lo!  "`. A word without text has no pieces.
+    /// The call always succeeds and needs no memory.
     pub fn break_apart(&self, line_width: usize) -> BreakApart<'a>
         ensures { pieces_left result ≡ broken_pieces line_width (word_view self.now) }
     {
@@ -99,7 +101,8 @@ fn first_piece(text: &str, line_width: usize) -> (usize, usize)
 }
 
 /// Replaces each word whose field `width` is above `line_width` columns by its pieces, those of
-/// `Word::break_apart`, and keeps the other words. The iterator has to end.
+/// `Word::break_apart`, and keeps the other words: at 2 columns `"ab "` and `"cdef "` become
+/// `"ab "`, `"cd"` and `"ef "`. The iterator has to end.
 ///
 /// # Errors
 /// Only where it is out of memory for the list.

@@ -8,10 +8,14 @@ use std::alloc::{AllocError, Global};
 use std::fmt;
 
 /// A function that says where lines of words end, given the words and the widths of the lines: see
-/// [`LineEnds`].
+/// [`LineEnds`], which has the example.
 pub type EndsFunction = fn(Global, &[Word<'_>], &[usize]) -> Result<Vec<usize>, AllocError>;
 
-/// A function of the caller that divides words into lines.
+/// A function of the caller that divides words into lines. It returns how many words stand before
+/// the end of each line: numbers that do not decrease, and are not above the number of words.
+///
+/// Where `end_all` returns 1, 3 and 6, `WrapAlgorithm::Custom(LineEnds::new(end_all))` divides six
+/// words into lines of 1, 2 and 3.
 #[derive(Clone, Copy)]
 pub struct LineEnds {
     /// The function.
@@ -23,7 +27,17 @@ pub struct LineEnds {
 }
 
 impl LineEnds {
-    /// Divides words by this function.
+    /// Divides words by this function. It may be called with any words and widths, and its contract
+    /// says that its ends are right ones, as that of this function does:
+    ///
+    /// ```rust
+    /// fn end_all(
+    ///     alloc: Global,
+    ///     words: &[Word<'_>],
+    ///     _line_widths: &[usize],
+    /// ) -> Result<Vec<usize>, AllocError>
+    ///     ensures { IfOk result (λ ends. AreEnds words.now ends.items) }
+    /// ```
     pub fn new(function: EndsFunction) -> LineEnds
         requires callable { IsAlwaysCallable function }
         requires answers { (alloc : _) (words : _) (widths : _) (answer : _)

@@ -20,6 +20,9 @@ use std::alloc::{AllocError, Global};
 /// and so on. For other line widths the lines are those to which the starts of `table_minima`
 /// lead, from the end back.
 ///
+/// At the line width 53 and the default penalties, words of 3 and of 50 columns with a blank
+/// between them share a line of 54: it costs 3500, and two lines cost 4500.
+///
 /// # Errors
 /// Overflow only where all widths together need more than 128 bits, or the cost of a prefix in the
 /// table does; and in these cases the call never succeeds. That cost is the least of the prefix
@@ -40,7 +43,7 @@ pub fn wrap_optimal_fit<'a, T: Fragment>(
 }
 
 /// Returns what `wrap_optimal_fit` returns. `steps` goes up by one for each line cost that was
-/// asked for: by n(n + 1)/2 for n fragments at `Ok`, and by no more at `Err`.
+/// asked for: by n(n + 1)/2 for n fragments at `Ok`, such as 15 for 5, and by no more at `Err`.
 ///
 /// # Errors
 /// Those of `wrap_optimal_fit`.

@@ -6,10 +6,15 @@ ghost use Rattle.textwrap_lines.specs.Cuts.{AreInnerCuts};
 use std::alloc::{AllocError, Global};
 use std::fmt;
 
-/// A function that says where a line is cut into words: see [`LineCuts`].
+/// A function that says where a line is cut into words: see [`LineCuts`], which has the example.
 pub type CutFunction = fn(Global, &str) -> Result<Vec<usize>, AllocError>;
 
-/// A function of the caller that says where a line is cut into words.
+/// A function of the caller that says where a line is cut into words. It returns where each word
+/// but the first begins: offsets in bytes that increase, inside the line and on character
+/// boundaries.
+///
+/// Where `cut_foobar` returns 3 for `foobar`, `WordSeparator::Custom(LineCuts::new(cut_foobar))`
+/// cuts it into `foo` and `bar`.
 #[derive(Clone, Copy)]
 pub struct LineCuts {
     /// The function.
@@ -21,7 +26,13 @@ pub struct LineCuts {
 }
 
 impl LineCuts {
-    /// Cuts lines where this function says.
+    /// Cuts lines where this function says. It may be called with any line, and its contract says
+    /// that its cuts are right ones, as that of this function does:
+    ///
+    /// ```rust
+    /// fn cut_foobar(alloc: Global, line: &str) -> Result<Vec<usize>, AllocError>
+    ///     ensures { IfOk result (λ cuts. AreInnerCuts line.now cuts.items) }
+    /// ```
     pub fn new(function: CutFunction) -> LineCuts
         requires callable { IsAlwaysCallable function }
         requires answers { (alloc : _) (line : _) (answer : _) → IsUtf8 line.now

@@ -14,7 +14,8 @@ use std::marker::Model;
 use std::vec;
 use textwrap_base::words::Word;
 
-/// The words of a line, one after the other. To contracts it is the list of the words to come.
+/// The words of a line, one after the other: of `"foo bar"` these are `"foo "` and `"bar"`. To
+/// contracts it is the list of the words to come.
 #[derive(Debug, Drop)]
 pub struct Words<'a> {
     source: Source<'a>,

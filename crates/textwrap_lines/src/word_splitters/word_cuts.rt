@@ -6,10 +6,15 @@ ghost use Rattle.textwrap_lines.specs.Cuts.{AreCuts};
 use std::alloc::{AllocError, Global};
 use std::fmt;
 
-/// A function that says where a word may be split: see [`WordCuts`].
+/// A function that says where a word may be split: see [`WordCuts`], which has the example.
 pub type PointFunction = fn(Global, &str) -> Result<Vec<usize>, AllocError>;
 
-/// A function of the caller that says where a word may be split.
+/// A function of the caller that says where a word may be split. It returns offsets in bytes that
+/// do not decrease, below the length of the word and on character boundaries.
+///
+/// Where `split_in_middle` returns 3 for `foobar`, the splitter
+/// `WordSplitter::Custom(WordCuts::new(split_in_middle))` splits this into `foo`, with the penalty
+/// `-`, and `bar`.
 #[derive(Clone, Copy)]
 pub struct WordCuts {
     /// The function.
@@ -21,7 +26,13 @@ pub struct WordCuts {
 }
 
 impl WordCuts {
-    /// Splits words where this function says.
+    /// Splits words where this function says. It may be called with any word, and its contract says
+    /// that its points are right ones, as that of this function does:
+    ///
+    /// ```rust
+    /// fn split_in_middle(alloc: Global, word: &str) -> Result<Vec<usize>, AllocError>
+    ///     ensures { IfOk result (λ points. AreCuts word.now points.items) }
+    /// ```
     pub fn new(function: PointFunction) -> WordCuts
         requires callable { IsAlwaysCallable function }
         requires answers { (alloc : _) (word : _) (answer : _) → IsUtf8 word.now

@@ -1,1 +1,3 @@
+pub mod Cutting
+pub mod Dividing
 pub mod Text

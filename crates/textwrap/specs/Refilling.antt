@@ -173,7 +173,8 @@ layout_settings l = record (settings_at l.width) {
 -- ---- the text filled again
 
 -- the text, unfilled without its ending and filled with its own indents; the ending of the settings
--- stands in the place of its own. A relation says what a paragraph is divided into under any settings
+-- stands in the place of its own. A relation says what a paragraph is divided into under any
+-- settings
 abbrev pub IsRefilled : Settings → (Settings → List ℕ → List (List WordText) → Type 0)
     → List ℕ → List ℕ → Type 0
 IsRefilled settings Divides text refilled =

@@ -59,8 +59,8 @@ TableDivisionIsUnique {X} priced penalties widths xs = (lines others : List (Lis
     → IsByTable priced penalties widths xs lines → IsByTable priced penalties widths xs others
     → lines ≡ others
 
--- if all lines but the first have one width, the table overflows exactly where the sum of all widths
--- or the least cost of a prefix does
+-- if all lines but the first have one width, the table overflows exactly where the sum of all
+-- widths or the least cost of a prefix does
 abbrev pub TableOverflowIsOverflow : {X : Type 0}
     → (X → PricedSizes) → Penalties → List ℕ → List X → Type 0
 TableOverflowIsOverflow priced penalties widths xs = AreEqualFromSecond widths

@@ -113,8 +113,8 @@ module _ {X : Type 0} (priced : X → PricedSizes) (penalties : Penalties) (widt
     pub division : IsDivision fragments lines
     pub starts : FollowStarts (map (λ entry. entry.start) (fragments_table fragments)) 0 lines
 
-  -- the count went from old to new by the steps of the whole table, at an error by no more: by those
-  -- up to the first entry that passes 128 bits, or by none where the sum of all widths passes
+  -- the count went from old to new by the steps of the whole table, at an error by no more: by
+  -- those up to the first entry that passes 128 bits, or by none where the sum of all widths passes
   pub record CountsSteps {A : Type 0} (xs : List X) (old new : ℕ) (result : Result A WrapError)
       : Type 0 where
     pub ok : OnOk result (new ≡ counted old (table_steps (length xs)))

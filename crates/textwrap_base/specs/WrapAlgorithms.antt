@@ -60,8 +60,8 @@ MayDivide (OptimalFit penalties) view widths xs lines =
 MayDivide (Custom given) view widths xs lines =
     (ends : List ℕ) × MayEnd given (map view xs) widths ends × (lines ≡ lines_between ends xs)
 
--- equal are first fit to itself, and optimal fit to optimal fit with equal penalties; a function of a
--- caller is known to be equal to none
+-- equal are first fit to itself, and optimal fit to optimal fit with equal penalties; a function of
+-- a caller is known to be equal to none
 abbrev pub are_equal : {F : Type 0} {f : _} → (Penalties → Penalties → Bool)
     → WrapAlgorithm F f → WrapAlgorithm F f → Bool
 are_equal same FirstFit FirstFit = true

@@ -42,28 +42,3 @@ impl<T: Drop> From<AllocFailed<T>> for WrapError {
         WrapError::Memory(AllocError)
     }
 }
-
-#[cfg(test)]
-mod tests {
-    use super::*;
-    use std::test::Fail;
-
-    #[test]
-    fn errors_have_their_texts(rt: HostRuntime) -> Result<(), Fail> {
-        let overflow = "wrap_optimal_fit cost computation overflowed";
-        let text = format!(in rt.alloc(); "{OverflowError}")?;
-        assert_eq!(rt; text.as_str(), overflow);
-        let text = format!(in rt.alloc(); "{}", WrapError::Overflow(OverflowError))?;
-        assert_eq!(rt; text.as_str(), overflow);
-        let text = format!(in rt.alloc(); "{}", WrapError::Memory(AllocError))?;
-        assert_eq!(rt; text.as_str(), "out of memory");
-        Ok(())
-    }
-
-    #[test]
-    fn a_failed_allocation_is_out_of_memory(rt: HostRuntime) {
-        let refused = WrapError::from(AllocFailed { value: "foo" });
-        assert!(rt; matches!(refused, WrapError::Memory(_)));
-        assert!(rt; matches!(WrapError::from(AllocError), WrapError::Memory(_)));
-    }
-}

@@ -10,7 +10,5 @@ pub mod laws;
 mod line_widths;
 pub mod minima;
 mod penalties;
-#[cfg(test)]
-mod testing;
 pub mod words;
 pub mod wrap_algorithms;

@@ -43,19 +43,3 @@ impl Default for Penalties {
         Penalties::new()
     }
 }
-
-#[cfg(test)]
-mod tests {
-    use super::*;
-
-    #[test]
-    fn the_default_penalties_are_the_new_ones(rt: HostRuntime) {
-        let penalties = Penalties::default();
-        assert!(rt; penalties == Penalties::new());
-        assert_eq!(rt; penalties.nline_penalty, 1000);
-        assert_eq!(rt; penalties.overflow_penalty, 2500);
-        assert_eq!(rt; penalties.short_last_line_fraction, 4);
-        assert_eq!(rt; penalties.short_last_line_penalty, 25);
-        assert_eq!(rt; penalties.hyphen_penalty, 25);
-    }
-}

@@ -162,6 +162,3 @@ impl<'a> Fragment for Word<'a> {
         self.penalty.len()
     }
 }
-
-#[cfg(test)]
-mod tests;

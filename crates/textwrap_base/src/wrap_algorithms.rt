@@ -172,6 +172,3 @@ fn fitting_len<T: Fragment>(fragments: &[T], line_width: usize) -> usize
     }
     fragments.len()
 }
-
-#[cfg(test)]
-mod tests;

@@ -63,7 +63,8 @@ TextLinesAreUnique = ForBuiltIn (λ settings Divides. IsUnique (AreTextLines set
 abbrev pub FilledTextIsUnique : Type 0
 FilledTextIsUnique = ForBuiltIn (λ settings Divides. IsUnique (IsFilled settings Divides))
 
--- by built-in parts the lines of a text lose only blanks, add only indents, and keep to their widths
+-- by built-in parts the lines of a text lose only blanks, add only indents, and keep to their
+-- widths
 abbrev pub TextLinesAreWrapped : Type 0
 TextLinesAreWrapped =
     (settings : Settings) (algorithm : Algorithm) (splitter : Splitter) (text : List ℕ)

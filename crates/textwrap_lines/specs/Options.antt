@@ -49,7 +49,8 @@ settings_at width = record {
 abbrev pub default_algorithm : Algorithm
 default_algorithm = LeastCost default_penalties
 
--- words stand between blanks, and neither the splitter nor the algorithm is a function of the caller
+-- words stand between blanks, and neither the splitter nor the algorithm is a function of the
+-- caller
 pub record HasBuiltInParts {E C : Type 0} {e : _} {c : _} (o : Options E C e c)
     : Type 0 where
   pub separator : o.word_separator ≡ AsciiSpace
@@ -64,7 +65,8 @@ pub record HasParts {E C : Type 0} {e : _} {c : _} (o : Options E C e c) (settin
   pub splitter_is : splitter_view o.word_splitter ≡ Some splitter
   pub algorithm_is : algorithm_view o.wrap_algorithm ≡ Some algorithm
 
--- the caller says where words are split, and optimal fit divides them: there alone can widths overflow
+-- the caller says where words are split, and optimal fit divides them: there alone can widths
+-- overflow
 abbrev pub MayOverflow : {E C : Type 0} {e : _} {c : _} → Options E C e c → Type 0
 MayOverflow o =
     (splitter_view o.word_splitter ≡ None)

@@ -54,9 +54,9 @@ pub record AddsOnlyIndents (settings : Settings) (splitter : Option Splitter)
   pub indents : AreIndented settings false (flat_map (λ parts. parts) groups)
   pub no_hyphen : splitter ≢ None → All (λ p. p.penalty ≡ []) (flat_map (λ parts. parts) groups)
 
--- the lines of a text, and what they keep to. Where a caller gives the ends of lines, the last words
--- of a paragraph may be lost; where a caller gives the points of words, hyphens may be added, and
--- lines may be wider
+-- the lines of a text, and what they keep to. Where a caller gives the ends of lines, the last
+-- words of a paragraph may be lost; where a caller gives the points of words, hyphens may be added,
+-- and lines may be wider
 pub record IsWrapped (settings : Settings) (splitter : Option Splitter)
     (algorithm : Option Algorithm) (Divides : List ℕ → List (List WordText) → Type 0)
     (text : List ℕ) (lines : List Line) : Type 0 where

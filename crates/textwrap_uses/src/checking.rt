@@ -1,4 +1,5 @@
-//! Checks of a text: whether it is filled already, as a formatter asks, and how many lines it takes.
+//! Checks of a text: whether it is filled already, as a formatter asks, and how many lines it
+//! takes.
 ghost use Rattle.std.specs.Prelude.{◌≡◌, ◌<◌, List, length, IfOk, IfErr, IsTrue, IsFalse};
 ghost use Rattle.std.specs.Prelude.{alloc_error};
 ghost use Rattle.textwrap.specs.Filling.{IsFilledAt};

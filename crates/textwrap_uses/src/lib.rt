@@ -1,13 +1,12 @@
-//! Callers of `textwrap`, with contracts that rest on the library's, and tests of its public
-//! surface. They show how the library is called, and that its contracts suffice: none of them names
-//! `textwrap_base`.
+//! Callers of `textwrap`, with contracts that rest on the library's. They show how the library is
+//! called, and that its contracts suffice: none of them names a crate below it.
 #![tactic(auto)]
 
 pub mod checking;
+pub mod gallery;
 pub mod help;
 pub mod lists;
 pub mod mail;
 pub mod paths;
-pub mod planning;
 #[cfg(test)]
 mod tests;

@@ -1,39 +1,12 @@
-mod callers;
-mod columns;
-mod custom;
-mod filling;
-mod given;
-mod indentation;
-mod inplace;
-mod options;
-mod refilling;
-mod slow_path;
-mod words;
-mod wrapping;
-
+use crate::checking::{is_filled, line_count};
+use crate::gallery::{Picture, hung_rows};
+use crate::help::help_entry;
+use crate::lists::listed_lines;
+use crate::mail::{quote, sent_lines};
+use crate::paths::path_lines;
 use std::borrow::CowStr;
-use std::process::Abort;
-use textwrap::{LineEnding, Options, WrapAlgorithm};
-
-/// The options of this width that divide by first fit.
-fn by_first_fit<'a>(width: usize) -> Options<'a> {
-    Options::new(width).wrap_algorithm(WrapAlgorithm::FirstFit)
-}
-
-/// The options of this width with these indents, of the first line and of all later ones.
-fn with_indents<'a>(width: usize, initial: &'a str, subsequent: &'a str) -> Options<'a> {
-    Options::new(width)
-        .initial_indent(initial)
-        .subsequent_indent(subsequent)
-}
-
-/// The options of this width with this ending of paragraphs, where blanks at line ends are kept or
-/// not.
-fn with_endings<'a>(width: usize, ending: LineEnding, preserve: bool) -> Options<'a> {
-    Options::new(width)
-        .line_ending(ending)
-        .preserve_trailing_space(preserve)
-}
+use std::test::Fail;
+use textwrap::Options;
 
 /// Whether the lines have these texts, each line a part of the text that was wrapped.
 fn are_borrowed(lines: &[CowStr<'_>], expected: &[&str]) -> bool {
@@ -45,7 +18,100 @@ fn are_borrowed(lines: &[CowStr<'_>], expected: &[&str]) -> bool {
     lines.len() == expected.len()
 }
 
-/// Asserts that a call on this input gave the expected text.
-fn assert_text(rt: &impl Abort, input: &str, given: &str, expected: &str) {
-    assert_eq!(rt; given, expected, "{input:?}");
+#[test]
+fn a_help_entry_has_its_flag_and_its_text(rt: HostRuntime) -> Result<(), Fail> {
+    let entry = help_entry(rt.alloc(), "-w      ", "The width of a line.", 20)?;
+    assert_eq!(rt; entry.as_str(), "-w      The width of\n        a line.");
+    Ok(())
+}
+
+#[test]
+fn mail_is_quoted(rt: HostRuntime) -> Result<(), Fail> {
+    let quoted = quote(rt.alloc(), "foo bar baz\nfoo", 9)?;
+    assert_eq!(rt; quoted.as_str(), "> foo bar\n> baz\n> foo");
+    Ok(())
+}
+
+#[test]
+fn mail_is_sent_twice_by_the_same_options(rt: HostRuntime) -> Result<(), Fail> {
+    let options = Options::new(7);
+    for _ in 0..2 {
+        let lines = sent_lines(rt.alloc(), "foo bar baz\r\nfoo", &options)?;
+        assert!(rt;
+            are_borrowed(&lines, &["foo bar", "baz", "foo"]),
+            "{lines:?}"
+        );
+    }
+    Ok(())
+}
+
+#[test]
+fn a_filled_text_is_filled_already(rt: HostRuntime) -> Result<(), Fail> {
+    for &(text, width, expected) in &[
+        ("foo bar\nbaz", 7, true),
+        ("foo bar baz", 7, false),
+        ("foo ", 7, false),
+        ("", 0, true),
+    ] {
+        let filled = is_filled(rt.alloc(), text, width)?;
+        assert!(rt; filled == expected, "{text:?}");
+    }
+    Ok(())
+}
+
+#[test]
+fn lines_are_counted(rt: HostRuntime) -> Result<(), Fail> {
+    for &(text, count) in &[("To be, or not to be", 2), ("", 1), ("one\ntwo", 2)] {
+        let lines = line_count(rt.alloc(), text, 10)?;
+        assert!(rt; lines == count, "{text:?}");
+    }
+    Ok(())
+}
+
+#[test]
+fn pictures_fill_rows(rt: HostRuntime) -> Result<(), Fail> {
+    let picture = |width| Picture { width, margin: 10 };
+    let pictures = [picture(60), picture(80), picture(70), picture(70)];
+    let rows = hung_rows(rt.alloc(), &pictures, 150)?;
+    assert_eq!(rt; rows.len(), 2);
+    for row in &rows {
+        assert_eq!(rt; row.len(), 2);
+    }
+    Ok(())
+}
+
+#[test]
+fn paths_are_cut_after_slashes(rt: HostRuntime) -> Result<(), Fail> {
+    let rows: &[(&str, usize, &[&str])] = &[
+        (
+            "/usr/local/share/doc",
+            10,
+            &["/usr/", "local/", "share/doc"],
+        ),
+        ("/a b/c d/", 5, &["/a b/", "c d/"]),
+        ("añ/b", 4, &["añ/b"]),
+        ("añ/b", 3, &["añ/", "b"]),
+        ("names", 3, &["nam", "es"]),
+    ];
+    for &(path, width, lines) in rows {
+        let given = path_lines(rt.alloc(), path, width)?;
+        assert!(rt; are_borrowed(&given, lines), "{given:?}");
+    }
+    Ok(())
+}
+
+#[test]
+fn words_are_listed(rt: HostRuntime) -> Result<(), Fail> {
+    let rows: &[(&str, usize, &[&str])] = &[
+        ("a superset", 8, &["a", "super-", "set"]),
+        ("a superset", 11, &["a superset"]),
+        ("super supersonic", 6, &["super", "super-", "sonic"]),
+        ("one\ntwo three", 5, &["one", "two", "three"]),
+    ];
+    for &(text, width, expected) in rows {
+        let lines = listed_lines(rt.alloc(), text, width)?;
+        let texts = lines.iter().map(|line| line.as_str());
+        assert!(rt; texts.eq(expected.iter().copied()), "{lines:?}");
+    }
+    Ok(())
 }

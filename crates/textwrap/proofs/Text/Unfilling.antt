@@ -1,4 +1,5 @@
--- Lemmas on what unfilling gives: lines begin with their indents, are joined, and show their ending.
+-- Lemmas on what unfilling gives: lines begin with their indents, are joined, and show their
+-- ending.
 use Rattle.std.proofs.Common.{◌≡◌, ℕ, Bool, true, false, cond, List, [], ◌∷◌, ◌++◌, length}
 use Rattle.std.proofs.Common.{drop, map, filter, All, refl, sym, ap, ◌∙◌, subst, arith, get_or}
 use Rattle.std.proofs.Common.{append_assoc, append-nil}

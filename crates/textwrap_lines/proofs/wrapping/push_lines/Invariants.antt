@@ -8,8 +8,8 @@ use Rattle.textwrap_lines.specs.Options.{settings_view}
 use Rattle.textwrap_lines.specs.Paragraph.{line_view, line_from, parts_from}
 use Rattle.textwrap_lines.proofs.wrapping.push_lines.Given as goal
 
--- the lines so far are out after those that were, and the rest of the paragraph begins with what the
--- others tile
+-- the lines so far are out after those that were, and the rest of the paragraph begins with what
+-- the others tile
 abbrev pub invariant-loop-pieces : goal.invariant-loop-pieces
 invariant-loop-pieces g l =
     shadow (Utf8 l.rest)

@@ -1,0 +1,10 @@
+use Rattle.textwrap.specs.Cuts.{AreCuts, AreInnerCuts}
+use Rattle.textwrap.proofs.Cutting.{EndWith}
+use Rattle.textwrap_vectors.proofs.tests.given.cuts_at.Given as goal
+
+-- the cuts so far, and the last of them
+abbrev pub invariant-loop-cut : goal.invariant-loop-cut
+invariant-loop-cut l = record {
+  cuts : AreInnerCuts l.text l.cuts.items;
+  end_with : EndWith l.cuts.items l.last;
+}

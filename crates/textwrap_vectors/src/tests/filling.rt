@@ -1,0 +1,96 @@
+//! The text of `fill`.
+use super::{by_first_fit, with_endings, with_indents};
+use std::process::Abort;
+use std::test::Fail;
+use textwrap::{LineEnding, Options, WrapError, fill};
+
+/// Asserts that the text is filled to the expected one.
+fn assert_filled(
+    rt: &(impl Abort + AllocGlobal),
+    text: &str,
+    options: Options<'_>,
+    expected: &str,
+) -> Result<(), WrapError> {
+    let filled = fill(rt.alloc(), text, options)?;
+    assert_eq!(rt; filled.as_str(), expected, "{text:?}");
+    Ok(())
+}
+
+/// The lines of first fit, joined by line feeds.
+#[test]
+fn lines_of_first_fit_are_joined(rt: HostRuntime) -> Result<(), Fail> {
+    for &(text, width, expected) in &[
+        ("", 10, ""),
+        ("foo bar baz", 10, "foo bar\nbaz"),
+        (
+            "To be, or not to be: that is the question\n",
+            10,
+            "To be, or\nnot to be:\nthat is\nthe\nquestion\n",
+        ),
+        ("test\n\na\n\n", 80, "test\n\na\n\n"),
+        ("  \n \n  \n ", 80, "\n\n\n"),
+        ("1 3 5 7\n1 3 5 7", 5, "1 3 5\n7\n1 3 5\n7"),
+        ("aa bb cc dd", 5, "aa bb\ncc dd"),
+        ("aa bb cc dd", 8, "aa bb cc\ndd"),
+    ] {
+        assert_filled(&rt, text, by_first_fit(width), expected)?;
+    }
+    Ok(())
+}
+
+/// The lines of least cost, joined by line feeds.
+#[test]
+fn lines_of_least_cost_are_joined(rt: HostRuntime) -> Result<(), Fail> {
+    for &(text, width, expected) in &[
+        ("foo bar baz", 10, "foo bar\nbaz"),
+        (
+            "To be, or not to be: that is the question\n",
+            10,
+            "To be,\nor not to\nbe: that\nis the\nquestion\n",
+        ),
+        ("test\n\na\n\n", 80, "test\n\na\n\n"),
+        ("  \n \n  \n ", 80, "\n\n\n"),
+        ("ab\ncdefghijkl", 5, "ab\ncdefg\nhijkl"),
+        ("foo  ", 10, "foo"),
+    ] {
+        assert_filled(&rt, text, Options::new(width), expected)?;
+    }
+    Ok(())
+}
+
+/// Lines are joined by the chosen ending, and blanks are kept if that is on.
+#[test]
+fn endings_and_blanks_are_as_chosen(rt: HostRuntime) -> Result<(), Fail> {
+    for &(text, width, ending, preserve, expected) in &[
+        (
+            "foo bar\r\nfoobar",
+            4,
+            LineEnding::CRLF,
+            false,
+            "foo\r\nbar\r\nfoob\r\nar",
+        ),
+        ("foo  ", 10, LineEnding::LF, true, "foo  "),
+    ] {
+        assert_filled(&rt, text, with_endings(width, ending, preserve), expected)?;
+    }
+    Ok(())
+}
+
+/// A word stays whole where words are not broken, and lines have their indents.
+#[test]
+fn long_words_stay_whole_and_lines_are_indented(rt: HostRuntime) -> Result<(), Fail> {
+    for &(text, width, initial, subsequent, expected) in &[
+        (
+            "foo\u{a0}bar\u{2011}baz",
+            5,
+            "",
+            "",
+            "foo\u{a0}bar\u{2011}baz",
+        ),
+        ("foo bar baz", 10, "* ", "  ", "* foo bar\n  baz"),
+    ] {
+        let options = with_indents(width, initial, subsequent).break_words(false);
+        assert_filled(&rt, text, options, expected)?;
+    }
+    Ok(())
+}

@@ -1,0 +1,184 @@
+//! The pieces that words are split and broken into.
+use super::words::are_words;
+use std::alloc::{AllocError, Global};
+use std::test::Fail;
+use textwrap::WordSplitter;
+use textwrap::word_splitters::split_words;
+use textwrap::words::{Word, break_words};
+
+/// Whether these are the points where the splitter splits the word.
+fn are_points(
+    alloc: Global,
+    splitter: &WordSplitter,
+    word: &str,
+    wanted: &[usize],
+) -> Result<bool, AllocError> {
+    let points = splitter.split_points(alloc, word)?;
+    Ok(points.as_slice() == wanted)
+}
+
+/// A word may be split after each hyphen between alphanumeric characters, and without hyphenation
+/// nowhere.
+#[test]
+fn a_word_is_split_after_hyphens_between_alphanumerics(rt: HostRuntime) -> Result<(), Fail> {
+    let rows: &[(&str, &[usize])] = &[
+        ("--foo-bar", &[6]),
+        ("can-be-split", &[4, 7]),
+        ("foo(-)bar", &[]),
+        ("²-b", &[3]),
+        ("é-b", &[3]),
+        ("a-²", &[2]),
+        ("a_-b", &[]),
+        ("a-_b", &[]),
+        ("e\u{301}-b", &[]),
+        ("a--b", &[]),
+        ("a-", &[]),
+        ("-a", &[]),
+        ("-", &[]),
+        ("", &[]),
+    ];
+    for &(word, wanted) in rows {
+        let hyphens = are_points(rt.alloc(), &WordSplitter::HyphenSplitter, word, wanted)?;
+        assert!(rt; hyphens, "{word:?}");
+        let none = are_points(rt.alloc(), &WordSplitter::NoHyphenation, word, &[])?;
+        assert!(rt; none, "{word:?} without hyphenation");
+    }
+    Ok(())
+}
+
+/// A piece before a split point ends in its hyphen; the last one keeps the blanks of the word.
+#[test]
+fn words_are_split_into_their_pieces(rt: HostRuntime) -> Result<(), Fail> {
+    let rows: &[(&[&str], &[&str])] = &[
+        (&["foo-bar  "], &["foo-", "bar  "]),
+        (
+            &["can-be-split", "foo(-)bar "],
+            &["can-", "be-", "split", "foo(-)bar "],
+        ),
+        (&["   "], &["   "]),
+        (&["\x1b[3-1m"], &["\x1b[3-", "1m"]),
+        (&[], &[]),
+    ];
+    for &(texts, wanted) in rows {
+        let words = texts.iter().map(|text| Word::from(*text));
+        let pieces = split_words(rt.alloc(), words, &WordSplitter::HyphenSplitter)?;
+        assert!(rt; are_words(&pieces, wanted), "{pieces:?}");
+    }
+    Ok(())
+}
+
+/// Without hyphenation each word is its one piece.
+#[test]
+fn words_stay_whole_without_hyphenation(rt: HostRuntime) -> Result<(), Fail> {
+    let words = [Word::from("foo-bar"), Word::from("   "), Word::from("")];
+    let pieces = split_words(rt.alloc(), words, &WordSplitter::NoHyphenation)?;
+    assert_eq!(rt; pieces.as_slice(), words.as_slice());
+    Ok(())
+}
+
+/// Built-in splitters are equal if they are the same.
+#[test]
+fn splitters_are_equal_where_their_cases_are(rt: HostRuntime) -> Result<(), Fail> {
+    assert!(rt; WordSplitter::NoHyphenation == WordSplitter::NoHyphenation.clone()?);
+    assert!(rt; WordSplitter::NoHyphenation != WordSplitter::HyphenSplitter);
+    Ok(())
+}
+
+/// A word is cut before each visible character with which a piece that has columns would pass the
+/// limit. A piece of one character may pass it.
+#[test]
+fn a_word_is_cut_where_it_would_pass_the_limit(rt: HostRuntime) -> Result<(), Fail> {
+    let rows: &[(&str, usize, &[&str])] = &[
+        ("Hello!  ", 3, &["Hel", "lo!  "]),
+        ("Hello!  ", 5, &["Hello", "!  "]),
+        ("Hello!  ", 6, &["Hello!  "]),
+        ("foobar", 0, &["f", "o", "o", "b", "a", "r"]),
+        ("foobar", 1, &["f", "o", "o", "b", "a", "r"]),
+        ("foobar", usize::MAX, &["foobar"]),
+        ("안녕하세요", 8, &["안녕하세", "요"]),
+        ("あ", 0, &["あ"]),
+        ("あ", 1, &["あ"]),
+        ("あ", usize::MAX, &["あ"]),
+        ("あ\u{301}", 1, &["あ", "\u{301}"]),
+        ("あ\u{301}", 2, &["あ\u{301}"]),
+        // A word without text has no pieces.
+        ("   ", 0, &[]),
+        ("", 0, &[]),
+        ("", 1, &[]),
+        ("  ", usize::MAX, &[]),
+        // An escape sequence stays whole, and before a cut.
+        ("ab\x1b[0mcd", 2, &["ab\x1b[0m", "cd"]),
+        ("\x1b[1mab", 1, &["\x1b[1ma", "b"]),
+        ("ab\x1b[0m ", 1, &["a", "b\x1b[0m "]),
+        ("a\x1b[0mb", 0, &["a\x1b[0m", "b"]),
+        ("\x1b[1m\x1b[0m ", 0, &["\x1b[1m\x1b[0m "]),
+        ("\x1b]8;;u\x1b\\ab", 1, &["\x1b]8;;u\x1b\\a", "b"]),
+        ("ab\x1b[1", 1, &["a", "b\x1b[1"]),
+        ("\x1b[1", 0, &["\x1b[1"]),
+        ("1mab", 2, &["1m", "ab"]),
+    ];
+    for &(text, line_width, wanted) in rows {
+        let pieces: Vec<Word<'_>> = Word::from(text)
+            .break_apart(line_width)
+            .collect(rt.alloc())?;
+        assert!(rt; are_words(&pieces, wanted), "{text:?} at {line_width}");
+    }
+    Ok(())
+}
+
+/// The last piece has the whitespace and the penalty of the word, and each piece its own width.
+#[test]
+fn the_last_piece_has_the_ends_of_the_word(rt: HostRuntime) -> Result<(), Fail> {
+    let word = Word {
+        word: "abcd",
+        whitespace: "  ",
+        penalty: "-",
+        width: 9,
+    };
+    let mut pieces = word.break_apart(2);
+    assert_eq!(rt; pieces.next(), Some(Word::from("ab")));
+    let last = Word {
+        word: "cd",
+        width: 2,
+        ..word
+    };
+    assert_eq!(rt; pieces.next(), Some(last));
+    assert_eq!(rt; pieces.next(), None);
+    assert_eq!(rt; pieces.next(), None);
+    Ok(())
+}
+
+/// The words that are wider than the limit are broken, and the others stay.
+#[test]
+fn words_that_are_too_wide_are_broken(rt: HostRuntime) -> Result<(), Fail> {
+    let rows: &[(&[&str], usize, &[&str])] = &[
+        (&["ab ", "cdef "], 2, &["ab ", "cd", "ef "]),
+        (&["ab ", "cdef "], 1, &["a", "b ", "c", "d", "e", "f "]),
+        (&["   "], 0, &["   "]),
+        (&[], 0, &[]),
+    ];
+    for &(texts, line_width, wanted) in rows {
+        let words = texts.iter().map(|text| Word::from(*text));
+        let broken = break_words(rt.alloc(), words, line_width)?;
+        assert!(rt; are_words(&broken, wanted), "{broken:?}");
+    }
+    Ok(())
+}
+
+/// Whether a word is broken is decided by its field `width`.
+#[test]
+fn a_word_is_kept_by_its_width_alone(rt: HostRuntime) -> Result<(), Fail> {
+    let narrow = Word {
+        width: 2,
+        ..Word::from("abcd")
+    };
+    let kept = break_words(rt.alloc(), [narrow], 2)?;
+    assert_eq!(rt; kept.as_slice(), [narrow].as_slice());
+    let wide = Word {
+        width: 3,
+        ..Word::from("ab")
+    };
+    let broken = break_words(rt.alloc(), [wide], 2)?;
+    assert!(rt; are_words(&broken, &["ab"]));
+    Ok(())
+}

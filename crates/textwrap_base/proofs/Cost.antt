@@ -1,8 +1,11 @@
 pub mod Chosen
+pub mod Convex
 pub mod Lines
 pub mod Map
 pub mod Measures
 pub mod Overflow
+pub mod QueueCase
+pub mod QueueRows
 pub mod Results
 pub mod Rows
 pub mod Starts

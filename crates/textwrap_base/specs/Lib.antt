@@ -11,7 +11,10 @@ pub mod Lists
 pub mod Minima
 pub mod OptimalFit
 pub mod Penalties
+pub mod Queue
+pub mod Search
 pub mod Sizes
+pub mod Stretches
 pub mod Table
 pub mod Units
 pub mod Words

@@ -1,10 +1,11 @@
 //! The least costs of dividing fragments into lines: sources of line costs, a count of how often
-//! they are asked, and the table of least costs. At the line width 10 and the default penalties,
-//! the least cost of two fragments of width 5, without whitespace or penalty, is 1000: that of one
-//! line.
-ghost use Rattle.std.specs.Prelude.{◌≡◌, ℕ, ◌+◌, ◌<◌, ◌≤◌, length, map, slice_index, IfOk, OnOk};
-ghost use Rattle.std.specs.Prelude.{SomeIff};
+//! they are asked, the table of least costs, and the search that finds the same with fewer of them.
+//! At the line width 10 and the default penalties, the least cost of two fragments of width 5,
+//! without whitespace or penalty, is 1000: that of one line.
+ghost use Rattle.std.specs.Prelude.{◌≡◌, ℕ, ◌+◌, ◌-◌, ◌^◌, ◌<◌, ◌≤◌, length, map, slice_index, IfOk};
+ghost use Rattle.std.specs.Prelude.{OnOk, SomeIff};
 ghost use Rattle.textwrap_base.specs.Minima.{Costs, counted};
+ghost use Rattle.textwrap_base.specs.Queue.{AreAtMost, IsQueueCase, CountsSearch};
 ghost use Rattle.textwrap_base.specs.Cost.{priced_at, total_width, AreEqualFromSecond, IsLeastCost};
 ghost use Rattle.textwrap_base.specs.Errors.{Fits64Bits, Fits128Bits, Passes128Bits, Overflowed};
 ghost use Rattle.textwrap_base.specs.Table.{fragments_table, minimum_of, TableOverflows};
@@ -14,11 +15,16 @@ use crate::errors::WrapError;
 use crate::penalties::Penalties;
 use crate::words::Fragment;
 pub use line_costs::LineCosts;
-use std::alloc::Global;
+pub use queue::queue_search;
+pub use queue_case::is_queue_case;
+use std::alloc::{AllocError, Global};
 use std::marker::Model;
 use table::{fill_table, minima_of};
 
 mod line_costs;
+mod queue;
+mod queue_case;
+mod stretches;
 mod table;
 
 /// Counts how often line costs were asked for. Each call of `CostSource::candidate` is a step, and
@@ -159,14 +165,48 @@ pub fn table_minima<T: Fragment>(
     Ok(minima_of(alloc, &entries?)?)
 }
 
+/// The list of [`table_minima`], found by [`queue_search`]: the fragments, line widths and
+/// penalties have to be a queue case, as [`is_queue_case`] says of them. It asks for fewer line
+/// costs: of 1000 fragments (3, 1, 0) at the line width 80, the table asks for 500,500.
+///
+/// `steps` goes up by at least n for n fragments at `Ok`, and by at most n(10 + 2d) at `Ok` and
+/// `Err`, where d is how many binary digits n has.
+///
+/// # Errors
+/// Out of memory only: no cost of a queue case needs more than 128 bits.
+pub fn queue_minima<T: Fragment>(
+    alloc: Global,
+    fragments: &[T],
+    line_widths: &[usize],
+    penalties: &Penalties,
+    steps: &mut Steps,
+) -> Result<Vec<Minimum>, AllocError>
+    requires case { IsQueueCase T.sizes penalties.now line_widths.now fragments.now }
+    ensures entries { IfOk result (λ minima. minima.items ≡ map minimum_of
+        (fragments_table (λ x. priced_at penalties.now (T.sizes x)) penalties.now
+        line_widths.now fragments.now)) }
+    // Each cost is the least of its prefix.
+    ensures least { IfOk result (λ minima. (j : ℕ) → j ≤ length fragments.now
+        → IsLeastCost (λ x. priced_at penalties.now (T.sizes x)) penalties.now line_widths.now
+        fragments.now j (slice_index (map (λ minimum. minimum.cost) minima.items) j)) }
+    ensures steps { CountsSearch (length fragments.now) steps.old steps.new result }
+{
+    let mut costs = match LineCosts::new(alloc, fragments, line_widths, penalties) {
+        Ok(costs) => costs,
+        Err(WrapError::Memory(error)) => return Err(error),
+        Err(WrapError::Overflow(_)) => unreachable!(),
+    };
+    let minima = queue_search(alloc, &mut costs);
+    let asked = costs.steps();
+    steps.add(asked);
+    minima
+}
+
 /// These penalties, known to keep to 64 bits each: a proof sees the range of what is passed by
 /// value, and not of what a reference leads to.
 fn in_range(penalties: Penalties) -> Penalties
     ensures same { result ≡ penalties }
-    ensures nline { Fits64Bits result.nline_penalty }
-    ensures overflow { Fits64Bits result.overflow_penalty }
-    ensures short_last_line { Fits64Bits result.short_last_line_penalty }
-    ensures hyphen { Fits64Bits result.hyphen_penalty }
+    ensures range { AreAtMost (2 ^ 64 - 1) result }
 {
     penalties
 }

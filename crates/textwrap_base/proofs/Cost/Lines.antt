@@ -8,12 +8,11 @@ use Rattle.std.proofs.lemmas.List.{take_at, drop_at, map_push, reverse-append}
 use Rattle.std.proofs.lemmas.List.Elements.{All-head, All-tail, All-cons}
 use Rattle.std.proofs.lemmas.Bool.{eqb-false}
 use Rattle.std.proofs.lemmas.List.Folds.{drop_split}
-use Rattle.std.proofs.Math.Seq.{take-add}
 use Rattle.textwrap_base.specs.Division.{line_width, IsDivision}
 use Rattle.textwrap_base.specs.Cost.{PricedSizes, line_cost, lines_cost, starts_from}
 use Rattle.textwrap_base.specs.Table.{line_costs, FollowStarts}
 use Rattle.textwrap_base.specs.declared.penalties.Penalties.{Penalties}
-use Rattle.textwrap_base.proofs.Cost.Measures.{length-slice}
+use Rattle.textwrap_base.proofs.Cost.Measures.{take_slice, length-slice}
 use Rattle.textwrap_base.proofs.Cost.Starts.{AreStarts, starts_cost, FollowBack}
 
 -- where the lines start, the last line first
@@ -160,11 +159,9 @@ pub joined_after : {X : Type 0} (starts : List ℕ) (xs : List X) (j : ℕ) (aft
     → joined (lines_after starts xs j after) ≡ take j xs ++ joined after
 joined_after [] xs j after l h = rw h refl
 joined_after (i ∷ rest) xs j after l (h, hs) =
-    let e : i + (j - i) ≡ j = omega arith in
-    let parts = sym (take-add i (j - i) xs) ∙ ap (λ n. take n xs) e in
     joined_after rest xs i (slice_range xs i j ∷ after) (omega arith) hs
     ∙ sym (append_assoc (take i xs) (slice_range xs i j) (joined after))
-    ∙ ap (λ l. l ++ joined after) parts
+    ∙ ap (λ l. l ++ joined after) (sym (take_slice xs i j (omega arith)))
 
 pub some_after : {X : Type 0} (starts : List ℕ) (xs : List X) (j : ℕ) (after : List (List X))
     → j ≤ length xs → AreStarts starts j → All (λ line. line ≢ []) after

@@ -16,6 +16,7 @@ use Rattle.textwrap_base.specs.Cost.{PricedSizes, priced_at, fit_cost, last_brea
 use Rattle.textwrap_base.specs.Cost.{total_width}
 use Rattle.textwrap_base.specs.LineCosts.{measured, AreMeasured}
 use Rattle.textwrap_base.specs.Minima.{Costs}
+use Rattle.textwrap_base.specs.Queue.{AreAtMost}
 use Rattle.textwrap_base.specs.Table.{line_costs, fragment_costs}
 use Rattle.textwrap_base.specs.declared.minima.line_costs.Measure.{Measure}
 use Rattle.textwrap_base.specs.declared.penalties.Penalties.{Penalties}
@@ -60,14 +61,18 @@ slice_push xs i k d h l =
     rw e (take_more (drop i xs) (k - i) d within ∙ ap (λ y. take (k - i) (drop i xs) ++ y ∷ [])
     (get_or-drop i xs (k - i) d ∙ ap (λ n. get_or xs n d) at))
 
+-- the first j are the first i and what lies between
+pub take_slice : {X : Type 0} (xs : List X) (i j : ℕ) → i ≤ j
+    → take j xs ≡ take i xs ++ slice_range xs i j
+take_slice xs i j h =
+    let at : i + (j - i) ≡ j = omega arith in
+    ap (λ n. take n xs) (sym at) ∙ take-add i (j - i) xs
+
 pub open_width-slice : {X : Type 0} (sizes : X → Sizes) (xs : List X) (i k : ℕ) → i ≤ k
     → open_width sizes (take i xs) + open_width sizes (slice_range xs i k) ≡ open_width sizes
     (take k xs)
-open_width-slice sizes xs i k h =
-    let at : i + (k - i) ≡ k = omega arith in
-    sym (open_width-append sizes (take i xs) (take (k - i) (drop i xs)))
-    ∙ ap (open_width sizes) (sym (take-add i (k - i) xs))
-    ∙ ap (λ n. open_width sizes (take n xs)) at
+open_width-slice sizes xs i k h = sym (open_width-append sizes (take i xs) (slice_range xs i k))
+    ∙ ap (open_width sizes) (sym (take_slice xs i k h))
 
 -- a line's closed width is a difference of running sums
 pub closed_width-slice : {X : Type 0} (sizes : X → Sizes) (xs : List X) (i k : ℕ) (d : X) → i ≤ k
@@ -267,14 +272,7 @@ fragment_costs-map priced penalties widths xs =
     let with_cost : (ℕ → ℕ → ℕ → ℕ) → Costs = λ cost. record { ends = length xs; cost = cost } in
     ap with_ends (length-map xs priced) ∙ ap with_cost (line_costs-map priced penalties widths xs)
 
--- ---- one line of a prefix keeps to 128 bits where all widths keep to 64
-
--- each penalty keeps to 64 bits
-pub record Are64Bits (penalties : Penalties) : Type 0 where
-  pub nline : penalties.nline_penalty < 2 ^ 64
-  pub overflow : penalties.overflow_penalty < 2 ^ 64
-  pub short_last_line : penalties.short_last_line_penalty < 2 ^ 64
-  pub hyphen : penalties.hyphen_penalty < 2 ^ 64
+-- ---- a bound of what one line costs, where its numbers keep to a limit
 
 pub closed_width-le : {X : Type 0} (sizes : X → Sizes) (line : List X)
     → closed_width sizes line ≤ total_width sizes line
@@ -284,70 +282,58 @@ closed_width-le sizes (x ∷ y ∷ line) =
     let h = closed_width-le sizes (y ∷ line) in
     let e = total_width-cons sizes x (y ∷ line) in omega (arith, e, h)
 
-square_fits : (a b : ℕ) → a < 2 ^ 64 → b < 2 ^ 64 → a * b ≤ (2 ^ 64 - 1) * (2 ^ 64 - 1)
-square_fits a b h k =
-    let p : a ≤ 2 ^ 64 - 1 = omega arith in
-    let q : b ≤ 2 ^ 64 - 1 = omega arith in mul-le-mul p q
-
-fit_cost-le : (p : Penalties) (t closed : ℕ) (is_last is_single : Bool) → Are64Bits p → t < 2 ^ 64
-    → closed < 2 ^ 64
-    → fit_cost p t closed is_last is_single ≤ (2 ^ 64 - 1) * (2 ^ 64 - 1)
-fit_cost-le p t closed is_last is_single h k l =
-    let over = square_fits (closed - t) p.overflow_penalty (omega arith) h.overflow in
-    let gap = square_fits (t - closed) (t - closed) (omega arith) (omega arith) in
-    let short = h.short_last_line in
-    elim (ltb t closed) as (λ b.
-    (if b then (closed - t) * p.overflow_penalty else if is_last then (if is_single && ltb
-    (closed * p.short_last_line_fraction) t then p.short_last_line_penalty else 0)
-    else (t - closed) * (t - closed)) ≤ (2 ^ 64 - 1) * (2 ^ 64 - 1)) [
-      | true ↦ over
-      | false ↦ elim is_last as (λ b.
-          (if b then (if is_single && ltb
-          (closed * p.short_last_line_fraction) t then p.short_last_line_penalty else 0)
-          else (t - closed) * (t - closed)) ≤ (2 ^ 64 - 1) * (2 ^ 64 - 1)) [
-            | true ↦ elim (is_single && ltb (closed * p.short_last_line_fraction) t) as (λ b.
-                (if b then p.short_last_line_penalty else 0) ≤ (2 ^ 64 - 1) * (2 ^ 64 - 1))
-                [ true ↦ omega (arith, short) | false ↦ omega arith ]
-            | false ↦ gap
-          ]
-    ]
-
--- the hyphen penalty keeps to 64 bits, and so does what a fragment costs by it
-priced_at-fits : (p : Penalties) (sizes : Sizes) → Are64Bits p
-    → (priced_at p sizes).break_cost < 2 ^ 64
-priced_at-fits p sizes h = let k = h.hyphen in
-    elim (ltb 0 sizes.penalty) as (λ b. (if b then p.hyphen_penalty else 0) < 2 ^ 64)
-    [ true ↦ k | false ↦ omega arith ]
-
-pub priced_at-all_fit : {X : Type 0} (p : Penalties) (sizes : X → Sizes) (xs : List X) → Are64Bits p
-    → All (λ x. (priced_at p (sizes x)).break_cost < 2 ^ 64) xs
-priced_at-all_fit p sizes [] h = All-nil (λ x. (priced_at p (sizes x)).break_cost < 2 ^ 64)
-priced_at-all_fit p sizes (x ∷ xs) h =
-    All-cons (λ x. (priced_at p (sizes x)).break_cost < 2 ^ 64) x xs (priced_at-fits p (sizes x) h)
-    (priced_at-all_fit p sizes xs h)
-
-last_break_cost-fits : {X : Type 0} (priced : X → PricedSizes) (line : List X)
-    → All (λ x. (priced x).break_cost < 2 ^ 64) line → last_break_cost priced line < 2 ^ 64
-last_break_cost-fits priced [] all = omega arith
-last_break_cost-fits priced (x ∷ []) all = All-head (λ x. (priced x).break_cost < 2 ^ 64) x [] all
-last_break_cost-fits priced (x ∷ y ∷ line) all =
-    last_break_cost-fits priced (y ∷ line) (All-tail (λ x. (priced x).break_cost < 2 ^ 64) x
-    (y ∷ line) all)
-
-pub line_cost-fits : {X : Type 0} (priced : X → PricedSizes) (p : Penalties) (width : ℕ)
-    (is_last : Bool) (line : List X) → Are64Bits p → All (λ x. (priced x).break_cost < 2 ^ 64) line
-    → width < 2 ^ 64
-    → total_width (λ x. (priced x).sizes) line < 2 ^ 64
-    → line_cost priced p width is_last line < 2 ^ 128
-line_cost-fits priced p width is_last [] h breaks k l = omega arith
-line_cost-fits priced p width is_last (x ∷ line) h breaks k l =
-    let closed = closed_width-le (λ y. (priced y).sizes) (x ∷ line) in
-    let fit = fit_cost-le p (max width 1) (closed_width (λ y. (priced y).sizes) (x ∷ line)) is_last
-    (eqb (length (x ∷ line)) 1) h (omega arith) (omega arith) in
-    let end = last_break_cost-fits priced (x ∷ line) breaks in
-    let each = h.nline in omega (arith, fit, end, each)
-
 pub total_width-take : {X : Type 0} (sizes : X → Sizes) (xs : List X) (j : ℕ)
     → total_width sizes (take j xs) ≤ total_width sizes xs
 total_width-take {X = X} sizes xs j =
     sum_by-take-le (λ (x : X). (sizes x).width + (sizes x).whitespace + (sizes x).penalty) xs j
+
+if_le : (test : Bool) (a b most : ℕ) → a ≤ most → b ≤ most → (if test then a else b) ≤ most
+if_le true a b most h k = h
+if_le false a b most h k = k
+
+module _ (limit : ℕ) where
+  fit_cost-le : (p : Penalties) (t closed : ℕ) (is_last is_single : Bool) → AreAtMost limit p
+      → 1 ≤ t → t ≤ limit → closed ≤ limit
+      → fit_cost p t closed is_last is_single ≤ limit * limit
+  fit_cost-le p t closed is_last is_single h some k l =
+      let past : closed - t ≤ limit = omega arith in
+      let left : t - closed ≤ limit = omega arith in
+      let over = mul-le-mul past h.overflow in
+      let gap = mul-le-mul left left in
+      let one : 1 ≤ limit = omega arith in
+      let short = mul-le-mul one h.short_last_line in
+      let is_short = is_single && ltb (closed * p.short_last_line_fraction) t in
+      if_le (ltb t closed) ((closed - t) * p.overflow_penalty) _ (limit * limit) over
+      (if_le is_last (if is_short then p.short_last_line_penalty else 0)
+      ((t - closed) * (t - closed)) (limit * limit)
+      (if_le is_short p.short_last_line_penalty 0 (limit * limit) (omega (arith, short))
+      (omega arith)) gap)
+
+  -- the price by penalties that keep to the limit keeps to it too
+  pub priced_at-all_le : {X : Type 0} (p : Penalties) (sizes : X → Sizes) (xs : List X)
+      → AreAtMost limit p → All (λ x. (priced_at p (sizes x)).break_cost ≤ limit) xs
+  priced_at-all_le p sizes [] h = All-nil (λ x. (priced_at p (sizes x)).break_cost ≤ limit)
+  priced_at-all_le p sizes (x ∷ xs) h =
+      All-cons (λ x. (priced_at p (sizes x)).break_cost ≤ limit) x xs
+      (if_le (ltb 0 (sizes x).penalty) p.hyphen_penalty 0 limit h.hyphen (omega arith))
+      (priced_at-all_le p sizes xs h)
+
+  module _ {X : Type 0} (priced : X → PricedSizes) where
+    last_break_cost-le : (line : List X) → All (λ x. (priced x).break_cost ≤ limit) line
+        → last_break_cost priced line ≤ limit
+    last_break_cost-le [] all = omega arith
+    last_break_cost-le (x ∷ []) all = All-head (λ x. (priced x).break_cost ≤ limit) x [] all
+    last_break_cost-le (x ∷ y ∷ line) all =
+        last_break_cost-le (y ∷ line) (All-tail (λ x. (priced x).break_cost ≤ limit) x
+        (y ∷ line) all)
+
+    pub line_cost-le : (p : Penalties) (width : ℕ) (is_last : Bool) (line : List X)
+        → AreAtMost limit p → All (λ x. (priced x).break_cost ≤ limit) line → max width 1 ≤ limit
+        → closed_width (λ x. (priced x).sizes) line ≤ limit
+        → line_cost priced p width is_last line ≤ limit * limit + 2 * limit
+    line_cost-le p width is_last [] h breaks k l = omega arith
+    line_cost-le p width is_last (x ∷ line) h breaks k l =
+        let fit = fit_cost-le p (max width 1) (closed_width (λ y. (priced y).sizes) (x ∷ line))
+        is_last (eqb (length (x ∷ line)) 1) h (omega arith) k l in
+        let end = last_break_cost-le (x ∷ line) breaks in
+        let each = h.nline in omega (arith, fit, end, each)

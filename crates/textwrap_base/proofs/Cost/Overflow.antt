@@ -2,19 +2,21 @@
 use Rattle.std.proofs.Common.{◌≡◌, ℕ, zero, suc, ◌-◌, ◌^◌, ◌<◌, ◌≤◌, eqb, List, length, get_or}
 use Rattle.std.proofs.Common.{take, min, All, ap, arith, Result, Ok, Err, IsErrAnd}
 use Rattle.std.proofs.lemmas.List.Elements.{All-take}
+use Rattle.textwrap_base.specs.Sizes.{Sizes}
 use Rattle.textwrap_base.specs.Division.{line_width}
 use Rattle.textwrap_base.specs.Cost.{PricedSizes, total_width}
 use Rattle.textwrap_base.specs.Errors.{Overflowed}
+use Rattle.textwrap_base.specs.Queue.{AreAtMost}
 use Rattle.textwrap_base.specs.Table.{entry_at, table, line_costs, fragments_table}
 use Rattle.textwrap_base.specs.declared.minima.table.Entry.{Entry}
 use Rattle.textwrap_base.specs.declared.errors.WrapError.{WrapError}
 use Rattle.textwrap_base.specs.declared.errors.WrapError.TheVariants.{Memory, Overflow}
 use Rattle.textwrap_base.specs.declared.penalties.Penalties.{Penalties}
 use Rattle.textwrap_base.proofs.Cost.Table.{table-least, entry-table_first}
-use Rattle.textwrap_base.proofs.Cost.Measures.{Are64Bits, line_cost-fits, total_width-take}
+use Rattle.textwrap_base.proofs.Cost.Measures.{closed_width-le, line_cost-le, total_width-take}
 
 -- one line is a division of each prefix
-one_line : (cost : ℕ → ℕ → ℕ → ℕ) (n j : ℕ) → j < n
+pub one_line : (cost : ℕ → ℕ → ℕ → ℕ) (n j : ℕ) → j < n
     → (entry_at (table cost n) (suc j)).cost ≤ cost 0 (suc j) 0
 one_line cost n j l =
     let h = table-least cost n j l in
@@ -24,18 +26,21 @@ one_line cost n j l =
 
 -- where all widths together keep to 64 bits, each entry keeps to 128
 pub table-fits : {X : Type 0} (priced : X → PricedSizes) (p : Penalties) (widths : List ℕ)
-    (xs : List X) → Are64Bits p → All (λ x. (priced x).break_cost < 2 ^ 64) xs
+    (xs : List X) → AreAtMost (2 ^ 64 - 1) p → All (λ x. (priced x).break_cost ≤ 2 ^ 64 - 1) xs
     → ((i : ℕ) → get_or widths i 0 < 2 ^ 64) → total_width (λ x. (priced x).sizes) xs < 2 ^ 64
     → (j : ℕ) → j ≤ length xs → (entry_at (fragments_table priced p widths xs) j).cost < 2 ^ 128
 table-fits priced p widths xs h breaks k l zero b = let e =
     ap (λ (x : Entry). x.cost) (entry-table_first (line_costs priced p widths xs) (length xs)) in
     omega (arith, e)
-table-fits priced p widths xs h breaks k l (suc j) b =
+table-fits {X = X} priced p widths xs h breaks k l (suc j) b =
+    let sizes : X → Sizes = λ x. (priced x).sizes in
     let one = one_line (line_costs priced p widths xs) (length xs) j b in
-    let part = total_width-take (λ x. (priced x).sizes) xs (suc j - 0) in
-    let fits = line_cost-fits priced p (line_width widths 0) (eqb (suc j) (length xs))
-    (take (suc j - 0) xs) h (All-take (λ x. (priced x).break_cost < 2 ^ 64)
-    (suc j - 0) xs breaks) (k (min 0 (length widths - 1))) (omega arith) in
+    let part = total_width-take sizes xs (suc j - 0) in
+    let closed = closed_width-le sizes (take (suc j - 0) xs) in
+    let width = k (min 0 (length widths - 1)) in
+    let fits = line_cost-le (2 ^ 64 - 1) priced p (line_width widths 0) (eqb (suc j) (length xs))
+    (take (suc j - 0) xs) h (All-take (λ x. (priced x).break_cost ≤ 2 ^ 64 - 1)
+    (suc j - 0) xs breaks) (omega (arith, width)) (omega (arith, part, closed)) in
     omega (arith, one, fits)
 
 -- an error that is passed on

@@ -15,7 +15,7 @@ starts_and_costs widths fragments = map (λ (entry : Entry). (entry.start, entry
 
 -- ---- fragments whose closed width falls with the fourth
 
-abbrev falling : List Sizes
+abbrev pub falling : List Sizes
 falling = sized 10 0 0 ∷ sized 5 0 0 ∷ sized 5 0 5 ∷ sized 0 0 0 ∷ sized 10 0 0 ∷ []
 
 closed_width-falling : map (λ count. closed_width (λ (sizes : Sizes). sizes) (take count falling))

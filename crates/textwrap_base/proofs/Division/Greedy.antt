@@ -1,7 +1,7 @@
 -- Lemmas on the widths of lines and on divisions.
-use Rattle.std.proofs.Common.{◌≡◌, ◌≢◌, ℕ, suc, ◌+◌, ◌<◌, ◌≤◌, List, [], ◌∷◌, ◌++◌, length, get_or}
-use Rattle.std.proofs.Common.{map, take, drop, refl, sym, ap, ◌∙◌, subst, arith, ⊎_elim, add-zero}
-use Rattle.std.proofs.Common.{length-drop, length-append, take-append-drop, append_assoc, All}
+use Rattle.std.proofs.Common.{◌≡◌, ◌≢◌, ℕ, suc, ◌+◌, ◌-◌, ◌<◌, ◌≤◌, List, [], ◌∷◌, ◌++◌, length}
+use Rattle.std.proofs.Common.{get_or, map, take, drop, refl, sym, ap, ◌∙◌, subst, arith, ⊎_elim}
+use Rattle.std.proofs.Common.{add-zero, length-drop, length-append, take-append-drop, append_assoc, All}
 use Rattle.std.specs.List.{flat_map}
 use Rattle.std.proofs.Math.Seq.{take-append-add}
 use Rattle.std.proofs.lemmas.List.{take_all, take_more, take-append-le, length_push, length-take-le}
@@ -70,6 +70,18 @@ module _ {X : Type 0} (sizes : X → Sizes) where
   closed_width-take xs i x within is = ap (closed_width sizes) (take_one_more xs i x within is)
       ∙ closed_width-push (take i xs) x
 
+  -- with one fragment more, its widths and the whitespace before it take the place of the penalty
+  -- before it
+  pub closed_width-next : (xs : List X) (j : ℕ) (x y : X) → 0 < j → j < length xs
+      → x ≡ get_or xs (j - 1) x → y ≡ get_or xs j y
+      → closed_width sizes (take (j + 1) xs) + (sizes x).penalty ≡ closed_width sizes (take j xs) +
+      ((sizes x).whitespace + (sizes y).width + (sizes y).penalty)
+  closed_width-next xs j x y some within before last =
+      let same : j - 1 + 1 ≡ j = omega arith in
+      let closed = rw same at (closed_width-take xs (j - 1) x (omega arith) before) in
+      let opened = rw same at (open_width-take xs (j - 1) x (omega arith) before) in
+      omega (arith, closed, opened, closed_width-take xs j y within last)
+
   pub Fits-take : (width : ℕ) (xs : List X) (i : ℕ) (x : X) → i < length xs → x ≡ get_or xs i x
       → Fits sizes width (take i xs)
       → (0 < i → closed_width sizes (take (i + 1) xs) ≤ width) → Fits sizes width (take (i + 1) xs)
@@ -81,7 +93,7 @@ module _ {X : Type 0} (sizes : X → Sizes) where
       (λ some. subst (λ line. closed_width sizes line ≤ width) one_more (more (omega arith))))
 
   -- the end of a line closes within the whole
-  closed_width-end : (before line : List X)
+  pub closed_width-end : (before line : List X)
       → closed_width sizes line ≤ closed_width sizes (before ++ line)
   closed_width-end [] line = omega arith
   closed_width-end (x ∷ []) [] = omega arith

@@ -198,7 +198,7 @@ fn closed_width(measures: &[Measure], start: usize, end: usize) -> u128
 
 /// All widths, whitespace widths and penalty widths together, or `None` where they need more than
 /// 128 bits.
-fn total_width<T: Fragment>(fragments: &[T]) -> Option<u128>
+pub(super) fn total_width<T: Fragment>(fragments: &[T]) -> Option<u128>
     ensures { SomeIff result (Fits128Bits (total_width T.sizes fragments.now))
         (total_width T.sizes fragments.now) }
 {

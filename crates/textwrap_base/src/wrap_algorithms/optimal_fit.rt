@@ -1,12 +1,15 @@
 //! Optimal fit: the division of least cost.
-ghost use Rattle.std.specs.Prelude.{◌≡◌, ℕ, ◌+◌, ◌<◌, ◌≤◌, length, map, slice_index, IfOk};
-ghost use Rattle.textwrap_base.specs.Cost.{priced_at};
+ghost use Rattle.std.specs.Prelude.{◌≡◌, ℕ, ◌+◌, ◌<◌, ◌≤◌, length, map, slice_index, IfOk, OnOk};
+ghost use Rattle.textwrap_base.specs.Cost.{priced_at, total_width};
 ghost use Rattle.textwrap_base.specs.Division.{IsDivision};
-ghost use Rattle.textwrap_base.specs.Table.{FollowStarts, CountsSteps};
+ghost use Rattle.textwrap_base.specs.Errors.{Fits64Bits, Passes128Bits, Overflowed};
+ghost use Rattle.textwrap_base.specs.Queue.{IsQueueCase, CountsSearch};
+ghost use Rattle.textwrap_base.specs.Table.{fragments_table, minimum_of, FollowStarts};
+ghost use Rattle.textwrap_base.specs.Table.{TableOverflows, CountsSteps};
 ghost use Rattle.textwrap_base.specs.OptimalFit.{IsOptimalFitResult};
 
 use crate::errors::WrapError;
-use crate::minima::{Minimum, Steps, table_minima};
+use crate::minima::{Minimum, Steps, is_queue_case, queue_minima, table_minima};
 use crate::penalties::Penalties;
 use crate::words::Fragment;
 use std::alloc::{AllocError, Global};
@@ -43,7 +46,9 @@ pub fn wrap_optimal_fit<'a, T: Fragment>(
 }
 
 /// Returns what `wrap_optimal_fit` returns. `steps` goes up by one for each line cost that was
-/// asked for: by n(n + 1)/2 for n fragments at `Ok`, such as 15 for 5, and by no more at `Err`.
+/// asked for. In a queue case (see `is_queue_case`) these are at most n(10 + 2d) for n fragments,
+/// where d is how many binary digits n has, and at least n at `Ok`. Else they are n(n + 1)/2 at
+/// `Ok`, such as 15 for 5, and no more at `Err`.
 ///
 /// # Errors
 /// Those of `wrap_optimal_fit`.
@@ -56,11 +61,46 @@ pub fn wrap_optimal_fit_counted<'a, T: Fragment>(
 ) -> Result<Vec<&'a [T]>, WrapError>
     ensures fit { IsOptimalFitResult (λ x. priced_at penalties.now (T.sizes x)) penalties.now
         line_widths.now fragments.now (λ lines. map (λ line. line.now) lines.items) result }
-    ensures steps { CountsSteps (λ x. priced_at penalties.now (T.sizes x)) penalties.now
+    ensures steps { ¬ IsQueueCase T.sizes penalties.now line_widths.now fragments.now
+        → CountsSteps (λ x. priced_at penalties.now (T.sizes x)) penalties.now
         line_widths.now fragments.now steps.old steps.new result }
+    ensures queue_steps { IsQueueCase T.sizes penalties.now line_widths.now fragments.now
+        → CountsSearch (length fragments.now) steps.old steps.new result }
 {
-    let minima = table_minima(alloc, fragments, line_widths, penalties, steps)?;
+    let minima = find_minima(alloc, fragments, line_widths, penalties, steps)?;
     Ok(lines_by(alloc, fragments, &minima)?)
+}
+
+/// The least costs: by the search in a queue case, and else by the table.
+fn find_minima<T: Fragment>(
+    alloc: Global,
+    fragments: &[T],
+    line_widths: &[usize],
+    penalties: &Penalties,
+    steps: &mut Steps,
+) -> Result<Vec<Minimum>, WrapError>
+    ensures entries { IfOk result (λ minima. minima.items ≡ map minimum_of
+        (fragments_table (λ x. priced_at penalties.now (T.sizes x)) penalties.now
+        line_widths.now fragments.now)) }
+    ensures overflow_only { Overflowed result
+        → TableOverflows (λ x. priced_at penalties.now (T.sizes x)) penalties.now
+        line_widths.now fragments.now }
+    ensures ok_only { OnOk result
+        (¬ TableOverflows (λ x. priced_at penalties.now (T.sizes x)) penalties.now
+        line_widths.now fragments.now) }
+    ensures too_wide { Passes128Bits (total_width T.sizes fragments.now) → Overflowed result }
+    ensures no_overflow { Fits64Bits (total_width T.sizes fragments.now) → ¬ Overflowed result }
+    ensures steps { ¬ IsQueueCase T.sizes penalties.now line_widths.now fragments.now
+        → CountsSteps (λ x. priced_at penalties.now (T.sizes x)) penalties.now
+        line_widths.now fragments.now steps.old steps.new result }
+    ensures queue_steps { IsQueueCase T.sizes penalties.now line_widths.now fragments.now
+        → CountsSearch (length fragments.now) steps.old steps.new result }
+{
+    if is_queue_case(fragments, line_widths, penalties) {
+        let minima = queue_minima(alloc, fragments, line_widths, penalties, steps)?;
+        return Ok(minima);
+    }
+    table_minima(alloc, fragments, line_widths, penalties, steps)
 }
 
 /// The lines that follow the starts of the minima back from the end of the fragments.

@@ -1,4 +1,4 @@
-use Rattle.std.proofs.Common.{◌≡◌, Vec, Global, arith, ◌∙◌, ap, sym, subst, map, length, ℕ, ◌≤◌, ◌<◌, ◌^◌, inl, inr}
+use Rattle.std.proofs.Common.{◌≡◌, Vec, Global, arith, ◌∙◌, ap, sym, subst, map, length, ℕ, ◌≤◌, ◌<◌, ◌-◌, ◌^◌, inl, inr}
 use Rattle.textwrap_base.specs.Cost.{PricedSizes, priced_at, IsLeastCost}
 use Rattle.textwrap_base.specs.Minima.{Costs, counted, table_steps}
 use Rattle.textwrap_base.specs.Table.{table, entry_at, minimum_of, fragment_costs, line_costs}
@@ -8,7 +8,7 @@ use Rattle.textwrap_base.specs.declared.minima.table.Entry.{Entry}
 use Rattle.textwrap_base.proofs.Cost.Chosen.{entry-least_cost}
 use Rattle.textwrap_base.proofs.Cost.Starts.{cost_reported}
 use Rattle.textwrap_base.proofs.Cost.Overflow.{table-fits, overflowed_on}
-use Rattle.textwrap_base.proofs.Cost.Measures.{Are64Bits, priced_at-all_fit}
+use Rattle.textwrap_base.proofs.Cost.Measures.{priced_at-all_le}
 use Rattle.textwrap_base.proofs.minima.table_minima.Goals as goal
 
 pub returns-in_err-entries-clause-overflow_only : goal.returns-in_err-entries-clause-overflow_only
@@ -26,16 +26,12 @@ returns-in_err-entries-clause-overflow_only g c =
 pub returns-in_err-entries-clause-no_overflow : goal.returns-in_err-entries-clause-no_overflow
 returns-in_err-entries-clause-no_overflow g c =
     let lines = c.in_ok-costs.ensures.costs in
-    let kept : Are64Bits c.in_range-penalties.result = record {
-      nline = c.in_range-penalties.ensures.nline;
-      overflow = c.in_range-penalties.ensures.overflow;
-      short_last_line = c.in_range-penalties.ensures.short_last_line;
-      hyphen = c.in_range-penalties.ensures.hyphen;
-    } in
     λ narrow over.
     let fits = table-fits (λ x. priced_at c.in_range-penalties.result (g.T.Fragment.sizes x))
-    c.in_range-penalties.result c.args.line_widths.now c.args.fragments.now kept
-    (priced_at-all_fit c.in_range-penalties.result g.T.Fragment.sizes c.args.fragments.now kept)
+    c.in_range-penalties.result c.args.line_widths.now c.args.fragments.now
+    c.in_range-penalties.ensures.range
+    (priced_at-all_le (2 ^ 64 - 1) c.in_range-penalties.result g.T.Fragment.sizes
+    c.args.fragments.now c.in_range-penalties.ensures.range)
     (λ i. omega (arith, c.type_inv.line_widths i)) narrow in
     let (i, first, steps) = c.in_err-entries.ensures.overflow
     (overflowed_on (Vec Entry Global) c.from_residual-in_err-entries.result

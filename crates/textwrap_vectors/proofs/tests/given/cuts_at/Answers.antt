@@ -1,4 +1,4 @@
-use Rattle.std.proofs.Common.{◌≡◌, ◌++◌, ◌∷◌, [], ap, ◌∙◌}
+use Rattle.std.proofs.Common.{ap, ◌∙◌}
 use Rattle.textwrap.proofs.Cutting.{EndWith-push, inner-push, inner-cuts}
 use Rattle.textwrap_vectors.proofs.tests.given.cuts_at.Goals as goal
 use Rattle.textwrap_vectors.proofs.tests.given.cuts_at.Goals.{then-cut-last+then-cut-text+then-is_char_boundary+in_ok-push}

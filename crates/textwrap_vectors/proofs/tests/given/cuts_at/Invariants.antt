@@ -1,4 +1,4 @@
-use Rattle.textwrap.specs.Cuts.{AreCuts, AreInnerCuts}
+use Rattle.textwrap.specs.Cuts.{AreInnerCuts}
 use Rattle.textwrap.proofs.Cutting.{EndWith}
 use Rattle.textwrap_vectors.proofs.tests.given.cuts_at.Given as goal
 

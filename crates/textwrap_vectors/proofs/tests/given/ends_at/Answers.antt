@@ -1,5 +1,5 @@
-use Rattle.std.proofs.Common.{◌≡◌, ◌++◌, ◌∷◌, [], ap, ◌∙◌}
-use Rattle.textwrap.proofs.Cutting.{EndWith-push, ends-none, ends-push}
+use Rattle.std.proofs.Common.{ap, ◌∙◌}
+use Rattle.textwrap.proofs.Cutting.{EndWith-push, ends-push}
 use Rattle.textwrap_vectors.proofs.tests.given.ends_at.Goals as goal
 use Rattle.textwrap_vectors.proofs.tests.given.ends_at.Goals.{then-end-last+then-end-words+in_ok-push}
 use Rattle.textwrap_vectors.proofs.tests.given.ends_at.Goals.{else-end-last}

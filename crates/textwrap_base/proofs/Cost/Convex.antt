@@ -1,0 +1,168 @@
+-- Line costs are convex where closed widths never fall. What a line costs beside its gap comes from
+-- its end alone. The gap depends on what its end closes at, less what stands before its start; the
+-- first never falls along the ends, nor the second along the starts, and the gap's cost is convex.
+use Rattle.std.proofs.Common.{◌≡◌, ℕ, zero, suc, ◌+◌, ◌-◌, ◌*◌, ◌<◌, ◌≤◌, true, false, ltb, eqb}
+use Rattle.std.proofs.Common.{max, List, [], ◌∷◌, length, get_or, take, slice_range, refl}
+use Rattle.std.proofs.Common.{inl, inr, arith}
+use Rattle.std.proofs.lemmas.Bool.{cases_lt}
+use Rattle.std.proofs.lemmas.Bool.Decides.{nat_tests}
+use Rattle.textwrap_base.specs.Sizes.{Sizes}
+use Rattle.textwrap_base.specs.Division.{line_width, closed_width, open_width}
+use Rattle.textwrap_base.specs.Cost.{PricedSizes, fit_cost}
+use Rattle.textwrap_base.specs.Queue.{AreConvex, NeverFalls}
+use Rattle.textwrap_base.specs.Table.{line_costs, fragment_costs}
+use Rattle.textwrap_base.specs.declared.penalties.Penalties.{Penalties}
+use Rattle.textwrap_base.proofs.Cost.Measures.{line_cost-slice, closed_width-slice}
+use Rattle.textwrap_base.proofs.Cost.Measures.{open_width-slice}
+
+-- ---- the cost of missing the target
+
+module _ (p : Penalties) (target : ℕ) where
+  -- what a line of this closed width adds where others follow it
+  abbrev gap_cost : ℕ → ℕ
+  gap_cost closed = fit_cost p target closed false false
+
+  gap_cost-under : (gap closed : ℕ) → closed + gap ≡ target → gap_cost closed ≡ gap * gap
+  gap_cost-under gap closed is =
+      let fits : ltb target closed ≡ false = grind (arith, nat_tests) in
+      let left : target - closed ≡ gap = omega arith in rw (fits, left) refl
+
+  gap_cost-over : (more closed : ℕ) → closed ≡ target + more
+      → gap_cost closed ≡ more * p.overflow_penalty
+  gap_cost-over zero closed is =
+      let fits : ltb target closed ≡ false = grind (arith, nat_tests) in
+      let left : target - closed ≡ 0 = omega arith in rw (fits, left) (omega arith)
+  gap_cost-over (suc more) closed is =
+      let over : ltb target closed ≡ true = grind (arith, nat_tests) in
+      let past : closed - target ≡ suc more = omega arith in rw (over, past) refl
+
+  -- the difference that a unit makes never falls
+  gap_cost-next : (closed : ℕ)
+      → gap_cost (closed + 1) + gap_cost (closed + 1) ≤ gap_cost (closed + 2) + gap_cost closed
+  gap_cost-next closed = elim (cases_lt closed target) [
+    | inr over ↦
+        let more = closed - target in
+        omega (
+          arith,
+          gap_cost-over more closed (omega arith),
+          gap_cost-over (more + 1) (closed + 1) (omega arith),
+          gap_cost-over (more + 2) (closed + 2) (omega arith),
+        )
+    | inl under ↦ elim (cases_lt (closed + 1) target) [
+      | inr last ↦ omega (
+        arith,
+        gap_cost-under 1 closed (omega arith),
+        gap_cost-under 0 (closed + 1) (omega arith),
+      )
+      | inl more ↦
+          let gap = target - (closed + 2) in
+          omega (
+            arith,
+            gap_cost-under (gap + 2) closed (omega arith),
+            gap_cost-under (gap + 1) (closed + 1) (omega arith),
+            gap_cost-under gap (closed + 2) (omega arith),
+          )
+    ]
+  ]
+
+  gap_cost-step : (closed more : ℕ) → gap_cost (closed + 1) + gap_cost (closed + more)
+      ≤ gap_cost (closed + more + 1) + gap_cost closed
+  gap_cost-step closed zero = let same : closed + 0 ≡ closed = omega arith in rw same (omega arith)
+  gap_cost-step closed (suc more) =
+      let same : closed + suc more ≡ closed + more + 1 = omega arith in
+      let next : closed + more + 1 + 1 ≡ closed + more + 2 = omega arith in
+      rw (same, next) (omega (arith, gap_cost-step closed more, gap_cost-next (closed + more)))
+
+  gap_cost-convex : (closed u v : ℕ) → gap_cost (closed + u) + gap_cost (closed + v)
+      ≤ gap_cost (closed + u + v) + gap_cost closed
+  gap_cost-convex closed zero v =
+      let same : closed + 0 ≡ closed = omega arith in rw same (omega arith)
+  gap_cost-convex closed (suc u) v =
+      let same : closed + suc u ≡ closed + u + 1 = omega arith in
+      let next : closed + u + 1 + v ≡ closed + u + v + 1 = omega arith in
+      rw (same, next)
+      (omega (arith, gap_cost-convex closed u v, gap_cost-step (closed + u) v))
+
+-- ---- the cost of a line
+
+-- the closed width of a prefix: what stands before a line, and the line
+closed_width-prefix : {X : Type 0} (sizes : X → Sizes) (xs : List X) (i j : ℕ) (d : X) → i < j
+    → j ≤ length xs
+    → open_width sizes (take i xs) + closed_width sizes (slice_range xs i j)
+    ≡ closed_width sizes (take j xs)
+closed_width-prefix sizes xs i j d h l =
+    let same : j - 1 + 1 ≡ j = omega arith in
+    let from_start : j - 0 ≡ j = omega arith in
+    let whole = rw (same, from_start) at
+    (closed_width-slice sizes xs 0 (j - 1) d (omega arith) (omega arith)) in
+    let part = rw same at (closed_width-slice sizes xs i (j - 1) d (omega arith) (omega arith)) in
+    omega (arith, whole, part)
+
+closed_width-rises : {X : Type 0} (sizes : X → Sizes) (xs : List X) → NeverFalls sizes xs
+    → (j more : ℕ) → 0 < j → j + more ≤ length xs
+    → closed_width sizes (take j xs) ≤ closed_width sizes (take (j + more) xs)
+closed_width-rises sizes xs rising j zero some l =
+    let same : j + 0 ≡ j = omega arith in rw same (omega arith)
+closed_width-rises sizes xs rising j (suc more) some l =
+    let same : j + suc more ≡ j + more + 1 = omega arith in
+    let before = closed_width-rises sizes xs rising j more some (omega arith) in
+    let last = rising (j + more) (omega arith) (omega arith) in
+    rw same (omega (arith, before, last))
+
+module _ {X : Type 0} (priced : X → PricedSizes) (penalties : Penalties) (widths : List ℕ)
+    (xs : List X) where
+  abbrev sizes : X → Sizes
+  sizes x = (priced x).sizes
+
+  -- a line that does not end all fragments, by its closed width and its last fragment
+  line_costs-inner : (i j number : ℕ) (d : X) → i < j → j < length xs
+      → line_costs priced penalties widths xs i j number
+      ≡ penalties.nline_penalty + gap_cost penalties (max (line_width widths number) 1)
+      (closed_width sizes (take j xs) - open_width sizes (take i xs)) +
+      (priced (get_or xs (j - 1) d)).break_cost
+  line_costs-inner i j number d h l =
+      let same : j - 1 + 1 ≡ j = omega arith in
+      let not_last : eqb j (length xs) ≡ false = grind (arith, nat_tests) in
+      let closed : closed_width sizes (slice_range xs i j)
+      ≡ closed_width sizes (take j xs) - open_width sizes (take i xs) =
+      omega (arith, closed_width-prefix sizes xs i j d h (omega arith)) in
+      let cost = rw same at (line_cost-slice priced penalties (line_width widths number) false xs i
+      (j - 1) d (omega arith) (omega arith)) in
+      rw (not_last, ← closed) cost
+
+  line_costs-convex : X → NeverFalls sizes xs
+      → AreConvex (fragment_costs priced penalties widths xs)
+  line_costs-convex x rising a b c d some ab bc cd within =
+      let target = max (line_width widths 1) 1 in
+      let closed = closed_width sizes (take c xs) - open_width sizes (take b xs) in
+      let u = open_width sizes (take b xs) - open_width sizes (take a xs) in
+      let v = closed_width sizes (take d xs) - closed_width sizes (take c xs) in
+      let before = open_width-slice sizes xs a b (omega arith) in
+      let first = closed_width-prefix sizes xs b c x bc (omega arith) in
+      let to_end : c + (d - c) ≡ d = omega arith in
+      let rise = rw to_end at (closed_width-rises sizes xs rising c (d - c) (omega arith)
+      (omega arith)) in
+      let ac : closed_width sizes (take c xs) - open_width sizes (take a xs) ≡ closed + u =
+      omega (arith, before, first, rise) in
+      let bd : closed_width sizes (take d xs) - open_width sizes (take b xs) ≡ closed + v =
+      omega (arith, before, first, rise) in
+      let ad : closed_width sizes (take d xs) - open_width sizes (take a xs) ≡ closed + u + v =
+      omega (arith, before, first, rise) in
+      rw (
+        line_costs-inner a c 1 x (omega arith) (omega arith),
+        line_costs-inner b d 1 x (omega arith) (omega arith),
+        line_costs-inner a d 1 x (omega arith) (omega arith),
+        line_costs-inner b c 1 x (omega arith) (omega arith),
+        ac,
+        bd,
+        ad,
+      )
+      (omega (arith, gap_cost-convex penalties target closed u v))
+
+pub AreConvex-rising : {X : Type 0} (priced : X → PricedSizes) (penalties : Penalties)
+    (widths : List ℕ) (xs : List X) → NeverFalls (λ x. (priced x).sizes) xs
+    → AreConvex (fragment_costs priced penalties widths xs)
+AreConvex-rising priced penalties widths [] rising a b c d some ab bc cd within =
+    absurd (omega arith)
+AreConvex-rising priced penalties widths (x ∷ xs) rising a b c d some ab bc cd within =
+    line_costs-convex priced penalties widths (x ∷ xs) x rising a b c d some ab bc cd within

@@ -1,0 +1,96 @@
+-- The line costs of a queue case suit a search by a queue.
+use Rattle.std.proofs.Common.{inl, inr, ℕ, zero, suc, ◌^◌, ◌-◌, ◌<◌, ◌≤◌, eqb, min, max, List, [], ◌∷◌, length}
+use Rattle.std.proofs.Common.{take, drop, slice_range, slice_index, All, ap, arith}
+use Rattle.std.proofs.lemmas.List.Elements.{All-take, All-drop}
+use Rattle.textwrap_base.specs.Sizes.{Sizes}
+use Rattle.textwrap_base.specs.Division.{line_width, closed_width}
+use Rattle.textwrap_base.specs.Cost.{PricedSizes, priced_at, total_width}
+use Rattle.textwrap_base.specs.Queue.{queue_limit, AreSmall, SuitQueue, IsQueueCase}
+use Rattle.textwrap_base.specs.Table.{fragment_costs, fragments_table, entry_at, line_costs}
+use Rattle.textwrap_base.specs.Table.{TableOverflows}
+use Rattle.textwrap_base.specs.declared.minima.table.Entry.{Entry}
+use Rattle.textwrap_base.specs.declared.penalties.Penalties.{Penalties}
+use Rattle.textwrap_base.proofs.Division.Greedy.{closed_width-end}
+use Rattle.textwrap_base.proofs.Cost.Chosen.{line_costs-steady}
+use Rattle.textwrap_base.proofs.Cost.Convex.{AreConvex-rising}
+use Rattle.textwrap_base.proofs.Cost.Measures.{take_slice, closed_width-le, total_width-take}
+use Rattle.textwrap_base.proofs.Cost.Measures.{line_cost-le, priced_at-all_le}
+use Rattle.textwrap_base.proofs.Cost.Overflow.{one_line}
+use Rattle.textwrap_base.proofs.Cost.Table.{entry-table_first}
+
+target-small : (widths : List ℕ) (number : ℕ)
+    → ((l : ℕ) → l < length widths → slice_index widths l ≤ queue_limit)
+    → max (line_width widths number) 1 ≤ queue_limit
+target-small [] number small = omega arith
+target-small (width ∷ widths) number small =
+    let kept = small (min number (length (width ∷ widths) - 1)) (omega arith) in
+    omega (arith, kept)
+
+-- the closed width of any line is at most all widths together
+closed_width-slice_le : {X : Type 0} (sizes : X → Sizes) (xs : List X) (i j : ℕ) → i ≤ j
+    → closed_width sizes (slice_range xs i j) ≤ total_width sizes xs
+closed_width-slice_le sizes xs i j h =
+    let end = closed_width-end sizes (take i xs) (slice_range xs i j) in
+    let whole = ap (closed_width sizes) (take_slice xs i j h) in
+    let closed = closed_width-le sizes (take j xs) in
+    let part = total_width-take sizes xs j in omega (arith, end, whole, closed, part)
+
+module _ {X : Type 0} (priced : X → PricedSizes) (penalties : Penalties) (widths : List ℕ)
+    (xs : List X) where
+  line_costs-small : IsQueueCase (λ x. (priced x).sizes) penalties widths xs
+      → All (λ x. (priced x).break_cost ≤ queue_limit) xs
+      → AreSmall (fragment_costs priced penalties widths xs)
+  line_costs-small case breaks i j number h l =
+      let sizes : X → Sizes = λ x. (priced x).sizes in
+      let closed = closed_width-slice_le sizes xs i j (omega arith) in
+      let kept = All-take (λ x. (priced x).break_cost ≤ queue_limit) (j - i) (drop i xs)
+      (All-drop (λ x. (priced x).break_cost ≤ queue_limit) i xs breaks) in
+      let cost = line_cost-le queue_limit priced penalties (line_width widths number)
+      (eqb j (length xs)) (slice_range xs i j) case.small_penalties kept
+      (target-small widths number case.small_widths) (omega (arith, closed, case.small_sum)) in
+      omega (arith, cost)
+
+  -- whatever each fragment costs at the end of a line, up to the limit
+  pub SuitQueue-priced : IsQueueCase (λ x. (priced x).sizes) penalties widths xs
+      → All (λ x. (priced x).break_cost ≤ queue_limit) xs
+      → SuitQueue (fragment_costs priced penalties widths xs)
+  SuitQueue-priced case breaks = record {
+    numbers = λ start end number some ordered within counted.
+        line_costs-steady priced penalties widths xs case.equal start end number 1 counted
+        (omega arith);
+    convex = AreConvex-rising priced penalties widths xs case.rising;
+    small = line_costs-small case breaks;
+  }
+
+pub SuitQueue-queue_case : {X : Type 0} (sizes : X → Sizes) (penalties : Penalties)
+    (widths : List ℕ) (xs : List X) → IsQueueCase sizes penalties widths xs
+    → SuitQueue (fragment_costs (λ x. priced_at penalties (sizes x)) penalties widths xs)
+SuitQueue-queue_case sizes penalties widths xs case =
+    SuitQueue-priced (λ x. priced_at penalties (sizes x)) penalties widths xs case
+    (priced_at-all_le queue_limit penalties sizes xs case.small_penalties)
+
+-- each entry of the table costs at most 2^125
+queue_case-entry : {X : Type 0} (priced : X → PricedSizes) (penalties : Penalties)
+    (widths : List ℕ) (xs : List X) → AreSmall (fragment_costs priced penalties widths xs)
+    → (j : ℕ) → j ≤ length xs → (entry_at (fragments_table priced penalties widths xs) j).cost ≤ 2 ^ 125
+queue_case-entry priced penalties widths xs small zero within =
+    let first = ap (λ (e : Entry). e.cost)
+    (entry-table_first (line_costs priced penalties widths xs) (length xs)) in
+    omega (arith, first)
+queue_case-entry priced penalties widths xs small (suc j) within =
+    let one = one_line (line_costs priced penalties widths xs) (length xs) j within in
+    let line = small 0 (suc j) 0 (omega arith) within in omega (arith, one, line)
+
+-- nothing of a queue case passes 128 bits
+pub queue_case-fits : {X : Type 0} (sizes : X → Sizes) (penalties : Penalties) (widths : List ℕ)
+    (xs : List X) → IsQueueCase sizes penalties widths xs
+    → ¬ TableOverflows (λ x. priced_at penalties (sizes x)) penalties widths xs
+queue_case-fits sizes penalties widths xs case over =
+    let suits = SuitQueue-queue_case sizes penalties widths xs case in
+    elim over [
+      | inl wide ↦ omega (arith, wide, case.small_sum)
+      | inr (j, within, past) ↦
+          let small = queue_case-entry (λ x. priced_at penalties (sizes x)) penalties widths xs
+          suits.small j within in
+          omega (arith, small, past)
+    ]

@@ -1,0 +1,81 @@
+-- Worked rows at the default penalties: what is a queue case and what is none, and line costs that
+-- are not convex.
+use Rattle.std.proofs.Common.{ℕ, zero, suc, ◌+◌, ◌^◌, ◌<◌, ◌≤◌, List, [], ◌∷◌, slice_index}
+use Rattle.std.proofs.Common.{refl, arith}
+use Rattle.textwrap_base.specs.Sizes.{Sizes}
+use Rattle.textwrap_base.specs.Penalties.{default_penalties}
+use Rattle.textwrap_base.specs.Cost.{priced_at, AreEqualFromSecond}
+use Rattle.textwrap_base.specs.Queue.{queue_limit, AreAtMost, AreConvex, NeverFalls, IsQueueCase}
+use Rattle.textwrap_base.specs.Table.{fragment_costs}
+use Rattle.textwrap_base.proofs.Cost.Rows.{falling}
+use Rattle.textwrap_base.proofs.Division.Rows.{sized}
+
+abbrev IsCase : List ℕ → List Sizes → Type 0
+IsCase widths fragments = IsQueueCase (λ (sizes : Sizes). sizes) default_penalties widths fragments
+
+small_defaults : AreAtMost queue_limit default_penalties
+small_defaults = record {
+  nline = omega arith;
+  overflow = omega arith;
+  fraction = omega arith;
+  short_last_line = omega arith;
+  hyphen = omega arith;
+}
+
+-- ---- the line widths
+
+abbrev pair : List Sizes
+pair = sized 5 0 0 ∷ sized 5 0 0 ∷ []
+
+rising-pair : NeverFalls (λ (sizes : Sizes). sizes) pair
+rising-pair zero some within = absurd (omega arith)
+rising-pair (suc zero) some within = omega arith
+rising-pair (suc (suc j)) some within = absurd (omega arith)
+
+equal-later : AreEqualFromSecond (10 ∷ 20 ∷ 20 ∷ [])
+equal-later zero some within = absurd (omega arith)
+equal-later (suc zero) some within = refl
+equal-later (suc (suc zero)) some within = refl
+equal-later (suc (suc (suc k))) some within = absurd (omega arith)
+
+small-later : (l : ℕ) → l < 3 → slice_index (10 ∷ 20 ∷ 20 ∷ []) l ≤ queue_limit
+small-later zero within = omega arith
+small-later (suc zero) within = omega arith
+small-later (suc (suc zero)) within = omega arith
+small-later (suc (suc (suc l))) within = absurd (omega arith)
+
+case-one_later_width : IsCase (10 ∷ 20 ∷ 20 ∷ []) pair
+case-one_later_width = record {
+  equal = equal-later;
+  rising = rising-pair;
+  small_widths = small-later;
+  small_penalties = small_defaults;
+  small_sum = omega arith;
+}
+
+no_case-two_later_widths : ¬ IsCase (10 ∷ 20 ∷ 30 ∷ []) pair
+no_case-two_later_widths case =
+    let same = case.equal 2 (omega arith) (omega arith) in absurd (omega (arith, same))
+
+-- ---- the limit
+
+no_case-width_past_limit : ¬ IsCase ((2 ^ 62 + 1) ∷ []) (sized 1 0 0 ∷ [])
+no_case-width_past_limit case =
+    let small = case.small_widths 0 (omega arith) in absurd (omega (arith, small))
+
+-- ---- closed widths that fall
+
+no_case-penalty_gone : ¬ IsCase (10 ∷ []) (sized 5 0 5 ∷ sized 0 0 0 ∷ [])
+no_case-penalty_gone case =
+    let rise = case.rising 1 (omega arith) (omega arith) in absurd (omega (arith, rise))
+
+no_case-falling : ¬ IsCase (10 ∷ []) falling
+no_case-falling case =
+    let rise = case.rising 3 (omega arith) (omega arith) in absurd (omega (arith, rise))
+
+-- the second and third cost 13525, the third and fourth 1025, all three 1000, and the third 1025
+not_convex-falling : ¬ AreConvex (fragment_costs (priced_at default_penalties) default_penalties
+    (10 ∷ []) falling)
+not_convex-falling convex =
+    let overlap = convex 1 2 3 4 (omega arith) (omega arith) (omega arith) (omega arith)
+    (omega arith) in absurd (omega (arith, overlap))

@@ -1,0 +1,5 @@
+pub mod Best
+pub mod Costs
+pub mod Digits
+pub mod Steps
+pub mod Stretches

@@ -1,0 +1,26 @@
+use Rattle.std.proofs.Common.{◌≡◌, length}
+use Rattle.std.proofs.lemmas.Result.{on_ok_weaker}
+use Rattle.textwrap_base.specs.Search.{least_entry}
+use Rattle.textwrap_base.specs.Table.{minimum_of}
+use Rattle.textwrap_base.proofs.Search.Costs.{AreMinima-push}
+use Rattle.textwrap_base.proofs.minima.queue.advance.Goals as goal
+
+pub take_in-requires-clause-minima : goal.take_in-requires-clause-minima
+take_in-requires-clause-minima g c =
+    let costs = g.C.CostSource.costs c.args.costs.now in
+    let minima = c.args.minima.now.items in
+    let is : c.least_by_stretch-least.result ≡ minimum_of (least_entry costs (length minima)) =
+    rw c.deref.ensures.value at c.least_by_stretch-least.ensures.least in
+    rw (c.least_by_stretch-least.ensures.same, c.deref-2.ensures.value)
+    (AreMinima-push costs minima c.push.new.self.items c.least_by_stretch-least.result
+    c.requires.minima is c.in_ok-push.ensures.items)
+
+pub returns-clause-minima : goal.returns-clause-minima
+returns-clause-minima g c =
+    let costs = g.C.CostSource.costs c.args.costs.now in
+    let minima = c.args.minima.now.items in
+    let is : c.least_by_stretch-least.result ≡ minimum_of (least_entry costs (length minima)) =
+    rw c.deref.ensures.value at c.least_by_stretch-least.ensures.least in
+    on_ok_weaker c.take_in.result
+    (λ _. AreMinima-push costs minima c.push.new.self.items c.least_by_stretch-least.result
+    c.requires.minima is c.in_ok-push.ensures.items) c.take_in.ensures.current

@@ -1,0 +1,19 @@
+use Rattle.std.proofs.Common.{◌≡◌, length, ap, sym, ◌∙◌, arith}
+use Rattle.textwrap_base.specs.Search.{least_entry}
+use Rattle.textwrap_base.specs.Table.{table, entry_from, minimum_of}
+use Rattle.textwrap_base.proofs.Cost.Starts.{table-is_table}
+use Rattle.textwrap_base.proofs.Cost.Table.{least_one}
+use Rattle.textwrap_base.proofs.minima.queue.least_of_all.Goals as goal
+
+pub returns-clause-least : goal.returns-clause-least
+returns-clause-least g c =
+    let costs = g.C.CostSource.costs c.args.costs.now in
+    let end = length c.args.minima.now in
+    let i = c.loop-start.invariant in
+    let best = c.loop-start.best in
+    let all : c.loop-start.start ≡ end = omega arith in
+    let least = least_one costs.cost (table costs.cost costs.ends) end end (least_entry costs end)
+    (entry_from costs.cost best.start (least_entry costs best.start) end)
+    ((table-is_table costs.cost costs.ends).later end c.requires.minima.some c.requires.within)
+    (rw all at i.least) in
+    sym (ap minimum_of least ∙ ap (λ k. record { start = best.start; cost = k }) (sym i.cost))

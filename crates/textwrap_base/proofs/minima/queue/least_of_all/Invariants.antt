@@ -1,0 +1,16 @@
+use Rattle.std.proofs.Common.{◌≡◌}
+use Rattle.textwrap_base.specs.Minima.{counted}
+use Rattle.textwrap_base.specs.Search.{least_entry, cost_from}
+use Rattle.textwrap_base.specs.Table.{table, entry_from, IsLeastBelow}
+use Rattle.textwrap_base.proofs.minima.queue.least_of_all.Given as goal
+
+abbrev pub invariant-loop-start : goal.invariant-loop-start
+invariant-loop-start g l =
+    let costs = g.C.CostSource.costs l.fn.costs in
+    record {
+      same : g.C.CostSource.costs l.costs ≡ costs;
+      least : IsLeastBelow costs.cost (table costs.cost costs.ends) l.end l.start
+          (entry_from costs.cost l.best.start (least_entry costs l.best.start) l.end);
+      cost : l.best.cost ≡ cost_from costs l.best.start l.end;
+      steps : g.C.CostSource.steps l.costs ≡ counted (g.C.CostSource.steps l.fn.costs) l.start;
+    }

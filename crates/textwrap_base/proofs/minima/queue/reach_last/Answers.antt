@@ -1,0 +1,44 @@
+use Rattle.std.proofs.Common.{◌≡◌, ◌-◌, vec_len, ap, sym, ◌∙◌, arith}
+use Rattle.textwrap_base.specs.Minima.{Costs}
+use Rattle.textwrap_base.proofs.Search.Steps.{steps_more, steps_within}
+use Rattle.textwrap_base.proofs.minima.queue.reach_last.Goals as goal
+
+pub next_stretch-current-requires-clause-rising : goal.next_stretch-current-requires-clause-rising
+next_stretch-current-requires-clause-rising g c =
+    rw c.deref-in-loop-stretches.ensures.value c.loop-stretches.invariant.stretches.rising
+
+pub loop-stretches-preserved : goal.loop-stretches-preserved
+loop-stretches-preserved g c =
+    let i = c.loop-stretches.invariant in
+    let a = c.in_ok-advance.ensures in
+    let n = c.ends-ends.result in
+    let m = vec_len c.loop-stretches.minima in
+    let same : (g.C.CostSource.costs c.loop-stretches.costs).ends ≡ n =
+    ap (λ (l : Costs). l.ends) i.same ∙ sym c.ends-ends.ensures in
+    let len : vec_len c.advance.new.minima - 1 ≡ m = omega (arith, a.len) in
+    let step = rw same at a.steps in
+    record {
+      same = a.same ∙ i.same;
+      minima = rw i.same at a.minima;
+      two = omega (arith, a.len);
+      within = omega (arith, a.len);
+      stretches = rw len (rw i.same at a.stretches);
+      current = rw len a.current;
+      steps = steps_more n m (g.C.CostSource.steps c.args.costs.now)
+          (g.C.CostSource.steps c.loop-stretches.costs) (g.C.CostSource.steps c.advance.new.costs)
+          (vec_len c.loop-stretches.stretches) (vec_len c.advance.new.stretches) (omega arith) i.steps step
+          (vec_len c.advance.new.minima) a.len;
+      never_less = omega (arith, a.never_less);
+    }
+
+pub returns-in_err-advance-clause-steps : goal.returns-in_err-advance-clause-steps
+returns-in_err-advance-clause-steps g c =
+    let i = c.loop-stretches.invariant in
+    let a = c.in_err-advance.ensures in
+    let same : (g.C.CostSource.costs c.loop-stretches.costs).ends ≡ c.ends-ends.result =
+    ap (λ (l : Costs). l.ends) i.same ∙ sym c.ends-ends.ensures in
+    let step = rw same at a.steps in
+    rw (← c.ends-ends.ensures) (steps_within c.ends-ends.result (vec_len c.loop-stretches.minima)
+    (g.C.CostSource.steps c.args.costs.now) (g.C.CostSource.steps c.loop-stretches.costs)
+    (g.C.CostSource.steps c.advance.new.costs) (vec_len c.loop-stretches.stretches)
+    (vec_len c.advance.new.stretches) (omega arith) i.steps step)

@@ -1,0 +1,36 @@
+use Rattle.std.proofs.Common.{length, map, sym, ap, ◌∙◌, subst}
+use Rattle.std.proofs.lemmas.Result.{IfOk-weaker}
+use Rattle.textwrap_base.specs.Cost.{PricedSizes, priced_at, IsLeastCost}
+use Rattle.textwrap_base.specs.Minima.{Costs}
+use Rattle.textwrap_base.specs.Queue.{SuitQueue}
+use Rattle.textwrap_base.specs.Table.{table, line_costs, minimum_of}
+use Rattle.textwrap_base.proofs.Cost.Chosen.{entry-least_cost}
+use Rattle.textwrap_base.proofs.Cost.QueueCase.{SuitQueue-queue_case}
+use Rattle.textwrap_base.proofs.Cost.Starts.{cost_reported}
+use Rattle.textwrap_base.proofs.minima.queue_minima.Goals as goal
+
+pub queue_search-minima-requires : goal.queue_search-minima-requires
+queue_search-minima-requires g c = record {
+  suits = subst SuitQueue (sym c.in-Ok.ensures.costs)
+      (SuitQueue-queue_case g.T.Fragment.sizes c.args.penalties.now c.args.line_widths.now
+      c.args.fragments.now c.requires.case);
+}
+
+pub returns-clause-entries : goal.returns-clause-entries
+returns-clause-entries g c =
+    IfOk-weaker c.queue_search-minima.result _ _
+    (λ minima is. is ∙ ap (λ (l : Costs). map minimum_of (table l.cost l.ends)) c.in-Ok.ensures.costs)
+    c.queue_search-minima.ensures.minima
+
+pub returns-clause-least : goal.returns-clause-least
+returns-clause-least g c =
+    let priced : g.row.T.Denot → PricedSizes =
+    λ x. priced_at c.args.penalties.now (g.T.Fragment.sizes x) in
+    let widths = c.args.line_widths.now in
+    let fragments = c.args.fragments.now in
+    IfOk-weaker c.queue_search-minima.result _ _
+    (λ minima is j l. subst (IsLeastCost priced c.args.penalties.now widths fragments j)
+    (sym (cost_reported (line_costs priced c.args.penalties.now widths fragments)
+    (length fragments) _ is j l))
+    (entry-least_cost priced c.args.penalties.now widths fragments j l c.requires.case.equal))
+    (returns-clause-entries g c)

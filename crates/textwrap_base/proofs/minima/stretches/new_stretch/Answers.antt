@@ -1,0 +1,60 @@
+use Rattle.std.proofs.Common.{◌≡◌, ◌+◌, ◌-◌, ◌<◌, ◌≤◌, length, vec_len, arith, max}
+use Rattle.textwrap_base.specs.Search.{cost_from, IsBestFrom}
+use Rattle.textwrap_base.specs.Stretches.{stretch_at, HaveBest}
+use Rattle.textwrap_base.proofs.Search.Digits.{digits_mono}
+use Rattle.textwrap_base.proofs.Search.Stretches.{stretch_at-read, stretch_at-left, taken_over}
+use Rattle.textwrap_base.proofs.minima.stretches.new_stretch.Goals as goal
+
+taken : (g : _) (c : goal.After-take_over g)
+    → HaveBest (g.C.CostSource.costs c.args.costs.now) (length c.args.minima.now - 1)
+    c.take_over.result.from c.drop_beaten-won.new.stretches.items
+    × IsBestFrom (g.C.CostSource.costs c.args.costs.now) (length c.args.minima.now - 1)
+    c.take_over.result.from
+taken g c =
+    let costs = g.C.CostSource.costs c.args.costs.now in
+    let q = c.drop_beaten-won.new.stretches.items in
+    let n = vec_len c.drop_beaten-won.new.stretches in
+    let start = length c.args.minima.now - 1 in
+    let from = c.take_over.result.from in
+    let d = c.drop_beaten-won.ensures in
+    let read : c.index-rival.result.now ≡ stretch_at q (n - 1) =
+    stretch_at-read q n (c.len.result - 1) (n - 1) c.index-rival.result.now c.index-rival.ensures
+    (omega arith) (omega arith) (omega arith) (omega arith) in
+    let low : c.max-low.result ≡ max (start + 1) ((stretch_at q (n - 1)).from + 1) =
+    rw (← read) (omega arith) in
+    let between : c.max-low.result < from
+    → cost_from costs (stretch_at q (n - 1)).start (from - 1) ≤ cost_from costs start (from - 1) =
+    rw (← read) (rw d.same at c.take_over.ensures.unbeaten) in
+    let cheaper : from < c.drop_beaten-won.result.from
+    → cost_from costs start from < cost_from costs (stretch_at q (n - 1)).start from =
+    rw (← read) (rw d.same at c.take_over.ensures.beaten) in
+    taken_over costs c.requires.suits (length c.args.minima.now - 2) start (omega arith) q (n - 1)
+    c.drop_beaten-won.result.from (omega arith) d.best c.max-low.result from low
+    (omega arith) (omega arith) (omega arith) d.wins (λ l. d.unbeaten (omega arith)) between cheaper
+
+pub take_over-requires-clause-rival : goal.take_over-requires-clause-rival
+take_over-requires-clause-rival g c =
+    let q = c.drop_beaten-won.new.stretches.items in
+    let n = vec_len c.drop_beaten-won.new.stretches in
+    let d = c.drop_beaten-won.ensures in
+    let read : c.index-rival.result.now ≡ stretch_at q (n - 1) =
+    stretch_at-read q n (c.len.result - 1) (n - 1) c.index-rival.result.now c.index-rival.ensures
+    (omega arith) (omega arith) (omega arith) (omega arith) in
+    let left = stretch_at-left q c.args.stretches.now.items n (n - 1) d.left (omega arith) in
+    let priced = c.requires.stretches.priced (n - 1) (omega arith) in
+    rw (read, left) (omega (arith, priced.within))
+
+pub returns-clause-best : goal.returns-clause-best
+returns-clause-best g c = (taken g c).0
+
+pub returns-clause-wins : goal.returns-clause-wins
+returns-clause-wins g c = (taken g c).1
+
+pub returns-clause-steps : goal.returns-clause-steps
+returns-clause-steps g c =
+    let costs = g.C.CostSource.costs c.args.costs.now in
+    let d = c.drop_beaten-won.ensures in
+    let t = c.take_over.ensures in
+    let mono = digits_mono (c.drop_beaten-won.result.from - c.max-low.result)
+    (costs.ends - length c.args.minima.now) (omega arith) in
+    omega (arith, d.steps, t.steps, mono)

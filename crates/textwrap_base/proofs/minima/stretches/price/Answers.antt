@@ -1,0 +1,30 @@
+use Rattle.std.proofs.Common.{◌≡◌, ℕ, ◌∙◌, rules}
+use Rattle.std.proofs.Common.{IsSome, Option, Some, None, SomeIff}
+use Rattle.textwrap_base.proofs.Search.Costs.{cost_from-asked, cost_from-fits}
+use Rattle.textwrap_base.proofs.minima.stretches.price.Goals as goal
+
+some_where : (o : Option ℕ) (P : Type 0) (v : ℕ) → SomeIff o P v → P → IsSome o
+some_where None P v h p = absurd (h p)
+some_where (Some x) P v h p = search rules
+
+value_where : (o : Option ℕ) (P : Type 0) (v x : ℕ) → SomeIff o P v → o ≡ Some x → x ≡ v
+value_where None P v x h e = cc
+value_where (Some y) P v x h e = let f : x ≡ y = cc in f ∙ h.1
+
+pub unwrap-requires : goal.unwrap-requires
+unwrap-requires g c =
+    let costs = g.C.CostSource.costs c.args.costs.now in
+    let asked = cost_from-asked costs c.requires.suits c.args.minima.now c.args.start c.args.end
+    (record { start = 0; cost = 0 }) c.requires.minima c.requires.known c.requires.ordered
+    c.requires.within in
+    some_where _ _ _ c.candidate.ensures.cost (rw (c.min.ensures, asked)
+    (cost_from-fits costs c.requires.suits c.args.start c.args.end c.requires.ordered
+    c.requires.within))
+
+pub returns-clause-price : goal.returns-clause-price
+returns-clause-price g c =
+    let costs = g.C.CostSource.costs c.args.costs.now in
+    let asked = cost_from-asked costs c.requires.suits c.args.minima.now c.args.start c.args.end
+    (record { start = 0; cost = 0 }) c.requires.minima c.requires.known c.requires.ordered
+    c.requires.within in
+    value_where _ _ _ _ c.candidate.ensures.cost c.unwrap.ensures ∙ rw c.min.ensures asked

@@ -1,0 +1,8 @@
+use Rattle.std.proofs.Common.{refl}
+use Rattle.textwrap_base.proofs.Cost.QueueCase.{queue_case-fits}
+use Rattle.textwrap_base.proofs.wrap_algorithms.optimal_fit.find_minima.Goals as goal
+
+pub returns-then-is_queue_case-clause-ok_only : goal.returns-then-is_queue_case-clause-ok_only
+returns-then-is_queue_case-clause-ok_only g c =
+    queue_case-fits g.T.Fragment.sizes c.args.penalties.now c.args.line_widths.now
+    c.args.fragments.now (c.if-is_queue_case.ensures.case.0 refl)

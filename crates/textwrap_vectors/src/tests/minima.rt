@@ -1,8 +1,14 @@
-//! The table of least costs, and the line costs that it asks for.
+//! The table of least costs, the search for the same by a queue, the line costs that they ask for,
+//! and the queue case.
 use super::divisions::{Block, FALLING};
+use std::alloc::{AllocError, Global};
+use std::process::Abort;
 use std::test::Fail;
-use textwrap::minima::{CostSource, LineCosts, Minimum, Steps, table_minima};
-use textwrap::wrap_algorithms::Penalties;
+use textwrap::WrapError;
+use textwrap::minima::{
+    CostSource, LineCosts, Minimum, Steps, is_queue_case, queue_minima, queue_search, table_minima,
+};
+use textwrap::wrap_algorithms::{Penalties, wrap_optimal_fit_counted};
 
 /// Whether the minima have these starts and costs.
 fn are_minima(minima: &[Minimum], expected: &[(usize, u128)]) -> bool {
@@ -99,4 +105,247 @@ fn a_count_stays_at_its_end(rt: HostRuntime) {
     steps.add(u128::MAX - 1);
     steps.add(2);
     assert_eq!(rt; steps.count(), u128::MAX);
+}
+
+/// The greatest number of a queue case.
+const LIMIT: usize = 1 << 62;
+
+/// In a queue case all line widths from the second on are the same, closed widths never fall, and
+/// neither a line width nor the sum of all widths passes 2^62.
+#[test]
+fn queue_cases_are_told_by_their_widths(rt: HostRuntime) {
+    let rows: &[(&[Block], &[usize], bool)] = &[
+        (&[], &[], true),
+        (&[Block(5, 0, 0), Block(5, 0, 0)], &[10, 20], true),
+        (&[Block(5, 0, 0), Block(5, 0, 0)], &[10, 20, 20], true),
+        (&[Block(5, 0, 0), Block(5, 0, 0)], &[10, 20, 30], false),
+        (&[Block(5, 0, 0), Block(5, 0, 0)], &[20, 10, 10, 20], false),
+        // Two of them close at 5, and the first alone at 10.
+        (&[Block(5, 0, 5), Block(0, 0, 0)], &[10], false),
+        // Here both close at 10 too.
+        (&[Block(5, 0, 5), Block(5, 0, 0)], &[10], true),
+        (&[Block(5, 5, 5), Block(0, 0, 0)], &[10], true),
+        (&[Block(5, 0, 5), Block(0, 0, 5)], &[10], true),
+        (FALLING, &[10], false),
+        (&[Block(1, 0, 0)], &[LIMIT], true),
+        (&[Block(1, 0, 0)], &[LIMIT + 1], false),
+        (&[Block(1, 0, 0)], &[10, LIMIT + 1], false),
+        (&[Block(LIMIT - 2, 0, 0), Block(0, 1, 1)], &[10], true),
+        (&[Block(LIMIT - 2, 0, 0), Block(1, 1, 1)], &[10], false),
+        (&[Block(0, usize::MAX, 0)], &[10], false),
+    ];
+    for &(blocks, line_widths, expected) in rows {
+        let is_case = is_queue_case(blocks, line_widths, &Penalties::new());
+        assert_eq!(rt; is_case, expected, "{blocks:?} {line_widths:?}");
+    }
+}
+
+/// Each penalty of a queue case may be 2^62, and none may be more.
+#[test]
+fn queue_cases_are_told_by_their_penalties(rt: HostRuntime) {
+    let rows: &[([usize; 5], bool)] = &[
+        ([0, 0, 0, 0, 0], true),
+        ([LIMIT, LIMIT, LIMIT, LIMIT, LIMIT], true),
+        ([LIMIT + 1, 2500, 4, 25, 25], false),
+        ([1000, LIMIT + 1, 4, 25, 25], false),
+        ([1000, 2500, LIMIT + 1, 25, 25], false),
+        ([1000, 2500, 4, LIMIT + 1, 25], false),
+        ([1000, 2500, 4, 25, LIMIT + 1], false),
+    ];
+    for &(numbers, expected) in rows {
+        let penalties = Penalties {
+            nline_penalty: numbers[0],
+            overflow_penalty: numbers[1],
+            short_last_line_fraction: numbers[2],
+            short_last_line_penalty: numbers[3],
+            hyphen_penalty: numbers[4],
+        };
+        let is_case = is_queue_case(&[Block(1, 0, 0)], &[10], &penalties);
+        assert_eq!(rt; is_case, expected, "{penalties:?}");
+    }
+}
+
+/// Asserts that these are a queue case, in which the search gives the list of the table: each start
+/// and each cost.
+fn assert_agreed(
+    rt: &(impl Abort + AllocGlobal),
+    blocks: &[Block],
+    line_widths: &[usize],
+    penalties: &Penalties,
+) -> Result<(), WrapError> {
+    let mut steps = Steps::new();
+    let table = table_minima(rt.alloc(), blocks, line_widths, penalties, &mut steps)?;
+    assert!(rt; is_queue_case(blocks, line_widths, penalties), "{blocks:?}");
+    let minima = queue_minima(rt.alloc(), blocks, line_widths, penalties, &mut steps)?;
+    assert!(rt; minima.as_slice() == table.as_slice(), "{blocks:?}");
+    Ok(())
+}
+
+/// Fragments of a small generator: each width is drawn up to its mask, and the first raised.
+fn drawn_blocks(
+    alloc: Global,
+    seed: u64,
+    count: usize,
+    masks: [usize; 3],
+    raised: usize,
+) -> Result<Vec<Block>, AllocError> {
+    let mut blocks = Vec::new(alloc);
+    let mut state = seed;
+    for _ in 0..count {
+        state = state
+            .wrapping_mul(6_364_136_223_846_793_005)
+            .wrapping_add(1_442_695_040_888_963_407);
+        let drawn = (state >> 32) as usize;
+        let [width, whitespace, penalty] = masks;
+        blocks.push(Block(
+            (drawn & width).saturating_add(raised),
+            (drawn >> 8) & whitespace,
+            (drawn >> 16) & penalty,
+        ))?;
+    }
+    Ok(blocks)
+}
+
+/// The same number for each penalty.
+fn all_penalties(each: usize) -> Penalties {
+    Penalties {
+        nline_penalty: each,
+        overflow_penalty: each,
+        short_last_line_fraction: each,
+        short_last_line_penalty: each,
+        hyphen_penalty: each,
+    }
+}
+
+/// In the queue case the search gives the list of the table, ties included, whatever the first line
+/// width.
+#[test]
+fn the_search_agrees_with_the_table(rt: HostRuntime) -> Result<(), Fail> {
+    let penalties = [Penalties::new(), all_penalties(0), all_penalties(LIMIT)];
+    let widths: &[&[usize]] = &[&[80], &[20], &[5, 20], &[20, 5], &[0, 9], &[], &[7, 7, 7]];
+    let masks: &[([usize; 3], usize)] = &[
+        ([7, 1, 1], 1),
+        ([15, 0, 1], 1),
+        ([0, 0, 0], 3),
+        ([0, 0, 0], 0),
+        ([3, 1, 0], 0),
+    ];
+    for count in [0, 1, 2, 3, 4, 40] {
+        for &(masks, raised) in masks {
+            let blocks = drawn_blocks(rt.alloc(), 7, count, masks, raised)?;
+            for &line_widths in widths {
+                for penalties in &penalties {
+                    assert_agreed(&rt, &blocks, line_widths, penalties)?;
+                }
+            }
+        }
+    }
+    Ok(())
+}
+
+/// What the search finds over line costs of these fragments, which are a queue case, and its steps.
+fn searched(
+    rt: &(impl Abort + AllocGlobal),
+    blocks: &[Block],
+    line_widths: &[usize],
+) -> Result<(Vec<Minimum>, u128), WrapError> {
+    let penalties = Penalties::new();
+    assert!(rt; is_queue_case(blocks, line_widths, &penalties));
+    let mut costs = LineCosts::new(rt.alloc(), blocks, line_widths, &penalties)?;
+    let minima = queue_search(rt.alloc(), &mut costs)?;
+    Ok((minima, costs.steps()))
+}
+
+/// Of 1000 fragments the search asks for at most 30,000 line costs, where the table asks for
+/// 500,500. That all three calls by the search count the same shows that none searches uncounted.
+#[test]
+fn the_search_asks_for_few_line_costs(rt: HostRuntime) -> Result<(), Fail> {
+    let blocks = vec![in rt.alloc(); Block(3, 1, 0); 1000]?;
+    let penalties = Penalties::new();
+    let mut asked = Steps::new();
+    let table = table_minima(rt.alloc(), &blocks, &[80], &penalties, &mut asked)?;
+    assert_eq!(rt; asked.count(), 500_500);
+    let (minima, steps) = searched(&rt, &blocks, &[80])?;
+    assert!(rt; minima.as_slice() == table.as_slice());
+    assert!(rt; (1000..=30_000).contains(&steps), "{steps}");
+    assert!(rt; is_queue_case(&blocks, &[80], &penalties));
+    let mut searched = Steps::new();
+    let again = queue_minima(rt.alloc(), &blocks, &[80], &penalties, &mut searched)?;
+    assert!(rt; again.as_slice() == table.as_slice());
+    assert_eq!(rt; searched.count(), steps);
+    let mut counted = Steps::new();
+    wrap_optimal_fit_counted(rt.alloc(), &blocks, &[80], &penalties, &mut counted)?;
+    assert_eq!(rt; counted.count(), steps);
+    Ok(())
+}
+
+/// Outside the queue case the table is asked: 15 line costs of five fragments. No fragments need
+/// none, and one needs at most 12.
+#[test]
+fn steps_are_those_of_the_case(rt: HostRuntime) -> Result<(), Fail> {
+    let rows: &[(&[Block], u128, u128)] = &[
+        (FALLING, 15, 15),
+        (&[], 0, 0),
+        (&[Block(3, 1, 0)], 1, 12),
+    ];
+    for &(blocks, least, most) in rows {
+        let mut steps = Steps::new();
+        wrap_optimal_fit_counted(rt.alloc(), blocks, &[10], &Penalties::new(), &mut steps)?;
+        let count = steps.count();
+        assert!(rt; count >= least && count <= most, "{blocks:?}: {count}");
+    }
+    Ok(())
+}
+
+/// Lines that cost the square of how many fragments they have, and a count of what was asked.
+#[derive(Drop)]
+struct Squares {
+    ends: usize,
+    asked: u128,
+}
+
+impl CostSource for Squares {
+    ghost use Rattle.std.specs.Prelude.{◌*◌, ◌-◌};
+
+    ghost costs = { λ s. record {
+      ends = s.ends;
+      cost = λ start end number. (end - start) * (end - start);
+    } };
+
+    ghost steps = { λ s. s.asked };
+
+    fn ends(&self) -> usize {
+        self.ends
+    }
+
+    fn candidate(
+        &mut self,
+        start: usize,
+        end: usize,
+        _line_number: usize,
+        before: u128,
+    ) -> Option<u128> {
+        self.asked = self.asked.saturating_add(1);
+        let len = (end - start) as u128;
+        before.checked_add(len * len)
+    }
+}
+
+/// Where a line costs the square of its length, lines of one fragment are the cheapest: entry j
+/// starts at j - 1 and costs j. A table of 1000 fragments would ask for 500500 line costs.
+#[test]
+fn a_queue_searches_any_source_that_suits_it(rt: HostRuntime) -> Result<(), Fail> {
+    let mut squares = Squares {
+        ends: 1000,
+        asked: 0,
+    };
+    let minima = queue_search(rt.alloc(), &mut squares)?;
+    assert_eq!(rt; minima.len(), 1001);
+    assert_eq!(rt; minima[0], Minimum { start: 0, cost: 0 });
+    for (before, minimum) in minima.iter().skip(1).enumerate() {
+        assert_eq!(rt; minimum.start, before);
+        assert_eq!(rt; minimum.cost, before as u128 + 1);
+    }
+    assert!(rt; squares.asked <= 30_000, "{}", squares.asked);
+    Ok(())
 }

@@ -3,7 +3,7 @@ use Rattle.std.specs.Prelude.{◌≡◌, ℕ, ◌+◌, ◌-◌, List, [], ◌∷
 use Rattle.std.specs.Prelude.{EachIndex, ◌⊎◌}
 use Rattle.std.specs.List.{flat_map}
 use Rattle.textwrap_base.specs.Blanks.{blank}
-use Rattle.textwrap_base.specs.Division.{IsGreedy}
+use Rattle.textwrap_base.specs.Division.{IsGreedy, Fits}
 use Rattle.textwrap_base.specs.Words.{WordText, sizes_of, tiled, words_of}
 use Rattle.textwrap_lines.specs.LineEnding.{ending_bytes, join_with, line_feed, paragraphs_of}
 use Rattle.textwrap_lines.specs.declared.line_ending.LineEnding.TheVariants.{LF}
@@ -37,13 +37,12 @@ OnlyBlanksChange old new =
 
 -- ---- the places of the line feeds
 
--- the offset of the last byte of each of these texts, of which the first begins at `start`
-abbrev pub ends_from : ℕ → List (List ℕ) → List ℕ
-ends_from start [] = []
-ends_from start (text ∷ texts) =
-    (start + length text - 1) ∷ ends_from (start + length text) texts
+-- all words of the part fit one line
+abbrev pub FitsOneLine : ℕ → List ℕ → Type 0
+FitsOneLine width part = Fits sizes_of width (words_of part)
 
--- the same for each line of a part but the last
+-- the offset of the last byte of each line of a part but the last, where the first begins at
+-- `start`
 abbrev pub breaks_of : ℕ → List (List WordText) → List ℕ
 breaks_of start [] = []
 breaks_of start (line ∷ []) = []

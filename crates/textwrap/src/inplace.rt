@@ -1,21 +1,19 @@
 //! Filling in place: blanks of the text become line feeds.
-ghost use Rattle.std.specs.Prelude.{◌≡◌, ◌+◌, ◌<◌, ◌^◌, ◌++◌, List, ◌∷◌, [], length, map, All};
-ghost use Rattle.std.specs.Prelude.{string_bytes, IfOk, OnOk, OnErr};
-ghost use Rattle.std.specs.List.{flat_map};
+ghost use Rattle.std.specs.Prelude.{◌≡◌, ◌+◌, ◌<◌, ◌^◌, ◌++◌, List, ◌∷◌, [], length, All};
+ghost use Rattle.std.specs.Prelude.{string_bytes, IfOk, IsOk, OnOk, OnErr};
 ghost use Rattle.textwrap_base.specs.Division.{IsGreedy};
-ghost use Rattle.textwrap_base.specs.Words.{WordText, word_view, sizes_of, words_of, tiled};
+ghost use Rattle.textwrap_base.specs.Words.{WordText, sizes_of, words_of};
 ghost use Rattle.textwrap.specs.InPlace.{IsFilledInPlace, OnlyBlanksChange, AreDividedAt};
-ghost use Rattle.textwrap.specs.InPlace.{breaks_from, breaks_of, ends_from, with_line_feeds};
+ghost use Rattle.textwrap.specs.InPlace.{FitsOneLine, breaks_from, breaks_of, with_line_feeds};
 ghost use Rattle.textwrap_lines.specs.LineEnding.{paragraphs_of};
 ghost use Rattle.textwrap_lines.specs.Paragraph.{text_limit};
 ghost use Rattle.textwrap_lines.specs.declared.line_ending.LineEnding.TheVariants.{LF};
 
-use crate::words::Word;
-use crate::wrap_algorithms::wrap_first_fit;
-use std::alloc::{AllocError, Global};
+use crate::words::Fragment;
+use std::alloc::{AllocError, Allocator};
 use std::mem;
-use textwrap_lines::parts::{split_paragraph, tiled_len};
-use textwrap_lines::{LineEnding, WordSeparator};
+use textwrap_lines::LineEnding;
+use textwrap_lines::parts::{split_paragraph, words_at_blanks};
 
 /// Fills a text in its own place: a blank before each new line becomes a line feed.
 ///
@@ -29,15 +27,24 @@ use textwrap_lines::{LineEnding, WordSeparator};
 /// (`laws::filled_in_place_is_wrapped`). With the tables of the crate `unicode_width` this holds of
 /// every text: all characters were tried.
 ///
+/// Memory is needed for the offsets of the blanks that change, and for nothing else.
+///
 /// # Errors
-/// [`AllocError`] where memory runs out. Then the text is as it was.
-pub fn fill_inplace(alloc: Global, text: &mut String, width: usize) -> Result<(), AllocError>
+/// [`AllocError`] where memory runs out. Then the text is as it was. A text that stays as it is
+/// needs no memory, and the call succeeds.
+pub fn fill_inplace<A: Allocator + Copy>(
+    alloc: A,
+    text: &mut String<A>,
+    width: usize,
+) -> Result<(), AllocError>
     // By each part's words, divided greedily, the text has its line feeds.
     ensures filled { OnOk result (IsFilledInPlace width (string_bytes text.old)
         (string_bytes text.new)) }
     ensures len { length (string_bytes text.new) ≡ length (string_bytes text.old) }
     ensures only_blanks { OnlyBlanksChange (string_bytes text.old) (string_bytes text.new) }
     ensures unchanged { OnErr result (text.new ≡ text.old) }
+    ensures succeeds { IsFilledInPlace width (string_bytes text.old) (string_bytes text.old)
+        → IsOk result }
 {
     let breaks = find_breaks(alloc, text.as_str(), width)?;
     let mut bytes = mem::replace(text, String::new(alloc)).into_bytes();
@@ -51,17 +58,22 @@ pub fn fill_inplace(alloc: Global, text: &mut String, width: usize) -> Result<()
 }
 
 /// The offset of each blank of the text that becomes a line feed.
-fn find_breaks(alloc: Global, text: &str, width: usize) -> Result<Vec<usize>, AllocError>
-    ensures { IfOk result (λ breaks. (divisions : List (List (List WordText)))
+fn find_breaks<A: Allocator>(
+    alloc: A,
+    text: &str,
+    width: usize,
+) -> Result<Vec<usize, A>, AllocError>
+    ensures breaks { IfOk result (λ breaks. (divisions : List (List (List WordText)))
         × AreDividedAt width (paragraphs_of LF text.now) divisions
         × (breaks.items ≡ breaks_from 0 divisions)) }
+    ensures succeeds { All (FitsOneLine width) (paragraphs_of LF text.now) → IsOk result }
 {
     let mut breaks = Vec::new(alloc);
     let mut start = 0;
     let mut rest = Some(text);
     while let Some(text) = rest {
         let (part, after) = split_paragraph(text, LineEnding::LF);
-        push_breaks(alloc, part, start, width, &mut breaks)?;
+        push_breaks(part, start, width, &mut breaks)?;
         start += part.len() + 1;
         rest = after;
     }
@@ -69,50 +81,30 @@ fn find_breaks(alloc: Global, text: &str, width: usize) -> Result<Vec<usize>, Al
 }
 
 /// Adds the offsets within a part, which begins at the offset `start` of the text.
-fn push_breaks(
-    alloc: Global,
+fn push_breaks<A: Allocator>(
     part: &str,
     start: usize,
     width: usize,
-    breaks: &mut Vec<usize>,
+    breaks: &mut Vec<usize, A>,
 ) -> Result<(), AllocError>
     requires { start < text_limit }
-    ensures { OnOk result ((division : List (List WordText))
+    ensures breaks { OnOk result ((division : List (List WordText))
         × IsGreedy sizes_of (width ∷ []) (words_of part.now) division
         × (breaks.new.items ≡ breaks.old.items ++ breaks_of start division)) }
+    ensures succeeds { FitsOneLine width part.now → IsOk result }
 {
-    let words = collect_words(alloc, part)?;
-    let lines = wrap_first_fit(alloc, &words, &[width])?;
-    match lines.split_last() {
-        Some((_last, others)) => push_ends(others, start, breaks),
-        None => Ok(()),
-    }
-}
-
-/// The words of a part.
-fn collect_words<'t>(alloc: Global, part: &'t str) -> Result<Vec<Word<'t>>, AllocError>
-    ensures { IfOk result (λ words. map word_view words.items ≡ words_of part.now) }
-{
-    let mut words = Vec::new(alloc);
-    for word in WordSeparator::AsciiSpace.find_words(alloc, part)? {
-        words.push(word)?;
-    }
-    Ok(words)
-}
-
-/// Adds the offset of the last byte of each line, of which the first begins at the offset `start`.
-fn push_ends(lines: &[&[Word<'_>]], start: usize, breaks: &mut Vec<usize>) -> Result<(), AllocError>
-    requires start { start < text_limit }
-    requires texts { All (λ line. 0 < length (tiled (map word_view line.now))) lines.now }
-    requires within { length (flat_map (λ line. tiled (map word_view line.now)) lines.now)
-        < text_limit }
-    ensures { OnOk result (breaks.new.items ≡ breaks.old.items
-        ++ ends_from start (map (λ line. tiled (map word_view line.now)) lines.now)) }
-{
+    let mut line_start = start;
     let mut end = start;
-    for line in lines {
-        end += tiled_len(line);
-        breaks.push(end - 1)?;
+    let mut open_width = 0u128;
+    for word in words_at_blanks(part) {
+        let word_width = word.width() as u128;
+        if line_start < end && open_width + word_width > width as u128 {
+            breaks.push(end - 1)?;
+            line_start = end;
+            open_width = 0;
+        }
+        end += word.word.len() + word.whitespace.len();
+        open_width += word_width + word.whitespace.len() as u128;
     }
     Ok(())
 }

@@ -1,5 +1,17 @@
-//! What [`wrap`](crate::wrap) and filling in place share: the first paragraph of a text, and how
-//! long pieces are. The crate `textwrap` uses this module, but does not re-export it. Both calls
-//! have an example.
+//! What [`wrap`](crate::wrap) and filling in place share: the first paragraph of a text, and the
+//! words of a line that is cut at its blanks. The crate `textwrap` uses this module, but does not
+//! re-export it. Both calls have an example.
+ghost use Rattle.std.specs.Prelude.{◌≡◌};
+ghost use Rattle.textwrap_base.specs.Words.{words_of};
 
-pub use crate::wrapping::{split_paragraph, tiled_len};
+use crate::word_separators::Words;
+pub use crate::wrapping::split_paragraph;
+
+/// The words of a line that is cut at its blanks, one after the other, as
+/// [`WordSeparator::AsciiSpace`](crate::WordSeparator) finds them: of `"foo bar"` these are `"foo "`
+/// and `"bar"`. The call always succeeds and needs no memory.
+pub fn words_at_blanks(line: &str) -> Words<'_>
+    ensures { result ≡ words_of line.now }
+{
+    Words::of_line(line)
+}

@@ -341,8 +341,8 @@ fn cut_line<'t>(
     (slice, rest)
 }
 
-/// The bytes of the pieces with their whitespace: 8 for `"foo "` and `"bar "`.
-pub fn tiled_len(pieces: &[Word<'_>]) -> usize
+/// The bytes of the pieces with their whitespace.
+fn tiled_len(pieces: &[Word<'_>]) -> usize
     requires { length (tiled (map word_view pieces.now)) < text_limit }
     ensures len { result ≡ length (tiled (map word_view pieces.now)) }
     ensures utf8 { IsUtf8 (tiled (map word_view pieces.now)) }

@@ -1,7 +1,8 @@
 -- Lemmas on the lines of a text that is filled in place: they are the lines of the wrapped text.
 use Rattle.std.proofs.Common.{◌≡◌, ◌≢◌, ℕ, zero, suc, ◌+◌, ◌-◌, ◌<◌, ◌≤◌, min, Bool, true, false}
 use Rattle.std.proofs.Common.{◌||◌, nat_lt, ◌==◌, List, [], ◌∷◌, ◌++◌, All, length, take, map}
-use Rattle.std.proofs.Common.{get_or, refl, sym, ap, ◌∙◌, subst, arith, append_assoc}
+use Rattle.std.proofs.Common.{get_or, refl, sym, ap, ◌∙◌, subst, arith, append_assoc, append-nil}
+use Rattle.std.proofs.Common.{length-append}
 use Rattle.std.specs.List.{flat_map, suffix_len, prefix_len}
 use Rattle.std.specs.Prelude.{chars, encode_utf8}
 use Rattle.std.specs.Str.{IsUtf8, IsAscii}
@@ -25,7 +26,8 @@ use Rattle.textwrap_base.proofs.Word.Tiling.{tiled-words_of}
 use Rattle.textwrap_base.proofs.Word.Words.{words_unique}
 use Rattle.textwrap_lines.specs.declared.line_ending.LineEnding.TheVariants.{LF}
 use Rattle.textwrap_lines.specs.WordSplitters.{Whole}
-use Rattle.textwrap.specs.InPlace.{broken_lines, AreDividedAt, IsFilledInPlace}
+use Rattle.textwrap.specs.InPlace.{broken_lines, AreDividedAt, IsFilledInPlace, FitsOneLine}
+use Rattle.textwrap_base.proofs.Division.Map.{IsDivision-whole}
 use Rattle.textwrap_lines.specs.LineEnding.{line_feed}
 use Rattle.textwrap.specs.Laws.{unbroken_at}
 use Rattle.textwrap_lines.specs.LineEnding.{ending_bytes, paragraphs_of, join_with, Lacks}
@@ -46,6 +48,11 @@ use Rattle.textwrap_lines.proofs.Text.Endings.{parts_past-some}
 use Rattle.textwrap_lines.proofs.Paragraph.LinesApart.{shortened, AreLinesApart, IsBroken-greedy}
 use Rattle.textwrap.proofs.Text.InPlace.{feed_joined, join-broken, divisions-some}
 use Rattle.textwrap_lines.proofs.Text.Paragraphs.{paragraphs_one}
+
+pub line_width-one : (width number : ℕ) → line_width (width ∷ []) number ≡ width
+line_width-one width number =
+    let first : min number (length (width ∷ []) - 1) ≡ 0 = omega arith in
+    ap (λ k. get_or (width ∷ []) k 0) first
 
 -- ---- there is one text filled in place
 
@@ -124,6 +131,59 @@ filled-paragraphs width text filled divisions divided is =
       lacking = lacks-lines (ending_bytes LF) width (paragraphs_of LF text) divisions divided
           ((paragraphs_one LF text (paragraphs_of LF text)).1 refl).lacking;
     }))
+
+-- ---- where the text stays as it is, the words of each part fit one line
+
+length-broken : (lines : List (List WordText)) → length (broken_lines lines) ≡ length lines
+length-broken [] = refl
+length-broken (line ∷ []) = refl
+length-broken (line ∷ next ∷ lines) = ap (λ n. suc n) (length-broken (next ∷ lines))
+
+one_line-fits : (width : ℕ) (part : List ℕ) (lines : List (List WordText))
+    → IsGreedy sizes_of (width ∷ []) (words_of part) lines → length lines ≤ 1
+    → FitsOneLine width part
+one_line-fits width part [] greedy one =
+    absurd (omega (arith, (IsBroken-greedy (width ∷ []) part [] greedy).some))
+one_line-fits width part (line ∷ []) greedy one =
+    subst (Fits sizes_of width) (sym (append-nil line) ∙ whole (words_of part) greedy)
+    (subst (λ w. Fits sizes_of w line) (line_width-one width 0) greedy.admissible.fit.0)
+  where
+    whole : (words : List WordText) → IsGreedy sizes_of (width ∷ []) words (line ∷ [])
+        → flat (line ∷ []) ≡ words
+    whole words given = IsDivision-whole words (line ∷ []) given.admissible.division
+one_line-fits width part (line ∷ next ∷ lines) greedy one = absurd (omega (arith, one))
+
+lines-least : (width : ℕ) (parts : List (List ℕ)) (divisions : List (List (List WordText)))
+    → AreDividedAt width parts divisions → length parts ≤ length (flat_map broken_lines divisions)
+lines-least width [] divisions divided = omega arith
+lines-least width (part ∷ parts) [] divided = absurd divided
+lines-least width (part ∷ parts) (lines ∷ divisions) (greedy, divided) = omega (
+  arith,
+  lines-least width parts divisions divided,
+  (IsBroken-greedy (width ∷ []) part lines greedy).some,
+  length-broken lines,
+  length-append (broken_lines lines) (flat_map broken_lines divisions),
+)
+
+all_fit : (width : ℕ) (parts : List (List ℕ)) (divisions : List (List (List WordText)))
+    → AreDividedAt width parts divisions → length (flat_map broken_lines divisions) ≤ length parts
+    → All (FitsOneLine width) parts
+all_fit width [] divisions divided few = All-nil (FitsOneLine width)
+all_fit width (part ∷ parts) [] divided few = absurd divided
+all_fit width (part ∷ parts) (lines ∷ divisions) (greedy, divided) few =
+    let least = lines-least width parts divisions divided in
+    let some = (IsBroken-greedy (width ∷ []) part lines greedy).some in
+    let len = length-append (broken_lines lines) (flat_map broken_lines divisions) in
+    All-cons (FitsOneLine width) part parts
+    (one_line-fits width part lines greedy
+    (omega (arith, few, least, length-broken lines, len)))
+    (all_fit width parts divisions divided (omega (arith, few, some, length-broken lines, len)))
+
+pub unchanged-fits : (width : ℕ) (text : List ℕ) → IsFilledInPlace width text text
+    → All (FitsOneLine width) (paragraphs_of LF text)
+unchanged-fits width text (divisions, divided, is) =
+    all_fit width (paragraphs_of LF text) divisions divided
+    (omega (arith, ap length (filled-paragraphs width text text divisions divided is)))
 
 -- ---- a line and the blanks at its end
 
@@ -212,11 +272,6 @@ module _ {X : Type 0} (sizes : X → Sizes) (widths others : List ℕ)
     };
     full = AllFull-same 0 lines greedy.full;
   }
-
-line_width-one : (width number : ℕ) → line_width (width ∷ []) number ≡ width
-line_width-one width number =
-    let first : min number (length (width ∷ []) - 1) ≡ 0 = omega arith in
-    ap (λ k. get_or (width ∷ []) k 0) first
 
 line_width-two : (width number : ℕ) → line_width (width ∷ width ∷ []) number ≡ width
 line_width-two width zero =

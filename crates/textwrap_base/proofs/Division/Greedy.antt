@@ -36,7 +36,7 @@ module _ {X : Type 0} (sizes : X → Sizes) where
       let h = closed_width-push (z ∷ xs) x in omega (arith, e, h)
 
   -- a line that fits takes one more fragment, if that is its first or it closes within the width
-  Fits-push : (width : ℕ) (xs : List X) (x : X) → Fits sizes width xs
+  pub Fits-push : (width : ℕ) (xs : List X) (x : X) → Fits sizes width xs
       → (0 < length xs → closed_width sizes (xs ++ x ∷ []) ≤ width)
       → Fits sizes width (xs ++ x ∷ [])
   Fits-push width xs x fits more k two within =

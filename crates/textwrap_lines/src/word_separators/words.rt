@@ -32,7 +32,7 @@ enum Source<'a> {
 
 impl<'a> Words<'a> {
     /// The words of a line that is cut at its blanks.
-    pub(super) fn of_line(line: &'a str) -> Words<'a>
+    pub(crate) fn of_line(line: &'a str) -> Words<'a>
         ensures { result ≡ words_of line.now }
     {
         Words {

@@ -1,14 +1,18 @@
-use Rattle.std.proofs.Common.{◌+◌, ◌≤◌, length}
+use Rattle.std.proofs.Common.{◌+◌, ◌≤◌, All, length}
+use Rattle.textwrap_lines.specs.LineEnding.{paragraphs_of}
 use Rattle.textwrap_lines.specs.declared.line_ending.LineEnding.TheVariants.{LF}
+use Rattle.textwrap.specs.InPlace.{FitsOneLine}
 use Rattle.textwrap.proofs.Text.Breaks.{HasBreaks}
 use Rattle.textwrap_lines.proofs.Text.Lines.{paragraphs_left, bytes_left}
 use Rattle.textwrap.proofs.inplace.find_breaks.Given as goal
 
 -- the places so far, and those of the parts left, are the places of the text
 abbrev pub invariant-loop-rest : goal.invariant-loop-rest
-invariant-loop-rest l =
+invariant-loop-rest g l =
     HasBreaks l.width l.text l.breaks.items l.start (paragraphs_left LF l.rest)
     × (l.start + bytes_left l.rest ≤ length l.text + 1)
+    × (All (FitsOneLine l.width) (paragraphs_of LF l.text)
+    → All (FitsOneLine l.width) (paragraphs_left LF l.rest))
 
 abbrev pub decreases-loop-rest : goal.decreases-loop-rest
-decreases-loop-rest l = bytes_left l.rest
+decreases-loop-rest g l = bytes_left l.rest

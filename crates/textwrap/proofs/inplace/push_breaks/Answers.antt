@@ -1,38 +1,83 @@
-use Rattle.std.proofs.Common.{[], ◌∷◌, ◌++◌, map, ap, sym, ◌∙◌, subst, arith}
-use Rattle.std.proofs.lemmas.Result.{on_ok_weaker}
-use Rattle.textwrap_base.specs.Division.{IsGreedy}
-use Rattle.textwrap_base.specs.Words.{word_view, sizes_of}
-use Rattle.textwrap.proofs.Text.Breaks.{HasFront, HasFront-from, lines_of-words}
+use Rattle.std.proofs.Common.{◌+◌, ◌<◌, ◌≤◌, [], ◌∷◌, ◌++◌, length, ap, ◌∙◌, subst, arith, length-append}
+use Rattle.std.proofs.Common.{⊎_elim}
+use Rattle.std.proofs.lemmas.Bool.{cases_lt}
+use Rattle.textwrap_base.specs.Words.{word_view}
+use Rattle.textwrap.proofs.Text.Growing.{HasLine, HasLine-begin, HasLine-break, HasLine-join}
+use Rattle.textwrap.proofs.Text.Growing.{HasLine-none, HasLine-within, HasLine-fits}
+use Rattle.textwrap.proofs.Text.Growing.{HasLine-end}
 use Rattle.textwrap.proofs.inplace.push_breaks.Goals as goal
-use Rattle.textwrap.proofs.inplace.push_breaks.Goals.{In-Some}
+use Rattle.textwrap.proofs.inplace.push_breaks.Goals.{then-line_start-end+then-open_width-word_width+in_ok-push}
+use Rattle.textwrap.proofs.inplace.push_breaks.Goals.{else-line_start-end}
+use Rattle.textwrap.proofs.inplace.push_breaks.Goals.{else-line_start-end-via-then-line_start-end+else-open_width-word_width}
+use Rattle.textwrap.proofs.inplace.push_breaks.Goals.{else-line_start-end-via-else-line_start-end}
 
--- the lines before the last
-front : (c : In-Some) → HasFront (λ line. map word_view line.now) (c.args.width ∷ [])
-    c.args.part.now c.in_ok-lines.lines.items c.in-Some.others.now
-front c = HasFront-from (λ line. map word_view line.now) (c.args.width ∷ []) c.args.part.now
-    c.in_ok-lines.lines.items c.in-Some.others.now c.in-Some._last.now
-    (sym c.deref-2.ensures.value ∙ c.in-Some.ensures.cases.0)
-    (lines_of-words (λ line. line.now) (c.args.width ∷ []) c.args.part.now
-    c.in_ok-words.words.items c.in_ok-lines.lines.items
-    (subst (λ ws. IsGreedy (λ word. sizes_of (word_view word)) (c.args.width ∷ []) ws
-    (map (λ line. line.now) c.in_ok-lines.lines.items)) c.deref.ensures.value
-    c.in_ok-lines.ensures.greedy)
-    c.in_ok-words.ensures)
+pub loop-word-init : goal.loop-word-init
+loop-word-init g c = (
+  (
+    [],
+    HasLine-begin c.args.width c.args.start c.args.part.now c.args.breaks.now.items
+        c.into_iter-word-iterator.result
+        (c.into_iter-word-iterator.ensures.into_iter_gives ∙ c.words_at_blanks-word-items.ensures),
+  ),
+  omega arith,
+)
 
-pub push_ends-requires-clause-texts : goal.push_ends-requires-clause-texts
-push_ends-requires-clause-texts c =
-    (front (goal.at.push_ends-requires-clause-texts c).In-Some).some
+pub returns-in_err-push-clause-succeeds : goal.returns-in_err-push-clause-succeeds
+returns-in_err-push-clause-succeeds g c = λ fits.
+    let (line, has) = c.loop-word.invariant.0 in
+    let here = subst (λ ws. HasLine c.args.width c.args.start c.args.part.now
+    c.args.breaks.now.items c.loop-word.breaks.items c.loop-word.line_start c.loop-word.end
+    c.loop-word.open_width ws line) c.in-Some.ensures.steps has in
+    let within = HasLine-fits here fits c.if-line_start-end.true in
+    absurd (omega (arith, within, c.if-open_width-word_width.true))
 
-pub push_ends-requires-clause-within : goal.push_ends-requires-clause-within
-push_ends-requires-clause-within c =
-    let within = (front (goal.at.push_ends-requires-clause-within c).In-Some).within in
-    omega (arith, within)
+pub loop-word-preserved : goal.loop-word-preserved
+loop-word-preserved g c =
+    let (line, has) = c.loop-word.invariant.0 in
+    let word = word_view c.in-Some.word in
+    let now = c.if-line_start-end in
+    let len = length word.word + length word.whitespace in
+    let taken = now.open_width + (c.width-word_width.result + length word.whitespace) in
+    let len_is = length-append word.word word.whitespace in
+    let here = subst (λ ws. HasLine c.args.width c.args.start c.args.part.now
+    c.args.breaks.now.items c.loop-word.breaks.items c.loop-word.line_start c.loop-word.end
+    c.loop-word.open_width ws line) c.in-Some.ensures.steps has in
+    let within = HasLine-within here in
+    elim now.branch [
+      | then-line_start-end+then-open_width-word_width+in_ok-push w ↦ (
+        (
+          word ∷ [],
+          HasLine-break here now.line_start len taken now.breaks.items w.if-line_start-end.true
+              (omega (arith, w.if-open_width-word_width.true)) w.line_start-is (omega (arith, len_is))
+              (omega (arith, w.open_width-is))
+              (ap (λ v. v.items) w.breaks-is ∙ w.in_ok-push.ensures.items),
+        ),
+        omega (arith, within, w.open_width-is),
+      )
+      | else-line_start-end w ↦
+          let room : c.loop-word.line_start < c.loop-word.end
+          → c.loop-word.open_width + word.width ≤ c.args.width =
+          elim w.else-line_start-end.branch [
+            | else-line_start-end-via-then-line_start-end+else-open_width-word_width v ↦ λ began.
+                omega (arith, v.if-open_width-word_width.false)
+            | else-line_start-end-via-else-line_start-end v ↦ λ began.
+                absurd (omega (arith, began, v.if-line_start-end.false))
+          ] in (
+            (
+              line ++ word ∷ [],
+              HasLine-join here now.line_start len taken now.breaks.items room w.line_start-is
+                  (omega (arith, len_is)) (omega (arith, w.open_width-is))
+                  (ap (λ v. v.items) w.breaks-is),
+            ),
+            ⊎_elim
+                (λ (began : c.loop-word.line_start < c.loop-word.end).
+                omega (arith, within, w.open_width-is, room began))
+                (λ (begun : c.loop-word.end ≤ c.loop-word.line_start).
+                omega (arith, within, w.open_width-is, HasLine-none here begun))
+                (cases_lt c.loop-word.line_start c.loop-word.end),
+          )
+    ]
 
-pub returns-in-Some : goal.returns-in-Some
-returns-in-Some c =
-    let lines = front (goal.at.returns-in-Some c).In-Some in
-    on_ok_weaker c.push_ends.result (λ added. (
-      map (λ line. map word_view line.now) c.in_ok-lines.lines.items,
-      lines.greedy,
-      added ∙ ap (λ l. c.args.breaks.now.items ++ l) (sym (lines.places c.args.start)),
-    )) c.push_ends.ensures
+pub returns-clause-breaks : goal.returns-clause-breaks
+returns-clause-breaks g c =
+    let (line, has) = c.loop-word.invariant.0 in HasLine-end has c.in-None.ensures.steps.0

@@ -1,0 +1,220 @@
+-- Lemmas on filling a part in place word by word: what is known of the line so far, and of the
+-- offsets so far.
+use Rattle.std.proofs.Common.{◌≡◌, ◌≢◌, ℕ, ◌+◌, ◌-◌, ◌<◌, ◌≤◌, List, [], ◌∷◌, ◌++◌, All, length, map}
+use Rattle.std.proofs.Common.{refl, sym, ap, ◌∙◌, subst, arith, append_assoc, append-nil}
+use Rattle.std.proofs.Common.{length-append}
+use Rattle.std.proofs.lemmas.List.Elements.{All-nil, All-cons, All-head, All-tail}
+use Rattle.textwrap_base.specs.Division.{closed_width, open_width, Fits, IsGreedy}
+use Rattle.textwrap_base.specs.Words.{WordText, sizes_of, tile_of, tiled, word_of, words_of, chunks}
+use Rattle.textwrap_base.proofs.Division.Greedy.{closed_width-push, open_width-append}
+use Rattle.textwrap_base.proofs.Division.Greedy.{some_from_nonempty}
+use Rattle.textwrap_base.proofs.Word.Texts.{HasNoPenalty}
+use Rattle.textwrap_base.proofs.Word.Tiling.{tiled-append, tiled-push, tiled-words_of}
+use Rattle.textwrap_base.proofs.Word.Words.{words_unique}
+use Rattle.textwrap_lines.proofs.Text.Lossless.{tiled-word_of}
+use Rattle.textwrap.specs.InPlace.{FitsOneLine, breaks_of}
+use Rattle.textwrap.proofs.Text.Grown.{grown, grown-full, grown-room, grown-begins, grown-greedy}
+use Rattle.textwrap.proofs.Text.Grown.{prefix-closes}
+
+-- ---- the words of a part have bytes, and no penalty
+
+pub record IsPlain (word : WordText) : Type 0 where
+  pub penalty : HasNoPenalty word
+  pub some : 0 < length (tile_of word)
+
+plain-chunks : (parts : List (List ℕ)) → All (λ part. part ≢ []) parts
+    → All IsPlain (map word_of parts)
+plain-chunks [] some = All-nil IsPlain
+plain-chunks (part ∷ parts) some =
+    All-cons IsPlain (word_of part) (map word_of parts)
+    (record {
+      penalty = refl;
+      some = subst (λ l. 0 < length l)
+          (sym (tiled-word_of part) ∙ append-nil (tile_of (word_of part)))
+          (some_from_nonempty part (All-head (λ p. p ≢ []) part parts some));
+    })
+    (plain-chunks parts (All-tail (λ p. p ≢ []) part parts some))
+
+plain-words : (part : List ℕ) → All IsPlain (words_of part)
+plain-words part =
+    let (parts, are, is) = (words_unique part (words_of part)).1 refl in
+    subst (All IsPlain) (sym is) (plain-chunks parts are.nonempty)
+
+-- ---- the line so far, from the offset `begin` of the text, and the words that are left
+
+pub record HasLine (width start : ℕ) (part old breaks : List ℕ) (begin end taken : ℕ)
+    (left line : List WordText) : Type 0 where
+  pub after : start ≤ begin
+  pub end_is : end ≡ begin + length (tiled line)
+  pub taken_is : taken ≡ open_width sizes_of line
+  pub some : line ≢ [] → begin < end
+  pub plain : All IsPlain left
+  pub room : end + length (tiled left) ≡ start + length part
+  pub places : breaks ++ breaks_of begin (grown sizes_of width left line)
+      ≡ old ++ breaks_of start (grown sizes_of width (words_of part) [])
+  pub whole : FitsOneLine width part → line ++ left ≡ words_of part
+
+pub HasLine-begin : (width start : ℕ) (part old : List ℕ) (left : List WordText)
+    → left ≡ words_of part → HasLine width start part old old start start 0 left []
+HasLine-begin width start part old left is = record {
+  after = omega arith;
+  end_is = omega arith;
+  taken_is = refl;
+  some = λ none. absurd (none refl);
+  plain = subst (All IsPlain) (sym is) (plain-words part);
+  room = omega (arith, ap length (ap tiled is ∙ tiled-words_of part));
+  places = ap (λ ws. old ++ breaks_of start (grown sizes_of width ws [])) is;
+  whole = λ fits. is;
+}
+
+line_some : (ws : List WordText) → 0 < length (tiled ws) → 0 < length ws
+line_some [] some = some
+line_some (w ∷ ws) some = omega arith
+
+module _ {width start : ℕ} {part old breaks : List ℕ} {begin end taken : ℕ} {x : WordText}
+    {left line : List WordText}
+    (has : HasLine width start part old breaks begin end taken (x ∷ left) line) where
+  first : IsPlain x
+  first = All-head IsPlain x left has.plain
+
+  closes : closed_width sizes_of (line ++ x ∷ []) ≡ taken + x.width
+  closes = omega (
+    arith,
+    closed_width-push sizes_of line x,
+    has.taken_is,
+    ap length first.penalty,
+  )
+
+  passed : (len : ℕ) → len ≡ length (tile_of x)
+      → end + len + length (tiled left) ≡ start + length part
+  passed len is =
+      omega (
+        arith,
+        is,
+        has.room,
+        ap length (tiled-append (x ∷ []) left),
+        length-append (tile_of x) (tiled left),
+        ap length (append-nil (tile_of x)),
+      )
+
+  -- the line has no room for the word, so the blank before it is a place
+  pub HasLine-break : (from len more : ℕ) (pushed : List ℕ) → begin < end
+      → width < taken + x.width → from ≡ end → len ≡ length (tile_of x)
+      → more ≡ x.width + length x.whitespace → pushed ≡ breaks ++ (end - 1) ∷ []
+      → HasLine width start part old pushed from (end + len) more left (x ∷ [])
+  HasLine-break from len more pushed began over from_is len_is more_is pushed_is =
+      let some : 0 < length line = line_some line (omega (arith, began, has.end_is)) in
+      let full : width < closed_width sizes_of (line ++ x ∷ []) = omega (arith, closes, over) in
+      let (others, rest, is) = grown-begins sizes_of width left (x ∷ []) in
+      let next = grown sizes_of width left (x ∷ []) in
+      let after : breaks_of begin (line ∷ next) ≡ (end - 1) ∷ breaks_of end next =
+      ap (λ ls. breaks_of begin (line ∷ ls)) is
+      ∙ ap (λ n. (n - 1) ∷ breaks_of n ((x ∷ others) ∷ rest)) (sym has.end_is)
+      ∙ ap (λ ls. (end - 1) ∷ breaks_of end ls) (sym is) in
+      record {
+        after = omega (arith, from_is, has.after, has.end_is);
+        end_is = omega (arith, from_is, len_is, ap length (append-nil (tile_of x)));
+        taken_is = omega (arith, more_is);
+        some = λ any. omega (arith, from_is, len_is, first.some);
+        plain = All-tail IsPlain x left has.plain;
+        room = passed len len_is;
+        places = ap (λ n. pushed ++ breaks_of n next) from_is
+            ∙ ap (λ l. l ++ breaks_of end next) pushed_is
+            ∙ append_assoc breaks ((end - 1) ∷ []) (breaks_of end next)
+            ∙ ap (λ l. breaks ++ l) (sym after)
+            ∙ ap (λ ls. breaks ++ breaks_of begin ls)
+            (sym (grown-full sizes_of width x left line some full))
+            ∙ has.places;
+        whole = λ fits. absurd (omega (
+          arith,
+          full,
+          prefix-closes sizes_of width line x left
+              (subst (λ ws. Fits sizes_of width ws) (sym (has.whole fits)) fits) some,
+        ));
+      }
+
+  -- the line takes the word
+  pub HasLine-join : (from len more : ℕ) (kept : List ℕ)
+      → (begin < end → taken + x.width ≤ width) → from ≡ begin → len ≡ length (tile_of x)
+      → more ≡ taken + (x.width + length x.whitespace) → kept ≡ breaks
+      → HasLine width start part old kept from (end + len) more left (line ++ x ∷ [])
+  HasLine-join from len more kept within from_is len_is more_is kept_is =
+      let room : 0 < length line → closed_width sizes_of (line ++ x ∷ []) ≤ width =
+      λ some. omega (
+        arith,
+        closes,
+        within (has.some (λ none. absurd (omega (
+          arith,
+          some,
+          ap length none,
+        )))),
+      ) in
+      record {
+        after = omega (arith, from_is, has.after);
+        end_is = omega (
+          arith,
+          from_is,
+          has.end_is,
+          len_is,
+          ap length (tiled-push line x),
+          length-append (tiled line) (tile_of x),
+        );
+        taken_is = omega (arith, more_is, has.taken_is, open_width-append sizes_of line (x ∷ []));
+        some = λ any. omega (arith, from_is, len_is, first.some, has.end_is);
+        plain = All-tail IsPlain x left has.plain;
+        room = passed len len_is;
+        places = ap (λ n. kept ++ breaks_of n (grown sizes_of width left (line ++ x ∷ []))) from_is
+            ∙ ap (λ l. l ++ breaks_of begin (grown sizes_of width left (line ++ x ∷ []))) kept_is
+            ∙ ap (λ ls. breaks ++ breaks_of begin ls)
+            (sym (grown-room sizes_of width x left line room))
+            ∙ has.places;
+        whole = λ fits. append_assoc line (x ∷ []) left ∙ has.whole fits;
+      }
+
+  -- a line without bytes has no columns
+  pub HasLine-none : end ≤ begin → taken ≡ 0
+  HasLine-none none =
+      omega (
+        arith,
+        has.taken_is,
+        no_width line (λ some. absurd (omega (arith, none, has.some some))),
+      )
+    where
+      no_width : (ws : List WordText) → (ws ≢ [] → ⊥) → open_width sizes_of ws ≡ 0
+      no_width [] none = refl
+      no_width (w ∷ ws) none = absurd (none (λ e. absurd (omega (arith, ap length e))))
+
+  -- the word is within the part
+  pub HasLine-within : length x.whitespace ≤ length part
+  HasLine-within = omega (
+    arith,
+    has.after,
+    has.end_is,
+    passed (length (tile_of x)) refl,
+    length-append x.word x.whitespace,
+  )
+
+  -- where all words fit one line, this one does
+  pub HasLine-fits : FitsOneLine width part → begin < end → taken + x.width ≤ width
+  HasLine-fits fits began =
+      omega (
+        arith,
+        closes,
+        prefix-closes sizes_of width line x left
+            (subst (λ ws. Fits sizes_of width ws) (sym (has.whole fits)) fits)
+            (line_some line (omega (arith, began, has.end_is))),
+      )
+
+pub HasLine-end : {width start : ℕ} {part old breaks : List ℕ} {begin end taken : ℕ}
+    {left line : List WordText} → HasLine width start part old breaks begin end taken left line
+    → left ≡ []
+    → (division : List (List WordText))
+    × IsGreedy sizes_of (width ∷ []) (words_of part) division
+    × (breaks ≡ old ++ breaks_of start division)
+HasLine-end {width} {start} {part} {old} {breaks} {begin} {end} {taken} {left} {line} has none = (
+  grown sizes_of width (words_of part) [],
+  grown-greedy sizes_of width (words_of part),
+  sym (append-nil breaks)
+      ∙ ap (λ ws. breaks ++ breaks_of begin (grown sizes_of width ws line)) (sym none)
+      ∙ has.places,
+)

@@ -3,6 +3,7 @@ mod custom;
 mod divisions;
 mod filling;
 mod given;
+mod heap;
 mod indentation;
 mod inplace;
 mod minima;

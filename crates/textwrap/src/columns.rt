@@ -1,6 +1,6 @@
 //! A text in columns beside one another.
 ghost use Rattle.std.specs.Prelude.{◌≡◌, ◌+◌, ◌-◌, ◌*◌, ◌<◌, ◌≤◌, ◌++◌, [], length, map, alloc_error};
-ghost use Rattle.std.specs.Prelude.{string_bytes, IfOk, IfErr, OnOk, ◌⊎◌};
+ghost use Rattle.std.specs.Prelude.{string_bytes, IfOk, IfErr, IfSome, IfNone, SomeIff, OnOk, ◌⊎◌, ◌^◌};
 ghost use Rattle.std.specs.List.{range_with_len, repeat};
 ghost use Rattle.textwrap.specs.Columns.{blanks, inner_width, column_width, layout_view, cell};
 ghost use Rattle.textwrap.specs.Columns.{cells, padded, gapped, row_text, table_rows, IsInColumns};
@@ -45,7 +45,7 @@ struct Table<'a> {
 /// joined: no line ending is added.
 ///
 /// # Errors
-/// Those of `wrap`.
+/// Those of `wrap`. A row too long for any memory is refused before any of it is written.
 pub fn wrap_columns(
     alloc: Global,
     text: &str,
@@ -136,13 +136,86 @@ fn table_row(
     ensures { IfOk result (λ row. string_bytes row ≡ row_text (layout_view table.now)
         (cells (map line_bytes (map line_view lines.now)) step table.now.columns first)) }
 {
-    let mut row = String::from_str(alloc, table.left_gap)?;
+    // Reserved before a cell is written, so that a row that fits no memory is refused at once.
+    let len = row_len(lines, first, step, table).ok_or(AllocError)?;
+    let mut row = String::with_capacity(alloc, len)?;
+    row.push_str(table.left_gap)?;
     push_padded(&mut row, lines[first].as_str(), table.column_width)?;
     let later = push_later(&mut row, lines, first, step, table)?;
     push_missing(&mut row, table.columns - 1 - later, table)?;
     push_blanks(&mut row, table.spare_width)?;
     row.push_str(table.right_gap)?;
     Ok(row)
+}
+
+/// The bytes of that row, or `None` where their number does not fit 64 bits.
+fn row_len(lines: &[CowStr<'_>], first: usize, step: usize, table: &Table<'_>) -> Option<usize>
+    requires within { first < length lines.now }
+    requires step { 1 ≤ step }
+    requires step_within { step ≤ length lines.now }
+    requires columns { 1 ≤ table.now.columns }
+    ensures { let row = row_text (layout_view table.now)
+        (cells (map line_bytes (map line_view lines.now)) step table.now.columns first)
+        in SomeIff result (length row < 2 ^ 64) (length row) }
+{
+    let first_len = padded_len(lines[first].as_str(), table.column_width)?;
+    let (later, later_len) = later_len(lines, first, step, table)?;
+    let missing = (table.columns - 1 - later) as u128;
+    let missing_len = missing.saturating_mul(
+        table.middle_gap.len() as u128 + table.column_width as u128,
+    );
+    let ends_len = table.left_gap.len() as u128
+        + table.spare_width as u128
+        + table.right_gap.len() as u128;
+    let len = missing_len.saturating_add(first_len as u128 + later_len as u128 + ends_len);
+    usize::try_from(len).ok()
+}
+
+/// How many cells after the first have a line, and the bytes of these cells, each with the middle
+/// gap before it.
+fn later_len(
+    lines: &[CowStr<'_>],
+    first: usize,
+    step: usize,
+    table: &Table<'_>,
+) -> Option<(usize, usize)>
+    requires within { first < length lines.now }
+    requires step { 1 ≤ step }
+    requires step_within { step ≤ length lines.now }
+    requires columns { 1 ≤ table.now.columns }
+    ensures len { IfSome result (λ later. later.1 ≡ length (gapped (layout_view table.now)
+        (map (cell (map line_bytes (map line_view lines.now)) step first)
+        (range_with_len 1 later.0)))) }
+    ensures count { IfSome result (λ later. later.0 + 1 ≤ table.now.columns) }
+    ensures all { IfSome result (λ later. later.0 + 1 ≡ table.now.columns
+        ⊎ (length lines.now ≤ first + (later.0 + 1) * step)) }
+    // What has no number here has none as a part of the row.
+    ensures none { IfNone result (2 ^ 64 ≤ length (gapped (layout_view table.now)
+        (map (cell (map line_bytes (map line_view lines.now)) step first)
+        (range_with_len 1 (table.now.columns - 1))))) }
+{
+    let mut later = 0;
+    let mut len = 0usize;
+    let mut at = first + step;
+    while later < table.columns - 1 && at < lines.len() {
+        let cell_len = padded_len(lines[at].as_str(), table.column_width)?;
+        len = len
+            .checked_add(table.middle_gap.len())?
+            .checked_add(cell_len)?;
+        later += 1;
+        at += step;
+    }
+    Some((later, len))
+}
+
+/// The bytes of a text that is padded to a width, or `None` where their number does not fit 64
+/// bits.
+fn padded_len(text: &str, width: usize) -> Option<usize>
+    ensures { SomeIff result (length (padded width text.now) < 2 ^ 64)
+        (length (padded width text.now)) }
+{
+    text.len()
+        .checked_add(width.saturating_sub(display_width(text)))
 }
 
 /// Appends the cells after the first that have a line, each after the middle gap, and returns how
@@ -181,9 +254,6 @@ fn push_missing(row: &mut String, count: usize, table: &Table<'_>) -> Result<(),
     ensures { OnOk result (string_bytes row.new ≡ string_bytes row.old
         ++ repeat count (table.now.middle_gap.now ++ blanks table.now.column_width)) }
 {
-    // Reserved first, so that a run that fits no memory is refused at once.
-    let cell_len = table.middle_gap.len().saturating_add(table.column_width);
-    row.reserve(count.saturating_mul(cell_len))?;
     for _ in 0..count {
         row.push_str(table.middle_gap)?;
         push_blanks(row, table.column_width)?;
@@ -203,7 +273,6 @@ fn push_padded(row: &mut String, text: &str, width: usize) -> Result<(), AllocEr
 fn push_blanks(row: &mut String, count: usize) -> Result<(), AllocError>
     ensures { OnOk result (string_bytes row.new ≡ string_bytes row.old ++ blanks count) }
 {
-    row.reserve(count)?;
     for _ in 0..count {
         row.push(' ')?;
     }

@@ -1,22 +1,19 @@
 -- Lemmas on the places where a text that is filled in place gets its line feeds.
 use Rattle.std.proofs.Common.{◌≡◌, ℕ, ◌+◌, ◌-◌, ◌<◌, ◌≤◌, List, [], ◌∷◌, ◌++◌, All, length}
-use Rattle.std.proofs.Common.{get_or, take, drop, map, set, refl, sym, ap, ◌∙◌, subst, arith}
-use Rattle.std.proofs.Common.{append_assoc, append-nil, length-append, take-append-drop}
+use Rattle.std.proofs.Common.{set, refl, sym, ap, ◌∙◌, subst, arith}
+use Rattle.std.proofs.Common.{append_assoc, append-nil, length-append}
 use Rattle.std.specs.Borrow.{Bor}
 use Rattle.std.specs.Prelude.{Option, None, Some}
 use Rattle.std.specs.List.{flat_map}
-use Rattle.std.proofs.lemmas.List.{set_at, drop_more, length_push}
-use Rattle.std.proofs.lemmas.List.Concat.{flat_map-append}
+use Rattle.std.proofs.lemmas.List.{set_at, length_push}
 use Rattle.std.proofs.lemmas.List.Elements.{All-nil, All-cons, All-append}
 use Rattle.textwrap_base.specs.Blanks.{blank}
 use Rattle.textwrap_base.specs.Division.{IsGreedy}
-use Rattle.textwrap_base.specs.Words.{WordText, word_view, sizes_of, tiled, words_of}
-use Rattle.textwrap_base.proofs.Division.Map.{IsGreedy-map}
+use Rattle.textwrap_base.specs.Words.{WordText, sizes_of, tiled, words_of}
 use Rattle.textwrap_base.proofs.ListLemmas.{flat}
 use Rattle.textwrap_base.proofs.Word.Tiling.{tiled-append}
 use Rattle.textwrap_lines.specs.LineEnding.{ending_bytes, paragraphs_of}
 use Rattle.textwrap_lines.specs.declared.line_ending.LineEnding.TheVariants.{LF}
-use Rattle.textwrap_base.specs.declared.words.Word.{Word}
 use Rattle.textwrap.specs.InPlace.{broken_lines, AreDividedAt, breaks_of, breaks_from}
 use Rattle.textwrap_lines.specs.LineEnding.{line_feed}
 use Rattle.textwrap.specs.InPlace.{with_line_feeds, IsFilledInPlace}

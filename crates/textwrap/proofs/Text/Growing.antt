@@ -5,7 +5,7 @@ use Rattle.std.proofs.Common.{refl, sym, ap, ◌∙◌, subst, arith, append_ass
 use Rattle.std.proofs.Common.{length-append}
 use Rattle.std.proofs.lemmas.List.Elements.{All-nil, All-cons, All-head, All-tail}
 use Rattle.textwrap_base.specs.Division.{closed_width, open_width, Fits, IsGreedy}
-use Rattle.textwrap_base.specs.Words.{WordText, sizes_of, tile_of, tiled, word_of, words_of, chunks}
+use Rattle.textwrap_base.specs.Words.{WordText, sizes_of, tile_of, tiled, word_of, words_of}
 use Rattle.textwrap_base.proofs.Division.Greedy.{closed_width-push, open_width-append}
 use Rattle.textwrap_base.proofs.Division.Greedy.{some_from_nonempty}
 use Rattle.textwrap_base.proofs.Word.Texts.{HasNoPenalty}

@@ -1,14 +1,18 @@
 -- Lemmas on the rows of a table.
 use Rattle.std.proofs.Common.{◌≡◌, ℕ, zero, suc, ◌+◌, ◌-◌, ◌*◌, ◌<◌, ◌≤◌, ◌⊎◌, List, [], ◌∷◌, ◌++◌}
 use Rattle.std.proofs.Common.{length, get_or, map, refl, sym, ap, ◌∙◌, arith, append_assoc}
-use Rattle.std.proofs.Common.{append-nil, inl, inr, subst}
+use Rattle.std.proofs.lemmas.Bool.{cases_lt}
+use Rattle.std.proofs.Common.{⊎_elim, append-nil, inl, inr, subst, length-append}
 use Rattle.std.specs.List.{range_with_len, repeat}
 use Rattle.std.specs.declared.borrow.CowStr.{CowStr}
 use Rattle.std.specs.Cow.{cow_str_bytes}
-use Rattle.std.proofs.lemmas.List.{get_or-map, get_or_past, length-map}
+use Rattle.std.specs.Prelude.{Option, None, Some, IfNone, SomeIff, Result, Ok, Err, ◌^◌}
+use Rattle.std.specs.Result.{OkIff, result_ok}
+use Rattle.std.proofs.lemmas.List.{get_or-map, get_or_past, length-map, length-replicate}
 use Rattle.std.proofs.lemmas.List.{map-append, flat_map_more}
 use Rattle.std.proofs.lemmas.List.Concat.{flat_map-append}
 use Rattle.std.proofs.lemmas.List.FromFn.{map-range_with_len_more}
+use Rattle.textwrap_base.specs.Blanks.{blank}
 use Rattle.textwrap.specs.Columns.{Layout, blanks, cell, cells, padded, row_text, gapped}
 use Rattle.textwrap_lines.specs.LineEnding.{join_with}
 use Rattle.textwrap_lines.specs.Options.{Settings, settings_view, KeepsMethods}
@@ -204,3 +208,143 @@ module _ {E C : Type 0} {e : _} {c : _} where
       (Divides s new.word_splitter new.wrap_algorithm settings) text lines) keeps.separator
       (subst (λ s. AreTextLines s
       (Divides new.word_separator new.word_splitter new.wrap_algorithm s) text lines) same are)))
+
+-- ---- bytes
+
+pub length-gapped-more : (layout : Layout) (lines : List (List ℕ)) (step first later : ℕ)
+    → length (gapped layout (map (cell lines step first) (range_with_len 1 (later + 1))))
+    ≡ length (gapped layout (map (cell lines step first) (range_with_len 1 later)))
+    + (length layout.middle
+    + length (padded layout.column_width (cell lines step first (later + 1))))
+length-gapped-more layout lines step first later =
+    let so_far = gapped layout (map (cell lines step first) (range_with_len 1 later)) in
+    let text = padded layout.column_width (cell lines step first (later + 1)) in
+    omega (
+      arith,
+      ap length (gapped-more layout lines step first later [] so_far refl),
+      length-append (so_far ++ layout.middle) text,
+      length-append so_far layout.middle,
+    )
+
+length-repeat : (n : ℕ) (xs : List ℕ) → length (repeat n xs) ≡ n * length xs
+length-repeat zero xs = omega arith
+length-repeat (suc n) xs = omega (
+  arith,
+  length-append xs (repeat n xs),
+  length-repeat n xs,
+)
+
+-- a row has the bytes of its gaps, its first cell, the later cells with a line, those without, and
+-- its spare blanks
+pub length-row_text : (layout : Layout) (lines : List (List ℕ)) (step first later : ℕ)
+    → (later + 1 ≡ layout.columns) ⊎ (length lines ≤ first + (later + 1) * step)
+    → later + 1 ≤ layout.columns
+    → length (row_text layout (cells lines step layout.columns first))
+    ≡ (layout.columns - 1 - later) * (length layout.middle + layout.column_width)
+    + length (padded layout.column_width (cell lines step first 0))
+    + length (gapped layout (map (cell lines step first) (range_with_len 1 later)))
+    + layout.spare_width + (length layout.left + length layout.right)
+length-row_text layout lines step first later all within =
+    let head = padded layout.column_width (cell lines step first 0) in
+    let some = gapped layout (map (cell lines step first) (range_with_len 1 later)) in
+    let empty = layout.middle ++ blanks layout.column_width in
+    let run = repeat (layout.columns - 1 - later) empty in
+    let spare = blanks layout.spare_width in
+    let missing = layout.columns - 1 - later in
+    let empty_len : length empty ≡ length layout.middle + layout.column_width =
+    length-append layout.middle (blanks layout.column_width)
+    ∙ ap (λ n. length layout.middle + n) (length-replicate layout.column_width blank) in
+    let run_len : length run ≡ missing * (length layout.middle + layout.column_width) =
+    length-repeat missing empty ∙ ap (λ n. missing * n) empty_len in
+    omega (
+      arith,
+      ap length (row_text-written layout lines step first later all within),
+      length-append ((((layout.left ++ head) ++ some) ++ run) ++ spare) layout.right,
+      length-append (((layout.left ++ head) ++ some) ++ run) spare,
+      length-append ((layout.left ++ head) ++ some) run,
+      length-append (layout.left ++ head) some,
+      length-append layout.left head,
+      run_len,
+      length-replicate layout.spare_width blank,
+    )
+
+-- the later cells with a line are among all later cells
+pub length-gapped-within : (layout : Layout) (lines : List (List ℕ)) (step first later more : ℕ)
+    → later ≤ more
+    → length (gapped layout (map (cell lines step first) (range_with_len 1 later)))
+    ≤ length (gapped layout (map (cell lines step first) (range_with_len 1 more)))
+length-gapped-within layout lines step first later more within =
+    let at = cell lines step first in
+    let front = map at (range_with_len 1 later) in
+    let back = map at (range_with_len (1 + later) (more - later)) in
+    let whole : more ≡ later + (more - later) = omega (arith, within) in
+    omega (
+      arith,
+      ap (λ n. length (gapped layout (map at (range_with_len 1 n)))) whole,
+      ap (λ l. length (gapped layout l)) (ap (map at) (range-split 1 later (more - later))
+          ∙ map-append at (range_with_len 1 later) (range_with_len (1 + later) (more - later))),
+      ap length (flat_map-append (λ text. layout.middle ++ padded layout.column_width text)
+          front back),
+      length-append (gapped layout front) (gapped layout back),
+    )
+
+-- so where some bytes of theirs have no number, nor have all
+pub gapped-past : (layout : Layout) (lines : List (List ℕ)) (step first later len part : ℕ)
+    → len ≡ length (gapped layout (map (cell lines step first) (range_with_len 1 later)))
+    → later + 1 ≤ layout.columns - 1
+    → part ≤ len + length layout.middle
+    + length (padded layout.column_width (cell lines step first (later + 1)))
+    → ¬ (part < 2 ^ 64)
+    → 2 ^ 64
+    ≤ length (gapped layout (map (cell lines step first) (range_with_len 1 (layout.columns - 1))))
+gapped-past layout lines step first later len part len_is room within past =
+    let all = length (gapped layout (map (cell lines step first)
+    (range_with_len 1 (layout.columns - 1)))) in
+    ⊎_elim
+    (λ (fits : all < 2 ^ 64).
+    absurd (past (omega (
+      arith,
+      fits,
+      len_is,
+      within,
+      length-gapped-more layout lines step first later,
+      length-gapped-within layout lines step first (later + 1) (layout.columns - 1) room,
+    ))))
+    (λ (most : 2 ^ 64 ≤ all). most)
+    (cases_lt all (2 ^ 64))
+
+-- and all later cells are in the row
+pub length-gapped-row : (layout : Layout) (lines : List (List ℕ)) (step first : ℕ)
+    → 1 ≤ layout.columns
+    → length (gapped layout (map (cell lines step first) (range_with_len 1 (layout.columns - 1))))
+    + length (padded layout.column_width (cell lines step first 0))
+    ≤ length (row_text layout (cells lines step layout.columns first))
+length-gapped-row layout lines step first some =
+    let at = cell lines step first in
+    let head = padded layout.column_width (at 0) in
+    let later = map at (range_with_len 1 (layout.columns - 1)) in
+    let row = join_with layout.middle (map (padded layout.column_width)
+    (cells lines step layout.columns first)) in
+    let whole : layout.columns ≡ suc (layout.columns - 1) = omega (arith, some) in
+    let joined : row ≡ head ++ gapped layout later =
+    ap (λ n. join_with layout.middle (map (padded layout.column_width)
+    (map at (range_with_len 0 n)))) whole
+    ∙ join-gapped layout (at 0) later in
+    omega (
+      arith,
+      ap length joined,
+      length-append head (gapped layout later),
+      length-append ((layout.left ++ row) ++ blanks layout.spare_width) layout.right,
+      length-append (layout.left ++ row) (blanks layout.spare_width),
+      length-append layout.left row,
+    )
+
+-- where a conversion succeeds exactly at numbers that fit, so does its option
+pub SomeIff-ok : {E : Type 0} (r : Result ℕ E) (P Q : Type 0) (v n : ℕ) → OkIff r P v
+    → (P → Q × (v ≡ n)) → (Q → P) → SomeIff (result_ok r) Q n
+SomeIff-ok (Ok x) P Q v n (fits, is) right all = ((right fits).0, is ∙ (right fits).1)
+SomeIff-ok (Err e) P Q v n none right all = λ fits. none (all fits)
+
+pub IfNone-always : {X : Type 0} (r : Option X) (P : Type 0) → P → IfNone r P
+IfNone-always None P p = p
+IfNone-always (Some x) P p = tt

@@ -14,13 +14,14 @@ returns c =
     let others = gapped layout (map (cell lines c.args.step c.args.first) (range_with_len 1 later)) in
     let run = repeat (layout.columns - 1 - later) (layout.middle ++ blanks layout.column_width) in
     let spare = blanks layout.spare_width in
-    c.in_ok-push_str.ensures.bytes
+    c.in_ok-push_str-2.ensures.bytes
     ∙ ap (λ l. l ++ layout.right) c.in_ok-push_blanks.ensures
     ∙ ap (λ l. (l ++ spare) ++ layout.right) c.in_ok-push_missing.ensures
     ∙ ap (λ l. ((l ++ run) ++ spare) ++ layout.right) c.in_ok-later.ensures.bytes
     ∙ ap (λ l. (((l ++ others) ++ run) ++ spare) ++ layout.right) c.in_ok-push_padded.ensures
     ∙ ap (λ l. ((((l ++ padded layout.column_width c.as_str.result.now) ++ others) ++ run)
-    ++ spare) ++ layout.right) c.in_ok-row.ensures.ok
+    ++ spare) ++ layout.right) (c.in_ok-push_str.ensures.bytes
+    ∙ ap (λ l. l ++ layout.left) c.in_ok-row.ensures.bytes)
     ∙ ap (λ l. ((((layout.left ++ padded layout.column_width l) ++ others) ++ run)
     ++ spare) ++ layout.right)
     (c.as_str.ensures.value ∙ sym (cell_is c.args.lines.now c.index-lines-first.result

@@ -1,11 +1,16 @@
+mod characters;
 mod columns;
+mod costs;
 mod custom;
 mod divisions;
+mod ends;
+mod escapes;
 mod filling;
 mod given;
 mod heap;
 mod indentation;
 mod inplace;
+mod long_texts;
 mod minima;
 mod options;
 mod pieces;

@@ -1,10 +1,12 @@
 //! Texts in columns beside one another.
+use super::given::end_nowhere;
 use super::with_indents;
 use LineEnding::{CRLF, LF};
 use std::alloc::{AllocError, Global};
 use std::process::Abort;
 use std::test::Fail;
-use textwrap::{LineEnding, Options, WrapError, wrap_columns};
+use textwrap::wrap_algorithms::LineEnds;
+use textwrap::{LineEnding, Options, WrapAlgorithm, WrapError, wrap_columns};
 
 /// The rows, with a line feed between each two.
 fn joined(alloc: Global, rows: &[String]) -> Result<String, AllocError> {
@@ -97,6 +99,24 @@ fn texts_stand_in_columns(rt: HostRuntime) -> Result<(), Fail> {
         ("あ a", 2, 2, "", "|", "", "あ|a"),
         // An empty paragraph is a line of its own.
         ("a\n\nb", 3, 8, "", "|", "", "a |  |b "),
+        // A column is at least 1 wide, also where the row has no width, or less than its columns.
+        ("", 1, 0, "", "", "", " "),
+        ("", 3, 1, "", "", "", "   "),
+        ("foo bar", 1, 0, "", "", "", "f\no\no\nb\na\nr"),
+        ("foo bar", 1, 1, "", "", "", "f\no\no\nb\na\nr"),
+        ("foo bar", 4, 1, "", "|", "", "f|o|a| \no|b|r| "),
+        // Lines without columns, and one of three.
+        (
+            "\u{301}\n\u{17d8}",
+            2,
+            9,
+            "<",
+            "|",
+            ">",
+            "<\u{301}   |\u{17d8}>",
+        ),
+        // A sequence that is cut short takes no columns, and is padded as if it were shut.
+        ("a\x1b[3\nb", 2, 5, "", "|", "", "a\x1b[3 |b "),
     ] {
         let gaps = [left, middle, right];
         assert_rows(&rt, text, columns, Options::new(width), gaps, expected)?;
@@ -150,4 +170,47 @@ fn more_cells_than_any_memory_has_are_refused_at_once(rt: HostRuntime) {
         let rows = wrap_columns(rt.alloc(), "a", 1 << 63, Options::new(80), "", gap, "");
         assert!(rt; matches!(rows, Err(WrapError::Memory(_))));
     }
+}
+
+/// Rows too wide for any memory are refused at once, few or many of their columns being to blame.
+#[test]
+fn rows_wider_than_any_memory_are_refused_at_once(rt: HostRuntime) {
+    const MAX: usize = usize::MAX;
+    for &(text, columns, width) in &[
+        ("", 1, MAX),
+        ("a b", 1, MAX - 1),
+        ("a b", 2, MAX),
+        ("a\nb", 2, MAX - 1),
+        ("", MAX, 0),
+        ("", MAX, 1),
+        ("a", MAX - 1, MAX),
+        ("a", MAX, MAX),
+    ] {
+        let rows = wrap_columns(rt.alloc(), text, columns, Options::new(width), "", "", "");
+        assert!(rt; matches!(rows, Err(WrapError::Memory(_))), "{text:?}");
+    }
+}
+
+/// A text without lines has no rows, however many columns there are and however wide they are.
+#[test]
+fn a_text_without_lines_has_no_rows(rt: HostRuntime) -> Result<(), Fail> {
+    const MAX: usize = usize::MAX;
+    for &(columns, width) in &[(1, 0), (1, MAX), (MAX - 1, 1), (MAX, 0), (MAX, MAX)] {
+        let options = Options::new(width)
+            .wrap_algorithm(WrapAlgorithm::Custom(LineEnds::new(end_nowhere)))
+            .initial_indent("> ");
+        assert!(rt; columns >= 1);
+        let rows = wrap_columns(rt.alloc(), "foo", columns, options, "<", "xx", ">")?;
+        assert!(rt; rows.is_empty(), "{columns} columns");
+    }
+    Ok(())
+}
+
+/// The gaps of so many columns pass 64 bits together: they leave no inner width, and the row is
+/// refused at once.
+#[test]
+fn gaps_past_64_bits_are_refused_at_once(rt: HostRuntime) {
+    const COLUMNS: usize = 9_223_372_036_854_775_809;
+    let rows = wrap_columns(rt.alloc(), "", COLUMNS, Options::new(80), "", "xx", "");
+    assert!(rt; matches!(rows, Err(WrapError::Memory(_))));
 }

@@ -65,8 +65,17 @@ const STRICT: Penalties = Penalties {
     hyphen_penalty: 25,
 };
 
+/// The largest penalties.
+const STRICTEST: Penalties = Penalties {
+    nline_penalty: MAX,
+    overflow_penalty: MAX,
+    short_last_line_fraction: MAX,
+    short_last_line_penalty: MAX,
+    hyphen_penalty: MAX,
+};
+
 /// Whether the lines have so many fragments each.
-fn have_lens<T>(lines: &[&[T]], lens: &[usize]) -> bool {
+pub(super) fn have_lens<T>(lines: &[&[T]], lens: &[usize]) -> bool {
     for (line, len) in lines.iter().zip(lens) {
         if line.len() != *len {
             return false;
@@ -97,6 +106,33 @@ fn each_line_takes_what_fits(rt: HostRuntime) -> Result<(), Fail> {
         (FIVES, &[5, 10, 5], &[1, 2, 1]),
         (FIVES, &[10, 5], &[2, 1, 1]),
         (FIVES, &[], &[1, 1, 1, 1]),
+        // At 0 and 1, only fragments that add nothing stand beside another.
+        (&[Block(0, 0, 0), Block(0, 0, 0)], &[0], &[2]),
+        (&[Block(1, 0, 0), Block(1, 0, 0)], &[0], &[1, 1]),
+        (&[Block(1, 0, 0), Block(1, 0, 0)], &[1], &[1, 1]),
+        (&[Block(1, 0, 0), Block(0, 0, 0)], &[1], &[2]),
+        (&[Block(0, 1, 0), Block(0, 0, 0)], &[0], &[1, 1]),
+        (&[Block(0, 1, 0), Block(0, 0, 0)], &[1], &[2]),
+        (&[Block(0, 0, 1), Block(0, 0, 1)], &[0], &[1, 1]),
+        (&[Block(0, 0, 1), Block(0, 0, 1)], &[1], &[2]),
+        // A sum that is the greatest width fits it, and one above it does not come back to 0.
+        (&[Block(MAX - 1, 0, 0), Block(1, 0, 0)], &[MAX], &[2]),
+        (&[Block(MAX - 1, 0, 0), Block(1, 0, 0)], &[MAX - 1], &[1, 1]),
+        (&[Block(MAX - 1, 1, 0), Block(0, 0, 0)], &[MAX], &[2]),
+        (&[Block(MAX - 1, 1, 0), Block(0, 0, 0)], &[MAX - 1], &[1, 1]),
+        (&[Block(MAX, 0, 0), Block(0, 0, 0)], &[MAX], &[2]),
+        (&[Block(MAX, 0, 0), Block(1, 0, 0)], &[MAX], &[1, 1]),
+        (&[Block(MAX, 0, 0), Block(0, 0, 1)], &[MAX], &[1, 1]),
+        (&[Block(0, 0, MAX), Block(0, 0, MAX)], &[MAX], &[2]),
+        (&[Block(0, 0, MAX), Block(0, 0, MAX)], &[MAX - 1], &[1, 1]),
+        (
+            &[Block(0, MAX, 0), Block(0, MAX, 0), Block(0, MAX, 0)],
+            &[MAX],
+            &[2, 1],
+        ),
+        (&[Block(MAX, MAX, MAX), Block(MAX, MAX, MAX)], &[], &[1, 1]),
+        (FIVES, &[0, MAX], &[1, 3]),
+        (FIVES, &[MAX, 0], &[4]),
     ];
     for &(blocks, line_widths, lens) in rows {
         let lines = wrap_first_fit(rt.alloc(), blocks, line_widths)?;
@@ -134,6 +170,26 @@ fn fragments_are_divided_at_least_cost(rt: HostRuntime) -> Result<(), Fail> {
             &[10, 5, 100],
             &[2, 1],
         ),
+        // A width of 0 is taken for one of 1.
+        (&[Block(0, 0, 0), Block(0, 0, 0)], &[0], &[2]),
+        (&[Block(0, 1, 0), Block(0, 0, 0)], &[0], &[2]),
+        (&[Block(0, 0, 1), Block(0, 0, 1)], &[0], &[2]),
+        (&[Block(1, 0, 0), Block(1, 0, 0)], &[0], &[1, 1]),
+        (&[Block(1, 0, 0), Block(1, 0, 0)], &[1], &[1, 1]),
+        // Sums, products and squares at the end of 64 bits and past it.
+        (&[Block(MAX - 1, 0, 0), Block(1, 0, 0)], &[MAX], &[2]),
+        (&[Block(MAX - 1, 0, 0), Block(1, 0, 0)], &[MAX - 1], &[1, 1]),
+        (&[Block(MAX, 0, 0), Block(0, 0, 0)], &[MAX - 1], &[2]),
+        (&[Block(MAX, 0, 0), Block(0, 0, 1)], &[MAX], &[1, 1]),
+        (&[Block(0, 0, MAX), Block(0, 0, MAX)], &[MAX - 1], &[2]),
+        (
+            &[Block(0, MAX, 0), Block(0, MAX, 0), Block(0, MAX, 0)],
+            &[MAX - 1],
+            &[2, 1],
+        ),
+        (&[Block(MAX, MAX, MAX), Block(MAX, MAX, MAX)], &[], &[1, 1]),
+        (FIVES, &[0, MAX], &[1, 3]),
+        (FIVES, &[MAX, 0], &[4]),
     ];
     for &(blocks, line_widths, lens) in rows {
         let lines = wrap_optimal_fit(rt.alloc(), blocks, line_widths, &Penalties::new())?;
@@ -151,16 +207,24 @@ fn is_refused<T>(lines: &Result<T, WrapError>) -> bool {
 /// for until then are counted.
 #[test]
 fn costs_past_128_bits_are_refused(rt: HostRuntime) {
-    let rows: &[(&[Block], bool, u128)] = &[
-        (&[WIDEST], true, 1),
-        (&[WIDEST, WIDEST], false, 3),
-        (&[Block(MAX, 0, MAX), Block(0, 0, 0)], false, 1),
+    let rows: &[(&[Block], usize, Penalties, bool, u128)] = &[
+        (&[WIDEST], 0, STRICT, true, 1),
+        (&[WIDEST, WIDEST], 0, STRICT, false, 3),
+        (&[Block(MAX, 0, MAX), Block(0, 0, 0)], 0, STRICT, false, 1),
+        // The first costs 2^128 - 1, and one column more is too much.
+        (&[Block(MAX, 0, 1)], 1, STRICTEST, true, 1),
+        (&[Block(MAX, 0, 2)], 1, STRICTEST, false, 1),
+        (&[Block(MAX, 0, MAX)], MAX, STRICTEST, true, 1),
+        (&[Block(MAX, 0, MAX)], MAX - 1, STRICTEST, false, 1),
     ];
-    for &(blocks, fits, count) in rows {
+    for &(blocks, width, penalties, fits, count) in rows {
         let mut steps = Steps::new();
-        let lines = wrap_optimal_fit_counted(rt.alloc(), blocks, &[0], &STRICT, &mut steps);
+        let lines = wrap_optimal_fit_counted(rt.alloc(), blocks, &[width], &penalties, &mut steps);
         assert!(rt; lines.is_ok() == fits, "{blocks:?}");
         assert!(rt; is_refused(&lines) != fits, "{blocks:?}");
+        if let Ok(lines) = lines {
+            assert!(rt; have_lens(&lines, &[1]), "{blocks:?}");
+        }
         assert_eq!(rt; steps.count(), count, "{blocks:?}");
     }
 }
@@ -200,6 +264,41 @@ fn algorithms_divide_words(rt: HostRuntime) -> Result<(), Fail> {
     assert_divided(&rt, optimal, &hamlet[..2], &[3], &[1, 1])?;
     assert_divided(&rt, optimal, &hamlet, &[10, 10], &[2, 3, 2, 2, 1])?;
     assert_divided(&rt, first, &hamlet, &[10, 10], &[3, 3, 2, 1, 1])?;
+    Ok(())
+}
+
+/// Words of any field `width` are divided on lines of any width. In these rows both algorithms agree.
+#[test]
+fn words_of_any_width_are_divided(rt: HostRuntime) -> Result<(), Fail> {
+    let word = Word::from("x");
+    let blank = Word::from("x ");
+    let hyphened = Word {
+        penalty: "-",
+        ..word
+    };
+    let rows: &[(Word<'_>, usize, Word<'_>, usize, usize, &[usize])] = &[
+        (word, 0, word, 0, 0, &[2]),
+        (word, 1, word, 1, 0, &[1, 1]),
+        (word, 1, word, 1, 1, &[1, 1]),
+        (word, 1, word, 1, MAX - 1, &[2]),
+        (word, 1, word, 1, MAX, &[2]),
+        (word, MAX - 1, word, 1, MAX - 1, &[1, 1]),
+        (word, MAX - 1, word, 1, MAX, &[2]),
+        (blank, MAX - 1, word, 0, MAX - 1, &[1, 1]),
+        (blank, MAX - 1, word, 0, MAX, &[2]),
+        (word, MAX, word, 0, MAX, &[2]),
+        (word, MAX, hyphened, 0, MAX, &[1, 1]),
+        (word, MAX, word, MAX, MAX, &[1, 1]),
+        (word, MAX, word, MAX, 0, &[1, 1]),
+    ];
+    for &(first, first_width, second, second_width, line_width, lens) in rows {
+        let mut words = [first, second];
+        words[0].width = first_width;
+        words[1].width = second_width;
+        for algorithm in [WrapAlgorithm::FirstFit, WrapAlgorithm::new()] {
+            assert_divided(&rt, algorithm, &words, &[line_width], lens)?;
+        }
+    }
     Ok(())
 }
 

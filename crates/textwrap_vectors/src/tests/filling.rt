@@ -32,6 +32,8 @@ fn lines_of_first_fit_are_joined(rt: HostRuntime) -> Result<(), Fail> {
         ("1 3 5 7\n1 3 5 7", 5, "1 3 5\n7\n1 3 5\n7"),
         ("aa bb cc dd", 5, "aa bb\ncc dd"),
         ("aa bb cc dd", 8, "aa bb cc\ndd"),
+        // An escape sequence of two characters before a third, all in one word.
+        ("\x1b!Ͽ", 10, "\x1b!Ͽ"),
     ] {
         assert_filled(&rt, text, by_first_fit(width), expected)?;
     }
@@ -52,6 +54,7 @@ fn lines_of_least_cost_are_joined(rt: HostRuntime) -> Result<(), Fail> {
         ("  \n \n  \n ", 80, "\n\n\n"),
         ("ab\ncdefghijkl", 5, "ab\ncdefg\nhijkl"),
         ("foo  ", 10, "foo"),
+        ("\x1b!Ͽ", 10, "\x1b!Ͽ"),
     ] {
         assert_filled(&rt, text, Options::new(width), expected)?;
     }

@@ -11,7 +11,7 @@ use textwrap::minima::{
 use textwrap::wrap_algorithms::{Penalties, wrap_optimal_fit_counted};
 
 /// Whether the minima have these starts and costs.
-fn are_minima(minima: &[Minimum], expected: &[(usize, u128)]) -> bool {
+pub(super) fn are_minima(minima: &[Minimum], expected: &[(usize, u128)]) -> bool {
     for (minimum, (start, cost)) in minima.iter().zip(expected) {
         if minimum.start != *start || minimum.cost != *cost {
             return false;
@@ -98,17 +98,37 @@ fn a_source_counts_what_it_is_asked(rt: HostRuntime) -> Result<(), Fail> {
     Ok(())
 }
 
-/// A count that reaches the largest number stays there.
+/// A count that reaches the largest number stays there, also where a table goes on with it.
 #[test]
-fn a_count_stays_at_its_end(rt: HostRuntime) {
-    let mut steps = Steps::new();
-    steps.add(u128::MAX - 1);
-    steps.add(2);
-    assert_eq!(rt; steps.count(), u128::MAX);
+fn a_count_stays_at_its_end(rt: HostRuntime) -> Result<(), Fail> {
+    for &(count, more, expected, after_table) in &[
+        (0, 0, 0, 3),
+        (0, 1, 1, 4),
+        (1, 0, 1, 4),
+        (0, u128::MAX, u128::MAX, u128::MAX),
+        (1, u128::MAX - 1, u128::MAX, u128::MAX),
+        (1, u128::MAX, u128::MAX, u128::MAX),
+        (u128::MAX - 4, 0, u128::MAX - 4, u128::MAX - 1),
+        (u128::MAX - 1, 0, u128::MAX - 1, u128::MAX),
+        (u128::MAX - 1, 1, u128::MAX, u128::MAX),
+        (u128::MAX - 1, 2, u128::MAX, u128::MAX),
+        (u128::MAX, 0, u128::MAX, u128::MAX),
+        (u128::MAX, u128::MAX, u128::MAX, u128::MAX),
+    ] {
+        let mut steps = Steps::new();
+        steps.add(count);
+        steps.add(more);
+        assert_eq!(rt; steps.count(), expected, "{count} and {more}");
+        // A table of two fragments takes three steps.
+        let blocks = [Block(1, 0, 0), Block(1, 0, 0)];
+        table_minima(rt.alloc(), &blocks, &[10], &Penalties::new(), &mut steps)?;
+        assert_eq!(rt; steps.count(), after_table, "{count} and {more}");
+    }
+    Ok(())
 }
 
 /// The greatest number of a queue case.
-const LIMIT: usize = 1 << 62;
+pub(super) const LIMIT: usize = 1 << 62;
 
 /// In a queue case all line widths from the second on are the same, closed widths never fall, and
 /// neither a line width nor the sum of all widths passes 2^62.
@@ -133,10 +153,31 @@ fn queue_cases_are_told_by_their_widths(rt: HostRuntime) {
         (&[Block(LIMIT - 2, 0, 0), Block(0, 1, 1)], &[10], true),
         (&[Block(LIMIT - 2, 0, 0), Block(1, 1, 1)], &[10], false),
         (&[Block(0, usize::MAX, 0)], &[10], false),
+        // The least widths, and the greatest: a sum of them does not come back to 0.
+        (&[Block(0, 0, 0)], &[0], true),
+        (&[Block(1, 1, 1), Block(0, 0, 0)], &[1], true),
+        (&[Block(1, 0, 0)], &[usize::MAX - 1], false),
+        (&[Block(1, 0, 0)], &[usize::MAX], false),
+        (&[Block(1, 0, 0)], &[10, usize::MAX], false),
+        (&[], &[usize::MAX], false),
+        (&[Block(usize::MAX - 1, 0, 0)], &[10], false),
+        (&[Block(usize::MAX, 1, 0)], &[10], false),
+        (&[Block(0, 0, usize::MAX), Block(1, 0, 0)], &[10], false),
     ];
     for &(blocks, line_widths, expected) in rows {
         let is_case = is_queue_case(blocks, line_widths, &Penalties::new());
         assert_eq!(rt; is_case, expected, "{blocks:?} {line_widths:?}");
+    }
+}
+
+/// These penalties, in the order of the fields.
+pub(super) fn penalties_of(numbers: [usize; 5]) -> Penalties {
+    Penalties {
+        nline_penalty: numbers[0],
+        overflow_penalty: numbers[1],
+        short_last_line_fraction: numbers[2],
+        short_last_line_penalty: numbers[3],
+        hyphen_penalty: numbers[4],
     }
 }
 
@@ -145,21 +186,18 @@ fn queue_cases_are_told_by_their_widths(rt: HostRuntime) {
 fn queue_cases_are_told_by_their_penalties(rt: HostRuntime) {
     let rows: &[([usize; 5], bool)] = &[
         ([0, 0, 0, 0, 0], true),
+        ([1, 1, 1, 1, 1], true),
         ([LIMIT, LIMIT, LIMIT, LIMIT, LIMIT], true),
         ([LIMIT + 1, 2500, 4, 25, 25], false),
         ([1000, LIMIT + 1, 4, 25, 25], false),
         ([1000, 2500, LIMIT + 1, 25, 25], false),
         ([1000, 2500, 4, LIMIT + 1, 25], false),
         ([1000, 2500, 4, 25, LIMIT + 1], false),
+        ([usize::MAX, 2500, 4, 25, 25], false),
+        ([1000, 2500, 4, 25, usize::MAX - 1], false),
     ];
     for &(numbers, expected) in rows {
-        let penalties = Penalties {
-            nline_penalty: numbers[0],
-            overflow_penalty: numbers[1],
-            short_last_line_fraction: numbers[2],
-            short_last_line_penalty: numbers[3],
-            hyphen_penalty: numbers[4],
-        };
+        let penalties = penalties_of(numbers);
         let is_case = is_queue_case(&[Block(1, 0, 0)], &[10], &penalties);
         assert_eq!(rt; is_case, expected, "{penalties:?}");
     }
@@ -167,7 +205,7 @@ fn queue_cases_are_told_by_their_penalties(rt: HostRuntime) {
 
 /// Asserts that these are a queue case, in which the search gives the list of the table: each start
 /// and each cost.
-fn assert_agreed(
+pub(super) fn assert_agreed(
     rt: &(impl Abort + AllocGlobal),
     blocks: &[Block],
     line_widths: &[usize],
@@ -207,14 +245,8 @@ fn drawn_blocks(
 }
 
 /// The same number for each penalty.
-fn all_penalties(each: usize) -> Penalties {
-    Penalties {
-        nline_penalty: each,
-        overflow_penalty: each,
-        short_last_line_fraction: each,
-        short_last_line_penalty: each,
-        hyphen_penalty: each,
-    }
+pub(super) fn all_penalties(each: usize) -> Penalties {
+    penalties_of([each; 5])
 }
 
 /// In the queue case the search gives the list of the table, ties included, whatever the first line
@@ -244,14 +276,14 @@ fn the_search_agrees_with_the_table(rt: HostRuntime) -> Result<(), Fail> {
 }
 
 /// What the search finds over line costs of these fragments, which are a queue case, and its steps.
-fn searched(
+pub(super) fn searched(
     rt: &(impl Abort + AllocGlobal),
     blocks: &[Block],
     line_widths: &[usize],
+    penalties: &Penalties,
 ) -> Result<(Vec<Minimum>, u128), WrapError> {
-    let penalties = Penalties::new();
-    assert!(rt; is_queue_case(blocks, line_widths, &penalties));
-    let mut costs = LineCosts::new(rt.alloc(), blocks, line_widths, &penalties)?;
+    assert!(rt; is_queue_case(blocks, line_widths, penalties));
+    let mut costs = LineCosts::new(rt.alloc(), blocks, line_widths, penalties)?;
     let minima = queue_search(rt.alloc(), &mut costs)?;
     Ok((minima, costs.steps()))
 }
@@ -265,7 +297,7 @@ fn the_search_asks_for_few_line_costs(rt: HostRuntime) -> Result<(), Fail> {
     let mut asked = Steps::new();
     let table = table_minima(rt.alloc(), &blocks, &[80], &penalties, &mut asked)?;
     assert_eq!(rt; asked.count(), 500_500);
-    let (minima, steps) = searched(&rt, &blocks, &[80])?;
+    let (minima, steps) = searched(&rt, &blocks, &[80], &penalties)?;
     assert!(rt; minima.as_slice() == table.as_slice());
     assert!(rt; (1000..=30_000).contains(&steps), "{steps}");
     assert!(rt; is_queue_case(&blocks, &[80], &penalties));

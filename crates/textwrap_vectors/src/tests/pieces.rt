@@ -94,13 +94,25 @@ fn a_word_is_cut_where_it_would_pass_the_limit(rt: HostRuntime) -> Result<(), Fa
         ("Hello!  ", 6, &["Hello!  "]),
         ("foobar", 0, &["f", "o", "o", "b", "a", "r"]),
         ("foobar", 1, &["f", "o", "o", "b", "a", "r"]),
+        ("foobar", usize::MAX - 1, &["foobar"]),
         ("foobar", usize::MAX, &["foobar"]),
         ("안녕하세요", 8, &["안녕하세", "요"]),
         ("あ", 0, &["あ"]),
         ("あ", 1, &["あ"]),
+        ("あ", usize::MAX - 1, &["あ"]),
         ("あ", usize::MAX, &["あ"]),
         ("あ\u{301}", 1, &["あ", "\u{301}"]),
         ("あ\u{301}", 2, &["あ\u{301}"]),
+        // Characters without columns never fill a piece, but begin one where it is full.
+        ("a\u{301}b", 0, &["a", "\u{301}b"]),
+        ("a\u{301}b", 1, &["a\u{301}", "b"]),
+        ("\u{301}\u{301}\u{301}", 0, &["\u{301}\u{301}\u{301}"]),
+        // A character of three columns.
+        ("a\u{17d8}\u{17d8}", 2, &["a", "\u{17d8}", "\u{17d8}"]),
+        ("a\u{17d8}\u{17d8}", 3, &["a", "\u{17d8}", "\u{17d8}"]),
+        ("a\u{17d8}\u{17d8}", 4, &["a\u{17d8}", "\u{17d8}"]),
+        ("a\u{17d8}\u{17d8}", 6, &["a\u{17d8}", "\u{17d8}"]),
+        ("a\u{17d8}\u{17d8}", 7, &["a\u{17d8}\u{17d8}"]),
         // A word without text has no pieces.
         ("   ", 0, &[]),
         ("", 0, &[]),
@@ -153,7 +165,11 @@ fn the_last_piece_has_the_ends_of_the_word(rt: HostRuntime) -> Result<(), Fail> 
 fn words_that_are_too_wide_are_broken(rt: HostRuntime) -> Result<(), Fail> {
     let rows: &[(&[&str], usize, &[&str])] = &[
         (&["ab ", "cdef "], 2, &["ab ", "cd", "ef "]),
+        (&["ab ", "cdef "], 0, &["a", "b ", "c", "d", "e", "f "]),
         (&["ab ", "cdef "], 1, &["a", "b ", "c", "d", "e", "f "]),
+        (&["ab ", "cdef "], usize::MAX - 1, &["ab ", "cdef "]),
+        (&["ab ", "cdef "], usize::MAX, &["ab ", "cdef "]),
+        (&["\u{301} ", "あ"], 0, &["\u{301} ", "あ"]),
         (&["   "], 0, &["   "]),
         (&[], 0, &[]),
     ];
@@ -165,20 +181,28 @@ fn words_that_are_too_wide_are_broken(rt: HostRuntime) -> Result<(), Fail> {
     Ok(())
 }
 
-/// Whether a word is broken is decided by its field `width`.
+/// Whether a word is broken is decided by its field `width`, and a piece has the width of its text.
 #[test]
 fn a_word_is_kept_by_its_width_alone(rt: HostRuntime) -> Result<(), Fail> {
-    let narrow = Word {
-        width: 2,
-        ..Word::from("abcd")
-    };
-    let kept = break_words(rt.alloc(), [narrow], 2)?;
-    assert_eq!(rt; kept.as_slice(), [narrow].as_slice());
-    let wide = Word {
-        width: 3,
-        ..Word::from("ab")
-    };
-    let broken = break_words(rt.alloc(), [wide], 2)?;
-    assert!(rt; are_words(&broken, &["ab"]));
+    for &(text, width, line_width, expected) in &[
+        ("abcd", 2, 2, 2),
+        ("ab", 3, 2, 2),
+        ("abcd", 0, 0, 0),
+        ("a", 1, 0, 1),
+        ("abcd", usize::MAX, usize::MAX, usize::MAX),
+        ("abcd", usize::MAX, usize::MAX - 1, 4),
+        ("abcd", usize::MAX - 1, usize::MAX - 1, usize::MAX - 1),
+    ] {
+        let word = Word {
+            width,
+            ..Word::from(text)
+        };
+        let pieces = break_words(rt.alloc(), [word], line_width)?;
+        let piece = Word {
+            width: expected,
+            ..word
+        };
+        assert_eq!(rt; pieces.as_slice(), [piece].as_slice());
+    }
     Ok(())
 }

@@ -126,6 +126,80 @@ fn a_task_that_is_too_long_has_a_day_of_its_own(rt: HostRuntime) -> Result<(), F
     Ok(())
 }
 
+/// A day may have any number of hours, and so may a task: a day is full to its last hour, and sums
+/// do not come back to 0.
+#[test]
+fn hours_may_be_any_numbers(rt: HostRuntime) -> Result<(), Fail> {
+    const MAX: usize = usize::MAX;
+    const LONGEST: u128 = 18_446_744_073_709_551_615;
+    let rows: &[(usize, Task<'_>, Task<'_>, Plan<'_>)] = &[
+        (
+            0,
+            task("a", 0, 0, 0),
+            task("b", 0, 0, 0),
+            &[(0, &["a", "b"])],
+        ),
+        (
+            0,
+            task("a", 0, 1, 0),
+            task("b", 0, 0, 0),
+            &[(0, &["a"]), (0, &["b"])],
+        ),
+        (
+            0,
+            task("a", 0, 0, 1),
+            task("b", 0, 0, 1),
+            &[(1, &["a"]), (1, &["b"])],
+        ),
+        (
+            1,
+            task("a", 0, 1, 0),
+            task("b", 0, 0, 0),
+            &[(1, &["a", "b"])],
+        ),
+        (
+            1,
+            task("a", 0, 0, 1),
+            task("b", 0, 0, 1),
+            &[(1, &["a", "b"])],
+        ),
+        (
+            1,
+            task("a", 1, 0, 0),
+            task("b", 1, 0, 0),
+            &[(1, &["a"]), (1, &["b"])],
+        ),
+        (
+            MAX - 1,
+            task("a", MAX - 1, 0, 0),
+            task("b", 1, 0, 0),
+            &[(LONGEST - 1, &["a"]), (1, &["b"])],
+        ),
+        (
+            MAX,
+            task("a", MAX - 1, 0, 0),
+            task("b", 1, 0, 0),
+            &[(LONGEST, &["a", "b"])],
+        ),
+        (
+            MAX,
+            task("a", MAX - 1, 1, MAX),
+            task("b", 0, 0, 0),
+            &[(LONGEST, &["a", "b"])],
+        ),
+        (
+            MAX,
+            task("a", 0, MAX, 0),
+            task("b", 0, 0, 1),
+            &[(0, &["a"]), (1, &["b"])],
+        ),
+    ];
+    for &(day_length, first, second, plan) in rows {
+        assert_days(&rt, &[first, second], day_length, plan)?;
+    }
+    Ok(())
+}
+
 /// The names of the days, joined, are those of the tasks in order: none is lost, and none is there
 /// twice.
 #[test]

@@ -22,6 +22,15 @@ fn only_visible_characters_have_columns(rt: HostRuntime) {
         ("\u{1b}]a\u{7}b", 1),
         ("안녕하세요", 10),
         ("あ\u{301}", 2),
+        // Each character counts by itself, also where a terminal would join them.
+        ("\u{1f468}\u{200d}\u{1f9b0}", 4),
+        ("\u{17d8}\u{17d8}", 6),
+        // Only an ESC inside a command goes with a backslash, and inside a control sequence it is
+        // like any other character.
+        ("\u{1b}]\\a", 0),
+        ("\u{1b}]\u{1b}\\a", 1),
+        ("\u{1b}[\u{1b}[1ma", 3),
+        ("\u{1b}\u{301}x", 1),
     ] {
         assert_eq!(rt; display_width(text), columns, "{text:?}");
     }
@@ -44,6 +53,10 @@ fn only_visible_characters_are_left(rt: HostRuntime) -> Result<(), Fail> {
         ("\u{1b}!x", "x"),
         ("\u{1b}]a\u{7}b", "b"),
         ("あ\u{1b}[0m\u{301}", "あ\u{301}"),
+        ("\u{1b}]\\a", ""),
+        ("\u{1b}]\u{1b}\\a", "a"),
+        ("\u{1b}[\u{1b}[1ma", "1ma"),
+        ("\u{1b}\u{301}x", "x"),
     ] {
         let stripped = strip_ansi_escape_sequences(rt.alloc(), text)?;
         assert_text(&rt, text, stripped.as_str(), visible);
@@ -64,6 +77,13 @@ fn a_word_is_a_text_without_its_final_blanks(rt: HostRuntime) {
         ("ab\u{1b}[0m", "ab\u{1b}[0m", "", 2),
         ("あ", "あ", "", 2),
         ("\u{301}", "\u{301}", "", 0),
+        (" ", "", " ", 0),
+        ("-", "-", "", 1),
+        ("\n", "\n", "", 0),
+        ("\u{ad}", "\u{ad}", "", 0),
+        ("\u{a0}", "\u{a0}", "", 1),
+        ("\u{17d8} ", "\u{17d8}", " ", 3),
+        ("\u{1b}[ ", "\u{1b}[", " ", 0),
     ] {
         let of_text = Word::from(text);
         let expected = Word {

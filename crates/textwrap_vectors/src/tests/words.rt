@@ -29,6 +29,9 @@ fn lines_have_their_words(rt: HostRuntime) -> Result<(), Fail> {
         ("foo bar", &["foo ", "bar"]),
         ("  foo bar", &["  ", "foo ", "bar"]),
         ("foo     bar     baz  ", &["foo     ", "bar     ", "baz  "]),
+        // A blank is U+0020 alone, and one inside an escape sequence cuts the line too.
+        ("foo\u{a0}bar", &["foo\u{a0}bar"]),
+        ("\x1b[1 2ma", &["\x1b[1 ", "2ma"]),
     ];
     for &(line, texts) in rows {
         let words = WordSeparator::new().find_words(rt.alloc(), line)?;
@@ -40,7 +43,7 @@ fn lines_have_their_words(rt: HostRuntime) -> Result<(), Fail> {
 }
 
 /// Whether the offsets increase and are places at which the text may be cut.
-fn are_offsets(text: &str, offsets: &[usize]) -> bool
+pub(super) fn are_offsets(text: &str, offsets: &[usize]) -> bool
     ensures increasing { IsTrue result → IsStrictlyIncreasing offsets.now }
     ensures boundaries { IsTrue result → All (IsCharBoundary text.now) offsets.now }
 {
@@ -81,6 +84,18 @@ fn lines_are_cut_at_offsets_of_their_visible_text(rt: HostRuntime) -> Result<(),
         ),
         ("a-\x1b[1mb", &[2], &["a-\x1b[1mb"]),
         ("a \x1b[12", &[1], &["a", " \x1b[12"]),
+        // All offsets that a text has.
+        ("ab", &[0, 1, 2], &["a", "b"]),
+        ("a b", &[0, 1, 2, 3], &["a", " ", "b"]),
+        (
+            "\u{301}あ\u{301}",
+            &[0, 2, 5, 7],
+            &["\u{301}", "あ", "\u{301}"],
+        ),
+        // A sequence that is cut short is not counted either.
+        ("ab\x1b[3", &[0, 1, 2], &["a", "b\x1b[3"]),
+        ("a\x1bbc", &[1, 2], &["a", "\x1bbc"]),
+        ("\x1b]0;ta", &[0], &["\x1b]0;ta"]),
     ];
     for &(line, offsets, texts) in rows {
         let visible = strip_ansi_escape_sequences(rt.alloc(), line)?;

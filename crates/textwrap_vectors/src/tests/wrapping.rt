@@ -174,6 +174,15 @@ fn words_are_split_and_broken(rt: HostRuntime) -> Result<(), Fail> {
             true,
             &["This", "is a", "litt", "le", "exam", "ple."],
         ),
+        // A blank cuts an escape sequence in two: what follows it is measured by itself.
+        ("\x1b[1 2ma", 2, true, &["\x1b[1", "2m", "a"]),
+        ("\x1b]0;t abc", 3, true, &["\x1b]0;t", "abc"]),
+        // A sequence that is cut short is a word without columns, and wants a blank before it.
+        ("abc \x1b[31", 4, true, &["abc \x1b[31"]),
+        ("abc \x1b[31", 3, true, &["abc", "\x1b[31"]),
+        // A width of 0 is taken for one of 1 at the least cost, and a blank fills that.
+        ("\u{301} \u{301}", 0, true, &["\u{301} \u{301}"]),
+        ("foo bar", 0, false, &["foo", "bar"]),
     ];
     for &(text, width, break_words, lines) in rows {
         assert_borrowed(

@@ -1,0 +1,43 @@
+//! The promise that filling in place makes the lines of first fit, with words kept whole.
+use crate::cases::Case;
+use crate::findings::Finding;
+use crate::settings::{Algorithm, Settings};
+use std::alloc::Global;
+use std::borrow::CowStr;
+use textwrap::{WrapError, fill_inplace, wrap};
+
+/// Checks the text that filling in place leaves. This is promised where no character takes more
+/// columns than bytes, and none does.
+pub(crate) fn check(alloc: Global, case: &Case) -> Result<Finding, WrapError> {
+    let text = case.text.as_str();
+    let width = case.settings.width;
+    let mut filled = String::from_str(alloc, text)?;
+    fill_inplace(alloc, &mut filled, width)?;
+    let unbroken = Settings::unbroken(width, Algorithm::FirstFit);
+    let lines = wrap(alloc, text, unbroken.options())?;
+    let is_right = only_blanks_change(text, &filled) && has_lines(&filled, &lines);
+    Ok(Finding::of(is_right))
+}
+
+/// Whether all that changed is that some blanks became line feeds.
+pub(crate) fn only_blanks_change(old: &str, new: &str) -> bool {
+    for (old, new) in old.bytes().zip(new.bytes()) {
+        if old != new && (old != b' ' || new != b'\n') {
+            return false;
+        }
+    }
+    old.len() == new.len()
+}
+
+/// Whether these are the lines of the text, without the blanks that they end in.
+pub(crate) fn has_lines(filled: &str, lines: &[CowStr<'_>]) -> bool {
+    let mut count = 0usize;
+    for part in filled.split('\n') {
+        let line = part.trim_end_matches(' ');
+        match lines.get(count) {
+            Some(given) if given.as_str() == line => count += 1,
+            _ => return false,
+        }
+    }
+    lines.len() == count
+}

@@ -9,7 +9,7 @@ ghost use Rattle.textwrap_lines.specs.Paragraph.{line_view, line_bytes, DividesU
 
 use crate::words::display_width;
 use crate::wrap_algorithms::WrapError;
-use std::alloc::{AllocError, Global};
+use std::alloc::{AllocError, Allocator};
 use std::borrow::CowStr;
 use textwrap_lines::{Options, wrap};
 
@@ -46,15 +46,15 @@ struct Table<'a> {
 ///
 /// # Errors
 /// Those of `wrap`. A row too long for any memory is refused before any of it is written.
-pub fn wrap_columns(
-    alloc: Global,
+pub fn wrap_columns<A: Allocator + Copy>(
+    alloc: A,
     text: &str,
     columns: usize,
     options: Options<'_>,
     left_gap: &str,
     middle_gap: &str,
     right_gap: &str,
-) -> Result<Vec<String>, WrapError>
+) -> Result<Vec<String<A>, A>, WrapError>
     requires { 1 ≤ columns }
     ensures rows { IfOk result (λ rows. IsInColumns (settings_view options.entry)
         (DividesUnder options.entry) columns text.now left_gap.now middle_gap.now right_gap.now
@@ -104,11 +104,11 @@ fn column_width(inner: usize, columns: usize) -> usize
 }
 
 /// The rows of a table of these lines.
-fn table_rows(
-    alloc: Global,
-    lines: &[CowStr<'_>],
+fn table_rows<A: Allocator + Copy>(
+    alloc: A,
+    lines: &[CowStr<'_, A>],
     table: &Table<'_>,
-) -> Result<Vec<String>, AllocError>
+) -> Result<Vec<String<A>, A>, AllocError>
     requires { 1 ≤ table.now.columns }
     ensures { IfOk result (λ rows. map string_bytes rows.items
         ≡ table_rows (layout_view table.now) (map line_bytes (map line_view lines.now))) }
@@ -122,13 +122,13 @@ fn table_rows(
 }
 
 /// The row of the line at `first` and of each `step`-th line after it.
-fn table_row(
-    alloc: Global,
-    lines: &[CowStr<'_>],
+fn table_row<A: Allocator>(
+    alloc: A,
+    lines: &[CowStr<'_, A>],
     first: usize,
     step: usize,
     table: &Table<'_>,
-) -> Result<String, AllocError>
+) -> Result<String<A>, AllocError>
     requires within { first < length lines.now }
     requires step { 1 ≤ step }
     requires step_within { step ≤ length lines.now }
@@ -149,7 +149,12 @@ fn table_row(
 }
 
 /// The bytes of that row, or `None` where their number does not fit 64 bits.
-fn row_len(lines: &[CowStr<'_>], first: usize, step: usize, table: &Table<'_>) -> Option<usize>
+fn row_len<A: Allocator>(
+    lines: &[CowStr<'_, A>],
+    first: usize,
+    step: usize,
+    table: &Table<'_>,
+) -> Option<usize>
     requires within { first < length lines.now }
     requires step { 1 ≤ step }
     requires step_within { step ≤ length lines.now }
@@ -173,8 +178,8 @@ fn row_len(lines: &[CowStr<'_>], first: usize, step: usize, table: &Table<'_>) -
 
 /// How many cells after the first have a line, and the bytes of these cells, each with the middle
 /// gap before it.
-fn later_len(
-    lines: &[CowStr<'_>],
+fn later_len<A: Allocator>(
+    lines: &[CowStr<'_, A>],
     first: usize,
     step: usize,
     table: &Table<'_>,
@@ -196,14 +201,14 @@ fn later_len(
 {
     let mut later = 0;
     let mut len = 0usize;
-    let mut at = first + step;
-    while later < table.columns - 1 && at < lines.len() {
+    let mut at = first;
+    while later < table.columns - 1 && step < lines.len() - at {
+        at += step;
         let cell_len = padded_len(lines[at].as_str(), table.column_width)?;
         len = len
             .checked_add(table.middle_gap.len())?
             .checked_add(cell_len)?;
         later += 1;
-        at += step;
     }
     Some((later, len))
 }
@@ -220,9 +225,9 @@ fn padded_len(text: &str, width: usize) -> Option<usize>
 
 /// Appends the cells after the first that have a line, each after the middle gap, and returns how
 /// many these are.
-fn push_later(
-    row: &mut String,
-    lines: &[CowStr<'_>],
+fn push_later<A: Allocator>(
+    row: &mut String<A>,
+    lines: &[CowStr<'_, A>],
     first: usize,
     step: usize,
     table: &Table<'_>,
@@ -239,18 +244,22 @@ fn push_later(
         ⊎ (length lines.now ≤ first + (later + 1) * step)) }
 {
     let mut later = 0;
-    let mut at = first + step;
-    while later < table.columns - 1 && at < lines.len() {
+    let mut at = first;
+    while later < table.columns - 1 && step < lines.len() - at {
+        at += step;
         row.push_str(table.middle_gap)?;
         push_padded(row, lines[at].as_str(), table.column_width)?;
         later += 1;
-        at += step;
     }
     Ok(later)
 }
 
 /// Appends a run of cells without a line, each after the middle gap.
-fn push_missing(row: &mut String, count: usize, table: &Table<'_>) -> Result<(), AllocError>
+fn push_missing<A: Allocator>(
+    row: &mut String<A>,
+    count: usize,
+    table: &Table<'_>,
+) -> Result<(), AllocError>
     ensures { OnOk result (string_bytes row.new ≡ string_bytes row.old
         ++ repeat count (table.now.middle_gap.now ++ blanks table.now.column_width)) }
 {
@@ -262,7 +271,11 @@ fn push_missing(row: &mut String, count: usize, table: &Table<'_>) -> Result<(),
 }
 
 /// Appends a text, and blanks up to the width of a column.
-fn push_padded(row: &mut String, text: &str, width: usize) -> Result<(), AllocError>
+fn push_padded<A: Allocator>(
+    row: &mut String<A>,
+    text: &str,
+    width: usize,
+) -> Result<(), AllocError>
     ensures { OnOk result (string_bytes row.new ≡ string_bytes row.old ++ padded width text.now) }
 {
     row.push_str(text)?;
@@ -270,7 +283,7 @@ fn push_padded(row: &mut String, text: &str, width: usize) -> Result<(), AllocEr
 }
 
 /// Appends blanks.
-fn push_blanks(row: &mut String, count: usize) -> Result<(), AllocError>
+fn push_blanks<A: Allocator>(row: &mut String<A>, count: usize) -> Result<(), AllocError>
     ensures { OnOk result (string_bytes row.new ≡ string_bytes row.old ++ blanks count) }
 {
     for _ in 0..count {

@@ -4,7 +4,7 @@ ghost use Rattle.std.specs.Io.{StartsWith};
 ghost use Rattle.textwrap.specs.Indentation.{is_blank_line, indented, leading_whitespace, narrowed};
 ghost use Rattle.textwrap.specs.Indentation.{margin_of, without_margin, dedented};
 
-use std::alloc::{AllocError, Global};
+use std::alloc::{AllocError, Allocator};
 
 /// Puts a prefix before each line of a text.
 ///
@@ -15,7 +15,7 @@ use std::alloc::{AllocError, Global};
 ///
 /// # Errors
 /// [`AllocError`] where memory runs out.
-pub fn indent(alloc: Global, s: &str, prefix: &str) -> Result<String, AllocError>
+pub fn indent<A: Allocator + Copy>(alloc: A, s: &str, prefix: &str) -> Result<String<A>, AllocError>
     ensures indented { IfOk result (λ text. string_bytes text ≡ indented prefix.now s.now) }
 {
     let bare_prefix = prefix.trim_end();
@@ -42,7 +42,7 @@ pub fn indent(alloc: Global, s: &str, prefix: &str) -> Result<String, AllocError
 ///
 /// # Errors
 /// [`AllocError`] where memory runs out.
-pub fn dedent(alloc: Global, s: &str) -> Result<String, AllocError>
+pub fn dedent<A: Allocator + Copy>(alloc: A, s: &str) -> Result<String<A>, AllocError>
     ensures dedented { IfOk result (λ text. string_bytes text ≡ dedented s.now) }
 {
     let margin = margin_of(s);

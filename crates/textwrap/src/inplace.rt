@@ -96,7 +96,7 @@ fn push_breaks<A: Allocator>(
     let mut line_start = start;
     let mut end = start;
     let mut open_width = 0u128;
-    for word in words_at_blanks(part) {
+    for word in words_at_blanks::<A>(part) {
         let word_width = word.width() as u128;
         if line_start < end && open_width + word_width > width as u128 {
             breaks.push(end - 1)?;

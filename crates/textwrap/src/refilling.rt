@@ -21,7 +21,7 @@ ghost use Rattle.textwrap_lines.specs.declared.word_splitters.WordSplitter.TheVa
 use crate::words::display_width;
 use crate::wrap_algorithms::{Penalties, WrapAlgorithm, WrapError};
 use lines::NonEmptyLines;
-use std::alloc::{AllocError, Global};
+use std::alloc::{AllocError, Allocator};
 use textwrap_lines::{LineEnding, Options, WordSeparator, WordSplitter, fill};
 
 mod lines;
@@ -40,7 +40,10 @@ mod lines;
 ///
 /// # Errors
 /// [`AllocError`] where memory runs out.
-pub fn unfill<'t>(alloc: Global, text: &'t str) -> Result<(String, Options<'t>), AllocError>
+pub fn unfill<'t, A: Allocator + Copy>(
+    alloc: A,
+    text: &'t str,
+) -> Result<(String<A>, Options<'t>), AllocError>
     ensures text { IfOk result (λ unfilled. string_bytes unfilled.0 ≡ unfilled_text text.now) }
     ensures settings { IfOk result (λ unfilled. settings_view unfilled.1
         ≡ unfilled_settings text.now) }
@@ -64,7 +67,11 @@ pub fn unfill<'t>(alloc: Global, text: &'t str) -> Result<(String, Options<'t>),
 ///
 /// # Errors
 /// Those of `wrap`.
-pub fn refill(alloc: Global, filled_text: &str, options: Options<'_>) -> Result<String, WrapError>
+pub fn refill<A: Allocator + Copy>(
+    alloc: A,
+    filled_text: &str,
+    options: Options<'_>,
+) -> Result<String<A>, WrapError>
     ensures refilled { IfOk result (λ refilled. IsRefilled (settings_view options.entry)
         (DividesUnder options.entry) filled_text.now (string_bytes refilled)) }
     ensures only_memory { ¬ MayOverflow options.entry
@@ -117,7 +124,10 @@ fn with_layout(layout: Layout<'_>) -> Options<'_>
 
 /// The joined lines of the text without an ending, its layout, and whether it ends in the line
 /// ending of that.
-fn join_lines<'t>(alloc: Global, text: &'t str) -> Result<(String, Layout<'t>, bool), AllocError>
+fn join_lines<'t, A: Allocator>(
+    alloc: A,
+    text: &'t str,
+) -> Result<(String<A>, Layout<'t>, bool), AllocError>
     ensures joined { IfOk result (λ unfilled. string_bytes unfilled.0 ≡ joined_text text.now) }
     ensures layout { IfOk result (λ unfilled. layout_settings unfilled.1
         ≡ unfilled_settings text.now) }
@@ -163,12 +173,12 @@ fn find_layout(text: &str) -> Layout<'_>
 
 /// The lines of the text that are not empty, without its indents and joined by blanks, and the
 /// ending that is detected among them.
-fn join_without_indents(
-    alloc: Global,
+fn join_without_indents<A: Allocator>(
+    alloc: A,
     text: &str,
     initial_indent: &str,
     subsequent_indent: &str,
-) -> Result<(String, Option<LineEnding>), AllocError>
+) -> Result<(String<A>, Option<LineEnding>), AllocError>
     requires initial { initial_indent.now ≡ unfilled_initial text.now }
     requires subsequent { subsequent_indent.now ≡ unfilled_subsequent text.now }
     ensures joined { IfOk result (λ unfilled. string_bytes unfilled.0 ≡ joined_text text.now) }

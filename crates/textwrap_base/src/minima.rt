@@ -17,7 +17,7 @@ use crate::words::Fragment;
 pub use line_costs::LineCosts;
 pub use queue::queue_search;
 pub use queue_case::is_queue_case;
-use std::alloc::{AllocError, Global};
+use std::alloc::{AllocError, Allocator};
 use std::marker::Model;
 use table::{fill_table, minima_of};
 
@@ -132,13 +132,13 @@ pub trait CostSource {
 /// Overflow only where all widths together need more than 128 bits, or a cost in the table does;
 /// and in these cases the call never succeeds. Widths that are too large are refused before
 /// anything is allocated; else memory may run out first.
-pub fn table_minima<T: Fragment>(
-    alloc: Global,
+pub fn table_minima<A: Allocator + Copy, T: Fragment>(
+    alloc: A,
     fragments: &[T],
     line_widths: &[usize],
     penalties: &Penalties,
     steps: &mut Steps,
-) -> Result<Vec<Minimum>, WrapError>
+) -> Result<Vec<Minimum, A>, WrapError>
     ensures entries { IfOk result (λ minima. minima.items ≡ map minimum_of
         (fragments_table (λ x. priced_at penalties.now (T.sizes x)) penalties.now
         line_widths.now fragments.now)) }
@@ -174,13 +174,13 @@ pub fn table_minima<T: Fragment>(
 ///
 /// # Errors
 /// Out of memory only: no cost of a queue case needs more than 128 bits.
-pub fn queue_minima<T: Fragment>(
-    alloc: Global,
+pub fn queue_minima<A: Allocator + Copy, T: Fragment>(
+    alloc: A,
     fragments: &[T],
     line_widths: &[usize],
     penalties: &Penalties,
     steps: &mut Steps,
-) -> Result<Vec<Minimum>, AllocError>
+) -> Result<Vec<Minimum, A>, AllocError>
     requires case { IsQueueCase T.sizes penalties.now line_widths.now fragments.now }
     ensures entries { IfOk result (λ minima. minima.items ≡ map minimum_of
         (fragments_table (λ x. priced_at penalties.now (T.sizes x)) penalties.now

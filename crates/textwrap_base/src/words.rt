@@ -9,7 +9,7 @@ ghost use Rattle.textwrap_base.specs.Words.{word_view, sizes_of, word_of};
 use crate::blanks::split_final_blanks;
 use crate::escapes::State;
 pub use breaking::{BreakApart, break_words};
-use std::alloc::{AllocError, Global};
+use std::alloc::{AllocError, Allocator};
 use std::fmt::Debug;
 use unicode_width::UnicodeWidthChar;
 
@@ -45,7 +45,10 @@ pub fn display_width(text: &str) -> usize
 ///
 /// # Errors
 /// [`AllocError`] where memory runs out.
-pub fn strip_ansi_escape_sequences(alloc: Global, text: &str) -> Result<String, AllocError>
+pub fn strip_ansi_escape_sequences<A: Allocator + Copy>(
+    alloc: A,
+    text: &str,
+) -> Result<String<A>, AllocError>
     ensures stripped { IfOk result (λ plain. string_bytes plain ≡ stripped text.now) }
     ensures no_escape { IfOk result (λ plain. All (λ byte. byte ≢ escape) (string_bytes plain)) }
 {

@@ -14,7 +14,7 @@ use crate::words::{Fragment, Word};
 use at_ends::wrap_at_ends;
 pub use line_ends::{EndsFunction, LineEnds};
 pub use optimal_fit::{wrap_optimal_fit, wrap_optimal_fit_counted};
-use std::alloc::{AllocError, Global};
+use std::alloc::{AllocError, Allocator};
 
 mod at_ends;
 mod line_ends;
@@ -56,12 +56,12 @@ impl WrapAlgorithm {
     /// # Errors
     /// Those of `wrap_first_fit` or of `wrap_optimal_fit`. With a function of the caller, out of
     /// memory only, also where the function says so.
-    pub fn wrap<'a, 'b>(
+    pub fn wrap<'a, 'b, A: Allocator + Copy>(
         &self,
-        alloc: Global,
+        alloc: A,
         words: &'b [Word<'a>],
         line_widths: &[usize],
-    ) -> Result<Vec<&'b [Word<'a>]>, WrapError>
+    ) -> Result<Vec<&'b [Word<'a>], A>, WrapError>
         ensures divided { IfOk result (λ lines. MayDivide self.now word_view line_widths.now
             words.now (map (λ line. line.now) lines.items)) }
         ensures overflow_only { Overflowed result → IsSomeAnd (algorithm_view self.now) (λ algorithm.
@@ -127,11 +127,11 @@ impl Default for WrapAlgorithm {
 ///
 /// # Errors
 /// Out of memory only. There is no overflow, whatever the widths.
-pub fn wrap_first_fit<'a, T: Fragment>(
-    alloc: Global,
+pub fn wrap_first_fit<'a, A: Allocator + Copy, T: Fragment>(
+    alloc: A,
     fragments: &'a [T],
     line_widths: &[usize],
-) -> Result<Vec<&'a [T]>, AllocError>
+) -> Result<Vec<&'a [T], A>, AllocError>
     ensures greedy { IfOk result (λ lines.
         IsGreedy T.sizes line_widths.now fragments.now (map (λ line. line.now) lines.items)) }
     ensures fewest { IfOk result (λ lines. (others : _) →

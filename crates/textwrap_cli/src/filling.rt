@@ -9,7 +9,7 @@ ghost use Rattle.textwrap_cli.specs.Filling.{fault_line, ReadsAll, FillsTo, Runs
 ghost use Rattle.textwrap_cli.specs.Program.{line_feed, TriesLine};
 
 use crate::arguments::Algorithm;
-use std::alloc::Global;
+use std::alloc::Allocator;
 use std::io::{Read, Write};
 use std::str;
 use textwrap::wrap_algorithms::Penalties;
@@ -50,8 +50,8 @@ pub(crate) fn fault(error: &RunError) -> &'static str
 /// # Errors
 /// That of the first step that fails. No read or write is tried again, not even an interrupted one.
 /// Input without an end uses up all memory, which is `Memory`.
-pub(crate) fn run<R: Read, W: Write>(
-    alloc: Global,
+pub(crate) fn run<A: Allocator + Copy, R: Read, W: Write>(
+    alloc: A,
     reader: &mut R,
     writer: &mut W,
     width: usize,
@@ -66,7 +66,7 @@ pub(crate) fn run<R: Read, W: Write>(
 }
 
 /// Reads the reader to its end, which is the first read that gives nothing.
-fn read_to_end<R: Read>(alloc: Global, reader: &mut R) -> Result<Vec<u8>, RunError>
+fn read_to_end<A: Allocator, R: Read>(alloc: A, reader: &mut R) -> Result<Vec<u8, A>, RunError>
     ensures ok { IfOk result (λ input.
         ReadsAll (R.remaining reader.old) (R.remaining reader.new) input.items) }
     ensures not_not_utf8 { IfErr result (λ error. error ≢ RunError.NotUtf8) }
@@ -87,8 +87,8 @@ fn read_to_end<R: Read>(alloc: Global, reader: &mut R) -> Result<Vec<u8>, RunErr
 }
 
 /// Writes the filled text of the input.
-fn write_filled<W: Write>(
-    alloc: Global,
+fn write_filled<A: Allocator + Copy, W: Write>(
+    alloc: A,
     input: &[u8],
     writer: &mut W,
     width: usize,
@@ -105,12 +105,12 @@ fn write_filled<W: Write>(
 ///
 /// # Errors
 /// `NotUtf8` exactly where the input is not UTF-8; `Memory` where memory runs out.
-fn fill_input(
-    alloc: Global,
+fn fill_input<A: Allocator + Copy>(
+    alloc: A,
     input: &[u8],
     width: usize,
     algorithm: Algorithm,
-) -> Result<String, RunError>
+) -> Result<String<A>, RunError>
     ensures text { result ≢ Err RunError.NotUtf8 → IsUtf8 input.now }
     ensures filled { IfOk result (λ filled.
         IsFilledAt width (algorithm_view algorithm) input.now (string_bytes filled)) }

@@ -29,7 +29,12 @@ fn main(rt: HostRuntime) -> ExitCode {
 
 /// The program's arguments without its name.
 fn words_after_name(rt: &(impl Env + AllocGlobal)) -> io::Result<Vec<String>> {
-    let mut words = env::args(rt)?;
-    let _name = words.next();
-    Ok(words.collect(rt.alloc())?)
+    let mut arguments = env::args(rt)?;
+    let _name = arguments.next();
+    // One by one, since `collect` would grow again where its first reservation is refused.
+    let mut words = Vec::new(rt.alloc());
+    for word in arguments {
+        words.push(word)?;
+    }
+    Ok(words)
 }

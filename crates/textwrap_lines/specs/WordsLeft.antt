@@ -6,6 +6,6 @@ use Rattle.textwrap_lines.specs.declared.word_separators.words.Source.{Source}
 use Rattle.textwrap_lines.specs.declared.word_separators.words.Source.TheVariants.{Line, Found}
 
 -- those of the rest of a line, or those left of the ones that were found
-abbrev pub words_left : Source → List WordText
+abbrev pub words_left : {Z : Type 0} → Source Z → List WordText
 words_left (Line rest) = words_of rest.now
 words_left (Found words) = map word_view (into_iter_items words)

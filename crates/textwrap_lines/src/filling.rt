@@ -10,7 +10,7 @@ ghost use Rattle.textwrap_lines.specs.Filling.{IsFilled};
 use crate::line_ending::LineEnding;
 use crate::options::Options;
 use crate::wrapping::{is_one_line, split_paragraph, whole_line, wrap};
-use std::alloc::{AllocError, Global};
+use std::alloc::{AllocError, Allocator};
 use std::borrow::CowStr;
 use textwrap_base::wrap_algorithms::WrapError;
 
@@ -19,7 +19,11 @@ use textwrap_base::wrap_algorithms::WrapError;
 ///
 /// # Errors
 /// Those of [`wrap`].
-pub fn fill(alloc: Global, text: &str, options: Options<'_>) -> Result<String, WrapError>
+pub fn fill<A: Allocator + Copy>(
+    alloc: A,
+    text: &str,
+    options: Options<'_>,
+) -> Result<String<A>, WrapError>
     ensures filled { IfOk result (λ filled. IsFilled (settings_view options.entry)
         (DividesBy options.entry) text.now (string_bytes filled)) }
     // The same text, where all parts are built in and can be named.
@@ -43,7 +47,11 @@ pub fn fill(alloc: Global, text: &str, options: Options<'_>) -> Result<String, W
 ///
 /// # Errors
 /// Those of [`wrap`].
-pub fn fill_slow_path(alloc: Global, text: &str, options: Options<'_>) -> Result<String, WrapError>
+pub fn fill_slow_path<A: Allocator + Copy>(
+    alloc: A,
+    text: &str,
+    options: Options<'_>,
+) -> Result<String<A>, WrapError>
     ensures filled { IfOk result (λ filled. IsFilled (settings_view options.entry)
         (DividesBy options.entry) text.now (string_bytes filled)) }
     // The same text, where all parts are built in and can be named.
@@ -60,11 +68,11 @@ pub fn fill_slow_path(alloc: Global, text: &str, options: Options<'_>) -> Result
 }
 
 /// The lines with the line ending between each two.
-fn join_lines(
-    alloc: Global,
-    lines: &[CowStr<'_>],
+fn join_lines<A: Allocator>(
+    alloc: A,
+    lines: &[CowStr<'_, A>],
     line_ending: LineEnding,
-) -> Result<String, AllocError>
+) -> Result<String<A>, AllocError>
     ensures { IfOk result (λ joined. string_bytes joined
         ≡ join_with (ending_bytes line_ending) (map line_bytes (map line_view lines.now))) }
 {

@@ -6,11 +6,13 @@ ghost use Rattle.textwrap_base.specs.Words.{words_of};
 
 use crate::word_separators::Words;
 pub use crate::wrapping::split_paragraph;
+use std::alloc::Allocator;
 
 /// The words of a line that is cut at its blanks, one after the other, as
 /// [`WordSeparator::AsciiSpace`](crate::WordSeparator) finds them: of `"foo bar"` these are `"foo "`
-/// and `"bar"`. The call always succeeds and needs no memory.
-pub fn words_at_blanks(line: &str) -> Words<'_>
+/// and `"bar"`. The call always succeeds and needs no memory: `A` is what words at a caller's cuts
+/// would lie in.
+pub fn words_at_blanks<A: Allocator>(line: &str) -> Words<'_, A>
     ensures { result ≡ words_of line.now }
 {
     Words::of_line(line)

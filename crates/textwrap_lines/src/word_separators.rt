@@ -3,7 +3,7 @@ ghost use Rattle.std.specs.Prelude.{◌≡◌, IfOk, IsOk};
 
 pub use line_cuts::{CutFunction, LineCuts};
 pub use offsets::find_words_at;
-use std::alloc::{AllocError, Global};
+use std::alloc::{AllocError, Allocator};
 use textwrap_base::words::Word;
 pub use words::Words;
 
@@ -41,7 +41,11 @@ impl WordSeparator {
     /// # Errors
     /// None by blanks: finding these words needs no memory. [`AllocError`] at a caller's cuts,
     /// where memory runs out or the caller's function says so.
-    pub fn find_words<'a>(&self, alloc: Global, line: &'a str) -> Result<Words<'a>, AllocError>
+    pub fn find_words<'a, A: Allocator + Copy>(
+        &self,
+        alloc: A,
+        line: &'a str,
+    ) -> Result<Words<'a, A>, AllocError>
         ensures words { IfOk result (λ words. MaySeparate self.now line.now words) }
         ensures tiles { IfOk result (λ words. Tiles words line.now) }
         ensures succeeds { self.now ≡ WordSeparator.AsciiSpace → IsOk result }

@@ -11,7 +11,7 @@ ghost use Rattle.textwrap_lines.specs.Cuts.{AreCuts};
 ghost use Rattle.textwrap_lines.specs.WordSplitters.{cut_penalty, split_pieces, AreSplit};
 ghost use Rattle.textwrap_lines.specs.WordSplitters.{MayPoint, MaySplit};
 
-use std::alloc::{AllocError, Global};
+use std::alloc::{AllocError, Allocator};
 use textwrap_base::words::{Word, display_width};
 use unicode::properties::{GeneralCategory, GeneralCategoryGroup, is_alphabetic};
 pub use word_cuts::{PointFunction, WordCuts};
@@ -41,7 +41,11 @@ impl WordSplitter {
     ///
     /// # Errors
     /// [`AllocError`] where memory runs out, or a function of the caller says so.
-    pub fn split_points(&self, alloc: Global, word: &str) -> Result<Vec<usize>, AllocError>
+    pub fn split_points<A: Allocator + Copy>(
+        &self,
+        alloc: A,
+        word: &str,
+    ) -> Result<Vec<usize, A>, AllocError>
         ensures points { IfOk result (λ points. MaySplit self.now word.now points.items) }
         ensures cuts { IfOk result (λ points. AreCuts word.now points.items) }
         ensures none { self.now ≡ WordSplitter.NoHyphenation → IsOk result }
@@ -65,7 +69,11 @@ pub trait SplitPoints {
     ///
     /// # Errors
     /// [`AllocError`] where memory runs out, or the splitter says so.
-    fn split_points(&self, alloc: Global, word: &str) -> Result<Vec<usize>, AllocError>
+    fn split_points<A: Allocator + Copy>(
+        &self,
+        alloc: A,
+        word: &str,
+    ) -> Result<Vec<usize, A>, AllocError>
         ensures points { IfOk result (λ points. may_split self.now word.now points.items) }
         ensures cuts { IfOk result (λ points. AreCuts word.now points.items) };
 }
@@ -75,7 +83,11 @@ impl SplitPoints for WordSplitter {
 
     ghost may_split = { MaySplit };
 
-    fn split_points(&self, alloc: Global, word: &str) -> Result<Vec<usize>, AllocError> {
+    fn split_points<A: Allocator + Copy>(
+        &self,
+        alloc: A,
+        word: &str,
+    ) -> Result<Vec<usize, A>, AllocError> {
         WordSplitter::split_points(self, alloc, word)
     }
 }
@@ -101,16 +113,21 @@ impl PartialEq for WordSplitter {
 }
 
 /// The points that the caller's function gives.
-fn given_points(alloc: Global, word: &str, word_cuts: WordCuts) -> Result<Vec<usize>, AllocError>
+fn given_points<A: Allocator>(
+    alloc: A,
+    word: &str,
+    word_cuts: WordCuts,
+) -> Result<Vec<usize, A>, AllocError>
     ensures points { IfOk result (λ points. MayPoint word_cuts word.now points.items) }
     ensures cuts { IfOk result (λ points. AreCuts word.now points.items) }
 {
-    let points = (word_cuts.function)(alloc, word)?;
-    Ok(points)
+    let points = (word_cuts.function)(word_cuts.alloc, word)?;
+    let copied = Vec::from_slice(alloc, &points)?;
+    Ok(copied)
 }
 
 /// The offsets after the hyphens between alphanumeric characters.
-fn hyphen_points(alloc: Global, word: &str) -> Result<Vec<usize>, AllocError>
+fn hyphen_points<A: Allocator>(alloc: A, word: &str) -> Result<Vec<usize, A>, AllocError>
     ensures points { IfOk result (λ points. points.items ≡ hyphen_points word.now) }
     ensures cuts { IfOk result (λ points. AreCuts word.now points.items) }
 {
@@ -171,11 +188,11 @@ fn is_alphanumeric(ch: char) -> bool
 ///
 /// # Errors
 /// [`AllocError`] where memory runs out, or the splitter says so.
-pub fn split_words<'a, I: IntoIterator<Item = Word<'a>>, S: SplitPoints>(
-    alloc: Global,
+pub fn split_words<'a, A: Allocator + Copy, I: IntoIterator<Item = Word<'a>>, S: SplitPoints>(
+    alloc: A,
     words: I,
     word_splitter: &S,
-) -> Result<Vec<Word<'a>>, AllocError>
+) -> Result<Vec<Word<'a>, A>, AllocError>
     requires ends { IsFiniteIterable
         I.into_iter_gives I.IntoIter.can_next I.IntoIter.remaining words }
     ensures pieces { IfOk result (λ pieces. (it : I.IntoIter) × (given : List Word)
@@ -192,9 +209,9 @@ pub fn split_words<'a, I: IntoIterator<Item = Word<'a>>, S: SplitPoints>(
 
 /// Adds the pieces of a word whose width is known to be that of its text. A word that stays whole
 /// is not measured again.
-pub(crate) fn push_measured<'a>(
-    alloc: Global,
-    pieces: &mut Vec<Word<'a>>,
+pub(crate) fn push_measured<'a, A: Allocator + Copy>(
+    alloc: A,
+    pieces: &mut Vec<Word<'a>, A>,
     word: Word<'a>,
     word_splitter: &WordSplitter,
 ) -> Result<(), AllocError>
@@ -213,8 +230,8 @@ pub(crate) fn push_measured<'a>(
 }
 
 /// Adds the pieces of a word that is split at these points.
-fn push_split<'a>(
-    pieces: &mut Vec<Word<'a>>,
+fn push_split<'a, A: Allocator>(
+    pieces: &mut Vec<Word<'a>, A>,
     word: Word<'a>,
     points: &[usize],
 ) -> Result<(), AllocError>

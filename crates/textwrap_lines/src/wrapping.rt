@@ -30,7 +30,7 @@ ghost use Rattle.textwrap_lines.specs.WordSplitters.{AreSplit, MaySplit, Splitte
 use crate::line_ending::LineEnding;
 use crate::options::Options;
 use crate::word_splitters::push_measured;
-use std::alloc::{AllocError, Global};
+use std::alloc::{AllocError, Allocator};
 use std::borrow::CowStr;
 use textwrap_base::blanks::split_final_blanks;
 use textwrap_base::words::{Word, break_words, display_width};
@@ -52,11 +52,11 @@ use textwrap_base::wrap_algorithms::WrapError;
 /// [`WrapError::Memory`] where memory runs out, or a function of the caller says so.
 /// [`WrapError::Overflow`] only where a function of the caller gives the points of words and
 /// optimal fit divides them.
-pub fn wrap<'t>(
-    alloc: Global,
+pub fn wrap<'t, A: Allocator + Copy>(
+    alloc: A,
     text: &'t str,
     options: Options<'_>,
-) -> Result<Vec<CowStr<'t>>, WrapError>
+) -> Result<Vec<CowStr<'t, A>, A>, WrapError>
     // The lines are those of the text. By a built-in algorithm they are at least one, and lose only
     // blanks. By a built-in splitter they add only indents, and by first fit, where words are
     // broken, they keep to their widths.
@@ -106,11 +106,11 @@ pub fn split_paragraph(text: &str, line_ending: LineEnding) -> (&str, Option<&st
 /// [`WrapError::Memory`] where memory runs out, or a function of the caller says so.
 /// [`WrapError::Overflow`] only where a function of the caller gives the points of words and
 /// optimal fit divides them.
-pub fn wrap_single_line<'t>(
-    alloc: Global,
+pub fn wrap_single_line<'t, A: Allocator + Copy>(
+    alloc: A,
     line: &'t str,
     options: &Options<'_>,
-    lines: &mut Vec<CowStr<'t>>,
+    lines: &mut Vec<CowStr<'t, A>, A>,
 ) -> Result<(), WrapError>
     ensures appended { AppendsLines (MayOverflow options.now)
         (AreParagraphParts (settings_view options.now) (DividesBy options.now)
@@ -170,11 +170,11 @@ pub(crate) fn whole_line<'t>(paragraph: &'t str, options: &Options<'_>) -> &'t s
 /// [`WrapError::Memory`] where memory runs out, or a function of the caller says so.
 /// [`WrapError::Overflow`] only where a function of the caller gives the points of words and
 /// optimal fit divides them.
-pub fn wrap_single_line_slow_path<'t>(
-    alloc: Global,
+pub fn wrap_single_line_slow_path<'t, A: Allocator + Copy>(
+    alloc: A,
     line: &'t str,
     options: &Options<'_>,
-    lines: &mut Vec<CowStr<'t>>,
+    lines: &mut Vec<CowStr<'t, A>, A>,
 ) -> Result<(), WrapError>
     ensures appended { AppendsLines (MayOverflow options.now)
         (AreDividedParts (settings_view options.now) (DividesBy options.now)
@@ -202,11 +202,11 @@ pub fn wrap_single_line_slow_path<'t>(
 }
 
 /// The pieces of a paragraph that are divided.
-fn find_pieces<'t>(
-    alloc: Global,
+fn find_pieces<'t, A: Allocator + Copy>(
+    alloc: A,
     paragraph: &'t str,
     options: &Options<'_>,
-) -> Result<Vec<Word<'t>>, AllocError>
+) -> Result<Vec<Word<'t>, A>, AllocError>
     ensures pieces { IfOk result (λ pieces. ArePieces (settings_view options.now)
         (MaySeparate options.now.word_separator) (MaySplit options.now.word_splitter) paragraph.now
         (map word_view pieces.items)) }
@@ -217,7 +217,8 @@ fn find_pieces<'t>(
         return Ok(split);
     }
     let width = remaining_width(options, options.subsequent_indent);
-    let mut broken = break_words(alloc, split, width)?;
+    // Lent, since the checker does not cover handing on a list that any allocator made.
+    let mut broken = break_words(alloc, split.iter().copied(), width)?;
     if !options.initial_indent.is_empty() {
         // Where the first word has no room beside the indent, the first line is the indent alone.
         broken.insert(0, Word::from(""))?;
@@ -226,11 +227,11 @@ fn find_pieces<'t>(
 }
 
 /// The words of a paragraph, split.
-fn find_split_words<'t>(
-    alloc: Global,
+fn find_split_words<'t, A: Allocator + Copy>(
+    alloc: A,
     paragraph: &'t str,
     options: &Options<'_>,
-) -> Result<Vec<Word<'t>>, AllocError>
+) -> Result<Vec<Word<'t>, A>, AllocError>
     ensures { IfOk result (λ pieces. (words : List WordText)
         × MaySeparate options.now.word_separator paragraph.now words
         × AreSplit (MaySplit options.now.word_splitter) words (map word_view pieces.items)) }
@@ -250,11 +251,11 @@ fn remaining_width(options: &Options<'_>, indent: &str) -> usize
 }
 
 /// The pieces divided by the algorithm of the options.
-fn divide<'a, 'w>(
-    alloc: Global,
+fn divide<'a, 'w, A: Allocator + Copy>(
+    alloc: A,
     pieces: &'w [Word<'a>],
     options: &Options<'_>,
-) -> Result<Vec<&'w [Word<'a>]>, WrapError>
+) -> Result<Vec<&'w [Word<'a>], A>, WrapError>
     ensures divided { IfOk result (λ lines. MayDivide options.now.wrap_algorithm word_view
         (widths_of (settings_view options.now)) pieces.now (map (λ line. line.now) lines.items)) }
     ensures overflow_only { Overflowed result → (penalties : Penalties)
@@ -270,12 +271,12 @@ fn divide<'a, 'w>(
 }
 
 /// Appends the line of each list of pieces. Together they tile the paragraph, or its beginning.
-fn push_lines<'t>(
-    alloc: Global,
+fn push_lines<'t, A: Allocator + Copy>(
+    alloc: A,
     paragraph: &'t str,
     division: &[&[Word<'_>]],
     options: &Options<'_>,
-    lines: &mut Vec<CowStr<'t>>,
+    lines: &mut Vec<CowStr<'t, A>, A>,
 ) -> Result<(), AllocError>
     requires { StartsWith paragraph.now
         (flat_map (λ line. tiled (map word_view line.now)) division.now) }
@@ -294,13 +295,13 @@ fn push_lines<'t>(
 }
 
 /// The line of the pieces with which the text begins, and the text after them.
-fn split_line<'t>(
-    alloc: Global,
+fn split_line<'t, A: Allocator>(
+    alloc: A,
     text: &'t str,
     pieces: &[Word<'_>],
     options: &Options<'_>,
     is_later: bool,
-) -> Result<(CowStr<'t>, &'t str), AllocError>
+) -> Result<(CowStr<'t, A>, &'t str), AllocError>
     requires { StartsWith text.now (tiled (map word_view pieces.now)) }
     ensures line { IfOk result (λ line. line_view line.0
         ≡ line_from (parts_of (settings_view options.now) is_later (map word_view pieces.now))) }
@@ -355,12 +356,12 @@ fn tiled_len(pieces: &[Word<'_>]) -> usize
 }
 
 /// The slice, with the indent before it and the penalty after it. Copies only where one is added.
-fn assemble<'t>(
-    alloc: Global,
+fn assemble<'t, A: Allocator>(
+    alloc: A,
     indent: &str,
     slice: &'t str,
     penalty: &str,
-) -> Result<CowStr<'t>, AllocError>
+) -> Result<CowStr<'t, A>, AllocError>
     ensures { IfOk result (λ line. line_view line
         ≡ assembled_line indent.now slice.now penalty.now) }
 {

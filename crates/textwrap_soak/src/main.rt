@@ -10,6 +10,7 @@
 
 use arguments::arguments;
 use soak::{Outcome, soak};
+use std::env::Env;
 use std::process::ExitCode;
 use std::{env, io};
 
@@ -41,9 +42,7 @@ mod tests;
 /// Ends with status 0 if all promises are kept, 1 if one is broken or the program fails, and 2 if the
 /// words after the program's name ask for nothing.
 fn main(rt: HostRuntime) -> io::Result<ExitCode> {
-    let mut words = env::args(&rt)?;
-    let _name = words.next();
-    let words: Vec<String> = words.collect(rt.alloc())?;
+    let words = words_after_name(&rt)?;
     let Some(request) = arguments(&words) else {
         eprintln!(rt; "usage: textwrap_soak SEED ROUNDS")?;
         return Ok(ExitCode::from(2));
@@ -58,4 +57,15 @@ fn main(rt: HostRuntime) -> io::Result<ExitCode> {
             Ok(ExitCode::FAILURE)
         }
     }
+}
+
+/// The program's arguments without its name.
+fn words_after_name(rt: &(impl Env + AllocGlobal)) -> io::Result<Vec<String>> {
+    let mut arguments = env::args(rt)?;
+    let _name = arguments.next();
+    let mut words = Vec::new(rt.alloc());
+    for word in arguments {
+        words.push(word)?;
+    }
+    Ok(words)
 }

@@ -20,8 +20,8 @@ pub fn listed_lines<'t>(
     ensures only_memory { IfErr result (λ error. error ≡ WrapError.Memory alloc_error) }
 {
     let options = Options::new(width)
-        .word_splitter(WordSplitter::Custom(WordCuts::new(point_after_super)))
-        .wrap_algorithm(WrapAlgorithm::Custom(LineEnds::new(end_after_each)));
+        .word_splitter(WordSplitter::Custom(WordCuts::new(alloc, point_after_super)))
+        .wrap_algorithm(WrapAlgorithm::Custom(LineEnds::new(alloc, end_after_each)));
     let lines = wrap(alloc, text, options)?;
     Ok(lines)
 }

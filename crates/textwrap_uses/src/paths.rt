@@ -24,7 +24,7 @@ pub fn path_lines<'p>(
         × (map line_view lines.items ≡ map line_from (flat_map (λ parts. parts) groups))
         × (map covered_by groups ≡ paragraphs_of LF path.now)) }
 {
-    let line_cuts = LineCuts::new(cuts_after_slashes);
+    let line_cuts = LineCuts::new(alloc, cuts_after_slashes);
     let options = Options::new(width)
         .line_ending(LineEnding::LF)
         .word_separator(WordSeparator::Custom(line_cuts));

@@ -18,7 +18,7 @@ pub record PlannedDay : Type 0 where
   pub hours : ℕ
   pub names : List (List ℕ)
 
-abbrev pub day_view : Day → PlannedDay
+abbrev pub day_view : {Z : Type 0} → Day Z → PlannedDay
 day_view day = record { hours = day.hours; names = map (λ name. name.now) day.names.items }
 
 -- the day of a line of tasks

@@ -4,7 +4,7 @@ ghost use Rattle.std.specs.List.{flat_map};
 ghost use Rattle.textwrap.specs.Division.{closed_width, IsAdmissible};
 ghost use Rattle.textwrap_vectors.specs.Days.{sizes_of, names_of, day_view, day_of, AreDays};
 
-use std::alloc::{AllocError, Global};
+use std::alloc::{AllocError, Allocator};
 use textwrap::words::Fragment;
 use textwrap::wrap_algorithms::wrap_first_fit;
 
@@ -39,11 +39,11 @@ impl Fragment for Task<'_> {
 
 /// A day, and the tasks that are done on it.
 #[derive(Debug, Drop, PartialEq, Eq)]
-pub struct Day<'a> {
+pub struct Day<'a, A: Allocator> {
     /// The hours of its tasks, of the sweeping between them, and of the cleanup after the last.
     pub hours: u128,
     /// The names of its tasks, in order.
-    pub names: Vec<&'a str>,
+    pub names: Vec<&'a str, A>,
 }
 
 /// Assigns the tasks to days of `day_length` hours, in order. A day takes a task if it can end
@@ -58,11 +58,11 @@ pub struct Day<'a> {
 ///
 /// # Errors
 /// Out of memory only.
-pub fn assign_days<'a>(
-    alloc: Global,
+pub fn assign_days<'a, A: Allocator + Copy>(
+    alloc: A,
     tasks: &[Task<'a>],
     day_length: usize,
-) -> Result<Vec<Day<'a>>, AllocError>
+) -> Result<Vec<Day<'a, A>, A>, AllocError>
     ensures days { IfOk result (λ days.
         AreDays day_length tasks.now (map day_view days.items)) }
 
@@ -83,7 +83,7 @@ pub fn assign_days<'a>(
 }
 
 /// The day of a line of tasks.
-fn day_of<'a>(alloc: Global, line: &[Task<'a>]) -> Result<Day<'a>, AllocError>
+fn day_of<'a, A: Allocator>(alloc: A, line: &[Task<'a>]) -> Result<Day<'a, A>, AllocError>
     ensures { IfOk result (λ day. day_view day ≡ day_of line.now) }
 {
     let mut names = Vec::new(alloc);

@@ -7,7 +7,6 @@ mod ends;
 mod escapes;
 mod filling;
 mod given;
-mod heap;
 mod indentation;
 mod inplace;
 mod long_texts;

@@ -1,7 +1,9 @@
 -- Lemmas on the rows of a table.
-use Rattle.std.proofs.Common.{◌≡◌, ℕ, zero, suc, ◌+◌, ◌-◌, ◌*◌, ◌<◌, ◌≤◌, ◌⊎◌, List, [], ◌∷◌, ◌++◌}
+use Rattle.std.proofs.Common.{◌≡◌, ℕ, zero, suc, ◌+◌, ◌-◌, ◌*◌, ◌/◌, ◌%◌, ◌<◌, ◌≤◌, ◌⊎◌, List, [], ◌∷◌, ◌++◌}
 use Rattle.std.proofs.Common.{length, get_or, map, refl, sym, ap, ◌∙◌, arith, append_assoc}
+use Rattle.std.proofs.Math.Nat.{le-mul_of_pos_right, min-le_right, mod-add-div'}
 use Rattle.std.proofs.lemmas.Bool.{cases_lt}
+use Rattle.std.specs.Int.{div_ceil}
 use Rattle.std.proofs.Common.{⊎_elim, append-nil, inl, inr, subst, length-append}
 use Rattle.std.specs.List.{range_with_len, repeat}
 use Rattle.std.specs.declared.borrow.CowStr.{CowStr}
@@ -48,6 +50,17 @@ run_more before after xs n is =
     ∙ ap (λ l. before ++ l) (repeat_more n xs)
 
 -- ---- cells
+
+-- no table has more rows than lines
+pub rows-le_lines : (lines columns : ℕ) → 1 ≤ columns → div_ceil lines columns ≤ lines
+rows-le_lines lines columns some =
+    let full = lines / columns in
+    omega (
+      arith,
+      le-mul_of_pos_right full some,
+      mod-add-div' lines columns,
+      min-le_right 1 (lines % columns),
+    )
 
 -- the text of the line that a cell shows
 pub cell_is : {Z : Type 0} (lines : List (CowStr Z)) (line : CowStr Z) (step first c at : ℕ)

@@ -13,7 +13,7 @@ use crate::errors::{OverflowError, WrapError};
 use crate::line_widths::line_width;
 use crate::penalties::Penalties;
 use crate::words::Fragment;
-use std::alloc::{AllocError, Global};
+use std::alloc::{AllocError, Allocator};
 use std::marker::Model;
 
 /// A fragment's widths and break cost, and the widths and whitespace of all fragments before it.
@@ -30,14 +30,14 @@ struct Measure {
 /// of its own from 0. At the line width 10 and the default penalties, a line of the words `foo` and
 /// `bar`, with a blank between them, costs 1000.
 #[derive(Drop)]
-pub struct LineCosts {
-    measures: Vec<Measure>,
-    line_widths: Vec<usize>,
+pub struct LineCosts<A: Allocator> {
+    measures: Vec<Measure, A>,
+    line_widths: Vec<usize, A>,
     penalties: Penalties,
     steps: Steps,
 }
 
-impl Model for LineCosts {
+impl<A: Allocator> Model for LineCosts<A> {
     ghost Value = { LineCostsView };
 
     ghost view = { λ s. record {
@@ -50,7 +50,7 @@ impl Model for LineCosts {
     ghost invariant = { λ s. AreMeasured s.measures.items };
 }
 
-impl LineCosts {
+impl<A: Allocator + Copy> LineCosts<A> {
     /// The costs of the lines of these fragments. On lines of 10 columns those of words are
     /// `LineCosts::new(alloc, &words, &[10], &penalties)?`.
     ///
@@ -58,15 +58,15 @@ impl LineCosts {
     /// Overflow exactly where all widths together need more than 128 bits, which is found before
     /// anything is allocated. Otherwise out of memory.
     pub fn new<T: Fragment>(
-        alloc: Global,
+        alloc: A,
         fragments: &[T],
         line_widths: &[usize],
         penalties: &Penalties,
-    ) -> Result<LineCosts, WrapError>
-        ensures costs { IfOk result (λ costs. ⟦<LineCosts as CostSource>⟧.costs costs
+    ) -> Result<LineCosts<A>, WrapError>
+        ensures costs { IfOk result (λ costs. ⟦<LineCosts<A> as CostSource>⟧.costs costs
             ≡ fragment_costs (λ x. priced_at penalties.now (T.sizes x)) penalties.now
             line_widths.now fragments.now) }
-        ensures count { IfOk result (λ costs. ⟦<LineCosts as CostSource>⟧.steps costs ≡ 0) }
+        ensures count { IfOk result (λ costs. ⟦<LineCosts<A> as CostSource>⟧.steps costs ≡ 0) }
         ensures overflow_only { Overflowed result
             → Passes128Bits (total_width T.sizes fragments.now) }
         ensures too_wide { Passes128Bits (total_width T.sizes fragments.now)
@@ -91,7 +91,7 @@ impl LineCosts {
     }
 }
 
-impl CostSource for LineCosts {
+impl<A: Allocator> CostSource for LineCosts<A> {
     ghost costs = { λ s. fragment_costs (λ priced. priced) s.penalties s.widths s.priced };
 
     ghost steps = { λ s. s.steps };
@@ -213,11 +213,11 @@ pub(super) fn total_width<T: Fragment>(fragments: &[T]) -> Option<u128>
 }
 
 /// The measures of the fragments.
-fn measures_of<T: Fragment>(
-    alloc: Global,
+fn measures_of<A: Allocator, T: Fragment>(
+    alloc: A,
     fragments: &[T],
     penalties: &Penalties,
-) -> Result<Vec<Measure>, AllocError>
+) -> Result<Vec<Measure, A>, AllocError>
     requires { Fits128Bits (total_width T.sizes fragments.now) }
     ensures measured { IfOk result (λ measures. AreMeasured measures.items) }
     ensures priced { IfOk result (λ measures. map measured measures.items

@@ -15,7 +15,7 @@ ghost use Rattle.textwrap_base.specs.Table.{table, minimum_of};
 
 use super::stretches::{Stretch, next_stretch, price, take_in};
 use super::{CostSource, Minimum};
-use std::alloc::{AllocError, Global};
+use std::alloc::{AllocError, Allocator};
 
 /// The least costs of dividing fragments into lines: for each prefix of the fragments, the empty
 /// one first, its cost and the start of its last line. These are the entries of the table that
@@ -31,7 +31,10 @@ use std::alloc::{AllocError, Global};
 ///
 /// # Errors
 /// Out of memory.
-pub fn queue_search<C: CostSource>(alloc: Global, costs: &mut C) -> Result<Vec<Minimum>, AllocError>
+pub fn queue_search<A: Allocator + Copy, C: CostSource>(
+    alloc: A,
+    costs: &mut C,
+) -> Result<Vec<Minimum, A>, AllocError>
     requires suits { SuitQueue (C.costs costs.old) }
     ensures minima { IfOk result (λ minima. minima.items
         ≡ map minimum_of (table (C.costs costs.old).cost (C.costs costs.old).ends)) }
@@ -55,10 +58,10 @@ pub fn queue_search<C: CostSource>(alloc: Global, costs: &mut C) -> Result<Vec<M
 }
 
 /// Adds the least costs of all ends but the last.
-fn reach_last<C: CostSource>(
-    alloc: Global,
+fn reach_last<A: Allocator, C: CostSource>(
+    alloc: A,
     costs: &mut C,
-    minima: &mut Vec<Minimum>,
+    minima: &mut Vec<Minimum, A>,
 ) -> Result<(), AllocError>
     requires suits { SuitQueue (C.costs costs.old) }
     requires minima { AreMinima (C.costs costs.old) minima.old.items }
@@ -96,10 +99,10 @@ fn reach_last<C: CostSource>(
 
 /// Adds the least cost of the next end, which the current stretch has, and gives the end a stretch
 /// as a start.
-fn advance<C: CostSource>(
+fn advance<A: Allocator, C: CostSource>(
     costs: &mut C,
-    minima: &mut Vec<Minimum>,
-    stretches: &mut Vec<Stretch>,
+    minima: &mut Vec<Minimum, A>,
+    stretches: &mut Vec<Stretch, A>,
     current: usize,
 ) -> Result<(), AllocError>
     requires suits { SuitQueue (C.costs costs.old) }

@@ -13,7 +13,7 @@ ghost use Rattle.textwrap_base.specs.Stretches.{stretch_at, AreRising, HasEnd, H
 ghost use Rattle.textwrap_base.specs.Stretches.{AreStretches};
 
 use super::{CostSource, Minimum};
-use std::alloc::AllocError;
+use std::alloc::{AllocError, Allocator};
 
 /// From the end `from` on, until the next stretch begins, `start` is the best start from 1 on.
 #[derive(Clone, Copy)]
@@ -65,10 +65,10 @@ pub(super) fn next_stretch(stretches: &[Stretch], before: usize, end: usize) -> 
 
 /// Gives the newest start, the last of `minima`, its stretch. The stretches are then those of all
 /// starts from 1 to this one.
-pub(super) fn take_in<C: CostSource>(
+pub(super) fn take_in<A: Allocator, C: CostSource>(
     costs: &mut C,
     minima: &[Minimum],
-    stretches: &mut Vec<Stretch>,
+    stretches: &mut Vec<Stretch, A>,
     current: usize,
 ) -> Result<(), AllocError>
     requires suits { SuitQueue (C.costs costs.old) }
@@ -96,10 +96,10 @@ pub(super) fn take_in<C: CostSource>(
 
 /// The stretch of the newest start. Those that it beats at all their ends are dropped. It begins at
 /// the last end, and so is empty, where the start is the best for no end.
-fn new_stretch<C: CostSource>(
+fn new_stretch<A: Allocator, C: CostSource>(
     costs: &mut C,
     minima: &[Minimum],
-    stretches: &mut Vec<Stretch>,
+    stretches: &mut Vec<Stretch, A>,
     current: usize,
 ) -> Stretch
     requires suits { SuitQueue (C.costs costs.old) }
@@ -135,10 +135,10 @@ fn new_stretch<C: CostSource>(
 
 /// Drops the stretches after the current one that the newest start beats at their first end, and so
 /// at all their ends. What it wins so is its own stretch as far as it is known.
-fn drop_beaten<C: CostSource>(
+fn drop_beaten<A: Allocator, C: CostSource>(
     costs: &mut C,
     minima: &[Minimum],
-    stretches: &mut Vec<Stretch>,
+    stretches: &mut Vec<Stretch, A>,
     current: usize,
 ) -> Stretch
     requires suits { SuitQueue (C.costs costs.old) }

@@ -7,7 +7,7 @@ ghost use Rattle.textwrap_base.specs.Table.{IsBestBelow, StopsAtOverflow};
 
 use super::{CostSource, Minimum};
 use crate::errors::{OverflowError, WrapError};
-use std::alloc::{AllocError, Global};
+use std::alloc::{AllocError, Allocator};
 
 /// The cost of a prefix, where its last line starts, and the number of the line after it.
 #[derive(Clone, Copy)]
@@ -18,10 +18,10 @@ pub(super) struct Entry {
 }
 
 /// The entries of the table over all ends of the source.
-pub(super) fn fill_table<C: CostSource>(
-    alloc: Global,
+pub(super) fn fill_table<A: Allocator, C: CostSource>(
+    alloc: A,
     costs: &mut C,
-) -> Result<Vec<Entry>, WrapError>
+) -> Result<Vec<Entry, A>, WrapError>
     ensures entries { IfOk result (λ entries.
         entries.items ≡ table (C.costs costs.old).cost (C.costs costs.old).ends) }
     ensures overflow { let entries = table (C.costs costs.old).cost (C.costs costs.old).ends
@@ -103,12 +103,19 @@ fn cheaper(best: Option<Entry>, other: Option<Entry>) -> Option<Entry>
 }
 
 /// The starts and the costs of the entries, which are what a caller sees.
-pub(super) fn minima_of(alloc: Global, entries: &[Entry]) -> Result<Vec<Minimum>, AllocError>
+pub(super) fn minima_of<A: Allocator>(
+    alloc: A,
+    entries: &[Entry],
+) -> Result<Vec<Minimum, A>, AllocError>
     ensures { IfOk result (λ minima. minima.items ≡ map minimum_of entries.now) }
 {
-    let to_minimum = |entry: &Entry| Minimum {
-        start: entry.start,
-        cost: entry.cost,
-    };
-    entries.iter().map(to_minimum).collect(alloc)
+    // `collect` would grow again where its first reservation is refused.
+    let mut minima = Vec::with_capacity(alloc, entries.len())?;
+    for entry in entries {
+        minima.push(Minimum {
+            start: entry.start,
+            cost: entry.cost,
+        })?;
+    }
+    Ok(minima)
 }

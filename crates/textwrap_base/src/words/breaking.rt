@@ -8,7 +8,7 @@ ghost use Rattle.textwrap_base.specs.Words.{word_view};
 
 use super::{Word, columns};
 use crate::escapes::State;
-use std::alloc::{AllocError, Global};
+use std::alloc::{AllocError, Allocator};
 
 /// An iterator over the pieces of a word, made by `Word::break_apart`. It gives them in order and
 /// needs no memory, and after the last piece it returns `None` each time: for `"Hello!  "` at 3
@@ -106,11 +106,11 @@ fn first_piece(text: &str, line_width: usize) -> (usize, usize)
 ///
 /// # Errors
 /// Only where it is out of memory for the list.
-pub fn break_words<'a, I: IntoIterator<Item = Word<'a>>>(
-    alloc: Global,
+pub fn break_words<'a, A: Allocator + Copy, I: IntoIterator<Item = Word<'a>>>(
+    alloc: A,
     words: I,
     line_width: usize,
-) -> Result<Vec<Word<'a>>, AllocError>
+) -> Result<Vec<Word<'a>, A>, AllocError>
     requires ends { IsFiniteIterable I.into_iter_gives
         I.IntoIter.can_next I.IntoIter.remaining words }
     ensures pieces { IfOk result (λ pieces. (it : I.IntoIter) × (given : List Word)
@@ -125,8 +125,8 @@ pub fn break_words<'a, I: IntoIterator<Item = Word<'a>>>(
 }
 
 /// Appends a word, or its pieces where it is wider than the line.
-fn push_broken<'a>(
-    pieces: &mut Vec<Word<'a>>,
+fn push_broken<'a, A: Allocator>(
+    pieces: &mut Vec<Word<'a>, A>,
     word: Word<'a>,
     line_width: usize,
 ) -> Result<(), AllocError>

@@ -14,12 +14,13 @@ pub type EndsFunction = fn(Global, &[Word<'_>], &[usize]) -> Result<Vec<usize>, 
 /// A function of the caller that divides words into lines. It returns how many words stand before
 /// the end of each line: numbers that do not decrease, and are not above the number of words.
 ///
-/// Where `end_all` returns 1, 3 and 6, `WrapAlgorithm::Custom(LineEnds::new(end_all))` divides six
-/// words into lines of 1, 2 and 3.
+/// Where `end_all` returns 1, 3 and 6, `WrapAlgorithm::Custom(LineEnds::new(alloc, end_all))`
+/// divides six words into lines of 1, 2 and 3.
 #[derive(Clone, Copy)]
 pub struct LineEnds {
     /// The function.
     pub function: EndsFunction,
+    pub(super) alloc: Global,
     ghost callable: { IsAlwaysCallable function },
     ghost answers: { (alloc : _) (words : _) (widths : _) (answer : _)
         → post function alloc words widths answer
@@ -27,8 +28,9 @@ pub struct LineEnds {
 }
 
 impl LineEnds {
-    /// Divides words by this function. It may be called with any words and widths, and its contract
-    /// says that its ends are right ones, as that of this function does:
+    /// Divides words by this function, which is called with this allocator. It may be called with
+    /// any words and widths, and its contract says that its ends are right ones, as that of this
+    /// function does:
     ///
     /// ```rust
     /// fn end_all(
@@ -38,14 +40,14 @@ impl LineEnds {
     /// ) -> Result<Vec<usize>, AllocError>
     ///     ensures { IfOk result (λ ends. AreEnds words.now ends.items) }
     /// ```
-    pub fn new(function: EndsFunction) -> LineEnds
+    pub fn new(alloc: Global, function: EndsFunction) -> LineEnds
         requires callable { IsAlwaysCallable function }
         requires answers { (alloc : _) (words : _) (widths : _) (answer : _)
             → post function alloc words widths answer
             → ForOk answer (λ ends. AreEnds words.now ends.items) }
         ensures { result.function ≡ function }
     {
-        LineEnds { function }
+        LineEnds { function, alloc }
     }
 }
 

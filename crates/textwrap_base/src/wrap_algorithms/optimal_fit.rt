@@ -12,7 +12,7 @@ use crate::errors::WrapError;
 use crate::minima::{Minimum, Steps, is_queue_case, queue_minima, table_minima};
 use crate::penalties::Penalties;
 use crate::words::Fragment;
-use std::alloc::{AllocError, Global};
+use std::alloc::{AllocError, Allocator};
 
 /// Divides the fragments into the lines of least cost (after Knuth and Plass, "Breaking
 /// Paragraphs into Lines", 1981). Line l, counted from 0, may be `line_widths[l]` wide. The last
@@ -32,12 +32,12 @@ use std::alloc::{AllocError, Global};
 /// where all lines but the first have one width. Widths that are too large are refused before
 /// anything is allocated; else memory may run out first. There is no overflow where all widths
 /// together fit 64 bits.
-pub fn wrap_optimal_fit<'a, T: Fragment>(
-    alloc: Global,
+pub fn wrap_optimal_fit<'a, A: Allocator + Copy, T: Fragment>(
+    alloc: A,
     fragments: &'a [T],
     line_widths: &[usize],
     penalties: &Penalties,
-) -> Result<Vec<&'a [T]>, WrapError>
+) -> Result<Vec<&'a [T], A>, WrapError>
     ensures fit { IsOptimalFitResult (λ x. priced_at penalties.now (T.sizes x)) penalties.now
         line_widths.now fragments.now (λ lines. map (λ line. line.now) lines.items) result }
 {
@@ -52,13 +52,13 @@ pub fn wrap_optimal_fit<'a, T: Fragment>(
 ///
 /// # Errors
 /// Those of `wrap_optimal_fit`.
-pub fn wrap_optimal_fit_counted<'a, T: Fragment>(
-    alloc: Global,
+pub fn wrap_optimal_fit_counted<'a, A: Allocator + Copy, T: Fragment>(
+    alloc: A,
     fragments: &'a [T],
     line_widths: &[usize],
     penalties: &Penalties,
     steps: &mut Steps,
-) -> Result<Vec<&'a [T]>, WrapError>
+) -> Result<Vec<&'a [T], A>, WrapError>
     ensures fit { IsOptimalFitResult (λ x. priced_at penalties.now (T.sizes x)) penalties.now
         line_widths.now fragments.now (λ lines. map (λ line. line.now) lines.items) result }
     ensures steps { ¬ IsQueueCase T.sizes penalties.now line_widths.now fragments.now
@@ -72,13 +72,13 @@ pub fn wrap_optimal_fit_counted<'a, T: Fragment>(
 }
 
 /// The least costs: by the search in a queue case, and else by the table.
-fn find_minima<T: Fragment>(
-    alloc: Global,
+fn find_minima<A: Allocator + Copy, T: Fragment>(
+    alloc: A,
     fragments: &[T],
     line_widths: &[usize],
     penalties: &Penalties,
     steps: &mut Steps,
-) -> Result<Vec<Minimum>, WrapError>
+) -> Result<Vec<Minimum, A>, WrapError>
     ensures entries { IfOk result (λ minima. minima.items ≡ map minimum_of
         (fragments_table (λ x. priced_at penalties.now (T.sizes x)) penalties.now
         line_widths.now fragments.now)) }
@@ -104,11 +104,11 @@ fn find_minima<T: Fragment>(
 }
 
 /// The lines that follow the starts of the minima back from the end of the fragments.
-fn lines_by<'a, T>(
-    alloc: Global,
+fn lines_by<'a, A: Allocator, T>(
+    alloc: A,
     fragments: &'a [T],
     minima: &[Minimum],
-) -> Result<Vec<&'a [T]>, AllocError>
+) -> Result<Vec<&'a [T], A>, AllocError>
     requires len { length minima.now ≡ length fragments.now + 1 }
     requires first { slice_index (map (λ minimum. minimum.start) minima.now) 0 ≡ 0 }
     requires later { (j : ℕ) → 0 < j → j ≤ length fragments.now

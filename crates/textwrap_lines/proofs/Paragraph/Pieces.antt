@@ -1,15 +1,16 @@
 -- Lemmas on the pieces of a paragraph: they tile it, and blanks stand between them.
 use Rattle.std.proofs.Common.{subst, ◌≡◌, ◌↔◌, ◌≢◌, ℕ, suc, ◌<◌, ◌≤◌, Bool, true, false, cond, ◌==◌}
 use Rattle.std.proofs.Common.{List, [], ◌∷◌, ◌++◌, All, length, get_or, take, drop, refl, sym}
-use Rattle.std.proofs.Common.{ap, ◌∙◌, arith}
+use Rattle.std.proofs.Common.{ap, ◌∙◌, arith, Iter}
 use Rattle.std.specs.Iterator.{Drains}
 use Rattle.std.specs.List.{flat_map, slice_range}
 use Rattle.std.specs.List.Sorted.{IsNonDecreasing}
 use Rattle.std.specs.Str.{IsUtf8, IsCharBoundary}
-use Rattle.std.specs.Vec.Iter.{into_iter_items, into_iter_len, into_iter_steps}
-use Rattle.std.specs.declared.vec.IntoIter.{IntoIter}
-use Rattle.std.proofs.lemmas.Iterator.{items_from_drains}
-use Rattle.std.proofs.lemmas.Iterator.Adapters.{YieldsList-from_vec}
+use Rattle.std.specs.Iterator.Adapters.{copied_source, copied_steps}
+use Rattle.std.specs.Slice.Iter.{iter_rest, iter_steps}
+use Rattle.std.specs.declared.iter.Copied.{Copied}
+use Rattle.std.proofs.lemmas.Iterator.{items_from_drains, YieldsList-from_slice}
+use Rattle.std.proofs.lemmas.Iterator.Consumers.{YieldsList-from_copied}
 use Rattle.std.proofs.lemmas.List.{map-id}
 use Rattle.std.proofs.lemmas.List.Concat.{flat_map-append}
 use Rattle.std.proofs.lemmas.List.Elements.{All-nil, All-cons, All-head, All-tail, All-append}
@@ -45,14 +46,12 @@ use Rattle.textwrap_lines.proofs.Word.Splitting.{points_of-cuts, tiled-split_pie
 
 -- ---- the words that an iterator has given
 
-pub given-vec : {A Z : Type 0} (it : IntoIter A Z) (items xs : List A)
-    → Drains (into_iter_steps {X = A} {Z = Z}) it xs → into_iter_items it ≡ items
-    → into_iter_len it ≡ length items → xs ≡ items
-given-vec {A} {Z} it items xs drained is len =
+pub given-copied : {A : Type 0} (it : Copied (Iter A)) (items xs : List A)
+    → iter_rest (copied_source it) ≡ items → Drains (copied_steps iter_steps) it xs → xs ≡ items
+given-copied it items xs is drained =
     sym (map-id xs)
-    ∙ items_from_drains {steps = into_iter_steps {X = A} {Z = Z}} {v = λ y.
-    y} {s = it} {all = items} xs (drained.1.0, drained.1.1, λ _. (drained.0, drained.1.2))
-    (YieldsList-from_vec items is len)
+    ∙ items_from_drains {v = λ y. y} xs (drained.1.0, drained.1.1, λ _. (drained.0, drained.1.2))
+    (YieldsList-from_copied (YieldsList-from_slice items is))
 
 pub word_of-nil : word_of [] ≡ empty_word
 word_of-nil = ap (λ n. record { word = []; whitespace = []; penalty = []; width = n })

@@ -92,6 +92,15 @@ module _ (settings : Settings) (Divides : List ℕ → List (List WordText) → 
         → AreGroups (AreParagraphParts settings Divides) false (paragraphs_of settings.line_ending text)
         (groups ++ others)
 
+  pub HasGroups-start : (text : List ℕ) (lines : List Line) → lines ≡ []
+      → HasGroups text lines (paragraphs_of settings.line_ending text)
+  HasGroups-start text lines none = record {
+    groups = [];
+    given = none;
+    more = λ others are. subst (λ ls. AreGroups (AreParagraphParts settings Divides)
+        (nat_lt 0 (length ls)) (paragraphs_of settings.line_ending text) others) none are;
+  }
+
   lines_from-push : (groups : List (List LineParts)) (parts : List LineParts)
       → map line_from (flat_map (λ ps. ps) (groups ++ parts ∷ [])) ≡ map line_from
       (flat_map (λ ps. ps) groups) ++ map line_from parts

@@ -13,12 +13,13 @@ pub type CutFunction = fn(Global, &str) -> Result<Vec<usize>, AllocError>;
 /// but the first begins: offsets in bytes that increase, inside the line and on character
 /// boundaries.
 ///
-/// Where `cut_foobar` returns 3 for `foobar`, `WordSeparator::Custom(LineCuts::new(cut_foobar))`
-/// cuts it into `foo` and `bar`.
+/// Where `cut_foobar` returns 3 for `foobar`, the separator
+/// `WordSeparator::Custom(LineCuts::new(alloc, cut_foobar))` cuts it into `foo` and `bar`.
 #[derive(Clone, Copy)]
 pub struct LineCuts {
     /// The function.
     pub function: CutFunction,
+    pub(super) alloc: Global,
     ghost callable: { IsAlwaysCallable function },
     ghost answers: { (alloc : _) (line : _) (answer : _) → IsUtf8 line.now
         → post function alloc line answer
@@ -26,21 +27,22 @@ pub struct LineCuts {
 }
 
 impl LineCuts {
-    /// Cuts lines where this function says. It may be called with any line, and its contract says
-    /// that its cuts are right ones, as that of this function does:
+    /// Cuts lines where this function says, which is called with this allocator. It may be called
+    /// with any line, and its contract says that its cuts are right ones, as that of this function
+    /// does:
     ///
     /// ```rust
     /// fn cut_foobar(alloc: Global, line: &str) -> Result<Vec<usize>, AllocError>
     ///     ensures { IfOk result (λ cuts. AreInnerCuts line.now cuts.items) }
     /// ```
-    pub fn new(function: CutFunction) -> LineCuts
+    pub fn new(alloc: Global, function: CutFunction) -> LineCuts
         requires callable { IsAlwaysCallable function }
         requires answers { (alloc : _) (line : _) (answer : _) → IsUtf8 line.now
             → post function alloc line answer
             → ForOk answer (λ cuts. AreInnerCuts line.now cuts.items) }
         ensures { result.function ≡ function }
     {
-        LineCuts { function }
+        LineCuts { function, alloc }
     }
 }
 

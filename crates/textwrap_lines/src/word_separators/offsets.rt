@@ -7,7 +7,7 @@ ghost use Rattle.textwrap_base.specs.Words.{word_view, word_of, Tiles};
 ghost use Rattle.textwrap_lines.specs.WordOffsets.{is_cut_after, cuts_at, words_at};
 
 use super::words::words_between;
-use std::alloc::{AllocError, Global};
+use std::alloc::{AllocError, Allocator};
 use textwrap_base::escapes::State;
 use textwrap_base::words::Word;
 
@@ -26,11 +26,11 @@ use textwrap_base::words::Word;
 ///
 /// # Errors
 /// [`AllocError`] where memory runs out.
-pub fn find_words_at<'a>(
-    alloc: Global,
+pub fn find_words_at<'a, A: Allocator + Copy>(
+    alloc: A,
     line: &'a str,
     offsets: &[usize],
-) -> Result<Vec<Word<'a>>, AllocError>
+) -> Result<Vec<Word<'a>, A>, AllocError>
     requires increasing { IsStrictlyIncreasing offsets.now }
     requires boundaries { All (IsCharBoundary (stripped line.now)) offsets.now }
     ensures words { IfOk result (λ words. map word_view words.items
@@ -42,7 +42,11 @@ pub fn find_words_at<'a>(
 }
 
 /// The offsets in the line itself at which it is cut.
-fn find_cuts(alloc: Global, line: &str, offsets: &[usize]) -> Result<Vec<usize>, AllocError>
+fn find_cuts<A: Allocator>(
+    alloc: A,
+    line: &str,
+    offsets: &[usize],
+) -> Result<Vec<usize, A>, AllocError>
     requires { IsStrictlyIncreasing offsets.now }
     ensures { IfOk result (λ cuts. cuts.items ≡ cuts_at offsets.now line.now) }
 {

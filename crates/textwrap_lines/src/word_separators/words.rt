@@ -9,30 +9,31 @@ ghost use Rattle.textwrap_lines.specs.WordSeparators.{MayCut};
 ghost use Rattle.textwrap_lines.specs.WordsLeft.{words_left};
 
 use super::line_cuts::LineCuts;
-use std::alloc::{AllocError, Global};
+use std::alloc::{AllocError, Allocator};
 use std::marker::Model;
 use std::vec;
 use textwrap_base::words::Word;
 
-/// The words of a line, one after the other: of `"foo bar"` these are `"foo "` and `"bar"`. To
-/// contracts it is the list of the words to come.
+/// The words of a line, one after the other: of `"foo bar"` these are `"foo "` and `"bar"`. Those at
+/// a caller's cuts were found beforehand and lie in memory of `A`. To contracts it is the list of
+/// the words to come.
 #[derive(Debug, Drop)]
-pub struct Words<'a> {
-    source: Source<'a>,
+pub struct Words<'a, A: Allocator> {
+    source: Source<'a, A>,
 }
 
 /// Where the words to come are taken from.
 #[derive(Debug, Drop)]
-enum Source<'a> {
+enum Source<'a, A: Allocator> {
     /// What is left of a line that is cut at its blanks.
     Line(&'a str),
     /// What is left of the words that were found.
-    Found(vec::IntoIter<Word<'a>>),
+    Found(vec::IntoIter<Word<'a>, A>),
 }
 
-impl<'a> Words<'a> {
+impl<'a, A: Allocator> Words<'a, A> {
     /// The words of a line that is cut at its blanks.
-    pub(crate) fn of_line(line: &'a str) -> Words<'a>
+    pub(crate) fn of_line(line: &'a str) -> Words<'a, A>
         ensures { result ≡ words_of line.now }
     {
         Words {
@@ -45,15 +46,15 @@ impl<'a> Words<'a> {
     /// # Errors
     /// Out of memory, also where the function says so.
     pub(super) fn at_cuts(
-        alloc: Global,
+        alloc: A,
         line: &'a str,
         line_cuts: LineCuts,
-    ) -> Result<Words<'a>, AllocError>
+    ) -> Result<Words<'a, A>, AllocError>
         ensures words { IfOk result (λ words. (cuts : List ℕ) × MayCut line_cuts line.now cuts
             × (words ≡ map word_of (parts_between cuts line.now))) }
         ensures tiles { IfOk result (λ words. Tiles words line.now) }
     {
-        let cuts = (line_cuts.function)(alloc, line)?;
+        let cuts = (line_cuts.function)(line_cuts.alloc, line)?;
         let words = words_between(alloc, line, &cuts)?;
         Ok(Words {
             source: Source::Found(words.into_iter()),
@@ -62,11 +63,11 @@ impl<'a> Words<'a> {
 }
 
 /// The parts of a line between these cuts, each as a word.
-pub(super) fn words_between<'a>(
-    alloc: Global,
+pub(super) fn words_between<'a, A: Allocator>(
+    alloc: A,
     line: &'a str,
     cuts: &[usize],
-) -> Result<Vec<Word<'a>>, AllocError>
+) -> Result<Vec<Word<'a>, A>, AllocError>
     requires { AreCuts line.now cuts.now }
     ensures { IfOk result (λ words.
         map word_view words.items ≡ map word_of (parts_between cuts.now line.now)) }
@@ -84,13 +85,13 @@ pub(super) fn words_between<'a>(
     Ok(words)
 }
 
-impl<'a> Model for Words<'a> {
+impl<'a, A: Allocator> Model for Words<'a, A> {
     ghost Value = { List WordText };
 
     ghost view = { λ words. words_left words.source };
 }
 
-impl<'a> Iterator for Words<'a> {
+impl<'a, A: Allocator> Iterator for Words<'a, A> {
     type Item = Word<'a>;
 
     ghost next_gives = { YieldsFirstBy word_view (λ words. words) };

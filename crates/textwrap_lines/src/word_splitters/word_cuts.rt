@@ -13,12 +13,13 @@ pub type PointFunction = fn(Global, &str) -> Result<Vec<usize>, AllocError>;
 /// do not decrease, below the length of the word and on character boundaries.
 ///
 /// Where `split_in_middle` returns 3 for `foobar`, the splitter
-/// `WordSplitter::Custom(WordCuts::new(split_in_middle))` splits this into `foo`, with the penalty
-/// `-`, and `bar`.
+/// `WordSplitter::Custom(WordCuts::new(alloc, split_in_middle))` splits this into `foo`, with the
+/// penalty `-`, and `bar`.
 #[derive(Clone, Copy)]
 pub struct WordCuts {
     /// The function.
     pub function: PointFunction,
+    pub(super) alloc: Global,
     ghost callable: { IsAlwaysCallable function },
     ghost answers: { (alloc : _) (word : _) (answer : _) → IsUtf8 word.now
         → post function alloc word answer
@@ -26,21 +27,22 @@ pub struct WordCuts {
 }
 
 impl WordCuts {
-    /// Splits words where this function says. It may be called with any word, and its contract says
-    /// that its points are right ones, as that of this function does:
+    /// Splits words where this function says, which is called with this allocator. It may be called
+    /// with any word, and its contract says that its points are right ones, as that of this
+    /// function does:
     ///
     /// ```rust
     /// fn split_in_middle(alloc: Global, word: &str) -> Result<Vec<usize>, AllocError>
     ///     ensures { IfOk result (λ points. AreCuts word.now points.items) }
     /// ```
-    pub fn new(function: PointFunction) -> WordCuts
+    pub fn new(alloc: Global, function: PointFunction) -> WordCuts
         requires callable { IsAlwaysCallable function }
         requires answers { (alloc : _) (word : _) (answer : _) → IsUtf8 word.now
             → post function alloc word answer
             → ForOk answer (λ points. AreCuts word.now points.items) }
         ensures { result.function ≡ function }
     {
-        WordCuts { function }
+        WordCuts { function, alloc }
     }
 }
 

@@ -197,7 +197,7 @@ fn a_text_without_lines_has_no_rows(rt: HostRuntime) -> Result<(), Fail> {
     const MAX: usize = usize::MAX;
     for &(columns, width) in &[(1, 0), (1, MAX), (MAX - 1, 1), (MAX, 0), (MAX, MAX)] {
         let options = Options::new(width)
-            .wrap_algorithm(WrapAlgorithm::Custom(LineEnds::new(end_nowhere)))
+            .wrap_algorithm(WrapAlgorithm::Custom(LineEnds::new(rt.alloc(), end_nowhere)))
             .initial_indent("> ");
         assert!(rt; columns >= 1);
         let rows = wrap_columns(rt.alloc(), "foo", columns, options, "<", "xx", ">")?;

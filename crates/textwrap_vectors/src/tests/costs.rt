@@ -83,7 +83,7 @@ fn assert_minima(
     assert!(rt; are_minima(&minima, expected), "{blocks:?} {minima:?}");
     if is_queue_case(blocks, line_widths, penalties) {
         assert_agreed(rt, blocks, line_widths, penalties)?;
-        let (minima, _steps) = searched(rt, blocks, line_widths, penalties)?;
+        let (minima, _steps) = searched(rt, rt.alloc(), blocks, line_widths, penalties)?;
         assert!(rt; are_minima(&minima, expected), "{blocks:?} {minima:?}");
     }
     Ok(())

@@ -36,9 +36,9 @@ fn with_ends<'a>(width: usize, line_ends: LineEnds) -> Options<'a> {
 /// The words of a line are its parts between the cuts of the caller.
 #[test]
 fn a_line_is_cut_where_the_function_says(rt: HostRuntime) -> Result<(), Fail> {
-    let in_middle = LineCuts::new(cut_foobar);
-    let nowhere = LineCuts::new(cut_nowhere);
-    let everywhere = LineCuts::new(cut_everywhere);
+    let in_middle = LineCuts::new(rt.alloc(), cut_foobar);
+    let nowhere = LineCuts::new(rt.alloc(), cut_nowhere);
+    let everywhere = LineCuts::new(rt.alloc(), cut_everywhere);
     let rows: &[(&str, usize, LineCuts, &[&str])] = &[
         ("foobar", 5, in_middle, &["foo", "bar"]),
         (
@@ -62,7 +62,7 @@ fn a_line_is_cut_where_the_function_says(rt: HostRuntime) -> Result<(), Fail> {
 /// word has none.
 #[test]
 fn a_word_is_split_where_the_function_says(rt: HostRuntime) -> Result<(), Fail> {
-    let splitter = WordSplitter::Custom(WordCuts::new(split_in_middle));
+    let splitter = WordSplitter::Custom(WordCuts::new(rt.alloc(), split_in_middle));
     let words = [Word::from("fo-bar"), Word::from("foobar  ")];
     let pieces = split_words(rt.alloc(), words, &splitter)?;
     let mut with_hyphen = Word::from("foo");
@@ -80,7 +80,7 @@ fn a_word_is_split_where_the_function_says(rt: HostRuntime) -> Result<(), Fail> 
 /// A line that ends at a point of the caller shows the hyphen, and is no slice of the text then.
 #[test]
 fn a_split_word_has_a_hyphen_at_the_end_of_its_line(rt: HostRuntime) -> Result<(), Fail> {
-    let in_middle = WordCuts::new(split_in_middle);
+    let in_middle = WordCuts::new(rt.alloc(), split_in_middle);
     let hyphened = [(Owned, "foo-"), (Borrowed, "bar")];
     assert_wrapped(&rt, "foobar", with_points(4, in_middle), &hyphened)?;
     assert_borrowed(&rt, "fo-bar", with_points(4, in_middle), &["fo-", "bar"])?;
@@ -94,13 +94,16 @@ fn a_split_word_has_a_hyphen_at_the_end_of_its_line(rt: HostRuntime) -> Result<(
 fn lines_end_where_the_function_says(rt: HostRuntime) -> Result<(), Fail> {
     let rows: &[(LineEnds, &[&str])] = &[
         (
-            LineEnds::new(end_all),
+            LineEnds::new(rt.alloc(), end_all),
             &["First,", "second, third,", "fourth, fifth, sixth"],
         ),
-        (LineEnds::new(end_early), &["First,", "second, third,"]),
-        (LineEnds::new(end_nowhere), &[]),
         (
-            LineEnds::new(end_twice),
+            LineEnds::new(rt.alloc(), end_early),
+            &["First,", "second, third,"],
+        ),
+        (LineEnds::new(rt.alloc(), end_nowhere), &[]),
+        (
+            LineEnds::new(rt.alloc(), end_twice),
             &["First,", "", "second, third, fourth, fifth, sixth"],
         ),
     ];
@@ -138,28 +141,28 @@ fn assert_refuses_baz(
 /// was.
 #[test]
 fn a_function_may_refuse(rt: HostRuntime) -> Result<(), Fail> {
-    let separator = with_cuts(2, LineCuts::new(refuse_line)).break_words(false);
+    let separator = with_cuts(2, LineCuts::new(rt.alloc(), refuse_line)).break_words(false);
     assert_refuses_baz(&rt, separator)?;
-    let splitter = with_points(2, WordCuts::new(refuse_word)).break_words(false);
+    let splitter = with_points(2, WordCuts::new(rt.alloc(), refuse_word)).break_words(false);
     assert_refuses_baz(&rt, splitter)?;
-    assert_refuses_baz(&rt, with_ends(2, LineEnds::new(refuse_words)))?;
+    assert_refuses_baz(&rt, with_ends(2, LineEnds::new(rt.alloc(), refuse_words)))?;
     Ok(())
 }
 
 /// A function of the caller equals nothing, not even itself.
 #[test]
 fn functions_are_equal_to_nothing(rt: HostRuntime) {
-    let separator = WordSeparator::Custom(LineCuts::new(cut_nowhere));
+    let separator = WordSeparator::Custom(LineCuts::new(rt.alloc(), cut_nowhere));
     assert!(rt; separator != separator);
     assert!(rt; separator != WordSeparator::AsciiSpace);
     assert!(rt; WordSeparator::AsciiSpace != separator);
     assert!(rt; WordSeparator::AsciiSpace == WordSeparator::AsciiSpace);
-    let splitter = WordSplitter::Custom(WordCuts::new(split_in_middle));
+    let splitter = WordSplitter::Custom(WordCuts::new(rt.alloc(), split_in_middle));
     assert!(rt; splitter != splitter);
     assert!(rt; splitter != WordSplitter::HyphenSplitter);
     assert!(rt; WordSplitter::NoHyphenation != splitter);
     assert!(rt; WordSplitter::HyphenSplitter == WordSplitter::HyphenSplitter);
-    let algorithm = WrapAlgorithm::Custom(LineEnds::new(end_all));
+    let algorithm = WrapAlgorithm::Custom(LineEnds::new(rt.alloc(), end_all));
     assert!(rt; algorithm != algorithm);
     assert!(rt; algorithm != WrapAlgorithm::FirstFit);
     assert!(rt; WrapAlgorithm::new() != algorithm);
@@ -169,11 +172,11 @@ fn functions_are_equal_to_nothing(rt: HostRuntime) {
 /// A debug text shows the type alone.
 #[test]
 fn functions_are_shown_by_their_types(rt: HostRuntime) -> Result<(), Fail> {
-    let cuts = format!(in rt.alloc(); "{:?}", LineCuts::new(cut_nowhere))?;
+    let cuts = format!(in rt.alloc(); "{:?}", LineCuts::new(rt.alloc(), cut_nowhere))?;
     assert_eq!(rt; cuts.as_str(), "LineCuts");
-    let points = format!(in rt.alloc(); "{:?}", WordCuts::new(split_in_middle))?;
+    let points = format!(in rt.alloc(); "{:?}", WordCuts::new(rt.alloc(), split_in_middle))?;
     assert_eq!(rt; points.as_str(), "WordCuts");
-    let ends = format!(in rt.alloc(); "{:?}", LineEnds::new(end_all))?;
+    let ends = format!(in rt.alloc(); "{:?}", LineEnds::new(rt.alloc(), end_all))?;
     assert_eq!(rt; ends.as_str(), "LineEnds");
     Ok(())
 }

@@ -329,7 +329,7 @@ fn lines_lie_between_the_ends_of_the_caller(rt: HostRuntime) -> Result<(), Fail>
         Word::from("five "),
         Word::from("six"),
     ];
-    let algorithm = WrapAlgorithm::Custom(LineEnds::new(widths_as_ends));
+    let algorithm = WrapAlgorithm::Custom(LineEnds::new(rt.alloc(), widths_as_ends));
     let rows: &[(&[usize], &[usize])] = &[
         (&[1, 3, 6], &[1, 2, 3]),
         (&[2, 2], &[2, 0]),

@@ -1,10 +1,10 @@
 //! The text that `fill_inplace` leaves, also where memory is refused.
 use super::assert_text;
-use super::heap::Heap;
 use std::alloc::AllocError;
 use std::process::Abort;
 use std::test::Fail;
 use textwrap::fill_inplace;
+use textwrap_heap::Heap;
 
 /// In each part between line feeds, the last blank before each later line of first fit becomes a
 /// line feed, and nothing else changes.

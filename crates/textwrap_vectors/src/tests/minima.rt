@@ -1,7 +1,7 @@
 //! The table of least costs, the search for the same by a queue, the line costs that they ask for,
 //! and the queue case.
 use super::divisions::{Block, FALLING};
-use std::alloc::{AllocError, Global};
+use std::alloc::{AllocError, Allocator, Global};
 use std::process::Abort;
 use std::test::Fail;
 use textwrap::WrapError;
@@ -276,15 +276,17 @@ fn the_search_agrees_with_the_table(rt: HostRuntime) -> Result<(), Fail> {
 }
 
 /// What the search finds over line costs of these fragments, which are a queue case, and its steps.
-pub(super) fn searched(
+/// The list of what it finds, and no other, is allocated by `alloc`.
+pub(super) fn searched<A: Allocator + Copy>(
     rt: &(impl Abort + AllocGlobal),
+    alloc: A,
     blocks: &[Block],
     line_widths: &[usize],
     penalties: &Penalties,
-) -> Result<(Vec<Minimum>, u128), WrapError> {
+) -> Result<(Vec<Minimum, A>, u128), WrapError> {
     assert!(rt; is_queue_case(blocks, line_widths, penalties));
     let mut costs = LineCosts::new(rt.alloc(), blocks, line_widths, penalties)?;
-    let minima = queue_search(rt.alloc(), &mut costs)?;
+    let minima = queue_search(alloc, &mut costs)?;
     Ok((minima, costs.steps()))
 }
 
@@ -297,7 +299,7 @@ fn the_search_asks_for_few_line_costs(rt: HostRuntime) -> Result<(), Fail> {
     let mut asked = Steps::new();
     let table = table_minima(rt.alloc(), &blocks, &[80], &penalties, &mut asked)?;
     assert_eq!(rt; asked.count(), 500_500);
-    let (minima, steps) = searched(&rt, &blocks, &[80], &penalties)?;
+    let (minima, steps) = searched(&rt, rt.alloc(), &blocks, &[80], &penalties)?;
     assert!(rt; minima.as_slice() == table.as_slice());
     assert!(rt; (1000..=30_000).contains(&steps), "{steps}");
     assert!(rt; is_queue_case(&blocks, &[80], &penalties));

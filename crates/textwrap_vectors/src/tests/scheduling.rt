@@ -1,6 +1,6 @@
 //! The days that tasks are assigned to.
 use crate::{Day, Task, assign_days};
-use std::alloc::AllocError;
+use std::alloc::{AllocError, Allocator};
 use std::process::Abort;
 use std::test::Fail;
 
@@ -18,7 +18,7 @@ fn task(name: &str, hours: usize, sweep: usize, cleanup: usize) -> Task<'_> {
 }
 
 /// The tasks of building a house.
-fn house() -> [Task<'static>; 9] {
+pub(super) fn house() -> [Task<'static>; 9] {
     [
         task("Foundation", 4, 2, 3),
         task("Framing", 3, 1, 2),
@@ -33,7 +33,7 @@ fn house() -> [Task<'static>; 9] {
 }
 
 /// Whether the days are these.
-fn are_days(days: &[Day<'_>], expected: Plan<'_>) -> bool {
+fn are_days<A: Allocator>(days: &[Day<'_, A>], expected: Plan<'_>) -> bool {
     for (day, (hours, names)) in days.iter().zip(expected) {
         if day.hours != *hours || day.names.as_slice() != *names {
             return false;

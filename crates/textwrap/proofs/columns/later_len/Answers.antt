@@ -6,13 +6,13 @@ use Rattle.textwrap.proofs.Text.Table.{IfNone-always}
 use Rattle.textwrap.proofs.columns.later_len.Goals as goal
 
 pub loop-later-preserved : goal.loop-later-preserved
-loop-later-preserved c =
+loop-later-preserved g c =
     let layout = layout_view c.args.table.now in
     let lines = map line_bytes (map line_view c.args.lines.now) in
     let so_far = c.loop-later.invariant in
     let text = c.as_str.ensures.value ∙ sym (cell_is c.args.lines.now c.index-lines-at.result
-    c.args.step c.args.first (c.loop-later.later + 1) c.loop-later.at so_far.1
-    c.if-at-lines.true c.index-lines-at.is) in (
+    c.args.step c.args.first (c.loop-later.later + 1) (c.loop-later.at + c.args.step)
+    (omega (arith, so_far.1)) (omega arith) c.index-lines-at.is) in (
       omega (
         arith,
         so_far.0,
@@ -23,17 +23,18 @@ loop-later-preserved c =
         length-gapped-more layout lines c.args.step c.args.first c.loop-later.later,
       ),
       omega (arith, so_far.1),
+      omega arith,
       omega (arith, c.loop-later-test.true),
     )
 
 pub returns-in_err-cell_len-clause-none : goal.returns-in_err-cell_len-clause-none
-returns-in_err-cell_len-clause-none c =
+returns-in_err-cell_len-clause-none g c =
     let layout = layout_view c.args.table.now in
     let lines = map line_bytes (map line_view c.args.lines.now) in
     let so_far = c.loop-later.invariant in
     let text = c.as_str.ensures.value ∙ sym (cell_is c.args.lines.now c.index-lines-at.result
-    c.args.step c.args.first (c.loop-later.later + 1) c.loop-later.at so_far.1
-    c.if-at-lines.true c.index-lines-at.is) in
+    c.args.step c.args.first (c.loop-later.later + 1) (c.loop-later.at + c.args.step)
+    (omega (arith, so_far.1)) (omega arith) c.index-lines-at.is) in
     IfNone-always c.from_residual.result _
     (gapped-past layout lines c.args.step c.args.first c.loop-later.later c.loop-later.len _ so_far.0
     (omega (arith, c.loop-later-test.true))
@@ -41,20 +42,20 @@ returns-in_err-cell_len-clause-none c =
     c.in_err-cell_len.ensures)
 
 pub returns-in_err-checked_add-clause-none : goal.returns-in_err-checked_add-clause-none
-returns-in_err-checked_add-clause-none c =
+returns-in_err-checked_add-clause-none g c =
     IfNone-always c.from_residual-in_err-checked_add.result _
     (gapped-past (layout_view c.args.table.now) (map line_bytes (map line_view c.args.lines.now))
     c.args.step c.args.first c.loop-later.later c.loop-later.len _ c.loop-later.invariant.0
     (omega (arith, c.loop-later-test.true)) (omega arith) c.in_err-checked_add.ensures)
 
 pub returns-in_err-len-clause-none : goal.returns-in_err-len-clause-none
-returns-in_err-len-clause-none c =
+returns-in_err-len-clause-none g c =
     let layout = layout_view c.args.table.now in
     let lines = map line_bytes (map line_view c.args.lines.now) in
     let so_far = c.loop-later.invariant in
     let text = c.as_str.ensures.value ∙ sym (cell_is c.args.lines.now c.index-lines-at.result
-    c.args.step c.args.first (c.loop-later.later + 1) c.loop-later.at so_far.1
-    c.if-at-lines.true c.index-lines-at.is) in
+    c.args.step c.args.first (c.loop-later.later + 1) (c.loop-later.at + c.args.step)
+    (omega (arith, so_far.1)) (omega arith) c.index-lines-at.is) in
     IfNone-always c.from_residual-in_err-len.result _
     (gapped-past layout lines c.args.step c.args.first c.loop-later.later c.loop-later.len _ so_far.0
     (omega (arith, c.loop-later-test.true))

@@ -1,17 +1,17 @@
-use Rattle.std.proofs.Common.{◌≡◌, ◌+◌, ◌-◌, ◌*◌, ◌≤◌, length, map}
+use Rattle.std.proofs.Common.{◌≡◌, ◌+◌, ◌-◌, ◌*◌, ◌<◌, ◌≤◌, length, map}
 use Rattle.std.specs.List.{range_with_len}
 use Rattle.textwrap.specs.Columns.{layout_view, gapped, cell}
 use Rattle.textwrap_lines.specs.Paragraph.{line_view, line_bytes}
 use Rattle.textwrap.proofs.columns.later_len.Given as goal
 
--- the bytes of the later cells so far, where the next line stands, and that there is a column for
+-- the bytes of the later cells so far, where the last line stands, and that there is a column for
 -- each
 abbrev pub invariant-loop-later : goal.invariant-loop-later
-invariant-loop-later l =
+invariant-loop-later g l =
     (l.len ≡ length (gapped (layout_view l.table)
     (map (cell (map line_bytes (map line_view l.lines)) l.step l.first)
     (range_with_len 1 l.later))))
-    × (l.at ≡ l.first + (l.later + 1) * l.step) × (l.later + 1 ≤ l.table.columns)
+    × (l.at ≡ l.first + l.later * l.step) × (l.at < length l.lines) × (l.later + 1 ≤ l.table.columns)
 
 abbrev pub decreases-loop-later : goal.decreases-loop-later
-decreases-loop-later l = l.table.columns - l.later
+decreases-loop-later g l = l.table.columns - l.later

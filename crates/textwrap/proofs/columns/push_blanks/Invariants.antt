@@ -4,4 +4,4 @@ use Rattle.textwrap.specs.Columns.{blanks}
 use Rattle.textwrap.proofs.columns.push_blanks.Given as goal
 
 abbrev pub invariant-loop : goal.invariant-loop
-invariant-loop l = string_bytes l.row ≡ string_bytes l.fn.row ++ blanks l.counter
+invariant-loop g l = string_bytes l.row ≡ string_bytes l.fn.row ++ blanks l.counter

@@ -6,7 +6,7 @@ use Rattle.textwrap.proofs.Text.Table.{cell_is, gapped-more}
 use Rattle.textwrap.proofs.columns.push_later.Goals as goal
 
 pub loop-later-preserved : goal.loop-later-preserved
-loop-later-preserved c =
+loop-later-preserved g c =
     let layout = layout_view c.args.table.now in
     let lines = map line_bytes (map line_view c.args.lines.now) in
     let so_far = c.loop-later.invariant in (
@@ -16,10 +16,11 @@ loop-later-preserved c =
           ∙ ap (λ l. (string_bytes c.loop-later.row ++ layout.middle)
           ++ padded layout.column_width l)
           (c.as_str.ensures.value ∙ sym (cell_is c.args.lines.now c.index-lines-at.result
-          c.args.step c.args.first (c.loop-later.later + 1) c.loop-later.at so_far.1
-          c.if-at-lines.true c.index-lines-at.is))
+          c.args.step c.args.first (c.loop-later.later + 1) (c.loop-later.at + c.args.step)
+          (omega (arith, so_far.1)) (omega arith) c.index-lines-at.is))
           ∙ gapped-more layout lines c.args.step c.args.first c.loop-later.later
           (string_bytes c.args.row.now) (string_bytes c.loop-later.row) so_far.0,
       omega (arith, so_far.1),
+      omega arith,
       omega (arith, c.loop-later-test.true),
     )

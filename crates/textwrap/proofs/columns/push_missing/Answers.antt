@@ -5,7 +5,7 @@ use Rattle.textwrap.proofs.Text.Table.{run_more}
 use Rattle.textwrap.proofs.columns.push_missing.Goals as goal
 
 pub loop-preserved : goal.loop-preserved
-loop-preserved c =
+loop-preserved g c =
     let middle = c.args.table.now.middle_gap.now in
     let padding = blanks c.args.table.now.column_width in
     c.in_ok-push_blanks.ensures

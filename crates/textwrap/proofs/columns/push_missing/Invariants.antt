@@ -5,5 +5,5 @@ use Rattle.textwrap.specs.Columns.{blanks}
 use Rattle.textwrap.proofs.columns.push_missing.Given as goal
 
 abbrev pub invariant-loop : goal.invariant-loop
-invariant-loop l = string_bytes l.row ≡ string_bytes l.fn.row
+invariant-loop g l = string_bytes l.row ≡ string_bytes l.fn.row
     ++ repeat l.counter (l.table.middle_gap.now ++ blanks l.table.column_width)

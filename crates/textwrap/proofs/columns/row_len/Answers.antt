@@ -8,7 +8,7 @@ use Rattle.textwrap.proofs.Text.Table.{cell_is, length-row_text, length-gapped-r
 use Rattle.textwrap.proofs.columns.row_len.Goals as goal
 
 pub returns-in_err-first_len : goal.returns-in_err-first_len
-returns-in_err-first_len c =
+returns-in_err-first_len g c =
     let layout = layout_view c.args.table.now in
     let lines = map line_bytes (map line_view c.args.lines.now) in
     let len = length (row_text layout (cells lines c.args.step layout.columns c.args.first)) in
@@ -21,7 +21,7 @@ returns-in_err-first_len c =
     (omega (arith, row, fits, ap (λ l. length (padded layout.column_width l)) text)))
 
 pub returns-in_err-later : goal.returns-in_err-later
-returns-in_err-later c =
+returns-in_err-later g c =
     let layout = layout_view c.args.table.now in
     let lines = map line_bytes (map line_view c.args.lines.now) in
     let len = length (row_text layout (cells lines c.args.step layout.columns c.args.first)) in
@@ -30,7 +30,7 @@ returns-in_err-later c =
     (λ fits. absurd (omega (arith, row, fits, c.in_err-later.ensures.none)))
 
 pub returns : goal.returns
-returns c =
+returns g c =
     let layout = layout_view c.args.table.now in
     let lines = map line_bytes (map line_view c.args.lines.now) in
     let later = c.in_ok-later.later in

@@ -7,7 +7,7 @@ use Rattle.textwrap.proofs.Text.Table.{cell_is, row_text-written}
 use Rattle.textwrap.proofs.columns.table_row.Goals as goal
 
 pub returns : goal.returns
-returns c =
+returns g c =
     let layout = layout_view c.args.table.now in
     let lines = map line_bytes (map line_view c.args.lines.now) in
     let later = c.in_ok-later.later in

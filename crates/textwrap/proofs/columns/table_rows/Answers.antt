@@ -1,14 +1,32 @@
-use Rattle.std.proofs.Common.{ℕ, List, ◌∷◌, [], ◌++◌, map, ap, sym, ◌∙◌, arith}
+use Rattle.std.proofs.Common.{ℕ, List, ◌∷◌, [], ◌++◌, length, map, ap, sym, ◌∙◌, arith}
 use Rattle.std.proofs.lemmas.List.{map-append}
 use Rattle.std.proofs.lemmas.List.FromFn.{map-range_with_len_more}
 use Rattle.std.specs.List.{range_with_len}
 use Rattle.std.specs.String.{string_bytes}
 use Rattle.textwrap.specs.Columns.{layout_view, row_text, cells}
 use Rattle.textwrap_lines.specs.Paragraph.{line_view, line_bytes}
+use Rattle.textwrap.proofs.Text.Table.{rows-le_lines}
 use Rattle.textwrap.proofs.columns.table_rows.Goals as goal
 
+pub table_row-requires-clause-within : goal.table_row-requires-clause-within
+table_row-requires-clause-within g c =
+    omega (
+      arith,
+      c.div_ceil-count.ensures,
+      rows-le_lines (length c.args.lines.now) c.args.table.now.columns c.requires,
+      c.loop-r-test.true,
+    )
+
+pub table_row-requires-clause-step_within : goal.table_row-requires-clause-step_within
+table_row-requires-clause-step_within g c =
+    omega (
+      arith,
+      c.div_ceil-count.ensures,
+      rows-le_lines (length c.args.lines.now) c.args.table.now.columns c.requires,
+    )
+
 pub loop-r-preserved : goal.loop-r-preserved
-loop-r-preserved c =
+loop-r-preserved g c =
     let lines = map line_bytes (map line_view c.args.lines.now) in
     let row : ℕ → List ℕ = λ r. row_text (layout_view c.args.table.now)
     (cells lines c.div_ceil-count.result c.args.table.now.columns r) in

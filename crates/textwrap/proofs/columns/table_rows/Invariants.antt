@@ -6,6 +6,6 @@ use Rattle.textwrap_lines.specs.Paragraph.{line_view, line_bytes}
 use Rattle.textwrap.proofs.columns.table_rows.Given as goal
 
 abbrev pub invariant-loop-r : goal.invariant-loop-r
-invariant-loop-r l = map string_bytes l.rows.items ≡ map (λ r. row_text (layout_view l.table)
+invariant-loop-r g l = map string_bytes l.rows.items ≡ map (λ r. row_text (layout_view l.table)
     (cells (map line_bytes (map line_view l.lines)) l.count l.table.columns r))
     (range_with_len 0 l.r)

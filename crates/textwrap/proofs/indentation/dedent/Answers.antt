@@ -25,17 +25,17 @@ line_feed : encode_utf8 10 ≡ 10 ∷ []
 line_feed = encode_ascii 10 (omega arith)
 
 -- the line of this turn
-turn : (c : In-Some) → IsLineAt (lines c.args.s.now) (length c.loop-i.yielded) c.in-Some.i
+turn : (g : _) (c : In-Some g) → IsLineAt (lines c.args.s.now) (length c.loop-i.yielded) c.in-Some.i
     c.in-Some.line.now
-turn c =
+turn g c =
     let t = YieldsList-turn (YieldsList-from_enumerate {s = c.into_iter-i-iterator.result}
     (YieldsList-from_lines c.args.s.now cc) cc) c.loop-i.yielded _ c.loop-i.yielded_by _
     c.next.new.self (c.in-Some.i, c.in-Some.line) c.in-Some.is c.next.ensures.steps in
     line_at (lines c.args.s.now) (length c.loop-i.yielded) c.in-Some.i c.in-Some.line.now t.0 t.1
 
 pub without_margin-requires : goal.without_margin-requires
-without_margin-requires c =
-    let here = turn (goal.at.without_margin-requires c).In-Some in
+without_margin-requires g c =
+    let here = turn g (goal.at.without_margin-requires g c).In-Some in
     let line = c.in-Some.line.now in
     let margin = chars c.margin_of-margin.result.now in
     subst (λ l. is_blank_line l ≡ false → StartsWith (chars l) margin) (sym here.is)
@@ -43,8 +43,8 @@ without_margin-requires c =
     (lines_begin_with_margin c.args.s.now (length c.loop-i.yielded) line here.within full))
 
 pub loop-i-preserved : goal.loop-i-preserved
-loop-i-preserved c =
-    let here = turn (goal.at.loop-i-preserved c).In-Some in
+loop-i-preserved g c =
+    let here = turn g (goal.at.loop-i-preserved g c).In-Some in
     let line = c.in-Some.line.now in
     let f = without_margin (chars c.margin_of-margin.result.now) in
     let ls = lines c.args.s.now in
@@ -65,7 +65,7 @@ loop-i-preserved c =
     ])
 
 pub returns : goal.returns
-returns c =
+returns g c =
     let ls = lines c.args.s.now in
     let f = without_margin (margin_of c.args.s.now) in
     let t = YieldsList-end (YieldsList-from_enumerate {s = c.into_iter-i-iterator.result}

@@ -8,5 +8,5 @@ use Rattle.textwrap.proofs.indentation.dedent.Given as goal
 
 -- the lines so far, without the margin
 abbrev pub invariant-loop-i : goal.invariant-loop-i
-invariant-loop-i l = string_bytes l.text ≡ join_with_byte 10
+invariant-loop-i g l = string_bytes l.text ≡ join_with_byte 10
     (map (without_margin (chars l.margin)) (take (length l.yielded) (lines l.s)))

@@ -10,7 +10,7 @@ use Rattle.textwrap.proofs.indentation.indent.Goals as goal
 use Rattle.textwrap.proofs.indentation.indent.Goals.{then-is_blank_line, else-is_blank_line}
 
 pub loop-part-preserved : goal.loop-part-preserved
-loop-part-preserved c =
+loop-part-preserved g c =
     let prefix = c.args.prefix.now in
     let part = c.in-Some.part.now in
     let t = YieldsList-turn (YieldsList-from_split_inclusive c.args.s.now (cc) (cc))
@@ -37,7 +37,7 @@ loop-part-preserved c =
     c.loop-part.invariant)
 
 pub returns : goal.returns
-returns c =
+returns g c =
     let t = YieldsList-end (YieldsList-from_split_inclusive c.args.s.now (cc) (cc))
     c.loop-part.yielded _ c.loop-part.yielded_by _ c.next.new.self c.in-None.is
     c.next.ensures.steps in

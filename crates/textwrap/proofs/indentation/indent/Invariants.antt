@@ -6,5 +6,5 @@ use Rattle.textwrap.proofs.indentation.indent.Given as goal
 
 -- the parts so far, each indented
 abbrev pub invariant-loop-part : goal.invariant-loop-part
-invariant-loop-part l = string_bytes l.text
+invariant-loop-part g l = string_bytes l.text
     ≡ flat_map (indented_part l.prefix) (take (length l.yielded) (ended_parts l.s))

@@ -5,7 +5,7 @@ use Rattle.textwrap.proofs.Text.Unfilling.{keeps_ending-some}
 use Rattle.textwrap.proofs.refilling.join_lines.Goals as goal
 
 pub returns-clause-keeps : goal.returns-clause-keeps
-returns-clause-keeps c =
+returns-clause-keeps g c =
     let text = c.args.text.now in
     ends_text c.ends_with-keeps_ending.result c.as_str.result.now text
     c.ends_with-keeps_ending.ensures.cases

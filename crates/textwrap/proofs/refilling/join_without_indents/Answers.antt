@@ -10,13 +10,13 @@ use Rattle.textwrap.proofs.Text.Unfilling.{detected_among-two}
 use Rattle.textwrap.proofs.refilling.join_without_indents.Goals as goal
 
 pub without_indent-requires : goal.without_indent-requires
-without_indent-requires c =
+without_indent-requires g c =
     subst (StartsWith c.in-Some.first.now) (sym c.requires.initial)
     (lines-begin c.args.text.now (ended_line_view (c.in-Some.first, c.in-Some.ending))
     c.next.new.self c.in-Some.ensures.steps).0
 
 pub loop-line-init : goal.loop-line-init
-loop-line-init c =
+loop-line-init g c =
     let text = c.args.text.now in
     let first = ended_line_view (c.in-Some.first, c.in-Some.ending) in
     let steps = c.in-Some.ensures.steps in
@@ -40,7 +40,7 @@ loop-line-init c =
     }
 
 pub without_indent-requires-in-loop-line : goal.without_indent-requires-in-loop-line
-without_indent-requires-in-loop-line c =
+without_indent-requires-in-loop-line g c =
     let line = ended_line_view (c.in-Some-2.line, c.in-Some-2.ending) in
     All-head (λ e. StartsWith e.line c.args.subsequent_indent.now) line
     c.next-in-loop-line.new.self
@@ -48,7 +48,7 @@ without_indent-requires-in-loop-line c =
     c.loop-line.invariant.begins)
 
 pub loop-line-preserved : goal.loop-line-preserved
-loop-line-preserved c =
+loop-line-preserved g c =
     let line = ended_line_view (c.in-Some-2.line, c.in-Some-2.ending) in
     let left = c.next-in-loop-line.new.self in
     let steps = c.in-Some-2.ensures.steps in

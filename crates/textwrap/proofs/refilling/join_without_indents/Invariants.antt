@@ -8,7 +8,7 @@ use Rattle.textwrap.proofs.refilling.join_without_indents.Given as goal
 -- the text so far, and what the lines to come add, are the joined text; these lines begin with
 -- their indent; and the ending so far stands for those that came
 abbrev pub invariant-loop-line : goal.invariant-loop-line
-invariant-loop-line l = record {
+invariant-loop-line g l = record {
   joined : string_bytes l.joined ++ added_lines (length l.subsequent_indent) l.line-iterator
       ≡ joined_text l.text;
   begins : All (λ e. StartsWith e.line l.subsequent_indent) l.line-iterator;

@@ -1,4 +1,4 @@
-use Rattle.std.proofs.Common.{◌≡◌, Vec, Global, arith, ◌∙◌, ap, sym, subst, map, length, ℕ, ◌≤◌, ◌<◌, ◌-◌, ◌^◌, inl, inr}
+use Rattle.std.proofs.Common.{◌≡◌, Vec, arith, ◌∙◌, ap, sym, subst, map, length, ℕ, ◌≤◌, ◌<◌, ◌-◌, ◌^◌, inl, inr}
 use Rattle.textwrap_base.specs.Cost.{PricedSizes, priced_at, IsLeastCost}
 use Rattle.textwrap_base.specs.Minima.{Costs, counted, table_steps}
 use Rattle.textwrap_base.specs.Table.{table, entry_at, minimum_of, fragment_costs, line_costs}
@@ -18,7 +18,7 @@ returns-in_err-entries-clause-overflow_only g c =
     c.args.fragments.now) c.in_range-penalties.ensures.same in
     λ over.
     let (j, first, steps) = c.in_err-entries.ensures.overflow
-    (overflowed_on (Vec Entry Global) c.from_residual-in_err-entries.result
+    (overflowed_on (Vec Entry g.row.A.Denot) c.from_residual-in_err-entries.result
     c.in_err-entries.field-0.0 c.from_residual-in_err-entries.ensures.1 over) in
     inr (subst (λ (l : Costs). (j : ℕ) × (j ≤ l.ends)
     × (2 ^ 128 ≤ (entry_at (table l.cost l.ends) j).cost)) lines (j, first.within, first.past))
@@ -34,7 +34,7 @@ returns-in_err-entries-clause-no_overflow g c =
     c.args.fragments.now c.in_range-penalties.ensures.range)
     (λ i. omega (arith, c.type_inv.line_widths i)) narrow in
     let (i, first, steps) = c.in_err-entries.ensures.overflow
-    (overflowed_on (Vec Entry Global) c.from_residual-in_err-entries.result
+    (overflowed_on (Vec Entry g.row.A.Denot) c.from_residual-in_err-entries.result
     c.in_err-entries.field-0.0 c.from_residual-in_err-entries.ensures.1 over) in
     let (j, l, p) = subst (λ (l : Costs). (j : ℕ) × (j ≤ l.ends)
     × (2 ^ 128 ≤ (entry_at (table l.cost l.ends) j).cost)) lines (i, first.within, first.past) in
@@ -90,7 +90,7 @@ returns-in_err-entries-clause-steps g c =
     let added : c.add.new.self ≡ counted c.args.steps.now c.steps.result = c.add.ensures in
     let most : after ≤ counted c.in_ok-costs.costs.steps (table_steps (length given)) =
     c.in_err-entries.ensures.steps_most in
-    steps-refused (Vec Entry Global)
+    steps-refused (Vec Entry g.row.A.Denot)
     (λ x. priced_at c.args.penalties.now (g.T.Fragment.sizes x)) c.args.penalties.now
     c.args.line_widths.now c.args.fragments.now c.args.steps.now c.add.new.self
     c.from_residual-in_err-entries.result c.in_err-entries.field-0.0

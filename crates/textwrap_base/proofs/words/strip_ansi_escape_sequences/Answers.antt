@@ -10,7 +10,7 @@ use Rattle.textwrap_base.proofs.words.strip_ansi_escape_sequences.Goals as goal
 use Rattle.textwrap_base.proofs.words.strip_ansi_escape_sequences.Goals.{In-None}
 
 pub loop-ch-preserved-in_ok-push : goal.loop-ch-preserved-in_ok-push
-loop-ch-preserved-in_ok-push c =
+loop-ch-preserved-in_ok-push g c =
     let t = YieldsList-turn (YieldsList-from_chars c.args.text.now c.utf8.text cc) c.loop-ch.yielded
     _ c.loop-ch.yielded_by _ _ c.in-Some.ch c.in-Some.is c.next.ensures.steps in
     let cs = chars c.args.text.now in
@@ -21,7 +21,7 @@ loop-ch-preserved-in_ok-push c =
     c.in_ok-push.ensures.bytes ∙ step ∙ c.loop-ch.invariant)
 
 pub loop-ch-preserved : goal.loop-ch-preserved
-loop-ch-preserved c =
+loop-ch-preserved g c =
     let t = YieldsList-turn (YieldsList-from_chars c.args.text.now c.utf8.text cc) c.loop-ch.yielded
     _ c.loop-ch.yielded_by _ _ c.in-Some.ch c.in-Some.is c.next.ensures.steps in
     let step = rw c.if-is_kept.false at (text_in-step c.loop-ch.state c.step-next.result.0
@@ -29,8 +29,8 @@ loop-ch-preserved c =
     (length c.loop-ch.yielded) c.in-Some.ch t c.step-next.ensures) in
     rw length_push (step ∙ c.loop-ch.invariant)
 
-whole : (c : In-None) → string_bytes c.loop-ch.plain ≡ stripped c.args.text.now
-whole c =
+whole : (g : _) (c : In-None g) → string_bytes c.loop-ch.plain ≡ stripped c.args.text.now
+whole g c =
     let t = YieldsList-end (YieldsList-from_chars c.args.text.now c.utf8.text cc) c.loop-ch.yielded
     _ c.loop-ch.yielded_by _ _ c.in-None.is c.next.ensures.steps in
     sym (append-nil (string_bytes c.loop-ch.plain))
@@ -40,9 +40,9 @@ whole c =
     ∙ c.loop-ch.invariant
 
 pub returns-clause-stripped : goal.returns-clause-stripped
-returns-clause-stripped c = whole c
+returns-clause-stripped g c = whole g c
 
 pub returns-clause-no_escape : goal.returns-clause-no_escape
-returns-clause-no_escape c =
-    subst (All (λ b. b ≢ escape)) (sym (whole (goal.at.returns-clause-no_escape c).In-None))
+returns-clause-no_escape g c =
+    subst (All (λ b. b ≢ escape)) (sym (whole g (goal.at.returns-clause-no_escape g c).In-None))
     (stripped-plain c.args.text.now)

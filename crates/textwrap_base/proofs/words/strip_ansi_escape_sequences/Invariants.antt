@@ -6,5 +6,5 @@ use Rattle.textwrap_base.proofs.words.strip_ansi_escape_sequences.Given as goal
 
 -- the text so far, and that of the characters to come, are the whole
 abbrev pub invariant-loop-ch : goal.invariant-loop-ch
-invariant-loop-ch l = string_bytes l.plain ++ text_in l.state (drop (length l.yielded) (chars l.text))
+invariant-loop-ch g l = string_bytes l.plain ++ text_in l.state (drop (length l.yielded) (chars l.text))
     ≡ stripped l.text

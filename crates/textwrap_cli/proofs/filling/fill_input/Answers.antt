@@ -5,7 +5,7 @@ use Rattle.textwrap_cli.specs.Arguments.{algorithm_view}
 use Rattle.textwrap_cli.proofs.filling.fill_input.Goals as goal
 
 pub returns-in-Ok-fill-clause-filled : goal.returns-in-Ok-fill-clause-filled
-returns-in-Ok-fill-clause-filled c =
+returns-in-Ok-fill-clause-filled g c =
     let filled = c.in-Ok-fill.ensures.built_in (settings_at c.args.width) AtHyphens
     (algorithm_view c.args.algorithm) (record {
       settings_are = search rules;

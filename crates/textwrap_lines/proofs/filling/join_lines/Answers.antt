@@ -7,7 +7,7 @@ use Rattle.textwrap_lines.proofs.filling.join_lines.Goals as goal
 use Rattle.textwrap_lines.proofs.filling.join_lines.Goals.{then-i-gt0+in_ok-push_str, else-i-gt0}
 
 pub loop-i-preserved : goal.loop-i-preserved
-loop-i-preserved c =
+loop-i-preserved g c =
     let separator = ending_bytes c.args.line_ending in
     elim c.if-i-gt0.branch [
       | then-i-gt0+in_ok-push_str w ↦

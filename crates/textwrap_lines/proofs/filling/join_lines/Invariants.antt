@@ -5,5 +5,5 @@ use Rattle.textwrap_lines.specs.Paragraph.{line_view, line_bytes}
 use Rattle.textwrap_lines.proofs.filling.join_lines.Given as goal
 
 abbrev pub invariant-loop-i : goal.invariant-loop-i
-invariant-loop-i l = string_bytes l.joined ≡ join_with (ending_bytes l.line_ending)
+invariant-loop-i g l = string_bytes l.joined ≡ join_with (ending_bytes l.line_ending)
     (map line_bytes (map line_view (take l.i l.lines)))

@@ -11,7 +11,7 @@ use Rattle.textwrap_lines.proofs.word_splitters.hyphen_points.Goals.{then-is_hyp
 use Rattle.textwrap_lines.proofs.word_splitters.hyphen_points.Goals.{else-is_hyphen_point}
 
 pub loop-point-preserved : goal.loop-point-preserved
-loop-point-preserved c =
+loop-point-preserved g c =
     let test = is_hyphen_point c.args.word.now in
     let grown : c.if-is_hyphen_point.points.items ≡ cond c.is_hyphen_point.result
     (c.loop-point.points.items ++ c.loop-point.point ∷ []) c.loop-point.points.items =
@@ -26,20 +26,20 @@ loop-point-preserved c =
     record { points = more; inside = omega arith }
 
 pub returns-clause-points : goal.returns-clause-points
-returns-clause-points c =
+returns-clause-points g c =
     let whole : c.loop-point.point - 1 ≡ length c.args.word.now - 1 = omega arith in
     c.loop-point.invariant.points
     ∙ ap (λ n. filter (is_hyphen_point c.args.word.now) (range_with_len 1 n)) whole
 
 pub returns-clause-cuts : goal.returns-clause-cuts
-returns-clause-cuts c =
+returns-clause-cuts g c =
     let whole : c.loop-point.point - 1 ≡ length c.args.word.now - 1 = omega arith in
     let points = c.loop-point.invariant.points
     ∙ ap (λ n. filter (is_hyphen_point c.args.word.now) (range_with_len 1 n)) whole in
     subst (AreCuts c.args.word.now) (sym points) (hyphen_points-cuts c.args.word.now c.utf8.word)
 
 pub returns-then-not-contains-clause-points : goal.returns-then-not-contains-clause-points
-returns-then-not-contains-clause-points c =
+returns-then-not-contains-clause-points g c =
     let none : list_any (λ b. b == hyphen) c.args.word.now ≡ false =
     ap (list_any (λ b. b == hyphen)) (sym c.as_bytes.ensures.value)
     ∙ sym c.contains.ensures.value ∙ c.if-not-contains.true in

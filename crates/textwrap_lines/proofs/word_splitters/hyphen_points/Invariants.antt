@@ -6,7 +6,7 @@ use Rattle.textwrap_lines.proofs.word_splitters.hyphen_points.Given as goal
 
 -- the points before this offset
 abbrev pub invariant-loop-point : goal.invariant-loop-point
-invariant-loop-point l = record {
+invariant-loop-point g l = record {
   points : l.points.items ≡ filter (is_hyphen_point l.word) (range_with_len 1 (l.point - 1));
   inside : l.point - 1 ≤ length l.word - 1;
 }

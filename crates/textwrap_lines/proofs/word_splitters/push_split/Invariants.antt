@@ -6,7 +6,7 @@ use Rattle.textwrap_lines.proofs.word_splitters.push_split.Given as goal
 
 -- the pieces so far, and those of what follows the last cut, are those of the word
 abbrev pub invariant-loop-point : goal.invariant-loop-point
-invariant-loop-point l = record {
+invariant-loop-point g l = record {
   pieces : map word_view l.pieces.items ++ split_from (word_view l.word) l.start
       (drop l.point-index l.points) ≡ map word_view l.fn.pieces.items ++ split_pieces l.points
       (word_view l.word);

@@ -1,11 +1,16 @@
-use Rattle.std.proofs.Common.{◌≡◌, [], ◌∷◌, ◌++◌, cond, map, sym, ap, ◌∙◌, arith}
+use Rattle.std.proofs.Common.{◌≡◌, [], ◌∷◌, ◌++◌, cond, map, sym, ap, ◌∙◌}
+use Rattle.std.proofs.Common.{Iter}
+use Rattle.std.specs.Iterator.Adapters.{copied_source}
+use Rattle.std.specs.Slice.Iter.{iter_rest}
+use Rattle.std.specs.declared.iter.Copied.{Copied}
 use Rattle.textwrap_base.specs.Breaking.{broken_words}
 use Rattle.textwrap_base.specs.Words.{word_view}
+use Rattle.textwrap_base.specs.declared.words.Word.{Word}
 use Rattle.textwrap_lines.specs.Options.{settings_view}
 use Rattle.textwrap_lines.specs.Paragraph.{empty_word, front_pieces, later_width}
 use Rattle.textwrap_lines.specs.WordSeparators.{MaySeparate}
 use Rattle.textwrap_lines.specs.WordSplitters.{MaySplit}
-use Rattle.textwrap_lines.proofs.Paragraph.Pieces.{given-vec, word_of-nil, pieces-tile}
+use Rattle.textwrap_lines.proofs.Paragraph.Pieces.{given-copied, word_of-nil, pieces-tile}
 use Rattle.textwrap_lines.proofs.Word.GivenCuts.{MaySeparate-texts, MaySplit-cuts}
 use Rattle.textwrap_lines.proofs.wrapping.find_pieces.Goals as goal
 use Rattle.textwrap_lines.proofs.wrapping.find_pieces.Goals.{then-not-is_empty+in_ok-insert}
@@ -39,8 +44,10 @@ returns-clause-pieces g c =
     let split = map word_view c.in_ok-split.split.items in
     let (words, words_are, split_are) = c.in_ok-split.ensures in
     let more = c.in_ok-broken.ensures.pieces in
-    let all = given-vec more.0 c.in_ok-split.split.items more.1 more.3 more.2.0
-    (more.2.1 ∙ omega arith) in
+    let given : iter_rest (copied_source more.0) ≡ c.in_ok-split.split.items =
+    ap (λ (it : Copied (Iter Word)). iter_rest (copied_source it)) more.2
+    ∙ ap iter_rest c.copied.ensures.source ∙ c.iter.ensures.rest ∙ c.deref.ensures.value in
+    let all = given-copied more.0 c.in_ok-split.split.items more.1 given more.3 in
     let pieces = broken_words (later_width settings) split in
     let broken : map word_view c.in_ok-broken.broken.items ≡ pieces =
     more.4 ∙ ap (λ ws. broken_words c.remaining_width-width.result (map word_view ws)) all

@@ -3,10 +3,15 @@ use Rattle.std.proofs.lemmas.List.{length-map}
 use Rattle.textwrap_lines.specs.Options.{settings_view}
 use Rattle.textwrap_lines.specs.Paragraph.{line_view, DividesBy, AreParagraphParts}
 use Rattle.textwrap_lines.proofs.Text.Lines.{paragraphs_left, paragraphs_left-split, HasGroups}
-use Rattle.textwrap_lines.proofs.Text.Lines.{HasGroups-more, HasGroups-end}
+use Rattle.textwrap_lines.proofs.Text.Lines.{HasGroups-start, HasGroups-more, HasGroups-end}
 use Rattle.textwrap_lines.proofs.Text.Promises.{IsWrapped-options}
 use Rattle.textwrap_lines.proofs.Paragraph.BuiltIn.{lines-as}
 use Rattle.textwrap_lines.proofs.wrapping.wrap.Goals as goal
+
+pub loop-rest-init : goal.loop-rest-init
+loop-rest-init g c =
+    HasGroups-start (settings_view c.args.options) (DividesBy c.args.options) c.args.text.now
+    (map line_view c.new-lines.result.items) (ap (map line_view) c.new-lines.ensures.items)
 
 pub loop-rest-preserved : goal.loop-rest-preserved
 loop-rest-preserved g c =

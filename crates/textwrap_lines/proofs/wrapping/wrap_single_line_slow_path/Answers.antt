@@ -1,4 +1,4 @@
-use Rattle.std.proofs.Common.{rules, List, Vec, Bor, Global, ◌≡◌, ◌++◌, length, map, nat_lt, ap, ◌∙◌, sym, subst, arith}
+use Rattle.std.proofs.Common.{rules, List, Vec, Bor, ◌≡◌, ◌++◌, length, map, nat_lt, ap, ◌∙◌, sym, subst, arith}
 use Rattle.std.specs.Io.{StartsWith}
 use Rattle.std.specs.List.{flat_map}
 use Rattle.std.proofs.Transfers.{starts_with_of_append}
@@ -49,7 +49,7 @@ returns-in_err-division-clause-appended g c =
     (DividesBy options) (nat_lt 0 (length c.args.lines.now.items)) c.args.line.now)
     c.args.lines.now.items c.from_residual-in_err-division.result c.in_err-division.field-0.0
     c.from_residual-in_err-division.ensures.1
-    (only-memory options (Vec (Bor (List Word)) Global) c.args.line.now c.deref.result.now c.in_err-division.field-0.0 c.utf8.line
+    (only-memory options (Vec (Bor (List Word)) g.row.A.Denot) c.args.line.now c.deref.result.now c.in_err-division.field-0.0 c.utf8.line
     (omega arith)
     (subst (ArePieces (settings_view options) (MaySeparate options.word_separator)
     (MaySplit options.word_splitter) c.args.line.now) texts c.in_ok-pieces.ensures.pieces)

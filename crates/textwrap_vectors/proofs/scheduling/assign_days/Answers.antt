@@ -21,7 +21,7 @@ names_of_days day_length tasks days (lines, greedy, are) =
     ∙ names_of_lines lines ∙ ap names_of (IsDivision-whole tasks lines greedy.admissible.division)
 
 pub returns-clause-days : goal.returns-clause-days
-returns-clause-days c =
+returns-clause-days g c =
     let lines = c.in_ok-lines.lines.items in
     let all = take_all c.loop-line.line-index c.deref-line-items.result.now (omega arith) in (
       map (λ line. line.now) lines,
@@ -32,13 +32,13 @@ returns-clause-days c =
     )
 
 pub returns-clause-complete : goal.returns-clause-complete
-returns-clause-complete c =
+returns-clause-complete g c =
     sym (flat_map-map (λ day. day.names) day_view c.loop-line.days.items)
     ∙ names_of_days c.args.day_length c.args.tasks.now (map day_view c.loop-line.days.items)
-    (returns-clause-days c)
+    (returns-clause-days g c)
 
 pub returns-clause-fewest : goal.returns-clause-fewest
-returns-clause-fewest c plan admissible =
+returns-clause-fewest g c plan admissible =
     let lines = c.deref-line-items.result.now in
     let all = take_all c.loop-line.line-index lines (omega arith) in
     let same = ap length (c.loop-line.invariant ∙ ap (map (λ line. day_of line.now)) all) in

@@ -7,7 +7,7 @@ returns g c = record {
   divided = (
     c.in_ok-ends.ends.items,
     (
-      c.args.alloc,
+      c.args.line_ends.alloc,
       _,
       c.args.line_widths,
       c.in_ok-ends.ends,

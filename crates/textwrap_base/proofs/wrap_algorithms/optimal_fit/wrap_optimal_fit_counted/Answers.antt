@@ -1,4 +1,4 @@
-use Rattle.std.proofs.Common.{Vec, Global, Bor, List, map, ◌∙◌, length}
+use Rattle.std.proofs.Common.{Vec, Bor, List, map, ◌∙◌, length}
 use Rattle.textwrap_base.specs.Cost.{priced_at}
 use Rattle.textwrap_base.specs.Table.{line_costs}
 use Rattle.textwrap_base.specs.declared.minima.Minimum.{Minimum}
@@ -37,7 +37,7 @@ returns-clause-fit g c =
     ∙ c.in_ok-minima.ensures.entries) in
     optimal-returned (λ x. priced_at c.args.penalties.now (g.T.Fragment.sizes x))
     c.args.penalties.now c.args.line_widths.now c.args.fragments.now
-    (λ (lines : Vec (Bor (List g.row.T.Denot)) Global).
+    (λ (lines : Vec (Bor (List g.row.T.Denot)) g.row.A.Denot).
     map (λ (line : Bor (List g.row.T.Denot)). line.now) lines.items)
     c.in_ok-lines_by.field-0
     record {
@@ -49,8 +49,20 @@ pub returns-in_err-minima-clause-fit : goal.returns-in_err-minima-clause-fit
 returns-in_err-minima-clause-fit g c =
     optimal-refused (λ x. priced_at c.args.penalties.now (g.T.Fragment.sizes x))
     c.args.penalties.now c.args.line_widths.now c.args.fragments.now
-    (λ (lines : Vec (Bor (List g.row.T.Denot)) Global).
+    (λ (lines : Vec (Bor (List g.row.T.Denot)) g.row.A.Denot).
     map (λ (line : Bor (List g.row.T.Denot)). line.now) lines.items)
-    (Vec Minimum Global) c.from_residual.result c.in_err-minima.field-0.0
+    (Vec Minimum g.row.A.Denot) c.from_residual.result c.in_err-minima.field-0.0
     c.from_residual.ensures.1 c.in_err-minima.ensures.overflow_only c.in_err-minima.ensures.too_wide
     c.in_err-minima.ensures.no_overflow
+
+pub returns-clause-steps : goal.returns-clause-steps
+returns-clause-steps g c =
+    λ table. let found = c.in_ok-minima.ensures.steps table in
+    record {
+      ok = found.ok;
+      exact = found.exact;
+      most = found.most;
+      least = found.least;
+      too_wide = found.too_wide;
+      overflow = λ fits overflowed. absurd overflowed;
+    }

@@ -16,7 +16,7 @@ answered offsets total ch shown len here whole b answer is known len_is total_is
     ∙ ap (λ n. is_cut_after offsets total ch (shown + n)) (sym len_is) ∙ sym is ∙ known
 
 pub loop-at-preserved-in_ok-push : goal.loop-at-preserved-in_ok-push
-loop-at-preserved-in_ok-push c =
+loop-at-preserved-in_ok-push g c =
     let s = c.in-Some.ensures.steps in
     let len = length (encode c.in-Some.ch) in
     let passes = answered c.args.offsets.now c.visible_len-total.result c.in-Some.ch c.loop-at.shown
@@ -34,7 +34,7 @@ loop-at-preserved-in_ok-push c =
     (rw (c.if-is_visible.true, passes) grown)
 
 pub loop-at-preserved-else-is_cut_after : goal.loop-at-preserved-else-is_cut_after
-loop-at-preserved-else-is_cut_after c =
+loop-at-preserved-else-is_cut_after g c =
     let s = c.in-Some.ensures.steps in
     let fails = answered c.args.offsets.now c.visible_len-total.result c.in-Some.ch c.loop-at.shown
     c.len_utf8-shown.result (length (encode c.in-Some.ch)) (length (stripped c.args.line.now)) false
@@ -46,11 +46,11 @@ loop-at-preserved-else-is_cut_after c =
     (rw (c.if-is_visible.true, fails) refl)
 
 pub loop-at-preserved : goal.loop-at-preserved
-loop-at-preserved c =
+loop-at-preserved g c =
     let s = c.in-Some.ensures.steps in
     IsFinding-step _ _ _ _ _ _ _ _ _ c.step-next.result.0 c.step-next.result.1 c.loop-at.invariant
     s.1 c.step-next.ensures _ _ _ s.2 (rw c.if-is_visible.false refl)
     (rw c.if-is_visible.false refl)
 
 pub returns : goal.returns
-returns c = IsFinding-end _ _ _ _ _ _ _ c.loop-at.invariant c.in-None.ensures.steps.0
+returns g c = IsFinding-end _ _ _ _ _ _ _ c.loop-at.invariant c.in-None.ensures.steps.0

@@ -3,5 +3,5 @@ use Rattle.textwrap_lines.proofs.Word.Offsets.{IsFinding}
 use Rattle.textwrap_lines.proofs.word_separators.offsets.find_cuts.Given as goal
 
 abbrev pub invariant-loop-at : goal.invariant-loop-at
-invariant-loop-at l = IsFinding l.offsets l.line (char_indices_offset l.at-iterator)
+invariant-loop-at g l = IsFinding l.offsets l.line (char_indices_offset l.at-iterator)
     (char_indices_rest l.at-iterator) l.state l.shown l.cuts.items

@@ -7,12 +7,12 @@ use Rattle.textwrap_lines.proofs.Word.Parts.{parts_between-tile}
 use Rattle.textwrap_lines.proofs.word_separators.offsets.find_words_at.Goals as goal
 
 pub words_between-requires : goal.words_between-requires
-words_between-requires c =
+words_between-requires g c =
     subst (AreCuts c.args.line.now) (sym (c.deref.ensures.value ∙ c.in_ok-cuts.ensures))
     (cuts_at-AreCuts c.args.offsets.now c.args.line.now c.utf8.line)
 
 pub returns-clause-tiles : goal.returns-clause-tiles
-returns-clause-tiles c =
+returns-clause-tiles g c =
     let line = c.args.line.now in
     let cuts = c.deref.result.now in
     let ready = subst (AreCuts line) (sym (c.deref.ensures.value ∙ c.in_ok-cuts.ensures))

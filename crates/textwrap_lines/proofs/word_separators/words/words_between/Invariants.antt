@@ -6,7 +6,7 @@ use Rattle.textwrap_lines.proofs.word_separators.words.words_between.Given as go
 
 -- the words so far, and those of what follows the last cut, are those of the line
 abbrev pub invariant-loop-cut : goal.invariant-loop-cut
-invariant-loop-cut l = record {
+invariant-loop-cut g l = record {
   words : map word_view l.words.items ++ map word_of (parts_from l.start
       (drop l.cut-index l.cuts) l.line) ≡ map word_of (parts_from 0 l.cuts l.line);
   boundary : 0 < l.start → IsCharBoundary l.line l.start;

@@ -7,7 +7,7 @@ use Rattle.textwrap_base.proofs.Cost.Measures.{line_costs-at}
 use Rattle.textwrap_base.proofs.minima.line_costs.LineCostsCostSource.candidate.Goals as goal
 
 pub returns-clause-cost : goal.returns-clause-cost
-returns-clause-cost c =
+returns-clause-cost g c =
     let cost = ap (λ (s : LineCostsView). line_costs (λ (x : PricedSizes). x) s.penalties s.widths
     s.priced c.args.start c.args.end c.args.line_number) (sym c.self.view_is)
     ∙ line_costs-at measured c.self.inside.penalties c.self.inside.line_widths.items
@@ -17,7 +17,7 @@ returns-clause-cost c =
     rw (cost ∙ sym found) c.checked_add.ensures
 
 pub returns-in_err-cost-clause-cost : goal.returns-in_err-cost-clause-cost
-returns-in_err-cost-clause-cost c =
+returns-in_err-cost-clause-cost g c =
     let cost = ap (λ (s : LineCostsView). line_costs (λ (x : PricedSizes). x) s.penalties s.widths
     s.priced c.args.start c.args.end c.args.line_number) (sym c.self.view_is)
     ∙ line_costs-at measured c.self.inside.penalties c.self.inside.line_widths.items

@@ -9,12 +9,12 @@ pub words_between-requires : goal.words_between-requires
 words_between-requires g c =
     subst (AreCuts c.args.line.now) (sym c.deref.ensures.value)
     (inner-cuts c.args.line.now c.in_ok-cuts.cuts.items (MayCut-cuts c.args.line_cuts c.args.line.now c.in_ok-cuts.cuts.items c.utf8.line
-    (c.args.alloc, c.args.line, c.in_ok-cuts.cuts, refl, refl, c.in_ok-cuts.ensures.0)))
+    (c.args.line_cuts.alloc, c.args.line, c.in_ok-cuts.cuts, refl, refl, c.in_ok-cuts.ensures.0)))
 
 pub returns-clause-words : goal.returns-clause-words
 returns-clause-words g c = (
   c.in_ok-cuts.cuts.items,
-  (c.args.alloc, c.args.line, c.in_ok-cuts.cuts, refl, refl, c.in_ok-cuts.ensures.0),
+  (c.args.line_cuts.alloc, c.args.line, c.in_ok-cuts.cuts, refl, refl, c.in_ok-cuts.ensures.0),
   ap (map word_view) c.into_iter.ensures.rest ∙ c.in_ok-words.ensures
       ∙ ap (λ cuts. map word_of (parts_between cuts c.args.line.now)) c.deref.ensures.value,
 )
@@ -25,4 +25,4 @@ returns-clause-tiles g c =
     ∙ (parts-texts c.args.line.now c.deref.result.now c.utf8.line
     (subst (AreCuts c.args.line.now) (sym c.deref.ensures.value)
     (inner-cuts c.args.line.now c.in_ok-cuts.cuts.items (MayCut-cuts c.args.line_cuts c.args.line.now c.in_ok-cuts.cuts.items c.utf8.line
-    (c.args.alloc, c.args.line, c.in_ok-cuts.cuts, refl, refl, c.in_ok-cuts.ensures.0))))).tile
+    (c.args.line_cuts.alloc, c.args.line, c.in_ok-cuts.cuts, refl, refl, c.in_ok-cuts.ensures.0))))).tile

@@ -38,12 +38,12 @@ use Rattle.std.specs.contracts.impls.GlobalAllocator.TheImpl.{ghosts}
 use Rattle.std.specs.contracts.impls.GlobalAllocator.allocate as inner
 use Rattle.std.proofs.impls.GlobalAllocator.allocate.Met as inner_met
 use Rattle.std.specs.contracts.result.Result.{the_type as Results}
-use Rattle.textwrap_vectors.specs.contracts.tests.heap.Heap.{the_row as Heap}
-use Rattle.textwrap_vectors.specs.contracts.tests.heap.spend as spend
-use Rattle.textwrap_vectors.proofs.tests.heap.spend.Met as spend_met
-use Rattle.textwrap_vectors.specs.contracts.tests.heap.HeapAllocator.allocate as here
-use Rattle.textwrap_vectors.proofs.tests.heap.HeapAllocator.allocate.Statement.{statement}
-use Rattle.textwrap_vectors.proofs.tests.heap.HeapAllocator.allocate.Code as code
+use Rattle.textwrap_heap.specs.contracts.Heap.{the_row as Heap}
+use Rattle.textwrap_heap.specs.contracts.spend as spend
+use Rattle.textwrap_heap.proofs.spend.Met as spend_met
+use Rattle.textwrap_heap.specs.contracts.HeapAllocator.allocate as here
+use Rattle.textwrap_heap.proofs.HeapAllocator.allocate.Statement.{statement}
+use Rattle.textwrap_heap.proofs.HeapAllocator.allocate.Code as code
 
 abbrev stayed : Stays here.ended.signature.params here.ended.kept
 stayed = (stay_dropped _ yes, (stay_dropped _ yes, (stay_dropped _ yes, tt)))
@@ -86,7 +86,7 @@ allocate_spec 𝓤 𝓛 𝓜 𝓡 wired =
     feq_i ! (List Val) (vptr b at_left ∷ []) _ refl $ fjoin ! $ nothing ! $ move ! (1 ∷ []) $ fjoin ! $
     move ! (1 ∷ 0 ∷ []) $ join ! $ nothing ! $ move ! (1 ∷ []) $ use2 𝓛 (raw (S.pre x)) (id⊢ 𝓤 _) $
     calls_at ! (framed 𝓤 𝓛.H 𝓜 𝓣) S
-    (spend_met.met 𝓤 𝓛 𝓜 𝓡 (code.calls-textwrap_vectors::tests::heap::spend 𝓡.env wired)) x
+    (spend_met.met 𝓤 𝓛 𝓜 𝓡 (code.calls-textwrap_heap::spend 𝓡.env wired)) x
     (and_then ! (get ! refl) (no_more !)) (λ v.
     use1 𝓛 (later (some (λ (t : Bool). (tokens ⊛ ‵ (bool.own_val t (v ∷ [])))
     ⊛ some (λ (ws : Unit {0} × Unit {0}). ‵ (lasts spend.ended x.0.0 x.0.3 ws) ⊛ ‵ ftrue)))) (id⊢ 𝓤 _) $

@@ -27,10 +27,10 @@ use denote.Triple.Walked.{Stays, walk_of, stay_dropped, Goes-dropped, ends_at}
 use Rattle.std.specs.contracts.alloc.Global.{the_row as Inner}
 use Rattle.std.specs.contracts.impls.GlobalAllocator.deallocate as inner
 use Rattle.std.proofs.impls.GlobalAllocator.deallocate.Met as inner_met
-use Rattle.textwrap_vectors.specs.contracts.tests.heap.Heap.{the_row as Heap}
-use Rattle.textwrap_vectors.specs.contracts.tests.heap.HeapAllocator.deallocate as here
-use Rattle.textwrap_vectors.proofs.tests.heap.HeapAllocator.deallocate.Statement.{statement}
-use Rattle.textwrap_vectors.proofs.tests.heap.HeapAllocator.deallocate.Code as code
+use Rattle.textwrap_heap.specs.contracts.Heap.{the_row as Heap}
+use Rattle.textwrap_heap.specs.contracts.HeapAllocator.deallocate as here
+use Rattle.textwrap_heap.proofs.HeapAllocator.deallocate.Statement.{statement}
+use Rattle.textwrap_heap.proofs.HeapAllocator.deallocate.Code as code
 
 abbrev stayed : Stays here.ended.signature.params here.ended.kept
 stayed = (stay_dropped _ yes, (stay_dropped _ yes, (stay_dropped _ yes, (stay_dropped _ yes, tt))))

@@ -14,6 +14,7 @@ mod minima;
 mod options;
 mod pieces;
 mod refilling;
+mod refusals;
 mod scheduling;
 mod slow_path;
 mod widths;

@@ -2,7 +2,7 @@
 -- "Breaking Paragraphs into Lines").
 use Rattle.std.specs.Prelude.{◌≡◌, ℕ, ◌+◌, ◌-◌, ◌*◌, ◌<◌, ◌≤◌, max, Bool, ◌==◌, ◌&&◌, nat_lt}
 use Rattle.std.specs.Prelude.{if◌then◌else◌, List, [], ◌∷◌, length, take, reverse, slice_index}
-use Rattle.std.specs.Prelude.{sum_by, ⊤, ◌⊎◌}
+use Rattle.std.specs.Prelude.{sum_by, ⊤, ◌⊎◌, Option, None, Some}
 use Rattle.textwrap_base.specs.Sizes.{Sizes}
 use Rattle.textwrap_base.specs.Division.{line_width, closed_width, IsDivision}
 use Rattle.textwrap_base.specs.Errors.{Passes128Bits}
@@ -13,12 +13,32 @@ use Rattle.textwrap_base.specs.declared.penalties.Penalties.{Penalties}
 -- the sizes of a fragment, and what a line costs more that ends with it
 pub record PricedSizes : Type 0 where
   pub sizes : Sizes
-  pub break_cost : ℕ
+  pub break_penalty : ℕ
 
--- the price of a fragment of these sizes: the hyphen penalty where it has a penalty width
+-- what it usually costs to end a line with a fragment of this penalty width
+abbrev pub usual_break_penalty : Penalties → ℕ → ℕ
+usual_break_penalty penalties width = if nat_lt 0 width then penalties.hyphen_penalty else 0
+
+-- what it costs to end a line with a fragment of these sizes: what the fragment says, if it does,
+-- and else what it usually costs
+abbrev pub break_penalty_by : Option ℕ → Penalties → Sizes → ℕ
+break_penalty_by None penalties s = usual_break_penalty penalties s.penalty
+break_penalty_by (Some own) penalties s = own
+
+-- fragments of these sizes, with the break penalties that they say or the usual ones
+abbrev pub priced_by : {X : Type 0} → (X → Sizes) → (X → Penalties → Option ℕ) → Penalties → X
+    → PricedSizes
+priced_by sizes own penalties x = record {
+  sizes = sizes x;
+  break_penalty = break_penalty_by (own x penalties) penalties (sizes x);
+}
+
+-- sizes with the usual break penalty
 abbrev pub priced_at : Penalties → Sizes → PricedSizes
-priced_at penalties s =
-    record { sizes = s; break_cost = if nat_lt 0 s.penalty then penalties.hyphen_penalty else 0 }
+priced_at penalties s = record {
+  sizes = s;
+  break_penalty = usual_break_penalty penalties s.penalty;
+}
 
 -- the cost of a closed width that misses the target, `is_last` where the line ends all fragments
 abbrev pub fit_cost : Penalties → ℕ → ℕ → Bool → Bool → ℕ
@@ -28,11 +48,11 @@ fit_cost penalties target closed is_last is_single =
     else if is_last then (if is_short then penalties.short_last_line_penalty else 0)
     else (target - closed) * (target - closed)
 
--- the break cost of the last fragment
-abbrev pub last_break_cost : {X : Type 0} → (X → PricedSizes) → List X → ℕ
-last_break_cost priced [] = 0
-last_break_cost priced (x ∷ []) = (priced x).break_cost
-last_break_cost priced (x ∷ y ∷ line) = last_break_cost priced (y ∷ line)
+-- the break penalty of the last fragment
+abbrev pub last_break_penalty : {X : Type 0} → (X → PricedSizes) → List X → ℕ
+last_break_penalty priced [] = 0
+last_break_penalty priced (x ∷ []) = (priced x).break_penalty
+last_break_penalty priced (x ∷ y ∷ line) = last_break_penalty priced (y ∷ line)
 
 -- the cost of a line, whose target is its width, or 1 where that is 0; no fragments cost nothing
 abbrev pub line_cost : {X : Type 0} → (X → PricedSizes) → Penalties → ℕ → Bool → List X → ℕ
@@ -41,7 +61,7 @@ line_cost priced penalties width is_last (x ∷ line) =
     let closed = closed_width (λ y. (priced y).sizes) (x ∷ line) in
     penalties.nline_penalty
     + fit_cost penalties (max width 1) closed is_last (length (x ∷ line) == 1)
-    + last_break_cost priced (x ∷ line)
+    + last_break_penalty priced (x ∷ line)
 
 -- all widths, whitespace widths and penalty widths together
 abbrev pub total_width : {X : Type 0} → (X → Sizes) → List X → ℕ

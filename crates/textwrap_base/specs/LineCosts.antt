@@ -1,5 +1,5 @@
--- The measures of fragments: their widths and break costs, and what stands before them on a line
--- without end.
+-- The measures of fragments: their widths and break penalties, and what stands before them on a
+-- line without end.
 use Rattle.std.specs.Prelude.{◌≡◌, ℕ, ◌<◌, List, length, take, slice_index_or}
 use Rattle.textwrap_base.specs.Sizes.{Sizes}
 use Rattle.textwrap_base.specs.Division.{open_width}
@@ -10,7 +10,7 @@ use Rattle.textwrap_base.specs.declared.minima.line_costs.Measure.{Measure}
 abbrev pub measured : Measure → PricedSizes
 measured m =
     let s : Sizes = record { width = m.width; whitespace = m.whitespace; penalty = m.penalty } in
-    record { sizes = s; break_cost = m.break_cost }
+    record { sizes = s; break_penalty = m.break_penalty }
 
 -- each measure knows the open width of those before it, and all widths together keep to 128 bits
 pub record AreMeasured (measures : List Measure) : Type 0 where

@@ -4,7 +4,7 @@
 //! A law has no example: its statement is all there is to it. A call is written
 //! `units_are_unique();`, or where the law is about given values
 //! `chosen_division_is_unique(&words, &[10], &penalties);`.
-ghost use Rattle.textwrap_base.specs.Cost.{priced_at};
+ghost use Rattle.textwrap_base.specs.Cost.{priced_by};
 ghost use Rattle.textwrap_base.specs.Laws.{UnitsAreUnique, WordsAreUnique, GreedyDivisionIsUnique};
 ghost use Rattle.textwrap_base.specs.Laws.{BrokenPiecesAreUnique, BrokenTextsTile};
 ghost use Rattle.textwrap_base.specs.Laws.{BrokenPiecesTile, BrokenWordsTile};
@@ -50,7 +50,7 @@ pub fn chosen_division_is_unique<T: Fragment>(
     line_widths: &[usize],
     penalties: &Penalties,
 )
-    ensures { ChosenDivisionIsUnique (λ x. priced_at penalties.now (T.sizes x)) penalties.now
+    ensures { ChosenDivisionIsUnique (priced_by T.sizes T.own_break_penalty penalties.now) penalties.now
         line_widths.now fragments.now }
 {}
 
@@ -61,7 +61,7 @@ pub fn table_division_is_unique<T: Fragment>(
     line_widths: &[usize],
     penalties: &Penalties,
 )
-    ensures { TableDivisionIsUnique (λ x. priced_at penalties.now (T.sizes x)) penalties.now
+    ensures { TableDivisionIsUnique (priced_by T.sizes T.own_break_penalty penalties.now) penalties.now
         line_widths.now fragments.now }
 {}
 
@@ -72,7 +72,7 @@ pub fn table_overflow_is_overflow<T: Fragment>(
     line_widths: &[usize],
     penalties: &Penalties,
 )
-    ensures { TableOverflowIsOverflow (λ x. priced_at penalties.now (T.sizes x)) penalties.now
+    ensures { TableOverflowIsOverflow (priced_by T.sizes T.own_break_penalty penalties.now) penalties.now
         line_widths.now fragments.now }
 {}
 

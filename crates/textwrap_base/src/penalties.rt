@@ -1,5 +1,6 @@
 //! What optimal fit charges for.
 ghost use Rattle.std.specs.Prelude.{◌≡◌};
+ghost use Rattle.textwrap_base.specs.Cost.{usual_break_penalty};
 ghost use Rattle.textwrap_base.specs.Penalties.{default_penalties};
 
 /// What the lines of a division cost, in whole numbers of any unit (after Knuth and Plass,
@@ -16,7 +17,8 @@ pub struct Penalties {
     pub short_last_line_fraction: usize,
     /// What a short last line costs.
     pub short_last_line_penalty: usize,
-    /// What a line costs that ends with a fragment of some penalty width.
+    /// What a line usually costs more that ends with a fragment of some penalty width: see
+    /// `Fragment::break_penalty`.
     pub hyphen_penalty: usize,
 }
 
@@ -32,6 +34,18 @@ impl Penalties {
             short_last_line_fraction: 4,
             short_last_line_penalty: 25,
             hyphen_penalty: 25,
+        }
+    }
+
+    /// What a line usually costs more that ends with a fragment of this penalty width: the
+    /// `hyphen_penalty` where it is above 0, and else 0.
+    pub fn usual_break_penalty(&self, penalty_width: usize) -> usize
+        ensures { result ≡ usual_break_penalty self.now penalty_width }
+    {
+        if penalty_width > 0 {
+            self.hyphen_penalty
+        } else {
+            0
         }
     }
 }

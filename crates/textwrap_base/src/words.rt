@@ -8,6 +8,7 @@ ghost use Rattle.textwrap_base.specs.Words.{word_view, sizes_of, word_of};
 
 use crate::blanks::split_final_blanks;
 use crate::escapes::State;
+use crate::penalties::Penalties;
 pub use breaking::{BreakApart, break_words};
 use std::alloc::{AllocError, Allocator};
 use std::fmt::Debug;
@@ -84,11 +85,31 @@ fn columns(ch: char) -> usize
 }
 
 /// An item that is placed on a line and never cut. It has three widths, in one unit of the
-/// implementor's choice, such as columns: for `Word::from("foo ")` these are 3, 1 and 0.
+/// implementor's choice, such as columns: for `Word::from("foo ")` these are 3, 1 and 0. And it says
+/// what a line costs more that ends with it.
 ///
-/// The widths depend on the value alone, so asking again gives the same.
+/// The widths depend on the value alone, and the break penalty on the value and the penalties, so
+/// asking again gives the same.
+///
+/// An item with the usual break penalty writes this method, and no ghost member for it:
+///
+/// ```rust
+/// fn break_penalty(&self, penalties: &Penalties) -> usize {
+///     penalties.usual_break_penalty(self.penalty_width())
+/// }
+/// ```
+///
+/// One with a break penalty of its own says so: `ghost own_break_penalty = { λ card _. Some
+/// card.keep };` where the method returns `self.keep`.
 pub trait Fragment: Debug {
+    ghost use Rattle.std.specs.Prelude.{Option, None};
+    ghost use Rattle.textwrap_base.specs.Cost.{break_penalty_by};
+    ghost use Rattle.textwrap_base.specs.declared.penalties.Penalties.{Penalties};
+
     ghost sizes: { Self → Sizes };
+
+    // In place of what it usually costs to end a line with the item.
+    ghost own_break_penalty: { Self → Penalties → Option ℕ } = { λ _ _. None };
 
     /// The width of the item itself: 3 for `Word::from("foo ")`.
     fn width(&self) -> usize
@@ -103,6 +124,12 @@ pub trait Fragment: Debug {
     /// `-`.
     fn penalty_width(&self) -> usize
         ensures { result ≡ (sizes self.now).penalty };
+
+    /// What a line costs more that ends with the item, by optimal fit: 0 for `Word::from("foo ")`,
+    /// and the `hyphen_penalty` for a word whose penalty is `-`.
+    fn break_penalty(&self, penalties: &Penalties) -> usize
+        ensures { result ≡ break_penalty_by (own_break_penalty self.now penalties.now)
+            penalties.now (sizes self.now) };
 }
 
 /// A word of a text and what follows it. The texts are borrowed, so a copy needs no memory.
@@ -163,5 +190,10 @@ impl<'a> Fragment for Word<'a> {
     /// The bytes of the penalty, as many as its columns where it is printable ASCII.
     fn penalty_width(&self) -> usize {
         self.penalty.len()
+    }
+
+    /// The `hyphen_penalty` where the word has a penalty, and else 0.
+    fn break_penalty(&self, penalties: &Penalties) -> usize {
+        penalties.usual_break_penalty(self.penalty_width())
     }
 }

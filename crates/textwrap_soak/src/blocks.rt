@@ -30,6 +30,10 @@ impl Fragment for Block {
     fn penalty_width(&self) -> usize {
         self.penalty
     }
+
+    fn break_penalty(&self, penalties: &Penalties) -> usize {
+        penalties.usual_break_penalty(self.penalty_width())
+    }
 }
 
 /// Fragments that are divided at the least cost.

@@ -36,6 +36,10 @@ impl Fragment for Picture {
     fn penalty_width(&self) -> usize {
         0
     }
+
+    fn break_penalty(&self, penalties: &Penalties) -> usize {
+        penalties.usual_break_penalty(self.penalty_width())
+    }
 }
 
 /// The pictures in rows for a wall of this width in centimetres, divided at the least cost.

@@ -2,8 +2,10 @@
 //! its public calls.
 #![tactic(auto)]
 
+pub use cards::Card;
 pub use scheduling::{Day, Task, assign_days};
 
+mod cards;
 mod scheduling;
 #[cfg(test)]
 mod tests;

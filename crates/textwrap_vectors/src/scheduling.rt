@@ -6,7 +6,7 @@ ghost use Rattle.textwrap_vectors.specs.Days.{sizes_of, names_of, day_view, day_
 
 use std::alloc::{AllocError, Allocator};
 use textwrap::words::Fragment;
-use textwrap::wrap_algorithms::wrap_first_fit;
+use textwrap::wrap_algorithms::{Penalties, wrap_first_fit};
 
 /// A task, which is done on one day. After it the place is swept, or cleaned up for the night.
 #[derive(Clone, Copy, Debug, PartialEq, Eq)]
@@ -34,6 +34,10 @@ impl Fragment for Task<'_> {
 
     fn penalty_width(&self) -> usize {
         self.cleanup
+    }
+
+    fn break_penalty(&self, penalties: &Penalties) -> usize {
+        penalties.usual_break_penalty(self.penalty_width())
     }
 }
 

@@ -1,3 +1,4 @@
+mod cards;
 mod characters;
 mod columns;
 mod costs;

@@ -119,7 +119,7 @@ module _ {X : Type 0} (priced : X → PricedSizes) (penalties : Penalties) (widt
       → line_costs priced penalties widths xs i j number
       ≡ penalties.nline_penalty + gap_cost penalties (max (line_width widths number) 1)
       (closed_width sizes (take j xs) - open_width sizes (take i xs)) +
-      (priced (get_or xs (j - 1) d)).break_cost
+      (priced (get_or xs (j - 1) d)).break_penalty
   line_costs-inner i j number d h l =
       let same : j - 1 + 1 ≡ j = omega arith in
       let not_last : eqb j (length xs) ≡ false = grind (arith, nat_tests) in

@@ -2,17 +2,17 @@
 use Rattle.std.proofs.Common.{◌≡◌, ℕ, suc, ◌+◌, ◌-◌, ◌*◌, ◌^◌, ◌<◌, ◌≤◌, Bool, true, false, eqb}
 use Rattle.std.proofs.Common.{ltb, ◌&&◌, if◌then◌else◌, List, [], ◌∷◌, ◌++◌, length, get_or, take}
 use Rattle.std.proofs.Common.{drop, map, All, slice_range, max, refl, sym, ◌∙◌}
-use Rattle.std.proofs.Common.{ap, arith, length-take, length-drop}
+use Rattle.std.proofs.Common.{ap, arith, length-take, length-drop, subst}
 use Rattle.std.proofs.lemmas.List.{length-map, take_more, take-map, drop-map, get_or-drop}
 use Rattle.std.proofs.lemmas.List.Sums.{sum_by-cons, sum_by_more_le_part, sum_by-take-le}
-use Rattle.std.proofs.lemmas.List.Elements.{All-nil, All-cons, All-head, All-tail}
+use Rattle.std.proofs.lemmas.List.Elements.{All-nil, All-cons, All-head, All-tail, All-map}
 use Rattle.std.proofs.Math.Nat.{mul-le-mul}
 use Rattle.std.proofs.Math.Seq.{take-add}
 use Rattle.std.proofs.lemmas.Bool.Decides.{nat_tests}
 use mathlib.Core.Path.{fun_ext}
 use Rattle.textwrap_base.specs.Sizes.{Sizes}
 use Rattle.textwrap_base.specs.Division.{closed_width, open_width, line_width}
-use Rattle.textwrap_base.specs.Cost.{PricedSizes, priced_at, fit_cost, last_break_cost, line_cost}
+use Rattle.textwrap_base.specs.Cost.{PricedSizes, fit_cost, last_break_penalty, line_cost}
 use Rattle.textwrap_base.specs.Cost.{total_width}
 use Rattle.textwrap_base.specs.LineCosts.{measured, AreMeasured}
 use Rattle.textwrap_base.specs.Minima.{Costs}
@@ -25,7 +25,7 @@ use Rattle.textwrap_base.proofs.Division.Greedy.{closed_width-push, closed_width
 
 -- a measure to name where a list has none
 abbrev pub no_measure : Measure
-no_measure = record { before = 0; width = 0; whitespace = 0; penalty = 0; break_cost = 0 }
+no_measure = record { before = 0; width = 0; whitespace = 0; penalty = 0; break_penalty = 0 }
 
 abbrev pub measured_sizes : Measure → Sizes
 measured_sizes m = (measured m).sizes
@@ -33,22 +33,22 @@ measured_sizes m = (measured m).sizes
 module _ {X : Type 0} (priced : X → PricedSizes) where
   -- ---- a line by its last fragment
 
-  pub last_break_cost-push : (xs : List X) (x : X)
-      → last_break_cost priced (xs ++ x ∷ []) ≡ (priced x).break_cost
-  last_break_cost-push [] x = refl
-  last_break_cost-push (y ∷ []) x = refl
-  last_break_cost-push (y ∷ z ∷ xs) x = last_break_cost-push (z ∷ xs) x
+  pub last_break_penalty-push : (xs : List X) (x : X)
+      → last_break_penalty priced (xs ++ x ∷ []) ≡ (priced x).break_penalty
+  last_break_penalty-push [] x = refl
+  last_break_penalty-push (y ∷ []) x = refl
+  last_break_penalty-push (y ∷ z ∷ xs) x = last_break_penalty-push (z ∷ xs) x
 
   pub line_cost-push : (penalties : Penalties) (width : ℕ) (is_last : Bool) (xs : List X) (x : X)
       → line_cost priced penalties width is_last (xs ++ x ∷ [])
       ≡ penalties.nline_penalty + fit_cost penalties (max width 1)
       (closed_width (λ y. (priced y).sizes) (xs ++ x ∷ [])) is_last
-      (eqb (length (xs ++ x ∷ [])) 1) + (priced x).break_cost
+      (eqb (length (xs ++ x ∷ [])) 1) + (priced x).break_penalty
   line_cost-push penalties width is_last [] x = refl
   line_cost-push penalties width is_last (y ∷ xs) x =
       ap (λ n. penalties.nline_penalty + fit_cost penalties (max width 1)
       (closed_width (λ y. (priced y).sizes) (y ∷ (xs ++ x ∷ []))) is_last
-      (eqb (length (y ∷ (xs ++ x ∷ []))) 1) + n) (last_break_cost-push (y ∷ xs) x)
+      (eqb (length (y ∷ (xs ++ x ∷ []))) 1) + n) (last_break_penalty-push (y ∷ xs) x)
 
 -- ---- a part of a list
 
@@ -97,7 +97,7 @@ pub line_cost-slice : {X : Type 0} (priced : X → PricedSizes) (penalties : Pen
     → line_cost priced penalties width is_last (slice_range xs i (k + 1))
     ≡ penalties.nline_penalty + fit_cost penalties (max width 1)
     (closed_width (λ x. (priced x).sizes) (slice_range xs i (k + 1))) is_last
-    (eqb (k + 1) (i + 1)) + (priced (get_or xs k d)).break_cost
+    (eqb (k + 1) (i + 1)) + (priced (get_or xs k d)).break_penalty
 line_cost-slice {X = X} priced penalties width is_last xs i k d h l =
     let e = slice_push xs i k d h l in
     let len = length-slice xs i (k + 1) (omega arith) in
@@ -106,10 +106,10 @@ line_cost-slice {X = X} priced penalties width is_last xs i k d h l =
     ∙ line_cost-push priced penalties width is_last (slice_range xs i k) (get_or xs k d)
     ∙ ap (λ (line : List X). penalties.nline_penalty + fit_cost penalties (max width 1)
     (closed_width sizes line) is_last (eqb (length line) 1) +
-    (priced (get_or xs k d)).break_cost) (sym e)
+    (priced (get_or xs k d)).break_penalty) (sym e)
     ∙ ap (λ (single : Bool). penalties.nline_penalty + fit_cost penalties (max width 1)
     (closed_width sizes (slice_range xs i (k + 1))) is_last single +
-    (priced (get_or xs k d)).break_cost)
+    (priced (get_or xs k d)).break_penalty)
     (ap (λ n. eqb n 1) len ∙ single_is i k h)
 
 -- ---- the sizes alone
@@ -141,11 +141,11 @@ total_width-map sizes (x ∷ xs) =
 
 -- ---- the priced sizes alone
 
-pub last_break_cost-map : {X : Type 0} (priced : X → PricedSizes) (xs : List X)
-    → last_break_cost (λ (p : PricedSizes). p) (map priced xs) ≡ last_break_cost priced xs
-last_break_cost-map priced [] = refl
-last_break_cost-map priced (x ∷ []) = refl
-last_break_cost-map priced (x ∷ y ∷ xs) = last_break_cost-map priced (y ∷ xs)
+pub last_break_penalty-map : {X : Type 0} (priced : X → PricedSizes) (xs : List X)
+    → last_break_penalty (λ (p : PricedSizes). p) (map priced xs) ≡ last_break_penalty priced xs
+last_break_penalty-map priced [] = refl
+last_break_penalty-map priced (x ∷ []) = refl
+last_break_penalty-map priced (x ∷ y ∷ xs) = last_break_penalty-map priced (y ∷ xs)
 
 pub line_cost-map : {X : Type 0} (priced : X → PricedSizes) (penalties : Penalties) (width : ℕ)
     (is_last : Bool) (line : List X)
@@ -154,13 +154,13 @@ pub line_cost-map : {X : Type 0} (priced : X → PricedSizes) (penalties : Penal
 line_cost-map priced penalties width is_last [] = refl
 line_cost-map priced penalties width is_last (x ∷ line) =
     let closed = closed_width-map priced (λ (y : PricedSizes). y.sizes) (x ∷ line) in
-    let end = last_break_cost-map priced (x ∷ line) in
+    let end = last_break_penalty-map priced (x ∷ line) in
     let len = length-map line priced in
     ap (λ n. penalties.nline_penalty + fit_cost penalties (max width 1) n is_last
-    (eqb (suc (length (map priced line))) 1) + last_break_cost (λ (p : PricedSizes). p)
+    (eqb (suc (length (map priced line))) 1) + last_break_penalty (λ (p : PricedSizes). p)
     (map priced (x ∷ line))) closed
     ∙ ap (λ n. penalties.nline_penalty + fit_cost penalties (max width 1)
-    (closed_width (λ y. (priced y).sizes) (x ∷ line)) is_last (eqb (suc n) 1) + last_break_cost
+    (closed_width (λ y. (priced y).sizes) (x ∷ line)) is_last (eqb (suc n) 1) + last_break_penalty
     (λ (p : PricedSizes). p) (map priced (x ∷ line))) len
     ∙ ap (λ n. penalties.nline_penalty + fit_cost penalties (max width 1)
     (closed_width (λ y. (priced y).sizes) (x ∷ line)) is_last (eqb (suc (length line)) 1) + n)
@@ -252,7 +252,7 @@ pub line_cost-measured : (penalties : Penalties) (width : ℕ) (ms : List Measur
     → line_cost measured penalties width (eqb j (length ms)) (slice_range ms i j)
     ≡ penalties.nline_penalty + fit_cost penalties (max width 1)
     (closed_width measured_sizes (slice_range ms i j)) (eqb j (length ms)) (eqb j (i + 1)) +
-    (get_or ms (j - 1) d).break_cost
+    (get_or ms (j - 1) d).break_penalty
 line_cost-measured penalties width ms i j d h l =
     let same : j - 1 + 1 ≡ j = omega arith in
     rw same at (line_cost-slice measured penalties width (eqb j (length ms)) ms i (j - 1) d
@@ -309,31 +309,41 @@ module _ (limit : ℕ) where
       (if_le is_short p.short_last_line_penalty 0 (limit * limit) (omega (arith, short))
       (omega arith)) gap)
 
-  -- the price by penalties that keep to the limit keeps to it too
-  pub priced_at-all_le : {X : Type 0} (p : Penalties) (sizes : X → Sizes) (xs : List X)
-      → AreAtMost limit p → All (λ x. (priced_at p (sizes x)).break_cost ≤ limit) xs
-  priced_at-all_le p sizes [] h = All-nil (λ x. (priced_at p (sizes x)).break_cost ≤ limit)
-  priced_at-all_le p sizes (x ∷ xs) h =
-      All-cons (λ x. (priced_at p (sizes x)).break_cost ≤ limit) x xs
-      (if_le (ltb 0 (sizes x).penalty) p.hyphen_penalty 0 limit h.hyphen (omega arith))
-      (priced_at-all_le p sizes xs h)
+  -- break penalties keep to the limit where those of the measures do
+  break_penalties-map : {X : Type 0} (priced : X → PricedSizes) (xs : List X)
+      → All (λ (p : PricedSizes). p.break_penalty ≤ limit) (map priced xs)
+      → All (λ x. (priced x).break_penalty ≤ limit) xs
+  break_penalties-map priced [] all = All-nil (λ x. (priced x).break_penalty ≤ limit)
+  break_penalties-map priced (x ∷ xs) all =
+      let kept : PricedSizes → Type 0 = λ p. p.break_penalty ≤ limit in
+      All-cons (λ x. (priced x).break_penalty ≤ limit) x xs
+      (All-head kept (priced x) (map priced xs) all)
+      (break_penalties-map priced xs (All-tail kept (priced x) (map priced xs) all))
+
+  pub break_penalties-measured : {X : Type 0} (priced : X → PricedSizes) (measures : List Measure)
+      (xs : List X) → map measured measures ≡ map priced xs
+      → All (λ (m : Measure). m.break_penalty ≤ limit) measures
+      → All (λ x. (priced x).break_penalty ≤ limit) xs
+  break_penalties-measured priced measures xs same all =
+      let kept : PricedSizes → Type 0 = λ p. p.break_penalty ≤ limit in
+      break_penalties-map priced xs (subst (All kept) same (All-map kept measured measures all))
 
   module _ {X : Type 0} (priced : X → PricedSizes) where
-    last_break_cost-le : (line : List X) → All (λ x. (priced x).break_cost ≤ limit) line
-        → last_break_cost priced line ≤ limit
-    last_break_cost-le [] all = omega arith
-    last_break_cost-le (x ∷ []) all = All-head (λ x. (priced x).break_cost ≤ limit) x [] all
-    last_break_cost-le (x ∷ y ∷ line) all =
-        last_break_cost-le (y ∷ line) (All-tail (λ x. (priced x).break_cost ≤ limit) x
+    last_break_penalty-le : (line : List X) → All (λ x. (priced x).break_penalty ≤ limit) line
+        → last_break_penalty priced line ≤ limit
+    last_break_penalty-le [] all = omega arith
+    last_break_penalty-le (x ∷ []) all = All-head (λ x. (priced x).break_penalty ≤ limit) x [] all
+    last_break_penalty-le (x ∷ y ∷ line) all =
+        last_break_penalty-le (y ∷ line) (All-tail (λ x. (priced x).break_penalty ≤ limit) x
         (y ∷ line) all)
 
     pub line_cost-le : (p : Penalties) (width : ℕ) (is_last : Bool) (line : List X)
-        → AreAtMost limit p → All (λ x. (priced x).break_cost ≤ limit) line → max width 1 ≤ limit
+        → AreAtMost limit p → All (λ x. (priced x).break_penalty ≤ limit) line → max width 1 ≤ limit
         → closed_width (λ x. (priced x).sizes) line ≤ limit
         → line_cost priced p width is_last line ≤ limit * limit + 2 * limit
     line_cost-le p width is_last [] h breaks k l = omega arith
     line_cost-le p width is_last (x ∷ line) h breaks k l =
         let fit = fit_cost-le p (max width 1) (closed_width (λ y. (priced y).sizes) (x ∷ line))
         is_last (eqb (length (x ∷ line)) 1) h (omega arith) k l in
-        let end = last_break_cost-le (x ∷ line) breaks in
+        let end = last_break_penalty-le (x ∷ line) breaks in
         let each = h.nline in omega (arith, fit, end, each)

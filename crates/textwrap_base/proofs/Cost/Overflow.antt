@@ -26,7 +26,7 @@ one_line cost n j l =
 
 -- where all widths together keep to 64 bits, each entry keeps to 128
 pub table-fits : {X : Type 0} (priced : X → PricedSizes) (p : Penalties) (widths : List ℕ)
-    (xs : List X) → AreAtMost (2 ^ 64 - 1) p → All (λ x. (priced x).break_cost ≤ 2 ^ 64 - 1) xs
+    (xs : List X) → AreAtMost (2 ^ 64 - 1) p → All (λ x. (priced x).break_penalty ≤ 2 ^ 64 - 1) xs
     → ((i : ℕ) → get_or widths i 0 < 2 ^ 64) → total_width (λ x. (priced x).sizes) xs < 2 ^ 64
     → (j : ℕ) → j ≤ length xs → (entry_at (fragments_table priced p widths xs) j).cost < 2 ^ 128
 table-fits priced p widths xs h breaks k l zero b = let e =
@@ -39,7 +39,7 @@ table-fits {X = X} priced p widths xs h breaks k l (suc j) b =
     let closed = closed_width-le sizes (take (suc j - 0) xs) in
     let width = k (min 0 (length widths - 1)) in
     let fits = line_cost-le (2 ^ 64 - 1) priced p (line_width widths 0) (eqb (suc j) (length xs))
-    (take (suc j - 0) xs) h (All-take (λ x. (priced x).break_cost ≤ 2 ^ 64 - 1)
+    (take (suc j - 0) xs) h (All-take (λ x. (priced x).break_penalty ≤ 2 ^ 64 - 1)
     (suc j - 0) xs breaks) (omega (arith, width)) (omega (arith, part, closed)) in
     omega (arith, one, fits)
 

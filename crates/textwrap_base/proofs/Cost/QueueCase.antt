@@ -1,10 +1,10 @@
 -- The line costs of a queue case suit a search by a queue.
 use Rattle.std.proofs.Common.{inl, inr, ℕ, zero, suc, ◌^◌, ◌-◌, ◌<◌, ◌≤◌, eqb, min, max, List, [], ◌∷◌, length}
-use Rattle.std.proofs.Common.{take, drop, slice_range, slice_index, All, ap, arith}
+use Rattle.std.proofs.Common.{take, drop, slice_range, slice_index, ap, arith}
 use Rattle.std.proofs.lemmas.List.Elements.{All-take, All-drop}
 use Rattle.textwrap_base.specs.Sizes.{Sizes}
 use Rattle.textwrap_base.specs.Division.{line_width, closed_width}
-use Rattle.textwrap_base.specs.Cost.{PricedSizes, priced_at, total_width}
+use Rattle.textwrap_base.specs.Cost.{PricedSizes, total_width}
 use Rattle.textwrap_base.specs.Queue.{queue_limit, AreSmall, SuitQueue, IsQueueCase}
 use Rattle.textwrap_base.specs.Table.{fragment_costs, fragments_table, entry_at, line_costs}
 use Rattle.textwrap_base.specs.Table.{TableOverflows}
@@ -14,7 +14,7 @@ use Rattle.textwrap_base.proofs.Division.Greedy.{closed_width-end}
 use Rattle.textwrap_base.proofs.Cost.Chosen.{line_costs-steady}
 use Rattle.textwrap_base.proofs.Cost.Convex.{AreConvex-rising}
 use Rattle.textwrap_base.proofs.Cost.Measures.{take_slice, closed_width-le, total_width-take}
-use Rattle.textwrap_base.proofs.Cost.Measures.{line_cost-le, priced_at-all_le}
+use Rattle.textwrap_base.proofs.Cost.Measures.{line_cost-le}
 use Rattle.textwrap_base.proofs.Cost.Overflow.{one_line}
 use Rattle.textwrap_base.proofs.Cost.Table.{entry-table_first}
 
@@ -37,37 +37,28 @@ closed_width-slice_le sizes xs i j h =
 
 module _ {X : Type 0} (priced : X → PricedSizes) (penalties : Penalties) (widths : List ℕ)
     (xs : List X) where
-  line_costs-small : IsQueueCase (λ x. (priced x).sizes) penalties widths xs
-      → All (λ x. (priced x).break_cost ≤ queue_limit) xs
+  line_costs-small : IsQueueCase priced penalties widths xs
       → AreSmall (fragment_costs priced penalties widths xs)
-  line_costs-small case breaks i j number h l =
+  line_costs-small case i j number h l =
       let sizes : X → Sizes = λ x. (priced x).sizes in
       let closed = closed_width-slice_le sizes xs i j (omega arith) in
-      let kept = All-take (λ x. (priced x).break_cost ≤ queue_limit) (j - i) (drop i xs)
-      (All-drop (λ x. (priced x).break_cost ≤ queue_limit) i xs breaks) in
+      let kept = All-take (λ x. (priced x).break_penalty ≤ queue_limit) (j - i) (drop i xs)
+      (All-drop (λ x. (priced x).break_penalty ≤ queue_limit) i xs
+      case.small_break_penalties) in
       let cost = line_cost-le queue_limit priced penalties (line_width widths number)
       (eqb j (length xs)) (slice_range xs i j) case.small_penalties kept
       (target-small widths number case.small_widths) (omega (arith, closed, case.small_sum)) in
       omega (arith, cost)
 
-  -- whatever each fragment costs at the end of a line, up to the limit
-  pub SuitQueue-priced : IsQueueCase (λ x. (priced x).sizes) penalties widths xs
-      → All (λ x. (priced x).break_cost ≤ queue_limit) xs
+  pub SuitQueue-queue_case : IsQueueCase priced penalties widths xs
       → SuitQueue (fragment_costs priced penalties widths xs)
-  SuitQueue-priced case breaks = record {
+  SuitQueue-queue_case case = record {
     numbers = λ start end number some ordered within counted.
         line_costs-steady priced penalties widths xs case.equal start end number 1 counted
         (omega arith);
     convex = AreConvex-rising priced penalties widths xs case.rising;
-    small = line_costs-small case breaks;
+    small = line_costs-small case;
   }
-
-pub SuitQueue-queue_case : {X : Type 0} (sizes : X → Sizes) (penalties : Penalties)
-    (widths : List ℕ) (xs : List X) → IsQueueCase sizes penalties widths xs
-    → SuitQueue (fragment_costs (λ x. priced_at penalties (sizes x)) penalties widths xs)
-SuitQueue-queue_case sizes penalties widths xs case =
-    SuitQueue-priced (λ x. priced_at penalties (sizes x)) penalties widths xs case
-    (priced_at-all_le queue_limit penalties sizes xs case.small_penalties)
 
 -- each entry of the table costs at most 2^125
 queue_case-entry : {X : Type 0} (priced : X → PricedSizes) (penalties : Penalties)
@@ -82,15 +73,14 @@ queue_case-entry priced penalties widths xs small (suc j) within =
     let line = small 0 (suc j) 0 (omega arith) within in omega (arith, one, line)
 
 -- nothing of a queue case passes 128 bits
-pub queue_case-fits : {X : Type 0} (sizes : X → Sizes) (penalties : Penalties) (widths : List ℕ)
-    (xs : List X) → IsQueueCase sizes penalties widths xs
-    → ¬ TableOverflows (λ x. priced_at penalties (sizes x)) penalties widths xs
-queue_case-fits sizes penalties widths xs case over =
-    let suits = SuitQueue-queue_case sizes penalties widths xs case in
+pub queue_case-fits : {X : Type 0} (priced : X → PricedSizes) (penalties : Penalties)
+    (widths : List ℕ) (xs : List X) → IsQueueCase priced penalties widths xs
+    → ¬ TableOverflows priced penalties widths xs
+queue_case-fits priced penalties widths xs case over =
+    let suits = SuitQueue-queue_case priced penalties widths xs case in
     elim over [
       | inl wide ↦ omega (arith, wide, case.small_sum)
       | inr (j, within, past) ↦
-          let small = queue_case-entry (λ x. priced_at penalties (sizes x)) penalties widths xs
-          suits.small j within in
+          let small = queue_case-entry priced penalties widths xs suits.small j within in
           omega (arith, small, past)
     ]

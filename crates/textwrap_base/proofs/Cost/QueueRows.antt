@@ -2,16 +2,17 @@
 -- are not convex.
 use Rattle.std.proofs.Common.{ℕ, zero, suc, ◌+◌, ◌^◌, ◌<◌, ◌≤◌, List, [], ◌∷◌, slice_index}
 use Rattle.std.proofs.Common.{refl, arith}
+use Rattle.std.proofs.lemmas.List.Elements.{All-nil, All-cons, All-head, All-tail}
 use Rattle.textwrap_base.specs.Sizes.{Sizes}
 use Rattle.textwrap_base.specs.Penalties.{default_penalties}
-use Rattle.textwrap_base.specs.Cost.{priced_at, AreEqualFromSecond}
+use Rattle.textwrap_base.specs.Cost.{PricedSizes, priced_at, AreEqualFromSecond}
 use Rattle.textwrap_base.specs.Queue.{queue_limit, AreAtMost, AreConvex, NeverFalls, IsQueueCase}
 use Rattle.textwrap_base.specs.Table.{fragment_costs}
 use Rattle.textwrap_base.proofs.Cost.Rows.{falling}
 use Rattle.textwrap_base.proofs.Division.Rows.{sized}
 
 abbrev IsCase : List ℕ → List Sizes → Type 0
-IsCase widths fragments = IsQueueCase (λ (sizes : Sizes). sizes) default_penalties widths fragments
+IsCase = IsQueueCase (priced_at default_penalties) default_penalties
 
 small_defaults : AreAtMost queue_limit default_penalties
 small_defaults = record {
@@ -44,12 +45,17 @@ small-later (suc zero) within = omega arith
 small-later (suc (suc zero)) within = omega arith
 small-later (suc (suc (suc l))) within = absurd (omega arith)
 
+abbrev IsSmall : Sizes → Type 0
+IsSmall sizes = (priced_at default_penalties sizes).break_penalty ≤ queue_limit
+
 case-one_later_width : IsCase (10 ∷ 20 ∷ 20 ∷ []) pair
 case-one_later_width = record {
   equal = equal-later;
   rising = rising-pair;
   small_widths = small-later;
   small_penalties = small_defaults;
+  small_break_penalties = All-cons IsSmall (sized 5 0 0) (sized 5 0 0 ∷ []) (omega arith)
+      (All-cons IsSmall (sized 5 0 0) [] (omega arith) (All-nil IsSmall));
   small_sum = omega arith;
 }
 
@@ -62,6 +68,17 @@ no_case-two_later_widths case =
 no_case-width_past_limit : ¬ IsCase ((2 ^ 62 + 1) ∷ []) (sized 1 0 0 ∷ [])
 no_case-width_past_limit case =
     let small = case.small_widths 0 (omega arith) in absurd (omega (arith, small))
+
+-- a card (4, 1, 0) by its break penalty
+abbrev card : ℕ → PricedSizes
+card keep = record { sizes = sized 4 1 0; break_penalty = keep }
+
+no_case-break_penalty_past_limit : ¬ IsQueueCase card default_penalties (9 ∷ [])
+    (0 ∷ (2 ^ 62 + 1) ∷ 0 ∷ [])
+no_case-break_penalty_past_limit case =
+    let small : ℕ → Type 0 = λ keep. (card keep).break_penalty ≤ queue_limit in
+    let kept = All-head small (2 ^ 62 + 1) (0 ∷ []) (All-tail small 0 ((2 ^ 62 + 1) ∷ 0 ∷ [])
+    case.small_break_penalties) in absurd (omega (arith, kept))
 
 -- ---- closed widths that fall
 

@@ -41,3 +41,15 @@ cost-uneven_lines : division_cost (priced_at default_penalties) default_penaltie
     (10 ∷ 5 ∷ 100 ∷ []) 3 ((sized 5 0 0 ∷ []) ∷ (sized 5 0 0 ∷ []) ∷ (sized 20 0 0 ∷ []) ∷ [])
     ≡ 3050
 cost-uneven_lines = refl
+
+-- ---- three cards (4, 1, 0) by their break penalties, in lines of 9
+
+abbrev card_cost : List (List ℕ) → ℕ
+card_cost lines = division_cost (λ keep. record { sizes = sized 4 1 0; break_penalty = keep })
+    default_penalties (9 ∷ []) 3 lines
+
+cost-kept_little : card_cost ((0 ∷ 24 ∷ []) ∷ (0 ∷ []) ∷ []) ≡ 2024
+cost-kept_little = refl
+
+cost-kept_together : card_cost ((0 ∷ []) ∷ (30 ∷ 0 ∷ []) ∷ []) ≡ 2025
+cost-kept_together = refl

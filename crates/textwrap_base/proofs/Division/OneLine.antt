@@ -8,7 +8,7 @@ use Rattle.std.proofs.lemmas.List.{append-nil, take_all, length-take-le, length-
 use Rattle.std.proofs.lemmas.List.Elements.{All-nil, All-cons, All-head, All-tail}
 use Rattle.textwrap_base.specs.Sizes.{Sizes}
 use Rattle.textwrap_base.specs.WrapAlgorithms.{Algorithm, Greedy, LeastCost, IsDividedBy}
-use Rattle.textwrap_base.specs.Cost.{PricedSizes, priced_at, last_break_cost, line_cost}
+use Rattle.textwrap_base.specs.Cost.{PricedSizes, priced_at, last_break_penalty, line_cost}
 use Rattle.textwrap_base.specs.Division.{line_width, closed_width, IsDivision, IsGreedy}
 use Rattle.textwrap_base.specs.Table.{entry_at, first_entry, entry_from, line_costs}
 use Rattle.textwrap_base.specs.Table.{fragments_table, IsLeastBelow, IsByTable}
@@ -71,7 +71,7 @@ module _ {X : Type 0} (priced : X → PricedSizes) (penalties : Penalties) where
   line_cost-some width is_last (x ∷ line) some = omega arith
 
   -- two fragments or more on the last line cost no more than any line does
-  line_cost-one : (width : ℕ) (line : List X) → 1 < length line → last_break_cost priced line ≡ 0
+  line_cost-one : (width : ℕ) (line : List X) → 1 < length line → last_break_penalty priced line ≡ 0
       → closed_width (λ x. (priced x).sizes) line ≤ width
       → line_cost priced penalties width true line ≡ penalties.nline_penalty
   line_cost-one width [] two none room = absurd (omega arith)
@@ -79,7 +79,7 @@ module _ {X : Type 0} (priced : X → PricedSizes) (penalties : Penalties) where
   line_cost-one width (x ∷ y ∷ line) two none room = grind (arith, nat_tests, none, room)
 
 module _ {X : Type 0} (priced : X → PricedSizes) (penalties : Penalties) (widths : List ℕ)
-    (xs : List X) (none : last_break_cost priced xs ≡ 0)
+    (xs : List X) (none : last_break_penalty priced xs ≡ 0)
     (room : closed_width (λ x. (priced x).sizes) xs ≤ line_width widths 0) where
   abbrev costs : ℕ → ℕ → ℕ → ℕ
   costs = line_costs priced penalties widths xs
@@ -143,7 +143,7 @@ module _ {X : Type 0} (priced : X → PricedSizes) (penalties : Penalties) (widt
 
 last-none : {X : Type 0} (penalties : Penalties) (sizes : X → Sizes) (xs : List X)
     → All (λ x. (sizes x).penalty ≡ 0) xs
-    → last_break_cost (λ x. priced_at penalties (sizes x)) xs ≡ 0
+    → last_break_penalty (λ x. priced_at penalties (sizes x)) xs ≡ 0
 last-none penalties sizes [] none = refl
 last-none penalties sizes (x ∷ []) none = let here =
     All-head (λ x. (sizes x).penalty ≡ 0) x [] none in rw here refl

@@ -1,8 +1,8 @@
 //! The line costs of fragments, from running sums of their widths.
-ghost use Rattle.std.specs.Prelude.{◌≡◌, ◌+◌, ◌<◌, ◌≤◌, length, map, IfOk, SomeIff, nat_lt, ◌==◌};
-ghost use Rattle.std.specs.Prelude.{if◌then◌else◌, slice_range};
+ghost use Rattle.std.specs.Prelude.{◌≡◌, ◌+◌, ◌<◌, ◌≤◌, length, map, IfOk, SomeIff, ◌==◌};
+ghost use Rattle.std.specs.Prelude.{◌-◌, ◌^◌, All, slice_range};
 ghost use Rattle.textwrap_base.specs.Minima.{LineCostsView};
-ghost use Rattle.textwrap_base.specs.Cost.{priced_at, total_width, fit_cost, line_cost};
+ghost use Rattle.textwrap_base.specs.Cost.{priced_by, total_width, fit_cost, line_cost};
 ghost use Rattle.textwrap_base.specs.Errors.{Fits128Bits, Passes128Bits, Overflowed};
 ghost use Rattle.textwrap_base.specs.Division.{line_width, closed_width};
 ghost use Rattle.textwrap_base.specs.LineCosts.{measured, AreMeasured};
@@ -16,14 +16,14 @@ use crate::words::Fragment;
 use std::alloc::{AllocError, Allocator};
 use std::marker::Model;
 
-/// A fragment's widths and break cost, and the widths and whitespace of all fragments before it.
+/// A fragment's widths and break penalty, and the widths and whitespace of all fragments before it.
 #[derive(Clone, Copy)]
 struct Measure {
     before: u128,
     width: usize,
     whitespace: usize,
     penalty: usize,
-    break_cost: usize,
+    break_penalty: usize,
 }
 
 /// The costs of the lines of some fragments, at the line widths and penalties given, with a count
@@ -64,9 +64,13 @@ impl<A: Allocator + Copy> LineCosts<A> {
         penalties: &Penalties,
     ) -> Result<LineCosts<A>, WrapError>
         ensures costs { IfOk result (λ costs. ⟦<LineCosts<A> as CostSource>⟧.costs costs
-            ≡ fragment_costs (λ x. priced_at penalties.now (T.sizes x)) penalties.now
+            ≡ fragment_costs (priced_by T.sizes T.own_break_penalty penalties.now) penalties.now
             line_widths.now fragments.now) }
         ensures count { IfOk result (λ costs. ⟦<LineCosts<A> as CostSource>⟧.steps costs ≡ 0) }
+        // Each break penalty is a number of 64 bits.
+        ensures break_penalties { IfOk result (λ _. All (λ x.
+            (priced_by T.sizes T.own_break_penalty penalties.now x).break_penalty ≤ 2 ^ 64 - 1)
+            fragments.now) }
         ensures overflow_only { Overflowed result
             → Passes128Bits (total_width T.sizes fragments.now) }
         ensures too_wide { Passes128Bits (total_width T.sizes fragments.now)
@@ -135,7 +139,7 @@ fn line_cost(
         target: line_width.max(1),
         is_last: end == measures.len(),
         is_single: end == start + 1,
-        break_cost: measures[end - 1].break_cost,
+        break_penalty: measures[end - 1].break_penalty,
     };
     line.cost(penalties)
 }
@@ -147,7 +151,7 @@ struct CostedLine {
     target: usize,
     is_last: bool,
     is_single: bool,
-    break_cost: usize,
+    break_penalty: usize,
 }
 
 impl CostedLine {
@@ -155,11 +159,11 @@ impl CostedLine {
     fn cost(self, penalties: &Penalties) -> Option<u128>
         ensures { let cost = penalties.now.nline_penalty
             + fit_cost penalties.now self.target self.closed self.is_last self.is_single
-            + self.break_cost
+            + self.break_penalty
             in SomeIff result (Fits128Bits cost) cost }
     {
         let fit_cost = self.fit_cost(penalties)?;
-        fit_cost.checked_add(penalties.nline_penalty as u128 + self.break_cost as u128)
+        fit_cost.checked_add(penalties.nline_penalty as u128 + self.break_penalty as u128)
     }
 
     /// The cost of missing the target, or `None` where it needs more than 128 bits.
@@ -220,8 +224,10 @@ fn measures_of<A: Allocator, T: Fragment>(
 ) -> Result<Vec<Measure, A>, AllocError>
     requires { Fits128Bits (total_width T.sizes fragments.now) }
     ensures measured { IfOk result (λ measures. AreMeasured measures.items) }
+    ensures break_penalties { IfOk result (λ measures.
+        All (λ m. m.break_penalty ≤ 2 ^ 64 - 1) measures.items) }
     ensures priced { IfOk result (λ measures. map measured measures.items
-        ≡ map (λ x. priced_at penalties.now (T.sizes x)) fragments.now) }
+        ≡ map (priced_by T.sizes T.own_break_penalty penalties.now) fragments.now) }
 {
     let mut measures = Vec::new(alloc);
     let mut before = 0u128;
@@ -234,20 +240,9 @@ fn measures_of<A: Allocator, T: Fragment>(
             width,
             whitespace,
             penalty,
-            break_cost: break_cost(penalties, penalty),
+            break_penalty: fragment.break_penalty(penalties),
         })?;
         before += width as u128 + whitespace as u128;
     }
     Ok(measures)
-}
-
-/// What a line costs more that ends with a fragment of this penalty width.
-fn break_cost(penalties: &Penalties, penalty_width: usize) -> usize
-    ensures { result ≡ (if nat_lt 0 penalty_width then penalties.now.hyphen_penalty else 0) }
-{
-    if penalty_width > 0 {
-        penalties.hyphen_penalty
-    } else {
-        0
-    }
 }

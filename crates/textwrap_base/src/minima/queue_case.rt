@@ -1,6 +1,6 @@
 //! The queue case: fragments, line widths and penalties whose line costs are convex and small.
-ghost use Rattle.std.specs.Prelude.{ℕ, ◌<◌, ◌≤◌, ◌↔◌, IsTrue, length, slice_index};
-ghost use Rattle.textwrap_base.specs.Cost.{priced_at, total_width, AreEqualFromSecond};
+ghost use Rattle.std.specs.Prelude.{ℕ, ◌<◌, ◌≤◌, ◌↔◌, All, IsTrue, length, slice_index};
+ghost use Rattle.textwrap_base.specs.Cost.{priced_by, total_width, AreEqualFromSecond};
 ghost use Rattle.textwrap_base.specs.Queue.{IsQueueCase, AreConvex, SuitQueue, AreAtMost, NeverFalls};
 ghost use Rattle.textwrap_base.specs.Queue.{queue_limit};
 ghost use Rattle.textwrap_base.specs.Table.{fragment_costs};
@@ -18,7 +18,8 @@ const LIMIT: usize = 1 << 62;
 ///
 /// - all line widths from the second on are the same,
 /// - the closed width of the first j fragments never falls as j grows, and
-/// - each line width, each penalty, and all widths of the fragments together are at most 2^62.
+/// - each line width, each penalty, the break penalty of each fragment, and all widths of the
+///   fragments together are at most 2^62.
 ///
 /// The closed width of some fragments is what they take as a line: their widths, the whitespace
 /// between them, and the penalty width of the last. So it falls where a penalty width is greater
@@ -39,18 +40,19 @@ pub fn is_queue_case<T: Fragment>(
     penalties: &Penalties,
 ) -> bool
     ensures case { IsTrue result
-        ↔ IsQueueCase T.sizes penalties.now line_widths.now fragments.now }
+        ↔ IsQueueCase (priced_by T.sizes T.own_break_penalty penalties.now) penalties.now line_widths.now fragments.now }
     ensures convex { IsTrue result
-        → AreConvex (fragment_costs (λ x. priced_at penalties.now (T.sizes x)) penalties.now
+        → AreConvex (fragment_costs (priced_by T.sizes T.own_break_penalty penalties.now) penalties.now
         line_widths.now fragments.now) }
     // So their costs suit `queue_search`.
     ensures suits { IsTrue result
-        → SuitQueue (fragment_costs (λ x. priced_at penalties.now (T.sizes x)) penalties.now
+        → SuitQueue (fragment_costs (priced_by T.sizes T.own_break_penalty penalties.now) penalties.now
         line_widths.now fragments.now) }
 {
     line_widths_suit(line_widths)
         && penalties_suit(penalties)
         && total_width_suits(fragments)
+        && break_penalties_suit(fragments, penalties)
         && closed_widths_never_fall(fragments)
 }
 
@@ -84,6 +86,20 @@ fn total_width_suits<T: Fragment>(fragments: &[T]) -> bool
     ensures { IsTrue result ↔ (total_width T.sizes fragments.now ≤ queue_limit) }
 {
     total_width(fragments).is_some_and(|total| total <= LIMIT as u128)
+}
+
+/// Whether the break penalty of no fragment passes the limit.
+fn break_penalties_suit<T: Fragment>(fragments: &[T], penalties: &Penalties) -> bool
+    ensures { IsTrue result ↔ All (λ x.
+        (priced_by T.sizes T.own_break_penalty penalties.now x).break_penalty ≤ queue_limit)
+        fragments.now }
+{
+    for fragment in fragments {
+        if fragment.break_penalty(penalties) > LIMIT {
+            return false;
+        }
+    }
+    true
 }
 
 /// Whether the closed width of the first j fragments never falls as j grows. With one fragment

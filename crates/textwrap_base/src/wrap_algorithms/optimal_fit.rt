@@ -1,6 +1,6 @@
 //! Optimal fit: the division of least cost.
 ghost use Rattle.std.specs.Prelude.{◌≡◌, ℕ, ◌+◌, ◌<◌, ◌≤◌, length, map, slice_index, IfOk, OnOk};
-ghost use Rattle.textwrap_base.specs.Cost.{priced_at, total_width};
+ghost use Rattle.textwrap_base.specs.Cost.{priced_by, total_width};
 ghost use Rattle.textwrap_base.specs.Division.{IsDivision};
 ghost use Rattle.textwrap_base.specs.Errors.{Fits64Bits, Passes128Bits, Overflowed};
 ghost use Rattle.textwrap_base.specs.Queue.{IsQueueCase, CountsSearch};
@@ -38,7 +38,7 @@ pub fn wrap_optimal_fit<'a, A: Allocator + Copy, T: Fragment>(
     line_widths: &[usize],
     penalties: &Penalties,
 ) -> Result<Vec<&'a [T], A>, WrapError>
-    ensures fit { IsOptimalFitResult (λ x. priced_at penalties.now (T.sizes x)) penalties.now
+    ensures fit { IsOptimalFitResult (priced_by T.sizes T.own_break_penalty penalties.now) penalties.now
         line_widths.now fragments.now (λ lines. map (λ line. line.now) lines.items) result }
 {
     let mut steps = Steps::new();
@@ -59,12 +59,12 @@ pub fn wrap_optimal_fit_counted<'a, A: Allocator + Copy, T: Fragment>(
     penalties: &Penalties,
     steps: &mut Steps,
 ) -> Result<Vec<&'a [T], A>, WrapError>
-    ensures fit { IsOptimalFitResult (λ x. priced_at penalties.now (T.sizes x)) penalties.now
+    ensures fit { IsOptimalFitResult (priced_by T.sizes T.own_break_penalty penalties.now) penalties.now
         line_widths.now fragments.now (λ lines. map (λ line. line.now) lines.items) result }
-    ensures steps { ¬ IsQueueCase T.sizes penalties.now line_widths.now fragments.now
-        → CountsSteps (λ x. priced_at penalties.now (T.sizes x)) penalties.now
+    ensures steps { ¬ IsQueueCase (priced_by T.sizes T.own_break_penalty penalties.now) penalties.now line_widths.now fragments.now
+        → CountsSteps (priced_by T.sizes T.own_break_penalty penalties.now) penalties.now
         line_widths.now fragments.now steps.old steps.new result }
-    ensures queue_steps { IsQueueCase T.sizes penalties.now line_widths.now fragments.now
+    ensures queue_steps { IsQueueCase (priced_by T.sizes T.own_break_penalty penalties.now) penalties.now line_widths.now fragments.now
         → CountsSearch (length fragments.now) steps.old steps.new result }
 {
     let minima = find_minima(alloc, fragments, line_widths, penalties, steps)?;
@@ -80,20 +80,20 @@ fn find_minima<A: Allocator + Copy, T: Fragment>(
     steps: &mut Steps,
 ) -> Result<Vec<Minimum, A>, WrapError>
     ensures entries { IfOk result (λ minima. minima.items ≡ map minimum_of
-        (fragments_table (λ x. priced_at penalties.now (T.sizes x)) penalties.now
+        (fragments_table (priced_by T.sizes T.own_break_penalty penalties.now) penalties.now
         line_widths.now fragments.now)) }
     ensures overflow_only { Overflowed result
-        → TableOverflows (λ x. priced_at penalties.now (T.sizes x)) penalties.now
+        → TableOverflows (priced_by T.sizes T.own_break_penalty penalties.now) penalties.now
         line_widths.now fragments.now }
     ensures ok_only { OnOk result
-        (¬ TableOverflows (λ x. priced_at penalties.now (T.sizes x)) penalties.now
+        (¬ TableOverflows (priced_by T.sizes T.own_break_penalty penalties.now) penalties.now
         line_widths.now fragments.now) }
     ensures too_wide { Passes128Bits (total_width T.sizes fragments.now) → Overflowed result }
     ensures no_overflow { Fits64Bits (total_width T.sizes fragments.now) → ¬ Overflowed result }
-    ensures steps { ¬ IsQueueCase T.sizes penalties.now line_widths.now fragments.now
-        → CountsSteps (λ x. priced_at penalties.now (T.sizes x)) penalties.now
+    ensures steps { ¬ IsQueueCase (priced_by T.sizes T.own_break_penalty penalties.now) penalties.now line_widths.now fragments.now
+        → CountsSteps (priced_by T.sizes T.own_break_penalty penalties.now) penalties.now
         line_widths.now fragments.now steps.old steps.new result }
-    ensures queue_steps { IsQueueCase T.sizes penalties.now line_widths.now fragments.now
+    ensures queue_steps { IsQueueCase (priced_by T.sizes T.own_break_penalty penalties.now) penalties.now line_widths.now fragments.now
         → CountsSearch (length fragments.now) steps.old steps.new result }
 {
     if is_queue_case(fragments, line_widths, penalties) {

@@ -32,6 +32,10 @@ impl Fragment for Block {
     fn penalty_width(&self) -> usize {
         self.2
     }
+
+    fn break_penalty(&self, penalties: &Penalties) -> usize {
+        penalties.usual_break_penalty(self.penalty_width())
+    }
 }
 
 /// Fragments whose closed width falls: the fourth has none, and the third a penalty.

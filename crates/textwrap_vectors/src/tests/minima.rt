@@ -8,6 +8,7 @@ use textwrap::WrapError;
 use textwrap::minima::{
     CostSource, LineCosts, Minimum, Steps, is_queue_case, queue_minima, queue_search, table_minima,
 };
+use textwrap::words::Fragment;
 use textwrap::wrap_algorithms::{Penalties, wrap_optimal_fit_counted};
 
 /// Whether the minima have these starts and costs.
@@ -205,22 +206,25 @@ fn queue_cases_are_told_by_their_penalties(rt: HostRuntime) {
 
 /// Asserts that these are a queue case, in which the search gives the list of the table: each start
 /// and each cost.
-pub(super) fn assert_agreed(
+pub(super) fn assert_agreed<T: Fragment>(
     rt: &(impl Abort + AllocGlobal),
-    blocks: &[Block],
+    fragments: &[T],
     line_widths: &[usize],
     penalties: &Penalties,
 ) -> Result<(), WrapError> {
     let mut steps = Steps::new();
-    let table = table_minima(rt.alloc(), blocks, line_widths, penalties, &mut steps)?;
-    assert!(rt; is_queue_case(blocks, line_widths, penalties), "{blocks:?}");
-    let minima = queue_minima(rt.alloc(), blocks, line_widths, penalties, &mut steps)?;
-    assert!(rt; minima.as_slice() == table.as_slice(), "{blocks:?}");
+    let table = table_minima(rt.alloc(), fragments, line_widths, penalties, &mut steps)?;
+    assert!(rt;
+        is_queue_case(fragments, line_widths, penalties),
+        "{fragments:?}"
+    );
+    let minima = queue_minima(rt.alloc(), fragments, line_widths, penalties, &mut steps)?;
+    assert!(rt; minima.as_slice() == table.as_slice(), "{fragments:?}");
     Ok(())
 }
 
 /// Fragments of a small generator: each width is drawn up to its mask, and the first raised.
-fn drawn_blocks(
+pub(super) fn drawn_blocks(
     alloc: Global,
     seed: u64,
     count: usize,

@@ -1,7 +1,7 @@
-use Rattle.textwrap_base.specs.Cost.{priced_at}
+use Rattle.textwrap_base.specs.Cost.{priced_by}
 use Rattle.textwrap_base.proofs.Cost.Chosen.{table_overflow-is}
 use Rattle.textwrap_base.proofs.laws.table_overflow_is_overflow.Goals as goal
 
 pub returns : goal.returns
-returns g c = table_overflow-is (λ x. priced_at c.args.penalties.now (g.T.Fragment.sizes x))
+returns g c = table_overflow-is (priced_by g.T.Fragment.sizes g.T.Fragment.own_break_penalty c.args.penalties.now)
     c.args.penalties.now c.args.line_widths.now c.args.fragments.now

@@ -1,6 +1,6 @@
 use Rattle.std.proofs.Common.{length, map, sym, ap, ◌∙◌, subst}
 use Rattle.std.proofs.lemmas.Result.{IfOk-weaker}
-use Rattle.textwrap_base.specs.Cost.{PricedSizes, priced_at, IsLeastCost}
+use Rattle.textwrap_base.specs.Cost.{PricedSizes, priced_by, IsLeastCost}
 use Rattle.textwrap_base.specs.Minima.{Costs}
 use Rattle.textwrap_base.specs.Queue.{SuitQueue}
 use Rattle.textwrap_base.specs.Table.{table, line_costs, minimum_of}
@@ -12,7 +12,9 @@ use Rattle.textwrap_base.proofs.minima.queue_minima.Goals as goal
 pub queue_search-minima-requires : goal.queue_search-minima-requires
 queue_search-minima-requires g c = record {
   suits = subst SuitQueue (sym c.in-Ok.ensures.costs)
-      (SuitQueue-queue_case g.T.Fragment.sizes c.args.penalties.now c.args.line_widths.now
+      (SuitQueue-queue_case
+      (priced_by g.T.Fragment.sizes g.T.Fragment.own_break_penalty c.args.penalties.now)
+      c.args.penalties.now c.args.line_widths.now
       c.args.fragments.now c.requires.case);
 }
 
@@ -25,7 +27,7 @@ returns-clause-entries g c =
 pub returns-clause-least : goal.returns-clause-least
 returns-clause-least g c =
     let priced : g.row.T.Denot → PricedSizes =
-    λ x. priced_at c.args.penalties.now (g.T.Fragment.sizes x) in
+    priced_by g.T.Fragment.sizes g.T.Fragment.own_break_penalty c.args.penalties.now in
     let widths = c.args.line_widths.now in
     let fragments = c.args.fragments.now in
     IfOk-weaker c.queue_search-minima.result _ _

@@ -1,5 +1,5 @@
-use Rattle.std.proofs.Common.{◌≡◌, Vec, arith, ◌∙◌, ap, sym, subst, map, length, ℕ, ◌≤◌, ◌<◌, ◌-◌, ◌^◌, inl, inr}
-use Rattle.textwrap_base.specs.Cost.{PricedSizes, priced_at, IsLeastCost}
+use Rattle.std.proofs.Common.{◌≡◌, Vec, arith, ◌∙◌, ap, sym, subst, map, length, ℕ, ◌≤◌, ◌<◌, ◌^◌, inl, inr}
+use Rattle.textwrap_base.specs.Cost.{PricedSizes, priced_by, IsLeastCost}
 use Rattle.textwrap_base.specs.Minima.{Costs, counted, table_steps}
 use Rattle.textwrap_base.specs.Table.{table, entry_at, minimum_of, fragment_costs, line_costs}
 use Rattle.textwrap_base.specs.Table.{IsFirstPast}
@@ -8,13 +8,12 @@ use Rattle.textwrap_base.specs.declared.minima.table.Entry.{Entry}
 use Rattle.textwrap_base.proofs.Cost.Chosen.{entry-least_cost}
 use Rattle.textwrap_base.proofs.Cost.Starts.{cost_reported}
 use Rattle.textwrap_base.proofs.Cost.Overflow.{table-fits, overflowed_on}
-use Rattle.textwrap_base.proofs.Cost.Measures.{priced_at-all_le}
 use Rattle.textwrap_base.proofs.minima.table_minima.Goals as goal
 
 pub returns-in_err-entries-clause-overflow_only : goal.returns-in_err-entries-clause-overflow_only
 returns-in_err-entries-clause-overflow_only g c =
     let lines = c.in_ok-costs.ensures.costs
-    ∙ ap (λ p. fragment_costs (λ x. priced_at p (g.T.Fragment.sizes x)) p c.args.line_widths.now
+    ∙ ap (λ p. fragment_costs (priced_by g.T.Fragment.sizes g.T.Fragment.own_break_penalty p) p c.args.line_widths.now
     c.args.fragments.now) c.in_range-penalties.ensures.same in
     λ over.
     let (j, first, steps) = c.in_err-entries.ensures.overflow
@@ -27,11 +26,10 @@ pub returns-in_err-entries-clause-no_overflow : goal.returns-in_err-entries-clau
 returns-in_err-entries-clause-no_overflow g c =
     let lines = c.in_ok-costs.ensures.costs in
     λ narrow over.
-    let fits = table-fits (λ x. priced_at c.in_range-penalties.result (g.T.Fragment.sizes x))
+    let fits = table-fits (priced_by g.T.Fragment.sizes g.T.Fragment.own_break_penalty c.in_range-penalties.result)
     c.in_range-penalties.result c.args.line_widths.now c.args.fragments.now
     c.in_range-penalties.ensures.range
-    (priced_at-all_le (2 ^ 64 - 1) c.in_range-penalties.result g.T.Fragment.sizes
-    c.args.fragments.now c.in_range-penalties.ensures.range)
+    c.in_ok-costs.ensures.break_penalties
     (λ i. omega (arith, c.type_inv.line_widths i)) narrow in
     let (i, first, steps) = c.in_err-entries.ensures.overflow
     (overflowed_on (Vec Entry g.row.A.Denot) c.from_residual-in_err-entries.result
@@ -43,7 +41,7 @@ returns-in_err-entries-clause-no_overflow g c =
 pub returns-clause-entries : goal.returns-clause-entries
 returns-clause-entries g c =
     let lines = c.in_ok-costs.ensures.costs
-    ∙ ap (λ p. fragment_costs (λ x. priced_at p (g.T.Fragment.sizes x)) p c.args.line_widths.now
+    ∙ ap (λ p. fragment_costs (priced_by g.T.Fragment.sizes g.T.Fragment.own_break_penalty p) p c.args.line_widths.now
     c.args.fragments.now) c.in_range-penalties.ensures.same in
     c.in_ok-minima_of.ensures
     ∙ ap (map minimum_of) (c.deref.ensures.value ∙ c.in_ok-entries.ensures.entries
@@ -52,7 +50,7 @@ returns-clause-entries g c =
 pub returns-clause-ok_only : goal.returns-clause-ok_only
 returns-clause-ok_only g c =
     let lines = c.in_ok-costs.ensures.costs
-    ∙ ap (λ p. fragment_costs (λ x. priced_at p (g.T.Fragment.sizes x)) p c.args.line_widths.now
+    ∙ ap (λ p. fragment_costs (priced_by g.T.Fragment.sizes g.T.Fragment.own_break_penalty p) p c.args.line_widths.now
     c.args.fragments.now) c.in_range-penalties.ensures.same in
     let fits = subst (λ (l : Costs). (j : ℕ) → j ≤ l.ends
     → (entry_at (table l.cost l.ends) j).cost < 2 ^ 128) lines c.in_ok-entries.ensures.ok_only
@@ -67,7 +65,7 @@ returns-clause-ok_only g c =
 pub returns-clause-least : goal.returns-clause-least
 returns-clause-least g c =
     let priced : g.row.T.Denot → PricedSizes =
-    λ x. priced_at c.args.penalties.now (g.T.Fragment.sizes x) in
+    priced_by g.T.Fragment.sizes g.T.Fragment.own_break_penalty c.args.penalties.now in
     let widths = c.args.line_widths.now in
     let fragments = c.args.fragments.now in
     let entries = returns-clause-entries g c in
@@ -79,7 +77,7 @@ returns-clause-least g c =
 pub returns-in_err-entries-clause-steps : goal.returns-in_err-entries-clause-steps
 returns-in_err-entries-clause-steps g c =
     let lines = c.in_ok-costs.ensures.costs
-    ∙ ap (λ p. fragment_costs (λ x. priced_at p (g.T.Fragment.sizes x)) p c.args.line_widths.now
+    ∙ ap (λ p. fragment_costs (priced_by g.T.Fragment.sizes g.T.Fragment.own_break_penalty p) p c.args.line_widths.now
     c.args.fragments.now) c.in_range-penalties.ensures.same in
     let after = c.fill_table-entries.new.costs.steps in
     let given = c.in_ok-costs.costs.priced in
@@ -91,7 +89,7 @@ returns-in_err-entries-clause-steps g c =
     let most : after ≤ counted c.in_ok-costs.costs.steps (table_steps (length given)) =
     c.in_err-entries.ensures.steps_most in
     steps-refused (Vec Entry g.row.A.Denot)
-    (λ x. priced_at c.args.penalties.now (g.T.Fragment.sizes x)) c.args.penalties.now
+    (priced_by g.T.Fragment.sizes g.T.Fragment.own_break_penalty c.args.penalties.now) c.args.penalties.now
     c.args.line_widths.now c.args.fragments.now c.args.steps.now c.add.new.self
     c.from_residual-in_err-entries.result c.in_err-entries.field-0.0
     c.from_residual-in_err-entries.ensures.1

@@ -1,7 +1,7 @@
 use Rattle.std.proofs.Common.{arith, ◌∙◌, ap, take, map}
 use Rattle.std.proofs.lemmas.List.{take_all}
 use Rattle.textwrap_base.specs.Sizes.{Sizes}
-use Rattle.textwrap_base.specs.Cost.{priced_at}
+use Rattle.textwrap_base.specs.Cost.{priced_by}
 use Rattle.textwrap_base.specs.LineCosts.{measured}
 use Rattle.textwrap_base.proofs.Cost.Measures.{measured_sizes, sizes-same, open_width-same}
 use Rattle.textwrap_base.proofs.Cost.Measures.{total_width-same, open_width-total}
@@ -9,7 +9,7 @@ use Rattle.textwrap_base.proofs.minima.line_costs.measures_of.Goals as goal
 
 pub overflow_add-before-in-loop-fragment : goal.overflow_add-before-in-loop-fragment
 overflow_add-before-in-loop-fragment g c =
-    let sizes = sizes-same measured (λ x. priced_at c.args.penalties.now (g.T.Fragment.sizes x))
+    let sizes = sizes-same measured (priced_by g.T.Fragment.sizes g.T.Fragment.own_break_penalty c.args.penalties.now)
     c.loop-fragment.measures.items (take c.loop-fragment.fragment-index c.args.fragments.now)
     c.loop-fragment.invariant.priced in
     let same = open_width-same measured_sizes g.T.Fragment.sizes c.loop-fragment.measures.items
@@ -34,7 +34,7 @@ overflow_add-before-in-loop-fragment g c =
 pub returns-clause-measured : goal.returns-clause-measured
 returns-clause-measured g c =
     let all = take_all c.loop-fragment.fragment-index c.args.fragments.now (omega arith) in
-    let sizes = sizes-same measured (λ x. priced_at c.args.penalties.now (g.T.Fragment.sizes x))
+    let sizes = sizes-same measured (priced_by g.T.Fragment.sizes g.T.Fragment.own_break_penalty c.args.penalties.now)
     c.loop-fragment.measures.items (take c.loop-fragment.fragment-index c.args.fragments.now)
     c.loop-fragment.invariant.priced in
     let same = total_width-same measured_sizes g.T.Fragment.sizes c.loop-fragment.measures.items

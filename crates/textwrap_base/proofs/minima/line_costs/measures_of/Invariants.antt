@@ -1,6 +1,6 @@
-use Rattle.std.proofs.Common.{◌≡◌, ℕ, ◌<◌, length, get_or, take, map}
+use Rattle.std.proofs.Common.{◌≡◌, ℕ, ◌-◌, ◌^◌, ◌<◌, ◌≤◌, All, length, get_or, take, map}
 use Rattle.textwrap_base.specs.Division.{open_width}
-use Rattle.textwrap_base.specs.Cost.{priced_at}
+use Rattle.textwrap_base.specs.Cost.{priced_by}
 use Rattle.textwrap_base.specs.LineCosts.{measured}
 use Rattle.textwrap_base.proofs.Cost.Measures.{measured_sizes}
 use Rattle.textwrap_base.specs.declared.minima.line_costs.Measure.{Measure}
@@ -8,9 +8,10 @@ use Rattle.textwrap_base.proofs.minima.line_costs.measures_of.Given as goal
 
 abbrev pub invariant-loop-fragment : goal.invariant-loop-fragment
 invariant-loop-fragment g l = record {
-  priced : map measured l.measures.items ≡ map (λ x. priced_at l.penalties (g.T.Fragment.sizes x))
+  priced : map measured l.measures.items ≡ map (priced_by g.T.Fragment.sizes g.T.Fragment.own_break_penalty l.penalties)
       (take l.fragment-index l.fragments);
   all : (i : ℕ) (d : Measure) → i < length l.measures.items
       → (get_or l.measures.items i d).before ≡ open_width measured_sizes (take i l.measures.items);
+  break_penalties : All (λ (m : Measure). m.break_penalty ≤ 2 ^ 64 - 1) l.measures.items;
   now : l.before ≡ open_width measured_sizes l.measures.items;
 }

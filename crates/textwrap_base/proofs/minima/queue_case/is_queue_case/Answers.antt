@@ -1,19 +1,23 @@
 use Rattle.std.proofs.Common.{rules}
-use Rattle.textwrap_base.specs.Cost.{priced_at}
+use Rattle.textwrap_base.specs.Cost.{priced_by}
 use Rattle.textwrap_base.specs.Queue.{IsQueueCase}
 use Rattle.textwrap_base.proofs.Cost.Convex.{AreConvex-rising}
 use Rattle.textwrap_base.proofs.Cost.QueueCase.{SuitQueue-queue_case}
 use Rattle.textwrap_base.proofs.minima.queue_case.is_queue_case.Goals as goal
 
-pub returns-then-total_width_suits-clause-convex : goal.returns-then-total_width_suits-clause-convex
-returns-then-total_width_suits-clause-convex g c = λ yes.
-    AreConvex-rising (λ x. priced_at c.args.penalties.now (g.T.Fragment.sizes x))
+pub returns-then-break_penalties_suit-clause-convex : goal.returns-then-break_penalties_suit-clause-convex
+returns-then-break_penalties_suit-clause-convex g c = λ yes.
+    AreConvex-rising (priced_by g.T.Fragment.sizes g.T.Fragment.own_break_penalty c.args.penalties.now)
     c.args.penalties.now c.args.line_widths.now c.args.fragments.now
     (c.closed_widths_never_fall.ensures.0 yes)
 
-pub returns-then-total_width_suits-clause-suits : goal.returns-then-total_width_suits-clause-suits
-returns-then-total_width_suits-clause-suits g c = λ yes.
-    let case : IsQueueCase g.T.Fragment.sizes c.args.penalties.now c.args.line_widths.now
+pub returns-then-break_penalties_suit-clause-suits : goal.returns-then-break_penalties_suit-clause-suits
+returns-then-break_penalties_suit-clause-suits g c = λ yes.
+    let case : IsQueueCase
+    (priced_by g.T.Fragment.sizes g.T.Fragment.own_break_penalty c.args.penalties.now)
+    c.args.penalties.now c.args.line_widths.now
     c.args.fragments.now = search (rules, yes) in
-    SuitQueue-queue_case g.T.Fragment.sizes c.args.penalties.now c.args.line_widths.now
+    SuitQueue-queue_case
+    (priced_by g.T.Fragment.sizes g.T.Fragment.own_break_penalty c.args.penalties.now)
+    c.args.penalties.now c.args.line_widths.now
     c.args.fragments.now case

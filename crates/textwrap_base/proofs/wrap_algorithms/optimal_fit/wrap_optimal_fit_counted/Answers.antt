@@ -1,5 +1,5 @@
 use Rattle.std.proofs.Common.{Vec, Bor, List, map, ◌∙◌, length}
-use Rattle.textwrap_base.specs.Cost.{priced_at}
+use Rattle.textwrap_base.specs.Cost.{priced_by}
 use Rattle.textwrap_base.specs.Table.{line_costs}
 use Rattle.textwrap_base.specs.declared.minima.Minimum.{Minimum}
 use Rattle.textwrap_base.proofs.Cost.Results.{optimal-returned, optimal-refused}
@@ -9,21 +9,21 @@ use Rattle.textwrap_base.proofs.wrap_algorithms.optimal_fit.wrap_optimal_fit_cou
 
 pub lines_by-requires-clause-len : goal.lines_by-requires-clause-len
 lines_by-requires-clause-len g c =
-    length_reported (line_costs (λ x. priced_at c.args.penalties.now (g.T.Fragment.sizes x))
+    length_reported (line_costs (priced_by g.T.Fragment.sizes g.T.Fragment.own_break_penalty c.args.penalties.now)
     c.args.penalties.now c.args.line_widths.now c.args.fragments.now)
     (length c.args.fragments.now) c.deref.result.now (c.deref.ensures.value
     ∙ c.in_ok-minima.ensures.entries)
 
 pub lines_by-requires-clause-first : goal.lines_by-requires-clause-first
 lines_by-requires-clause-first g c =
-    first_reported (line_costs (λ x. priced_at c.args.penalties.now (g.T.Fragment.sizes x))
+    first_reported (line_costs (priced_by g.T.Fragment.sizes g.T.Fragment.own_break_penalty c.args.penalties.now)
     c.args.penalties.now c.args.line_widths.now c.args.fragments.now)
     (length c.args.fragments.now) c.deref.result.now (c.deref.ensures.value
     ∙ c.in_ok-minima.ensures.entries)
 
 pub lines_by-requires-clause-later : goal.lines_by-requires-clause-later
 lines_by-requires-clause-later g c =
-    later_reported (line_costs (λ x. priced_at c.args.penalties.now (g.T.Fragment.sizes x))
+    later_reported (line_costs (priced_by g.T.Fragment.sizes g.T.Fragment.own_break_penalty c.args.penalties.now)
     c.args.penalties.now c.args.line_widths.now c.args.fragments.now)
     (length c.args.fragments.now) c.deref.result.now (c.deref.ensures.value
     ∙ c.in_ok-minima.ensures.entries)
@@ -31,11 +31,11 @@ lines_by-requires-clause-later g c =
 pub returns-clause-fit : goal.returns-clause-fit
 returns-clause-fit g c =
     let starts = starts_reported
-    (line_costs (λ x. priced_at c.args.penalties.now (g.T.Fragment.sizes x))
+    (line_costs (priced_by g.T.Fragment.sizes g.T.Fragment.own_break_penalty c.args.penalties.now)
     c.args.penalties.now c.args.line_widths.now c.args.fragments.now)
     (length c.args.fragments.now) c.deref.result.now (c.deref.ensures.value
     ∙ c.in_ok-minima.ensures.entries) in
-    optimal-returned (λ x. priced_at c.args.penalties.now (g.T.Fragment.sizes x))
+    optimal-returned (priced_by g.T.Fragment.sizes g.T.Fragment.own_break_penalty c.args.penalties.now)
     c.args.penalties.now c.args.line_widths.now c.args.fragments.now
     (λ (lines : Vec (Bor (List g.row.T.Denot)) g.row.A.Denot).
     map (λ (line : Bor (List g.row.T.Denot)). line.now) lines.items)
@@ -47,7 +47,7 @@ returns-clause-fit g c =
 
 pub returns-in_err-minima-clause-fit : goal.returns-in_err-minima-clause-fit
 returns-in_err-minima-clause-fit g c =
-    optimal-refused (λ x. priced_at c.args.penalties.now (g.T.Fragment.sizes x))
+    optimal-refused (priced_by g.T.Fragment.sizes g.T.Fragment.own_break_penalty c.args.penalties.now)
     c.args.penalties.now c.args.line_widths.now c.args.fragments.now
     (λ (lines : Vec (Bor (List g.row.T.Denot)) g.row.A.Denot).
     map (λ (line : Bor (List g.row.T.Denot)). line.now) lines.items)

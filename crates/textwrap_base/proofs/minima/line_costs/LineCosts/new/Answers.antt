@@ -1,7 +1,7 @@
-use Rattle.std.proofs.Common.{ap, ◌∙◌, List, ℕ, map}
-use Rattle.textwrap_base.specs.Cost.{PricedSizes, priced_at}
+use Rattle.std.proofs.Common.{◌-◌, ◌^◌, ap, ◌∙◌, List, ℕ, map}
+use Rattle.textwrap_base.specs.Cost.{PricedSizes, priced_by}
 use Rattle.textwrap_base.specs.Table.{fragment_costs}
-use Rattle.textwrap_base.proofs.Cost.Measures.{fragment_costs-map}
+use Rattle.textwrap_base.proofs.Cost.Measures.{fragment_costs-map, break_penalties-measured}
 use Rattle.textwrap_base.proofs.minima.line_costs.LineCosts.new.Goals as goal
 
 pub returns-clause-costs : goal.returns-clause-costs
@@ -9,7 +9,14 @@ returns-clause-costs g c =
     ap (λ (priced : List PricedSizes). fragment_costs (λ (x : PricedSizes). x) c.args.penalties.now
     c.in_ok-from_slice.field-0.items priced) c.in_ok-measures_of.ensures.priced
     ∙ ap (λ (widths : List ℕ). fragment_costs (λ (x : PricedSizes). x) c.args.penalties.now widths
-    (map (λ x. priced_at c.args.penalties.now (g.T.Fragment.sizes x)) c.args.fragments.now))
+    (map (priced_by g.T.Fragment.sizes g.T.Fragment.own_break_penalty c.args.penalties.now) c.args.fragments.now))
     c.in_ok-from_slice.ensures.items
-    ∙ fragment_costs-map (λ x. priced_at c.args.penalties.now (g.T.Fragment.sizes x))
+    ∙ fragment_costs-map (priced_by g.T.Fragment.sizes g.T.Fragment.own_break_penalty c.args.penalties.now)
     c.args.penalties.now c.args.line_widths.now c.args.fragments.now
+
+pub returns-clause-break_penalties : goal.returns-clause-break_penalties
+returns-clause-break_penalties g c =
+    break_penalties-measured (2 ^ 64 - 1)
+    (priced_by g.T.Fragment.sizes g.T.Fragment.own_break_penalty c.args.penalties.now)
+    c.in_ok-measures_of.field-0.items c.args.fragments.now c.in_ok-measures_of.ensures.priced
+    c.in_ok-measures_of.ensures.break_penalties

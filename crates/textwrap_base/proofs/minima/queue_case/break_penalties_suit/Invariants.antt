@@ -1,0 +1,10 @@
+use Rattle.std.proofs.Common.{◌≤◌, All, take}
+use Rattle.textwrap_base.specs.Cost.{priced_by}
+use Rattle.textwrap_base.specs.Queue.{queue_limit}
+use Rattle.textwrap_base.proofs.minima.queue_case.break_penalties_suit.Given as goal
+
+-- no break penalty so far passes the limit
+abbrev pub invariant-loop-fragment : goal.invariant-loop-fragment
+invariant-loop-fragment g l = All (λ x. (priced_by g.T.Fragment.sizes
+    g.T.Fragment.own_break_penalty l.penalties x).break_penalty ≤ queue_limit)
+    (take l.fragment-index l.fragments)

@@ -1,0 +1,6 @@
+-- The cards of a deck, as fragments.
+use Rattle.textwrap.specs.Sizes.{Sizes}
+use Rattle.textwrap_vectors.specs.declared.cards.Card.{Card}
+
+abbrev pub sizes_of : Card → Sizes
+sizes_of card = record { width = card.width; whitespace = card.whitespace; penalty = card.penalty }

@@ -10,6 +10,7 @@ use textwrap::minima::{
 };
 use textwrap::words::Fragment;
 use textwrap::wrap_algorithms::{Penalties, wrap_optimal_fit_counted};
+use textwrap_heap::Heap;
 
 /// Whether the minima have these starts and costs.
 pub(super) fn are_minima(minima: &[Minimum], expected: &[(usize, u128)]) -> bool {
@@ -292,6 +293,24 @@ pub(super) fn searched<A: Allocator + Copy>(
     let mut costs = LineCosts::new(rt.alloc(), blocks, line_widths, penalties)?;
     let minima = queue_search(alloc, &mut costs)?;
     Ok((minima, costs.steps()))
+}
+
+/// The search is out of memory where either of its lists is refused: the one of what it finds, and
+/// the one of its stretches.
+#[test]
+fn a_refused_search_finds_nothing_else(rt: HostRuntime) -> Result<(), Fail> {
+    let heap = Heap::new(rt.alloc(), 0);
+    let blocks = [Block(3, 1, 0); 9];
+    for allowed in 0..2 {
+        heap.allow(allowed);
+        let refused = searched(&rt, &heap, &blocks, &[7], &Penalties::new());
+        assert!(rt; matches!(refused, Err(WrapError::Memory(_))), "{allowed}");
+    }
+    heap.allow(2);
+    let (minima, _steps) = searched(&rt, &heap, &blocks, &[7], &Penalties::new())?;
+    assert_eq!(rt; minima.len(), 10);
+    assert_eq!(rt; heap.left(), 0);
+    Ok(())
 }
 
 /// Of 1000 fragments the search asks for at most 30,000 line costs, where the table asks for

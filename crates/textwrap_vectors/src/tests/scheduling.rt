@@ -3,6 +3,7 @@ use crate::{Day, Task, assign_days};
 use std::alloc::{AllocError, Allocator};
 use std::process::Abort;
 use std::test::Fail;
+use textwrap_heap::Heap;
 
 /// Days, each by its hours and the names of its tasks.
 type Plan<'a> = &'a [(u128, &'a [&'a str])];
@@ -18,7 +19,7 @@ fn task(name: &str, hours: usize, sweep: usize, cleanup: usize) -> Task<'_> {
 }
 
 /// The tasks of building a house.
-pub(super) fn house() -> [Task<'static>; 9] {
+fn house() -> [Task<'static>; 9] {
     [
         task("Foundation", 4, 2, 3),
         task("Framing", 3, 1, 2),
@@ -217,5 +218,19 @@ fn each_task_is_done_once_and_in_order(rt: HostRuntime) -> Result<(), Fail> {
             "at {day_length} hours"
         );
     }
+    Ok(())
+}
+
+/// Where one of its allocations is refused, no plan is made.
+#[test]
+fn a_refused_plan_has_no_days(rt: HostRuntime) -> Result<(), Fail> {
+    let heap = Heap::new(rt.alloc(), 0);
+    for allowed in 0..10 {
+        heap.allow(allowed);
+        assert!(rt; assign_days(&heap, &house(), 8).is_err(), "{allowed}");
+    }
+    heap.allow(10);
+    assert_eq!(rt; assign_days(&heap, &house(), 8)?.len(), 6);
+    assert_eq!(rt; heap.left(), 0);
     Ok(())
 }

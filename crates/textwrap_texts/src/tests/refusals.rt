@@ -1,11 +1,7 @@
 //! Each call with each of its allocations refused in turn.
-use super::divisions::{Block, FALLING};
 use super::given::{cut_everywhere, end_all, split_in_middle};
-use super::minima::searched;
-use super::scheduling::house;
 use super::with_indents;
 use super::words::are_offsets;
-use crate::assign_days;
 use std::alloc::{AllocError, Allocator, Global};
 use std::borrow::CowStr;
 use std::fmt::Debug;
@@ -142,7 +138,7 @@ fn refused_words_are_no_other_words(rt: HostRuntime) -> Result<(), Fail> {
 
 /// A call that divides, or that finds least costs.
 #[derive(Clone, Copy, Debug)]
-enum OnFragments {
+enum OnLines {
     FirstFit,
     OptimalFitByQueue,
     OptimalFitByTable,
@@ -152,66 +148,54 @@ enum OnFragments {
     Costs,
     Table,
     Queue,
-    Search,
-    Days,
 }
 
-impl Call for OnFragments {
+impl Call for OnLines {
     fn answer<R: Abort + AllocGlobal>(self, rt: &R, heap: &Heap) -> Result<String, WrapError> {
         let alloc = rt.alloc();
-        let blocks = [Block(3, 1, 0); 9];
+        let words = [Word::from("abc "); 9];
         let penalties = Penalties::new();
         let mut steps = Steps::new();
         Ok(match self {
-            OnFragments::FirstFit => lens_of(alloc, &wrap_first_fit(heap, &blocks, &[7])?)?,
-            OnFragments::OptimalFitByQueue => {
-                lens_of(alloc, &wrap_optimal_fit(heap, &blocks, &[7], &penalties)?)?
+            OnLines::FirstFit => lens_of(alloc, &wrap_first_fit(heap, &words, &[7])?)?,
+            OnLines::OptimalFitByQueue => {
+                lens_of(alloc, &wrap_optimal_fit(heap, &words, &[7], &penalties)?)?
             }
-            OnFragments::OptimalFitByTable => {
+            OnLines::OptimalFitByTable => {
                 let lines = wrap_optimal_fit_counted(
                     heap,
-                    FALLING,
-                    &[10, 5, 10],
+                    &words,
+                    &[7, 3, 7],
                     &penalties,
                     &mut steps,
                 )?;
                 lens_of(alloc, &lines)?
             }
-            OnFragments::ByFirstFit => divided(alloc, heap, WrapAlgorithm::FirstFit)?,
-            OnFragments::ByOptimalFit => divided(alloc, heap, WrapAlgorithm::new())?,
-            OnFragments::ByEnds => {
+            OnLines::ByFirstFit => divided(alloc, heap, WrapAlgorithm::FirstFit)?,
+            OnLines::ByOptimalFit => divided(alloc, heap, WrapAlgorithm::new())?,
+            OnLines::ByEnds => {
                 let line_ends = LineEnds::new(alloc, end_all);
                 divided(alloc, heap, WrapAlgorithm::Custom(line_ends))?
             }
-            OnFragments::Costs => {
-                let costs = LineCosts::new(heap, &blocks, &[7, 5], &penalties)?;
+            OnLines::Costs => {
+                let costs = LineCosts::new(heap, &words, &[7, 5], &penalties)?;
                 format!(in alloc; "{}", costs.ends())?
             }
-            OnFragments::Table => {
-                let minima = table_minima(heap, FALLING, &[10], &penalties, &mut steps)?;
+            OnLines::Table => {
+                let minima = table_minima(heap, &words, &[7, 3, 7], &penalties, &mut steps)?;
                 starts_of(alloc, &minima)?
             }
-            OnFragments::Queue => {
-                assert!(rt; is_queue_case(&blocks, &[7], &penalties));
-                let minima = queue_minima(heap, &blocks, &[7], &penalties, &mut steps)?;
+            OnLines::Queue => {
+                assert!(rt; is_queue_case(&words, &[7], &penalties));
+                let minima = queue_minima(heap, &words, &[7], &penalties, &mut steps)?;
                 starts_of(alloc, &minima)?
-            }
-            OnFragments::Search => {
-                starts_of(alloc, &searched(rt, heap, &blocks, &[7], &penalties)?.0)?
-            }
-            OnFragments::Days => {
-                let mut names = String::new(alloc);
-                for day in &assign_days(heap, &house(), 8)? {
-                    names.push_str(format!(in alloc; "{}|", day.names.len())?.as_str())?;
-                }
-                names
             }
         })
     }
 }
 
-/// How many fragments each line has.
-fn lens_of<T>(alloc: Global, lines: &[&[T]]) -> Result<String, AllocError> {
+/// How many words each line has.
+fn lens_of(alloc: Global, lines: &[&[Word<'_>]]) -> Result<String, AllocError> {
     let mut lens = String::new(alloc);
     for line in lines {
         lens.push_str(format!(in alloc; "{}|", line.len())?.as_str())?;
@@ -238,17 +222,15 @@ fn divided(alloc: Global, heap: &Heap, algorithm: WrapAlgorithm) -> Result<Strin
 #[test]
 fn a_refused_division_is_no_other_division(rt: HostRuntime) -> Result<(), Fail> {
     for &(call, refusals, expected) in &[
-        (OnFragments::FirstFit, 2, "2|2|2|2|1|"),
-        (OnFragments::OptimalFitByQueue, 8, "2|2|2|2|1|"),
-        (OnFragments::OptimalFitByTable, 7, "1|1|1|2|"),
-        (OnFragments::ByFirstFit, 2, "1|1|1|1|1|1|"),
-        (OnFragments::ByOptimalFit, 7, "1|1|1|1|1|1|"),
-        (OnFragments::ByEnds, 1, "1|2|3|"),
-        (OnFragments::Costs, 4, "9"),
-        (OnFragments::Table, 6, "0|0|1|2|1|4|"),
-        (OnFragments::Queue, 6, "0|0|0|1|2|3|4|5|6|8|"),
-        (OnFragments::Search, 2, "0|0|0|1|2|3|4|5|6|8|"),
-        (OnFragments::Days, 10, "1|2|2|1|2|1|"),
+        (OnLines::FirstFit, 2, "2|2|2|2|1|"),
+        (OnLines::OptimalFitByQueue, 8, "2|2|2|2|1|"),
+        (OnLines::OptimalFitByTable, 10, "2|1|2|2|2|"),
+        (OnLines::ByFirstFit, 2, "1|1|1|1|1|1|"),
+        (OnLines::ByOptimalFit, 7, "1|1|1|1|1|1|"),
+        (OnLines::ByEnds, 1, "1|2|3|"),
+        (OnLines::Costs, 4, "9"),
+        (OnLines::Table, 8, "0|0|0|2|3|3|4|5|6|7|"),
+        (OnLines::Queue, 6, "0|0|0|1|2|3|4|5|6|8|"),
     ] {
         assert_refused(&rt, call, refusals, expected)?;
     }

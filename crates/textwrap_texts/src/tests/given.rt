@@ -1,5 +1,5 @@
 //! Functions that say where words and lines end, for the tests of [`custom`](super::custom) and
-//! [`divisions`](super::divisions).
+//! [`algorithms`](super::algorithms).
 ghost use Rattle.std.specs.Prelude.{IfOk};
 ghost use Rattle.textwrap.specs.Cuts.{AreCuts, AreInnerCuts};
 ghost use Rattle.textwrap.specs.LineEnds.{AreEnds};

@@ -1,6 +1,6 @@
 -- A text in columns beside one another.
 use Rattle.std.specs.Prelude.{◌≡◌, ℕ, ◌+◌, ◌-◌, ◌*◌, ◌/◌, max, List, [], ◌∷◌, ◌++◌, length, map}
-use Rattle.std.specs.Prelude.{replicate, slice_index_or}
+use Rattle.std.specs.Prelude.{replicate, slice_index_or, Bool}
 use Rattle.std.specs.Int.{div_ceil}
 use Rattle.std.specs.List.{flat_map, range_with_len}
 use Rattle.textwrap_base.specs.Blanks.{blank}
@@ -122,7 +122,7 @@ cells_by_column lines columns = flat_map (column_cells lines columns) (range_wit
 -- ---- a text
 
 -- the rows of a table of the text's lines, which are wrapped at the width of a column
-abbrev pub IsInColumns : Settings → (Settings → List ℕ → List (List WordText) → Type 0)
+abbrev pub IsInColumns : Settings → (Settings → Bool → List ℕ → List (List WordText) → Type 0)
     → ℕ → List ℕ → List ℕ → List ℕ → List ℕ → List (List ℕ) → Type 0
 IsInColumns settings Divides columns text left middle right rows =
     let layout = layout_of settings.width columns left middle right in

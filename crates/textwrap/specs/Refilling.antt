@@ -175,7 +175,7 @@ layout_settings l = record (settings_at l.width) {
 -- the text, unfilled without its ending and filled with its own indents; the ending of the settings
 -- stands in the place of its own. A relation says what a paragraph is divided into under any
 -- settings
-abbrev pub IsRefilled : Settings → (Settings → List ℕ → List (List WordText) → Type 0)
+abbrev pub IsRefilled : Settings → (Settings → Bool → List ℕ → List (List WordText) → Type 0)
     → List ℕ → List ℕ → Type 0
 IsRefilled settings Divides text refilled =
     let indented = with_indents_of text settings in

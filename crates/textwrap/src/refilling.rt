@@ -119,6 +119,7 @@ fn with_layout(layout: Layout<'_>) -> Options<'_>
         word_separator: WordSeparator::AsciiSpace,
         word_splitter,
         preserve_trailing_space: false,
+        even_paragraphs: false,
     }
 }
 

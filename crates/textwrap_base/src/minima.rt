@@ -153,7 +153,8 @@ pub fn table_minima<A: Allocator + Copy, T: Fragment>(
     // Where all lines but the first have one width, each cost is the least of its prefix.
     ensures least { IfOk result (λ minima. AreEqualFromSecond line_widths.now
         → (j : ℕ) → j ≤ length fragments.now
-        → IsLeastCost (priced_by T.sizes T.own_break_penalty penalties.now) penalties.now line_widths.now
+        → IsLeastCost (priced_by T.sizes T.own_break_penalty penalties.now) penalties.now
+        line_widths.now
         fragments.now j (slice_index (map (λ minimum. minimum.cost) minima.items) j)) }
     ensures steps { CountsSteps (priced_by T.sizes T.own_break_penalty penalties.now) penalties.now
         line_widths.now fragments.now steps.old steps.new result }
@@ -181,13 +182,15 @@ pub fn queue_minima<A: Allocator + Copy, T: Fragment>(
     penalties: &Penalties,
     steps: &mut Steps,
 ) -> Result<Vec<Minimum, A>, AllocError>
-    requires case { IsQueueCase (priced_by T.sizes T.own_break_penalty penalties.now) penalties.now line_widths.now fragments.now }
+    requires case { IsQueueCase (priced_by T.sizes T.own_break_penalty penalties.now) penalties.now
+        line_widths.now fragments.now }
     ensures entries { IfOk result (λ minima. minima.items ≡ map minimum_of
         (fragments_table (priced_by T.sizes T.own_break_penalty penalties.now) penalties.now
         line_widths.now fragments.now)) }
     // Each cost is the least of its prefix.
     ensures least { IfOk result (λ minima. (j : ℕ) → j ≤ length fragments.now
-        → IsLeastCost (priced_by T.sizes T.own_break_penalty penalties.now) penalties.now line_widths.now
+        → IsLeastCost (priced_by T.sizes T.own_break_penalty penalties.now) penalties.now
+        line_widths.now
         fragments.now j (slice_index (map (λ minimum. minimum.cost) minima.items) j)) }
     ensures steps { CountsSearch (length fragments.now) steps.old steps.new result }
 {

@@ -1,5 +1,6 @@
 pub mod BuiltIn
 pub mod LastBlanks
+pub mod EvenLines
 pub mod Lines
 pub mod LinesApart
 pub mod LongLines

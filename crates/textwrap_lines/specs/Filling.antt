@@ -1,5 +1,5 @@
 -- The filled text.
-use Rattle.std.specs.Prelude.{◌≡◌, ℕ, List, map}
+use Rattle.std.specs.Prelude.{◌≡◌, ℕ, Bool, List, map}
 use Rattle.textwrap_base.specs.Words.{WordText}
 use Rattle.textwrap_base.specs.WrapAlgorithms.{Algorithm}
 use Rattle.textwrap_lines.specs.LineEnding.{ending_bytes, join_with}
@@ -8,7 +8,7 @@ use Rattle.textwrap_lines.specs.Paragraph.{Line, line_bytes, DividesByDefault}
 use Rattle.textwrap_lines.specs.Text.{AreTextLines}
 
 -- the lines of a text, joined by the line ending
-abbrev pub IsFilled : Settings → (List ℕ → List (List WordText) → Type 0)
+abbrev pub IsFilled : Settings → (Bool → List ℕ → List (List WordText) → Type 0)
     → List ℕ → List ℕ → Type 0
 IsFilled settings Divides text filled =
     (lines : List Line) × AreTextLines settings Divides text lines

@@ -42,7 +42,8 @@ abbrev pub IsUnique : {B : Type 0} → (List ℕ → B → Type 0) → Type 0
 IsUnique {B} Is = (x : List ℕ) (first second : B) → Is x first → Is x second → first ≡ second
 
 -- whatever the settings, for built-in parts
-abbrev pub ForBuiltIn : (Settings → (List ℕ → List (List WordText) → Type 0) → Type 0) → Type 0
+abbrev pub ForBuiltIn : (Settings → (Bool → List ℕ → List (List WordText) → Type 0) → Type 0)
+    → Type 0
 ForBuiltIn Holds =
     (settings : Settings) (algorithm : Algorithm) (splitter : Splitter)
     → Holds settings (DividesAs splitter algorithm settings)
@@ -69,7 +70,7 @@ abbrev pub TextLinesAreWrapped : Type 0
 TextLinesAreWrapped =
     (settings : Settings) (algorithm : Algorithm) (splitter : Splitter) (text : List ℕ)
     (lines : List Line) → IsUtf8 text
-    → let Divides : List ℕ → List (List WordText) → Type 0 =
+    → let Divides : Bool → List ℕ → List (List WordText) → Type 0 =
     DividesAs splitter algorithm settings in
     AreTextLines settings Divides text lines
     → IsWrapped settings (Some splitter) (Some algorithm) Divides text lines

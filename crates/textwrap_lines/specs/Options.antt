@@ -17,6 +17,7 @@ pub record Settings : Type 0 where
   pub subsequent_indent : List ℕ
   pub break_words : Bool
   pub preserve_trailing_space : Bool
+  pub even_paragraphs : Bool
 
 abbrev pub settings_view : {E C : Type 0} {e : _} {c : _} → Options E C e c → Settings
 settings_view o = record {
@@ -26,6 +27,7 @@ settings_view o = record {
   subsequent_indent = o.subsequent_indent.now;
   break_words = o.break_words;
   preserve_trailing_space = o.preserve_trailing_space;
+  even_paragraphs = o.even_paragraphs;
 }
 
 -- how words are found, split and divided stays as it was
@@ -44,6 +46,7 @@ settings_at width = record {
   subsequent_indent = [];
   break_words = true;
   preserve_trailing_space = false;
+  even_paragraphs = false;
 }
 
 abbrev pub default_algorithm : Algorithm

@@ -1,6 +1,7 @@
 -- The lines of a paragraph.
 use Rattle.std.specs.Prelude.{◌≡◌, ℕ, ◌+◌, ◌-◌, ◌^◌, ◌<◌, ◌≤◌, Bool, true, ◌&&◌, ◌==◌, nat_lt}
 use Rattle.std.specs.Prelude.{List, [], ◌∷◌, ◌++◌, All, length, map, if◌then◌else◌, MatchBool, ⊤}
+use Rattle.std.specs.Prelude.{◌⊎◌}
 use Rattle.std.specs.String.{string_bytes}
 use Rattle.std.specs.declared.borrow.CowStr.{CowStr}
 use Rattle.std.specs.declared.borrow.CowStr.TheVariants.{Borrowed, Owned}
@@ -68,9 +69,14 @@ module _ (settings : Settings) where
   abbrev pub later_width : ℕ
   later_width = width_after settings.subsequent_indent
 
-  -- the width of the first line, and of the others
-  abbrev pub widths_of : List ℕ
-  widths_of = width_after settings.initial_indent ∷ later_width ∷ []
+  -- the width of a paragraph's first line, where `is_later` says that a line stands before it
+  abbrev pub first_width : Bool → ℕ
+  first_width is_later = if settings.even_paragraphs && is_later then later_width
+      else width_after settings.initial_indent
+
+  -- that width, and the one of the other lines
+  abbrev pub widths_of : Bool → List ℕ
+  widths_of is_later = first_width is_later ∷ later_width ∷ []
 
   -- where words are broken, an empty word in front may leave the first line to its indent
   abbrev pub front_pieces : List WordText
@@ -95,32 +101,34 @@ module _ (settings : Settings) (Words : List ℕ → List WordText → Type 0)
       × Words paragraph words × AreSplit Points words split
       × (pieces ≡ broken_pieces_of settings split)
 
-  -- the paragraph is cut into pieces, and these are divided so
+  -- the paragraph is cut into pieces, and these are divided so, where `is_later` says that a line
+  -- stands before it
   abbrev pub IsDividedInto : (List ℕ → List WordText → List (List WordText) → Type 0)
-      → List ℕ → List (List WordText) → Type 0
-  IsDividedInto Lines paragraph division =
+      → Bool → List ℕ → List (List WordText) → Type 0
+  IsDividedInto Lines is_later paragraph division =
       (pieces : List WordText) × ArePieces paragraph pieces
-      × Lines (widths_of settings) pieces division
+      × Lines (widths_of settings is_later) pieces division
 
 -- a paragraph may be divided so by the separator, the splitter and the algorithm of the options,
 -- under these settings
 abbrev pub DividesUnder : {E C : Type 0} {e : _} {c : _} → Options E C e c → Settings
-    → List ℕ → List (List WordText) → Type 0
+    → Bool → List ℕ → List (List WordText) → Type 0
 DividesUnder o settings =
     IsDividedInto settings (MaySeparate o.word_separator) (MaySplit o.word_splitter)
     (MayDivide o.wrap_algorithm (λ w. w))
 
 abbrev pub DividesBy : {E C : Type 0} {e : _} {c : _} → Options E C e c
-    → List ℕ → List (List WordText) → Type 0
+    → Bool → List ℕ → List (List WordText) → Type 0
 DividesBy o = DividesUnder o (settings_view o)
 
 -- the same by built-in parts: words between blanks, and this splitter and algorithm
-abbrev pub DividesAs : Splitter → Algorithm → Settings → List ℕ → List (List WordText) → Type 0
+abbrev pub DividesAs : Splitter → Algorithm → Settings → Bool → List ℕ → List (List WordText)
+    → Type 0
 DividesAs splitter algorithm settings =
     IsDividedInto settings AreWordsOf (ArePoints splitter) (IsDividedBy algorithm sizes_of)
 
 -- the same by the default separator and splitter
-abbrev pub DividesByDefault : Settings → Algorithm → List ℕ → List (List WordText) → Type 0
+abbrev pub DividesByDefault : Settings → Algorithm → Bool → List ℕ → List (List WordText) → Type 0
 DividesByDefault settings algorithm = DividesAs AtHyphens algorithm settings
 
 -- ---- the lines of a division, where `is_later` says that a line stands before them
@@ -170,24 +178,23 @@ module _ (settings : Settings) where
 
 -- ---- the lines of a paragraph, where a relation says what it is divided into
 
-module _ (settings : Settings) (Divides : List ℕ → List (List WordText) → Type 0)
+module _ (settings : Settings) (Divides : Bool → List ℕ → List (List WordText) → Type 0)
     (is_later : Bool) where
   -- the lines of its division
   abbrev pub AreDividedParts : List ℕ → List LineParts → Type 0
   AreDividedParts paragraph parts =
-      (division : List (List WordText)) × Divides paragraph division
+      (division : List (List WordText)) × Divides is_later paragraph division
       × (parts ≡ parts_from settings is_later division)
 
   -- a whole paragraph is a line of one piece, any other is divided
   abbrev pub IsLaidOut : List ℕ → List (List WordText) → Type 0
   IsLaidOut paragraph division =
       MatchBool (is_whole settings is_later paragraph)
-      (division ≡ (word_of paragraph ∷ []) ∷ []) (Divides paragraph division)
+      (division ≡ (word_of paragraph ∷ []) ∷ []) (Divides is_later paragraph division)
 
-abbrev pub AreParagraphParts : Settings → (List ℕ → List (List WordText) → Type 0)
+abbrev pub AreParagraphParts : Settings → (Bool → List ℕ → List (List WordText) → Type 0)
     → Bool → List ℕ → List LineParts → Type 0
-AreParagraphParts settings Divides is_later =
-    AreDividedParts settings (IsLaidOut settings Divides is_later) is_later
+AreParagraphParts settings Divides = AreDividedParts settings (IsLaidOut settings Divides)
 
 -- ---- what the lines of built-in parts keep to
 
@@ -220,4 +227,11 @@ KeepToWidths settings is_later paragraph parts =
     let lines = map (λ p. p.pieces) parts in
     MatchBool (is_whole settings is_later paragraph)
     (IsNarrow paragraph → All (λ line. closed_width sizes_of line ≤ settings.width) lines)
-    (OnlyCharactersPass (widths_of settings) 0 lines)
+    (OnlyCharactersPass (widths_of settings is_later) 0 lines)
+
+-- a line, its indent with it, keeps to the width; or its indent alone passes it, or it has one
+-- piece with one character that takes columns
+abbrev pub KeepsToWidth : ℕ → LineParts → Type 0
+KeepsToWidth width p =
+    (text_width p.indent + closed_width sizes_of p.pieces ≤ width)
+    ⊎ (width < text_width p.indent) ⊎ IsOneCharacter p.pieces

@@ -10,7 +10,8 @@ use Rattle.textwrap_lines.specs.Options.{Settings}
 use Rattle.textwrap_lines.specs.WordSplitters.{Splitter}
 use Rattle.textwrap_base.specs.WrapAlgorithms.{Algorithm, Greedy}
 use Rattle.textwrap_lines.specs.Paragraph.{Line, LineParts, line_from, AreParagraphParts}
-use Rattle.textwrap_lines.specs.Paragraph.{AreIndented, KeepToWidths, DividesByDefault}
+use Rattle.textwrap_lines.specs.Paragraph.{AreIndented, KeepToWidths, KeepsToWidth}
+use Rattle.textwrap_lines.specs.Paragraph.{DividesByDefault}
 
 module _ (Are : Bool → List ℕ → List LineParts → Type 0) where
   -- a group of lines for each paragraph, where `is_later` says that a line stands before them
@@ -23,7 +24,7 @@ module _ (Are : Bool → List ℕ → List LineParts → Type 0) where
 
 -- the lines of a text are those of its paragraphs
 pub record AreTextLines (settings : Settings)
-    (Divides : List ℕ → List (List WordText) → Type 0) (text : List ℕ) (lines : List Line)
+    (Divides : Bool → List ℕ → List (List WordText) → Type 0) (text : List ℕ) (lines : List Line)
     : Type 0 where
   pub groups : List (List LineParts)
   pub defined : AreGroups (AreParagraphParts settings Divides) false
@@ -58,7 +59,7 @@ pub record AddsOnlyIndents (settings : Settings) (splitter : Option Splitter)
 -- words of a paragraph may be lost; where a caller gives the points of words, hyphens may be added,
 -- and lines may be wider
 pub record IsWrapped (settings : Settings) (splitter : Option Splitter)
-    (algorithm : Option Algorithm) (Divides : List ℕ → List (List WordText) → Type 0)
+    (algorithm : Option Algorithm) (Divides : Bool → List ℕ → List (List WordText) → Type 0)
     (text : List ℕ) (lines : List Line) : Type 0 where
   pub are : AreTextLines settings Divides text lines
   pub some : algorithm ≢ None → 0 < length lines
@@ -68,3 +69,11 @@ pub record IsWrapped (settings : Settings) (splitter : Option Splitter)
   pub adds : AddsOnlyIndents settings splitter are.groups
   pub keeps : algorithm ≡ Some Greedy → splitter ≢ None → settings.break_words ≡ true
       → AreGroups (KeepToWidths settings) false (paragraphs_of settings.line_ending text) are.groups
+
+-- the lines of a text, none of which passes the width but one whose indent alone does, or that has
+-- one piece with one character that takes columns
+abbrev pub LinesKeepToWidth : Settings → (Bool → List ℕ → List (List WordText) → Type 0)
+    → List ℕ → List Line → Type 0
+LinesKeepToWidth settings Divides text lines =
+    (are : AreTextLines settings Divides text lines)
+    × All (KeepsToWidth settings.width) (flat_map (λ parts. parts) are.groups)

@@ -38,14 +38,18 @@ pub struct Options<'a> {
     pub word_splitter: WordSplitter,
     /// Whether blanks at line ends are kept.
     pub preserve_trailing_space: bool,
+    /// Whether the first line of each paragraph after the first line of the text is divided for the
+    /// width that its own indent leaves, the subsequent one. Otherwise it is divided for the width
+    /// that the initial indent leaves, though that is not printed there.
+    pub even_paragraphs: bool,
 }
 
 impl<'a> Options<'a> {
     ghost use Rattle.textwrap_lines.specs.Options.{settings_view, HasDefaults, KeepsMethods};
 
     /// Lines of `width` columns, ended by LF, without indents, with broken words, hyphens as split
-    /// points, the default algorithm, and no blanks at line ends. By `Options::new(10)` the text
-    /// `foo bar baz` has the lines `foo bar` and `baz`.
+    /// points, the default algorithm, no blanks at line ends, and paragraphs that are not even. By
+    /// `Options::new(10)` the text `foo bar baz` has the lines `foo bar` and `baz`.
     pub fn new(width: usize) -> Self
         ensures { HasDefaults width result }
     {
@@ -61,6 +65,7 @@ impl<'a> Options<'a> {
             word_separator: WordSeparator::new(),
             word_splitter,
             preserve_trailing_space: false,
+            even_paragraphs: false,
         }
     }
 
@@ -170,6 +175,19 @@ impl<'a> Options<'a> {
     {
         Options {
             preserve_trailing_space,
+            ..self
+        }
+    }
+
+    /// The same options, dividing later paragraphs for the width that their own indent leaves, or
+    /// not.
+    pub fn even_paragraphs(self, even_paragraphs: bool) -> Self
+        ensures settings { settings_view result
+            ≡ record (settings_view self.entry) { even_paragraphs = even_paragraphs } }
+        ensures methods { KeepsMethods self.entry result }
+    {
+        Options {
+            even_paragraphs,
             ..self
         }
     }

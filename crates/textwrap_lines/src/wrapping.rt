@@ -8,7 +8,8 @@ ghost use Rattle.std.specs.Io.{StartsWith};
 ghost use Rattle.textwrap_base.specs.Blanks.{without_final_blanks};
 ghost use Rattle.textwrap_base.specs.Cost.{total_width};
 ghost use Rattle.textwrap_base.specs.Errors.{Fits64Bits, Overflowed};
-ghost use Rattle.textwrap_base.specs.WrapAlgorithms.{Algorithm, algorithm_view, LeastCost, MayDivide};
+ghost use Rattle.textwrap_base.specs.WrapAlgorithms.{Algorithm, algorithm_view, LeastCost};
+ghost use Rattle.textwrap_base.specs.WrapAlgorithms.{MayDivide};
 ghost use Rattle.textwrap_base.specs.Units.{IsNarrow};
 ghost use Rattle.textwrap_base.specs.Words.{WordText, word_view, sizes_of, tiled, Tiles};
 ghost use Rattle.textwrap_base.specs.declared.penalties.Penalties.{Penalties};
@@ -23,7 +24,7 @@ ghost use Rattle.textwrap_lines.specs.Paragraph.{ArePieces, widths_of, width_aft
 ghost use Rattle.textwrap_lines.specs.Paragraph.{is_whole, parts_of, parts_from, Adds, DividesBy};
 ghost use Rattle.textwrap_lines.specs.Paragraph.{AreDividedParts, AreParagraphParts};
 ghost use Rattle.textwrap_lines.specs.Paragraph.{DividesAs, OnlyCharactersPass};
-ghost use Rattle.textwrap_lines.specs.Text.{AreTextLines, IsWrapped};
+ghost use Rattle.textwrap_lines.specs.Text.{AreTextLines, IsWrapped, LinesKeepToWidth};
 ghost use Rattle.textwrap_lines.specs.WordSeparators.{MaySeparate};
 ghost use Rattle.textwrap_lines.specs.WordSplitters.{AreSplit, MaySplit, Splitter, splitter_view};
 
@@ -46,7 +47,8 @@ use textwrap_base::wrap_algorithms::WrapError;
 /// By built-in parts there is always at least one line. Only blanks at line ends are lost, and only
 /// the indents are added; a line with an indent is a text of its own. By first fit, where words are
 /// broken, no line of a divided paragraph passes the width that it was divided for, but one that is
-/// a single piece with one character that takes columns.
+/// a single piece with one character that takes columns. With [`Options::even_paragraphs`], that is
+/// the whole width for each line with its indent, unless the indent alone passes it.
 ///
 /// # Errors
 /// [`WrapError::Memory`] where memory runs out, or a function of the caller says so.
@@ -62,6 +64,12 @@ pub fn wrap<'t, A: Allocator + Copy>(
     // broken, they keep to their widths.
     ensures lines { IfOk result (λ lines. IsWrapped (settings_view options.entry)
         (splitter_view options.entry.word_splitter) (algorithm_view options.entry.wrap_algorithm)
+        (DividesBy options.entry) text.now (map line_view lines.items)) }
+    // Where later paragraphs are to keep to the width, they do: by first fit, where words are
+    // broken, the splitter is built in, and no character takes more columns than bytes.
+    ensures even { options.entry.even_paragraphs ≡ true → options.entry.wrap_algorithm ≡ FirstFit
+        → splitter_view options.entry.word_splitter ≢ None → options.entry.break_words ≡ true
+        → IsNarrow text.now → IfOk result (λ lines. LinesKeepToWidth (settings_view options.entry)
         (DividesBy options.entry) text.now (map line_view lines.items)) }
     // The same lines, where all parts are built in and can be named.
     ensures built_in { IfOk result (λ lines.
@@ -184,13 +192,14 @@ pub fn wrap_single_line_slow_path<'t, A: Allocator + Copy>(
     ensures overlong { options.now.wrap_algorithm ≡ FirstFit
         → splitter_view options.now.word_splitter ≢ None → options.now.break_words ≡ true
         → OnOk result ((division : List (List WordText))
-        × DividesBy options.now line.now division
+        × DividesBy options.now (nat_lt 0 (length lines.old.items)) line.now division
         × Adds lines.old.items lines.new.items (parts_from (settings_view options.now)
         (nat_lt 0 (length lines.old.items)) division)
-        × OnlyCharactersPass (widths_of (settings_view options.now)) 0 division) }
+        × OnlyCharactersPass (widths_of (settings_view options.now)
+        (nat_lt 0 (length lines.old.items))) 0 division) }
 {
     let pieces = find_pieces(alloc, line, options)?;
-    let division = divide(alloc, &pieces, options)?;
+    let division = divide(alloc, &pieces, options, !lines.is_empty())?;
     let count = lines.len();
     match push_lines(alloc, line, &division, options, lines) {
         Ok(()) => Ok(()),
@@ -255,18 +264,23 @@ fn divide<'a, 'w, A: Allocator + Copy>(
     alloc: A,
     pieces: &'w [Word<'a>],
     options: &Options<'_>,
+    is_later: bool,
 ) -> Result<Vec<&'w [Word<'a>], A>, WrapError>
     ensures divided { IfOk result (λ lines. MayDivide options.now.wrap_algorithm word_view
-        (widths_of (settings_view options.now)) pieces.now (map (λ line. line.now) lines.items)) }
+        (widths_of (settings_view options.now) is_later) pieces.now
+        (map (λ line. line.now) lines.items)) }
     ensures overflow_only { Overflowed result → (penalties : Penalties)
         × (algorithm_view options.now.wrap_algorithm ≡ Some (LeastCost penalties)) }
     ensures no_overflow { Fits64Bits (total_width (λ word. sizes_of (word_view word)) pieces.now)
         → ¬ Overflowed result }
 {
-    let line_widths = [
-        remaining_width(options, options.initial_indent),
-        remaining_width(options, options.subsequent_indent),
-    ];
+    let later_width = remaining_width(options, options.subsequent_indent);
+    let first_width = if options.even_paragraphs && is_later {
+        later_width
+    } else {
+        remaining_width(options, options.initial_indent)
+    };
+    let line_widths = [first_width, later_width];
     options.wrap_algorithm.wrap(alloc, pieces, &line_widths)
 }
 

@@ -19,4 +19,5 @@ settings_view s = record {
   subsequent_indent = s.subsequent_indent.now;
   break_words = s.break_words;
   preserve_trailing_space = s.preserve_trailing_space;
+  even_paragraphs = s.even_paragraphs;
 }

@@ -14,7 +14,7 @@ use textwrap::{WrapError, wrap};
 pub(crate) struct PlacedLine<'l> {
     /// The line without its indent.
     pub slice: &'l str,
-    /// Whether it is the first line of its paragraph.
+    /// Whether it is the first line of its paragraph and, where paragraphs are even, of the text.
     pub is_first: bool,
     /// Whether its paragraph is one line as a whole.
     pub is_whole: bool,
@@ -64,7 +64,8 @@ fn place_paragraph<'l>(
         let Some(after) = after_slice(rest, slice, settings) else {
             return Ok(false);
         };
-        let is_first = placed.len() == before;
+        let is_even = settings.even_paragraphs && before > 0;
+        let is_first = placed.len() == before && !is_even;
         placed.push(PlacedLine {
             slice,
             is_first,

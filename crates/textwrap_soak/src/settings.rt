@@ -29,6 +29,7 @@ pub(crate) struct Settings {
     /// Whether words are split after hyphens.
     pub split_words: bool,
     pub preserve_trailing_space: bool,
+    pub even_paragraphs: bool,
 }
 
 /// Indents, most of them short: one takes more columns than most widths have, and one takes none.
@@ -67,6 +68,7 @@ impl Settings {
             algorithm,
             split_words: random.is_one_in(2),
             preserve_trailing_space: random.is_one_in(4),
+            even_paragraphs: random.is_one_in(2),
         }
     }
 
@@ -84,6 +86,7 @@ impl Settings {
             algorithm,
             split_words: false,
             preserve_trailing_space: false,
+            even_paragraphs: false,
         }
     }
 
@@ -114,6 +117,7 @@ impl Settings {
             word_separator: WordSeparator::AsciiSpace,
             word_splitter,
             preserve_trailing_space: self.preserve_trailing_space,
+            even_paragraphs: self.even_paragraphs,
         }
     }
 

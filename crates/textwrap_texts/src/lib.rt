@@ -1,5 +1,6 @@
-//! The tests of the public calls of `textwrap` on texts and words, in tables by what they are about,
-//! each with the rule that it shows. Those on other fragments are in `textwrap_vectors`.
+//! The tests of the public calls of `textwrap` on texts, in tables by what they are about, each with
+//! the rule that it shows. Those on words and at the limits are in `textwrap_words`, those on other
+//! fragments in `textwrap_vectors`.
 #![tactic(auto)]
 
 #[cfg(test)]

@@ -1,24 +1,15 @@
-mod algorithms;
-mod characters;
 mod columns;
 mod custom;
-mod ends;
-mod escapes;
+mod even;
 mod filling;
-mod given;
 mod indentation;
 mod inplace;
 mod long_texts;
 mod options;
-mod pieces;
 mod refilling;
-mod refusals;
 mod slow_path;
-mod widths;
-mod words;
 mod wrapping;
 
-use std::borrow::CowStr;
 use std::process::Abort;
 use textwrap::{LineEnding, Options, WrapAlgorithm};
 
@@ -40,16 +31,6 @@ fn with_endings<'a>(width: usize, ending: LineEnding, preserve: bool) -> Options
     Options::new(width)
         .line_ending(ending)
         .preserve_trailing_space(preserve)
-}
-
-/// Whether the lines have these texts, each line a part of the text that was wrapped.
-fn are_borrowed(lines: &[CowStr<'_>], expected: &[&str]) -> bool {
-    for (line, expected) in lines.iter().zip(expected) {
-        if !matches!(line, CowStr::Borrowed(_)) || line.as_str() != *expected {
-            return false;
-        }
-    }
-    lines.len() == expected.len()
 }
 
 /// Asserts that a call on this input gave the expected text.

@@ -4,23 +4,21 @@ use Rattle.std.proofs.Common.{◌||◌, nat_lt, ◌==◌, List, [], ◌∷◌, �
 use Rattle.std.proofs.Common.{get_or, refl, sym, ap, ◌∙◌, subst, arith, append_assoc, append-nil}
 use Rattle.std.proofs.Common.{length-append}
 use Rattle.std.specs.List.{flat_map, suffix_len, prefix_len}
-use Rattle.std.specs.Prelude.{chars, encode_utf8}
-use Rattle.std.specs.Str.{IsUtf8, IsAscii}
+use Rattle.std.specs.Str.{IsUtf8}
 use Rattle.std.proofs.lemmas.Bool.{and_parts, ltb-true}
 use Rattle.std.proofs.lemmas.List.{reverse-append, take-append-le, length_push, map-append}
 use Rattle.std.proofs.lemmas.List.Elements.{All-nil, All-cons, All-head, All-tail, All-append}
 use Rattle.std.proofs.lemmas.List.Elements.{All-map}
-use Rattle.std.proofs.lemmas.Str.{IsUtf8-from_ascii, chars-append}
 use Rattle.textwrap_base.specs.Blanks.{blank, is_blank, trimmed_len, without_final_blanks}
 use Rattle.textwrap_base.specs.Division.{line_width, Fits, AllFit, AllFull, closed_width, IsGreedy}
 use Rattle.textwrap_base.specs.Sizes.{Sizes}
-use Rattle.textwrap_base.specs.Units.{columns, text_width, IsNarrow}
+use Rattle.textwrap_base.specs.Units.{text_width, IsNarrow}
 use Rattle.textwrap_base.specs.Words.{WordText, sizes_of, tiled, word_of, words_of, chunks}
 use Rattle.textwrap_base.specs.Words.{AreWordsOf}
 use Rattle.textwrap_base.specs.WrapAlgorithms.{Greedy}
 use Rattle.textwrap_base.proofs.Division.OneLine.{IsDividedBy-one_line}
 use Rattle.textwrap_base.proofs.Division.Unique.{greedy_unique}
-use Rattle.textwrap_base.proofs.ListLemmas.{flat, all-left, all-right}
+use Rattle.textwrap_base.proofs.ListLemmas.{flat}
 use Rattle.textwrap_base.proofs.Word.Texts.{HasNoPenalty, text_width-nil}
 use Rattle.textwrap_base.proofs.Word.Tiling.{tiled-words_of}
 use Rattle.textwrap_base.proofs.Word.Words.{words_unique}
@@ -28,7 +26,6 @@ use Rattle.textwrap_lines.specs.declared.line_ending.LineEnding.TheVariants.{LF}
 use Rattle.textwrap_lines.specs.WordSplitters.{Whole}
 use Rattle.textwrap.specs.InPlace.{broken_lines, AreDividedAt, IsFilledInPlace, FitsOneLine}
 use Rattle.textwrap_base.proofs.Division.Map.{IsDivision-whole}
-use Rattle.textwrap_lines.specs.LineEnding.{line_feed}
 use Rattle.textwrap.specs.Laws.{unbroken_at}
 use Rattle.textwrap_lines.specs.LineEnding.{ending_bytes, paragraphs_of, join_with, Lacks}
 use Rattle.textwrap_lines.specs.Paragraph.{Line, LineParts, Slice, line_from, covered, indent_of}
@@ -43,10 +40,11 @@ use Rattle.textwrap_lines.proofs.Paragraph.Lines.{AreParagraphParts-whole}
 use Rattle.textwrap_lines.proofs.Paragraph.Lines.{AreParagraphParts-divided}
 use Rattle.textwrap_lines.proofs.Paragraph.Pieces.{ArePieces-computed}
 use Rattle.textwrap_lines.proofs.Paragraph.Shortcut.{closed-pieces_of}
-use Rattle.textwrap_lines.proofs.Text.Endings.{join-paragraphs_of, paragraphs_of-utf8}
+use Rattle.textwrap_lines.proofs.Text.Endings.{paragraphs_of-utf8}
 use Rattle.textwrap_lines.proofs.Text.Endings.{parts_past-some}
 use Rattle.textwrap_lines.proofs.Paragraph.LinesApart.{shortened, AreLinesApart, IsBroken-greedy}
 use Rattle.textwrap.proofs.Text.InPlace.{feed_joined, join-broken, divisions-some}
+use Rattle.textwrap_lines.proofs.Text.Narrow.{paragraphs_of-narrow}
 use Rattle.textwrap_lines.proofs.Text.Paragraphs.{paragraphs_one}
 
 pub line_width-one : (width number : ℕ) → line_width (width ∷ []) number ≡ width
@@ -281,8 +279,9 @@ line_width-two width (suc number) =
     let second : min (suc number) (length (width ∷ width ∷ []) - 1) ≡ 1 = omega arith in
     ap (λ k. get_or (width ∷ width ∷ []) k 0) second
 
-widths_of-unbroken : (width : ℕ) → widths_of (unbroken_at width) ≡ width ∷ width ∷ []
-widths_of-unbroken width =
+widths_of-unbroken : (width : ℕ) (is_later : Bool)
+    → widths_of (unbroken_at width) is_later ≡ width ∷ width ∷ []
+widths_of-unbroken width is_later =
     let left : width - text_width [] ≡ width = omega (arith, text_width-nil) in
     ap (λ w. w ∷ w ∷ []) left
 
@@ -301,7 +300,7 @@ pieces_of-unbroken width part = split_words-none (chunks part)
 
 -- ---- the lines of a part are those of a paragraph
 
-abbrev Divides : ℕ → List ℕ → List (List WordText) → Type 0
+abbrev Divides : ℕ → Bool → List ℕ → List (List WordText) → Type 0
 Divides width =
     DividesAs Whole Greedy (unbroken_at width)
 
@@ -324,13 +323,14 @@ module _ (width : ℕ) (is_later : Bool) (part : List ℕ) (lines : List (List W
       greedy_unique sizes_of (width ∷ []) (words_of part) lines (words_of part ∷ []) greedy
       (IsDividedBy-one_line Greedy sizes_of (width ∷ []) (words_of part) none room)
 
-  divides : Divides width part lines
+  divides : Divides width is_later part lines
   divides = (
     words_of part,
     subst (λ ws. ArePieces (unbroken_at width) AreWordsOf (ArePoints Whole)
         part ws) (pieces_of-unbroken width part)
         (ArePieces-computed (unbroken_at width) Whole part),
-    subst (λ ws. IsGreedy sizes_of ws (words_of part) lines) (sym (widths_of-unbroken width))
+    subst (λ ws. IsGreedy sizes_of ws (words_of part) lines)
+        (sym (widths_of-unbroken width is_later))
         (IsGreedy-same sizes_of (width ∷ []) (width ∷ width ∷ [])
         (λ number. line_width-one width number ∙ sym (line_width-two width number))
         (words_of part) lines greedy),
@@ -390,31 +390,6 @@ groups_of width is_later (part ∷ parts) (lines ∷ divisions) utf8 narrow (gre
           ∙ sym (map-append trimmed_line (broken_lines lines) (flat_map broken_lines divisions));
     }
 
--- the parts of a narrow text are narrow
-abbrev IsNarrowChar : ℕ → Type 0
-IsNarrowChar c = columns c ≤ length (encode_utf8 c)
-
-feed-ascii : IsAscii (line_feed ∷ [])
-feed-ascii zero = omega arith
-feed-ascii (suc i) = omega arith
-
-narrow_parts : (parts : List (List ℕ)) → All IsUtf8 parts → IsNarrow (feed_joined parts)
-    → All IsNarrow parts
-narrow_parts [] utf8 narrow = All-nil IsNarrow
-narrow_parts (part ∷ []) utf8 narrow = All-cons IsNarrow part [] narrow (All-nil IsNarrow)
-narrow_parts (part ∷ next ∷ parts) utf8 narrow =
-    let rest = feed_joined (next ∷ parts) in
-    let all : All IsNarrowChar (chars part ++ (chars (line_feed ∷ []) ++ chars rest)) =
-    subst (All IsNarrowChar) (ap chars (append_assoc part (line_feed ∷ []) rest)
-    ∙ chars-append part (line_feed ∷ [] ++ rest) (All-head IsUtf8 part (next ∷ parts) utf8)
-    ∙ ap (λ cs. chars part ++ cs) (chars-append (line_feed ∷ []) rest
-    (IsUtf8-from_ascii (line_feed ∷ []) feed-ascii))) narrow in
-    All-cons IsNarrow part (next ∷ parts)
-    (all-left IsNarrowChar (chars part) (chars (line_feed ∷ []) ++ chars rest) all)
-    (narrow_parts (next ∷ parts) (All-tail IsUtf8 part (next ∷ parts) utf8)
-    (all-right IsNarrowChar (chars (line_feed ∷ [])) (chars rest)
-    (all-right IsNarrowChar (chars part) (chars (line_feed ∷ []) ++ chars rest) all)))
-
 pub filled-wrapped : (width : ℕ) (text filled : List ℕ) → IsUtf8 text → IsNarrow text
     → IsFilledInPlace width text filled
     → AreTextLines (unbroken_at width) (Divides width) text
@@ -423,7 +398,7 @@ filled-wrapped width text filled utf8 narrow (divisions, divided, is) =
     let parts = paragraphs_of LF text in
     let all = paragraphs_of-utf8 LF text utf8 in
     let found = groups_of width false parts divisions all
-    (narrow_parts parts all (subst IsNarrow (sym (join-paragraphs_of LF text)) narrow)) divided in
+    (paragraphs_of-narrow LF text utf8 narrow) divided in
     record {
       groups = found.groups;
       defined = found.are;

@@ -40,7 +40,7 @@ pub record IsCutAtBlanks (text filled : List ℕ) : Type 0 where
   pub text_is : text ≡ blank_joined parts
   pub filled_is : filled ≡ feed_joined (map without_final_blanks parts)
 
-abbrev Divides : ℕ → Algorithm → List ℕ → List (List WordText) → Type 0
+abbrev Divides : ℕ → Algorithm → Bool → List ℕ → List (List WordText) → Type 0
 Divides width algorithm =
     DividesAs Whole algorithm (unbroken_at width)
 
@@ -61,16 +61,16 @@ abbrev joined_lines : List LineParts → List ℕ
 joined_lines parts = feed_joined (map line_bytes (map line_from parts))
 
 module _ (width : ℕ) (algorithm : Algorithm) (text : List ℕ) where
-  cut-division : (division : List (List WordText)) → Divides width algorithm text division
+  cut-division : (division : List (List WordText)) → Divides width algorithm false text division
       → IsCutAtBlanks text (joined_lines (parts_from (unbroken_at width) false division))
   cut-division division (pieces, are, divided) =
       let words : pieces ≡ words_of text =
       ArePieces-is (unbroken_at width) Whole text pieces are
       ∙ pieces_of-unbroken width text in
-      let lines = division-by algorithm sizes_of (widths_of (unbroken_at width)) pieces division
-      divided in
-      let some = IsDividedBy-some sizes_of algorithm (widths_of (unbroken_at width)) pieces division
-      divided in
+      let lines = division-by algorithm sizes_of (widths_of (unbroken_at width) false) pieces
+      division divided in
+      let some = IsDividedBy-some sizes_of algorithm (widths_of (unbroken_at width) false) pieces
+      division divided in
       let tile : tiled pieces ≡ text = ap tiled words ∙ tiled-words_of text in
       let of_text : AreWordsOf (tiled pieces) pieces =
       subst (λ l. AreWordsOf l pieces) (sym tile) ((words_unique text pieces).1 words) in
@@ -88,7 +88,7 @@ module _ (width : ℕ) (algorithm : Algorithm) (text : List ℕ) where
   cut-laid_out : (division : List (List WordText)) (whole : Bool)
       → is_whole (unbroken_at width) false text ≡ whole
       → MatchBool whole (division ≡ (word_of text ∷ []) ∷ [])
-      (Divides width algorithm text division)
+      (Divides width algorithm false text division)
       → IsCutAtBlanks text (joined_lines (parts_from (unbroken_at width) false division))
   cut-laid_out division true whole is = record {
     parts = text ∷ [];

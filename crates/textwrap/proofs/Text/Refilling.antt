@@ -1,5 +1,5 @@
 -- Lemmas on plain texts: unfilled, and filled again.
-use Rattle.std.proofs.Common.{◌≡◌, ◌≢◌, ◌↔◌, ℕ, ◌-◌, ◌<◌, ◌==◌, true, false, cond, nat_eq, nat_lt}
+use Rattle.std.proofs.Common.{◌≡◌, ◌≢◌, ◌↔◌, ℕ, ◌-◌, ◌<◌, ◌==◌, Bool, true, false, cond, nat_eq, nat_lt}
 use Rattle.std.proofs.Common.{List, [], ◌∷◌, ◌++◌, All, length, take, drop, map, refl, sym, ap, ◌∙◌}
 use Rattle.std.proofs.Common.{subst, arith, append_assoc, append-nil, length-append}
 use Rattle.std.proofs.Common.{take-append-drop}
@@ -210,7 +210,7 @@ unfilled-plain text (parts, plain, is) =
       keeps = keeps-plain parts plain;
     })
 
-module _ (Divides : Settings → List ℕ → List (List WordText) → Type 0) where
+module _ (Divides : Settings → Bool → List ℕ → List (List WordText) → Type 0) where
   abbrev FilledBy : Settings → List ℕ → List ℕ → Type 0
   FilledBy settings = IsFilled settings (Divides settings)
 

@@ -4,7 +4,7 @@ use Rattle.std.proofs.Common.{length, get_or, map, refl, sym, ap, ◌∙◌, ari
 use Rattle.std.proofs.Math.Nat.{le-mul_of_pos_right, min-le_right, mod-add-div'}
 use Rattle.std.proofs.lemmas.Bool.{cases_lt}
 use Rattle.std.specs.Int.{div_ceil}
-use Rattle.std.proofs.Common.{⊎_elim, append-nil, inl, inr, subst, length-append}
+use Rattle.std.proofs.Common.{Bool, ⊎_elim, append-nil, inl, inr, subst, length-append}
 use Rattle.std.specs.List.{range_with_len, repeat}
 use Rattle.std.specs.declared.borrow.CowStr.{CowStr}
 use Rattle.std.specs.Cow.{cow_str_bytes}
@@ -203,7 +203,7 @@ row_text-written layout lines step first later (inr past) within =
 
 module _ {E C : Type 0} {e : _} {c : _} where
   abbrev Divides : WordSeparator C c → WordSplitter C c → WrapAlgorithm E e → Settings
-      → List ℕ → List (List WordText) → Type 0
+      → Bool → List ℕ → List (List WordText) → Type 0
   Divides separator splitter algorithm settings =
       IsDividedInto settings (MaySeparate separator) (MaySplit splitter)
       (MayDivide algorithm (λ w. w))

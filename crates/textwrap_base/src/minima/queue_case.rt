@@ -40,7 +40,8 @@ pub fn is_queue_case<T: Fragment>(
     penalties: &Penalties,
 ) -> bool
     ensures case { IsTrue result
-        ↔ IsQueueCase (priced_by T.sizes T.own_break_penalty penalties.now) penalties.now line_widths.now fragments.now }
+        ↔ IsQueueCase (priced_by T.sizes T.own_break_penalty penalties.now) penalties.now
+        line_widths.now fragments.now }
     ensures convex { IsTrue result
         → AreConvex (fragment_costs (priced_by T.sizes T.own_break_penalty penalties.now) penalties.now
         line_widths.now fragments.now) }

@@ -61,10 +61,12 @@ pub fn wrap_optimal_fit_counted<'a, A: Allocator + Copy, T: Fragment>(
 ) -> Result<Vec<&'a [T], A>, WrapError>
     ensures fit { IsOptimalFitResult (priced_by T.sizes T.own_break_penalty penalties.now) penalties.now
         line_widths.now fragments.now (λ lines. map (λ line. line.now) lines.items) result }
-    ensures steps { ¬ IsQueueCase (priced_by T.sizes T.own_break_penalty penalties.now) penalties.now line_widths.now fragments.now
+    ensures steps { ¬ IsQueueCase (priced_by T.sizes T.own_break_penalty penalties.now) penalties.now
+        line_widths.now fragments.now
         → CountsSteps (priced_by T.sizes T.own_break_penalty penalties.now) penalties.now
         line_widths.now fragments.now steps.old steps.new result }
-    ensures queue_steps { IsQueueCase (priced_by T.sizes T.own_break_penalty penalties.now) penalties.now line_widths.now fragments.now
+    ensures queue_steps { IsQueueCase (priced_by T.sizes T.own_break_penalty penalties.now) penalties.now
+        line_widths.now fragments.now
         → CountsSearch (length fragments.now) steps.old steps.new result }
 {
     let minima = find_minima(alloc, fragments, line_widths, penalties, steps)?;
@@ -90,10 +92,12 @@ fn find_minima<A: Allocator + Copy, T: Fragment>(
         line_widths.now fragments.now) }
     ensures too_wide { Passes128Bits (total_width T.sizes fragments.now) → Overflowed result }
     ensures no_overflow { Fits64Bits (total_width T.sizes fragments.now) → ¬ Overflowed result }
-    ensures steps { ¬ IsQueueCase (priced_by T.sizes T.own_break_penalty penalties.now) penalties.now line_widths.now fragments.now
+    ensures steps { ¬ IsQueueCase (priced_by T.sizes T.own_break_penalty penalties.now) penalties.now
+        line_widths.now fragments.now
         → CountsSteps (priced_by T.sizes T.own_break_penalty penalties.now) penalties.now
         line_widths.now fragments.now steps.old steps.new result }
-    ensures queue_steps { IsQueueCase (priced_by T.sizes T.own_break_penalty penalties.now) penalties.now line_widths.now fragments.now
+    ensures queue_steps { IsQueueCase (priced_by T.sizes T.own_break_penalty penalties.now) penalties.now
+        line_widths.now fragments.now
         → CountsSearch (length fragments.now) steps.old steps.new result }
 {
     if is_queue_case(fragments, line_widths, penalties) {

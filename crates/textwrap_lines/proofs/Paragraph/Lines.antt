@@ -299,7 +299,7 @@ pub AreDividedParts-from : {D F : Type 0} {f : _} (v : D → List Word) (setting
     (Words : List ℕ → List WordText → Type 0) (Points : List ℕ → List ℕ → Type 0)
     (algorithm : WrapAlgorithm F f) (is_later : Bool) (paragraph : List ℕ) (pieces : List Word)
     (division : List D) → ArePieces settings Words Points paragraph (map word_view pieces)
-    → MayDivide algorithm word_view (widths_of settings) pieces (map v division)
+    → MayDivide algorithm word_view (widths_of settings is_later) pieces (map v division)
     → AreDividedParts settings
     (IsDividedInto settings Words Points (MayDivide algorithm (λ w. w))) is_later paragraph
     (parts_from settings is_later (map (λ line. map word_view (v line)) division))
@@ -309,7 +309,8 @@ AreDividedParts-from v settings Words Points algorithm is_later paragraph pieces
       (
         map word_view pieces,
         are,
-        MayDivide-map algorithm word_view (widths_of settings) pieces (map v division) divided,
+        MayDivide-map algorithm word_view (widths_of settings is_later) pieces (map v division)
+            divided,
       ),
       ap (parts_from settings is_later) (views-lines v division),
     )
@@ -365,20 +366,21 @@ line_from-whole settings is_later paragraph whole =
     ∙ ap (λ tile. Slice (cond settings.preserve_trailing_space tile
     (without_final_blanks paragraph))) (tiled-word_of paragraph)
 
-pub AreParagraphParts-whole : (settings : Settings) (Divides : List ℕ → List (List WordText)
-    → Type 0) (is_later : Bool) (paragraph : List ℕ) → is_whole settings is_later paragraph ≡ true
+pub AreParagraphParts-whole : (settings : Settings) (Divides : Bool → List ℕ
+    → List (List WordText) → Type 0) (is_later : Bool) (paragraph : List ℕ)
+    → is_whole settings is_later paragraph ≡ true
     → AreParagraphParts settings Divides is_later paragraph
     (parts_of settings is_later (word_of paragraph ∷ []) ∷ [])
 AreParagraphParts-whole settings Divides is_later paragraph whole =
     let division = (word_of paragraph ∷ []) ∷ [] in (
       division,
-      subst (λ b. MatchBool b (division ≡ division) (Divides paragraph division))
+      subst (λ b. MatchBool b (division ≡ division) (Divides is_later paragraph division))
           (sym whole) refl,
       refl,
     )
 
-pub AreParagraphParts-divided : (settings : Settings) (Divides : List ℕ → List (List WordText)
-    → Type 0) (is_later : Bool) (paragraph : List ℕ) (parts : List LineParts)
+pub AreParagraphParts-divided : (settings : Settings) (Divides : Bool → List ℕ
+    → List (List WordText) → Type 0) (is_later : Bool) (paragraph : List ℕ) (parts : List LineParts)
     → is_whole settings is_later paragraph ≡ false
     → AreDividedParts settings Divides is_later paragraph parts
     → AreParagraphParts settings Divides is_later paragraph parts
@@ -386,7 +388,7 @@ AreParagraphParts-divided settings Divides is_later paragraph parts longer
     (division, divided, is) = (
       division,
       subst (λ b. MatchBool b (division ≡ (word_of paragraph ∷ []) ∷ [])
-          (Divides paragraph division)) (sym longer) divided,
+          (Divides is_later paragraph division)) (sym longer) divided,
       is,
     )
 

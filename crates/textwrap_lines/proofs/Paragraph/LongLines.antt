@@ -2,7 +2,7 @@
 -- with one character that takes columns.
 use Rattle.std.proofs.Common.{◌≡◌, ℕ, zero, suc, ◌+◌, ◌<◌, ◌≤◌, min, Bool, true, false, cond, ◌==◌}
 use Rattle.std.proofs.Common.{List, [], ◌∷◌, ◌++◌, All, length, get_or, take, refl, sym, ap, ◌∙◌, subst}
-use Rattle.std.proofs.Common.{arith}
+use Rattle.std.proofs.Common.{arith, ◌&&◌}
 use Rattle.std.specs.Str.{IsUtf8}
 use Rattle.std.proofs.lemmas.List.{nil_from_length, take_all}
 use Rattle.std.proofs.lemmas.Bool.{eqb-true}
@@ -15,8 +15,8 @@ use Rattle.textwrap_base.proofs.Word.Overlong.{IsTight, broken_words-tight}
 use Rattle.textwrap_base.proofs.Word.Texts.{HasNoPenalty, text_width-nil}
 use Rattle.textwrap_lines.specs.Options.{Settings}
 use Rattle.textwrap_lines.specs.Paragraph.{empty_word, front_pieces, IsDividedInto}
-use Rattle.textwrap_lines.specs.Paragraph.{widths_of, width_after, later_width, IsOneCharacter}
-use Rattle.textwrap_lines.specs.Paragraph.{OnlyCharactersPass}
+use Rattle.textwrap_lines.specs.Paragraph.{widths_of, first_width, width_after, later_width}
+use Rattle.textwrap_lines.specs.Paragraph.{IsOneCharacter, OnlyCharactersPass}
 use Rattle.textwrap_base.proofs.Division.Map.{IsDivision-whole}
 use Rattle.textwrap_base.proofs.ListLemmas.{flat, all-left, all-right}
 use Rattle.textwrap_lines.specs.Cuts.{AreCuts}
@@ -61,7 +61,7 @@ lines_pass limit widths number (line ∷ lines) fit room tight none = (
       (all-right HasNoPenalty line (flat lines) none),
 )
 
-later_is : (first later k : ℕ) → 1 ≤ k → line_width (first ∷ later ∷ []) k ≡ later
+pub later_is : (first later k : ℕ) → 1 ≤ k → line_width (first ∷ later ∷ []) k ≡ later
 later_is first later k from = let last : min k 1 ≡ 1 = omega (arith, from) in
     ap (λ n. get_or (first ∷ later ∷ []) n 0) last
 
@@ -104,11 +104,12 @@ module _ (settings : Settings) (Words : List ℕ → List WordText → Type 0)
     (cuts : (text points : List ℕ) → IsUtf8 text → Points text points → AreCuts text points)
     (hyphens : (text points : List ℕ) → Points text points
     → All (λ p. ends_in_hyphen (take p text) ≡ true) points) where
-  pub long_lines : (paragraph : List ℕ) (division : List (List WordText)) → IsUtf8 paragraph
-      → settings.break_words ≡ true
-      → IsDividedInto settings Words Points (IsDividedBy Greedy sizes_of) paragraph division
-      → OnlyCharactersPass (widths_of settings) 0 division
-  long_lines paragraph division utf8 breaks (pieces, are, greedy) =
+  pub long_lines : (is_later : Bool) (paragraph : List ℕ) (division : List (List WordText))
+      → IsUtf8 paragraph → settings.break_words ≡ true
+      → IsDividedInto settings Words Points (IsDividedBy Greedy sizes_of) is_later paragraph
+      division
+      → OnlyCharactersPass (widths_of settings is_later) 0 division
+  long_lines is_later paragraph division utf8 breaks (pieces, are, greedy) =
       by_front (length settings.initial_indent == 0) refl
     where
       split : List WordText
@@ -141,22 +142,27 @@ module _ (settings : Settings) (Words : List ℕ → List WordText → Type 0)
           (pieces-no_penalty settings Words Points texts cuts hyphens paragraph pieces utf8 are)
 
       room : text_width settings.initial_indent ≡ 0 → (k : ℕ) → 0 ≤ k
-          → later_width settings ≤ line_width (widths_of settings) k
-      room narrow zero from = omega (arith, narrow)
-      room narrow (suc k) from = let same = later_is (width_after settings settings.initial_indent)
+          → later_width settings ≤ line_width (widths_of settings is_later) k
+      room narrow zero from = elim (settings.even_paragraphs && is_later) as (λ b.
+          later_width settings ≤ cond b (later_width settings)
+          (width_after settings settings.initial_indent)) [
+            | true ↦ omega arith
+            | false ↦ omega (arith, narrow)
+          ]
+      room narrow (suc k) from = let same = later_is (first_width settings is_later)
           (later_width settings) (suc k) (omega arith) in omega (arith, same)
 
       by_front : (b : Bool) → (length settings.initial_indent == 0) ≡ b
-          → OnlyCharactersPass (widths_of settings) 0 division
+          → OnlyCharactersPass (widths_of settings is_later) 0 division
       by_front true unindented =
           let empty = nil_from_length settings.initial_indent
           (eqb-true (length settings.initial_indent) 0 unindented) in
           let narrow : text_width settings.initial_indent ≡ 0 = ap text_width empty
           ∙ text_width-nil in
-          lines_pass (later_width settings) (widths_of settings) 0 division greedy.admissible.fit
-          (room narrow) tight none
+          lines_pass (later_width settings) (widths_of settings is_later) 0 division
+          greedy.admissible.fit (room narrow) tight none
       by_front false indented =
-          front_passes (width_after settings settings.initial_indent)
+          front_passes (first_width settings is_later)
           (later_width settings) division broken
           (whole ∙ pieces_are ∙ ap (λ b. cond b [] (empty_word ∷ []) ++ broken) indented)
           greedy.admissible.fit tight none

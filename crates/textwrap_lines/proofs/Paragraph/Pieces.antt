@@ -287,21 +287,21 @@ module _ (settings : Settings) (Words : List ℕ → List WordText → Type 0)
   module _ (Lines : List ℕ → List WordText → List (List WordText) → Type 0)
       (begins : (widths : List ℕ) (pieces : List WordText) (division : List (List WordText))
       → Lines widths pieces division → Begins pieces (flat division)) where
-    pub divided-begin : (paragraph : List ℕ) (division : List (List WordText)) → IsUtf8 paragraph
-        → IsDividedInto settings Words Points Lines paragraph division
+    pub divided-begin : (is_later : Bool) (paragraph : List ℕ) (division : List (List WordText))
+        → IsUtf8 paragraph → IsDividedInto settings Words Points Lines is_later paragraph division
         → Begins paragraph (tiled (flat division))
-    divided-begin paragraph division utf8 (pieces, are, divided) =
-        let (rest, is) = begins (widths_of settings) pieces division divided in (
+    divided-begin is_later paragraph division utf8 (pieces, are, divided) =
+        let (rest, is) = begins (widths_of settings is_later) pieces division divided in (
           tiled rest,
           sym (tiled-append (flat division) rest) ∙ ap tiled is
               ∙ pieces-tile paragraph pieces utf8 are,
         )
 
-    pub divided-blanks : (paragraph : List ℕ) (division : List (List WordText)) → IsUtf8 paragraph
-        → IsDividedInto settings Words Points Lines paragraph division
+    pub divided-blanks : (is_later : Bool) (paragraph : List ℕ) (division : List (List WordText))
+        → IsUtf8 paragraph → IsDividedInto settings Words Points Lines is_later paragraph division
         → All EndsInBlanks (flat division)
-    divided-blanks paragraph division utf8 (pieces, are, divided) =
-        let (rest, is) = begins (widths_of settings) pieces division divided in
+    divided-blanks is_later paragraph division utf8 (pieces, are, divided) =
+        let (rest, is) = begins (widths_of settings is_later) pieces division divided in
         all-left EndsInBlanks (flat division) rest
         (subst (All EndsInBlanks) (sym is)
         (All-weaker IsMeasured EndsInBlanks (λ w measured. measured.ending) pieces
@@ -388,16 +388,17 @@ module _ (settings : Settings) (splitter : Splitter) (paragraph : List ℕ) wher
       (pieces_of settings splitter paragraph) utf8 (ArePieces-computed settings splitter paragraph)
 
 module _ (settings : Settings) (algorithm : Algorithm) (splitter : Splitter) where
-  pub IsDividedInto-whole : (paragraph : List ℕ) (division : List (List WordText))
-      → DividesAs splitter algorithm settings paragraph division
+  pub IsDividedInto-whole : (is_later : Bool) (paragraph : List ℕ) (division : List (List WordText))
+      → DividesAs splitter algorithm settings is_later paragraph division
       → flat_map (λ line. line) division ≡ pieces_of settings splitter paragraph
-  IsDividedInto-whole paragraph division (pieces, are, divided) =
-      IsDividedBy-whole sizes_of algorithm (widths_of settings) pieces division divided
+  IsDividedInto-whole is_later paragraph division (pieces, are, divided) =
+      IsDividedBy-whole sizes_of algorithm (widths_of settings is_later) pieces division divided
       ∙ ArePieces-is settings splitter paragraph pieces are
 
-  pub IsDividedInto-tile : (paragraph : List ℕ) (division : List (List WordText)) → IsUtf8 paragraph
-      → DividesAs splitter algorithm settings paragraph division
+  pub IsDividedInto-tile : (is_later : Bool) (paragraph : List ℕ)
+      (division : List (List WordText)) → IsUtf8 paragraph
+      → DividesAs splitter algorithm settings is_later paragraph division
       → tiled (flat_map (λ line. line) division) ≡ paragraph
-  IsDividedInto-tile paragraph division utf8 divided =
-      ap tiled (IsDividedInto-whole paragraph division divided)
+  IsDividedInto-tile is_later paragraph division utf8 divided =
+      ap tiled (IsDividedInto-whole is_later paragraph division divided)
       ∙ pieces_of-tile settings splitter paragraph utf8

@@ -1,16 +1,15 @@
 -- Lemmas on the shortcut: a paragraph that is a line as a whole is that line too where its pieces
 -- are divided, if none of its characters takes more columns than its bytes.
-use Rattle.std.proofs.Common.{◌≡◌, ◌≢◌, ℕ, zero, suc, ◌≤◌, Bool, true, false, cond, ◌==◌, nat_lt}
+use Rattle.std.proofs.Common.{◌≡◌, ◌≢◌, ℕ, zero, suc, ◌≤◌, Bool, true, false, cond, ◌&&◌, ◌==◌, nat_lt}
 use Rattle.std.proofs.Common.{MatchBool, List, [], ◌∷◌, ◌++◌, All, length, map, refl, sym, ap, ◌∙◌}
 use Rattle.std.proofs.Common.{subst, arith, append_assoc}
-use Rattle.std.specs.Prelude.{chars, encode_utf8}
 use Rattle.std.specs.Str.{IsUtf8, IsAscii}
 use Rattle.std.proofs.lemmas.Bool.{and_parts, eqb-true, ltb-true}
 use Rattle.std.proofs.lemmas.List.{nil_from_length}
 use Rattle.std.proofs.lemmas.List.Elements.{All-nil, All-cons, All-head, All-tail, All-weaker}
-use Rattle.std.proofs.lemmas.Str.{IsUtf8-from_ascii, chars-append}
+use Rattle.std.proofs.lemmas.Str.{IsUtf8-from_ascii}
 use Rattle.textwrap_base.specs.Division.{closed_width}
-use Rattle.textwrap_base.specs.Units.{columns, text_width, IsNarrow}
+use Rattle.textwrap_base.specs.Units.{text_width, IsNarrow}
 use Rattle.textwrap_base.specs.Words.{WordText, sizes_of, tiled, word_of}
 use Rattle.textwrap_base.specs.Blanks.{is_blank, without_final_blanks}
 use Rattle.textwrap_base.proofs.Division.OneLine.{IsDividedBy-one_line}
@@ -20,10 +19,10 @@ use Rattle.textwrap_base.proofs.Word.Bounds.{IsNarrowWord, closed_width-narrow}
 use Rattle.textwrap_lines.specs.Options.{Settings}
 use Rattle.textwrap_lines.specs.Paragraph.{Line, LineParts, Slice, line_from, covered, indent_of}
 use Rattle.textwrap_lines.specs.Paragraph.{parts_of, pieces_of, widths_of, width_after, is_whole}
+use Rattle.textwrap_lines.specs.Paragraph.{first_width, later_width}
 use Rattle.textwrap_lines.specs.Paragraph.{parts_from, IsDividedInto, DividesAs, AreDividedParts}
 use Rattle.textwrap_lines.specs.Paragraph.{AreParagraphParts}
 use Rattle.textwrap_lines.proofs.Paragraph.LastBlanks.{covered-pieces_of}
-use Rattle.textwrap_base.proofs.ListLemmas.{all-left, all-right}
 use Rattle.textwrap_lines.proofs.Paragraph.Lines.{line_from-pieces, line_from-whole}
 use Rattle.textwrap_lines.specs.WordSeparators.{MaySeparate}
 use Rattle.textwrap_lines.specs.WordSplitters.{Splitter, Whole, AtHyphens, MaySplit, splitter_view}
@@ -35,11 +34,9 @@ use Rattle.std.specs.Prelude.{None}
 use Rattle.textwrap_base.specs.WrapAlgorithms.{Algorithm}
 use Rattle.textwrap_lines.proofs.Paragraph.Pieces.{ArePieces-computed, pieces_of-measured}
 use Rattle.textwrap_lines.proofs.Paragraph.Pieces.{pieces_of-no_penalty, pieces_of-tile}
+use Rattle.textwrap_lines.proofs.Text.Narrow.{narrow_parts}
 
 -- ---- the pieces close within the paragraph's bytes
-
-abbrev IsNarrowChar : ℕ → Type 0
-IsNarrowChar c = columns c ≤ length (encode_utf8 c)
 
 blanks-ascii : (bytes : List ℕ) → AreBlanks bytes → IsAscii bytes
 blanks-ascii [] blanks i = omega arith
@@ -53,21 +50,14 @@ pub narrow_words : (ws : List WordText) → All IsMeasured ws → All HasNoPenal
 narrow_words [] measured none narrow = All-nil IsNarrowWord
 narrow_words (w ∷ ws) measured none narrow =
     let here = All-head IsMeasured w ws measured in
-    let parts : chars (tiled (w ∷ ws)) ≡ chars w.word ++ (chars w.whitespace ++ chars (tiled ws)) =
-    ap chars (append_assoc w.word w.whitespace (tiled ws))
-    ∙ chars-append w.word (w.whitespace ++ tiled ws) here.utf8
-    ∙ ap (λ cs. chars w.word ++ cs)
-    (chars-append w.whitespace (tiled ws)
-    (IsUtf8-from_ascii w.whitespace (blanks-ascii w.whitespace here.ending.blanks))) in
-    let all : All IsNarrowChar (chars w.word ++ (chars w.whitespace ++ chars (tiled ws))) =
-    subst (All IsNarrowChar) parts narrow in
-    let word = text_width-narrow w.word here.utf8
-    (all-left IsNarrowChar (chars w.word) (chars w.whitespace ++ chars (tiled ws)) all) in
-    let rest = all-right IsNarrowChar (chars w.whitespace) (chars (tiled ws))
-    (all-right IsNarrowChar (chars w.word) (chars w.whitespace ++ chars (tiled ws)) all) in
+    let (word, after) = narrow_parts w.word (w.whitespace ++ tiled ws) here.utf8
+    (subst IsNarrow (append_assoc w.word w.whitespace (tiled ws)) narrow) in
+    let (blanks, rest) = narrow_parts w.whitespace (tiled ws)
+    (IsUtf8-from_ascii w.whitespace (blanks-ascii w.whitespace here.ending.blanks)) after in
     All-cons IsNarrowWord w ws
     (record {
-      width = subst (λ n. n ≤ length w.word) (sym here.width) word;
+      width = subst (λ n. n ≤ length w.word) (sym here.width)
+          (text_width-narrow w.word here.utf8 word);
       penalty = All-head HasNoPenalty w ws none;
     })
     (narrow_words ws (All-tail IsMeasured w ws measured) (All-tail HasNoPenalty w ws none) rest)
@@ -113,6 +103,28 @@ same_line settings splitter is_later paragraph utf8 unindented without whole =
 
 -- ---- the shortcut
 
+-- without indents, a paragraph's first line has the whole width
+first_width-unindented : (settings : Settings) (is_later : Bool) → settings.initial_indent ≡ []
+    → indent_of settings is_later ≡ [] → settings.width ≤ first_width settings is_later
+first_width-unindented settings false unindented none =
+    let narrow : text_width settings.initial_indent ≡ 0 = ap text_width unindented
+    ∙ text_width-nil in
+    elim settings.even_paragraphs as (λ b. settings.width ≤ cond (b && false) (later_width settings)
+    (width_after settings settings.initial_indent)) [
+      | true ↦ omega (arith, narrow)
+      | false ↦ omega (arith, narrow)
+    ]
+first_width-unindented settings true unindented none =
+    let narrow : text_width settings.initial_indent ≡ 0 = ap text_width unindented
+    ∙ text_width-nil in
+    let narrower : text_width settings.subsequent_indent ≡ 0 = ap text_width none
+    ∙ text_width-nil in
+    elim settings.even_paragraphs as (λ b. settings.width ≤ cond (b && true) (later_width settings)
+    (width_after settings settings.initial_indent)) [
+      | true ↦ omega (arith, narrower)
+      | false ↦ omega (arith, narrow)
+    ]
+
 module _ (settings : Settings) (algorithm : Algorithm) (splitter : Splitter) where
   -- the lines of a paragraph are those of a division of its pieces
   abbrev pub HasDividedLines : Bool → List ℕ → List Line → Type 0
@@ -133,11 +145,10 @@ module _ (settings : Settings) (algorithm : Algorithm) (splitter : Splitter) whe
       let without = nil_from_length (indent_of settings is_later)
       (eqb-true (length (indent_of settings is_later)) 0 tests.0) in
       let shorter = ltb-true (length paragraph) settings.width tests.1 in
-      let narrower : text_width settings.initial_indent ≡ 0 = ap text_width unindented
-      ∙ text_width-nil in
-      let room : closed_width sizes_of pieces ≤ width_after settings settings.initial_indent =
+      let wide = first_width-unindented settings is_later unindented without in
+      let room : closed_width sizes_of pieces ≤ first_width settings is_later =
       (let closed = closed-pieces_of settings splitter paragraph utf8 narrow in
-      omega (arith, closed, shorter, narrower)) in
+      omega (arith, closed, shorter, wide)) in
       let none = All-weaker HasNoPenalty (λ w. length w.penalty ≡ 0)
       (λ w none. ap length none) pieces
       (pieces_of-no_penalty settings splitter paragraph utf8) in (
@@ -147,7 +158,7 @@ module _ (settings : Settings) (algorithm : Algorithm) (splitter : Splitter) whe
           (
             pieces,
             ArePieces-computed settings splitter paragraph,
-            IsDividedBy-one_line algorithm sizes_of (widths_of settings) pieces none room,
+            IsDividedBy-one_line algorithm sizes_of (widths_of settings is_later) pieces none room,
           ),
           refl,
         ),
@@ -164,7 +175,7 @@ module _ (settings : Settings) (algorithm : Algorithm) (splitter : Splitter) whe
     where
       by_case : (whole : Bool) → is_whole settings is_later paragraph ≡ whole
           → MatchBool whole (division ≡ (word_of paragraph ∷ []) ∷ [])
-          (DividesAs splitter algorithm settings paragraph division)
+          (DividesAs splitter algorithm settings is_later paragraph division)
           → HasDividedLines is_later paragraph (map line_from parts)
       by_case true is_true one =
           subst (HasDividedLines is_later paragraph)
@@ -175,7 +186,7 @@ module _ (settings : Settings) (algorithm : Algorithm) (splitter : Splitter) whe
 -- the same by the parts of any options, where they are built in
 module _ {E C : Type 0} {e : _} {c : _} (settings : Settings) where
   abbrev Divides : separators.WordSeparator C c → splitters.WordSplitter C c
-      → algorithms.WrapAlgorithm E e → List ℕ → List (List WordText) → Type 0
+      → algorithms.WrapAlgorithm E e → Bool → List ℕ → List (List WordText) → Type 0
   Divides separator splitter algorithm =
       IsDividedInto settings (MaySeparate separator) (MaySplit splitter)
       (MayDivide algorithm (λ w. w))

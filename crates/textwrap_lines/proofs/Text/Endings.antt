@@ -179,7 +179,7 @@ parts_past-utf8 ending some ascii zero before (c ∷ cs) utf8 =
 parts_past-utf8 ending some ascii (suc n) before (c ∷ cs) utf8 =
     parts_past-utf8 ending some ascii n before cs utf8
 
-ending_bytes-ascii : (ending : LineEnding) → All (λ c. c < 128) (ending_bytes ending)
+pub ending_bytes-ascii : (ending : LineEnding) → All (λ c. c < 128) (ending_bytes ending)
 ending_bytes-ascii CRLF = All-cons (λ c. c < 128) 13 (10 ∷ []) (omega arith)
     (All-cons (λ c. c < 128) 10 [] (omega arith) (All-nil (λ c. c < 128)))
 ending_bytes-ascii LF = All-cons (λ c. c < 128) 10 [] (omega arith) (All-nil (λ c. c < 128))

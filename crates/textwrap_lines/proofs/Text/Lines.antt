@@ -1,6 +1,6 @@
 -- Lemmas on the lines of a text.
 use Rattle.std.proofs.Common.{◌≡◌, ℕ, zero, suc, ◌+◌, ◌<◌, ◌||◌, nat_lt, Option, None, Some}
-use Rattle.std.proofs.Common.{MatchOption, cond, true, false, List, [], ◌∷◌, ◌++◌, length, get_or}
+use Rattle.std.proofs.Common.{MatchOption, cond, Bool, true, false, List, [], ◌∷◌, ◌++◌, length, get_or}
 use Rattle.std.proofs.Common.{take, map, refl, sym, ap, ◌∙◌, subst, arith, append_assoc, append-nil}
 use Rattle.std.proofs.Common.{length-append}
 use Rattle.std.specs.Borrow.{Bor}
@@ -81,7 +81,7 @@ abbrev pub bytes_left : Option (Bor (List ℕ)) → ℕ
 bytes_left None = 0
 bytes_left (Some rest) = length rest.now + 1
 
-module _ (settings : Settings) (Divides : List ℕ → List (List WordText) → Type 0) where
+module _ (settings : Settings) (Divides : Bool → List ℕ → List (List WordText) → Type 0) where
   -- the lines are those of the paragraphs so far: with right lines of the paragraphs left they are
   -- the lines of the text
   pub record HasGroups (text : List ℕ) (lines : List Line) (left : List (List ℕ)) : Type 0 where
@@ -167,7 +167,7 @@ pub no_more : {X A : Type 0} (B : X → Type 0) (after : Option X) → is_some a
 no_more B None none is = is
 no_more B (Some x) none is = cc
 
-pub IsFilled-whole : (settings : Settings) (Divides : List ℕ → List (List WordText) → Type 0)
+pub IsFilled-whole : (settings : Settings) (Divides : Bool → List ℕ → List (List WordText) → Type 0)
     (text paragraph filled : List ℕ) → paragraphs_of settings.line_ending text ≡ paragraph ∷ []
     → is_whole settings false paragraph ≡ true
     → filled ≡ cond settings.preserve_trailing_space paragraph (without_final_blanks paragraph)

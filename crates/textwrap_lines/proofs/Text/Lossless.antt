@@ -118,18 +118,18 @@ word_of-blanks text =
 
 -- ---- what holds of each paragraph's lines holds of the text's
 
-pub groups-map : (Are Keep : Bool → List ℕ → List LineParts → Type 0)
-    → ((is_later : Bool) (paragraph : List ℕ) (parts : List LineParts) → IsUtf8 paragraph
+pub groups-map : (IsPart : List ℕ → Type 0) (Are Keep : Bool → List ℕ → List LineParts → Type 0)
+    → ((is_later : Bool) (paragraph : List ℕ) (parts : List LineParts) → IsPart paragraph
     → Are is_later paragraph parts → Keep is_later paragraph parts)
     → (is_later : Bool) (paragraphs : List (List ℕ)) (groups : List (List LineParts))
-    → All IsUtf8 paragraphs → AreGroups Are is_later paragraphs groups
+    → All IsPart paragraphs → AreGroups Are is_later paragraphs groups
     → AreGroups Keep is_later paragraphs groups
-groups-map Are Keep each is_later [] groups utf8 are = are
-groups-map Are Keep each is_later (paragraph ∷ paragraphs) [] utf8 are = absurd are
-groups-map Are Keep each is_later (paragraph ∷ paragraphs) (parts ∷ groups) utf8 are = (
-  each is_later paragraph parts (All-head IsUtf8 paragraph paragraphs utf8) are.0,
-  groups-map Are Keep each (is_later || nat_lt 0 (length parts)) paragraphs groups
-      (All-tail IsUtf8 paragraph paragraphs utf8) are.1,
+groups-map IsPart Are Keep each is_later [] groups all are = are
+groups-map IsPart Are Keep each is_later (paragraph ∷ paragraphs) [] all are = absurd are
+groups-map IsPart Are Keep each is_later (paragraph ∷ paragraphs) (parts ∷ groups) all are = (
+  each is_later paragraph parts (All-head IsPart paragraph paragraphs all) are.0,
+  groups-map IsPart Are Keep each (is_later || nat_lt 0 (length parts)) paragraphs groups
+      (All-tail IsPart paragraph paragraphs all) are.1,
 )
 
 pub groups-all : (Keeps : LineParts → Type 0) (is_later : Bool) (paragraphs : List (List ℕ))
@@ -145,29 +145,35 @@ groups-all Keeps is_later (paragraph ∷ paragraphs) (parts ∷ groups) are =
 
 -- ---- the lines of a paragraph that is divided so
 
-module _ (settings : Settings) (Divides : List ℕ → List (List WordText) → Type 0)
-    (begin : (paragraph : List ℕ) (division : List (List WordText)) → IsUtf8 paragraph
-    → Divides paragraph division → StartsWith paragraph (tiled (flat_map (λ line. line) division)))
-    (blanks : (paragraph : List ℕ) (division : List (List WordText)) → IsUtf8 paragraph
-    → Divides paragraph division → All EndsInBlanks (flat_map (λ line. line) division)) where
-  laid_out-begin : (paragraph : List ℕ) (division : List (List WordText)) → IsUtf8 paragraph
-      → (whole : Bool)
-      → MatchBool whole (division ≡ (word_of paragraph ∷ []) ∷ []) (Divides paragraph division)
+module _ (settings : Settings) (Divides : Bool → List ℕ → List (List WordText) → Type 0)
+    (begin : (is_later : Bool) (paragraph : List ℕ) (division : List (List WordText))
+    → IsUtf8 paragraph → Divides is_later paragraph division
+    → StartsWith paragraph (tiled (flat_map (λ line. line) division)))
+    (blanks : (is_later : Bool) (paragraph : List ℕ) (division : List (List WordText))
+    → IsUtf8 paragraph → Divides is_later paragraph division
+    → All EndsInBlanks (flat_map (λ line. line) division)) where
+  laid_out-begin : (is_later : Bool) (paragraph : List ℕ) (division : List (List WordText))
+      → IsUtf8 paragraph → (whole : Bool)
+      → MatchBool whole (division ≡ (word_of paragraph ∷ []) ∷ [])
+      (Divides is_later paragraph division)
       → StartsWith paragraph (tiled (flat_map (λ line. line) division))
-  laid_out-begin paragraph division utf8 true is =
+  laid_out-begin is_later paragraph division utf8 true is =
       starts_with_of_eq paragraph (tiled (flat_map (λ line. line) division))
       (sym (ap (λ d. tiled (flat_map (λ line. line) d)) is ∙ tiled-word_of paragraph))
-  laid_out-begin paragraph division utf8 false divided = begin paragraph division utf8 divided
+  laid_out-begin is_later paragraph division utf8 false divided =
+      begin is_later paragraph division utf8 divided
 
-  laid_out-blanks : (paragraph : List ℕ) (division : List (List WordText)) → IsUtf8 paragraph
-      → (whole : Bool)
-      → MatchBool whole (division ≡ (word_of paragraph ∷ []) ∷ []) (Divides paragraph division)
+  laid_out-blanks : (is_later : Bool) (paragraph : List ℕ) (division : List (List WordText))
+      → IsUtf8 paragraph → (whole : Bool)
+      → MatchBool whole (division ≡ (word_of paragraph ∷ []) ∷ [])
+      (Divides is_later paragraph division)
       → All EndsInBlanks (flat_map (λ line. line) division)
-  laid_out-blanks paragraph division utf8 true is =
+  laid_out-blanks is_later paragraph division utf8 true is =
       subst (λ d. All EndsInBlanks (flat_map (λ line. line) d)) (sym is)
       (All-cons EndsInBlanks (word_of paragraph) [] (word_of-blanks paragraph)
       (All-nil EndsInBlanks))
-  laid_out-blanks paragraph division utf8 false divided = blanks paragraph division utf8 divided
+  laid_out-blanks is_later paragraph division utf8 false divided =
+      blanks is_later paragraph division utf8 divided
 
   parts-begin : (is_later : Bool) (paragraph : List ℕ) (parts : List LineParts)
       → IsUtf8 paragraph → AreParagraphParts settings Divides is_later paragraph parts
@@ -175,7 +181,8 @@ module _ (settings : Settings) (Divides : List ℕ → List (List WordText) → 
   parts-begin is_later paragraph parts utf8 (division, laid_out, is) =
       subst (StartsWith paragraph)
       (sym (ap covered_by is ∙ covered_by-parts_from settings is_later division))
-      (laid_out-begin paragraph division utf8 (is_whole settings is_later paragraph) laid_out)
+      (laid_out-begin is_later paragraph division utf8 (is_whole settings is_later paragraph)
+      laid_out)
 
   parts-blanks : (is_later : Bool) (paragraph : List ℕ) (parts : List LineParts) → IsUtf8 paragraph
       → AreParagraphParts settings Divides is_later paragraph parts
@@ -183,7 +190,7 @@ module _ (settings : Settings) (Divides : List ℕ → List (List WordText) → 
   parts-blanks is_later paragraph parts utf8 (division, laid_out, is) =
       subst (All (LeavesBlanks settings)) (sym is)
       (parts_from-blanks settings is_later division
-      (laid_out-blanks paragraph division utf8
+      (laid_out-blanks is_later paragraph division utf8
       (is_whole settings is_later paragraph) laid_out))
 
   -- ---- the lines of a text
@@ -197,11 +204,11 @@ module _ (settings : Settings) (Divides : List ℕ → List (List WordText) → 
       let all = paragraphs_of-utf8 settings.line_ending text utf8 in
       let parts = flat_map (λ ps. ps) groups in
       let leaves = groups-all (LeavesBlanks settings) false paragraphs groups
-      (groups-map (AreParagraphParts settings Divides)
+      (groups-map IsUtf8 (AreParagraphParts settings Divides)
       (λ is_later paragraph parts. All (LeavesBlanks settings) parts) parts-blanks false paragraphs
       groups all defined) in
       record {
-        begin = groups-map (AreParagraphParts settings Divides)
+        begin = groups-map IsUtf8 (AreParagraphParts settings Divides)
             (λ is_later paragraph parts. StartsWith paragraph (covered_by parts)) parts-begin false
             paragraphs groups all defined;
         blanks = All-weaker (LeavesBlanks settings) (λ p. AreBlanks p.left_off)
@@ -212,22 +219,26 @@ module _ (settings : Settings) (Divides : List ℕ → List (List WordText) → 
 
 -- ---- the lines of a text whose paragraphs are divided whole
 
-module _ (settings : Settings) (Divides : List ℕ → List (List WordText) → Type 0)
-    (tiles : (paragraph : List ℕ) (division : List (List WordText)) → IsUtf8 paragraph
-    → Divides paragraph division → tiled (flat_map (λ line. line) division) ≡ paragraph) where
-  laid_out-tile : (paragraph : List ℕ) (division : List (List WordText)) → IsUtf8 paragraph
-      → (whole : Bool)
-      → MatchBool whole (division ≡ (word_of paragraph ∷ []) ∷ []) (Divides paragraph division)
+module _ (settings : Settings) (Divides : Bool → List ℕ → List (List WordText) → Type 0)
+    (tiles : (is_later : Bool) (paragraph : List ℕ) (division : List (List WordText))
+    → IsUtf8 paragraph → Divides is_later paragraph division
+    → tiled (flat_map (λ line. line) division) ≡ paragraph) where
+  laid_out-tile : (is_later : Bool) (paragraph : List ℕ) (division : List (List WordText))
+      → IsUtf8 paragraph → (whole : Bool)
+      → MatchBool whole (division ≡ (word_of paragraph ∷ []) ∷ [])
+      (Divides is_later paragraph division)
       → tiled (flat_map (λ line. line) division) ≡ paragraph
-  laid_out-tile paragraph division utf8 true is = ap (λ d. tiled (flat_map (λ line. line) d)) is
-      ∙ tiled-word_of paragraph
-  laid_out-tile paragraph division utf8 false divided = tiles paragraph division utf8 divided
+  laid_out-tile is_later paragraph division utf8 true is =
+      ap (λ d. tiled (flat_map (λ line. line) d)) is ∙ tiled-word_of paragraph
+  laid_out-tile is_later paragraph division utf8 false divided =
+      tiles is_later paragraph division utf8 divided
 
   parts-tile : (is_later : Bool) (paragraph : List ℕ) (parts : List LineParts) → IsUtf8 paragraph
       → AreParagraphParts settings Divides is_later paragraph parts → covered_by parts ≡ paragraph
   parts-tile is_later paragraph parts utf8 (division, laid_out, is) =
       ap covered_by is ∙ covered_by-parts_from settings is_later division
-      ∙ laid_out-tile paragraph division utf8 (is_whole settings is_later paragraph) laid_out
+      ∙ laid_out-tile is_later paragraph division utf8 (is_whole settings is_later paragraph)
+      laid_out
 
   pub groups-tile : (is_later : Bool) (paragraphs : List (List ℕ)) (groups : List (List LineParts))
       → All IsUtf8 paragraphs

@@ -16,6 +16,7 @@ use Rattle.textwrap_base.specs.Units.{IsNarrow}
 use Rattle.textwrap_base.specs.Words.{WordText, AreWordsOf, sizes_of, tiled, word_of}
 use Rattle.textwrap_base.specs.WrapAlgorithms.{Algorithm, Greedy, LeastCost, IsDividedBy}
 use Rattle.textwrap_base.specs.WrapAlgorithms.{MayDivide, algorithm_view}
+use Rattle.textwrap_base.specs.declared.wrap_algorithms.WrapAlgorithm.TheVariants.{FirstFit}
 use Rattle.textwrap_base.proofs.Division.Map.{IsDividedBy-some, IsDividedBy-whole}
 use Rattle.textwrap_base.proofs.ListLemmas.{flat, all-left, all-right}
 use Rattle.textwrap_base.proofs.Word.Bounds.{closed_width-narrow}
@@ -26,13 +27,14 @@ use Rattle.textwrap_lines.specs.Options.{Settings, settings_view}
 use Rattle.textwrap_lines.specs.Paragraph.{Line, LineParts, line_from, indent_of, last_piece}
 use Rattle.textwrap_lines.specs.Paragraph.{parts_of, parts_from, is_whole, widths_of, IsDividedInto}
 use Rattle.textwrap_lines.specs.Paragraph.{AreIndented, indent_before, AreParagraphParts}
-use Rattle.textwrap_lines.specs.Paragraph.{KeepToWidths, OnlyCharactersPass}
-use Rattle.textwrap_lines.specs.Text.{AreGroups, AreTextLines, IsWrapped}
+use Rattle.textwrap_lines.specs.Paragraph.{KeepToWidths, OnlyCharactersPass, KeepsToWidth}
+use Rattle.textwrap_lines.specs.Text.{AreGroups, AreTextLines, IsWrapped, LinesKeepToWidth}
 use Rattle.textwrap_lines.specs.WordSeparators.{MaySeparate}
 use Rattle.textwrap_lines.specs.WordSplitters.{Splitter, ArePoints, MaySplit, splitter_view}
 use Rattle.textwrap_lines.specs.WordSplitters.{ends_in_hyphen}
 use Rattle.textwrap_lines.specs.Cuts.{AreCuts}
 use Rattle.textwrap_lines.specs.declared.options.Options.{Options}
+use Rattle.textwrap_lines.proofs.Paragraph.EvenLines.{division-even, whole-even}
 use Rattle.textwrap_lines.proofs.Paragraph.LongLines.{long_lines}
 use Rattle.textwrap_lines.proofs.Paragraph.Pieces.{AreTexts, AreTexts-words, ArePoints-cuts}
 use Rattle.textwrap_lines.proofs.Paragraph.Pieces.{ArePoints-hyphens, pieces-tile}
@@ -43,6 +45,7 @@ use Rattle.textwrap_base.proofs.Division.Ends.{Begins, MayDivide-begins, MayDivi
 use Rattle.textwrap_base.proofs.Division.Ends.{MayDivide-some, MayDivide-greedy}
 use Rattle.textwrap_lines.proofs.Paragraph.Shortcut.{narrow_words}
 use Rattle.textwrap_lines.proofs.Text.Endings.{paragraphs_of-utf8, parts_past-some}
+use Rattle.textwrap_lines.proofs.Text.Narrow.{paragraphs_of-narrow}
 use Rattle.textwrap_lines.proofs.Text.Lossless.{LosesOnlyBlanks-from, tiled-word_of, word_of-blanks}
 use Rattle.textwrap_lines.proofs.Text.Lossless.{groups-tile}
 use Rattle.textwrap_lines.proofs.Text.Lossless.{groups-map, groups-all}
@@ -169,7 +172,7 @@ groups-some settings (paragraph ∷ paragraphs) (parts ∷ groups) some are =
 module _ (settings : Settings) (Words : List ℕ → List WordText → Type 0)
     (Points : List ℕ → List ℕ → Type 0)
     (Lines : List ℕ → List WordText → List (List WordText) → Type 0) where
-  abbrev Divides : List ℕ → List (List WordText) → Type 0
+  abbrev Divides : Bool → List ℕ → List (List WordText) → Type 0
   Divides = IsDividedInto settings Words Points Lines
 
   abbrev AreParts : Bool → List ℕ → List LineParts → Type 0
@@ -186,11 +189,12 @@ module _ (settings : Settings) (Words : List ℕ → List WordText → Type 0)
       omega (arith, lines, some (is_whole settings is_later paragraph) laid_out)
     where
       some : (whole : Bool)
-          → MatchBool whole (division ≡ (word_of paragraph ∷ []) ∷ []) (Divides paragraph division)
+          → MatchBool whole (division ≡ (word_of paragraph ∷ []) ∷ [])
+          (Divides is_later paragraph division)
           → 0 < length division
       some true one = omega (arith, ap length one)
       some false (pieces, are, divided) =
-          divided-some (widths_of settings) pieces division divided
+          divided-some (widths_of settings is_later) pieces division divided
 
   paragraph-indented : (is_later : Bool) (paragraph : List ℕ) (parts : List LineParts)
       → IsUtf8 paragraph → AreParts is_later paragraph parts
@@ -216,11 +220,11 @@ module _ (settings : Settings) (Words : List ℕ → List WordText → Type 0)
       where
         none : (whole : Bool)
             → MatchBool whole (division ≡ (word_of paragraph ∷ []) ∷ [])
-            (Divides paragraph division) → All HasNoPenalty (flat division)
+            (Divides is_later paragraph division) → All HasNoPenalty (flat division)
         none true one = subst (λ d. All HasNoPenalty (flat d)) (sym one)
             (All-cons HasNoPenalty (word_of paragraph) [] refl (All-nil HasNoPenalty))
         none false (pieces, are, divided) =
-            let (rest, whole) = begins (widths_of settings) pieces division divided in
+            let (rest, whole) = begins (widths_of settings is_later) pieces division divided in
             all-left HasNoPenalty (flat division) rest
             (subst (All HasNoPenalty) (sym whole)
             (pieces-no_penalty settings Words Points texts cuts hyphens paragraph pieces utf8 are))
@@ -235,17 +239,17 @@ module _ (settings : Settings) (Words : List ℕ → List WordText → Type 0)
     paragraph-keeps hyphens greedy breaks is_later paragraph parts utf8 (division, laid_out, is) =
         subst (λ lines. MatchBool (is_whole settings is_later paragraph)
         (IsNarrow paragraph → All (λ line. closed_width sizes_of line ≤ settings.width) lines)
-        (OnlyCharactersPass (widths_of settings) 0 lines))
+        (OnlyCharactersPass (widths_of settings is_later) 0 lines))
         (sym (ap (map (λ p. p.pieces)) is ∙ parts_from-pieces settings is_later division))
         (by_case (is_whole settings is_later paragraph) refl laid_out)
       where
         by_case : (whole : Bool) → is_whole settings is_later paragraph ≡ whole
             → MatchBool whole (division ≡ (word_of paragraph ∷ []) ∷ [])
-            (Divides paragraph division)
+            (Divides is_later paragraph division)
             → MatchBool whole
             (IsNarrow paragraph
             → All (λ line. closed_width sizes_of line ≤ settings.width) division)
-            (OnlyCharactersPass (widths_of settings) 0 division)
+            (OnlyCharactersPass (widths_of settings is_later) 0 division)
         by_case true whole one = λ narrow.
             subst (All (λ line. closed_width sizes_of line ≤ settings.width)) (sym one)
             (All-cons (λ line. closed_width sizes_of line ≤ settings.width)
@@ -253,22 +257,54 @@ module _ (settings : Settings) (Words : List ℕ → List WordText → Type 0)
             (whole_line-within settings is_later paragraph utf8 whole narrow)
             (All-nil (λ line. closed_width sizes_of line ≤ settings.width)))
         by_case false whole (pieces, are, divided) =
-            long_lines settings Words Points texts cuts hyphens paragraph division utf8 breaks
-            (pieces, are, greedy (widths_of settings) pieces division divided)
+            long_lines settings Words Points texts cuts hyphens is_later paragraph division utf8
+            breaks (pieces, are, greedy (widths_of settings is_later) pieces division divided)
+
+    -- where later paragraphs are even
+    abbrev EvenIfNarrow : Bool → List ℕ → List LineParts → Type 0
+    EvenIfNarrow is_later paragraph parts =
+        IsNarrow paragraph → All (KeepsToWidth settings.width) parts
+
+    paragraph-even : ((text points : List ℕ) → Points text points
+        → All (λ p. ends_in_hyphen (take p text) ≡ true) points)
+        → ((widths : List ℕ) (pieces : List WordText) (division : List (List WordText))
+        → Lines widths pieces division → IsDividedBy Greedy sizes_of widths pieces division)
+        → settings.break_words ≡ true → settings.even_paragraphs ≡ true → (is_later : Bool)
+        (paragraph : List ℕ) (parts : List LineParts) → IsUtf8 paragraph
+        → AreParts is_later paragraph parts → EvenIfNarrow is_later paragraph parts
+    paragraph-even hyphens greedy breaks even is_later paragraph parts utf8
+        (division, laid_out, is) narrow =
+        subst (All (KeepsToWidth settings.width)) (sym is)
+        (by_case (is_whole settings is_later paragraph) refl laid_out)
+      where
+        by_case : (whole : Bool) → is_whole settings is_later paragraph ≡ whole
+            → MatchBool whole (division ≡ (word_of paragraph ∷ []) ∷ [])
+            (Divides is_later paragraph division)
+            → All (KeepsToWidth settings.width) (parts_from settings is_later division)
+        by_case true whole one =
+            subst (λ lines. All (KeepsToWidth settings.width) (parts_from settings is_later lines))
+            (sym one) (whole-even settings is_later paragraph whole
+            (whole_line-within settings is_later paragraph utf8 whole narrow))
+        by_case false whole (pieces, are, divided) =
+            division-even settings even is_later division
+            (long_lines settings Words Points texts cuts hyphens is_later paragraph division utf8
+            breaks (pieces, are, greedy (widths_of settings is_later) pieces division divided))
 
     divided-tile : ((widths : List ℕ) (pieces : List WordText) (division : List (List WordText))
         → Lines widths pieces division → flat division ≡ pieces)
-        → (paragraph : List ℕ) (division : List (List WordText)) → IsUtf8 paragraph
-        → Divides paragraph division → tiled (flat division) ≡ paragraph
-    divided-tile whole paragraph division utf8 (pieces, are, divided) =
-        ap tiled (whole (widths_of settings) pieces division divided)
+        → (is_later : Bool) (paragraph : List ℕ) (division : List (List WordText))
+        → IsUtf8 paragraph → Divides is_later paragraph division
+        → tiled (flat division) ≡ paragraph
+    divided-tile whole is_later paragraph division utf8 (pieces, are, divided) =
+        ap tiled (whole (widths_of settings is_later) pieces division divided)
         ∙ pieces-tile settings Words Points texts cuts paragraph pieces utf8 are
 
-    divided-starts : (paragraph : List ℕ) (division : List (List WordText)) → IsUtf8 paragraph
-        → Divides paragraph division → StartsWith paragraph (tiled (flat division))
-    divided-starts paragraph division utf8 divided =
-        let (rest, is) = divided-begin settings Words Points texts cuts Lines begins paragraph
-        division utf8 divided in
+    divided-starts : (is_later : Bool) (paragraph : List ℕ) (division : List (List WordText))
+        → IsUtf8 paragraph → Divides is_later paragraph division
+        → StartsWith paragraph (tiled (flat division))
+    divided-starts is_later paragraph division utf8 divided =
+        let (rest, is) = divided-begin settings Words Points texts cuts Lines begins is_later
+        paragraph division utf8 divided in
         starts_with_of_append paragraph (tiled (flat division)) rest (sym is)
 
     -- what is promised where the splitter and the algorithm are built in
@@ -293,7 +329,7 @@ module _ (settings : Settings) (Words : List ℕ → List WordText → Type 0)
           some = λ built_in.
               let some = groups-some settings paragraphs are.groups
               (parts_past-some (ending_bytes settings.line_ending) 0 text)
-              (groups-map AreParts (λ is_later paragraph parts. 0 < length parts)
+              (groups-map IsUtf8 AreParts (λ is_later paragraph parts. 0 < length parts)
               (paragraph-some (divided-some built_in))
               false paragraphs are.groups all are.defined) in
               omega (arith, some, ap length are.given, length-map (flat are.groups) line_from);
@@ -304,18 +340,40 @@ module _ (settings : Settings) (Words : List ℕ → List WordText → Type 0)
               paragraphs are.groups all are.defined;
           adds = record {
             indents = groups-indented settings false paragraphs are.groups
-                (groups-map AreParts
+                (groups-map IsUtf8 AreParts
                 (λ is_later paragraph parts. AreIndented settings is_later parts)
                 paragraph-indented false paragraphs are.groups all are.defined);
             no_hyphen = λ built_in. groups-all HasNoHyphen false paragraphs are.groups
-                (groups-map AreParts (λ is_later paragraph parts. All HasNoHyphen parts)
+                (groups-map IsUtf8 AreParts (λ is_later paragraph parts. All HasNoHyphen parts)
                 (paragraph-no_hyphen (hyphens built_in)) false paragraphs are.groups all
                 are.defined);
           };
-          keeps = λ first built_in breaks. groups-map AreParts (KeepToWidths settings)
+          keeps = λ first built_in breaks. groups-map IsUtf8 AreParts (KeepToWidths settings)
               (paragraph-keeps (hyphens built_in) (greedy first) breaks) false paragraphs are.groups
               all are.defined;
         }
+
+    -- where the splitter is built in and lines are divided by first fit
+    pub LinesKeepToWidth-by : ((text points : List ℕ) → Points text points
+        → All (λ p. ends_in_hyphen (take p text) ≡ true) points)
+        → ((widths : List ℕ) (pieces : List WordText) (division : List (List WordText))
+        → Lines widths pieces division → IsDividedBy Greedy sizes_of widths pieces division)
+        → (text : List ℕ) (lines : List Line) → IsUtf8 text
+        → settings.even_paragraphs ≡ true → settings.break_words ≡ true → IsNarrow text
+        → AreTextLines settings Divides text lines → LinesKeepToWidth settings Divides text lines
+    LinesKeepToWidth-by hyphens greedy text lines utf8 even breaks narrow are =
+        let ending = settings.line_ending in
+        let paragraphs = paragraphs_of ending text in (
+          are,
+          groups-all (KeepsToWidth settings.width) false paragraphs are.groups
+              (groups-map IsNarrow EvenIfNarrow
+              (λ is_later paragraph parts. All (KeepsToWidth settings.width) parts)
+              (λ is_later paragraph parts narrow keeps. keeps narrow) false paragraphs are.groups
+              (paragraphs_of-narrow ending text utf8 narrow)
+              (groups-map IsUtf8 AreParts EvenIfNarrow
+              (paragraph-even hyphens greedy breaks even) false paragraphs are.groups
+              (paragraphs_of-utf8 ending text utf8) are.defined)),
+        )
 
 -- by built-in parts
 greedy-is : (algorithm : Algorithm) → Some algorithm ≡ Some Greedy → algorithm ≡ Greedy
@@ -362,3 +420,19 @@ module _ {E C : Type 0} {e : _} {c : _} (options : Options E C e c) where
       (λ first widths pieces division. MayDivide-greedy algorithm (λ w. w) widths pieces division
       first)
       text lines utf8 are
+
+  pub LinesKeepToWidth-options : (text : List ℕ) (lines : List Line) → IsUtf8 text
+      → options.even_paragraphs ≡ true → options.wrap_algorithm ≡ FirstFit
+      → splitter_view options.word_splitter ≢ None → options.break_words ≡ true → IsNarrow text
+      → AreTextLines (settings_view options) (DividesBy options) text lines
+      → LinesKeepToWidth (settings_view options) (DividesBy options) text lines
+  LinesKeepToWidth-options text lines utf8 even first built_in breaks narrow are =
+      let algorithm = options.wrap_algorithm in
+      LinesKeepToWidth-by (settings_view options) (MaySeparate options.word_separator)
+      (MaySplit options.word_splitter) (MayDivide algorithm (λ w. w))
+      (MaySeparate-texts options.word_separator) (MaySplit-cuts options.word_splitter)
+      (MayDivide-begins algorithm (λ w. w))
+      (MaySplit-hyphens options.word_splitter built_in)
+      (λ widths pieces division. MayDivide-greedy algorithm (λ w. w) widths pieces division
+      (ap algorithm_view first))
+      text lines utf8 even breaks narrow are

@@ -32,37 +32,40 @@ divided_one (LeastCost penalties) sizes widths xs lines others equal one other =
     chosen_one (λ x. priced_at penalties (sizes x)) penalties widths xs lines others
     (one.chosen equal) (other.chosen equal)
 
-pub division_one : (settings : Settings) (algorithm : Algorithm) (splitter : Splitter) (paragraph : List ℕ) (division other : List (List WordText))
-    → DividesAs splitter algorithm settings paragraph
-    division → DividesAs splitter algorithm settings paragraph other → division ≡ other
-division_one settings algorithm splitter paragraph division other (pieces, are, divided)
+pub division_one : (settings : Settings) (algorithm : Algorithm) (splitter : Splitter)
+    (is_later : Bool) (paragraph : List ℕ) (division other : List (List WordText))
+    → DividesAs splitter algorithm settings is_later paragraph division
+    → DividesAs splitter algorithm settings is_later paragraph other → division ≡ other
+division_one settings algorithm splitter is_later paragraph division other (pieces, are, divided)
     (others, others_are, others_divided) =
     let same = ArePieces-is settings splitter paragraph others others_are
     ∙ sym (ArePieces-is settings splitter paragraph pieces are) in
-    divided_one algorithm sizes_of (widths_of settings) pieces division other
+    divided_one algorithm sizes_of (widths_of settings is_later) pieces division other
     (two_widths _ _) divided (subst
-    (λ ws. IsDividedBy algorithm sizes_of (widths_of settings) ws other) same
+    (λ ws. IsDividedBy algorithm sizes_of (widths_of settings is_later) ws other) same
     others_divided)
 
 -- where a paragraph has one division
-module _ (settings : Settings) (Divides : List ℕ → List (List WordText) → Type 0)
-    (one : (paragraph : List ℕ) (division other : List (List WordText)) → Divides paragraph division
-    → Divides paragraph other → division ≡ other) where
+module _ (settings : Settings) (Divides : Bool → List ℕ → List (List WordText) → Type 0)
+    (one : (is_later : Bool) (paragraph : List ℕ) (division other : List (List WordText))
+    → Divides is_later paragraph division → Divides is_later paragraph other → division ≡ other) where
   pub divided_parts_one : (is_later : Bool) (paragraph : List ℕ) (parts others : List LineParts)
       → AreDividedParts settings Divides is_later paragraph parts
       → AreDividedParts settings Divides is_later paragraph others → parts ≡ others
   divided_parts_one is_later paragraph parts others (division, divided, is)
       (other, other_divided, other_is) =
       is ∙ ap (parts_from settings is_later)
-      (one paragraph division other divided other_divided) ∙ sym other_is
+      (one is_later paragraph division other divided other_divided) ∙ sym other_is
 
-  laid_out_one : (paragraph : List ℕ) (division other : List (List WordText)) (whole : Bool)
-      → MatchBool whole (division ≡ (word_of paragraph ∷ []) ∷ []) (Divides paragraph division)
-      → MatchBool whole (other ≡ (word_of paragraph ∷ []) ∷ []) (Divides paragraph other)
+  laid_out_one : (is_later : Bool) (paragraph : List ℕ) (division other : List (List WordText))
+      (whole : Bool)
+      → MatchBool whole (division ≡ (word_of paragraph ∷ []) ∷ [])
+      (Divides is_later paragraph division)
+      → MatchBool whole (other ≡ (word_of paragraph ∷ []) ∷ []) (Divides is_later paragraph other)
       → division ≡ other
-  laid_out_one paragraph division other true is other_is = is ∙ sym other_is
-  laid_out_one paragraph division other false divided other_divided =
-      one paragraph division other divided other_divided
+  laid_out_one is_later paragraph division other true is other_is = is ∙ sym other_is
+  laid_out_one is_later paragraph division other false divided other_divided =
+      one is_later paragraph division other divided other_divided
 
   pub paragraph_one : (is_later : Bool) (paragraph : List ℕ) (parts others : List LineParts)
       → AreParagraphParts settings Divides is_later paragraph parts
@@ -70,7 +73,7 @@ module _ (settings : Settings) (Divides : List ℕ → List (List WordText) → 
   paragraph_one is_later paragraph parts others (division, laid_out, is)
       (other, other_laid_out, other_is) =
       is ∙ ap (parts_from settings is_later)
-      (laid_out_one paragraph division other (is_whole settings is_later paragraph) laid_out
+      (laid_out_one is_later paragraph division other (is_whole settings is_later paragraph) laid_out
       other_laid_out) ∙ sym other_is
 
   groups_one : (is_later : Bool) (paragraphs : List (List ℕ))

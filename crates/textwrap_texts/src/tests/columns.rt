@@ -1,5 +1,4 @@
 //! Texts in columns beside one another.
-use super::given::end_nowhere;
 use super::with_indents;
 use LineEnding::{CRLF, LF};
 use std::alloc::{AllocError, Global};
@@ -7,6 +6,7 @@ use std::process::Abort;
 use std::test::Fail;
 use textwrap::wrap_algorithms::LineEnds;
 use textwrap::{LineEnding, Options, WrapAlgorithm, WrapError, wrap_columns};
+use textwrap_given::end_nowhere;
 
 /// The rows, with a line feed between each two.
 fn joined(alloc: Global, rows: &[String]) -> Result<String, AllocError> {

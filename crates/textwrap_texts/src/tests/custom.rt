@@ -1,9 +1,4 @@
 //! Words, points and lines by functions of the caller.
-use super::are_borrowed;
-use super::given::{
-    cut_everywhere, cut_foobar, cut_nowhere, end_all, end_early, end_nowhere, end_twice,
-    refuse_line, refuse_word, refuse_words, split_in_middle,
-};
 use super::wrapping::Kind::{Borrowed, Owned};
 use super::wrapping::{assert_borrowed, assert_wrapped};
 use std::borrow::CowStr;
@@ -15,6 +10,10 @@ use textwrap::word_splitters::{WordCuts, split_words};
 use textwrap::words::Word;
 use textwrap::wrap_algorithms::LineEnds;
 use textwrap::{Options, WordSeparator, WordSplitter, WrapAlgorithm, WrapError, wrap};
+use textwrap_given::{
+    are_borrowed, cut_everywhere, cut_foobar, cut_nowhere, end_all, end_early, end_nowhere,
+    end_twice, refuse_line, refuse_word, refuse_words, split_in_middle,
+};
 
 /// The options of this width that cut lines into words here.
 fn with_cuts<'a>(width: usize, line_cuts: LineCuts) -> Options<'a> {

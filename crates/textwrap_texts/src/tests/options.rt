@@ -15,6 +15,7 @@ fn unlike_defaults<'a>() -> Options<'a> {
         word_separator: WordSeparator::AsciiSpace,
         word_splitter: NoHyphenation,
         preserve_trailing_space: true,
+        even_paragraphs: true,
     }
 }
 
@@ -29,6 +30,7 @@ fn are_same(options: &Options<'_>, expected: &Options<'_>) -> bool {
         && options.word_separator == expected.word_separator
         && options.word_splitter == expected.word_splitter
         && options.preserve_trailing_space == expected.preserve_trailing_space
+        && options.even_paragraphs == expected.even_paragraphs
 }
 
 /// Options of a width have the defaults in all other fields.
@@ -44,6 +46,7 @@ fn a_width_has_the_defaults(rt: HostRuntime) {
         word_separator: WordSeparator::AsciiSpace,
         word_splitter: HyphenSplitter,
         preserve_trailing_space: false,
+        even_paragraphs: false,
     };
     assert!(rt; are_same(&Options::new(80), &defaults));
     assert!(rt; are_same(&Options::from(80), &defaults));
@@ -61,7 +64,8 @@ fn each_field_has_its_builder(rt: HostRuntime) {
         .wrap_algorithm(WrapAlgorithm::FirstFit)
         .word_separator(WordSeparator::new())
         .word_splitter(NoHyphenation)
-        .preserve_trailing_space(true);
+        .preserve_trailing_space(true)
+        .even_paragraphs(true);
     assert!(rt; are_same(&options, &unlike_defaults()));
 }
 

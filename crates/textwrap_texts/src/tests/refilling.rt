@@ -16,6 +16,7 @@ fn have_layout(
         && options.initial_indent == indents[0]
         && options.subsequent_indent == indents[1]
         && options.line_ending == ending
+        && !options.even_paragraphs
 }
 
 /// Whether `unfill` gives this text, and options with this width, these indents and this ending.

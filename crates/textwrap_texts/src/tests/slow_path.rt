@@ -1,10 +1,11 @@
 //! The calls of the module `fuzzing`.
-use super::{are_borrowed, assert_text, with_endings, with_indents};
+use super::{assert_text, with_endings, with_indents};
 use std::alloc::Global;
 use std::borrow::CowStr;
 use std::test::Fail;
 use textwrap::fuzzing::{fill_slow_path, wrap_single_line, wrap_single_line_slow_path};
 use textwrap::{LineEnding, Options, WrapAlgorithm, WrapError};
+use textwrap_given::are_borrowed;
 
 /// A later paragraph is one line if it has fewer bytes than the width has columns, though the slow
 /// path would divide it at the width that the initial indent leaves.

@@ -1,11 +1,12 @@
 //! The lines of `wrap`.
-use super::{are_borrowed, by_first_fit, with_endings, with_indents};
+use super::{by_first_fit, with_endings, with_indents};
 use std::alloc::{AllocError, Global};
 use std::borrow::CowStr;
 use std::process::Abort;
 use std::test::Fail;
 use textwrap::wrap_algorithms::{Penalties, WrapError};
 use textwrap::{LineEnding, Options, WrapAlgorithm, fill, wrap};
+use textwrap_given::are_borrowed;
 
 /// A line of the text itself, or one of its own.
 #[derive(Clone, Copy, Debug, Drop, PartialEq)]

@@ -4,7 +4,7 @@ use Rattle.textwrap_lines.specs.Options.{settings_view}
 use Rattle.textwrap_lines.specs.Paragraph.{line_view, DividesBy, AreParagraphParts}
 use Rattle.textwrap_lines.proofs.Text.Lines.{paragraphs_left, paragraphs_left-split, HasGroups}
 use Rattle.textwrap_lines.proofs.Text.Lines.{HasGroups-start, HasGroups-more, HasGroups-end}
-use Rattle.textwrap_lines.proofs.Text.Promises.{IsWrapped-options}
+use Rattle.textwrap_lines.proofs.Text.Promises.{IsWrapped-options, LinesKeepToWidth-options}
 use Rattle.textwrap_lines.proofs.Paragraph.BuiltIn.{lines-as}
 use Rattle.textwrap_lines.proofs.wrapping.wrap.Goals as goal
 
@@ -42,6 +42,11 @@ returns-clause-lines g c =
     (ap (paragraphs_left options.line_ending) c.in_default.is) c.loop-rest.invariant in
     IsWrapped-options options c.args.text.now lines c.utf8.text
     (HasGroups-end settings (DividesBy options) c.args.text.now lines all)
+
+pub returns-clause-even : goal.returns-clause-even
+returns-clause-even g c = λ even first built_in breaks narrow.
+    LinesKeepToWidth-options c.args.options c.args.text.now (map line_view c.loop-rest.lines.items)
+    c.utf8.text even first built_in breaks narrow (returns-clause-lines g c).are
 
 pub returns-clause-built_in : goal.returns-clause-built_in
 returns-clause-built_in g c = λ settings splitter algorithm parts.

@@ -1,11 +1,12 @@
-use Rattle.std.proofs.Common.{rules, List, Vec, Bor, ◌≡◌, ◌++◌, length, map, nat_lt, ap, ◌∙◌, sym, subst, arith}
+use Rattle.std.proofs.Common.{rules, List, Vec, Bor, ◌≡◌, ◌++◌, length, map, nat_lt, not, ap, ◌∙◌}
+use Rattle.std.proofs.Common.{sym, subst, arith}
 use Rattle.std.specs.Io.{StartsWith}
 use Rattle.std.specs.List.{flat_map}
 use Rattle.std.proofs.Transfers.{starts_with_of_append}
 use Rattle.std.proofs.lemmas.List.{map-append}
 use Rattle.textwrap_base.specs.Words.{word_view, tiled, Tiles}
 use Rattle.textwrap_base.specs.declared.words.Word.{Word}
-use Rattle.textwrap_base.specs.WrapAlgorithms.{algorithm_view}
+use Rattle.textwrap_base.specs.WrapAlgorithms.{MayDivide, algorithm_view}
 use Rattle.textwrap_base.proofs.Division.Ends.{MayDivide-begins, MayDivide-greedy}
 use Rattle.textwrap_base.proofs.ListLemmas.{flat}
 use Rattle.textwrap_base.proofs.Word.Tiling.{tiled-append}
@@ -15,7 +16,7 @@ use Rattle.textwrap_lines.specs.Paragraph.{widths_of, AreDividedParts, DividesBy
 use Rattle.textwrap_lines.specs.WordSeparators.{MaySeparate}
 use Rattle.textwrap_lines.specs.WordSplitters.{MaySplit}
 use Rattle.textwrap_lines.proofs.Paragraph.LongLines.{long_lines}
-use Rattle.textwrap_lines.proofs.Paragraph.Lines.{tiled-lines, AreDividedParts-from}
+use Rattle.textwrap_lines.proofs.Paragraph.Lines.{not_empty, tiled-lines, AreDividedParts-from}
 use Rattle.textwrap_lines.proofs.Word.GivenCuts.{MaySeparate-texts, MaySplit-cuts}
 use Rattle.textwrap_lines.proofs.Word.GivenCuts.{MaySplit-hyphens}
 use Rattle.textwrap_lines.proofs.Paragraph.Overflow.{only-memory, appends-none}
@@ -27,7 +28,7 @@ push_lines-requires g c =
     let paragraph = c.args.line.now in
     let division = map (λ line. line.now) c.in_ok-division.division.items in
     let (rest, is) = MayDivide-begins options.wrap_algorithm word_view
-    (widths_of (settings_view options)) c.deref.result.now division
+    (widths_of (settings_view options) (not c.is_empty.result)) c.deref.result.now division
     c.in_ok-division.ensures.divided in
     let covered : flat_map (λ line. tiled (map word_view line.now)) c.deref-2.result.now
     ≡ tiled (map word_view (flat division)) =
@@ -64,10 +65,14 @@ returns-in-Ok-clause-appended g c =
     let are = subst (λ ws. ArePieces settings (MaySeparate options.word_separator)
     (MaySplit options.word_splitter) c.args.line.now (map word_view ws)) (sym c.deref.ensures.value)
     c.in_ok-pieces.ensures.pieces in
+    let is_out = ap not c.is_empty.ensures ∙ not_empty c.args.lines.now.len
+    (length c.args.lines.now.items) (omega arith) in
     let parts = AreDividedParts-from (λ line. line.now) settings
     (MaySeparate options.word_separator) (MaySplit options.word_splitter) options.wrap_algorithm
     is_later c.args.line.now c.deref.result.now c.in_ok-division.division.items are
-    c.in_ok-division.ensures.divided in
+    (subst (λ b. MayDivide options.wrap_algorithm word_view (widths_of settings b)
+    c.deref.result.now (map (λ line. line.now) c.in_ok-division.division.items)) is_out
+    c.in_ok-division.ensures.divided) in
     record {
       lines = (
         parts_from settings is_later
@@ -86,16 +91,17 @@ pub returns-in-Ok-clause-overlong : goal.returns-in-Ok-clause-overlong
 returns-in-Ok-clause-overlong g c =
     let options = c.args.options.now in
     let settings = settings_view options in
+    let is_later = nat_lt 0 (length c.args.lines.now.items) in
     let appended = returns-in-Ok-clause-appended g c in
     let (parts, (division, (pieces, are, divided), is), added) = appended.lines in
     λ first built_in breaks.
-    let greedy = MayDivide-greedy options.wrap_algorithm (λ w. w) (widths_of settings) pieces
-    division (ap algorithm_view first) divided in (
+    let greedy = MayDivide-greedy options.wrap_algorithm (λ w. w) (widths_of settings is_later)
+    pieces division (ap algorithm_view first) divided in (
       division,
       (pieces, are, divided),
       added ∙ ap (λ ps. map line_view c.args.lines.now.items ++ map line_from ps) is,
       long_lines settings (MaySeparate options.word_separator) (MaySplit options.word_splitter)
           (MaySeparate-texts options.word_separator) (MaySplit-cuts options.word_splitter)
-          (MaySplit-hyphens options.word_splitter built_in) c.args.line.now division c.utf8.line
-          breaks (pieces, are, greedy),
+          (MaySplit-hyphens options.word_splitter built_in) is_later c.args.line.now division
+          c.utf8.line breaks (pieces, are, greedy),
     )

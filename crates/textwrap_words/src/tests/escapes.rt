@@ -1,9 +1,9 @@
 //! Texts with escape sequences that are cut short.
-use super::are_borrowed;
 use super::words::are_words;
 use std::test::Fail;
 use textwrap::words::{Word, break_words, display_width, strip_ansi_escape_sequences};
 use textwrap::{Options, wrap};
+use textwrap_given::are_borrowed;
 
 /// A sequence that is cut short goes on in the characters after it, up to one that ends it or to the
 /// end of the text. It has no columns and is not broken: at 1 column, no piece and no line has more

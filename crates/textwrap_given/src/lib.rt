@@ -1,10 +1,13 @@
-//! Functions that say where words and lines end, for the tests of [`custom`](super::custom) and
-//! [`algorithms`](super::algorithms).
+//! Functions of a caller, which say where words and lines end, and a test of lines: what the tests
+//! of `textwrap_texts` and `textwrap_words` share.
+#![tactic(auto)]
+
 ghost use Rattle.std.specs.Prelude.{IfOk};
 ghost use Rattle.textwrap.specs.Cuts.{AreCuts, AreInnerCuts};
 ghost use Rattle.textwrap.specs.LineEnds.{AreEnds};
 
 use std::alloc::{AllocError, Global};
+use std::borrow::CowStr;
 use textwrap::words::Word;
 
 /// Those of the wanted cuts that the text may have, one after another.
@@ -24,7 +27,7 @@ fn cuts_at(alloc: Global, text: &str, wanted: &[usize]) -> Result<Vec<usize>, Al
 }
 
 /// Those of the wanted ends that lines of the words may have, one after another.
-pub(super) fn ends_at(
+pub fn ends_at(
     alloc: Global,
     words: &[Word<'_>],
     wanted: &[usize],
@@ -43,7 +46,7 @@ pub(super) fn ends_at(
 }
 
 /// Cuts `foobar` in its middle, and no other line.
-pub(super) fn cut_foobar(alloc: Global, line: &str) -> Result<Vec<usize>, AllocError>
+pub fn cut_foobar(alloc: Global, line: &str) -> Result<Vec<usize>, AllocError>
     ensures { IfOk result (λ cuts. AreInnerCuts line.now cuts.items) }
 {
     let wanted: &[usize] = if line == "foobar" { &[3] } else { &[] };
@@ -51,21 +54,21 @@ pub(super) fn cut_foobar(alloc: Global, line: &str) -> Result<Vec<usize>, AllocE
 }
 
 /// Cuts no line.
-pub(super) fn cut_nowhere(alloc: Global, line: &str) -> Result<Vec<usize>, AllocError>
+pub fn cut_nowhere(alloc: Global, line: &str) -> Result<Vec<usize>, AllocError>
     ensures { IfOk result (λ cuts. AreInnerCuts line.now cuts.items) }
 {
     cuts_at(alloc, line, &[])
 }
 
 /// Cuts a line of up to five bytes between each two characters.
-pub(super) fn cut_everywhere(alloc: Global, line: &str) -> Result<Vec<usize>, AllocError>
+pub fn cut_everywhere(alloc: Global, line: &str) -> Result<Vec<usize>, AllocError>
     ensures { IfOk result (λ cuts. AreInnerCuts line.now cuts.items) }
 {
     cuts_at(alloc, line, &[1, 2, 3, 4])
 }
 
 /// Refuses `baz`, and cuts no other line.
-pub(super) fn refuse_line(alloc: Global, line: &str) -> Result<Vec<usize>, AllocError>
+pub fn refuse_line(alloc: Global, line: &str) -> Result<Vec<usize>, AllocError>
     ensures { IfOk result (λ cuts. AreInnerCuts line.now cuts.items) }
 {
     if line == "baz" {
@@ -75,7 +78,7 @@ pub(super) fn refuse_line(alloc: Global, line: &str) -> Result<Vec<usize>, Alloc
 }
 
 /// Splits `foobar` and `fo-bar` in the middle, and no other word.
-pub(super) fn split_in_middle(alloc: Global, word: &str) -> Result<Vec<usize>, AllocError>
+pub fn split_in_middle(alloc: Global, word: &str) -> Result<Vec<usize>, AllocError>
     ensures { IfOk result (λ points. AreCuts word.now points.items) }
 {
     let wanted: &[usize] = match word {
@@ -86,7 +89,7 @@ pub(super) fn split_in_middle(alloc: Global, word: &str) -> Result<Vec<usize>, A
 }
 
 /// Refuses `baz`, and splits no other word.
-pub(super) fn refuse_word(alloc: Global, word: &str) -> Result<Vec<usize>, AllocError>
+pub fn refuse_word(alloc: Global, word: &str) -> Result<Vec<usize>, AllocError>
     ensures { IfOk result (λ points. AreCuts word.now points.items) }
 {
     if word == "baz" {
@@ -96,7 +99,7 @@ pub(super) fn refuse_word(alloc: Global, word: &str) -> Result<Vec<usize>, Alloc
 }
 
 /// Ends lines of six words after the first, the third and the last of them.
-pub(super) fn end_all(
+pub fn end_all(
     alloc: Global,
     words: &[Word<'_>],
     _line_widths: &[usize],
@@ -107,7 +110,7 @@ pub(super) fn end_all(
 }
 
 /// Ends lines after the first and the third word; later words are in no line.
-pub(super) fn end_early(
+pub fn end_early(
     alloc: Global,
     words: &[Word<'_>],
     _line_widths: &[usize],
@@ -118,7 +121,7 @@ pub(super) fn end_early(
 }
 
 /// Gives no line.
-pub(super) fn end_nowhere(
+pub fn end_nowhere(
     alloc: Global,
     words: &[Word<'_>],
     _line_widths: &[usize],
@@ -129,7 +132,7 @@ pub(super) fn end_nowhere(
 }
 
 /// Ends two lines after the first of six words, so that the second line is empty.
-pub(super) fn end_twice(
+pub fn end_twice(
     alloc: Global,
     words: &[Word<'_>],
     _line_widths: &[usize],
@@ -140,7 +143,7 @@ pub(super) fn end_twice(
 }
 
 /// Refuses words that begin with `baz`, and gives all others one line.
-pub(super) fn refuse_words(
+pub fn refuse_words(
     alloc: Global,
     words: &[Word<'_>],
     _line_widths: &[usize],
@@ -151,4 +154,14 @@ pub(super) fn refuse_words(
         return Err(AllocError);
     }
     ends_at(alloc, words, &[words.len()])
+}
+
+/// Whether the lines have these texts, each line a part of the text that was wrapped.
+pub fn are_borrowed(lines: &[CowStr<'_>], expected: &[&str]) -> bool {
+    for (line, expected) in lines.iter().zip(expected) {
+        if !matches!(line, CowStr::Borrowed(_)) || line.as_str() != *expected {
+            return false;
+        }
+    }
+    lines.len() == expected.len()
 }

@@ -1,5 +1,4 @@
 //! Texts at the widths at the ends of their type.
-use super::{by_first_fit, with_indents};
 use std::alloc::Global;
 use std::borrow::CowStr;
 use std::process::Abort;
@@ -176,7 +175,9 @@ fn texts_are_filled_at_the_ends_of_widths(rt: HostRuntime) -> Result<(), Fail> {
     ];
     for &(text, initial, subsequent, least, first) in rows {
         for (i, width) in END_WIDTHS.iter().enumerate() {
-            let options = with_indents(*width, initial, subsequent);
+            let options = Options::new(*width)
+                .initial_indent(initial)
+                .subsequent_indent(subsequent);
             assert_laid_out(&rt, text, &options, least[i])?;
             let options = options.wrap_algorithm(WrapAlgorithm::FirstFit);
             assert_laid_out(&rt, text, &options, first[i])?;
@@ -231,7 +232,11 @@ fn texts_are_refilled_at_the_ends_of_widths(rt: HostRuntime) -> Result<(), Fail>
             let refilled = refill(rt.alloc(), text, Options::new(width))?;
             let expected = if is_narrow { least } else { wide };
             assert_eq!(rt; refilled.as_str(), expected, "{text:?} at {width}");
-            let refilled = refill(rt.alloc(), text, by_first_fit(width))?;
+            let refilled = refill(
+                rt.alloc(),
+                text,
+                Options::new(width).wrap_algorithm(WrapAlgorithm::FirstFit),
+            )?;
             let expected = if is_narrow { first } else { wide };
             assert_eq!(rt;
                 refilled.as_str(),

@@ -2,13 +2,13 @@
 ghost use Rattle.std.specs.Prelude.{IfOk};
 ghost use Rattle.textwrap.specs.LineEnds.{AreEnds};
 
-use super::given::ends_at;
 use std::alloc::{AllocError, Global};
 use std::process::Abort;
 use std::test::Fail;
 use textwrap::words::Word;
 use textwrap::wrap_algorithms::{LineEnds, Penalties};
 use textwrap::{WrapAlgorithm, WrapError};
+use textwrap_given::ends_at;
 
 const MAX: usize = usize::MAX;
 

@@ -1,5 +1,4 @@
 //! Texts of one character: of no columns, one, two and three, a blank, a line ending, a hyphen.
-use super::by_first_fit;
 use super::ends::assert_laid_out;
 use super::words::{are_offsets, are_words};
 use std::alloc::Global;
@@ -94,7 +93,12 @@ fn assert_filled_at_each_width(
 ) -> Result<(), WrapError> {
     for width in [0, 1, 2, 3, 4, usize::MAX] {
         assert_laid_out(rt, text, &Options::new(width), expected)?;
-        assert_laid_out(rt, text, &by_first_fit(width), expected)?;
+        assert_laid_out(
+            rt,
+            text,
+            &Options::new(width).wrap_algorithm(WrapAlgorithm::FirstFit),
+            expected,
+        )?;
         let mut filled = String::from_str(rt.alloc(), text)?;
         fill_inplace(rt.alloc(), &mut filled, width)?;
         assert_eq!(rt; filled.as_str(), text, "{text:?} at {width}");

@@ -1,8 +1,8 @@
 use Rattle.std.proofs.Common.{ap, ◌∙◌}
 use Rattle.textwrap.proofs.Cutting.{EndWith-push, inner-push, inner-cuts}
-use Rattle.textwrap_texts.proofs.tests.given.cuts_at.Goals as goal
-use Rattle.textwrap_texts.proofs.tests.given.cuts_at.Goals.{then-cut-last+then-cut-text+then-is_char_boundary+in_ok-push}
-use Rattle.textwrap_texts.proofs.tests.given.cuts_at.Goals.{else-cut-last}
+use Rattle.textwrap_given.proofs.cuts_at.Goals as goal
+use Rattle.textwrap_given.proofs.cuts_at.Goals.{then-cut-last+then-cut-text+then-is_char_boundary+in_ok-push}
+use Rattle.textwrap_given.proofs.cuts_at.Goals.{else-cut-last}
 
 pub loop-cut-preserved : goal.loop-cut-preserved
 loop-cut-preserved c = elim c.if-cut-last.branch [

@@ -1,6 +1,4 @@
 //! Each call with each of its allocations refused in turn.
-use super::given::{cut_everywhere, end_all, split_in_middle};
-use super::with_indents;
 use super::words::are_offsets;
 use std::alloc::{AllocError, Allocator, Global};
 use std::borrow::CowStr;
@@ -21,6 +19,7 @@ use textwrap::{
     Options, WordSeparator, WordSplitter, WrapAlgorithm, WrapError, dedent, fill, indent, refill,
     unfill, wrap, wrap_columns,
 };
+use textwrap_given::{cut_everywhere, end_all, split_in_middle};
 use textwrap_heap::Heap;
 
 /// A call on an input of its own.
@@ -267,7 +266,9 @@ const APPENDED: &str = "x|  To be,|  or not|  to be:|  that|  is the|  question|
 impl Call for OnText {
     fn answer<R: Abort + AllocGlobal>(self, rt: &R, heap: &Heap) -> Result<String, WrapError> {
         let alloc = rt.alloc();
-        let options = with_indents(10, "* ", "  ");
+        let options = Options::new(10)
+            .initial_indent("* ")
+            .subsequent_indent("  ");
         Ok(match self {
             OnText::WrapByFirstFit => {
                 let options = options.wrap_algorithm(WrapAlgorithm::FirstFit);
@@ -316,7 +317,9 @@ fn appended<R: Abort + AllocGlobal>(
     heap: &Heap,
     slowly: bool,
 ) -> Result<String, WrapError> {
-    let options = with_indents(10, "* ", "  ");
+    let options = Options::new(10)
+        .initial_indent("* ")
+        .subsequent_indent("  ");
     let paragraph = "To be, or not to be: that is the question";
     let allowed = heap.left();
     heap.allow(1);

@@ -1,6 +1,6 @@
 use Rattle.textwrap.specs.Cuts.{AreInnerCuts}
 use Rattle.textwrap.proofs.Cutting.{EndWith}
-use Rattle.textwrap_texts.proofs.tests.given.cuts_at.Given as goal
+use Rattle.textwrap_given.proofs.cuts_at.Given as goal
 
 -- the cuts so far, and the last of them
 abbrev pub invariant-loop-cut : goal.invariant-loop-cut

@@ -1,5 +1,4 @@
 //! The columns of texts, and the widths of words.
-use super::assert_text;
 use std::test::Fail;
 use textwrap::words::{Fragment, Word, display_width, strip_ansi_escape_sequences};
 
@@ -59,7 +58,7 @@ fn only_visible_characters_are_left(rt: HostRuntime) -> Result<(), Fail> {
         ("\u{1b}\u{301}x", "x"),
     ] {
         let stripped = strip_ansi_escape_sequences(rt.alloc(), text)?;
-        assert_text(&rt, text, stripped.as_str(), visible);
+        assert_eq!(rt; stripped.as_str(), visible, "{text:?}");
     }
     Ok(())
 }

@@ -1,0 +1,82 @@
+-- Lemmas on lines that keep to the width, their indents with them: those of a paragraph whose first
+-- line is divided for the width that its own indent leaves.
+use Rattle.std.proofs.Common.{◌≡◌, ℕ, ◌+◌, ◌<◌, ◌≤◌, Bool, true, false, ◌&&◌, ◌==◌, nat_lt}
+use Rattle.std.proofs.Common.{List, [], ◌∷◌, All, length, cond, inl, inr, ⊎_elim, ap, ◌∙◌}
+use Rattle.std.proofs.Common.{arith}
+use Rattle.std.proofs.lemmas.Bool.{and_parts, cases_lt, eqb-true}
+use Rattle.std.proofs.lemmas.List.{nil_from_length}
+use Rattle.std.proofs.lemmas.List.Elements.{All-nil, All-cons}
+use Rattle.textwrap_base.specs.Division.{closed_width}
+use Rattle.textwrap_base.specs.Units.{text_width}
+use Rattle.textwrap_base.specs.Words.{WordText, sizes_of, word_of}
+use Rattle.textwrap_base.proofs.Word.Texts.{text_width-nil}
+use Rattle.textwrap_lines.specs.Options.{Settings}
+use Rattle.textwrap_lines.specs.Paragraph.{IsOneCharacter, OnlyCharactersPass, KeepsToWidth}
+use Rattle.textwrap_lines.specs.Paragraph.{first_width, later_width, width_after, widths_of}
+use Rattle.textwrap_lines.specs.Paragraph.{LineParts, indent_of, is_whole, parts_of, parts_from}
+use Rattle.textwrap_lines.proofs.Paragraph.LongLines.{later_is}
+
+module _ (settings : Settings) where
+  abbrev Keeps : LineParts → Type 0
+  Keeps = KeepsToWidth settings.width
+
+  abbrev own_width : Bool → ℕ
+  own_width is_later = width_after settings (indent_of settings is_later)
+
+  -- a line that is divided for the width that its own indent leaves
+  line-even : (is_later : Bool) (line : List WordText)
+      → (own_width is_later < closed_width sizes_of line → IsOneCharacter line)
+      → Keeps (parts_of settings is_later line)
+  line-even is_later [] one = inl (omega (arith, text_width-nil))
+  line-even is_later (w ∷ ws) one =
+      let indent = text_width (indent_of settings is_later) in
+      let line = w ∷ ws in
+      ⊎_elim (λ past. inr (inl past))
+      (λ room. ⊎_elim (λ past. inr (inr (one past)))
+      (λ within. inl (omega (arith, room, within)))
+      (cases_lt (own_width is_later) (closed_width sizes_of line)))
+      (cases_lt settings.width indent)
+
+  lines-even : (first number : ℕ) (lines : List (List WordText)) → 1 ≤ number
+      → OnlyCharactersPass (first ∷ later_width settings ∷ []) number lines
+      → All Keeps (parts_from settings true lines)
+  lines-even first number [] later only = All-nil Keeps
+  lines-even first number (line ∷ lines) later only =
+      let same = later_is first (later_width settings) number later in
+      All-cons Keeps (parts_of settings true line) (parts_from settings true lines)
+      (line-even true line (λ past. only.0 (omega (arith, same, past))))
+      (lines-even first (number + 1) lines (omega arith) only.1)
+
+  first_width-own : settings.even_paragraphs ≡ true → (is_later : Bool)
+      → first_width settings is_later ≡ own_width is_later
+  first_width-own even true = ap (λ b. cond (b && true) (later_width settings)
+      (width_after settings settings.initial_indent)) even
+  first_width-own even false = ap (λ b. cond (b && false) (later_width settings)
+      (width_after settings settings.initial_indent)) even
+
+  -- the lines of a division
+  pub division-even : settings.even_paragraphs ≡ true → (is_later : Bool)
+      (division : List (List WordText))
+      → OnlyCharactersPass (widths_of settings is_later) 0 division
+      → All Keeps (parts_from settings is_later division)
+  division-even even is_later [] only = All-nil Keeps
+  division-even even is_later (line ∷ lines) only =
+      let own = first_width-own even is_later in
+      All-cons Keeps (parts_of settings is_later line) (parts_from settings true lines)
+      (line-even is_later line (λ past. only.0 (omega (arith, own, past))))
+      (lines-even (first_width settings is_later) 1 lines (omega arith) only.1)
+
+  -- the line of a whole paragraph, which has no indent
+  pub whole-even : (is_later : Bool) (paragraph : List ℕ)
+      → is_whole settings is_later paragraph ≡ true
+      → closed_width sizes_of (word_of paragraph ∷ []) ≤ settings.width
+      → All Keeps (parts_from settings is_later ((word_of paragraph ∷ []) ∷ []))
+  whole-even is_later paragraph whole within =
+      let tests = and_parts (length (indent_of settings is_later) == 0)
+      (nat_lt (length paragraph) settings.width) whole in
+      let empty = nil_from_length (indent_of settings is_later)
+      (eqb-true (length (indent_of settings is_later)) 0 tests.0) in
+      let none : text_width (indent_of settings is_later) ≡ 0 = ap text_width empty
+      ∙ text_width-nil in
+      All-cons Keeps (parts_of settings is_later (word_of paragraph ∷ [])) []
+      (inl (omega (arith, none, within))) (All-nil Keeps)

@@ -1,0 +1,8 @@
+mod algorithms;
+mod characters;
+mod ends;
+mod escapes;
+mod pieces;
+mod refusals;
+mod widths;
+mod words;

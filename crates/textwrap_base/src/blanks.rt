@@ -13,8 +13,8 @@ pub fn split_final_blanks<'a>(text: &'a str) -> (&'a str, &'a str)
     text.split_at(trimmed_len(text.as_bytes()))
 }
 
-/// How many bytes of a text come before its final blanks.
-fn trimmed_len(bytes: &[u8]) -> usize
+/// How many bytes of a text come before its final blanks: 3 of `"bar  "`. The call always succeeds.
+pub fn trimmed_len(bytes: &[u8]) -> usize
     ensures value { result ≡ trimmed_len bytes.now }
     ensures within { result ≤ length bytes.now }
     ensures at_blank { result < length bytes.now → slice_index bytes.now result ≡ blank }

@@ -1,3 +1,4 @@
 pub mod Paragraph
+pub mod PrintableTexts
 pub mod Text
 pub mod Word

@@ -1,3 +1,4 @@
+pub mod Directly
 pub mod Endings
 pub mod Lines
 pub mod Lossless

@@ -1,10 +1,12 @@
 pub mod Cuts
+pub mod Direct
 pub mod Filling
 pub mod Fuzzing
 pub mod Laws
 pub mod LineEnding
 pub mod Options
 pub mod Paragraph
+pub mod Printable
 pub mod Text
 pub mod WordOffsets
 pub mod WordSeparators

@@ -7,6 +7,7 @@ ghost use Rattle.textwrap_base.specs.WrapAlgorithms.{Algorithm};
 ghost use Rattle.textwrap_lines.specs.Paragraph.{line_view, line_bytes, DividesAs, DividesBy};
 ghost use Rattle.textwrap_lines.specs.Filling.{IsFilled};
 
+use crate::direct::{fill_directly, splits_directly};
 use crate::line_ending::LineEnding;
 use crate::options::Options;
 use crate::wrapping::{is_one_line, split_paragraph, whole_line, wrap};
@@ -39,6 +40,10 @@ pub fn fill<A: Allocator + Copy>(
     if after.is_none() && is_one_line(paragraph, &options, false) {
         return Ok(String::from_str(alloc, whole_line(paragraph, &options))?);
     }
+    // This saves the list of lines, and where a paragraph is printable ASCII, that of words.
+    if let Some(hyphens) = splits_directly(&options) {
+        return fill_directly(alloc, text, &options, hyphens);
+    }
     fill_slow_path(alloc, text, options)
 }
 
@@ -68,7 +73,7 @@ pub fn fill_slow_path<A: Allocator + Copy>(
 }
 
 /// The lines with the line ending between each two.
-fn join_lines<A: Allocator>(
+pub(crate) fn join_lines<A: Allocator>(
     alloc: A,
     lines: &[CowStr<'_, A>],
     line_ending: LineEnding,

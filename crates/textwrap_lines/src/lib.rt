@@ -9,12 +9,14 @@ pub use word_separators::WordSeparator;
 pub use word_splitters::WordSplitter;
 pub use wrapping::wrap;
 
+mod direct;
 mod filling;
 pub mod fuzzing;
 pub mod laws;
 mod line_ending;
 mod options;
 pub mod parts;
+mod printable;
 pub mod word_separators;
 pub mod word_splitters;
 mod wrapping;

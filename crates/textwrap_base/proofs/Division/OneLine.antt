@@ -31,11 +31,11 @@ division_one (x ∷ xs) = (
 -- ---- first fit
 
 module _ {X : Type 0} (sizes : X → Sizes) where
-  abbrev HasNone : X → Type 0
+  abbrev pub HasNone : X → Type 0
   HasNone x = (sizes x).penalty ≡ 0
 
   -- without penalties a prefix closes within the whole
-  closed-take : (xs : List X) (k : ℕ) → All HasNone xs
+  pub closed-take : (xs : List X) (k : ℕ) → All HasNone xs
       → closed_width sizes (take k xs) ≤ closed_width sizes xs
   closed-take [] zero none = omega arith
   closed-take [] (suc k) none = omega arith

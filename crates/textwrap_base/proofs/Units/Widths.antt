@@ -92,7 +92,7 @@ text_width-narrow bytes utf8 narrow =
 
 -- ---- a text of printable ASCII characters: each takes one byte and one column
 
-printable-columns : (c : ℕ) → is_printable c ≡ true → columns c ≡ 1
+pub printable-columns : (c : ℕ) → is_printable c ≡ true → columns c ≡ 1
 unfolding char_width
 printable-columns c printable = grind (arith, nat_tests)
 

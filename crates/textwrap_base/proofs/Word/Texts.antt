@@ -99,7 +99,7 @@ trimmed-blank bytes k d from within =
     ∙ passes
 
 -- and the byte before them is no blank
-trimmed-other : (bytes : List ℕ) → 0 < trimmed_len bytes
+pub trimmed-other : (bytes : List ℕ) → 0 < trimmed_len bytes
     → is_blank (get_or bytes (trimmed_len bytes - 1) 0) ≡ false
 trimmed-other bytes some =
     let j = suffix_len is_blank bytes in

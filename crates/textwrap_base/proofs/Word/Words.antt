@@ -61,13 +61,13 @@ chunks-flat ((c ∷ part) ∷ parts) some uncut cut =
 -- ---- the computed chunks are chunks
 
 -- the properties of parts of which the first begins with d
-record AreChunksFrom (d : ℕ) (parts : List (List ℕ)) : Type 0 where
-  first : List ℕ
-  rest : List (List ℕ)
-  shape : parts ≡ (d ∷ first) ∷ rest
-  nonempty : All (λ part. part ≢ []) ((d ∷ first) ∷ rest)
-  uncut : All IsUncut ((d ∷ first) ∷ rest)
-  cut : AreCutApart ((d ∷ first) ∷ rest)
+pub record AreChunksFrom (d : ℕ) (parts : List (List ℕ)) : Type 0 where
+  pub first : List ℕ
+  pub rest : List (List ℕ)
+  pub shape : parts ≡ (d ∷ first) ∷ rest
+  pub nonempty : All (λ part. part ≢ []) ((d ∷ first) ∷ rest)
+  pub uncut : All IsUncut ((d ∷ first) ∷ rest)
+  pub cut : AreCutApart ((d ∷ first) ∷ rest)
 
 IsUncut-one : (c : ℕ) → IsUncut (c ∷ [])
 IsUncut-one c = λ before after x y e.
@@ -107,7 +107,7 @@ AreCutApart-longer c d part parts cut [] after left right e =
 AreCutApart-longer c d part parts cut (b ∷ before) after left right e =
     cut ((d ∷ part) ∷ before) after left right (ap (λ l. (d ∷ part) ∷ l) (ap (drop 1) e))
 
-chunks-from : (c : ℕ) (cs : List ℕ) → AreChunksFrom c (chunks (c ∷ cs))
+pub chunks-from : (c : ℕ) (cs : List ℕ) → AreChunksFrom c (chunks (c ∷ cs))
 chunks-from c [] = record {
   first = [];
   rest = [];
@@ -141,7 +141,7 @@ chunks-from c (d ∷ cs) = step (is_cut c d) refl (chunks-from d cs)
       cut = AreCutApart-longer c d h.first h.rest h.cut;
     }
 
-AreChunks-chunks : (line : List ℕ) → AreChunks line (chunks line)
+pub AreChunks-chunks : (line : List ℕ) → AreChunks line (chunks line)
 AreChunks-chunks [] =
     record {
       tiles = refl;

@@ -36,7 +36,8 @@ last_piece-append : (w : WordText) (ws : List WordText) (v : WordText) (vs : Lis
 last_piece-append w [] v vs = refl
 last_piece-append w (u ∷ ws) v vs = last_piece-append u ws v vs
 
-last_space-append : (ws vs : List WordText) → 0 < length vs → last_space (ws ++ vs) ≡ last_space vs
+pub last_space-append : (ws vs : List WordText) → 0 < length vs
+    → last_space (ws ++ vs) ≡ last_space vs
 last_space-append [] vs some = refl
 last_space-append (w ∷ ws) [] some = absurd (omega arith)
 last_space-append (w ∷ ws) (v ∷ vs) some = ap (λ u. u.whitespace) (last_piece-append w ws v vs)
@@ -44,16 +45,16 @@ last_space-append (w ∷ ws) (v ∷ vs) some = ap (λ u. u.whitespace) (last_pie
 -- ---- words replaced by pieces of them
 
 -- the pieces end with the word's own whitespace
-record EndsAs (f : WordText → List WordText) (w : WordText) : Type 0 where
-  some : 0 < length (f w)
-  space : last_space (f w) ≡ w.whitespace
+pub record EndsAs (f : WordText → List WordText) (w : WordText) : Type 0 where
+  pub some : 0 < length (f w)
+  pub space : last_space (f w) ≡ w.whitespace
 
 flat_map-some : (f : WordText → List WordText) (w : WordText) (ws : List WordText) → EndsAs f w
     → 0 < length (flat_map f (w ∷ ws))
 flat_map-some f w ws ends = let len = length-append (f w) (flat_map f ws) in
     omega (arith, ends.some, len)
 
-flat_map-space : (f : WordText → List WordText) (ws : List WordText) → All (EndsAs f) ws
+pub flat_map-space : (f : WordText → List WordText) (ws : List WordText) → All (EndsAs f) ws
     → last_space (flat_map f ws) ≡ last_space ws
 flat_map-space f [] all = refl
 flat_map-space f (w ∷ []) all = ap last_space (append-nil (f w))
@@ -116,7 +117,7 @@ broken_word-ends limit w measured true wide =
     )
 broken_word-ends limit w measured false fits = (omega arith, refl)
 
-broken_words-ends : (limit : ℕ) (words : List WordText) → All IsMeasured words
+pub broken_words-ends : (limit : ℕ) (words : List WordText) → All IsMeasured words
     → All (EndsAs (broken_word limit)) words
 broken_words-ends limit words measured =
     All-weaker IsMeasured (EndsAs (broken_word limit))
@@ -137,7 +138,7 @@ chunks-some (c ∷ d ∷ cs) some =
     onto_first-some c [] = omega arith
     onto_first-some c (part ∷ parts) = omega arith
 
-length-onto_first : (c : ℕ) (parts : List (List ℕ)) → 1 < length (onto_first c parts)
+pub length-onto_first : (c : ℕ) (parts : List (List ℕ)) → 1 < length (onto_first c parts)
     → 1 < length parts
 length-onto_first c [] two = absurd (omega arith)
 length-onto_first c (part ∷ parts) two = two
@@ -163,7 +164,7 @@ two_chunks (c ∷ []) two = absurd (omega arith)
 two_chunks (c ∷ d ∷ cs) two = two_chunks_step c d cs (is_cut c d) refl (two_chunks (d ∷ cs)) two
 
 -- a byte in front of the first piece
-space-onto_first : (c : ℕ) (line : List ℕ) (parts : List (List ℕ))
+pub space-onto_first : (c : ℕ) (line : List ℕ) (parts : List (List ℕ))
     → flat_map (λ part. part) parts ≡ line → 0 < length line
     → last_space (map word_of parts) ≡ final_blanks line
     → (1 < length parts → 0 < trimmed_len line)
@@ -228,7 +229,7 @@ covered-space [] = refl
 covered-space (w ∷ ws) = covered-last w ws
 
 -- words that tile a text and end as it does cover it without the blanks at its end
-covered-tiled : (ws : List WordText) (text : List ℕ) → last_space ws ≡ final_blanks text
+pub covered-tiled : (ws : List WordText) (text : List ℕ) → last_space ws ≡ final_blanks text
     → tiled ws ≡ text → covered ws ≡ without_final_blanks text
 covered-tiled ws text space tile =
     let blanks = final_blanks text in

@@ -30,7 +30,7 @@ pub line_bytes-line_view : {Z : Type 0} (line : CowStr Z)
 line_bytes-line_view (Borrowed slice) = refl
 line_bytes-line_view (Owned built) = refl
 
-join-push : (separator x : List ℕ) (xs : List (List ℕ)) (y : List ℕ)
+pub join-push : (separator x : List ℕ) (xs : List (List ℕ)) (y : List ℕ)
     → join_with separator ((x ∷ xs) ++ y ∷ []) ≡ (join_with separator (x ∷ xs) ++ separator) ++ y
 join-push separator x [] y = refl
 join-push separator x (z ∷ xs) y =

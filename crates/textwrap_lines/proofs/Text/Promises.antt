@@ -178,7 +178,7 @@ module _ (settings : Settings) (Words : List ℕ → List WordText → Type 0)
   abbrev AreParts : Bool → List ℕ → List LineParts → Type 0
   AreParts = AreParagraphParts settings Divides
 
-  paragraph-some : ((widths : List ℕ) (pieces : List WordText) (division : List (List WordText))
+  pub paragraph-some : ((widths : List ℕ) (pieces : List WordText) (division : List (List WordText))
       → Lines widths pieces division → 0 < length division)
       → (is_later : Bool) (paragraph : List ℕ) (parts : List LineParts)
       → IsUtf8 paragraph → AreParts is_later paragraph parts → 0 < length parts

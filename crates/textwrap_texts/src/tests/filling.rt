@@ -2,7 +2,8 @@
 use super::{by_first_fit, with_endings, with_indents};
 use std::process::Abort;
 use std::test::Fail;
-use textwrap::{LineEnding, Options, WrapError, fill};
+use textwrap::fuzzing::fill_slow_path;
+use textwrap::{LineEnding, Options, WordSplitter, WrapError, fill};
 
 /// Asserts that the text is filled to the expected one.
 fn assert_filled(
@@ -36,6 +37,36 @@ fn lines_of_first_fit_are_joined(rt: HostRuntime) -> Result<(), Fail> {
         ("\x1b!Ͽ", 10, "\x1b!Ͽ"),
     ] {
         assert_filled(&rt, text, by_first_fit(width), expected)?;
+    }
+    Ok(())
+}
+
+/// First fit without indents fills a text with no list of lines, and a paragraph of printable ASCII
+/// with none of words; the lines are those of the list.
+#[test]
+fn a_list_of_lines_makes_no_difference(rt: HostRuntime) -> Result<(), Fail> {
+    for &text in &[
+        "",
+        " ",
+        "To be, or not to be: that is the question",
+        "a well-known 9-to-5 job, x--y -z z- \"a-b\" -a-b-c- 1-2-3",
+        "  blanks  before   and    between     and after      ",
+        "averyveryveryverylongword-and-another-of-them and-more",
+        "plain\n\nnaïve café-crème\r\nplain-text again\n",
+        "a\ttab, \x1b[31mred\x1b[0m-green, a delete \x7f-\x7f and ~ alone",
+        "안녕 하세요-안녕하세요 abc",
+    ] {
+        for width in 0..14 {
+            for splitter in [WordSplitter::HyphenSplitter, WordSplitter::NoHyphenation] {
+                for ending in [LineEnding::LF, LineEnding::CRLF] {
+                    let options = by_first_fit(width)
+                        .word_splitter(splitter)
+                        .line_ending(ending);
+                    let listed = fill_slow_path(rt.alloc(), text, Options::from(&options))?;
+                    assert_filled(&rt, text, options, &listed)?;
+                }
+            }
+        }
     }
     Ok(())
 }

@@ -244,6 +244,8 @@ enum OnText {
     WrapShort,
     Fill,
     FillShort,
+    /// By first fit without indents, which needs no list of lines.
+    FillDirectly,
     FillSlowly,
     Indent,
     Dedent,
@@ -278,6 +280,10 @@ impl Call for OnText {
             OnText::WrapShort => joined(alloc, &wrap(heap, "foo", Options::new(10))?)?,
             OnText::Fill => String::from_str(alloc, &fill(heap, TEXT, options)?)?,
             OnText::FillShort => String::from_str(alloc, &fill(heap, "foo", Options::new(10))?)?,
+            OnText::FillDirectly => {
+                let options = Options::new(5).wrap_algorithm(WrapAlgorithm::FirstFit);
+                String::from_str(alloc, &fill(heap, "foo bar\né foo\nfoobarbaz", options)?)?
+            }
             OnText::FillSlowly => String::from_str(alloc, &fill_slow_path(heap, TEXT, options)?)?,
             OnText::Indent => String::from_str(alloc, &indent(heap, "foo\n\nbar\n", "    ")?)?,
             OnText::Dedent => String::from_str(
@@ -357,6 +363,7 @@ fn a_refused_text_is_no_other_text(rt: HostRuntime) -> Result<(), Fail> {
         (OnText::WrapShort, 1, "foo|"),
         (OnText::Fill, 41, FILLED),
         (OnText::FillShort, 1, "foo"),
+        (OnText::FillDirectly, 7, "foo\nbar\né foo\nfooba\nrbaz"),
         (OnText::FillSlowly, 41, FILLED),
         (OnText::Indent, 3, "    foo\n\n    bar\n"),
         (OnText::Dedent, 2, "foo\n  bar\n\n baz\n"),

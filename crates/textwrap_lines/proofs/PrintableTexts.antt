@@ -1,0 +1,9 @@
+pub mod Bridge
+pub mod FirstLine
+pub mod FirstPiece
+pub mod Hyphens
+pub mod Lines
+pub mod Parts
+pub mod Pieces
+pub mod Search
+pub mod Texts

@@ -1,0 +1,130 @@
+-- The pieces of a printable paragraph are those of the settings, and so are its lines.
+use Rattle.std.proofs.Common.{◌≡◌, ℕ, Bool, true, false, cond, ◌==◌, ◌&&◌, List, [], ◌∷◌, ◌++◌, All}
+use Rattle.std.proofs.Common.{length, map, refl, sym, ap, ◌∙◌, subst, arith}
+use Rattle.std.specs.Prelude.{◌||◌}
+use Rattle.std.specs.List.{onto_first}
+use Rattle.textwrap_base.specs.Breaking.{broken_words}
+use Rattle.textwrap_base.specs.Division.{IsGreedy}
+use Rattle.textwrap_base.specs.WrapAlgorithms.{Greedy}
+use Rattle.textwrap_base.specs.Units.{text_width}
+use Rattle.textwrap_base.specs.Words.{WordText, sizes_of, tiled, word_of, is_cut, chunks, words_of}
+use Rattle.textwrap_base.proofs.ListLemmas.{flat, all-left, all-right}
+use Rattle.textwrap_base.proofs.Word.Texts.{HasNoPenalty, text_width-nil}
+use Rattle.textwrap_base.proofs.Division.Map.{IsDivision-whole}
+use Rattle.textwrap_lines.specs.Options.{Settings}
+use Rattle.textwrap_lines.specs.Paragraph.{covered, LineParts, AreDividedParts, DividesAs}
+use Rattle.textwrap_lines.specs.Paragraph.{line_bytes, line_from, parts_from, indent_of, widths_of}
+use Rattle.textwrap_lines.specs.Paragraph.{width_after, later_width, first_width, pieces_of}
+use Rattle.textwrap_lines.specs.Paragraph.{empty_word, front_pieces}
+use Rattle.textwrap_lines.specs.WordSplitters.{Splitter, Whole, AtHyphens, split_words}
+use Rattle.textwrap_lines.specs.Printable.{IsPrintable, parts, pieces_after, printable_cut}
+use Rattle.textwrap_lines.specs.Printable.{HasBareLines}
+use Rattle.textwrap_lines.specs.Printable.{hyphens_of}
+use Rattle.textwrap_lines.proofs.Paragraph.Lines.{line_from-pieces}
+use Rattle.textwrap_lines.proofs.Paragraph.Pieces.{pieces_of-no_penalty, ArePieces-computed}
+use Rattle.textwrap_lines.proofs.PrintableTexts.Texts.{printable-utf8}
+use Rattle.textwrap_lines.proofs.PrintableTexts.Lines.{one_width}
+use Rattle.textwrap_lines.proofs.PrintableTexts.Hyphens.{split-hyphens}
+
+-- ---- without hyphens
+
+chunks-parts : (a : ℕ) (text : List ℕ) → chunks text ≡ parts (printable_cut false) a text
+chunks-parts a [] = refl
+chunks-parts a (b ∷ []) = refl
+chunks-parts a (b ∷ c ∷ cs) =
+    elim (is_cut b c) as (λ t. cond t ((b ∷ []) ∷ chunks (c ∷ cs)) (onto_first b (chunks (c ∷ cs)))
+    ≡ cond (t || false) ((b ∷ []) ∷ parts (printable_cut false) b (c ∷ cs))
+    (onto_first b (parts (printable_cut false) b (c ∷ cs)))) [
+      | true ↦ ap (λ ps. (b ∷ []) ∷ ps) (chunks-parts b (c ∷ cs))
+      | false ↦ ap (onto_first b) (chunks-parts b (c ∷ cs))
+    ]
+
+split-whole : (ps : List (List ℕ)) → split_words Whole (map word_of ps) ≡ map word_of ps
+split-whole [] = refl
+split-whole (p ∷ ps) = ap (λ ws. word_of p ∷ ws) (split-whole ps)
+
+-- ---- the pieces of the settings
+
+split-printable : (splitter : Splitter) (text : List ℕ) → IsPrintable text
+    → split_words splitter (words_of text)
+    ≡ map word_of (parts (printable_cut (hyphens_of splitter)) 32 text)
+split-printable Whole text printable =
+    split-whole (chunks text) ∙ ap (map word_of) (chunks-parts 32 text)
+split-printable AtHyphens text printable = split-hyphens text printable
+
+width_after-none : (settings : Settings) (indent : List ℕ) → indent ≡ []
+    → width_after settings indent ≡ settings.width
+width_after-none settings indent none =
+    let nothing : text_width indent ≡ 0 = ap text_width none ∙ text_width-nil in
+    omega (arith, nothing)
+
+pieces_of-printable : (settings : Settings) (splitter : Splitter) (text : List ℕ)
+    → HasBareLines settings → IsPrintable text → pieces_of settings splitter text
+    ≡ pieces_after (printable_cut (hyphens_of splitter)) settings.width 32 text
+pieces_of-printable settings splitter text fit printable =
+    let limit = later_width settings in
+    let split = split_words splitter (words_of text) in
+    ap (λ b. cond b (front_pieces settings ++ broken_words limit split) split) fit.breaks
+    ∙ ap (λ i. cond (length i == 0) [] (empty_word ∷ []) ++ broken_words limit split) fit.initial
+    ∙ ap (broken_words limit) (split-printable splitter text printable)
+    ∙ ap (λ n. broken_words n (map word_of (parts (printable_cut (hyphens_of splitter)) 32 text)))
+    (width_after-none settings settings.subsequent_indent fit.subsequent)
+
+first_width-printable : (settings : Settings) (is_later : Bool) → HasBareLines settings
+    → first_width settings is_later ≡ settings.width
+first_width-printable settings is_later fit =
+    elim (settings.even_paragraphs && is_later) as (λ b. cond b (later_width settings)
+    (width_after settings settings.initial_indent) ≡ settings.width) [
+      | true ↦ width_after-none settings settings.subsequent_indent fit.subsequent
+      | false ↦ width_after-none settings settings.initial_indent fit.initial
+    ]
+
+widths_of-printable : (settings : Settings) (is_later : Bool) → HasBareLines settings
+    → widths_of settings is_later ≡ one_width settings.width
+widths_of-printable settings is_later fit =
+    ap (λ n. n ∷ later_width settings ∷ []) (first_width-printable settings is_later fit)
+    ∙ ap (λ n. settings.width ∷ n ∷ [])
+    (width_after-none settings settings.subsequent_indent fit.subsequent)
+
+-- ---- the lines
+
+unindented : (settings : Settings) (is_later : Bool) → HasBareLines settings
+    → indent_of settings is_later ≡ []
+unindented settings true fit = fit.subsequent
+unindented settings false fit = fit.initial
+
+lines-covered : (settings : Settings) (is_later : Bool) (lines : List (List WordText))
+    → HasBareLines settings → All HasNoPenalty (flat lines)
+    → map line_bytes (map line_from (parts_from settings is_later lines)) ≡ map covered lines
+lines-covered settings is_later [] fit none = refl
+lines-covered settings is_later (line ∷ lines) fit none =
+    let others = map line_bytes (map line_from (parts_from settings true lines)) in
+    let here = line_from-pieces settings is_later line (unindented settings is_later fit)
+    (all-left HasNoPenalty line (flat lines) none) in
+    ap (λ l. line_bytes l ∷ others) here
+    ∙ ap (λ b. cond b (tiled line) (covered line) ∷ others) fit.trims
+    ∙ ap (λ ls. covered line ∷ ls)
+    (lines-covered settings true lines fit (all-right HasNoPenalty line (flat lines) none))
+
+-- the greedy lines of the printable pieces are the lines of the paragraph
+pub printable_lines : (settings : Settings) (splitter : Splitter) (is_later : Bool) (text : List ℕ)
+    (division : List (List WordText)) → HasBareLines settings → IsPrintable text
+    → IsGreedy sizes_of (settings.width ∷ settings.width ∷ [])
+    (pieces_after (printable_cut (hyphens_of splitter)) settings.width 32 text) division
+    → (ps : List LineParts)
+    × AreDividedParts settings (DividesAs splitter Greedy settings) is_later text ps
+    × (map line_bytes (map line_from ps) ≡ map covered division)
+printable_lines settings splitter is_later text division fit printable greedy =
+    let pieces = pieces_of settings splitter text in
+    let divided : IsGreedy sizes_of (widths_of settings is_later) pieces division =
+    subst (λ widths. IsGreedy sizes_of widths pieces division)
+    (sym (widths_of-printable settings is_later fit))
+    (subst (λ ps. IsGreedy sizes_of (one_width settings.width) ps division)
+    (sym (pieces_of-printable settings splitter text fit printable)) greedy) in
+    let whole = IsDivision-whole pieces division divided.admissible.division in (
+      parts_from settings is_later division,
+      (division, (pieces, ArePieces-computed settings splitter text, divided), refl),
+      lines-covered settings is_later division fit
+          (subst (All HasNoPenalty) (sym whole)
+          (pieces_of-no_penalty settings splitter text (printable-utf8 text printable))),
+    )

@@ -1,0 +1,10 @@
+use Rattle.std.proofs.Common.{◌≤◌}
+use Rattle.textwrap_lines.specs.Printable.{NoCutBetween, printable_cut}
+use Rattle.textwrap_lines.proofs.printable.last_cut.Given as goal
+
+abbrev pub invariant-loop-place : goal.invariant-loop-place
+invariant-loop-place l =
+    (l.place ≤ l.end) × NoCutBetween (printable_cut l.hyphens) l.before l.text l.place l.end
+
+abbrev pub decreases-loop-place : goal.decreases-loop-place
+decreases-loop-place l = l.place

@@ -1,0 +1,30 @@
+-- Filling without a list of lines.
+use Rattle.std.specs.Prelude.{◌≡◌, ℕ, ◌<◌, Bool, List, ◌++◌, length, map}
+use Rattle.textwrap_base.specs.Words.{WordText}
+use Rattle.textwrap_base.specs.WrapAlgorithms.{Greedy}
+use Rattle.textwrap_lines.specs.LineEnding.{ending_bytes, join_with}
+use Rattle.textwrap_lines.specs.Options.{Settings, settings_view, HasParts}
+use Rattle.textwrap_lines.specs.Paragraph.{LineParts, line_bytes, line_from, AreParagraphParts}
+use Rattle.textwrap_lines.specs.Printable.{HasBareLines, hyphens_of}
+use Rattle.textwrap_lines.specs.WordSplitters.{Splitter}
+use Rattle.textwrap_lines.specs.declared.options.Options.{Options}
+
+-- first fit of words between blanks, which may be split after hyphens, at some width, and as
+-- `HasBareLines` says
+pub record IsDirect {E C : Type 0} {e : _} {c : _} (o : Options E C e c) (hyphens : Bool)
+    : Type 0 where
+  pub splitter : Splitter
+  pub built_in : HasParts o (settings_view o) splitter Greedy
+  pub fit : HasBareLines (settings_view o)
+  pub width : 0 < o.width
+  pub cuts : hyphens ≡ hyphens_of splitter
+
+-- the lines of the paragraph were written, joined, whether or not a line stands before them
+abbrev pub WritesLines : Settings → (Bool → List ℕ → List (List WordText) → Type 0)
+    → List ℕ → List ℕ → List ℕ → Type 0
+WritesLines settings Divides paragraph before after =
+    (is_later : Bool) → (parts : List LineParts)
+    × AreParagraphParts settings Divides is_later paragraph parts
+    × (0 < length parts)
+    × (after ≡ before ++ join_with (ending_bytes settings.line_ending)
+    (map line_bytes (map line_from parts)))

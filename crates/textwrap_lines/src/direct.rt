@@ -1,0 +1,105 @@
+//! Filling without a list of lines.
+//!
+//! Where lines have no indent, first fit needs to look at one paragraph alone, and its lines can be
+//! written as they are found. A paragraph of printable ASCII needs no list of words either.
+ghost use Rattle.std.specs.Prelude.{◌≡◌, ◌<◌, IsTrue, IfOk, IfErr, IfSome, OnOk, alloc_error};
+ghost use Rattle.std.specs.Prelude.{string_bytes};
+ghost use Rattle.textwrap_lines.specs.Direct.{IsDirect, WritesLines};
+ghost use Rattle.textwrap_lines.specs.Filling.{IsFilled};
+ghost use Rattle.textwrap_lines.specs.Options.{settings_view};
+ghost use Rattle.textwrap_lines.specs.Paragraph.{DividesBy};
+ghost use Rattle.textwrap_lines.specs.Printable.{HasBareLines};
+
+use crate::filling::join_lines;
+use crate::options::Options;
+use crate::printable::{is_printable, push_printable_lines};
+use crate::word_separators::WordSeparator;
+use crate::word_splitters::WordSplitter;
+use crate::wrapping::{is_one_line, split_paragraph, whole_line, wrap_single_line};
+use std::alloc::Allocator;
+use textwrap_base::wrap_algorithms::{WrapAlgorithm, WrapError};
+
+/// Whether texts can be filled directly under these options, and if so, whether their words are
+/// split after hyphens.
+pub(crate) fn splits_directly(options: &Options<'_>) -> Option<bool>
+    ensures { IfSome result (λ hyphens. IsDirect options.now hyphens) }
+{
+    if !has_bare_lines(options) {
+        return None;
+    }
+    match (options.wrap_algorithm, options.word_separator) {
+        (WrapAlgorithm::FirstFit, WordSeparator::AsciiSpace) => match options.word_splitter {
+            WordSplitter::NoHyphenation => Some(false),
+            WordSplitter::HyphenSplitter => Some(true),
+            WordSplitter::Custom(_) => None,
+        },
+        _ => None,
+    }
+}
+
+/// Whether words are broken, and lines at some width have neither indents nor blanks at their ends.
+fn has_bare_lines(options: &Options<'_>) -> bool
+    ensures fit { IsTrue result → HasBareLines (settings_view options.now) }
+    ensures width { IsTrue result → 0 < options.now.width }
+{
+    options.break_words
+        && !options.preserve_trailing_space
+        && options.initial_indent.is_empty()
+        && options.subsequent_indent.is_empty()
+        && options.width > 0
+}
+
+/// The filled text.
+///
+/// # Errors
+/// [`WrapError::Memory`] where memory runs out.
+pub(crate) fn fill_directly<A: Allocator + Copy>(
+    alloc: A,
+    text: &str,
+    options: &Options<'_>,
+    hyphens: bool,
+) -> Result<String<A>, WrapError>
+    requires direct { IsDirect options.now hyphens }
+    ensures filled { IfOk result (λ filled. IsFilled (settings_view options.now)
+        (DividesBy options.now) text.now (string_bytes filled)) }
+    ensures only_memory { IfErr result (λ error. error ≡ WrapError.Memory alloc_error) }
+{
+    // Only where a line is broken inside a word is more written than read.
+    let mut filled = String::with_capacity(alloc, text.len())?;
+    let (paragraph, mut rest) = split_paragraph(text, options.line_ending);
+    push_paragraph(alloc, paragraph, options, hyphens, &mut filled)?;
+    while let Some(text) = rest {
+        let (paragraph, after) = split_paragraph(text, options.line_ending);
+        filled.push_str(options.line_ending.as_str())?;
+        push_paragraph(alloc, paragraph, options, hyphens, &mut filled)?;
+        rest = after;
+    }
+    Ok(filled)
+}
+
+/// Appends the lines of a paragraph, with the line ending between each two.
+fn push_paragraph<A: Allocator + Copy>(
+    alloc: A,
+    paragraph: &str,
+    options: &Options<'_>,
+    hyphens: bool,
+    filled: &mut String<A>,
+) -> Result<(), WrapError>
+    requires direct { IsDirect options.now hyphens }
+    ensures written { OnOk result (WritesLines (settings_view options.now) (DividesBy options.now)
+        paragraph.now (string_bytes filled.old) (string_bytes filled.new)) }
+    ensures only_memory { IfErr result (λ error. error ≡ WrapError.Memory alloc_error) }
+{
+    let ending = options.line_ending;
+    if is_one_line(paragraph, options, false) {
+        return Ok(filled.push_str(whole_line(paragraph, options))?);
+    }
+    // A line of printable ASCII is found from its start by its width, without a look at each word.
+    if is_printable(paragraph.as_bytes()) {
+        let width = options.width;
+        return Ok(push_printable_lines(paragraph, width, hyphens, ending.as_str(), filled)?);
+    }
+    let mut lines = Vec::new(alloc);
+    wrap_single_line(alloc, paragraph, options, &mut lines)?;
+    Ok(filled.push_str(&join_lines(alloc, &lines, ending)?)?)
+}

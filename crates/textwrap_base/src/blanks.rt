@@ -25,21 +25,3 @@ pub fn trimmed_len(bytes: &[u8]) -> usize
     }
     end
 }
-
-#[cfg(test)]
-mod tests {
-    use super::*;
-
-    #[test]
-    fn only_final_blanks_are_split_off(rt: HostRuntime) {
-        for (text, front, back) in [
-            ("", "", ""),
-            ("foo", "foo", ""),
-            ("bar  ", "bar", "  "),
-            ("  foo bar ", "  foo bar", " "),
-            ("   ", "", "   "),
-        ] {
-            assert_eq!(rt; split_final_blanks(text), (front, back), "{text:?}");
-        }
-    }
-}

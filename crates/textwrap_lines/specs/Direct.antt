@@ -1,16 +1,27 @@
--- Filling without a list of lines.
-use Rattle.std.specs.Prelude.{◌≡◌, ℕ, ◌<◌, Bool, List, ◌++◌, length, map}
+-- Filling without a list of all lines.
+use Rattle.std.specs.Prelude.{◌≡◌, ℕ, ◌<◌, Bool, true, false, List, [], ◌++◌, length, map}
 use Rattle.textwrap_base.specs.Words.{WordText}
 use Rattle.textwrap_base.specs.WrapAlgorithms.{Greedy}
 use Rattle.textwrap_lines.specs.LineEnding.{ending_bytes, join_with}
 use Rattle.textwrap_lines.specs.Options.{Settings, settings_view, HasParts}
 use Rattle.textwrap_lines.specs.Paragraph.{LineParts, line_bytes, line_from, AreParagraphParts}
-use Rattle.textwrap_lines.specs.Printable.{HasBareLines, hyphens_of}
-use Rattle.textwrap_lines.specs.WordSplitters.{Splitter}
+use Rattle.textwrap_lines.specs.WordSplitters.{Splitter, Whole, AtHyphens}
 use Rattle.textwrap_lines.specs.declared.options.Options.{Options}
 
--- first fit of words between blanks, which may be split after hyphens, at some width, and as
--- `HasBareLines` says
+-- whether a splitter splits words after hyphens
+abbrev pub hyphens_of : Splitter → Bool
+hyphens_of Whole = false
+hyphens_of AtHyphens = true
+
+-- words are broken, no line has an indent, and blanks at line ends are left off
+pub record HasBareLines (settings : Settings) : Type 0 where
+  pub breaks : settings.break_words ≡ true
+  pub initial : settings.initial_indent ≡ []
+  pub subsequent : settings.subsequent_indent ≡ []
+  pub trims : settings.preserve_trailing_space ≡ false
+
+-- first fit at a width above 0; words between blanks, split after hyphens where `hyphens` says so;
+-- bare lines
 pub record IsDirect {E C : Type 0} {e : _} {c : _} (o : Options E C e c) (hyphens : Bool)
     : Type 0 where
   pub splitter : Splitter

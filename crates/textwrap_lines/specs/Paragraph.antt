@@ -229,8 +229,8 @@ KeepToWidths settings is_later paragraph parts =
     (IsNarrow paragraph → All (λ line. closed_width sizes_of line ≤ settings.width) lines)
     (OnlyCharactersPass (widths_of settings is_later) 0 lines)
 
--- a line, its indent with it, keeps to the width; or its indent alone passes it, or it has one
--- piece with one character that takes columns
+-- a line's indent, its pieces and the blanks between them keep to the width; or its indent alone
+-- passes it, or it has one piece with one character that takes columns
 abbrev pub KeepsToWidth : ℕ → LineParts → Type 0
 KeepsToWidth width p =
     (text_width p.indent + closed_width sizes_of p.pieces ≤ width)

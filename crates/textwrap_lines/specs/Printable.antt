@@ -8,9 +8,8 @@ use Rattle.textwrap_base.specs.Blanks.{is_blank}
 use Rattle.textwrap_base.specs.Breaking.{broken_words}
 use Rattle.textwrap_base.specs.Division.{Fits, closed_width}
 use Rattle.textwrap_base.specs.Words.{WordText, is_cut, sizes_of, word_of}
-use Rattle.textwrap_lines.specs.Options.{Settings}
 use Rattle.textwrap_lines.specs.Paragraph.{covered}
-use Rattle.textwrap_lines.specs.WordSplitters.{Splitter, Whole, AtHyphens, hyphen}
+use Rattle.textwrap_lines.specs.WordSplitters.{hyphen}
 
 -- a printable character of ASCII
 abbrev pub IsPrintableByte : ℕ → Type 0
@@ -76,15 +75,3 @@ pub record IsFirstLine (cut : CutTest) (limit a : ℕ) (text : List ℕ) (slice 
   pub fits : Fits sizes_of limit (take count (pieces_after cut limit a text))
   pub full : count < length (pieces_after cut limit a text)
       → limit < closed_width sizes_of (take (count + 1) (pieces_after cut limit a text))
-
--- whether a splitter cuts after hyphens
-abbrev pub hyphens_of : Splitter → Bool
-hyphens_of Whole = false
-hyphens_of AtHyphens = true
-
--- words are broken, no line has an indent, and blanks at line ends are left off
-pub record HasBareLines (settings : Settings) : Type 0 where
-  pub breaks : settings.break_words ≡ true
-  pub initial : settings.initial_indent ≡ []
-  pub subsequent : settings.subsequent_indent ≡ []
-  pub trims : settings.preserve_trailing_space ≡ false

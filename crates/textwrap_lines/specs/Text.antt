@@ -70,8 +70,7 @@ pub record IsWrapped (settings : Settings) (splitter : Option Splitter)
   pub keeps : algorithm ≡ Some Greedy → splitter ≢ None → settings.break_words ≡ true
       → AreGroups (KeepToWidths settings) false (paragraphs_of settings.line_ending text) are.groups
 
--- the lines of a text, none of which passes the width but one whose indent alone does, or that has
--- one piece with one character that takes columns
+-- the lines of a text, each of which keeps to the width with its indent, or has to pass it
 abbrev pub LinesKeepToWidth : Settings → (Bool → List ℕ → List (List WordText) → Type 0)
     → List ℕ → List Line → Type 0
 LinesKeepToWidth settings Divides text lines =

@@ -1,22 +1,24 @@
-//! Filling without a list of lines.
+//! Filling without a list of all lines.
 //!
-//! Where lines have no indent, first fit needs to look at one paragraph alone, and its lines can be
-//! written as they are found. A paragraph of printable ASCII needs no list of words either.
-ghost use Rattle.std.specs.Prelude.{◌≡◌, ◌<◌, IsTrue, IfOk, IfErr, IfSome, OnOk, alloc_error};
+//! Without indents, the lines of a paragraph do not depend on what stands before it, so a text can be
+//! written paragraph by paragraph. By first fit, one of printable ASCII is written line by line, and
+//! needs no list of words either; any other that is divided has lists of its own.
+ghost use Rattle.std.specs.Prelude.{◌≡◌, ◌<◌, map, IsTrue, IfOk, IfErr, IfSome, OnOk, alloc_error};
 ghost use Rattle.std.specs.Prelude.{string_bytes};
-ghost use Rattle.textwrap_lines.specs.Direct.{IsDirect, WritesLines};
+ghost use Rattle.textwrap_lines.specs.Direct.{IsDirect, HasBareLines, WritesLines};
 ghost use Rattle.textwrap_lines.specs.Filling.{IsFilled};
 ghost use Rattle.textwrap_lines.specs.Options.{settings_view};
-ghost use Rattle.textwrap_lines.specs.Paragraph.{DividesBy};
-ghost use Rattle.textwrap_lines.specs.Printable.{HasBareLines};
+ghost use Rattle.textwrap_lines.specs.LineEnding.{ending_bytes, join_with};
+ghost use Rattle.textwrap_lines.specs.Paragraph.{line_bytes, line_view, DividesBy};
 
-use crate::filling::join_lines;
+use crate::line_ending::LineEnding;
 use crate::options::Options;
 use crate::printable::{is_printable, push_printable_lines};
 use crate::word_separators::WordSeparator;
 use crate::word_splitters::WordSplitter;
 use crate::wrapping::{is_one_line, split_paragraph, whole_line, wrap_single_line};
-use std::alloc::Allocator;
+use std::alloc::{AllocError, Allocator};
+use std::borrow::CowStr;
 use textwrap_base::wrap_algorithms::{WrapAlgorithm, WrapError};
 
 /// Whether texts can be filled directly under these options, and if so, whether their words are
@@ -37,7 +39,8 @@ pub(crate) fn splits_directly(options: &Options<'_>) -> Option<bool>
     }
 }
 
-/// Whether words are broken, and lines at some width have neither indents nor blanks at their ends.
+/// Whether words are broken, the width is not 0, and lines have neither indents nor blanks at their
+/// ends.
 fn has_bare_lines(options: &Options<'_>) -> bool
     ensures fit { IsTrue result → HasBareLines (settings_view options.now) }
     ensures width { IsTrue result → 0 < options.now.width }
@@ -64,7 +67,7 @@ pub(crate) fn fill_directly<A: Allocator + Copy>(
         (DividesBy options.now) text.now (string_bytes filled)) }
     ensures only_memory { IfErr result (λ error. error ≡ WrapError.Memory alloc_error) }
 {
-    // Only where a line is broken inside a word is more written than read.
+    // This is enough but where lines end inside words, or the ending is CRLF.
     let mut filled = String::with_capacity(alloc, text.len())?;
     let (paragraph, mut rest) = split_paragraph(text, options.line_ending);
     push_paragraph(alloc, paragraph, options, hyphens, &mut filled)?;
@@ -102,4 +105,23 @@ fn push_paragraph<A: Allocator + Copy>(
     let mut lines = Vec::new(alloc);
     wrap_single_line(alloc, paragraph, options, &mut lines)?;
     Ok(filled.push_str(&join_lines(alloc, &lines, ending)?)?)
+}
+
+/// The lines with the line ending between each two.
+pub(crate) fn join_lines<A: Allocator>(
+    alloc: A,
+    lines: &[CowStr<'_, A>],
+    line_ending: LineEnding,
+) -> Result<String<A>, AllocError>
+    ensures { IfOk result (λ joined. string_bytes joined
+        ≡ join_with (ending_bytes line_ending) (map line_bytes (map line_view lines.now))) }
+{
+    let mut joined = String::new(alloc);
+    for (i, line) in lines.iter().enumerate() {
+        if i > 0 {
+            joined.push_str(line_ending.as_str())?;
+        }
+        joined.push_str(line.as_str())?;
+    }
+    Ok(joined)
 }

@@ -1,18 +1,15 @@
 //! Filling: a wrapped text as one text.
-ghost use Rattle.std.specs.Prelude.{◌≡◌, map, alloc_error, string_bytes, IfOk, IfErr};
-ghost use Rattle.textwrap_lines.specs.LineEnding.{ending_bytes, join_with};
+ghost use Rattle.std.specs.Prelude.{◌≡◌, alloc_error, string_bytes, IfOk, IfErr};
 ghost use Rattle.textwrap_lines.specs.Options.{Settings, settings_view, HasParts, MayOverflow};
 ghost use Rattle.textwrap_lines.specs.WordSplitters.{Splitter};
 ghost use Rattle.textwrap_base.specs.WrapAlgorithms.{Algorithm};
-ghost use Rattle.textwrap_lines.specs.Paragraph.{line_view, line_bytes, DividesAs, DividesBy};
+ghost use Rattle.textwrap_lines.specs.Paragraph.{DividesAs, DividesBy};
 ghost use Rattle.textwrap_lines.specs.Filling.{IsFilled};
 
-use crate::direct::{fill_directly, splits_directly};
-use crate::line_ending::LineEnding;
+use crate::direct::{fill_directly, join_lines, splits_directly};
 use crate::options::Options;
 use crate::wrapping::{is_one_line, split_paragraph, whole_line, wrap};
-use std::alloc::{AllocError, Allocator};
-use std::borrow::CowStr;
+use std::alloc::Allocator;
 use textwrap_base::wrap_algorithms::WrapError;
 
 /// The lines of [`wrap`], joined by the line ending. At 10 columns `foo bar baz` becomes `foo bar`,
@@ -40,7 +37,7 @@ pub fn fill<A: Allocator + Copy>(
     if after.is_none() && is_one_line(paragraph, &options, false) {
         return Ok(String::from_str(alloc, whole_line(paragraph, &options))?);
     }
-    // This saves the list of lines, and where a paragraph is printable ASCII, that of words.
+    // This saves the list of all lines, and where a paragraph is printable ASCII, that of words.
     if let Some(hyphens) = splits_directly(&options) {
         return fill_directly(alloc, text, &options, hyphens);
     }
@@ -70,23 +67,4 @@ pub fn fill_slow_path<A: Allocator + Copy>(
     let line_ending = options.line_ending;
     let lines = wrap(alloc, text, options)?;
     Ok(join_lines(alloc, &lines, line_ending)?)
-}
-
-/// The lines with the line ending between each two.
-pub(crate) fn join_lines<A: Allocator>(
-    alloc: A,
-    lines: &[CowStr<'_, A>],
-    line_ending: LineEnding,
-) -> Result<String<A>, AllocError>
-    ensures { IfOk result (λ joined. string_bytes joined
-        ≡ join_with (ending_bytes line_ending) (map line_bytes (map line_view lines.now))) }
-{
-    let mut joined = String::new(alloc);
-    for (i, line) in lines.iter().enumerate() {
-        if i > 0 {
-            joined.push_str(line_ending.as_str())?;
-        }
-        joined.push_str(line.as_str())?;
-    }
-    Ok(joined)
 }

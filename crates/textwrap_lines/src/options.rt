@@ -38,9 +38,9 @@ pub struct Options<'a> {
     pub word_splitter: WordSplitter,
     /// Whether blanks at line ends are kept.
     pub preserve_trailing_space: bool,
-    /// Whether the first line of each paragraph after the first line of the text is divided for the
-    /// width that its own indent leaves, the subsequent one. Otherwise it is divided for the width
-    /// that the initial indent leaves, though that is not printed there.
+    /// Whether the first line of a later paragraph is divided for the width that its own indent, the
+    /// subsequent one, leaves. Otherwise it is divided for the width that the initial indent leaves,
+    /// though that is not printed there.
     pub even_paragraphs: bool,
 }
 

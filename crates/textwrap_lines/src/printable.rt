@@ -1,23 +1,19 @@
-//! The lines of a printable text, which is one of printable ASCII alone. They are found by its bytes,
-//! without a list of words: a line goes up to its width, and from there back to the last place where
-//! the text is cut.
+//! Lines of a printable text, one of printable ASCII alone. They are found by its bytes, without a
+//! list of words: a line goes up to its width, and from there back to the last place where the text
+//! is cut.
 ghost use Rattle.std.specs.Prelude.{ℕ, ◌≡◌, ◌≢◌, ◌↔◌, ◌<◌, ◌≤◌, ◌-◌, Bool, true, List, [], ◌∷◌};
 ghost use Rattle.std.specs.Prelude.{◌++◌, map, length, take, slice_index, string_bytes, IsTrue};
 ghost use Rattle.std.specs.Prelude.{OnOk};
 ghost use Rattle.textwrap_base.specs.Blanks.{blank, trimmed_len};
 ghost use Rattle.textwrap_base.specs.Division.{IsGreedy};
 ghost use Rattle.textwrap_base.specs.Words.{WordText, sizes_of};
-ghost use Rattle.textwrap_base.specs.WrapAlgorithms.{Greedy};
 ghost use Rattle.textwrap_lines.specs.LineEnding.{join_with};
-ghost use Rattle.textwrap_lines.specs.Options.{Settings};
-ghost use Rattle.textwrap_lines.specs.Paragraph.{LineParts, covered, line_bytes, line_from};
-ghost use Rattle.textwrap_lines.specs.Paragraph.{AreDividedParts, DividesAs};
-ghost use Rattle.textwrap_lines.specs.Printable.{IsPrintable, IsFirstLine, HasBareLines, cut_at};
+ghost use Rattle.textwrap_lines.specs.Paragraph.{covered};
+ghost use Rattle.textwrap_lines.specs.Printable.{IsPrintable, IsFirstLine, cut_at};
 ghost use Rattle.textwrap_lines.specs.Printable.{byte_before};
-ghost use Rattle.textwrap_lines.specs.Printable.{pieces_after, printable_cut, hyphens_of};
+ghost use Rattle.textwrap_lines.specs.Printable.{pieces_after, printable_cut};
 ghost use Rattle.textwrap_lines.specs.Printable.{BlanksBetween};
 ghost use Rattle.textwrap_lines.specs.Printable.{NoCutBetween};
-ghost use Rattle.textwrap_lines.specs.WordSplitters.{Splitter};
 
 use std::alloc::{AllocError, Allocator};
 use textwrap_base::blanks::trimmed_len;
@@ -26,7 +22,7 @@ use textwrap_base::blanks::trimmed_len;
 pub(crate) fn is_printable(bytes: &[u8]) -> bool
     ensures { IsTrue result ↔ IsPrintable bytes.now }
 {
-    // Without an end at the first that is not, many bytes are looked at at once.
+    // Without a stop at the first that is not, the processor can look at many bytes at once.
     let mut all = true;
     for byte in bytes {
         all &= 32 <= *byte && *byte < 127;
@@ -35,6 +31,7 @@ pub(crate) fn is_printable(bytes: &[u8]) -> bool
 }
 
 /// Appends the lines of a printable paragraph by first fit, with the separator between each two.
+/// `hyphens` says whether words are split after hyphens.
 ///
 /// # Errors
 /// [`AllocError`] where memory runs out.
@@ -86,8 +83,9 @@ fn next_line(text: &[u8], before: u8, width: usize, hyphens: bool) -> (usize, us
     (trimmed_len(&text[..next]), next)
 }
 
-/// How many bytes come before the second line. From the width on, blanks belong to the first; where
-/// none stands there, the line ends at the last cut before, and without one at the width.
+/// How many bytes come before the second line. Blanks that stand from the width on belong to the
+/// first; where none stands there, it ends at the last cut up to the width, and without one at the
+/// width.
 fn line_len(text: &[u8], before: u8, width: usize, hyphens: bool) -> usize
     requires printable { IsPrintable text.now }
     requires some { 0 < length text.now }

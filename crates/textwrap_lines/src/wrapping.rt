@@ -47,8 +47,10 @@ use textwrap_base::wrap_algorithms::WrapError;
 /// By built-in parts there is always at least one line. Only blanks at line ends are lost, and only
 /// the indents are added; a line with an indent is a text of its own. By first fit, where words are
 /// broken, no line of a divided paragraph passes the width that it was divided for, but one that is
-/// a single piece with one character that takes columns. With [`Options::even_paragraphs`], that is
-/// the whole width for each line with its indent, unless the indent alone passes it.
+/// a single piece with one character that takes columns. With [`Options::even_paragraphs`], and if no
+/// character takes more columns than bytes, a line keeps to the width of the options together with
+/// its indent, but such a piece, and unless the indent alone passes the width. Blanks preserved at
+/// the end of a line do not count.
 ///
 /// # Errors
 /// [`WrapError::Memory`] where memory runs out, or a function of the caller says so.
@@ -65,8 +67,9 @@ pub fn wrap<'t, A: Allocator + Copy>(
     ensures lines { IfOk result (λ lines. IsWrapped (settings_view options.entry)
         (splitter_view options.entry.word_splitter) (algorithm_view options.entry.wrap_algorithm)
         (DividesBy options.entry) text.now (map line_view lines.items)) }
-    // Where later paragraphs are to keep to the width, they do: by first fit, where words are
-    // broken, the splitter is built in, and no character takes more columns than bytes.
+    // Where paragraphs are even, lines keep to the width with their indents, if they can: by first
+    // fit, where words are broken, the splitter is built in, and no character takes more columns
+    // than bytes.
     ensures even { options.entry.even_paragraphs ≡ true → options.entry.wrap_algorithm ≡ FirstFit
         → splitter_view options.entry.word_splitter ≢ None → options.entry.break_words ≡ true
         → IsNarrow text.now → IfOk result (λ lines. LinesKeepToWidth (settings_view options.entry)
@@ -171,8 +174,8 @@ pub(crate) fn whole_line<'t>(paragraph: &'t str, options: &Options<'_>) -> &'t s
 /// list stays as it was.
 ///
 /// At 10 columns, by first fit and with the initial indent `>>>`, `foobar ba` is appended as
-/// `foobar` and `ba`, if a line stands before it: the first line of each paragraph is divided for
-/// the 7 columns that the indent leaves.
+/// `foobar` and `ba`, if a line stands before it: unless paragraphs are even, the first line of each
+/// is divided for the 7 columns that the indent leaves.
 ///
 /// # Errors
 /// [`WrapError::Memory`] where memory runs out, or a function of the caller says so.

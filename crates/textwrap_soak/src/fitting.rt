@@ -53,7 +53,7 @@ fn fits(alloc: Global, settings: &Settings, line: &PlacedLine<'_>) -> Result<boo
 
 /// The width that a line was divided for: that of the settings where its paragraph is kept whole,
 /// and else what the indent leaves. The first line of each paragraph is divided for what the initial
-/// indent leaves, even if it bears the other; but where paragraphs are even, that of the text alone.
+/// indent leaves, even if it bears the other; where paragraphs are even, that of the text alone.
 fn line_width(settings: &Settings, line: &PlacedLine<'_>) -> usize
     ensures whole { IsTrue line.now.is_whole → result ≡ settings.now.width }
     ensures within { result ≤ settings.now.width }

@@ -1,4 +1,5 @@
 mod algorithms;
+mod blanks;
 mod characters;
 mod ends;
 mod escapes;

@@ -1,6 +1,7 @@
 -- Lemmas on the shortcut: a paragraph that is a line as a whole is that line too where its pieces
 -- are divided, if none of its characters takes more columns than its bytes.
-use Rattle.std.proofs.Common.{◌≡◌, ◌≢◌, ℕ, zero, suc, ◌≤◌, Bool, true, false, cond, ◌&&◌, ◌==◌, nat_lt}
+use Rattle.std.proofs.Common.{◌≡◌, ◌≢◌, ℕ, zero, suc, ◌≤◌, Bool, true, false, cond, ◌&&◌, ◌==◌}
+use Rattle.std.proofs.Common.{nat_lt}
 use Rattle.std.proofs.Common.{MatchBool, List, [], ◌∷◌, ◌++◌, All, length, map, refl, sym, ap, ◌∙◌}
 use Rattle.std.proofs.Common.{subst, arith, append_assoc}
 use Rattle.std.specs.Str.{IsUtf8, IsAscii}
@@ -45,7 +46,8 @@ blanks-ascii (c ∷ cs) blanks zero = let is =
 blanks-ascii (c ∷ cs) blanks (suc i) =
     blanks-ascii cs (All-tail (λ d. is_blank d ≡ true) c cs blanks) i
 
-pub narrow_words : (ws : List WordText) → All IsMeasured ws → All HasNoPenalty ws → IsNarrow (tiled ws)
+pub narrow_words : (ws : List WordText) → All IsMeasured ws → All HasNoPenalty ws
+    → IsNarrow (tiled ws)
     → All IsNarrowWord ws
 narrow_words [] measured none narrow = All-nil IsNarrowWord
 narrow_words (w ∷ ws) measured none narrow =

@@ -18,8 +18,7 @@ use Rattle.textwrap_lines.specs.Paragraph.{width_after, later_width, first_width
 use Rattle.textwrap_lines.specs.Paragraph.{empty_word, front_pieces}
 use Rattle.textwrap_lines.specs.WordSplitters.{Splitter, Whole, AtHyphens, split_words}
 use Rattle.textwrap_lines.specs.Printable.{IsPrintable, parts, pieces_after, printable_cut}
-use Rattle.textwrap_lines.specs.Printable.{HasBareLines}
-use Rattle.textwrap_lines.specs.Printable.{hyphens_of}
+use Rattle.textwrap_lines.specs.Direct.{HasBareLines, hyphens_of}
 use Rattle.textwrap_lines.proofs.Paragraph.Lines.{line_from-pieces}
 use Rattle.textwrap_lines.proofs.Paragraph.Pieces.{pieces_of-no_penalty, ArePieces-computed}
 use Rattle.textwrap_lines.proofs.PrintableTexts.Texts.{printable-utf8}
@@ -70,25 +69,25 @@ pieces_of-printable settings splitter text fit printable =
     ∙ ap (λ n. broken_words n (map word_of (parts (printable_cut (hyphens_of splitter)) 32 text)))
     (width_after-none settings settings.subsequent_indent fit.subsequent)
 
-first_width-printable : (settings : Settings) (is_later : Bool) → HasBareLines settings
+first_width-bare : (settings : Settings) (is_later : Bool) → HasBareLines settings
     → first_width settings is_later ≡ settings.width
-first_width-printable settings is_later fit =
+first_width-bare settings is_later fit =
     elim (settings.even_paragraphs && is_later) as (λ b. cond b (later_width settings)
     (width_after settings settings.initial_indent) ≡ settings.width) [
       | true ↦ width_after-none settings settings.subsequent_indent fit.subsequent
       | false ↦ width_after-none settings settings.initial_indent fit.initial
     ]
 
-widths_of-printable : (settings : Settings) (is_later : Bool) → HasBareLines settings
+pub widths_of-bare : (settings : Settings) (is_later : Bool) → HasBareLines settings
     → widths_of settings is_later ≡ one_width settings.width
-widths_of-printable settings is_later fit =
-    ap (λ n. n ∷ later_width settings ∷ []) (first_width-printable settings is_later fit)
+widths_of-bare settings is_later fit =
+    ap (λ n. n ∷ later_width settings ∷ []) (first_width-bare settings is_later fit)
     ∙ ap (λ n. settings.width ∷ n ∷ [])
     (width_after-none settings settings.subsequent_indent fit.subsequent)
 
 -- ---- the lines
 
-unindented : (settings : Settings) (is_later : Bool) → HasBareLines settings
+pub unindented : (settings : Settings) (is_later : Bool) → HasBareLines settings
     → indent_of settings is_later ≡ []
 unindented settings true fit = fit.subsequent
 unindented settings false fit = fit.initial
@@ -118,7 +117,7 @@ printable_lines settings splitter is_later text division fit printable greedy =
     let pieces = pieces_of settings splitter text in
     let divided : IsGreedy sizes_of (widths_of settings is_later) pieces division =
     subst (λ widths. IsGreedy sizes_of widths pieces division)
-    (sym (widths_of-printable settings is_later fit))
+    (sym (widths_of-bare settings is_later fit))
     (subst (λ ps. IsGreedy sizes_of (one_width settings.width) ps division)
     (sym (pieces_of-printable settings splitter text fit printable)) greedy) in
     let whole = IsDivision-whole pieces division divided.admissible.division in (

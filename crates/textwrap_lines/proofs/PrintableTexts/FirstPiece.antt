@@ -22,7 +22,7 @@ use Rattle.textwrap_lines.specs.Printable.{IsPrintableByte, IsPrintable, CutTest
 use Rattle.textwrap_lines.specs.Printable.{pieces_after, cut_at}
 use Rattle.textwrap_lines.proofs.PrintableTexts.Texts.{printable-utf8, printable-width}
 use Rattle.textwrap_lines.proofs.PrintableTexts.Texts.{broken_texts-printable}
-use Rattle.textwrap_lines.proofs.PrintableTexts.Texts.{word_of-front}
+use Rattle.textwrap_lines.proofs.PrintableTexts.Texts.{trimmed-front}
 use Rattle.textwrap_lines.proofs.PrintableTexts.Parts.{next_parts, flat-parts, parts-some}
 use Rattle.textwrap_lines.proofs.PrintableTexts.Parts.{parts-at_cut}
 use Rattle.textwrap_lines.proofs.PrintableTexts.Parts.{parts-no_cut}
@@ -95,7 +95,7 @@ broken-front : (limit : ℕ) (front p : List ℕ) → IsPrintable (front ++ p) �
     → length front ≡ limit → 0 < trimmed_len p
     → broken_word limit (word_of (front ++ p)) ≡ piece front [] [] ∷ broken_word limit (word_of p)
 broken-front limit front p printable room len some =
-    let both = word_of-front front p some in
+    let both = trimmed-front front p some in
     let rest = without_final_blanks p in
     let whole = front ++ p in
     let p_printable = all-right IsPrintableByte front p printable in

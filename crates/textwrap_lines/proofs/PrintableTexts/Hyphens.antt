@@ -31,7 +31,7 @@ use Rattle.textwrap_lines.specs.WordSplitters.{split_words}
 use Rattle.textwrap_lines.specs.Printable.{IsPrintableByte, IsPrintable, CutTest, parts}
 use Rattle.textwrap_lines.specs.Printable.{printable_cut}
 use Rattle.textwrap_lines.proofs.PrintableTexts.Texts.{printable-ascii, flat-printable}
-use Rattle.textwrap_lines.proofs.PrintableTexts.Texts.{word_of-front}
+use Rattle.textwrap_lines.proofs.PrintableTexts.Texts.{trimmed-front}
 use Rattle.textwrap_lines.proofs.PrintableTexts.Texts.{trimmed-le}
 use Rattle.textwrap_lines.proofs.PrintableTexts.Parts.{next_parts, parts-some, onto_first-append}
 
@@ -169,7 +169,7 @@ word_of-seam x bl b other blanks =
     let past = trimmed-past back 0 (omega arith) other in
     let at_most = trimmed-le back 1 (after bl blanks) in
     let one : trimmed_len back ≡ 1 = omega (arith, past, at_most) in
-    let both = word_of-front x back past in
+    let both = trimmed-front x back past in
     let word : without_final_blanks whole ≡ x ++ b ∷ [] =
     ap (λ n. take n whole) (both.0 ∙ ap (λ n. length x + n) one) ∙ take-append-add x back 1 in
     let space : final_blanks whole ≡ bl = both.1 ∙ ap (λ n. drop n back) one in

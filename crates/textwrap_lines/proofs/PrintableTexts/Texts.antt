@@ -42,13 +42,13 @@ printable-byte c printable =
     let high = printable.1 in
     grind (arith, nat_tests, low, high)
 
-printable-printable : (text : List ℕ) → IsPrintable text → list_all is_printable text ≡ true
-printable-printable text printable =
+passes-printable : (text : List ℕ) → IsPrintable text → list_all is_printable text ≡ true
+passes-printable text printable =
     list_all-from_AllPass is_printable text
     (All-weaker IsPrintableByte (λ c. is_printable c ≡ true) printable-byte text printable)
 
 pub printable-width : (text : List ℕ) → IsPrintable text → text_width text ≡ length text
-printable-width text printable = text_width-plain text (printable-printable text printable)
+printable-width text printable = text_width-plain text (passes-printable text printable)
 
 columns-printable : (c : ℕ) → IsPrintableByte c → columns c ≡ 1
 columns-printable c printable = printable-columns c (printable-byte c printable)
@@ -157,12 +157,12 @@ flat-printable (p ∷ ps) printable =
 -- ---- the blanks at the end of a text
 
 -- bytes in front of a text that is not all blanks
-pub word_of-front : (front rest : List ℕ) → 0 < trimmed_len rest
+pub trimmed-front : (front rest : List ℕ) → 0 < trimmed_len rest
     → (trimmed_len (front ++ rest) ≡ length front + trimmed_len rest)
     × (final_blanks (front ++ rest) ≡ final_blanks rest)
-word_of-front [] rest some = (omega arith, refl)
-word_of-front (c ∷ front) rest some =
-    let step = word_of-front front rest some in
+trimmed-front [] rest some = (omega arith, refl)
+trimmed-front (c ∷ front) rest some =
+    let step = trimmed-front front rest some in
     let more = final_blanks-more c (front ++ rest) (omega (arith, step.0, some)) in
     (omega (arith, step.0, more.0), more.1 ∙ step.1)
 

@@ -13,22 +13,21 @@ use Rattle.textwrap_base.specs.WrapAlgorithms.{MayDivide, Greedy}
 use Rattle.textwrap_base.specs.declared.errors.WrapError.{WrapError}
 use Rattle.textwrap_base.specs.declared.errors.WrapError.TheVariants.{Memory}
 use Rattle.textwrap_base.proofs.Division.Ends.{MayDivide-some}
-use Rattle.textwrap_lines.specs.Direct.{IsDirect, WritesLines}
+use Rattle.textwrap_lines.specs.Direct.{IsDirect, HasBareLines, WritesLines}
 use Rattle.textwrap_lines.specs.Filling.{IsFilled}
 use Rattle.textwrap_lines.specs.LineEnding.{ending_bytes, join_with, paragraphs_of}
 use Rattle.textwrap_lines.specs.Options.{Settings, settings_view, MayOverflow}
-use Rattle.textwrap_lines.specs.Paragraph.{Line, LineParts, line_bytes, line_from, indent_of}
+use Rattle.textwrap_lines.specs.Paragraph.{Line, LineParts, line_bytes, line_from}
 use Rattle.textwrap_lines.specs.Paragraph.{AreDividedParts, covered, is_whole, parts_of, parts_from}
-use Rattle.textwrap_lines.specs.Paragraph.{widths_of}
-use Rattle.textwrap_lines.specs.Paragraph.{width_after, IsDividedInto, DividesBy, AreParagraphParts}
-use Rattle.textwrap_lines.specs.Printable.{IsPrintable, HasBareLines, pieces_after, printable_cut}
+use Rattle.textwrap_lines.specs.Paragraph.{IsDividedInto, DividesBy, AreParagraphParts}
+use Rattle.textwrap_lines.specs.Printable.{IsPrintable, pieces_after, printable_cut}
 use Rattle.textwrap_lines.specs.WordSeparators.{MaySeparate}
 use Rattle.textwrap_lines.specs.WordSplitters.{MaySplit}
 use Rattle.textwrap_lines.specs.declared.options.Options.{Options}
 use Rattle.textwrap_lines.proofs.Paragraph.BuiltIn.{divides}
 use Rattle.textwrap_lines.proofs.Paragraph.Lines.{line_from-whole, AreParagraphParts-whole}
 use Rattle.textwrap_lines.proofs.Paragraph.Lines.{AreParagraphParts-divided}
-use Rattle.textwrap_lines.proofs.PrintableTexts.Bridge.{printable_lines}
+use Rattle.textwrap_lines.proofs.PrintableTexts.Bridge.{printable_lines, unindented, widths_of-bare}
 use Rattle.textwrap_lines.proofs.Text.Lines.{HasGroups, HasGroups-start, HasGroups-more}
 use Rattle.textwrap_lines.proofs.Text.Lines.{HasGroups-end}
 use Rattle.textwrap_lines.proofs.Text.Promises.{paragraph-some}
@@ -105,31 +104,11 @@ module _ (settings : Settings) (Divides : Bool → List ℕ → List (List WordT
 -- ---- without indents it does not matter to a paragraph whether a line stands before it
 
 module _ (settings : Settings) (fit : HasBareLines settings) where
-  unindented : (is_later : Bool) → indent_of settings is_later ≡ []
-  unindented true = fit.subsequent
-  unindented false = fit.initial
-
-  same_width : (is_later other : Bool) → widths_of settings is_later ≡ widths_of settings other
-  same_width is_later other = widths-one is_later ∙ sym (widths-one other)
-    where
-      widths-one : (b : Bool) → widths_of settings b
-          ≡ width_after settings [] ∷ width_after settings [] ∷ []
-      widths-one b =
-          ap (λ i. cond (settings.even_paragraphs && b)
-          (width_after settings settings.subsequent_indent) (width_after settings i)
-          ∷ width_after settings settings.subsequent_indent ∷ []) fit.initial
-          ∙ ap (λ i. cond (settings.even_paragraphs && b) (width_after settings i)
-          (width_after settings []) ∷ width_after settings i ∷ []) fit.subsequent
-          ∙ elim (settings.even_paragraphs && b) as (λ even.
-          cond even (width_after settings []) (width_after settings [])
-          ∷ width_after settings [] ∷ []
-          ≡ width_after settings [] ∷ width_after settings [] ∷ []) [ true ↦ refl | false ↦ refl ]
-
   pub is_whole-same : (is_later other : Bool) (paragraph : List ℕ)
       → is_whole settings is_later paragraph ≡ is_whole settings other paragraph
   is_whole-same is_later other paragraph =
       ap (λ i. (length i == 0) && nat_lt (length paragraph) settings.width)
-      (unindented is_later ∙ sym (unindented other))
+      (unindented settings is_later fit ∙ sym (unindented settings other fit))
 
   parts_of-same : (is_later other : Bool) (line : List WordText)
       → parts_of settings is_later line ≡ parts_of settings other line
@@ -141,7 +120,7 @@ module _ (settings : Settings) (fit : HasBareLines settings) where
         slice = (parts_of settings is_later (w ∷ ws)).slice;
         penalty = (parts_of settings is_later (w ∷ ws)).penalty;
         left_off = (parts_of settings is_later (w ∷ ws)).left_off;
-      }) (unindented is_later ∙ sym (unindented other))
+      }) (unindented settings is_later fit ∙ sym (unindented settings other fit))
 
   parts_from-same : (is_later other : Bool) (lines : List (List WordText))
       → parts_from settings is_later lines ≡ parts_from settings other lines
@@ -175,7 +154,8 @@ module _ (settings : Settings) (fit : HasBareLines settings) where
       by false (pieces, are, divided) = (
         pieces,
         are,
-        subst (λ widths. Lines widths pieces division) (same_width is_later other) divided,
+        subst (λ widths. Lines widths pieces division) (widths_of-bare settings is_later fit
+            ∙ sym (widths_of-bare settings other fit)) divided,
       )
 
 -- ---- a paragraph
@@ -203,7 +183,8 @@ module _ {E C : Type 0} {e : _} {c : _} (options : Options E C e c) (hyphens : B
       → WritesLines settings_here (DividesBy options) paragraph before now
   WritesLines-whole paragraph before now utf8 whole is = λ is_later.
       let here = is_whole-same settings_here direct.fit is_later false paragraph ∙ whole in
-      let are = AreParagraphParts-whole settings_here (DividesBy options) is_later paragraph here in (
+      let are = AreParagraphParts-whole settings_here
+      (DividesBy options) is_later paragraph here in (
         parts_of settings_here is_later (word_of paragraph ∷ []) ∷ [],
         are,
         omega arith,
@@ -244,7 +225,8 @@ module _ {E C : Type 0} {e : _} {c : _} (options : Options E C e c) (hyphens : B
       let all = AreParagraphParts-divided settings_here (DividesBy options) is_later paragraph parts
       (is_whole-same settings_here direct.fit is_later false paragraph ∙ longer)
       (subst (λ Divides. AreDividedParts settings_here Divides is_later paragraph parts)
-      (sym (divides options settings_here direct.splitter Greedy direct.built_in paragraph)) are) in (
+      (sym (divides options settings_here direct.splitter Greedy direct.built_in paragraph)) are)
+      in (
         parts,
         all,
         some-lines is_later paragraph parts utf8 all,

@@ -1,6 +1,7 @@
 -- Lemmas on the lines of a text.
 use Rattle.std.proofs.Common.{◌≡◌, ℕ, zero, suc, ◌+◌, ◌<◌, ◌||◌, nat_lt, Option, None, Some}
-use Rattle.std.proofs.Common.{MatchOption, cond, Bool, true, false, List, [], ◌∷◌, ◌++◌, length, get_or}
+use Rattle.std.proofs.Common.{MatchOption, cond, Bool, true, false, List, [], ◌∷◌, ◌++◌, length}
+use Rattle.std.proofs.Common.{get_or}
 use Rattle.std.proofs.Common.{take, map, refl, sym, ap, ◌∙◌, subst, arith, append_assoc, append-nil}
 use Rattle.std.proofs.Common.{length-append}
 use Rattle.std.specs.Borrow.{Bor}
@@ -89,7 +90,8 @@ module _ (settings : Settings) (Divides : Bool → List ℕ → List (List WordT
     pub given : lines ≡ map line_from (flat_map (λ parts. parts) groups)
     pub more : (others : List (List LineParts))
         → AreGroups (AreParagraphParts settings Divides) (nat_lt 0 (length lines)) left others
-        → AreGroups (AreParagraphParts settings Divides) false (paragraphs_of settings.line_ending text)
+        → AreGroups (AreParagraphParts settings Divides) false
+        (paragraphs_of settings.line_ending text)
         (groups ++ others)
 
   pub HasGroups-start : (text : List ℕ) (lines : List Line) → lines ≡ []
@@ -129,10 +131,12 @@ module _ (settings : Settings) (Divides : Bool → List ℕ → List (List WordT
         given = more_is ∙ ap (λ l. l ++ map line_from parts) so_far.given
             ∙ sym (lines_from-push so_far.groups parts);
         more = λ others rest.
-            subst (AreGroups (AreParagraphParts settings Divides) false (paragraphs_of settings.line_ending text))
+            subst (AreGroups (AreParagraphParts settings Divides) false
+            (paragraphs_of settings.line_ending text))
             (sym (append_assoc so_far.groups (parts ∷ []) others))
             (so_far.more (parts ∷ others)
-            (subst (λ ps. AreGroups (AreParagraphParts settings Divides) (nat_lt 0 (length lines)) ps (parts ∷ others))
+            (subst (λ ps. AreGroups (AreParagraphParts settings Divides) (nat_lt 0
+            (length lines)) ps (parts ∷ others))
             (sym left_is) (
               defined,
               subst (λ b. AreGroups (AreParagraphParts settings Divides) b after others)
@@ -147,7 +151,8 @@ module _ (settings : Settings) (Divides : Bool → List ℕ → List (List WordT
       record {
         groups = all.groups;
         defined = subst
-            (AreGroups (AreParagraphParts settings Divides) false (paragraphs_of settings.line_ending text))
+            (AreGroups (AreParagraphParts settings Divides) false
+            (paragraphs_of settings.line_ending text))
             (append-nil all.groups) (all.more [] refl);
         given = all.given;
       }
@@ -174,9 +179,11 @@ pub IsFilled-whole : (settings : Settings) (Divides : Bool → List ℕ → List
     → IsFilled settings Divides text filled
 IsFilled-whole settings Divides text paragraph filled only whole is =
     let parts = parts_of settings false (word_of paragraph ∷ []) ∷ [] in
-    let defined : AreGroups (AreParagraphParts settings Divides) false (paragraphs_of settings.line_ending text)
+    let defined : AreGroups (AreParagraphParts settings Divides) false
+    (paragraphs_of settings.line_ending text)
     (parts ∷ []) =
-    subst (λ paragraphs. AreGroups (AreParagraphParts settings Divides) false paragraphs (parts ∷ [])) (sym only)
+    subst (λ paragraphs. AreGroups (AreParagraphParts settings Divides) false paragraphs
+    (parts ∷ [])) (sym only)
     (AreParagraphParts-whole settings Divides false paragraph whole, refl) in (
       map line_from parts,
       record { groups = parts ∷ []; defined = defined; given = refl },

@@ -197,7 +197,8 @@ module _ (settings : Settings) (Divides : Bool → List ℕ → List (List WordT
 
   -- the groups that the definition gives lose only blanks
   pub LosesOnlyBlanks-from : (text : List ℕ) (groups : List (List LineParts)) → IsUtf8 text
-      → AreGroups (AreParagraphParts settings Divides) false (paragraphs_of settings.line_ending text) groups
+      → AreGroups (AreParagraphParts settings Divides) false
+      (paragraphs_of settings.line_ending text) groups
       → LosesOnlyBlanks settings text groups
   LosesOnlyBlanks-from text groups utf8 defined =
       let paragraphs = paragraphs_of settings.line_ending text in

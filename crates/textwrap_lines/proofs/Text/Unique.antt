@@ -48,7 +48,8 @@ division_one settings algorithm splitter is_later paragraph division other (piec
 -- where a paragraph has one division
 module _ (settings : Settings) (Divides : Bool → List ℕ → List (List WordText) → Type 0)
     (one : (is_later : Bool) (paragraph : List ℕ) (division other : List (List WordText))
-    → Divides is_later paragraph division → Divides is_later paragraph other → division ≡ other) where
+    → Divides is_later paragraph division → Divides is_later paragraph other
+    → division ≡ other) where
   pub divided_parts_one : (is_later : Bool) (paragraph : List ℕ) (parts others : List LineParts)
       → AreDividedParts settings Divides is_later paragraph parts
       → AreDividedParts settings Divides is_later paragraph others → parts ≡ others
@@ -73,7 +74,8 @@ module _ (settings : Settings) (Divides : Bool → List ℕ → List (List WordT
   paragraph_one is_later paragraph parts others (division, laid_out, is)
       (other, other_laid_out, other_is) =
       is ∙ ap (parts_from settings is_later)
-      (laid_out_one is_later paragraph division other (is_whole settings is_later paragraph) laid_out
+      (laid_out_one is_later paragraph division other
+      (is_whole settings is_later paragraph) laid_out
       other_laid_out) ∙ sym other_is
 
   groups_one : (is_later : Bool) (paragraphs : List (List ℕ))

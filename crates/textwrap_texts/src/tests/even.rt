@@ -5,50 +5,54 @@ use std::test::Fail;
 use textwrap::fuzzing::{wrap_single_line, wrap_single_line_slow_path};
 use textwrap::{LineEnding, Options, WrapAlgorithm, fill, wrap_columns};
 
+/// A text, a width, the two indents, and the filled text without the option and with it.
+type Row<'a> = (&'a str, usize, &'a str, &'a str, &'a str, &'a str);
+
+const ROWS: &[Row<'_>] = &[
+    (
+        "aaa\nbbb ccc",
+        7,
+        "",
+        "    ",
+        "aaa\n    bbb ccc",
+        "aaa\n    bbb\n    ccc",
+    ),
+    ("a\n\nb", 10, "", "> ", "a\n\n> b", "a\n\n> b"),
+    // A wider initial indent narrows the first paragraph, and without the option each.
+    (
+        "aa bb\naaa bbb",
+        7,
+        "--- ",
+        "",
+        "--- aa\nbb\naaa\nbbb",
+        "--- aa\nbb\naaa bbb",
+    ),
+    // An empty first paragraph is a line too.
+    (
+        "\nbbb ccc",
+        7,
+        "",
+        "    ",
+        "\n    bbb ccc",
+        "\n    bbb\n    ccc",
+    ),
+    // An indent that is wider than the width leaves each later line one character.
+    ("a\nbc", 2, "", "***", "a\n***bc", "a\n***b\n***c"),
+    (
+        "a\nb c\nd e",
+        3,
+        "",
+        "  ",
+        "a\n  b c\n  d e",
+        "a\n  b\n  c\n  d\n  e",
+    ),
+];
+
 /// Once a line is out, the first line of a paragraph is divided for the width that its own indent
 /// leaves, where that is asked; and for the one that the initial indent leaves, where it is not.
 #[test]
 fn later_paragraphs_keep_to_the_width(rt: HostRuntime) -> Result<(), Fail> {
-    let rows: &[(&str, usize, &str, &str, &str, &str)] = &[
-        (
-            "aaa\nbbb ccc",
-            7,
-            "",
-            "    ",
-            "aaa\n    bbb ccc",
-            "aaa\n    bbb\n    ccc",
-        ),
-        ("a\n\nb", 10, "", "> ", "a\n\n> b", "a\n\n> b"),
-        // A wider initial indent narrows the first paragraph, and without the option each.
-        (
-            "aa bb\naaa bbb",
-            7,
-            "--- ",
-            "",
-            "--- aa\nbb\naaa\nbbb",
-            "--- aa\nbb\naaa bbb",
-        ),
-        // An empty first paragraph is a line too.
-        (
-            "\nbbb ccc",
-            7,
-            "",
-            "    ",
-            "\n    bbb ccc",
-            "\n    bbb\n    ccc",
-        ),
-        // An indent that is wider than the width leaves each later line one character.
-        ("a\nbc", 2, "", "***", "a\n***bc", "a\n***b\n***c"),
-        (
-            "a\nb c\nd e",
-            3,
-            "",
-            "  ",
-            "a\n  b c\n  d e",
-            "a\n  b\n  c\n  d\n  e",
-        ),
-    ];
-    for &(text, width, initial, subsequent, uneven, even) in rows {
+    for &(text, width, initial, subsequent, uneven, even) in ROWS {
         for algorithm in [WrapAlgorithm::FirstFit, WrapAlgorithm::new()] {
             let options = with_indents(width, initial, subsequent).wrap_algorithm(algorithm);
             let filled = fill(rt.alloc(), text, Options::from(&options))?;

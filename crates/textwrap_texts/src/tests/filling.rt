@@ -41,8 +41,8 @@ fn lines_of_first_fit_are_joined(rt: HostRuntime) -> Result<(), Fail> {
     Ok(())
 }
 
-/// First fit without indents fills a text with no list of lines, and a paragraph of printable ASCII
-/// with none of words; the lines are those of the list.
+/// First fit without indents fills a text without a list of all lines, and a paragraph of printable
+/// ASCII without one of words; the lines are those of the lists.
 #[test]
 fn a_list_of_lines_makes_no_difference(rt: HostRuntime) -> Result<(), Fail> {
     for &text in &[

@@ -135,7 +135,7 @@ fn refused_words_are_no_other_words(rt: HostRuntime) -> Result<(), Fail> {
     Ok(())
 }
 
-/// A call that divides, or that finds least costs.
+/// A call that divides.
 #[derive(Clone, Copy, Debug)]
 enum OnLines {
     FirstFit,
@@ -144,9 +144,6 @@ enum OnLines {
     ByFirstFit,
     ByOptimalFit,
     ByEnds,
-    Costs,
-    Table,
-    Queue,
 }
 
 impl Call for OnLines {
@@ -176,19 +173,6 @@ impl Call for OnLines {
                 let line_ends = LineEnds::new(alloc, end_all);
                 divided(alloc, heap, WrapAlgorithm::Custom(line_ends))?
             }
-            OnLines::Costs => {
-                let costs = LineCosts::new(heap, &words, &[7, 5], &penalties)?;
-                format!(in alloc; "{}", costs.ends())?
-            }
-            OnLines::Table => {
-                let minima = table_minima(heap, &words, &[7, 3, 7], &penalties, &mut steps)?;
-                starts_of(alloc, &minima)?
-            }
-            OnLines::Queue => {
-                assert!(rt; is_queue_case(&words, &[7], &penalties));
-                let minima = queue_minima(heap, &words, &[7], &penalties, &mut steps)?;
-                starts_of(alloc, &minima)?
-            }
         })
     }
 }
@@ -200,15 +184,6 @@ fn lens_of(alloc: Global, lines: &[&[Word<'_>]]) -> Result<String, AllocError> {
         lens.push_str(format!(in alloc; "{}|", line.len())?.as_str())?;
     }
     Ok(lens)
-}
-
-/// Where the last line of each prefix starts.
-fn starts_of(alloc: Global, minima: &[Minimum]) -> Result<String, AllocError> {
-    let mut starts = String::new(alloc);
-    for minimum in minima {
-        starts.push_str(format!(in alloc; "{}|", minimum.start)?.as_str())?;
-    }
-    Ok(starts)
 }
 
 /// How many of six words each line has by this algorithm.
@@ -227,40 +202,78 @@ fn a_refused_division_is_no_other_division(rt: HostRuntime) -> Result<(), Fail> 
         (OnLines::ByFirstFit, 2, "1|1|1|1|1|1|"),
         (OnLines::ByOptimalFit, 7, "1|1|1|1|1|1|"),
         (OnLines::ByEnds, 1, "1|2|3|"),
-        (OnLines::Costs, 4, "9"),
-        (OnLines::Table, 8, "0|0|0|2|3|3|4|5|6|7|"),
-        (OnLines::Queue, 6, "0|0|0|1|2|3|4|5|6|8|"),
     ] {
         assert_refused(&rt, call, refusals, expected)?;
     }
     Ok(())
 }
 
-/// A call on a text.
+/// A call that finds least costs.
+#[derive(Clone, Copy, Debug)]
+enum OnCosts {
+    New,
+    Table,
+    Queue,
+}
+
+impl Call for OnCosts {
+    fn answer<R: Abort + AllocGlobal>(self, rt: &R, heap: &Heap) -> Result<String, WrapError> {
+        let alloc = rt.alloc();
+        let words = [Word::from("abc "); 9];
+        let penalties = Penalties::new();
+        let mut steps = Steps::new();
+        Ok(match self {
+            OnCosts::New => {
+                let costs = LineCosts::new(heap, &words, &[7, 5], &penalties)?;
+                format!(in alloc; "{}", costs.ends())?
+            }
+            OnCosts::Table => {
+                let minima = table_minima(heap, &words, &[7, 3, 7], &penalties, &mut steps)?;
+                starts_of(alloc, &minima)?
+            }
+            OnCosts::Queue => {
+                assert!(rt; is_queue_case(&words, &[7], &penalties));
+                let minima = queue_minima(heap, &words, &[7], &penalties, &mut steps)?;
+                starts_of(alloc, &minima)?
+            }
+        })
+    }
+}
+
+/// Where the last line of each prefix starts.
+fn starts_of(alloc: Global, minima: &[Minimum]) -> Result<String, AllocError> {
+    let mut starts = String::new(alloc);
+    for minimum in minima {
+        starts.push_str(format!(in alloc; "{}|", minimum.start)?.as_str())?;
+    }
+    Ok(starts)
+}
+
+/// What finds least costs is out of memory wherever one of its lists cannot grow.
+#[test]
+fn refused_costs_are_no_other_costs(rt: HostRuntime) -> Result<(), Fail> {
+    for &(call, refusals, expected) in &[
+        (OnCosts::New, 4, "9"),
+        (OnCosts::Table, 8, "0|0|0|2|3|3|4|5|6|7|"),
+        (OnCosts::Queue, 6, "0|0|0|1|2|3|4|5|6|8|"),
+    ] {
+        assert_refused(&rt, call, refusals, expected)?;
+    }
+    Ok(())
+}
+
+/// A call that gives the lines of a text.
 #[derive(Clone, Copy, Debug)]
 enum OnText {
     WrapByFirstFit,
     WrapByOptimalFit,
     WrapShort,
-    Fill,
-    FillShort,
-    /// By first fit without indents, which needs no list of lines.
-    FillDirectly,
-    FillSlowly,
-    Indent,
-    Dedent,
-    Unfill,
-    Refill,
-    Columns,
     /// To a list that holds a line.
     Append { slowly: bool },
 }
 
 /// A paragraph of several lines, and a short one.
 const TEXT: &str = "To be, or not to be: that is the question\nHamlet";
-
-/// That text, filled.
-const FILLED: &str = "* To be,\n  or not\n  to be:\n  that\n  is the\n  question\n  Hamlet";
 
 /// The lines of the first paragraph after another line.
 const APPENDED: &str = "x|  To be,|  or not|  to be:|  that|  is the|  question|";
@@ -278,29 +291,6 @@ impl Call for OnText {
             }
             OnText::WrapByOptimalFit => joined(alloc, &wrap(heap, TEXT, options)?)?,
             OnText::WrapShort => joined(alloc, &wrap(heap, "foo", Options::new(10))?)?,
-            OnText::Fill => String::from_str(alloc, &fill(heap, TEXT, options)?)?,
-            OnText::FillShort => String::from_str(alloc, &fill(heap, "foo", Options::new(10))?)?,
-            OnText::FillDirectly => {
-                let options = Options::new(5).wrap_algorithm(WrapAlgorithm::FirstFit);
-                String::from_str(alloc, &fill(heap, "foo bar\né foo\nfoobarbaz", options)?)?
-            }
-            OnText::FillSlowly => String::from_str(alloc, &fill_slow_path(heap, TEXT, options)?)?,
-            OnText::Indent => String::from_str(alloc, &indent(heap, "foo\n\nbar\n", "    ")?)?,
-            OnText::Dedent => String::from_str(
-                alloc,
-                &dedent(heap, "  foo\n    bar\n\n   baz\n")?,
-            )?,
-            OnText::Unfill => String::from_str(alloc, &unfill(heap, "* foo\n  bar\n  baz\n")?.0)?,
-            OnText::Refill => String::from_str(alloc, &refill(heap, "* foo\n  bar\n", options)?)?,
-            OnText::Columns => {
-                let rows = wrap_columns(heap, TEXT, 2, Options::new(24), "|", "|", "|")?;
-                let mut texts = String::new(alloc);
-                for row in &rows {
-                    texts.push_str(row)?;
-                    texts.push('\n')?;
-                }
-                texts
-            }
             OnText::Append { slowly } => appended(rt, heap, slowly)?,
         })
     }
@@ -345,10 +335,9 @@ fn appended<R: Abort + AllocGlobal>(
     Ok(texts)
 }
 
-/// What makes a text or lines of it is out of memory wherever one of its lists or texts cannot
-/// grow.
+/// What gives lines is out of memory wherever one of its lists or texts cannot grow.
 #[test]
-fn a_refused_text_is_no_other_text(rt: HostRuntime) -> Result<(), Fail> {
+fn refused_lines_are_no_other_lines(rt: HostRuntime) -> Result<(), Fail> {
     for &(call, refusals, expected) in &[
         (
             OnText::WrapByFirstFit,
@@ -361,21 +350,111 @@ fn a_refused_text_is_no_other_text(rt: HostRuntime) -> Result<(), Fail> {
             "* To be,|  or not|  to be:|  that|  is the|  question|  Hamlet|",
         ),
         (OnText::WrapShort, 1, "foo|"),
-        (OnText::Fill, 41, FILLED),
-        (OnText::FillShort, 1, "foo"),
-        (OnText::FillDirectly, 7, "foo\nbar\né foo\nfooba\nrbaz"),
-        (OnText::FillSlowly, 41, FILLED),
-        (OnText::Indent, 3, "    foo\n\n    bar\n"),
-        (OnText::Dedent, 2, "foo\n  bar\n\n baz\n"),
-        (OnText::Unfill, 2, "foo bar baz\n"),
-        (OnText::Refill, 13, "* foo bar\n"),
+        (OnText::Append { slowly: false }, 27, APPENDED),
+        (OnText::Append { slowly: true }, 27, APPENDED),
+    ] {
+        assert_refused(&rt, call, refusals, expected)?;
+    }
+    Ok(())
+}
+
+/// A call that fills a text.
+#[derive(Clone, Copy, Debug)]
+enum OnFilling {
+    Fill,
+    Short,
+    /// By first fit without indents, which needs no list of all lines.
+    Directly,
+    Slowly,
+}
+
+/// The text with its indents, filled.
+const FILLED: &str = "* To be,\n  or not\n  to be:\n  that\n  is the\n  question\n  Hamlet";
+
+impl Call for OnFilling {
+    fn answer<R: Abort + AllocGlobal>(self, rt: &R, heap: &Heap) -> Result<String, WrapError> {
+        let alloc = rt.alloc();
+        let options = Options::new(10)
+            .initial_indent("* ")
+            .subsequent_indent("  ");
+        let filled = match self {
+            OnFilling::Fill => fill(heap, TEXT, options)?,
+            OnFilling::Short => fill(heap, "foo", Options::new(10))?,
+            OnFilling::Directly => {
+                let options = Options::new(5).wrap_algorithm(WrapAlgorithm::FirstFit);
+                fill(heap, "foo bar\né foo\nfoobarbaz", options)?
+            }
+            OnFilling::Slowly => fill_slow_path(heap, TEXT, options)?,
+        };
+        Ok(String::from_str(alloc, &filled)?)
+    }
+}
+
+/// What fills is out of memory wherever one of its lists or texts cannot grow.
+#[test]
+fn a_refused_text_is_no_other_text(rt: HostRuntime) -> Result<(), Fail> {
+    for &(call, refusals, expected) in &[
+        (OnFilling::Fill, 41, FILLED),
+        (OnFilling::Short, 1, "foo"),
+        (OnFilling::Directly, 7, "foo\nbar\né foo\nfooba\nrbaz"),
+        (OnFilling::Slowly, 41, FILLED),
+    ] {
+        assert_refused(&rt, call, refusals, expected)?;
+    }
+    Ok(())
+}
+
+/// A call on a text that is laid out already, or in columns.
+#[derive(Clone, Copy, Debug)]
+enum OnLayout {
+    Indent,
+    Dedent,
+    Unfill,
+    Refill,
+    Columns,
+}
+
+impl Call for OnLayout {
+    fn answer<R: Abort + AllocGlobal>(self, rt: &R, heap: &Heap) -> Result<String, WrapError> {
+        let alloc = rt.alloc();
+        let options = Options::new(10)
+            .initial_indent("* ")
+            .subsequent_indent("  ");
+        Ok(match self {
+            OnLayout::Indent => String::from_str(alloc, &indent(heap, "foo\n\nbar\n", "    ")?)?,
+            OnLayout::Dedent => String::from_str(
+                alloc,
+                &dedent(heap, "  foo\n    bar\n\n   baz\n")?,
+            )?,
+            OnLayout::Unfill => String::from_str(alloc, &unfill(heap, "* foo\n  bar\n  baz\n")?.0)?,
+            OnLayout::Refill => String::from_str(alloc, &refill(heap, "* foo\n  bar\n", options)?)?,
+            OnLayout::Columns => {
+                let rows = wrap_columns(heap, TEXT, 2, Options::new(24), "|", "|", "|")?;
+                let mut texts = String::new(alloc);
+                for row in &rows {
+                    texts.push_str(row)?;
+                    texts.push('\n')?;
+                }
+                texts
+            }
+        })
+    }
+}
+
+/// What indents, refills or makes columns is out of memory wherever one of its lists or texts
+/// cannot grow.
+#[test]
+fn a_refused_layout_is_no_other_layout(rt: HostRuntime) -> Result<(), Fail> {
+    for &(call, refusals, expected) in &[
+        (OnLayout::Indent, 3, "    foo\n\n    bar\n"),
+        (OnLayout::Dedent, 2, "foo\n  bar\n\n baz\n"),
+        (OnLayout::Unfill, 2, "foo bar baz\n"),
+        (OnLayout::Refill, 13, "* foo bar\n"),
         (
-            OnText::Columns,
+            OnLayout::Columns,
             20,
             "|To be,    |is the     |\n|or not to |question   |\n|be: that  |Hamlet     |\n",
         ),
-        (OnText::Append { slowly: false }, 27, APPENDED),
-        (OnText::Append { slowly: true }, 27, APPENDED),
     ] {
         assert_refused(&rt, call, refusals, expected)?;
     }

@@ -8,7 +8,6 @@ use Rattle.textwrap_lines.specs.Printable.{printable_cut}
 use Rattle.textwrap_lines.proofs.PrintableTexts.Lines.{HasLines-line, HasLines-end}
 use Rattle.textwrap_lines.proofs.PrintableTexts.Lines.{byte_before-some}
 use Rattle.textwrap_lines.proofs.printable.push_printable_lines.Goals as goal
-use Rattle.textwrap_lines.proofs.printable.push_printable_lines.Goals.{}
 use Rattle.textwrap_lines.proofs.printable.push_printable_lines.Goals.{then-not-first+in_ok-push_str}
 use Rattle.textwrap_lines.proofs.printable.push_printable_lines.Goals.{else-not-first}
 

@@ -50,7 +50,8 @@ returns-in_err-division-clause-appended g c =
     (DividesBy options) (nat_lt 0 (length c.args.lines.now.items)) c.args.line.now)
     c.args.lines.now.items c.from_residual-in_err-division.result c.in_err-division.field-0.0
     c.from_residual-in_err-division.ensures.1
-    (only-memory options (Vec (Bor (List Word)) g.row.A.Denot) c.args.line.now c.deref.result.now c.in_err-division.field-0.0 c.utf8.line
+    (only-memory options (Vec (Bor (List Word)) g.row.A.Denot) c.args.line.now c.deref.result.now
+    c.in_err-division.field-0.0 c.utf8.line
     (omega arith)
     (subst (ArePieces (settings_view options) (MaySeparate options.word_separator)
     (MaySplit options.word_splitter) c.args.line.now) texts c.in_ok-pieces.ensures.pieces)

@@ -1,9 +1,9 @@
 -- Stretches, as the newest start takes its own.
 use Rattle.std.proofs.Common.{◌≡◌, ℕ, ◌+◌, ◌-◌, ◌<◌, ◌≤◌, ◌⊎◌, inl, inr, List, [], ◌∷◌, ◌++◌}
-use Rattle.std.proofs.Common.{length, get_or, max, take, refl, sym, ap, subst, ◌∙◌, arith}
+use Rattle.std.proofs.Common.{length, get_or, max, take, drop, refl, sym, ap, subst, ◌∙◌, arith}
 use Rattle.std.proofs.lemmas.Bool.{cases_lt}
 use Rattle.std.proofs.lemmas.List.{length-take, get_or-take, length_push, get_or_push, get_or_read}
-use Rattle.std.proofs.lemmas.List.{get_or_append_left}
+use Rattle.std.proofs.lemmas.List.{get_or_append_left, length-drop, get_or-drop}
 use Rattle.textwrap_base.specs.Minima.{Costs}
 use Rattle.textwrap_base.specs.Queue.{SuitQueue}
 use Rattle.textwrap_base.specs.Search.{cost_from, IsBestStart, IsBestFrom}
@@ -233,3 +233,43 @@ module _ (q more : List Stretch) (s : Stretch) (is : more ≡ q ++ s ∷ []) whe
           (IsPriced-more costs m start (stretch_at old k) l
           (are.priced k (omega (arith, ap length left, length-take n old))))
       priced_by k held (inr last) = rw (at_new k (omega (arith, len-more))) priced
+
+-- ---- the first stretches gone
+
+stretch_at-drop : (q : List Stretch) (n k : ℕ) → stretch_at (drop n q) k ≡ stretch_at q (n + k)
+stretch_at-drop q n k = get_or-drop n q k no_stretch
+
+pub HasEnd-drop : (q : List Stretch) (n end k : ℕ) → n ≤ k → HasEnd q end k
+    → HasEnd (drop n q) end (k - n)
+HasEnd-drop q n end k l has =
+    let here : n + (k - n) ≡ k = omega arith in
+    let next : n + (k - n + 1) ≡ k + 1 = omega arith in
+    record {
+      within = omega (arith, length-drop n q, has.within);
+      begun = rw (stretch_at-drop q n (k - n), here) has.begun;
+      before_next = λ more. rw (stretch_at-drop q n (k - n + 1), next)
+          (has.before_next (omega (arith, length-drop n q, more)));
+    }
+
+HasEnd-whole : (q : List Stretch) (n end k : ℕ) → HasEnd (drop n q) end k → HasEnd q end (n + k)
+HasEnd-whole q n end k has =
+    let next : n + (k + 1) ≡ n + k + 1 = omega arith in
+    record {
+      within = omega (arith, length-drop n q, has.within);
+      begun = rw (stretch_at-drop q n k) at has.begun;
+      before_next = λ more.
+          let after : end < (stretch_at (drop n q) (k + 1)).from =
+          has.before_next (omega (arith, length-drop n q, more)) in
+          rw (stretch_at-drop q n (k + 1), next) at after;
+    }
+
+pub AreStretches-drop : (costs : Costs) (m n : ℕ) (q : List Stretch) → AreStretches costs m q
+    → AreStretches costs m (drop n q)
+AreStretches-drop costs m n q are = record {
+  rising = λ i k l held. rw (stretch_at-drop q n i, stretch_at-drop q n k)
+      (are.rising (n + i) (n + k) (omega arith) (omega (arith, length-drop n q, held)));
+  priced = λ k held. rw (stretch_at-drop q n k)
+      (are.priced (n + k) (omega (arith, length-drop n q, held)));
+  best = λ end k after before has. rw (stretch_at-drop q n k)
+      (are.best end (n + k) after before (HasEnd-whole q n end k has));
+}

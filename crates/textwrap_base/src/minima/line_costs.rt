@@ -1,6 +1,6 @@
 //! The line costs of fragments, from running sums of their widths.
 ghost use Rattle.std.specs.Prelude.{◌≡◌, ◌+◌, ◌<◌, ◌≤◌, length, map, IfOk, SomeIff, ◌==◌};
-ghost use Rattle.std.specs.Prelude.{◌-◌, ◌^◌, All, slice_range};
+ghost use Rattle.std.specs.Prelude.{◌-◌, ◌*◌, ◌^◌, All, slice_range};
 ghost use Rattle.textwrap_base.specs.Minima.{LineCostsView};
 ghost use Rattle.textwrap_base.specs.Cost.{priced_by, total_width, fit_cost, line_cost};
 ghost use Rattle.textwrap_base.specs.Errors.{Fits128Bits, Passes128Bits, Overflowed};
@@ -173,11 +173,11 @@ impl CostedLine {
     {
         let target = self.target as u128;
         if self.closed > target {
-            return (self.closed - target).checked_mul(penalties.overflow_penalty as u128);
+            return product(self.closed - target, penalties.overflow_penalty);
         }
         if !self.is_last {
-            let gap = target - self.closed;
-            return Some(gap * gap);
+            let gap = (target - self.closed) as u64;
+            return Some(gap as u128 * gap as u128);
         }
         let is_short = self.closed * (penalties.short_last_line_fraction as u128) < target;
         Some(if self.is_single && is_short {
@@ -185,6 +185,17 @@ impl CostedLine {
         } else {
             0
         })
+    }
+}
+
+/// The product of two numbers, or `None` where it needs more than 128 bits.
+fn product(number: u128, factor: usize) -> Option<u128>
+    ensures { SomeIff result (Fits128Bits (number * factor)) (number * factor) }
+{
+    // Numbers of 64 bits are multiplied at once, and most are such.
+    match u64::try_from(number) {
+        Ok(number) => Some(number as u128 * factor as u128),
+        Err(_) => number.checked_mul(factor as u128),
     }
 }
 

@@ -13,7 +13,7 @@ ghost use Rattle.textwrap_base.specs.Search.{least_entry, cost_from, AreMinima, 
 ghost use Rattle.textwrap_base.specs.Stretches.{HasEnd, AreStretches};
 ghost use Rattle.textwrap_base.specs.Table.{table, minimum_of};
 
-use super::stretches::{Stretch, next_stretch, price, take_in};
+use super::stretches::{Stretch, drop_passed, first_capacity, next_stretch, price, take_in};
 use super::{CostSource, Minimum};
 use std::alloc::{AllocError, Allocator};
 
@@ -83,7 +83,7 @@ fn reach_last<A: Allocator, C: CostSource>(
     }
     let first = least_of_all(costs, minima);
     minima.push(first)?;
-    let mut stretches = Vec::with_capacity(alloc, ends)?;
+    let mut stretches = Vec::with_capacity(alloc, first_capacity(ends))?;
     stretches.push(Stretch {
         start: 1,
         from: 1,
@@ -92,6 +92,7 @@ fn reach_last<A: Allocator, C: CostSource>(
     let mut current = 0;
     while minima.len() < ends {
         current = next_stretch(&stretches, current, minima.len());
+        current = drop_passed(&mut stretches, current);
         advance(costs, minima, &mut stretches, current)?;
     }
     Ok(())

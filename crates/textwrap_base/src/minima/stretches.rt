@@ -5,7 +5,8 @@
 //! start at some end does so at all later ends. Among the starts from 1 on, each is therefore the
 //! best for one stretch of ends, if for any, and later starts have later stretches. A tie stays
 //! with the earlier start, as in the table.
-ghost use Rattle.std.specs.Prelude.{◌≡◌, ℕ, ◌+◌, ◌*◌, ◌-◌, ◌<◌, ◌≤◌, length, take, vec_len, OnOk};
+ghost use Rattle.std.specs.Prelude.{◌≡◌, ℕ, ◌+◌, ◌*◌, ◌-◌, ◌<◌, ◌≤◌, length, take, drop, vec_len};
+ghost use Rattle.std.specs.Prelude.{OnOk};
 ghost use Rattle.textwrap_base.specs.Minima.{counted};
 ghost use Rattle.textwrap_base.specs.Queue.{SuitQueue, binary_digits};
 ghost use Rattle.textwrap_base.specs.Search.{cost_from, AreMinima, IsBestFrom};
@@ -61,6 +62,30 @@ pub(super) fn next_stretch(stretches: &[Stretch], before: usize, end: usize) -> 
         Some(next) if next.from <= end => before + 1,
         _ => before,
     }
+}
+
+/// How many stretches have passed at least before they are dropped.
+const PASSED_STRETCHES: usize = 64;
+
+/// How many stretches there is room for at first, for so many ends. The list grows where more are
+/// known than have passed, and most texts of any length need no more.
+pub(super) fn first_capacity(ends: usize) -> usize {
+    ends.min(2 * PASSED_STRETCHES)
+}
+
+/// Drops the stretches before the current one where they are most of the list, so that it stays
+/// short: their ends have passed. Returns where the current one stands then.
+pub(super) fn drop_passed<A: Allocator>(stretches: &mut Vec<Stretch, A>, current: usize) -> usize
+    requires { current < vec_len stretches.old }
+    ensures within { result ≤ current }
+    ensures left { stretches.new.items ≡ drop (current - result) stretches.old.items }
+    ensures fewer { vec_len stretches.new ≤ vec_len stretches.old }
+{
+    if current < PASSED_STRETCHES || current < stretches.len() / 2 {
+        return current;
+    }
+    stretches.drain(..current);
+    0
 }
 
 /// Gives the newest start, the last of `minima`, its stretch. The stretches are then those of all

@@ -1,11 +1,29 @@
-use Rattle.std.proofs.Common.{◌≡◌, ◌-◌, vec_len, ap, sym, ◌∙◌, arith}
+use Rattle.std.proofs.Common.{◌≡◌, ◌+◌, ◌*◌, ◌-◌, ◌≤◌, vec_len, ap, sym, ◌∙◌, arith}
 use Rattle.textwrap_base.specs.Minima.{Costs}
+use Rattle.textwrap_base.specs.Queue.{binary_digits}
 use Rattle.textwrap_base.proofs.Search.Steps.{steps_more, steps_within}
+use Rattle.textwrap_base.proofs.Search.Stretches.{HasEnd-drop, AreStretches-drop}
 use Rattle.textwrap_base.proofs.minima.queue.reach_last.Goals as goal
 
 pub next_stretch-current-requires-clause-rising : goal.next_stretch-current-requires-clause-rising
 next_stretch-current-requires-clause-rising g c =
     rw c.deref-in-loop-stretches.ensures.value c.loop-stretches.invariant.stretches.rising
+
+pub advance-requires-clause-stretches : goal.advance-requires-clause-stretches
+advance-requires-clause-stretches g c =
+    let dropped = c.drop_passed-current in
+    let i = c.loop-stretches.invariant in
+    rw (i.same, dropped.ensures.left) (AreStretches-drop _ _ _ _ i.stretches)
+
+pub advance-requires-clause-current : goal.advance-requires-clause-current
+advance-requires-clause-current g c =
+    let dropped = c.drop_passed-current in
+    let count = c.next_stretch-current.result - dropped.result in
+    let here : c.next_stretch-current.result - count ≡ dropped.result =
+    omega (arith, dropped.ensures.within) in
+    let has = HasEnd-drop _ count _ _ (omega arith)
+    (rw c.deref-in-loop-stretches.ensures.value at c.next_stretch-current.ensures) in
+    rw (dropped.ensures.left, ← c.len-in-loop-stretches.ensures) (rw here at has)
 
 pub loop-stretches-preserved : goal.loop-stretches-preserved
 loop-stretches-preserved g c =
@@ -16,7 +34,10 @@ loop-stretches-preserved g c =
     let same : (g.C.CostSource.costs c.loop-stretches.costs).ends ≡ n =
     ap (λ (l : Costs). l.ends) i.same ∙ sym c.ends-ends.ensures in
     let len : vec_len c.advance.new.minima - 1 ≡ m = omega (arith, a.len) in
-    let step = rw same at a.steps in
+    let step : g.C.CostSource.steps c.advance.new.costs + vec_len c.advance.new.stretches
+    ≤ g.C.CostSource.steps c.loop-stretches.costs + vec_len c.loop-stretches.stretches + 10
+    + 2 * binary_digits (n - (m + 1)) =
+    omega (arith, rw same at a.steps, c.drop_passed-current.ensures.fewer) in
     record {
       same = a.same ∙ i.same;
       minima = rw i.same at a.minima;
@@ -37,7 +58,10 @@ returns-in_err-advance-clause-steps g c =
     let a = c.in_err-advance.ensures in
     let same : (g.C.CostSource.costs c.loop-stretches.costs).ends ≡ c.ends-ends.result =
     ap (λ (l : Costs). l.ends) i.same ∙ sym c.ends-ends.ensures in
-    let step = rw same at a.steps in
+    let step : g.C.CostSource.steps c.advance.new.costs + vec_len c.advance.new.stretches
+    ≤ g.C.CostSource.steps c.loop-stretches.costs + vec_len c.loop-stretches.stretches + 10
+    + 2 * binary_digits (c.ends-ends.result - (vec_len c.loop-stretches.minima + 1)) =
+    omega (arith, rw same at a.steps, c.drop_passed-current.ensures.fewer) in
     rw (← c.ends-ends.ensures) (steps_within c.ends-ends.result (vec_len c.loop-stretches.minima)
     (g.C.CostSource.steps c.args.costs.now) (g.C.CostSource.steps c.loop-stretches.costs)
     (g.C.CostSource.steps c.advance.new.costs) (vec_len c.loop-stretches.stretches)

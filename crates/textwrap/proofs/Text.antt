@@ -2,7 +2,6 @@ pub mod Breaks
 pub mod Dedenting
 pub mod EndedLines
 pub mod Growing
-pub mod Grown
 pub mod InPlace
 pub mod InPlaceLines
 pub mod InPlaceRows

@@ -1,6 +1,7 @@
 pub mod Ends
 pub mod Fewest
 pub mod Greedy
+pub mod Grown
 pub mod Map
 pub mod OneLine
 pub mod Rows

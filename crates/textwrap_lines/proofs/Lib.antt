@@ -2,3 +2,4 @@ pub mod Paragraph
 pub mod PrintableTexts
 pub mod Text
 pub mod Word
+pub mod WordLines

@@ -8,6 +8,7 @@ pub mod Options
 pub mod Paragraph
 pub mod Printable
 pub mod Text
+pub mod WordLines
 pub mod WordOffsets
 pub mod WordSeparators
 pub mod WordSplitters

@@ -15,6 +15,7 @@ use crate::line_ending::LineEnding;
 use crate::options::Options;
 use crate::printable::{is_printable, push_printable_lines};
 use crate::word_separators::WordSeparator;
+use crate::word_lines::push_lines_by_words;
 use crate::word_splitters::WordSplitter;
 use crate::wrapping::{is_one_line, split_paragraph, whole_line, wrap_single_line};
 use std::alloc::{AllocError, Allocator};
@@ -102,9 +103,7 @@ fn push_paragraph<A: Allocator + Copy>(
         let width = options.width;
         return Ok(push_printable_lines(paragraph, width, hyphens, ending.as_str(), filled)?);
     }
-    let mut lines = Vec::new(alloc);
-    wrap_single_line(alloc, paragraph, options, &mut lines)?;
-    Ok(filled.push_str(&join_lines(alloc, &lines, ending)?)?)
+    Ok(push_lines_by_words(paragraph, options.width, hyphens, ending.as_str(), filled)?)
 }
 
 /// The lines with the line ending between each two.

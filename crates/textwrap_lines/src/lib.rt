@@ -19,4 +19,5 @@ pub mod parts;
 mod printable;
 pub mod word_separators;
 pub mod word_splitters;
+mod word_lines;
 mod wrapping;

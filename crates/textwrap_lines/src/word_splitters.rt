@@ -144,7 +144,7 @@ fn hyphen_points<A: Allocator>(alloc: A, word: &str) -> Result<Vec<usize, A>, Al
 }
 
 /// Whether a hyphen between alphanumeric characters ends at the offset, which is inside the word.
-fn is_hyphen_point(word: &str, point: usize) -> bool
+pub(crate) fn is_hyphen_point(word: &str, point: usize) -> bool
     requires after_start { 0 < point }
     requires before_end { point < length word.now }
     ensures point { result ≡ is_hyphen_point word.now point }
@@ -254,7 +254,7 @@ fn push_split<'a, A: Allocator>(
 }
 
 /// The piece of a text from one offset to another, at which it is cut.
-fn inner_piece(text: &str, start: usize, point: usize) -> Word<'_>
+pub(crate) fn inner_piece(text: &str, start: usize, point: usize) -> Word<'_>
     requires order { start ≤ point }
     requires from_cut { 0 < start → IsCharBoundary text.now start }
     requires to_cut { IsCharBoundary text.now point }

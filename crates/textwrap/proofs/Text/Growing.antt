@@ -13,8 +13,9 @@ use Rattle.textwrap_base.proofs.Word.Tiling.{tiled-append, tiled-push, tiled-wor
 use Rattle.textwrap_base.proofs.Word.Words.{words_unique}
 use Rattle.textwrap_lines.proofs.Text.Lossless.{tiled-word_of}
 use Rattle.textwrap.specs.InPlace.{FitsOneLine, breaks_of}
-use Rattle.textwrap.proofs.Text.Grown.{grown, grown-full, grown-room, grown-begins, grown-greedy}
-use Rattle.textwrap.proofs.Text.Grown.{prefix-closes}
+use Rattle.textwrap.proofs.Text.InPlaceLines.{line_width-one}
+use Rattle.textwrap_base.proofs.Division.Grown.{grown, grown-full, grown-room, grown-begins, grown-greedy}
+use Rattle.textwrap_base.proofs.Division.Grown.{prefix-closes}
 
 -- ---- the words of a part have bytes, and no penalty
 
@@ -105,7 +106,7 @@ module _ {width start : ℕ} {part old breaks : List ℕ} {begin end taken : ℕ
   HasLine-break from len more pushed began over from_is len_is more_is pushed_is =
       let some : 0 < length line = line_some line (omega (arith, began, has.end_is)) in
       let full : width < closed_width sizes_of (line ++ x ∷ []) = omega (arith, closes, over) in
-      let (others, rest, is) = grown-begins sizes_of width left (x ∷ []) in
+      let (others, rest, is) = grown-begins sizes_of width (width ∷ []) (line_width-one width) left (x ∷ []) in
       let next = grown sizes_of width left (x ∷ []) in
       let after : breaks_of begin (line ∷ next) ≡ (end - 1) ∷ breaks_of end next =
       ap (λ ls. breaks_of begin (line ∷ ls)) is
@@ -213,7 +214,7 @@ pub HasLine-end : {width start : ℕ} {part old breaks : List ℕ} {begin end ta
     × (breaks ≡ old ++ breaks_of start division)
 HasLine-end {width} {start} {part} {old} {breaks} {begin} {end} {taken} {left} {line} has none = (
   grown sizes_of width (words_of part) [],
-  grown-greedy sizes_of width (words_of part),
+  grown-greedy sizes_of width (width ∷ []) (line_width-one width) (words_of part),
   sym (append-nil breaks)
       ∙ ap (λ ws. breaks ++ breaks_of begin (grown sizes_of width ws line)) (sym none)
       ∙ has.places,

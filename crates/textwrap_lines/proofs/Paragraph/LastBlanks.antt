@@ -224,7 +224,7 @@ pieces_of-space settings splitter paragraph utf8 unindented =
       | false ↦ split_pieces_of-space splitter paragraph
     ]
 
-covered-space : (ws : List WordText) → covered ws ++ last_space ws ≡ tiled ws
+pub covered-space : (ws : List WordText) → covered ws ++ last_space ws ≡ tiled ws
 covered-space [] = refl
 covered-space (w ∷ ws) = covered-last w ws
 

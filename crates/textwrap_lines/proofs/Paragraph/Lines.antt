@@ -47,7 +47,7 @@ starts-parts xs first next starts =
           (ap (drop (length first)) whole ∙ drop_at first (next ++ rest) (length first) refl),
     )
 
-covered-push : (ws : List WordText) (w : WordText) → covered (ws ++ w ∷ []) ≡ tiled ws ++ w.word
+pub covered-push : (ws : List WordText) (w : WordText) → covered (ws ++ w ∷ []) ≡ tiled ws ++ w.word
 covered-push [] w = refl
 covered-push (v ∷ []) w = ap (λ l. l ++ w.word) (sym (append-nil (tile_of v)))
 covered-push (v ∷ u ∷ ws) w = ap (λ l. tile_of v ++ l) (covered-push (u ∷ ws) w)

@@ -184,6 +184,21 @@ split_from-no_penalty w start (point ∷ points) none ends =
     (split_from-no_penalty w point points none
     (All-tail (λ p. ends_in_hyphen (take p w.word) ≡ true) point points ends))
 
+split_words-no_penalty : (splitter : Splitter) (words : List WordText) → All HasNoPenalty words
+    → All HasNoPenalty (split_words splitter words)
+split_words-no_penalty splitter [] none = All-nil HasNoPenalty
+split_words-no_penalty splitter (w ∷ words) none =
+    All-append HasNoPenalty (split_word splitter w) (split_words splitter words)
+    (split_from-no_penalty w 0 (points_of splitter w.word) (All-head HasNoPenalty w words none)
+    (points_of-hyphens splitter w.word))
+    (split_words-no_penalty splitter words (All-tail HasNoPenalty w words none))
+
+pub split_pieces_of-no_penalty : (splitter : Splitter) (paragraph : List ℕ)
+    → All HasNoPenalty (split_pieces_of splitter paragraph)
+split_pieces_of-no_penalty splitter paragraph =
+    split_words-no_penalty splitter (words_of paragraph)
+    (All-map HasNoPenalty word_of (chunks paragraph) (λ k d lt. refl))
+
 front-no_penalty : (b : Bool) → All HasNoPenalty (cond b [] (empty_word ∷ []))
 front-no_penalty true = All-nil HasNoPenalty
 front-no_penalty false = All-cons HasNoPenalty empty_word [] refl (All-nil HasNoPenalty)

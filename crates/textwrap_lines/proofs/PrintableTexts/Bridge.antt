@@ -3,6 +3,7 @@ use Rattle.std.proofs.Common.{◌≡◌, ℕ, Bool, true, false, cond, ◌==◌,
 use Rattle.std.proofs.Common.{length, map, refl, sym, ap, ◌∙◌, subst, arith}
 use Rattle.std.specs.Prelude.{◌||◌}
 use Rattle.std.specs.List.{onto_first}
+use Rattle.std.specs.Str.{IsUtf8}
 use Rattle.textwrap_base.specs.Breaking.{broken_words}
 use Rattle.textwrap_base.specs.Division.{IsGreedy}
 use Rattle.textwrap_base.specs.WrapAlgorithms.{Greedy}
@@ -57,16 +58,15 @@ width_after-none settings indent none =
     let nothing : text_width indent ≡ 0 = ap text_width none ∙ text_width-nil in
     omega (arith, nothing)
 
-pieces_of-printable : (settings : Settings) (splitter : Splitter) (text : List ℕ)
-    → HasBareLines settings → IsPrintable text → pieces_of settings splitter text
-    ≡ pieces_after (printable_cut (hyphens_of splitter)) settings.width 32 text
-pieces_of-printable settings splitter text fit printable =
+pieces_of-bare : (settings : Settings) (splitter : Splitter) (text : List ℕ)
+    → HasBareLines settings → pieces_of settings splitter text
+    ≡ broken_words settings.width (split_words splitter (words_of text))
+pieces_of-bare settings splitter text fit =
     let limit = later_width settings in
     let split = split_words splitter (words_of text) in
     ap (λ b. cond b (front_pieces settings ++ broken_words limit split) split) fit.breaks
     ∙ ap (λ i. cond (length i == 0) [] (empty_word ∷ []) ++ broken_words limit split) fit.initial
-    ∙ ap (broken_words limit) (split-printable splitter text printable)
-    ∙ ap (λ n. broken_words n (map word_of (parts (printable_cut (hyphens_of splitter)) 32 text)))
+    ∙ ap (λ n. broken_words n split)
     (width_after-none settings settings.subsequent_indent fit.subsequent)
 
 first_width-bare : (settings : Settings) (is_later : Bool) → HasBareLines settings
@@ -105,7 +105,29 @@ lines-covered settings is_later (line ∷ lines) fit none =
     ∙ ap (λ ls. covered line ∷ ls)
     (lines-covered settings true lines fit (all-right HasNoPenalty line (flat lines) none))
 
--- the greedy lines of the printable pieces are the lines of the paragraph
+-- the greedy lines of the pieces are the lines of the paragraph
+pub bare_lines : (settings : Settings) (splitter : Splitter) (is_later : Bool) (text : List ℕ)
+    (division : List (List WordText)) → HasBareLines settings → IsUtf8 text
+    → IsGreedy sizes_of (settings.width ∷ settings.width ∷ [])
+    (broken_words settings.width (split_words splitter (words_of text))) division
+    → (ps : List LineParts)
+    × AreDividedParts settings (DividesAs splitter Greedy settings) is_later text ps
+    × (map line_bytes (map line_from ps) ≡ map covered division)
+bare_lines settings splitter is_later text division fit utf8 greedy =
+    let pieces = pieces_of settings splitter text in
+    let divided : IsGreedy sizes_of (widths_of settings is_later) pieces division =
+    subst (λ widths. IsGreedy sizes_of widths pieces division)
+    (sym (widths_of-bare settings is_later fit))
+    (subst (λ ps. IsGreedy sizes_of (one_width settings.width) ps division)
+    (sym (pieces_of-bare settings splitter text fit)) greedy) in
+    let whole = IsDivision-whole pieces division divided.admissible.division in (
+      parts_from settings is_later division,
+      (division, (pieces, ArePieces-computed settings splitter text, divided), refl),
+      lines-covered settings is_later division fit
+          (subst (All HasNoPenalty) (sym whole) (pieces_of-no_penalty settings splitter text utf8)),
+    )
+
+-- those of a printable paragraph
 pub printable_lines : (settings : Settings) (splitter : Splitter) (is_later : Bool) (text : List ℕ)
     (division : List (List WordText)) → HasBareLines settings → IsPrintable text
     → IsGreedy sizes_of (settings.width ∷ settings.width ∷ [])
@@ -114,16 +136,7 @@ pub printable_lines : (settings : Settings) (splitter : Splitter) (is_later : Bo
     × AreDividedParts settings (DividesAs splitter Greedy settings) is_later text ps
     × (map line_bytes (map line_from ps) ≡ map covered division)
 printable_lines settings splitter is_later text division fit printable greedy =
-    let pieces = pieces_of settings splitter text in
-    let divided : IsGreedy sizes_of (widths_of settings is_later) pieces division =
-    subst (λ widths. IsGreedy sizes_of widths pieces division)
-    (sym (widths_of-bare settings is_later fit))
-    (subst (λ ps. IsGreedy sizes_of (one_width settings.width) ps division)
-    (sym (pieces_of-printable settings splitter text fit printable)) greedy) in
-    let whole = IsDivision-whole pieces division divided.admissible.division in (
-      parts_from settings is_later division,
-      (division, (pieces, ArePieces-computed settings splitter text, divided), refl),
-      lines-covered settings is_later division fit
-          (subst (All HasNoPenalty) (sym whole)
-          (pieces_of-no_penalty settings splitter text (printable-utf8 text printable))),
-    )
+    bare_lines settings splitter is_later text division fit (printable-utf8 text printable)
+    (subst (λ words. IsGreedy sizes_of (one_width settings.width)
+    (broken_words settings.width words) division) (sym (split-printable splitter text printable))
+    greedy)

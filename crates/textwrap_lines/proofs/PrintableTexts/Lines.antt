@@ -21,7 +21,7 @@ use Rattle.textwrap_lines.proofs.PrintableTexts.Pieces.{pieces-some}
 abbrev pub one_width : ℕ → List ℕ
 one_width width = width ∷ width ∷ []
 
-one_width-is : (width number : ℕ) → line_width (one_width width) number ≡ width
+pub one_width-is : (width number : ℕ) → line_width (one_width width) number ≡ width
 one_width-is width zero = refl
 one_width-is width (suc number) = later_is width width (suc number) (omega arith)
 

@@ -165,7 +165,7 @@ module _ {E C : Type 0} {e : _} {c : _} (options : Options E C e c) (hyphens : B
   abbrev settings_here : Settings
   settings_here = settings_view options
 
-  some-lines : (is_later : Bool) (paragraph : List ℕ) (parts : List LineParts)
+  pub some-lines : (is_later : Bool) (paragraph : List ℕ) (parts : List LineParts)
       → IsUtf8 paragraph
       → AreParagraphParts settings_here (DividesBy options) is_later paragraph parts
       → 0 < length parts

@@ -122,7 +122,7 @@ range-within a n = λ k d lt.
     (omega (arith, at), omega (arith, at))
 
 -- a text may be cut after a hyphen
-after-hyphen : (text : List ℕ) (point : ℕ) → IsUtf8 text → 1 ≤ point → point < length text
+pub after-hyphen : (text : List ℕ) (point : ℕ) → IsUtf8 text → 1 ≤ point → point < length text
     → is_hyphen_point text point ≡ true → IsCharBoundary text point
 after-hyphen text point utf8 start inside is =
     let hyphenated = and_parts _ _ (and_parts _ _ is).0 in

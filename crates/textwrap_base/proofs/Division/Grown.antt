@@ -11,7 +11,6 @@ use Rattle.textwrap_base.specs.Sizes.{Sizes}
 use Rattle.textwrap_base.specs.Division.{line_width, closed_width, Fits, AllFit, AllFull, IsGreedy}
 use Rattle.textwrap_base.proofs.Division.Greedy.{Fits-push, IsGreedy-from}
 use Rattle.textwrap_base.proofs.ListLemmas.{flat}
-use Rattle.textwrap.proofs.Text.InPlaceLines.{line_width-one}
 
 module _ {X : Type 0} (sizes : X → Sizes) (width : ℕ) where
   -- the line has fragments, and no room for one more
@@ -46,18 +45,34 @@ module _ {X : Type 0} (sizes : X → Sizes) (width : ℕ) where
       cond-false (is_full line x) (line ∷ grown xs (x ∷ [])) (grown xs (line ++ x ∷ []))
       (not_full x line room)
 
+  -- where all fragments fit one line, no prefix of them is full
+  pub prefix-closes : (line : List X) (x : X) (xs : List X) → Fits sizes width (line ++ x ∷ xs)
+      → 0 < length line → closed_width sizes (line ++ x ∷ []) ≤ width
+  prefix-closes line x xs fits some =
+      let len = length_push line x in
+      subst (λ l. closed_width sizes l ≤ width)
+      (ap (take (length line + 1)) (sym (append_assoc line (x ∷ []) xs))
+      ∙ take_at (line ++ x ∷ []) xs (length line + 1) len)
+      (fits (length line + 1) (omega (arith, some)) (omega (arith, some_more line x xs)))
+    where
+      some_more : (line : List X) (x : X) (xs : List X) → length line + 1 ≤ length (line ++ x ∷ xs)
+      some_more [] x xs = omega arith
+      some_more (y ∷ line) x xs = omega (arith, some_more line x xs)
+
+module _ {X : Type 0} (sizes : X → Sizes) (width : ℕ) (widths : List ℕ)
+    (same : (n : ℕ) → line_width widths n ≡ width) where
   -- all fragments on lines that fit, of which no one but the last has room for more
   record AreGrown (xs line : List X) (lines : List (List X)) : Type 0 where
     pub whole : flat lines ≡ line ++ xs
     pub nonempty : 0 < length (line ++ xs) → All (λ l. l ≢ []) lines
     pub begins : (more : List X) × (rest : List (List X)) × (lines ≡ (line ++ more) ∷ rest)
-    pub fit : Fits sizes width line → (n : ℕ) → AllFit sizes (width ∷ []) n lines
-    pub full : (n : ℕ) → AllFull sizes (width ∷ []) n lines
+    pub fit : Fits sizes width line → (n : ℕ) → AllFit sizes widths n lines
+    pub full : (n : ℕ) → AllFull sizes widths n lines
 
   Fits-first : (n : ℕ) (line : List X) → Fits sizes width line
-      → Fits sizes (line_width (width ∷ []) n) line
+      → Fits sizes (line_width widths n) line
   Fits-first n line fits =
-      subst (λ w. Fits sizes w line) (sym (line_width-one width n)) fits
+      subst (λ w. Fits sizes w line) (sym (same n)) fits
 
   Fits-one : (x : X) → Fits sizes width (x ∷ [])
   Fits-one x k two within = absurd (omega (arith, two, within))
@@ -73,7 +88,7 @@ module _ {X : Type 0} (sizes : X → Sizes) (width : ℕ) where
     full = λ n. tt;
   }
 
-  AreGrown-full : (x : X) (xs line : List X) (lines : List (List X)) → is_full line x ≡ true
+  AreGrown-full : (x : X) (xs line : List X) (lines : List (List X)) → is_full sizes width line x ≡ true
       → AreGrown xs (x ∷ []) lines → AreGrown (x ∷ xs) line (line ∷ lines)
   AreGrown-full x xs line lines at_end after =
       let closed = closed_width sizes (line ++ x ∷ []) in
@@ -86,14 +101,14 @@ module _ {X : Type 0} (sizes : X → Sizes) (width : ℕ) where
             (after.nonempty (omega arith));
         begins = ([], lines, ap (λ l. l ∷ lines) (sym (append-nil line)));
         fit = λ fits n. (Fits-first n line fits, after.fit (Fits-one x) (n + 1));
-        full = λ n. subst (λ ls. AllFull sizes (width ∷ []) n (line ∷ ls)) (sym is) (
-          subst (λ w. w < closed_width sizes (line ++ x ∷ [])) (sym (line_width-one width n))
+        full = λ n. subst (λ ls. AllFull sizes widths n (line ∷ ls)) (sym is) (
+          subst (λ w. w < closed_width sizes (line ++ x ∷ [])) (sym (same n))
               (ltb-true width closed over),
-          subst (AllFull sizes (width ∷ []) (n + 1)) is (after.full (n + 1)),
+          subst (AllFull sizes widths (n + 1)) is (after.full (n + 1)),
         );
       }
 
-  AreGrown-room : (x : X) (xs line : List X) (lines : List (List X)) → is_full line x ≡ false
+  AreGrown-room : (x : X) (xs line : List X) (lines : List (List X)) → is_full sizes width line x ≡ false
       → AreGrown xs (line ++ x ∷ []) lines → AreGrown (x ∷ xs) line lines
   AreGrown-room x xs line lines room after =
       let closed = closed_width sizes (line ++ x ∷ []) in
@@ -112,47 +127,33 @@ module _ {X : Type 0} (sizes : X → Sizes) (width : ℕ) where
         full = after.full;
       }
 
-  are_grown : (xs line : List X) → AreGrown xs line (grown xs line)
+  are_grown : (xs line : List X) → AreGrown xs line (grown sizes width xs line)
   are_grown [] line = AreGrown-last line
   are_grown (x ∷ xs) line =
-      cond_both (is_full line x) (line ∷ grown xs (x ∷ [])) (grown xs (line ++ x ∷ []))
+      cond_both (is_full sizes width line x) (line ∷ grown sizes width xs (x ∷ [])) (grown sizes width xs (line ++ x ∷ []))
       (AreGrown (x ∷ xs) line)
-      (λ full. AreGrown-full x xs line (grown xs (x ∷ [])) full (are_grown xs (x ∷ [])))
-      (λ room. AreGrown-room x xs line (grown xs (line ++ x ∷ [])) room
+      (λ full. AreGrown-full x xs line (grown sizes width xs (x ∷ [])) full (are_grown xs (x ∷ [])))
+      (λ room. AreGrown-room x xs line (grown sizes width xs (line ++ x ∷ [])) room
       (are_grown xs (line ++ x ∷ [])))
 
   pub grown-begins : (xs line : List X)
-      → (more : List X) × (rest : List (List X)) × (grown xs line ≡ (line ++ more) ∷ rest)
+      → (more : List X) × (rest : List (List X)) × (grown sizes width xs line ≡ (line ++ more) ∷ rest)
   grown-begins xs line = (are_grown xs line).begins
 
   Fits-none : Fits sizes width []
   Fits-none k two within = absurd (omega (arith, two, within))
 
-  -- these lines are those of first fit
-  pub grown-greedy : (xs : List X) → IsGreedy sizes (width ∷ []) xs (grown xs [])
+  -- these lines are those of first fit at line widths that are all this one
+  pub grown-greedy : (xs : List X) → IsGreedy sizes widths xs (grown sizes width xs [])
   grown-greedy [] = record {
     admissible = record { division = refl; fit = (Fits-first 0 [] Fits-none, tt) };
     full = tt;
   }
   grown-greedy (x ∷ xs) =
       let lines = are_grown (x ∷ xs) [] in
-      IsGreedy-from sizes (width ∷ []) (x ∷ xs) (grown (x ∷ xs) []) (omega arith) (record {
+      IsGreedy-from sizes widths (x ∷ xs) (grown sizes width (x ∷ xs) []) (omega arith) (record {
         whole = lines.whole;
         nonempty = lines.nonempty (omega arith);
         fit = lines.fit Fits-none 0;
         full = lines.full 0;
       })
-
-  -- where all fragments fit one line, no prefix of them is full
-  pub prefix-closes : (line : List X) (x : X) (xs : List X) → Fits sizes width (line ++ x ∷ xs)
-      → 0 < length line → closed_width sizes (line ++ x ∷ []) ≤ width
-  prefix-closes line x xs fits some =
-      let len = length_push line x in
-      subst (λ l. closed_width sizes l ≤ width)
-      (ap (take (length line + 1)) (sym (append_assoc line (x ∷ []) xs))
-      ∙ take_at (line ++ x ∷ []) xs (length line + 1) len)
-      (fits (length line + 1) (omega (arith, some)) (omega (arith, some_more line x xs)))
-    where
-      some_more : (line : List X) (x : X) (xs : List X) → length line + 1 ≤ length (line ++ x ∷ xs)
-      some_more [] x xs = omega arith
-      some_more (y ∷ line) x xs = omega (arith, some_more line x xs)

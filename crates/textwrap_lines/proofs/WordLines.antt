@@ -1,0 +1,4 @@
+pub mod Joined
+pub mod Line
+pub mod Steps
+pub mod Written

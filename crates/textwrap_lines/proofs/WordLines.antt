@@ -1,4 +1,5 @@
 pub mod Joined
 pub mod Line
+pub mod Pieces
 pub mod Steps
 pub mod Written

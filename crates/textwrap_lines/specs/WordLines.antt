@@ -6,8 +6,8 @@ use Rattle.textwrap_lines.specs.declared.word_lines.OpenLine.{OpenLine}
 
 -- ---- the line that takes the next piece
 
--- whether it has a piece, the text that its pieces cover, the whitespace after that, and the columns
--- of both
+-- whether it has a piece, the text that its pieces cover, the whitespace after that, and the
+-- columns of both
 pub record LineSoFar : Type 0 where
   pub begun : Bool
   pub slice : List ℕ
@@ -54,11 +54,12 @@ module _ (width : ℕ) (separator : List ℕ) where
   abbrev pub joined_from : LineSoFar → List WordText → List ℕ
   joined_from line [] = line.slice
   joined_from line (x ∷ xs) =
-      if is_past width line x then line.slice ++ separator ++ joined_from (with_piece no_pieces x) xs
+      if is_past width line x
+      then line.slice ++ separator ++ joined_from (with_piece no_pieces x) xs
       else joined_from (with_piece line x) xs
 
-  -- what was written before, with the line and its pieces to come, comes to the same as what is
-  -- written now, with the next line and the pieces that are left
+  -- whatever pieces follow: the text before, with the lines of `line` and `pieces`, is the text
+  -- now, with those of `next` and the pieces that are left; and these come after `next`
   pub record GoesOn (before : List ℕ) (line : OpenLine) (pieces : List WordText) (now : List ℕ)
       (next : OpenLine) (left : List WordText) : Type 0 where
     pub text : (others : List WordText)

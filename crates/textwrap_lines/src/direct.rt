@@ -2,7 +2,7 @@
 //!
 //! Without indents, the lines of a paragraph do not depend on what stands before it, so a text can be
 //! written paragraph by paragraph. By first fit, one of printable ASCII is written line by line, and
-//! needs no list of words either; any other that is divided has lists of its own.
+//! any other that is divided word by word; neither needs a list of words.
 ghost use Rattle.std.specs.Prelude.{◌≡◌, ◌<◌, map, IsTrue, IfOk, IfErr, IfSome, OnOk, alloc_error};
 ghost use Rattle.std.specs.Prelude.{string_bytes};
 ghost use Rattle.textwrap_lines.specs.Direct.{IsDirect, HasBareLines, WritesLines};
@@ -14,10 +14,10 @@ ghost use Rattle.textwrap_lines.specs.Paragraph.{line_bytes, line_view, DividesB
 use crate::line_ending::LineEnding;
 use crate::options::Options;
 use crate::printable::{is_printable, push_printable_lines};
-use crate::word_separators::WordSeparator;
 use crate::word_lines::push_lines_by_words;
+use crate::word_separators::WordSeparator;
 use crate::word_splitters::WordSplitter;
-use crate::wrapping::{is_one_line, split_paragraph, whole_line, wrap_single_line};
+use crate::wrapping::{is_one_line, split_paragraph, whole_line};
 use std::alloc::{AllocError, Allocator};
 use std::borrow::CowStr;
 use textwrap_base::wrap_algorithms::{WrapAlgorithm, WrapError};

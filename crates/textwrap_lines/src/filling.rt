@@ -37,7 +37,7 @@ pub fn fill<A: Allocator + Copy>(
     if after.is_none() && is_one_line(paragraph, &options, false) {
         return Ok(String::from_str(alloc, whole_line(paragraph, &options))?);
     }
-    // This saves the list of all lines, and where a paragraph is printable ASCII, that of words.
+    // This saves the list of all lines, and those of the words of each paragraph.
     if let Some(hyphens) = splits_directly(&options) {
         return fill_directly(alloc, text, &options, hyphens);
     }

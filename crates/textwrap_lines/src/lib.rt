@@ -17,7 +17,7 @@ mod line_ending;
 mod options;
 pub mod parts;
 mod printable;
+mod word_lines;
 pub mod word_separators;
 pub mod word_splitters;
-mod word_lines;
 mod wrapping;

@@ -1,7 +1,7 @@
 //! Lines by first fit that are written word by word: of the line that takes the next piece, a few
 //! numbers are kept, and no list of words or of lines.
-ghost use Rattle.std.specs.Prelude.{◌≡◌, ℕ, ◌*◌, ◌<◌, ◌≤◌, List, [], ◌∷◌, ◌++◌, length, map, IfOk, OnOk};
-ghost use Rattle.std.specs.Prelude.{IsCharBoundary, IsUtf8, string_bytes};
+ghost use Rattle.std.specs.Prelude.{◌≡◌, ℕ, ◌*◌, ◌<◌, ◌≤◌, List, [], ◌∷◌, ◌++◌, length, map};
+ghost use Rattle.std.specs.Prelude.{IsCharBoundary, IsUtf8, string_bytes, OnOk};
 ghost use Rattle.textwrap_base.specs.Breaking.{broken_word, broken_words};
 ghost use Rattle.textwrap_base.specs.Division.{IsGreedy};
 ghost use Rattle.textwrap_base.specs.Units.{text_width};
@@ -17,17 +17,17 @@ use textwrap_base::words::{Word, display_width};
 
 /// How the lines of a paragraph are written.
 #[derive(Clone, Copy, Debug)]
-pub(crate) struct Layout<'a> {
-    pub(crate) width: usize,
+struct Layout<'a> {
+    width: usize,
     /// Whether words are split after hyphens.
-    pub(crate) hyphens: bool,
+    hyphens: bool,
     /// What stands between each two lines.
-    pub(crate) separator: &'a str,
+    separator: &'a str,
 }
 
 /// The line that takes the next piece.
 #[derive(Clone, Copy, Debug)]
-pub(crate) struct OpenLine<'t> {
+struct OpenLine<'t> {
     /// The text from the start of the line on.
     text: &'t str,
     /// How many bytes of it the pieces cover, without the whitespace of the last.
@@ -50,7 +50,7 @@ impl<'t> OpenLine<'t> {
     ghost use Rattle.textwrap_lines.specs.WordLines.{IsNext, is_past};
 
     /// A line without pieces, at the start of a text.
-    pub(crate) fn at_start(text: &'t str) -> OpenLine<'t>
+    fn at_start(text: &'t str) -> OpenLine<'t>
         ensures line { line_so_far result ≡ no_pieces }
         ensures place { coming result ≡ text.now }
     {
@@ -64,45 +64,45 @@ impl<'t> OpenLine<'t> {
     }
 
     /// Whether the line has a piece already, and no room for this one.
-    fn is_past(self, piece: Word<'_>, width: usize) -> bool
-        ensures { result ≡ is_past width (line_so_far self.entry) (word_view piece.entry) }
+    fn is_past(&self, piece: &Word<'_>, width: usize) -> bool
+        ensures { result ≡ is_past width (line_so_far self.now) (word_view piece.now) }
     {
         self.begun && (self.columns > width || piece.width > width - self.columns)
     }
 
-    /// The line after this one.
-    fn next_line(self) -> OpenLine<'t>
-        ensures line { line_so_far result ≡ no_pieces }
-        ensures place { coming result ≡ coming self.entry }
+    /// Goes on to the next line.
+    fn start_next(&mut self)
+        ensures line { line_so_far self.new ≡ no_pieces }
+        ensures place { coming self.new ≡ coming self.old }
     {
-        OpenLine::at_start(&self.text[self.len..])
+        *self = OpenLine::at_start(&self.text[self.len..]);
     }
 
-    /// The line with one more piece.
-    fn with_piece(self, piece: Word<'_>) -> OpenLine<'t>
-        requires width { piece.width ≡ text_width piece.word.now }
-        requires next { IsNext self (word_view piece ∷ []) }
-        ensures line { line_so_far result ≡ with_piece (line_so_far self.entry)
-            (word_view piece.entry) }
+    /// Takes one more piece.
+    fn take(&mut self, piece: &Word<'_>)
+        requires width { piece.now.width ≡ text_width piece.now.word.now }
+        requires next { IsNext self.old (word_view piece.now ∷ []) }
+        ensures line { line_so_far self.new ≡ with_piece (line_so_far self.old)
+            (word_view piece.now) }
         ensures place { (after : List ℕ)
-            → coming self.entry ≡ tile_of (word_view piece.entry) ++ after
-            → coming result ≡ after }
-        ensures utf8 { IsUtf8 (coming result) }
+            → coming self.old ≡ tile_of (word_view piece.now) ++ after
+            → coming self.new ≡ after }
+        ensures utf8 { IsUtf8 (coming self.new) }
     {
         let covered = self.len + piece.word.as_bytes().len();
         let whitespace_len = piece.whitespace.as_bytes().len();
-        OpenLine {
+        *self = OpenLine {
             text: self.text,
             covered,
             len: covered + whitespace_len,
             columns: self.columns + (piece.width + whitespace_len),
             begun: true,
-        }
+        };
     }
 
     /// The text that the pieces cover, without the whitespace of the last.
-    pub(crate) fn slice(self) -> &'t str
-        ensures { result.now ≡ (line_so_far self.entry).slice }
+    fn slice(&self) -> &'t str
+        ensures { result.now ≡ (line_so_far self.now).slice }
     {
         &self.text[..self.covered]
     }
@@ -111,33 +111,32 @@ impl<'t> OpenLine<'t> {
 impl<'a> Layout<'a> {
     ghost use Rattle.textwrap_lines.specs.WordLines.{GoesOn, IsNext};
 
-    /// Writes the lines that end before the last piece of a word, and returns the line of that
+    /// Writes the lines that end before the last piece of a word, and leaves the line of that
     /// piece.
     ///
     /// # Errors
     /// [`AllocError`] where memory runs out.
-    pub(crate) fn push_word<'t, A: Allocator>(
-        self,
-        word: Word<'_>,
-        line: OpenLine<'t>,
+    fn push_word<A: Allocator>(
+        &self,
+        word: &Word<'_>,
+        line: &mut OpenLine<'_>,
         filled: &mut String<A>,
-    ) -> Result<OpenLine<'t>, AllocError>
-        requires utf8 { IsUtf8 word.word.now }
-        requires width { word.width ≡ text_width word.word.now }
-        requires next { IsNext line (word_view word ∷ []) }
-        ensures { IfOk result (λ next. GoesOn self.entry.width self.entry.separator.now
-            (string_bytes filled.old) line.entry (broken_words self.entry.width
-            (split_word (splitter_of self.entry.hyphens) (word_view word.entry)))
-            (string_bytes filled.new) next []) }
+    ) -> Result<(), AllocError>
+        requires utf8 { IsUtf8 word.now.word.now }
+        requires width { word.now.width ≡ text_width word.now.word.now }
+        requires next { IsNext line.old (word_view word.now ∷ []) }
+        ensures { OnOk result (GoesOn self.now.width self.now.separator.now
+            (string_bytes filled.old) line.old (broken_words self.now.width
+            (split_word (splitter_of self.now.hyphens) (word_view word.now)))
+            (string_bytes filled.new) line.new []) }
     {
         if !self.hyphens || !word.word.as_bytes().contains(&b'-') {
             return self.push_broken(word, line, filled);
         }
-        let mut line = line;
         let mut start = 0;
         for point in 1..word.word.len() {
             if is_hyphen_point(word.word, point) {
-                line = self.push_broken(inner_piece(word.word, start, point), line, filled)?;
+                self.push_broken(&inner_piece(word.word, start, point), line, filled)?;
                 start = point;
             }
         }
@@ -145,56 +144,56 @@ impl<'a> Layout<'a> {
         let last = Word {
             word: rest,
             width: display_width(rest),
-            ..word
+            ..*word
         };
-        self.push_broken(last, line, filled)
+        self.push_broken(&last, line, filled)
     }
 
     /// The same for a piece of a word that is split, broken where it is wider than the line.
-    fn push_broken<'t, A: Allocator>(
-        self,
-        word: Word<'_>,
-        line: OpenLine<'t>,
+    fn push_broken<A: Allocator>(
+        &self,
+        word: &Word<'_>,
+        line: &mut OpenLine<'_>,
         filled: &mut String<A>,
-    ) -> Result<OpenLine<'t>, AllocError>
-        requires utf8 { IsUtf8 word.word.now }
-        requires width { word.width ≡ text_width word.word.now }
-        requires next { IsNext line (word_view word ∷ []) }
-        ensures { IfOk result (λ next. GoesOn self.entry.width self.entry.separator.now
-            (string_bytes filled.old) line.entry
-            (broken_word self.entry.width (word_view word.entry))
-            (string_bytes filled.new) next []) }
+    ) -> Result<(), AllocError>
+        requires utf8 { IsUtf8 word.now.word.now }
+        requires width { word.now.width ≡ text_width word.now.word.now }
+        requires next { IsNext line.old (word_view word.now ∷ []) }
+        ensures { OnOk result (GoesOn self.now.width self.now.separator.now
+            (string_bytes filled.old) line.old
+            (broken_word self.now.width (word_view word.now))
+            (string_bytes filled.new) line.new []) }
     {
         if word.width <= self.width {
             return self.push_piece(word, line, filled);
         }
-        let mut line = line;
         for piece in word.break_apart(self.width) {
-            line = self.push_piece(piece, line, filled)?;
+            self.push_piece(&piece, line, filled)?;
         }
-        Ok(line)
+        Ok(())
     }
 
-    /// The line of a piece: the same line where it has room, and else a new one. Then the line
-    /// before it is written.
-    fn push_piece<'t, A: Allocator>(
-        self,
-        piece: Word<'_>,
-        line: OpenLine<'t>,
+    /// Leaves the line of a piece: the same line where it has room, and else the next one. Then the
+    /// line before it is written.
+    fn push_piece<A: Allocator>(
+        &self,
+        piece: &Word<'_>,
+        line: &mut OpenLine<'_>,
         filled: &mut String<A>,
-    ) -> Result<OpenLine<'t>, AllocError>
-        requires width { piece.width ≡ text_width piece.word.now }
-        requires next { IsNext line (word_view piece ∷ []) }
-        ensures { IfOk result (λ next. GoesOn self.entry.width self.entry.separator.now
-            (string_bytes filled.old) line.entry (word_view piece.entry ∷ [])
-            (string_bytes filled.new) next []) }
+    ) -> Result<(), AllocError>
+        requires width { piece.now.width ≡ text_width piece.now.word.now }
+        requires next { IsNext line.old (word_view piece.now ∷ []) }
+        ensures { OnOk result (GoesOn self.now.width self.now.separator.now
+            (string_bytes filled.old) line.old (word_view piece.now ∷ [])
+            (string_bytes filled.new) line.new []) }
     {
         if line.is_past(piece, self.width) {
             filled.push_str(line.slice())?;
             filled.push_str(self.separator)?;
-            return Ok(line.next_line().with_piece(piece));
+            line.start_next();
         }
-        Ok(line.with_piece(piece))
+        line.take(piece);
+        Ok(())
     }
 }
 
@@ -224,7 +223,7 @@ pub(crate) fn push_lines_by_words<A: Allocator>(
     };
     let mut line = OpenLine::at_start(paragraph);
     for word in words_at_blanks::<A>(paragraph) {
-        line = layout.push_word(word, line, filled)?;
+        layout.push_word(&word, &mut line, filled)?;
     }
     filled.push_str(line.slice())?;
     Ok(())

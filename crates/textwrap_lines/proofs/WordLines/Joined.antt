@@ -61,7 +61,8 @@ module _ (width : ℕ) (separator : List ℕ) where
       let next = grown sizes_of width left (x ∷ []) in
       let (more, rest, is) =
       grown-begins sizes_of width (one_width width) (one_width-is width) left (x ∷ []) in
-      ap (λ ls. join_with separator (map covered ls)) (grown-full sizes_of width x left ps some over)
+      ap (λ ls. join_with separator (map covered ls))
+      (grown-full sizes_of width x left ps some over)
       ∙ join_with-cons separator (covered ps) (map covered next)
       (omega (arith, length-map next covered, ap length is))
 
@@ -70,7 +71,8 @@ module _ (width : ℕ) (separator : List ℕ) where
   joined-is [] ps none = refl
   joined-is (x ∷ left) ps none =
       let others = All-tail HasNoPenalty x left none in
-      let full = (covered ps ++ separator) ++ joined_from width separator (with_piece no_pieces x) left in
+      let full =
+      (covered ps ++ separator) ++ joined_from width separator (with_piece no_pieces x) left in
       let more = joined_from width separator (with_piece (so_far ps) x) left in
       let closed : closed_width sizes_of (ps ++ x ∷ []) ≡ open_width sizes_of ps + x.width =
       omega (

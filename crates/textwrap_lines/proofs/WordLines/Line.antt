@@ -126,7 +126,7 @@ has_piece line piece word gap word_is gap_is word_utf8 gap_utf8 width next =
           line.ends.0 next.utf8 word_utf8 gap_utf8 refl refl here;
       slice = slice-after text line.covered line.len n m word gap next.after line.order
           line.ends.0 next.utf8 word_utf8 gap_utf8 refl refl here
-          ∙ ap (λ l. (take line.covered text ++ drop line.covered (take line.len text)) ++ l) word_is;
+          ∙ ap (λ l. ((line_so_far line).slice ++ (line_so_far line).gap) ++ l) word_is;
       gap = gap-after text line.covered line.len n m word gap next.after line.order
           line.ends.0 next.utf8 word_utf8 gap_utf8 refl refl here ∙ gap_is;
       gap_len = ap length gap_is;

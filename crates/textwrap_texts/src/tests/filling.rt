@@ -41,8 +41,8 @@ fn lines_of_first_fit_are_joined(rt: HostRuntime) -> Result<(), Fail> {
     Ok(())
 }
 
-/// First fit without indents fills a text without a list of all lines, and a paragraph of printable
-/// ASCII without one of words; the lines are those of the lists.
+/// First fit without indents fills a text without a list of lines or of words; the lines are those of
+/// the lists.
 #[test]
 fn a_list_of_lines_makes_no_difference(rt: HostRuntime) -> Result<(), Fail> {
     for &text in &[
@@ -55,6 +55,18 @@ fn a_list_of_lines_makes_no_difference(rt: HostRuntime) -> Result<(), Fail> {
         "plain\n\nnaïve café-crème\r\nplain-text again\n",
         "a\ttab, \x1b[31mred\x1b[0m-green, a delete \x7f-\x7f and ~ alone",
         "안녕 하세요-안녕하세요 abc",
+        "  안녕   하세요  안녕하세요안녕하세요-a-안    ",
+        "é a-é-b é-안 1-é ١-٢ -é- é-- --é é-\u{301}a",
+        // Combining marks, also where a line is full, and without a character before them.
+        "e\u{301}e\u{301}e\u{301} \u{301} \u{301}\u{301} aa     \u{301} b",
+        "안\u{301}안\u{301}  \u{301}   안\u{301}",
+        // Escape sequences in words, across them, at cuts, and without an end.
+        "\x1b[31mlong-coloured-words\x1b[0m and\x1b[1m \x1b[0mmore é",
+        "\x1b]8;;a b-c\x1b\\li nk-a-b\x1b]8;;\x07 é",
+        "aa\x1b[1;\x1b[2m-bb안\x1b!-\x1b안 안\x1b[3",
+        "\x1b[1m \x1b[2m  \x1b[3m-\x1b[4m",
+        "é\tb\t\tc \t d\u{a0}e",
+        "é\r\n안녕하 세요\n\n \n안\r\r\n  a안-b  \n",
     ] {
         for width in 0..14 {
             for splitter in [WordSplitter::HyphenSplitter, WordSplitter::NoHyphenation] {

@@ -396,7 +396,7 @@ fn a_refused_text_is_no_other_text(rt: HostRuntime) -> Result<(), Fail> {
     for &(call, refusals, expected) in &[
         (OnFilling::Fill, 41, FILLED),
         (OnFilling::Short, 1, "foo"),
-        (OnFilling::Directly, 7, "foo\nbar\né foo\nfooba\nrbaz"),
+        (OnFilling::Directly, 2, "foo\nbar\né foo\nfooba\nrbaz"),
         (OnFilling::Slowly, 41, FILLED),
     ] {
         assert_refused(&rt, call, refusals, expected)?;

@@ -11,9 +11,10 @@ use Rattle.textwrap_lines.specs.WordLines.{GoesOn, IsNext, joined_from, line_so_
 use Rattle.textwrap_lines.specs.WordSplitters.{splitter_of, split_words}
 use Rattle.textwrap_lines.proofs.Paragraph.Pieces.{split_pieces_of-no_penalty}
 use Rattle.textwrap_lines.proofs.WordLines.Joined.{joined-greedy}
-use Rattle.textwrap_lines.proofs.WordLines.Steps.{IsText, GoesOn-next, GoesOn-start, GoesOn-then}
-use Rattle.textwrap_lines.proofs.WordLines.Steps.{IsNext-same, tiled-split, tiled-split_all}
-use Rattle.textwrap_lines.proofs.WordLines.Steps.{word_pieces, word_pieces-cons}
+use Rattle.textwrap_lines.proofs.WordLines.Pieces.{IsText, tiled-split, tiled-split_all}
+use Rattle.textwrap_lines.proofs.WordLines.Pieces.{word_pieces, word_pieces-cons}
+use Rattle.textwrap_lines.proofs.WordLines.Steps.{GoesOn-next, GoesOn-start, GoesOn-then}
+use Rattle.textwrap_lines.proofs.WordLines.Steps.{IsNext-same}
 use Rattle.textwrap_lines.proofs.word_lines.push_lines_by_words.Goals as goal
 
 pub loop-word-init : goal.loop-word-init
@@ -88,7 +89,7 @@ loop-word-preserved g c =
           (string_bytes c.loop-word.filled) c.loop-word.line)
           (ap (λ ws. broken_words width (split_words splitter ws)) c.in-Some.ensures.steps
           ∙ word_pieces-cons width splitter word left) c.loop-word.invariant.taken)
-          (string_bytes c.push_word.new.filled) c.in_ok-line.line c.in_ok-line.ensures;
+          (string_bytes c.push_word.new.filled) c.push_word.new.line c.in_ok-push_word.ensures;
       measured = All-tail IsMeasured word left
           (subst (All IsMeasured) c.in-Some.ensures.steps c.loop-word.invariant.measured);
     }

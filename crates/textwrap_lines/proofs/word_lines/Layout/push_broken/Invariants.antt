@@ -3,7 +3,7 @@ use Rattle.std.specs.String.{string_bytes}
 use Rattle.textwrap_base.specs.Breaking.{broken_word, pieces_left}
 use Rattle.textwrap_base.specs.Words.{word_view}
 use Rattle.textwrap_lines.specs.WordLines.{GoesOn}
-use Rattle.textwrap_lines.proofs.WordLines.Steps.{IsWide}
+use Rattle.textwrap_lines.proofs.WordLines.Pieces.{IsWide}
 use Rattle.textwrap_lines.proofs.word_lines.Layout.push_broken.Given as goal
 
 -- the pieces so far were taken, and the others have the columns of their texts

@@ -1,6 +1,6 @@
 use Rattle.std.proofs.Common.{◌≡◌, ◌+◌, nat_eq, false, [], ◌∷◌, drop, refl}
 use Rattle.std.proofs.Common.{ap, ◌∙◌, sym, subst, arith, append-nil}
-use Rattle.std.specs.Prelude.{IfOk, slice_range}
+use Rattle.std.specs.Prelude.{OnOk, slice_range}
 use Rattle.std.specs.String.{string_bytes}
 use Rattle.std.specs.Str.{IsUtf8}
 use Rattle.std.specs.List.{list_any}
@@ -8,23 +8,24 @@ use Rattle.std.proofs.lemmas.Str.{IsCharBoundary-start, IsUtf8-between}
 use Rattle.textwrap_base.specs.Breaking.{broken_word, broken_words}
 use Rattle.textwrap_base.specs.Words.{piece, word_view}
 use Rattle.textwrap_lines.specs.WordLines.{GoesOn, IsNext}
-use Rattle.textwrap_lines.specs.WordSplitters.{splitter_of, cut_penalty, hyphen, hyphen_points, split_word}
-use Rattle.textwrap_lines.specs.WordSplitters.{split_pieces, points_of, AtHyphens}
+use Rattle.textwrap_lines.specs.WordSplitters.{AtHyphens, splitter_of, points_of, hyphen}
+use Rattle.textwrap_lines.specs.WordSplitters.{hyphen_points, cut_penalty, split_pieces, split_word}
 use Rattle.textwrap_lines.proofs.Word.Splitting.{after-hyphen, hyphen_points-none}
-use Rattle.textwrap_lines.proofs.WordLines.Steps.{pieces_from, pieces_from-point}
-use Rattle.textwrap_lines.proofs.WordLines.Steps.{pieces_from-none, pieces_from-end, split-none}
-use Rattle.textwrap_lines.proofs.WordLines.Steps.{if_ok-map, tiled-split, tiled-broken, IsNext-same, GoesOn-start}
+use Rattle.textwrap_lines.proofs.WordLines.Pieces.{pieces_from, pieces_from-point}
+use Rattle.textwrap_lines.proofs.WordLines.Pieces.{pieces_from-none, pieces_from-end, split-none}
+use Rattle.textwrap_lines.proofs.WordLines.Pieces.{tiled-split, tiled-broken}
+use Rattle.textwrap_lines.proofs.WordLines.Steps.{on_ok-map, IsNext-same, GoesOn-start}
 use Rattle.textwrap_lines.proofs.WordLines.Steps.{GoesOn-next, GoesOn-then}
 use Rattle.textwrap_lines.proofs.word_lines.Layout.push_word.Goals as goal
 use Rattle.textwrap_lines.proofs.word_lines.Layout.push_word.Goals.{then-not-self-via-then-not-self}
 use Rattle.textwrap_lines.proofs.word_lines.Layout.push_word.Goals.{then-not-self-via-else-not-self+then-not-contains}
-use Rattle.textwrap_lines.proofs.word_lines.Layout.push_word.Goals.{then-is_hyphen_point+in_ok-line}
+use Rattle.textwrap_lines.proofs.word_lines.Layout.push_word.Goals.{then-is_hyphen_point+in_ok-push_broken}
 use Rattle.textwrap_lines.proofs.word_lines.Layout.push_word.Goals.{else-is_hyphen_point}
 
 pub returns-then-not-self : goal.returns-then-not-self
 returns-then-not-self g c =
-    let layout = c.args.self in
-    let word = word_view c.args.word in
+    let layout = c.args.self.now in
+    let word = word_view c.args.word.now in
     let none : points_of (splitter_of layout.hyphens) word.word ≡ [] =
     elim c.then-not-self.branch [
       | then-not-self-via-then-not-self w ↦ rw w.if-not-self.true refl
@@ -39,17 +40,18 @@ returns-then-not-self g c =
     sym (append-nil (broken_word layout.width word))
     ∙ ap (broken_words layout.width) (sym (split-none word c.requires.width)
     ∙ ap (λ ps. split_pieces ps word) (sym none)) in
-    subst (λ ps. IfOk c.push_broken.result (λ next. GoesOn layout.width layout.separator.now
-    (string_bytes c.args.filled.now) c.args.line ps (string_bytes c.push_broken.new.filled) next []))
+    subst (λ ps. OnOk c.push_broken.result (GoesOn layout.width layout.separator.now
+    (string_bytes c.args.filled.now) c.args.line.now ps (string_bytes c.push_broken.new.filled)
+    c.push_broken.new.line []))
     whole c.push_broken.ensures
 
 pub loop-point-init : goal.loop-point-init
 loop-point-init g c =
-    let layout = c.args.self in
-    let word = word_view c.args.word in
+    let layout = c.args.self.now in
+    let word = word_view c.args.word.now in
     record {
       taken = GoesOn-start layout.width layout.separator.now (string_bytes c.args.filled.now)
-          c.args.line (pieces_from layout.width word 0 1);
+          c.args.line.now (pieces_from layout.width word 0 1);
       cut = IsCharBoundary-start word.word c.requires.utf8;
       before = omega arith;
     }
@@ -62,15 +64,15 @@ inner_piece-requires-clause-from_cut g c = λ some. c.loop-point.invariant.cut
 
 pub inner_piece-requires-clause-to_cut : goal.inner_piece-requires-clause-to_cut
 inner_piece-requires-clause-to_cut g c =
-    after-hyphen c.args.word.word.now c.loop-point.point c.requires.utf8
+    after-hyphen c.args.word.now.word.now c.loop-point.point c.requires.utf8
     c.loop-point.auto.point c.loop-point-test.true
     (sym c.is_hyphen_point.ensures.point ∙ c.if-is_hyphen_point.true)
 
 pub push_broken-requires-then-is_hyphen_point-clause-next :
     goal.push_broken-requires-then-is_hyphen_point-clause-next
 push_broken-requires-then-is_hyphen_point-clause-next g c =
-    let layout = c.args.self in
-    let word = word_view c.args.word in
+    let layout = c.args.self.now in
+    let word = word_view c.args.word.now in
     let all = broken_words layout.width (split_pieces (hyphen_points word.word) word) in
     let start = c.loop-point.start in
     let point = c.loop-point.point in
@@ -84,9 +86,10 @@ push_broken-requires-then-is_hyphen_point-clause-next g c =
     let next = GoesOn-next layout.width layout.separator.now (broken_word layout.width part)
     (pieces_from layout.width word point (point + 1))
     (subst (GoesOn layout.width layout.separator.now (string_bytes c.args.filled.now)
-    c.args.line all (string_bytes c.loop-point.filled) c.loop-point.line) here
+    c.args.line.now all (string_bytes c.loop-point.filled) c.loop-point.line) here
     c.loop-point.invariant.taken)
-    (IsNext-same c.args.line (word ∷ []) all (tiled-split layout.width AtHyphens word c.requires.utf8)
+    (IsNext-same c.args.line.now (word ∷ []) all
+    (tiled-split layout.width AtHyphens word c.requires.utf8)
     c.requires.next) in
     subst (λ w. IsNext c.loop-point.line (w ∷ [])) (sym c.inner_piece.ensures)
     (IsNext-same c.loop-point.line (broken_word layout.width part) (part ∷ [])
@@ -94,36 +97,37 @@ push_broken-requires-then-is_hyphen_point-clause-next g c =
 
 pub loop-point-preserved : goal.loop-point-preserved
 loop-point-preserved g c =
-    let layout = c.args.self in
-    let word = word_view c.args.word in
+    let layout = c.args.self.now in
+    let word = word_view c.args.word.now in
     let all = broken_words layout.width (split_pieces (hyphen_points word.word) word) in
     let start = c.loop-point.start in
     let point = c.loop-point.point in
     let before = string_bytes c.args.filled.now in
     let now = string_bytes c.loop-point.filled in
     elim c.if-is_hyphen_point.branch [
-      | then-is_hyphen_point+in_ok-line w ↦
+      | then-is_hyphen_point+in_ok-push_broken w ↦
+          let pushed = w.push_broken-then-is_hyphen_point.new in
           let is = sym c.is_hyphen_point.ensures.point ∙ w.if-is_hyphen_point.true in
           let part = piece (slice_range word.word start point) [] (cut_penalty word.word point) in
           rw (w.filled-is, w.line-is, w.start-is) (record {
             taken = GoesOn-then layout.width layout.separator.now (broken_word layout.width part)
                 (pieces_from layout.width word point (point + 1))
-                (subst (GoesOn layout.width layout.separator.now before c.args.line all now
+                (subst (GoesOn layout.width layout.separator.now before c.args.line.now all now
                 c.loop-point.line)
                 (pieces_from-point layout.width word start point c.loop-point-test.true is)
                 c.loop-point.invariant.taken)
-                (string_bytes w.push_broken-then-is_hyphen_point.new.filled) w.in_ok-line.line
+                (string_bytes pushed.filled) pushed.line
                 (subst (λ v. GoesOn layout.width layout.separator.now now c.loop-point.line
                 (broken_word layout.width v)
-                (string_bytes w.push_broken-then-is_hyphen_point.new.filled) w.in_ok-line.line [])
-                w.inner_piece.ensures w.in_ok-line.ensures);
+                (string_bytes pushed.filled) pushed.line [])
+                w.inner_piece.ensures w.in_ok-push_broken.ensures);
             cut = after-hyphen word.word point c.requires.utf8 c.loop-point.auto.point
                 c.loop-point-test.true is;
             before = omega arith;
           })
       | else-is_hyphen_point w ↦
           rw (w.filled-is, w.line-is, w.start-is) (record {
-            taken = subst (GoesOn layout.width layout.separator.now before c.args.line all now
+            taken = subst (GoesOn layout.width layout.separator.now before c.args.line.now all now
                 c.loop-point.line)
                 (pieces_from-none layout.width word start point c.loop-point-test.true
                 (sym c.is_hyphen_point.ensures.point ∙ w.if-is_hyphen_point.false))
@@ -138,17 +142,18 @@ range_from-rest-requires g c = λ some. c.loop-point.invariant.cut
 
 pub push_broken-requires-2-clause-next : goal.push_broken-requires-2-clause-next
 push_broken-requires-2-clause-next g c =
-    let layout = c.args.self in
-    let word = word_view c.args.word in
+    let layout = c.args.self.now in
+    let word = word_view c.args.word.now in
     let all = broken_words layout.width (split_pieces (hyphen_points word.word) word) in
     let start = c.loop-point.start in
     let part = piece (drop start word.word) word.whitespace word.penalty in
     let next = GoesOn-next layout.width layout.separator.now (broken_word layout.width part) []
     (subst (GoesOn layout.width layout.separator.now (string_bytes c.args.filled.now)
-    c.args.line all (string_bytes c.loop-point.filled) c.loop-point.line)
+    c.args.line.now all (string_bytes c.loop-point.filled) c.loop-point.line)
     (pieces_from-end layout.width word start c.loop-point.point c.loop-point-test.false)
     c.loop-point.invariant.taken)
-    (IsNext-same c.args.line (word ∷ []) all (tiled-split layout.width AtHyphens word c.requires.utf8)
+    (IsNext-same c.args.line.now (word ∷ []) all
+    (tiled-split layout.width AtHyphens word c.requires.utf8)
     c.requires.next) in
     let utf8 = subst IsUtf8 c.range_from-rest.ensures.value c.range_from-rest.utf8 in
     rw (c.display_width.ensures.width, c.range_from-rest.ensures.value)
@@ -157,30 +162,33 @@ push_broken-requires-2-clause-next g c =
 
 pub returns : goal.returns
 returns g c =
-    let layout = c.args.self in
-    let word = word_view c.args.word in
+    let layout = c.args.self.now in
+    let word = word_view c.args.word.now in
     let start = c.loop-point.start in
     let before = string_bytes c.args.filled.now in
     let now = string_bytes c.loop-point.filled in
     let new = string_bytes c.push_broken-2.new.filled in
     let last = word_view (record {
       word = c.range_from-rest.result;
-      whitespace = c.args.word.whitespace;
-      penalty = c.args.word.penalty;
+      whitespace = c.args.word.now.whitespace;
+      penalty = c.args.word.now.penalty;
       width = c.display_width.result;
     }) in
     let part = piece (drop start word.word) word.whitespace word.penalty in
-    let is : last ≡ part = rw (c.display_width.ensures.width, c.range_from-rest.ensures.value) refl in
+    let is : last ≡ part =
+    rw (c.display_width.ensures.width, c.range_from-rest.ensures.value) refl in
     let split : broken_words layout.width (split_pieces (hyphen_points word.word) word)
     ≡ broken_words layout.width (split_word (splitter_of layout.hyphens) word) =
     rw c.if-not-self.false refl in
-    let taken = subst (GoesOn layout.width layout.separator.now before c.args.line
+    let taken = subst (GoesOn layout.width layout.separator.now before c.args.line.now
     (broken_words layout.width (split_pieces (hyphen_points word.word) word)) now
     c.loop-point.line)
     (pieces_from-end layout.width word start c.loop-point.point c.loop-point-test.false)
     c.loop-point.invariant.taken in
-    if_ok-map c.push_broken-2.result (λ next step.
-    subst (λ ps. GoesOn layout.width layout.separator.now before c.args.line ps new next []) split
+    on_ok-map c.push_broken-2.result (λ step.
+    let next = c.push_broken-2.new.line in
+    subst (λ ps. GoesOn layout.width layout.separator.now before c.args.line.now ps new next [])
+    split
     (GoesOn-then layout.width layout.separator.now (broken_word layout.width part) [] taken new
     next (subst (λ v. GoesOn layout.width layout.separator.now now c.loop-point.line
     (broken_word layout.width v) new next []) is step))) c.push_broken-2.ensures

@@ -5,7 +5,7 @@ use Rattle.textwrap_base.specs.Breaking.{broken_words}
 use Rattle.textwrap_base.specs.Words.{word_view}
 use Rattle.textwrap_lines.specs.WordLines.{GoesOn}
 use Rattle.textwrap_lines.specs.WordSplitters.{hyphen_points, split_pieces}
-use Rattle.textwrap_lines.proofs.WordLines.Steps.{pieces_from}
+use Rattle.textwrap_lines.proofs.WordLines.Pieces.{pieces_from}
 use Rattle.textwrap_lines.proofs.word_lines.Layout.push_word.Given as goal
 
 -- the pieces before the offset `start` were taken

@@ -1,39 +1,39 @@
 use Rattle.std.proofs.Common.{refl, arith}
 use Rattle.textwrap_lines.proofs.WordLines.Line.{has_piece}
-use Rattle.textwrap_lines.proofs.word_lines.OpenLine.with_piece.Goals as goal
+use Rattle.textwrap_lines.proofs.word_lines.OpenLine.take.Goals as goal
 
-pub overflow_add-result : goal.overflow_add-result
-overflow_add-result c =
-    let has = has_piece c.args.self c.args.piece c.as_bytes.result.now
+pub overflow_add-self : goal.overflow_add-self
+overflow_add-self c =
+    let has = has_piece c.args.self.now c.args.piece.now c.as_bytes.result.now
     c.as_bytes-whitespace_len.result.now c.as_bytes.ensures.value
     c.as_bytes-whitespace_len.ensures.value c.as_bytes.ensures.utf8
     c.as_bytes-whitespace_len.ensures.utf8 c.requires.width c.requires.next in
-    omega (arith, c.args.self.limit, has.within)
+    omega (arith, c.args.self.now.limit, has.within)
 
-pub overflow_add-result-2 : goal.overflow_add-result-2
-overflow_add-result-2 c =
-    let has = has_piece c.args.self c.args.piece c.as_bytes.result.now
+pub overflow_add-self-2 : goal.overflow_add-self-2
+overflow_add-self-2 c =
+    let has = has_piece c.args.self.now c.args.piece.now c.as_bytes.result.now
     c.as_bytes-whitespace_len.result.now c.as_bytes.ensures.value
     c.as_bytes-whitespace_len.ensures.value c.as_bytes.ensures.utf8
     c.as_bytes-whitespace_len.ensures.utf8 c.requires.width c.requires.next in
-    omega (arith, c.args.self.limit, has.within, has.room)
+    omega (arith, c.args.self.now.limit, has.within, has.room)
 
-pub overflow_add-result-3 : goal.overflow_add-result-3
-overflow_add-result-3 c =
-    let has = has_piece c.args.self c.args.piece c.as_bytes.result.now
+pub overflow_add-self-3 : goal.overflow_add-self-3
+overflow_add-self-3 c =
+    let has = has_piece c.args.self.now c.args.piece.now c.as_bytes.result.now
     c.as_bytes-whitespace_len.result.now c.as_bytes.ensures.value
     c.as_bytes-whitespace_len.ensures.value c.as_bytes.ensures.utf8
     c.as_bytes-whitespace_len.ensures.utf8 c.requires.width c.requires.next in
-    omega (arith, c.args.self.limit, has.within, has.room)
+    omega (arith, c.args.self.now.limit, has.within, has.room)
 
-pub invariant_of-result : goal.invariant_of-result
-invariant_of-result c =
-    let has = has_piece c.args.self c.args.piece c.as_bytes.result.now
+pub invariant_of-self : goal.invariant_of-self
+invariant_of-self c =
+    let has = has_piece c.args.self.now c.args.piece.now c.as_bytes.result.now
     c.as_bytes-whitespace_len.result.now c.as_bytes.ensures.value
     c.as_bytes-whitespace_len.ensures.value c.as_bytes.ensures.utf8
     c.as_bytes-whitespace_len.ensures.utf8 c.requires.width c.requires.next in
     record {
-      limit = c.args.self.limit;
+      limit = c.args.self.now.limit;
       slice_ends = has.slice_ends;
       ends = has.ends;
       order = omega arith;
@@ -42,7 +42,7 @@ invariant_of-result c =
 
 pub returns-clause-line : goal.returns-clause-line
 returns-clause-line c =
-    let has = has_piece c.args.self c.args.piece c.as_bytes.result.now
+    let has = has_piece c.args.self.now c.args.piece.now c.as_bytes.result.now
     c.as_bytes-whitespace_len.result.now c.as_bytes.ensures.value
     c.as_bytes-whitespace_len.ensures.value c.as_bytes.ensures.utf8
     c.as_bytes-whitespace_len.ensures.utf8 c.requires.width c.requires.next in
@@ -50,7 +50,7 @@ returns-clause-line c =
 
 pub returns-clause-place : goal.returns-clause-place
 returns-clause-place c =
-    let has = has_piece c.args.self c.args.piece c.as_bytes.result.now
+    let has = has_piece c.args.self.now c.args.piece.now c.as_bytes.result.now
     c.as_bytes-whitespace_len.result.now c.as_bytes.ensures.value
     c.as_bytes-whitespace_len.ensures.value c.as_bytes.ensures.utf8
     c.as_bytes-whitespace_len.ensures.utf8 c.requires.width c.requires.next in
@@ -58,7 +58,7 @@ returns-clause-place c =
 
 pub returns-clause-utf8 : goal.returns-clause-utf8
 returns-clause-utf8 c =
-    let has = has_piece c.args.self c.args.piece c.as_bytes.result.now
+    let has = has_piece c.args.self.now c.args.piece.now c.as_bytes.result.now
     c.as_bytes-whitespace_len.result.now c.as_bytes.ensures.value
     c.as_bytes-whitespace_len.ensures.value c.as_bytes.ensures.utf8
     c.as_bytes-whitespace_len.ensures.utf8 c.requires.width c.requires.next in

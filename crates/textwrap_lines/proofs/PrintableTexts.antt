@@ -1,9 +1,13 @@
 pub mod Bridge
+pub mod CheapestLines
 pub mod FirstLine
 pub mod FirstPiece
 pub mod Hyphens
 pub mod Lines
+pub mod NextPiece
 pub mod Parts
 pub mod Pieces
 pub mod Search
+pub mod SpanCosts
+pub mod Spans
 pub mod Texts

@@ -2,4 +2,3 @@ pub mod Joined
 pub mod Line
 pub mod Pieces
 pub mod Steps
-pub mod Written

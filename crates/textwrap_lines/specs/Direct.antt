@@ -1,7 +1,7 @@
 -- Filling without a list of all lines.
 use Rattle.std.specs.Prelude.{◌≡◌, ℕ, ◌<◌, Bool, true, false, List, [], ◌++◌, length, map}
 use Rattle.textwrap_base.specs.Words.{WordText}
-use Rattle.textwrap_base.specs.WrapAlgorithms.{Greedy}
+use Rattle.textwrap_base.specs.WrapAlgorithms.{Algorithm}
 use Rattle.textwrap_lines.specs.LineEnding.{ending_bytes, join_with}
 use Rattle.textwrap_lines.specs.Options.{Settings, settings_view, HasParts}
 use Rattle.textwrap_lines.specs.Paragraph.{LineParts, line_bytes, line_from, AreParagraphParts}
@@ -20,12 +20,13 @@ pub record HasBareLines (settings : Settings) : Type 0 where
   pub subsequent : settings.subsequent_indent ≡ []
   pub trims : settings.preserve_trailing_space ≡ false
 
--- first fit at a width above 0; words between blanks, split after hyphens where `hyphens` says so;
--- bare lines
+-- a built-in algorithm at a width above 0; words between blanks, split after hyphens where
+-- `hyphens` says so; bare lines
 pub record IsDirect {E C : Type 0} {e : _} {c : _} (o : Options E C e c) (hyphens : Bool)
     : Type 0 where
   pub splitter : Splitter
-  pub built_in : HasParts o (settings_view o) splitter Greedy
+  pub algorithm : Algorithm
+  pub built_in : HasParts o (settings_view o) splitter algorithm
   pub fit : HasBareLines (settings_view o)
   pub width : 0 < o.width
   pub cuts : hyphens ≡ hyphens_of splitter

@@ -1,3 +1,4 @@
+pub mod Cheapest
 pub mod Cuts
 pub mod Direct
 pub mod Filling
@@ -7,6 +8,7 @@ pub mod LineEnding
 pub mod Options
 pub mod Paragraph
 pub mod Printable
+pub mod Spans
 pub mod Text
 pub mod WordLines
 pub mod WordOffsets

@@ -9,6 +9,7 @@ pub use word_separators::WordSeparator;
 pub use word_splitters::WordSplitter;
 pub use wrapping::wrap;
 
+mod cheapest;
 mod direct;
 mod filling;
 pub mod fuzzing;
@@ -17,6 +18,7 @@ mod line_ending;
 mod options;
 pub mod parts;
 mod printable;
+mod spans;
 mod word_lines;
 pub mod word_separators;
 pub mod word_splitters;

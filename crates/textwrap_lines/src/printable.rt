@@ -106,7 +106,7 @@ fn line_len(text: &[u8], before: u8, width: usize, hyphens: bool) -> usize
 }
 
 /// Where the blanks end that stand from a place on.
-fn blanks_end(text: &[u8], start: usize) -> usize
+pub(crate) fn blanks_end(text: &[u8], start: usize) -> usize
     requires { start ≤ length text.now }
     ensures after { start ≤ result }
     ensures within { result ≤ length text.now }
@@ -136,7 +136,7 @@ fn last_cut(text: &[u8], before: u8, end: usize, hyphens: bool) -> usize
 }
 
 /// Whether a printable text is cut before the byte at a place.
-fn is_cut_at(text: &[u8], before: u8, place: usize, hyphens: bool) -> bool
+pub(crate) fn is_cut_at(text: &[u8], before: u8, place: usize, hyphens: bool) -> bool
     requires after_start { 0 < place }
     requires before_end { place < length text.now }
     ensures { result ≡ cut_at (printable_cut hyphens) before text.now (place - 1) }

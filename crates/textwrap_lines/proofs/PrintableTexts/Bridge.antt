@@ -5,13 +5,12 @@ use Rattle.std.specs.Prelude.{◌||◌}
 use Rattle.std.specs.List.{onto_first}
 use Rattle.std.specs.Str.{IsUtf8}
 use Rattle.textwrap_base.specs.Breaking.{broken_words}
-use Rattle.textwrap_base.specs.Division.{IsGreedy}
-use Rattle.textwrap_base.specs.WrapAlgorithms.{Greedy}
+use Rattle.textwrap_base.specs.WrapAlgorithms.{Algorithm, IsDividedBy}
 use Rattle.textwrap_base.specs.Units.{text_width}
 use Rattle.textwrap_base.specs.Words.{WordText, sizes_of, tiled, word_of, is_cut, chunks, words_of}
 use Rattle.textwrap_base.proofs.ListLemmas.{flat, all-left, all-right}
 use Rattle.textwrap_base.proofs.Word.Texts.{HasNoPenalty, text_width-nil}
-use Rattle.textwrap_base.proofs.Division.Map.{IsDivision-whole}
+use Rattle.textwrap_base.proofs.Division.Map.{IsDividedBy-whole}
 use Rattle.textwrap_lines.specs.Options.{Settings}
 use Rattle.textwrap_lines.specs.Paragraph.{covered, LineParts, AreDividedParts, DividesAs}
 use Rattle.textwrap_lines.specs.Paragraph.{line_bytes, line_from, parts_from, indent_of, widths_of}
@@ -105,38 +104,32 @@ lines-covered settings is_later (line ∷ lines) fit none =
     ∙ ap (λ ls. covered line ∷ ls)
     (lines-covered settings true lines fit (all-right HasNoPenalty line (flat lines) none))
 
--- the greedy lines of the pieces are the lines of the paragraph
-pub bare_lines : (settings : Settings) (splitter : Splitter) (is_later : Bool) (text : List ℕ)
-    (division : List (List WordText)) → HasBareLines settings → IsUtf8 text
-    → IsGreedy sizes_of (settings.width ∷ settings.width ∷ [])
+-- the lines of the pieces by an algorithm are the lines of the paragraph
+pub bare_lines : (settings : Settings) (splitter : Splitter) (algorithm : Algorithm)
+    (is_later : Bool) (text : List ℕ) (division : List (List WordText)) → HasBareLines settings
+    → IsUtf8 text → IsDividedBy algorithm sizes_of (settings.width ∷ settings.width ∷ [])
     (broken_words settings.width (split_words splitter (words_of text))) division
     → (ps : List LineParts)
-    × AreDividedParts settings (DividesAs splitter Greedy settings) is_later text ps
+    × AreDividedParts settings (DividesAs splitter algorithm settings) is_later text ps
     × (map line_bytes (map line_from ps) ≡ map covered division)
-bare_lines settings splitter is_later text division fit utf8 greedy =
+bare_lines settings splitter algorithm is_later text division fit utf8 by =
     let pieces = pieces_of settings splitter text in
-    let divided : IsGreedy sizes_of (widths_of settings is_later) pieces division =
-    subst (λ widths. IsGreedy sizes_of widths pieces division)
+    let divided : IsDividedBy algorithm sizes_of (widths_of settings is_later) pieces division =
+    subst (λ widths. IsDividedBy algorithm sizes_of widths pieces division)
     (sym (widths_of-bare settings is_later fit))
-    (subst (λ ps. IsGreedy sizes_of (one_width settings.width) ps division)
-    (sym (pieces_of-bare settings splitter text fit)) greedy) in
-    let whole = IsDivision-whole pieces division divided.admissible.division in (
+    (subst (λ ps. IsDividedBy algorithm sizes_of (one_width settings.width) ps division)
+    (sym (pieces_of-bare settings splitter text fit)) by) in
+    let whole =
+    IsDividedBy-whole sizes_of algorithm (widths_of settings is_later) pieces division divided in (
       parts_from settings is_later division,
       (division, (pieces, ArePieces-computed settings splitter text, divided), refl),
       lines-covered settings is_later division fit
           (subst (All HasNoPenalty) (sym whole) (pieces_of-no_penalty settings splitter text utf8)),
     )
 
--- those of a printable paragraph
-pub printable_lines : (settings : Settings) (splitter : Splitter) (is_later : Bool) (text : List ℕ)
-    (division : List (List WordText)) → HasBareLines settings → IsPrintable text
-    → IsGreedy sizes_of (settings.width ∷ settings.width ∷ [])
-    (pieces_after (printable_cut (hyphens_of splitter)) settings.width 32 text) division
-    → (ps : List LineParts)
-    × AreDividedParts settings (DividesAs splitter Greedy settings) is_later text ps
-    × (map line_bytes (map line_from ps) ≡ map covered division)
-printable_lines settings splitter is_later text division fit printable greedy =
-    bare_lines settings splitter is_later text division fit (printable-utf8 text printable)
-    (subst (λ words. IsGreedy sizes_of (one_width settings.width)
-    (broken_words settings.width words) division) (sym (split-printable splitter text printable))
-    greedy)
+-- the pieces of a printable text, found by its bytes, are the same
+pub pieces-printable : (splitter : Splitter) (width : ℕ) (text : List ℕ) → IsPrintable text
+    → pieces_after (printable_cut (hyphens_of splitter)) width 32 text
+    ≡ broken_words width (split_words splitter (words_of text))
+pieces-printable splitter width text printable =
+    ap (broken_words width) (sym (split-printable splitter text printable))

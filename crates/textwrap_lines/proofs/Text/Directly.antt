@@ -4,30 +4,32 @@ use Rattle.std.proofs.Common.{◌∷◌, ◌++◌, length, map, refl, sym, ap, �
 use Rattle.std.proofs.Common.{append_assoc}
 use Rattle.std.proofs.Common.{MatchBool, length-append}
 use Rattle.std.specs.Str.{IsUtf8}
-use Rattle.std.specs.Prelude.{Result, Ok, Err, IfErr, IsErrAnd, alloc_error}
+use Rattle.std.specs.Prelude.{Some, Result, Ok, Err, IfErr, IsErrAnd, OnOk, alloc_error}
 use Rattle.std.proofs.lemmas.List.{map-append, length-map}
-use Rattle.textwrap_base.specs.Division.{IsGreedy}
-use Rattle.textwrap_base.specs.Words.{WordText, sizes_of, word_of}
+use Rattle.textwrap_base.specs.Breaking.{broken_words}
+use Rattle.textwrap_base.specs.Words.{WordText, sizes_of, word_of, words_of}
 use Rattle.textwrap_base.specs.Blanks.{without_final_blanks}
-use Rattle.textwrap_base.specs.WrapAlgorithms.{MayDivide, Greedy}
+use Rattle.textwrap_base.specs.WrapAlgorithms.{Algorithm, IsDividedBy, MayDivide, algorithm_view}
 use Rattle.textwrap_base.specs.declared.errors.WrapError.{WrapError}
 use Rattle.textwrap_base.specs.declared.errors.WrapError.TheVariants.{Memory}
 use Rattle.textwrap_base.proofs.Division.Ends.{MayDivide-some}
-use Rattle.textwrap_lines.specs.Direct.{IsDirect, HasBareLines, WritesLines}
+use Rattle.textwrap_lines.specs.Direct.{IsDirect, HasBareLines, WritesLines, hyphens_of}
 use Rattle.textwrap_lines.specs.Filling.{IsFilled}
 use Rattle.textwrap_lines.specs.LineEnding.{ending_bytes, join_with, paragraphs_of}
-use Rattle.textwrap_lines.specs.Options.{Settings, settings_view, MayOverflow}
+use Rattle.textwrap_lines.specs.Options.{Settings, settings_view, HasParts, MayOverflow}
 use Rattle.textwrap_lines.specs.Paragraph.{Line, LineParts, line_bytes, line_from}
 use Rattle.textwrap_lines.specs.Paragraph.{AreDividedParts, covered, is_whole, parts_of, parts_from}
 use Rattle.textwrap_lines.specs.Paragraph.{IsDividedInto, DividesBy, AreParagraphParts}
 use Rattle.textwrap_lines.specs.Printable.{IsPrintable, pieces_after, printable_cut}
 use Rattle.textwrap_lines.specs.WordSeparators.{MaySeparate}
-use Rattle.textwrap_lines.specs.WordSplitters.{MaySplit}
+use Rattle.textwrap_lines.specs.WordSplitters.{MaySplit, Splitter, Whole, AtHyphens, split_words}
+use Rattle.textwrap_lines.specs.WordSplitters.{splitter_of}
 use Rattle.textwrap_lines.specs.declared.options.Options.{Options}
 use Rattle.textwrap_lines.proofs.Paragraph.BuiltIn.{divides}
 use Rattle.textwrap_lines.proofs.Paragraph.Lines.{line_from-whole, AreParagraphParts-whole}
 use Rattle.textwrap_lines.proofs.Paragraph.Lines.{AreParagraphParts-divided}
-use Rattle.textwrap_lines.proofs.PrintableTexts.Bridge.{printable_lines, unindented, widths_of-bare}
+use Rattle.textwrap_lines.proofs.PrintableTexts.Bridge.{bare_lines, pieces-printable, unindented}
+use Rattle.textwrap_lines.proofs.PrintableTexts.Bridge.{widths_of-bare}
 use Rattle.textwrap_lines.proofs.Text.Lines.{HasGroups, HasGroups-start, HasGroups-more}
 use Rattle.textwrap_lines.proofs.Text.Lines.{HasGroups-end}
 use Rattle.textwrap_lines.proofs.Text.Promises.{paragraph-some}
@@ -160,6 +162,17 @@ module _ (settings : Settings) (fit : HasBareLines settings) where
 
 -- ---- a paragraph
 
+pub splitter_of-hyphens_of : (splitter : Splitter) → splitter_of (hyphens_of splitter) ≡ splitter
+splitter_of-hyphens_of Whole = refl
+splitter_of-hyphens_of AtHyphens = refl
+
+-- the pieces of a printable text are those of the splitter
+pub pieces-by_bytes : (hyphens : Bool) (width : ℕ) (text : List ℕ) → IsPrintable text
+    → pieces_after (printable_cut hyphens) width 32 text
+    ≡ broken_words width (split_words (splitter_of hyphens) (words_of text))
+pieces-by_bytes true width text printable = pieces-printable AtHyphens width text printable
+pieces-by_bytes false width text printable = pieces-printable Whole width text printable
+
 module _ {E C : Type 0} {e : _} {c : _} (options : Options E C e c) (hyphens : Bool)
     (direct : IsDirect options hyphens) where
   abbrev settings_here : Settings
@@ -210,22 +223,30 @@ module _ {E C : Type 0} {e : _} {c : _} (options : Options E C e c) (hyphens : B
             ++ join_with (ending_bytes options.line_ending) (map line_bytes ls)) given,
       )
 
-  -- a printable paragraph that is divided into these lines
-  pub WritesLines-printable : (paragraph before now : List ℕ) (division : List (List WordText))
-      → IsUtf8 paragraph → is_whole settings_here false paragraph ≡ false → IsPrintable paragraph
-      → IsGreedy sizes_of (options.width ∷ options.width ∷ [])
-      (pieces_after (printable_cut hyphens) options.width 32 paragraph) division
+  -- a paragraph that is divided into these lines
+  pub WritesLines-bare : (algorithm : Algorithm) (paragraph before now : List ℕ)
+      (division : List (List WordText)) → algorithm_view options.wrap_algorithm ≡ Some algorithm
+      → IsUtf8 paragraph → is_whole settings_here false paragraph ≡ false
+      → IsDividedBy algorithm sizes_of (options.width ∷ options.width ∷ [])
+      (broken_words options.width (split_words (splitter_of hyphens) (words_of paragraph))) division
       → now ≡ before ++ join_with (ending_bytes options.line_ending) (map covered division)
       → WritesLines settings_here (DividesBy options) paragraph before now
-  WritesLines-printable paragraph before now division utf8 longer printable greedy is = λ is_later.
-      let (parts, are, bytes) = printable_lines settings_here direct.splitter is_later paragraph
-      division direct.fit printable (subst (λ h. IsGreedy sizes_of
+  WritesLines-bare algorithm paragraph before now division chosen utf8 longer by is = λ is_later.
+      let (parts, are, bytes) = bare_lines settings_here direct.splitter algorithm is_later
+      paragraph division direct.fit utf8 (subst (λ s. IsDividedBy algorithm sizes_of
       (options.width ∷ options.width ∷ [])
-      (pieces_after (printable_cut h) options.width 32 paragraph) division) direct.cuts greedy) in
+      (broken_words options.width (split_words s (words_of paragraph))) division)
+      (ap splitter_of direct.cuts ∙ splitter_of-hyphens_of direct.splitter) by) in
+      let built_in : HasParts options settings_here direct.splitter algorithm = record {
+        settings_are = direct.built_in.settings_are;
+        separator = direct.built_in.separator;
+        splitter_is = direct.built_in.splitter_is;
+        algorithm_is = chosen;
+      } in
       let all = AreParagraphParts-divided settings_here (DividesBy options) is_later paragraph parts
       (is_whole-same settings_here direct.fit is_later false paragraph ∙ longer)
       (subst (λ Divides. AreDividedParts settings_here Divides is_later paragraph parts)
-      (sym (divides options settings_here direct.splitter Greedy direct.built_in paragraph)) are)
+      (sym (divides options settings_here direct.splitter algorithm built_in paragraph)) are)
       in (
         parts,
         all,
@@ -243,3 +264,9 @@ pub passed-on : {A : Type 0} (result : Result A WrapError) (error : WrapError)
     → IfErr result (λ e. e ≡ Memory alloc_error)
 passed-on (Ok value) error is only = tt
 passed-on (Err e) error is only = is ∙ only
+
+-- a result that is passed on
+pub OnOk-map : {A E : Type 0} (result : Result A E) {Before After : Type 0} → (Before → After)
+    → OnOk result Before → OnOk result After
+OnOk-map (Ok value) map before = map before
+OnOk-map (Err error) map before = tt

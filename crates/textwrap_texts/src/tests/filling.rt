@@ -3,7 +3,8 @@ use super::{by_first_fit, with_endings, with_indents};
 use std::process::Abort;
 use std::test::Fail;
 use textwrap::fuzzing::fill_slow_path;
-use textwrap::{LineEnding, Options, WordSplitter, WrapError, fill};
+use textwrap::wrap_algorithms::Penalties;
+use textwrap::{LineEnding, Options, WordSplitter, WrapAlgorithm, WrapError, fill};
 
 /// Asserts that the text is filled to the expected one.
 fn assert_filled(
@@ -41,10 +42,45 @@ fn lines_of_first_fit_are_joined(rt: HostRuntime) -> Result<(), Fail> {
     Ok(())
 }
 
-/// First fit without indents fills a text without a list of lines or of words; the lines are those of
-/// the lists.
+/// A text without indents is filled without a list of all lines, and a paragraph of printable ASCII
+/// without one of words; the lines are those of the lists.
 #[test]
 fn a_list_of_lines_makes_no_difference(rt: HostRuntime) -> Result<(), Fail> {
+    let odd = Penalties {
+        nline_penalty: 3,
+        overflow_penalty: 7,
+        short_last_line_fraction: 2,
+        short_last_line_penalty: 90,
+        hyphen_penalty: 11,
+    };
+    // Too great for a search for the least costs.
+    let great = Penalties {
+        nline_penalty: usize::MAX,
+        ..Penalties::new()
+    };
+    for algorithm in [
+        WrapAlgorithm::FirstFit,
+        WrapAlgorithm::new(),
+        WrapAlgorithm::OptimalFit(odd),
+        WrapAlgorithm::OptimalFit(great),
+    ] {
+        for width in (0..14).chain([20, 31, 50, 80, usize::MAX]) {
+            for splitter in [WordSplitter::HyphenSplitter, WordSplitter::NoHyphenation] {
+                let options = Options::new(width)
+                    .wrap_algorithm(algorithm)
+                    .word_splitter(splitter);
+                assert_same_lines(&rt, &options)?;
+            }
+        }
+    }
+    Ok(())
+}
+
+/// Asserts that the texts are filled to the lines of the lists, by each ending.
+fn assert_same_lines(
+    rt: &(impl Abort + AllocGlobal),
+    options: &Options<'_>,
+) -> Result<(), WrapError> {
     for &text in &[
         "",
         " ",
@@ -68,16 +104,10 @@ fn a_list_of_lines_makes_no_difference(rt: HostRuntime) -> Result<(), Fail> {
         "é\tb\t\tc \t d\u{a0}e",
         "é\r\n안녕하 세요\n\n \n안\r\r\n  a안-b  \n",
     ] {
-        for width in 0..14 {
-            for splitter in [WordSplitter::HyphenSplitter, WordSplitter::NoHyphenation] {
-                for ending in [LineEnding::LF, LineEnding::CRLF] {
-                    let options = by_first_fit(width)
-                        .word_splitter(splitter)
-                        .line_ending(ending);
-                    let listed = fill_slow_path(rt.alloc(), text, Options::from(&options))?;
-                    assert_filled(&rt, text, options, &listed)?;
-                }
-            }
+        for ending in [LineEnding::LF, LineEnding::CRLF] {
+            let options = Options::from(options).line_ending(ending);
+            let listed = fill_slow_path(rt.alloc(), text, Options::from(&options))?;
+            assert_filled(rt, text, options, &listed)?;
         }
     }
     Ok(())

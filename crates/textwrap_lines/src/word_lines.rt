@@ -10,7 +10,7 @@ ghost use Rattle.textwrap_lines.specs.LineEnding.{join_with};
 ghost use Rattle.textwrap_lines.specs.Paragraph.{covered, text_limit};
 ghost use Rattle.textwrap_lines.specs.WordSplitters.{split_word, split_words, splitter_of};
 
-use crate::parts::words_at_blanks;
+use crate::word_separators::Words;
 use crate::word_splitters::{inner_piece, is_hyphen_point};
 use std::alloc::{AllocError, Allocator};
 use textwrap_base::words::{Word, display_width};
@@ -43,6 +43,38 @@ struct OpenLine<'t> {
     ghost ends: { IsCharBoundary text.now len },
     ghost order: { covered ≤ len },
     ghost bounded: { columns ≤ 2 * len },
+}
+
+/// Appends the lines of a paragraph by first fit, with the separator between each two.
+/// `hyphens` says whether words are split after hyphens.
+///
+/// # Errors
+/// [`AllocError`] where memory runs out.
+pub(crate) fn push_lines_by_words<A: Allocator>(
+    paragraph: &str,
+    width: usize,
+    hyphens: bool,
+    separator: &str,
+    filled: &mut String<A>,
+) -> Result<(), AllocError>
+    ensures { OnOk result ((division : List (List WordText))
+        × IsGreedy sizes_of (width ∷ width ∷ [])
+        (broken_words width (split_words (splitter_of hyphens) (words_of paragraph.now)))
+        division
+        × (string_bytes filled.new
+        ≡ string_bytes filled.old ++ join_with separator.now (map covered division))) }
+{
+    let layout = Layout {
+        width,
+        hyphens,
+        separator,
+    };
+    let mut line = OpenLine::at_start(paragraph);
+    for word in Words::<A>::of_line(paragraph) {
+        layout.push_word(&word, &mut line, filled)?;
+    }
+    filled.push_str(line.slice())?;
+    Ok(())
 }
 
 impl<'t> OpenLine<'t> {
@@ -195,36 +227,4 @@ impl<'a> Layout<'a> {
         line.take(piece);
         Ok(())
     }
-}
-
-/// Appends the lines of a paragraph by first fit, with the separator between each two.
-/// `hyphens` says whether words are split after hyphens.
-///
-/// # Errors
-/// [`AllocError`] where memory runs out.
-pub(crate) fn push_lines_by_words<A: Allocator>(
-    paragraph: &str,
-    width: usize,
-    hyphens: bool,
-    separator: &str,
-    filled: &mut String<A>,
-) -> Result<(), AllocError>
-    ensures { OnOk result ((division : List (List WordText))
-        × IsGreedy sizes_of (width ∷ width ∷ [])
-        (broken_words width (split_words (splitter_of hyphens) (words_of paragraph.now)))
-        division
-        × (string_bytes filled.new
-        ≡ string_bytes filled.old ++ join_with separator.now (map covered division))) }
-{
-    let layout = Layout {
-        width,
-        hyphens,
-        separator,
-    };
-    let mut line = OpenLine::at_start(paragraph);
-    for word in words_at_blanks::<A>(paragraph) {
-        layout.push_word(&word, &mut line, filled)?;
-    }
-    filled.push_str(line.slice())?;
-    Ok(())
 }

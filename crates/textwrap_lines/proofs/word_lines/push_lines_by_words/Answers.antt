@@ -24,7 +24,7 @@ loop-word-init g c =
     let filled = string_bytes c.args.filled.now in
     let line = c.at_start-line.result in
     let is : c.into_iter-word-iterator.result ≡ words_of c.args.paragraph.now =
-    c.into_iter-word-iterator.ensures.into_iter_gives ∙ c.words_at_blanks-word-items.ensures in
+    c.into_iter-word-iterator.ensures.into_iter_gives ∙ c.of_line-word-items.ensures in
     record {
       taken = subst (λ words. GoesOn width c.args.separator.now filled line
           (broken_words width (split_words splitter (words_of c.args.paragraph.now))) filled line

@@ -365,6 +365,8 @@ enum OnFilling {
     Short,
     /// By first fit without indents, which needs no list of all lines.
     Directly,
+    /// The same by least cost.
+    DirectlyByLeastCost,
     Slowly,
 }
 
@@ -384,6 +386,9 @@ impl Call for OnFilling {
                 let options = Options::new(5).wrap_algorithm(WrapAlgorithm::FirstFit);
                 fill(heap, "foo bar\né foo\nfoobarbaz", options)?
             }
+            OnFilling::DirectlyByLeastCost => {
+                fill(heap, "foo bar\né foo\nfoobarbaz", Options::new(5))?
+            }
             OnFilling::Slowly => fill_slow_path(heap, TEXT, options)?,
         };
         Ok(String::from_str(alloc, &filled)?)
@@ -397,6 +402,11 @@ fn a_refused_text_is_no_other_text(rt: HostRuntime) -> Result<(), Fail> {
         (OnFilling::Fill, 41, FILLED),
         (OnFilling::Short, 1, "foo"),
         (OnFilling::Directly, 2, "foo\nbar\né foo\nfooba\nrbaz"),
+        (
+            OnFilling::DirectlyByLeastCost,
+            19,
+            "foo\nbar\né foo\nfooba\nrbaz",
+        ),
         (OnFilling::Slowly, 41, FILLED),
     ] {
         assert_refused(&rt, call, refusals, expected)?;

@@ -26,7 +26,7 @@ pub record IsFirstPiece (cut : CutTest) (limit a : ℕ) (text : List ℕ) (word_
   pub word : length first.word ≡ word_len
   pub whole : length (tile_of first) ≡ len
 
--- the sizes of a piece with as many columns as bytes, after which no line costs more
+-- the sizes of a piece without a penalty, and with as many columns as bytes
 abbrev pub span_sizes : Span → Sizes
 span_sizes s = record {
   width = s.word_end - s.start;
@@ -34,6 +34,7 @@ span_sizes s = record {
   penalty = 0;
 }
 
+-- a line costs no more for ending with it
 abbrev pub span_priced : Span → PricedSizes
 span_priced s = record { sizes = span_sizes s; break_penalty = 0 }
 
@@ -43,11 +44,12 @@ AreSpans spans = (i : ℕ) (d : Span) → i < length spans
     → ((slice_index_or spans i d).start ≡ open_width span_sizes (take i spans))
     × ((slice_index_or spans i d).start ≤ (slice_index_or spans i d).word_end)
 
--- what a line of pieces covers, without the last one's whitespace
+-- where the word of the last piece ends
 abbrev pub last_end : Span → List Span → ℕ
 last_end s [] = s.word_end
 last_end s (t ∷ spans) = last_end t spans
 
+-- what a line of pieces covers, without the last one's whitespace
 abbrev pub line_text : List ℕ → List Span → List ℕ
 line_text text [] = []
 line_text text (s ∷ spans) = slice_range text s.start (last_end s spans)

@@ -38,6 +38,7 @@ pub(crate) fn splits_directly(options: &Options<'_>) -> Option<bool>
         return None;
     }
     match (options.wrap_algorithm, options.word_separator) {
+        // Two arms, since the proof has to name the algorithm.
         (WrapAlgorithm::FirstFit, WordSeparator::AsciiSpace) => splits_after_hyphens(options),
         (WrapAlgorithm::OptimalFit(_), WordSeparator::AsciiSpace) => splits_after_hyphens(options),
         _ => None,
@@ -119,6 +120,7 @@ fn push_paragraph<A: Allocator + Copy>(
         WrapAlgorithm::FirstFit => {
             return Ok(push_greedy_lines(paragraph, width, hyphens, separator, filled)?);
         }
+        // Another paragraph, and numbers too great for the search, leave the work to the lists below.
         WrapAlgorithm::OptimalFit(penalties) => {
             if suits_search(paragraph, width, &penalties) {
                 return Ok(push_cheapest_lines(

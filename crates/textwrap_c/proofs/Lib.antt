@@ -1,0 +1,2 @@
+pub mod BuiltInParts
+pub mod RoomLemmas

@@ -1,0 +1,18 @@
+-- What is written into lent room, seen as an answer.
+use Rattle.std.proofs.Common.{◌≡◌, ℕ, List, subst, sym}
+use Rattle.textwrap_c.specs.Room.{WritesText}
+
+-- bytes that are such an answer were written
+pub WritesText-answer : (IsAnswer : List ℕ → Type 0) (bytes : List ℕ) (status : ℕ)
+    (room_before room_after : List ℕ) (len_before len_after : ℕ) → IsAnswer bytes
+    → WritesText (λ answer. answer ≡ bytes) status room_before room_after len_before len_after
+    → WritesText IsAnswer status room_before room_after len_before len_after
+WritesText-answer IsAnswer bytes status room_before room_after len_before len_after is writes =
+    record {
+      written = λ done. let (answer, same, told, room) = writes.written done in
+          (answer, subst IsAnswer (sym same) is, told, room);
+      told = λ short. let (answer, same, told, room) = writes.told short in
+          (answer, subst IsAnswer (sym same) is, told, room);
+      kept = writes.kept;
+      kept_len = writes.kept_len;
+    }

@@ -1,0 +1,4 @@
+pub mod Options
+pub mod Refilling
+pub mod Room
+pub mod Status

@@ -1,0 +1,14 @@
+//! `textwrap` for callers in C, and in all languages that call C.
+//!
+//! Each export takes bytes as a pointer and a length, and answers a status, one of those of
+//! [`status`]. What it gives is written into room that the caller lends, and nothing that was
+//! allocated is left behind. A call that does not answer `DONE` leaves the room as it was.
+#![tactic(auto)]
+
+pub mod filling;
+pub mod indentation;
+pub mod options;
+pub mod refilling;
+mod room;
+pub mod status;
+pub mod widths;

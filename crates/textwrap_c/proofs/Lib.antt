@@ -1,2 +1,4 @@
 pub mod BuiltInParts
+pub mod InOrder
+pub mod LineLemmas
 pub mod RoomLemmas

@@ -3,8 +3,8 @@ use Rattle.std.proofs.Common.{◌≡◌, ℕ, List, subst, sym}
 use Rattle.textwrap_c.specs.Room.{WritesText}
 
 -- bytes that are such an answer were written
-pub WritesText-answer : (IsAnswer : List ℕ → Type 0) (bytes : List ℕ) (status : ℕ)
-    (room_before room_after : List ℕ) (len_before len_after : ℕ) → IsAnswer bytes
+pub WritesText-answer : {X : Type 0} (IsAnswer : List X → Type 0) (bytes : List X) (status : ℕ)
+    (room_before room_after : List X) (len_before len_after : ℕ) → IsAnswer bytes
     → WritesText (λ answer. answer ≡ bytes) status room_before room_after len_before len_after
     → WritesText IsAnswer status room_before room_after len_before len_after
 WritesText-answer IsAnswer bytes status room_before room_after len_before len_after is writes =

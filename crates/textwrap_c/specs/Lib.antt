@@ -2,3 +2,4 @@ pub mod Options
 pub mod Refilling
 pub mod Room
 pub mod Status
+pub mod Wrapping

@@ -12,3 +12,4 @@ pub mod refilling;
 mod room;
 pub mod status;
 pub mod widths;
+pub mod wrapping;

@@ -5,17 +5,17 @@ ghost use Rattle.textwrap_c.specs.Status.{done, too_small};
 
 use crate::status::{DONE, TOO_SMALL};
 
-/// Writes the bytes to the front of the room, if it is long enough, and how many they are in any
+/// Writes the items to the front of the room, if it is long enough, and how many they are in any
 /// case.
-pub(crate) fn put(bytes: &[u8], room: &mut [u8], len: &mut usize) -> u32
-    ensures text { WritesText (λ answer. answer ≡ bytes.now) result room.old room.new len.old len.new }
+pub(crate) fn put<T: Copy>(items: &[T], room: &mut [T], len: &mut usize) -> u32
+    ensures text { WritesText (λ answer. answer ≡ items.now) result room.old room.new len.old len.new }
     ensures statuses { (result ≡ done) ⊎ (result ≡ too_small) }
 {
-    *len = bytes.len();
-    if room.len() < bytes.len() {
+    *len = items.len();
+    if room.len() < items.len() {
         return TOO_SMALL;
     }
-    let (front, _rest) = room.split_at_mut(bytes.len());
-    front.copy_from_slice(bytes);
+    let (front, _rest) = room.split_at_mut(items.len());
+    front.copy_from_slice(items);
     DONE
 }

@@ -1,0 +1,25 @@
+use Rattle.std.proofs.Common.{◌≡◌, ◌≤◌, ◌<◌, ◌+◌, ◌++◌, drop, length, inl, inr, sym, ap, ◌∙◌, arith}
+use Rattle.std.proofs.lemmas.Bool.{cases_lt}
+use Rattle.std.proofs.lemmas.List.{length-append}
+use Rattle.textwrap_c.proofs.InOrder.{stands-at}
+use Rattle.textwrap_c.proofs.wrapping.place.Goals as goal
+
+pub unreachable-requires : goal.unreachable-requires
+unreachable-requires c =
+    let (before, after, is) = c.requires.stands in
+    let text = c.range_from.result.now in
+    let same : text ≡ before ++ c.args.slice.now ++ after = c.range_from.ensures.value ∙ is in
+    let len = ap length same in
+    let one = length-append before c.args.slice.now in
+    let all = length-append (before ++ c.args.slice.now) after in
+    c.in-None.ensures.cases (length before) (omega arith) after
+    (stands-at text before c.args.slice.now after same)
+
+pub returns-clause-first : goal.returns-clause-first
+returns-clause-first c = λ before after is.
+    let same = c.range_from.ensures.value ∙ is in
+    elim (cases_lt (length before) c.in-Some.at) [
+      | inl less ↦ absurd (c.in-Some.ensures.cases.1.0 (length before) less after
+          (stands-at c.range_from.result.now before c.args.slice.now after same))
+      | inr most ↦ omega (arith, most)
+    ]

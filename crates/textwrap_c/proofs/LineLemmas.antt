@@ -316,3 +316,21 @@ module _ (AreAnswer : List Line → Type 0) (text built : List ℕ) (lines : Lis
         kept = λ _. (refl, refl);
         kept_counts = λ _ no. absurd (no refl);
       }
+
+-- lines that are such an answer were written
+pub WritesLines-answer : (AreAnswer : List Line → Type 0) (text : List ℕ) (lines : List Line)
+    (status : ℕ) (lines_before lines_after : List TextwrapLine) (count_before count_after : ℕ)
+    (room_before room_after : List ℕ) (len_before len_after : ℕ) → AreAnswer lines
+    → WritesLines (λ answer. answer ≡ lines) text status lines_before lines_after count_before
+    count_after room_before room_after len_before len_after
+    → WritesLines AreAnswer text status lines_before lines_after count_before count_after
+    room_before room_after len_before len_after
+WritesLines-answer AreAnswer text lines status lines_before lines_after count_before count_after
+    room_before room_after len_before len_after are writes = record {
+      written = λ here. let (answer, is, count, len, begins, told) = writes.written here in
+          (answer, subst AreAnswer (sym is) are, count, len, begins, told);
+      told = λ short. let (answer, is, count, len, longer) = writes.told short in
+          (answer, subst AreAnswer (sym is) are, count, len, longer);
+      kept = writes.kept;
+      kept_counts = writes.kept_counts;
+    }

@@ -1,12 +1,12 @@
 //! The lines of a text.
-ghost use Rattle.std.specs.Prelude.{◌≡◌, ◌≢◌, ℕ, ◌+◌, ◌≤◌, ◌<◌, ◌↔◌, ◌^◌, List, ◌++◌, IsUtf8, length, map, drop};
+ghost use Rattle.std.specs.Prelude.{◌≡◌, ◌≢◌, ℕ, ◌+◌, ◌≤◌, ◌<◌, ◌↔◌, ◌⊎◌, List, ◌++◌, IsUtf8, length, map, drop};
 ghost use Rattle.std.specs.Prelude.{IsCharBoundary, IfOk, slice_range};
 ghost use Rattle.textwrap.specs.Paragraph.{DividesAs, line_view};
 ghost use Rattle.textwrap.specs.Text.{AreTextLines};
 ghost use Rattle.textwrap_c.specs.Options.{settings_of, splitter_of, algorithm_of, AreKnown};
 ghost use Rattle.textwrap_c.specs.Options.{AreTexts};
 ghost use Rattle.textwrap_c.specs.Room.{BeginsWith};
-ghost use Rattle.textwrap_c.specs.Status.{not_utf8, unknown_options};
+ghost use Rattle.textwrap_c.specs.Status.{done, not_utf8, out_of_memory, too_small, unknown_options};
 ghost use Rattle.textwrap_c.specs.Wrapping.{slices_of, built_of, joined, StandIn, ShowLines};
 ghost use Rattle.textwrap_c.specs.Wrapping.{WritesLines};
 
@@ -62,10 +62,29 @@ pub extern "C" fn textwrap_wrap(
     let Ok(found) = wrap(alloc, text, options) else {
         return OUT_OF_MEMORY;
     };
-    let Ok(built) = built_text(alloc, &found) else {
+    put_lines(alloc, text, &found, lines, count, room, len)
+}
+
+/// Writes where the lines stand to the front of `lines`, and those that are no slices of the text to
+/// the front of the room, if both are long enough; and how many they are, and how long.
+pub(crate) fn put_lines(
+    alloc: Global,
+    text: &str,
+    found: &[CowStr<'_>],
+    lines: &mut [TextwrapLine],
+    count: &mut usize,
+    room: &mut [u8],
+    len: &mut usize,
+) -> u32
+    requires stand { StandIn (slices_of (map line_view found.now)) text.now }
+    ensures lines { WritesLines (λ answer. answer ≡ map line_view found.now) text.now result
+        lines.old lines.new count.old count.new room.old room.new len.old len.new }
+    ensures statuses { (result ≡ done) ⊎ (result ≡ out_of_memory) ⊎ (result ≡ too_small) }
+{
+    let Ok(built) = built_text(alloc, found) else {
         return OUT_OF_MEMORY;
     };
-    let Ok(told) = told_lines(alloc, text, &found, &built) else {
+    let Ok(told) = told_lines(alloc, text, found, &built) else {
         return OUT_OF_MEMORY;
     };
     let (told, built) = (told.as_slice(), built.as_slice());

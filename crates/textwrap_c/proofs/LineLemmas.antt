@@ -334,3 +334,7 @@ WritesLines-answer AreAnswer text lines status lines_before lines_after count_be
       kept = writes.kept;
       kept_counts = writes.kept_counts;
     }
+
+pub built-stand : (rows : List (List ℕ)) (text : List ℕ) → StandIn (slices_of (map Built rows)) text
+built-stand [] text = tt
+built-stand (row ∷ rows) text = built-stand rows text

@@ -1,3 +1,4 @@
+pub mod Columns
 pub mod Options
 pub mod Refilling
 pub mod Room

@@ -5,6 +5,7 @@
 //! allocated is left behind. A call that does not answer `DONE` leaves the room as it was.
 #![tactic(auto)]
 
+pub mod columns;
 pub mod filling;
 pub mod indentation;
 pub mod options;

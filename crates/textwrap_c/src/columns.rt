@@ -1,0 +1,87 @@
+//! A text in columns beside one another.
+ghost use Rattle.std.specs.Prelude.{◌≡◌, ◌≢◌, ◌≤◌, ◌<◌, ◌↔◌, ◌⊎◌, List, IsUtf8, IfOk, map, string_bytes};
+ghost use Rattle.textwrap.specs.Columns.{IsInColumns};
+ghost use Rattle.textwrap.specs.Paragraph.{DividesAs, Line, Built, line_view};
+ghost use Rattle.textwrap_c.specs.Columns.{AreTextGaps, AreRows};
+ghost use Rattle.textwrap_c.specs.Options.{settings_of, splitter_of, algorithm_of, AreKnown};
+ghost use Rattle.textwrap_c.specs.Options.{AreTexts};
+ghost use Rattle.textwrap_c.specs.Status.{not_utf8, unknown_options};
+ghost use Rattle.textwrap_c.specs.Wrapping.{WritesLines};
+
+use crate::options::{TextwrapOptions, read_options};
+use crate::status::{NOT_UTF8, OUT_OF_MEMORY, UNKNOWN_OPTIONS};
+use crate::wrapping::{TextwrapLine, put_lines};
+use std::alloc::{AllocError, Global};
+use std::borrow::CowStr;
+use std::str;
+use textwrap::wrap_columns;
+
+/// What stands around the cells of a row, in UTF-8.
+#[repr(C)]
+#[derive(Clone, Copy)]
+pub struct TextwrapGaps<'a> {
+    /// What stands before the first cell.
+    pub left: &'a [u8],
+    /// What stands between each two cells.
+    pub middle: &'a [u8],
+    /// What stands after the last cell.
+    pub right: &'a [u8],
+}
+
+/// Wraps the text into so many columns beside one another, and writes the rows as `textwrap_wrap`
+/// writes lines that are texts of their own. No columns at all are `UNKNOWN_OPTIONS`.
+#[unsafe(no_mangle)]
+pub extern "C" fn textwrap_wrap_columns(
+    alloc: Global,
+    text: &[u8],
+    columns: usize,
+    options: &TextwrapOptions<'_>,
+    gaps: &TextwrapGaps<'_>,
+    rows: &mut [TextwrapLine],
+    count: &mut usize,
+    room: &mut [u8],
+    len: &mut usize,
+) -> u32
+    ensures columns { WritesLines (AreRows (IsInColumns (settings_of options.now) (DividesAs
+        (splitter_of options.now) (algorithm_of options.now)) columns text.now gaps.now.left.now
+        gaps.now.middle.now gaps.now.right.now))
+        text.now result rows.old rows.new count.old count.new room.old room.new len.old len.new }
+    ensures unknown { result ≡ unknown_options ↔ (columns < 1) ⊎ (¬ AreKnown options.now) }
+    ensures not_utf8 { result ≡ not_utf8 ↔ (1 ≤ columns) × AreKnown options.now
+        × ¬ (IsUtf8 text.now × AreTexts options.now × AreTextGaps gaps.now) }
+    ensures statuses { result ≤ unknown_options }
+{
+    if columns == 0 {
+        return UNKNOWN_OPTIONS;
+    }
+    let options = match read_options(options) {
+        Ok(options) => options,
+        Err(status) => return status,
+    };
+    let (Ok(text), Ok(left), Ok(middle), Ok(right)) = (
+        str::from_utf8(text),
+        str::from_utf8(gaps.left),
+        str::from_utf8(gaps.middle),
+        str::from_utf8(gaps.right),
+    ) else {
+        return NOT_UTF8;
+    };
+    let Ok(found) = wrap_columns(alloc, text, columns, options, left, middle, right) else {
+        return OUT_OF_MEMORY;
+    };
+    let Ok(found) = built_lines(alloc, found) else {
+        return OUT_OF_MEMORY;
+    };
+    put_lines(alloc, text, &found, rows, count, room, len)
+}
+
+/// The rows as lines of their own.
+fn built_lines(alloc: Global, rows: Vec<String>) -> Result<Vec<CowStr<'static>>, AllocError>
+    ensures { IfOk result (λ lines. map line_view lines.items ≡ map Built (map string_bytes rows.items)) }
+{
+    let mut lines = Vec::new(alloc);
+    for row in rows {
+        lines.push(CowStr::Owned(row))?;
+    }
+    Ok(lines)
+}

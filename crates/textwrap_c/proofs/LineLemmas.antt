@@ -17,30 +17,25 @@ use Rattle.textwrap.specs.WordSplitters.{Splitter}
 use Rattle.textwrap.specs.Words.{WordText}
 use Rattle.textwrap.specs.WrapAlgorithms.{Algorithm}
 use Rattle.textwrap_lines.proofs.Text.Endings.{join-paragraphs_of, join_with-cons}
-use Rattle.textwrap_c.specs.Wrapping.{slices_of, built_of, joined, StandIn, Shows, ShowsLine}
+use Rattle.textwrap_c.specs.Wrapping.{slices_of, built_of, joined, StandIn, Shows}
+use Rattle.textwrap_c.specs.Wrapping.{ShowsSlice, ShowsBuilt}
 use Rattle.textwrap_c.specs.Room.{BeginsWith, WritesText}
 use Rattle.textwrap_c.specs.Status.{done, too_small}
 use Rattle.textwrap_c.specs.Wrapping.{ShowLines, WritesLines}
 use Rattle.textwrap_c.specs.declared.wrapping.TextwrapLine.{TextwrapLine}
 use Rattle.textwrap_c.proofs.InOrder.{StandIn-before, StandIn-append, stands-at}
 
--- ---- one more line
+-- ---- as many as there are
 
-pub ShowLines-push : (text room : List ℕ) (lines : List Line) (told : List TextwrapLine)
-    (line : Line) (t : TextwrapLine) → ShowLines text room lines told
-    → ShowsLine text room line t → ShowLines text room (lines ++ line ∷ []) (told ++ t ∷ [])
-ShowLines-push text room [] [] line t none shows = (shows, refl)
-ShowLines-push text room [] (u ∷ told) line t none shows = cc
-ShowLines-push text room (l ∷ lines) [] line t none shows = absurd none
-ShowLines-push text room (l ∷ lines) (u ∷ told) line t (here, rest) shows =
-    (here, ShowLines-push text room lines told line t rest shows)
-
-ShowLines-length : (text room : List ℕ) (lines : List Line) (told : List TextwrapLine)
-    → ShowLines text room lines told → length told ≡ length lines
-ShowLines-length text room [] told none = ap length none
-ShowLines-length text room (line ∷ lines) [] shows = absurd shows
-ShowLines-length text room (line ∷ lines) (t ∷ told) (here, rest) =
-    ap suc (ShowLines-length text room lines told rest)
+ShowLines-length : (text room : List ℕ) (from used : ℕ) (lines : List Line)
+    (told : List TextwrapLine) → ShowLines text room from used lines told
+    → length told ≡ length lines
+ShowLines-length text room from used [] told none = ap length none
+ShowLines-length text room from used (line ∷ lines) [] shows = absurd shows
+ShowLines-length text room from used (Slice bytes ∷ lines) (t ∷ told) (here, rest) =
+    ap suc (ShowLines-length text room (t.offset + length bytes) used lines told rest)
+ShowLines-length text room from used (Built bytes ∷ lines) (t ∷ told) (here, rest) =
+    ap suc (ShowLines-length text room from (used + length bytes) lines told rest)
 
 -- ---- the lines of a text stand in it
 
@@ -126,41 +121,52 @@ StandIn-next slice slices text from at (before, after, is, stand) within first =
 
 -- ---- the lines that are told so far, where the others are left
 
-pub record HasTold (text built : List ℕ) (done left : List Line) (told : List TextwrapLine)
+-- with any right telling of those that are left, these are told right
+pub record HasTold (text built : List ℕ) (lines left : List Line) (told : List TextwrapLine)
     (from used : ℕ) : Type 0 where
-  pub shows : ShowLines text built done told
+  pub shows : (more : List TextwrapLine) → ShowLines text built from used left more
+      → ShowLines text built 0 0 lines (told ++ more)
   pub stand : StandIn (slices_of left) (drop from text)
   pub within : from ≤ length text
   pub built_left : drop used built ≡ joined (built_of left)
   pub used_within : used ≤ length built
 
-pub HasTold-slice : (text built : List ℕ) (done left : List Line) (told : List TextwrapLine)
-    (from used at : ℕ) (bytes : List ℕ) (t : TextwrapLine)
-    → HasTold text built done (Slice bytes ∷ left) told from used
-    → at + length bytes ≤ length text
-    → slice_range text at (at + length bytes) ≡ bytes
-    → ((before after : List ℕ) → drop from text ≡ before ++ bytes ++ after
-    → at ≤ from + length before)
-    → t ≡ record { offset = at; len = length bytes; is_built = 0 }
-    → HasTold text built (done ++ Slice bytes ∷ []) left (told ++ t ∷ []) (at + length bytes) used
-HasTold-slice text built done left told from used at bytes t so_far within is first told_is = record {
-  shows = ShowLines-push text built done told (Slice bytes) t so_far.shows (
-    ap (λ l. l.is_built) told_is,
-    rw told_is (record { len = refl; within = within; bytes_are = is }),
-  );
-  stand = StandIn-next bytes (slices_of left) text from at so_far.stand so_far.within first;
-  within = within;
-  built_left = so_far.built_left;
-  used_within = so_far.used_within;
-}
+pub HasTold-end : (text built : List ℕ) (lines : List Line) (told : List TextwrapLine)
+    (from used : ℕ) → HasTold text built lines [] told from used
+    → ShowLines text built 0 0 lines told
+HasTold-end text built lines told from used all =
+    subst (ShowLines text built 0 0 lines) (append-nil told) (all.shows [] refl)
 
-pub HasTold-built : (text built : List ℕ) (done left : List Line) (told : List TextwrapLine)
-    (from used : ℕ) (bytes : List ℕ) (t : TextwrapLine)
-    → HasTold text built done (Built bytes ∷ left) told from used
-    → t ≡ record { offset = used; len = length bytes; is_built = 1 }
-    → HasTold text built (done ++ Built bytes ∷ []) left (told ++ t ∷ []) from
+pub HasTold-slice : (text built : List ℕ) (lines left : List Line) (told : List TextwrapLine)
+    (from used at : ℕ) (bytes : List ℕ) → HasTold text built lines (Slice bytes ∷ left) told from used
+    → from ≤ at → at + length bytes ≤ length text
+    → slice_range text at (at + length bytes) ≡ bytes
+    → ((before rest : List ℕ) → drop from text ≡ before ++ bytes ++ rest
+    → at ≤ from + length before)
+    → HasTold text built lines left
+    (told ++ record { offset = at; len = length bytes; is_built = 0 } ∷ []) (at + length bytes) used
+HasTold-slice text built lines left told from used at bytes so_far after within is first =
+    let t : TextwrapLine = record { offset = at; len = length bytes; is_built = 0 } in
+    let here : ShowsSlice text from bytes t = record {
+      not_built = refl;
+      shows = record { len = refl; within = within; bytes_are = is };
+      after = after;
+      first = first;
+    } in record {
+      shows = λ more rest. subst (ShowLines text built 0 0 lines)
+          (sym (append_assoc told (t ∷ []) more)) (so_far.shows (t ∷ more) (here, rest));
+      stand = StandIn-next bytes (slices_of left) text from at so_far.stand so_far.within first;
+      within = within;
+      built_left = so_far.built_left;
+      used_within = so_far.used_within;
+    }
+
+pub HasTold-built : (text built : List ℕ) (lines left : List Line) (told : List TextwrapLine)
+    (from used : ℕ) (bytes : List ℕ) → HasTold text built lines (Built bytes ∷ left) told from used
+    → HasTold text built lines left
+    (told ++ record { offset = used; len = length bytes; is_built = 1 } ∷ []) from
     (used + length bytes)
-HasTold-built text built done left told from used bytes t so_far told_is =
+HasTold-built text built lines left told from used bytes so_far =
     let rest = joined (built_of left) in
     let left_is : drop used built ≡ bytes ++ rest = so_far.built_left in
     let total = ap length left_is in
@@ -171,11 +177,15 @@ HasTold-built text built done left told from used bytes t so_far told_is =
     ap (λ n. take n (drop used built)) len ∙ ap (take (length bytes)) left_is
     ∙ take-append_seam bytes rest in
     let within : used + length bytes ≤ length built =
-    omega (arith, total, one, two, so_far.used_within) in record {
-      shows = ShowLines-push text built done told (Built bytes) t so_far.shows (
-        ap (λ l. l.is_built) told_is,
-        rw told_is (record { len = refl; within = within; bytes_are = here }),
-      );
+    omega (arith, total, one, two, so_far.used_within) in
+    let t : TextwrapLine = record { offset = used; len = length bytes; is_built = 1 } in
+    let told_is : ShowsBuilt built used bytes t = record {
+      built = refl;
+      shows = record { len = refl; within = within; bytes_are = here };
+      offset = refl;
+    } in record {
+      shows = λ more after. subst (ShowLines text built 0 0 lines)
+          (sym (append_assoc told (t ∷ []) more)) (so_far.shows (t ∷ more) (told_is, after));
       stand = so_far.stand;
       within = so_far.within;
       built_left = sym (drop-drop (length bytes) used built) ∙ ap (drop (length bytes)) left_is
@@ -184,40 +194,13 @@ HasTold-built text built done left told from used bytes t so_far told_is =
     }
 
 -- the next of the lines
-pub next-done : {Z : Type 0} (found : List (CowStr Z)) (i : ℕ) (line : CowStr Z)
-    → i < length found → line ≡ get_or found i line
-    → map line_view (take (i + 1) found) ≡ map line_view (take i found) ++ line_view line ∷ []
-next-done found i line within is =
-    ap (map line_view) (take_more found i line within)
-    ∙ map-append line_view (take i found) (get_or found i line ∷ [])
-    ∙ ap (λ l. map line_view (take i found) ++ line_view l ∷ []) (sym is)
-
-pub next-left : {Z : Type 0} (found : List (CowStr Z)) (i : ℕ) (line : CowStr Z)
-    → i < length found → line ≡ get_or found i line
-    → map line_view (drop i found) ≡ line_view line ∷ map line_view (drop (i + 1) found)
-next-left found i line within is =
+pub next-left : {Z : Type 0} (found : List (CowStr Z)) (i : ℕ) (line : CowStr Z) (view : Line)
+    → i < length found → line ≡ get_or found i line → line_view line ≡ view
+    → map line_view (drop i found) ≡ view ∷ map line_view (drop (i + 1) found)
+next-left found i line view within is seen =
     ap (map line_view) (drop_more found i line within)
     ∙ ap (λ l. line_view l ∷ map line_view (drop (i + 1) found)) (sym is)
-
-pub HasTold-turn : {Z : Type 0} (text built : List ℕ) (found : List (CowStr Z)) (i : ℕ)
-    (line : CowStr Z) (view : Line) (told more : List TextwrapLine) (from used later_from : ℕ)
-    (later_used : ℕ) → i < length found → line ≡ get_or found i line → line_view line ≡ view
-    → HasTold text built (map line_view (take i found)) (map line_view (drop i found)) told from
-    used
-    → (HasTold text built (map line_view (take i found))
-    (view ∷ map line_view (drop (i + 1) found)) told from used
-    → HasTold text built (map line_view (take i found) ++ view ∷ [])
-    (map line_view (drop (i + 1) found)) more later_from later_used)
-    → HasTold text built (map line_view (take (i + 1) found))
-    (map line_view (drop (i + 1) found)) more later_from later_used
-HasTold-turn text built found i line view told more from used later_from later_used within is seen
-    so_far turn =
-    let done = map line_view (take i found) in
-    let left = map line_view (drop (i + 1) found) in
-    let after = turn (subst (λ ls. HasTold text built done ls told from used)
-    (next-left found i line within is ∙ ap (λ v. v ∷ left) seen) so_far) in
-    subst (λ ls. HasTold text built ls left more later_from later_used)
-    (sym (next-done found i line within is ∙ ap (λ v. done ++ v ∷ []) seen)) after
+    ∙ ap (λ v. v ∷ map line_view (drop (i + 1) found)) seen
 
 -- ---- lines and room that are lent
 
@@ -236,14 +219,21 @@ Shows-extend bytes text more line shows =
           ∙ shows.bytes_are;
     }
 
-ShowLines-extend : (text room more : List ℕ) (lines : List Line) (told : List TextwrapLine)
-    → ShowLines text room lines told → ShowLines text (room ++ more) lines told
-ShowLines-extend text room more [] told none = none
-ShowLines-extend text room more (line ∷ lines) [] shows = absurd shows
-ShowLines-extend text room more (Slice bytes ∷ lines) (t ∷ told) (here, rest) =
-    (here, ShowLines-extend text room more lines told rest)
-ShowLines-extend text room more (Built bytes ∷ lines) (t ∷ told) ((is, shows), rest) =
-    ((is, Shows-extend bytes room more t shows), ShowLines-extend text room more lines told rest)
+ShowLines-extend : (text room more : List ℕ) (from used : ℕ) (lines : List Line)
+    (told : List TextwrapLine) → ShowLines text room from used lines told
+    → ShowLines text (room ++ more) from used lines told
+ShowLines-extend text room more from used [] told none = none
+ShowLines-extend text room more from used (line ∷ lines) [] shows = absurd shows
+ShowLines-extend text room more from used (Slice bytes ∷ lines) (t ∷ told) (here, rest) =
+    (here, ShowLines-extend text room more (t.offset + length bytes) used lines told rest)
+ShowLines-extend text room more from used (Built bytes ∷ lines) (t ∷ told) (here, rest) = (
+  record {
+    built = here.built;
+    shows = Shows-extend bytes room more t here.shows;
+    offset = here.offset;
+  },
+  ShowLines-extend text room more from (used + length bytes) lines told rest,
+)
 
 -- what is told of that does not fit
 too-long : {X : Type 0} (items : List X) (status : ℕ) (room_before room_after : List X)
@@ -257,7 +247,7 @@ too-long items status room_before room_after len_before len_after fits writes sh
 module _ (AreAnswer : List Line → Type 0) (text built : List ℕ) (lines : List Line)
     (told : List TextwrapLine) (lines_before : List TextwrapLine) (count_before : ℕ)
     (room_before : List ℕ) (len_before : ℕ) (are : AreAnswer lines)
-    (built_is : built ≡ joined (built_of lines)) (shows : ShowLines text built lines told) where
+    (built_is : built ≡ joined (built_of lines)) (shows : ShowLines text built 0 0 lines told) where
   -- both were written
   pub WritesLines-done : (status other : ℕ) (lines_after : List TextwrapLine) (count_after : ℕ)
       (room_after : List ℕ) (len_after : ℕ) → length told ≤ length lines_before
@@ -287,18 +277,18 @@ module _ (AreAnswer : List Line → Type 0) (text built : List ℕ) (lines : Lis
         written = λ _. (
           lines,
           are,
-          count ∙ ap length is ∙ ShowLines-length text built lines told shows,
+          count ∙ ap length is ∙ ShowLines-length text built 0 0 lines told shows,
           len ∙ ap length (filled_is ∙ built_is),
           subst (λ b. BeginsWith b room_before room_after) built_is room_is,
           (
             told,
-            subst (λ r. ShowLines text r lines told) (sym room_is)
-                (ShowLines-extend text built (drop (length built) room_before) lines told shows),
+            subst (λ r. ShowLines text r 0 0 lines told) (sym room_is)
+                (ShowLines-extend text built (drop (length built) room_before) 0 0 lines told shows),
             lines_are,
           ),
         );
         told = λ short. absurd (too-long told status lines_before lines_after count_before
-        count_after places writes short);
+            count_after places writes short);
         kept = λ no. absurd (no here);
         kept_counts = λ no _. absurd (no here);
       }
@@ -309,10 +299,16 @@ module _ (AreAnswer : List Line → Type 0) (text built : List ℕ) (lines : Lis
       → WritesLines AreAnswer text too_small lines_before lines_before count_before (length told)
       room_before room_before len_before (length built)
   WritesLines-short short =
-      let count = ShowLines-length text built lines told shows in record {
+      let count = ShowLines-length text built 0 0 lines told shows in record {
         written = λ is. cc;
-        told = λ _. (lines, are, count, ap length built_is, subst (λ n. (length lines_before < n)
-            ⊎ (length room_before < length built)) count short);
+        told = λ _. (
+          lines,
+          are,
+          count,
+          ap length built_is,
+          subst (λ n. (length lines_before < n)
+              ⊎ (length room_before < length built)) count short,
+        );
         kept = λ _. (refl, refl);
         kept_counts = λ _ no. absurd (no refl);
       }

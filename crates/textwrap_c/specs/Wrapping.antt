@@ -27,16 +27,33 @@ pub record Shows (bytes text : List ℕ) (line : TextwrapLine) : Type 0 where
   pub within : line.offset + line.len ≤ length text
   pub bytes_are : slice_range text line.offset (line.offset + line.len) ≡ bytes
 
--- a slice stands in the text, and a line of its own in the room
-abbrev pub ShowsLine : List ℕ → List ℕ → Line → TextwrapLine → Type 0
-ShowsLine text room (Slice bytes) line = (line.is_built ≡ 0) × Shows bytes text line
-ShowsLine text room (Built bytes) line = (line.is_built ≡ 1) × Shows bytes room line
+-- a slice is told where it stands in the text first, from a place on
+pub record ShowsSlice (text : List ℕ) (from : ℕ) (bytes : List ℕ) (line : TextwrapLine)
+    : Type 0 where
+  pub not_built : line.is_built ≡ 0
+  pub shows : Shows bytes text line
+  pub after : from ≤ line.offset
+  pub first : (before rest : List ℕ) → drop from text ≡ before ++ bytes ++ rest
+      → line.offset ≤ from + length before
 
-abbrev pub ShowLines : List ℕ → List ℕ → List Line → List TextwrapLine → Type 0
-ShowLines text room [] told = told ≡ []
-ShowLines text room (line ∷ lines) [] = ⊥
-ShowLines text room (line ∷ lines) (t ∷ told) =
-    ShowsLine text room line t × ShowLines text room lines told
+-- a line of its own stands in the room, after the used bytes
+pub record ShowsBuilt (room : List ℕ) (used : ℕ) (bytes : List ℕ) (line : TextwrapLine)
+    : Type 0 where
+  pub built : line.is_built ≡ 1
+  pub shows : Shows bytes room line
+  pub offset : line.offset ≡ used
+
+-- each slice is told where it stands first after the slice before it, and the lines of their own
+-- one after another
+abbrev pub ShowLines : List ℕ → List ℕ → ℕ → ℕ → List Line → List TextwrapLine → Type 0
+ShowLines text room from used [] told = told ≡ []
+ShowLines text room from used (line ∷ lines) [] = ⊥
+ShowLines text room from used (Slice bytes ∷ lines) (t ∷ told) =
+    ShowsSlice text from bytes t
+    × ShowLines text room (t.offset + length bytes) used lines told
+ShowLines text room from used (Built bytes ∷ lines) (t ∷ told) =
+    ShowsBuilt room used bytes t
+    × ShowLines text room from (used + length bytes) lines told
 
 -- the slices stand in the text one after another
 abbrev pub StandIn : List (List ℕ) → List ℕ → Type 0
@@ -53,7 +70,7 @@ pub record WritesLines (AreAnswer : List Line → Type 0) (text : List ℕ) (sta
   pub written : status ≡ done → (answer : List Line) × AreAnswer answer
       × (count_after ≡ length answer) × (len_after ≡ length (joined (built_of answer)))
       × BeginsWith (joined (built_of answer)) room_before room_after
-      × ((told : List TextwrapLine) × ShowLines text room_after answer told
+      × ((told : List TextwrapLine) × ShowLines text room_after 0 0 answer told
       × (lines_after ≡ told ++ drop (length told) lines_before))
   pub told : status ≡ too_small → (answer : List Line) × AreAnswer answer
       × (count_after ≡ length answer) × (len_after ≡ length (joined (built_of answer)))

@@ -12,5 +12,7 @@ pub mod options;
 pub mod refilling;
 mod room;
 pub mod status;
+#[cfg(test)]
+mod tests;
 pub mod widths;
 pub mod wrapping;

@@ -119,7 +119,7 @@ fn told_lines(
 ) -> Result<Vec<TextwrapLine>, AllocError>
     requires stand { StandIn (slices_of (map line_view found.now)) text.now }
     requires built { built.now ≡ joined (built_of (map line_view found.now)) }
-    ensures { IfOk result (λ told. ShowLines text.now built.now (map line_view found.now)
+    ensures { IfOk result (λ told. ShowLines text.now built.now 0 0 (map line_view found.now)
         told.items) }
 {
     let mut told = Vec::new(alloc);

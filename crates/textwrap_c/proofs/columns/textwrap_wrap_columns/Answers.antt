@@ -19,7 +19,11 @@ returns-clause-columns c =
     let are = columns-as c.in-Ok.options (settings_of given) (splitter_of given)
     (algorithm_of given) c.in-Ok.ensures.parts c.args.columns texts.text.now texts.left.now
     texts.middle.now texts.right.now rows c.in-Ok-wrap_columns.ensures.rows in
-    let here = rw (texts.ensures.cases.0, texts.ensures'.cases.0, texts.ensures''.cases.0,
-    texts.ensures'''.cases.0) at are in
+    let here = rw (
+      texts.ensures.cases.0,
+      texts.ensures'.cases.0,
+      texts.ensures''.cases.0,
+      texts.ensures'''.cases.0,
+    ) at are in
     let lines = rw (c.deref.ensures.value, texts.ensures.cases.0) at c.put_lines.ensures.lines in
     WritesLines-answer _ _ _ _ _ _ _ _ _ _ _ _ (rows, here, c.in-Ok-built_lines.ensures) lines

@@ -7,16 +7,16 @@ use Rattle.std.proofs.Math.Seq.{drop-append_seam, take-append_seam}
 use Rattle.std.proofs.Common.{sym, ap, refl, ◌∙◌, subst, arith, append_assoc}
 use Rattle.std.specs.List.{flat_map}
 use Rattle.std.proofs.lemmas.List.{map-append, append-nil, take-append-drop, drop-drop, drop_more}
-use Rattle.std.proofs.lemmas.List.{take_more, length-append, length-drop, drop-append-le}
+use Rattle.std.proofs.lemmas.List.{length-append, length-drop, drop-append-le}
 use Rattle.std.proofs.lemmas.List.{take-append-le}
-use Rattle.textwrap.specs.LineEnding.{ending_bytes, join_with, paragraphs_of}
+use Rattle.textwrap.specs.LineEnding.{ending_bytes, join_with}
 use Rattle.textwrap.specs.Options.{Settings}
 use Rattle.textwrap.specs.Paragraph.{Line, Slice, Built, LineParts, line_from, line_view}
 use Rattle.textwrap.specs.Text.{covered_by, IsWrapped}
 use Rattle.textwrap.specs.WordSplitters.{Splitter}
 use Rattle.textwrap.specs.Words.{WordText}
 use Rattle.textwrap.specs.WrapAlgorithms.{Algorithm}
-use Rattle.textwrap_lines.proofs.Text.Endings.{join-paragraphs_of, join_with-cons}
+use Rattle.textwrap_lines.proofs.Text.Endings.{join-paragraphs_of}
 use Rattle.textwrap_c.specs.Wrapping.{slices_of, built_of, joined, StandIn, Shows}
 use Rattle.textwrap_c.specs.Wrapping.{ShowsSlice, ShowsBuilt}
 use Rattle.textwrap_c.specs.Room.{BeginsWith, WritesText}

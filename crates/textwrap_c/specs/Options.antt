@@ -1,5 +1,5 @@
 -- What the numbers of the options mean.
-use Rattle.std.specs.Prelude.{◌≡◌, ℕ, ◌≤◌, ◌==◌, List, [], ◌∷◌, All, Bool, not, IsUtf8, if◌then◌else◌}
+use Rattle.std.specs.Prelude.{◌≡◌, ℕ, ◌≤◌, ◌==◌, [], ◌∷◌, Bool, not, IsUtf8, if◌then◌else◌}
 use Rattle.textwrap.specs.Options.{Settings}
 use Rattle.textwrap.specs.WordSplitters.{Splitter, Whole, AtHyphens}
 use Rattle.textwrap.specs.WrapAlgorithms.{Algorithm, Greedy, LeastCost}

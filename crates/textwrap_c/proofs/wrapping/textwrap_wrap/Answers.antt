@@ -1,4 +1,3 @@
-use Rattle.std.proofs.Common.{◌≡◌, ◌≢◌}
 use Rattle.textwrap_c.proofs.LineLemmas.{lines-stand, WritesLines-answer}
 use Rattle.textwrap_c.proofs.wrapping.textwrap_wrap.Goals as goal
 

@@ -49,8 +49,13 @@ loop-line-preserved c =
           c.loop-line.told.items c.loop-line.from c.loop-line.used)
           (next (Built bytes) c.loop-line-test.true c.line-item.is (ap line_view w.in-Owned.is))
           c.loop-line.invariant.told in
-          rw (grown, w.from-is, w.used-is, w.as_bytes.ensures.value,
-          w.as_bytes-in-Owned.ensures.value) (record {
+          rw (
+            grown,
+            w.from-is,
+            w.used-is,
+            w.as_bytes.ensures.value,
+            w.as_bytes-in-Owned.ensures.value,
+          ) (record {
             told = HasTold-built text built (map line_view found) left _ _ _ bytes so_far;
             boundary = c.loop-line.invariant.boundary;
           })

@@ -1,0 +1,152 @@
+/* Each call with each of its allocations refused in turn, by a heap of the test's own: a refused call
+ * is out of memory, changes nothing and leaves nothing allocated. */
+#include <stdbool.h>
+#include <stdio.h>
+#include <stdlib.h>
+#include <string.h>
+
+#include "textwrap.h"
+
+/* How many allocations are still allowed, and how many blocks there are. */
+static long allowed, live;
+
+struct block {
+    bool ok;
+    void *at;
+};
+
+static _Alignas(max_align_t) char nothing[sizeof(max_align_t)];
+
+struct block rattle_alloc(size_t size, size_t align) {
+    if (allowed-- <= 0) return (struct block){false, nothing};
+    live++;
+    return (struct block){true, malloc(size > 0 ? size : align)};
+}
+
+struct block rattle_realloc(void *block, size_t kept, size_t size, size_t align) {
+    (void)kept;
+    if (allowed-- <= 0) return (struct block){false, nothing};
+    return (struct block){true, realloc(block, size > 0 ? size : align)};
+}
+
+void rattle_dealloc(void *block) {
+    live--;
+    free(block);
+}
+
+/* What a call may write to. */
+struct lent {
+    uint8_t room[256];
+    textwrap_line lines[16];
+    textwrap_layout layout;
+    uint8_t text[9];
+    size_t len, count;
+};
+
+static const uint8_t *bytes(const char *text) { return (const uint8_t *)text; }
+
+static const char TEXT[] = "To be, or not to be: that is the question\nfoo \xc3\xa9 bar";
+
+static textwrap_options options_of(uint32_t optimal_fit, int indents) {
+    textwrap_options options = textwrap_options_new(10);
+    options.optimal_fit = optimal_fit;
+    if (indents) options.initial_indent = (textwrap_text){bytes("* "), 2};
+    return options;
+}
+
+static uint32_t filled(struct lent *lent, uint32_t optimal_fit, int indents) {
+    textwrap_options o = options_of(optimal_fit, indents);
+    return textwrap_fill(bytes(TEXT), strlen(TEXT), &o, lent->room, 256, &lent->len);
+}
+
+static uint32_t by_first_fit(struct lent *lent) { return filled(lent, 0, 0); }
+static uint32_t by_first_fit_indented(struct lent *lent) { return filled(lent, 0, 1); }
+static uint32_t by_optimal_fit(struct lent *lent) { return filled(lent, 1, 0); }
+static uint32_t by_optimal_fit_indented(struct lent *lent) { return filled(lent, 1, 1); }
+
+static uint32_t wrapped(struct lent *lent) {
+    textwrap_options o = options_of(1, 1);
+    return textwrap_wrap(bytes(TEXT), strlen(TEXT), &o, lent->lines, 16, &lent->count, lent->room,
+                         256, &lent->len);
+}
+
+static uint32_t in_columns(struct lent *lent) {
+    textwrap_options o = options_of(1, 0);
+    textwrap_text gap = {bytes("|"), 1};
+    textwrap_gaps gaps = {gap, gap, gap};
+    o.width = 30;
+    return textwrap_wrap_columns(bytes(TEXT), strlen(TEXT), 2, &o, &gaps, lent->lines, 16,
+                                 &lent->count, lent->room, 256, &lent->len);
+}
+
+static uint32_t refilled(struct lent *lent) {
+    textwrap_options o = options_of(1, 0);
+    return textwrap_refill(bytes("* foo\n  bar\n"), 12, &o, lent->room, 256, &lent->len);
+}
+
+static uint32_t unfilled(struct lent *lent) {
+    return textwrap_unfill(bytes("* foo\n  bar\n"), 12, lent->room, 256, &lent->len, &lent->layout);
+}
+
+static uint32_t indented(struct lent *lent) {
+    return textwrap_indent(bytes("a\nb\n"), 4, bytes("> "), 2, lent->room, 256, &lent->len);
+}
+
+static uint32_t dedented(struct lent *lent) {
+    return textwrap_dedent(bytes("  a\n  b\n"), 8, lent->room, 256, &lent->len);
+}
+
+static uint32_t in_place(struct lent *lent) { return textwrap_fill_inplace(lent->text, 8, 5); }
+
+static uint32_t measured(struct lent *lent) {
+    return textwrap_display_width(bytes(TEXT), strlen(TEXT), &lent->len);
+}
+
+static const struct {
+    const char *name;
+    uint32_t (*call)(struct lent *);
+} CALLS[] = {
+    {"fill by first fit", by_first_fit},
+    {"fill by first fit, with an indent", by_first_fit_indented},
+    {"fill by optimal fit", by_optimal_fit},
+    {"fill by optimal fit, with an indent", by_optimal_fit_indented},
+    {"wrap", wrapped},
+    {"wrap_columns", in_columns},
+    {"refill", refilled},
+    {"unfill", unfilled},
+    {"indent", indented},
+    {"dedent", dedented},
+    {"fill_inplace", in_place},
+    {"display_width", measured},
+};
+
+/* How many allocations a call makes, or -1 at a fault. */
+static long refusals_of(uint32_t (*call)(struct lent *)) {
+    for (long refusals = 0; refusals < 1000; refusals++) {
+        struct lent lent, old;
+        memset(&lent, 7, sizeof lent);
+        memcpy(lent.text, "foo  bar", 9);
+        memcpy(&old, &lent, sizeof lent);
+        allowed = refusals;
+        live = 0;
+        uint32_t status = call(&lent);
+        if (live != 0) return -1;
+        if (status == TEXTWRAP_DONE) return refusals;
+        if (status != TEXTWRAP_OUT_OF_MEMORY || memcmp(&lent, &old, sizeof lent) != 0) return -1;
+    }
+    return -1;
+}
+
+int main(void) {
+    int failures = 0;
+    for (size_t i = 0; i < sizeof CALLS / sizeof CALLS[0]; i++) {
+        long refusals = refusals_of(CALLS[i].call);
+        if (refusals < 0) {
+            printf("%s: FAULT\n", CALLS[i].name);
+            failures++;
+        } else {
+            printf("%s: %ld allocations, each refused in turn\n", CALLS[i].name, refusals);
+        }
+    }
+    return failures != 0;
+}

@@ -1,0 +1,180 @@
+/* Each declaration of textwrap.h on a worked example, and each option with an answer that it alone
+ * gives. */
+#include <stdio.h>
+#include <stdlib.h>
+#include <string.h>
+
+#include "textwrap.h"
+
+static int failures = 0;
+
+#define CHECK(condition)                                                       \
+    do {                                                                       \
+        if (!(condition)) {                                                    \
+            printf("%s:%d: %s\n", __FILE__, __LINE__, #condition);             \
+            failures++;                                                        \
+        }                                                                      \
+    } while (0)
+
+static const uint8_t *bytes(const char *text) { return (const uint8_t *)text; }
+
+static textwrap_text text_of(const char *text) {
+    return (textwrap_text){bytes(text), strlen(text)};
+}
+
+/* Whether the text, filled by these options, is this. */
+static int is_filled(textwrap_options options, const char *text, const char *filled) {
+    uint8_t room[256];
+    size_t len = 0;
+    uint32_t status =
+        textwrap_fill(bytes(text), strlen(text), &options, room, sizeof room, &len);
+    return status == TEXTWRAP_DONE && len == strlen(filled) && memcmp(room, filled, len) == 0;
+}
+
+static const char HAMLET[] = "To be, or not to be: that is the question";
+
+static void each_option_has_its_effect(void) {
+    CHECK(is_filled(textwrap_options_new(10), HAMLET, "To be,\nor not to\nbe: that\nis the\nquestion"));
+    textwrap_options o = textwrap_options_new(10);
+    o.optimal_fit = 0;
+    CHECK(is_filled(o, HAMLET, "To be, or\nnot to be:\nthat is\nthe\nquestion"));
+    o = textwrap_options_new(10);
+    o.nline_penalty = 1000000;
+    CHECK(is_filled(o, HAMLET, HAMLET));
+    o = textwrap_options_new(10);
+    o.overflow_penalty = 0;
+    CHECK(is_filled(o, HAMLET, HAMLET));
+    CHECK(is_filled(textwrap_options_new(11), "foo bar baz a", "foo bar\nbaz a"));
+    o = textwrap_options_new(11);
+    o.short_last_line_penalty = 0;
+    CHECK(is_filled(o, "foo bar baz a", "foo bar baz\na"));
+    o = textwrap_options_new(11);
+    o.short_last_line_fraction = 20;
+    CHECK(is_filled(o, "foo bar baz a", "foo bar baz\na"));
+    CHECK(is_filled(textwrap_options_new(5), "foo-bar", "foo-\nbar"));
+    o = textwrap_options_new(5);
+    o.split_at_hyphens = 0;
+    CHECK(is_filled(o, "foo-bar", "foo-b\nar"));
+    CHECK(is_filled(textwrap_options_new(5), "foobarbaz", "fooba\nrbaz"));
+    o = textwrap_options_new(5);
+    o.break_words = 0;
+    CHECK(is_filled(o, "foobarbaz", "foobarbaz"));
+    o = textwrap_options_new(5);
+    o.preserve_trailing_space = 1;
+    CHECK(is_filled(o, "foo bar", "foo \nbar"));
+    o = textwrap_options_new(5);
+    o.crlf = 1;
+    CHECK(is_filled(o, "foo bar\r\nbaz", "foo\r\nbar\r\nbaz"));
+    o = textwrap_options_new(9);
+    o.initial_indent = text_of("* ");
+    o.subsequent_indent = text_of("    ");
+    CHECK(is_filled(o, "foo bar\nbaz qu", "* foo bar\n    baz qu"));
+    o.even_paragraphs = 1;
+    CHECK(is_filled(o, "foo bar\nbaz qu", "* foo bar\n    baz\n    qu"));
+}
+
+static void options_without_a_meaning_are_refused(void) {
+    textwrap_options refused[5];
+    for (int i = 0; i < 5; i++) refused[i] = textwrap_options_new(10);
+    refused[0].version = 2;
+    refused[1].optimal_fit = 2;
+    refused[2].even_paragraphs = 7;
+    refused[3].reserved = 1;
+    refused[4].reserved_sizes[3] = 1;
+    for (int i = 0; i < 5; i++) {
+        uint8_t room[4] = "...";
+        size_t len = 5;
+        CHECK(textwrap_fill(bytes("a"), 1, &refused[i], room, 4, &len) == TEXTWRAP_UNKNOWN_OPTIONS);
+        CHECK(len == 5 && memcmp(room, "...", 4) == 0);
+    }
+}
+
+static void columns_are_counted(void) {
+    size_t columns = 7;
+    CHECK(textwrap_display_width(bytes("Caf\xc3\xa9"), 5, &columns) == TEXTWRAP_DONE && columns == 4);
+    CHECK(textwrap_display_width(bytes("Caf\xe9"), 4, &columns) == TEXTWRAP_NOT_UTF8 && columns == 4);
+}
+
+static void room_that_is_too_small_is_told(void) {
+    textwrap_options o = textwrap_options_new(10);
+    uint8_t room[11];
+    size_t len = 0;
+    CHECK(textwrap_fill(bytes("foo bar baz"), 11, &o, room, 10, &len) == TEXTWRAP_TOO_SMALL);
+    CHECK(len == 11);
+    CHECK(textwrap_fill(bytes("foo bar baz"), 11, &o, room, 11, &len) == TEXTWRAP_DONE);
+    CHECK(memcmp(room, "foo bar\nbaz", 11) == 0);
+    CHECK(textwrap_fill(bytes(""), 0, &o, room, 0, &len) == TEXTWRAP_DONE && len == 0);
+}
+
+static void lines_are_places(void) {
+    textwrap_options o = textwrap_options_new(5);
+    textwrap_line lines[2];
+    size_t count = 0, len = 7;
+    uint8_t room[8];
+    CHECK(textwrap_wrap(bytes("foo  bar"), 8, &o, lines, 2, &count, room, 0, &len) == TEXTWRAP_DONE);
+    CHECK(count == 2 && len == 0);
+    CHECK(lines[0].offset == 0 && lines[0].len == 3 && lines[0].is_built == 0);
+    CHECK(lines[1].offset == 5 && lines[1].len == 3 && lines[1].is_built == 0);
+    o.subsequent_indent = text_of("> ");
+    CHECK(textwrap_wrap(bytes("foo  bar"), 8, &o, lines, 2, &count, room, 0, &len)
+          == TEXTWRAP_TOO_SMALL);
+    CHECK(count == 2 && len == 5);
+    CHECK(textwrap_wrap(bytes("foo  bar"), 8, &o, lines, 2, &count, room, 8, &len) == TEXTWRAP_DONE);
+    CHECK(lines[1].offset == 0 && lines[1].len == 5 && lines[1].is_built == 1);
+    CHECK(memcmp(room, "> bar", 5) == 0);
+}
+
+static void rows_are_written(void) {
+    textwrap_options o = textwrap_options_new(24);
+    textwrap_gaps gaps = {text_of("|"), text_of("|"), text_of("|")};
+    textwrap_line rows[1];
+    size_t count = 0, len = 0;
+    uint8_t room[24];
+    const char *text = "Foo Bar Baz Quux";
+    CHECK(textwrap_wrap_columns(bytes(text), 16, 0, &o, &gaps, rows, 1, &count, room, 24, &len)
+          == TEXTWRAP_UNKNOWN_OPTIONS);
+    CHECK(textwrap_wrap_columns(bytes(text), 16, 4, &o, &gaps, rows, 1, &count, room, 24, &len)
+          == TEXTWRAP_DONE);
+    CHECK(count == 1 && len == 24 && memcmp(room, "|Foo |Bar |Baz |Quux   |", 24) == 0);
+    CHECK(rows[0].offset == 0 && rows[0].len == 24 && rows[0].is_built == 1);
+}
+
+static void filled_texts_are_unfilled_and_refilled(void) {
+    const char *text = "* foo\n  bar\n";
+    uint8_t room[32];
+    size_t len = 0;
+    textwrap_layout layout;
+    CHECK(textwrap_unfill(bytes(text), 12, room, sizeof room, &len, &layout) == TEXTWRAP_DONE);
+    CHECK(len == 12 && memcmp(room, "foo bar\n*   ", 12) == 0);
+    CHECK(layout.width == 5 && layout.crlf == 0);
+    CHECK(layout.initial_indent_len == 2 && layout.subsequent_indent_len == 2);
+    textwrap_options o = textwrap_options_new(20);
+    CHECK(textwrap_refill(bytes(text), 12, &o, room, sizeof room, &len) == TEXTWRAP_DONE);
+    CHECK(len == 10 && memcmp(room, "* foo bar\n", 10) == 0);
+}
+
+static void texts_are_indented_dedented_and_filled_in_place(void) {
+    uint8_t room[32];
+    size_t len = 0;
+    CHECK(textwrap_indent(bytes("a\n\nb\n"), 5, bytes("> "), 2, room, sizeof room, &len)
+          == TEXTWRAP_DONE);
+    CHECK(len == 10 && memcmp(room, "> a\n>\n> b\n", 10) == 0);
+    CHECK(textwrap_dedent(bytes("  a\n    b\n"), 10, room, sizeof room, &len) == TEXTWRAP_DONE);
+    CHECK(len == 6 && memcmp(room, "a\n  b\n", 6) == 0);
+    uint8_t text[] = "foo  bar";
+    CHECK(textwrap_fill_inplace(text, 8, 5) == TEXTWRAP_DONE);
+    CHECK(memcmp(text, "foo \nbar", 8) == 0);
+}
+
+int main(void) {
+    each_option_has_its_effect();
+    options_without_a_meaning_are_refused();
+    columns_are_counted();
+    room_that_is_too_small_is_told();
+    lines_are_places();
+    rows_are_written();
+    filled_texts_are_unfilled_and_refilled();
+    texts_are_indented_dedented_and_filled_in_place();
+    if (failures == 0) printf("C: ok\n");
+    return failures != 0;
+}

@@ -1,0 +1,153 @@
+/* textwrap: word wrapping and paragraph filling, proved.
+ *
+ * The library is libtextwrap_c.a, written in Rattle and proved. This header is written by hand; the
+ * tests beside it use each declaration once.
+ *
+ * A text is a pointer and a length in bytes, in UTF-8. A pointer is never null, also where the length
+ * is 0. What a call gives is written into room that the caller lends and owns; the library keeps no
+ * pointer and leaves nothing allocated behind. Room that is lent overlaps nothing else that is handed
+ * to the same call. A call that does not return TEXTWRAP_DONE leaves the room as it was; where that
+ * is too small, TEXTWRAP_TOO_SMALL tells the length that suffices, for a second call.
+ *
+ * The library allocates by three functions, rattle_alloc, rattle_realloc and rattle_dealloc; heap.c
+ * has them over malloc.
+ */
+#ifndef TEXTWRAP_H
+#define TEXTWRAP_H
+
+#include <stddef.h>
+#include <stdint.h>
+
+#ifdef __cplusplus
+extern "C" {
+#endif
+
+/* What a call returns. */
+enum textwrap_status {
+    TEXTWRAP_DONE = 0,            /* the answer is written */
+    TEXTWRAP_NOT_UTF8 = 1,        /* a text that was given is not UTF-8 */
+    TEXTWRAP_OUT_OF_MEMORY = 2,   /* memory ran out */
+    TEXTWRAP_TOO_SMALL = 3,       /* the room is too small, and what suffices is told */
+    TEXTWRAP_UNKNOWN_OPTIONS = 4, /* another version, or a number that means nothing */
+};
+
+/* A text. */
+typedef struct {
+    const uint8_t *at; /* never null */
+    size_t len;        /* in bytes */
+} textwrap_text;
+
+/* The version of textwrap_options. */
+#define TEXTWRAP_VERSION 1u
+
+/* How a text is wrapped. Take it from textwrap_options_new and change what has to differ, so that
+ * later options have their defaults. A number that says yes or no is 1 or 0. */
+typedef struct {
+    uint32_t version;                 /* TEXTWRAP_VERSION */
+    uint32_t optimal_fit;             /* lines of the least cost, in place of first fit */
+    uint32_t split_at_hyphens;        /* words may end after a hyphen between letters or digits */
+    uint32_t break_words;             /* words too wide for a line are broken */
+    uint32_t preserve_trailing_space; /* blanks at line ends are kept */
+    uint32_t even_paragraphs;         /* first lines of later paragraphs are no wider than others */
+    uint32_t crlf;                    /* CRLF ends paragraphs and joins lines, in place of LF */
+    uint32_t reserved;                /* 0 */
+    size_t width;                     /* the columns of a line */
+    textwrap_text initial_indent;     /* what is printed before the first line */
+    textwrap_text subsequent_indent;  /* what is printed before each later line */
+    /* The penalties, for lines of the least cost. */
+    size_t nline_penalty;            /* for each line */
+    size_t overflow_penalty;         /* for each column past the width */
+    size_t short_last_line_fraction; /* a last word narrower than width / this is short */
+    size_t short_last_line_penalty;  /* for a short last line of one word */
+    size_t hyphen_penalty;           /* for a line that ends in an added hyphen */
+    size_t reserved_sizes[4];        /* 0 */
+} textwrap_options;
+
+/* The library's defaults at a width: lines of the least cost, without indents. */
+static inline textwrap_options textwrap_options_new(size_t width) {
+    static const uint8_t none[1] = {0};
+    textwrap_options options = {0};
+    options.version = TEXTWRAP_VERSION;
+    options.optimal_fit = 1;
+    options.split_at_hyphens = 1;
+    options.break_words = 1;
+    options.width = width;
+    options.initial_indent.at = none;
+    options.subsequent_indent.at = none;
+    options.nline_penalty = 1000;
+    options.overflow_penalty = 2500;
+    options.short_last_line_fraction = 4;
+    options.short_last_line_penalty = 25;
+    options.hyphen_penalty = 25;
+    return options;
+}
+
+/* Writes the columns that a text takes in a terminal, without its escape sequences: 4 for "Café".
+ * Allocates nothing. DONE or NOT_UTF8. */
+uint32_t textwrap_display_width(const uint8_t *text, size_t text_len, size_t *columns);
+
+/* Writes the filled text to the front of the room, and its length. At 10 columns "foo bar baz" is
+ * "foo bar\nbaz". */
+uint32_t textwrap_fill(const uint8_t *text, size_t text_len, const textwrap_options *options,
+                       uint8_t *room, size_t room_len, size_t *len);
+
+/* Where a line stands. */
+typedef struct {
+    size_t offset;   /* the bytes before it, in the text or in the room */
+    size_t len;      /* its bytes */
+    size_t is_built; /* 1 where it stands in the room, and 0 where it is a part of the text */
+} textwrap_line;
+
+/* Writes where the lines of the text stand, and how many they are. Lines with an indent are written
+ * to the room, one after another, and `len` is that of all of them; without indents no room is
+ * needed. TOO_SMALL tells both `count` and `len`. */
+uint32_t textwrap_wrap(const uint8_t *text, size_t text_len, const textwrap_options *options,
+                       textwrap_line *lines, size_t lines_len, size_t *count, uint8_t *room,
+                       size_t room_len, size_t *len);
+
+/* What stands around the cells of a row. */
+typedef struct {
+    textwrap_text left;   /* before the first cell */
+    textwrap_text middle; /* between each two cells */
+    textwrap_text right;  /* after the last cell */
+} textwrap_gaps;
+
+/* Wraps the text into so many columns beside one another, at least 1, and writes the rows to the
+ * room and where they stand, as textwrap_wrap does. The width of the options is that of a row. */
+uint32_t textwrap_wrap_columns(const uint8_t *text, size_t text_len, size_t columns,
+                               const textwrap_options *options, const textwrap_gaps *gaps,
+                               textwrap_line *rows, size_t rows_len, size_t *count,
+                               uint8_t *room, size_t room_len, size_t *len);
+
+/* Fills a filled text again, with the indents that it has; those of the options are not used. */
+uint32_t textwrap_refill(const uint8_t *text, size_t text_len, const textwrap_options *options,
+                         uint8_t *room, size_t room_len, size_t *len);
+
+/* How a text seems to have been filled. */
+typedef struct {
+    size_t width;                 /* the columns of its widest line */
+    size_t crlf;                  /* 1 where lines end in CRLF, and else 0 */
+    size_t initial_indent_len;    /* the bytes of the initial indent */
+    size_t subsequent_indent_len; /* the bytes of the subsequent indent */
+} textwrap_layout;
+
+/* Joins the lines of a filled text. The room gets the joined text, and after it the initial indent
+ * and the subsequent one; `len` is that of all three. */
+uint32_t textwrap_unfill(const uint8_t *text, size_t text_len, uint8_t *room, size_t room_len,
+                         size_t *len, textwrap_layout *layout);
+
+/* Writes the text with a prefix before each line. */
+uint32_t textwrap_indent(const uint8_t *text, size_t text_len, const uint8_t *prefix,
+                         size_t prefix_len, uint8_t *room, size_t room_len, size_t *len);
+
+/* Writes the text without the whitespace that all its lines begin with. */
+uint32_t textwrap_dedent(const uint8_t *text, size_t text_len, uint8_t *room, size_t room_len,
+                         size_t *len);
+
+/* Fills a text in its own place: blanks of it become line feeds. */
+uint32_t textwrap_fill_inplace(uint8_t *text, size_t text_len, size_t width);
+
+#ifdef __cplusplus
+}
+#endif
+#endif

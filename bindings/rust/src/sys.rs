@@ -1,0 +1,142 @@
+//! The exports of libtextwrap_c.a, as `bindings/c/textwrap.h` has them. Nothing compares the two but
+//! the tests of each.
+
+pub const DONE: u32 = 0;
+pub const OUT_OF_MEMORY: u32 = 2;
+pub const TOO_SMALL: u32 = 3;
+pub const VERSION: u32 = 1;
+
+#[repr(C)]
+#[derive(Clone, Copy)]
+pub struct Text {
+    at: *const u8,
+    len: usize,
+}
+
+impl From<&str> for Text {
+    fn from(text: &str) -> Text {
+        Text { at: text.as_ptr(), len: text.len() }
+    }
+}
+
+#[repr(C)]
+pub struct Options {
+    pub version: u32,
+    pub optimal_fit: u32,
+    pub split_at_hyphens: u32,
+    pub break_words: u32,
+    pub preserve_trailing_space: u32,
+    pub even_paragraphs: u32,
+    pub crlf: u32,
+    pub reserved: u32,
+    pub width: usize,
+    pub initial_indent: Text,
+    pub subsequent_indent: Text,
+    pub nline_penalty: usize,
+    pub overflow_penalty: usize,
+    pub short_last_line_fraction: usize,
+    pub short_last_line_penalty: usize,
+    pub hyphen_penalty: usize,
+    pub reserved_sizes: [usize; 4],
+}
+
+#[repr(C)]
+#[derive(Clone, Copy, Default)]
+pub struct Line {
+    pub offset: usize,
+    pub len: usize,
+    pub is_built: usize,
+}
+
+#[repr(C)]
+pub struct Gaps {
+    pub left: Text,
+    pub middle: Text,
+    pub right: Text,
+}
+
+#[repr(C)]
+#[derive(Default)]
+pub struct Layout {
+    pub width: usize,
+    pub crlf: usize,
+    pub initial_indent_len: usize,
+    pub subsequent_indent_len: usize,
+}
+
+extern "C" {
+    pub fn textwrap_display_width(text: *const u8, text_len: usize, columns: *mut usize) -> u32;
+
+    pub fn textwrap_fill(
+        text: *const u8,
+        text_len: usize,
+        options: *const Options,
+        room: *mut u8,
+        room_len: usize,
+        len: *mut usize,
+    ) -> u32;
+
+    pub fn textwrap_wrap(
+        text: *const u8,
+        text_len: usize,
+        options: *const Options,
+        lines: *mut Line,
+        lines_len: usize,
+        count: *mut usize,
+        room: *mut u8,
+        room_len: usize,
+        len: *mut usize,
+    ) -> u32;
+
+    pub fn textwrap_wrap_columns(
+        text: *const u8,
+        text_len: usize,
+        columns: usize,
+        options: *const Options,
+        gaps: *const Gaps,
+        rows: *mut Line,
+        rows_len: usize,
+        count: *mut usize,
+        room: *mut u8,
+        room_len: usize,
+        len: *mut usize,
+    ) -> u32;
+
+    pub fn textwrap_refill(
+        text: *const u8,
+        text_len: usize,
+        options: *const Options,
+        room: *mut u8,
+        room_len: usize,
+        len: *mut usize,
+    ) -> u32;
+
+    pub fn textwrap_unfill(
+        text: *const u8,
+        text_len: usize,
+        room: *mut u8,
+        room_len: usize,
+        len: *mut usize,
+        layout: *mut Layout,
+    ) -> u32;
+
+    pub fn textwrap_indent(
+        text: *const u8,
+        text_len: usize,
+        prefix: *const u8,
+        prefix_len: usize,
+        room: *mut u8,
+        room_len: usize,
+        len: *mut usize,
+    ) -> u32;
+
+    pub fn textwrap_dedent(
+        text: *const u8,
+        text_len: usize,
+        room: *mut u8,
+        room_len: usize,
+        len: *mut usize,
+    ) -> u32;
+
+    pub fn textwrap_fill_inplace(text: *mut u8, text_len: usize, width: usize) -> u32;
+}

@@ -333,7 +333,7 @@ fn count_refused_runs(rt: &(impl Abort + AllocGlobal), algorithm: Algorithm) -> 
 /// Where memory runs out at any of the allocations of a run, nothing is written.
 #[test]
 fn a_run_out_of_memory_writes_nothing(rt: HostRuntime) {
-    for (algorithm, refusals) in [(Algorithm::FirstFit, 5), (Algorithm::OptimalFit, 24)] {
+    for (algorithm, refusals) in [(Algorithm::FirstFit, 5), (Algorithm::OptimalFit, 12)] {
         let refused = count_refused_runs(&rt, algorithm);
         assert_eq!(rt; refused, refusals, "{algorithm:?}");
     }

@@ -2,100 +2,106 @@
 //! of `textwrap_texts` and `textwrap_words` share.
 #![tactic(auto)]
 
-ghost use Rattle.std.specs.Prelude.{IfOk};
+ghost use Rattle.std.specs.Prelude.{◌≡◌, ◌≤◌, ◌==◌, [], ◌∷◌, length, IfOk, OnOk, All, codes, false, if◌then◌else◌};
+ghost use Rattle.std.specs.List.Sorted.{IsNonDecreasing};
+ghost use Rattle.std.specs.Str.{bytes_eq};
 ghost use Rattle.textwrap.specs.Cuts.{AreCuts, AreInnerCuts};
 ghost use Rattle.textwrap.specs.LineEnds.{AreEnds};
+ghost use Rattle.textwrap_given.specs.Given.{only_of, only_for, wide_line};
 
 use std::alloc::{AllocError, Global};
 use std::borrow::CowStr;
 use textwrap::words::Word;
 
-/// Those of the wanted cuts that the text may have, one after another.
-fn cuts_at(alloc: Global, text: &str, wanted: &[usize]) -> Result<Vec<usize>, AllocError>
-    ensures inner { IfOk result (λ cuts. AreInnerCuts text.now cuts.items) }
-    ensures cuts { IfOk result (λ cuts. AreCuts text.now cuts.items) }
+/// These cuts of this text, and none of another.
+fn cuts_of(alloc: Global, text: &str, cuts: &[usize], line: &str) -> Result<Vec<usize>, AllocError>
+    requires { AreInnerCuts text.now cuts.now }
+    ensures cuts { IfOk result (λ found. found.items ≡ only_of text.now cuts.now line.now) }
+    ensures inner { IfOk result (λ found. AreInnerCuts line.now found.items) }
 {
-    let mut cuts = Vec::new(alloc);
-    let mut last = 0;
-    for cut in wanted {
-        if *cut > last && *cut < text.len() && text.is_char_boundary(*cut) {
-            cuts.push(*cut)?;
-            last = *cut;
-        }
+    if line == text {
+        return Vec::from_slice(alloc, cuts);
     }
-    Ok(cuts)
+    Ok(Vec::new(alloc))
 }
 
-/// Those of the wanted ends that lines of the words may have, one after another.
-pub fn ends_at(
+/// These ends of so many words, and none of fewer or more.
+fn ends_of(
     alloc: Global,
+    count: usize,
+    ends: &[usize],
     words: &[Word<'_>],
-    wanted: &[usize],
 ) -> Result<Vec<usize>, AllocError>
-    ensures { IfOk result (λ ends. AreEnds words.now ends.items) }
+    requires in_order { IsNonDecreasing ends.now }
+    requires within { All (λ end. end ≤ count) ends.now }
+    ensures ends { IfOk result (λ found. found.items ≡ only_for count ends.now words.now) }
+    ensures are { IfOk result (λ found. AreEnds words.now found.items) }
 {
-    let mut ends = Vec::new(alloc);
-    let mut last = 0;
-    for end in wanted {
-        if *end >= last && *end <= words.len() {
-            ends.push(*end)?;
-            last = *end;
-        }
+    if words.len() == count {
+        return Vec::from_slice(alloc, ends);
     }
-    Ok(ends)
+    Ok(Vec::new(alloc))
 }
 
 /// Cuts `foobar` in its middle, and no other line.
 pub fn cut_foobar(alloc: Global, line: &str) -> Result<Vec<usize>, AllocError>
-    ensures { IfOk result (λ cuts. AreInnerCuts line.now cuts.items) }
+    ensures cuts { IfOk result (λ cuts. cuts.items ≡ only_of (codes "foobar") (3 ∷ []) line.now) }
+    ensures inner { IfOk result (λ cuts. AreInnerCuts line.now cuts.items) }
 {
-    let wanted: &[usize] = if line == "foobar" { &[3] } else { &[] };
-    cuts_at(alloc, line, wanted)
+    cuts_of(alloc, "foobar", &[3], line)
 }
 
 /// Cuts no line.
 pub fn cut_nowhere(alloc: Global, line: &str) -> Result<Vec<usize>, AllocError>
-    ensures { IfOk result (λ cuts. AreInnerCuts line.now cuts.items) }
+    ensures cuts { IfOk result (λ cuts. cuts.items ≡ []) }
+    ensures inner { IfOk result (λ cuts. AreInnerCuts line.now cuts.items) }
 {
-    cuts_at(alloc, line, &[])
+    cuts_of(alloc, line, &[], line)
 }
 
-/// Cuts a line of up to five bytes between each two characters.
+/// Cuts `abcde` and `안 b` between each two characters, and no other line.
 pub fn cut_everywhere(alloc: Global, line: &str) -> Result<Vec<usize>, AllocError>
-    ensures { IfOk result (λ cuts. AreInnerCuts line.now cuts.items) }
+    ensures cuts { IfOk result (λ cuts. cuts.items ≡ (if bytes_eq line.now wide_line
+        then 3 ∷ 4 ∷ [] else only_of (codes "abcde") (1 ∷ 2 ∷ 3 ∷ 4 ∷ []) line.now)) }
+    ensures inner { IfOk result (λ cuts. AreInnerCuts line.now cuts.items) }
 {
-    cuts_at(alloc, line, &[1, 2, 3, 4])
+    if line == "안 b" {
+        return cuts_of(alloc, "안 b", &[3, 4], line);
+    }
+    cuts_of(alloc, "abcde", &[1, 2, 3, 4], line)
 }
 
 /// Refuses `baz`, and cuts no other line.
 pub fn refuse_line(alloc: Global, line: &str) -> Result<Vec<usize>, AllocError>
-    ensures { IfOk result (λ cuts. AreInnerCuts line.now cuts.items) }
+    ensures cuts { IfOk result (λ cuts. cuts.items ≡ []) }
+    ensures inner { IfOk result (λ cuts. AreInnerCuts line.now cuts.items) }
+    ensures refused { OnOk result (bytes_eq line.now (codes "baz") ≡ false) }
 {
     if line == "baz" {
         return Err(AllocError);
     }
-    cuts_at(alloc, line, &[])
+    cut_nowhere(alloc, line)
 }
 
 /// Splits `foobar` and `fo-bar` in the middle, and no other word.
 pub fn split_in_middle(alloc: Global, word: &str) -> Result<Vec<usize>, AllocError>
-    ensures { IfOk result (λ points. AreCuts word.now points.items) }
+    ensures points { IfOk result (λ points. points.items ≡ (if bytes_eq word.now (codes "fo-bar")
+        then 3 ∷ [] else only_of (codes "foobar") (3 ∷ []) word.now)) }
+    ensures cuts { IfOk result (λ points. AreCuts word.now points.items) }
 {
-    let wanted: &[usize] = match word {
-        "foobar" | "fo-bar" => &[3],
-        _ => &[],
-    };
-    cuts_at(alloc, word, wanted)
+    if word == "fo-bar" {
+        return cuts_of(alloc, "fo-bar", &[3], word);
+    }
+    cut_foobar(alloc, word)
 }
 
 /// Refuses `baz`, and splits no other word.
 pub fn refuse_word(alloc: Global, word: &str) -> Result<Vec<usize>, AllocError>
-    ensures { IfOk result (λ points. AreCuts word.now points.items) }
+    ensures points { IfOk result (λ points. points.items ≡ []) }
+    ensures cuts { IfOk result (λ points. AreCuts word.now points.items) }
+    ensures refused { OnOk result (bytes_eq word.now (codes "baz") ≡ false) }
 {
-    if word == "baz" {
-        return Err(AllocError);
-    }
-    cuts_at(alloc, word, &[])
+    refuse_line(alloc, word)
 }
 
 /// Ends lines of six words after the first, the third and the last of them.
@@ -104,20 +110,22 @@ pub fn end_all(
     words: &[Word<'_>],
     _line_widths: &[usize],
 ) -> Result<Vec<usize>, AllocError>
-    ensures { IfOk result (λ ends. AreEnds words.now ends.items) }
+    ensures ends { IfOk result (λ ends. ends.items ≡ only_for 6 (1 ∷ 3 ∷ 6 ∷ []) words.now) }
+    ensures are { IfOk result (λ ends. AreEnds words.now ends.items) }
 {
-    ends_at(alloc, words, &[1, 3, 6])
+    ends_of(alloc, 6, &[1, 3, 6], words)
 }
 
-/// Ends lines after the first and the third word; later words are in no line.
+/// Ends lines of six words after the first and the third; later words are in no line.
 pub fn end_early(
     alloc: Global,
     words: &[Word<'_>],
     _line_widths: &[usize],
 ) -> Result<Vec<usize>, AllocError>
-    ensures { IfOk result (λ ends. AreEnds words.now ends.items) }
+    ensures ends { IfOk result (λ ends. ends.items ≡ only_for 6 (1 ∷ 3 ∷ []) words.now) }
+    ensures are { IfOk result (λ ends. AreEnds words.now ends.items) }
 {
-    ends_at(alloc, words, &[1, 3])
+    ends_of(alloc, 6, &[1, 3], words)
 }
 
 /// Gives no line.
@@ -126,9 +134,10 @@ pub fn end_nowhere(
     words: &[Word<'_>],
     _line_widths: &[usize],
 ) -> Result<Vec<usize>, AllocError>
-    ensures { IfOk result (λ ends. AreEnds words.now ends.items) }
+    ensures ends { IfOk result (λ ends. ends.items ≡ []) }
+    ensures are { IfOk result (λ ends. AreEnds words.now ends.items) }
 {
-    ends_at(alloc, words, &[])
+    ends_of(alloc, words.len(), &[], words)
 }
 
 /// Ends two lines after the first of six words, so that the second line is empty.
@@ -137,9 +146,10 @@ pub fn end_twice(
     words: &[Word<'_>],
     _line_widths: &[usize],
 ) -> Result<Vec<usize>, AllocError>
-    ensures { IfOk result (λ ends. AreEnds words.now ends.items) }
+    ensures ends { IfOk result (λ ends. ends.items ≡ only_for 6 (1 ∷ 1 ∷ 6 ∷ []) words.now) }
+    ensures are { IfOk result (λ ends. AreEnds words.now ends.items) }
 {
-    ends_at(alloc, words, &[1, 1, 6])
+    ends_of(alloc, 6, &[1, 1, 6], words)
 }
 
 /// Refuses words that begin with `baz`, and gives all others one line.
@@ -148,12 +158,13 @@ pub fn refuse_words(
     words: &[Word<'_>],
     _line_widths: &[usize],
 ) -> Result<Vec<usize>, AllocError>
-    ensures { IfOk result (λ ends. AreEnds words.now ends.items) }
+    ensures ends { IfOk result (λ ends. ends.items ≡ length words.now ∷ []) }
+    ensures are { IfOk result (λ ends. AreEnds words.now ends.items) }
 {
     if words.first().is_some_and(|word| word.word == "baz") {
         return Err(AllocError);
     }
-    ends_at(alloc, words, &[words.len()])
+    ends_of(alloc, words.len(), &[words.len()], words)
 }
 
 /// Whether the lines have these texts, each line a part of the text that was wrapped.

@@ -8,7 +8,6 @@ use std::test::Fail;
 use textwrap::words::Word;
 use textwrap::wrap_algorithms::{LineEnds, Penalties};
 use textwrap::{WrapAlgorithm, WrapError};
-use textwrap_given::ends_at;
 
 const MAX: usize = usize::MAX;
 
@@ -116,7 +115,15 @@ fn widths_as_ends(
     if words.len() == 1 {
         return Err(AllocError);
     }
-    ends_at(alloc, words, line_widths)
+    let mut ends = Vec::new(alloc);
+    let mut last = 0;
+    for end in line_widths {
+        if *end >= last && *end <= words.len() {
+            ends.push(*end)?;
+            last = *end;
+        }
+    }
+    Ok(ends)
 }
 
 /// A function of the caller gets the words and the line widths, and its lines lie between its ends;

@@ -1,6 +1,6 @@
 use Rattle.textwrap.specs.LineEnds.{AreEnds}
 use Rattle.textwrap.proofs.Cutting.{EndWith}
-use Rattle.textwrap_given.proofs.ends_at.Given as goal
+use Rattle.textwrap_words.proofs.tests.algorithms.widths_as_ends.Given as goal
 
 -- the ends so far, and the last of them
 abbrev pub invariant-loop-end : goal.invariant-loop-end

@@ -1,8 +1,8 @@
 use Rattle.std.proofs.Common.{ap, ◌∙◌}
 use Rattle.textwrap.proofs.Cutting.{EndWith-push, ends-push}
-use Rattle.textwrap_given.proofs.ends_at.Goals as goal
-use Rattle.textwrap_given.proofs.ends_at.Goals.{then-end-last+then-end-words+in_ok-push}
-use Rattle.textwrap_given.proofs.ends_at.Goals.{else-end-last}
+use Rattle.textwrap_words.proofs.tests.algorithms.widths_as_ends.Goals as goal
+use Rattle.textwrap_words.proofs.tests.algorithms.widths_as_ends.Goals.{then-end-last+then-end-words+in_ok-push}
+use Rattle.textwrap_words.proofs.tests.algorithms.widths_as_ends.Goals.{else-end-last}
 
 pub loop-end-preserved : goal.loop-end-preserved
 loop-end-preserved c = elim c.if-end-last.branch [

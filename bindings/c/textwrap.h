@@ -98,10 +98,10 @@ typedef struct {
     size_t is_built; /* 1 where it stands in the room, and 0 where it is a part of the text */
 } textwrap_line;
 
-/* Writes where the lines of the text stand, and how many they are. A part of the text is told by
- * where it stands first after the part before it, so an empty line right after the line before it.
- * Lines with an indent are written to the room, one after another, and `len` is that of all of
- * them; without indents no room is needed. TOO_SMALL tells both `count` and `len`. */
+/* Writes where the lines of the text stand, and how many they are. A part of the text is told at the
+ * place that it was cut from, so an empty line at its own paragraph. Lines with an indent are
+ * written to the room, one after another, and `len` is that of all of them; without indents no room
+ * is needed. TOO_SMALL tells both `count` and `len`. */
 uint32_t textwrap_wrap(const uint8_t *text, size_t text_len, const textwrap_options *options,
                        textwrap_line *lines, size_t lines_len, size_t *count, uint8_t *room,
                        size_t room_len, size_t *len);

@@ -3,13 +3,15 @@ use Rattle.std.proofs.Common.{◌≡◌, ℕ, List, subst}
 use Rattle.textwrap.specs.Columns.{IsInColumns, layout_of}
 use Rattle.textwrap.specs.Filling.{IsFilled}
 use Rattle.textwrap.specs.Options.{Settings, settings_view, HasParts}
-use Rattle.textwrap.specs.Paragraph.{DividesAs, DividesUnder}
+use Rattle.textwrap.specs.Paragraph.{DividesAs, DividesBy, DividesUnder, Line}
 use Rattle.textwrap.specs.Refilling.{IsRefilled, with_indents_of, joined_text}
 use Rattle.textwrap.specs.Text.{AreTextLines}
 use Rattle.textwrap.specs.WordSplitters.{Splitter}
 use Rattle.textwrap.specs.WrapAlgorithms.{Algorithm}
 use Rattle.textwrap_lines.specs.declared.options.Options.{Options}
 use Rattle.textwrap_lines.proofs.Paragraph.BuiltIn.{divided-as}
+use Rattle.textwrap_c.specs.Wrapping.{ArePlacedLines}
+use Rattle.textwrap_c.specs.declared.told.TextwrapLine.{TextwrapLine}
 
 module _ {E C : Type 0} {e : _} {c : _} (options : Options E C e c) (settings : Settings)
     (splitter : Splitter) (algorithm : Algorithm)
@@ -44,3 +46,12 @@ module _ {E C : Type 0} {e : _} {c : _} (options : Options E C e c) (settings : 
         subst (λ Divides. AreTextLines narrow Divides text lines) (divides-under narrow) are,
         is,
       )
+
+  pub placed-as : (text : List ℕ) (lines : List Line) (told : List TextwrapLine)
+      → ArePlacedLines (settings_view options) (DividesBy options) text lines told
+      → ArePlacedLines settings (DividesAs splitter algorithm settings) text lines told
+  placed-as text lines told are =
+      subst (λ s. ArePlacedLines s (DividesAs splitter algorithm s) text lines told)
+      parts.settings_are
+      (subst (λ Divides. ArePlacedLines (settings_view options) Divides text lines told)
+      (divides-under (settings_view options)) are)

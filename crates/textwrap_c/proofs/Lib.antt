@@ -1,4 +1,7 @@
 pub mod BuiltInParts
-pub mod InOrder
+pub mod LaidLemmas
 pub mod LineLemmas
+pub mod PieceLemmas
+pub mod PlaceLemmas
 pub mod RoomLemmas
+pub mod ToldLemmas

@@ -1,8 +1,8 @@
 //! A text in columns beside one another.
-ghost use Rattle.std.specs.Prelude.{◌≡◌, ◌≢◌, ◌≤◌, ◌<◌, ◌↔◌, ◌⊎◌, List, IsUtf8, IfOk, map, string_bytes};
+ghost use Rattle.std.specs.Prelude.{◌≡◌, ◌≤◌, ◌<◌, ◌↔◌, ◌⊎◌, IsUtf8, IfOk, map, string_bytes};
 ghost use Rattle.textwrap.specs.Columns.{IsInColumns};
-ghost use Rattle.textwrap.specs.Paragraph.{DividesAs, Line, Built, line_view};
-ghost use Rattle.textwrap_c.specs.Columns.{AreTextGaps, AreRows};
+ghost use Rattle.textwrap.specs.Paragraph.{DividesAs};
+ghost use Rattle.textwrap_c.specs.Columns.{AreTextGaps, AreRows, AreToldRows};
 ghost use Rattle.textwrap_c.specs.Options.{settings_of, splitter_of, algorithm_of, AreKnown};
 ghost use Rattle.textwrap_c.specs.Options.{AreTexts};
 ghost use Rattle.textwrap_c.specs.Status.{not_utf8, unknown_options};
@@ -10,7 +10,7 @@ ghost use Rattle.textwrap_c.specs.Wrapping.{WritesLines};
 
 use crate::options::{TextwrapOptions, read_options};
 use crate::status::{NOT_UTF8, OUT_OF_MEMORY, UNKNOWN_OPTIONS};
-use crate::wrapping::{TextwrapLine, put_lines};
+use crate::told::{TextwrapLine, ToldLines, put_lines};
 use std::alloc::{AllocError, Global};
 use std::borrow::CowStr;
 use std::str;
@@ -42,9 +42,9 @@ pub extern "C" fn textwrap_wrap_columns(
     room: &mut [u8],
     len: &mut usize,
 ) -> u32
-    ensures columns { WritesLines (AreRows (IsInColumns (settings_of options.now) (DividesAs
-        (splitter_of options.now) (algorithm_of options.now)) columns text.now gaps.now.left.now
-        gaps.now.middle.now gaps.now.right.now))
+    ensures columns { WritesLines (λ lines _. AreRows (IsInColumns (settings_of options.now)
+        (DividesAs (splitter_of options.now) (algorithm_of options.now)) columns text.now
+        gaps.now.left.now gaps.now.middle.now gaps.now.right.now) lines)
         text.now result rows.old rows.new count.old count.new room.old room.new len.old len.new }
     ensures unknown { result ≡ unknown_options ↔ (columns < 1) ⊎ (¬ AreKnown options.now) }
     ensures not_utf8 { result ≡ not_utf8 ↔ (1 ≤ columns) × AreKnown options.now
@@ -69,19 +69,20 @@ pub extern "C" fn textwrap_wrap_columns(
     let Ok(found) = wrap_columns(alloc, text, columns, options, left, middle, right) else {
         return OUT_OF_MEMORY;
     };
-    let Ok(found) = built_lines(alloc, found) else {
+    let Ok(told) = tell_rows(alloc, found) else {
         return OUT_OF_MEMORY;
     };
-    put_lines(alloc, text, &found, rows, count, room, len)
+    put_lines(&told, rows, count, room, len)
 }
 
-/// The rows as lines of their own.
-fn built_lines(alloc: Global, rows: Vec<String>) -> Result<Vec<CowStr<'static>>, AllocError>
-    ensures { IfOk result (λ lines. map line_view lines.items ≡ map Built (map string_bytes rows.items)) }
+/// The rows, told as lines of their own.
+fn tell_rows(alloc: Global, rows: Vec<String>) -> Result<ToldLines, AllocError>
+    ensures { IfOk result (λ told. AreToldRows (map string_bytes rows.items) told.places.items
+        told.built.items) }
 {
-    let mut lines = Vec::new(alloc);
+    let mut told = ToldLines::new(alloc);
     for row in rows {
-        lines.push(CowStr::Owned(row))?;
+        told.push(&CowStr::Owned(row), 0)?;
     }
-    Ok(lines)
+    Ok(told)
 }

@@ -14,5 +14,6 @@ mod room;
 pub mod status;
 #[cfg(test)]
 mod tests;
+mod told;
 pub mod widths;
 pub mod wrapping;

@@ -7,6 +7,7 @@ use crate::refilling::{TextwrapLayout, textwrap_refill, textwrap_unfill};
 use crate::status::{DONE, NOT_UTF8, TOO_SMALL, UNKNOWN_OPTIONS};
 use crate::widths::textwrap_display_width;
 use crate::wrapping::{TextwrapLine, textwrap_wrap};
+use std::alloc::Global;
 
 /// The library's defaults at this width.
 fn at(width: usize) -> TextwrapOptions<'static> {
@@ -262,6 +263,93 @@ fn lines_are_places_in_the_text_or_in_the_room(rt: HostRuntime) {
         (lines[1].offset, lines[1].len, lines[1].is_built),
         (5, 3, 0)
     );
+}
+
+/// Wraps the text into these lines, and answers the status and how many lines there are.
+fn wrap_into(
+    alloc: Global,
+    text: &[u8],
+    options: &TextwrapOptions<'_>,
+    lines: &mut [TextwrapLine],
+) -> (u32, usize) {
+    let mut count = 0;
+    let mut room = [0; 32];
+    let mut len = 0;
+    let status = textwrap_wrap(alloc, text, options, lines, &mut count, &mut room, &mut len);
+    (status, count)
+}
+
+/// The second line is no part of the first one, which is a text of its own.
+#[test]
+fn a_slice_after_a_built_line_is_told_where_it_was_cut(rt: HostRuntime) {
+    let options = TextwrapOptions {
+        initial_indent: b"* ",
+        ..at(6)
+    };
+    let mut lines = [NOWHERE; 3];
+    let found = wrap_into(rt.alloc(), b"foo foo", &options, &mut lines);
+    assert_eq!(rt; found, (DONE, 2));
+    for (line, place) in lines.iter().zip(&[(0, 5, 1), (4, 3, 0), (99, 99, 99)]) {
+        assert_eq!(rt; (line.offset, line.len, line.is_built), *place);
+    }
+}
+
+/// The empty line stands at its own paragraph, and not behind the line before it.
+#[test]
+fn an_empty_paragraph_is_told_where_it_stands(rt: HostRuntime) {
+    let mut lines = [NOWHERE; 4];
+    let found = wrap_into(rt.alloc(), b"foo  \n\n  \nbar", &at(10), &mut lines);
+    assert_eq!(rt; found, (DONE, 4));
+    for (line, place) in lines
+        .iter()
+        .zip(&[(0, 3, 0), (6, 0, 0), (7, 0, 0), (10, 3, 0)])
+    {
+        assert_eq!(rt; (line.offset, line.len, line.is_built), *place);
+    }
+}
+
+/// A line that is a line feed or a carriage return alone is not the one in the ending before it.
+#[test]
+fn half_an_ending_is_told_where_it_stands(rt: HostRuntime) {
+    let options = TextwrapOptions { crlf: 1, ..at(10) };
+    let mut lines = [NOWHERE; 4];
+    let found = wrap_into(rt.alloc(), b"a\r\n\n\r\n\r\r\nb", &options, &mut lines);
+    assert_eq!(rt; found, (DONE, 4));
+    for (line, place) in lines
+        .iter()
+        .zip(&[(0, 1, 0), (3, 1, 0), (6, 1, 0), (9, 1, 0)])
+    {
+        assert_eq!(rt; (line.offset, line.len, line.is_built), *place);
+    }
+}
+
+/// Blanks that are preserved are part of the line before, also of a built one.
+#[test]
+fn preserved_blanks_and_even_paragraphs_keep_the_places(rt: HostRuntime) {
+    let rows: &[(u32, usize, &[(usize, usize, usize)])] = &[
+        (
+            0,
+            5,
+            &[(0, 6, 1), (4, 5, 0), (9, 3, 0), (13, 4, 0), (17, 3, 0)],
+        ),
+        (1, 4, &[(0, 6, 1), (4, 5, 0), (9, 3, 0), (13, 7, 0)]),
+    ];
+    for (even_paragraphs, count, places) in rows {
+        let options = TextwrapOptions {
+            optimal_fit: 0,
+            preserve_trailing_space: 1,
+            even_paragraphs: *even_paragraphs,
+            initial_indent: b"* ",
+            ..at(7)
+        };
+        let mut lines = [NOWHERE; 5];
+        let found = wrap_into(rt.alloc(), b"foo bar  baz\nqux qux", &options, &mut lines);
+        assert_eq!(rt; found, (DONE, *count));
+        assert_eq!(rt; places.len(), *count);
+        for (line, place) in lines.iter().zip(*places) {
+            assert_eq!(rt; (line.offset, line.len, line.is_built), *place);
+        }
+    }
 }
 
 #[test]

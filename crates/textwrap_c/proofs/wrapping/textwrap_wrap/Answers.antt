@@ -1,16 +1,26 @@
-use Rattle.textwrap_c.proofs.LineLemmas.{lines-stand, WritesLines-answer}
+use Rattle.textwrap_c.specs.Options.{settings_of, splitter_of, algorithm_of}
+use Rattle.textwrap_c.proofs.BuiltInParts.{placed-as}
+use Rattle.textwrap_c.proofs.LaidLemmas.{placed-shown}
+use Rattle.textwrap_c.proofs.LineLemmas.{WritesLines-told}
 use Rattle.textwrap_c.proofs.wrapping.textwrap_wrap.Goals as goal
 
-pub put_lines-requires : goal.put_lines-requires
-put_lines-requires c =
-    let is = c.in-Ok.ensures.parts.algorithm_is in
-    rw c.deref.ensures.value
-    (record { stand = lines-stand _ _ _ _ _ _ c.in-Ok-wrap.ensures.lines (λ none. cc) })
+pub tell_text-requires : goal.tell_text-requires
+tell_text-requires c =
+    let given = c.args.options.now in
+    record {
+      parts = (settings_of given, splitter_of given, algorithm_of given, c.in-Ok.ensures.parts);
+    }
 
 pub returns-clause-wrapped : goal.returns-clause-wrapped
 returns-clause-wrapped c =
-    let are = rw c.in-Ok-from_utf8.ensures.cases.0
-    at (c.in-Ok-wrap.ensures.built_in _ _ _ c.in-Ok.ensures.parts) in
-    let lines = rw (c.deref.ensures.value, c.in-Ok-from_utf8.ensures.cases.0)
-    at c.put_lines.ensures.lines in
-    WritesLines-answer _ _ _ _ _ _ _ _ _ _ _ _ are lines
+    let given = c.args.options.now in
+    let settings = settings_of given in
+    let (lines, are, built) = c.in-Ok-tell_text.ensures in
+    let placed = placed-as c.in-Ok.options settings (splitter_of given) (algorithm_of given)
+    c.in-Ok.ensures.parts c.in-Ok-from_utf8.text.now lines c.in-Ok-tell_text.told.places.items are
+    in
+    let here = rw c.in-Ok-from_utf8.ensures.cases.0 at placed in
+    let shown = placed-shown settings (splitter_of given) (algorithm_of given) c.args.text.now lines
+    c.in-Ok-tell_text.told.places.items c.in-Ok-from_utf8.ensures.cases.1 here in
+    WritesLines-told _ _ lines _ _ _ _ _ _ _ _ _ _ _ here built shown
+    c.put_lines.ensures.statuses c.put_lines.ensures.lines

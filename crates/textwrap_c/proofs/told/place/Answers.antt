@@ -1,8 +1,8 @@
 use Rattle.std.proofs.Common.{◌≡◌, ◌++◌, length, inl, inr, ap, ◌∙◌, arith}
 use Rattle.std.proofs.lemmas.Bool.{cases_lt}
 use Rattle.std.proofs.lemmas.List.{length-append}
-use Rattle.textwrap_c.proofs.InOrder.{stands-at}
-use Rattle.textwrap_c.proofs.wrapping.place.Goals as goal
+use Rattle.textwrap_c.proofs.PlaceLemmas.{stands-at}
+use Rattle.textwrap_c.proofs.told.place.Goals as goal
 
 pub unreachable-requires : goal.unreachable-requires
 unreachable-requires c =

@@ -5,4 +5,5 @@ pub mod Lossless
 pub mod Narrow
 pub mod Paragraphs
 pub mod Promises
+pub mod Sinks
 pub mod Unique

@@ -5,6 +5,7 @@ pub mod Filling
 pub mod Fuzzing
 pub mod Laws
 pub mod LineEnding
+pub mod LineSinks
 pub mod Options
 pub mod Paragraph
 pub mod Printable

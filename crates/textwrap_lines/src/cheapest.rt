@@ -10,11 +10,12 @@ ghost use Rattle.textwrap_base.specs.Queue.{SuitQueue};
 ghost use Rattle.textwrap_base.specs.Table.{fragment_costs, FollowStarts, IsByTable};
 ghost use Rattle.textwrap_base.specs.Words.{WordText, sizes_of};
 ghost use Rattle.textwrap_lines.specs.Cheapest.{SuitSearch};
-ghost use Rattle.textwrap_lines.specs.LineEnding.{join_with};
-ghost use Rattle.textwrap_lines.specs.Paragraph.{covered};
+ghost use Rattle.textwrap_lines.specs.LineSinks.{Took};
+ghost use Rattle.textwrap_lines.specs.Paragraph.{covered, Slice};
 ghost use Rattle.textwrap_lines.specs.Printable.{IsPrintable, pieces_after, printable_cut};
 ghost use Rattle.textwrap_lines.specs.Spans.{AreSpans, span_priced, line_text, HasText};
 
+use crate::line_sinks::LineSink;
 use crate::printable::is_printable;
 use crate::spans::{Span, find_spans};
 use std::alloc::{AllocError, Allocator};
@@ -36,19 +37,18 @@ pub(crate) fn suits_search(text: &str, width: usize, penalties: &Penalties) -> b
         && is_printable(text.as_bytes())
 }
 
-/// Appends the lines of least cost of a printable paragraph, with the separator between each two.
-/// `hyphens` says whether words are split after hyphens.
+/// Pushes the lines of least cost of a printable paragraph. `hyphens` says whether words are split
+/// after hyphens.
 ///
 /// # Errors
 /// [`AllocError`] where memory runs out.
-pub(crate) fn push_cheapest_lines<A: Allocator + Copy>(
+pub(crate) fn push_cheapest_lines<'t, A: Allocator + Copy>(
     alloc: A,
-    paragraph: &str,
+    paragraph: &'t str,
     width: usize,
     hyphens: bool,
     penalties: &Penalties,
-    separator: &str,
-    joined: &mut String<A>,
+    lines: &mut LineSink<'t, A>,
 ) -> Result<(), AllocError>
     requires printable { IsPrintable paragraph.now }
     requires some { 0 < length paragraph.now }
@@ -58,12 +58,11 @@ pub(crate) fn push_cheapest_lines<A: Allocator + Copy>(
         × IsByOptimalFit (λ w. priced_at penalties.now (sizes_of w)) penalties.now
         (width ∷ width ∷ [])
         (pieces_after (printable_cut hyphens) width 32 paragraph.now) division
-        × (string_bytes joined.new
-        ≡ string_bytes joined.old ++ join_with separator.now (map covered division))) }
+        × Took lines.old lines.new (map Slice (map covered division))) }
 {
     let spans = find_spans(alloc, paragraph.as_bytes(), width, hyphens)?;
-    let lines = cheapest_lines(alloc, &spans, width, penalties)?;
-    push_lines(paragraph, &lines, separator, joined)
+    let division = cheapest_lines(alloc, &spans, width, penalties)?;
+    push_lines(paragraph, &division, lines)
 }
 
 /// The lines of least cost of some pieces.
@@ -206,23 +205,19 @@ fn line_start(minima: &[Minimum], end: usize) -> usize
     minima[end].start
 }
 
-/// Appends the text of each line, with the separator between each two.
-fn push_lines<A: Allocator>(
-    paragraph: &str,
-    lines: &[&[Span]],
-    separator: &str,
-    joined: &mut String<A>,
+/// Pushes the text of each line.
+fn push_lines<'t, A: Allocator>(
+    paragraph: &'t str,
+    division: &[&[Span]],
+    lines: &mut LineSink<'t, A>,
 ) -> Result<(), AllocError>
     requires printable { IsPrintable paragraph.now }
-    requires within { All (λ line. HasText paragraph.now line.now) lines.now }
-    ensures { OnOk result (string_bytes joined.new ≡ string_bytes joined.old
-        ++ join_with separator.now (map (λ line. line_text paragraph.now line.now) lines.now)) }
+    requires within { All (λ line. HasText paragraph.now line.now) division.now }
+    ensures { OnOk result (Took lines.old lines.new
+        (map Slice (map (λ line. line_text paragraph.now line.now) division.now))) }
 {
-    for (i, line) in lines.iter().enumerate() {
-        if i > 0 {
-            joined.push_str(separator)?;
-        }
-        joined.push_str(line_text(paragraph, line))?;
+    for line in division {
+        lines.push_slice(line_text(paragraph, line))?;
     }
     Ok(())
 }

@@ -1,15 +1,18 @@
 //! Filling: a wrapped text as one text.
-ghost use Rattle.std.specs.Prelude.{◌≡◌, alloc_error, string_bytes, IfOk, IfErr};
+ghost use Rattle.std.specs.Prelude.{◌≡◌, alloc_error, map, string_bytes, IfOk, IfErr};
+ghost use Rattle.textwrap_lines.specs.LineEnding.{ending_bytes, join_with};
 ghost use Rattle.textwrap_lines.specs.Options.{Settings, settings_view, HasParts, MayOverflow};
 ghost use Rattle.textwrap_lines.specs.WordSplitters.{Splitter};
 ghost use Rattle.textwrap_base.specs.WrapAlgorithms.{Algorithm};
-ghost use Rattle.textwrap_lines.specs.Paragraph.{DividesAs, DividesBy};
+ghost use Rattle.textwrap_lines.specs.Paragraph.{DividesAs, DividesBy, line_bytes, line_view};
 ghost use Rattle.textwrap_lines.specs.Filling.{IsFilled};
 
-use crate::direct::{fill_directly, join_lines, splits_directly};
+use crate::line_ending::LineEnding;
+use crate::line_sinks::LineSink;
 use crate::options::Options;
-use crate::wrapping::{is_one_line, split_paragraph, whole_line, wrap};
-use std::alloc::Allocator;
+use crate::wrapping::{is_one_line, push_text, split_paragraph, whole_line, wrap};
+use std::alloc::{AllocError, Allocator};
+use std::borrow::CowStr;
 use textwrap_base::wrap_algorithms::WrapError;
 
 /// The lines of [`wrap`], joined by the line ending. At 10 columns `foo bar baz` becomes `foo bar`,
@@ -37,11 +40,11 @@ pub fn fill<A: Allocator + Copy>(
     if after.is_none() && is_one_line(paragraph, &options, false) {
         return Ok(String::from_str(alloc, whole_line(paragraph, &options))?);
     }
-    // This saves the list of all lines, and those of the words of each paragraph.
-    if let Some(hyphens) = splits_directly(&options) {
-        return fill_directly(alloc, text, &options, hyphens);
-    }
-    fill_slow_path(alloc, text, options)
+    // This is enough but where lines end inside words or have indents, or the ending is CRLF.
+    let filled = String::with_capacity(alloc, text.len())?;
+    let mut lines = LineSink::joined(filled, options.line_ending);
+    push_text(alloc, text, &options, &mut lines)?;
+    Ok(lines.into_text())
 }
 
 /// The same text as [`fill`](crate::fill), always by way of a list of lines. At 5 columns
@@ -67,4 +70,23 @@ pub fn fill_slow_path<A: Allocator + Copy>(
     let line_ending = options.line_ending;
     let lines = wrap(alloc, text, options)?;
     Ok(join_lines(alloc, &lines, line_ending)?)
+}
+
+/// The lines with the line ending between each two.
+fn join_lines<A: Allocator>(
+    alloc: A,
+    lines: &[CowStr<'_, A>],
+    line_ending: LineEnding,
+) -> Result<String<A>, AllocError>
+    ensures { IfOk result (λ joined. string_bytes joined
+        ≡ join_with (ending_bytes line_ending) (map line_bytes (map line_view lines.now))) }
+{
+    let mut joined = String::new(alloc);
+    for (i, line) in lines.iter().enumerate() {
+        if i > 0 {
+            joined.push_str(line_ending.as_str())?;
+        }
+        joined.push_str(line.as_str())?;
+    }
+    Ok(joined)
 }

@@ -7,14 +7,15 @@ ghost use Rattle.std.specs.Prelude.{OnOk};
 ghost use Rattle.textwrap_base.specs.Blanks.{blank, trimmed_len};
 ghost use Rattle.textwrap_base.specs.Division.{IsGreedy};
 ghost use Rattle.textwrap_base.specs.Words.{WordText, sizes_of};
-ghost use Rattle.textwrap_lines.specs.LineEnding.{join_with};
-ghost use Rattle.textwrap_lines.specs.Paragraph.{covered};
+ghost use Rattle.textwrap_lines.specs.LineSinks.{Took};
+ghost use Rattle.textwrap_lines.specs.Paragraph.{covered, Slice};
 ghost use Rattle.textwrap_lines.specs.Printable.{IsPrintable, IsFirstLine, cut_at};
 ghost use Rattle.textwrap_lines.specs.Printable.{byte_before};
 ghost use Rattle.textwrap_lines.specs.Printable.{pieces_after, printable_cut};
 ghost use Rattle.textwrap_lines.specs.Printable.{BlanksBetween};
 ghost use Rattle.textwrap_lines.specs.Printable.{NoCutBetween};
 
+use crate::line_sinks::LineSink;
 use std::alloc::{AllocError, Allocator};
 use textwrap_base::blanks::trimmed_len;
 
@@ -30,17 +31,16 @@ pub(crate) fn is_printable(bytes: &[u8]) -> bool
     all
 }
 
-/// Appends the lines of a printable paragraph by first fit, with the separator between each two.
-/// `hyphens` says whether words are split after hyphens.
+/// Pushes the lines of a printable paragraph by first fit. `hyphens` says whether words are split
+/// after hyphens.
 ///
 /// # Errors
 /// [`AllocError`] where memory runs out.
-pub(crate) fn push_printable_lines<A: Allocator>(
-    paragraph: &str,
+pub(crate) fn push_printable_lines<'t, A: Allocator>(
+    paragraph: &'t str,
     width: usize,
     hyphens: bool,
-    separator: &str,
-    joined: &mut String<A>,
+    lines: &mut LineSink<'t, A>,
 ) -> Result<(), AllocError>
     requires printable { IsPrintable paragraph.now }
     requires some { 0 < length paragraph.now }
@@ -48,22 +48,16 @@ pub(crate) fn push_printable_lines<A: Allocator>(
     ensures { OnOk result ((division : List (List WordText))
         × IsGreedy sizes_of (width ∷ width ∷ [])
         (pieces_after (printable_cut hyphens) width 32 paragraph.now) division
-        × (string_bytes joined.new
-        ≡ string_bytes joined.old ++ join_with separator.now (map covered division))) }
+        × Took lines.old lines.new (map Slice (map covered division))) }
 {
     let mut rest = paragraph;
     let mut before = b' ';
-    let mut first = true;
     while !rest.is_empty() {
-        if !first {
-            joined.push_str(separator)?;
-        }
         let bytes = rest.as_bytes();
         let (slice, next) = next_line(bytes, before, width, hyphens);
-        joined.push_str(&rest[..slice])?;
+        lines.push_slice(&rest[..slice])?;
         before = bytes[next - 1];
         rest = &rest[next..];
-        first = false;
     }
     Ok(())
 }

@@ -16,9 +16,10 @@ ghost use Rattle.textwrap_base.specs.declared.penalties.Penalties.{Penalties};
 ghost use Rattle.textwrap_base.specs.declared.wrap_algorithms.WrapAlgorithm.TheVariants.{FirstFit};
 ghost use Rattle.textwrap_lines.specs.Fuzzing.{AppendsLines};
 ghost use Rattle.textwrap_lines.specs.LineEnding.{paragraphs_of};
+ghost use Rattle.textwrap_lines.specs.LineSinks.{Holds, Took, kind_of};
 ghost use Rattle.textwrap_lines.specs.Options.{Settings, settings_view, HasBuiltInParts};
 ghost use Rattle.textwrap_lines.specs.Options.{HasParts, MayOverflow};
-ghost use Rattle.textwrap_lines.specs.Paragraph.{text_limit, LineParts, line_view, assembled_line};
+ghost use Rattle.textwrap_lines.specs.Paragraph.{text_limit, Line, LineParts, line_view};
 ghost use Rattle.textwrap_lines.specs.Paragraph.{line_from, covered};
 ghost use Rattle.textwrap_lines.specs.Paragraph.{ArePieces, widths_of, width_after, indent_of};
 ghost use Rattle.textwrap_lines.specs.Paragraph.{is_whole, parts_of, parts_from, Adds, DividesBy};
@@ -28,7 +29,10 @@ ghost use Rattle.textwrap_lines.specs.Text.{AreTextLines, IsWrapped, LinesKeepTo
 ghost use Rattle.textwrap_lines.specs.WordSeparators.{MaySeparate};
 ghost use Rattle.textwrap_lines.specs.WordSplitters.{AreSplit, MaySplit, Splitter, splitter_view};
 
+use crate::direct::push_directly;
+use crate::layout::{line_widths, next_indent};
 use crate::line_ending::LineEnding;
+use crate::line_sinks::LineSink;
 use crate::options::Options;
 use crate::word_splitters::push_measured;
 use std::alloc::{AllocError, Allocator};
@@ -82,14 +86,88 @@ pub fn wrap<'t, A: Allocator + Copy>(
     ensures only_memory { ¬ MayOverflow options.entry
         → IfErr result (λ error. error ≡ WrapError.Memory alloc_error) }
 {
-    let mut lines = Vec::new(alloc);
+    let mut lines = LineSink::listed(alloc);
+    push_text(alloc, text, &options, &mut lines)?;
+    Ok(lines.into_list())
+}
+
+/// Pushes the lines of a text to what has taken none.
+///
+/// # Errors
+/// Those of [`wrap`].
+pub(crate) fn push_text<'t, A: Allocator + Copy>(
+    alloc: A,
+    text: &'t str,
+    options: &Options<'_>,
+    lines: &mut LineSink<'t, A>,
+) -> Result<(), WrapError>
+    requires none { Holds lines.now [] }
+    ensures lines { OnOk result ((taken : List Line) × AreTextLines (settings_view options.now)
+        (DividesBy options.now) text.now taken × Holds lines.new taken
+        × (kind_of lines.new ≡ kind_of lines.old)) }
+    ensures only_memory { ¬ MayOverflow options.now
+        → IfErr result (λ error. error ≡ WrapError.Memory alloc_error) }
+{
     let mut rest = Some(text);
     while let Some(text) = rest {
         let (paragraph, after) = split_paragraph(text, options.line_ending);
-        wrap_single_line(alloc, paragraph, &options, &mut lines)?;
+        let is_later = lines.has_line();
+        push_paragraph(alloc, paragraph, options, is_later, lines)?;
         rest = after;
     }
-    Ok(lines)
+    Ok(())
+}
+
+/// Pushes the lines of one paragraph. `is_later` says that a line stands before it.
+///
+/// # Errors
+/// Those of [`wrap`].
+fn push_paragraph<'t, A: Allocator + Copy>(
+    alloc: A,
+    paragraph: &'t str,
+    options: &Options<'_>,
+    is_later: bool,
+    lines: &mut LineSink<'t, A>,
+) -> Result<(), WrapError>
+    ensures taken { OnOk result ((parts : List LineParts)
+        × AreParagraphParts (settings_view options.now) (DividesBy options.now) is_later
+        paragraph.now parts
+        × Took lines.old lines.new (map line_from parts)) }
+    ensures only_memory { ¬ MayOverflow options.now
+        → IfErr result (λ error. error ≡ WrapError.Memory alloc_error) }
+{
+    if is_one_line(paragraph, options, is_later) {
+        return Ok(lines.push_slice(whole_line(paragraph, options))?);
+    }
+    // This saves the lists of words and of the lines' pieces.
+    let pushed = push_directly(alloc, paragraph, options, is_later, lines)?;
+    if pushed {
+        return Ok(());
+    }
+    push_divided(alloc, paragraph, options, is_later, lines)
+}
+
+/// Pushes the lines of the pieces of a paragraph, however short it is.
+///
+/// # Errors
+/// Those of [`wrap`].
+fn push_divided<'t, A: Allocator + Copy>(
+    alloc: A,
+    paragraph: &'t str,
+    options: &Options<'_>,
+    is_later: bool,
+    lines: &mut LineSink<'t, A>,
+) -> Result<(), WrapError>
+    ensures taken { OnOk result ((division : List (List WordText))
+        × DividesBy options.now is_later paragraph.now division
+        × Took lines.old lines.new (map line_from
+        (parts_from (settings_view options.now) is_later division))) }
+    ensures only_memory { ¬ MayOverflow options.now
+        → IfErr result (λ error. error ≡ WrapError.Memory alloc_error) }
+{
+    let pieces = find_pieces(alloc, paragraph, options)?;
+    let division = divide(alloc, &pieces, options, is_later)?;
+    Ok(push_lines(alloc, paragraph, &division, options, is_later, lines)?)
 }
 
 /// The first paragraph of the text, and what follows its ending, if it has one. Cut at LF, the text
@@ -134,11 +212,12 @@ pub fn wrap_single_line<'t, A: Allocator + Copy>(
         (nat_lt 0 (length lines.old.items)) line.now parts
         × Adds lines.old.items lines.new.items parts) }
 {
-    if is_one_line(line, options, !lines.is_empty()) {
-        lines.push(CowStr::Borrowed(whole_line(line, options)))?;
-        return Ok(());
-    }
-    wrap_single_line_slow_path(alloc, line, options, lines)
+    // A list of its own, so that an error leaves the other as it was.
+    let is_later = !lines.is_empty();
+    let mut found = LineSink::listed(alloc);
+    push_paragraph(alloc, line, options, is_later, &mut found)?;
+    let mut found = found.into_list();
+    Ok(lines.append(&mut found)?)
 }
 
 /// Whether a paragraph is one line as a whole. `is_later` says that a line stands before it.
@@ -146,17 +225,6 @@ pub(crate) fn is_one_line(paragraph: &str, options: &Options<'_>, is_later: bool
     ensures { result ≡ is_whole (settings_view options.now) is_later paragraph.now }
 {
     next_indent(options, is_later).is_empty() && paragraph.len() < options.width
-}
-
-/// The indent of the next line. `is_later` says that a line stands before it.
-fn next_indent<'a>(options: &Options<'a>, is_later: bool) -> &'a str
-    ensures { result.now ≡ indent_of (settings_view options.now) is_later }
-{
-    if is_later {
-        options.subsequent_indent
-    } else {
-        options.initial_indent
-    }
 }
 
 /// The paragraph as one line.
@@ -201,16 +269,11 @@ pub fn wrap_single_line_slow_path<'t, A: Allocator + Copy>(
         × OnlyCharactersPass (widths_of (settings_view options.now)
         (nat_lt 0 (length lines.old.items))) 0 division) }
 {
-    let pieces = find_pieces(alloc, line, options)?;
-    let division = divide(alloc, &pieces, options, !lines.is_empty())?;
-    let count = lines.len();
-    match push_lines(alloc, line, &division, options, lines) {
-        Ok(()) => Ok(()),
-        Err(error) => {
-            lines.truncate(count);
-            Err(WrapError::Memory(error))
-        }
-    }
+    let is_later = !lines.is_empty();
+    let mut found = LineSink::listed(alloc);
+    push_divided(alloc, line, options, is_later, &mut found)?;
+    let mut found = found.into_list();
+    Ok(lines.append(&mut found)?)
 }
 
 /// The pieces of a paragraph that are divided.
@@ -228,7 +291,7 @@ fn find_pieces<'t, A: Allocator + Copy>(
     if !options.break_words {
         return Ok(split);
     }
-    let width = remaining_width(options, options.subsequent_indent);
+    let (_, width) = line_widths(options, false);
     // Lent, since the checker does not cover handing on a list that any allocator made.
     let mut broken = break_words(alloc, split.iter().copied(), width)?;
     if !options.initial_indent.is_empty() {
@@ -255,13 +318,6 @@ fn find_split_words<'t, A: Allocator + Copy>(
     Ok(pieces)
 }
 
-/// The columns that an indent leaves of a line.
-fn remaining_width(options: &Options<'_>, indent: &str) -> usize
-    ensures { result ≡ width_after (settings_view options.now) indent.now }
-{
-    options.width.saturating_sub(display_width(indent))
-}
-
 /// The pieces divided by the algorithm of the options.
 fn divide<'a, 'w, A: Allocator + Copy>(
     alloc: A,
@@ -277,61 +333,60 @@ fn divide<'a, 'w, A: Allocator + Copy>(
     ensures no_overflow { Fits64Bits (total_width (λ word. sizes_of (word_view word)) pieces.now)
         → ¬ Overflowed result }
 {
-    let later_width = remaining_width(options, options.subsequent_indent);
-    let first_width = if options.even_paragraphs && is_later {
-        later_width
-    } else {
-        remaining_width(options, options.initial_indent)
-    };
+    let (first_width, later_width) = line_widths(options, is_later);
     let line_widths = [first_width, later_width];
     options.wrap_algorithm.wrap(alloc, pieces, &line_widths)
 }
 
-/// Appends the line of each list of pieces. Together they tile the paragraph, or its beginning.
+/// Pushes the line of each list of pieces. Together they tile the paragraph, or its beginning.
 fn push_lines<'t, A: Allocator + Copy>(
     alloc: A,
     paragraph: &'t str,
     division: &[&[Word<'_>]],
     options: &Options<'_>,
-    lines: &mut Vec<CowStr<'t, A>, A>,
+    is_later: bool,
+    lines: &mut LineSink<'t, A>,
 ) -> Result<(), AllocError>
     requires { StartsWith paragraph.now
         (flat_map (λ line. tiled (map word_view line.now)) division.now) }
-    ensures lines { OnOk result (Adds lines.old.items lines.new.items
-        (parts_from (settings_view options.now) (nat_lt 0 (length lines.old.items))
-        (map (λ line. map word_view line.now) division.now))) }
-    ensures kept { take (length lines.old.items) lines.new.items ≡ lines.old.items }
+    ensures { OnOk result (Took lines.old lines.new (map line_from
+        (parts_from (settings_view options.now) is_later
+        (map (λ line. map word_view line.now) division.now)))) }
 {
     let mut rest = paragraph;
+    let mut has_line = is_later;
     for pieces in division {
-        let (line, after) = split_line(alloc, rest, pieces, options, !lines.is_empty())?;
-        lines.push(line)?;
-        rest = after;
+        rest = push_line(alloc, rest, pieces, options, has_line, lines)?;
+        has_line = true;
     }
     Ok(())
 }
 
-/// The line of the pieces with which the text begins, and the text after them.
-fn split_line<'t, A: Allocator>(
+/// Pushes the line of the pieces with which the text begins, and returns the text after them.
+fn push_line<'t, A: Allocator + Copy>(
     alloc: A,
     text: &'t str,
     pieces: &[Word<'_>],
     options: &Options<'_>,
     is_later: bool,
-) -> Result<(CowStr<'t, A>, &'t str), AllocError>
+    lines: &mut LineSink<'t, A>,
+) -> Result<&'t str, AllocError>
     requires { StartsWith text.now (tiled (map word_view pieces.now)) }
-    ensures line { IfOk result (λ line. line_view line.0
-        ≡ line_from (parts_of (settings_view options.now) is_later (map word_view pieces.now))) }
-    ensures rest { IfOk result (λ line. line.1.now
+    ensures line { OnOk result (Took lines.old lines.new
+        (line_from (parts_of (settings_view options.now) is_later (map word_view pieces.now))
+        ∷ [])) }
+    ensures rest { IfOk result (λ rest. rest.now
         ≡ drop (length (tiled (map word_view pieces.now))) text.now) }
 {
     let Some((last, front)) = pieces.split_last() else {
-        return Ok((CowStr::Borrowed(""), text));
+        lines.push_slice("")?;
+        return Ok(text);
     };
     let indent = next_indent(options, is_later);
     let keeps_whitespace = options.preserve_trailing_space && last.penalty.is_empty();
     let (slice, rest) = cut_line(text, front, last, keeps_whitespace);
-    Ok((assemble(alloc, indent, slice, last.penalty)?, rest))
+    lines.push_line(alloc, indent, slice, last.penalty)?;
+    Ok(rest)
 }
 
 /// The slice of the text that the pieces cover, with or without the last whitespace, and the text
@@ -370,23 +425,4 @@ fn tiled_len(pieces: &[Word<'_>]) -> usize
         len += piece.word.as_bytes().len() + piece.whitespace.as_bytes().len();
     }
     len
-}
-
-/// The slice, with the indent before it and the penalty after it. Copies only where one is added.
-fn assemble<'t, A: Allocator>(
-    alloc: A,
-    indent: &str,
-    slice: &'t str,
-    penalty: &str,
-) -> Result<CowStr<'t, A>, AllocError>
-    ensures { IfOk result (λ line. line_view line
-        ≡ assembled_line indent.now slice.now penalty.now) }
-{
-    if indent.is_empty() && penalty.is_empty() {
-        return Ok(CowStr::Borrowed(slice));
-    }
-    let mut line = String::from_str(alloc, indent)?;
-    line.push_str(slice)?;
-    line.push_str(penalty)?;
-    Ok(CowStr::Owned(line))
 }

@@ -14,8 +14,8 @@ use Rattle.textwrap_base.proofs.Word.Words.{words_unique}
 use Rattle.textwrap_lines.proofs.Text.Lossless.{tiled-word_of}
 use Rattle.textwrap.specs.InPlace.{FitsOneLine, breaks_of}
 use Rattle.textwrap.proofs.Text.InPlaceLines.{line_width-one}
-use Rattle.textwrap_base.proofs.Division.Grown.{grown, grown-full, grown-room, grown-begins, grown-greedy}
-use Rattle.textwrap_base.proofs.Division.Grown.{prefix-closes}
+use Rattle.textwrap_base.proofs.Division.Grown.{grown, grown-full, grown-room, grown-begins}
+use Rattle.textwrap_base.proofs.Division.Grown.{grown-greedy, prefix-closes}
 
 -- ---- the words of a part have bytes, and no penalty
 
@@ -51,8 +51,8 @@ pub record HasLine (width start : ℕ) (part old breaks : List ℕ) (begin end t
   pub some : line ≢ [] → begin < end
   pub plain : All IsPlain left
   pub room : end + length (tiled left) ≡ start + length part
-  pub places : breaks ++ breaks_of begin (grown sizes_of width left line)
-      ≡ old ++ breaks_of start (grown sizes_of width (words_of part) [])
+  pub places : breaks ++ breaks_of begin (grown sizes_of width width left line)
+      ≡ old ++ breaks_of start (grown sizes_of width width (words_of part) [])
   pub whole : FitsOneLine width part → line ++ left ≡ words_of part
 
 pub HasLine-begin : (width start : ℕ) (part old : List ℕ) (left : List WordText)
@@ -64,7 +64,7 @@ HasLine-begin width start part old left is = record {
   some = λ none. absurd (none refl);
   plain = subst (All IsPlain) (sym is) (plain-words part);
   room = omega (arith, ap length (ap tiled is ∙ tiled-words_of part));
-  places = ap (λ ws. old ++ breaks_of start (grown sizes_of width ws [])) is;
+  places = ap (λ ws. old ++ breaks_of start (grown sizes_of width width ws [])) is;
   whole = λ fits. is;
 }
 
@@ -106,8 +106,8 @@ module _ {width start : ℕ} {part old breaks : List ℕ} {begin end taken : ℕ
   HasLine-break from len more pushed began over from_is len_is more_is pushed_is =
       let some : 0 < length line = line_some line (omega (arith, began, has.end_is)) in
       let full : width < closed_width sizes_of (line ++ x ∷ []) = omega (arith, closes, over) in
-      let (others, rest, is) = grown-begins sizes_of width (width ∷ []) (line_width-one width) left (x ∷ []) in
-      let next = grown sizes_of width left (x ∷ []) in
+      let (others, rest, is) = grown-begins sizes_of width width left (x ∷ []) in
+      let next = grown sizes_of width width left (x ∷ []) in
       let after : breaks_of begin (line ∷ next) ≡ (end - 1) ∷ breaks_of end next =
       ap (λ ls. breaks_of begin (line ∷ ls)) is
       ∙ ap (λ n. (n - 1) ∷ breaks_of n ((x ∷ others) ∷ rest)) (sym has.end_is)
@@ -124,7 +124,7 @@ module _ {width start : ℕ} {part old breaks : List ℕ} {begin end taken : ℕ
             ∙ append_assoc breaks ((end - 1) ∷ []) (breaks_of end next)
             ∙ ap (λ l. breaks ++ l) (sym after)
             ∙ ap (λ ls. breaks ++ breaks_of begin ls)
-            (sym (grown-full sizes_of width x left line some full))
+            (sym (grown-full sizes_of width width x left line some full))
             ∙ has.places;
         whole = λ fits. absurd (omega (
           arith,
@@ -150,6 +150,7 @@ module _ {width start : ℕ} {part old breaks : List ℕ} {begin end taken : ℕ
           ap length none,
         )))),
       ) in
+      let next = grown sizes_of width width left (line ++ x ∷ []) in
       record {
         after = omega (arith, from_is, has.after);
         end_is = omega (
@@ -164,10 +165,10 @@ module _ {width start : ℕ} {part old breaks : List ℕ} {begin end taken : ℕ
         some = λ any. omega (arith, from_is, len_is, first.some, has.end_is);
         plain = All-tail IsPlain x left has.plain;
         room = passed len len_is;
-        places = ap (λ n. kept ++ breaks_of n (grown sizes_of width left (line ++ x ∷ []))) from_is
-            ∙ ap (λ l. l ++ breaks_of begin (grown sizes_of width left (line ++ x ∷ []))) kept_is
+        places = ap (λ n. kept ++ breaks_of n next) from_is
+            ∙ ap (λ l. l ++ breaks_of begin next) kept_is
             ∙ ap (λ ls. breaks ++ breaks_of begin ls)
-            (sym (grown-room sizes_of width x left line room))
+            (sym (grown-room sizes_of width width x left line room))
             ∙ has.places;
         whole = λ fits. append_assoc line (x ∷ []) left ∙ has.whole fits;
       }
@@ -213,9 +214,10 @@ pub HasLine-end : {width start : ℕ} {part old breaks : List ℕ} {begin end ta
     × IsGreedy sizes_of (width ∷ []) (words_of part) division
     × (breaks ≡ old ++ breaks_of start division)
 HasLine-end {width} {start} {part} {old} {breaks} {begin} {end} {taken} {left} {line} has none = (
-  grown sizes_of width (words_of part) [],
-  grown-greedy sizes_of width (width ∷ []) (line_width-one width) (words_of part),
+  grown sizes_of width width (words_of part) [],
+  grown-greedy sizes_of width (width ∷ []) (λ n. line_width-one width (n + 1)) width
+      (line_width-one width 0) (words_of part),
   sym (append-nil breaks)
-      ∙ ap (λ ws. breaks ++ breaks_of begin (grown sizes_of width ws line)) (sym none)
+      ∙ ap (λ ws. breaks ++ breaks_of begin (grown sizes_of width width ws line)) (sym none)
       ∙ has.places,
 )

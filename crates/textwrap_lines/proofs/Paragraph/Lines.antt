@@ -1,6 +1,6 @@
 -- Lemmas on what the words of a line cover.
 use Rattle.std.proofs.Common.{◌≡◌, ℕ, suc, Bool, true, false, not, cond, ◌==◌, ◌&&◌, nat_lt}
-use Rattle.std.proofs.Common.{MatchBool, ◌+◌, ◌<◌, ◌≤◌, List, [], ◌∷◌, ◌++◌, length, get_or, take}
+use Rattle.std.proofs.Common.{MatchBool, ◌+◌, ◌≤◌, List, [], ◌∷◌, ◌++◌, length, take}
 use Rattle.std.proofs.Common.{drop, map, refl, sym, ap, ◌∙◌, subst, arith, append_assoc, append-nil}
 use Rattle.std.proofs.Common.{length-append, take-append-drop, ◌*◌, All}
 use Rattle.std.specs.List.{flat_map}
@@ -8,13 +8,12 @@ use Rattle.std.proofs.lemmas.List.Elements.{All-nil, All-cons, All-head, All-tai
 use Rattle.std.specs.Io.{StartsWith}
 use Rattle.std.proofs.Transfers.{starts_with_of_append}
 use Rattle.std.specs.Str.{IsUtf8, IsCharBoundary}
-use Rattle.std.specs.declared.borrow.CowStr.{CowStr}
 use Rattle.std.proofs.lemmas.Bool.{and_parts, eqb-true}
 use Rattle.std.proofs.lemmas.Bool.Decides.{nat_tests}
 use Rattle.std.proofs.lemmas.Str.{IsUtf8-append, IsUtf8-drop, IsCharBoundary-from_take}
 use Rattle.std.proofs.lemmas.Str.{IsCharBoundary-from_rest}
-use Rattle.std.proofs.lemmas.List.{map-append, length-map, map_more}
-use Rattle.std.proofs.lemmas.List.{map_push, take_at, drop_at, nil_from_length}
+use Rattle.std.proofs.lemmas.List.{map-append}
+use Rattle.std.proofs.lemmas.List.{take_at, drop_at, nil_from_length}
 use Rattle.textwrap_base.specs.declared.words.Word.{Word}
 use Rattle.textwrap_base.specs.Words.{WordText, word_view, word_of, sizes_of, tile_of, tiled, Tiles}
 use Rattle.textwrap_base.specs.WrapAlgorithms.{MayDivide}
@@ -28,7 +27,7 @@ use Rattle.textwrap_lines.specs.Options.{Settings}
 use Rattle.textwrap_lines.proofs.Text.Lossless.{tiled-word_of}
 use Rattle.textwrap_base.specs.Blanks.{without_final_blanks}
 use Rattle.textwrap_base.proofs.Word.Texts.{HasNoPenalty}
-use Rattle.textwrap_lines.specs.Paragraph.{LineParts, line_view, assembled_line, line_from, covered}
+use Rattle.textwrap_lines.specs.Paragraph.{LineParts, assembled_line, line_from, covered}
 use Rattle.textwrap_lines.specs.Paragraph.{last_piece}
 use Rattle.textwrap_lines.specs.Paragraph.{keeps_whitespace, indent_of, parts_of, parts_from}
 use Rattle.textwrap_lines.specs.Paragraph.{ArePieces, widths_of, is_whole, Slice, IsDividedInto}
@@ -221,59 +220,6 @@ length-parts_from : (settings : Settings) (is_later : Bool) (lines : List (List 
 length-parts_from settings is_later [] = refl
 length-parts_from settings is_later (line ∷ lines) = ap suc (length-parts_from settings true lines)
 
--- a line is out where one was out at the start, or one was added
-pub is_later-added : (now before added : ℕ) → now ≡ before + added
-    → nat_lt 0 now ≡ cond (nat_lt 0 added) true (nat_lt 0 before)
-is_later-added now before added is = grind (arith, nat_tests)
-
--- the lines that are out after those of a division
-pub length-is_later : {Z : Type 0} (settings : Settings) (is_later : Bool)
-    (lines start : List (CowStr Z)) (division : List (List WordText))
-    → map line_view lines ≡ map line_view start ++ map line_from
-    (parts_from settings is_later division) → length lines ≡ length start + length division
-length-is_later settings is_later lines start division is =
-    sym (length-map lines line_view) ∙ ap length is ∙ length-append (map line_view start)
-    (map line_from (parts_from settings is_later division))
-    ∙ ap (λ n. n + length (map line_from (parts_from settings is_later division)))
-    (length-map start line_view)
-    ∙ ap (λ n. length start + n) (length-map (parts_from settings is_later division) line_from
-    ∙ length-parts_from settings is_later division)
-
--- the line of the pieces at i is added
-pub lines-push : {Z D : Type 0} (v : D → List WordText) (settings : Settings) (division : List D)
-    (i : ℕ) (d : D) (start lines pushed : List (CowStr Z)) (line : CowStr Z) (is_out : Bool)
-    → i < length division
-    → map line_view lines ≡ map line_view start ++ map line_from
-    (parts_from settings (nat_lt 0 (length start)) (map v (take i division)))
-    → is_out ≡ nat_lt 0 (length lines)
-    → line_view line ≡ line_from (parts_of settings is_out (v (get_or division i d)))
-    → pushed ≡ lines ++ line ∷ []
-    → map line_view pushed ≡ map line_view start ++ map line_from
-    (parts_from settings (nat_lt 0 (length start)) (map v (take (i + 1) division)))
-lines-push v settings division i d start lines pushed line is_out within so_far out_is line_is
-    pushed_is =
-    let is_later = nat_lt 0 (length start) in
-    let before = map v (take i division) in
-    let here = v (get_or division i d) in
-    let same_out : is_out ≡ cond (nat_lt 0 (length before)) true is_later =
-    out_is ∙ is_later-added (length lines) (length start) (length before)
-    (length-is_later settings is_later lines start before so_far) in
-    let parts : parts_from settings is_later (map v (take (i + 1) division))
-    ≡ parts_from settings is_later before ++ parts_of settings is_out here ∷ [] =
-    ap (parts_from settings is_later) (map_more v division i d within)
-    ∙ parts_from-push settings is_later before here
-    ∙ ap (λ b. parts_from settings is_later before ++ parts_of settings b here ∷ [])
-    (sym same_out) in
-    ap (map line_view) pushed_is ∙ map_push line_view lines line
-    ∙ ap (λ l. l ++ line_view line ∷ []) so_far
-    ∙ ap (λ x. (map line_view start ++ map line_from (parts_from settings is_later before))
-    ++ x ∷ []) line_is
-    ∙ append_assoc (map line_view start) (map line_from (parts_from settings is_later before))
-    (line_from (parts_of settings is_out here) ∷ [])
-    ∙ ap (λ l. map line_view start ++ l)
-    (sym (ap (map line_from) parts ∙ map_push line_from (parts_from settings is_later before)
-    (parts_of settings is_out here)))
-
 pub not_empty : (n m : ℕ) → n ≡ m → not (n == 0) ≡ nat_lt 0 m
 not_empty n m is = grind (arith, nat_tests)
 
@@ -329,7 +275,7 @@ line_keeping indent tile cover last false none_before none =
     ap (λ i. assembled_line i cover last.penalty) none_before
     ∙ ap (λ p. assembled_line [] cover p) none
 
-last_piece-no_penalty : (w : WordText) (ws : List WordText) → All HasNoPenalty (w ∷ ws)
+pub last_piece-no_penalty : (w : WordText) (ws : List WordText) → All HasNoPenalty (w ∷ ws)
     → HasNoPenalty (last_piece w ws)
 last_piece-no_penalty w [] all = All-head HasNoPenalty w [] all
 last_piece-no_penalty w (v ∷ ws) all =

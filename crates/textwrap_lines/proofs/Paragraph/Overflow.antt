@@ -1,5 +1,7 @@
 -- Lemmas on overflow: only where a caller gives the points of words, and optimal fit divides them.
-use Rattle.std.proofs.Common.{◌≡◌, ◌≢◌, ℕ, ◌<◌, ◌^◌, List, length, map, refl, ◌∙◌, arith}
+use Rattle.std.proofs.Common.{◌≡◌, ◌≢◌, ◌++◌, ℕ, ◌<◌, ◌^◌, List, length, map, take, refl, ap, ◌∙◌}
+use Rattle.std.proofs.Common.{arith}
+use Rattle.std.proofs.lemmas.List.{map-append, take_at}
 use Rattle.std.specs.Prelude.{Some, None, Err, IsErrAnd, IsSomeAnd, Result, Ok, alloc_error}
 use Rattle.std.specs.Str.{IsUtf8}
 use Rattle.std.specs.declared.borrow.CowStr.{CowStr}
@@ -15,7 +17,7 @@ use Rattle.textwrap_base.specs.declared.words.Word.{Word}
 use Rattle.textwrap_base.specs.declared.wrap_algorithms.WrapAlgorithm as algorithms
 use Rattle.textwrap_lines.specs.Fuzzing.{AppendsLines}
 use Rattle.textwrap_lines.specs.Options.{MayOverflow, settings_view}
-use Rattle.textwrap_lines.specs.Paragraph.{ArePieces, LineParts}
+use Rattle.textwrap_lines.specs.Paragraph.{ArePieces, LineParts, line_view, line_from}
 use Rattle.textwrap_lines.specs.WordSeparators.{MaySeparate}
 use Rattle.textwrap_lines.specs.WordSplitters.{MaySplit, splitter_view}
 use Rattle.textwrap_lines.specs.declared.options.Options.{Options}
@@ -73,3 +75,20 @@ pub appends-none : {Z A : Type 0} (Refuses : Type 0) (Are : List LineParts → T
 appends-none Refuses Are lines (Ok value) error is only = absurd is
 appends-none Refuses Are lines (Err e) error is only =
     record { lines = tt; kept = tt; unchanged = refl; only_memory = λ never. is ∙ only never }
+
+-- a call that succeeds appends lines of its own
+pub appends-own : {Z A : Type 0} (Refuses : Type 0) (Are : List LineParts → Type 0)
+    (old own new : List (CowStr Z)) (parts : List LineParts) (value : A) → Are parts
+    → map line_view own ≡ map line_from parts → new ≡ old ++ own
+    → AppendsLines Refuses Are old new (Ok value)
+appends-own Refuses Are old own new parts value are own_are is = record {
+  lines = (
+    parts,
+    are,
+    ap (map line_view) is ∙ map-append line_view old own
+        ∙ ap (λ lines. map line_view old ++ lines) own_are,
+  );
+  kept = ap (take (length old)) is ∙ take_at old own (length old) refl;
+  unchanged = tt;
+  only_memory = λ never. tt;
+}

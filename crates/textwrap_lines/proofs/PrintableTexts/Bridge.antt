@@ -1,27 +1,22 @@
 -- The pieces of a printable paragraph are those of the settings, and so are its lines.
 use Rattle.std.proofs.Common.{◌≡◌, ℕ, Bool, true, false, cond, ◌==◌, ◌&&◌, List, [], ◌∷◌, ◌++◌, All}
-use Rattle.std.proofs.Common.{length, map, refl, sym, ap, ◌∙◌, subst, arith}
+use Rattle.std.proofs.Common.{length, map, refl, sym, ap, ◌∙◌, arith}
 use Rattle.std.specs.Prelude.{◌||◌}
 use Rattle.std.specs.List.{onto_first}
-use Rattle.std.specs.Str.{IsUtf8}
 use Rattle.textwrap_base.specs.Breaking.{broken_words}
-use Rattle.textwrap_base.specs.WrapAlgorithms.{Algorithm, IsDividedBy}
 use Rattle.textwrap_base.specs.Units.{text_width}
-use Rattle.textwrap_base.specs.Words.{WordText, sizes_of, tiled, word_of, is_cut, chunks, words_of}
+use Rattle.textwrap_base.specs.Words.{WordText, tiled, word_of, is_cut, chunks, words_of}
 use Rattle.textwrap_base.proofs.ListLemmas.{flat, all-left, all-right}
 use Rattle.textwrap_base.proofs.Word.Texts.{HasNoPenalty, text_width-nil}
-use Rattle.textwrap_base.proofs.Division.Map.{IsDividedBy-whole}
 use Rattle.textwrap_lines.specs.Options.{Settings}
-use Rattle.textwrap_lines.specs.Paragraph.{covered, LineParts, AreDividedParts, DividesAs}
-use Rattle.textwrap_lines.specs.Paragraph.{line_bytes, line_from, parts_from, indent_of, widths_of}
+use Rattle.textwrap_lines.specs.Paragraph.{covered}
+use Rattle.textwrap_lines.specs.Paragraph.{Slice, line_from, parts_from, indent_of, widths_of}
 use Rattle.textwrap_lines.specs.Paragraph.{width_after, later_width, first_width, pieces_of}
 use Rattle.textwrap_lines.specs.Paragraph.{empty_word, front_pieces}
 use Rattle.textwrap_lines.specs.WordSplitters.{Splitter, Whole, AtHyphens, split_words}
 use Rattle.textwrap_lines.specs.Printable.{IsPrintable, parts, pieces_after, printable_cut}
 use Rattle.textwrap_lines.specs.Direct.{HasBareLines, hyphens_of}
 use Rattle.textwrap_lines.proofs.Paragraph.Lines.{line_from-pieces}
-use Rattle.textwrap_lines.proofs.Paragraph.Pieces.{pieces_of-no_penalty, ArePieces-computed}
-use Rattle.textwrap_lines.proofs.PrintableTexts.Texts.{printable-utf8}
 use Rattle.textwrap_lines.proofs.PrintableTexts.Lines.{one_width}
 use Rattle.textwrap_lines.proofs.PrintableTexts.Hyphens.{split-hyphens}
 
@@ -57,7 +52,7 @@ width_after-none settings indent none =
     let nothing : text_width indent ≡ 0 = ap text_width none ∙ text_width-nil in
     omega (arith, nothing)
 
-pieces_of-bare : (settings : Settings) (splitter : Splitter) (text : List ℕ)
+pub pieces_of-bare : (settings : Settings) (splitter : Splitter) (text : List ℕ)
     → HasBareLines settings → pieces_of settings splitter text
     ≡ broken_words settings.width (split_words splitter (words_of text))
 pieces_of-bare settings splitter text fit =
@@ -91,41 +86,17 @@ pub unindented : (settings : Settings) (is_later : Bool) → HasBareLines settin
 unindented settings true fit = fit.subsequent
 unindented settings false fit = fit.initial
 
-lines-covered : (settings : Settings) (is_later : Bool) (lines : List (List WordText))
+pub lines-slices : (settings : Settings) (is_later : Bool) (lines : List (List WordText))
     → HasBareLines settings → All HasNoPenalty (flat lines)
-    → map line_bytes (map line_from (parts_from settings is_later lines)) ≡ map covered lines
-lines-covered settings is_later [] fit none = refl
-lines-covered settings is_later (line ∷ lines) fit none =
-    let others = map line_bytes (map line_from (parts_from settings true lines)) in
-    let here = line_from-pieces settings is_later line (unindented settings is_later fit)
-    (all-left HasNoPenalty line (flat lines) none) in
-    ap (λ l. line_bytes l ∷ others) here
-    ∙ ap (λ b. cond b (tiled line) (covered line) ∷ others) fit.trims
-    ∙ ap (λ ls. covered line ∷ ls)
-    (lines-covered settings true lines fit (all-right HasNoPenalty line (flat lines) none))
-
--- the lines of the pieces by an algorithm are the lines of the paragraph
-pub bare_lines : (settings : Settings) (splitter : Splitter) (algorithm : Algorithm)
-    (is_later : Bool) (text : List ℕ) (division : List (List WordText)) → HasBareLines settings
-    → IsUtf8 text → IsDividedBy algorithm sizes_of (settings.width ∷ settings.width ∷ [])
-    (broken_words settings.width (split_words splitter (words_of text))) division
-    → (ps : List LineParts)
-    × AreDividedParts settings (DividesAs splitter algorithm settings) is_later text ps
-    × (map line_bytes (map line_from ps) ≡ map covered division)
-bare_lines settings splitter algorithm is_later text division fit utf8 by =
-    let pieces = pieces_of settings splitter text in
-    let divided : IsDividedBy algorithm sizes_of (widths_of settings is_later) pieces division =
-    subst (λ widths. IsDividedBy algorithm sizes_of widths pieces division)
-    (sym (widths_of-bare settings is_later fit))
-    (subst (λ ps. IsDividedBy algorithm sizes_of (one_width settings.width) ps division)
-    (sym (pieces_of-bare settings splitter text fit)) by) in
-    let whole =
-    IsDividedBy-whole sizes_of algorithm (widths_of settings is_later) pieces division divided in (
-      parts_from settings is_later division,
-      (division, (pieces, ArePieces-computed settings splitter text, divided), refl),
-      lines-covered settings is_later division fit
-          (subst (All HasNoPenalty) (sym whole) (pieces_of-no_penalty settings splitter text utf8)),
-    )
+    → map line_from (parts_from settings is_later lines) ≡ map Slice (map covered lines)
+lines-slices settings is_later [] fit none = refl
+lines-slices settings is_later (line ∷ lines) fit none =
+    let others = map line_from (parts_from settings true lines) in
+    ap (λ l. l ∷ others) (line_from-pieces settings is_later line
+    (unindented settings is_later fit) (all-left HasNoPenalty line (flat lines) none))
+    ∙ ap (λ b. Slice (cond b (tiled line) (covered line)) ∷ others) fit.trims
+    ∙ ap (λ ls. Slice (covered line) ∷ ls)
+    (lines-slices settings true lines fit (all-right HasNoPenalty line (flat lines) none))
 
 -- the pieces of a printable text, found by its bytes, are the same
 pub pieces-printable : (splitter : Splitter) (width : ℕ) (text : List ℕ) → IsPrintable text

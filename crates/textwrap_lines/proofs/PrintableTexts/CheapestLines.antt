@@ -1,8 +1,7 @@
 -- The lines of least cost of a printable paragraph, found from where its pieces stand.
-use Rattle.std.proofs.Common.{◌≡◌, ℕ, zero, suc, ◌+◌, ◌<◌, ◌≤◌, Bool, List, [], ◌∷◌, ◌++◌, All}
+use Rattle.std.proofs.Common.{◌≡◌, ℕ, zero, suc, ◌+◌, ◌<◌, ◌≤◌, Bool, List, [], ◌∷◌, All}
 use Rattle.std.proofs.Common.{length, map, take, get_or, refl, sym, ap, ◌∙◌, subst, arith}
-use Rattle.std.proofs.Common.{append_assoc, append-nil}
-use Rattle.std.proofs.lemmas.List.{take_more, take-take, map_push}
+use Rattle.std.proofs.lemmas.List.{take-take}
 use Rattle.std.proofs.lemmas.List.Elements.{All-nil, All-cons, All-head, All-tail}
 use Rattle.textwrap_base.specs.Cost.{PricedSizes, priced_at, AreEqualFromSecond}
 use Rattle.textwrap_base.specs.Division.{closed_width}
@@ -19,7 +18,6 @@ use Rattle.textwrap_base.proofs.Cost.QueueCase.{SuitQueue-queue_case}
 use Rattle.textwrap_base.proofs.Division.Map.{IsDivision-map}
 use Rattle.textwrap_base.proofs.Division.OneLine.{closed-take}
 use Rattle.textwrap_lines.specs.Cheapest.{SuitSearch}
-use Rattle.textwrap_lines.specs.LineEnding.{join_with}
 use Rattle.textwrap_lines.specs.Paragraph.{covered}
 use Rattle.textwrap_lines.specs.Printable.{IsPrintable, pieces_after, printable_cut}
 use Rattle.textwrap_lines.specs.Spans.{spans_from, span_sizes, span_priced, AreSpans, line_text}
@@ -30,38 +28,6 @@ use Rattle.textwrap_lines.proofs.PrintableTexts.Pieces.{IsExact, pieces-exact, p
 use Rattle.textwrap_lines.proofs.PrintableTexts.Pieces.{pieces-some}
 use Rattle.textwrap_lines.proofs.PrintableTexts.Spans.{span_word, map-spans, priced-spans}
 use Rattle.textwrap_lines.proofs.PrintableTexts.Spans.{total-spans, covered-lines, AreSpans-from}
-use Rattle.textwrap_lines.proofs.Text.Lines.{join-push}
-
--- ---- the lines written so far
-
-module _ {X : Type 0} (f : X → List ℕ) (separator old now new : List ℕ) where
-  -- the first line
-  pub join-first : (xs : List X) (i : ℕ) (d : X) → i < length xs → i ≡ 0
-      → now ≡ old ++ join_with separator (map f (take i xs)) → new ≡ now ++ f (get_or xs i d)
-      → new ≡ old ++ join_with separator (map f (take (i + 1) xs))
-  join-first [] i d within first so_far is = absurd (omega (arith, within))
-  join-first (x ∷ xs) zero d within first so_far is =
-      is ∙ ap (λ l. l ++ f x) (so_far ∙ append-nil old)
-  join-first (x ∷ xs) (suc i) d within first so_far is = absurd (omega (arith, first))
-
-  -- a line after a separator
-  pub join-more : (xs : List X) (i : ℕ) (d : X) → i < length xs → 0 < i
-      → now ≡ old ++ join_with separator (map f (take i xs))
-      → new ≡ (now ++ separator) ++ f (get_or xs i d)
-      → new ≡ old ++ join_with separator (map f (take (i + 1) xs))
-  join-more [] i d within later so_far is = absurd (omega (arith, within))
-  join-more (x ∷ xs) zero d within later so_far is = absurd (omega (arith, later))
-  join-more (x ∷ xs) (suc i) d within later so_far is =
-      let line = f (get_or (x ∷ xs) (suc i) d) in
-      let before = join_with separator (map f (take (suc i) (x ∷ xs))) in
-      is ∙ ap (λ l. (l ++ separator) ++ line) so_far
-      ∙ ap (λ l. l ++ line) (append_assoc old before separator)
-      ∙ append_assoc old (before ++ separator) line
-      ∙ ap (λ l. old ++ l) (sym (join-push separator (f x) (map f (take i xs)) line))
-      ∙ ap (λ ls. old ++ join_with separator ls)
-      (sym (map_push f (take (suc i) (x ∷ xs)) (get_or (x ∷ xs) (suc i) d)))
-      ∙ ap (λ l. old ++ join_with separator (map f l))
-      (sym (take_more (x ∷ xs) (suc i) d within))
 
 -- ---- the costs suit the search
 

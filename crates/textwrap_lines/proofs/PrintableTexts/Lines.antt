@@ -1,20 +1,20 @@
 -- The lines of a printable paragraph, one after the other.
-use Rattle.std.proofs.Common.{◌≡◌, ℕ, zero, suc, ◌+◌, ◌-◌, ◌<◌, Bool, true, false, cond, List, []}
+use Rattle.std.proofs.Common.{◌≡◌, ℕ, zero, suc, ◌+◌, ◌-◌, ◌<◌, Bool, List, []}
 use Rattle.std.proofs.Common.{◌∷◌, ◌++◌, length, map, take, drop, get_or, refl, sym, ap, ◌∙◌, subst}
 use Rattle.std.proofs.Common.{arith, append_assoc, append-nil}
-use Rattle.std.proofs.lemmas.Bool.{false≢true}
 use Rattle.std.proofs.lemmas.List.{nil_from_length, map-append, length_push}
 use Rattle.textwrap_base.specs.Division.{line_width, closed_width, Fits, IsGreedy}
 use Rattle.textwrap_base.specs.Lists.{last}
 use Rattle.textwrap_base.specs.Words.{WordText, sizes_of}
 use Rattle.textwrap_base.proofs.Division.Greedy.{IsGreedyFrom, IsGreedyFrom-nil, IsGreedyFrom-cons}
 use Rattle.textwrap_base.proofs.Division.Greedy.{IsGreedy-from}
-use Rattle.textwrap_lines.specs.LineEnding.{join_with}
-use Rattle.textwrap_lines.specs.Paragraph.{covered}
+use Rattle.textwrap_lines.specs.LineSinks.{Took}
+use Rattle.textwrap_lines.specs.Paragraph.{covered, Slice}
 use Rattle.textwrap_lines.specs.Printable.{IsPrintable, pieces_after, byte_before, printable_cut}
 use Rattle.textwrap_lines.specs.Printable.{IsFirstLine}
 use Rattle.textwrap_lines.proofs.Paragraph.LongLines.{later_is}
-use Rattle.textwrap_lines.proofs.Text.Lines.{join-push}
+use Rattle.textwrap_lines.specs.declared.line_sinks.LineSink.{LineSink}
+use Rattle.textwrap_lines.proofs.Text.Sinks.{Took-none, Took-then}
 use Rattle.textwrap_lines.proofs.PrintableTexts.Pieces.{pieces-some}
 
 -- lines of one width
@@ -25,14 +25,12 @@ pub one_width-is : (width number : ℕ) → line_width (one_width width) number 
 one_width-is width zero = refl
 one_width-is width (suc number) = later_is width width (suc number) (omega arith)
 
--- what was written after `old` are the lines so far, none where the next is the first: with right
--- lines of the rest they are the lines of the whole paragraph
-pub record HasLines (separator : List ℕ) (width : ℕ) (hyphens : Bool) (all old now : List ℕ)
-    (before : ℕ) (rest : List ℕ) (first : Bool) : Type 0 where
+-- the lines that were taken are the first of the paragraph: with right lines of the rest they are
+-- those of the whole
+pub record HasLines {Z : Type 0} (width : ℕ) (hyphens : Bool) (all : List ℕ) (old now : LineSink Z)
+    (before : ℕ) (rest : List ℕ) : Type 0 where
   pub done : List (List WordText)
-  pub given : now ≡ old ++ join_with separator (map covered done)
-  pub none : first ≡ true → done ≡ []
-  pub some : first ≡ false → 0 < length done
+  pub took : Took old now (map Slice (map covered done))
   pub more : (tail : List (List WordText))
       → IsGreedyFrom sizes_of (one_width width) (length done)
       (pieces_after (printable_cut hyphens) width before rest) tail
@@ -40,37 +38,24 @@ pub record HasLines (separator : List ℕ) (width : ℕ) (hyphens : Bool) (all o
       (printable_cut hyphens) width 32 all)
       (done ++ tail)
 
-pub HasLines-start : (separator : List ℕ) (width : ℕ) (hyphens : Bool) (all old : List ℕ)
-    → HasLines separator width hyphens all old old 32 all true
-HasLines-start separator width hyphens all old = record {
+pub HasLines-start : {Z : Type 0} (width : ℕ) (hyphens : Bool) (all : List ℕ) (old : LineSink Z)
+    → HasLines width hyphens all old old 32 all
+HasLines-start width hyphens all old = record {
   done = [];
-  given = sym (append-nil old);
-  none = λ _. refl;
-  some = λ e. absurd (false≢true (sym e));
+  took = Took-none old;
   more = λ tail greedy. greedy;
 }
 
-joined-push : (separator x : List ℕ) (done : List (List WordText)) (line : List WordText)
-    → 0 < length done
-    → join_with separator (map covered (done ++ line ∷ []))
-    ≡ (join_with separator (map covered done) ++ separator) ++ covered line
-joined-push separator x [] line some = absurd (omega arith)
-joined-push separator x (d ∷ done) line some =
-    ap (join_with separator) (map-append covered (d ∷ done) (line ∷ []))
-    ∙ join-push separator (covered d) (map covered done) (covered line)
-
--- one more line was written, after a separator unless it is the first
-pub HasLines-line : (separator : List ℕ) (width : ℕ) (hyphens : Bool) (all old now : List ℕ)
-    (before : ℕ) (rest : List ℕ) (first : Bool) (slice next : ℕ)
-    (separated line_text new after : List ℕ) (last : ℕ)
-    → HasLines separator width hyphens all old now before rest first
+-- one more line was taken
+pub HasLines-line : {Z : Type 0} (width : ℕ) (hyphens : Bool) (all : List ℕ)
+    (old now new : LineSink Z) (before : ℕ) (rest : List ℕ) (slice next : ℕ)
+    (line_text after : List ℕ) (last : ℕ) → HasLines width hyphens all old now before rest
     → IsFirstLine (printable_cut hyphens) width before rest slice next
-    → separated ≡ cond first now (now ++ separator) → line_text ≡ take slice rest
-    → new ≡ separated ++ line_text
+    → line_text ≡ take slice rest → Took now new (Slice line_text ∷ [])
     → after ≡ drop next rest → last ≡ byte_before before rest next
-    → HasLines separator width hyphens all old new last after false
-HasLines-line separator width hyphens all old now before rest first slice next separated line_text
-    new after last lines line separated_is text_is new_is after_is last_is =
+    → HasLines width hyphens all old new last after
+HasLines-line width hyphens all old now new before rest slice next line_text after last lines line
+    text_is took after_is last_is =
     let ps = pieces_after (printable_cut hyphens) width before rest in
     let one = take line.count ps in
     let len : length (lines.done ++ one ∷ []) ≡ length lines.done + 1 =
@@ -80,12 +65,16 @@ HasLines-line separator width hyphens all old now before rest first slice next s
     (sym last_is)
     ∙ ap (pieces_after (printable_cut hyphens) width last) (sym after_is) in
     let width_is = one_width-is width (length lines.done) in
+    let texts : map Slice (map covered (lines.done ++ one ∷ []))
+    ≡ map Slice (map covered lines.done) ++ Slice (covered one) ∷ [] =
+    ap (map Slice) (map-append covered lines.done (one ∷ []))
+    ∙ map-append Slice (map covered lines.done) (covered one ∷ []) in
     record {
       done = lines.done ++ one ∷ [];
-      given = new_is ∙ ap (λ l. l ++ line_text) separated_is
-          ∙ ap (λ l. cond first now (now ++ separator) ++ l) text_is ∙ written first refl;
-      none = λ e. absurd (false≢true e);
-      some = λ _. omega (arith, len);
+      took = subst (Took old new) (sym texts)
+          (Took-then old now new (map Slice (map covered lines.done)) (Slice (covered one) ∷ [])
+          lines.took
+          (subst (λ t. Took now new (Slice t ∷ [])) (text_is ∙ sym line.covers) took));
       more = λ tail greedy.
           subst (IsGreedyFrom sizes_of (one_width width) 0
           (pieces_after (printable_cut hyphens) width 32 all))
@@ -99,33 +88,14 @@ HasLines-line separator width hyphens all old now before rest first slice next s
           (subst (λ l. IsGreedyFrom sizes_of (one_width width)
           (length (lines.done ++ one ∷ [])) l tail) (sym rest_is) greedy))));
     }
-  where
-    one_line : List WordText
-    one_line = take line.count (pieces_after (printable_cut hyphens) width before rest)
 
-    written : (f : Bool) → first ≡ f → cond f now (now ++ separator) ++ take slice rest
-        ≡ old ++ join_with separator (map covered (lines.done ++ one_line ∷ []))
-    written true is =
-        let empty = lines.none is in
-        ap (λ l. l ++ take slice rest) (lines.given
-        ∙ ap (λ d. old ++ join_with separator (map covered d)) empty ∙ append-nil old)
-        ∙ ap (λ l. old ++ l) (sym line.covers)
-        ∙ ap (λ d. old ++ join_with separator (map covered (d ++ one_line ∷ []))) (sym empty)
-    written false is =
-        let done = join_with separator (map covered lines.done) in
-        ap (λ l. (l ++ separator) ++ take slice rest) lines.given
-        ∙ ap (λ l. l ++ take slice rest) (append_assoc old done separator)
-        ∙ append_assoc old (done ++ separator) (take slice rest)
-        ∙ ap (λ l. old ++ ((done ++ separator) ++ l)) (sym line.covers)
-        ∙ ap (λ l. old ++ l) (sym (joined-push separator old lines.done one_line (lines.some is)))
-
-pub HasLines-end : (separator : List ℕ) (width : ℕ) (hyphens : Bool) (all old now : List ℕ)
-    (before : ℕ) (rest : List ℕ) (first : Bool) → IsPrintable all → 0 < length all
-    → HasLines separator width hyphens all old now before rest first → length rest ≡ 0
+pub HasLines-end : {Z : Type 0} (width : ℕ) (hyphens : Bool) (all : List ℕ) (old now : LineSink Z)
+    (before : ℕ) (rest : List ℕ) → IsPrintable all → 0 < length all
+    → HasLines width hyphens all old now before rest → length rest ≡ 0
     → (division : List (List WordText)) × IsGreedy sizes_of (one_width width)
     (pieces_after (printable_cut hyphens) width 32 all) division
-    × (now ≡ old ++ join_with separator (map covered division))
-HasLines-end separator width hyphens all old now before rest first printable some lines empty =
+    × Took old now (map Slice (map covered division))
+HasLines-end width hyphens all old now before rest printable some lines empty =
     let ps = pieces_after (printable_cut hyphens) width 32 all in
     let left : length (pieces_after (printable_cut hyphens) width before rest) ≡ 0 =
     ap (λ t. length (pieces_after (printable_cut hyphens) width before t))
@@ -138,7 +108,7 @@ HasLines-end separator width hyphens all old now before rest first printable som
       IsGreedy-from sizes_of (one_width width) ps lines.done
           (pieces-some (printable_cut hyphens) width 32 all printable some)
           (subst (IsGreedyFrom sizes_of (one_width width) 0 ps) (append-nil lines.done) greedy),
-      lines.given,
+      lines.took,
     )
 
 pub byte_before-some : (a : ℕ) (text : List ℕ) (n : ℕ) → 0 < n

@@ -1,7 +1,7 @@
 -- Lemmas on the line that takes the next piece.
 use Rattle.std.proofs.Common.{◌≡◌, ℕ, ◌+◌, ◌*◌, ◌≤◌, List, [], ◌∷◌, ◌++◌, length, take, drop, refl}
 use Rattle.std.proofs.Common.{ap, ◌∙◌, sym, subst, arith, append_assoc, append-nil, length-append}
-use Rattle.std.proofs.Common.{length-drop, take-append-drop}
+use Rattle.std.proofs.Common.{length-drop, take-append-drop, Bool, true, false, cond}
 use Rattle.std.specs.Str.{IsUtf8, IsCharBoundary}
 use Rattle.std.proofs.Math.Seq.{take-add}
 use Rattle.std.proofs.lemmas.List.{take_at, drop_at, take-take, drop-take, drop-drop}
@@ -136,6 +136,19 @@ has_piece line piece word gap word_is gap_is word_utf8 gap_utf8 width next =
           line.ends.0 next.utf8 word_utf8 gap_utf8 refl refl
           (is ∙ ap (λ l. l ++ after) (sym parts));
     }
+
+-- the text of the line, with or without the whitespace at its end
+pub line-text : (line : OpenLine) (keeps_blanks : Bool) (end : ℕ)
+    → end ≡ cond keeps_blanks line.len line.covered
+    → take end line.text.now
+    ≡ cond keeps_blanks ((line_so_far line).slice ++ (line_so_far line).gap) (line_so_far line).slice
+line-text line true end is =
+    let text = line.text.now in
+    ap (λ n. take n text) is
+    ∙ sym (ap (λ l. l ++ drop line.covered (take line.len text))
+    (sym (take-take line.covered line.len text line.order))
+    ∙ take-append-drop line.covered (take line.len text))
+line-text line false end is = ap (λ n. take n line.text.now) is
 
 -- the columns that come to the line keep to twice its bytes
 pub piece-room : (line : OpenLine) (piece : Word) → IsUtf8 piece.word.now

@@ -1,10 +1,12 @@
 -- Lemmas on lines that are written piece by piece.
-use Rattle.std.proofs.Common.{◌≡◌, ℕ, List, [], ◌++◌, refl, ap, ◌∙◌, append_assoc}
+use Rattle.std.proofs.Common.{◌≡◌, ℕ, List, [], ◌++◌, refl, ap, sym, ◌∙◌, append_assoc}
 use Rattle.std.specs.Prelude.{Result, Ok, Err, OnOk}
 use Rattle.textwrap_base.specs.Words.{WordText, tiled}
 use Rattle.textwrap_base.proofs.Word.Tiling.{tiled-append}
-use Rattle.textwrap_lines.specs.WordLines.{GoesOn, IsNext, joined_from, line_so_far}
+use Rattle.textwrap_lines.specs.WordLines.{GoesOn, IsNext, LaterLines, line_so_far, lines_from}
+use Rattle.textwrap_lines.specs.declared.line_sinks.LineSink.{LineSink}
 use Rattle.textwrap_lines.specs.declared.word_lines.OpenLine.{OpenLine}
+use Rattle.textwrap_lines.proofs.Text.Sinks.{Took-none, Took-then}
 
 -- what holds where a call succeeds
 pub on_ok-map : {A E : Type 0} {P Q : Type 0} (result : Result A E) → (P → Q) → OnOk result P
@@ -21,15 +23,18 @@ IsNext-same line pieces others same next = record {
   place = next.place ∙ ap (λ l. l ++ next.after) same;
 }
 
-module _ (width : ℕ) (separator : List ℕ) where
-  pub GoesOn-start : (before : List ℕ) (line : OpenLine) (pieces : List WordText)
-      → GoesOn width separator before line pieces before line pieces
-  GoesOn-start before line pieces =
-      record { text = λ others. refl; place = λ after is. is; utf8 = λ utf8. utf8 }
+module _ (later : LaterLines) {Z : Type 0} where
+  pub GoesOn-start : (before : LineSink Z) (line : OpenLine) (pieces : List WordText)
+      → GoesOn later before line pieces before line pieces
+  GoesOn-start before line pieces = record {
+    lines = λ others. ([], Took-none before, refl);
+    place = λ after is. is;
+    utf8 = λ utf8. utf8;
+  }
 
-  module _ {before now : List ℕ} {line next : OpenLine} {pieces : List WordText}
+  module _ {before now : LineSink Z} {line next : OpenLine} {pieces : List WordText}
       (first left : List WordText)
-      (goes : GoesOn width separator before line pieces now next (first ++ left)) where
+      (goes : GoesOn later before line pieces now next (first ++ left)) where
     parts : (after : List ℕ) → tiled (first ++ left) ++ after ≡ tiled first ++ (tiled left ++ after)
     parts after =
         ap (λ l. l ++ after) (tiled-append first left)
@@ -44,13 +49,20 @@ module _ (width : ℕ) (separator : List ℕ) where
     }
 
     -- the first of the pieces that are left were taken
-    pub GoesOn-then : (then : List ℕ) (last : OpenLine)
-        → GoesOn width separator now next first then last []
-        → GoesOn width separator before line pieces then last left
+    pub GoesOn-then : (then : LineSink Z) (last : OpenLine)
+        → GoesOn later now next first then last []
+        → GoesOn later before line pieces then last left
     GoesOn-then then last step = record {
-      text = λ others. goes.text others
-          ∙ ap (λ ws. now ++ joined_from width separator (line_so_far next) ws)
-          (append_assoc first left others) ∙ step.text (left ++ others);
+      lines = λ others.
+          let (taken, took, is) = goes.lines others in
+          let (more, took_more, more_is) = step.lines (left ++ others) in (
+            taken ++ more,
+            Took-then before now then taken more took took_more,
+            is ∙ ap (λ ws. taken ++ lines_from later (line_so_far next) ws)
+                (append_assoc first left others) ∙ ap (λ ls. taken ++ ls) more_is
+                ∙ sym (append_assoc taken more
+                (lines_from later (line_so_far last) (left ++ others))),
+          );
       place = λ after is.
           step.place (tiled left ++ after) (goes.place after is ∙ parts after);
       utf8 = λ utf8. step.utf8 (goes.utf8 utf8);

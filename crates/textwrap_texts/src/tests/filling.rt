@@ -1,10 +1,12 @@
 //! The text of `fill`.
 use super::{by_first_fit, with_endings, with_indents};
+use std::alloc::{AllocError, Global};
+use std::borrow::CowStr;
 use std::process::Abort;
 use std::test::Fail;
-use textwrap::fuzzing::fill_slow_path;
+use textwrap::fuzzing::{wrap_single_line, wrap_single_line_slow_path};
 use textwrap::wrap_algorithms::Penalties;
-use textwrap::{LineEnding, Options, WordSplitter, WrapAlgorithm, WrapError, fill};
+use textwrap::{LineEnding, Options, WordSplitter, WrapAlgorithm, WrapError, fill, wrap};
 
 /// Asserts that the text is filled to the expected one.
 fn assert_filled(
@@ -42,10 +44,9 @@ fn lines_of_first_fit_are_joined(rt: HostRuntime) -> Result<(), Fail> {
     Ok(())
 }
 
-/// A text without indents is filled without a list of all lines, and a paragraph of printable ASCII
-/// without one of words; the lines are those of the lists.
+/// Most paragraphs are divided without a list of their words; the lines are those of the lists.
 #[test]
-fn a_list_of_lines_makes_no_difference(rt: HostRuntime) -> Result<(), Fail> {
+fn a_list_of_words_makes_no_difference(rt: HostRuntime) -> Result<(), Fail> {
     let odd = Penalties {
         nline_penalty: 3,
         overflow_penalty: 7,
@@ -76,7 +77,74 @@ fn a_list_of_lines_makes_no_difference(rt: HostRuntime) -> Result<(), Fail> {
     Ok(())
 }
 
-/// Asserts that the texts are filled to the lines of the lists, by each ending.
+/// By first fit no setting needs that list.
+#[test]
+fn indents_make_no_difference_to_first_fit(rt: HostRuntime) -> Result<(), Fail> {
+    for width in [0, 1, 2, 3, 5, 7, 10, 13, 20, 40] {
+        for (initial, subsequent) in [("", ""), ("* ", "  "), ("", "> "), ("\x1b[1m안안안", "")] {
+            for broken in [false, true] {
+                for preserve in [false, true] {
+                    for even in [false, true] {
+                        let options = with_indents(width, initial, subsequent)
+                            .wrap_algorithm(WrapAlgorithm::FirstFit)
+                            .break_words(broken)
+                            .preserve_trailing_space(preserve)
+                            .even_paragraphs(even);
+                        assert_same_lines(&rt, &options)?;
+                    }
+                }
+            }
+        }
+    }
+    Ok(())
+}
+
+/// The lines of a text, of which each paragraph is divided by way of a list of its words, unless it
+/// is one line as a whole.
+fn listed_lines<'t>(
+    alloc: Global,
+    text: &'t str,
+    options: &Options<'_>,
+) -> Result<Vec<CowStr<'t>>, WrapError> {
+    let mut lines = Vec::new(alloc);
+    let mut rest = Some(text);
+    // No text has more paragraphs.
+    for _ in 0..=text.len() {
+        let Some(text) = rest else {
+            break;
+        };
+        let (paragraph, after) = match text.split_once(options.line_ending.as_str()) {
+            Some((paragraph, after)) => (paragraph, Some(after)),
+            None => (text, None),
+        };
+        let indent = if lines.is_empty() {
+            options.initial_indent
+        } else {
+            options.subsequent_indent
+        };
+        if indent.is_empty() && paragraph.len() < options.width {
+            wrap_single_line(alloc, paragraph, options, &mut lines)?;
+        } else {
+            wrap_single_line_slow_path(alloc, paragraph, options, &mut lines)?;
+        }
+        rest = after;
+    }
+    Ok(lines)
+}
+
+/// The lines with a text between each two.
+fn joined(alloc: Global, lines: &[CowStr<'_>], between: &str) -> Result<String, AllocError> {
+    let mut joined = String::new(alloc);
+    for (i, line) in lines.iter().enumerate() {
+        if i > 0 {
+            joined.push_str(between)?;
+        }
+        joined.push_str(line.as_str())?;
+    }
+    Ok(joined)
+}
+
+/// Asserts that the texts have the lines of the lists, by each ending, in a list and in one text.
 fn assert_same_lines(
     rt: &(impl Abort + AllocGlobal),
     options: &Options<'_>,
@@ -106,8 +174,12 @@ fn assert_same_lines(
     ] {
         for ending in [LineEnding::LF, LineEnding::CRLF] {
             let options = Options::from(options).line_ending(ending);
-            let listed = fill_slow_path(rt.alloc(), text, Options::from(&options))?;
-            assert_filled(rt, text, options, &listed)?;
+            let listed = listed_lines(rt.alloc(), text, &options)?;
+            let lines = wrap(rt.alloc(), text, Options::from(&options))?;
+            let texts = joined(rt.alloc(), &listed, "|")?;
+            assert_eq!(rt; joined(rt.alloc(), &lines, "|")?, texts, "{text:?}");
+            let filled = joined(rt.alloc(), &listed, ending.as_str())?;
+            assert_filled(rt, text, options, &filled)?;
         }
     }
     Ok(())

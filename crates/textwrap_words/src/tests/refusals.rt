@@ -266,6 +266,8 @@ fn refused_costs_are_no_other_costs(rt: HostRuntime) -> Result<(), Fail> {
 #[derive(Clone, Copy, Debug)]
 enum OnText {
     WrapByFirstFit,
+    /// The same without indents, which allocates nothing but the list of lines.
+    WrapDirectly,
     WrapByOptimalFit,
     WrapShort,
     /// To a list that holds a line.
@@ -288,6 +290,10 @@ impl Call for OnText {
             OnText::WrapByFirstFit => {
                 let options = options.wrap_algorithm(WrapAlgorithm::FirstFit);
                 joined(alloc, &wrap(heap, TEXT, options)?)?
+            }
+            OnText::WrapDirectly => {
+                let options = Options::new(5).wrap_algorithm(WrapAlgorithm::FirstFit);
+                joined(alloc, &wrap(heap, "foo bar\né foo\nfoobarbaz", options)?)?
             }
             OnText::WrapByOptimalFit => joined(alloc, &wrap(heap, TEXT, options)?)?,
             OnText::WrapShort => joined(alloc, &wrap(heap, "foo", Options::new(10))?)?,
@@ -341,17 +347,18 @@ fn refused_lines_are_no_other_lines(rt: HostRuntime) -> Result<(), Fail> {
     for &(call, refusals, expected) in &[
         (
             OnText::WrapByFirstFit,
-            27,
+            16,
             "* To be,|  or not|  to be:|  that is|  the|  question|  Hamlet|",
         ),
+        (OnText::WrapDirectly, 2, "foo|bar|é foo|fooba|rbaz|"),
         (
             OnText::WrapByOptimalFit,
             37,
             "* To be,|  or not|  to be:|  that|  is the|  question|  Hamlet|",
         ),
         (OnText::WrapShort, 1, "foo|"),
-        (OnText::Append { slowly: false }, 27, APPENDED),
-        (OnText::Append { slowly: true }, 27, APPENDED),
+        (OnText::Append { slowly: false }, 29, APPENDED),
+        (OnText::Append { slowly: true }, 29, APPENDED),
     ] {
         assert_refused(&rt, call, refusals, expected)?;
     }
@@ -399,12 +406,12 @@ impl Call for OnFilling {
 #[test]
 fn a_refused_text_is_no_other_text(rt: HostRuntime) -> Result<(), Fail> {
     for &(call, refusals, expected) in &[
-        (OnFilling::Fill, 41, FILLED),
+        (OnFilling::Fill, 23, FILLED),
         (OnFilling::Short, 1, "foo"),
         (OnFilling::Directly, 2, "foo\nbar\né foo\nfooba\nrbaz"),
         (
             OnFilling::DirectlyByLeastCost,
-            19,
+            17,
             "foo\nbar\né foo\nfooba\nrbaz",
         ),
         (OnFilling::Slowly, 41, FILLED),
@@ -459,10 +466,10 @@ fn a_refused_layout_is_no_other_layout(rt: HostRuntime) -> Result<(), Fail> {
         (OnLayout::Indent, 3, "    foo\n\n    bar\n"),
         (OnLayout::Dedent, 2, "foo\n  bar\n\n baz\n"),
         (OnLayout::Unfill, 2, "foo bar baz\n"),
-        (OnLayout::Refill, 13, "* foo bar\n"),
+        (OnLayout::Refill, 10, "* foo bar\n"),
         (
             OnLayout::Columns,
-            20,
+            13,
             "|To be,    |is the     |\n|or not to |question   |\n|be: that  |Hamlet     |\n",
         ),
     ] {

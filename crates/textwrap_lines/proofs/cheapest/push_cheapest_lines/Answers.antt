@@ -1,8 +1,8 @@
-use Rattle.std.proofs.Common.{◌++◌, List, map, sym, ap, ◌∙◌, subst, Bor}
-use Rattle.std.specs.String.{string_bytes}
+use Rattle.std.proofs.Common.{List, map, sym, ap, ◌∙◌, subst, Bor}
 use Rattle.std.proofs.lemmas.Result.{on_ok_weaker}
 use Rattle.textwrap_base.specs.Table.{IsByTable}
-use Rattle.textwrap_lines.specs.LineEnding.{join_with}
+use Rattle.textwrap_lines.specs.LineSinks.{Took}
+use Rattle.textwrap_lines.specs.Paragraph.{Slice}
 use Rattle.textwrap_lines.specs.Printable.{pieces_after, printable_cut}
 use Rattle.textwrap_lines.specs.Spans.{spans_from, span_priced}
 use Rattle.textwrap_lines.specs.declared.spans.Span.{Span}
@@ -46,7 +46,7 @@ push_lines-requires-clause-within g c =
     c.as_bytes.ensures.value)
     now c.deref-2.result.now
     (subst (λ ls. IsByTable span_priced c.args.penalties.now (one_width c.args.width)
-    c.deref.result.now (map now ls)) (sym c.deref-2.ensures.value) c.in_ok-lines.ensures) in
+    c.deref.result.now (map now ls)) (sym c.deref-2.ensures.value) c.in_ok-division.ensures) in
     found.within
 
 pub returns : goal.returns
@@ -59,10 +59,10 @@ returns g c =
     c.as_bytes.ensures.value)
     now c.deref-2.result.now
     (subst (λ ls. IsByTable span_priced c.args.penalties.now (one_width c.args.width)
-    c.deref.result.now (map now ls)) (sym c.deref-2.ensures.value) c.in_ok-lines.ensures) in
-    on_ok_weaker c.push_lines.result (λ written. (
+    c.deref.result.now (map now ls)) (sym c.deref-2.ensures.value) c.in_ok-division.ensures) in
+    on_ok_weaker c.push_lines.result (λ took. (
       found.division,
       found.optimal,
-      written ∙ ap (λ ls. string_bytes c.args.joined.now ++ join_with c.args.separator.now ls)
-          found.texts,
+      subst (λ texts. Took c.args.lines.now c.push_lines.new.lines (map Slice texts)) found.texts
+          took,
     )) c.push_lines.ensures

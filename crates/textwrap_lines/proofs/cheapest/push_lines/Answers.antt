@@ -1,30 +1,18 @@
-use Rattle.std.proofs.Common.{◌++◌, List, ap, ◌∙◌, arith, Bor}
-use Rattle.std.specs.String.{string_bytes}
+use Rattle.std.proofs.Common.{List, Bor, [], ◌∷◌, subst}
+use Rattle.textwrap_lines.specs.LineSinks.{Took}
+use Rattle.textwrap_lines.specs.Paragraph.{Slice}
 use Rattle.textwrap_lines.specs.Spans.{line_text}
 use Rattle.textwrap_lines.specs.declared.spans.Span.{Span}
-use Rattle.textwrap_lines.proofs.PrintableTexts.CheapestLines.{join-first, join-more}
+use Rattle.textwrap_lines.proofs.Text.Sinks.{Took-none, Took-slice}
 use Rattle.textwrap_lines.proofs.cheapest.push_lines.Goals as goal
-use Rattle.textwrap_lines.proofs.cheapest.push_lines.Goals.{then-i-gt0+in_ok-push_str, else-i-gt0}
 
-pub loop-i-preserved : goal.loop-i-preserved
-loop-i-preserved g c =
+pub loop-line-init : goal.loop-line-init
+loop-line-init g c = Took-none c.args.lines.now
+
+pub loop-line-preserved : goal.loop-line-preserved
+loop-line-preserved g c =
     let text : Bor (List Span) → _ = λ line. line_text c.args.paragraph.now line.now in
-    let separator = c.args.separator.now in
-    let old = string_bytes c.args.joined.now in
-    let now = string_bytes c.loop-i.joined in
-    let new = string_bytes c.push_str-in-loop-i.new.self in
-    elim c.if-i-gt0.branch [
-      | then-i-gt0+in_ok-push_str w ↦
-          join-more text separator old now new c.args.lines.now c.loop-i.i _ c.loop-i-test.true
-          w.if-i-gt0.true c.loop-i.invariant
-          (c.in_ok-push_str-2.ensures.bytes
-          ∙ ap (λ l. l ++ c.line_text.result.now)
-          (ap string_bytes w.joined-is ∙ w.in_ok-push_str.ensures.bytes)
-          ∙ ap (λ l. (now ++ separator) ++ l) c.line_text.ensures)
-      | else-i-gt0 w ↦
-          join-first text separator old now new c.args.lines.now c.loop-i.i _ c.loop-i-test.true
-          (omega arith) c.loop-i.invariant
-          (c.in_ok-push_str-2.ensures.bytes
-          ∙ ap (λ l. l ++ c.line_text.result.now) (ap string_bytes w.joined-is)
-          ∙ ap (λ l. now ++ l) c.line_text.ensures)
-    ]
+    Took-slice text c.args.division.now c.loop-line.line-index _ c.args.lines.now
+    c.loop-line.lines c.push_slice.new.self c.loop-line-test.true c.loop-line.invariant
+    (subst (λ t. Took c.loop-line.lines c.push_slice.new.self (Slice t ∷ []))
+    c.line_text.ensures c.in_ok-push_slice.ensures)

@@ -1,18 +1,21 @@
-use Rattle.std.proofs.Common.{[], ◌∷◌, subst}
-use Rattle.textwrap_base.specs.Division.{IsGreedy}
-use Rattle.textwrap_base.specs.Words.{sizes_of}
+use Rattle.std.proofs.Common.{sym, subst}
+use Rattle.std.proofs.lemmas.Result.{on_ok_weaker}
+use Rattle.textwrap_base.specs.WrapAlgorithms.{Greedy}
+use Rattle.textwrap_lines.specs.LineSinks.{Took}
+use Rattle.textwrap_lines.specs.Options.{settings_view}
 use Rattle.textwrap_lines.specs.Printable.{IsPrintable}
-use Rattle.textwrap_lines.proofs.Text.Directly.{OnOk-map, pieces-by_bytes}
+use Rattle.textwrap_lines.proofs.Text.Directly.{bare-divided}
 use Rattle.textwrap_lines.proofs.direct.push_greedy_lines.Goals as goal
 
 pub returns-then-is_printable : goal.returns-then-is_printable
 returns-then-is_printable g c =
-    let width = c.args.width in
     let printable = subst IsPrintable c.as_bytes.ensures.value
     (c.is_printable.ensures.0 c.if-is_printable.true) in
-    OnOk-map c.push_printable_lines.result (λ (division, greedy, written). (
+    on_ok_weaker c.push_printable_lines.result (λ (division, greedy, took).
+    let (divided, same) = bare-divided (settings_view c.args.options.now) c.args.hyphens Greedy
+    c.args.is_later c.args.paragraph.now division (c.is_bare.ensures.fit c.if-is_bare.true)
+    c.utf8.paragraph printable greedy in (
       division,
-      subst (λ pieces. IsGreedy sizes_of (width ∷ width ∷ []) pieces division)
-          (pieces-by_bytes c.args.hyphens width c.args.paragraph.now printable) greedy,
-      written,
+      divided,
+      subst (Took c.args.lines.now c.push_printable_lines.new.lines) (sym same) took,
     )) c.push_printable_lines.ensures

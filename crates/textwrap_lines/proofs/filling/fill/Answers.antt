@@ -1,9 +1,9 @@
 use Rattle.std.proofs.Common.{not, ap, sym, ◌∙◌}
-use Rattle.std.specs.String.{string_bytes}
 use Rattle.textwrap_lines.specs.Options.{settings_view}
 use Rattle.textwrap_lines.specs.Paragraph.{DividesBy}
 use Rattle.textwrap_lines.proofs.Text.Lines.{no_more, IsFilled-whole}
-use Rattle.textwrap_lines.proofs.Paragraph.BuiltIn.{filled-as, filled-by_parts}
+use Rattle.textwrap_lines.proofs.Paragraph.BuiltIn.{filled-as}
+use Rattle.textwrap_lines.proofs.Text.Sinks.{kind-joined}
 use Rattle.textwrap_lines.proofs.filling.fill.Goals as goal
 
 pub returns-then-is_one_line-clause-filled : goal.returns-then-is_one_line-clause-filled
@@ -19,7 +19,21 @@ returns-then-is_one_line-clause-built_in g c = λ settings splitter algorithm pa
     filled-as c.args.options settings splitter algorithm parts c.args.text.now _
     (returns-then-is_one_line-clause-filled g c)
 
-pub returns-in-Some-clause-built_in : goal.returns-in-Some-clause-built_in
-returns-in-Some-clause-built_in g c =
-    filled-by_parts c.args.options c.args.text.now string_bytes c.fill_directly.result
-    c.fill_directly.ensures.filled
+pub into_text-requires : goal.into_text-requires
+into_text-requires g c =
+    let (taken, are, holds, kind) = c.in_ok-push_text.ensures.lines in
+    kind-joined c.args.options.line_ending (kind ∙ c.joined-lines.ensures.kind)
+
+pub returns-clause-filled : goal.returns-clause-filled
+returns-clause-filled g c =
+    let (taken, are, holds, kind) = c.in_ok-push_text.ensures.lines in (
+      taken,
+      are,
+      c.into_text.ensures taken c.args.options.line_ending holds
+          (kind ∙ c.joined-lines.ensures.kind),
+    )
+
+pub returns-clause-built_in : goal.returns-clause-built_in
+returns-clause-built_in g c = λ settings splitter algorithm parts.
+    filled-as c.args.options settings splitter algorithm parts c.args.text.now _
+    (returns-clause-filled g c)

@@ -1,36 +1,43 @@
-use Rattle.std.proofs.Common.{◌≡◌, [], ◌∷◌, ◌++◌, All, ap, ◌∙◌, sym, subst, append-nil}
+use Rattle.std.proofs.Common.{◌≡◌, ◌++◌, [], ◌∷◌, All, map, ap, ◌∙◌, sym, subst, append-nil, arith}
 use Rattle.std.specs.Str.{IsUtf8}
-use Rattle.std.specs.String.{string_bytes}
 use Rattle.std.proofs.lemmas.List.Elements.{All-head, All-tail, All-weaker}
+use Rattle.std.proofs.lemmas.Result.{on_ok_weaker}
 use Rattle.textwrap_base.specs.Breaking.{broken_words}
-use Rattle.textwrap_base.specs.Words.{word_view, words_of, tiled}
-use Rattle.textwrap_base.proofs.Word.BrokenTexts.{broken_words-no_penalty}
-use Rattle.textwrap_base.proofs.Word.Texts.{IsMeasured, words_of-measured}
+use Rattle.textwrap_base.specs.Division.{IsGreedy}
+use Rattle.textwrap_base.specs.Words.{word_view, words_of, sizes_of, tiled}
+use Rattle.textwrap_base.proofs.Word.Texts.{HasNoPenalty, IsMeasured, words_of-measured}
 use Rattle.textwrap_base.proofs.Word.Tiling.{tiled-words_of}
-use Rattle.textwrap_lines.specs.WordLines.{GoesOn, IsNext, joined_from, line_so_far}
+use Rattle.textwrap_lines.specs.LineSinks.{Took}
+use Rattle.textwrap_lines.specs.Options.{settings_view}
+use Rattle.textwrap_lines.specs.Paragraph.{line_from, parts_from, pieces_of, widths_of}
+use Rattle.textwrap_lines.specs.WordLines.{GoesOn, IsNext, later_lines, line_of}
+use Rattle.textwrap_lines.specs.WordLines.{line_so_far, lines_after, lines_from}
 use Rattle.textwrap_lines.specs.WordSplitters.{splitter_of, split_words}
-use Rattle.textwrap_lines.proofs.Paragraph.Pieces.{split_pieces_of-no_penalty}
-use Rattle.textwrap_lines.proofs.WordLines.Joined.{joined-greedy}
+use Rattle.textwrap_lines.proofs.Paragraph.Pieces.{pieces_of-no_penalty}
+use Rattle.textwrap_lines.proofs.Text.Sinks.{Took-then}
+use Rattle.textwrap_lines.proofs.WordLines.Joined.{front, lines-greedy}
 use Rattle.textwrap_lines.proofs.WordLines.Pieces.{IsText, tiled-split, tiled-split_all}
 use Rattle.textwrap_lines.proofs.WordLines.Pieces.{word_pieces, word_pieces-cons}
 use Rattle.textwrap_lines.proofs.WordLines.Steps.{GoesOn-next, GoesOn-start, GoesOn-then}
 use Rattle.textwrap_lines.proofs.WordLines.Steps.{IsNext-same}
+use Rattle.textwrap_lines.proofs.WordLines.Unbroken.{limited-pieces}
 use Rattle.textwrap_lines.proofs.word_lines.push_lines_by_words.Goals as goal
 
 pub loop-word-init : goal.loop-word-init
 loop-word-init g c =
-    let width = c.args.width in
+    let later = later_lines c.of-layout.result in
+    let limit = c.of-layout.result.limit in
     let splitter = splitter_of c.args.hyphens in
-    let filled = string_bytes c.args.filled.now in
-    let line = c.at_start-line.result in
+    let before = c.args.lines.now in
+    let line = c.first-line.result in
     let is : c.into_iter-word-iterator.result ≡ words_of c.args.paragraph.now =
     c.into_iter-word-iterator.ensures.into_iter_gives ∙ c.of_line-word-items.ensures in
     record {
-      taken = subst (λ words. GoesOn width c.args.separator.now filled line
-          (broken_words width (split_words splitter (words_of c.args.paragraph.now))) filled line
-          (broken_words width (split_words splitter words))) (sym is)
-          (GoesOn-start width c.args.separator.now filled line
-          (broken_words width (split_words splitter (words_of c.args.paragraph.now))));
+      taken = subst (λ words. GoesOn later before line
+          (broken_words limit (split_words splitter (words_of c.args.paragraph.now))) before line
+          (broken_words limit (split_words splitter words))) (sym is)
+          (GoesOn-start later before line
+          (broken_words limit (split_words splitter (words_of c.args.paragraph.now))));
       measured = subst (All IsMeasured) (sym is)
           (words_of-measured c.args.paragraph.now c.utf8.paragraph);
     }
@@ -47,77 +54,89 @@ push_word-requires-clause-width g c =
 
 pub push_word-requires-clause-next : goal.push_word-requires-clause-next
 push_word-requires-clause-next g c =
-    let width = c.args.width in
+    let later = later_lines c.of-layout.result in
+    let limit = c.of-layout.result.limit in
     let splitter = splitter_of c.args.hyphens in
     let paragraph = c.args.paragraph.now in
     let words = words_of paragraph in
     let word = word_view c.in-Some.word in
     let left = c.next.new.self in
-    let line = c.at_start-line.result in
-    let all = broken_words width (split_words splitter words) in
+    let line = c.first-line.result in
+    let all = broken_words limit (split_words splitter words) in
     let measured = words_of-measured paragraph c.utf8.paragraph in
     let utf8 = (All-head IsMeasured word left
     (subst (All IsMeasured) c.in-Some.ensures.steps c.loop-word.invariant.measured)).utf8 in
-    let tiles = tiled-split_all width splitter words
+    let tiles = tiled-split_all limit splitter words
     (All-weaker IsMeasured IsText (λ w m. m.utf8) words measured) ∙ tiled-words_of paragraph in
     let begin : IsNext line all = record {
-      utf8 = subst IsUtf8 (sym c.at_start-line.ensures.place) c.utf8.paragraph;
+      utf8 = subst IsUtf8 (sym c.first-line.ensures.place) c.utf8.paragraph;
       after = [];
-      place = c.at_start-line.ensures.place ∙ sym tiles ∙ sym (append-nil (tiled all));
+      place = c.first-line.ensures.place ∙ sym tiles ∙ sym (append-nil (tiled all));
     } in
-    IsNext-same c.loop-word.line (word_pieces width splitter word) (word ∷ [])
-    (sym (tiled-split width splitter word utf8))
-    (GoesOn-next width c.args.separator.now (word_pieces width splitter word)
-    (broken_words width (split_words splitter left))
-    (subst (GoesOn width c.args.separator.now (string_bytes c.args.filled.now) line all
-    (string_bytes c.loop-word.filled) c.loop-word.line)
-    (ap (λ ws. broken_words width (split_words splitter ws)) c.in-Some.ensures.steps
-    ∙ word_pieces-cons width splitter word left) c.loop-word.invariant.taken) begin)
+    IsNext-same c.loop-word.line (word_pieces limit splitter word) (word ∷ [])
+    (sym (tiled-split limit splitter word utf8))
+    (GoesOn-next later (word_pieces limit splitter word)
+    (broken_words limit (split_words splitter left))
+    (subst (GoesOn later c.args.lines.now line all c.loop-word.lines c.loop-word.line)
+    (ap (λ ws. broken_words limit (split_words splitter ws)) c.in-Some.ensures.steps
+    ∙ word_pieces-cons limit splitter word left) c.loop-word.invariant.taken) begin)
 
 pub loop-word-preserved : goal.loop-word-preserved
 loop-word-preserved g c =
-    let width = c.args.width in
+    let later = later_lines c.of-layout.result in
+    let limit = c.of-layout.result.limit in
     let splitter = splitter_of c.args.hyphens in
     let word = word_view c.in-Some.word in
     let left = c.next.new.self in
-    let line = c.at_start-line.result in
-    let all = broken_words width (split_words splitter (words_of c.args.paragraph.now)) in
+    let line = c.first-line.result in
+    let all = broken_words limit (split_words splitter (words_of c.args.paragraph.now)) in
+    let step = subst (λ h. GoesOn later c.loop-word.lines c.loop-word.line
+    (broken_words limit (split_words (splitter_of h) (word ∷ []))) c.push_word.new.lines
+    c.push_word.new.line []) c.of-layout.ensures.hyphens in
     record {
-      taken = GoesOn-then width c.args.separator.now (word_pieces width splitter word)
-          (broken_words width (split_words splitter left))
-          (subst (GoesOn width c.args.separator.now (string_bytes c.args.filled.now) line all
-          (string_bytes c.loop-word.filled) c.loop-word.line)
-          (ap (λ ws. broken_words width (split_words splitter ws)) c.in-Some.ensures.steps
-          ∙ word_pieces-cons width splitter word left) c.loop-word.invariant.taken)
-          (string_bytes c.push_word.new.filled) c.push_word.new.line c.in_ok-push_word.ensures;
+      taken = GoesOn-then later (word_pieces limit splitter word)
+          (broken_words limit (split_words splitter left))
+          (subst (GoesOn later c.args.lines.now line all c.loop-word.lines c.loop-word.line)
+          (ap (λ ws. broken_words limit (split_words splitter ws)) c.in-Some.ensures.steps
+          ∙ word_pieces-cons limit splitter word left) c.loop-word.invariant.taken)
+          c.push_word.new.lines c.push_word.new.line
+          (subst (λ h. GoesOn later c.loop-word.lines c.loop-word.line
+          (word_pieces limit (splitter_of h) word) c.push_word.new.lines c.push_word.new.line [])
+          c.of-layout.ensures.hyphens c.in_ok-push_word.ensures);
       measured = All-tail IsMeasured word left
           (subst (All IsMeasured) c.in-Some.ensures.steps c.loop-word.invariant.measured);
     }
 
 pub returns : goal.returns
 returns g c =
-    let width = c.args.width in
-    let separator = c.args.separator.now in
+    let settings = settings_view c.args.options.now in
+    let later = later_lines c.of-layout.result in
+    let limit = c.of-layout.result.limit in
     let paragraph = c.args.paragraph.now in
     let splitter = splitter_of c.args.hyphens in
     let split = split_words splitter (words_of paragraph) in
-    let pieces = broken_words width split in
-    let old = string_bytes c.args.filled.now in
-    let now = string_bytes c.loop-word.filled in
-    let line = c.at_start-line.result in
-    let last = c.loop-word.line in
-    let none = broken_words-no_penalty width split
-    (split_pieces_of-no_penalty splitter paragraph) in
-    let (division, greedy, joined) = joined-greedy width separator pieces none in
-    let taken = subst (λ words. GoesOn width separator old line pieces now last
-    (broken_words width (split_words splitter words))) c.in-None.ensures.steps.0
-    c.loop-word.invariant.taken in (
+    let pieces = broken_words limit split in
+    let line = c.first-line.result in
+    let last = line_so_far c.loop-word.line in
+    let same : front settings ++ pieces ≡ pieces_of settings splitter paragraph =
+    ap (λ n. front settings ++ broken_words n split) c.of-layout.ensures.limit
+    ∙ limited-pieces settings splitter paragraph c.utf8.paragraph (omega arith) in
+    let (division, greedy, found) = lines-greedy settings c.args.is_later pieces
+    (subst (All HasNoPenalty) (sym same)
+    (pieces_of-no_penalty settings splitter paragraph c.utf8.paragraph)) in
+    let all = subst (λ words. GoesOn later c.args.lines.now line pieces c.loop-word.lines
+    c.loop-word.line (broken_words limit (split_words splitter words))) c.in-None.ensures.steps.0
+    c.loop-word.invariant.taken in
+    let (taken, took, is) = all.lines [] in
+    let lines_are : lines_from later (line_so_far line) (pieces ++ [])
+    ≡ map line_from (parts_from settings c.args.is_later division) =
+    ap (λ ps. lines_from later (line_so_far line) ps) (append-nil pieces)
+    ∙ ap (λ l. lines_from l (line_so_far line) pieces) c.of-layout.ensures.later
+    ∙ ap (λ l. lines_from (lines_after settings) l pieces) c.first-line.ensures.line ∙ found in
+    on_ok_weaker c.push_to.result (λ end. (
       division,
-      greedy,
-      c.in_ok-push_str.ensures.bytes
-          ∙ ap (λ l. now ++ l) c.slice.ensures
-          ∙ sym (taken.text [])
-          ∙ ap (λ ps. old ++ joined_from width separator (line_so_far line) ps) (append-nil pieces)
-          ∙ ap (λ l. old ++ joined_from width separator l pieces) c.at_start-line.ensures.line
-          ∙ ap (λ l. old ++ l) joined,
-    )
+      subst (λ ps. IsGreedy sizes_of (widths_of settings c.args.is_later) ps division) same greedy,
+      subst (Took c.args.lines.now c.push_to.new.lines) (sym is ∙ lines_are)
+          (Took-then c.args.lines.now c.loop-word.lines c.push_to.new.lines taken
+          (line_of later.keeps_blanks last ∷ []) took end),
+    )) c.push_to.ensures

@@ -1,18 +1,17 @@
 use Rattle.std.proofs.Common.{All}
-use Rattle.std.specs.String.{string_bytes}
 use Rattle.textwrap_base.specs.Breaking.{broken_words}
 use Rattle.textwrap_base.specs.Words.{words_of}
 use Rattle.textwrap_base.proofs.Word.Texts.{IsMeasured}
-use Rattle.textwrap_lines.specs.WordLines.{GoesOn}
+use Rattle.textwrap_lines.specs.WordLines.{GoesOn, later_lines}
 use Rattle.textwrap_lines.specs.WordSplitters.{splitter_of, split_words}
 use Rattle.textwrap_lines.proofs.word_lines.push_lines_by_words.Given as goal
 
 -- the pieces of the words so far were taken
 abbrev pub invariant-loop-word : goal.invariant-loop-word
 invariant-loop-word g l = record {
-  taken : GoesOn l.width l.separator (string_bytes l.fn.filled) l.initial.line
-      (broken_words l.width (split_words (splitter_of l.hyphens) (words_of l.paragraph)))
-      (string_bytes l.filled) l.line
-      (broken_words l.width (split_words (splitter_of l.hyphens) l.word-iterator));
+  taken : GoesOn (later_lines l.layout) l.fn.lines l.initial.line
+      (broken_words l.layout.limit (split_words (splitter_of l.hyphens) (words_of l.paragraph)))
+      l.lines l.line
+      (broken_words l.layout.limit (split_words (splitter_of l.hyphens) l.word-iterator));
   measured : All IsMeasured l.word-iterator;
 }

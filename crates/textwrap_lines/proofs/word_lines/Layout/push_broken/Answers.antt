@@ -1,9 +1,8 @@
 use Rattle.std.proofs.Common.{◌≡◌, [], ◌∷◌, All, ap, ◌∙◌, sym, subst}
-use Rattle.std.specs.String.{string_bytes}
 use Rattle.std.proofs.lemmas.List.Elements.{All-head, All-tail}
 use Rattle.textwrap_base.specs.Breaking.{broken_word, broken_pieces, pieces_left}
 use Rattle.textwrap_base.specs.Words.{word_view}
-use Rattle.textwrap_lines.specs.WordLines.{GoesOn}
+use Rattle.textwrap_lines.specs.WordLines.{GoesOn, later_lines}
 use Rattle.textwrap_lines.proofs.WordLines.Pieces.{IsWide, broken_pieces-wide, broken_word-wide}
 use Rattle.textwrap_lines.proofs.WordLines.Pieces.{tiled-broken}
 use Rattle.textwrap_lines.proofs.WordLines.Steps.{IsNext-same, GoesOn-start, GoesOn-next}
@@ -14,17 +13,17 @@ pub loop-piece-init : goal.loop-piece-init
 loop-piece-init g c =
     let layout = c.args.self.now in
     let word = word_view c.args.word.now in
-    let left : pieces_left c.into_iter-piece-iterator.result ≡ broken_pieces layout.width word =
+    let left : pieces_left c.into_iter-piece-iterator.result ≡ broken_pieces layout.limit word =
     ap pieces_left c.into_iter-piece-iterator.ensures.into_iter_gives
     ∙ c.break_apart-piece-items.ensures in
-    let wide = broken_word-wide layout.width word c.if-word-self.false in
+    let wide = broken_word-wide layout.limit word c.if-word-self.false in
     record {
-      taken = subst (GoesOn layout.width layout.separator.now (string_bytes c.args.filled.now)
-          c.args.line.now (broken_word layout.width word) (string_bytes c.args.filled.now)
+      taken = subst (GoesOn (later_lines layout) c.args.lines.now
+          c.args.line.now (broken_word layout.limit word) c.args.lines.now
           c.args.line.now)
-          (wide ∙ sym left) (GoesOn-start layout.width layout.separator.now
-          (string_bytes c.args.filled.now) c.args.line.now (broken_word layout.width word));
-      wide = subst (All IsWide) (sym left) (broken_pieces-wide layout.width word);
+          (wide ∙ sym left) (GoesOn-start (later_lines layout)
+          c.args.lines.now c.args.line.now (broken_word layout.limit word));
+      wide = subst (All IsWide) (sym left) (broken_pieces-wide layout.limit word);
     }
 
 pub push_piece-requires-in-loop-piece-clause-width :
@@ -38,13 +37,13 @@ pub push_piece-requires-in-loop-piece-clause-next :
 push_piece-requires-in-loop-piece-clause-next g c =
     let layout = c.args.self.now in
     let word = word_view c.args.word.now in
-    let taken = subst (GoesOn layout.width layout.separator.now (string_bytes c.args.filled.now)
-    c.args.line.now (broken_word layout.width word) (string_bytes c.loop-piece.filled)
+    let taken = subst (GoesOn (later_lines layout) c.args.lines.now
+    c.args.line.now (broken_word layout.limit word) c.loop-piece.lines
     c.loop-piece.line) c.in-Some.ensures.steps c.loop-piece.invariant.taken in
-    GoesOn-next layout.width layout.separator.now (word_view c.in-Some.piece ∷ [])
+    GoesOn-next (later_lines layout) (word_view c.in-Some.piece ∷ [])
     (pieces_left c.next.new.self) taken
-    (IsNext-same c.args.line.now (word ∷ []) (broken_word layout.width word)
-    (tiled-broken layout.width word c.requires.utf8 c.requires.width) c.requires.next)
+    (IsNext-same c.args.line.now (word ∷ []) (broken_word layout.limit word)
+    (tiled-broken layout.limit word c.requires.utf8 c.requires.width) c.requires.next)
 
 pub loop-piece-preserved : goal.loop-piece-preserved
 loop-piece-preserved g c =
@@ -52,12 +51,12 @@ loop-piece-preserved g c =
     let word = word_view c.args.word.now in
     let piece = word_view c.in-Some.piece in
     let left = pieces_left c.next.new.self in
-    let taken = subst (GoesOn layout.width layout.separator.now (string_bytes c.args.filled.now)
-    c.args.line.now (broken_word layout.width word) (string_bytes c.loop-piece.filled)
+    let taken = subst (GoesOn (later_lines layout) c.args.lines.now
+    c.args.line.now (broken_word layout.limit word) c.loop-piece.lines
     c.loop-piece.line) c.in-Some.ensures.steps c.loop-piece.invariant.taken in
     record {
-      taken = GoesOn-then layout.width layout.separator.now (piece ∷ []) left taken
-          (string_bytes c.push_piece-in-loop-piece.new.filled) c.push_piece-in-loop-piece.new.line
+      taken = GoesOn-then (later_lines layout) (piece ∷ []) left taken
+          c.push_piece-in-loop-piece.new.lines c.push_piece-in-loop-piece.new.line
           c.in_ok-push_piece.ensures;
       wide = All-tail IsWide piece left
           (subst (All IsWide) c.in-Some.ensures.steps c.loop-piece.invariant.wide);
@@ -66,7 +65,7 @@ loop-piece-preserved g c =
 pub returns : goal.returns
 returns g c =
     let layout = c.args.self.now in
-    subst (GoesOn layout.width layout.separator.now (string_bytes c.args.filled.now)
-    c.args.line.now (broken_word layout.width (word_view c.args.word.now))
-    (string_bytes c.loop-piece.filled) c.loop-piece.line) c.in-None.ensures.steps.0
+    subst (GoesOn (later_lines layout) c.args.lines.now
+    c.args.line.now (broken_word layout.limit (word_view c.args.word.now))
+    c.loop-piece.lines c.loop-piece.line) c.in-None.ensures.steps.0
     c.loop-piece.invariant.taken

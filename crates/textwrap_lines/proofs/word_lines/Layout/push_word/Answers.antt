@@ -1,13 +1,12 @@
 use Rattle.std.proofs.Common.{◌≡◌, ◌+◌, nat_eq, false, [], ◌∷◌, drop, refl}
 use Rattle.std.proofs.Common.{ap, ◌∙◌, sym, subst, arith, append-nil}
 use Rattle.std.specs.Prelude.{OnOk, slice_range}
-use Rattle.std.specs.String.{string_bytes}
 use Rattle.std.specs.Str.{IsUtf8}
 use Rattle.std.specs.List.{list_any}
 use Rattle.std.proofs.lemmas.Str.{IsCharBoundary-start, IsUtf8-between}
 use Rattle.textwrap_base.specs.Breaking.{broken_word, broken_words}
 use Rattle.textwrap_base.specs.Words.{piece, word_view}
-use Rattle.textwrap_lines.specs.WordLines.{GoesOn, IsNext}
+use Rattle.textwrap_lines.specs.WordLines.{GoesOn, IsNext, later_lines}
 use Rattle.textwrap_lines.specs.WordSplitters.{AtHyphens, splitter_of, points_of, hyphen}
 use Rattle.textwrap_lines.specs.WordSplitters.{hyphen_points, cut_penalty, split_pieces, split_word}
 use Rattle.textwrap_lines.proofs.Word.Splitting.{after-hyphen, hyphen_points-none}
@@ -35,13 +34,13 @@ returns-then-not-self g c =
           ∙ sym w.contains.ensures.value ∙ w.if-not-contains.true in
           rw w.if-not-self.false (hyphen_points-none word.word no_hyphen)
     ] in
-    let whole : broken_word layout.width word
-    ≡ broken_words layout.width (split_word (splitter_of layout.hyphens) word) =
-    sym (append-nil (broken_word layout.width word))
-    ∙ ap (broken_words layout.width) (sym (split-none word c.requires.width)
+    let whole : broken_word layout.limit word
+    ≡ broken_words layout.limit (split_word (splitter_of layout.hyphens) word) =
+    sym (append-nil (broken_word layout.limit word))
+    ∙ ap (broken_words layout.limit) (sym (split-none word c.requires.width)
     ∙ ap (λ ps. split_pieces ps word) (sym none)) in
-    subst (λ ps. OnOk c.push_broken.result (GoesOn layout.width layout.separator.now
-    (string_bytes c.args.filled.now) c.args.line.now ps (string_bytes c.push_broken.new.filled)
+    subst (λ ps. OnOk c.push_broken.result (GoesOn (later_lines layout)
+    c.args.lines.now c.args.line.now ps c.push_broken.new.lines
     c.push_broken.new.line []))
     whole c.push_broken.ensures
 
@@ -50,8 +49,8 @@ loop-point-init g c =
     let layout = c.args.self.now in
     let word = word_view c.args.word.now in
     record {
-      taken = GoesOn-start layout.width layout.separator.now (string_bytes c.args.filled.now)
-          c.args.line.now (pieces_from layout.width word 0 1);
+      taken = GoesOn-start (later_lines layout) c.args.lines.now
+          c.args.line.now (pieces_from layout.limit word 0 1);
       cut = IsCharBoundary-start word.word c.requires.utf8;
       before = omega arith;
     }
@@ -73,63 +72,63 @@ pub push_broken-requires-then-is_hyphen_point-clause-next :
 push_broken-requires-then-is_hyphen_point-clause-next g c =
     let layout = c.args.self.now in
     let word = word_view c.args.word.now in
-    let all = broken_words layout.width (split_pieces (hyphen_points word.word) word) in
+    let all = broken_words layout.limit (split_pieces (hyphen_points word.word) word) in
     let start = c.loop-point.start in
     let point = c.loop-point.point in
     let part = piece (slice_range word.word start point) [] (cut_penalty word.word point) in
-    let here = pieces_from-point layout.width word start point c.loop-point-test.true
+    let here = pieces_from-point layout.limit word start point c.loop-point-test.true
     (sym c.is_hyphen_point.ensures.point ∙ c.if-is_hyphen_point.true) in
     let cut = after-hyphen word.word point c.requires.utf8 c.loop-point.auto.point
     c.loop-point-test.true (sym c.is_hyphen_point.ensures.point ∙ c.if-is_hyphen_point.true) in
     let utf8 = IsUtf8-between word.word start point c.requires.utf8
     c.loop-point.invariant.before c.loop-point.invariant.cut cut in
-    let next = GoesOn-next layout.width layout.separator.now (broken_word layout.width part)
-    (pieces_from layout.width word point (point + 1))
-    (subst (GoesOn layout.width layout.separator.now (string_bytes c.args.filled.now)
-    c.args.line.now all (string_bytes c.loop-point.filled) c.loop-point.line) here
+    let next = GoesOn-next (later_lines layout) (broken_word layout.limit part)
+    (pieces_from layout.limit word point (point + 1))
+    (subst (GoesOn (later_lines layout) c.args.lines.now
+    c.args.line.now all c.loop-point.lines c.loop-point.line) here
     c.loop-point.invariant.taken)
     (IsNext-same c.args.line.now (word ∷ []) all
-    (tiled-split layout.width AtHyphens word c.requires.utf8)
+    (tiled-split layout.limit AtHyphens word c.requires.utf8)
     c.requires.next) in
     subst (λ w. IsNext c.loop-point.line (w ∷ [])) (sym c.inner_piece.ensures)
-    (IsNext-same c.loop-point.line (broken_word layout.width part) (part ∷ [])
-    (sym (tiled-broken layout.width part utf8 refl)) next)
+    (IsNext-same c.loop-point.line (broken_word layout.limit part) (part ∷ [])
+    (sym (tiled-broken layout.limit part utf8 refl)) next)
 
 pub loop-point-preserved : goal.loop-point-preserved
 loop-point-preserved g c =
     let layout = c.args.self.now in
     let word = word_view c.args.word.now in
-    let all = broken_words layout.width (split_pieces (hyphen_points word.word) word) in
+    let all = broken_words layout.limit (split_pieces (hyphen_points word.word) word) in
     let start = c.loop-point.start in
     let point = c.loop-point.point in
-    let before = string_bytes c.args.filled.now in
-    let now = string_bytes c.loop-point.filled in
+    let before = c.args.lines.now in
+    let now = c.loop-point.lines in
     elim c.if-is_hyphen_point.branch [
       | then-is_hyphen_point+in_ok-push_broken w ↦
           let pushed = w.push_broken-then-is_hyphen_point.new in
           let is = sym c.is_hyphen_point.ensures.point ∙ w.if-is_hyphen_point.true in
           let part = piece (slice_range word.word start point) [] (cut_penalty word.word point) in
-          rw (w.filled-is, w.line-is, w.start-is) (record {
-            taken = GoesOn-then layout.width layout.separator.now (broken_word layout.width part)
-                (pieces_from layout.width word point (point + 1))
-                (subst (GoesOn layout.width layout.separator.now before c.args.line.now all now
+          rw (w.lines-is, w.line-is, w.start-is) (record {
+            taken = GoesOn-then (later_lines layout) (broken_word layout.limit part)
+                (pieces_from layout.limit word point (point + 1))
+                (subst (GoesOn (later_lines layout) before c.args.line.now all now
                 c.loop-point.line)
-                (pieces_from-point layout.width word start point c.loop-point-test.true is)
+                (pieces_from-point layout.limit word start point c.loop-point-test.true is)
                 c.loop-point.invariant.taken)
-                (string_bytes pushed.filled) pushed.line
-                (subst (λ v. GoesOn layout.width layout.separator.now now c.loop-point.line
-                (broken_word layout.width v)
-                (string_bytes pushed.filled) pushed.line [])
+                pushed.lines pushed.line
+                (subst (λ v. GoesOn (later_lines layout) now c.loop-point.line
+                (broken_word layout.limit v)
+                pushed.lines pushed.line [])
                 w.inner_piece.ensures w.in_ok-push_broken.ensures);
             cut = after-hyphen word.word point c.requires.utf8 c.loop-point.auto.point
                 c.loop-point-test.true is;
             before = omega arith;
           })
       | else-is_hyphen_point w ↦
-          rw (w.filled-is, w.line-is, w.start-is) (record {
-            taken = subst (GoesOn layout.width layout.separator.now before c.args.line.now all now
+          rw (w.lines-is, w.line-is, w.start-is) (record {
+            taken = subst (GoesOn (later_lines layout) before c.args.line.now all now
                 c.loop-point.line)
-                (pieces_from-none layout.width word start point c.loop-point-test.true
+                (pieces_from-none layout.limit word start point c.loop-point-test.true
                 (sym c.is_hyphen_point.ensures.point ∙ w.if-is_hyphen_point.false))
                 c.loop-point.invariant.taken;
             cut = c.loop-point.invariant.cut;
@@ -144,30 +143,30 @@ pub push_broken-requires-2-clause-next : goal.push_broken-requires-2-clause-next
 push_broken-requires-2-clause-next g c =
     let layout = c.args.self.now in
     let word = word_view c.args.word.now in
-    let all = broken_words layout.width (split_pieces (hyphen_points word.word) word) in
+    let all = broken_words layout.limit (split_pieces (hyphen_points word.word) word) in
     let start = c.loop-point.start in
     let part = piece (drop start word.word) word.whitespace word.penalty in
-    let next = GoesOn-next layout.width layout.separator.now (broken_word layout.width part) []
-    (subst (GoesOn layout.width layout.separator.now (string_bytes c.args.filled.now)
-    c.args.line.now all (string_bytes c.loop-point.filled) c.loop-point.line)
-    (pieces_from-end layout.width word start c.loop-point.point c.loop-point-test.false)
+    let next = GoesOn-next (later_lines layout) (broken_word layout.limit part) []
+    (subst (GoesOn (later_lines layout) c.args.lines.now
+    c.args.line.now all c.loop-point.lines c.loop-point.line)
+    (pieces_from-end layout.limit word start c.loop-point.point c.loop-point-test.false)
     c.loop-point.invariant.taken)
     (IsNext-same c.args.line.now (word ∷ []) all
-    (tiled-split layout.width AtHyphens word c.requires.utf8)
+    (tiled-split layout.limit AtHyphens word c.requires.utf8)
     c.requires.next) in
     let utf8 = subst IsUtf8 c.range_from-rest.ensures.value c.range_from-rest.utf8 in
     rw (c.display_width.ensures.width, c.range_from-rest.ensures.value)
-    (IsNext-same c.loop-point.line (broken_word layout.width part) (part ∷ [])
-    (sym (tiled-broken layout.width part utf8 refl)) next)
+    (IsNext-same c.loop-point.line (broken_word layout.limit part) (part ∷ [])
+    (sym (tiled-broken layout.limit part utf8 refl)) next)
 
 pub returns : goal.returns
 returns g c =
     let layout = c.args.self.now in
     let word = word_view c.args.word.now in
     let start = c.loop-point.start in
-    let before = string_bytes c.args.filled.now in
-    let now = string_bytes c.loop-point.filled in
-    let new = string_bytes c.push_broken-2.new.filled in
+    let before = c.args.lines.now in
+    let now = c.loop-point.lines in
+    let new = c.push_broken-2.new.lines in
     let last = word_view (record {
       word = c.range_from-rest.result;
       whitespace = c.args.word.now.whitespace;
@@ -177,18 +176,18 @@ returns g c =
     let part = piece (drop start word.word) word.whitespace word.penalty in
     let is : last ≡ part =
     rw (c.display_width.ensures.width, c.range_from-rest.ensures.value) refl in
-    let split : broken_words layout.width (split_pieces (hyphen_points word.word) word)
-    ≡ broken_words layout.width (split_word (splitter_of layout.hyphens) word) =
+    let split : broken_words layout.limit (split_pieces (hyphen_points word.word) word)
+    ≡ broken_words layout.limit (split_word (splitter_of layout.hyphens) word) =
     rw c.if-not-self.false refl in
-    let taken = subst (GoesOn layout.width layout.separator.now before c.args.line.now
-    (broken_words layout.width (split_pieces (hyphen_points word.word) word)) now
+    let taken = subst (GoesOn (later_lines layout) before c.args.line.now
+    (broken_words layout.limit (split_pieces (hyphen_points word.word) word)) now
     c.loop-point.line)
-    (pieces_from-end layout.width word start c.loop-point.point c.loop-point-test.false)
+    (pieces_from-end layout.limit word start c.loop-point.point c.loop-point-test.false)
     c.loop-point.invariant.taken in
     on_ok-map c.push_broken-2.result (λ step.
     let next = c.push_broken-2.new.line in
-    subst (λ ps. GoesOn layout.width layout.separator.now before c.args.line.now ps new next [])
+    subst (λ ps. GoesOn (later_lines layout) before c.args.line.now ps new next [])
     split
-    (GoesOn-then layout.width layout.separator.now (broken_word layout.width part) [] taken new
-    next (subst (λ v. GoesOn layout.width layout.separator.now now c.loop-point.line
-    (broken_word layout.width v) new next []) is step))) c.push_broken-2.ensures
+    (GoesOn-then (later_lines layout) (broken_word layout.limit part) [] taken new
+    next (subst (λ v. GoesOn (later_lines layout) now c.loop-point.line
+    (broken_word layout.limit v) new next []) is step))) c.push_broken-2.ensures

@@ -1,10 +1,11 @@
-use Rattle.std.proofs.Common.{◌≡◌, ◌&&◌, ◌==◌, length, ◌∙◌, ap, sym}
+use Rattle.std.proofs.Common.{◌≡◌, ◌&&◌, ◌==◌, length, [], ◌∷◌, ◌∙◌, ap, sym, subst}
 use Rattle.textwrap_base.specs.Words.{word_view}
+use Rattle.textwrap_lines.specs.LineSinks.{Took}
 use Rattle.textwrap_lines.specs.Options.{settings_view}
 use Rattle.textwrap_lines.specs.Paragraph.{keeps_whitespace}
 use Rattle.textwrap_lines.proofs.Paragraph.Lines.{line_from-parts_of}
-use Rattle.textwrap_lines.proofs.wrapping.split_line.Goals as goal
-use Rattle.textwrap_lines.proofs.wrapping.split_line.Goals.{then-options, else-options}
+use Rattle.textwrap_lines.proofs.wrapping.push_line.Goals as goal
+use Rattle.textwrap_lines.proofs.wrapping.push_line.Goals.{then-options, else-options}
 
 pub returns-clause-line : goal.returns-clause-line
 returns-clause-line g c =
@@ -16,8 +17,9 @@ returns-clause-line g c =
       | else-options w ↦ w.keeps_whitespace-is ∙ w.if-options.false
           ∙ sym (ap (λ b. b && (length c.in-Some.last.now.penalty.now == 0)) w.if-options.false)
     ] in
-    c.in_ok-assemble.ensures
-    ∙ line_from-parts_of (settings_view c.args.options.now) c.args.is_later c.args.pieces.now
+    subst (λ line. Took c.args.lines.now c.push_line.new.self (line ∷ []))
+    (line_from-parts_of (settings_view c.args.options.now) c.args.is_later c.args.pieces.now
     c.in-Some.front.now c.in-Some.last.now c.next_indent-indent.result.now
     c.cut_line.result.0.now c.if-options.keeps_whitespace
-    c.in-Some.ensures.cases.0 c.next_indent-indent.ensures keeps c.cut_line.ensures.slice
+    c.in-Some.ensures.cases.0 c.next_indent-indent.ensures keeps c.cut_line.ensures.slice)
+    c.in_ok-push_line.ensures

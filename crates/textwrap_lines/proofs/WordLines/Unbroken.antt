@@ -1,0 +1,57 @@
+-- Words that stay whole are broken past a limit that none reaches.
+use Rattle.std.proofs.Common.{◌≡◌, ℕ, ◌-◌, ◌*◌, ◌^◌, ◌<◌, ◌≤◌, Bool, true, false, cond}
+use Rattle.std.proofs.Common.{List, [], ◌∷◌, ◌++◌, All, length, refl, sym, ap, ◌∙◌, arith}
+use Rattle.std.proofs.Common.{length-append}
+use Rattle.std.specs.Str.{IsUtf8}
+use Rattle.std.proofs.lemmas.Bool.{le-ltb}
+use Rattle.std.proofs.lemmas.List.Elements.{All-head, All-tail}
+use Rattle.textwrap_base.specs.Breaking.{broken_words, broken_pieces}
+use Rattle.textwrap_base.specs.Words.{WordText, tile_of, tiled, words_of}
+use Rattle.textwrap_base.proofs.Word.Bounds.{IsBounded, IsBounded-measured}
+use Rattle.textwrap_lines.specs.Options.{Settings}
+use Rattle.textwrap_lines.specs.Paragraph.{front_pieces, later_width, pieces_of, text_limit}
+use Rattle.textwrap_lines.specs.WordLines.{break_limit}
+use Rattle.textwrap_lines.specs.WordSplitters.{Splitter, split_words}
+use Rattle.textwrap_lines.proofs.Paragraph.Pieces.{pieces_of-tile, split_pieces_of-measured}
+use Rattle.textwrap_lines.proofs.Paragraph.Pieces.{split_pieces_of-no_penalty}
+use Rattle.textwrap_lines.proofs.WordLines.Joined.{front}
+
+unbroken : (limit : ℕ) (ws : List WordText) → All IsBounded ws → 2 * length (tiled ws) ≤ limit
+    → broken_words limit ws ≡ ws
+unbroken limit [] bounded within = refl
+unbroken limit (w ∷ ws) bounded within =
+    let here = All-head IsBounded w ws bounded in
+    let len = length-append (tile_of w) (tiled ws) in
+    let word = length-append w.word w.whitespace in
+    ap (λ b. cond b (broken_pieces limit w) (w ∷ []) ++ broken_words limit ws)
+    (le-ltb limit w.width (omega (arith, here.width, within, len, word)))
+    ∙ ap (λ l. w ∷ l) (unbroken limit ws (All-tail IsBounded w ws bounded)
+    (omega (arith, within, len)))
+
+-- whether words are broken or not, these are the pieces
+pub limited-pieces : (settings : Settings) (splitter : Splitter) (paragraph : List ℕ)
+    → IsUtf8 paragraph → length paragraph < text_limit
+    → front settings
+    ++ broken_words (break_limit settings) (split_words splitter (words_of paragraph))
+    ≡ pieces_of settings splitter paragraph
+limited-pieces settings splitter paragraph utf8 short = by settings.break_words refl
+  where
+    split : List WordText
+    split = split_words splitter (words_of paragraph)
+
+    by : (breaks : Bool) → settings.break_words ≡ breaks
+        → cond breaks (front_pieces settings) []
+        ++ broken_words (cond breaks (later_width settings) (2 ^ 64 - 1)) split
+        ≡ cond breaks (front_pieces settings ++ broken_words (later_width settings) split) split
+    by true is = refl
+    by false is =
+        let whole : pieces_of settings splitter paragraph ≡ split =
+        ap (λ b. cond b (front_pieces settings ++ broken_words (later_width settings) split) split)
+        is in
+        let measured = split_pieces_of-measured settings splitter paragraph utf8 in
+        let none = split_pieces_of-no_penalty splitter paragraph in
+        let bounded : All IsBounded split =
+        λ k d lt. IsBounded-measured _ (measured k d lt) (none k d lt) in
+        let tiles = ap length (sym (ap tiled whole)
+        ∙ pieces_of-tile settings splitter paragraph utf8) in
+        unbroken (2 ^ 64 - 1) split bounded (omega (arith, short, tiles))

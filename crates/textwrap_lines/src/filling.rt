@@ -10,7 +10,7 @@ ghost use Rattle.textwrap_lines.specs.Filling.{IsFilled};
 use crate::line_ending::LineEnding;
 use crate::line_sinks::LineSink;
 use crate::options::Options;
-use crate::wrapping::{is_one_line, push_text, split_paragraph, whole_line, wrap};
+use crate::wrapping::{push_text, wrap};
 use std::alloc::{AllocError, Allocator};
 use std::borrow::CowStr;
 use textwrap_base::wrap_algorithms::WrapError;
@@ -35,11 +35,6 @@ pub fn fill<A: Allocator + Copy>(
     ensures only_memory { ¬ MayOverflow options.entry
         → IfErr result (λ error. error ≡ WrapError.Memory alloc_error) }
 {
-    let (paragraph, after) = split_paragraph(text, options.line_ending);
-    // A single line is joined to none, so it needs no list.
-    if after.is_none() && is_one_line(paragraph, &options, false) {
-        return Ok(String::from_str(alloc, whole_line(paragraph, &options))?);
-    }
     // This is enough but where lines end inside words or have indents, or the ending is CRLF.
     let filled = String::with_capacity(alloc, text.len())?;
     let mut lines = LineSink::joined(filled, options.line_ending);

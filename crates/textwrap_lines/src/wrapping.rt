@@ -221,14 +221,14 @@ pub fn wrap_single_line<'t, A: Allocator + Copy>(
 }
 
 /// Whether a paragraph is one line as a whole. `is_later` says that a line stands before it.
-pub(crate) fn is_one_line(paragraph: &str, options: &Options<'_>, is_later: bool) -> bool
+fn is_one_line(paragraph: &str, options: &Options<'_>, is_later: bool) -> bool
     ensures { result ≡ is_whole (settings_view options.now) is_later paragraph.now }
 {
     next_indent(options, is_later).is_empty() && paragraph.len() < options.width
 }
 
 /// The paragraph as one line.
-pub(crate) fn whole_line<'t>(paragraph: &'t str, options: &Options<'_>) -> &'t str
+fn whole_line<'t>(paragraph: &'t str, options: &Options<'_>) -> &'t str
     ensures { result.now ≡ (if options.now.preserve_trailing_space then paragraph.now
         else without_final_blanks paragraph.now) }
 {

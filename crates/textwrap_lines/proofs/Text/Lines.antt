@@ -164,29 +164,3 @@ pub paragraphs_left-split : (ending : LineEnding) (rest : List ℕ) (after : Opt
     → paragraphs_of ending rest ≡ paragraph ∷ paragraphs_left ending after
 paragraphs_left-split ending rest None paragraph is = is
 paragraphs_left-split ending rest (Some after) paragraph is = is
-
--- ---- a text that is one line as a whole
-
-pub no_more : {X A : Type 0} (B : X → Type 0) (after : Option X) → is_some after ≡ false
-    → MatchOption after A B → A
-no_more B None none is = is
-no_more B (Some x) none is = cc
-
-pub IsFilled-whole : (settings : Settings) (Divides : Bool → List ℕ → List (List WordText) → Type 0)
-    (text paragraph filled : List ℕ) → paragraphs_of settings.line_ending text ≡ paragraph ∷ []
-    → is_whole settings false paragraph ≡ true
-    → filled ≡ cond settings.preserve_trailing_space paragraph (without_final_blanks paragraph)
-    → IsFilled settings Divides text filled
-IsFilled-whole settings Divides text paragraph filled only whole is =
-    let parts = parts_of settings false (word_of paragraph ∷ []) ∷ [] in
-    let defined : AreGroups (AreParagraphParts settings Divides) false
-    (paragraphs_of settings.line_ending text)
-    (parts ∷ []) =
-    subst (λ paragraphs. AreGroups (AreParagraphParts settings Divides) false paragraphs
-    (parts ∷ [])) (sym only)
-    (AreParagraphParts-whole settings Divides false paragraph whole, refl) in (
-      map line_from parts,
-      record { groups = parts ∷ []; defined = defined; given = refl },
-      is
-          ∙ sym (ap line_bytes (line_from-whole settings false paragraph whole)),
-    )

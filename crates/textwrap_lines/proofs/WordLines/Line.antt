@@ -149,22 +149,3 @@ line-text line true end is =
     (sym (take-take line.covered line.len text line.order))
     ∙ take-append-drop line.covered (take line.len text))
 line-text line false end is = ap (λ n. take n line.text.now) is
-
--- the columns that come to the line keep to twice its bytes
-pub piece-room : (line : OpenLine) (piece : Word) → IsUtf8 piece.word.now
-    → piece.width ≡ text_width piece.word.now → IsNext line (word_view piece ∷ [])
-    → line.columns + piece.width ≤ 2 * length line.text.now
-piece-room line piece utf8 width next =
-    let wide = text_width-le piece.word.now utf8 in
-    omega (
-      arith,
-      line.bounded,
-      line.ends.0,
-      wide,
-      width,
-      length-drop line.len line.text.now,
-      ap length next.place,
-      length-append (tile_of (word_view piece) ++ []) next.after,
-      ap length (append-nil (tile_of (word_view piece))),
-      length-append piece.word.now piece.whitespace.now,
-    )

@@ -1,5 +1,6 @@
 pub mod Paragraph
 pub mod PrintableTexts
+pub mod Standing
 pub mod Text
 pub mod Word
 pub mod WordLines

@@ -1,5 +1,4 @@
 pub mod Bridge
-pub mod CheapestLines
 pub mod FirstLine
 pub mod FirstPiece
 pub mod Hyphens
@@ -8,6 +7,4 @@ pub mod NextPiece
 pub mod Parts
 pub mod Pieces
 pub mod Search
-pub mod SpanCosts
-pub mod Spans
 pub mod Texts

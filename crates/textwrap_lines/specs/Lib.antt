@@ -4,6 +4,7 @@ pub mod Direct
 pub mod Filling
 pub mod Fuzzing
 pub mod Laws
+pub mod Layout
 pub mod LineEnding
 pub mod LineSinks
 pub mod Options

@@ -7,7 +7,7 @@ use Rattle.std.specs.List.{onto_first}
 use Rattle.textwrap_base.specs.Blanks.{is_blank}
 use Rattle.textwrap_base.specs.Breaking.{broken_words}
 use Rattle.textwrap_base.specs.Division.{Fits, closed_width}
-use Rattle.textwrap_base.specs.Words.{WordText, is_cut, sizes_of, word_of}
+use Rattle.textwrap_base.specs.Words.{WordText, is_cut, sizes_of, tile_of, word_of}
 use Rattle.textwrap_lines.specs.Paragraph.{covered}
 use Rattle.textwrap_lines.specs.WordSplitters.{hyphen}
 
@@ -75,3 +75,15 @@ pub record IsFirstLine (cut : CutTest) (limit a : ℕ) (text : List ℕ) (slice 
   pub fits : Fits sizes_of limit (take count (pieces_after cut limit a text))
   pub full : count < length (pieces_after cut limit a text)
       → limit < closed_width sizes_of (take (count + 1) (pieces_after cut limit a text))
+
+-- ---- pieces
+
+-- the first piece has so many bytes without its whitespace, and so many with it; the other pieces
+-- are those of what follows it
+pub record IsFirstPiece (cut : CutTest) (limit a : ℕ) (text : List ℕ) (word_len len : ℕ)
+    : Type 0 where
+  pub first : WordText
+  pub are : pieces_after cut limit a text
+      ≡ first ∷ pieces_after cut limit (byte_before a text len) (drop len text)
+  pub word : length first.word ≡ word_len
+  pub whole : length (tile_of first) ≡ len

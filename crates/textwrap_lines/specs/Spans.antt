@@ -1,35 +1,52 @@
 -- The pieces of a text by where they stand in it.
-use Rattle.std.specs.Prelude.{◌≡◌, ℕ, ◌+◌, ◌-◌, ◌<◌, ◌≤◌, List, [], ◌∷◌, length, take, drop}
-use Rattle.std.specs.Prelude.{slice_index_or, slice_range}
+use Rattle.std.specs.Prelude.{◌≡◌, ℕ, ◌+◌, ◌-◌, ◌<◌, ◌≤◌, Bool, true, List, [], ◌∷◌, ◌++◌, length}
+use Rattle.std.specs.Prelude.{take}
+use Rattle.std.specs.Prelude.{slice_index_or, slice_range, if◌then◌else◌, IsCharBoundary, ⊤}
 use Rattle.textwrap_base.specs.Cost.{PricedSizes}
 use Rattle.textwrap_base.specs.Division.{open_width}
 use Rattle.textwrap_base.specs.Sizes.{Sizes}
-use Rattle.textwrap_base.specs.Words.{WordText, tile_of}
-use Rattle.textwrap_lines.specs.Printable.{CutTest, pieces_after, byte_before}
+use Rattle.textwrap_base.specs.Words.{WordText, sizes_of, tiled}
+use Rattle.textwrap_lines.specs.Options.{Settings}
+use Rattle.textwrap_lines.specs.Paragraph.{Line, assembled_line, indent_of}
 use Rattle.textwrap_lines.specs.declared.spans.Span.{Span}
+use Rattle.textwrap_lines.specs.declared.spans.SpanList.{SpanList}
 
--- where pieces stand that follow so many bytes
-abbrev pub spans_from : ℕ → List WordText → List Span
-spans_from at [] = []
-spans_from at (w ∷ ws) =
-    let word_end = at + length w.word in
-    let end = word_end + length w.whitespace in
-    record { start = at; word_end = word_end; end = end } ∷ spans_from end ws
+-- where a piece stands that follows so many bytes and so many columns
+abbrev pub span_of : ℕ → ℕ → WordText → Span
+span_of at columns w = record {
+  word_end = at + length w.word;
+  end = at + length w.word + length w.whitespace;
+  opens = columns;
+  closes = columns + w.width;
+}
 
--- the first piece has so many bytes without its whitespace, and so many with it; the other pieces
--- are those of what follows it
-pub record IsFirstPiece (cut : CutTest) (limit a : ℕ) (text : List ℕ) (word_len len : ℕ)
-    : Type 0 where
-  pub first : WordText
-  pub are : pieces_after cut limit a text
-      ≡ first ∷ pieces_after cut limit (byte_before a text len) (drop len text)
-  pub word : length first.word ≡ word_len
-  pub whole : length (tile_of first) ≡ len
+-- where pieces stand, one after another
+abbrev pub spans_from : ℕ → ℕ → List WordText → List Span
+spans_from at columns [] = []
+spans_from at columns (w ∷ ws) =
+    span_of at columns w
+    ∷ spans_from (at + length w.word + length w.whitespace)
+    (columns + w.width + length w.whitespace) ws
 
--- the sizes of a piece without a penalty, and with as many columns as bytes
+-- ---- pieces that are found one after another
+
+-- the list has these pieces
+pub record Lists {Z : Type 0} (list : SpanList Z) (pieces : List WordText) : Type 0 where
+  pub spans : list.spans.items ≡ spans_from 0 0 pieces
+  pub len : list.len ≡ length (tiled pieces)
+  pub columns : list.columns ≡ open_width sizes_of pieces
+
+-- after the pieces that it has, these were added
+pub record HasMore {Z : Type 0} (old new : SpanList Z) (pieces : List WordText) : Type 0 where
+  pub lists : (before : List WordText) → Lists old before → Lists new (before ++ pieces)
+  pub len : new.len ≡ old.len + length (tiled pieces)
+
+-- ---- what they take
+
+-- the sizes of a piece without a penalty
 abbrev pub span_sizes : Span → Sizes
 span_sizes s = record {
-  width = s.word_end - s.start;
+  width = s.closes - s.opens;
   whitespace = s.end - s.word_end;
   penalty = 0;
 }
@@ -38,23 +55,43 @@ span_sizes s = record {
 abbrev pub span_priced : Span → PricedSizes
 span_priced s = record { sizes = span_sizes s; break_penalty = 0 }
 
--- each piece begins where those before it end, and its word ends no earlier than it begins
+-- the columns of each are told with those of the pieces before it
 abbrev pub AreSpans : List Span → Type 0
 AreSpans spans = (i : ℕ) (d : Span) → i < length spans
-    → ((slice_index_or spans i d).start ≡ open_width span_sizes (take i spans))
-    × ((slice_index_or spans i d).start ≤ (slice_index_or spans i d).word_end)
+    → ((slice_index_or spans i d).opens ≡ open_width span_sizes (take i spans))
+    × ((slice_index_or spans i d).opens ≤ (slice_index_or spans i d).closes)
 
--- where the word of the last piece ends
-abbrev pub last_end : Span → List Span → ℕ
-last_end s [] = s.word_end
-last_end s (t ∷ spans) = last_end t spans
+-- ---- the lines of a text, cut after the last piece of each
 
--- what a line of pieces covers, without the last one's whitespace
-abbrev pub line_text : List ℕ → List Span → List ℕ
-line_text text [] = []
-line_text text (s ∷ spans) = slice_range text s.start (last_end s spans)
+abbrev pub no_span : Span
+no_span = record { word_end = 0; end = 0; opens = 0; closes = 0 }
 
--- the line has pieces, and stands inside the text
-abbrev pub HasText : List ℕ → List Span → Type 0
-HasText text [] = ⊥
-HasText text (s ∷ spans) = (s.start ≤ last_end s spans) × (last_end s spans ≤ length text)
+abbrev pub last_span : List Span → Span
+last_span line = slice_index_or line (length line - 1) no_span
+
+-- the line that begins after so many bytes and ends with this piece
+abbrev pub span_line : Settings → List ℕ → Bool → ℕ → Span → Line
+span_line settings text is_later at last =
+    assembled_line (indent_of settings is_later)
+    (slice_range text at (if settings.preserve_trailing_space then last.end else last.word_end)) []
+
+abbrev pub span_lines : Settings → List ℕ → Bool → ℕ → List (List Span) → List Line
+span_lines settings text is_later at [] = []
+span_lines settings text is_later at (line ∷ lines) =
+    span_line settings text is_later at (last_span line)
+    ∷ span_lines settings text true (last_span line).end lines
+
+-- the text may be cut after so many bytes, and before and after the whitespace of this piece
+pub record MayEnd (text : List ℕ) (at : ℕ) (last : Span) : Type 0 where
+  pub start : IsCharBoundary text at
+  pub word : IsCharBoundary text last.word_end
+  pub end : IsCharBoundary text last.end
+  pub some : at ≤ last.word_end
+  pub order : last.word_end ≤ last.end
+
+-- each line has pieces, and the text may be cut at it
+abbrev pub HaveTexts : List ℕ → ℕ → List (List Span) → Type 0
+HaveTexts text at [] = ⊤
+HaveTexts text at (line ∷ lines) =
+    (0 < length line) × MayEnd text at (last_span line)
+    × HaveTexts text (last_span line).end lines

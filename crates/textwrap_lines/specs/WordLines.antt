@@ -1,5 +1,5 @@
 -- Lines by first fit that are found word by word.
-use Rattle.std.specs.Prelude.{◌≡◌, ℕ, ◌+◌, ◌-◌, ◌^◌, Bool, true, false, ◌&&◌, ◌==◌, nat_lt, not}
+use Rattle.std.specs.Prelude.{◌≡◌, ℕ, ◌+◌, Bool, true, false, ◌&&◌, ◌==◌, nat_lt, not}
 use Rattle.std.specs.Prelude.{List, [], ◌∷◌, ◌++◌, length, take, drop, if◌then◌else◌, IsUtf8}
 use Rattle.textwrap_base.specs.Words.{WordText, tiled}
 use Rattle.textwrap_lines.specs.LineSinks.{Took}
@@ -91,10 +91,6 @@ lines_after settings = record {
   indent = settings.subsequent_indent;
   keeps_blanks = settings.preserve_trailing_space;
 }
-
--- the columns past which a word is broken: no word has the most that there are
-abbrev pub break_limit : Settings → ℕ
-break_limit settings = if settings.break_words then later_width settings else 2 ^ 64 - 1
 
 -- a line without pieces is empty
 abbrev pub line_of : Bool → LineSoFar → Line

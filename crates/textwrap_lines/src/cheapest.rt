@@ -1,108 +1,119 @@
-//! The lines of least cost of a printable text, one of printable ASCII alone. They are found from
-//! where its pieces stand, without a list of words.
+//! The lines of least cost of a paragraph, found from where its pieces stand, without a list of
+//! words.
 ghost use Rattle.std.specs.Prelude.{ℕ, ◌≡◌, ◌<◌, ◌≤◌, ◌+◌, ◌-◌, ◌^◌, ◌==◌, List, [], ◌∷◌, ◌++◌};
-ghost use Rattle.std.specs.Prelude.{All, map, length, slice_index, slice_range, string_bytes};
-ghost use Rattle.std.specs.Prelude.{IsTrue, IfOk, OnOk};
+ghost use Rattle.std.specs.Prelude.{map, length, slice_index, slice_range, IsTrue, IfOk, OnOk};
 ghost use Rattle.textwrap_base.specs.Cost.{fit_cost, line_cost, priced_at};
-ghost use Rattle.textwrap_base.specs.Division.{IsDivision};
+ghost use Rattle.textwrap_base.specs.Division.{IsDivision, line_width};
 ghost use Rattle.textwrap_base.specs.OptimalFit.{IsByOptimalFit};
 ghost use Rattle.textwrap_base.specs.Queue.{SuitQueue};
 ghost use Rattle.textwrap_base.specs.Table.{fragment_costs, FollowStarts, IsByTable};
 ghost use Rattle.textwrap_base.specs.Words.{WordText, sizes_of};
 ghost use Rattle.textwrap_lines.specs.Cheapest.{SuitSearch};
 ghost use Rattle.textwrap_lines.specs.LineSinks.{Took};
-ghost use Rattle.textwrap_lines.specs.Paragraph.{covered, Slice};
-ghost use Rattle.textwrap_lines.specs.Printable.{IsPrintable, pieces_after, printable_cut};
-ghost use Rattle.textwrap_lines.specs.Spans.{AreSpans, span_priced, line_text, HasText};
+ghost use Rattle.textwrap_lines.specs.Options.{settings_view};
+ghost use Rattle.textwrap_lines.specs.Paragraph.{line_from, parts_from, pieces_of, widths_of};
+ghost use Rattle.textwrap_lines.specs.Spans.{AreSpans, HaveTexts, MayEnd, span_line, span_lines};
+ghost use Rattle.textwrap_lines.specs.Spans.{span_priced};
+ghost use Rattle.textwrap_lines.specs.WordSplitters.{splitter_of};
 
+use crate::layout::{line_widths, next_indent};
 use crate::line_sinks::LineSink;
-use crate::printable::is_printable;
-use crate::spans::{Span, find_spans};
+use crate::options::Options;
+use crate::spans::{Span, SpanList};
 use std::alloc::{AllocError, Allocator};
 use textwrap_base::minima::{CostSource, Minimum, is_queue_case, queue_search};
 use textwrap_base::words::Word;
 use textwrap_base::wrap_algorithms::Penalties;
 
-/// The greatest length of a text whose lines are searched for. A line then costs at most 2^125.
-const LIMIT: usize = 1 << 62;
+/// The greatest length of a text whose lines are searched for. It has at most twice as many columns,
+/// and a line then costs at most 2^125.
+const LIMIT: usize = 1 << 61;
 
-/// Whether a text is printable, and its lines of least cost can be searched for.
-pub(crate) fn suits_search(text: &str, width: usize, penalties: &Penalties) -> bool
-    ensures printable { IsTrue result → IsPrintable text.now }
-    ensures limits { IsTrue result → SuitSearch (length text.now) width penalties.now }
+/// Whether the lines of least cost of a paragraph can be searched for. `is_later` says that a line
+/// stands before it.
+pub(crate) fn suits_search(
+    paragraph: &str,
+    options: &Options<'_>,
+    is_later: bool,
+    penalties: &Penalties,
+) -> bool
+    ensures { IsTrue result → SuitSearch (length paragraph.now)
+        (widths_of (settings_view options.now) is_later) penalties.now }
 {
     let none: [Word<'_>; 0] = [];
-    text.len() <= LIMIT
-        && is_queue_case(&none, &[width, width], penalties)
-        && is_printable(text.as_bytes())
+    let (first_width, later_width) = line_widths(options, is_later);
+    paragraph.len() <= LIMIT && is_queue_case(&none, &[first_width, later_width], penalties)
 }
 
-/// Pushes the lines of least cost of a printable paragraph. `hyphens` says whether words are split
-/// after hyphens.
+/// Pushes the lines of least cost of a paragraph. `is_later` says that a line stands before it, and
+/// `hyphens` whether words are split after hyphens.
 ///
 /// # Errors
 /// [`AllocError`] where memory runs out.
 pub(crate) fn push_cheapest_lines<'t, A: Allocator + Copy>(
     alloc: A,
     paragraph: &'t str,
-    width: usize,
+    options: &Options<'_>,
+    is_later: bool,
     hyphens: bool,
     penalties: &Penalties,
     lines: &mut LineSink<'t, A>,
 ) -> Result<(), AllocError>
-    requires printable { IsPrintable paragraph.now }
     requires some { 0 < length paragraph.now }
-    requires width { 0 < width }
-    requires suits { SuitSearch (length paragraph.now) width penalties.now }
+    requires suits { SuitSearch (length paragraph.now)
+        (widths_of (settings_view options.now) is_later) penalties.now }
     ensures { OnOk result ((division : List (List WordText))
         × IsByOptimalFit (λ w. priced_at penalties.now (sizes_of w)) penalties.now
-        (width ∷ width ∷ [])
-        (pieces_after (printable_cut hyphens) width 32 paragraph.now) division
-        × Took lines.old lines.new (map Slice (map covered division))) }
+        (widths_of (settings_view options.now) is_later)
+        (pieces_of (settings_view options.now) (splitter_of hyphens) paragraph.now) division
+        × Took lines.old lines.new (map line_from
+        (parts_from (settings_view options.now) is_later division))) }
 {
-    let spans = find_spans(alloc, paragraph.as_bytes(), width, hyphens)?;
-    let division = cheapest_lines(alloc, &spans, width, penalties)?;
-    push_lines(paragraph, &division, lines)
+    let spans = SpanList::find(alloc, paragraph, options, hyphens)?;
+    let line_widths = line_widths(options, is_later);
+    let division = cheapest_lines(alloc, &spans, line_widths, penalties)?;
+    push_lines(alloc, paragraph, &division, options, is_later, lines)
 }
 
-/// The lines of least cost of some pieces.
+/// The lines of least cost of some pieces, where the first line has a width and the others have one.
 fn cheapest_lines<'a, A: Allocator + Copy>(
     alloc: A,
     spans: &'a [Span],
-    width: usize,
+    line_widths: (usize, usize),
     penalties: &Penalties,
 ) -> Result<Vec<&'a [Span], A>, AllocError>
     requires are { AreSpans spans.now }
     requires some { 0 < length spans.now }
-    requires width { 0 < width }
-    requires suits { SuitQueue (fragment_costs span_priced penalties.now (width ∷ width ∷ [])
-        spans.now) }
-    ensures { IfOk result (λ lines. IsByTable span_priced penalties.now (width ∷ width ∷ [])
-        spans.now (map (λ line. line.now) lines.items)) }
+    requires suits { SuitQueue (fragment_costs span_priced penalties.now
+        (line_widths.0 ∷ line_widths.1 ∷ []) spans.now) }
+    ensures { IfOk result (λ lines. IsByTable span_priced penalties.now
+        (line_widths.0 ∷ line_widths.1 ∷ []) spans.now (map (λ line. line.now) lines.items)) }
 {
+    let (first_width, later_width) = line_widths;
     let mut costs = SpanCosts {
         spans,
-        width,
+        first_width,
+        later_width,
         penalties: *penalties,
     };
     let minima = queue_search(alloc, &mut costs)?;
     lines_by(alloc, spans, &minima)
 }
 
-/// The costs of the lines of pieces at a width. Their count of steps stands at its end from the
-/// start, so that none has to be counted.
+/// The costs of the lines of pieces. Their count of steps stands at its end from the start, so that
+/// none has to be counted.
 #[derive(Drop)]
 struct SpanCosts<'a> {
     spans: &'a [Span],
-    width: usize,
+    first_width: usize,
+    later_width: usize,
     penalties: Penalties,
     ghost are: { AreSpans spans.now },
-    ghost some: { 0 < width },
 }
 
 impl CostSource for SpanCosts<'_> {
-    ghost costs = { λ s. fragment_costs span_priced s.penalties (s.width ∷ s.width ∷ [])
-        s.spans.now };
+    ghost costs = { λ s. fragment_costs span_priced s.penalties
+        (s.first_width ∷ s.later_width ∷ []) s.spans.now };
 
     ghost steps = { λ s. 2 ^ 128 - 1 };
 
@@ -114,26 +125,37 @@ impl CostSource for SpanCosts<'_> {
         &mut self,
         start: usize,
         end: usize,
-        _line_number: usize,
+        line_number: usize,
         before: u128,
     ) -> Option<u128> {
-        before.checked_add(line_cost(self.spans, self.width, &self.penalties, start, end))
+        let width = width_of_line(self.first_width, self.later_width, line_number);
+        before.checked_add(line_cost(self.spans, width, &self.penalties, start, end))
+    }
+}
+
+/// The width of a line by its number, counted from 0.
+fn width_of_line(first_width: usize, later_width: usize, number: usize) -> usize
+    ensures { result ≡ line_width (first_width ∷ later_width ∷ []) number }
+{
+    if number == 0 {
+        first_width
+    } else {
+        later_width
     }
 }
 
 /// The cost of the line of the pieces `start` to `end - 1`.
 fn line_cost(spans: &[Span], width: usize, penalties: &Penalties, start: usize, end: usize) -> u128
     requires are { AreSpans spans.now }
-    requires some { 0 < width }
     requires ordered { start < end }
     requires within { end ≤ length spans.now }
     ensures { result ≡ line_cost span_priced penalties.now width (end == length spans.now)
         (slice_range spans.now start end) }
 {
-    let closed = spans[end - 1].word_end - spans[start].start;
+    let closed = spans[end - 1].closes - spans[start].opens;
     let fit_cost = fit_cost(
         penalties,
-        width,
+        width.max(1),
         closed,
         end == spans.len(),
         end == start + 1,
@@ -205,30 +227,53 @@ fn line_start(minima: &[Minimum], end: usize) -> usize
     minima[end].start
 }
 
-/// Pushes the text of each line.
-fn push_lines<'t, A: Allocator>(
+/// Pushes the line of each list of pieces.
+fn push_lines<'t, A: Allocator + Copy>(
+    alloc: A,
     paragraph: &'t str,
     division: &[&[Span]],
+    options: &Options<'_>,
+    is_later: bool,
     lines: &mut LineSink<'t, A>,
 ) -> Result<(), AllocError>
-    requires printable { IsPrintable paragraph.now }
-    requires within { All (λ line. HasText paragraph.now line.now) division.now }
-    ensures { OnOk result (Took lines.old lines.new
-        (map Slice (map (λ line. line_text paragraph.now line.now) division.now))) }
+    requires { HaveTexts paragraph.now 0 (map (λ line. line.now) division.now) }
+    ensures { OnOk result (Took lines.old lines.new (span_lines (settings_view options.now)
+        paragraph.now is_later 0 (map (λ line. line.now) division.now))) }
 {
+    let mut start = 0;
+    let mut has_line = is_later;
     for line in division {
-        lines.push_slice(line_text(paragraph, line))?;
+        let last = &line[line.len() - 1];
+        push_line(alloc, paragraph, start, last, options, has_line, lines)?;
+        start = last.end;
+        has_line = true;
     }
     Ok(())
 }
 
-/// The text of a line.
-fn line_text<'t>(paragraph: &'t str, line: &[Span]) -> &'t str
-    requires printable { IsPrintable paragraph.now }
-    requires within { HasText paragraph.now line.now }
-    ensures { result.now ≡ line_text paragraph.now line.now }
+/// Pushes the line that begins at `start` and ends with the piece `last`.
+fn push_line<'t, A: Allocator + Copy>(
+    alloc: A,
+    paragraph: &'t str,
+    start: usize,
+    last: &Span,
+    options: &Options<'_>,
+    is_later: bool,
+    lines: &mut LineSink<'t, A>,
+) -> Result<(), AllocError>
+    requires { MayEnd paragraph.now start last.now }
+    ensures { OnOk result (Took lines.old lines.new
+        (span_line (settings_view options.now) paragraph.now is_later start last.now ∷ [])) }
 {
-    let start = line[0].start;
-    let end = line[line.len() - 1].word_end;
-    &paragraph[start..end]
+    let end = if options.preserve_trailing_space {
+        last.end
+    } else {
+        last.word_end
+    };
+    lines.push_line(
+        alloc,
+        next_indent(options, is_later),
+        &paragraph[start..end],
+        "",
+    )
 }

@@ -1,7 +1,7 @@
 //! The lines of a paragraph without a list of its words.
 //!
-//! By first fit no list is needed: a paragraph of printable ASCII is divided line by line, and any
-//! other word by word. By least cost, one of printable ASCII is divided by where its pieces stand.
+//! By first fit a paragraph of printable ASCII is divided line by line, and any other word by word.
+//! By least cost a paragraph is divided by where its pieces stand.
 ghost use Rattle.std.specs.Prelude.{◌≡◌, ◌<◌, map, IsTrue, IfOk, IfSome, OnOk, false};
 ghost use Rattle.std.specs.Prelude.{Some, List, length};
 ghost use Rattle.textwrap_base.specs.Division.{IsGreedy};
@@ -50,15 +50,13 @@ pub(crate) fn push_directly<'t, A: Allocator + Copy>(
             Ok(true)
         }
         WrapAlgorithm::OptimalFit(penalties) => {
-            let width = options.width;
             // Numbers too great for the search leave the work to the lists.
-            if !is_bare(options)
-                || paragraph.is_empty()
-                || !suits_search(paragraph, width, &penalties)
-            {
+            if paragraph.is_empty() || !suits_search(paragraph, options, is_later, &penalties) {
                 return Ok(false);
             }
-            push_cheapest_lines(alloc, paragraph, width, hyphens, &penalties, lines)?;
+            push_cheapest_lines(
+                alloc, paragraph, options, is_later, hyphens, &penalties, lines,
+            )?;
             Ok(true)
         }
         WrapAlgorithm::Custom(_) => Ok(false),

@@ -1,5 +1,6 @@
-//! The widths and the indents that the lines of a paragraph have.
+//! The widths and the indents that the lines of a paragraph have, and where its words are broken.
 ghost use Rattle.std.specs.Prelude.{◌≡◌};
+ghost use Rattle.textwrap_lines.specs.Layout.{break_limit};
 ghost use Rattle.textwrap_lines.specs.Options.{settings_view};
 ghost use Rattle.textwrap_lines.specs.Paragraph.{first_width, indent_of, later_width, width_after};
 
@@ -37,4 +38,16 @@ pub(crate) fn next_indent<'a>(options: &Options<'a>, is_later: bool) -> &'a str
     } else {
         options.initial_indent
     }
+}
+
+/// The columns past which a word is broken.
+pub(crate) fn break_limit(options: &Options<'_>) -> usize
+    ensures { result ≡ break_limit (settings_view options.now) }
+{
+    if !options.break_words {
+        // No text has as many columns, so words stay whole.
+        return usize::MAX;
+    }
+    let (_, later_width) = line_widths(options, true);
+    later_width
 }

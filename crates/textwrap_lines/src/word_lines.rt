@@ -12,7 +12,7 @@ ghost use Rattle.textwrap_lines.specs.Paragraph.{line_from, parts_from, pieces_o
 ghost use Rattle.textwrap_lines.specs.Paragraph.{widths_of};
 ghost use Rattle.textwrap_lines.specs.WordSplitters.{split_word, splitter_of};
 
-use crate::layout::{line_widths, next_indent};
+use crate::layout::{break_limit, line_widths, next_indent};
 use crate::line_sinks::LineSink;
 use crate::options::Options;
 use crate::word_separators::Words;
@@ -175,7 +175,8 @@ impl<'t, 'a> OpenLine<'t, 'a> {
 }
 
 impl<'a> Layout<'a> {
-    ghost use Rattle.textwrap_lines.specs.WordLines.{break_limit, later_lines, lines_after};
+    ghost use Rattle.textwrap_lines.specs.Layout.{break_limit};
+    ghost use Rattle.textwrap_lines.specs.WordLines.{later_lines, lines_after};
     ghost use Rattle.textwrap_lines.specs.WordLines.{GoesOn, IsNext};
 
     /// The layout by the options, where `hyphens` says whether words are split after hyphens.
@@ -187,12 +188,7 @@ impl<'a> Layout<'a> {
         let (_, later_width) = line_widths(options, true);
         Layout {
             hyphens,
-            // No text has as many columns, so words stay whole.
-            limit: if options.break_words {
-                later_width
-            } else {
-                usize::MAX
-            },
+            limit: break_limit(options),
             later_width,
             later_indent: options.subsequent_indent,
             keeps_blanks: options.preserve_trailing_space,

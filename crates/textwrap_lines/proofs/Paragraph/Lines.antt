@@ -281,6 +281,26 @@ last_piece-no_penalty w [] all = All-head HasNoPenalty w [] all
 last_piece-no_penalty w (v ∷ ws) all =
     last_piece-no_penalty v ws (All-tail HasNoPenalty w (v ∷ ws) all)
 
+-- the line of pieces without penalties
+pub assembled-parts : (settings : Settings) (is_later : Bool) (w : WordText) (ws : List WordText)
+    → All HasNoPenalty (w ∷ ws)
+    → assembled_line (indent_of settings is_later)
+    (cond settings.preserve_trailing_space (tiled (w ∷ ws)) (covered (w ∷ ws))) []
+    ≡ line_from (parts_of settings is_later (w ∷ ws))
+assembled-parts settings is_later w ws none =
+    kept settings.preserve_trailing_space
+    ∙ ap (λ p. assembled_line (indent_of settings is_later)
+    (cond (settings.preserve_trailing_space && (length p == 0)) (tiled (w ∷ ws)) (covered (w ∷ ws)))
+    p) (sym (last_piece-no_penalty w ws none))
+  where
+    kept : (keeps : Bool)
+        → assembled_line (indent_of settings is_later)
+        (cond keeps (tiled (w ∷ ws)) (covered (w ∷ ws))) []
+        ≡ assembled_line (indent_of settings is_later)
+        (cond (keeps && (length {A = ℕ} [] == 0)) (tiled (w ∷ ws)) (covered (w ∷ ws))) []
+    kept true = refl
+    kept false = refl
+
 -- pieces without penalties on a line without indent
 pub line_from-pieces : (settings : Settings) (is_later : Bool) (ws : List WordText)
     → indent_of settings is_later ≡ [] → All HasNoPenalty ws

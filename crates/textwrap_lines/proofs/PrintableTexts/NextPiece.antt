@@ -13,7 +13,7 @@ use Rattle.textwrap_base.specs.Words.{is_cut, piece, word_of, tile_of}
 use Rattle.textwrap_base.proofs.Word.Texts.{trimmed-past}
 use Rattle.textwrap_lines.specs.Printable.{IsPrintable, IsPrintableByte, CutTest, parts, cut_at}
 use Rattle.textwrap_lines.specs.Printable.{pieces_after, byte_before, BlanksBetween, NoCutBetween}
-use Rattle.textwrap_lines.specs.Spans.{IsFirstPiece}
+use Rattle.textwrap_lines.specs.Printable.{IsFirstPiece}
 use Rattle.textwrap_lines.proofs.PrintableTexts.Texts.{printable-width, trimmed-le}
 use Rattle.textwrap_lines.proofs.PrintableTexts.Parts.{next_parts}
 use Rattle.textwrap_lines.proofs.PrintableTexts.Pieces.{CutsBeforeOthers}

@@ -6,19 +6,20 @@ use Rattle.std.proofs.lemmas.Bool.{and_parts, and_cases, cond_both, lt-ltb, ltb-
 use Rattle.std.proofs.lemmas.List.{length_push}
 use Rattle.std.proofs.lemmas.List.Elements.{All-head}
 use Rattle.textwrap_base.specs.Division.{closed_width, open_width, IsGreedy}
-use Rattle.textwrap_base.specs.Words.{WordText, sizes_of, tiled}
+use Rattle.textwrap_base.specs.Words.{WordText, sizes_of}
 use Rattle.textwrap_base.proofs.Division.Greedy.{closed_width-push, open_width-append}
 use Rattle.textwrap_base.proofs.Division.Grown.{grown, grown-full, grown-room, grown-greedy}
 use Rattle.textwrap_base.proofs.ListLemmas.{all-left, all-right}
 use Rattle.textwrap_base.proofs.Word.Texts.{HasNoPenalty}
+use Rattle.textwrap_lines.specs.Layout.{front_of}
 use Rattle.textwrap_lines.specs.Options.{Settings}
 use Rattle.textwrap_lines.specs.Paragraph.{assembled_line, covered, empty_word, first_width}
-use Rattle.textwrap_lines.specs.Paragraph.{front_pieces, indent_of, last_piece, later_width}
+use Rattle.textwrap_lines.specs.Paragraph.{indent_of, later_width}
 use Rattle.textwrap_lines.specs.Paragraph.{line_from, parts_from, parts_of, widths_of}
 use Rattle.textwrap_lines.specs.WordLines.{LineSoFar, first_line, is_past, line_of, lines_after}
 use Rattle.textwrap_lines.specs.WordLines.{lines_from, no_pieces, with_piece}
 use Rattle.textwrap_lines.proofs.Paragraph.LastBlanks.{last_space, last_space-append, covered-space}
-use Rattle.textwrap_lines.proofs.Paragraph.Lines.{covered-push, last_piece-no_penalty}
+use Rattle.textwrap_lines.proofs.Paragraph.Lines.{assembled-parts, covered-push}
 use Rattle.textwrap_lines.proofs.Paragraph.LongLines.{later_is}
 
 -- the line of these pieces
@@ -72,24 +73,13 @@ module _ (settings : Settings) where
       ≡ assembled_line [] [] []) [ true ↦ refl | false ↦ refl ]
   line_of-pieces width is_later (w ∷ ws) none =
       let indent = indent_of settings is_later in
-      let penalty = (last_piece w ws).penalty in
       let keeps = settings.preserve_trailing_space in
-      let bare : [] ≡ penalty = sym (last_piece-no_penalty w ws none) in
       let whole = covered (w ∷ ws) ++ last_space (w ∷ ws) in
       ap (λ b. assembled_line (cond b indent []) (cond keeps whole (covered (w ∷ ws))) [])
       (lt-ltb 0 (length (w ∷ ws)) (omega arith))
       ∙ ap (λ s. assembled_line indent (cond keeps s (covered (w ∷ ws))) [])
       (covered-space (w ∷ ws))
-      ∙ kept indent keeps
-      ∙ ap (λ p. assembled_line indent
-      (cond (keeps && (length p == 0)) (tiled (w ∷ ws)) (covered (w ∷ ws))) p) bare
-    where
-      kept : (indent : List ℕ) (keeps : Bool)
-          → assembled_line indent (cond keeps (tiled (w ∷ ws)) (covered (w ∷ ws))) []
-          ≡ assembled_line indent
-          (cond (keeps && (length {A = ℕ} [] == 0)) (tiled (w ∷ ws)) (covered (w ∷ ws))) []
-      kept indent true = refl
-      kept indent false = refl
+      ∙ assembled-parts settings is_later w ws none
 
   abbrev AreLines : ℕ → Bool → List WordText → List WordText → Type 0
   AreLines width is_later left ps =
@@ -140,13 +130,10 @@ module _ (settings : Settings) where
       (and_cases (nat_lt 0 (length ps)) _ room)))))
 
   -- the piece in front is on the first line
-  abbrev pub front : List WordText
-  front = cond settings.break_words (front_pieces settings) []
-
   first_line-front : (is_later : Bool) (pieces : List WordText)
       → lines_from (lines_after settings) (first_line settings is_later) pieces
       ≡ lines_from (lines_after settings)
-      (no_pieces (first_width settings is_later) (indent_of settings is_later)) (front ++ pieces)
+      (no_pieces (first_width settings is_later) (indent_of settings is_later)) (front_of settings ++ pieces)
   first_line-front is_later pieces = by settings.break_words (length settings.initial_indent == 0)
     where
       start : LineSoFar
@@ -163,17 +150,17 @@ module _ (settings : Settings) where
 
   -- the lines of the pieces
   pub lines-greedy : (is_later : Bool) (pieces : List WordText)
-      → All HasNoPenalty (front ++ pieces)
+      → All HasNoPenalty (front_of settings ++ pieces)
       → (division : List (List WordText))
-      × IsGreedy sizes_of (widths_of settings is_later) (front ++ pieces) division
+      × IsGreedy sizes_of (widths_of settings is_later) (front_of settings ++ pieces) division
       × (lines_from (lines_after settings) (first_line settings is_later) pieces
       ≡ map line_from (parts_from settings is_later division))
   lines-greedy is_later pieces none =
       let first = first_width settings is_later in
       let later = later_width settings in (
-        grown sizes_of later first (front ++ pieces) [],
+        grown sizes_of later first (front_of settings ++ pieces) [],
         grown-greedy sizes_of later (widths_of settings is_later)
-            (λ n. later_is first later (n + 1) (omega arith)) first refl (front ++ pieces),
+            (λ n. later_is first later (n + 1) (omega arith)) first refl (front_of settings ++ pieces),
         first_line-front is_later pieces
-            ∙ lines-are (front ++ pieces) [] first is_later none,
+            ∙ lines-are (front_of settings ++ pieces) [] first is_later none,
       )

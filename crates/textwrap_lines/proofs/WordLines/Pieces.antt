@@ -55,6 +55,17 @@ tiled-broken limit w utf8 wide =
     (λ past none. absurd (omega (arith, past, wide, ap text_width none, text_width-nil)))
     (All-nil (λ v. limit < v.width → v.word ≢ []))))
 
+wide-some : (limit : ℕ) (w : WordText) → IsWide w → limit < w.width → w.word ≢ []
+wide-some limit w wide past none =
+    absurd (omega (arith, past, wide, ap text_width none, text_width-nil))
+
+-- all words, each broken, tile what they do
+pub tiled-broken_all : (limit : ℕ) (words : List WordText) → All (λ w. IsUtf8 w.word) words
+    → All IsWide words → tiled (broken_words limit words) ≡ tiled words
+tiled-broken_all limit words utf8 wide =
+    tiled-broken_words limit words utf8
+    (All-weaker IsWide (λ w. limit < w.width → w.word ≢ []) (wide-some limit) words wide)
+
 -- ---- the points of a word, one after the other
 
 -- those from an offset on
@@ -125,7 +136,7 @@ pieces_from-end limit w start point past =
 abbrev pub IsText : WordText → Type 0
 IsText w = IsUtf8 w.word
 
-split_from-texts : (w : WordText) (start : ℕ) (points : List ℕ) → IsUtf8 w.word
+pub split_from-texts : (w : WordText) (start : ℕ) (points : List ℕ) → IsUtf8 w.word
     → IsCharBoundary w.word start → IsNonDecreasing points → All (IsCharBoundary w.word) points
     → ((k : ℕ) → k < length points → start ≤ get_or points k 0)
     → All IsText (split_from w start points)
@@ -143,17 +154,13 @@ split_from-texts w start (point ∷ points) utf8 at in_order cuts before =
     (All-tail (IsCharBoundary w.word) point points cuts)
     (λ k lt. in_order 0 (suc k) 0 (omega arith) (omega (arith, lt))))
 
-split_from-wide : (w : WordText) (start : ℕ) (points : List ℕ)
+pub split_from-wide : (w : WordText) (start : ℕ) (points : List ℕ)
     → All IsWide (split_from w start points)
 split_from-wide w start [] =
     All-cons IsWide (piece (drop start w.word) w.whitespace w.penalty) [] refl (All-nil IsWide)
 split_from-wide w start (point ∷ points) =
     All-cons IsWide (piece (slice_range w.word start point) [] (cut_penalty w.word point))
     (split_from w point points) refl (split_from-wide w point points)
-
-wide-some : (limit : ℕ) (w : WordText) → IsWide w → limit < w.width → w.word ≢ []
-wide-some limit w wide past none =
-    absurd (omega (arith, past, wide, ap text_width none, text_width-nil))
 
 -- the pieces of a word that is split and broken
 abbrev pub word_pieces : ℕ → Splitter → WordText → List WordText

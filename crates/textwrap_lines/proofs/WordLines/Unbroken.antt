@@ -8,13 +8,12 @@ use Rattle.std.proofs.lemmas.List.Elements.{All-head, All-tail}
 use Rattle.textwrap_base.specs.Breaking.{broken_words, broken_pieces}
 use Rattle.textwrap_base.specs.Words.{WordText, tile_of, tiled, words_of}
 use Rattle.textwrap_base.proofs.Word.Bounds.{IsBounded, IsBounded-measured}
+use Rattle.textwrap_lines.specs.Layout.{break_limit, front_of}
 use Rattle.textwrap_lines.specs.Options.{Settings}
 use Rattle.textwrap_lines.specs.Paragraph.{front_pieces, later_width, pieces_of, text_limit}
-use Rattle.textwrap_lines.specs.WordLines.{break_limit}
 use Rattle.textwrap_lines.specs.WordSplitters.{Splitter, split_words}
 use Rattle.textwrap_lines.proofs.Paragraph.Pieces.{pieces_of-tile, split_pieces_of-measured}
 use Rattle.textwrap_lines.proofs.Paragraph.Pieces.{split_pieces_of-no_penalty}
-use Rattle.textwrap_lines.proofs.WordLines.Joined.{front}
 
 unbroken : (limit : ℕ) (ws : List WordText) → All IsBounded ws → 2 * length (tiled ws) ≤ limit
     → broken_words limit ws ≡ ws
@@ -31,7 +30,7 @@ unbroken limit (w ∷ ws) bounded within =
 -- whether words are broken or not, these are the pieces
 pub limited-pieces : (settings : Settings) (splitter : Splitter) (paragraph : List ℕ)
     → IsUtf8 paragraph → length paragraph < text_limit
-    → front settings
+    → front_of settings
     ++ broken_words (break_limit settings) (split_words splitter (words_of paragraph))
     ≡ pieces_of settings splitter paragraph
 limited-pieces settings splitter paragraph utf8 short = by settings.break_words refl

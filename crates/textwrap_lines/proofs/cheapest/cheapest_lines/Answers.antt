@@ -1,9 +1,8 @@
-use Rattle.std.proofs.Common.{length, map, ◌∙◌, subst}
+use Rattle.std.proofs.Common.{[], ◌∷◌, length, map, ◌∙◌, subst}
 use Rattle.std.specs.Prelude.{Result, Ok, Err, IfOk}
 use Rattle.textwrap_base.specs.Table.{line_costs, FollowStarts}
 use Rattle.textwrap_base.proofs.Cost.Starts.{starts_reported, length_reported, later_reported}
 use Rattle.textwrap_lines.specs.Spans.{span_priced}
-use Rattle.textwrap_lines.proofs.PrintableTexts.Lines.{one_width}
 use Rattle.textwrap_lines.proofs.cheapest.cheapest_lines.Goals as goal
 
 -- two facts on a value make a third
@@ -14,13 +13,13 @@ both (Err e) P Q R third one two = tt
 
 pub lines_by-requires-clause-len : goal.lines_by-requires-clause-len
 lines_by-requires-clause-len g c =
-    length_reported (line_costs span_priced c.args.penalties.now (one_width c.args.width)
+    length_reported (line_costs span_priced c.args.penalties.now (c.args.line_widths.0 ∷ c.args.line_widths.1 ∷ [])
     c.args.spans.now) (length c.args.spans.now) c.deref.result.now
     (c.deref.ensures.value ∙ c.in_ok-minima.ensures.minima)
 
 pub lines_by-requires-clause-later : goal.lines_by-requires-clause-later
 lines_by-requires-clause-later g c =
-    later_reported (line_costs span_priced c.args.penalties.now (one_width c.args.width)
+    later_reported (line_costs span_priced c.args.penalties.now (c.args.line_widths.0 ∷ c.args.line_widths.1 ∷ [])
     c.args.spans.now) (length c.args.spans.now) c.deref.result.now
     (c.deref.ensures.value ∙ c.in_ok-minima.ensures.minima)
 
@@ -30,7 +29,7 @@ returns g c =
     (λ lines division follow. record {
       division = division;
       starts = subst (λ starts. FollowStarts starts 0 (map (λ line. line.now) lines.items))
-          (starts_reported (line_costs span_priced c.args.penalties.now (one_width c.args.width)
+          (starts_reported (line_costs span_priced c.args.penalties.now (c.args.line_widths.0 ∷ c.args.line_widths.1 ∷ [])
           c.args.spans.now) (length c.args.spans.now) c.deref.result.now
           (c.deref.ensures.value ∙ c.in_ok-minima.ensures.minima)) follow;
     }) c.lines_by.ensures.division c.lines_by.ensures.follow

@@ -1,14 +1,16 @@
 use Rattle.std.proofs.Common.{◌+◌, ◌-◌, sym, ap, ◌∙◌, arith}
-use Rattle.textwrap_lines.proofs.PrintableTexts.SpanCosts.{no_span, starts-rise, line_cost-spans}
+use Rattle.textwrap_lines.specs.Spans.{no_span}
+use Rattle.textwrap_lines.proofs.Standing.Costs.{columns-rise, line_cost-spans}
 use Rattle.textwrap_lines.proofs.cheapest.line_cost.Goals as goal
 
 pub overflow_sub-closed-2 : goal.overflow_sub-closed-2
 overflow_sub-closed-2 c =
-    starts-rise c.args.spans.now c.args.start (c.args.end - 1) no_span c.requires.are (omega arith)
+    columns-rise c.args.spans.now c.args.start (c.args.end - 1) no_span c.requires.are (omega arith)
     (omega arith)
 
 pub returns : goal.returns
 returns c =
-    ap (λ n. n + c.args.penalties.now.nline_penalty) c.fit_cost-fit_cost.ensures.cost
+    ap (λ n. n + c.args.penalties.now.nline_penalty)
+    (rw c.max.ensures at c.fit_cost-fit_cost.ensures.cost)
     ∙ sym (line_cost-spans c.args.spans.now c.args.penalties.now c.args.width c.args.start
-    c.args.end no_span c.requires.are c.requires.some c.requires.ordered c.requires.within)
+    c.args.end no_span c.requires.are c.requires.ordered c.requires.within)

@@ -1,9 +1,15 @@
-use Rattle.std.proofs.Common.{take, map}
-use Rattle.textwrap_lines.specs.LineSinks.{Took}
-use Rattle.textwrap_lines.specs.Paragraph.{Slice}
-use Rattle.textwrap_lines.specs.Spans.{line_text}
+use Rattle.std.proofs.Common.{drop, map}
+use Rattle.textwrap_lines.specs.Options.{settings_view}
+use Rattle.textwrap_lines.specs.Spans.{HaveTexts, span_lines}
+use Rattle.textwrap_lines.proofs.Standing.Lines.{HasLinesBut}
 use Rattle.textwrap_lines.proofs.cheapest.push_lines.Given as goal
 
+-- the lines so far were taken, and the others are found in the rest of the text
 abbrev pub invariant-loop-line : goal.invariant-loop-line
-invariant-loop-line g l = Took l.initial.lines l.lines (map Slice
-    (map (λ line. line_text l.paragraph line.now) (take l.line-index l.division)))
+invariant-loop-line g l = record {
+  taken : HasLinesBut (settings_view l.options) l.paragraph
+      (span_lines (settings_view l.options) l.paragraph l.is_later 0
+      (map (λ line. line.now) l.division)) l.initial.lines l.lines l.has_line l.start
+      (map (λ line. line.now) (drop l.line-index l.division));
+  texts : HaveTexts l.paragraph l.start (map (λ line. line.now) (drop l.line-index l.division));
+}

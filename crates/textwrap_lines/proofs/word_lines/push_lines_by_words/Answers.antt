@@ -8,6 +8,7 @@ use Rattle.textwrap_base.specs.Words.{word_view, words_of, sizes_of, tiled}
 use Rattle.textwrap_base.proofs.Word.Texts.{HasNoPenalty, IsMeasured, words_of-measured}
 use Rattle.textwrap_base.proofs.Word.Tiling.{tiled-words_of}
 use Rattle.textwrap_lines.specs.LineSinks.{Took}
+use Rattle.textwrap_lines.specs.Layout.{front_of}
 use Rattle.textwrap_lines.specs.Options.{settings_view}
 use Rattle.textwrap_lines.specs.Paragraph.{line_from, parts_from, pieces_of, widths_of}
 use Rattle.textwrap_lines.specs.WordLines.{GoesOn, IsNext, later_lines, line_of}
@@ -15,7 +16,7 @@ use Rattle.textwrap_lines.specs.WordLines.{line_so_far, lines_after, lines_from}
 use Rattle.textwrap_lines.specs.WordSplitters.{splitter_of, split_words}
 use Rattle.textwrap_lines.proofs.Paragraph.Pieces.{pieces_of-no_penalty}
 use Rattle.textwrap_lines.proofs.Text.Sinks.{Took-then}
-use Rattle.textwrap_lines.proofs.WordLines.Joined.{front, lines-greedy}
+use Rattle.textwrap_lines.proofs.WordLines.Joined.{lines-greedy}
 use Rattle.textwrap_lines.proofs.WordLines.Pieces.{IsText, tiled-split, tiled-split_all}
 use Rattle.textwrap_lines.proofs.WordLines.Pieces.{word_pieces, word_pieces-cons}
 use Rattle.textwrap_lines.proofs.WordLines.Steps.{GoesOn-next, GoesOn-start, GoesOn-then}
@@ -118,8 +119,8 @@ returns g c =
     let pieces = broken_words limit split in
     let line = c.first-line.result in
     let last = line_so_far c.loop-word.line in
-    let same : front settings ++ pieces ≡ pieces_of settings splitter paragraph =
-    ap (λ n. front settings ++ broken_words n split) c.of-layout.ensures.limit
+    let same : front_of settings ++ pieces ≡ pieces_of settings splitter paragraph =
+    ap (λ n. front_of settings ++ broken_words n split) c.of-layout.ensures.limit
     ∙ limited-pieces settings splitter paragraph c.utf8.paragraph (omega arith) in
     let (division, greedy, found) = lines-greedy settings c.args.is_later pieces
     (subst (All HasNoPenalty) (sym same)

@@ -1,0 +1,4 @@
+pub mod Cheapest
+pub mod Costs
+pub mod Lines
+pub mod Lists

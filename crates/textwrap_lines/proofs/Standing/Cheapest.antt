@@ -1,0 +1,151 @@
+-- The lines of least cost of pieces, found from where they stand.
+use Rattle.std.proofs.Common.{◌≡◌, ℕ, ◌<◌, List, [], ◌∷◌, All, length, map, sym, ap, ◌∙◌}
+use Rattle.std.proofs.Common.{subst, arith, Bool}
+use Rattle.std.specs.Str.{IsUtf8}
+use Rattle.std.proofs.lemmas.Str.{IsCharBoundary-start}
+use Rattle.textwrap_base.specs.Cost.{PricedSizes, priced_at}
+use Rattle.textwrap_base.specs.OptimalFit.{IsByOptimalFit}
+use Rattle.textwrap_base.specs.Queue.{SuitQueue}
+use Rattle.textwrap_base.specs.Table.{FollowStarts, IsByTable, fragment_costs, fragments_table}
+use Rattle.textwrap_base.specs.Words.{WordText, sizes_of, tiled}
+use Rattle.textwrap_base.specs.declared.penalties.Penalties.{Penalties}
+use Rattle.textwrap_base.proofs.Cost.Chosen.{by_table-chosen}
+use Rattle.textwrap_base.proofs.Cost.Lines.{division_joined, joined_division}
+use Rattle.textwrap_base.proofs.Cost.Map.{fragments_table-map}
+use Rattle.textwrap_base.proofs.ListLemmas.{flat}
+use Rattle.textwrap_base.proofs.Word.Bounds.{IsBounded-measured}
+use Rattle.textwrap_base.proofs.Word.Texts.{HasNoPenalty, IsMeasured}
+use Rattle.textwrap_lines.specs.Cheapest.{SuitSearch}
+use Rattle.textwrap_lines.specs.Options.{Settings}
+use Rattle.textwrap_lines.specs.Paragraph.{line_from, parts_from, pieces_of, widths_of}
+use Rattle.textwrap_lines.specs.Paragraph.{first_width, later_width}
+use Rattle.textwrap_lines.specs.Spans.{AreSpans, HaveTexts, span_lines, span_priced, spans_from}
+use Rattle.textwrap_lines.specs.WordSplitters.{Splitter}
+use Rattle.textwrap_lines.specs.declared.spans.Span.{Span}
+use Rattle.textwrap_lines.proofs.Paragraph.Pieces.{pieces_of-measured, pieces_of-no_penalty}
+use Rattle.textwrap_lines.proofs.Paragraph.Pieces.{pieces_of-tile}
+use Rattle.textwrap_lines.proofs.Standing.Costs.{AreSpans-from, priced-spans, suits-spans}
+use Rattle.textwrap_lines.proofs.Standing.Lines.{Stand, Stand-follow, Stand-some, lines-found, stand}
+use Rattle.textwrap_lines.proofs.Standing.Lists.{length-spans}
+
+abbrev word_priced : Penalties → WordText → PricedSizes
+word_priced penalties w = priced_at penalties (sizes_of w)
+
+-- ---- the division of the pieces
+
+follow-same : {X E : Type 0} (start : E → ℕ) (es fs : List E) (lines : List (List X)) → es ≡ fs
+    → FollowStarts (map start es) 0 lines → FollowStarts (map start fs) 0 lines
+follow-same start es fs lines same follow =
+    subst (λ starts. FollowStarts starts 0 lines) (ap (map start) same) follow
+
+-- the pieces are divided as the places where they stand
+pub record FoundDivision (penalties : Penalties) (widths : List ℕ) (ws : List WordText)
+    (lines : List (List Span)) : Type 0 where
+  pub division : List (List WordText)
+  pub optimal : IsByOptimalFit (word_priced penalties) penalties widths ws division
+  pub whole : flat division ≡ ws
+  pub stands : Stand 0 0 division lines
+
+module _ (penalties : Penalties) (widths : List ℕ) (ws : List WordText)
+    (none : All HasNoPenalty ws) (some : 0 < length ws) where
+  tables-same : fragments_table span_priced penalties widths (spans_from 0 0 ws)
+      ≡ fragments_table (word_priced penalties) penalties widths ws
+  tables-same =
+      fragments_table-map span_priced (λ (p : PricedSizes). p) penalties widths (spans_from 0 0 ws)
+      ∙ ap (fragments_table (λ (p : PricedSizes). p) penalties widths)
+      (priced-spans penalties 0 0 ws none)
+      ∙ sym (fragments_table-map (word_priced penalties) (λ (p : PricedSizes). p) penalties widths
+      ws)
+
+  found-division : (lines : List (List Span))
+      → IsByTable span_priced penalties widths (spans_from 0 0 ws) lines
+      → FoundDivision penalties widths ws lines
+  found-division lines by =
+      let spans = spans_from 0 0 ws in
+      let count : 0 < length spans = omega (arith, length-spans 0 0 ws, some) in
+      let joined = division_joined spans lines count by.division in
+      let found = stand 0 0 ws lines joined.1 joined.0 in
+      let division = found.0 in
+      let starts = follow-same _ _ _ lines tables-same by.starts in
+      let by_table : IsByTable (word_priced penalties) penalties widths ws division =
+      record {
+        division = joined_division ws division some found.1
+            (Stand-some 0 0 division lines found.2);
+        starts = Stand-follow _ 0 0 0 division lines found.2 starts;
+      } in
+      record {
+        division = division;
+        optimal = record {
+          by_table = by_table;
+          chosen = λ steady. by_table-chosen (word_priced penalties) penalties widths ws division
+              steady by_table;
+        };
+        whole = found.1;
+        stands = found.2;
+      }
+
+-- ---- the pieces of a paragraph
+
+tiled-some : (ws : List WordText) (text : List ℕ) → tiled ws ≡ text → 0 < length text
+    → 0 < length ws
+tiled-some [] text tile some = absurd (let len = ap length tile in omega (arith, len, some))
+tiled-some (w ∷ ws) text tile some = omega arith
+
+module _ (settings : Settings) (splitter : Splitter) (is_later : Bool) (text : List ℕ)
+    (penalties : Penalties) (utf8 : IsUtf8 text) (some : 0 < length text) where
+  abbrev pieces : List WordText
+  pieces = pieces_of settings splitter text
+
+  tile : tiled pieces ≡ text
+  tile = pieces_of-tile settings splitter text utf8
+
+  measured : All IsMeasured pieces
+  measured = pieces_of-measured settings splitter text utf8
+
+  none : All HasNoPenalty pieces
+  none = pieces_of-no_penalty settings splitter text utf8
+
+  module _ (all : List Span) (are : all ≡ spans_from 0 0 pieces) where
+    pub found-are : AreSpans all
+    found-are = subst AreSpans (sym are) (AreSpans-from pieces)
+
+    pub found-some : 0 < length all
+    found-some =
+        let len = ap length are ∙ length-spans 0 0 pieces in
+        omega (arith, len, tiled-some pieces text tile some)
+
+    pub found-suit : SuitSearch (length text) (widths_of settings is_later) penalties
+        → SuitQueue (fragment_costs span_priced penalties (widths_of settings is_later) all)
+    found-suit suit =
+        subst (λ ss. SuitQueue (fragment_costs span_priced penalties (widths_of settings is_later)
+        ss)) (sym are)
+        (suits-spans text penalties (first_width settings is_later) (later_width settings) pieces
+        tile (λ k d lt. IsBounded-measured _ (measured k d lt) (none k d lt)) suit)
+
+    -- the lines that the table gives
+    pub record FoundLines (lines : List (List Span)) : Type 0 where
+      pub division : List (List WordText)
+      pub optimal : IsByOptimalFit (word_priced penalties) penalties (widths_of settings is_later)
+          pieces division
+      pub are_lines : span_lines settings text is_later 0 lines
+          ≡ map line_from (parts_from settings is_later division)
+      pub texts : HaveTexts text 0 lines
+
+    pub found-lines : (lines : List (List Span))
+        → IsByTable span_priced penalties (widths_of settings is_later) all lines
+        → FoundLines lines
+    found-lines lines by =
+        let found = found-division penalties (widths_of settings is_later) pieces none
+        (tiled-some pieces text tile some) lines
+        (subst (λ ss. IsByTable span_priced penalties (widths_of settings is_later) ss lines) are
+        by) in
+        let result = lines-found settings text utf8 is_later 0 0 found.division lines found.stands
+        (sym (ap tiled found.whole ∙ tile)) (IsCharBoundary-start text utf8)
+        (subst (All IsMeasured) (sym found.whole) measured)
+        (subst (All HasNoPenalty) (sym found.whole) none) in
+        record {
+          division = found.division;
+          optimal = found.optimal;
+          are_lines = result.are;
+          texts = result.texts;
+        }

@@ -1,0 +1,172 @@
+-- Lemmas on pieces that are found one after another.
+use Rattle.std.proofs.Common.{◌≡◌, ℕ, ◌+◌, ◌<◌, List, [], ◌∷◌, ◌++◌, length, refl, sym, ap, ◌∙◌}
+use Rattle.std.proofs.Common.{subst, arith, append_assoc, append-nil, length-append, suc}
+use Rattle.std.proofs.Common.{All, drop, get_or, map}
+use Rattle.std.proofs.lemmas.List.{drop-map, drop_more}
+use Rattle.std.proofs.lemmas.List.Elements.{All-drop, All-head}
+use Rattle.textwrap_base.specs.Breaking.{broken_word, broken_words}
+use Rattle.textwrap_base.specs.Division.{open_width}
+use Rattle.textwrap_base.specs.Words.{WordText, sizes_of, tile_of, tiled, word_view}
+use Rattle.textwrap_base.specs.declared.words.Word.{Word}
+use Rattle.textwrap_base.proofs.Division.Greedy.{open_width-append, open_width-cons}
+use Rattle.textwrap_base.proofs.Word.Tiling.{tiled-append}
+use Rattle.textwrap_lines.specs.Spans.{HasMore, Lists, span_of, spans_from}
+use Rattle.textwrap_lines.specs.declared.spans.SpanList.{SpanList}
+use Rattle.textwrap_lines.proofs.WordLines.Pieces.{IsText, IsWide, tiled-broken, tiled-broken_all}
+
+pub length-spans : (at columns : ℕ) (ws : List WordText)
+    → length (spans_from at columns ws) ≡ length ws
+length-spans at columns [] = refl
+length-spans at columns (w ∷ ws) =
+    ap suc (length-spans (at + length w.word + length w.whitespace)
+    (columns + w.width + length w.whitespace) ws)
+
+pub spans-append : (at columns : ℕ) (xs ys : List WordText)
+    → spans_from at columns (xs ++ ys) ≡ spans_from at columns xs
+    ++ spans_from (at + length (tiled xs)) (columns + open_width sizes_of xs) ys
+spans-append at columns [] ys =
+    let place : at ≡ at + length (tiled []) = omega arith in
+    let width : columns ≡ columns + open_width sizes_of [] = omega arith in
+    ap (λ n. spans_from n columns ys) place
+    ∙ ap (λ n. spans_from (at + length (tiled [])) n ys) width
+spans-append at columns (x ∷ xs) ys =
+    let end = at + length x.word + length x.whitespace in
+    let after = columns + x.width + length x.whitespace in
+    let front = spans_from end after xs in
+    let tile = length-append x.word x.whitespace in
+    let whole = length-append (tile_of x) (tiled xs) in
+    let more = open_width-cons sizes_of x xs in
+    let place : end + length (tiled xs) ≡ at + length (tiled (x ∷ xs)) =
+    omega (arith, tile, whole) in
+    let width : after + open_width sizes_of xs ≡ columns + open_width sizes_of (x ∷ xs) =
+    omega (arith, more) in
+    ap (λ l. span_of at columns x ∷ l) (spans-append end after xs ys
+    ∙ ap (λ n. front ++ spans_from n (after + open_width sizes_of xs) ys) place
+    ∙ ap (λ n. front ++ spans_from (at + length (tiled (x ∷ xs))) n ys) width)
+
+tile-length : (w : WordText)
+    → length (tiled (w ∷ [])) ≡ length w.word + length w.whitespace
+tile-length w =
+    let one = ap length (append-nil (tile_of w)) in
+    let tile = length-append w.word w.whitespace in
+    omega (arith, one, tile)
+
+module _ {Z : Type 0} where
+  pub HasMore-piece : (old new : SpanList Z) (w : WordText)
+      → new.spans.items ≡ old.spans.items ++ span_of old.len old.columns w ∷ []
+      → new.len ≡ old.len + length w.word + length w.whitespace
+      → new.columns ≡ old.columns + w.width + length w.whitespace → HasMore old new (w ∷ [])
+  HasMore-piece old new w items len columns =
+      let one = tile-length w in
+      record {
+        lists = λ before lists.
+            let place : old.len ≡ 0 + length (tiled before) = omega (arith, lists.len) in
+            let width : old.columns ≡ 0 + open_width sizes_of before =
+            omega (arith, lists.columns) in
+            let tiles = ap length (tiled-append before (w ∷ [])) in
+            let lens = length-append (tiled before) (tiled (w ∷ [])) in
+            let opens = open_width-append sizes_of before (w ∷ []) in
+            let after = open_width-cons sizes_of w [] in
+            record {
+              spans = items ∙ ap (λ l. l ++ span_of old.len old.columns w ∷ []) lists.spans
+                  ∙ ap (λ n. spans_from 0 0 before ++ span_of n old.columns w ∷ []) place
+                  ∙ ap (λ n. spans_from 0 0 before
+                  ++ span_of (0 + length (tiled before)) n w ∷ []) width
+                  ∙ sym (spans-append 0 0 before (w ∷ []));
+              len = omega (arith, len, lists.len, tiles, lens, one);
+              columns = omega (arith, columns, lists.columns, opens, after);
+            };
+        len = omega (arith, len, one);
+      }
+
+  pub HasMore-none : (list : SpanList Z) → HasMore list list []
+  HasMore-none list = record {
+    lists = λ before lists. subst (Lists list) (sym (append-nil before)) lists;
+    len = omega arith;
+  }
+
+  pub HasMore-then : {first next last : SpanList Z} (xs ys : List WordText)
+      → HasMore first next xs → HasMore next last ys → HasMore first last (xs ++ ys)
+  HasMore-then {last = last} xs ys one two =
+      let tiles = ap length (tiled-append xs ys) in
+      let lens = length-append (tiled xs) (tiled ys) in
+      record {
+        lists = λ before lists. subst (Lists last) (append_assoc before xs ys)
+            (two.lists (before ++ xs) (one.lists before lists));
+        len = omega (arith, one.len, two.len, tiles, lens);
+      }
+
+  -- ---- all pieces but those that are left
+
+  pub record HasAllBut (old now : SpanList Z) (all left : List WordText) : Type 0 where
+    pub taken : List WordText
+    pub has : HasMore old now taken
+    pub are : all ≡ taken ++ left
+
+  pub AllBut-none : (list : SpanList Z) (all : List WordText) → HasAllBut list list all all
+  AllBut-none list all = record { taken = []; has = HasMore-none list; are = refl }
+
+  pub AllBut-then : {old now next : SpanList Z} {all : List WordText} (first left : List WordText)
+      → HasAllBut old now all (first ++ left) → HasMore now next first
+      → HasAllBut old next all left
+  AllBut-then first left so_far step = record {
+    taken = so_far.taken ++ first;
+    has = HasMore-then so_far.taken first so_far.has step;
+    are = so_far.are ∙ sym (append_assoc so_far.taken first left);
+  }
+
+  pub AllBut-end : {old now : SpanList Z} (all : List WordText) → HasAllBut old now all []
+      → HasMore old now all
+  AllBut-end {old = old} {now = now} all so_far =
+      subst (HasMore old now) (sym (so_far.are ∙ append-nil so_far.taken)) so_far.has
+
+  -- the bytes that they still take
+  pub AllBut-len : {old now : SpanList Z} (all left : List WordText) → HasAllBut old now all left
+      → now.len + length (tiled left) ≡ old.len + length (tiled all)
+  AllBut-len all left so_far =
+      let tiles = ap length (ap tiled so_far.are ∙ tiled-append so_far.taken left) in
+      let lens = length-append (tiled so_far.taken) (tiled left) in
+      omega (arith, so_far.has.len, tiles, lens)
+
+-- ---- words that are broken one after another
+
+module _ (limit : ℕ) (split : List Word) (texts : All IsText (map word_view split))
+    (widths : All IsWide (map word_view split)) (i : ℕ) (d : Word) (within : i < length split) where
+  abbrev next : WordText
+  next = word_view (get_or split i d)
+
+  abbrev others : List WordText
+  others = map word_view (drop (i + 1) split)
+
+  are-left : drop i (map word_view split) ≡ next ∷ others
+  are-left = drop-map word_view i split ∙ ap (map word_view) (drop_more split i d within)
+
+  pub next-text : IsText next
+  next-text = All-head IsText next others
+      (subst (All IsText) are-left (All-drop IsText i (map word_view split) texts))
+
+  pub next-wide : IsWide next
+  next-wide = All-head IsWide next others
+      (subst (All IsWide) are-left (All-drop IsWide i (map word_view split) widths))
+
+  module _ {Z : Type 0} {old now : SpanList Z}
+      (so_far : HasAllBut old now (broken_words limit (map word_view split))
+      (broken_words limit (map word_view (drop i split)))) where
+    pub next-left : HasAllBut old now (broken_words limit (map word_view split))
+        (broken_word limit next ++ broken_words limit others)
+    next-left = subst (HasAllBut old now (broken_words limit (map word_view split)))
+        (ap (λ ws. broken_words limit (map word_view ws)) (drop_more split i d within)) so_far
+
+    pub next-room : (most : ℕ) → old.len + length (tiled (map word_view split)) < most
+        → now.len + length (tile_of next) < most
+    next-room most room =
+        let len = AllBut-len (broken_words limit (map word_view split))
+        (broken_word limit next ++ broken_words limit others) next-left in
+        let tiles = ap length (tiled-append (broken_word limit next) (broken_words limit others))
+        in
+        let parts = length-append (tiled (broken_word limit next))
+        (tiled (broken_words limit others)) in
+        let here = ap length (tiled-broken limit next next-text next-wide) in
+        let one = ap length (append-nil (tile_of next)) in
+        let whole = ap length (tiled-broken_all limit (map word_view split) texts widths) in
+        omega (arith, len, tiles, parts, here, one, whole, room)

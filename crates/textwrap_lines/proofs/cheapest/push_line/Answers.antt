@@ -1,0 +1,40 @@
+use Rattle.std.proofs.Common.{◌≡◌, [], ◌∷◌, cond, slice_range, refl, ap, ◌∙◌, subst, arith}
+use Rattle.std.proofs.lemmas.Result.{on_ok_weaker}
+use Rattle.textwrap_lines.specs.LineSinks.{Took}
+use Rattle.textwrap_lines.specs.Options.{settings_view}
+use Rattle.textwrap_lines.specs.Paragraph.{assembled_line, indent_of}
+use Rattle.textwrap_lines.proofs.cheapest.push_line.Goals as goal
+use Rattle.textwrap_lines.proofs.cheapest.push_line.Goals.{then-options, else-options}
+
+pub range-requires-clause-start_le_end : goal.range-requires-clause-start_le_end
+range-requires-clause-start_le_end g c =
+    elim c.if-options.branch [
+      | then-options w ↦ omega (arith, w.end-is, c.requires.some, c.requires.order)
+      | else-options w ↦ omega (arith, w.end-is, c.requires.some)
+    ]
+
+pub range-requires-clause-start_boundary : goal.range-requires-clause-start_boundary
+range-requires-clause-start_boundary g c = λ some. c.requires.start
+
+pub range-requires-clause-end_boundary : goal.range-requires-clause-end_boundary
+range-requires-clause-end_boundary g c =
+    elim c.if-options.branch [
+      | then-options w ↦ rw w.end-is c.requires.end
+      | else-options w ↦ rw w.end-is c.requires.word
+    ]
+
+pub returns : goal.returns
+returns g c =
+    let last = c.args.last.now in
+    let keeps = c.args.options.now.preserve_trailing_space in
+    let end : c.if-options.end ≡ cond keeps last.end last.word_end =
+    elim c.if-options.branch [
+      | then-options w ↦ rw (w.end-is, w.if-options.true) refl
+      | else-options w ↦ rw (w.end-is, w.if-options.false) refl
+    ] in
+    on_ok_weaker c.push_line.result (λ took.
+    subst (λ l. Took c.args.lines.now c.push_line.new.self (l ∷ []))
+    (ap (λ i. assembled_line i c.range.result.now []) c.next_indent.ensures
+    ∙ ap (λ t. assembled_line (indent_of (settings_view c.args.options.now) c.args.is_later) t [])
+    (c.range.ensures.value ∙ ap (slice_range c.args.paragraph.now c.args.start) end)) took)
+    c.push_line.ensures

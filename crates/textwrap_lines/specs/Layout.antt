@@ -1,0 +1,13 @@
+-- How the pieces of a paragraph are laid out.
+use Rattle.std.specs.Prelude.{ℕ, ◌-◌, ◌^◌, List, [], if◌then◌else◌}
+use Rattle.textwrap_base.specs.Words.{WordText}
+use Rattle.textwrap_lines.specs.Options.{Settings}
+use Rattle.textwrap_lines.specs.Paragraph.{front_pieces, later_width}
+
+-- the pieces that stand before its words
+abbrev pub front_of : Settings → List WordText
+front_of settings = if settings.break_words then front_pieces settings else []
+
+-- the columns past which a word is broken: no word has the most that there are
+abbrev pub break_limit : Settings → ℕ
+break_limit settings = if settings.break_words then later_width settings else 2 ^ 64 - 1

@@ -77,22 +77,34 @@ fn a_list_of_words_makes_no_difference(rt: HostRuntime) -> Result<(), Fail> {
     Ok(())
 }
 
-/// By first fit no setting needs that list.
+/// No setting by built-in parts needs that list.
 #[test]
-fn indents_make_no_difference_to_first_fit(rt: HostRuntime) -> Result<(), Fail> {
-    for width in [0, 1, 2, 3, 5, 7, 10, 13, 20, 40] {
-        for (initial, subsequent) in [("", ""), ("* ", "  "), ("", "> "), ("\x1b[1m안안안", "")] {
-            for broken in [false, true] {
-                for preserve in [false, true] {
-                    for even in [false, true] {
-                        let options = with_indents(width, initial, subsequent)
-                            .wrap_algorithm(WrapAlgorithm::FirstFit)
-                            .break_words(broken)
-                            .preserve_trailing_space(preserve)
-                            .even_paragraphs(even);
-                        assert_same_lines(&rt, &options)?;
-                    }
-                }
+fn indents_make_no_difference_to_that(rt: HostRuntime) -> Result<(), Fail> {
+    for algorithm in [WrapAlgorithm::FirstFit, WrapAlgorithm::new()] {
+        for width in [0, 1, 2, 3, 5, 7, 10, 13, 20, 40] {
+            for (initial, subsequent) in [("", ""), ("* ", "  "), ("", "> "), ("\x1b[1m안안안", "")] {
+                let options = with_indents(width, initial, subsequent).wrap_algorithm(algorithm);
+                assert_same_under_settings(&rt, &options)?;
+            }
+        }
+    }
+    Ok(())
+}
+
+/// Asserts the same for words that are broken or whole, blanks that are preserved or left off, and
+/// even and uneven paragraphs.
+fn assert_same_under_settings(
+    rt: &(impl Abort + AllocGlobal),
+    options: &Options<'_>,
+) -> Result<(), WrapError> {
+    for broken in [false, true] {
+        for preserve in [false, true] {
+            for even in [false, true] {
+                let options = Options::from(options)
+                    .break_words(broken)
+                    .preserve_trailing_space(preserve)
+                    .even_paragraphs(even);
+                assert_same_lines(rt, &options)?;
             }
         }
     }

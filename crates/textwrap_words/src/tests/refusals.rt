@@ -353,11 +353,11 @@ fn refused_lines_are_no_other_lines(rt: HostRuntime) -> Result<(), Fail> {
         (OnText::WrapDirectly, 2, "foo|bar|é foo|fooba|rbaz|"),
         (
             OnText::WrapByOptimalFit,
-            37,
+            27,
             "* To be,|  or not|  to be:|  that|  is the|  question|  Hamlet|",
         ),
         (OnText::WrapShort, 1, "foo|"),
-        (OnText::Append { slowly: false }, 29, APPENDED),
+        (OnText::Append { slowly: false }, 22, APPENDED),
         (OnText::Append { slowly: true }, 29, APPENDED),
     ] {
         assert_refused(&rt, call, refusals, expected)?;
@@ -406,15 +406,15 @@ impl Call for OnFilling {
 #[test]
 fn a_refused_text_is_no_other_text(rt: HostRuntime) -> Result<(), Fail> {
     for &(call, refusals, expected) in &[
-        (OnFilling::Fill, 23, FILLED),
+        (OnFilling::Fill, 13, FILLED),
         (OnFilling::Short, 1, "foo"),
         (OnFilling::Directly, 2, "foo\nbar\né foo\nfooba\nrbaz"),
         (
             OnFilling::DirectlyByLeastCost,
-            17,
+            15,
             "foo\nbar\né foo\nfooba\nrbaz",
         ),
-        (OnFilling::Slowly, 41, FILLED),
+        (OnFilling::Slowly, 31, FILLED),
     ] {
         assert_refused(&rt, call, refusals, expected)?;
     }
@@ -466,7 +466,7 @@ fn a_refused_layout_is_no_other_layout(rt: HostRuntime) -> Result<(), Fail> {
         (OnLayout::Indent, 3, "    foo\n\n    bar\n"),
         (OnLayout::Dedent, 2, "foo\n  bar\n\n baz\n"),
         (OnLayout::Unfill, 2, "foo bar baz\n"),
-        (OnLayout::Refill, 10, "* foo bar\n"),
+        (OnLayout::Refill, 7, "* foo bar\n"),
         (
             OnLayout::Columns,
             13,

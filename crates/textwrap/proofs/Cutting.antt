@@ -8,9 +8,9 @@ use Rattle.std.proofs.lemmas.Bool.{cases_lt}
 use Rattle.std.proofs.lemmas.List.{length_push, get_or_default, get_or_push, get_or_append_left}
 use Rattle.std.proofs.lemmas.List.Elements.{All-nil, All-push}
 use Rattle.std.proofs.lemmas.List.Sorted.{IsNonDecreasingBy-push}
-use Rattle.textwrap_lines.specs.Cuts.{AreInnerCuts}
-use Rattle.textwrap_base.specs.LineEnds.{AreEnds}
-pub use Rattle.textwrap_lines.proofs.Word.Parts.{inner-cuts}
+use Rattle.textwrap_words.specs.Cuts.{AreInnerCuts}
+use Rattle.textwrap_words.specs.LineEnds.{AreEnds}
+pub use Rattle.textwrap_words.proofs.Word.Parts.{inner-cuts}
 
 -- the last of the numbers, if there are any, is this one
 abbrev pub EndWith : List ℕ → ℕ → Type 0

@@ -7,12 +7,12 @@ use Rattle.std.specs.Prelude.{slice_index_or}
 use Rattle.std.specs.Io.{StartsWith}
 use Rattle.std.specs.List.{fold, list_any, take_while, common_prefix_len, slice_split, ends_with}
 use Rattle.std.specs.Str.Lines.{lines, strip_carriage_return}
-use Rattle.textwrap_base.specs.Blanks.{blank}
+use Rattle.textwrap_words.specs.Blanks.{blank}
 use Rattle.textwrap_base.specs.Lists.{last}
-use Rattle.textwrap_base.specs.Units.{text_width}
-use Rattle.textwrap_base.specs.Words.{WordText}
+use Rattle.textwrap_words.specs.Units.{text_width}
+use Rattle.textwrap_words.specs.Words.{WordText}
 use Rattle.textwrap_base.specs.Penalties.{default_penalties}
-use Rattle.textwrap_base.specs.declared.wrap_algorithms.WrapAlgorithm.TheVariants.{OptimalFit}
+use Rattle.textwrap_words.specs.declared.wrap_algorithms.WrapAlgorithm.TheVariants.{OptimalFit}
 use Rattle.textwrap_lines.specs.Filling.{IsFilled}
 use Rattle.textwrap_lines.specs.LineEnding.{carriage_return, line_feed, ending_bytes, join_with}
 use Rattle.textwrap_lines.specs.Options.{Settings, settings_at}
@@ -20,8 +20,8 @@ use Rattle.textwrap_lines.specs.declared.line_ending.LineEnding.{LineEnding}
 use Rattle.textwrap_lines.specs.declared.line_ending.LineEnding.TheVariants.{CRLF, LF}
 use Rattle.textwrap_lines.specs.declared.options.Options.{Options}
 use Rattle.textwrap.specs.declared.refilling.Layout.{Layout}
-use Rattle.textwrap_lines.specs.declared.word_separators.WordSeparator.TheVariants.{AsciiSpace}
-use Rattle.textwrap_lines.specs.declared.word_splitters.WordSplitter.TheVariants.{HyphenSplitter}
+use Rattle.textwrap_words.specs.declared.word_separators.WordSeparator.TheVariants.{AsciiSpace}
+use Rattle.textwrap_words.specs.declared.word_splitters.WordSplitter.TheVariants.{HyphenSplitter}
 
 -- ---- lines with their endings
 

@@ -2,7 +2,7 @@
 ghost use Rattle.std.specs.Prelude.{◌≡◌, ◌+◌, ◌<◌, ◌^◌, ◌++◌, List, ◌∷◌, [], length, All};
 ghost use Rattle.std.specs.Prelude.{string_bytes, IfOk, IsOk, OnOk, OnErr};
 ghost use Rattle.textwrap_base.specs.Division.{IsGreedy};
-ghost use Rattle.textwrap_base.specs.Words.{WordText, sizes_of, words_of};
+ghost use Rattle.textwrap_words.specs.Words.{WordText, sizes_of, words_of};
 ghost use Rattle.textwrap.specs.InPlace.{IsFilledInPlace, OnlyBlanksChange, AreDividedAt};
 ghost use Rattle.textwrap.specs.InPlace.{FitsOneLine, breaks_from, breaks_of, with_line_feeds};
 ghost use Rattle.textwrap_lines.specs.LineEnding.{paragraphs_of};
@@ -13,7 +13,8 @@ use crate::words::Fragment;
 use std::alloc::{AllocError, Allocator};
 use std::mem;
 use textwrap_lines::LineEnding;
-use textwrap_lines::parts::{split_paragraph, words_at_blanks};
+use textwrap_lines::parts::split_paragraph;
+use textwrap_words::inner::words_at_blanks;
 
 /// Fills a text in its own place: a blank before each new line becomes a line feed.
 ///

@@ -14,11 +14,11 @@ pub use columns::wrap_columns;
 pub use indentation::{dedent, indent};
 pub use inplace::fill_inplace;
 pub use refilling::{refill, unfill};
-pub use textwrap_base::{minima, words, wrap_algorithms};
-pub use textwrap_lines::{
-    LineEnding, Options, WordSeparator, WordSplitter, fill, fuzzing, word_separators,
-    word_splitters, wrap,
-};
+pub use textwrap_base::minima;
+pub use textwrap_lines::{LineEnding, Options, fill, fuzzing, wrap};
+pub use textwrap_words::{word_separators, word_splitters, words, wrap_algorithms};
+pub use word_separators::WordSeparator;
+pub use word_splitters::WordSplitter;
 pub use wrap_algorithms::{WrapAlgorithm, WrapError};
 
 mod columns;

@@ -4,7 +4,7 @@ ghost use Rattle.std.specs.Prelude.{IfSome, string_bytes, map, option_to_list};
 ghost use Rattle.std.specs.Io.{StartsWith};
 ghost use Rattle.std.specs.Str.{IsAscii};
 ghost use Rattle.textwrap_base.specs.Penalties.{default_penalties};
-ghost use Rattle.textwrap_base.specs.declared.wrap_algorithms.WrapAlgorithm.TheVariants.{OptimalFit};
+ghost use Rattle.textwrap_words.specs.declared.wrap_algorithms.WrapAlgorithm.TheVariants.{OptimalFit};
 ghost use Rattle.textwrap_lines.specs.Options.{settings_at, settings_view};
 ghost use Rattle.textwrap_lines.specs.Options.{MayOverflow};
 ghost use Rattle.textwrap_lines.specs.Paragraph.{DividesUnder};
@@ -15,14 +15,16 @@ ghost use Rattle.textwrap.specs.Refilling.{layout_settings};
 ghost use Rattle.textwrap.specs.Refilling.{unfilled_width, unfilled_initial, unfilled_subsequent};
 ghost use Rattle.textwrap.specs.Refilling.{with_indents_of};
 ghost use Rattle.textwrap.specs.Refilling.{detected_among, detected_ending, common_prefix};
-ghost use Rattle.textwrap_lines.specs.declared.word_separators.WordSeparator.TheVariants.{AsciiSpace};
-ghost use Rattle.textwrap_lines.specs.declared.word_splitters.WordSplitter.TheVariants.{HyphenSplitter};
+ghost use Rattle.textwrap_words.specs.declared.word_separators.WordSeparator.TheVariants.{AsciiSpace};
+ghost use Rattle.textwrap_words.specs.declared.word_splitters.WordSplitter.TheVariants.{HyphenSplitter};
 
+use crate::word_separators::WordSeparator;
+use crate::word_splitters::WordSplitter;
 use crate::words::display_width;
 use crate::wrap_algorithms::{Penalties, WrapAlgorithm, WrapError};
 use lines::NonEmptyLines;
 use std::alloc::{AllocError, Allocator};
-use textwrap_lines::{LineEnding, Options, WordSeparator, WordSplitter, fill};
+use textwrap_lines::{LineEnding, Options, fill};
 
 mod lines;
 

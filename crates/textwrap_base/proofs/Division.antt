@@ -1,4 +1,3 @@
-pub mod Ends
 pub mod Fewest
 pub mod Greedy
 pub mod Grown

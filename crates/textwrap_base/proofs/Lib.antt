@@ -2,5 +2,3 @@ pub mod Cost
 pub mod Division
 pub mod ListLemmas
 pub mod Search
-pub mod Units
-pub mod Word

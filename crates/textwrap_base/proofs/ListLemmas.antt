@@ -1,11 +1,11 @@
 -- Lemmas on lists.
 use Rattle.std.proofs.Common.{All, subst, ◌≤◌}
 use Rattle.std.proofs.Common.{◌≡◌, ℕ, suc, ◌+◌, ◌-◌, ◌<◌, List, [], ◌∷◌, ◌++◌, length, get_or, take}
-use Rattle.std.proofs.Common.{drop, map, refl, sym, ap, ◌∙◌, arith}
-use Rattle.std.specs.Prelude.{slice_index}
+use Rattle.std.proofs.Common.{drop, map, refl, sym, ap, ◌∙◌, arith, take-append-drop}
+use Rattle.std.specs.Prelude.{slice_index, slice_range}
 use Rattle.std.specs.List.{flat_map, onto_first}
 use Rattle.std.proofs.lemmas.List.Elements.{All-take, All-drop}
-use Rattle.std.proofs.lemmas.List.{drop_more, length-take, take-append-le}
+use Rattle.std.proofs.lemmas.List.{drop-drop}
 use Rattle.std.proofs.lemmas.List.{map-append, append_assoc, take_at, drop_at, length_push}
 use Rattle.std.proofs.lemmas.List.{get_or_push, get_or_append_left}
 use Rattle.textwrap_base.specs.Lists.{last}
@@ -55,6 +55,18 @@ last_but_one-push front b c =
     omega (arith, len, length_push front b) in
     get_or_append_left (front ++ b ∷ []) (c ∷ []) 0 _ within ∙ get_or_push front b 0 _ place
 
+pub slice-rest : {X : Type 0} (xs : List X) (start end : ℕ) → start ≤ end
+    → slice_range xs start end ++ drop end xs ≡ drop start xs
+slice-rest xs start end le =
+    let there : start + (end - start) ≡ end = omega arith in
+    ap (λ ys. take (end - start) (drop start xs) ++ ys) (ap (λ n. drop n xs) (sym there)
+    ∙ sym (drop-drop (end - start) start xs)) ∙ take-append-drop (end - start)
+    (drop start xs)
+
+-- elements with which a list begins
+abbrev pub Begins : {X : Type 0} → List X → List X → Type 0
+Begins {X} xs front = (rest : List X) × (front ++ rest ≡ xs)
+
 -- ---- lists of parts
 
 abbrev pub flat : {X : Type 0} → List (List X) → List X
@@ -83,22 +95,3 @@ all-left P xs ys all = subst (All P) (take_at xs ys (length xs) refl)
 pub all-right : {X : Type 0} (P : X → Type 0) (xs ys : List X) → All P (xs ++ ys) → All P ys
 all-right P xs ys all = subst (All P) (drop_at xs ys (length xs) refl)
     (All-drop P (length xs) (xs ++ ys) all)
-
--- what the parts after place i make follows what the part at i makes
-pub flat_map-rest : {X : Type 0} (f : X → List ℕ) (xs : List X) (i : ℕ) (d : X)
-    (rest after : List ℕ) → i < length xs → flat_map f (drop i xs) ≡ rest
-    → after ≡ drop (length (f (get_or xs i d))) rest
-    → flat_map f (drop (i + 1) xs) ≡ after
-flat_map-rest f xs i d rest after within is past =
-    sym (past ∙ ap (drop (length (f (get_or xs i d))))
-    (sym is ∙ ap (flat_map f) (drop_more xs i d within))
-    ∙ drop_at (f (get_or xs i d)) (flat_map f (drop (i + 1) xs)) (length (f (get_or xs i d))) refl)
-
--- what the lines began with stays where one is added
-pub start-kept : {X : Type 0} (start lines pushed : List X) (line : X)
-    → take (length start) lines ≡ start → pushed ≡ lines ++ line ∷ []
-    → take (length start) pushed ≡ start
-start-kept start lines pushed line kept is =
-    let within : length start ≤ length lines =
-    omega (arith, ap length kept, length-take (length start) lines) in
-    ap (take (length start)) is ∙ take-append-le (length start) lines (line ∷ []) within ∙ kept

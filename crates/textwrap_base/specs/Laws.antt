@@ -1,44 +1,10 @@
 -- The statements of the laws, each under a name that a caller can cite.
-use Rattle.std.specs.Prelude.{◌≡◌, ◌≢◌, ◌↔◌, ℕ, ◌<◌, List, [], All, IsUtf8}
-use Rattle.std.specs.List.{flat_map}
-use Rattle.textwrap_base.specs.Breaking.{AreBrokenPieces, broken_pieces, broken_words}
+use Rattle.std.specs.Prelude.{◌≡◌, ◌↔◌, ℕ, List}
 use Rattle.textwrap_base.specs.Cost.{PricedSizes, AreEqualFromSecond, IsChosen, Overflows}
 use Rattle.textwrap_base.specs.Division.{IsGreedy}
 use Rattle.textwrap_base.specs.Sizes.{Sizes}
 use Rattle.textwrap_base.specs.Table.{table, IsTable, IsByTable, TableOverflows}
-use Rattle.textwrap_base.specs.Units.{TextUnit, IsInUnits, units}
-use Rattle.textwrap_base.specs.Words.{WordText, tile_of, tiled, AreWordsOf, words_of}
 use Rattle.textwrap_base.specs.declared.penalties.Penalties.{Penalties}
-
--- a text has one list of units, the computed one
-abbrev pub UnitsAreUnique : Type 0
-UnitsAreUnique = (cs : List ℕ) (us : List TextUnit) → IsInUnits cs us ↔ (us ≡ units cs)
-
--- a line has one list of words, the computed one
-abbrev pub WordsAreUnique : Type 0
-WordsAreUnique = (line : List ℕ) (words : List WordText)
-    → AreWordsOf line words ↔ (words ≡ words_of line)
-
--- a word can be broken into one list of pieces, the computed one
-abbrev pub BrokenPiecesAreUnique : Type 0
-BrokenPiecesAreUnique = (limit : ℕ) (w : WordText) (pieces : List WordText)
-    → AreBrokenPieces limit w pieces ↔ (pieces ≡ broken_pieces limit w)
-
--- the texts of a word's pieces are its text
-abbrev pub BrokenTextsTile : Type 0
-BrokenTextsTile = (limit : ℕ) (w : WordText) → IsUtf8 w.word
-    → flat_map (λ piece. piece.word) (broken_pieces limit w) ≡ w.word
-
--- the pieces of a word with a text cover what the word does
-abbrev pub BrokenPiecesTile : Type 0
-BrokenPiecesTile = (limit : ℕ) (w : WordText) → IsUtf8 w.word → w.word ≢ []
-    → tiled (broken_pieces limit w) ≡ tile_of w
-
--- words, broken where they are too wide, cover what they did, if each of those has a text
-abbrev pub BrokenWordsTile : Type 0
-BrokenWordsTile = (limit : ℕ) (words : List WordText) → All (λ w. IsUtf8 w.word) words
-    → All (λ w. limit < w.width → w.word ≢ []) words
-    → tiled (broken_words limit words) ≡ tiled words
 
 -- fragments have at most one greedy division
 abbrev pub GreedyDivisionIsUnique : {X : Type 0} → (X → Sizes) → Type 0

@@ -1,12 +1,9 @@
-pub mod Blanks
-pub mod Breaking
+pub mod Algorithms
 pub mod Cost
 pub mod Division
 pub mod Errors
-pub mod Escapes
 pub mod Laws
 pub mod LineCosts
-pub mod LineEnds
 pub mod Lists
 pub mod Minima
 pub mod OptimalFit
@@ -16,6 +13,3 @@ pub mod Search
 pub mod Sizes
 pub mod Stretches
 pub mod Table
-pub mod Units
-pub mod Words
-pub mod WrapAlgorithms

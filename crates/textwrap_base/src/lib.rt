@@ -1,14 +1,18 @@
-//! The lowest part of `textwrap`: widths of texts, words and fragments, and the division of
-//! fragments into lines. The crate `textwrap` passes its public modules on, but for `blanks` and
-//! `escapes`. The modules and their items have the examples.
+//! The lowest part of `textwrap`: fragments of given widths, and their division into lines. Nothing in
+//! it knows of texts. The crate `textwrap` passes its public items on. The items have the examples.
 #![tactic(auto)]
 
-pub mod blanks;
+pub use errors::{OverflowError, WrapError};
+pub use first_fit::wrap_first_fit;
+pub use fragments::Fragment;
+pub use optimal_fit::{wrap_optimal_fit, wrap_optimal_fit_counted};
+pub use penalties::Penalties;
+
 mod errors;
-pub mod escapes;
+mod first_fit;
+mod fragments;
 pub mod laws;
 mod line_widths;
 pub mod minima;
+mod optimal_fit;
 mod penalties;
-pub mod words;
-pub mod wrap_algorithms;

@@ -12,8 +12,8 @@ ghost use Rattle.textwrap_base.specs.Table.{fragments_table, minimum_of, TableOv
 ghost use Rattle.textwrap_base.specs.Table.{CountsSteps};
 
 use crate::errors::WrapError;
+use crate::fragments::Fragment;
 use crate::penalties::Penalties;
-use crate::words::Fragment;
 pub use line_costs::LineCosts;
 pub use queue::queue_search;
 pub use queue_case::is_queue_case;

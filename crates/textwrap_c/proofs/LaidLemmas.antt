@@ -14,11 +14,11 @@ use Rattle.textwrap.specs.Text.{covered_by}
 use Rattle.textwrap.specs.WordSplitters.{Splitter}
 use Rattle.textwrap.specs.WrapAlgorithms.{Algorithm, Greedy, LeastCost}
 use Rattle.textwrap_base.specs.Division.{IsDivision}
-use Rattle.textwrap_base.specs.Words.{WordText, sizes_of, tiled, word_of}
-use Rattle.textwrap_base.specs.WrapAlgorithms.{IsDividedBy}
+use Rattle.textwrap_words.specs.Words.{WordText, sizes_of, tiled, word_of}
+use Rattle.textwrap_words.specs.WrapAlgorithms.{IsDividedBy}
 use Rattle.textwrap_base.proofs.ListLemmas.{flat, all-left, all-right}
-use Rattle.textwrap_base.proofs.Word.Texts.{AreBlanks, EndsInBlanks, HasNoPenalty, IsMeasured}
-use Rattle.textwrap_base.proofs.Word.Texts.{no_blanks}
+use Rattle.textwrap_words.proofs.Word.Texts.{AreBlanks, EndsInBlanks, HasNoPenalty, IsMeasured}
+use Rattle.textwrap_words.proofs.Word.Texts.{no_blanks}
 use Rattle.textwrap_lines.specs.Paragraph.{pieces_of, widths_of}
 use Rattle.textwrap_lines.specs.declared.options.Options.{Options}
 use Rattle.textwrap_lines.proofs.Paragraph.BuiltIn.{divided-as}

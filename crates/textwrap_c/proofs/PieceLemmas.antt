@@ -8,23 +8,23 @@ use Rattle.std.specs.Str.{IsUtf8}
 use Rattle.std.proofs.lemmas.Bool.{and_parts, not-true, ltb-true}
 use Rattle.std.proofs.lemmas.List.Elements.{All-head, All-tail}
 use Rattle.std.proofs.lemmas.Str.{chars-nil, chars_from_encodes, IsUtf8-nil}
-use Rattle.textwrap_base.specs.Blanks.{is_blank, trimmed_len, final_blanks, without_final_blanks}
-use Rattle.textwrap_base.specs.Breaking.{broken_pieces, broken_texts, broken_units, broken_word}
-use Rattle.textwrap_base.specs.Breaking.{broken_words, pieces_with, units_text}
+use Rattle.textwrap_words.specs.Blanks.{is_blank, trimmed_len, final_blanks, without_final_blanks}
+use Rattle.textwrap_words.specs.Breaking.{broken_pieces, broken_texts, broken_units, broken_word}
+use Rattle.textwrap_words.specs.Breaking.{broken_words, pieces_with, units_text}
 use Rattle.textwrap_base.specs.Lists.{last}
-use Rattle.textwrap_base.specs.Units.{TextUnit, characters, units}
-use Rattle.textwrap_base.specs.Words.{AreCutApart, WordText, chunks}
-use Rattle.textwrap_base.specs.Words.{word_of, words_of}
-use Rattle.textwrap_base.proofs.Units.Parts.{units-part}
-use Rattle.textwrap_base.proofs.Word.Breaking.{AreBroken-exists}
-use Rattle.textwrap_base.proofs.Word.BrokenPieces.{broken_texts-some, broken_texts-tile}
-use Rattle.textwrap_base.proofs.Word.Texts.{IsMeasured, trimmed-past}
-use Rattle.textwrap_base.proofs.Word.Words.{AreChunks-chunks}
+use Rattle.textwrap_words.specs.Units.{TextUnit, characters, units}
+use Rattle.textwrap_words.specs.Words.{AreCutApart, WordText, chunks}
+use Rattle.textwrap_words.specs.Words.{word_of, words_of}
+use Rattle.textwrap_words.proofs.Units.Parts.{units-part}
+use Rattle.textwrap_words.proofs.Word.Breaking.{AreBroken-exists}
+use Rattle.textwrap_words.proofs.Word.BrokenPieces.{broken_texts-some, broken_texts-tile}
+use Rattle.textwrap_words.proofs.Word.Texts.{IsMeasured, trimmed-past}
+use Rattle.textwrap_words.proofs.Word.Words.{AreChunks-chunks}
 use Rattle.textwrap_lines.specs.Options.{Settings}
 use Rattle.textwrap_lines.specs.Paragraph.{empty_word, front_pieces, later_width, pieces_of}
-use Rattle.textwrap_lines.specs.WordSplitters.{Splitter, ends_in_hyphen, points_of}
-use Rattle.textwrap_lines.specs.WordSplitters.{split_from, split_word}
-use Rattle.textwrap_lines.proofs.Paragraph.Pieces.{ArePoints-hyphens, split_pieces_of}
+use Rattle.textwrap_words.specs.WordSplitters.{Splitter, ends_in_hyphen, points_of}
+use Rattle.textwrap_words.specs.WordSplitters.{split_from, split_word}
+use Rattle.textwrap_words.proofs.Word.Pieces.{ArePoints-hyphens, split_pieces_of}
 use Rattle.textwrap_lines.proofs.Paragraph.Pieces.{split_pieces_of-measured, wide-some}
 use Rattle.textwrap_c.specs.Told.{BeginsPlain}
 

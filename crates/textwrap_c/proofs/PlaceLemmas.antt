@@ -13,8 +13,8 @@ use Rattle.std.proofs.lemmas.List.Concat.{flat_map-append}
 use Rattle.textwrap.specs.LineEnding.{join_with}
 use Rattle.textwrap.specs.Paragraph.{Line, Slice, Built, LineParts, line_from}
 use Rattle.textwrap.specs.Text.{covered_by}
-use Rattle.textwrap_base.specs.Blanks.{is_blank}
-use Rattle.textwrap_base.proofs.Word.Texts.{AreBlanks}
+use Rattle.textwrap_words.specs.Blanks.{is_blank}
+use Rattle.textwrap_words.proofs.Word.Texts.{AreBlanks}
 use Rattle.textwrap_c.specs.Columns.{AreToldRows, row_places}
 use Rattle.textwrap_c.specs.Told.{BeginsPlain}
 use Rattle.textwrap_c.specs.Wrapping.{Shows, ShowLines, built_bytes}

@@ -18,8 +18,8 @@ use Rattle.textwrap.specs.Options.{Settings}
 use Rattle.textwrap.specs.Paragraph.{Line, Slice, Built, LineParts, indent_of, line_from, line_view}
 use Rattle.textwrap.specs.Paragraph.{AreParagraphParts}
 use Rattle.textwrap.specs.Text.{AreGroups, covered_by}
-use Rattle.textwrap_base.specs.Words.{WordText}
-use Rattle.textwrap_base.proofs.Word.Texts.{AreBlanks, no_blanks}
+use Rattle.textwrap_words.specs.Words.{WordText}
+use Rattle.textwrap_words.proofs.Word.Texts.{AreBlanks, no_blanks}
 use Rattle.textwrap_c.specs.Told.{AreLaid, BeginsPlain, HasIndent, IsLaid, TellsLines, slice_in}
 use Rattle.textwrap_lines.proofs.Text.Endings.{join-paragraphs_of}
 use Rattle.textwrap_c.specs.Wrapping.{ArePlacedLines, built_bytes, built_text, paragraph_places}

@@ -3,7 +3,7 @@ use Rattle.std.specs.Prelude.{◌≡◌, ◌≢◌, ℕ, ◌<◌, ◌⊎◌, Boo
 use Rattle.std.specs.Prelude.{drop, length, map, take, ⊤}
 use Rattle.textwrap.specs.Options.{Settings}
 use Rattle.textwrap.specs.Paragraph.{Line, Slice, Built, LineParts, line_from, indent_of}
-use Rattle.textwrap_base.specs.Blanks.{is_blank}
+use Rattle.textwrap_words.specs.Blanks.{is_blank}
 use Rattle.textwrap_c.specs.Room.{BeginsWith}
 use Rattle.textwrap_c.specs.Status.{done, too_small}
 use Rattle.textwrap_c.specs.Wrapping.{built_text, paragraph_places}

@@ -2,5 +2,4 @@ pub mod Paragraph
 pub mod PrintableTexts
 pub mod Standing
 pub mod Text
-pub mod Word
 pub mod WordLines

@@ -1,9 +1,9 @@
 -- What is divided without a list of words.
 use Rattle.std.specs.Prelude.{◌≡◌, Bool, true, false, [], Some}
 use Rattle.textwrap_lines.specs.Options.{Settings}
-use Rattle.textwrap_lines.specs.WordSplitters.{Splitter, Whole, AtHyphens, splitter_view}
+use Rattle.textwrap_words.specs.WordSplitters.{Splitter, Whole, AtHyphens, splitter_view}
 use Rattle.textwrap_lines.specs.declared.options.Options.{Options}
-use Rattle.textwrap_lines.specs.declared.word_separators.WordSeparator.TheVariants.{AsciiSpace}
+use Rattle.textwrap_words.specs.declared.word_separators.WordSeparator.TheVariants.{AsciiSpace}
 
 -- whether a splitter splits words after hyphens
 abbrev pub hyphens_of : Splitter → Bool

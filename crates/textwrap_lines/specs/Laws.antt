@@ -1,34 +1,27 @@
 -- What the laws say.
-use Rattle.std.specs.Prelude.{◌≡◌, ◌↔◌, ℕ, Bool, List, All, IsUtf8, Some}
-use Rattle.textwrap_base.specs.Words.{WordText, AreWordsOf, tile_of, tiled}
-use Rattle.textwrap_base.specs.WrapAlgorithms.{Algorithm}
-use Rattle.textwrap_lines.specs.Cuts.{AreCuts}
+use Rattle.std.specs.Prelude.{◌≡◌, ◌↔◌, ℕ, Bool, List, IsUtf8, Some}
+use Rattle.textwrap_words.specs.Words.{WordText, AreWordsOf}
+use Rattle.textwrap_words.specs.WrapAlgorithms.{Algorithm}
 use Rattle.textwrap_lines.specs.Filling.{IsFilled}
 use Rattle.textwrap_lines.specs.LineEnding.{AreParagraphs, paragraphs_of}
 use Rattle.textwrap_lines.specs.Options.{Settings}
 use Rattle.textwrap_lines.specs.Paragraph.{ArePieces, pieces_of, DividesAs, AreDividedParts}
 use Rattle.textwrap_lines.specs.Paragraph.{AreParagraphParts, Line}
 use Rattle.textwrap_lines.specs.Text.{AreTextLines, IsWrapped}
-use Rattle.textwrap_lines.specs.WordOffsets.{AreWordsAt, words_at}
-use Rattle.textwrap_lines.specs.WordSplitters.{Splitter, ArePoints, points_of, split_pieces}
-use Rattle.textwrap_lines.specs.WordSplitters.{split_words}
+use Rattle.textwrap_words.specs.WordSplitters.{Splitter, ArePoints}
 use Rattle.textwrap_lines.specs.declared.line_ending.LineEnding.{LineEnding}
-pub use Rattle.textwrap_base.specs.Laws.{UnitsAreUnique, WordsAreUnique, BrokenPiecesAreUnique}
-pub use Rattle.textwrap_base.specs.Laws.{BrokenTextsTile, BrokenPiecesTile, BrokenWordsTile}
-pub use Rattle.textwrap_base.specs.Laws.{GreedyDivisionIsUnique, ChosenDivisionIsUnique}
-pub use Rattle.textwrap_base.specs.Laws.{TableDivisionIsUnique, TableOverflowIsOverflow}
-pub use Rattle.textwrap_base.specs.Laws.{TableHasLeastCosts}
+pub use Rattle.textwrap_words.specs.Laws.{UnitsAreUnique, WordsAreUnique, BrokenPiecesAreUnique}
+pub use Rattle.textwrap_words.specs.Laws.{BrokenTextsTile, BrokenPiecesTile, BrokenWordsTile}
+pub use Rattle.textwrap_words.specs.Laws.{GreedyDivisionIsUnique, ChosenDivisionIsUnique}
+pub use Rattle.textwrap_words.specs.Laws.{TableDivisionIsUnique, TableOverflowIsOverflow}
+pub use Rattle.textwrap_words.specs.Laws.{TableHasLeastCosts, WordsAtAreUnique, PointsAreCuts}
+pub use Rattle.textwrap_words.specs.Laws.{SplitPiecesTile, SplitWordsTile}
 
 -- a text has its paragraphs in one way, the computed one
 abbrev pub ParagraphsAreUnique : Type 0
 ParagraphsAreUnique =
     (ending : LineEnding) (text : List ℕ) (paragraphs : List (List ℕ))
     → AreParagraphs ending text paragraphs ↔ (paragraphs ≡ paragraphs_of ending text)
-
--- a line has one list of words at offsets of its visible text, the computed one
-abbrev pub WordsAtAreUnique : Type 0
-WordsAtAreUnique = (offsets line : List ℕ) (words : List WordText)
-    → AreWordsAt offsets line words ↔ (words ≡ words_at offsets line)
 
 -- by built-in parts a paragraph has exactly the computed pieces
 abbrev pub PiecesAreUnique : Type 0
@@ -75,19 +68,3 @@ TextLinesAreWrapped =
     AreTextLines settings Divides text lines
     → IsWrapped settings (Some splitter) (Some algorithm) Divides text lines
 
--- the points of a splitter are cuts of the word
-abbrev pub PointsAreCuts : Type 0
-PointsAreCuts =
-    (splitter : Splitter) (text : List ℕ) → IsUtf8 text → AreCuts text (points_of splitter text)
-
--- the pieces at any cuts tile the word, with its whitespace
-abbrev pub SplitPiecesTile : Type 0
-SplitPiecesTile =
-    (points : List ℕ) (w : WordText) → AreCuts w.word points
-    → tiled (split_pieces points w) ≡ tile_of w
-
--- so the pieces of words tile what the words do
-abbrev pub SplitWordsTile : Type 0
-SplitWordsTile =
-    (splitter : Splitter) (words : List WordText) → All (λ w. IsUtf8 w.word) words
-    → tiled (split_words splitter words) ≡ tiled words

@@ -1,6 +1,6 @@
 -- How the pieces of a paragraph are laid out.
 use Rattle.std.specs.Prelude.{ℕ, ◌-◌, ◌^◌, List, [], if◌then◌else◌}
-use Rattle.textwrap_base.specs.Words.{WordText}
+use Rattle.textwrap_words.specs.Words.{WordText}
 use Rattle.textwrap_lines.specs.Options.{Settings}
 use Rattle.textwrap_lines.specs.Paragraph.{front_pieces, later_width}
 

@@ -1,13 +1,13 @@
 -- The settings of a wrap, as values of the logic.
 use Rattle.std.specs.Prelude.{◌≡◌, ◌≢◌, ℕ, Bool, true, false, List, [], Some, None}
 use Rattle.textwrap_base.specs.Penalties.{default_penalties}
-use Rattle.textwrap_base.specs.WrapAlgorithms.{Algorithm, LeastCost, algorithm_view}
+use Rattle.textwrap_words.specs.WrapAlgorithms.{Algorithm, LeastCost, algorithm_view}
 use Rattle.textwrap_base.specs.declared.penalties.Penalties.{Penalties}
-use Rattle.textwrap_lines.specs.WordSplitters.{Splitter, AtHyphens, splitter_view}
+use Rattle.textwrap_words.specs.WordSplitters.{Splitter, AtHyphens, splitter_view}
 use Rattle.textwrap_lines.specs.declared.line_ending.LineEnding.{LineEnding}
 use Rattle.textwrap_lines.specs.declared.line_ending.LineEnding.TheVariants.{LF}
 use Rattle.textwrap_lines.specs.declared.options.Options.{Options}
-use Rattle.textwrap_lines.specs.declared.word_separators.WordSeparator.TheVariants.{AsciiSpace}
+use Rattle.textwrap_words.specs.declared.word_separators.WordSeparator.TheVariants.{AsciiSpace}
 
 -- what the options say, but for the algorithm, the separator and the splitter
 pub record Settings : Type 0 where

@@ -5,15 +5,15 @@ use Rattle.std.specs.Prelude.{◌⊎◌}
 use Rattle.std.specs.String.{string_bytes}
 use Rattle.std.specs.declared.borrow.CowStr.{CowStr}
 use Rattle.std.specs.declared.borrow.CowStr.TheVariants.{Borrowed, Owned}
-use Rattle.textwrap_base.specs.WrapAlgorithms.{Algorithm, IsDividedBy, MayDivide}
-use Rattle.textwrap_base.specs.Breaking.{broken_words}
+use Rattle.textwrap_words.specs.WrapAlgorithms.{Algorithm, IsDividedBy, MayDivide}
+use Rattle.textwrap_words.specs.Breaking.{broken_words}
 use Rattle.textwrap_base.specs.Division.{line_width, closed_width}
-use Rattle.textwrap_base.specs.Units.{text_width, IsNarrow, column_characters}
-use Rattle.textwrap_base.specs.Words.{WordText, sizes_of, tiled, word_of, words_of, AreWordsOf}
+use Rattle.textwrap_words.specs.Units.{text_width, IsNarrow, column_characters}
+use Rattle.textwrap_words.specs.Words.{WordText, sizes_of, tiled, word_of, words_of, AreWordsOf}
 use Rattle.textwrap_lines.specs.Options.{Settings, settings_view}
-use Rattle.textwrap_lines.specs.WordSeparators.{MaySeparate}
-use Rattle.textwrap_lines.specs.WordSplitters.{Splitter, AtHyphens, ArePoints, AreSplit, MaySplit}
-use Rattle.textwrap_lines.specs.WordSplitters.{split_words}
+use Rattle.textwrap_words.specs.WordSeparators.{MaySeparate}
+use Rattle.textwrap_words.specs.WordSplitters.{Splitter, AtHyphens, ArePoints, AreSplit, MaySplit}
+use Rattle.textwrap_words.specs.WordSplitters.{split_words}
 use Rattle.textwrap_lines.specs.declared.options.Options.{Options}
 
 -- each text has fewer bytes

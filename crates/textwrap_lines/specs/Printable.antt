@@ -4,12 +4,12 @@ use Rattle.std.specs.Prelude.{◌≡◌, ℕ, ◌+◌, ◌<◌, ◌≤◌, Bool,
 use Rattle.std.specs.Prelude.{◌∷◌, All, length, map, take, drop, slice_index, if◌then◌else◌}
 use Rattle.std.specs.Char.{is_ascii_alphanumeric}
 use Rattle.std.specs.List.{onto_first}
-use Rattle.textwrap_base.specs.Blanks.{is_blank}
-use Rattle.textwrap_base.specs.Breaking.{broken_words}
+use Rattle.textwrap_words.specs.Blanks.{is_blank}
+use Rattle.textwrap_words.specs.Breaking.{broken_words}
 use Rattle.textwrap_base.specs.Division.{Fits, closed_width}
-use Rattle.textwrap_base.specs.Words.{WordText, is_cut, sizes_of, tile_of, word_of}
+use Rattle.textwrap_words.specs.Words.{WordText, is_cut, sizes_of, tile_of, word_of}
 use Rattle.textwrap_lines.specs.Paragraph.{covered}
-use Rattle.textwrap_lines.specs.WordSplitters.{hyphen}
+use Rattle.textwrap_words.specs.WordSplitters.{hyphen}
 
 -- a printable character of ASCII
 abbrev pub IsPrintableByte : ℕ → Type 0

@@ -5,7 +5,7 @@ use Rattle.std.specs.Prelude.{slice_index_or, slice_range, if◌then◌else◌, 
 use Rattle.textwrap_base.specs.Cost.{PricedSizes}
 use Rattle.textwrap_base.specs.Division.{open_width}
 use Rattle.textwrap_base.specs.Sizes.{Sizes}
-use Rattle.textwrap_base.specs.Words.{WordText, sizes_of, tiled}
+use Rattle.textwrap_words.specs.Words.{WordText, sizes_of, tiled}
 use Rattle.textwrap_lines.specs.Options.{Settings}
 use Rattle.textwrap_lines.specs.Paragraph.{Line, assembled_line, indent_of}
 use Rattle.textwrap_lines.specs.declared.spans.Span.{Span}

@@ -3,12 +3,12 @@ use Rattle.std.specs.Prelude.{◌≡◌, ◌≢◌, ℕ, ◌<◌, Bool, true, fa
 use Rattle.std.specs.Prelude.{◌++◌, length, map, All, Option, Some, None}
 use Rattle.std.specs.Io.{StartsWith}
 use Rattle.std.specs.List.{flat_map}
-use Rattle.textwrap_base.specs.Blanks.{is_blank}
-use Rattle.textwrap_base.specs.Words.{WordText}
+use Rattle.textwrap_words.specs.Blanks.{is_blank}
+use Rattle.textwrap_words.specs.Words.{WordText}
 use Rattle.textwrap_lines.specs.LineEnding.{paragraphs_of}
 use Rattle.textwrap_lines.specs.Options.{Settings}
-use Rattle.textwrap_lines.specs.WordSplitters.{Splitter}
-use Rattle.textwrap_base.specs.WrapAlgorithms.{Algorithm, Greedy}
+use Rattle.textwrap_words.specs.WordSplitters.{Splitter}
+use Rattle.textwrap_words.specs.WrapAlgorithms.{Algorithm, Greedy}
 use Rattle.textwrap_lines.specs.Paragraph.{Line, LineParts, line_from, AreParagraphParts}
 use Rattle.textwrap_lines.specs.Paragraph.{AreIndented, KeepToWidths, KeepsToWidth}
 use Rattle.textwrap_lines.specs.Paragraph.{DividesByDefault}

@@ -1,7 +1,7 @@
 -- Lines by first fit that are found word by word.
 use Rattle.std.specs.Prelude.{◌≡◌, ℕ, ◌+◌, Bool, true, false, ◌&&◌, ◌==◌, nat_lt, not}
 use Rattle.std.specs.Prelude.{List, [], ◌∷◌, ◌++◌, length, take, drop, if◌then◌else◌, IsUtf8}
-use Rattle.textwrap_base.specs.Words.{WordText, tiled}
+use Rattle.textwrap_words.specs.Words.{WordText, tiled}
 use Rattle.textwrap_lines.specs.LineSinks.{Took}
 use Rattle.textwrap_lines.specs.Options.{Settings}
 use Rattle.textwrap_lines.specs.Paragraph.{Line, assembled_line, empty_word, first_width}

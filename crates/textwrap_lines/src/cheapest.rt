@@ -7,14 +7,14 @@ ghost use Rattle.textwrap_base.specs.Division.{IsDivision, line_width};
 ghost use Rattle.textwrap_base.specs.OptimalFit.{IsByOptimalFit};
 ghost use Rattle.textwrap_base.specs.Queue.{SuitQueue};
 ghost use Rattle.textwrap_base.specs.Table.{fragment_costs, FollowStarts, IsByTable};
-ghost use Rattle.textwrap_base.specs.Words.{WordText, sizes_of};
+ghost use Rattle.textwrap_words.specs.Words.{WordText, sizes_of};
 ghost use Rattle.textwrap_lines.specs.Cheapest.{SuitSearch};
 ghost use Rattle.textwrap_lines.specs.LineSinks.{Took};
 ghost use Rattle.textwrap_lines.specs.Options.{settings_view};
 ghost use Rattle.textwrap_lines.specs.Paragraph.{line_from, parts_from, pieces_of, widths_of};
 ghost use Rattle.textwrap_lines.specs.Spans.{AreSpans, HaveTexts, MayEnd, span_line, span_lines};
 ghost use Rattle.textwrap_lines.specs.Spans.{span_priced};
-ghost use Rattle.textwrap_lines.specs.WordSplitters.{splitter_of};
+ghost use Rattle.textwrap_words.specs.WordSplitters.{splitter_of};
 
 use crate::layout::{line_widths, next_indent};
 use crate::line_sinks::LineSink;
@@ -22,8 +22,8 @@ use crate::options::Options;
 use crate::spans::{Span, SpanList};
 use std::alloc::{AllocError, Allocator};
 use textwrap_base::minima::{CostSource, Minimum, is_queue_case, queue_search};
-use textwrap_base::words::Word;
-use textwrap_base::wrap_algorithms::Penalties;
+use textwrap_words::words::Word;
+use textwrap_words::wrap_algorithms::Penalties;
 
 /// The greatest length of a text whose lines are searched for. It has at most twice as many columns,
 /// and a line then costs at most 2^125.

@@ -5,23 +5,23 @@
 ghost use Rattle.std.specs.Prelude.{◌≡◌, ◌<◌, map, IsTrue, IfOk, IfSome, OnOk, false};
 ghost use Rattle.std.specs.Prelude.{Some, List, length};
 ghost use Rattle.textwrap_base.specs.Division.{IsGreedy};
-ghost use Rattle.textwrap_base.specs.Words.{WordText, sizes_of};
+ghost use Rattle.textwrap_words.specs.Words.{WordText, sizes_of};
 ghost use Rattle.textwrap_lines.specs.Direct.{IsDirect, HasBareLines, hyphens_of};
 ghost use Rattle.textwrap_lines.specs.LineSinks.{Took};
 ghost use Rattle.textwrap_lines.specs.Options.{settings_view};
 ghost use Rattle.textwrap_lines.specs.Paragraph.{DividesBy, line_from, parts_from, pieces_of};
 ghost use Rattle.textwrap_lines.specs.Paragraph.{widths_of};
-ghost use Rattle.textwrap_lines.specs.WordSplitters.{Splitter, splitter_of, splitter_view};
+ghost use Rattle.textwrap_words.specs.WordSplitters.{Splitter, splitter_of, splitter_view};
 
 use crate::cheapest::{push_cheapest_lines, suits_search};
 use crate::line_sinks::LineSink;
 use crate::options::Options;
 use crate::printable::{is_printable, push_printable_lines};
 use crate::word_lines::push_lines_by_words;
-use crate::word_separators::WordSeparator;
-use crate::word_splitters::WordSplitter;
 use std::alloc::{AllocError, Allocator};
-use textwrap_base::wrap_algorithms::WrapAlgorithm;
+use textwrap_words::word_separators::WordSeparator;
+use textwrap_words::word_splitters::WordSplitter;
+use textwrap_words::wrap_algorithms::WrapAlgorithm;
 
 /// Pushes the lines of a paragraph that is not one line as a whole, and returns whether it has; if
 /// not, it has pushed none. `is_later` says that a line stands before it.

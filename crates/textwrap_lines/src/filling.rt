@@ -2,8 +2,8 @@
 ghost use Rattle.std.specs.Prelude.{◌≡◌, alloc_error, map, string_bytes, IfOk, IfErr};
 ghost use Rattle.textwrap_lines.specs.LineEnding.{ending_bytes, join_with};
 ghost use Rattle.textwrap_lines.specs.Options.{Settings, settings_view, HasParts, MayOverflow};
-ghost use Rattle.textwrap_lines.specs.WordSplitters.{Splitter};
-ghost use Rattle.textwrap_base.specs.WrapAlgorithms.{Algorithm};
+ghost use Rattle.textwrap_words.specs.WordSplitters.{Splitter};
+ghost use Rattle.textwrap_words.specs.WrapAlgorithms.{Algorithm};
 ghost use Rattle.textwrap_lines.specs.Paragraph.{DividesAs, DividesBy, line_bytes, line_view};
 ghost use Rattle.textwrap_lines.specs.Filling.{IsFilled};
 
@@ -13,7 +13,7 @@ use crate::options::Options;
 use crate::wrapping::{push_text, wrap};
 use std::alloc::{AllocError, Allocator};
 use std::borrow::CowStr;
-use textwrap_base::wrap_algorithms::WrapError;
+use textwrap_words::wrap_algorithms::WrapError;
 
 /// The lines of [`wrap`], joined by the line ending. At 10 columns `foo bar baz` becomes `foo bar`,
 /// a line feed and `baz`.

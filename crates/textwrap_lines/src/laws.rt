@@ -6,25 +6,18 @@
 ghost use Rattle.textwrap_lines.specs.Laws.{ParagraphsAreUnique, PiecesAreUnique};
 ghost use Rattle.textwrap_lines.specs.Laws.{DividedLinesAreUnique, ParagraphLinesAreUnique};
 ghost use Rattle.textwrap_lines.specs.Laws.{TextLinesAreUnique, FilledTextIsUnique};
-ghost use Rattle.textwrap_lines.specs.Laws.{TextLinesAreWrapped, PointsAreCuts, SplitPiecesTile};
-ghost use Rattle.textwrap_lines.specs.Laws.{SplitWordsTile, WordsAtAreUnique};
+ghost use Rattle.textwrap_lines.specs.Laws.{TextLinesAreWrapped};
 
-pub use textwrap_base::laws::{
+pub use textwrap_words::laws::{
     broken_pieces_are_unique, broken_pieces_tile, chosen_division_is_unique,
-    greedy_division_is_unique, table_division_is_unique, table_has_least_costs,
-    table_overflow_is_overflow, units_are_unique, words_are_unique,
+    greedy_division_is_unique, split_pieces_tile, table_division_is_unique, table_has_least_costs,
+    table_overflow_is_overflow, units_are_unique, words_are_unique, words_at_are_unique,
 };
 
 /// A text has its paragraphs in exactly one way: joined by the ending they are the text, and none
 /// has an ending in it. They are what `paragraphs_of` gives.
 pub fn paragraphs_are_unique()
     ensures { ParagraphsAreUnique }
-{}
-
-/// A line has exactly one list of words at offsets of its visible text: its parts between all
-/// places where a cut stands, and no others. It is what `words_at` gives.
-pub fn words_at_are_unique()
-    ensures { WordsAtAreUnique }
 {}
 
 /// By a built-in separator and a built-in splitter a paragraph is cut into exactly the pieces that
@@ -47,12 +40,4 @@ pub fn lines_are_unique()
 /// keep to their widths.
 pub fn text_lines_are_wrapped()
     ensures { TextLinesAreWrapped }
-{}
-
-/// The points of a splitter are cuts of the word, and the pieces at any cuts tile it, with its
-/// whitespace. So the pieces of a list of words tile what the words do.
-pub fn split_pieces_tile()
-    ensures cuts { PointsAreCuts }
-    ensures pieces { SplitPiecesTile }
-    ensures words { SplitWordsTile }
 {}

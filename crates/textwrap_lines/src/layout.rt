@@ -5,7 +5,7 @@ ghost use Rattle.textwrap_lines.specs.Options.{settings_view};
 ghost use Rattle.textwrap_lines.specs.Paragraph.{first_width, indent_of, later_width, width_after};
 
 use crate::options::Options;
-use textwrap_base::words::display_width;
+use textwrap_words::words::display_width;
 
 /// The width of a paragraph's first line, and that of its others. `is_later` says that a line stands
 /// before it.

@@ -5,8 +5,6 @@
 pub use filling::fill;
 pub use line_ending::LineEnding;
 pub use options::Options;
-pub use word_separators::WordSeparator;
-pub use word_splitters::WordSplitter;
 pub use wrapping::wrap;
 
 mod cheapest;
@@ -22,6 +20,4 @@ pub mod parts;
 mod printable;
 mod spans;
 mod word_lines;
-pub mod word_separators;
-pub mod word_splitters;
 mod wrapping;

@@ -2,10 +2,10 @@
 ghost use Rattle.std.specs.Prelude.{◌≡◌, [], false, true, IsOk, MatchResult, ⊤};
 
 use crate::line_ending::LineEnding;
-use crate::word_separators::WordSeparator;
-use crate::word_splitters::WordSplitter;
 use std::alloc::AllocError;
-use textwrap_base::wrap_algorithms::{Penalties, WrapAlgorithm};
+use textwrap_words::word_separators::WordSeparator;
+use textwrap_words::word_splitters::WordSplitter;
+use textwrap_words::wrap_algorithms::{Penalties, WrapAlgorithm};
 
 /// How a text is wrapped. No call on it allocates.
 ///

@@ -4,9 +4,9 @@
 ghost use Rattle.std.specs.Prelude.{ℕ, ◌≡◌, ◌≢◌, ◌↔◌, ◌<◌, ◌≤◌, ◌-◌, Bool, true, List, [], ◌∷◌};
 ghost use Rattle.std.specs.Prelude.{◌++◌, map, length, take, slice_index, string_bytes, IsTrue};
 ghost use Rattle.std.specs.Prelude.{OnOk};
-ghost use Rattle.textwrap_base.specs.Blanks.{blank, trimmed_len};
+ghost use Rattle.textwrap_words.specs.Blanks.{blank, trimmed_len};
 ghost use Rattle.textwrap_base.specs.Division.{IsGreedy};
-ghost use Rattle.textwrap_base.specs.Words.{WordText, sizes_of};
+ghost use Rattle.textwrap_words.specs.Words.{WordText, sizes_of};
 ghost use Rattle.textwrap_lines.specs.LineSinks.{Took};
 ghost use Rattle.textwrap_lines.specs.Paragraph.{covered, Slice};
 ghost use Rattle.textwrap_lines.specs.Printable.{IsPrintable, IsFirstLine, cut_at};
@@ -17,7 +17,7 @@ ghost use Rattle.textwrap_lines.specs.Printable.{NoCutBetween};
 
 use crate::line_sinks::LineSink;
 use std::alloc::{AllocError, Allocator};
-use textwrap_base::blanks::trimmed_len;
+use textwrap_words::blanks::trimmed_len;
 
 /// Whether each byte is printable ASCII.
 pub(crate) fn is_printable(bytes: &[u8]) -> bool

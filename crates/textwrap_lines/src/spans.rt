@@ -2,24 +2,24 @@
 //! ASCII are found by its bytes.
 ghost use Rattle.std.specs.Prelude.{ℕ, ◌≡◌, ◌≢◌, ◌<◌, ◌≤◌, ◌+◌, ◌-◌, ◌*◌, List, [], ◌∷◌, All, true};
 ghost use Rattle.std.specs.Prelude.{length, map, slice_index, IfOk, OnOk, IsUtf8};
-ghost use Rattle.textwrap_base.specs.Blanks.{blank};
-ghost use Rattle.textwrap_base.specs.Breaking.{broken_word, broken_words};
-ghost use Rattle.textwrap_base.specs.Units.{text_width};
-ghost use Rattle.textwrap_base.specs.Words.{WordText, tile_of, tiled, word_view, words_of};
+ghost use Rattle.textwrap_words.specs.Blanks.{blank};
+ghost use Rattle.textwrap_words.specs.Breaking.{broken_word, broken_words};
+ghost use Rattle.textwrap_words.specs.Units.{text_width};
+ghost use Rattle.textwrap_words.specs.Words.{WordText, tile_of, tiled, word_view, words_of};
 ghost use Rattle.textwrap_lines.specs.Layout.{front_of};
 ghost use Rattle.textwrap_lines.specs.Options.{settings_view};
 ghost use Rattle.textwrap_lines.specs.Paragraph.{pieces_of, text_limit};
 ghost use Rattle.textwrap_lines.specs.Printable.{IsFirstPiece, IsPrintable, NoCutBetween, cut_at};
 ghost use Rattle.textwrap_lines.specs.Printable.{pieces_after, printable_cut};
-ghost use Rattle.textwrap_lines.specs.WordSplitters.{MaySplit, points_of, split_words, splitter_of};
+ghost use Rattle.textwrap_words.specs.WordSplitters.{MaySplit, points_of, split_words, splitter_of};
 
 use crate::layout::break_limit;
 use crate::options::Options;
 use crate::printable::{blanks_end, is_cut_at, is_printable};
-use crate::word_separators::Words;
-use crate::word_splitters::{WordSplitter, push_measured};
 use std::alloc::{AllocError, Allocator};
-use textwrap_base::words::Word;
+use textwrap_words::inner::{push_measured, words_at_blanks};
+use textwrap_words::word_splitters::WordSplitter;
+use textwrap_words::words::Word;
 
 /// Where a piece of a text ends, and what it takes.
 #[derive(Clone, Copy)]
@@ -174,7 +174,7 @@ impl<A: Allocator + Copy> SpanList<A> {
     {
         let splitter = built_in_splitter(hyphens);
         let mut split = Vec::new(alloc);
-        for word in Words::<A>::of_line(line) {
+        for word in words_at_blanks::<A>(line) {
             split.clear();
             push_measured(alloc, &mut split, word, &splitter)?;
             self.push_split(&split, limit)?;

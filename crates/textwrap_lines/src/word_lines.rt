@@ -2,23 +2,22 @@
 //! numbers are kept, and no list of words.
 ghost use Rattle.std.specs.Prelude.{◌≡◌, ℕ, ◌*◌, ◌^◌, ◌-◌, ◌<◌, ◌≤◌, List, [], ◌∷◌, ◌++◌, length, map};
 ghost use Rattle.std.specs.Prelude.{IsCharBoundary, IsUtf8, OnOk, if◌then◌else◌};
-ghost use Rattle.textwrap_base.specs.Breaking.{broken_word, broken_words};
+ghost use Rattle.textwrap_words.specs.Breaking.{broken_word, broken_words};
 ghost use Rattle.textwrap_base.specs.Division.{IsGreedy};
-ghost use Rattle.textwrap_base.specs.Units.{text_width};
-ghost use Rattle.textwrap_base.specs.Words.{WordText, sizes_of, tile_of, word_view};
+ghost use Rattle.textwrap_words.specs.Units.{text_width};
+ghost use Rattle.textwrap_words.specs.Words.{WordText, sizes_of, tile_of, word_view};
 ghost use Rattle.textwrap_lines.specs.LineSinks.{Took};
 ghost use Rattle.textwrap_lines.specs.Options.{settings_view};
 ghost use Rattle.textwrap_lines.specs.Paragraph.{line_from, parts_from, pieces_of, text_limit};
 ghost use Rattle.textwrap_lines.specs.Paragraph.{widths_of};
-ghost use Rattle.textwrap_lines.specs.WordSplitters.{split_word, splitter_of};
+ghost use Rattle.textwrap_words.specs.WordSplitters.{split_word, splitter_of};
 
 use crate::layout::{break_limit, line_widths, next_indent};
 use crate::line_sinks::LineSink;
 use crate::options::Options;
-use crate::word_separators::Words;
-use crate::word_splitters::{inner_piece, is_hyphen_point};
 use std::alloc::{AllocError, Allocator};
-use textwrap_base::words::{Word, display_width};
+use textwrap_words::inner::{inner_piece, is_hyphen_point, words_at_blanks};
+use textwrap_words::words::{Word, display_width};
 
 /// How the words of a paragraph are cut, and what all its lines but the first have.
 #[derive(Clone, Copy, Debug)]
@@ -76,7 +75,7 @@ pub(crate) fn push_lines_by_words<'t, A: Allocator + Copy>(
 {
     let layout = Layout::of(options, hyphens);
     let mut line = OpenLine::first(paragraph, options, is_later);
-    for word in Words::<A>::of_line(paragraph) {
+    for word in words_at_blanks::<A>(paragraph) {
         layout.push_word(alloc, &word, &mut line, lines)?;
     }
     line.push_to(alloc, layout.keeps_blanks, lines)

@@ -5,15 +5,15 @@ ghost use Rattle.std.specs.Prelude.{◌≢◌, OnOk, MatchOption, Some, None};
 ghost use Rattle.std.specs.List.{flat_map};
 ghost use Rattle.std.specs.Str.{IsUtf8};
 ghost use Rattle.std.specs.Io.{StartsWith};
-ghost use Rattle.textwrap_base.specs.Blanks.{without_final_blanks};
+ghost use Rattle.textwrap_words.specs.Blanks.{without_final_blanks};
 ghost use Rattle.textwrap_base.specs.Cost.{total_width};
 ghost use Rattle.textwrap_base.specs.Errors.{Fits64Bits, Overflowed};
-ghost use Rattle.textwrap_base.specs.WrapAlgorithms.{Algorithm, algorithm_view, LeastCost};
-ghost use Rattle.textwrap_base.specs.WrapAlgorithms.{MayDivide};
-ghost use Rattle.textwrap_base.specs.Units.{IsNarrow};
-ghost use Rattle.textwrap_base.specs.Words.{WordText, word_view, sizes_of, tiled, Tiles};
+ghost use Rattle.textwrap_words.specs.WrapAlgorithms.{Algorithm, algorithm_view, LeastCost};
+ghost use Rattle.textwrap_words.specs.WrapAlgorithms.{MayDivide};
+ghost use Rattle.textwrap_words.specs.Units.{IsNarrow};
+ghost use Rattle.textwrap_words.specs.Words.{WordText, word_view, sizes_of, tiled, Tiles};
 ghost use Rattle.textwrap_base.specs.declared.penalties.Penalties.{Penalties};
-ghost use Rattle.textwrap_base.specs.declared.wrap_algorithms.WrapAlgorithm.TheVariants.{FirstFit};
+ghost use Rattle.textwrap_words.specs.declared.wrap_algorithms.WrapAlgorithm.TheVariants.{FirstFit};
 ghost use Rattle.textwrap_lines.specs.Fuzzing.{AppendsLines};
 ghost use Rattle.textwrap_lines.specs.LineEnding.{paragraphs_of};
 ghost use Rattle.textwrap_lines.specs.LineSinks.{Holds, Took, kind_of};
@@ -26,20 +26,20 @@ ghost use Rattle.textwrap_lines.specs.Paragraph.{is_whole, parts_of, parts_from,
 ghost use Rattle.textwrap_lines.specs.Paragraph.{AreDividedParts, AreParagraphParts};
 ghost use Rattle.textwrap_lines.specs.Paragraph.{DividesAs, OnlyCharactersPass};
 ghost use Rattle.textwrap_lines.specs.Text.{AreTextLines, IsWrapped, LinesKeepToWidth};
-ghost use Rattle.textwrap_lines.specs.WordSeparators.{MaySeparate};
-ghost use Rattle.textwrap_lines.specs.WordSplitters.{AreSplit, MaySplit, Splitter, splitter_view};
+ghost use Rattle.textwrap_words.specs.WordSeparators.{MaySeparate};
+ghost use Rattle.textwrap_words.specs.WordSplitters.{AreSplit, MaySplit, Splitter, splitter_view};
 
 use crate::direct::push_directly;
 use crate::layout::{line_widths, next_indent};
 use crate::line_ending::LineEnding;
 use crate::line_sinks::LineSink;
 use crate::options::Options;
-use crate::word_splitters::push_measured;
 use std::alloc::{AllocError, Allocator};
 use std::borrow::CowStr;
-use textwrap_base::blanks::split_final_blanks;
-use textwrap_base::words::{Word, break_words, display_width};
-use textwrap_base::wrap_algorithms::WrapError;
+use textwrap_words::blanks::split_final_blanks;
+use textwrap_words::inner::push_measured;
+use textwrap_words::words::{Word, break_words, display_width};
+use textwrap_words::wrap_algorithms::WrapError;
 
 /// Wraps a text and returns its lines.
 ///

@@ -1,7 +1,13 @@
-//! The tests of the public calls of `textwrap` on words, and on texts at the limits of what the calls
-//! may meet: single characters, the least and the greatest widths, memory that runs out. They are in
-//! tables by what they are about, each with the rule that it shows.
+//! The words of `textwrap`: the columns of a text, its words, where these may be split and broken, and
+//! how they are divided into lines. The crate `textwrap` passes its public modules on, but for
+//! `blanks`, `escapes` and `inner`. The modules and their items have the examples.
 #![tactic(auto)]
 
-#[cfg(test)]
-mod tests;
+pub mod blanks;
+pub mod escapes;
+pub mod inner;
+pub mod laws;
+pub mod word_separators;
+pub mod word_splitters;
+pub mod words;
+pub mod wrap_algorithms;

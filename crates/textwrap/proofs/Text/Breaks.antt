@@ -7,11 +7,11 @@ use Rattle.std.specs.Prelude.{Option, None, Some}
 use Rattle.std.specs.List.{flat_map}
 use Rattle.std.proofs.lemmas.List.{set_at, length_push}
 use Rattle.std.proofs.lemmas.List.Elements.{All-nil, All-cons, All-append}
-use Rattle.textwrap_base.specs.Blanks.{blank}
+use Rattle.textwrap_words.specs.Blanks.{blank}
 use Rattle.textwrap_base.specs.Division.{IsGreedy}
-use Rattle.textwrap_base.specs.Words.{WordText, sizes_of, tiled, words_of}
+use Rattle.textwrap_words.specs.Words.{WordText, sizes_of, tiled, words_of}
 use Rattle.textwrap_base.proofs.ListLemmas.{flat}
-use Rattle.textwrap_base.proofs.Word.Tiling.{tiled-append}
+use Rattle.textwrap_words.proofs.Word.Tiling.{tiled-append}
 use Rattle.textwrap_lines.specs.LineEnding.{ending_bytes, paragraphs_of}
 use Rattle.textwrap_lines.specs.declared.line_ending.LineEnding.TheVariants.{LF}
 use Rattle.textwrap.specs.InPlace.{broken_lines, AreDividedAt, breaks_of, breaks_from}

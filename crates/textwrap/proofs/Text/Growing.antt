@@ -5,12 +5,12 @@ use Rattle.std.proofs.Common.{refl, sym, ap, ◌∙◌, subst, arith, append_ass
 use Rattle.std.proofs.Common.{length-append}
 use Rattle.std.proofs.lemmas.List.Elements.{All-nil, All-cons, All-head, All-tail}
 use Rattle.textwrap_base.specs.Division.{closed_width, open_width, Fits, IsGreedy}
-use Rattle.textwrap_base.specs.Words.{WordText, sizes_of, tile_of, tiled, word_of, words_of}
+use Rattle.textwrap_words.specs.Words.{WordText, sizes_of, tile_of, tiled, word_of, words_of}
 use Rattle.textwrap_base.proofs.Division.Greedy.{closed_width-push, open_width-append}
 use Rattle.textwrap_base.proofs.Division.Greedy.{some_from_nonempty}
-use Rattle.textwrap_base.proofs.Word.Texts.{HasNoPenalty}
-use Rattle.textwrap_base.proofs.Word.Tiling.{tiled-append, tiled-push, tiled-words_of}
-use Rattle.textwrap_base.proofs.Word.Words.{words_unique}
+use Rattle.textwrap_words.proofs.Word.Texts.{HasNoPenalty}
+use Rattle.textwrap_words.proofs.Word.Tiling.{tiled-append, tiled-push, tiled-words_of}
+use Rattle.textwrap_words.proofs.Word.Words.{words_unique}
 use Rattle.textwrap_lines.proofs.Text.Lossless.{tiled-word_of}
 use Rattle.textwrap.specs.InPlace.{FitsOneLine, breaks_of}
 use Rattle.textwrap.proofs.Text.InPlaceLines.{line_width-one}

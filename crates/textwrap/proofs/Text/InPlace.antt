@@ -6,14 +6,14 @@ use Rattle.std.specs.List.{flat_map}
 use Rattle.std.proofs.lemmas.List.{length_push}
 use Rattle.std.proofs.lemmas.Str.{IsUtf8-append, IsUtf8-from_ascii}
 use Rattle.std.specs.Str.{IsUtf8, IsAscii}
-use Rattle.textwrap_base.specs.Blanks.{blank}
+use Rattle.textwrap_words.specs.Blanks.{blank}
 use Rattle.textwrap_base.specs.Division.{IsGreedy}
-use Rattle.textwrap_base.specs.Words.{WordText, sizes_of, tiled, words_of}
+use Rattle.textwrap_words.specs.Words.{WordText, sizes_of, tiled, words_of}
 use Rattle.textwrap_base.proofs.ListLemmas.{flat}
-use Rattle.textwrap_base.proofs.Word.Tiling.{tiled-append}
+use Rattle.textwrap_words.proofs.Word.Tiling.{tiled-append}
 use Rattle.textwrap_lines.specs.LineEnding.{ending_bytes, join_with, paragraphs_of}
 use Rattle.textwrap_lines.specs.declared.line_ending.LineEnding.TheVariants.{LF}
-use Rattle.textwrap_base.proofs.Word.Texts.{ascii_seam}
+use Rattle.textwrap_words.proofs.Word.Texts.{ascii_seam}
 use Rattle.textwrap.specs.InPlace.{broken_lines, AreDividedAt}
 use Rattle.textwrap_lines.specs.LineEnding.{line_feed}
 use Rattle.textwrap.specs.InPlace.{OnlyBlanksChange, IsFilledInPlace}

@@ -9,21 +9,21 @@ use Rattle.std.proofs.lemmas.Bool.{and_parts, ltb-true}
 use Rattle.std.proofs.lemmas.List.{reverse-append, take-append-le, length_push, map-append}
 use Rattle.std.proofs.lemmas.List.Elements.{All-nil, All-cons, All-head, All-tail, All-append}
 use Rattle.std.proofs.lemmas.List.Elements.{All-map}
-use Rattle.textwrap_base.specs.Blanks.{blank, is_blank, trimmed_len, without_final_blanks}
+use Rattle.textwrap_words.specs.Blanks.{blank, is_blank, trimmed_len, without_final_blanks}
 use Rattle.textwrap_base.specs.Division.{line_width, Fits, AllFit, AllFull, closed_width, IsGreedy}
 use Rattle.textwrap_base.specs.Sizes.{Sizes}
-use Rattle.textwrap_base.specs.Units.{text_width, IsNarrow}
-use Rattle.textwrap_base.specs.Words.{WordText, sizes_of, tiled, word_of, words_of, chunks}
-use Rattle.textwrap_base.specs.Words.{AreWordsOf}
-use Rattle.textwrap_base.specs.WrapAlgorithms.{Greedy}
+use Rattle.textwrap_words.specs.Units.{text_width, IsNarrow}
+use Rattle.textwrap_words.specs.Words.{WordText, sizes_of, tiled, word_of, words_of, chunks}
+use Rattle.textwrap_words.specs.Words.{AreWordsOf}
+use Rattle.textwrap_words.specs.WrapAlgorithms.{Greedy}
 use Rattle.textwrap_base.proofs.Division.OneLine.{IsDividedBy-one_line}
 use Rattle.textwrap_base.proofs.Division.Unique.{greedy_unique}
 use Rattle.textwrap_base.proofs.ListLemmas.{flat}
-use Rattle.textwrap_base.proofs.Word.Texts.{HasNoPenalty, text_width-nil}
-use Rattle.textwrap_base.proofs.Word.Tiling.{tiled-words_of}
-use Rattle.textwrap_base.proofs.Word.Words.{words_unique}
+use Rattle.textwrap_words.proofs.Word.Texts.{HasNoPenalty, text_width-nil}
+use Rattle.textwrap_words.proofs.Word.Tiling.{tiled-words_of}
+use Rattle.textwrap_words.proofs.Word.Words.{words_unique}
 use Rattle.textwrap_lines.specs.declared.line_ending.LineEnding.TheVariants.{LF}
-use Rattle.textwrap_lines.specs.WordSplitters.{Whole}
+use Rattle.textwrap_words.specs.WordSplitters.{Whole}
 use Rattle.textwrap.specs.InPlace.{broken_lines, AreDividedAt, IsFilledInPlace, FitsOneLine}
 use Rattle.textwrap_base.proofs.Division.Map.{IsDivision-whole}
 use Rattle.textwrap.specs.Laws.{unbroken_at}
@@ -32,8 +32,8 @@ use Rattle.textwrap_lines.specs.Paragraph.{Line, LineParts, Slice, line_from, co
 use Rattle.textwrap_lines.specs.Paragraph.{is_whole, parts_of, parts_from, pieces_of, widths_of}
 use Rattle.textwrap_lines.specs.Paragraph.{DividesAs, ArePieces, AreParagraphParts}
 use Rattle.textwrap_lines.specs.Text.{AreGroups, AreTextLines}
-use Rattle.textwrap_base.specs.Words.{AreWordsOf}
-use Rattle.textwrap_lines.specs.WordSplitters.{ArePoints, split_words}
+use Rattle.textwrap_words.specs.Words.{AreWordsOf}
+use Rattle.textwrap_words.specs.WordSplitters.{ArePoints, split_words}
 use Rattle.textwrap_lines.proofs.Paragraph.LastBlanks.{covered-words_of}
 use Rattle.textwrap_lines.proofs.Paragraph.Lines.{line_from-pieces, line_from-whole}
 use Rattle.textwrap_lines.proofs.Paragraph.Lines.{AreParagraphParts-whole}

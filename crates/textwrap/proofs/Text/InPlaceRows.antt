@@ -5,7 +5,7 @@ use Rattle.std.specs.Str.{chars}
 use Rattle.std.proofs.lemmas.List.Elements.{All-nil, All-cons}
 use Rattle.unicode.specs.Width.Width.{char_width}
 use Rattle.textwrap_base.specs.Division.{Fits}
-use Rattle.textwrap_base.specs.Words.{WordText, sizes_of, words_of}
+use Rattle.textwrap_words.specs.Words.{WordText, sizes_of, words_of}
 use Rattle.textwrap.specs.InPlace.{broken_lines, IsFilledInPlace, with_line_feeds, breaks_of}
 use Rattle.textwrap_lines.specs.LineEnding.{join_with}
 use Rattle.textwrap.proofs.Text.InPlaceLines.{filled_one}

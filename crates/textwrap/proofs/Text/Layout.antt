@@ -10,8 +10,8 @@ use Rattle.std.proofs.lemmas.Iterator.Consumers.{YieldsList-turn, YieldsList-end
 use Rattle.std.proofs.lemmas.Iterator.Splits.{YieldsList-from_lines}
 use Rattle.std.proofs.lemmas.List.{drop_more, get_or_default}
 use denote.Ref.{Bor}
-use Rattle.textwrap_base.specs.Units.{text_width}
-use Rattle.textwrap_base.proofs.Word.Texts.{text_width-nil}
+use Rattle.textwrap_words.specs.Units.{text_width}
+use Rattle.textwrap_words.proofs.Word.Texts.{text_width-nil}
 use Rattle.textwrap_lines.specs.Options.{Settings, settings_at}
 use Rattle.textwrap.specs.Refilling.{line_prefix, common_prefix}
 use Rattle.textwrap.proofs.Text.Prefixes.{line_prefix-ascii, common_start-ascii}

@@ -3,15 +3,15 @@ use Rattle.std.proofs.Common.{◌≡◌, ◌≢◌, ℕ, ◌<◌, Bool, true, fa
 use Rattle.std.proofs.Common.{All, length, map, refl, sym, ap, ◌∙◌, subst, arith, append_assoc}
 use Rattle.std.proofs.Common.{append-nil, length-append}
 use Rattle.std.proofs.lemmas.List.Elements.{All-nil, All-head, All-tail, All-drop}
-use Rattle.textwrap_base.specs.Blanks.{blank, without_final_blanks}
+use Rattle.textwrap_words.specs.Blanks.{blank, without_final_blanks}
 use Rattle.textwrap_base.specs.Division.{IsDivision}
 use Rattle.textwrap_base.specs.Sizes.{Sizes}
-use Rattle.textwrap_base.specs.Words.{WordText, sizes_of, tiled, word_of, words_of, AreWordsOf}
-use Rattle.textwrap_base.specs.WrapAlgorithms.{Algorithm, Greedy, LeastCost, IsDividedBy}
+use Rattle.textwrap_words.specs.Words.{WordText, sizes_of, tiled, word_of, words_of, AreWordsOf}
+use Rattle.textwrap_words.specs.WrapAlgorithms.{Algorithm, Greedy, LeastCost, IsDividedBy}
 use Rattle.textwrap_base.proofs.Division.Map.{IsDivision-whole, IsDividedBy-some}
 use Rattle.textwrap_base.proofs.ListLemmas.{flat, all-right}
-use Rattle.textwrap_base.proofs.Word.Tiling.{tiled-words_of}
-use Rattle.textwrap_base.proofs.Word.Words.{words_unique}
+use Rattle.textwrap_words.proofs.Word.Tiling.{tiled-words_of}
+use Rattle.textwrap_words.proofs.Word.Words.{words_unique}
 use Rattle.textwrap.specs.InPlace.{broken_lines}
 use Rattle.textwrap_lines.specs.LineEnding.{line_feed}
 use Rattle.textwrap.specs.Laws.{unbroken_at, IsFilledUnbroken}
@@ -21,7 +21,7 @@ use Rattle.textwrap_lines.specs.Paragraph.{widths_of, DividesAs, AreParagraphPar
 use Rattle.textwrap.specs.Refilling.{IsPlainLine, IsPlain, blanked}
 use Rattle.textwrap_lines.specs.Text.{AreGroups}
 use Rattle.textwrap_lines.specs.declared.line_ending.LineEnding.TheVariants.{LF}
-use Rattle.textwrap_lines.specs.WordSplitters.{Whole}
+use Rattle.textwrap_words.specs.WordSplitters.{Whole}
 use Rattle.textwrap_lines.proofs.Paragraph.Lines.{line_from-whole}
 use Rattle.textwrap_lines.proofs.Paragraph.LinesApart.{apart_from}
 use Rattle.textwrap_lines.proofs.Paragraph.Pieces.{ArePieces-is}

@@ -8,10 +8,10 @@ use Rattle.std.proofs.lemmas.Bool.{ne_eqb}
 use Rattle.std.proofs.lemmas.List.{take_all, length-take, map-append}
 use Rattle.std.proofs.lemmas.List.Elements.{All-nil, All-cons, All-head, All-tail, All-append}
 use Rattle.std.proofs.lemmas.List.Elements.{All-weaker, All-get_or}
-use Rattle.textwrap_base.specs.Blanks.{blank, trimmed_len, without_final_blanks}
+use Rattle.textwrap_words.specs.Blanks.{blank, trimmed_len, without_final_blanks}
 use Rattle.textwrap_base.specs.Lists.{last}
 use Rattle.textwrap_base.proofs.ListLemmas.{all-right}
-use Rattle.textwrap_base.proofs.Word.Texts.{trimmed-past}
+use Rattle.textwrap_words.proofs.Word.Texts.{trimmed-past}
 use Rattle.textwrap_lines.specs.LineEnding.{line_feed}
 use Rattle.textwrap.specs.Refilling.{is_prefix_character, line_prefix, IsPlainByte, IsPlainWord}
 use Rattle.textwrap.specs.Refilling.{IsPlainLine, blanked}

@@ -12,8 +12,8 @@ use Rattle.std.proofs.lemmas.List.Elements.{All-head, All-tail, All-weaker, All-
 use Rattle.std.proofs.lemmas.List.Splits.{slice_split_none, slice_split_at}
 use Rattle.std.proofs.lemmas.Slice.Eq.{bytes_eq-Decides}
 use Rattle.textwrap_base.specs.Lists.{last}
-use Rattle.textwrap_base.specs.Words.{WordText}
-use Rattle.textwrap_base.specs.WrapAlgorithms.{Algorithm}
+use Rattle.textwrap_words.specs.Words.{WordText}
+use Rattle.textwrap_words.specs.WrapAlgorithms.{Algorithm}
 use Rattle.textwrap_lines.specs.Filling.{IsFilled}
 use Rattle.textwrap_lines.specs.LineEnding.{line_feed}
 use Rattle.textwrap.specs.Laws.{IsFilledUnbroken, IsUnindented}

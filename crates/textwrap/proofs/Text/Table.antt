@@ -14,23 +14,23 @@ use Rattle.std.proofs.lemmas.List.{get_or-map, get_or_past, length-map, length-r
 use Rattle.std.proofs.lemmas.List.{map-append, flat_map_more}
 use Rattle.std.proofs.lemmas.List.Concat.{flat_map-append}
 use Rattle.std.proofs.lemmas.List.FromFn.{map-range_with_len_more}
-use Rattle.textwrap_base.specs.Blanks.{blank}
+use Rattle.textwrap_words.specs.Blanks.{blank}
 use Rattle.textwrap.specs.Columns.{Layout, blanks, cell, cells, padded, row_text, gapped}
 use Rattle.textwrap_lines.specs.LineEnding.{join_with}
 use Rattle.textwrap_lines.specs.Options.{Settings, settings_view, KeepsMethods}
 use Rattle.textwrap_lines.specs.Paragraph.{Line, line_view, line_bytes, IsDividedInto, DividesBy}
 use Rattle.textwrap_lines.specs.Paragraph.{DividesUnder}
 use Rattle.textwrap_lines.specs.Text.{AreTextLines}
-use Rattle.textwrap_lines.specs.WordSeparators.{MaySeparate}
-use Rattle.textwrap_lines.specs.WordSplitters.{MaySplit}
-use Rattle.textwrap_base.specs.Words.{WordText}
-use Rattle.textwrap_base.specs.declared.wrap_algorithms.WrapAlgorithm.{WrapAlgorithm}
+use Rattle.textwrap_words.specs.WordSeparators.{MaySeparate}
+use Rattle.textwrap_words.specs.WordSplitters.{MaySplit}
+use Rattle.textwrap_words.specs.Words.{WordText}
+use Rattle.textwrap_words.specs.declared.wrap_algorithms.WrapAlgorithm.{WrapAlgorithm}
 use Rattle.textwrap_lines.specs.declared.options.Options.{Options}
-use Rattle.textwrap_lines.specs.declared.word_separators.WordSeparator.{WordSeparator}
-use Rattle.textwrap_lines.specs.declared.word_splitters.WordSplitter.{WordSplitter}
-use Rattle.textwrap_base.specs.WrapAlgorithms.{MayDivide}
-use Rattle.textwrap_base.specs.Units.{text_width}
-use Rattle.textwrap_base.proofs.Word.Texts.{text_width-nil}
+use Rattle.textwrap_words.specs.declared.word_separators.WordSeparator.{WordSeparator}
+use Rattle.textwrap_words.specs.declared.word_splitters.WordSplitter.{WordSplitter}
+use Rattle.textwrap_words.specs.WrapAlgorithms.{MayDivide}
+use Rattle.textwrap_words.specs.Units.{text_width}
+use Rattle.textwrap_words.proofs.Word.Texts.{text_width-nil}
 use Rattle.textwrap_lines.proofs.Text.Lines.{line_bytes-line_view}
 
 -- ---- runs

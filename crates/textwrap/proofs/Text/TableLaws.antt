@@ -9,9 +9,9 @@ use Rattle.std.proofs.lemmas.List.Concat.{flat_map-append}
 use Rattle.std.proofs.lemmas.List.Elements.{All-head, All-tail}
 use Rattle.std.proofs.lemmas.List.FromFn.{get_or-map-range_with_len, fill_by_all}
 use Rattle.std.proofs.lemmas.List.Sums.{sum_by-cons, sum_by-append}
-use Rattle.textwrap_base.specs.Units.{text_width, is_printable}
-use Rattle.textwrap_base.proofs.Units.Widths.{text_width-plain}
-use Rattle.textwrap_base.proofs.Word.Texts.{text_width-nil}
+use Rattle.textwrap_words.specs.Units.{text_width, is_printable}
+use Rattle.textwrap_words.proofs.Units.Widths.{text_width-plain}
+use Rattle.textwrap_words.proofs.Word.Texts.{text_width-nil}
 use Rattle.textwrap.specs.Columns.{Layout, layout_of, inner_width, blanks, cell, cells}
 use Rattle.textwrap.specs.Columns.{padded, row_text, row_count, cell_parts, row_parts}
 use Rattle.textwrap.specs.Columns.{column_cells, cells_by_column}

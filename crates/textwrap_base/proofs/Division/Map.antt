@@ -8,7 +8,7 @@ use Rattle.textwrap_base.specs.Sizes.{Sizes}
 use Rattle.textwrap_base.specs.Division.{line_width, closed_width, IsDivision, Fits, AllFit}
 use Rattle.textwrap_base.specs.Division.{AllFull, IsGreedy}
 use Rattle.textwrap_base.specs.Cost.{priced_at}
-use Rattle.textwrap_base.specs.WrapAlgorithms.{Algorithm, Greedy, LeastCost, IsDividedBy}
+use Rattle.textwrap_base.specs.Algorithms.{Algorithm, Greedy, LeastCost, IsDividedBy}
 use Rattle.textwrap_base.proofs.Division.Greedy.{closed_width-map}
 use Rattle.textwrap_base.proofs.Cost.Map.{IsByOptimalFit-map}
 

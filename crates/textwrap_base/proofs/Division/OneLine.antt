@@ -7,7 +7,7 @@ use Rattle.std.proofs.lemmas.Bool.Decides.{nat_tests}
 use Rattle.std.proofs.lemmas.List.{append-nil, take_all, length-take-le, length-drop}
 use Rattle.std.proofs.lemmas.List.Elements.{All-nil, All-cons, All-head, All-tail}
 use Rattle.textwrap_base.specs.Sizes.{Sizes}
-use Rattle.textwrap_base.specs.WrapAlgorithms.{Algorithm, Greedy, LeastCost, IsDividedBy}
+use Rattle.textwrap_base.specs.Algorithms.{Algorithm, Greedy, LeastCost, IsDividedBy}
 use Rattle.textwrap_base.specs.Cost.{PricedSizes, priced_at, last_break_penalty, line_cost}
 use Rattle.textwrap_base.specs.Division.{line_width, closed_width, IsDivision, IsGreedy}
 use Rattle.textwrap_base.specs.Table.{entry_at, first_entry, entry_from, line_costs}

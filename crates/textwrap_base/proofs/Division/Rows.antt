@@ -1,17 +1,14 @@
 -- Worked rows on the widths of lines, on greedy divisions, and on what lines cost.
 use Rattle.std.proofs.Common.{◌≡◌, ◌≢◌, ℕ, zero, suc, ◌+◌, ◌<◌, ◌≤◌, Bool, true, ◌&&◌, ◌||◌, ltb}
-use Rattle.std.proofs.Common.{leb, List, [], ◌∷◌, ◌++◌, length, map, take, ⊎_elim, refl, ap, arith}
-use Rattle.std.proofs.Common.{subst, codes}
+use Rattle.std.proofs.Common.{leb, List, [], ◌∷◌, ◌++◌, length, take, ⊎_elim, refl, ap, arith}
+use Rattle.std.proofs.Common.{subst}
 use Rattle.std.specs.List.{flat_map}
-use Rattle.std.specs.Str.{chars}
 use Rattle.std.proofs.lemmas.Bool.{cases_lt, and_parts, or_cases, ltb-true, leb-true}
 use Rattle.std.proofs.lemmas.List.Elements.{All-nil, All-cons, All-head}
-use Rattle.unicode_width.specs.Width.{char_width}
 use Rattle.textwrap_base.specs.Sizes.{Sizes}
 use Rattle.textwrap_base.specs.Penalties.{default_penalties}
 use Rattle.textwrap_base.specs.Cost.{priced_at, division_cost}
 use Rattle.textwrap_base.specs.Division.{line_width, closed_width, AllFull, IsDivision, IsGreedy}
-use Rattle.textwrap_base.specs.Words.{sizes_of, words_of}
 use Rattle.textwrap_base.proofs.Division.Greedy.{IsGreedyFrom, IsGreedy-from}
 
 -- ---- a test of greedy divisions that computes
@@ -89,7 +86,7 @@ module _ {X : Type 0} (sizes : X → Sizes) (widths : List ℕ) where
         full = AllFull-cons number line lines after.0 rest.full;
       }
 
-  IsGreedy-from_test : (lines : List (List X))
+  pub IsGreedy-from_test : (lines : List (List X))
       → ltb 0 (length (flat_map (λ line. line) lines)) ≡ true → are_greedy 0 lines ≡ true
       → IsGreedy sizes widths (flat_map (λ line. line) lines) lines
   IsGreedy-from_test lines some passes =
@@ -200,48 +197,7 @@ IsGreedy-largest : IsGreedy itself (0xFFFF_FFFF_FFFF_FFFF ∷ []) (largest ∷ l
     ((largest ∷ []) ∷ (largest ∷ []) ∷ [])
 IsGreedy-largest = IsGreedy-from_test _ _ _ refl refl
 
--- a line of a text, by its words
-IsGreedy-words : IsGreedy sizes_of (10 ∷ [])
-    (words_of (codes "To be, or not to be: that is the question"))
-    (words_of (codes "To be, or ") ∷ words_of (codes "not to be: ") ∷ words_of
-    (codes "that is ") ∷ words_of (codes "the ") ∷ words_of (codes "question") ∷ [])
-unfolding chars char_width
-IsGreedy-words = IsGreedy-from_test _ _ _ refl refl
-
--- ---- what the lines of texts cost
-
-abbrev words_at : List ℕ → List ℕ → List (List ℕ) → ℕ
-words_at widths text lines =
-    division_cost (λ w. priced_at default_penalties (sizes_of w)) default_penalties widths
-    (length (words_of text)) (map words_of lines)
-
-cost-first_fit : words_at (10 ∷ []) (codes "To be, or not to be: that is the question")
-    (codes "To be, or " ∷ codes "not to be: " ∷ codes "that is " ∷ codes "the " ∷ codes "question" ∷
-    []) ≡ 5059
-unfolding chars char_width
-cost-first_fit = refl
-
-cost-optimal : words_at (10 ∷ []) (codes "To be, or not to be: that is the question")
-    (codes "To be, " ∷ codes "or not to " ∷ codes "be: that " ∷ codes "is the " ∷ codes "question" ∷
-    []) ≡ 5037
-unfolding chars char_width
-cost-optimal = refl
-
-cost-later_second : words_at (10 ∷ []) (codes "To be, or not to be: that is the question")
-    (codes "To be, or " ∷ codes "not to " ∷ codes "be: that " ∷ codes "is the " ∷ codes "question" ∷
-    []) ≡ 5037
-unfolding chars char_width
-cost-later_second = refl
-
-cost-library : words_at (18 ∷ []) (codes "textwrap: a small library for wrapping text.")
-    (codes "textwrap: a " ∷ codes "small library for " ∷ codes "wrapping text." ∷ []) ≡ 3050
-unfolding chars char_width
-cost-library = refl
-
-cost-library_later : words_at (18 ∷ []) (codes "textwrap: a small library for wrapping text.")
-    (codes "textwrap: a small " ∷ codes "library for " ∷ codes "wrapping text." ∷ []) ≡ 3050
-unfolding chars char_width
-cost-library_later = refl
+-- ---- what lines cost
 
 -- two fragments on one line, or on two
 abbrev fragments_at : ℕ → List (List Sizes) → ℕ

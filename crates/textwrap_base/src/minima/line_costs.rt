@@ -10,9 +10,9 @@ ghost use Rattle.textwrap_base.specs.Table.{fragment_costs};
 
 use super::{CostSource, Steps};
 use crate::errors::{OverflowError, WrapError};
+use crate::fragments::Fragment;
 use crate::line_widths::line_width;
 use crate::penalties::Penalties;
-use crate::words::Fragment;
 use std::alloc::{AllocError, Allocator};
 use std::marker::Model;
 

@@ -6,8 +6,8 @@ ghost use Rattle.textwrap_base.specs.Queue.{queue_limit};
 ghost use Rattle.textwrap_base.specs.Table.{fragment_costs};
 
 use super::line_costs::total_width;
+use crate::fragments::Fragment;
 use crate::penalties::Penalties;
-use crate::words::Fragment;
 
 /// The greatest number of the queue case. A line then costs at most 2^125.
 const LIMIT: usize = 1 << 62;

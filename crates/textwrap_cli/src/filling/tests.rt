@@ -1,10 +1,10 @@
 use super::*;
+use refusing_heap::Heap;
 use std::alloc::Global;
 use std::io;
 use std::io::ErrorKind;
 use std::process::Abort;
 use std::test::Fail;
-use textwrap_heap::Heap;
 
 /// A reader that gives so many of its bytes at a time. After them it fails once, where it has a
 /// fault, and is at its end.

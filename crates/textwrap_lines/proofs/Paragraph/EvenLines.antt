@@ -7,9 +7,9 @@ use Rattle.std.proofs.lemmas.Bool.{and_parts, cases_lt, eqb-true}
 use Rattle.std.proofs.lemmas.List.{nil_from_length}
 use Rattle.std.proofs.lemmas.List.Elements.{All-nil, All-cons}
 use Rattle.textwrap_base.specs.Division.{closed_width}
-use Rattle.textwrap_base.specs.Units.{text_width}
-use Rattle.textwrap_base.specs.Words.{WordText, sizes_of, word_of}
-use Rattle.textwrap_base.proofs.Word.Texts.{text_width-nil}
+use Rattle.textwrap_words.specs.Units.{text_width}
+use Rattle.textwrap_words.specs.Words.{WordText, sizes_of, word_of}
+use Rattle.textwrap_words.proofs.Word.Texts.{text_width-nil}
 use Rattle.textwrap_lines.specs.Options.{Settings}
 use Rattle.textwrap_lines.specs.Paragraph.{IsOneCharacter, OnlyCharactersPass, KeepsToWidth}
 use Rattle.textwrap_lines.specs.Paragraph.{first_width, later_width, width_after, widths_of}

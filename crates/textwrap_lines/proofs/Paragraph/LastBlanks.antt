@@ -8,17 +8,18 @@ use Rattle.std.specs.List.{slice_range}
 use Rattle.std.proofs.lemmas.Bool.{and_parts, not-true, ltb-true}
 use Rattle.std.proofs.lemmas.List.{length-map, nil_from_length, take_at}
 use Rattle.std.proofs.lemmas.List.Elements.{All-head, All-tail, All-weaker}
-use Rattle.textwrap_base.specs.Words.{piece, WordText, is_cut, chunks, tiled, word_of, words_of}
-use Rattle.textwrap_base.specs.Breaking.{broken_pieces, broken_texts, broken_word, broken_words}
-use Rattle.textwrap_base.specs.Breaking.{pieces_with}
-use Rattle.textwrap_base.specs.Blanks.{is_blank, trimmed_len, without_final_blanks, final_blanks}
-use Rattle.textwrap_base.proofs.Word.BrokenPieces.{broken_texts-some}
-use Rattle.textwrap_base.proofs.Word.Tiling.{join-chunks, tiled-words_of}
-use Rattle.textwrap_base.proofs.Word.Texts.{IsMeasured, trimmed-past, final_blanks-more}
+use Rattle.textwrap_words.specs.Words.{piece, WordText, is_cut, chunks, tiled, word_of, words_of}
+use Rattle.textwrap_words.specs.Breaking.{broken_pieces, broken_texts, broken_word, broken_words}
+use Rattle.textwrap_words.specs.Breaking.{pieces_with}
+use Rattle.textwrap_words.specs.Blanks.{is_blank, trimmed_len, without_final_blanks, final_blanks}
+use Rattle.textwrap_words.proofs.Word.BrokenPieces.{broken_texts-some}
+use Rattle.textwrap_words.proofs.Word.Tiling.{join-chunks, tiled-words_of}
+use Rattle.textwrap_words.proofs.Word.Texts.{IsMeasured, trimmed-past, final_blanks-more}
 use Rattle.textwrap_lines.specs.Options.{Settings}
-use Rattle.textwrap_lines.specs.WordSplitters.{Splitter}
-use Rattle.textwrap_lines.specs.WordSplitters.{cut_penalty, points_of, split_from, split_word}
-use Rattle.textwrap_lines.proofs.Paragraph.Pieces.{split_pieces_of, wide-some}
+use Rattle.textwrap_words.specs.WordSplitters.{Splitter}
+use Rattle.textwrap_words.specs.WordSplitters.{cut_penalty, points_of, split_from, split_word}
+use Rattle.textwrap_lines.proofs.Paragraph.Pieces.{wide-some}
+use Rattle.textwrap_words.proofs.Word.Pieces.{split_pieces_of}
 use Rattle.textwrap_lines.proofs.Paragraph.Pieces.{split_pieces_of-measured, pieces_of-tile}
 use Rattle.textwrap_lines.specs.Paragraph.{covered, empty_word, front_pieces, last_piece}
 use Rattle.textwrap_lines.specs.Paragraph.{later_width, pieces_of}

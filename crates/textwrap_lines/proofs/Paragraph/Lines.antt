@@ -14,19 +14,19 @@ use Rattle.std.proofs.lemmas.Str.{IsUtf8-append, IsUtf8-drop, IsCharBoundary-fro
 use Rattle.std.proofs.lemmas.Str.{IsCharBoundary-from_rest}
 use Rattle.std.proofs.lemmas.List.{map-append}
 use Rattle.std.proofs.lemmas.List.{take_at, drop_at, nil_from_length}
-use Rattle.textwrap_base.specs.declared.words.Word.{Word}
-use Rattle.textwrap_base.specs.Words.{WordText, word_view, word_of, sizes_of, tile_of, tiled, Tiles}
-use Rattle.textwrap_base.specs.WrapAlgorithms.{MayDivide}
-use Rattle.textwrap_base.specs.declared.wrap_algorithms.WrapAlgorithm.{WrapAlgorithm}
+use Rattle.textwrap_words.specs.declared.words.Word.{Word}
+use Rattle.textwrap_words.specs.Words.{WordText, word_view, word_of, sizes_of, tile_of, tiled, Tiles}
+use Rattle.textwrap_words.specs.WrapAlgorithms.{MayDivide}
+use Rattle.textwrap_words.specs.declared.wrap_algorithms.WrapAlgorithm.{WrapAlgorithm}
 use Rattle.textwrap_base.specs.Cost.{total_width}
-use Rattle.textwrap_base.proofs.Division.Ends.{MayDivide-map}
+use Rattle.textwrap_words.proofs.Word.Divisions.{MayDivide-map}
 use Rattle.textwrap_base.proofs.Cost.Measures.{total_width-same}
-use Rattle.textwrap_base.proofs.Word.Bounds.{IsBounded, total_width-bounded}
-use Rattle.textwrap_base.proofs.Word.Tiling.{tiled-append, tiled-push}
+use Rattle.textwrap_words.proofs.Word.Bounds.{IsBounded, total_width-bounded}
+use Rattle.textwrap_words.proofs.Word.Tiling.{tiled-append, tiled-push}
 use Rattle.textwrap_lines.specs.Options.{Settings}
 use Rattle.textwrap_lines.proofs.Text.Lossless.{tiled-word_of}
-use Rattle.textwrap_base.specs.Blanks.{without_final_blanks}
-use Rattle.textwrap_base.proofs.Word.Texts.{HasNoPenalty}
+use Rattle.textwrap_words.specs.Blanks.{without_final_blanks}
+use Rattle.textwrap_words.proofs.Word.Texts.{HasNoPenalty}
 use Rattle.textwrap_lines.specs.Paragraph.{LineParts, assembled_line, line_from, covered}
 use Rattle.textwrap_lines.specs.Paragraph.{last_piece}
 use Rattle.textwrap_lines.specs.Paragraph.{keeps_whitespace, indent_of, parts_of, parts_from}

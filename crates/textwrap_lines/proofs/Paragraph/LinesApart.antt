@@ -8,16 +8,16 @@ use Rattle.std.proofs.lemmas.Bool.{and_parts, eqb-true}
 use Rattle.std.proofs.lemmas.List.{take_at, drop_at, take_all, take_more, take-map, drop-map}
 use Rattle.std.proofs.lemmas.List.{get_or-append_right}
 use Rattle.std.proofs.lemmas.List.Elements.{All-head, All-tail}
-use Rattle.textwrap_base.specs.Blanks.{blank}
+use Rattle.textwrap_words.specs.Blanks.{blank}
 use Rattle.textwrap_base.specs.Division.{IsDivision, IsGreedy}
 use Rattle.textwrap_base.specs.Lists.{last}
-use Rattle.textwrap_base.specs.Words.{WordText, sizes_of, tiled, word_of, words_of}
-use Rattle.textwrap_base.specs.Words.{IsUncut, AreCutApart, AreWordsOf}
-use Rattle.textwrap_base.specs.WrapAlgorithms.{Greedy}
+use Rattle.textwrap_words.specs.Words.{WordText, sizes_of, tiled, word_of, words_of}
+use Rattle.textwrap_words.specs.Words.{IsUncut, AreCutApart, AreWordsOf}
+use Rattle.textwrap_words.specs.WrapAlgorithms.{Greedy}
 use Rattle.textwrap_base.proofs.Division.Map.{IsDivision-whole, IsDividedBy-some}
 use Rattle.textwrap_base.proofs.ListLemmas.{flat, all-left, all-right}
-use Rattle.textwrap_base.proofs.Word.Tiling.{tiled-append, tiled-words_of}
-use Rattle.textwrap_base.proofs.Word.Words.{words_unique}
+use Rattle.textwrap_words.proofs.Word.Tiling.{tiled-append, tiled-words_of}
+use Rattle.textwrap_words.proofs.Word.Words.{words_unique}
 use Rattle.textwrap_lines.proofs.Text.Lossless.{tiled-word_of}
 
 -- ---- the words of a line, cut in two

@@ -8,22 +8,23 @@ use Rattle.std.specs.Str.{IsUtf8}
 use Rattle.std.proofs.lemmas.List.{nil_from_length, take_all}
 use Rattle.std.proofs.lemmas.Bool.{eqb-true}
 use Rattle.std.proofs.lemmas.List.Elements.{All-nil, All-cons, All-head, All-append}
-use Rattle.textwrap_base.specs.Breaking.{broken_words}
+use Rattle.textwrap_words.specs.Breaking.{broken_words}
 use Rattle.textwrap_base.specs.Division.{line_width, closed_width, Fits, AllFit}
-use Rattle.textwrap_base.specs.Units.{text_width}
-use Rattle.textwrap_base.specs.Words.{WordText, sizes_of}
-use Rattle.textwrap_base.proofs.Word.Overlong.{IsTight, broken_words-tight}
-use Rattle.textwrap_base.proofs.Word.Texts.{HasNoPenalty, text_width-nil}
+use Rattle.textwrap_words.specs.Units.{text_width}
+use Rattle.textwrap_words.specs.Words.{WordText, sizes_of}
+use Rattle.textwrap_words.proofs.Word.Overlong.{IsTight, broken_words-tight}
+use Rattle.textwrap_words.proofs.Word.Texts.{HasNoPenalty, text_width-nil}
 use Rattle.textwrap_lines.specs.Options.{Settings}
 use Rattle.textwrap_lines.specs.Paragraph.{empty_word, front_pieces, IsDividedInto}
 use Rattle.textwrap_lines.specs.Paragraph.{widths_of, first_width, width_after, later_width}
 use Rattle.textwrap_lines.specs.Paragraph.{IsOneCharacter, OnlyCharactersPass}
 use Rattle.textwrap_base.proofs.Division.Map.{IsDivision-whole}
 use Rattle.textwrap_base.proofs.ListLemmas.{flat, all-left, all-right}
-use Rattle.textwrap_lines.specs.Cuts.{AreCuts}
-use Rattle.textwrap_lines.specs.WordSplitters.{ends_in_hyphen}
-use Rattle.textwrap_base.specs.WrapAlgorithms.{Greedy, IsDividedBy}
-use Rattle.textwrap_lines.proofs.Paragraph.Pieces.{AreTexts, split-measured, pieces-no_penalty}
+use Rattle.textwrap_words.specs.Cuts.{AreCuts}
+use Rattle.textwrap_words.specs.WordSplitters.{ends_in_hyphen}
+use Rattle.textwrap_words.specs.WrapAlgorithms.{Greedy, IsDividedBy}
+use Rattle.textwrap_lines.proofs.Paragraph.Pieces.{pieces-no_penalty}
+use Rattle.textwrap_words.proofs.Word.Pieces.{AreTexts, split-measured}
 
 -- ---- a line
 

@@ -8,24 +8,24 @@ use Rattle.std.specs.declared.borrow.CowStr.{CowStr}
 use Rattle.textwrap_base.specs.Cost.{total_width}
 use Rattle.textwrap_base.specs.Errors.{Fits64Bits, Overflowed}
 use Rattle.textwrap_base.specs.Sizes.{Sizes}
-use Rattle.textwrap_base.specs.Words.{word_view, sizes_of, Tiles}
-use Rattle.textwrap_base.specs.WrapAlgorithms.{LeastCost, OverflowsBy, algorithm_view}
+use Rattle.textwrap_words.specs.Words.{word_view, sizes_of, Tiles}
+use Rattle.textwrap_words.specs.WrapAlgorithms.{LeastCost, OverflowsBy, algorithm_view}
 use Rattle.textwrap_base.specs.declared.errors.WrapError.{WrapError}
 use Rattle.textwrap_base.specs.declared.errors.WrapError.TheVariants.{Memory, Overflow}
 use Rattle.textwrap_base.specs.declared.penalties.Penalties.{Penalties}
-use Rattle.textwrap_base.specs.declared.words.Word.{Word}
-use Rattle.textwrap_base.specs.declared.wrap_algorithms.WrapAlgorithm as algorithms
+use Rattle.textwrap_words.specs.declared.words.Word.{Word}
+use Rattle.textwrap_words.specs.declared.wrap_algorithms.WrapAlgorithm as algorithms
 use Rattle.textwrap_lines.specs.Fuzzing.{AppendsLines}
 use Rattle.textwrap_lines.specs.Options.{MayOverflow, settings_view}
 use Rattle.textwrap_lines.specs.Paragraph.{ArePieces, LineParts, line_view, line_from}
-use Rattle.textwrap_lines.specs.WordSeparators.{MaySeparate}
-use Rattle.textwrap_lines.specs.WordSplitters.{MaySplit, splitter_view}
+use Rattle.textwrap_words.specs.WordSeparators.{MaySeparate}
+use Rattle.textwrap_words.specs.WordSplitters.{MaySplit, splitter_view}
 use Rattle.textwrap_lines.specs.declared.options.Options.{Options}
-use Rattle.textwrap_lines.specs.declared.word_splitters.WordSplitter as splitters
+use Rattle.textwrap_words.specs.declared.word_splitters.WordSplitter as splitters
 use Rattle.textwrap_lines.proofs.Paragraph.Lines.{total_width-pieces}
 use Rattle.textwrap_lines.proofs.Paragraph.Pieces.{pieces-bounded}
-use Rattle.textwrap_lines.proofs.Word.GivenCuts.{MaySeparate-texts, MaySplit-cuts}
-use Rattle.textwrap_lines.proofs.Word.GivenCuts.{MaySplit-hyphens}
+use Rattle.textwrap_words.proofs.Word.GivenCuts.{MaySeparate-texts, MaySplit-cuts}
+use Rattle.textwrap_words.proofs.Word.GivenCuts.{MaySplit-hyphens}
 
 -- an algorithm that refuses with Overflow is optimal fit
 pub overflow-optimal : {E X : Type 0} {e : _} (algorithm : algorithms.WrapAlgorithm E e)

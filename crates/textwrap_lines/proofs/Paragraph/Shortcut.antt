@@ -10,13 +10,13 @@ use Rattle.std.proofs.lemmas.List.{nil_from_length}
 use Rattle.std.proofs.lemmas.List.Elements.{All-nil, All-cons, All-head, All-tail, All-weaker}
 use Rattle.std.proofs.lemmas.Str.{IsUtf8-from_ascii}
 use Rattle.textwrap_base.specs.Division.{closed_width}
-use Rattle.textwrap_base.specs.Units.{text_width, IsNarrow}
-use Rattle.textwrap_base.specs.Words.{WordText, sizes_of, tiled, word_of}
-use Rattle.textwrap_base.specs.Blanks.{is_blank, without_final_blanks}
+use Rattle.textwrap_words.specs.Units.{text_width, IsNarrow}
+use Rattle.textwrap_words.specs.Words.{WordText, sizes_of, tiled, word_of}
+use Rattle.textwrap_words.specs.Blanks.{is_blank, without_final_blanks}
 use Rattle.textwrap_base.proofs.Division.OneLine.{IsDividedBy-one_line}
-use Rattle.textwrap_base.proofs.Units.Widths.{text_width-narrow}
-use Rattle.textwrap_base.proofs.Word.Texts.{AreBlanks, IsMeasured, HasNoPenalty, text_width-nil}
-use Rattle.textwrap_base.proofs.Word.Bounds.{IsNarrowWord, closed_width-narrow}
+use Rattle.textwrap_words.proofs.Units.Widths.{text_width-narrow}
+use Rattle.textwrap_words.proofs.Word.Texts.{AreBlanks, IsMeasured, HasNoPenalty, text_width-nil}
+use Rattle.textwrap_words.proofs.Word.Bounds.{IsNarrowWord, closed_width-narrow}
 use Rattle.textwrap_lines.specs.Options.{Settings}
 use Rattle.textwrap_lines.specs.Paragraph.{Line, LineParts, Slice, line_from, covered, indent_of}
 use Rattle.textwrap_lines.specs.Paragraph.{parts_of, pieces_of, widths_of, width_after, is_whole}
@@ -25,14 +25,14 @@ use Rattle.textwrap_lines.specs.Paragraph.{parts_from, IsDividedInto, DividesAs,
 use Rattle.textwrap_lines.specs.Paragraph.{AreParagraphParts}
 use Rattle.textwrap_lines.proofs.Paragraph.LastBlanks.{covered-pieces_of}
 use Rattle.textwrap_lines.proofs.Paragraph.Lines.{line_from-pieces, line_from-whole}
-use Rattle.textwrap_lines.specs.WordSeparators.{MaySeparate}
-use Rattle.textwrap_lines.specs.WordSplitters.{Splitter, Whole, AtHyphens, MaySplit, splitter_view}
-use Rattle.textwrap_lines.specs.declared.word_separators.WordSeparator as separators
-use Rattle.textwrap_lines.specs.declared.word_splitters.WordSplitter as splitters
-use Rattle.textwrap_base.specs.declared.wrap_algorithms.WrapAlgorithm as algorithms
-use Rattle.textwrap_base.specs.WrapAlgorithms.{Greedy, LeastCost, MayDivide, algorithm_view}
+use Rattle.textwrap_words.specs.WordSeparators.{MaySeparate}
+use Rattle.textwrap_words.specs.WordSplitters.{Splitter, Whole, AtHyphens, MaySplit, splitter_view}
+use Rattle.textwrap_words.specs.declared.word_separators.WordSeparator as separators
+use Rattle.textwrap_words.specs.declared.word_splitters.WordSplitter as splitters
+use Rattle.textwrap_words.specs.declared.wrap_algorithms.WrapAlgorithm as algorithms
+use Rattle.textwrap_words.specs.WrapAlgorithms.{Greedy, LeastCost, MayDivide, algorithm_view}
 use Rattle.std.specs.Prelude.{None}
-use Rattle.textwrap_base.specs.WrapAlgorithms.{Algorithm}
+use Rattle.textwrap_words.specs.WrapAlgorithms.{Algorithm}
 use Rattle.textwrap_lines.proofs.Paragraph.Pieces.{ArePieces-computed, pieces_of-measured}
 use Rattle.textwrap_lines.proofs.Paragraph.Pieces.{pieces_of-no_penalty, pieces_of-tile}
 use Rattle.textwrap_lines.proofs.Text.Narrow.{narrow_parts}

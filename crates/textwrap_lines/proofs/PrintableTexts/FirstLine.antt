@@ -6,9 +6,9 @@ use Rattle.std.proofs.Math.Seq.{take-append-add}
 use Rattle.std.proofs.lemmas.List.{take_at, drop_at, take_all, drop_all, length-take-le, take-take}
 use Rattle.std.proofs.lemmas.List.{get_or-drop}
 use Rattle.std.proofs.lemmas.List.Elements.{All-take, All-drop}
-use Rattle.textwrap_base.specs.Blanks.{is_blank, trimmed_len}
+use Rattle.textwrap_words.specs.Blanks.{is_blank, trimmed_len}
 use Rattle.textwrap_base.specs.Division.{closed_width, open_width, Fits}
-use Rattle.textwrap_base.specs.Words.{piece, WordText, sizes_of}
+use Rattle.textwrap_words.specs.Words.{piece, WordText, sizes_of}
 use Rattle.textwrap_base.proofs.Division.Greedy.{open_width-cons, closed_width-push}
 use Rattle.textwrap_lines.specs.Paragraph.{covered}
 use Rattle.textwrap_lines.specs.Printable.{IsPrintableByte, IsPrintable, CutTest, pieces_after}

@@ -9,15 +9,15 @@ use Rattle.std.proofs.lemmas.List.{take_at, drop_at, take_all, drop_all, map-app
 use Rattle.std.proofs.lemmas.List.{get_or-drop}
 use Rattle.std.proofs.lemmas.List.Concat.{flat_map-append}
 use Rattle.std.proofs.lemmas.List.Elements.{All-take, All-drop, All-append}
-use Rattle.textwrap_base.specs.Blanks.{is_blank, trimmed_len, without_final_blanks, final_blanks}
-use Rattle.textwrap_base.specs.Breaking.{broken_texts, broken_word, broken_words, broken_pieces}
-use Rattle.textwrap_base.specs.Breaking.{pieces_with}
-use Rattle.textwrap_base.specs.Units.{text_width}
-use Rattle.textwrap_base.specs.Words.{piece, WordText, word_of}
+use Rattle.textwrap_words.specs.Blanks.{is_blank, trimmed_len, without_final_blanks, final_blanks}
+use Rattle.textwrap_words.specs.Breaking.{broken_texts, broken_word, broken_words, broken_pieces}
+use Rattle.textwrap_words.specs.Breaking.{pieces_with}
+use Rattle.textwrap_words.specs.Units.{text_width}
+use Rattle.textwrap_words.specs.Words.{piece, WordText, word_of}
 use Rattle.textwrap_base.proofs.ListLemmas.{flat, onto_front, all-left, all-right}
-use Rattle.textwrap_base.proofs.Word.Texts.{trimmed-past}
-use Rattle.textwrap_base.proofs.Word.BrokenPieces.{broken_texts-nil, broken_texts-some}
-use Rattle.textwrap_base.proofs.Word.BrokenPieces.{pieces_with-more}
+use Rattle.textwrap_words.proofs.Word.Texts.{trimmed-past}
+use Rattle.textwrap_words.proofs.Word.BrokenPieces.{broken_texts-nil, broken_texts-some}
+use Rattle.textwrap_words.proofs.Word.BrokenPieces.{pieces_with-more}
 use Rattle.textwrap_lines.specs.Printable.{IsPrintableByte, IsPrintable, CutTest, parts}
 use Rattle.textwrap_lines.specs.Printable.{pieces_after, cut_at}
 use Rattle.textwrap_lines.proofs.PrintableTexts.Texts.{printable-utf8, printable-width}

@@ -15,19 +15,19 @@ use Rattle.std.proofs.lemmas.List.Elements.{All-append}
 use Rattle.std.proofs.lemmas.Str.{chars-IsAscii}
 use Rattle.unicode.proofs.CategoryComputing.{ucd_category}
 use Rattle.unicode.proofs.DerivedComputing.{ucd_derived}
-use Rattle.textwrap_base.specs.Blanks.{is_blank, trimmed_len, without_final_blanks, final_blanks}
-use Rattle.textwrap_base.specs.Words.{piece, WordText, word_of, is_cut, chunks, words_of}
+use Rattle.textwrap_words.specs.Blanks.{is_blank, trimmed_len, without_final_blanks, final_blanks}
+use Rattle.textwrap_words.specs.Words.{piece, WordText, word_of, is_cut, chunks, words_of}
 use Rattle.textwrap_base.proofs.ListLemmas.{onto_front, onto_front-onto_first, all-left, all-right}
 use Rattle.textwrap_base.proofs.ListLemmas.{last-push}
-use Rattle.textwrap_base.proofs.Word.Tiling.{join-chunks}
-use Rattle.textwrap_base.proofs.Word.Texts.{AreBlanks, final_blanks-blank, trimmed-past}
-use Rattle.textwrap_base.proofs.Word.Texts.{trimmed-other, no_blanks}
+use Rattle.textwrap_words.proofs.Word.Tiling.{join-chunks}
+use Rattle.textwrap_words.proofs.Word.Texts.{AreBlanks, final_blanks-blank, trimmed-past}
+use Rattle.textwrap_words.proofs.Word.Texts.{trimmed-other, no_blanks}
 use Rattle.textwrap_base.proofs.Division.Greedy.{some_from_nonempty}
-use Rattle.textwrap_base.proofs.Word.Words.{chunks-from, AreChunks-chunks}
-use Rattle.textwrap_lines.specs.WordSplitters.{hyphen, AtHyphens, is_alphanumeric}
-use Rattle.textwrap_lines.specs.WordSplitters.{begins_alphanumeric, ends_in_hyphen, is_hyphen_point}
-use Rattle.textwrap_lines.specs.WordSplitters.{hyphen_points, cut_penalty, split_from, split_word}
-use Rattle.textwrap_lines.specs.WordSplitters.{split_words}
+use Rattle.textwrap_words.proofs.Word.Words.{chunks-from, AreChunks-chunks}
+use Rattle.textwrap_words.specs.WordSplitters.{hyphen, AtHyphens, is_alphanumeric}
+use Rattle.textwrap_words.specs.WordSplitters.{begins_alphanumeric, ends_in_hyphen, is_hyphen_point}
+use Rattle.textwrap_words.specs.WordSplitters.{hyphen_points, cut_penalty, split_from, split_word}
+use Rattle.textwrap_words.specs.WordSplitters.{split_words}
 use Rattle.textwrap_lines.specs.Printable.{IsPrintableByte, IsPrintable, CutTest, parts}
 use Rattle.textwrap_lines.specs.Printable.{printable_cut}
 use Rattle.textwrap_lines.proofs.PrintableTexts.Texts.{printable-ascii, flat-printable}

@@ -5,7 +5,7 @@ use Rattle.std.proofs.Common.{arith, append_assoc, append-nil}
 use Rattle.std.proofs.lemmas.List.{nil_from_length, map-append, length_push}
 use Rattle.textwrap_base.specs.Division.{line_width, closed_width, Fits, IsGreedy}
 use Rattle.textwrap_base.specs.Lists.{last}
-use Rattle.textwrap_base.specs.Words.{WordText, sizes_of}
+use Rattle.textwrap_words.specs.Words.{WordText, sizes_of}
 use Rattle.textwrap_base.proofs.Division.Greedy.{IsGreedyFrom, IsGreedyFrom-nil, IsGreedyFrom-cons}
 use Rattle.textwrap_base.proofs.Division.Greedy.{IsGreedy-from}
 use Rattle.textwrap_lines.specs.LineSinks.{Took}

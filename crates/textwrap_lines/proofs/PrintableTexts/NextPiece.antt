@@ -7,10 +7,10 @@ use Rattle.std.specs.List.{onto_first}
 use Rattle.std.proofs.lemmas.Bool.{cases_lt, cases_Bool, false≢true, ne_eqb, le-ltb}
 use Rattle.std.proofs.lemmas.List.{take_all, drop_all, length-take-le, get_or-take}
 use Rattle.std.proofs.lemmas.List.Elements.{All-take}
-use Rattle.textwrap_base.specs.Blanks.{is_blank, trimmed_len}
-use Rattle.textwrap_base.specs.Breaking.{broken_words, broken_pieces}
-use Rattle.textwrap_base.specs.Words.{is_cut, piece, word_of, tile_of}
-use Rattle.textwrap_base.proofs.Word.Texts.{trimmed-past}
+use Rattle.textwrap_words.specs.Blanks.{is_blank, trimmed_len}
+use Rattle.textwrap_words.specs.Breaking.{broken_words, broken_pieces}
+use Rattle.textwrap_words.specs.Words.{is_cut, piece, word_of, tile_of}
+use Rattle.textwrap_words.proofs.Word.Texts.{trimmed-past}
 use Rattle.textwrap_lines.specs.Printable.{IsPrintable, IsPrintableByte, CutTest, parts, cut_at}
 use Rattle.textwrap_lines.specs.Printable.{pieces_after, byte_before, BlanksBetween, NoCutBetween}
 use Rattle.textwrap_lines.specs.Printable.{IsFirstPiece}

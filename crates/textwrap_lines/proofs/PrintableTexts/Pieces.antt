@@ -5,16 +5,16 @@ use Rattle.std.specs.Prelude.{IsUtf8}
 use Rattle.std.proofs.lemmas.List.{nil_from_length, length-map}
 use Rattle.std.proofs.lemmas.List.Elements.{All-nil, All-cons, All-head, All-tail, All-map}
 use Rattle.std.proofs.lemmas.List.Elements.{All-weaker}
-use Rattle.textwrap_base.specs.Blanks.{is_blank, trimmed_len, without_final_blanks, final_blanks}
-use Rattle.textwrap_base.specs.Breaking.{broken_word}
+use Rattle.textwrap_words.specs.Blanks.{is_blank, trimmed_len, without_final_blanks, final_blanks}
+use Rattle.textwrap_words.specs.Breaking.{broken_word}
 use Rattle.textwrap_base.specs.Division.{closed_width, open_width, Fits}
-use Rattle.textwrap_base.specs.Words.{WordText, sizes_of, tile_of, tiled, word_of}
+use Rattle.textwrap_words.specs.Words.{WordText, sizes_of, tile_of, tiled, word_of}
 use Rattle.textwrap_base.proofs.ListLemmas.{all-left, all-right}
-use Rattle.textwrap_base.proofs.Word.Tiling.{tiled-map}
-use Rattle.textwrap_base.proofs.Word.Texts.{IsMeasured, HasNoPenalty, final_blanks-more}
-use Rattle.textwrap_base.proofs.Word.Texts.{trimmed-past, word_of-measured}
-use Rattle.textwrap_base.proofs.Word.BrokenPieces.{tiled-broken_words}
-use Rattle.textwrap_base.proofs.Word.BrokenTexts.{broken_words-measured, broken_words-no_penalty}
+use Rattle.textwrap_words.proofs.Word.Tiling.{tiled-map}
+use Rattle.textwrap_words.proofs.Word.Texts.{IsMeasured, HasNoPenalty, final_blanks-more}
+use Rattle.textwrap_words.proofs.Word.Texts.{trimmed-past, word_of-measured}
+use Rattle.textwrap_words.proofs.Word.BrokenPieces.{tiled-broken_words}
+use Rattle.textwrap_words.proofs.Word.BrokenTexts.{broken_words-measured, broken_words-no_penalty}
 use Rattle.textwrap_base.proofs.Division.Greedy.{open_width-cons}
 use Rattle.textwrap_base.proofs.Division.OneLine.{closed-take}
 use Rattle.textwrap_lines.specs.Paragraph.{covered}

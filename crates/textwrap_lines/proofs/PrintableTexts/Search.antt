@@ -7,9 +7,9 @@ use Rattle.std.specs.Char.{is_ascii_alphanumeric}
 use Rattle.std.proofs.lemmas.Bool.{and_right, ne_eqb, cases_lt, cases_Bool, cases_eq, or_left}
 use Rattle.std.proofs.lemmas.Bool.{false≢true}
 use Rattle.std.proofs.lemmas.List.{take_all, length-take-le, get_or-drop, get_or-take, drop_more}
-use Rattle.textwrap_base.specs.Blanks.{is_blank, trimmed_len}
-use Rattle.textwrap_base.specs.Words.{is_cut}
-use Rattle.textwrap_base.proofs.Word.Texts.{trimmed-past}
+use Rattle.textwrap_words.specs.Blanks.{is_blank, trimmed_len}
+use Rattle.textwrap_words.specs.Words.{is_cut}
+use Rattle.textwrap_words.proofs.Word.Texts.{trimmed-past}
 use Rattle.textwrap_lines.specs.Printable.{IsPrintable, CutTest, cut_at, printable_cut}
 use Rattle.textwrap_lines.specs.Printable.{BlanksBetween}
 use Rattle.textwrap_lines.specs.Printable.{NoCutBetween, IsFirstLine}

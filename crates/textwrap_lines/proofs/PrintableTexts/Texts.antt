@@ -12,16 +12,16 @@ use Rattle.std.proofs.lemmas.List.Elements.{All-nil, All-cons, All-head, All-tai
 use Rattle.std.proofs.lemmas.List.Elements.{All-drop, All-weaker}
 use Rattle.std.proofs.lemmas.List.Sums.{list_all-from_AllPass}
 use Rattle.std.proofs.lemmas.Str.{IsUtf8-from_ascii, chars-IsAscii}
-use Rattle.textwrap_base.specs.Blanks.{is_blank, trimmed_len, final_blanks}
-use Rattle.textwrap_base.specs.Breaking.{units_text, broken_units, broken_texts}
-use Rattle.textwrap_base.specs.Units.{TextUnit, Visible, columns, units, units_past, unit_at}
-use Rattle.textwrap_base.specs.Units.{taken_at, text_width, is_printable}
-use Rattle.textwrap_base.proofs.Units.Widths.{printable-columns, text_width-plain}
+use Rattle.textwrap_words.specs.Blanks.{is_blank, trimmed_len, final_blanks}
+use Rattle.textwrap_words.specs.Breaking.{units_text, broken_units, broken_texts}
+use Rattle.textwrap_words.specs.Units.{TextUnit, Visible, columns, units, units_past, unit_at}
+use Rattle.textwrap_words.specs.Units.{taken_at, text_width, is_printable}
+use Rattle.textwrap_words.proofs.Units.Widths.{printable-columns, text_width-plain}
 use Rattle.textwrap_base.proofs.ListLemmas.{flat, all-left, all-right}
-use Rattle.textwrap_base.proofs.Word.Texts.{final_blanks-more, trimmed-other}
-use Rattle.textwrap_base.proofs.Word.Breaking.{taken_units, left_units, parts_after-is}
-use Rattle.textwrap_base.proofs.Word.Breaking.{is_due-first, due-false, due-true}
-use Rattle.textwrap_base.proofs.Word.BrokenPieces.{units_text-chars}
+use Rattle.textwrap_words.proofs.Word.Texts.{final_blanks-more, trimmed-other}
+use Rattle.textwrap_words.proofs.Word.Breaking.{taken_units, left_units, parts_after-is}
+use Rattle.textwrap_words.proofs.Word.Breaking.{is_due-first, due-false, due-true}
+use Rattle.textwrap_words.proofs.Word.BrokenPieces.{units_text-chars}
 use Rattle.textwrap_lines.specs.Printable.{IsPrintableByte, IsPrintable}
 
 pub printable-ascii : (text : List ℕ) → IsPrintable text → IsAscii text

@@ -7,20 +7,20 @@ use Rattle.textwrap_base.specs.Cost.{PricedSizes, priced_at}
 use Rattle.textwrap_base.specs.OptimalFit.{IsByOptimalFit}
 use Rattle.textwrap_base.specs.Queue.{SuitQueue}
 use Rattle.textwrap_base.specs.Table.{FollowStarts, IsByTable, fragment_costs, fragments_table}
-use Rattle.textwrap_base.specs.Words.{WordText, sizes_of, tiled}
+use Rattle.textwrap_words.specs.Words.{WordText, sizes_of, tiled}
 use Rattle.textwrap_base.specs.declared.penalties.Penalties.{Penalties}
 use Rattle.textwrap_base.proofs.Cost.Chosen.{by_table-chosen}
 use Rattle.textwrap_base.proofs.Cost.Lines.{division_joined, joined_division}
 use Rattle.textwrap_base.proofs.Cost.Map.{fragments_table-map}
 use Rattle.textwrap_base.proofs.ListLemmas.{flat}
-use Rattle.textwrap_base.proofs.Word.Bounds.{IsBounded-measured}
-use Rattle.textwrap_base.proofs.Word.Texts.{HasNoPenalty, IsMeasured}
+use Rattle.textwrap_words.proofs.Word.Bounds.{IsBounded-measured}
+use Rattle.textwrap_words.proofs.Word.Texts.{HasNoPenalty, IsMeasured}
 use Rattle.textwrap_lines.specs.Cheapest.{SuitSearch}
 use Rattle.textwrap_lines.specs.Options.{Settings}
 use Rattle.textwrap_lines.specs.Paragraph.{line_from, parts_from, pieces_of, widths_of}
 use Rattle.textwrap_lines.specs.Paragraph.{first_width, later_width}
 use Rattle.textwrap_lines.specs.Spans.{AreSpans, HaveTexts, span_lines, span_priced, spans_from}
-use Rattle.textwrap_lines.specs.WordSplitters.{Splitter}
+use Rattle.textwrap_words.specs.WordSplitters.{Splitter}
 use Rattle.textwrap_lines.specs.declared.spans.Span.{Span}
 use Rattle.textwrap_lines.proofs.Paragraph.Pieces.{pieces_of-measured, pieces_of-no_penalty}
 use Rattle.textwrap_lines.proofs.Paragraph.Pieces.{pieces_of-tile}

@@ -8,15 +8,15 @@ use Rattle.textwrap_base.specs.Cost.{usual_break_penalty, AreEqualFromSecond}
 use Rattle.textwrap_base.specs.Division.{closed_width, open_width}
 use Rattle.textwrap_base.specs.Queue.{SuitQueue, NeverFalls}
 use Rattle.textwrap_base.specs.Table.{fragment_costs}
-use Rattle.textwrap_base.specs.Words.{WordText, sizes_of, tiled}
+use Rattle.textwrap_words.specs.Words.{WordText, sizes_of, tiled}
 use Rattle.textwrap_base.specs.declared.penalties.Penalties.{Penalties}
 use Rattle.textwrap_base.proofs.Cost.Measures.{open_width-slice, closed_width-slice}
 use Rattle.textwrap_base.proofs.Cost.Measures.{line_cost-slice, total_width-cons}
 use Rattle.textwrap_base.proofs.Cost.QueueCase.{SuitQueue-queue_case}
 use Rattle.textwrap_base.proofs.Division.Greedy.{open_width-cons}
 use Rattle.textwrap_base.proofs.Division.OneLine.{closed-take}
-use Rattle.textwrap_base.proofs.Word.Bounds.{IsBounded, total_width-bounded}
-use Rattle.textwrap_base.proofs.Word.Texts.{HasNoPenalty}
+use Rattle.textwrap_words.proofs.Word.Bounds.{IsBounded, total_width-bounded}
+use Rattle.textwrap_words.proofs.Word.Texts.{HasNoPenalty}
 use Rattle.textwrap_lines.specs.Cheapest.{SuitSearch}
 use Rattle.textwrap_lines.specs.Spans.{AreSpans, span_of, span_priced, span_sizes, spans_from}
 use Rattle.textwrap_lines.specs.declared.spans.Span.{Span}

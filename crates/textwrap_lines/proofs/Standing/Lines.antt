@@ -13,10 +13,10 @@ use Rattle.std.proofs.lemmas.Str.{IsUtf8-drop, IsUtf8-from_ascii}
 use Rattle.std.proofs.lemmas.Str.Ascii.{IsAscii-from_all}
 use Rattle.textwrap_base.specs.Division.{open_width}
 use Rattle.textwrap_base.specs.Table.{FollowStarts}
-use Rattle.textwrap_base.specs.Words.{WordText, sizes_of, tile_of, tiled}
+use Rattle.textwrap_words.specs.Words.{WordText, sizes_of, tile_of, tiled}
 use Rattle.textwrap_base.proofs.ListLemmas.{flat, all-left, all-right, same_parts}
-use Rattle.textwrap_base.proofs.Word.Texts.{AreBlanks, HasNoPenalty, IsMeasured}
-use Rattle.textwrap_base.proofs.Word.Tiling.{tiled-append}
+use Rattle.textwrap_words.proofs.Word.Texts.{AreBlanks, HasNoPenalty, IsMeasured}
+use Rattle.textwrap_words.proofs.Word.Tiling.{tiled-append}
 use Rattle.textwrap_lines.specs.LineSinks.{Took}
 use Rattle.textwrap_lines.specs.Options.{Settings}
 use Rattle.textwrap_lines.specs.Paragraph.{assembled_line, covered, indent_of, line_from, parts_from}

@@ -4,12 +4,12 @@ use Rattle.std.proofs.Common.{subst, arith, append_assoc, append-nil, length-app
 use Rattle.std.proofs.Common.{All, drop, get_or, map}
 use Rattle.std.proofs.lemmas.List.{drop-map, drop_more}
 use Rattle.std.proofs.lemmas.List.Elements.{All-drop, All-head}
-use Rattle.textwrap_base.specs.Breaking.{broken_word, broken_words}
+use Rattle.textwrap_words.specs.Breaking.{broken_word, broken_words}
 use Rattle.textwrap_base.specs.Division.{open_width}
-use Rattle.textwrap_base.specs.Words.{WordText, sizes_of, tile_of, tiled, word_view}
-use Rattle.textwrap_base.specs.declared.words.Word.{Word}
+use Rattle.textwrap_words.specs.Words.{WordText, sizes_of, tile_of, tiled, word_view}
+use Rattle.textwrap_words.specs.declared.words.Word.{Word}
 use Rattle.textwrap_base.proofs.Division.Greedy.{open_width-append, open_width-cons}
-use Rattle.textwrap_base.proofs.Word.Tiling.{tiled-append}
+use Rattle.textwrap_words.proofs.Word.Tiling.{tiled-append}
 use Rattle.textwrap_lines.specs.Spans.{HasMore, Lists, span_of, spans_from}
 use Rattle.textwrap_lines.specs.declared.spans.SpanList.{SpanList}
 use Rattle.textwrap_lines.proofs.WordLines.Pieces.{IsText, IsWide, tiled-broken, tiled-broken_all}

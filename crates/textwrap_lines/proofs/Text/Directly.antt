@@ -2,19 +2,19 @@
 use Rattle.std.proofs.Common.{◌≡◌, ℕ, Bool, true, false, List, All, map, refl, sym, ap, ◌∙◌, subst}
 use Rattle.std.specs.Str.{IsUtf8}
 use Rattle.std.specs.Prelude.{Some, Result, Ok, Err, IfErr, IsErrAnd, OnOk, alloc_error}
-use Rattle.textwrap_base.specs.Breaking.{broken_words}
-use Rattle.textwrap_base.specs.Words.{WordText, sizes_of, words_of}
-use Rattle.textwrap_base.specs.WrapAlgorithms.{Algorithm, IsDividedBy, algorithm_view}
+use Rattle.textwrap_words.specs.Breaking.{broken_words}
+use Rattle.textwrap_words.specs.Words.{WordText, sizes_of, words_of}
+use Rattle.textwrap_words.specs.WrapAlgorithms.{Algorithm, IsDividedBy, algorithm_view}
 use Rattle.textwrap_base.specs.declared.errors.WrapError.{WrapError}
 use Rattle.textwrap_base.specs.declared.errors.WrapError.TheVariants.{Memory}
 use Rattle.textwrap_base.proofs.Division.Map.{IsDividedBy-whole}
-use Rattle.textwrap_base.proofs.Word.Texts.{HasNoPenalty}
+use Rattle.textwrap_words.proofs.Word.Texts.{HasNoPenalty}
 use Rattle.textwrap_lines.specs.Direct.{IsDirect, HasBareLines, hyphens_of}
 use Rattle.textwrap_lines.specs.Options.{Settings, settings_view, HasParts}
 use Rattle.textwrap_lines.specs.Paragraph.{Slice, line_from, covered, parts_from, pieces_of}
 use Rattle.textwrap_lines.specs.Paragraph.{widths_of, DividesBy}
 use Rattle.textwrap_lines.specs.Printable.{IsPrintable, pieces_after, printable_cut}
-use Rattle.textwrap_lines.specs.WordSplitters.{Splitter, Whole, AtHyphens, split_words, splitter_of}
+use Rattle.textwrap_words.specs.WordSplitters.{Splitter, Whole, AtHyphens, split_words, splitter_of}
 use Rattle.textwrap_lines.specs.declared.options.Options.{Options}
 use Rattle.textwrap_lines.proofs.Paragraph.BuiltIn.{divides}
 use Rattle.textwrap_lines.proofs.Paragraph.Pieces.{pieces_of-no_penalty, ArePieces-computed}

@@ -11,7 +11,7 @@ use Rattle.std.proofs.lemmas.List.Elements.{All-nil, All-cons, All-head, All-tai
 use Rattle.std.proofs.lemmas.Slice.Eq.{bytes_eq-Decides}
 use Rattle.textwrap_lines.specs.declared.line_ending.LineEnding.{LineEnding}
 use Rattle.textwrap_lines.specs.declared.line_ending.LineEnding.TheVariants.{CRLF, LF}
-use Rattle.textwrap_base.proofs.Word.Texts.{ascii_seam, all_utf8-front}
+use Rattle.textwrap_words.proofs.Word.Texts.{ascii_seam, all_utf8-front}
 use Rattle.textwrap_base.proofs.ListLemmas.{onto_front, onto_front-onto_first}
 use Rattle.textwrap_lines.specs.LineEnding.{ending_bytes, paragraphs_of, parts_past, join_with}
 

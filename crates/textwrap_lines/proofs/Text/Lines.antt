@@ -16,8 +16,8 @@ use Rattle.std.proofs.lemmas.List.Concat.{flat_map-append}
 use Rattle.textwrap_lines.specs.declared.line_ending.LineEnding.{LineEnding}
 use Rattle.textwrap_lines.specs.Options.{Settings}
 use Rattle.textwrap_lines.specs.LineEnding.{paragraphs_of, join_with}
-use Rattle.textwrap_base.specs.Blanks.{without_final_blanks}
-use Rattle.textwrap_base.specs.Words.{WordText, word_of}
+use Rattle.textwrap_words.specs.Blanks.{without_final_blanks}
+use Rattle.textwrap_words.specs.Words.{WordText, word_of}
 use Rattle.textwrap_lines.specs.Paragraph.{Line, LineParts, line_view, line_from, line_bytes}
 use Rattle.textwrap_lines.specs.Paragraph.{parts_of, is_whole, AreParagraphParts}
 use Rattle.textwrap_lines.specs.Text.{AreGroups, AreTextLines}

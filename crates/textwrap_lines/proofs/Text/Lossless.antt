@@ -10,11 +10,11 @@ use Rattle.std.proofs.Transfers.{starts_with_of_eq}
 use Rattle.std.proofs.lemmas.Bool.{true≢false}
 use Rattle.std.proofs.lemmas.List.Elements.{All-nil, All-cons, All-head, All-tail, All-append}
 use Rattle.std.proofs.lemmas.List.Elements.{All-weaker}
-use Rattle.textwrap_base.specs.Words.{WordText, tile_of, tiled, word_of}
-use Rattle.textwrap_base.specs.Blanks.{trimmed_len}
-use Rattle.textwrap_base.proofs.Word.Texts.{AreBlanks, EndsInBlanks, final_blanks-blank, no_blanks}
+use Rattle.textwrap_words.specs.Words.{WordText, tile_of, tiled, word_of}
+use Rattle.textwrap_words.specs.Blanks.{trimmed_len}
+use Rattle.textwrap_words.proofs.Word.Texts.{AreBlanks, EndsInBlanks, final_blanks-blank, no_blanks}
 use Rattle.textwrap_base.proofs.ListLemmas.{all-left, all-right}
-use Rattle.textwrap_base.proofs.Word.Tiling.{tiled-append}
+use Rattle.textwrap_words.proofs.Word.Tiling.{tiled-append}
 use Rattle.textwrap_lines.specs.Options.{Settings}
 use Rattle.textwrap_lines.specs.LineEnding.{paragraphs_of}
 use Rattle.textwrap_lines.specs.Paragraph.{LineParts, covered, indent_of, keeps_whitespace}

@@ -5,7 +5,7 @@ use Rattle.std.specs.Str.{IsUtf8}
 use Rattle.std.proofs.lemmas.List.Elements.{All-nil, All-cons, All-head, All-tail}
 use Rattle.std.proofs.lemmas.Str.{IsUtf8-from_ascii, chars-append}
 use Rattle.std.proofs.lemmas.Str.Ascii.{IsAscii-from_all}
-use Rattle.textwrap_base.specs.Units.{columns, IsNarrow}
+use Rattle.textwrap_words.specs.Units.{columns, IsNarrow}
 use Rattle.textwrap_base.proofs.ListLemmas.{all-left, all-right}
 use Rattle.textwrap_lines.specs.LineEnding.{ending_bytes, paragraphs_of, join_with}
 use Rattle.textwrap_lines.specs.declared.line_ending.LineEnding.{LineEnding}

@@ -12,15 +12,15 @@ use Rattle.std.proofs.lemmas.Bool.Decides.{nat_tests}
 use Rattle.std.proofs.lemmas.List.{length-map}
 use Rattle.std.proofs.lemmas.List.Elements.{All-nil, All-cons, All-head, All-tail}
 use Rattle.textwrap_base.specs.Division.{closed_width}
-use Rattle.textwrap_base.specs.Units.{IsNarrow}
-use Rattle.textwrap_base.specs.Words.{WordText, AreWordsOf, sizes_of, tiled, word_of}
-use Rattle.textwrap_base.specs.WrapAlgorithms.{Algorithm, Greedy, LeastCost, IsDividedBy}
-use Rattle.textwrap_base.specs.WrapAlgorithms.{MayDivide, algorithm_view}
-use Rattle.textwrap_base.specs.declared.wrap_algorithms.WrapAlgorithm.TheVariants.{FirstFit}
+use Rattle.textwrap_words.specs.Units.{IsNarrow}
+use Rattle.textwrap_words.specs.Words.{WordText, AreWordsOf, sizes_of, tiled, word_of}
+use Rattle.textwrap_words.specs.WrapAlgorithms.{Algorithm, Greedy, LeastCost, IsDividedBy}
+use Rattle.textwrap_words.specs.WrapAlgorithms.{MayDivide, algorithm_view}
+use Rattle.textwrap_words.specs.declared.wrap_algorithms.WrapAlgorithm.TheVariants.{FirstFit}
 use Rattle.textwrap_base.proofs.Division.Map.{IsDividedBy-some, IsDividedBy-whole}
 use Rattle.textwrap_base.proofs.ListLemmas.{flat, all-left, all-right}
-use Rattle.textwrap_base.proofs.Word.Bounds.{closed_width-narrow}
-use Rattle.textwrap_base.proofs.Word.Texts.{HasNoPenalty, IsMeasured, without_final_blanks-utf8}
+use Rattle.textwrap_words.proofs.Word.Bounds.{closed_width-narrow}
+use Rattle.textwrap_words.proofs.Word.Texts.{HasNoPenalty, IsMeasured, without_final_blanks-utf8}
 use Rattle.textwrap_lines.specs.LineEnding.{paragraphs_of, ending_bytes}
 use Rattle.textwrap_lines.specs.Paragraph.{DividesAs, DividesBy}
 use Rattle.textwrap_lines.specs.Options.{Settings, settings_view}
@@ -29,20 +29,22 @@ use Rattle.textwrap_lines.specs.Paragraph.{parts_of, parts_from, is_whole, width
 use Rattle.textwrap_lines.specs.Paragraph.{AreIndented, indent_before, AreParagraphParts}
 use Rattle.textwrap_lines.specs.Paragraph.{KeepToWidths, OnlyCharactersPass, KeepsToWidth}
 use Rattle.textwrap_lines.specs.Text.{AreGroups, AreTextLines, IsWrapped, LinesKeepToWidth}
-use Rattle.textwrap_lines.specs.WordSeparators.{MaySeparate}
-use Rattle.textwrap_lines.specs.WordSplitters.{Splitter, ArePoints, MaySplit, splitter_view}
-use Rattle.textwrap_lines.specs.WordSplitters.{ends_in_hyphen}
-use Rattle.textwrap_lines.specs.Cuts.{AreCuts}
+use Rattle.textwrap_words.specs.WordSeparators.{MaySeparate}
+use Rattle.textwrap_words.specs.WordSplitters.{Splitter, ArePoints, MaySplit, splitter_view}
+use Rattle.textwrap_words.specs.WordSplitters.{ends_in_hyphen}
+use Rattle.textwrap_words.specs.Cuts.{AreCuts}
 use Rattle.textwrap_lines.specs.declared.options.Options.{Options}
 use Rattle.textwrap_lines.proofs.Paragraph.EvenLines.{division-even, whole-even}
 use Rattle.textwrap_lines.proofs.Paragraph.LongLines.{long_lines}
-use Rattle.textwrap_lines.proofs.Paragraph.Pieces.{AreTexts, AreTexts-words, ArePoints-cuts}
-use Rattle.textwrap_lines.proofs.Paragraph.Pieces.{ArePoints-hyphens, pieces-tile}
+use Rattle.textwrap_words.proofs.Word.Pieces.{AreTexts, AreTexts-words, ArePoints-cuts}
+use Rattle.textwrap_lines.proofs.Paragraph.Pieces.{pieces-tile}
+use Rattle.textwrap_words.proofs.Word.Pieces.{ArePoints-hyphens}
 use Rattle.textwrap_lines.proofs.Paragraph.Pieces.{pieces-no_penalty, divided-begin, divided-blanks}
-use Rattle.textwrap_lines.proofs.Word.GivenCuts.{MaySeparate-texts, MaySplit-cuts}
-use Rattle.textwrap_lines.proofs.Word.GivenCuts.{MaySplit-hyphens}
-use Rattle.textwrap_base.proofs.Division.Ends.{Begins, MayDivide-begins, MayDivide-whole}
-use Rattle.textwrap_base.proofs.Division.Ends.{MayDivide-some, MayDivide-greedy}
+use Rattle.textwrap_words.proofs.Word.GivenCuts.{MaySeparate-texts, MaySplit-cuts}
+use Rattle.textwrap_words.proofs.Word.GivenCuts.{MaySplit-hyphens}
+use Rattle.textwrap_words.proofs.Word.Divisions.{MayDivide-begins, MayDivide-whole}
+use Rattle.textwrap_base.proofs.ListLemmas.{Begins}
+use Rattle.textwrap_words.proofs.Word.Divisions.{MayDivide-some, MayDivide-greedy}
 use Rattle.textwrap_lines.proofs.Paragraph.Shortcut.{narrow_words}
 use Rattle.textwrap_lines.proofs.Text.Endings.{paragraphs_of-utf8, parts_past-some}
 use Rattle.textwrap_lines.proofs.Text.Narrow.{paragraphs_of-narrow}

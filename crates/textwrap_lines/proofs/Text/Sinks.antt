@@ -5,7 +5,7 @@ use Rattle.std.specs.Prelude.{◌≢◌, Option, Some, None}
 use Rattle.std.proofs.lemmas.Bool.{lt-ltb, eqb-true, cond_both}
 use Rattle.std.proofs.lemmas.List.{map-append, map_more, length-map, length-take-le, length_push}
 use Rattle.std.proofs.lemmas.List.{nil_from_length}
-use Rattle.textwrap_base.specs.Words.{WordText}
+use Rattle.textwrap_words.specs.Words.{WordText}
 use Rattle.textwrap_lines.specs.LineEnding.{ending_bytes, join_with, paragraphs_of}
 use Rattle.textwrap_lines.specs.LineSinks.{HasOneMore, Holds, Took, kind_of}
 use Rattle.textwrap_lines.specs.Options.{Settings}

@@ -2,9 +2,9 @@
 use Rattle.std.proofs.Common.{◌≡◌, ℕ, Bool, true, false, MatchBool, ◌||◌, nat_lt, List, [], ◌∷◌}
 use Rattle.std.proofs.Common.{length, get_or, map, sym, ap, ◌∙◌, subst, arith}
 use Rattle.textwrap_base.specs.Sizes.{Sizes}
-use Rattle.textwrap_base.specs.WrapAlgorithms.{Algorithm, Greedy, LeastCost, IsDividedBy}
+use Rattle.textwrap_words.specs.WrapAlgorithms.{Algorithm, Greedy, LeastCost, IsDividedBy}
 use Rattle.textwrap_base.specs.Cost.{AreEqualFromSecond, priced_at}
-use Rattle.textwrap_base.specs.Words.{WordText, sizes_of, word_of}
+use Rattle.textwrap_words.specs.Words.{WordText, sizes_of, word_of}
 use Rattle.textwrap_base.proofs.Division.Unique.{greedy_unique}
 use Rattle.textwrap_base.proofs.Cost.Unique.{chosen_one}
 use Rattle.textwrap_lines.specs.Options.{Settings}
@@ -13,7 +13,7 @@ use Rattle.std.specs.List.{flat_map}
 use Rattle.textwrap_lines.specs.Paragraph.{Line, LineParts, line_from, line_bytes, parts_from}
 use Rattle.textwrap_lines.specs.Paragraph.{widths_of, is_whole, DividesAs, AreDividedParts}
 use Rattle.textwrap_lines.specs.Paragraph.{AreParagraphParts}
-use Rattle.textwrap_lines.specs.WordSplitters.{Splitter}
+use Rattle.textwrap_words.specs.WordSplitters.{Splitter}
 use Rattle.textwrap_lines.proofs.Paragraph.Pieces.{ArePieces-is}
 use Rattle.textwrap_lines.specs.Text.{AreGroups, AreTextLines}
 use Rattle.textwrap_lines.specs.Filling.{IsFilled}

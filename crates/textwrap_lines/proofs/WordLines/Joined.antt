@@ -6,11 +6,11 @@ use Rattle.std.proofs.lemmas.Bool.{and_parts, and_cases, cond_both, lt-ltb, ltb-
 use Rattle.std.proofs.lemmas.List.{length_push}
 use Rattle.std.proofs.lemmas.List.Elements.{All-head}
 use Rattle.textwrap_base.specs.Division.{closed_width, open_width, IsGreedy}
-use Rattle.textwrap_base.specs.Words.{WordText, sizes_of}
+use Rattle.textwrap_words.specs.Words.{WordText, sizes_of}
 use Rattle.textwrap_base.proofs.Division.Greedy.{closed_width-push, open_width-append}
 use Rattle.textwrap_base.proofs.Division.Grown.{grown, grown-full, grown-room, grown-greedy}
 use Rattle.textwrap_base.proofs.ListLemmas.{all-left, all-right}
-use Rattle.textwrap_base.proofs.Word.Texts.{HasNoPenalty}
+use Rattle.textwrap_words.proofs.Word.Texts.{HasNoPenalty}
 use Rattle.textwrap_lines.specs.Layout.{front_of}
 use Rattle.textwrap_lines.specs.Options.{Settings}
 use Rattle.textwrap_lines.specs.Paragraph.{assembled_line, covered, empty_word, first_width}

@@ -7,10 +7,10 @@ use Rattle.std.proofs.Math.Seq.{take-add}
 use Rattle.std.proofs.lemmas.List.{take_at, drop_at, take-take, drop-take, drop-drop}
 use Rattle.std.proofs.lemmas.Str.{IsUtf8-drop, IsCharBoundary-from_take}
 use Rattle.std.proofs.lemmas.Str.{IsCharBoundary-from_rest}
-use Rattle.textwrap_base.specs.Units.{text_width}
-use Rattle.textwrap_base.specs.Words.{tile_of, word_view}
-use Rattle.textwrap_base.specs.declared.words.Word.{Word}
-use Rattle.textwrap_base.proofs.Units.Widths.{text_width-le}
+use Rattle.textwrap_words.specs.Units.{text_width}
+use Rattle.textwrap_words.specs.Words.{tile_of, word_view}
+use Rattle.textwrap_words.specs.declared.words.Word.{Word}
+use Rattle.textwrap_words.proofs.Units.Widths.{text_width-le}
 use Rattle.textwrap_lines.specs.WordLines.{line_so_far, coming, IsNext}
 use Rattle.textwrap_lines.specs.declared.word_lines.OpenLine.{OpenLine}
 

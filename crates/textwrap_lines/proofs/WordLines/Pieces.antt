@@ -10,16 +10,16 @@ use Rattle.std.proofs.lemmas.Bool.{cond-true, lt-ltb}
 use Rattle.std.proofs.lemmas.List.Concat.{flat_map-append}
 use Rattle.std.proofs.lemmas.List.Elements.{All-nil, All-cons, All-head, All-tail, All-weaker}
 use Rattle.std.proofs.lemmas.Str.{IsUtf8-drop, IsUtf8-between, IsCharBoundary-start}
-use Rattle.textwrap_base.specs.Breaking.{pieces_with, broken_pieces, broken_word, broken_words}
-use Rattle.textwrap_base.specs.Breaking.{broken_texts}
-use Rattle.textwrap_base.specs.Units.{text_width}
-use Rattle.textwrap_base.specs.Words.{WordText, piece, tile_of, tiled}
-use Rattle.textwrap_base.proofs.Word.BrokenPieces.{tiled-broken_words}
-use Rattle.textwrap_base.proofs.Word.Texts.{text_width-nil}
-use Rattle.textwrap_base.proofs.Word.Tiling.{tiled-append}
-use Rattle.textwrap_lines.specs.WordSplitters.{Splitter, is_hyphen_point, cut_penalty, points_of}
-use Rattle.textwrap_lines.specs.WordSplitters.{split_from, split_pieces, split_word, split_words}
-use Rattle.textwrap_lines.proofs.Word.Splitting.{points_of-cuts, tiled-split_pieces}
+use Rattle.textwrap_words.specs.Breaking.{pieces_with, broken_pieces, broken_word, broken_words}
+use Rattle.textwrap_words.specs.Breaking.{broken_texts}
+use Rattle.textwrap_words.specs.Units.{text_width}
+use Rattle.textwrap_words.specs.Words.{WordText, piece, tile_of, tiled}
+use Rattle.textwrap_words.proofs.Word.BrokenPieces.{tiled-broken_words}
+use Rattle.textwrap_words.proofs.Word.Texts.{text_width-nil}
+use Rattle.textwrap_words.proofs.Word.Tiling.{tiled-append}
+use Rattle.textwrap_words.specs.WordSplitters.{Splitter, is_hyphen_point, cut_penalty, points_of}
+use Rattle.textwrap_words.specs.WordSplitters.{split_from, split_pieces, split_word, split_words}
+use Rattle.textwrap_words.proofs.Word.Splitting.{points_of-cuts, tiled-split_pieces}
 
 -- ---- a word and its pieces
 

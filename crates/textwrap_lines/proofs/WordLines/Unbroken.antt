@@ -5,15 +5,15 @@ use Rattle.std.proofs.Common.{length-append}
 use Rattle.std.specs.Str.{IsUtf8}
 use Rattle.std.proofs.lemmas.Bool.{le-ltb}
 use Rattle.std.proofs.lemmas.List.Elements.{All-head, All-tail}
-use Rattle.textwrap_base.specs.Breaking.{broken_words, broken_pieces}
-use Rattle.textwrap_base.specs.Words.{WordText, tile_of, tiled, words_of}
-use Rattle.textwrap_base.proofs.Word.Bounds.{IsBounded, IsBounded-measured}
+use Rattle.textwrap_words.specs.Breaking.{broken_words, broken_pieces}
+use Rattle.textwrap_words.specs.Words.{WordText, tile_of, tiled, words_of}
+use Rattle.textwrap_words.proofs.Word.Bounds.{IsBounded, IsBounded-measured}
 use Rattle.textwrap_lines.specs.Layout.{break_limit, front_of}
 use Rattle.textwrap_lines.specs.Options.{Settings}
 use Rattle.textwrap_lines.specs.Paragraph.{front_pieces, later_width, pieces_of, text_limit}
-use Rattle.textwrap_lines.specs.WordSplitters.{Splitter, split_words}
+use Rattle.textwrap_words.specs.WordSplitters.{Splitter, split_words}
 use Rattle.textwrap_lines.proofs.Paragraph.Pieces.{pieces_of-tile, split_pieces_of-measured}
-use Rattle.textwrap_lines.proofs.Paragraph.Pieces.{split_pieces_of-no_penalty}
+use Rattle.textwrap_words.proofs.Word.Pieces.{split_pieces_of-no_penalty}
 
 unbroken : (limit : ℕ) (ws : List WordText) → All IsBounded ws → 2 * length (tiled ws) ≤ limit
     → broken_words limit ws ≡ ws

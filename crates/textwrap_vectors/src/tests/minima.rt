@@ -8,9 +8,9 @@ use textwrap::WrapError;
 use textwrap::minima::{
     CostSource, LineCosts, Minimum, Steps, is_queue_case, queue_minima, queue_search, table_minima,
 };
+use refusing_heap::Heap;
 use textwrap::words::Fragment;
 use textwrap::wrap_algorithms::{Penalties, wrap_optimal_fit_counted};
-use textwrap_heap::Heap;
 
 /// Whether the minima have these starts and costs.
 pub(super) fn are_minima(minima: &[Minimum], expected: &[(usize, u128)]) -> bool {

@@ -1,9 +1,9 @@
 //! The days that tasks are assigned to.
 use crate::{Day, Task, assign_days};
+use refusing_heap::Heap;
 use std::alloc::{AllocError, Allocator};
 use std::process::Abort;
 use std::test::Fail;
-use textwrap_heap::Heap;
 
 /// Days, each by its hours and the names of its tasks.
 type Plan<'a> = &'a [(u128, &'a [&'a str])];

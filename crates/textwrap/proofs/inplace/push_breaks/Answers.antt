@@ -1,7 +1,7 @@
 use Rattle.std.proofs.Common.{◌+◌, ◌<◌, ◌≤◌, [], ◌∷◌, ◌++◌, length, ap, ◌∙◌, subst, arith, length-append}
 use Rattle.std.proofs.Common.{⊎_elim}
 use Rattle.std.proofs.lemmas.Bool.{cases_lt}
-use Rattle.textwrap_base.specs.Words.{word_view}
+use Rattle.textwrap_words.specs.Words.{word_view}
 use Rattle.textwrap.proofs.Text.Growing.{HasLine, HasLine-begin, HasLine-break, HasLine-join}
 use Rattle.textwrap.proofs.Text.Growing.{HasLine-none, HasLine-within, HasLine-fits}
 use Rattle.textwrap.proofs.Text.Growing.{HasLine-end}

@@ -1,5 +1,5 @@
 use Rattle.std.proofs.Common.{List, ◌<◌, ◌^◌}
-use Rattle.textwrap_base.specs.Words.{WordText}
+use Rattle.textwrap_words.specs.Words.{WordText}
 use Rattle.textwrap.proofs.Text.Growing.{HasLine}
 use Rattle.textwrap.proofs.inplace.push_breaks.Given as goal
 

@@ -7,7 +7,7 @@ use Rattle.std.proofs.lemmas.Iterator.Adapters.{YieldsList-from_skip}
 use Rattle.std.proofs.lemmas.Iterator.Consumers.{YieldsList-turn, YieldsList-end}
 use Rattle.std.proofs.lemmas.Iterator.Splits.{YieldsList-from_lines}
 use Rattle.std.proofs.lemmas.List.{length_push, drop_all}
-use Rattle.textwrap_base.specs.Units.{text_width}
+use Rattle.textwrap_words.specs.Units.{text_width}
 use Rattle.textwrap.specs.Refilling.{line_prefix, common_prefix, unfilled_width, unfilled_initial}
 use Rattle.textwrap.specs.Refilling.{unfilled_subsequent}
 use Rattle.textwrap.proofs.Text.Layout.{width-first, first_line, width-more, common-more}

@@ -1,7 +1,7 @@
 use Rattle.std.proofs.Common.{◌≡◌, ◌++◌, length, drop, map, max, IfSome}
 use Rattle.std.specs.List.{fold}
 use Rattle.std.specs.Str.{IsAscii}
-use Rattle.textwrap_base.specs.Units.{text_width}
+use Rattle.textwrap_words.specs.Units.{text_width}
 use Rattle.textwrap.specs.Refilling.{line_prefix, common_prefix, unfilled_width}
 use Rattle.textwrap.specs.Refilling.{unfilled_subsequent}
 use Rattle.textwrap.proofs.Text.Layout.{later_lines, texts_in}

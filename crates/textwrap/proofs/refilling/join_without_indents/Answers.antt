@@ -3,7 +3,7 @@ use Rattle.std.proofs.Common.{append_assoc}
 use Rattle.std.specs.Io.{StartsWith}
 use Rattle.std.specs.String.{string_bytes}
 use Rattle.std.proofs.lemmas.List.Elements.{All-head, All-tail}
-use Rattle.textwrap_base.specs.Blanks.{blank}
+use Rattle.textwrap_words.specs.Blanks.{blank}
 use Rattle.textwrap.specs.Refilling.{ended_line_view, detected_among}
 use Rattle.textwrap.proofs.Text.Unfilling.{lines-begin, added_lines, joined_text-some}
 use Rattle.textwrap.proofs.Text.Unfilling.{detected_among-two}

@@ -5,7 +5,7 @@ use Rattle.textwrap_lines.specs.LineSinks.{Took}
 use Rattle.textwrap_lines.specs.Options.{settings_view}
 use Rattle.textwrap_lines.specs.Paragraph.{widths_of}
 use Rattle.textwrap_lines.specs.Spans.{span_priced}
-use Rattle.textwrap_lines.specs.WordSplitters.{splitter_of}
+use Rattle.textwrap_words.specs.WordSplitters.{splitter_of}
 use Rattle.textwrap_lines.specs.declared.spans.Span.{Span}
 use Rattle.textwrap_lines.proofs.Standing.Cheapest.{found-are, found-lines, found-some, found-suit}
 use Rattle.textwrap_lines.proofs.cheapest.push_cheapest_lines.Goals as goal

@@ -1,5 +1,5 @@
 use Rattle.std.proofs.Common.{ap}
-use Rattle.textwrap_base.specs.WrapAlgorithms.{Greedy, LeastCost, algorithm_view}
+use Rattle.textwrap_words.specs.WrapAlgorithms.{Greedy, LeastCost, algorithm_view}
 use Rattle.textwrap_lines.proofs.Text.Directly.{direct-divided}
 use Rattle.textwrap_lines.proofs.direct.push_directly.Goals as goal
 

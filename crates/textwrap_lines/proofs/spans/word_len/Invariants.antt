@@ -1,5 +1,5 @@
 use Rattle.std.proofs.Common.{ℕ, ◌≢◌, ◌<◌, ◌≤◌, ◌-◌, slice_index}
-use Rattle.textwrap_base.specs.Blanks.{blank}
+use Rattle.textwrap_words.specs.Blanks.{blank}
 use Rattle.textwrap_lines.specs.Printable.{NoCutBetween, printable_cut}
 use Rattle.textwrap_lines.proofs.spans.word_len.Given as goal
 

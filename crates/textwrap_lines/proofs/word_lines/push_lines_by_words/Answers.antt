@@ -2,18 +2,18 @@ use Rattle.std.proofs.Common.{◌≡◌, ◌++◌, [], ◌∷◌, All, map, ap, 
 use Rattle.std.specs.Str.{IsUtf8}
 use Rattle.std.proofs.lemmas.List.Elements.{All-head, All-tail, All-weaker}
 use Rattle.std.proofs.lemmas.Result.{on_ok_weaker}
-use Rattle.textwrap_base.specs.Breaking.{broken_words}
+use Rattle.textwrap_words.specs.Breaking.{broken_words}
 use Rattle.textwrap_base.specs.Division.{IsGreedy}
-use Rattle.textwrap_base.specs.Words.{word_view, words_of, sizes_of, tiled}
-use Rattle.textwrap_base.proofs.Word.Texts.{HasNoPenalty, IsMeasured, words_of-measured}
-use Rattle.textwrap_base.proofs.Word.Tiling.{tiled-words_of}
+use Rattle.textwrap_words.specs.Words.{word_view, words_of, sizes_of, tiled}
+use Rattle.textwrap_words.proofs.Word.Texts.{HasNoPenalty, IsMeasured, words_of-measured}
+use Rattle.textwrap_words.proofs.Word.Tiling.{tiled-words_of}
 use Rattle.textwrap_lines.specs.LineSinks.{Took}
 use Rattle.textwrap_lines.specs.Layout.{front_of}
 use Rattle.textwrap_lines.specs.Options.{settings_view}
 use Rattle.textwrap_lines.specs.Paragraph.{line_from, parts_from, pieces_of, widths_of}
 use Rattle.textwrap_lines.specs.WordLines.{GoesOn, IsNext, later_lines, line_of}
 use Rattle.textwrap_lines.specs.WordLines.{line_so_far, lines_after, lines_from}
-use Rattle.textwrap_lines.specs.WordSplitters.{splitter_of, split_words}
+use Rattle.textwrap_words.specs.WordSplitters.{splitter_of, split_words}
 use Rattle.textwrap_lines.proofs.Paragraph.Pieces.{pieces_of-no_penalty}
 use Rattle.textwrap_lines.proofs.Text.Sinks.{Took-then}
 use Rattle.textwrap_lines.proofs.WordLines.Joined.{lines-greedy}

@@ -1,7 +1,7 @@
 use Rattle.std.proofs.Common.{◌≡◌, ◌+◌, [], ◌∷◌, ◌++◌, length, take, drop, map, cond, refl, ◌∙◌, ap}
 use Rattle.std.proofs.Common.{sym, subst, arith}
 use Rattle.std.specs.Str.{IsUtf8, IsCharBoundary}
-use Rattle.textwrap_base.specs.Words.{word_view, tiled}
+use Rattle.textwrap_words.specs.Words.{word_view, tiled}
 use Rattle.textwrap_lines.specs.Paragraph.{covered}
 use Rattle.textwrap_lines.proofs.Paragraph.Lines.{cuts_before_whitespace, IsCharBoundary-cut}
 use Rattle.textwrap_lines.proofs.Paragraph.Lines.{IsCharBoundary-past_whitespace}

@@ -1,4 +1,4 @@
-use Rattle.textwrap_base.specs.Words.{word_view, sizes_of}
+use Rattle.textwrap_words.specs.Words.{word_view, sizes_of}
 use Rattle.textwrap_lines.proofs.Paragraph.Overflow.{overflow-optimal}
 use Rattle.textwrap_lines.proofs.wrapping.divide.Goals as goal
 

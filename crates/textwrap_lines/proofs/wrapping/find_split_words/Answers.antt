@@ -1,12 +1,12 @@
 use Rattle.std.proofs.Common.{[], ◌∷◌, ◌++◌, All, map, subst, sym, ap, ◌∙◌, append_assoc}
 use Rattle.std.proofs.Common.{append-nil}
 use Rattle.std.proofs.lemmas.List.Elements.{All-tail}
-use Rattle.textwrap_base.specs.Words.{word_view}
-use Rattle.textwrap_base.proofs.Word.Texts.{IsMeasured}
-use Rattle.textwrap_lines.specs.WordSeparators.{MaySeparate}
-use Rattle.textwrap_lines.specs.WordSplitters.{AreSplit, MaySplit}
-use Rattle.textwrap_lines.proofs.Word.GivenCuts.{MaySeparate-texts}
-use Rattle.textwrap_lines.proofs.Word.Splitting.{AreSplit-push}
+use Rattle.textwrap_words.specs.Words.{word_view}
+use Rattle.textwrap_words.proofs.Word.Texts.{IsMeasured}
+use Rattle.textwrap_words.specs.WordSeparators.{MaySeparate}
+use Rattle.textwrap_words.specs.WordSplitters.{AreSplit, MaySplit}
+use Rattle.textwrap_words.proofs.Word.GivenCuts.{MaySeparate-texts}
+use Rattle.textwrap_words.proofs.Word.Splitting.{AreSplit-push}
 use Rattle.textwrap_lines.proofs.wrapping.find_split_words.Goals as goal
 
 pub loop-word-init : goal.loop-word-init

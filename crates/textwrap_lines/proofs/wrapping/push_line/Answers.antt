@@ -1,5 +1,5 @@
 use Rattle.std.proofs.Common.{◌≡◌, ◌&&◌, ◌==◌, length, [], ◌∷◌, ◌∙◌, ap, sym, subst}
-use Rattle.textwrap_base.specs.Words.{word_view}
+use Rattle.textwrap_words.specs.Words.{word_view}
 use Rattle.textwrap_lines.specs.LineSinks.{Took}
 use Rattle.textwrap_lines.specs.Options.{settings_view}
 use Rattle.textwrap_lines.specs.Paragraph.{keeps_whitespace}

@@ -3,7 +3,7 @@ use Rattle.std.specs.Io.{StartsWith}
 use Rattle.std.specs.List.{flat_map}
 use Rattle.std.proofs.lemmas.Bool.{lt-ltb}
 use Rattle.std.proofs.lemmas.List.{drop_more}
-use Rattle.textwrap_base.specs.Words.{word_view, tiled}
+use Rattle.textwrap_words.specs.Words.{word_view, tiled}
 use Rattle.textwrap_lines.specs.Options.{settings_view}
 use Rattle.textwrap_lines.proofs.Paragraph.Lines.{starts-parts}
 use Rattle.textwrap_lines.proofs.Text.Sinks.{Took-none, Took-line}

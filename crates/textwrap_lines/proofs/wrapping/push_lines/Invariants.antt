@@ -3,7 +3,7 @@ use denote.Text.{Utf8}
 use denote.Shadow.{shadow}
 use Rattle.std.specs.Io.{StartsWith}
 use Rattle.std.specs.List.{flat_map}
-use Rattle.textwrap_base.specs.Words.{word_view, tiled}
+use Rattle.textwrap_words.specs.Words.{word_view, tiled}
 use Rattle.textwrap_lines.specs.LineSinks.{Took}
 use Rattle.textwrap_lines.specs.Options.{settings_view}
 use Rattle.textwrap_lines.specs.Paragraph.{line_from, parts_from}

@@ -1,6 +1,6 @@
 use Rattle.std.proofs.Common.{[], ◌∷◌, map, ap, sym, refl, ◌∙◌, subst}
 use Rattle.std.proofs.lemmas.Result.{on_ok_weaker}
-use Rattle.textwrap_base.specs.Words.{word_of}
+use Rattle.textwrap_words.specs.Words.{word_of}
 use Rattle.textwrap_lines.specs.LineSinks.{Took}
 use Rattle.textwrap_lines.specs.Options.{settings_view}
 use Rattle.textwrap_lines.specs.Paragraph.{Slice, line_from, parts_of, parts_from, DividesBy}

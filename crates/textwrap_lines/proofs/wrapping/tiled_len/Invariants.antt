@@ -1,6 +1,6 @@
 use Rattle.std.proofs.Common.{◌≡◌, length, take, map}
 use Rattle.std.specs.Str.{IsUtf8}
-use Rattle.textwrap_base.specs.Words.{word_view, tiled}
+use Rattle.textwrap_words.specs.Words.{word_view, tiled}
 use Rattle.textwrap_lines.proofs.wrapping.tiled_len.Given as goal
 
 -- the pieces so far are measured, and are text

@@ -1,8 +1,8 @@
 use Rattle.std.proofs.Common.{◌≡◌, [], ◌∷◌, All, length, ap, ◌∙◌, sym, subst, arith, append-nil}
 use Rattle.std.proofs.Common.{length-append}
 use Rattle.std.proofs.lemmas.List.Elements.{All-head, All-tail}
-use Rattle.textwrap_base.specs.Breaking.{broken_word, broken_pieces, pieces_left}
-use Rattle.textwrap_base.specs.Words.{tile_of, tiled, word_view}
+use Rattle.textwrap_words.specs.Breaking.{broken_word, broken_pieces, pieces_left}
+use Rattle.textwrap_words.specs.Words.{tile_of, tiled, word_view}
 use Rattle.textwrap_lines.proofs.Standing.Lists.{AllBut-end, AllBut-len, AllBut-none, AllBut-then}
 use Rattle.textwrap_lines.proofs.Standing.Lists.{HasAllBut}
 use Rattle.textwrap_lines.proofs.WordLines.Pieces.{IsWide, broken_pieces-wide, broken_word-wide}

@@ -1,7 +1,7 @@
 use Rattle.std.proofs.Common.{◌+◌, drop, map, ap, subst, arith}
 use Rattle.std.proofs.lemmas.List.{drop_all}
-use Rattle.textwrap_base.specs.Breaking.{broken_words}
-use Rattle.textwrap_base.specs.Words.{word_view}
+use Rattle.textwrap_words.specs.Breaking.{broken_words}
+use Rattle.textwrap_words.specs.Words.{word_view}
 use Rattle.textwrap_lines.specs.Paragraph.{text_limit}
 use Rattle.textwrap_lines.proofs.Standing.Lists.{AllBut-end, AllBut-none, AllBut-then, HasAllBut}
 use Rattle.textwrap_lines.proofs.Standing.Lists.{next-left, next-room, next-text, next-wide}

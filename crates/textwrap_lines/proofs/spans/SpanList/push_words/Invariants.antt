@@ -1,8 +1,8 @@
 use Rattle.std.proofs.Common.{All}
-use Rattle.textwrap_base.specs.Breaking.{broken_words}
-use Rattle.textwrap_base.specs.Words.{words_of}
-use Rattle.textwrap_base.proofs.Word.Texts.{IsMeasured}
-use Rattle.textwrap_lines.specs.WordSplitters.{splitter_of, split_words}
+use Rattle.textwrap_words.specs.Breaking.{broken_words}
+use Rattle.textwrap_words.specs.Words.{words_of}
+use Rattle.textwrap_words.proofs.Word.Texts.{IsMeasured}
+use Rattle.textwrap_words.specs.WordSplitters.{splitter_of, split_words}
 use Rattle.textwrap_lines.proofs.Standing.Lists.{HasAllBut}
 use Rattle.textwrap_lines.proofs.spans.SpanList.push_words.Given as goal
 

@@ -1,7 +1,7 @@
 use Rattle.std.proofs.Common.{◌≡◌, [], ◌∷◌, All, ap, ◌∙◌, sym, subst}
 use Rattle.std.proofs.lemmas.List.Elements.{All-head, All-tail}
-use Rattle.textwrap_base.specs.Breaking.{broken_word, broken_pieces, pieces_left}
-use Rattle.textwrap_base.specs.Words.{word_view}
+use Rattle.textwrap_words.specs.Breaking.{broken_word, broken_pieces, pieces_left}
+use Rattle.textwrap_words.specs.Words.{word_view}
 use Rattle.textwrap_lines.specs.WordLines.{GoesOn, later_lines}
 use Rattle.textwrap_lines.proofs.WordLines.Pieces.{IsWide, broken_pieces-wide, broken_word-wide}
 use Rattle.textwrap_lines.proofs.WordLines.Pieces.{tiled-broken}

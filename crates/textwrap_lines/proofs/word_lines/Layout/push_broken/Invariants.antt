@@ -1,6 +1,6 @@
 use Rattle.std.proofs.Common.{All}
-use Rattle.textwrap_base.specs.Breaking.{broken_word, pieces_left}
-use Rattle.textwrap_base.specs.Words.{word_view}
+use Rattle.textwrap_words.specs.Breaking.{broken_word, pieces_left}
+use Rattle.textwrap_words.specs.Words.{word_view}
 use Rattle.textwrap_lines.specs.WordLines.{GoesOn, later_lines}
 use Rattle.textwrap_lines.proofs.WordLines.Pieces.{IsWide}
 use Rattle.textwrap_lines.proofs.word_lines.Layout.push_broken.Given as goal

@@ -4,12 +4,12 @@ use Rattle.std.specs.Prelude.{OnOk, slice_range}
 use Rattle.std.specs.Str.{IsUtf8}
 use Rattle.std.specs.List.{list_any}
 use Rattle.std.proofs.lemmas.Str.{IsCharBoundary-start, IsUtf8-between}
-use Rattle.textwrap_base.specs.Breaking.{broken_word, broken_words}
-use Rattle.textwrap_base.specs.Words.{piece, word_view}
+use Rattle.textwrap_words.specs.Breaking.{broken_word, broken_words}
+use Rattle.textwrap_words.specs.Words.{piece, word_view}
 use Rattle.textwrap_lines.specs.WordLines.{GoesOn, IsNext, later_lines}
-use Rattle.textwrap_lines.specs.WordSplitters.{AtHyphens, splitter_of, points_of, hyphen}
-use Rattle.textwrap_lines.specs.WordSplitters.{hyphen_points, cut_penalty, split_pieces, split_word}
-use Rattle.textwrap_lines.proofs.Word.Splitting.{after-hyphen, hyphen_points-none}
+use Rattle.textwrap_words.specs.WordSplitters.{AtHyphens, splitter_of, points_of, hyphen}
+use Rattle.textwrap_words.specs.WordSplitters.{hyphen_points, cut_penalty, split_pieces, split_word}
+use Rattle.textwrap_words.proofs.Word.Splitting.{after-hyphen, hyphen_points-none}
 use Rattle.textwrap_lines.proofs.WordLines.Pieces.{pieces_from, pieces_from-point}
 use Rattle.textwrap_lines.proofs.WordLines.Pieces.{pieces_from-none, pieces_from-end, split-none}
 use Rattle.textwrap_lines.proofs.WordLines.Pieces.{tiled-split, tiled-broken}

@@ -1,9 +1,9 @@
 use Rattle.std.proofs.Common.{◌≤◌}
 use Rattle.std.specs.Str.{IsCharBoundary}
-use Rattle.textwrap_base.specs.Breaking.{broken_words}
-use Rattle.textwrap_base.specs.Words.{word_view}
+use Rattle.textwrap_words.specs.Breaking.{broken_words}
+use Rattle.textwrap_words.specs.Words.{word_view}
 use Rattle.textwrap_lines.specs.WordLines.{GoesOn, later_lines}
-use Rattle.textwrap_lines.specs.WordSplitters.{hyphen_points, split_pieces}
+use Rattle.textwrap_words.specs.WordSplitters.{hyphen_points, split_pieces}
 use Rattle.textwrap_lines.proofs.WordLines.Pieces.{pieces_from}
 use Rattle.textwrap_lines.proofs.word_lines.Layout.push_word.Given as goal
 

@@ -1,9 +1,0 @@
-pub mod Bounds
-pub mod Breaking
-pub mod BreakingRows
-pub mod BrokenPieces
-pub mod BrokenTexts
-pub mod Overlong
-pub mod Texts
-pub mod Tiling
-pub mod Words

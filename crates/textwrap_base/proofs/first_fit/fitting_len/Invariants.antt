@@ -1,0 +1,9 @@
+use Rattle.std.proofs.Common.{◌≡◌, ◌<◌, ◌^◌, take}
+use Rattle.textwrap_base.specs.Division.{open_width, Fits}
+use Rattle.textwrap_base.proofs.first_fit.fitting_len.Given as goal
+
+abbrev pub invariant-loop-i : goal.invariant-loop-i
+invariant-loop-i g l =
+    (l.width ≡ open_width g.T.Fragment.sizes (take l.i l.fragments))
+    × (l.width < 2 ^ 65)
+    × Fits g.T.Fragment.sizes l.line_width (take l.i l.fragments)

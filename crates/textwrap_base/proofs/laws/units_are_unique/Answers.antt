@@ -1,5 +1,0 @@
-use Rattle.textwrap_base.proofs.laws.units_are_unique.Goals as goal
-use Rattle.textwrap_base.proofs.Units.Unique.{units_unique}
-
-pub returns : goal.returns
-returns c = units_unique

@@ -1,5 +1,0 @@
-use Rattle.textwrap_base.proofs.Word.Words.{words_unique}
-use Rattle.textwrap_base.proofs.laws.words_are_unique.Goals as goal
-
-pub returns : goal.returns
-returns c = words_unique

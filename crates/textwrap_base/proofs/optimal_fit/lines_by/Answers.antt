@@ -1,0 +1,57 @@
+use Rattle.std.proofs.Common.{arith, Bor, sym, ◌∙◌, ap, subst, ◌≡◌, ◌≢◌, [], All, List, reverse}
+use Rattle.std.proofs.Common.{map, length, drop}
+use Rattle.textwrap_base.specs.Table.{FollowStarts}
+use Rattle.textwrap_base.specs.Division.{IsDivision}
+use Rattle.textwrap_base.specs.declared.minima.Minimum.{Minimum}
+use Rattle.textwrap_base.proofs.Cost.Lines.{joined, reverse_map_push, reverse-map, joined_division}
+use Rattle.textwrap_base.proofs.Cost.Lines.{lines_more, some_from_test}
+use Rattle.textwrap_base.proofs.optimal_fit.lines_by.Goals as goal
+
+pub line_start-start-requires-clause-before : goal.line_start-start-requires-clause-before
+line_start-start-requires-clause-before g c = c.requires.later c.loop-end.end (omega arith)
+    (omega arith)
+
+pub loop-end-preserved : goal.loop-end-preserved
+loop-end-preserved g c =
+    let shape = ap (λ (ls : List (Bor (List g.row.T.Denot))). reverse (map (λ line. line.now) ls))
+    c.in_ok-push-2.ensures.items
+    ∙ reverse_map_push (λ (line : Bor (List g.row.T.Denot)). line.now) c.loop-end.lines.items _ in
+    let more = lines_more c.args.fragments.now (map (λ (m : Minimum). m.start) c.args.minima.now)
+    (reverse (map (λ line. line.now) c.loop-end.lines.items)) c.line_start-start.result
+    c.loop-end.end
+    c.line_start-start.ensures.before c.loop-end.invariant.within
+    (sym c.line_start-start.ensures.start) c.loop-end.invariant.tiles
+    c.loop-end.invariant.nonempty c.loop-end.invariant.follow in
+    record {
+      within = omega arith;
+      tiles = ap joined shape ∙ more.0;
+      nonempty = subst (λ (lines : List (List g.row.T.Denot)). All (λ line. line ≢ []) lines)
+          (sym shape) more.1;
+      follow = subst (λ (lines : List (List g.row.T.Denot)). FollowStarts
+          (map (λ (m : Minimum). m.start) c.args.minima.now) c.line_start-start.result lines)
+          (sym shape) more.2;
+    }
+
+pub returns-clause-division : goal.returns-clause-division
+returns-clause-division g c =
+    let shape = ap (map (λ (line : Bor (List g.row.T.Denot)). line.now)) c.reverse.ensures.items
+    ∙ reverse-map (λ (line : Bor (List g.row.T.Denot)). line.now) c.loop-end.lines.items in
+    let start : c.loop-end.end ≡ 0 = omega arith in
+    let some = some_from_test (length c.args.fragments.now) (sym c.is_empty.ensures
+    ∙ c.if-is_empty.false) in
+    let tiles = c.loop-end.invariant.tiles ∙ ap (λ n. drop n c.args.fragments.now) start in
+    subst (λ (lines : List (List g.row.T.Denot)). IsDivision c.args.fragments.now lines) (sym shape)
+    (joined_division c.args.fragments.now
+    (reverse (map (λ line. line.now) c.loop-end.lines.items)) some tiles
+    c.loop-end.invariant.nonempty)
+
+pub returns-clause-follow : goal.returns-clause-follow
+returns-clause-follow g c =
+    let shape = ap (map (λ (line : Bor (List g.row.T.Denot)). line.now)) c.reverse.ensures.items
+    ∙ reverse-map (λ (line : Bor (List g.row.T.Denot)). line.now) c.loop-end.lines.items in
+    let start : c.loop-end.end ≡ 0 = omega arith in
+    subst (λ (lines : List (List g.row.T.Denot)). FollowStarts
+    (map (λ (m : Minimum). m.start) c.args.minima.now) 0 lines) (sym shape)
+    (subst (λ n. FollowStarts (map (λ (m : Minimum). m.start) c.args.minima.now) n
+    (reverse (map (λ line. line.now) c.loop-end.lines.items))) start
+    c.loop-end.invariant.follow)

@@ -1,0 +1,18 @@
+use Rattle.std.proofs.Common.{◌≡◌, ◌≢◌, ◌≤◌, [], All, map, reverse, drop, length}
+use Rattle.std.specs.List.{flat_map}
+use Rattle.textwrap_base.specs.Table.{FollowStarts}
+use Rattle.textwrap_base.specs.declared.minima.Minimum.{Minimum}
+use Rattle.textwrap_base.proofs.optimal_fit.lines_by.Given as goal
+
+abbrev pub invariant-loop-end : goal.invariant-loop-end
+invariant-loop-end g l = record {
+  within : l.end ≤ length l.fragments;
+  tiles : flat_map (λ line. line) (reverse (map (λ line. line.now) l.lines.items))
+      ≡ drop l.end l.fragments;
+  nonempty : All (λ line. line ≢ []) (reverse (map (λ line. line.now) l.lines.items));
+  follow : FollowStarts (map (λ (m : Minimum). m.start) l.minima) l.end
+      (reverse (map (λ line. line.now) l.lines.items));
+}
+
+abbrev pub decreases-loop-end : goal.decreases-loop-end
+decreases-loop-end g l = l.end

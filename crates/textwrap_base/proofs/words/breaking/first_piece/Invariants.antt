@@ -1,7 +1,0 @@
-use Rattle.std.specs.Str.Iter.{char_indices_rest, char_indices_offset}
-use Rattle.textwrap_base.proofs.Word.BrokenPieces.{IsReading}
-use Rattle.textwrap_base.proofs.words.breaking.first_piece.Given as goal
-
-abbrev pub invariant-loop-at : goal.invariant-loop-at
-invariant-loop-at l = IsReading l.line_width l.text (char_indices_offset l.at-iterator)
-    (char_indices_rest l.at-iterator) l.state l.width

@@ -1,9 +1,0 @@
-use Rattle.std.proofs.Common.{◌≡◌, ◌++◌, map}
-use Rattle.textwrap_base.specs.Breaking.{broken_word, pieces_left}
-use Rattle.textwrap_base.specs.Words.{word_view}
-use Rattle.textwrap_base.proofs.words.breaking.push_broken.Given as goal
-
--- what was pushed, and the pieces that are left, are the word
-abbrev pub invariant-loop-piece : goal.invariant-loop-piece
-invariant-loop-piece g l = map word_view l.pieces.items ++ pieces_left l.piece-iterator
-    ≡ map word_view l.fn.pieces.items ++ broken_word l.line_width (word_view l.fn.word)

@@ -1,5 +1,0 @@
-use Rattle.textwrap_lines.proofs.Word.OffsetCuts.{words_at-unique}
-use Rattle.textwrap_lines.proofs.laws.words_at_are_unique.Goals as goal
-
-pub returns : goal.returns
-returns c = words_at-unique

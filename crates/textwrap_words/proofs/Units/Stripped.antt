@@ -1,0 +1,97 @@
+-- Lemmas on the text of the visible characters.
+use Rattle.std.proofs.Common.{◌≤◌, length-append}
+use Rattle.std.proofs.Common.{◌≡◌, ◌≢◌, ℕ, zero, suc, ◌+◌, ◌<◌, Bool, cond, eqb}
+use Rattle.std.proofs.Common.{List, [], ◌∷◌, ◌++◌, length, get_or, drop, sym, ap, ◌∙◌, arith}
+use Rattle.std.proofs.Common.{All, append-nil, append_assoc, inl, inr}
+use Rattle.std.specs.List.{flat_map}
+use Rattle.std.specs.Str.{chars, encode_utf8_all}
+use lib.Utf8.{encode}
+use Rattle.std.proofs.lemmas.Bool.{cases_Bool, eqb-false}
+use Rattle.std.proofs.lemmas.List.{at_drop_more}
+use Rattle.std.proofs.lemmas.List.Elements.{All-nil, All-cons, All-head, All-tail, All-append}
+use Rattle.std.proofs.lemmas.List.Elements.{All-from_get_or}
+use Rattle.std.proofs.lemmas.Str.{inside_one}
+use Rattle.textwrap_words.specs.declared.escapes.State.{State}
+use Rattle.textwrap_words.specs.Units.{escape, escape_len, units_past, visible_of, stripped}
+use Rattle.textwrap_words.specs.Escapes.{taken_in, visible_in}
+
+-- the text of the visible ones among the characters to come
+abbrev pub text_in : State → List ℕ → List ℕ
+text_in state cs = encode_utf8_all (visible_in state cs)
+
+-- a step over the character at place n moves it from there to the text so far, if it is visible
+pub text_in-step : (state after : State) (is_visible : Bool) (text : List ℕ) (cs : List ℕ) (n c : ℕ)
+    → (n < length cs) × (c ≡ get_or cs n c)
+    → ((ds : List ℕ) → visible_in state (c ∷ ds) ≡ cond is_visible (c ∷ visible_in after ds)
+    (visible_in after ds))
+    → cond is_visible (text ++ encode c) text ++ text_in after (drop (n + 1) cs)
+    ≡ text ++ text_in state (drop n cs)
+text_in-step state after is_visible text cs n c here step =
+    let rest = drop (n + 1) cs in
+    let shown : text_in state (drop n cs)
+    ≡ encode_utf8_all (cond is_visible (c ∷ visible_in after rest) (visible_in after rest)) =
+    at_drop_more (text_in state) cs n c here.0
+    ∙ ap (λ x. text_in state (x ∷ rest)) (sym here.1)
+    ∙ ap encode_utf8_all (step rest) in
+    elim (cases_Bool is_visible) [
+      | inl t ↦ rw t (append_assoc text (encode c) (text_in after rest)
+          ∙ ap (λ ds. text ++ ds) (sym (rw t at shown)))
+      | inr f ↦ rw f (ap (λ ds. text ++ ds) (sym (rw f at shown)))
+    ]
+
+-- ---- no escape character is left
+
+-- the characters of a character other than ESC, and of such characters, are bytes other than ESC
+encode-plain : (c : ℕ) → c ≢ escape → All (λ b. b ≢ escape) (encode c)
+encode-plain c other = All-from_get_or (λ b. b ≢ escape) (encode c) 0 (λ k within is.
+    let whole : encode c ≡ encode c ++ [] = sym (append-nil (encode c)) in
+    other (inside_one c [] (encode c) k whole within (omega (arith, is)) ∙ is))
+
+encodes-plain : (cs : List ℕ) → All (λ c. c ≢ escape) cs → All (λ b. b ≢ escape)
+    (encode_utf8_all cs)
+encodes-plain [] plain = All-nil (λ b. b ≢ escape)
+encodes-plain (c ∷ cs) plain =
+    All-append (λ b. b ≢ escape) (encode c) (encode_utf8_all cs)
+    (encode-plain c (All-head (λ d. d ≢ escape) c cs plain))
+    (encodes-plain cs (All-tail (λ d. d ≢ escape) c cs plain))
+
+visible-plain : (n : ℕ) (cs : List ℕ) → All (λ c. c ≢ escape)
+    (flat_map visible_of (units_past n cs))
+visible-plain n [] = All-nil (λ c. c ≢ escape)
+visible-plain zero (c ∷ cs) = elim (cases_Bool (eqb c 27)) [
+  | inl t ↦ rw t (visible-plain (escape_len cs) cs)
+  | inr f ↦ rw f (All-cons (λ d. d ≢ escape) c (flat_map visible_of (units_past 0 cs))
+      (eqb-false c 27 f) (visible-plain 0 cs))
+]
+visible-plain (suc n) (c ∷ cs) = visible-plain n cs
+
+pub stripped-plain : (bytes : List ℕ) → All (λ b. b ≢ escape) (stripped bytes)
+stripped-plain bytes =
+    encodes-plain (flat_map visible_of (units_past 0 (chars bytes)))
+    (visible-plain 0 (chars bytes))
+
+-- ---- a text is no shorter than its visible characters
+
+visible-short : (n : ℕ) (cs : List ℕ)
+    → length (encode_utf8_all (flat_map visible_of (units_past n cs)))
+    ≤ length (encode_utf8_all cs)
+visible-short n [] = omega arith
+visible-short zero (c ∷ cs) = elim (cases_Bool (eqb c 27)) [
+  | inl t ↦ rw t (omega (
+    arith,
+    visible-short (escape_len cs) cs,
+    length-append (encode c) (encode_utf8_all cs),
+  ))
+  | inr f ↦ rw f (omega (
+    arith,
+    visible-short 0 cs,
+    length-append (encode c) (encode_utf8_all cs),
+    length-append (encode c) (encode_utf8_all (flat_map visible_of (units_past 0 cs))),
+  ))
+]
+visible-short (suc n) (c ∷ cs) =
+    omega (arith, visible-short n cs, length-append (encode c) (encode_utf8_all cs))
+
+pub text_in-short : (state : State) (cs : List ℕ)
+    → length (text_in state cs) ≤ length (encode_utf8_all cs)
+text_in-short state cs = visible-short (taken_in state cs) cs

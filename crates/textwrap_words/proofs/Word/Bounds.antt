@@ -1,0 +1,58 @@
+-- All widths of words together keep to twice the bytes that they tile, where they have no
+-- penalties, and a line of narrow ones to their bytes.
+use Rattle.std.proofs.Common.{◌≡◌, ◌*◌, ◌≤◌, List, [], ◌∷◌, All, length, sym, ap, subst, arith}
+use Rattle.std.proofs.Common.{length-append}
+use Rattle.std.proofs.lemmas.List.Elements.{All-head, All-tail}
+use Rattle.textwrap_base.specs.Cost.{total_width}
+use Rattle.textwrap_base.specs.Division.{closed_width}
+use Rattle.textwrap_words.specs.Words.{WordText, sizes_of, tile_of, tiled}
+use Rattle.textwrap_base.proofs.Cost.Measures.{total_width-cons}
+use Rattle.textwrap_words.proofs.Units.Widths.{text_width-le}
+use Rattle.textwrap_words.proofs.Word.Texts.{IsMeasured, HasNoPenalty}
+
+-- ---- words whose widths keep to twice their bytes
+
+pub record IsBounded (w : WordText) : Type 0 where
+  pub width : w.width ≤ 2 * length w.word
+  pub penalty : HasNoPenalty w
+
+pub IsBounded-measured : (w : WordText) → IsMeasured w → HasNoPenalty w → IsBounded w
+IsBounded-measured w measured none =
+    record {
+      width = subst (λ n. n ≤ 2 * length w.word) (sym measured.width)
+          (text_width-le w.word measured.utf8);
+      penalty = none;
+    }
+
+pub total_width-bounded : (words : List WordText) → All IsBounded words
+    → total_width sizes_of words ≤ 2 * length (tiled words)
+total_width-bounded [] all = omega arith
+total_width-bounded (w ∷ words) all =
+    let here = All-head IsBounded w words all in
+    let rest = total_width-bounded words (All-tail IsBounded w words all) in
+    let sum = total_width-cons sizes_of w words in
+    let none : length w.penalty ≡ 0 = ap length here.penalty in
+    let tile = length-append w.word w.whitespace in
+    let whole = length-append (tile_of w) (tiled words) in
+    omega (arith, here.width, rest, sum, none, tile, whole)
+
+-- ---- words whose widths keep to their bytes
+
+pub record IsNarrowWord (w : WordText) : Type 0 where
+  pub width : w.width ≤ length w.word
+  pub penalty : HasNoPenalty w
+
+pub closed_width-narrow : (words : List WordText) → All IsNarrowWord words
+    → closed_width sizes_of words ≤ length (tiled words)
+closed_width-narrow [] all = omega arith
+closed_width-narrow (w ∷ []) all =
+    let here = All-head IsNarrowWord w [] all in
+    let none : length w.penalty ≡ 0 = ap length here.penalty in
+    let tile = length-append w.word w.whitespace in
+    let whole = length-append (tile_of w) [] in omega (arith, here.width, none, tile, whole)
+closed_width-narrow (w ∷ v ∷ words) all =
+    let here = All-head IsNarrowWord w (v ∷ words) all in
+    let rest = closed_width-narrow (v ∷ words) (All-tail IsNarrowWord w (v ∷ words) all) in
+    let tile = length-append w.word w.whitespace in
+    let whole = length-append (tile_of w) (tiled (v ∷ words)) in
+    omega (arith, here.width, rest, tile, whole)

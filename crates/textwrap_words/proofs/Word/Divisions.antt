@@ -1,0 +1,121 @@
+-- Lemmas on what an algorithm may divide, also one of a caller: its lines are the first elements in
+-- order, and along a view they are those of what the view gives.
+use Rattle.std.proofs.Common.{◌≡◌, ◌≢◌, ℕ, suc, ◌+◌, ◌-◌, ◌≤◌, ◌<◌, List, [], ◌∷◌, ◌++◌, length, map}
+use Rattle.std.proofs.Common.{take, drop, get_or, refl, sym, ap, ◌∙◌, subst, arith}
+use Rattle.std.proofs.Common.{append_assoc, append-nil}
+use Rattle.std.specs.Prelude.{All, Some, None, Ok, slice_range}
+use Rattle.std.specs.List.Sorted.{IsNonDecreasing}
+use Rattle.std.proofs.lemmas.List.{map-id, take-map, drop-map, length-map}
+use Rattle.textwrap_words.specs.LineEnds.{AreEnds, lines_from}
+use Rattle.textwrap_words.specs.Words.{WordText, word_view, sizes_of}
+use Rattle.textwrap_words.specs.WrapAlgorithms.{Greedy, LeastCost, IsDividedBy, MayEnd}
+use Rattle.textwrap_words.specs.WrapAlgorithms.{MayDivide, algorithm_view}
+use Rattle.textwrap_words.specs.declared.wrap_algorithms.WrapAlgorithm.{WrapAlgorithm}
+use Rattle.textwrap_words.specs.declared.wrap_algorithms.WrapAlgorithm.TheVariants.{FirstFit}
+use Rattle.textwrap_words.specs.declared.wrap_algorithms.WrapAlgorithm.TheVariants.{OptimalFit}
+use Rattle.textwrap_words.specs.declared.wrap_algorithms.WrapAlgorithm.TheVariants.{Custom}
+use Rattle.textwrap_words.specs.declared.wrap_algorithms.line_ends.LineEnds.{LineEnds}
+use Rattle.textwrap_base.proofs.Division.Map.{IsDividedBy-map, IsDividedBy-whole}
+use Rattle.textwrap_base.proofs.Division.Map.{IsDividedBy-some}
+use Rattle.textwrap_base.proofs.ListLemmas.{flat, slice-rest, Begins}
+
+lines_from-begin : {X : Type 0} (xs : List X) (start : ℕ) (ends : List ℕ) → IsNonDecreasing ends
+    → ((k : ℕ) → k < length ends → start ≤ get_or ends k 0)
+    → Begins (drop start xs) (flat (lines_from xs start ends))
+lines_from-begin xs start [] in_order before = (drop start xs, refl)
+lines_from-begin xs start (end ∷ ends) in_order before =
+    let (rest, is) = lines_from-begin xs end ends
+    (λ i j d le lt. in_order (suc i) (suc j) d (omega arith) (omega arith))
+    (λ k lt. in_order 0 (suc k) 0 (omega arith) (omega arith)) in (
+      rest,
+      append_assoc (slice_range xs start end) (flat (lines_from xs end ends)) rest
+          ∙ ap (λ l. slice_range xs start end ++ l) is
+          ∙ slice-rest xs start end (before 0 (omega arith)),
+    )
+
+lines_from-map : {X Y : Type 0} (f : X → Y) (xs : List X) (start : ℕ) (ends : List ℕ)
+    → map (map f) (lines_from xs start ends) ≡ lines_from (map f xs) start ends
+lines_from-map f xs start [] = refl
+lines_from-map f xs start (end ∷ ends) =
+    let one : map f (slice_range xs start end) ≡ slice_range (map f xs) start end =
+    sym (take-map f (end - start) (drop start xs))
+    ∙ ap (take (end - start)) (sym (drop-map f start xs)) in
+    ap (λ l. l ∷ map (map f) (lines_from xs end ends)) one
+    ∙ ap (λ ls. slice_range (map f xs) start end ∷ ls) (lines_from-map f xs end ends)
+
+-- ---- what an algorithm may divide
+
+pub MayEnd-ends : {F X : Type 0} {f : _} (given : LineEnds F f) (view : X → WordText) (xs : List X)
+    (widths ends : List ℕ) → MayEnd given (map view xs) widths ends → AreEnds xs ends
+MayEnd-ends given view xs widths ends (alloc, asked, lent, answer, words, same, is, met) =
+    let are = given.answers alloc asked lent (Ok answer) met answer refl in
+    let len : length asked.now ≡ length xs =
+    sym (length-map asked.now word_view) ∙ ap length words ∙ length-map xs view in
+    record {
+      in_order = subst IsNonDecreasing is are.in_order;
+      within = subst (All (λ end. end ≤ length xs)) is
+          (subst (λ n. All (λ end. end ≤ n) answer.items) len are.within);
+    }
+
+module _ {F : Type 0} {f : _} where
+  pub MayDivide-map : {X : Type 0} (algorithm : WrapAlgorithm F f) (view : X → WordText)
+      (widths : List ℕ) (xs : List X) (lines : List (List X))
+      → MayDivide algorithm view widths xs lines
+      → MayDivide algorithm (λ w. w) widths (map view xs) (map (map view) lines)
+  MayDivide-map FirstFit view widths xs lines divided =
+      IsDividedBy-map view sizes_of Greedy widths xs lines divided
+  MayDivide-map (OptimalFit penalties) view widths xs lines divided =
+      IsDividedBy-map view sizes_of (LeastCost penalties) widths xs lines divided
+  MayDivide-map (Custom given) view widths xs lines (ends, may, is) = (
+    ends,
+    subst (λ ws. MayEnd given ws widths ends) (sym (map-id (map view xs))) may,
+    ap (map (map view)) is ∙ lines_from-map view xs 0 ends,
+  )
+
+  -- the lines of a built-in algorithm are all elements in order
+  pub MayDivide-whole : {X : Type 0} (algorithm : WrapAlgorithm F f) (view : X → WordText)
+      (widths : List ℕ) (xs : List X) (lines : List (List X)) → algorithm_view algorithm ≢ None
+      → MayDivide algorithm view widths xs lines → flat lines ≡ xs
+  MayDivide-whole FirstFit view widths xs lines built_in divided =
+      IsDividedBy-whole (λ x. sizes_of (view x)) Greedy widths xs lines divided
+  MayDivide-whole (OptimalFit penalties) view widths xs lines built_in divided =
+      IsDividedBy-whole (λ x. sizes_of (view x)) (LeastCost penalties) widths xs lines divided
+  MayDivide-whole (Custom given) view widths xs lines built_in divided = absurd (built_in refl)
+
+  -- the lines of any algorithm are the first elements in order
+  pub MayDivide-begins : {X : Type 0} (algorithm : WrapAlgorithm F f) (view : X → WordText)
+      (widths : List ℕ) (xs : List X) (lines : List (List X))
+      → MayDivide algorithm view widths xs lines → Begins xs (flat lines)
+  MayDivide-begins FirstFit view widths xs lines divided = (
+    [],
+    append-nil (flat lines) ∙ IsDividedBy-whole (λ x. sizes_of (view x)) Greedy widths xs
+        lines divided,
+  )
+  MayDivide-begins (OptimalFit penalties) view widths xs lines divided = (
+    [],
+    append-nil (flat lines) ∙ IsDividedBy-whole (λ x. sizes_of (view x)) (LeastCost penalties)
+        widths xs lines divided,
+  )
+  MayDivide-begins (Custom given) view widths xs lines (ends, may, is) =
+      subst (λ ls. Begins xs (flat ls)) (sym is)
+      (lines_from-begin xs 0 ends (MayEnd-ends given view xs widths ends may).in_order
+      (λ k lt. omega arith))
+
+  -- there is a line at least
+  pub MayDivide-some : {X : Type 0} (algorithm : WrapAlgorithm F f) (view : X → WordText)
+      (widths : List ℕ) (xs : List X) (lines : List (List X)) → algorithm_view algorithm ≢ None
+      → MayDivide algorithm view widths xs lines → 0 < length lines
+  MayDivide-some FirstFit view widths xs lines built_in divided =
+      IsDividedBy-some (λ x. sizes_of (view x)) Greedy widths xs lines divided
+  MayDivide-some (OptimalFit penalties) view widths xs lines built_in divided =
+      IsDividedBy-some (λ x. sizes_of (view x)) (LeastCost penalties) widths xs lines divided
+  MayDivide-some (Custom given) view widths xs lines built_in divided = absurd (built_in refl)
+
+  pub MayDivide-greedy : {X : Type 0} (algorithm : WrapAlgorithm F f) (view : X → WordText)
+      (widths : List ℕ) (xs : List X) (lines : List (List X))
+      → algorithm_view algorithm ≡ Some Greedy
+      → MayDivide algorithm view widths xs lines
+      → IsDividedBy Greedy (λ x. sizes_of (view x)) widths xs lines
+  MayDivide-greedy FirstFit view widths xs lines is divided = divided
+  MayDivide-greedy (OptimalFit penalties) view widths xs lines is divided = cc
+  MayDivide-greedy (Custom given) view widths xs lines is divided = cc

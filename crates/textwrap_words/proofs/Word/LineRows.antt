@@ -1,0 +1,50 @@
+-- Worked rows on the lines of texts: a greedy division, and what lines cost.
+use Rattle.std.proofs.Common.{◌≡◌, ℕ, List, [], ◌∷◌, length, map, refl, codes}
+use Rattle.std.specs.Str.{chars}
+use Rattle.unicode_width.specs.Width.{char_width}
+use Rattle.textwrap_base.specs.Cost.{priced_at, division_cost}
+use Rattle.textwrap_base.specs.Division.{IsGreedy}
+use Rattle.textwrap_base.specs.Penalties.{default_penalties}
+use Rattle.textwrap_base.proofs.Division.Rows.{IsGreedy-from_test}
+use Rattle.textwrap_words.specs.Words.{sizes_of, words_of}
+
+-- a line of a text, by its words
+IsGreedy-words : IsGreedy sizes_of (10 ∷ [])
+    (words_of (codes "To be, or not to be: that is the question"))
+    (words_of (codes "To be, or ") ∷ words_of (codes "not to be: ") ∷ words_of
+    (codes "that is ") ∷ words_of (codes "the ") ∷ words_of (codes "question") ∷ [])
+unfolding chars char_width
+IsGreedy-words = IsGreedy-from_test _ _ _ refl refl
+
+abbrev words_at : List ℕ → List ℕ → List (List ℕ) → ℕ
+words_at widths text lines =
+    division_cost (λ w. priced_at default_penalties (sizes_of w)) default_penalties widths
+    (length (words_of text)) (map words_of lines)
+
+cost-first_fit : words_at (10 ∷ []) (codes "To be, or not to be: that is the question")
+    (codes "To be, or " ∷ codes "not to be: " ∷ codes "that is " ∷ codes "the " ∷ codes "question" ∷
+    []) ≡ 5059
+unfolding chars char_width
+cost-first_fit = refl
+
+cost-optimal : words_at (10 ∷ []) (codes "To be, or not to be: that is the question")
+    (codes "To be, " ∷ codes "or not to " ∷ codes "be: that " ∷ codes "is the " ∷ codes "question" ∷
+    []) ≡ 5037
+unfolding chars char_width
+cost-optimal = refl
+
+cost-later_second : words_at (10 ∷ []) (codes "To be, or not to be: that is the question")
+    (codes "To be, or " ∷ codes "not to " ∷ codes "be: that " ∷ codes "is the " ∷ codes "question" ∷
+    []) ≡ 5037
+unfolding chars char_width
+cost-later_second = refl
+
+cost-library : words_at (18 ∷ []) (codes "textwrap: a small library for wrapping text.")
+    (codes "textwrap: a " ∷ codes "small library for " ∷ codes "wrapping text." ∷ []) ≡ 3050
+unfolding chars char_width
+cost-library = refl
+
+cost-library_later : words_at (18 ∷ []) (codes "textwrap: a small library for wrapping text.")
+    (codes "textwrap: a small " ∷ codes "library for " ∷ codes "wrapping text." ∷ []) ≡ 3050
+unfolding chars char_width
+cost-library_later = refl

@@ -1,0 +1,82 @@
+-- Lemmas on the parts of a text between cuts.
+use Rattle.std.proofs.Common.{inl, inr, ◌≡◌, ℕ, zero, suc, ◌<◌, ◌≤◌, List, [], ◌∷◌, ◌++◌, All, map}
+use Rattle.std.proofs.Common.{add-one, length, get_or, drop, sym, ap, ◌∙◌, arith, append-nil, ◌==◌}
+use Rattle.std.specs.Prelude.{slice_range}
+use Rattle.std.specs.List.Sorted.{IsStrictlyIncreasing, IsNonDecreasing}
+use Rattle.std.specs.Str.{IsUtf8, IsCharBoundary}
+use Rattle.std.proofs.lemmas.Bool.{cases_Bool, cases_eq, eqb-true}
+use Rattle.std.proofs.lemmas.List.Sorted.{IsNonDecreasingBy-from_default}
+use Rattle.std.proofs.lemmas.List.{nil_from_length}
+use Rattle.std.proofs.lemmas.List.Elements.{All-nil, All-cons, All-head, All-tail}
+use Rattle.std.proofs.lemmas.Str.{IsUtf8-drop, IsUtf8-between, IsCharBoundary-start}
+use Rattle.textwrap_words.specs.Words.{tiled, word_of}
+use Rattle.textwrap_base.proofs.ListLemmas.{slice-rest}
+use Rattle.textwrap_base.proofs.ListLemmas.{flat}
+use Rattle.textwrap_words.proofs.Word.Tiling.{tiled-map}
+use Rattle.textwrap_words.specs.Cuts.{AreCuts, AreInnerCuts, parts_from, parts_between}
+
+pub increasing-le : (xs : List ℕ) → IsStrictlyIncreasing xs → (i j : ℕ) → i ≤ j → j < length xs
+    → get_or xs i 0 ≤ get_or xs j 0
+increasing-le xs up i zero le within = let first : i ≡ 0 = omega arith in rw first (omega arith)
+increasing-le xs up i (suc j) le within =
+    elim (cases_eq i (suc j)) [
+      | inl same ↦ rw same (omega arith)
+      | inr other ↦ let step : get_or xs j 0 < get_or xs (suc j) 0 =
+          rw add-one at (up j (omega arith)) in
+          let before : get_or xs i 0 ≤ get_or xs j 0 =
+          increasing-le xs up i j (omega (arith, other)) (omega arith) in
+          omega (arith, step, before)
+    ]
+
+-- ---- the parts are the line
+
+parts_from-tile : (start : ℕ) (cuts line : List ℕ) → IsNonDecreasing cuts
+    → ((k : ℕ) → k < length cuts → start ≤ get_or cuts k 0)
+    → flat (parts_from start cuts line) ≡ drop start line
+parts_from-tile start [] line in_order before = append-nil (drop start line)
+parts_from-tile start (cut ∷ cuts) line in_order before =
+    let later : IsNonDecreasing cuts = λ i j d le lt. in_order (suc i) (suc j) d (omega arith)
+    (omega arith) in
+    let rest = parts_from-tile cut cuts line later
+    (λ k lt. in_order 0 (suc k) 0 (omega arith) (omega arith)) in
+    ap (λ l. slice_range line start cut ++ l) rest
+    ∙ slice-rest line start cut (before 0 (omega arith))
+
+pub parts_between-tile : (cuts line : List ℕ) → IsNonDecreasing cuts
+    → tiled (map word_of (parts_between cuts line)) ≡ line
+parts_between-tile cuts line in_order =
+    tiled-map (parts_between cuts line) ∙ elim (cases_Bool (length line == 0)) [
+      | inl none ↦ rw none (sym (nil_from_length line (eqb-true (length line) 0 none)))
+      | inr some ↦ rw some (parts_from-tile 0 cuts line in_order (λ k lt. omega arith))
+    ]
+
+-- ---- the parts are texts
+
+parts_from-utf8 : (start : ℕ) (cuts line : List ℕ) → IsUtf8 line → IsCharBoundary line start
+    → IsNonDecreasing cuts → ((k : ℕ) → k < length cuts → start ≤ get_or cuts k 0)
+    → All (IsCharBoundary line) cuts → All IsUtf8 (parts_from start cuts line)
+parts_from-utf8 start [] line utf8 at in_order before between =
+    All-cons IsUtf8 (drop start line) [] (IsUtf8-drop line start utf8 at) (All-nil IsUtf8)
+parts_from-utf8 start (cut ∷ cuts) line utf8 at in_order before between =
+    let next = All-head (IsCharBoundary line) cut cuts between in
+    All-cons IsUtf8 (slice_range line start cut) (parts_from cut cuts line)
+    (IsUtf8-between line start cut utf8 (before 0 (omega arith)) at next)
+    (parts_from-utf8 cut cuts line utf8 next
+    (λ i j d le lt. in_order (suc i) (suc j) d (omega arith) (omega arith))
+    (λ k lt. in_order 0 (suc k) 0 (omega arith) (omega arith))
+    (All-tail (IsCharBoundary line) cut cuts between))
+
+pub parts_between-utf8 : (cuts line : List ℕ) → IsUtf8 line → AreCuts line cuts
+    → All IsUtf8 (parts_between cuts line)
+parts_between-utf8 cuts line utf8 are = elim (cases_Bool (length line == 0)) [
+  | inl none ↦ rw none (All-nil IsUtf8)
+  | inr some ↦ rw some (parts_from-utf8 0 cuts line utf8 (IsCharBoundary-start line utf8)
+      are.in_order (λ k lt. omega arith) are.between)
+]
+
+pub inner-cuts : (text cuts : List ℕ) → AreInnerCuts text cuts → AreCuts text cuts
+inner-cuts text cuts are = record {
+  in_order = IsNonDecreasingBy-from_default (λ x. x) cuts 0 (increasing-le cuts are.in_order);
+  in_range = are.before_end;
+  between = are.between;
+}

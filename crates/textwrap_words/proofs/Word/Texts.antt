@@ -1,0 +1,197 @@
+-- Lemmas on the texts of the words of a line: they are UTF-8, and blanks stand between them.
+use Rattle.std.proofs.Common.{inl, inr, ◌≡◌, ℕ, zero, suc, ◌+◌, ◌-◌, ◌<◌, ◌≤◌, Bool, true, false}
+use Rattle.std.proofs.Common.{not, cond, ◌==◌, List, [], ◌∷◌, ◌++◌, All, length, get_or, take, drop}
+use Rattle.std.proofs.Common.{refl, sym, ap, ◌∙◌, subst, arith, append_assoc, append-nil}
+use Rattle.std.proofs.Common.{length-append, length-drop}
+use Rattle.std.specs.Prelude.{reverse}
+use Rattle.std.specs.List.{onto_first, suffix_len, sum_by}
+use Rattle.std.specs.Str.{IsUtf8, IsCharBoundary}
+use Rattle.std.proofs.lemmas.Bool.{and_parts, cases_lt, eqb-true, false≢true}
+use Rattle.std.proofs.lemmas.List.{get_or_at, get_or-drop, get_or-reverse, length-reverse}
+use Rattle.std.proofs.lemmas.List.{length_push, take_at, drop_at}
+use Rattle.std.proofs.lemmas.List.Elements.{All-nil, All-cons, All-map, All-weaker}
+use Rattle.std.proofs.lemmas.List.Sums.{prefix_len_passes, prefix_len_stops, suffix_len_is}
+use Rattle.std.proofs.lemmas.Str.{IsUtf8-take, IsUtf8-drop, IsCharBoundary-end}
+use Rattle.std.proofs.lemmas.Str.{IsCharBoundary-before_ascii, IsCharBoundary-after_ascii}
+use Rattle.std.proofs.lemmas.Str.{chars-nil}
+use Rattle.textwrap_base.proofs.ListLemmas.{onto_front, onto_front-onto_first}
+use Rattle.textwrap_words.specs.Units.{columns, visible, text_width}
+use Rattle.textwrap_words.specs.Words.{WordText, word_of, is_cut, chunks, words_of}
+use Rattle.textwrap_words.specs.Blanks.{is_blank, trimmed_len, without_final_blanks, final_blanks}
+
+-- ---- a text, cut at an ASCII byte
+
+-- what comes before the byte, what goes up to it, what it begins, and what comes after it
+pub record AsciiSeam (before after : List ℕ) (c : ℕ) : Type 0 where
+  pub front : IsUtf8 before
+  pub through : IsUtf8 (before ++ c ∷ [])
+  pub from : IsUtf8 (c ∷ after)
+  pub back : IsUtf8 after
+
+pub ascii_seam : (before after : List ℕ) (c : ℕ) → IsUtf8 (before ++ c ∷ after) → c < 128
+    → AsciiSeam before after c
+ascii_seam before after c utf8 ascii =
+    let bs = before ++ c ∷ after in
+    let i = length before in
+    let byte : get_or bs i 0 ≡ c = get_or_at before c after 0 (length before) refl in
+    let within : length before < length bs = omega (arith, length-append before (c ∷ after)) in
+    let at : IsCharBoundary bs i = IsCharBoundary-before_ascii bs i within (omega (arith, byte)) in
+    let past : IsCharBoundary bs (i + 1) = IsCharBoundary-after_ascii bs i utf8 within
+    (omega (arith, byte)) in
+    let whole : bs ≡ (before ++ c ∷ []) ++ after = sym (append_assoc before (c ∷ []) after) in
+    let len : length (before ++ c ∷ []) ≡ i + 1 = length_push before c in
+    record {
+      front = subst IsUtf8 (take_at before (c ∷ after) i refl) (IsUtf8-take bs i utf8 at);
+      through = subst IsUtf8 (ap (take (i + 1)) whole ∙ take_at (before ++ c ∷ []) after
+          (i + 1) len) (IsUtf8-take bs (i + 1) utf8 past);
+      from = subst IsUtf8 (drop_at before (c ∷ after) i refl) (IsUtf8-drop bs i utf8 at);
+      back = subst IsUtf8 (ap (drop (i + 1)) whole ∙ drop_at (before ++ c ∷ []) after (i + 1) len)
+          (IsUtf8-drop bs (i + 1) utf8 past);
+    }
+
+-- ---- the parts of a text, where bytes stand before the first
+
+pub all_utf8-front : (parts : List (List ℕ)) → All IsUtf8 (onto_front [] parts) → All IsUtf8 parts
+all_utf8-front [] all = All-nil IsUtf8
+all_utf8-front (part ∷ parts) all = all
+
+-- ---- the chunks of a line
+
+chunks-utf8_step : (before : List ℕ) (c d : ℕ) (cs : List ℕ) → IsUtf8 (before ++ c ∷ d ∷ cs)
+    → (b : Bool) → is_cut c d ≡ b
+    → (IsUtf8 (d ∷ cs) → All IsUtf8 (onto_front [] (chunks (d ∷ cs))))
+    → (IsUtf8 ((before ++ c ∷ []) ++ d ∷ cs)
+    → All IsUtf8 (onto_front (before ++ c ∷ []) (chunks (d ∷ cs))))
+    → All IsUtf8 (onto_front before
+    (cond b ((c ∷ []) ∷ chunks (d ∷ cs)) (onto_first c (chunks (d ∷ cs)))))
+chunks-utf8_step before c d cs utf8 true cut after joined =
+    let blank : c ≡ 32 = eqb-true c 32 (and_parts (is_blank c) (not (is_blank d)) cut).0 in
+    let seam = ascii_seam before (d ∷ cs) c utf8 (omega arith) in
+    All-cons IsUtf8 (before ++ c ∷ []) (chunks (d ∷ cs)) seam.through
+    (all_utf8-front (chunks (d ∷ cs)) (after seam.back))
+chunks-utf8_step before c d cs utf8 false whole after joined =
+    subst (All IsUtf8) (sym (onto_front-onto_first before c (chunks (d ∷ cs))))
+    (joined (subst IsUtf8 (sym (append_assoc before (c ∷ []) (d ∷ cs))) utf8))
+
+chunks-utf8_from : (before line : List ℕ) → IsUtf8 (before ++ line)
+    → All IsUtf8 (onto_front before (chunks line))
+chunks-utf8_from before [] utf8 = All-cons IsUtf8 before [] (subst IsUtf8 (append-nil before) utf8)
+    (All-nil IsUtf8)
+chunks-utf8_from before (c ∷ []) utf8 = All-cons IsUtf8 (before ++ c ∷ []) [] utf8 (All-nil IsUtf8)
+chunks-utf8_from before (c ∷ d ∷ cs) utf8 = chunks-utf8_step before c d cs utf8 (is_cut c d) refl
+    (chunks-utf8_from [] (d ∷ cs)) (chunks-utf8_from (before ++ c ∷ []) (d ∷ cs))
+
+pub chunks-utf8 : (line : List ℕ) → IsUtf8 line → All IsUtf8 (chunks line)
+chunks-utf8 line utf8 = all_utf8-front (chunks line) (chunks-utf8_from [] line utf8)
+
+-- ---- the blanks at the end of a text
+
+abbrev pub AreBlanks : List ℕ → Type 0
+AreBlanks bytes = All (λ c. is_blank c ≡ true) bytes
+
+trimmed-blank : (bytes : List ℕ) (k d : ℕ) → trimmed_len bytes ≤ k → k < length bytes
+    → is_blank (get_or bytes k d) ≡ true
+trimmed-blank bytes k d from within =
+    let j = length bytes - 1 - k in
+    let back : length bytes - 1 - j ≡ k = omega arith in
+    let passes = prefix_len_passes is_blank (reverse bytes) j d (omega arith) in
+    ap is_blank (sym (get_or-reverse bytes j d (omega arith) ∙ ap (λ n. get_or bytes n d) back))
+    ∙ passes
+
+-- and the byte before them is no blank
+pub trimmed-other : (bytes : List ℕ) → 0 < trimmed_len bytes
+    → is_blank (get_or bytes (trimmed_len bytes - 1) 0) ≡ false
+trimmed-other bytes some =
+    let j = suffix_len is_blank bytes in
+    let len = length-reverse bytes in
+    let back : length bytes - 1 - j ≡ trimmed_len bytes - 1 = omega arith in
+    let stops = prefix_len_stops is_blank (reverse bytes) 0 (omega (arith, len)) in
+    ap is_blank (sym (get_or-reverse bytes j 0 (omega arith) ∙ ap (λ n. get_or bytes n 0) back))
+    ∙ stops
+
+-- they begin after each byte that is no blank
+pub trimmed-past : (bytes : List ℕ) (i : ℕ) → i < length bytes → is_blank (get_or bytes i 0) ≡ false
+    → i < trimmed_len bytes
+trimmed-past bytes i within other =
+    elim (cases_lt i (trimmed_len bytes)) [
+      | inl past ↦ past
+      | inr before ↦ absurd (false≢true (sym other ∙ trimmed-blank bytes i 0 before within))
+    ]
+
+-- a byte in front of a text that is not all blanks changes nothing at its end
+pub final_blanks-more : (c : ℕ) (bytes : List ℕ) → 0 < trimmed_len bytes
+    → (trimmed_len (c ∷ bytes) ≡ suc (trimmed_len bytes))
+    × (final_blanks (c ∷ bytes) ≡ final_blanks bytes)
+final_blanks-more c bytes some =
+    let n = suc (trimmed_len bytes) in
+    let place : suc (trimmed_len bytes) - 1 ≡ suc (trimmed_len bytes - 1) = omega (arith, some) in
+    let s = suffix_len_is is_blank (c ∷ bytes) n 0 (omega arith) after
+    (λ more. ap (λ k. is_blank (get_or (c ∷ bytes) k 0)) place ∙ trimmed-other bytes some) in
+    let len : trimmed_len (c ∷ bytes) ≡ n = omega (arith, s) in
+    (len, ap (λ m. drop m (c ∷ bytes)) len)
+  where
+    after : (k : ℕ) → suc (trimmed_len bytes) ≤ k → k < length (c ∷ bytes)
+        → is_blank (get_or (c ∷ bytes) k 0) ≡ true
+    after zero from within = absurd (omega arith)
+    after (suc k) from within = trimmed-blank bytes k 0 (omega arith) (omega arith)
+
+pub final_blanks-blank : (bytes : List ℕ) → AreBlanks (final_blanks bytes)
+final_blanks-blank bytes = λ k d within.
+    ap is_blank (get_or-drop (trimmed_len bytes) bytes k d)
+    ∙ trimmed-blank bytes (trimmed_len bytes + k) d (omega arith)
+    (omega (arith, length-drop (trimmed_len bytes) bytes))
+
+pub without_final_blanks-utf8 : (bytes : List ℕ) → IsUtf8 bytes
+    → IsUtf8 (without_final_blanks bytes)
+without_final_blanks-utf8 bytes utf8 =
+    let n = trimmed_len bytes in
+    let at : IsCharBoundary bytes n = elim (cases_lt n (length bytes)) [
+      | inl less ↦
+          let blank : get_or bytes n 0 ≡ 32 =
+          eqb-true (get_or bytes n 0) 32 (trimmed-blank bytes n 0 (omega arith) less) in
+          IsCharBoundary-before_ascii bytes n less (omega arith)
+      | inr past ↦ let whole : length bytes ≡ n = omega arith in
+          subst (IsCharBoundary bytes) whole (IsCharBoundary-end bytes)
+    ] in
+    IsUtf8-take bytes n utf8 at
+
+-- ---- the words of a line
+
+-- blanks stand after the word, and none where it has a penalty
+pub record EndsInBlanks (w : WordText) : Type 0 where
+  pub blanks : AreBlanks w.whitespace
+  pub none : (length w.penalty == 0) ≡ false → w.whitespace ≡ []
+
+-- a word of UTF-8, with the columns of its own text, and with blanks after it
+pub record IsMeasured (w : WordText) : Type 0 where
+  pub utf8 : IsUtf8 w.word
+  pub width : w.width ≡ text_width w.word
+  pub ending : EndsInBlanks w
+
+pub word_of-measured : (bytes : List ℕ) → IsUtf8 bytes → IsMeasured (word_of bytes)
+word_of-measured bytes utf8 = record {
+  utf8 = without_final_blanks-utf8 bytes utf8;
+  width = refl;
+  ending = record {
+    blanks = final_blanks-blank bytes;
+    none = λ some.
+        absurd (false≢true (sym some));
+  };
+}
+
+pub words_of-measured : (line : List ℕ) → IsUtf8 line → All IsMeasured (words_of line)
+words_of-measured line utf8 =
+    All-map IsMeasured word_of (chunks line)
+    (All-weaker IsUtf8 (λ bytes. IsMeasured (word_of bytes)) word_of-measured
+    (chunks line) (chunks-utf8 line utf8))
+
+pub text_width-nil : text_width [] ≡ 0
+text_width-nil = ap (λ cs. sum_by columns (visible cs)) chars-nil
+
+-- ---- a word without text, and words without penalties
+
+abbrev pub HasNoPenalty : WordText → Type 0
+HasNoPenalty w = w.penalty ≡ []
+
+pub no_blanks : AreBlanks []
+no_blanks = All-nil (λ c. is_blank c ≡ true)

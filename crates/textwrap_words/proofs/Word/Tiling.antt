@@ -1,0 +1,106 @@
+-- Lemmas on the words of a line, and on texts that words tile.
+use Rattle.std.proofs.Common.{◌≡◌, ℕ, zero, suc, ◌+◌, ◌<◌, ◌≤◌, true, false, cond, List, [], ◌∷◌}
+use Rattle.std.proofs.Common.{◌++◌, length, get_or, take, drop, map, refl, sym, ap, ◌∙◌, subst}
+use Rattle.std.proofs.Common.{arith, add-one, take-append-drop, length-append, append-nil, ◌-◌}
+use Rattle.std.specs.List.{onto_first}
+use Rattle.std.specs.Str.{IsUtf8, IsCharBoundary}
+use Rattle.std.proofs.lemmas.List.{map-append, take_more}
+use Rattle.std.proofs.lemmas.List.Concat.{flat_map-append}
+use Rattle.std.proofs.lemmas.Str.{IsCharBoundary-after_ascii}
+use Rattle.textwrap_base.proofs.ListLemmas.{flat, flat-onto_first}
+use Rattle.textwrap_words.specs.declared.words.Word.{Word}
+use Rattle.textwrap_words.specs.Words.{WordText, word_view, word_of, tile_of, tiled, is_cut, chunks}
+use Rattle.textwrap_words.specs.Words.{words_of}
+use Rattle.textwrap_words.specs.Blanks.{trimmed_len}
+
+-- ---- chunks
+
+pub join-chunks : (line : List ℕ) → flat (chunks line) ≡ line
+join-chunks [] = refl
+join-chunks (c ∷ []) = refl
+join-chunks (c ∷ d ∷ cs) =
+    elim (is_cut c d) as (λ b.
+    flat (cond b ((c ∷ []) ∷ chunks (d ∷ cs)) (onto_first c (chunks (d ∷ cs)))) ≡ c ∷ d ∷ cs) [
+      | true ↦ ap (λ l. c ∷ l) (join-chunks (d ∷ cs))
+      | false ↦ flat-onto_first c (chunks (d ∷ cs)) ∙ ap (λ l. c ∷ l) (join-chunks (d ∷ cs))
+    ]
+
+-- the first chunk ends at the first cut
+pub chunks_first : (line : List ℕ) (n : ℕ) → 0 < n → n ≤ length line
+    → ((k : ℕ) → k + 1 < n → is_cut (get_or line k 0) (get_or line (k + 1) 0) ≡ false)
+    → ((k : ℕ) → k + 1 ≡ n → n < length line → is_cut (get_or line k 0) (get_or line n 0) ≡ true)
+    → chunks line ≡ take n line ∷ chunks (drop n line)
+chunks_first line zero some within before at = absurd (omega arith)
+chunks_first [] (suc n) some within before at = absurd (omega arith)
+chunks_first (c ∷ []) (suc zero) some within before at = refl
+chunks_first (c ∷ []) (suc (suc n)) some within before at = absurd (omega arith)
+chunks_first (c ∷ d ∷ cs) (suc zero) some within before at =
+    ap (λ b. cond b ((c ∷ []) ∷ chunks (d ∷ cs)) (onto_first c (chunks (d ∷ cs))))
+    (at 0 refl (omega arith))
+chunks_first (c ∷ d ∷ cs) (suc (suc n)) some within before at =
+    ap (λ b. cond b ((c ∷ []) ∷ chunks (d ∷ cs)) (onto_first c (chunks (d ∷ cs))))
+    (before 0 (omega arith))
+    ∙ ap (onto_first c)
+    (chunks_first (d ∷ cs) (suc n) (omega arith) (omega arith)
+    (λ k h. rw add-one (rw (add-one) at (before (suc k) (omega arith))))
+    (λ k h more. at (suc k) (omega arith) (omega arith)))
+
+-- ---- tiling
+
+tile_of-word_of : (text : List ℕ) → tile_of (word_of text) ≡ text
+tile_of-word_of text = take-append-drop (trimmed_len text) text
+
+pub tiled-map : (parts : List (List ℕ)) → tiled (map word_of parts) ≡ flat parts
+tiled-map [] = refl
+tiled-map (part ∷ parts) = ap (λ l. l ++ tiled (map word_of parts)) (tile_of-word_of part)
+    ∙ ap (λ l. part ++ l) (tiled-map parts)
+
+pub tiled-words_of : (line : List ℕ) → tiled (words_of line) ≡ line
+tiled-words_of line = tiled-map (chunks line) ∙ join-chunks line
+
+pub tiled-append : (ws vs : List WordText) → tiled (ws ++ vs) ≡ tiled ws ++ tiled vs
+tiled-append ws vs = flat_map-append tile_of ws vs
+
+pub tiled-push : (ws : List WordText) (w : WordText) → tiled (ws ++ w ∷ []) ≡ tiled ws ++ tile_of w
+tiled-push ws w = tiled-append ws (w ∷ []) ∙ ap (λ l. tiled ws ++ l) (append-nil (tile_of w))
+
+-- the first i words and the one at i, of which a and b are the text and the whitespace
+pub tiled-take : (words : List Word) (i : ℕ) (d : Word) (a b : List ℕ) → i < length words
+    → a ≡ (get_or words i d).word.now → b ≡ (get_or words i d).whitespace.now
+    → tiled (map word_view (take (i + 1) words)) ≡ tiled (map word_view (take i words)) ++ (a ++ b)
+tiled-take words i d a b within word whitespace =
+    ap (λ l. tiled (map word_view l)) (take_more words i d within)
+    ∙ ap tiled (map-append word_view (take i words) (get_or words i d ∷ []))
+    ∙ tiled-push (map word_view (take i words)) (word_view (get_or words i d))
+    ∙ ap (λ l. tiled (map word_view (take i words)) ++ (l ++ (get_or words i d).whitespace.now))
+    (sym word)
+    ∙ ap (λ l. tiled (map word_view (take i words)) ++ (a ++ l)) (sym whitespace)
+
+pub tiled-take-le : (words : List Word) (i : ℕ)
+    → length (tiled (map word_view (take i words))) ≤ length (tiled (map word_view words))
+tiled-take-le words i =
+    let whole : tiled (map word_view words) ≡ tiled (map word_view (take i words)) ++ tiled
+    (map word_view (drop i words)) =
+    ap (λ l. tiled (map word_view l)) (sym (take-append-drop i words))
+    ∙ ap tiled (map-append word_view (take i words) (drop i words))
+    ∙ tiled-append (map word_view (take i words)) (map word_view (drop i words)) in
+    omega (
+      arith,
+      ap length whole,
+      length-append (tiled (map word_view (take i words)))
+          (tiled (map word_view (drop i words))),
+    )
+
+-- ---- where a text may be cut
+
+pub IsCharBoundary-after_blank : (bs : List ℕ) (n : ℕ) → IsUtf8 bs → 0 < n → n ≤ length bs
+    → (n < length bs → get_or bs (n - 1) 0 ≡ 32) → IsCharBoundary bs n
+IsCharBoundary-after_blank bs zero utf8 some within blank = absurd (omega arith)
+IsCharBoundary-after_blank bs (suc n) utf8 some within blank =
+    let before : suc n - 1 ≡ n = omega arith in (
+      within,
+      λ more.
+          let byte : get_or bs n 0 ≡ 32 = sym (ap (λ k. get_or bs k 0) before) ∙ blank more in
+          (subst (IsCharBoundary bs) (add-one n) (IsCharBoundary-after_ascii bs n utf8 (omega arith)
+          (omega arith))).1 more,
+    )

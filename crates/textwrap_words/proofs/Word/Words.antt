@@ -1,0 +1,168 @@
+-- A line has exactly one list of words.
+use Rattle.std.proofs.Common.{◌≡◌, ◌≢◌, ◌↔◌, ℕ, ◌<◌, Bool, true, false, cond, List, [], ◌∷◌, ◌++◌}
+use Rattle.std.proofs.Common.{All, length, get_or, drop, map, refl, sym, ap, ◌∙◌, subst, arith}
+use Rattle.std.proofs.Common.{length-append}
+use Rattle.std.specs.Prelude.{slice_index, ⊤}
+use Rattle.std.specs.List.{onto_first}
+use Rattle.std.proofs.lemmas.List.Elements.{All-nil, All-cons, All-head, All-tail}
+use Rattle.textwrap_base.specs.Lists.{last}
+use Rattle.textwrap_words.specs.Words.{WordText, word_of, is_cut, IsUncut, AreCutApart, AreChunks}
+use Rattle.textwrap_words.specs.Words.{AreWordsOf, chunks, words_of}
+use Rattle.textwrap_base.proofs.ListLemmas.{flat, last-cons}
+use Rattle.textwrap_words.proofs.Word.Tiling.{join-chunks}
+
+-- ---- no other parts are the chunks
+
+-- what follows a chunk is nothing, or begins after a cut
+abbrev CutAfter : List ℕ → List ℕ → Type 0
+CutAfter part [] = ⊤
+CutAfter part (d ∷ rest) = is_cut (last part) d ≡ true
+
+IsUncut-tail : (c : ℕ) (part : List ℕ) → IsUncut (c ∷ part) → IsUncut part
+IsUncut-tail c part uncut = λ before after x y e. uncut (c ∷ before) after x y (ap (λ l. c ∷ l) e)
+
+CutAfter-tail : (c d : ℕ) (part rest : List ℕ) → CutAfter (c ∷ d ∷ part) rest
+    → CutAfter (d ∷ part) rest
+CutAfter-tail c d part [] cut = tt
+CutAfter-tail c d part (x ∷ rest) cut = ap (λ l. is_cut l x) (sym (last-cons c d part)) ∙ cut
+
+chunks-first : (c : ℕ) (part rest : List ℕ) → IsUncut (c ∷ part) → CutAfter (c ∷ part) rest
+    → chunks (c ∷ part ++ rest) ≡ (c ∷ part) ∷ chunks rest
+chunks-first c [] [] uncut cut = refl
+chunks-first c [] (d ∷ rest) uncut cut = rw cut refl
+chunks-first c (d ∷ part) rest uncut cut =
+    rw (uncut [] part c d refl)
+    (ap (onto_first c) (chunks-first d part rest (IsUncut-tail c (d ∷ part) uncut)
+    (CutAfter-tail c d part rest cut)))
+
+AreCutApart-head : (part : List ℕ) (parts : List (List ℕ)) → All (λ part. part ≢ []) parts
+    → AreCutApart (part ∷ parts) → CutAfter part (flat parts)
+AreCutApart-head part [] some cut = tt
+AreCutApart-head part ([] ∷ parts) some cut =
+    absurd (All-head (λ part. part ≢ []) [] parts some refl)
+AreCutApart-head part ((d ∷ next) ∷ parts) some cut = cut [] parts part (d ∷ next) refl
+
+AreCutApart-tail : (part : List ℕ) (parts : List (List ℕ)) → AreCutApart (part ∷ parts)
+    → AreCutApart parts
+AreCutApart-tail part parts cut = λ before after left right e. cut (part ∷ before) after left right
+    (ap (λ l. part ∷ l) e)
+
+chunks-flat : (parts : List (List ℕ)) → All (λ part. part ≢ []) parts → All IsUncut parts
+    → AreCutApart parts → chunks (flat parts) ≡ parts
+chunks-flat [] some uncut cut = refl
+chunks-flat ([] ∷ parts) some uncut cut = absurd (All-head (λ part. part ≢ []) [] parts some refl)
+chunks-flat ((c ∷ part) ∷ parts) some uncut cut =
+    let others = All-tail (λ part. part ≢ []) (c ∷ part) parts some in
+    chunks-first c part (flat parts) (All-head IsUncut (c ∷ part) parts uncut)
+    (AreCutApart-head (c ∷ part) parts others cut)
+    ∙ ap (λ l. (c ∷ part) ∷ l) (chunks-flat parts others (All-tail IsUncut (c ∷ part) parts uncut)
+    (AreCutApart-tail (c ∷ part) parts cut))
+
+-- ---- the computed chunks are chunks
+
+-- the properties of parts of which the first begins with d
+pub record AreChunksFrom (d : ℕ) (parts : List (List ℕ)) : Type 0 where
+  pub first : List ℕ
+  pub rest : List (List ℕ)
+  pub shape : parts ≡ (d ∷ first) ∷ rest
+  pub nonempty : All (λ part. part ≢ []) ((d ∷ first) ∷ rest)
+  pub uncut : All IsUncut ((d ∷ first) ∷ rest)
+  pub cut : AreCutApart ((d ∷ first) ∷ rest)
+
+IsUncut-one : (c : ℕ) → IsUncut (c ∷ [])
+IsUncut-one c = λ before after x y e.
+    absurd (omega (arith, ap length e, length-append before (x ∷ y ∷ after)))
+
+IsUncut-cons : (c d : ℕ) (part : List ℕ) → is_cut c d ≡ false → IsUncut (d ∷ part)
+    → IsUncut (c ∷ d ∷ part)
+IsUncut-cons c d part whole uncut [] after x y e =
+    let first : c ≡ x = ap (λ l. get_or l 0 0) e in
+    let second : d ≡ y = ap (λ l. get_or l 1 0) e in
+    sym (ap (λ z. is_cut z d) first ∙ ap (is_cut x) second) ∙ whole
+IsUncut-cons c d part whole uncut (b ∷ before) after x y e = uncut before after x y (ap (drop 1) e)
+
+-- fewer than two parts have no place between them
+AreCutApart-few : (parts : List (List ℕ)) → length parts < 2 → AreCutApart parts
+AreCutApart-few parts few =
+    λ before after left right e. absurd
+    (omega (arith, ap length e, length-append before (left ∷ right ∷ after)))
+
+AreCutApart-cons : (part next : List ℕ) (parts : List (List ℕ))
+    → is_cut (last part) (slice_index next 0) ≡ true → AreCutApart (next ∷ parts)
+    → AreCutApart (part ∷ next ∷ parts)
+AreCutApart-cons part next parts here cut [] after left right e =
+    let first : part ≡ left = ap (λ l. get_or l 0 []) e in
+    let second : next ≡ right = ap (λ l. get_or l 1 []) e in
+    sym (ap (λ l. is_cut (last l) (slice_index next 0)) first
+    ∙ ap (λ l. is_cut (last left) (slice_index l 0)) second) ∙ here
+AreCutApart-cons part next parts here cut (b ∷ before) after left right e =
+    cut before after left right (ap (drop 1) e)
+
+AreCutApart-longer : (c d : ℕ) (part : List ℕ) (parts : List (List ℕ))
+    → AreCutApart ((d ∷ part) ∷ parts) → AreCutApart ((c ∷ d ∷ part) ∷ parts)
+AreCutApart-longer c d part parts cut [] after left right e =
+    let first : c ∷ d ∷ part ≡ left = ap (λ l. get_or l 0 []) e in
+    ap (λ x. is_cut x (slice_index right 0)) (ap last (sym first) ∙ last-cons c d part)
+    ∙ cut [] after (d ∷ part) right (ap (λ l. (d ∷ part) ∷ l) (ap (drop 1) e))
+AreCutApart-longer c d part parts cut (b ∷ before) after left right e =
+    cut ((d ∷ part) ∷ before) after left right (ap (λ l. (d ∷ part) ∷ l) (ap (drop 1) e))
+
+pub chunks-from : (c : ℕ) (cs : List ℕ) → AreChunksFrom c (chunks (c ∷ cs))
+chunks-from c [] = record {
+  first = [];
+  rest = [];
+  shape = refl;
+  nonempty = All-cons (λ part. part ≢ []) (c ∷ []) [] (λ e. cc) (All-nil (λ part. part ≢ []));
+  uncut = All-cons IsUncut (c ∷ []) [] (IsUncut-one c) (All-nil IsUncut);
+  cut = AreCutApart-few ((c ∷ []) ∷ []) (omega arith);
+}
+chunks-from c (d ∷ cs) = step (is_cut c d) refl (chunks-from d cs)
+  where
+    step : (b : Bool) → is_cut c d ≡ b → AreChunksFrom d (chunks (d ∷ cs))
+        → AreChunksFrom c (cond b ((c ∷ []) ∷ chunks (d ∷ cs)) (onto_first c (chunks (d ∷ cs))))
+    step true is h = record {
+      first = [];
+      rest = (d ∷ h.first) ∷ h.rest;
+      shape = ap (λ parts. (c ∷ []) ∷ parts) h.shape;
+      nonempty = All-cons (λ part. part ≢ []) (c ∷ []) ((d ∷ h.first) ∷ h.rest)
+          (λ e. cc) h.nonempty;
+      uncut = All-cons IsUncut (c ∷ []) ((d ∷ h.first) ∷ h.rest) (IsUncut-one c) h.uncut;
+      cut = AreCutApart-cons (c ∷ []) (d ∷ h.first) h.rest is h.cut;
+    }
+    step false is h = record {
+      first = d ∷ h.first;
+      rest = h.rest;
+      shape = ap (onto_first c) h.shape;
+      nonempty = All-cons (λ part. part ≢ []) (c ∷ d ∷ h.first) h.rest (λ e. cc)
+          (All-tail (λ part. part ≢ []) (d ∷ h.first) h.rest h.nonempty);
+      uncut = All-cons IsUncut (c ∷ d ∷ h.first) h.rest
+          (IsUncut-cons c d h.first is (All-head IsUncut (d ∷ h.first) h.rest h.uncut))
+          (All-tail IsUncut (d ∷ h.first) h.rest h.uncut);
+      cut = AreCutApart-longer c d h.first h.rest h.cut;
+    }
+
+pub AreChunks-chunks : (line : List ℕ) → AreChunks line (chunks line)
+AreChunks-chunks [] =
+    record {
+      tiles = refl;
+      nonempty = All-nil (λ part. part ≢ []);
+      uncut = All-nil IsUncut;
+      cut = AreCutApart-few [] (omega arith);
+    }
+AreChunks-chunks (c ∷ cs) =
+    let h = chunks-from c cs in
+    let same = sym h.shape in
+    record {
+      tiles = join-chunks (c ∷ cs);
+      nonempty = subst (All (λ part. part ≢ [])) same h.nonempty;
+      uncut = subst (All IsUncut) same h.uncut;
+      cut = subst AreCutApart same h.cut;
+    }
+
+pub words_unique : (line : List ℕ) (words : List WordText) → AreWordsOf line words
+    ↔ (words ≡ words_of line)
+words_unique line words = (
+  λ (parts, are, is). is ∙ ap (map word_of) (sym (chunks-flat parts are.nonempty are.uncut are.cut)
+      ∙ ap chunks are.tiles),
+  λ is. (chunks line, AreChunks-chunks line, is),
+)

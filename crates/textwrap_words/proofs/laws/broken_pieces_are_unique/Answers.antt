@@ -1,0 +1,17 @@
+use Rattle.std.proofs.Common.{ap, ◌∙◌, map}
+use Rattle.std.specs.Prelude.{chars}
+use Rattle.textwrap_words.specs.Units.{units}
+use Rattle.textwrap_words.specs.Breaking.{pieces_with, units_text, broken_units}
+use Rattle.textwrap_words.proofs.Word.Breaking.{AreBroken-unique, AreBroken-exists}
+use Rattle.textwrap_words.proofs.laws.broken_pieces_are_unique.Goals as goal
+
+pub returns : goal.returns
+returns c = λ limit w pieces. (
+  λ (parts, broken, is). is ∙ ap (λ ps. pieces_with w.whitespace w.penalty (map units_text ps))
+      (AreBroken-unique limit (units (chars w.word)) parts broken),
+  λ is. (
+    broken_units limit (units (chars w.word)),
+    AreBroken-exists limit (units (chars w.word)),
+    is,
+  ),
+)

@@ -1,0 +1,56 @@
+use Rattle.std.proofs.Common.{◌≡◌, ℕ, ◌+◌, ◌++◌, List, ◌∷◌, [], Bool, true, false, length, refl}
+use Rattle.std.proofs.Common.{sym, ap, ◌∙◌, arith}
+use Rattle.std.specs.Str.Iter.{char_indices_offset}
+use lib.Utf8.{encode}
+use Rattle.textwrap_words.specs.Units.{stripped}
+use Rattle.textwrap_words.specs.WordOffsets.{is_cut_after}
+use Rattle.textwrap_words.proofs.Word.Offsets.{IsFinding-step, IsFinding-end}
+use Rattle.textwrap_words.proofs.word_separators.offsets.find_cuts.Goals as goal
+
+-- an answer of `is_cut_after`, in the words of the definition
+answered : (offsets : List ℕ) (total ch shown len here whole : ℕ) (b answer : Bool)
+    → answer ≡ is_cut_after offsets total ch (shown + len) → answer ≡ b → len ≡ here
+    → total ≡ whole → is_cut_after offsets whole ch (shown + here) ≡ b
+answered offsets total ch shown len here whole b answer is known len_is total_is =
+    ap (λ n. is_cut_after offsets n ch (shown + here)) (sym total_is)
+    ∙ ap (λ n. is_cut_after offsets total ch (shown + n)) (sym len_is) ∙ sym is ∙ known
+
+pub loop-at-preserved-in_ok-push : goal.loop-at-preserved-in_ok-push
+loop-at-preserved-in_ok-push g c =
+    let s = c.in-Some.ensures.steps in
+    let len = length (encode c.in-Some.ch) in
+    let passes = answered c.args.offsets.now c.visible_len-total.result c.in-Some.ch c.loop-at.shown
+    c.len_utf8-shown.result len (length (stripped c.args.line.now)) true c.is_cut_after.result
+    c.is_cut_after.ensures c.if-is_cut_after.true c.len_utf8-shown.ensures.len
+    c.visible_len-total.ensures in
+    let place : c.in-Some.at + c.len_utf8.result ≡ char_indices_offset c.loop-at.at-iterator + len =
+    omega (arith, s.0, c.len_utf8.ensures.len) in
+    let grown : c.push.new.self.items
+    ≡ c.loop-at.cuts.items ++ (char_indices_offset c.loop-at.at-iterator + len) ∷ [] =
+    rw (← place) c.in_ok-push.ensures.items in
+    IsFinding-step _ _ _ _ _ _ _ _ _ c.step-next.result.0 c.step-next.result.1 c.loop-at.invariant
+    s.1 c.step-next.ensures _ _ _ s.2
+    (rw c.if-is_visible.true (ap (λ n. c.loop-at.shown + n) c.len_utf8-shown.ensures.len))
+    (rw (c.if-is_visible.true, passes) grown)
+
+pub loop-at-preserved-else-is_cut_after : goal.loop-at-preserved-else-is_cut_after
+loop-at-preserved-else-is_cut_after g c =
+    let s = c.in-Some.ensures.steps in
+    let fails = answered c.args.offsets.now c.visible_len-total.result c.in-Some.ch c.loop-at.shown
+    c.len_utf8-shown.result (length (encode c.in-Some.ch)) (length (stripped c.args.line.now)) false
+    c.is_cut_after.result c.is_cut_after.ensures c.if-is_cut_after.false
+    c.len_utf8-shown.ensures.len c.visible_len-total.ensures in
+    IsFinding-step _ _ _ _ _ _ _ _ _ c.step-next.result.0 c.step-next.result.1 c.loop-at.invariant
+    s.1 c.step-next.ensures _ _ _ s.2
+    (rw c.if-is_visible.true (ap (λ n. c.loop-at.shown + n) c.len_utf8-shown.ensures.len))
+    (rw (c.if-is_visible.true, fails) refl)
+
+pub loop-at-preserved : goal.loop-at-preserved
+loop-at-preserved g c =
+    let s = c.in-Some.ensures.steps in
+    IsFinding-step _ _ _ _ _ _ _ _ _ c.step-next.result.0 c.step-next.result.1 c.loop-at.invariant
+    s.1 c.step-next.ensures _ _ _ s.2 (rw c.if-is_visible.false refl)
+    (rw c.if-is_visible.false refl)
+
+pub returns : goal.returns
+returns g c = IsFinding-end _ _ _ _ _ _ _ c.loop-at.invariant c.in-None.ensures.steps.0

@@ -1,0 +1,7 @@
+use Rattle.std.specs.Str.Iter.{char_indices_rest, char_indices_offset}
+use Rattle.textwrap_words.proofs.Word.Offsets.{IsFinding}
+use Rattle.textwrap_words.proofs.word_separators.offsets.find_cuts.Given as goal
+
+abbrev pub invariant-loop-at : goal.invariant-loop-at
+invariant-loop-at g l = IsFinding l.offsets l.line (char_indices_offset l.at-iterator)
+    (char_indices_rest l.at-iterator) l.state l.shown l.cuts.items

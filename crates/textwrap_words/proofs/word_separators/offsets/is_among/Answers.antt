@@ -1,0 +1,12 @@
+use Rattle.std.proofs.Common.{◌∙◌}
+use Rattle.std.proofs.lemmas.List.Sorted.{searched}
+use Rattle.textwrap_words.proofs.Word.Parts.{increasing-le}
+use Rattle.textwrap_words.proofs.Word.OffsetCuts.{among-is}
+use Rattle.textwrap_words.proofs.word_separators.offsets.is_among.Goals as goal
+
+pub returns : goal.returns
+returns c =
+    let offsets = c.args.offsets.now in
+    let found = searched offsets c.args.shown c.binary_search.result c.binary_search.ensures.position
+    (increasing-le offsets c.requires) in
+    c.is_ok.ensures.value ∙ among-is offsets c.args.shown c.binary_search.result found

@@ -1,0 +1,65 @@
+use Rattle.std.proofs.Common.{◌+◌, [], length, drop, ap, ◌∙◌, arith, length-append}
+use Rattle.std.proofs.lemmas.Iterator.{YieldsList-from_chars}
+use Rattle.std.proofs.lemmas.Iterator.Consumers.{YieldsList-turn, YieldsList-end}
+use Rattle.std.proofs.lemmas.List.{at_drop_all, length_push}
+use Rattle.std.proofs.lemmas.Str.{encodes-chars}
+use Rattle.std.specs.Str.{chars}
+use lib.Utf8.{encode}
+use Rattle.textwrap_words.specs.declared.escapes.State.TheVariants.{Text}
+use Rattle.textwrap_words.proofs.Units.Stripped.{text_in, text_in-step, text_in-short}
+use Rattle.textwrap_words.proofs.word_separators.offsets.visible_len.Goals as goal
+
+pub overflow_add-len : goal.overflow_add-len
+overflow_add-len c =
+    let line = c.args.line.now in
+    let rest = text_in c.step-next.result.0 (drop (length c.loop-ch.yielded + 1) (chars line)) in
+    let t = YieldsList-turn (YieldsList-from_chars line c.utf8.line cc) c.loop-ch.yielded
+    _ c.loop-ch.yielded_by _ _ c.in-Some.ch c.in-Some.is c.next.ensures.steps in
+    let step = rw c.if-is_visible.true at (text_in-step c.loop-ch.state c.step-next.result.0
+    c.step-next.result.1 [] (chars line) (length c.loop-ch.yielded) c.in-Some.ch t
+    c.step-next.ensures) in
+    omega (
+      arith,
+      ap length step,
+      length-append (encode c.in-Some.ch) rest,
+      c.len_utf8-len.ensures.len,
+      c.loop-ch.invariant,
+      text_in-short Text (chars line),
+      ap length (encodes-chars line c.utf8.line),
+    )
+
+pub loop-ch-preserved-then-is_visible : goal.loop-ch-preserved-then-is_visible
+loop-ch-preserved-then-is_visible c =
+    let line = c.args.line.now in
+    let rest = text_in c.step-next.result.0 (drop (length c.loop-ch.yielded + 1) (chars line)) in
+    let t = YieldsList-turn (YieldsList-from_chars line c.utf8.line cc) c.loop-ch.yielded
+    _ c.loop-ch.yielded_by _ _ c.in-Some.ch c.in-Some.is c.next.ensures.steps in
+    let step = rw c.if-is_visible.true at (text_in-step c.loop-ch.state c.step-next.result.0
+    c.step-next.result.1 [] (chars line) (length c.loop-ch.yielded) c.in-Some.ch t
+    c.step-next.ensures) in
+    rw length_push (omega (
+      arith,
+      ap length step,
+      length-append (encode c.in-Some.ch) rest,
+      c.len_utf8-len.ensures.len,
+      c.loop-ch.invariant,
+    ))
+
+pub loop-ch-preserved : goal.loop-ch-preserved
+loop-ch-preserved c =
+    let line = c.args.line.now in
+    let t = YieldsList-turn (YieldsList-from_chars line c.utf8.line cc) c.loop-ch.yielded
+    _ c.loop-ch.yielded_by _ _ c.in-Some.ch c.in-Some.is c.next.ensures.steps in
+    let step = rw c.if-is_visible.false at (text_in-step c.loop-ch.state c.step-next.result.0
+    c.step-next.result.1 [] (chars line) (length c.loop-ch.yielded) c.in-Some.ch t
+    c.step-next.ensures) in
+    rw length_push (ap (λ text. c.loop-ch.len + length text) step ∙ c.loop-ch.invariant)
+
+pub returns : goal.returns
+returns c =
+    let line = c.args.line.now in
+    let t = YieldsList-end (YieldsList-from_chars line c.utf8.line cc) c.loop-ch.yielded
+    _ c.loop-ch.yielded_by _ _ c.in-None.is c.next.ensures.steps in
+    let none = at_drop_all (text_in c.loop-ch.state) (chars line) (length c.loop-ch.yielded)
+    (omega (arith, t.1)) in
+    omega (arith, ap length none, c.loop-ch.invariant)

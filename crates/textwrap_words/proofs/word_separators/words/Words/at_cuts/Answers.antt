@@ -1,0 +1,28 @@
+use Rattle.std.proofs.Common.{refl, ap, map, ◌∙◌, sym, subst}
+use Rattle.textwrap_words.specs.Words.{word_view, word_of, tiled}
+use Rattle.textwrap_words.specs.Cuts.{AreCuts, parts_between}
+use Rattle.textwrap_words.proofs.Word.Parts.{inner-cuts}
+use Rattle.textwrap_words.proofs.Word.GivenCuts.{MayCut-cuts, parts-texts}
+use Rattle.textwrap_words.proofs.word_separators.words.Words.at_cuts.Goals as goal
+
+pub words_between-requires : goal.words_between-requires
+words_between-requires g c =
+    subst (AreCuts c.args.line.now) (sym c.deref.ensures.value)
+    (inner-cuts c.args.line.now c.in_ok-cuts.cuts.items (MayCut-cuts c.args.line_cuts c.args.line.now c.in_ok-cuts.cuts.items c.utf8.line
+    (c.args.line_cuts.alloc, c.args.line, c.in_ok-cuts.cuts, refl, refl, c.in_ok-cuts.ensures.0)))
+
+pub returns-clause-words : goal.returns-clause-words
+returns-clause-words g c = (
+  c.in_ok-cuts.cuts.items,
+  (c.args.line_cuts.alloc, c.args.line, c.in_ok-cuts.cuts, refl, refl, c.in_ok-cuts.ensures.0),
+  ap (map word_view) c.into_iter.ensures.rest ∙ c.in_ok-words.ensures
+      ∙ ap (λ cuts. map word_of (parts_between cuts c.args.line.now)) c.deref.ensures.value,
+)
+
+pub returns-clause-tiles : goal.returns-clause-tiles
+returns-clause-tiles g c =
+    ap tiled (ap (map word_view) c.into_iter.ensures.rest ∙ c.in_ok-words.ensures)
+    ∙ (parts-texts c.args.line.now c.deref.result.now c.utf8.line
+    (subst (AreCuts c.args.line.now) (sym c.deref.ensures.value)
+    (inner-cuts c.args.line.now c.in_ok-cuts.cuts.items (MayCut-cuts c.args.line_cuts c.args.line.now c.in_ok-cuts.cuts.items c.utf8.line
+    (c.args.line_cuts.alloc, c.args.line, c.in_ok-cuts.cuts, refl, refl, c.in_ok-cuts.ensures.0))))).tile

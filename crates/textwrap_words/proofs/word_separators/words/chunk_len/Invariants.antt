@@ -1,0 +1,12 @@
+use Rattle.std.proofs.Common.{◌≡◌, ℕ, ◌+◌, ◌-◌, ◌<◌, ◌≤◌, false, get_or, length}
+use Rattle.textwrap_words.specs.Words.{is_cut}
+use Rattle.textwrap_words.proofs.word_separators.words.chunk_len.Given as goal
+
+-- there is no cut before the end so far
+abbrev pub invariant-loop-end : goal.invariant-loop-end
+invariant-loop-end l =
+    (0 < l.end) × (l.end ≤ length l.line)
+    × ((k : ℕ) → k + 1 < l.end → is_cut (get_or l.line k 0) (get_or l.line (k + 1) 0) ≡ false)
+
+abbrev pub decreases-loop-end : goal.decreases-loop-end
+decreases-loop-end l = length l.line - l.end

@@ -1,0 +1,46 @@
+use Rattle.std.proofs.Common.{◌≡◌, ◌-◌, ◌++◌, [], ◌∷◌, ◌==◌, cond, false, length, sym, ap, ◌∙◌}
+use Rattle.std.proofs.Common.{subst, arith}
+use Rattle.std.specs.List.{list_any, range_with_len}
+use Rattle.std.specs.Prelude.{filter}
+use Rattle.textwrap_words.specs.WordSplitters.{is_hyphen_point, hyphen}
+use Rattle.textwrap_words.specs.Cuts.{AreCuts}
+use Rattle.textwrap_words.proofs.Word.Splitting.{points-more, hyphen_points-cuts}
+use Rattle.textwrap_words.proofs.Word.Splitting.{hyphen_points-none}
+use Rattle.textwrap_words.proofs.word_splitters.hyphens.hyphen_points.Goals as goal
+use Rattle.textwrap_words.proofs.word_splitters.hyphens.hyphen_points.Goals.{then-is_hyphen_point+in_ok-push}
+use Rattle.textwrap_words.proofs.word_splitters.hyphens.hyphen_points.Goals.{else-is_hyphen_point}
+
+pub loop-point-preserved : goal.loop-point-preserved
+loop-point-preserved g c =
+    let test = is_hyphen_point c.args.word.now in
+    let grown : c.if-is_hyphen_point.points.items ≡ cond c.is_hyphen_point.result
+    (c.loop-point.points.items ++ c.loop-point.point ∷ []) c.loop-point.points.items =
+    elim c.if-is_hyphen_point.branch [
+      | then-is_hyphen_point+in_ok-push w ↦ rw w.if-is_hyphen_point.true
+          (ap (λ v. v.items) w.points-is ∙ w.in_ok-push.ensures.items)
+      | else-is_hyphen_point w ↦ rw w.if-is_hyphen_point.false (ap (λ v. v.items) w.points-is)
+    ] in
+    let more = points-more test c.loop-point.point c.loop-point.points.items
+    c.if-is_hyphen_point.points.items c.is_hyphen_point.result c.loop-point.auto.point
+    c.loop-point.invariant.points c.is_hyphen_point.ensures.point grown in
+    record { points = more; inside = omega arith }
+
+pub returns-clause-points : goal.returns-clause-points
+returns-clause-points g c =
+    let whole : c.loop-point.point - 1 ≡ length c.args.word.now - 1 = omega arith in
+    c.loop-point.invariant.points
+    ∙ ap (λ n. filter (is_hyphen_point c.args.word.now) (range_with_len 1 n)) whole
+
+pub returns-clause-cuts : goal.returns-clause-cuts
+returns-clause-cuts g c =
+    let whole : c.loop-point.point - 1 ≡ length c.args.word.now - 1 = omega arith in
+    let points = c.loop-point.invariant.points
+    ∙ ap (λ n. filter (is_hyphen_point c.args.word.now) (range_with_len 1 n)) whole in
+    subst (AreCuts c.args.word.now) (sym points) (hyphen_points-cuts c.args.word.now c.utf8.word)
+
+pub returns-then-not-contains-clause-points : goal.returns-then-not-contains-clause-points
+returns-then-not-contains-clause-points g c =
+    let none : list_any (λ b. b == hyphen) c.args.word.now ≡ false =
+    ap (list_any (λ b. b == hyphen)) (sym c.as_bytes.ensures.value)
+    ∙ sym c.contains.ensures.value ∙ c.if-not-contains.true in
+    c.new-points.ensures.items ∙ sym (hyphen_points-none c.args.word.now none)

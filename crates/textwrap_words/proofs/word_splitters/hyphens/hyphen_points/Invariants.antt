@@ -1,0 +1,12 @@
+use Rattle.std.proofs.Common.{◌≡◌, ◌-◌, ◌≤◌, length}
+use Rattle.std.specs.Prelude.{filter}
+use Rattle.std.specs.List.{range_with_len}
+use Rattle.textwrap_words.specs.WordSplitters.{is_hyphen_point}
+use Rattle.textwrap_words.proofs.word_splitters.hyphens.hyphen_points.Given as goal
+
+-- the points before this offset
+abbrev pub invariant-loop-point : goal.invariant-loop-point
+invariant-loop-point g l = record {
+  points : l.points.items ≡ filter (is_hyphen_point l.word) (range_with_len 1 (l.point - 1));
+  inside : l.point - 1 ≤ length l.word - 1;
+}

@@ -1,0 +1,15 @@
+use Rattle.std.proofs.Common.{◌≡◌, ℕ, ◌++◌, ◌<◌, ◌≤◌, drop, length, map, get_or}
+use Rattle.std.specs.Prelude.{IsCharBoundary}
+use Rattle.textwrap_words.specs.Words.{word_view}
+use Rattle.textwrap_words.specs.WordSplitters.{split_from, split_pieces}
+use Rattle.textwrap_words.proofs.word_splitters.pieces.push_split.Given as goal
+
+-- the pieces so far, and those of what follows the last cut, are those of the word
+abbrev pub invariant-loop-point : goal.invariant-loop-point
+invariant-loop-point g l = record {
+  pieces : map word_view l.pieces.items ++ split_from (word_view l.word) l.start
+      (drop l.point-index l.points) ≡ map word_view l.fn.pieces.items ++ split_pieces l.points
+      (word_view l.word);
+  cut : 0 < l.start → IsCharBoundary l.word.word.now l.start;
+  before : (k : ℕ) → l.point-index ≤ k → k < length l.points → l.start ≤ get_or l.points k 0;
+}

@@ -1,0 +1,23 @@
+use Rattle.std.proofs.lemmas.List.{map_push}
+use Rattle.std.proofs.Common.{rules, ◌∷◌, ◌++◌, [], map, ap, ◌∙◌, sym, subst}
+use Rattle.textwrap_words.specs.Words.{word_view}
+use Rattle.textwrap_words.specs.WordSplitters.{AreSplit, split_pieces}
+use Rattle.textwrap_words.proofs.Word.Splitting.{AreSplit-push}
+use Rattle.textwrap_words.proofs.word_splitters.split_words.Goals as goal
+
+pub loop-word-preserved : goal.loop-word-preserved
+loop-word-preserved g c =
+    let yielded = map_push word_view c.loop-word.yielded c.in-Some.word in
+    let pushed = c.in_ok-push_split.ensures ∙ ap (λ ps. map word_view c.loop-word.pieces.items
+    ++ split_pieces ps (word_view c.in-Some.word)) c.deref.ensures.value in (
+      search rules,
+      search rules,
+      subst (λ words. AreSplit (g.S.SplitPoints.may_split c.args.word_splitter.now) words
+          (map word_view c.push_split.new.pieces.items)) (sym yielded)
+          (subst (AreSplit (g.S.SplitPoints.may_split c.args.word_splitter.now)
+          (map word_view c.loop-word.yielded ++ word_view c.in-Some.word ∷ [])) (sym pushed)
+          (AreSplit-push (g.S.SplitPoints.may_split c.args.word_splitter.now)
+          (map word_view c.loop-word.yielded) (map word_view c.loop-word.pieces.items)
+          (word_view c.in-Some.word) c.in_ok-points.points.items c.loop-word.invariant.2
+          c.in_ok-points.ensures.points)),
+    )

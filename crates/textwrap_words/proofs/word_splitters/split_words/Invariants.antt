@@ -1,0 +1,13 @@
+use Rattle.std.proofs.Common.{map}
+use Rattle.std.specs.Iterator.{IsFinite}
+use Rattle.textwrap_words.specs.Words.{word_view}
+use Rattle.textwrap_words.specs.WordSplitters.{AreSplit}
+use Rattle.textwrap_words.proofs.word_splitters.split_words.Given as goal
+
+-- the pieces so far are those of the words so far
+abbrev pub invariant-loop-word : goal.invariant-loop-word
+invariant-loop-word g l =
+    g.I.IntoIter.Iterator.can_next l.word-iterator
+    × IsFinite (g.I.IntoIter.Iterator.remaining l.word-iterator)
+    × AreSplit (g.S.SplitPoints.may_split l.word_splitter) (map word_view l.yielded)
+    (map word_view l.pieces.items)

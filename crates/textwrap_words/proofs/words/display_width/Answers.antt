@@ -1,0 +1,55 @@
+use Rattle.std.proofs.Common.{◌≡◌, true, length, cond, sym, ◌∙◌, arith}
+use Rattle.std.proofs.lemmas.Iterator.{YieldsList-from_chars}
+use Rattle.std.proofs.lemmas.Iterator.Consumers.{YieldsList-turn, YieldsList-end}
+use Rattle.std.proofs.lemmas.List.{at_drop_all, length_push}
+use Rattle.std.specs.List.{list_all}
+use Rattle.std.specs.Str.{chars}
+use Rattle.textwrap_words.proofs.Units.Widths.{text_width-le, columns_in, columns_in-step}
+use Rattle.textwrap_words.proofs.Units.Widths.{text_width-plain}
+use Rattle.textwrap_words.specs.Units.{columns, is_printable}
+use Rattle.textwrap_words.proofs.words.display_width.Goals as goal
+use Rattle.textwrap_words.proofs.words.display_width.Goals.{then-is_visible, else-is_visible}
+
+pub overflow_add-width : goal.overflow_add-width
+overflow_add-width c =
+    let t = YieldsList-turn (YieldsList-from_chars c.args.text.now c.utf8.text cc) c.loop-ch.yielded
+    _ c.loop-ch.yielded_by _ _ c.in-Some.ch c.in-Some.is c.next.ensures.steps in
+    let step = columns_in-step c.loop-ch.state c.step-next.result.0 c.step-next.result.1
+    (chars c.args.text.now) _ c.in-Some.ch t c.step-next.ensures in
+    let added : c.if-is_visible.width ≡ cond c.step-next.result.1 (columns c.in-Some.ch) 0 =
+    elim c.if-is_visible.branch [
+      | then-is_visible w ↦ rw w.if-is_visible.true
+          (w.width-is ∙ w.columns.ensures)
+      | else-is_visible w ↦ rw w.if-is_visible.false w.width-is
+    ]
+    in
+    omega (arith, text_width-le c.args.text.now c.utf8.text)
+
+pub loop-ch-preserved : goal.loop-ch-preserved
+loop-ch-preserved c =
+    let t = YieldsList-turn (YieldsList-from_chars c.args.text.now c.utf8.text cc) c.loop-ch.yielded
+    _ c.loop-ch.yielded_by _ _ c.in-Some.ch c.in-Some.is c.next.ensures.steps in
+    let step = columns_in-step c.loop-ch.state c.step-next.result.0 c.step-next.result.1
+    (chars c.args.text.now) _ c.in-Some.ch t c.step-next.ensures in
+    let added : c.if-is_visible.width ≡ cond c.step-next.result.1 (columns c.in-Some.ch) 0 =
+    elim c.if-is_visible.branch [
+      | then-is_visible w ↦ rw w.if-is_visible.true
+          (w.width-is ∙ w.columns.ensures)
+      | else-is_visible w ↦ rw w.if-is_visible.false w.width-is
+    ]
+    in
+    rw length_push (omega arith)
+
+pub returns : goal.returns
+returns c =
+    let t = YieldsList-end (YieldsList-from_chars c.args.text.now c.utf8.text cc) c.loop-ch.yielded
+    _ c.loop-ch.yielded_by _ _ c.in-None.is c.next.ensures.steps in
+    let whole = at_drop_all (columns_in c.loop-ch.state) (chars c.args.text.now)
+    (length c.loop-ch.yielded) (omega (arith, t.1)) in
+    let wide = text_width-le c.args.text.now c.utf8.text in
+    grind arith
+
+pub returns-then-is_plain-clause-width : goal.returns-then-is_plain-clause-width
+returns-then-is_plain-clause-width c =
+    let plain : list_all is_printable c.args.text.now ≡ true = cc in
+    sym (text_width-plain c.args.text.now plain)

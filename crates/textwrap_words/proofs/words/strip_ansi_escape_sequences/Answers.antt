@@ -1,0 +1,48 @@
+use Rattle.std.proofs.Common.{◌≡◌, ◌≢◌, ◌+◌, ◌++◌, length, drop, string_bytes, append-nil, sym, ap}
+use Rattle.std.proofs.Common.{arith, All, ◌∙◌, subst}
+use Rattle.std.proofs.lemmas.Iterator.{YieldsList-from_chars}
+use Rattle.std.proofs.lemmas.Iterator.Consumers.{YieldsList-turn, YieldsList-end}
+use Rattle.std.proofs.lemmas.List.{at_drop_all, length_push}
+use Rattle.std.specs.Str.{chars}
+use Rattle.textwrap_words.specs.Units.{escape, stripped}
+use Rattle.textwrap_words.proofs.Units.Stripped.{text_in, text_in-step, stripped-plain}
+use Rattle.textwrap_words.proofs.words.strip_ansi_escape_sequences.Goals as goal
+use Rattle.textwrap_words.proofs.words.strip_ansi_escape_sequences.Goals.{In-None}
+
+pub loop-ch-preserved-in_ok-push : goal.loop-ch-preserved-in_ok-push
+loop-ch-preserved-in_ok-push g c =
+    let t = YieldsList-turn (YieldsList-from_chars c.args.text.now c.utf8.text cc) c.loop-ch.yielded
+    _ c.loop-ch.yielded_by _ _ c.in-Some.ch c.in-Some.is c.next.ensures.steps in
+    let cs = chars c.args.text.now in
+    let n = length c.loop-ch.yielded in
+    let step = rw c.if-is_kept.true at (text_in-step c.loop-ch.state c.step-next.result.0
+    c.step-next.result.1 (string_bytes c.loop-ch.plain) cs n c.in-Some.ch t c.step-next.ensures) in
+    rw length_push (ap (λ text. text ++ text_in c.step-next.result.0 (drop (n + 1) cs))
+    c.in_ok-push.ensures.bytes ∙ step ∙ c.loop-ch.invariant)
+
+pub loop-ch-preserved : goal.loop-ch-preserved
+loop-ch-preserved g c =
+    let t = YieldsList-turn (YieldsList-from_chars c.args.text.now c.utf8.text cc) c.loop-ch.yielded
+    _ c.loop-ch.yielded_by _ _ c.in-Some.ch c.in-Some.is c.next.ensures.steps in
+    let step = rw c.if-is_kept.false at (text_in-step c.loop-ch.state c.step-next.result.0
+    c.step-next.result.1 (string_bytes c.loop-ch.plain) (chars c.args.text.now)
+    (length c.loop-ch.yielded) c.in-Some.ch t c.step-next.ensures) in
+    rw length_push (step ∙ c.loop-ch.invariant)
+
+whole : (g : _) (c : In-None g) → string_bytes c.loop-ch.plain ≡ stripped c.args.text.now
+whole g c =
+    let t = YieldsList-end (YieldsList-from_chars c.args.text.now c.utf8.text cc) c.loop-ch.yielded
+    _ c.loop-ch.yielded_by _ _ c.in-None.is c.next.ensures.steps in
+    sym (append-nil (string_bytes c.loop-ch.plain))
+    ∙ ap (λ text. string_bytes c.loop-ch.plain ++ text)
+    (sym (at_drop_all (text_in c.loop-ch.state) (chars c.args.text.now)
+    (length c.loop-ch.yielded) (omega (arith, t.1))))
+    ∙ c.loop-ch.invariant
+
+pub returns-clause-stripped : goal.returns-clause-stripped
+returns-clause-stripped g c = whole g c
+
+pub returns-clause-no_escape : goal.returns-clause-no_escape
+returns-clause-no_escape g c =
+    subst (All (λ b. b ≢ escape)) (sym (whole g (goal.at.returns-clause-no_escape g c).In-None))
+    (stripped-plain c.args.text.now)

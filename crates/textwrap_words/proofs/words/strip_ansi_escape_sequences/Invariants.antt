@@ -1,0 +1,10 @@
+use Rattle.std.proofs.Common.{◌≡◌, ◌++◌, length, drop, string_bytes}
+use Rattle.std.specs.Str.{chars}
+use Rattle.textwrap_words.specs.Units.{stripped}
+use Rattle.textwrap_words.proofs.Units.Stripped.{text_in}
+use Rattle.textwrap_words.proofs.words.strip_ansi_escape_sequences.Given as goal
+
+-- the text so far, and that of the characters to come, are the whole
+abbrev pub invariant-loop-ch : goal.invariant-loop-ch
+invariant-loop-ch g l = string_bytes l.plain ++ text_in l.state (drop (length l.yielded) (chars l.text))
+    ≡ stripped l.text

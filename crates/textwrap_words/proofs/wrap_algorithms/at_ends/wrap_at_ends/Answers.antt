@@ -1,0 +1,21 @@
+use Rattle.std.proofs.Common.{◌∙◌, ap, refl}
+use Rattle.textwrap_words.specs.LineEnds.{lines_between}
+use Rattle.textwrap_words.proofs.wrap_algorithms.at_ends.wrap_at_ends.Goals as goal
+
+pub returns : goal.returns
+returns g c = record {
+  divided = (
+    c.in_ok-ends.ends.items,
+    (
+      c.args.line_ends.alloc,
+      _,
+      c.args.line_widths,
+      c.in_ok-ends.ends,
+      refl,
+      refl,
+      refl,
+      c.in_ok-ends.ensures.0,
+    ),
+    c.in_ok-lines.ensures.lines ∙ ap (λ ends. lines_between ends c.args.words.now) c.deref.ensures.value,
+  );
+}

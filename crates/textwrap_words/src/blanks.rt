@@ -1,0 +1,27 @@
+//! The blanks at the end of a text, such as the two of `"bar  "`. A blank is U+0020 and nothing
+//! else.
+ghost use Rattle.std.specs.Prelude.{◌≡◌, ◌<◌, ◌≤◌, length, slice_index};
+ghost use Rattle.textwrap_words.specs.Blanks.{blank, trimmed_len, without_final_blanks};
+ghost use Rattle.textwrap_words.specs.Blanks.{final_blanks};
+
+/// Splits a text before its final blanks, of which there may be none: `"bar  "` into `"bar"` and
+/// two blanks. The call always succeeds.
+pub fn split_final_blanks<'a>(text: &'a str) -> (&'a str, &'a str)
+    ensures front { result.0.now ≡ without_final_blanks text.now }
+    ensures back { result.1.now ≡ final_blanks text.now }
+{
+    text.split_at(trimmed_len(text.as_bytes()))
+}
+
+/// How many bytes of a text come before its final blanks: 3 of `"bar  "`. The call always succeeds.
+pub fn trimmed_len(bytes: &[u8]) -> usize
+    ensures value { result ≡ trimmed_len bytes.now }
+    ensures within { result ≤ length bytes.now }
+    ensures at_blank { result < length bytes.now → slice_index bytes.now result ≡ blank }
+{
+    let mut end = bytes.len();
+    while end > 0 && bytes[end - 1] == b' ' {
+        end -= 1;
+    }
+    end
+}

@@ -1,0 +1,18 @@
+//! What the crate above needs of words beside the public calls, which `textwrap` does not pass on.
+ghost use Rattle.std.specs.Prelude.{◌≡◌};
+ghost use Rattle.textwrap_words.specs.Words.{words_of};
+
+use crate::word_separators::Words;
+pub use crate::word_splitters::hyphens::is_hyphen_point;
+pub use crate::word_splitters::pieces::{inner_piece, push_measured};
+use std::alloc::Allocator;
+
+/// The words of a line that is cut at its blanks, one after the other, as
+/// [`WordSeparator::AsciiSpace`](crate::word_separators::WordSeparator) finds them: of `"foo bar"`
+/// these are `"foo "` and `"bar"`. The call always succeeds and needs no memory: `A` is what words
+/// at a caller's cuts would lie in.
+pub fn words_at_blanks<A: Allocator>(line: &str) -> Words<'_, A>
+    ensures { result ≡ words_of line.now }
+{
+    Words::of_line(line)
+}

@@ -1,9 +1,0 @@
-mod algorithms;
-mod blanks;
-mod characters;
-mod ends;
-mod escapes;
-mod pieces;
-mod refusals;
-mod widths;
-mod words;

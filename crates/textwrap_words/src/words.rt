@@ -1,0 +1,150 @@
+//! The columns of a text, fragments and words: what the original has in its module `core`. The text
+//! `foo bar` has 7 columns, and its word `foo` is a fragment of width 3, with a blank after it.
+ghost use Rattle.std.specs.Prelude.{◌≡◌, ◌≢◌, ℕ, ◌*◌, ◌≤◌, length, All, IfOk, string_bytes};
+ghost use Rattle.std.specs.List.{list_all};
+ghost use Rattle.textwrap_words.specs.Units.{columns, text_width, is_printable, escape, stripped};
+ghost use Rattle.textwrap_words.specs.Words.{word_view, sizes_of, word_of};
+
+use crate::blanks::split_final_blanks;
+use crate::escapes::State;
+pub use breaking::{BreakApart, break_words};
+use std::alloc::{AllocError, Allocator};
+pub use textwrap_base::Fragment;
+use textwrap_base::Penalties;
+use unicode_width::UnicodeWidthChar;
+
+mod breaking;
+
+/// The width of a text in terminal columns. Each visible character counts as it would alone, by its
+/// East Asian width (Unicode Standard Annex #11): most take one column, wide ones two, and control
+/// characters and combining marks none. Escape sequences (ECMA-48) are not visible and take none.
+///
+/// `display_width("Café")` is 4, also where escape sequences colour the text. The call always
+/// succeeds and needs no memory.
+pub fn display_width(text: &str) -> usize
+    ensures width { result ≡ text_width text.now }
+    ensures bound { result ≤ 2 * length text.now }
+{
+    if is_plain(text.as_bytes()) {
+        return text.len();
+    }
+    let mut state = State::Text;
+    let mut width = 0;
+    for ch in text.chars() {
+        let (next, is_visible) = state.step(ch);
+        width += if is_visible { columns(ch) } else { 0 };
+        state = next;
+    }
+    width
+}
+
+/// The visible characters of a text, in order: a copy without its escape sequences (ECMA-48).
+///
+/// A sequence without an end goes on to the end of the text, and is left out with it: `"a\x1b[1mb"`
+/// becomes `"ab"`, and `"a\x1b[12"` becomes `"a"`. A text without ESC stays as it is.
+///
+/// # Errors
+/// [`AllocError`] where memory runs out.
+pub fn strip_ansi_escape_sequences<A: Allocator + Copy>(
+    alloc: A,
+    text: &str,
+) -> Result<String<A>, AllocError>
+    ensures stripped { IfOk result (λ plain. string_bytes plain ≡ stripped text.now) }
+    ensures no_escape { IfOk result (λ plain. All (λ byte. byte ≢ escape) (string_bytes plain)) }
+{
+    let mut plain = String::new(alloc);
+    let mut state = State::Text;
+    for ch in text.chars() {
+        let (next, is_kept) = state.step(ch);
+        if is_kept {
+            plain.push(ch)?;
+        }
+        state = next;
+    }
+    Ok(plain)
+}
+
+/// Whether each byte is a printable ASCII character, which takes one column.
+fn is_plain(bytes: &[u8]) -> bool
+    ensures { result ≡ list_all is_printable bytes.now }
+{
+    for byte in bytes {
+        if *byte < b' ' || *byte > b'~' {
+            return false;
+        }
+    }
+    true
+}
+
+/// The columns of a character alone, 0 for a control character.
+fn columns(ch: char) -> usize
+    ensures { result ≡ columns ch }
+{
+    ch.width().unwrap_or(0)
+}
+
+/// A word of a text and what follows it. The texts are borrowed, so a copy needs no memory.
+/// `Word::from("foo ")` has the word `foo`, one blank, no penalty and the width 3.
+#[derive(Clone, Copy, Debug, PartialEq, Eq)]
+pub struct Word<'a> {
+    /// The text of the word.
+    pub word: &'a str,
+    /// The blanks after it. A line shows them between this word and its next one, and at its end
+    /// only where blanks are preserved.
+    pub whitespace: &'a str,
+    /// What a line that ends with this word shows instead of its blanks, such as a hyphen.
+    pub penalty: &'a str,
+    /// The columns of `word`, as `display_width` counts them.
+    pub width: usize,
+}
+
+impl<'a> From<&'a str> for Word<'a> {
+    ghost from_gives = { λ text result. word_view result ≡ word_of text.now };
+
+    /// Takes the whole text as one word, whose whitespace is the blanks that the text ends in, and
+    /// which has no penalty: `Word::from("foo  ")` is `foo` and two blanks, of 3 columns. The call
+    /// always succeeds and needs no memory.
+    fn from(text: &'a str) -> Word<'a> {
+        let (word, whitespace) = split_final_blanks(text);
+        Word {
+            word,
+            whitespace,
+            penalty: "",
+            width: display_width(word),
+        }
+    }
+}
+
+impl<'a> Word<'a> {
+    /// The field `word`, to which the original's `Word` dereferences: `"foo"` for
+    /// `Word::from("foo ")`.
+    pub fn as_str(&self) -> &'a str
+        ensures { result.now ≡ self.now.word.now }
+    {
+        self.word
+    }
+}
+
+impl<'a> Fragment for Word<'a> {
+    ghost sizes = { λ word. sizes_of (word_view word) };
+
+    /// The field `width`, in columns.
+    fn width(&self) -> usize {
+        self.width
+    }
+
+    /// The bytes of the whitespace, as many as its columns where it is blanks.
+    fn whitespace_width(&self) -> usize {
+        self.whitespace.len()
+    }
+
+    /// The bytes of the penalty, as many as its columns where it is printable ASCII.
+    fn penalty_width(&self) -> usize {
+        self.penalty.len()
+    }
+
+    /// The `hyphen_penalty` where the word has a penalty, and else 0.
+    fn break_penalty(&self, penalties: &Penalties) -> usize {
+        penalties.usual_break_penalty(self.penalty_width())
+    }
+}

@@ -1,0 +1,9 @@
+mod algorithms;
+mod characters;
+mod ends;
+mod escapes;
+mod laws;
+mod pieces;
+mod refusals;
+mod widths;
+mod words;

@@ -1,5 +1,6 @@
 /* Each call with each of its allocations refused in turn, by a heap of the test's own: a refused call
- * is out of memory, changes nothing and leaves nothing allocated. */
+ * is out of memory, changes nothing and leaves nothing allocated. What comes after the refused
+ * allocation is allowed again, so a call that overlooks the refusal is done, which is a fault. */
 #include <stdbool.h>
 #include <stdio.h>
 #include <stdlib.h>
@@ -7,8 +8,11 @@
 
 #include "textwrap.h"
 
-/* How many allocations are still allowed, and how many blocks there are. */
-static long allowed, live;
+/* How many allocations are left before the one that is refused, whether that was refused, and how
+ * many blocks there are. */
+static long left;
+static bool refused;
+static long live;
 
 struct block {
     bool ok;
@@ -17,15 +21,22 @@ struct block {
 
 static _Alignas(max_align_t) char nothing[sizeof(max_align_t)];
 
+/* Whether this allocation is the one that is refused. */
+static bool refuses(void) {
+    if (left-- != 0) return false;
+    refused = true;
+    return true;
+}
+
 struct block rattle_alloc(size_t size, size_t align) {
-    if (allowed-- <= 0) return (struct block){false, nothing};
+    if (refuses()) return (struct block){false, nothing};
     live++;
     return (struct block){true, malloc(size > 0 ? size : align)};
 }
 
 struct block rattle_realloc(void *block, size_t kept, size_t size, size_t align) {
     (void)kept;
-    if (allowed-- <= 0) return (struct block){false, nothing};
+    if (refuses()) return (struct block){false, nothing};
     return (struct block){true, realloc(block, size > 0 ? size : align)};
 }
 
@@ -120,18 +131,20 @@ static const struct {
     {"display_width", measured},
 };
 
-/* How many allocations a call makes, or -1 at a fault. */
+/* How many allocations a call makes, or -1 at a fault: one is refused, then the one after it, until
+ * the call meets no refusal. */
 static long refusals_of(uint32_t (*call)(struct lent *)) {
     for (long refusals = 0; refusals < 1000; refusals++) {
         struct lent lent, old;
         memset(&lent, 7, sizeof lent);
         memcpy(lent.text, "foo  bar", 9);
         memcpy(&old, &lent, sizeof lent);
-        allowed = refusals;
+        left = refusals;
+        refused = false;
         live = 0;
         uint32_t status = call(&lent);
         if (live != 0) return -1;
-        if (status == TEXTWRAP_DONE) return refusals;
+        if (!refused) return status == TEXTWRAP_DONE ? refusals : -1;
         if (status != TEXTWRAP_OUT_OF_MEMORY || memcmp(&lent, &old, sizeof lent) != 0) return -1;
     }
     return -1;

@@ -1,43 +1,8 @@
 -- Where `spend` finds an allocation left, it answers what `inner` answers, and else `Err`. Each `&` to a
 -- field comes from the one to the heap, and a block may be freed as `inner` says.
-use Rattle.std.proofs.Common.{ℕ, ◌+◌, Bool, false, List, [], ◌∷◌, Err, refl, ap, w64}
-use Rattle.std.proofs.raw_atomic.Walks.{proved}
-use mir.Val.{Val, vptr}
-use base.Logic.{id⊢}
-use base.Fml.{ftrue, flft}
-use prog.Memory.{size, align, up}
-use contract.Running.{tables}
-use types.Kit.{‵, raw, ◌⊛◌, some, later, prop, at_ret, Sq, ◌$◌, ◌∵◌, !, qed, done, move, keep, drop, use0, use1, use2, split, join, fsplit, fjoin, feq_i, feq_l, pick, await, suffices, group}
-use types.Part.{agg}
-use types.Run.{enter, addr, lit, of_opd, stop, fld, no_more, and_then, first, branches, exec, returns}
-use types.ByLocal.{alloc_all, pass_all, free_all, look_at, get, through, sets, sets_last, lands_as, lands_last, env}
-use borrow.Table.RawPtr.{ptr_laws}
-use denote.Builtin.{bool, usize, RefOf, RawPtr}
-use denote.Enum.Loose.{loose_lawful}
-use denote.Exit.{yes}
-use denote.Laws.{shows}
-use denote.Memory.{lone}
-use denote.Opens.{unhide}
-use denote.Plain.{uint_vals, uint_Tells}
-use denote.RattleType.{owns}
-use denote.Ref.{shr_vals}
-use denote.Signature.{plain, types_at}
-use denote.Steps.{nothing, peeks, only}
-use denote.Triple.Call.{calls_at, calls_at_last}
-use denote.Triple.Clauses.{lasts}
-use denote.Triple.Spec.{triple_of}
-use denote.Triple.Table.{framed}
-use denote.Triple.Walked.{Stays, walk_of, stay_dropped, Goes-dropped, ends_at}
-use Rattle.std.specs.Allocator.{block_if_ok}
-use Rattle.std.proofs.alloc.Calls.{Answer, answer_val, Answer-typed, Answer-err}
-use Rattle.std.proofs.alloc.AllocError.TheLaws.{the_row_laws}
-use Rattle.std.proofs.result.Result.TheLaws.{the_loose}
-use Rattle.std.specs.contracts.alloc.AllocError.{the_row as AllocError}
-use Rattle.std.specs.contracts.alloc.Global.{the_row as Inner}
-use Rattle.std.specs.contracts.impls.GlobalAllocator.TheImpl.{ghosts}
+use Rattle.refusing_heap.proofs.Steps.{ℕ, ◌+◌, Bool, false, List, [], ◌∷◌, Err, refl, ap, w64, proved, Val, vptr, id⊢, ftrue, flft, size, align, up, tables, ‵, raw, ◌⊛◌, some, later, prop, at_ret, Sq, ◌$◌, ◌∵◌, !, qed, done, move, keep, drop, use0, use1, use2, split, join, fsplit, fjoin, feq_i, feq_l, pick, await, suffices, group, agg, enter, addr, lit, of_opd, stop, fld, no_more, and_then, first, branches, exec, returns, alloc_all, pass_all, free_all, look_at, get, through, sets, sets_last, lands_as, lands_last, env, ptr_laws, bool, usize, RefOf, RawPtr, loose_lawful, yes, shows, lone, unhide, uint_vals, uint_Tells, owns, shr_vals, plain, types_at, nothing, peeks, only, calls_at, calls_at_last, lasts, triple_of, framed, Stays, walk_of, stay_dropped, Goes-dropped, ends_at, block_if_ok, Answer, answer_val, Answer-typed, Answer-err, the_row_laws, the_loose, AllocError, Inner, ghosts, Results}
 use Rattle.std.specs.contracts.impls.GlobalAllocator.allocate as inner
 use Rattle.std.proofs.impls.GlobalAllocator.allocate.Met as inner_met
-use Rattle.std.specs.contracts.result.Result.{the_type as Results}
 use Rattle.refusing_heap.specs.contracts.Heap.{the_row as Heap}
 use Rattle.refusing_heap.specs.contracts.spend as spend
 use Rattle.refusing_heap.proofs.spend.Met as spend_met

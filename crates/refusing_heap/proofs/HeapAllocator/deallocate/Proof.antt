@@ -1,30 +1,5 @@
 -- It gives the block back to `inner`, by the `&` to that field and the same right to free.
-use Rattle.std.proofs.Common.{ℕ, ◌+◌, List, [], ◌∷◌, refl, w64}
-use Rattle.std.proofs.raw_atomic.Walks.{proved}
-use mir.Val.{Val, vunit, vptr}
-use base.Logic.{id⊢}
-use base.Fml.{ftrue, flft}
-use prog.Memory.{align, up}
-use contract.Running.{tables}
-use types.Kit.{‵, raw, ◌⊛◌, some, later, at_ret, ◌$◌, ◌∵◌, !, qed, done, move, keep, drop, use1, use2, split, join, fsplit, fjoin, feq_i, feq_l, pick, await, suffices, group}
-use types.Run.{enter, addr, of_opd, unit_lit, stop, fld, no_more, and_then, first, blocks, exec, returns}
-use types.ByLocal.{alloc_all, pass_all, free_all, look_at, get, through, sets, lands_last, env}
-use denote.Builtin.{unit, usize, RefOf}
-use denote.Exit.{yes}
-use denote.Memory.{lone}
-use denote.Opens.{unhide}
-use denote.Plain.{Nothing-Lawful, uint_vals, uint_Tells}
-use denote.RattleType.{owns}
-use denote.RawPtr.{RawPtr, rawptr_vals, rawptr_Tells, rawptr_Lawful}
-use denote.Ref.{shr_vals}
-use denote.Signature.{plain, types_at}
-use denote.Steps.{nothing}
-use denote.Triple.Call.{calls_at_last}
-use denote.Triple.Clauses.{lasts}
-use denote.Triple.Spec.{triple_of}
-use denote.Triple.Table.{framed}
-use denote.Triple.Walked.{Stays, walk_of, stay_dropped, Goes-dropped, ends_at}
-use Rattle.std.specs.contracts.alloc.Global.{the_row as Inner}
+use Rattle.refusing_heap.proofs.Steps.{ℕ, ◌+◌, List, [], ◌∷◌, refl, w64, proved, Val, vunit, vptr, id⊢, ftrue, flft, align, up, tables, ‵, raw, ◌⊛◌, some, later, at_ret, ◌$◌, ◌∵◌, !, qed, done, move, keep, drop, use1, use2, split, join, fsplit, fjoin, feq_i, feq_l, pick, await, suffices, group, enter, addr, of_opd, unit_lit, stop, fld, no_more, and_then, first, blocks, exec, returns, alloc_all, pass_all, free_all, look_at, get, through, sets, lands_last, env, unit, usize, RefOf, yes, lone, unhide, Nothing-Lawful, uint_vals, uint_Tells, owns, RawPtr, rawptr_vals, rawptr_Tells, rawptr_Lawful, shr_vals, plain, types_at, nothing, calls_at_last, lasts, triple_of, framed, Stays, walk_of, stay_dropped, Goes-dropped, ends_at, Inner}
 use Rattle.std.specs.contracts.impls.GlobalAllocator.deallocate as inner
 use Rattle.std.proofs.impls.GlobalAllocator.deallocate.Met as inner_met
 use Rattle.refusing_heap.specs.contracts.Heap.{the_row as Heap}

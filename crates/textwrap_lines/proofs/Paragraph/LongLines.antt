@@ -136,7 +136,7 @@ module _ (settings : Settings) (Words : List ℕ → List WordText → Type 0)
           (All-append (IsTight (later_width settings)) (front_pieces settings) broken
           (front-tight (later_width settings) (length settings.initial_indent == 0))
           (broken_words-tight (later_width settings) split
-          (split-measured settings Words Points texts cuts paragraph split utf8
+          (split-measured Words Points texts cuts paragraph split utf8
           (are.0, are.2, are.3))))
 
       none : All HasNoPenalty (flat division)

@@ -32,7 +32,7 @@ loop-word-init g c =
     let before = c.args.lines.now in
     let line = c.first-line.result in
     let is : c.into_iter-word-iterator.result ≡ words_of c.args.paragraph.now =
-    c.into_iter-word-iterator.ensures.into_iter_gives ∙ c.of_line-word-items.ensures in
+    c.into_iter-word-iterator.ensures.into_iter_gives ∙ c.words_at_blanks-word-items.ensures in
     record {
       taken = subst (λ words. GoesOn later before line
           (broken_words limit (split_words splitter (words_of c.args.paragraph.now))) before line

@@ -21,7 +21,7 @@ loop-word-init g c =
     let splitter = splitter_of c.args.hyphens in
     let all = broken_words c.args.limit (split_words splitter (words_of c.args.line.now)) in
     let is : c.into_iter-word-iterator.result ≡ words_of c.args.line.now =
-    c.into_iter-word-iterator.ensures.into_iter_gives ∙ c.of_line-word-items.ensures in
+    c.into_iter-word-iterator.ensures.into_iter_gives ∙ c.words_at_blanks-word-items.ensures in
     record {
       taken = subst (λ words. HasAllBut c.args.self.now c.args.self.now all
           (broken_words c.args.limit (split_words splitter words))) (sym is)

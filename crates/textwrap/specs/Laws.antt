@@ -21,11 +21,11 @@ use Rattle.textwrap.specs.InPlace.{IsFilledInPlace}
 use Rattle.textwrap.specs.Indentation.{is_blank_line, ended_parts, indented, indented_part}
 use Rattle.textwrap.specs.Indentation.{HasNoLineFeed, AreEndedParts, IsMarginOf, margin_of}
 use Rattle.textwrap.specs.Refilling.{IsCommonPrefix, common_prefix, IsRefilled, IsPlain, blanked}
-pub use Rattle.textwrap_base.specs.Laws.{UnitsAreUnique, WordsAreUnique, BrokenPiecesAreUnique}
-pub use Rattle.textwrap_base.specs.Laws.{BrokenTextsTile, BrokenPiecesTile, BrokenWordsTile}
-pub use Rattle.textwrap_base.specs.Laws.{GreedyDivisionIsUnique, ChosenDivisionIsUnique}
-pub use Rattle.textwrap_base.specs.Laws.{TableDivisionIsUnique, TableOverflowIsOverflow}
-pub use Rattle.textwrap_base.specs.Laws.{TableHasLeastCosts}
+pub use Rattle.textwrap_lines.specs.Laws.{UnitsAreUnique, WordsAreUnique, BrokenPiecesAreUnique}
+pub use Rattle.textwrap_lines.specs.Laws.{BrokenTextsTile, BrokenPiecesTile, BrokenWordsTile}
+pub use Rattle.textwrap_lines.specs.Laws.{GreedyDivisionIsUnique, ChosenDivisionIsUnique}
+pub use Rattle.textwrap_lines.specs.Laws.{TableDivisionIsUnique, TableOverflowIsOverflow}
+pub use Rattle.textwrap_lines.specs.Laws.{TableHasLeastCosts}
 pub use Rattle.textwrap_lines.specs.Laws.{ParagraphsAreUnique, PiecesAreUnique, IsUnique}
 pub use Rattle.textwrap_lines.specs.Laws.{WordsAtAreUnique}
 pub use Rattle.textwrap_lines.specs.Laws.{ForBuiltIn, DividedLinesAreUnique}

@@ -8,6 +8,8 @@ use std::alloc::{AllocError, Global};
 /// What a round checks promises on.
 #[derive(Drop)]
 pub(crate) struct Case {
+    /// What all else is drawn from.
+    pub seed: u64,
     pub alphabet: Alphabet,
     pub text: String,
     /// Words with single blanks or line feeds between them.
@@ -26,6 +28,7 @@ impl Case {
         let mut random = Random::new(seed);
         let alphabet = random.pick(&[Alphabet::Prose, Alphabet::Coloured, Alphabet::Cut]);
         Ok(Case {
+            seed,
             alphabet,
             text: random_text(alloc, &mut random, alphabet)?,
             plain: random_plain_text(alloc, &mut random)?,

@@ -7,28 +7,30 @@ use crate::lossless::{PlacedLine, place_lines};
 use crate::settings::{Algorithm, Settings};
 use crate::texts::Alphabet;
 use std::alloc::{AllocError, Global};
+use std::borrow::CowStr;
 use textwrap::words::{display_width, strip_ansi_escape_sequences};
-use textwrap::{WrapError, wrap};
 
-/// Checks the widths of the lines of the case's text. An escape sequence that is cut hides or shows
+/// Checks the widths of these lines of the case's text. An escape sequence that is cut hides or shows
 /// other characters in a line than in its pieces, so of such texts nothing is said.
-pub(crate) fn check(alloc: Global, case: &Case) -> Result<Finding, WrapError> {
+pub(crate) fn check(
+    alloc: Global,
+    case: &Case,
+    lines: &[CowStr<'_>],
+) -> Result<Finding, AllocError> {
     let settings = &case.settings;
     let is_first_fit = matches!(settings.algorithm, Algorithm::FirstFit);
     let is_cut = matches!(case.alphabet, Alphabet::Cut);
     if !is_first_fit || !settings.break_words || is_cut {
         return Ok(Finding::PassedOver);
     }
-    let text = case.text.as_str();
-    let lines = wrap(alloc, text, settings.options())?;
-    match place_lines(alloc, text, settings, &lines)? {
+    match place_lines(alloc, case.text.as_str(), settings, lines)? {
         Some(placed) => Ok(Finding::of(all_fit(alloc, settings, &placed)?)),
         None => Ok(Finding::Broken),
     }
 }
 
 /// Whether each line fits.
-pub(crate) fn all_fit(
+fn all_fit(
     alloc: Global,
     settings: &Settings,
     lines: &[PlacedLine<'_>],

@@ -1,36 +1,56 @@
 //! The promise that no division costs less than that of optimal fit.
+use crate::answers::{Answer, unless_overflow};
 use crate::blocks::{Block, Problem};
-use crate::cases::Case;
 use crate::divisions::cheapest_division;
 use crate::findings::Finding;
 use std::alloc::{AllocError, Global};
-use textwrap::WrapError;
 use textwrap::minima::{Minimum, Steps, table_minima};
 use textwrap::wrap_algorithms::wrap_optimal_fit;
 
+/// What the library has for some fragments.
+#[derive(Drop)]
+pub(crate) struct LeastCosts<'p> {
+    /// The table of least costs.
+    pub minima: Answer<Vec<Minimum>>,
+    /// The lines of a division that costs least.
+    pub lines: Answer<Vec<&'p [Block]>>,
+}
+
+impl<'p> LeastCosts<'p> {
+    /// Asks the library.
+    pub(crate) fn of_problem(alloc: Global, problem: &'p Problem) -> Result<Self, AllocError> {
+        let blocks = problem.blocks.as_slice();
+        let widths = problem.line_widths.as_slice();
+        let mut steps = Steps::new();
+        let minima = table_minima(alloc, blocks, widths, &problem.penalties, &mut steps);
+        let lines = wrap_optimal_fit(alloc, blocks, widths, &problem.penalties);
+        Ok(LeastCosts {
+            minima: unless_overflow(minima)?,
+            lines: unless_overflow(lines)?,
+        })
+    }
+}
+
 /// Checks the division of few fragments, and the table of least costs, against all divisions. Both
 /// have to be refused where a prefix of the fragments has no division whose cost fits 128 bits.
-pub(crate) fn check(alloc: Global, case: &Case) -> Result<Finding, WrapError> {
-    let problem = &case.few;
-    let blocks = problem.blocks.as_slice();
-    let widths = problem.line_widths.as_slice();
-    let mut steps = Steps::new();
-    let minima = table_minima(alloc, blocks, widths, &problem.penalties, &mut steps);
-    let lines = wrap_optimal_fit(alloc, blocks, widths, &problem.penalties);
+pub(crate) fn check(
+    alloc: Global,
+    problem: &Problem,
+    found: &LeastCosts<'_>,
+) -> Result<Finding, AllocError> {
     let Some(table) = least_table(alloc, problem)? else {
-        return Ok(Finding::of(is_refused(&minima) && is_refused(&lines)));
+        let are_refused = found.minima.is_none() && found.lines.is_none();
+        return Ok(Finding::of(are_refused));
     };
-    let is_right = minima? == table && are_cheapest(alloc, problem, &lines?)?;
+    let (Some(minima), Some(lines)) = (&found.minima, &found.lines) else {
+        return Ok(Finding::Broken);
+    };
+    let is_right = *minima == table && are_cheapest(alloc, problem, lines)?;
     Ok(Finding::of(is_right))
 }
 
-/// Whether a call overflowed.
-fn is_refused<T>(answer: &Result<T, WrapError>) -> bool {
-    matches!(answer, Err(WrapError::Overflow(_)))
-}
-
 /// Whether these are the lines of the cheapest division, with ties settled.
-pub(crate) fn are_cheapest(
+fn are_cheapest(
     alloc: Global,
     problem: &Problem,
     lines: &Vec<&[Block]>,
@@ -43,10 +63,7 @@ pub(crate) fn are_cheapest(
 
 /// The least cost of each prefix, and where the last line of its cheapest division starts, if they
 /// all fit 128 bits.
-pub(crate) fn least_table(
-    alloc: Global,
-    problem: &Problem,
-) -> Result<Option<Vec<Minimum>>, AllocError> {
+fn least_table(alloc: Global, problem: &Problem) -> Result<Option<Vec<Minimum>>, AllocError> {
     let mut table = Vec::new(alloc);
     for end in 0..=problem.blocks.len() {
         let Some(division) = cheapest_division(alloc, problem, end)? else {

@@ -7,7 +7,6 @@ use crate::findings::Finding;
 use crate::settings::Settings;
 use std::alloc::{AllocError, Global};
 use std::borrow::CowStr;
-use textwrap::{WrapError, wrap};
 
 /// A line at its place in the text.
 #[derive(Clone, Copy)]
@@ -20,11 +19,13 @@ pub(crate) struct PlacedLine<'l> {
     pub is_whole: bool,
 }
 
-/// Checks the lines of the case's text.
-pub(crate) fn check(alloc: Global, case: &Case) -> Result<Finding, WrapError> {
-    let text = case.text.as_str();
-    let lines = wrap(alloc, text, case.settings.options())?;
-    let placed = place_lines(alloc, text, &case.settings, &lines)?;
+/// Checks that these are lines of the case's text.
+pub(crate) fn check(
+    alloc: Global,
+    case: &Case,
+    lines: &[CowStr<'_>],
+) -> Result<Finding, AllocError> {
+    let placed = place_lines(alloc, case.text.as_str(), &case.settings, lines)?;
     Ok(Finding::of(placed.is_some()))
 }
 

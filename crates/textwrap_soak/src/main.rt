@@ -8,13 +8,14 @@
 //! it is for those who want to see the promises kept, beside their proofs.
 #![tactic(auto)]
 
-use arguments::arguments;
-use soak::{Outcome, soak};
+use answers::Textwrap;
+use program::{NO_MEMORY, complain, execute};
 use std::env::Env;
 use std::process::ExitCode;
 use std::{env, io};
 
 mod arguments;
+mod program;
 mod soak;
 
 // What a round checks: its numbers, texts, options and fragments, which are a case.
@@ -24,8 +25,9 @@ mod random;
 mod settings;
 mod texts;
 
-// How it checks them: a module for each promise, or for some that are alike. `divisions` tries all
-// divisions for `least_cost`.
+// How it checks them: a module for each promise, or for some that are alike, which asks the library
+// and checks its answers. `divisions` tries all divisions for `least_cost`.
+mod answers;
 mod divisions;
 mod findings;
 mod fitting;
@@ -39,24 +41,19 @@ mod searching;
 #[cfg(test)]
 mod tests;
 
-/// Ends with status 0 if all promises are kept, 1 if one is broken or the program fails, and 2 if the
-/// words after the program's name ask for nothing.
-fn main(rt: HostRuntime) -> io::Result<ExitCode> {
-    let words = words_after_name(&rt)?;
-    let Some(request) = arguments(&words) else {
-        eprintln!(rt; "usage: textwrap_soak SEED ROUNDS")?;
-        return Ok(ExitCode::from(2));
+fn main(rt: HostRuntime) -> ExitCode {
+    let mut messages = rt.stderr();
+    let status = match words_after_name(&rt) {
+        Ok(words) => execute(
+            rt.alloc(),
+            &words,
+            &Textwrap,
+            &mut rt.stdout(),
+            &mut messages,
+        ),
+        Err(_) => complain(&mut messages, NO_MEMORY, 1),
     };
-    match soak(rt.alloc(), request.seed, request.rounds)? {
-        Outcome::Kept(report) => {
-            println!(rt; "{report}")?;
-            Ok(ExitCode::SUCCESS)
-        }
-        Outcome::Broken(report) => {
-            eprintln!(rt; "{report}")?;
-            Ok(ExitCode::FAILURE)
-        }
-    }
+    ExitCode::from(status)
 }
 
 /// The program's arguments without its name.

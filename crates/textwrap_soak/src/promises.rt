@@ -1,9 +1,9 @@
 //! The promises that each round checks.
+use crate::answers::Answers;
 use crate::cases::Case;
 use crate::findings::Finding;
 use crate::{fitting, in_place, least_cost, lossless, paths, refilling, searching};
 use std::alloc::{AllocError, Global};
-use textwrap::WrapError;
 
 /// A promise of the library.
 #[derive(Clone, Copy)]
@@ -16,11 +16,13 @@ pub(crate) enum Promise {
     LeastCost,
     /// The search finds what the table has.
     Searching,
-    /// `fill` and its slow path agree.
+    /// `fill` joins the lines of the lists of words.
     Filled,
+    /// `wrap` gives the lines of the lists of words.
+    Listed,
     /// `wrap` wraps one paragraph after the other.
     Paragraphs,
-    /// The shortcut for a short paragraph and the slow path agree.
+    /// A short paragraph has the lines of the lists of words too.
     Shortcut,
     /// Filling in place makes the lines of first fit.
     InPlace,
@@ -30,7 +32,7 @@ pub(crate) enum Promise {
     Twice,
 }
 
-pub(crate) const PROMISES_LEN: usize = 10;
+pub(crate) const PROMISES_LEN: usize = 11;
 
 /// All promises and what the program calls them, in the order in which a round checks them.
 pub(crate) const PROMISES: [(Promise, &str); PROMISES_LEN] = [
@@ -39,6 +41,7 @@ pub(crate) const PROMISES: [(Promise, &str); PROMISES_LEN] = [
     (Promise::LeastCost, "least_cost"),
     (Promise::Searching, "searching"),
     (Promise::Filled, "filled"),
+    (Promise::Listed, "listed"),
     (Promise::Paragraphs, "paragraphs"),
     (Promise::Shortcut, "shortcut"),
     (Promise::InPlace, "in_place"),
@@ -47,31 +50,42 @@ pub(crate) const PROMISES: [(Promise, &str); PROMISES_LEN] = [
 ];
 
 impl Promise {
-    /// Checks the promise on a case. That a call overflows where it only may run out of memory
-    /// breaks the promise too.
+    /// Checks the promise on a case and what a library answered. That a call overflowed where it only
+    /// may run out of memory breaks the promise too.
     ///
     /// # Errors
     /// Out of memory.
-    pub(crate) fn check(self, alloc: Global, case: &Case) -> Result<Finding, AllocError> {
-        match self.find(alloc, case) {
-            Ok(finding) => Ok(finding),
-            Err(WrapError::Overflow(_)) => Ok(Finding::Broken),
-            Err(WrapError::Memory(error)) => Err(error),
-        }
+    pub(crate) fn check(
+        self,
+        alloc: Global,
+        case: &Case,
+        answers: &Answers<'_>,
+    ) -> Result<Finding, AllocError> {
+        self.find(alloc, case, answers)
+            .unwrap_or(Ok(Finding::Broken))
     }
 
-    fn find(self, alloc: Global, case: &Case) -> Result<Finding, WrapError> {
-        match self {
-            Promise::Lossless => lossless::check(alloc, case),
-            Promise::Fitting => fitting::check(alloc, case),
-            Promise::LeastCost => least_cost::check(alloc, case),
-            Promise::Searching => searching::check(alloc, case),
-            Promise::Filled => paths::check_filled(alloc, case),
-            Promise::Paragraphs => paths::check_paragraphs(alloc, case),
-            Promise::Shortcut => paths::check_shortcut(alloc, case),
-            Promise::InPlace => in_place::check(alloc, case),
-            Promise::Refilled => refilling::check_refilled(alloc, case),
-            Promise::Twice => refilling::check_twice(alloc, case),
-        }
+    /// What the check finds, if there is an answer.
+    fn find(
+        self,
+        alloc: Global,
+        case: &Case,
+        answers: &Answers<'_>,
+    ) -> Option<Result<Finding, AllocError>> {
+        let ways = answers.ways.as_ref();
+        let refills = answers.refills.as_ref();
+        Some(match self {
+            Promise::Lossless => lossless::check(alloc, case, &ways?.wrapped),
+            Promise::Fitting => fitting::check(alloc, case, &ways?.wrapped),
+            Promise::LeastCost => least_cost::check(alloc, &case.few, &answers.few),
+            Promise::Searching => Ok(searching::check(answers.many.as_ref()?)),
+            Promise::Filled => paths::check_filled(alloc, case, ways?),
+            Promise::Listed => Ok(paths::check_listed(ways?)),
+            Promise::Paragraphs => Ok(paths::check_paragraphs(ways?)),
+            Promise::Shortcut => Ok(paths::check_shortcut(case, ways?)),
+            Promise::InPlace => Ok(in_place::check(case, answers.in_place.as_ref()?)),
+            Promise::Refilled => Ok(refilling::check_refilled(refills?)),
+            Promise::Twice => refilling::check_twice(alloc, case, refills?),
+        })
     }
 }

@@ -1,4 +1,6 @@
 //! Rounds, one after the other, up to the first broken promise.
+use crate::answers::{Answers, Library};
+use crate::arguments::Request;
 use crate::cases::Case;
 use crate::findings::Finding;
 use crate::promises::{PROMISES, PROMISES_LEN};
@@ -14,34 +16,39 @@ pub(crate) enum Outcome {
 }
 
 /// How often each promise was checked, in their order.
-type Counts = [u64; PROMISES_LEN];
+pub(crate) type Counts = [u64; PROMISES_LEN];
 
-/// Makes so many rounds, or fewer if one breaks a promise. The seeds of the rounds follow each other
-/// from `seed` on.
+/// Makes the rounds of a request, or fewer if one breaks a promise. Their seeds follow each other.
 ///
 /// # Errors
 /// Out of memory.
-pub(crate) fn soak(alloc: Global, seed: u64, rounds: u64) -> Result<Outcome, AllocError> {
+pub(crate) fn soak<L: Library>(
+    alloc: Global,
+    library: &L,
+    request: Request,
+) -> Result<Outcome, AllocError> {
     let mut counts = [0; PROMISES_LEN];
-    for round in 0..rounds {
-        let seed = seed.wrapping_add(round);
-        let case = Case::of_seed(alloc, seed)?;
-        if let Some(name) = broken_promise(alloc, &case, &mut counts)? {
-            return Ok(Outcome::Broken(describe_broken(alloc, seed, name, &case)?));
+    for round in 0..request.rounds {
+        let case = Case::of_seed(alloc, request.seed.wrapping_add(round))?;
+        let answers = library.answers(alloc, &case)?;
+        if let Some(name) = broken_promise(alloc, &case, &answers, &mut counts)? {
+            return Ok(Outcome::Broken(describe_broken(alloc, name, &case)?));
         }
     }
-    Ok(Outcome::Kept(describe_kept(alloc, rounds, &counts)?))
+    let report = describe_kept(alloc, request.rounds, &counts)?;
+    Ok(Outcome::Kept(report))
 }
 
-/// The name of the first promise that is broken on this case, if any. Those that are kept are
+/// The name of the first promise that these answers break, if any. Those that are kept before it are
 /// counted.
-fn broken_promise(
+pub(crate) fn broken_promise(
     alloc: Global,
     case: &Case,
+    answers: &Answers<'_>,
     counts: &mut Counts,
 ) -> Result<Option<&'static str>, AllocError> {
     for ((promise, name), count) in PROMISES.iter().zip(counts.iter_mut()) {
-        match promise.check(alloc, case)? {
+        match promise.check(alloc, case, answers)? {
             Finding::Kept => *count = count.saturating_add(1),
             Finding::Broken => return Ok(Some(*name)),
             Finding::PassedOver => {}
@@ -51,7 +58,11 @@ fn broken_promise(
 }
 
 /// The line that counts the rounds, and the checks of each promise.
-fn describe_kept(alloc: Global, rounds: u64, counts: &Counts) -> Result<String, AllocError> {
+pub(crate) fn describe_kept(
+    alloc: Global,
+    rounds: u64,
+    counts: &Counts,
+) -> Result<String, AllocError> {
     let mut line = format!(in alloc; "rounds={rounds}")?;
     for ((_, name), count) in PROMISES.iter().zip(counts) {
         write!(line, " {name}={count}")?;
@@ -59,13 +70,9 @@ fn describe_kept(alloc: Global, rounds: u64, counts: &Counts) -> Result<String, 
     Ok(line)
 }
 
-/// What a reader needs to repeat the round of this seed, and to find why this promise is broken.
-pub(crate) fn describe_broken(
-    alloc: Global,
-    seed: u64,
-    name: &str,
-    case: &Case,
-) -> Result<String, AllocError> {
+/// What a reader needs to repeat the round of this case, and to find why this promise is broken.
+fn describe_broken(alloc: Global, name: &str, case: &Case) -> Result<String, AllocError> {
+    let seed = case.seed;
     let mut report = format!(in alloc; "broken promise: {name}\nseed of the round: {seed}")?;
     write!(
         report,

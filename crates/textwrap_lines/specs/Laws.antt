@@ -67,4 +67,3 @@ TextLinesAreWrapped =
     DividesAs splitter algorithm settings in
     AreTextLines settings Divides text lines
     → IsWrapped settings (Some splitter) (Some algorithm) Divides text lines
-

@@ -42,7 +42,6 @@ SplitWordsTile =
     (splitter : Splitter) (words : List WordText) → All (λ w. IsUtf8 w.word) words
     → tiled (split_words splitter words) ≡ tiled words
 
-
 -- a word can be broken into one list of pieces, the computed one
 abbrev pub BrokenPiecesAreUnique : Type 0
 BrokenPiecesAreUnique = (limit : ℕ) (w : WordText) (pieces : List WordText)

@@ -1,6 +1,7 @@
 //! The table of least costs, the search for the same by a queue, the line costs that they ask for,
 //! and the queue case.
 use super::divisions::{Block, FALLING};
+use refusing_heap::Heap;
 use std::alloc::{AllocError, Allocator, Global};
 use std::process::Abort;
 use std::test::Fail;
@@ -8,7 +9,6 @@ use textwrap::WrapError;
 use textwrap::minima::{
     CostSource, LineCosts, Minimum, Steps, is_queue_case, queue_minima, queue_search, table_minima,
 };
-use refusing_heap::Heap;
 use textwrap::words::Fragment;
 use textwrap::wrap_algorithms::{Penalties, wrap_optimal_fit_counted};
 

@@ -1,5 +1,6 @@
 //! Each call with each of its allocations refused in turn.
 use super::words::are_offsets;
+use refusing_heap::Heap;
 use std::alloc::{AllocError, Allocator, Global};
 use std::borrow::CowStr;
 use std::fmt::Debug;
@@ -19,7 +20,6 @@ use textwrap::{
     Options, WordSeparator, WordSplitter, WrapAlgorithm, WrapError, dedent, fill, indent, refill,
     unfill, wrap, wrap_columns,
 };
-use refusing_heap::Heap;
 use vectors_functions::{cut_everywhere, end_all, split_in_middle};
 
 /// A call on an input of its own.

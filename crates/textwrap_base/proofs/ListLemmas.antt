@@ -1,11 +1,10 @@
 -- Lemmas on lists.
-use Rattle.std.proofs.Common.{All, subst, ◌≤◌}
+use Rattle.std.proofs.Common.{All, subst}
 use Rattle.std.proofs.Common.{◌≡◌, ℕ, suc, ◌+◌, ◌-◌, ◌<◌, List, [], ◌∷◌, ◌++◌, length, get_or, take}
-use Rattle.std.proofs.Common.{drop, map, refl, sym, ap, ◌∙◌, arith, take-append-drop}
-use Rattle.std.specs.Prelude.{slice_index, slice_range}
+use Rattle.std.proofs.Common.{drop, map, refl, sym, ap, ◌∙◌, arith}
+use Rattle.std.specs.Prelude.{slice_index}
 use Rattle.std.specs.List.{flat_map, onto_first}
 use Rattle.std.proofs.lemmas.List.Elements.{All-take, All-drop}
-use Rattle.std.proofs.lemmas.List.{drop-drop}
 use Rattle.std.proofs.lemmas.List.{map-append, append_assoc, take_at, drop_at, length_push}
 use Rattle.std.proofs.lemmas.List.{get_or_push, get_or_append_left}
 use Rattle.textwrap_base.specs.Lists.{last}
@@ -54,14 +53,6 @@ last_but_one-push front b c =
     let within : length ((front ++ b ∷ []) ++ c ∷ []) - 2 < length (front ++ b ∷ []) =
     omega (arith, len, length_push front b) in
     get_or_append_left (front ++ b ∷ []) (c ∷ []) 0 _ within ∙ get_or_push front b 0 _ place
-
-pub slice-rest : {X : Type 0} (xs : List X) (start end : ℕ) → start ≤ end
-    → slice_range xs start end ++ drop end xs ≡ drop start xs
-slice-rest xs start end le =
-    let there : start + (end - start) ≡ end = omega arith in
-    ap (λ ys. take (end - start) (drop start xs) ++ ys) (ap (λ n. drop n xs) (sym there)
-    ∙ sym (drop-drop (end - start) start xs)) ∙ take-append-drop (end - start)
-    (drop start xs)
 
 -- elements with which a list begins
 abbrev pub Begins : {X : Type 0} → List X → List X → Type 0

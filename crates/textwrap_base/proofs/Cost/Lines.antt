@@ -14,6 +14,7 @@ use Rattle.textwrap_base.specs.Table.{line_costs, FollowStarts}
 use Rattle.textwrap_base.specs.declared.penalties.Penalties.{Penalties}
 use Rattle.textwrap_base.proofs.Cost.Measures.{take_slice, length-slice}
 use Rattle.textwrap_base.proofs.Cost.Starts.{AreStarts, starts_cost, FollowBack}
+use Rattle.textwrap_base.proofs.Division.Greedy.{some_from_nonempty}
 
 -- where the lines start, the last line first
 abbrev pub starts_back : {X : Type 0} → List (List X) → List ℕ
@@ -32,10 +33,6 @@ pub joined_division : {X : Type 0} (ys : List X) (lines : List (List X)) → 0 <
 joined_division [] lines p e h = absurd (omega arith)
 joined_division (y ∷ ys) lines p e h = (e, h)
 
-length_some : {X : Type 0} (line : List X) → line ≢ [] → 0 < length line
-length_some [] h = absurd (h refl)
-length_some (x ∷ line) h = omega arith
-
 -- a part in the middle of a list
 slice_middle : {X : Type 0} (front line rest : List X) (at end : ℕ) → length front ≡ at
     → at + length line ≡ end → slice_range (front ++ (line ++ rest)) at end ≡ line
@@ -52,7 +49,7 @@ module _ {X : Type 0} (priced : X → PricedSizes) (penalties : Penalties) (widt
       → AreStarts (reverse_aux (starts_from at lines) before) (at + length (joined lines))
   starts_of_lines [] front rest at before len is some h = rw add-zero h
   starts_of_lines (line ∷ lines) front rest at before len is some h =
-      let first = length_some line (All-head (λ line. line ≢ []) line lines some) in
+      let first = some_from_nonempty line (All-head (λ line. line ≢ []) line lines some) in
       let is' : xs ≡ (front ++ line) ++ (joined lines ++ rest) =
       is ∙ ap (λ (l : List X). front ++ l) (append_assoc line (joined lines) rest)
       ∙ sym (append_assoc front line (joined lines ++ rest)) in

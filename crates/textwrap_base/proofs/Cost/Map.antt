@@ -1,13 +1,14 @@
 -- The optimal division of fragments is one of what a function makes of them.
 use Rattle.std.proofs.Common.{◌≡◌, ℕ, ◌+◌, List, [], ◌∷◌, length, get_or, map, sym, ap, ◌∙◌, subst}
 use Rattle.std.proofs.lemmas.List.{length-map}
+use Rattle.std.proofs.lemmas.Simd.{map-map}
 use Rattle.textwrap_base.specs.Division.{IsDivision}
 use Rattle.textwrap_base.specs.Cost.{PricedSizes}
 use Rattle.textwrap_base.specs.Table.{table, line_costs, fragments_table, FollowStarts, IsByTable}
 use Rattle.textwrap_base.specs.OptimalFit.{IsByOptimalFit}
 use Rattle.textwrap_base.specs.declared.minima.table.Entry.{Entry}
 use Rattle.textwrap_base.specs.declared.penalties.Penalties.{Penalties}
-use Rattle.textwrap_base.proofs.Cost.Measures.{line_costs-map, map-map}
+use Rattle.textwrap_base.proofs.Cost.Measures.{line_costs-map}
 use Rattle.textwrap_base.proofs.Cost.Chosen.{by_table-chosen}
 
 module _ {X Y : Type 0} (f : X → Y) (priced : Y → PricedSizes) where
@@ -17,7 +18,7 @@ module _ {X Y : Type 0} (f : X → Y) (priced : Y → PricedSizes) where
   fragments_table-map penalties widths xs =
       ap (λ cost. table cost (length xs))
       (sym (line_costs-map (λ x. priced (f x)) penalties widths xs)
-      ∙ ap (line_costs (λ (s : PricedSizes). s) penalties widths) (map-map f priced xs)
+      ∙ ap (line_costs (λ (s : PricedSizes). s) penalties widths) (sym (map-map priced f xs))
       ∙ line_costs-map priced penalties widths (map f xs))
       ∙ ap (table (line_costs priced penalties widths (map f xs))) (sym (length-map xs f))
 

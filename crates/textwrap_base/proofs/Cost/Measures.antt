@@ -9,6 +9,7 @@ use Rattle.std.proofs.lemmas.List.Elements.{All-nil, All-cons, All-head, All-tai
 use Rattle.std.proofs.Math.Nat.{mul-le-mul}
 use Rattle.std.proofs.Math.Seq.{take-add}
 use Rattle.std.proofs.lemmas.Bool.Decides.{nat_tests}
+use Rattle.std.proofs.lemmas.Simd.{map-map}
 use mathlib.Core.Path.{fun_ext}
 use Rattle.textwrap_base.specs.Sizes.{Sizes}
 use Rattle.textwrap_base.specs.Division.{closed_width, open_width, line_width}
@@ -223,17 +224,12 @@ measured_closed ms i k d h l m =
 
 -- ---- measures of fragments
 
-pub map-map : {X Y Z : Type 0} (f : X → Y) (g : Y → Z) (xs : List X)
-    → map (λ x. g (f x)) xs ≡ map g (map f xs)
-map-map f g [] = refl
-map-map f g (x ∷ xs) = ap (λ l. g (f x) ∷ l) (map-map f g xs)
-
 pub sizes-same : {X Y : Type 0} (priced : X → PricedSizes) (others : Y → PricedSizes) (xs : List X)
     (ys : List Y) → map priced xs ≡ map others ys
     → map (λ x. (priced x).sizes) xs ≡ map (λ y. (others y).sizes) ys
-sizes-same priced others xs ys e = map-map priced (λ (p : PricedSizes). p.sizes) xs
+sizes-same priced others xs ys e = sym (map-map (λ (p : PricedSizes). p.sizes) priced xs)
     ∙ ap (map (λ (p : PricedSizes). p.sizes)) e
-    ∙ sym (map-map others (λ (p : PricedSizes). p.sizes) ys)
+    ∙ map-map (λ (p : PricedSizes). p.sizes) others ys
 
 -- equal sizes have equal widths
 pub open_width-same : {X Y : Type 0} (sizes : X → Sizes) (others : Y → Sizes) (xs : List X)

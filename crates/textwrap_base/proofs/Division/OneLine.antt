@@ -2,7 +2,7 @@
 -- each algorithm.
 use Rattle.std.proofs.Common.{◌≡◌, ◌≢◌, ℕ, zero, suc, ◌-◌, ◌<◌, ◌≤◌, Bool, true, eqb, List, [], ◌∷◌}
 use Rattle.std.proofs.Common.{length, get_or, map, take, drop, All, slice_range, refl, ap, ◌∙◌}
-use Rattle.std.proofs.Common.{zero-add, arith}
+use Rattle.std.proofs.Common.{zero-add, arith, eq-eqb}
 use Rattle.std.proofs.lemmas.Bool.Decides.{nat_tests}
 use Rattle.std.proofs.lemmas.List.{append-nil, take_all, length-take-le, length-drop}
 use Rattle.std.proofs.lemmas.List.Elements.{All-nil, All-cons, All-head, All-tail}
@@ -16,9 +16,6 @@ use Rattle.textwrap_base.specs.declared.minima.table.Entry.{Entry}
 use Rattle.textwrap_base.specs.declared.penalties.Penalties.{Penalties}
 use Rattle.textwrap_base.proofs.Cost.Chosen.{by_table-chosen}
 use Rattle.textwrap_base.proofs.Cost.Starts.{table-is_table, start-at}
-
-same_number : (n : ℕ) → eqb n n ≡ true
-same_number n = grind (arith, nat_tests)
 
 division_one : {X : Type 0} (xs : List X) → IsDivision xs (xs ∷ [])
 division_one [] = refl
@@ -87,7 +84,7 @@ module _ {X : Type 0} (priced : X → PricedSizes) (penalties : Penalties) (widt
   cost_from_start : 1 < length xs → costs 0 (length xs) 0 ≡ penalties.nline_penalty
   cost_from_start two =
       ap (λ b. line_cost priced penalties (line_width widths 0) b (slice_range xs 0 (length xs)))
-      (same_number (length xs))
+      (eq-eqb (length xs) (length xs) refl)
       ∙ ap (line_cost priced penalties (line_width widths 0) true)
       (take_all (length xs - 0) xs (omega arith))
       ∙ line_cost-one priced penalties (line_width widths 0) xs two none room

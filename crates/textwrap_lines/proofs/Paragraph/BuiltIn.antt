@@ -1,6 +1,6 @@
 -- Lemmas on built-in parts among the options: what they divide is what the parts do as values.
 use Rattle.std.proofs.Common.{◌≡◌, ℕ, List, ap, ◌∙◌, subst}
-use Rattle.std.specs.Prelude.{Some, Result, Ok, Err, IfOk}
+use Rattle.std.specs.Prelude.{Some}
 use Rattle.textwrap_words.specs.WrapAlgorithms.{Algorithm, Greedy, LeastCost, MayDivide}
 use Rattle.textwrap_words.specs.WrapAlgorithms.{algorithm_view}
 use Rattle.textwrap_words.specs.declared.wrap_algorithms.WrapAlgorithm as algorithms
@@ -71,16 +71,3 @@ module _ {E C : Type 0} {e : _} {c : _} (options : Options E C e c) (settings : 
       subst (λ s. IsFilled s (DividesAs splitter algorithm settings) text filled)
       parts.settings_are
       (subst (λ Divides. IsFilled (settings_view options) Divides text filled) divides is)
-
--- a filled text that a call handed on
-pub filled-by_parts : {E C F G : Type 0} {e : _} {c : _} (options : Options E C e c)
-    (text : List ℕ) (bytes : F → List ℕ) (result : Result F G)
-    → IfOk result (λ filled. IsFilled (settings_view options) (DividesBy options) text
-    (bytes filled))
-    → IfOk result (λ filled.
-    (settings : Settings) (splitter : Splitter) (algorithm : Algorithm)
-    → HasParts options settings splitter algorithm
-    → IsFilled settings (DividesAs splitter algorithm settings) text (bytes filled))
-filled-by_parts options text bytes (Ok filled) is = λ settings splitter algorithm parts.
-    filled-as options settings splitter algorithm parts text (bytes filled) is
-filled-by_parts options text bytes (Err error) is = tt

@@ -1,5 +1,5 @@
 -- Lemmas on what the words of a line cover.
-use Rattle.std.proofs.Common.{◌≡◌, ℕ, suc, Bool, true, false, not, cond, ◌==◌, ◌&&◌, nat_lt}
+use Rattle.std.proofs.Common.{◌≡◌, ℕ, Bool, true, false, not, cond, ◌==◌, ◌&&◌, nat_lt}
 use Rattle.std.proofs.Common.{MatchBool, ◌+◌, ◌≤◌, List, [], ◌∷◌, ◌++◌, length, take}
 use Rattle.std.proofs.Common.{drop, map, refl, sym, ap, ◌∙◌, subst, arith, append_assoc, append-nil}
 use Rattle.std.proofs.Common.{length-append, take-append-drop, ◌*◌, All}
@@ -214,11 +214,6 @@ parts_from-push settings is_later (first ∷ lines) line =
     ∙ ap (λ b. parts_of settings is_later first ∷
     (parts_from settings true lines ++ parts_of settings (cond b true is_later) line ∷ []))
     (sym (some_lines first lines))
-
-length-parts_from : (settings : Settings) (is_later : Bool) (lines : List (List WordText))
-    → length (parts_from settings is_later lines) ≡ length lines
-length-parts_from settings is_later [] = refl
-length-parts_from settings is_later (line ∷ lines) = ap suc (length-parts_from settings true lines)
 
 pub not_empty : (n m : ℕ) → n ≡ m → not (n == 0) ≡ nat_lt 0 m
 not_empty n m is = grind (arith, nat_tests)

@@ -16,18 +16,10 @@ use Rattle.textwrap_words.specs.Words.{IsUncut, AreCutApart, AreWordsOf}
 use Rattle.textwrap_words.specs.WrapAlgorithms.{Greedy}
 use Rattle.textwrap_base.proofs.Division.Map.{IsDivision-whole, IsDividedBy-some}
 use Rattle.textwrap_base.proofs.ListLemmas.{flat, all-left, all-right}
-use Rattle.textwrap_words.proofs.Word.Tiling.{tiled-append, tiled-words_of}
+use Rattle.textwrap_words.proofs.Word.Tiling.{tiled-map, tiled-words_of}
 use Rattle.textwrap_words.proofs.Word.Words.{words_unique}
-use Rattle.textwrap_lines.proofs.Text.Lossless.{tiled-word_of}
 
 -- ---- the words of a line, cut in two
-
-tiled-words : (chunks : List (List ℕ)) → tiled (map word_of chunks) ≡ flat chunks
-tiled-words [] = refl
-tiled-words (chunk ∷ chunks) =
-    tiled-append (word_of chunk ∷ []) (map word_of chunks)
-    ∙ ap (λ l. l ++ tiled (map word_of chunks)) (tiled-word_of chunk)
-    ∙ ap (λ l. chunk ++ l) (tiled-words chunks)
 
 AreCutApart-front : (parts others : List (List ℕ)) → AreCutApart (parts ++ others)
     → AreCutApart parts
@@ -47,7 +39,7 @@ AreWordsOf-chunks : (chunks : List (List ℕ)) (words : List WordText) → words
 AreWordsOf-chunks chunks words is some uncut cut = (
   chunks,
   record {
-    tiles = sym (tiled-words chunks) ∙ ap tiled (sym is);
+    tiles = sym (tiled-map chunks) ∙ ap tiled (sym is);
     nonempty = some;
     uncut = uncut;
     cut = cut;
@@ -108,9 +100,9 @@ words_apart ws vs line (chunks, are, is) =
           (AreCutApart-front first others cut);
       back = AreWordsOf-chunks others vs others_is (all-right (λ part. part ≢ []) first others some)
           (all-right IsUncut first others uncut) (AreCutApart-back first others cut);
-      some = λ any. subst (λ l. 0 < length l) (sym (tiled-words first) ∙ ap tiled (sym first_is))
+      some = λ any. subst (λ l. 0 < length l) (sym (tiled-map first) ∙ ap tiled (sym first_is))
           (some_chunks first some_first (λ none. any (first_is ∙ ap (map word_of) none)));
-      blank_before = λ any more. ap last (ap tiled first_is ∙ tiled-words first)
+      blank_before = λ any more. ap last (ap tiled first_is ∙ tiled-map first)
           ∙ blank_chunks first others some_first cut
           (λ none. any (first_is ∙ ap (map word_of) none))
           (λ none. more (others_is ∙ ap (map word_of) none));

@@ -33,7 +33,7 @@ chunks-parts a (b ∷ c ∷ cs) =
       | false ↦ ap (onto_first b) (chunks-parts b (c ∷ cs))
     ]
 
-split-whole : (ps : List (List ℕ)) → split_words Whole (map word_of ps) ≡ map word_of ps
+pub split-whole : (ps : List (List ℕ)) → split_words Whole (map word_of ps) ≡ map word_of ps
 split-whole [] = refl
 split-whole (p ∷ ps) = ap (λ ws. word_of p ∷ ws) (split-whole ps)
 

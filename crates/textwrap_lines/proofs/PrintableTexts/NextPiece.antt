@@ -1,7 +1,7 @@
 -- What the code takes for the first piece of a printable text is that piece.
-use Rattle.std.proofs.Common.{inl, inr, ◌≡◌, ◌≢◌, ℕ, zero, suc, ◌+◌, ◌-◌, ◌<◌, ◌≤◌, Bool, true}
+use Rattle.std.proofs.Common.{inl, inr, ◌≡◌, ◌≢◌, ℕ, zero, suc, ◌+◌, ◌-◌, ◌<◌, ◌≤◌, true}
 use Rattle.std.proofs.Common.{false, not, ◌&&◌, cond, ltb, List, [], ◌∷◌, ◌++◌, length, map, take}
-use Rattle.std.proofs.Common.{drop, get_or, refl, sym, ap, ◌∙◌, subst, arith, take-append-drop}
+use Rattle.std.proofs.Common.{drop, get_or, refl, sym, ap, ◌∙◌, subst, arith}
 use Rattle.std.proofs.Common.{append-nil, add-one}
 use Rattle.std.specs.List.{onto_first}
 use Rattle.std.proofs.lemmas.Bool.{cases_lt, cases_Bool, false≢true, ne_eqb, le-ltb}
@@ -9,8 +9,9 @@ use Rattle.std.proofs.lemmas.List.{take_all, drop_all, length-take-le, get_or-ta
 use Rattle.std.proofs.lemmas.List.Elements.{All-take}
 use Rattle.textwrap_words.specs.Blanks.{is_blank, trimmed_len}
 use Rattle.textwrap_words.specs.Breaking.{broken_words, broken_pieces}
-use Rattle.textwrap_words.specs.Words.{is_cut, piece, word_of, tile_of}
+use Rattle.textwrap_words.specs.Words.{is_cut, piece, word_of}
 use Rattle.textwrap_words.proofs.Word.Texts.{trimmed-past}
+use Rattle.textwrap_words.proofs.Word.Tiling.{tile_of-word_of}
 use Rattle.textwrap_lines.specs.Printable.{IsPrintable, IsPrintableByte, CutTest, parts, cut_at}
 use Rattle.textwrap_lines.specs.Printable.{pieces_after, byte_before, BlanksBetween, NoCutBetween}
 use Rattle.textwrap_lines.specs.Printable.{IsFirstPiece}
@@ -19,11 +20,6 @@ use Rattle.textwrap_lines.proofs.PrintableTexts.Parts.{next_parts}
 use Rattle.textwrap_lines.proofs.PrintableTexts.Pieces.{CutsBeforeOthers}
 use Rattle.textwrap_lines.proofs.PrintableTexts.FirstPiece.{pieces-at_cut, pieces-broken}
 use Rattle.textwrap_lines.proofs.PrintableTexts.Search.{CutsAtBlanks}
-
--- what is not so
-pub not_true : (b : Bool) → not b ≡ true → b ≡ false
-not_true true is = absurd (false≢true is)
-not_true false is = refl
 
 -- one place more without a cut
 pub NoCut-next : (cut : CutTest) (a : ℕ) (text : List ℕ) (n : ℕ)
@@ -47,10 +43,6 @@ parts-whole cut a (b ∷ c ∷ cs) some none =
     ap (λ t. next_parts cut t b (c ∷ cs)) (none 0 (omega arith))
     ∙ ap (onto_first b) (parts-whole cut b (c ∷ cs) (omega arith)
     (λ k within. rw add-one (rw (add-one) at (none (suc k) (omega (arith, within))))))
-
--- with its whitespace a text as a word is the text
-tile-word_of : (p : List ℕ) → tile_of (word_of p) ≡ p
-tile-word_of p = take-append-drop (trimmed_len p) p
 
 module _ (cut : CutTest) (before_others : CutsBeforeOthers cut) (at_blanks : CutsAtBlanks cut)
     (limit : ℕ) where
@@ -136,7 +128,7 @@ module _ (cut : CutTest) (before_others : CutsBeforeOthers cut) (at_blanks : Cut
       are = both ∙ ap (λ ws. ws ++ pieces_after cut limit (byte_before a text e) (drop e text))
           front-piece;
       word = length-take-le (trimmed_len front) front (omega arith) ∙ front-trimmed;
-      whole = ap length (tile-word_of front) ∙ front-len;
+      whole = ap length (tile_of-word_of front) ∙ front-len;
     }
 
     -- blanks up to the end of the text

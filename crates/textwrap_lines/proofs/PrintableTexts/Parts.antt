@@ -4,15 +4,12 @@ use Rattle.std.proofs.Common.{◌∷◌, ◌++◌, length, take, drop, get_or, r
 use Rattle.std.specs.List.{onto_first}
 use Rattle.textwrap_base.proofs.ListLemmas.{flat, flat-onto_first, onto_front}
 use Rattle.textwrap_lines.specs.Printable.{CutTest, parts, cut_at}
+use Rattle.textwrap_lines.proofs.Text.Endings.{onto_first-some}
 
 -- one step, where the answer of the test is named
 abbrev pub next_parts : CutTest → Bool → ℕ → List ℕ → List (List ℕ)
 next_parts cut here b rest =
     cond here ((b ∷ []) ∷ parts cut b rest) (onto_first b (parts cut b rest))
-
-onto_first-some : (c : ℕ) (ps : List (List ℕ)) → 0 < length (onto_first c ps)
-onto_first-some c [] = omega arith
-onto_first-some c (p ∷ ps) = omega arith
 
 pub onto_first-append : (c : ℕ) (ps qs : List (List ℕ)) → 0 < length ps
     → onto_first c (ps ++ qs) ≡ onto_first c ps ++ qs

@@ -122,7 +122,7 @@ never_falls spans j some within =
     let same = ap (closed_width span_sizes) (take-take j (j + 1) spans (omega arith)) in
     omega (arith, part, same)
 
-two-equal : (first later : ℕ) → AreEqualFromSecond (first ∷ later ∷ [])
+pub two-equal : (first later : ℕ) → AreEqualFromSecond (first ∷ later ∷ [])
 two-equal first later zero from within = absurd (omega (arith, from))
 two-equal first later (suc zero) from within = refl
 two-equal first later (suc (suc k)) from within = absurd (omega (arith, within))

@@ -1,7 +1,7 @@
 -- Lemmas on paragraphs that are divided without a list of words.
 use Rattle.std.proofs.Common.{◌≡◌, ℕ, Bool, true, false, List, All, map, refl, sym, ap, ◌∙◌, subst}
 use Rattle.std.specs.Str.{IsUtf8}
-use Rattle.std.specs.Prelude.{Some, Result, Ok, Err, IfErr, IsErrAnd, OnOk, alloc_error}
+use Rattle.std.specs.Prelude.{Some, Result, Ok, Err, IfErr, IsErrAnd, alloc_error}
 use Rattle.textwrap_words.specs.Breaking.{broken_words}
 use Rattle.textwrap_words.specs.Words.{WordText, sizes_of, words_of}
 use Rattle.textwrap_words.specs.WrapAlgorithms.{Algorithm, IsDividedBy, algorithm_view}
@@ -88,9 +88,3 @@ pub passed-on : {A : Type 0} (result : Result A WrapError) (error : WrapError)
     → IfErr result (λ e. e ≡ Memory alloc_error)
 passed-on (Ok value) error is only = tt
 passed-on (Err e) error is only = is ∙ only
-
--- a result that is passed on
-pub OnOk-map : {A E : Type 0} (result : Result A E) {Before After : Type 0} → (Before → After)
-    → OnOk result Before → OnOk result After
-OnOk-map (Ok value) map before = map before
-OnOk-map (Err error) map before = tt

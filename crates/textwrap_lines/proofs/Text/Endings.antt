@@ -82,7 +82,7 @@ parts_past-none ending (c ∷ cs) lacks =
 
 -- ---- the parts, joined by the ending, are the text
 
-onto_first-some : (c : ℕ) (parts : List (List ℕ)) → 0 < length (onto_first c parts)
+pub onto_first-some : (c : ℕ) (parts : List (List ℕ)) → 0 < length (onto_first c parts)
 onto_first-some c [] = omega arith
 onto_first-some c (part ∷ parts) = omega arith
 

@@ -82,6 +82,11 @@ abbrev pub bytes_left : Option (Bor (List ℕ)) → ℕ
 bytes_left None = 0
 bytes_left (Some rest) = length rest.now + 1
 
+-- a line is out where one was out, or one was added
+pub is_later-or : (now before added : ℕ) → now ≡ before + added
+    → nat_lt 0 now ≡ nat_lt 0 before || nat_lt 0 added
+is_later-or now before added is = grind (arith, nat_tests)
+
 module _ (settings : Settings) (Divides : Bool → List ℕ → List (List WordText) → Type 0) where
   -- the lines are those of the paragraphs so far: with right lines of the paragraphs left they are
   -- the lines of the text
@@ -110,11 +115,6 @@ module _ (settings : Settings) (Divides : Bool → List ℕ → List (List WordT
       ap (map line_from) (flat_map-append (λ (ps : List LineParts). ps) groups (parts ∷ [])
       ∙ ap (λ ps. flat_map (λ p. p) groups ++ ps) (append-nil parts))
       ∙ map-append line_from (flat_map (λ p. p) groups) parts
-
-  -- a line is out where one was out, or one was added
-  is_later-or : (now before added : ℕ) → now ≡ before + added
-      → nat_lt 0 now ≡ nat_lt 0 before || nat_lt 0 added
-  is_later-or now before added is = grind (arith, nat_tests)
 
   pub HasGroups-more : (text : List ℕ) (lines more : List Line) (left after : List (List ℕ))
       (paragraph : List ℕ) (parts : List LineParts) → HasGroups text lines left

@@ -10,7 +10,7 @@ use Rattle.std.proofs.Transfers.{starts_with_of_append}
 use Rattle.std.proofs.lemmas.Bool.{and_parts, ltb-true}
 use Rattle.std.proofs.lemmas.Bool.Decides.{nat_tests}
 use Rattle.std.proofs.lemmas.List.{length-map}
-use Rattle.std.proofs.lemmas.List.Elements.{All-nil, All-cons, All-head, All-tail}
+use Rattle.std.proofs.lemmas.List.Elements.{All-nil, All-cons}
 use Rattle.textwrap_base.specs.Division.{closed_width}
 use Rattle.textwrap_words.specs.Units.{IsNarrow}
 use Rattle.textwrap_words.specs.Words.{WordText, AreWordsOf, sizes_of, tiled, word_of}
@@ -24,7 +24,7 @@ use Rattle.textwrap_words.proofs.Word.Texts.{HasNoPenalty, IsMeasured, without_f
 use Rattle.textwrap_lines.specs.LineEnding.{paragraphs_of, ending_bytes}
 use Rattle.textwrap_lines.specs.Paragraph.{DividesAs, DividesBy}
 use Rattle.textwrap_lines.specs.Options.{Settings, settings_view}
-use Rattle.textwrap_lines.specs.Paragraph.{Line, LineParts, line_from, indent_of, last_piece}
+use Rattle.textwrap_lines.specs.Paragraph.{Line, LineParts, line_from, indent_of}
 use Rattle.textwrap_lines.specs.Paragraph.{parts_of, parts_from, is_whole, widths_of, IsDividedInto}
 use Rattle.textwrap_lines.specs.Paragraph.{AreIndented, indent_before, AreParagraphParts}
 use Rattle.textwrap_lines.specs.Paragraph.{KeepToWidths, OnlyCharactersPass, KeepsToWidth}
@@ -35,6 +35,7 @@ use Rattle.textwrap_words.specs.WordSplitters.{ends_in_hyphen}
 use Rattle.textwrap_words.specs.Cuts.{AreCuts}
 use Rattle.textwrap_lines.specs.declared.options.Options.{Options}
 use Rattle.textwrap_lines.proofs.Paragraph.EvenLines.{division-even, whole-even}
+use Rattle.textwrap_lines.proofs.Paragraph.Lines.{last_piece-no_penalty}
 use Rattle.textwrap_lines.proofs.Paragraph.LongLines.{long_lines}
 use Rattle.textwrap_words.proofs.Word.Pieces.{AreTexts, AreTexts-words, ArePoints-cuts}
 use Rattle.textwrap_lines.proofs.Paragraph.Pieces.{pieces-tile}
@@ -81,12 +82,6 @@ parts_from-pieces settings is_later (line ∷ lines) =
 
 abbrev HasNoHyphen : LineParts → Type 0
 HasNoHyphen p = p.penalty ≡ []
-
-last_piece-no_penalty : (w : WordText) (ws : List WordText) → All HasNoPenalty (w ∷ ws)
-    → HasNoPenalty (last_piece w ws)
-last_piece-no_penalty w [] all = All-head HasNoPenalty w [] all
-last_piece-no_penalty w (v ∷ ws) all =
-    last_piece-no_penalty v ws (All-tail HasNoPenalty w (v ∷ ws) all)
 
 parts_of-no_hyphen : (settings : Settings) (is_later : Bool) (line : List WordText)
     → All HasNoPenalty line → HasNoHyphen (parts_of settings is_later line)

@@ -117,19 +117,6 @@ Took-line v settings is_later has_line division i d start now next within has_is
     (Took-then start now next (map line_from (parts_from settings is_later before))
     (line_from (parts_of settings has_line here) ∷ []) so_far one)
 
--- ---- slices, one after another
-
-pub Took-slice : {Z X : Type 0} (text : X → List ℕ) (xs : List X) (i : ℕ) (d : X)
-    (start now next : LineSink Z) → i < length xs
-    → Took start now (map Slice (map text (take i xs)))
-    → Took now next (Slice (text (get_or xs i d)) ∷ [])
-    → Took start next (map Slice (map text (take (i + 1) xs)))
-Took-slice text xs i d start now next within so_far one =
-    let before = map text (take i xs) in
-    subst (Took start next) (sym (ap (map Slice) (map_more text xs i d within)
-    ∙ map-append Slice before (text (get_or xs i d) ∷ [])))
-    (Took-then start now next (map Slice before) (Slice (text (get_or xs i d)) ∷ []) so_far one)
-
 -- ---- one paragraph after the other
 
 module _ (settings : Settings) (Divides : Bool → List ℕ → List (List WordText) → Type 0)

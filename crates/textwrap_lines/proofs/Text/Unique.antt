@@ -1,6 +1,6 @@
 -- Lemmas on the lines of a text: the definitions leave one list of lines, and one filled text.
 use Rattle.std.proofs.Common.{◌≡◌, ℕ, Bool, true, false, MatchBool, ◌||◌, nat_lt, List, [], ◌∷◌}
-use Rattle.std.proofs.Common.{length, get_or, map, sym, ap, ◌∙◌, subst, arith}
+use Rattle.std.proofs.Common.{length, map, sym, ap, ◌∙◌, subst}
 use Rattle.textwrap_base.specs.Sizes.{Sizes}
 use Rattle.textwrap_words.specs.WrapAlgorithms.{Algorithm, Greedy, LeastCost, IsDividedBy}
 use Rattle.textwrap_base.specs.Cost.{AreEqualFromSecond, priced_at}
@@ -15,12 +15,9 @@ use Rattle.textwrap_lines.specs.Paragraph.{widths_of, is_whole, DividesAs, AreDi
 use Rattle.textwrap_lines.specs.Paragraph.{AreParagraphParts}
 use Rattle.textwrap_words.specs.WordSplitters.{Splitter}
 use Rattle.textwrap_lines.proofs.Paragraph.Pieces.{ArePieces-is}
+use Rattle.textwrap_lines.proofs.Standing.Costs.{two-equal}
 use Rattle.textwrap_lines.specs.Text.{AreGroups, AreTextLines}
 use Rattle.textwrap_lines.specs.Filling.{IsFilled}
-
-two_widths : (first later : ℕ) → AreEqualFromSecond (first ∷ later ∷ [])
-two_widths first later k from within = let second : k ≡ 1 = omega (arith, from, within) in
-    ap (λ n. get_or (first ∷ later ∷ []) n 0) second
 
 divided_one : {X : Type 0} (algorithm : Algorithm) (sizes : X → Sizes) (widths : List ℕ)
     (xs : List X) (lines others : List (List X)) → AreEqualFromSecond widths
@@ -41,7 +38,7 @@ division_one settings algorithm splitter is_later paragraph division other (piec
     let same = ArePieces-is settings splitter paragraph others others_are
     ∙ sym (ArePieces-is settings splitter paragraph pieces are) in
     divided_one algorithm sizes_of (widths_of settings is_later) pieces division other
-    (two_widths _ _) divided (subst
+    (two-equal _ _) divided (subst
     (λ ws. IsDividedBy algorithm sizes_of (widths_of settings is_later) ws other) same
     others_divided)
 

@@ -1,18 +1,11 @@
 -- Lemmas on lines that are written piece by piece.
 use Rattle.std.proofs.Common.{◌≡◌, ℕ, List, [], ◌++◌, refl, ap, sym, ◌∙◌, append_assoc}
-use Rattle.std.specs.Prelude.{Result, Ok, Err, OnOk}
 use Rattle.textwrap_words.specs.Words.{WordText, tiled}
 use Rattle.textwrap_words.proofs.Word.Tiling.{tiled-append}
 use Rattle.textwrap_lines.specs.WordLines.{GoesOn, IsNext, LaterLines, line_so_far, lines_from}
 use Rattle.textwrap_lines.specs.declared.line_sinks.LineSink.{LineSink}
 use Rattle.textwrap_lines.specs.declared.word_lines.OpenLine.{OpenLine}
 use Rattle.textwrap_lines.proofs.Text.Sinks.{Took-none, Took-then}
-
--- what holds where a call succeeds
-pub on_ok-map : {A E : Type 0} {P Q : Type 0} (result : Result A E) → (P → Q) → OnOk result P
-    → OnOk result Q
-on_ok-map (Ok x) more holds = more holds
-on_ok-map (Err e) more holds = tt
 
 -- pieces that tile the same
 pub IsNext-same : (line : OpenLine) (pieces others : List WordText) → tiled pieces ≡ tiled others

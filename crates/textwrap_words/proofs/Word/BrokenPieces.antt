@@ -5,7 +5,7 @@ use Rattle.std.proofs.Common.{cond, eqb, ltb, List, [], ◌∷◌, ◌++◌, ref
 use Rattle.std.proofs.Common.{zero-add, add-zero, arith, length, take, drop, map}
 use Rattle.std.specs.Prelude.{chars, All, IsUtf8, encode_utf8, encode_utf8_all}
 use Rattle.std.specs.List.{flat_map, sum_by}
-use Rattle.std.proofs.lemmas.Bool.{cases_Bool, ltb-true}
+use Rattle.std.proofs.lemmas.Bool.{cases_Bool, not-true, ltb-true}
 use Rattle.std.proofs.lemmas.List.{nil_from_length, append-nil, append_assoc, append_cancel_right}
 use Rattle.std.proofs.lemmas.List.{take-append-drop, length-append, length-drop, drop-drop, drop_at}
 use Rattle.std.proofs.lemmas.List.{drop_all}
@@ -119,9 +119,6 @@ IsInFirst-step limit cs s width c rest next flag h step room =
     (sym is.0) here in
     record { leaves = h.leaves ∙ on.leaves; wide = omega (arith, h.wide, on.wide) }
 
-not-escape : (c : ℕ) → true ≡ not (eqb c 27) → eqb c 27 ≡ false
-not-escape c e = elim (cases_Bool (eqb c 27)) [ inl t ↦ let f = rw t at e in cc | inr f ↦ f ]
-
 -- where the first piece ends and the reader goes no further
 pub record EndsHere (limit : ℕ) (cs : List ℕ) (width : ℕ) (us : List TextUnit) : Type 0 where
   leaves : left_units limit 0 (units cs) ≡ us
@@ -136,7 +133,7 @@ pub IsInFirst-cut : (limit : ℕ) (cs : List ℕ) (s : State) (width c : ℕ) (r
     (next : State) → IsInFirst limit cs s width (c ∷ rest) → IsStep s c next true
     → is_due limit width (Visible c) ≡ true → EndsHere limit cs width (units (c ∷ rest))
 IsInFirst-cut limit cs Text width c rest next h step due =
-    let plain = not-escape c (step-is Text next true c step).0 in
+    let plain = not-true (eqb c 27) (sym (step-is Text next true c step).0) in
     let due_unit : is_due limit width (unit_at c rest) ≡ true = rw plain due in
     let both = due-ends limit width (unit_at c rest) (units_past (taken_at c rest) rest) due_unit in
     record { leaves = h.leaves ∙ both.0; wide = omega (arith, h.wide, both.1) }

@@ -6,6 +6,7 @@ use Rattle.std.proofs.Common.{append_assoc, append-nil}
 use Rattle.std.specs.Prelude.{All, Some, None, Ok, slice_range}
 use Rattle.std.specs.List.Sorted.{IsNonDecreasing}
 use Rattle.std.proofs.lemmas.List.{map-id, take-map, drop-map, length-map}
+use Rattle.std.proofs.lemmas.List.Folds.{drop_split}
 use Rattle.textwrap_words.specs.LineEnds.{AreEnds, lines_from}
 use Rattle.textwrap_words.specs.Words.{WordText, word_view, sizes_of}
 use Rattle.textwrap_words.specs.WrapAlgorithms.{Greedy, LeastCost, IsDividedBy, MayEnd}
@@ -17,7 +18,7 @@ use Rattle.textwrap_words.specs.declared.wrap_algorithms.WrapAlgorithm.TheVarian
 use Rattle.textwrap_words.specs.declared.wrap_algorithms.line_ends.LineEnds.{LineEnds}
 use Rattle.textwrap_base.proofs.Division.Map.{IsDividedBy-map, IsDividedBy-whole}
 use Rattle.textwrap_base.proofs.Division.Map.{IsDividedBy-some}
-use Rattle.textwrap_base.proofs.ListLemmas.{flat, slice-rest, Begins}
+use Rattle.textwrap_base.proofs.ListLemmas.{flat, Begins}
 
 lines_from-begin : {X : Type 0} (xs : List X) (start : ℕ) (ends : List ℕ) → IsNonDecreasing ends
     → ((k : ℕ) → k < length ends → start ≤ get_or ends k 0)
@@ -30,7 +31,7 @@ lines_from-begin xs start (end ∷ ends) in_order before =
       rest,
       append_assoc (slice_range xs start end) (flat (lines_from xs end ends)) rest
           ∙ ap (λ l. slice_range xs start end ++ l) is
-          ∙ slice-rest xs start end (before 0 (omega arith)),
+          ∙ sym (drop_split xs start end (before 0 (omega arith))),
     )
 
 lines_from-map : {X Y : Type 0} (f : X → Y) (xs : List X) (start : ℕ) (ends : List ℕ)

@@ -109,17 +109,6 @@ pub record IsFinding (offsets line : List ℕ) (at : ℕ) (rest : List ℕ) (sta
   pub found : cuts ++ cuts_among offsets (length (stripped line)) (ends_in state at shown (chars rest))
       ≡ cuts_at offsets line
 
-pub IsFinding-start : (offsets line : List ℕ) (at : ℕ) (rest cuts : List ℕ) → IsUtf8 line → at ≡ 0
-    → rest ≡ line → cuts ≡ [] → IsFinding offsets line at rest Text 0 cuts
-IsFinding-start offsets line at rest cuts utf8 start whole none =
-    rw (start, whole, none) (record {
-      utf8 = utf8;
-      place = refl;
-      within = omega arith;
-      behind = omega arith;
-      found = refl;
-    })
-
 pub IsFinding-room : (offsets line : List ℕ) (at : ℕ) (rest : List ℕ) (s : State) (shown : ℕ)
     (cuts : List ℕ) (c : ℕ) (after : List ℕ) → IsFinding offsets line at rest s shown cuts
     → rest ≡ encode c ++ after → at + length (encode c) ≤ length line

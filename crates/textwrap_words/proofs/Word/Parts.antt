@@ -7,10 +7,10 @@ use Rattle.std.specs.Str.{IsUtf8, IsCharBoundary}
 use Rattle.std.proofs.lemmas.Bool.{cases_Bool, cases_eq, eqb-true}
 use Rattle.std.proofs.lemmas.List.Sorted.{IsNonDecreasingBy-from_default}
 use Rattle.std.proofs.lemmas.List.{nil_from_length}
+use Rattle.std.proofs.lemmas.List.Folds.{drop_split}
 use Rattle.std.proofs.lemmas.List.Elements.{All-nil, All-cons, All-head, All-tail}
 use Rattle.std.proofs.lemmas.Str.{IsUtf8-drop, IsUtf8-between, IsCharBoundary-start}
 use Rattle.textwrap_words.specs.Words.{tiled, word_of}
-use Rattle.textwrap_base.proofs.ListLemmas.{slice-rest}
 use Rattle.textwrap_base.proofs.ListLemmas.{flat}
 use Rattle.textwrap_words.proofs.Word.Tiling.{tiled-map}
 use Rattle.textwrap_words.specs.Cuts.{AreCuts, AreInnerCuts, parts_from, parts_between}
@@ -40,7 +40,7 @@ parts_from-tile start (cut ∷ cuts) line in_order before =
     let rest = parts_from-tile cut cuts line later
     (λ k lt. in_order 0 (suc k) 0 (omega arith) (omega arith)) in
     ap (λ l. slice_range line start cut ++ l) rest
-    ∙ slice-rest line start cut (before 0 (omega arith))
+    ∙ sym (drop_split line start cut (before 0 (omega arith)))
 
 pub parts_between-tile : (cuts line : List ℕ) → IsNonDecreasing cuts
     → tiled (map word_of (parts_between cuts line)) ≡ line

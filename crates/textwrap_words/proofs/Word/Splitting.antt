@@ -9,11 +9,11 @@ use lib.Utf8.{encode}
 use Rattle.std.proofs.lemmas.Bool.{and_parts, cond_both, eqb-true, false≢true, ltb-true}
 use Rattle.std.proofs.lemmas.List.{map-id, reverse-append, append-nil, append_assoc}
 use Rattle.std.proofs.lemmas.List.{take-append-drop, length-append, length-take, take_at, drop_at}
-use Rattle.std.proofs.lemmas.List.{get_or-append-add, get_or-take}
+use Rattle.std.proofs.lemmas.List.{get_or-append-add, get_or-take, nil_from_length}
 use Rattle.std.proofs.lemmas.List.Concat.{flat_map-append}
 use Rattle.std.proofs.lemmas.List.Elements.{All-filter, All-head, All-nil, All-tail, filter-append}
 use Rattle.std.proofs.lemmas.List.Elements.{filter_passes}
-use Rattle.std.proofs.lemmas.List.Folds.{list_any_at, list_any-append}
+use Rattle.std.proofs.lemmas.List.Folds.{drop_split, list_any_at, list_any-append}
 use Rattle.std.proofs.lemmas.List.FromFn.{get_or-range_with_len, length-range_with_len}
 use Rattle.std.proofs.lemmas.List.FromFn.{map-range_with_len_more}
 use Rattle.std.proofs.lemmas.List.Kept.{IsNonDecreasingBy-filter}
@@ -26,12 +26,7 @@ use Rattle.textwrap_words.specs.Cuts.{AreCuts}
 use Rattle.textwrap_words.specs.WordSplitters.{split_from, split_pieces, split_word, split_words}
 use Rattle.textwrap_words.specs.WordSplitters.{AreSplit}
 use Rattle.textwrap_words.specs.WordSplitters.{Splitter, Whole, AtHyphens}
-use Rattle.textwrap_base.proofs.ListLemmas.{slice-rest}
 use Rattle.textwrap_words.specs.Words.{WordText, tile_of, tiled}
-
-nil-length : (xs : List ℕ) → length xs ≡ 0 → xs ≡ []
-nil-length [] e = refl
-nil-length (x ∷ xs) e = cc
 
 -- the first byte of a character is no continuation byte
 abbrev IsLead : List ℕ → Type 0
@@ -59,7 +54,7 @@ before-last text rest c e = (
 -- a text that is empty, or has a last character
 pub ends-none : (text : List ℕ) → length text ≡ 0
     → begins_alphanumeric (reverse (chars text)) ≡ false
-ends-none text none = ap (λ t. begins_alphanumeric (reverse (chars t))) (nil-length text none)
+ends-none text none = ap (λ t. begins_alphanumeric (reverse (chars t))) (nil_from_length text none)
     ∙ ap (λ cs. begins_alphanumeric (reverse cs)) chars-nil
 
 pub ends-some : (text rest : List ℕ) (c : ℕ) → IsUtf8 text → text ≡ rest ++ encode c
@@ -200,7 +195,7 @@ tiled-split_from w start (point ∷ points) in_order before =
     ap (λ l. l ++ tiled (split_from w point points)) (append-nil (slice_range w.word start point))
     ∙ ap (λ l. slice_range w.word start point ++ l) rest
     ∙ sym (append_assoc (slice_range w.word start point) (drop point w.word) w.whitespace)
-    ∙ ap (λ l. l ++ w.whitespace) (slice-rest w.word start point (before 0 (omega arith)))
+    ∙ ap (λ l. l ++ w.whitespace) (sym (drop_split w.word start point (before 0 (omega arith))))
 
 pub tiled-split_pieces : (points : List ℕ) (w : WordText) → AreCuts w.word points
     → tiled (split_pieces points w) ≡ tile_of w

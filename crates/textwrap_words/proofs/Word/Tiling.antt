@@ -47,7 +47,7 @@ chunks_first (c ∷ d ∷ cs) (suc (suc n)) some within before at =
 
 -- ---- tiling
 
-tile_of-word_of : (text : List ℕ) → tile_of (word_of text) ≡ text
+pub tile_of-word_of : (text : List ℕ) → tile_of (word_of text) ≡ text
 tile_of-word_of text = take-append-drop (trimmed_len text) text
 
 pub tiled-map : (parts : List (List ℕ)) → tiled (map word_of parts) ≡ flat parts

@@ -42,7 +42,7 @@ AreCutApart-head part ([] ∷ parts) some cut =
     absurd (All-head (λ part. part ≢ []) [] parts some refl)
 AreCutApart-head part ((d ∷ next) ∷ parts) some cut = cut [] parts part (d ∷ next) refl
 
-AreCutApart-tail : (part : List ℕ) (parts : List (List ℕ)) → AreCutApart (part ∷ parts)
+pub AreCutApart-tail : (part : List ℕ) (parts : List (List ℕ)) → AreCutApart (part ∷ parts)
     → AreCutApart parts
 AreCutApart-tail part parts cut = λ before after left right e. cut (part ∷ before) after left right
     (ap (λ l. part ∷ l) e)

@@ -1,7 +1,7 @@
 use Rattle.std.proofs.Common.{inl, inr, ◌≡◌, ap, sym, ◌∙◌, arith, slice_index}
-use Rattle.std.proofs.lemmas.Bool.{cases_lt}
+use Rattle.std.proofs.lemmas.Bool.{cases_lt, not-true}
 use Rattle.textwrap_lines.specs.Printable.{printable_cut}
-use Rattle.textwrap_lines.proofs.PrintableTexts.NextPiece.{NoCut-next, not_true}
+use Rattle.textwrap_lines.proofs.PrintableTexts.NextPiece.{NoCut-next}
 use Rattle.textwrap_lines.proofs.spans.word_len.Goals as goal
 use Rattle.textwrap_lines.proofs.spans.word_len.Goals.{then-len-eq0, else-len-eq0}
 
@@ -19,6 +19,6 @@ loop-len-preserved c = record {
       (λ some. elim c.if-len-eq0.branch [
         | then-len-eq0 w ↦ absurd (omega (arith, some, w.if-len-eq0.true))
         | else-len-eq0 w ↦ sym w.is_cut_at.ensures
-            ∙ not_true w.is_cut_at.result (sym w.value-is ∙ c.if-not-is_cut_at.true)
+            ∙ not-true w.is_cut_at.result (sym w.value-is ∙ c.if-not-is_cut_at.true)
       ]);
 }

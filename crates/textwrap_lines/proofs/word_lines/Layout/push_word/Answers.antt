@@ -3,6 +3,7 @@ use Rattle.std.proofs.Common.{ap, ◌∙◌, sym, subst, arith, append-nil}
 use Rattle.std.specs.Prelude.{OnOk, slice_range}
 use Rattle.std.specs.Str.{IsUtf8}
 use Rattle.std.specs.List.{list_any}
+use Rattle.std.proofs.lemmas.Result.{on_ok_weaker}
 use Rattle.std.proofs.lemmas.Str.{IsCharBoundary-start, IsUtf8-between}
 use Rattle.textwrap_words.specs.Breaking.{broken_word, broken_words}
 use Rattle.textwrap_words.specs.Words.{piece, word_view}
@@ -13,7 +14,7 @@ use Rattle.textwrap_words.proofs.Word.Splitting.{after-hyphen, hyphen_points-non
 use Rattle.textwrap_lines.proofs.WordLines.Pieces.{pieces_from, pieces_from-point}
 use Rattle.textwrap_lines.proofs.WordLines.Pieces.{pieces_from-none, pieces_from-end, split-none}
 use Rattle.textwrap_lines.proofs.WordLines.Pieces.{tiled-split, tiled-broken}
-use Rattle.textwrap_lines.proofs.WordLines.Steps.{on_ok-map, IsNext-same, GoesOn-start}
+use Rattle.textwrap_lines.proofs.WordLines.Steps.{IsNext-same, GoesOn-start}
 use Rattle.textwrap_lines.proofs.WordLines.Steps.{GoesOn-next, GoesOn-then}
 use Rattle.textwrap_lines.proofs.word_lines.Layout.push_word.Goals as goal
 use Rattle.textwrap_lines.proofs.word_lines.Layout.push_word.Goals.{then-not-self-via-then-not-self}
@@ -184,7 +185,7 @@ returns g c =
     c.loop-point.line)
     (pieces_from-end layout.limit word start c.loop-point.point c.loop-point-test.false)
     c.loop-point.invariant.taken in
-    on_ok-map c.push_broken-2.result (λ step.
+    on_ok_weaker c.push_broken-2.result (λ step.
     let next = c.push_broken-2.new.line in
     subst (λ ps. GoesOn (later_lines layout) before c.args.line.now ps new next [])
     split

@@ -4,7 +4,7 @@ use Rattle.std.proofs.Common.{not, List, [], ◌∷◌, ◌++◌, length, take, 
 use Rattle.std.proofs.Common.{arith, sym, ap, ◌∙◌}
 use Rattle.std.specs.Prelude.{◌==◌, Some, None}
 use Rattle.std.specs.List.{slice_split, position_or_len, before_first, after_first}
-use Rattle.std.proofs.lemmas.Bool.{false_from_ne_true}
+use Rattle.std.proofs.lemmas.Bool.{false_from_ne_true, not-true}
 use Rattle.std.proofs.lemmas.List.{take_more, take_all, length_push, take_at}
 use Rattle.std.proofs.lemmas.List.Splits.{slice_split_first, slice_split_none, length-slice_split}
 use Rattle.std.proofs.lemmas.List.Sums.{prefix_len_passes}
@@ -72,10 +72,6 @@ ended_lines-feed text within =
     (slice_split is_feed (after_first is_feed text))
     (omega (arith, length-slice_split is_feed (after_first is_feed text)))
 
-false_from_not : (b : Bool) → not b ≡ true → b ≡ false
-false_from_not true is = cc
-false_from_not false is = refl
-
 nonempty_part : (text : List ℕ) → 0 < length text
     → ended_lines_of (text ∷ []) ≡ record { line = text; ending = None } ∷ []
 nonempty_part [] some = absurd (omega arith)
@@ -88,7 +84,7 @@ pub ended_lines-one : (text : List ℕ) → 0 < length text
     → ended_lines text ≡ record { line = text; ending = None } ∷ []
 ended_lines-one text some all =
     ap ended_lines_of (slice_split_none is_feed text
-    (λ k d within. false_from_not (is_feed (get_or text k d))
+    (λ k d within. not-true (is_feed (get_or text k d))
     (prefix_len_passes (λ b. not (is_feed b)) text k d (omega (arith, all)))))
     ∙ nonempty_part text some
 

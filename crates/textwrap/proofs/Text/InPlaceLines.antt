@@ -33,13 +33,14 @@ use Rattle.textwrap_lines.specs.Paragraph.{is_whole, parts_of, parts_from, piece
 use Rattle.textwrap_lines.specs.Paragraph.{DividesAs, ArePieces, AreParagraphParts}
 use Rattle.textwrap_lines.specs.Text.{AreGroups, AreTextLines}
 use Rattle.textwrap_words.specs.Words.{AreWordsOf}
-use Rattle.textwrap_words.specs.WordSplitters.{ArePoints, split_words}
+use Rattle.textwrap_words.specs.WordSplitters.{ArePoints}
 use Rattle.textwrap_lines.proofs.Paragraph.LastBlanks.{covered-words_of}
 use Rattle.textwrap_lines.proofs.Paragraph.Lines.{line_from-pieces, line_from-whole}
 use Rattle.textwrap_lines.proofs.Paragraph.Lines.{AreParagraphParts-whole}
 use Rattle.textwrap_lines.proofs.Paragraph.Lines.{AreParagraphParts-divided}
 use Rattle.textwrap_lines.proofs.Paragraph.Pieces.{ArePieces-computed}
 use Rattle.textwrap_lines.proofs.Paragraph.Shortcut.{closed-pieces_of}
+use Rattle.textwrap_lines.proofs.PrintableTexts.Bridge.{split-whole}
 use Rattle.textwrap_lines.proofs.Text.Endings.{paragraphs_of-utf8}
 use Rattle.textwrap_lines.proofs.Text.Endings.{parts_past-some}
 use Rattle.textwrap_lines.proofs.Paragraph.LinesApart.{shortened, AreLinesApart, IsBroken-greedy}
@@ -287,16 +288,11 @@ widths_of-unbroken width is_later =
 
 -- ---- whole words are pieces
 
-split_words-none : (parts : List (List ℕ))
-    → split_words Whole (map word_of parts) ≡ map word_of parts
-split_words-none [] = refl
-split_words-none (part ∷ parts) = ap (λ ws. word_of part ∷ ws) (split_words-none parts)
-
 abbrev pub pieces_in : ℕ → List ℕ → List WordText
 pieces_in width part = pieces_of (unbroken_at width) Whole part
 
 pub pieces_of-unbroken : (width : ℕ) (part : List ℕ) → pieces_in width part ≡ words_of part
-pieces_of-unbroken width part = split_words-none (chunks part)
+pieces_of-unbroken width part = split-whole (chunks part)
 
 -- ---- the lines of a part are those of a paragraph
 

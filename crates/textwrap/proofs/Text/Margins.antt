@@ -1,7 +1,7 @@
 -- Lemmas on margins: a text has one, and its lines begin with it.
-use Rattle.std.proofs.Common.{◌≡◌, ◌↔◌, inl, inr, ℕ, suc, ◌+◌, ◌≤◌, ◌==◌, Bool, true, false}
+use Rattle.std.proofs.Common.{◌≡◌, ◌↔◌, inl, inr, ℕ, suc, ◌+◌, ◌==◌, Bool, true, false}
 use Rattle.std.proofs.Common.{cond, Option, None, Some, List, [], ◌∷◌, length, take, drop, get_or}
-use Rattle.std.proofs.Common.{All, refl, sym, ap, ◌∙◌, subst, arith, length-take}
+use Rattle.std.proofs.Common.{All, refl, sym, ap, ◌∙◌, subst, arith}
 use Rattle.std.specs.Char.{is_whitespace}
 use Rattle.std.specs.Io.{StartsWith}
 use Rattle.std.specs.List.{fold, list_all, prefix_len}
@@ -10,6 +10,7 @@ use Rattle.std.specs.Borrow.{Bor}
 use Rattle.std.specs.Option.{option_map, unwrap_or}
 use Rattle.std.specs.Str.{chars}
 use Rattle.std.specs.Str.Lines.{lines}
+use Rattle.std.proofs.Transfers.{starts_with_length, starts_with_of_eq, starts_with_trans}
 use Rattle.std.proofs.lemmas.Bool.{eqb-true, eqb-false, false≢true, and_parts}
 use Rattle.std.proofs.lemmas.Bool.{and_from}
 use Rattle.std.proofs.lemmas.List.{take_all}
@@ -21,9 +22,6 @@ use Rattle.textwrap.specs.Indentation.{IsMarginOfLines, IsMarginOf, narrowed, ma
 use Rattle.textwrap.specs.Indentation.{margin_of, lines_from_first}
 
 -- ---- prefixes
-
-starts-self : (xs : List ℕ) → StartsWith xs xs
-starts-self xs = take_all (length xs) xs (omega arith)
 
 starts-head : (x y : ℕ) (xs ys : List ℕ) → StartsWith (x ∷ xs) (y ∷ ys) → x ≡ y
 starts-head x y xs ys is = ap (λ l. get_or l 0 0) is
@@ -38,22 +36,11 @@ starts-cons x y xs ys same is = ap (λ l. x ∷ l) is ∙ ap (λ z. z ∷ ys) sa
 nothing-starts : (y : ℕ) (ys : List ℕ) → StartsWith [] (y ∷ ys) → ⊥
 nothing-starts y ys is = omega (arith, ap length is)
 
-starts-long : (xs ys : List ℕ) → StartsWith xs ys → length ys ≤ length xs
-starts-long xs ys is = omega (arith, ap length is, length-take (length ys) xs)
-
-starts-trans : (xs ys zs : List ℕ) → StartsWith xs ys → StartsWith ys zs → StartsWith xs zs
-starts-trans xs ys [] first second = refl
-starts-trans xs [] (z ∷ zs) first second = absurd (nothing-starts z zs second)
-starts-trans [] (y ∷ ys) (z ∷ zs) first second = absurd (nothing-starts y ys first)
-starts-trans (x ∷ xs) (y ∷ ys) (z ∷ zs) first second =
-    starts-cons x z xs zs (starts-head x y xs ys first ∙ starts-head y z ys zs second)
-    (starts-trans xs ys zs (starts-tail x y xs ys first) (starts-tail y z ys zs second))
-
 -- ---- a margin and one line
 
 narrowed-front : (margin line : List ℕ) → StartsWith margin (narrowed margin line)
 narrowed-front [] line = refl
-narrowed-front (c ∷ margin) [] = starts-self (c ∷ margin)
+narrowed-front (c ∷ margin) [] = starts_with_of_eq (c ∷ margin) (c ∷ margin) refl
 narrowed-front (c ∷ margin) (d ∷ line) =
     elim (c == d) as (λ b. StartsWith (c ∷ margin) (cond b (c ∷ narrowed margin line) [])) [
       | true ↦ starts-cons c c margin (narrowed margin line) refl (narrowed-front margin line)
@@ -118,10 +105,10 @@ narrowed_by margin later = fold (λ m line. narrowed m (chars line)) margin late
 
 by-front : (margin : List ℕ) (later : List (List ℕ))
     → StartsWith margin (narrowed_by margin later)
-by-front margin [] = starts-self margin
+by-front margin [] = starts_with_of_eq margin margin refl
 by-front margin (line ∷ later) =
     let next = narrowed margin (chars line) in
-    starts-trans margin next (narrowed_by next later) (narrowed-front margin (chars line))
+    starts_with_trans margin next (narrowed_by next later) (narrowed-front margin (chars line))
     (by-front next later)
 
 by-comparable : (margin other : List ℕ) (later : List (List ℕ))
@@ -132,7 +119,7 @@ by-comparable margin other (line ∷ later) starts =
     let next = narrowed margin (chars line) in
     All-cons (λ l. AreComparable other (chars l)) line later
     (narrowed-comparable margin (chars line) other
-    (starts-trans next (narrowed_by next later) other (by-front next later) starts))
+    (starts_with_trans next (narrowed_by next later) other (by-front next later) starts))
     (by-comparable next other later starts)
 
 by-longest : (margin other : List ℕ) (later : List (List ℕ)) → StartsWith margin other
@@ -154,9 +141,9 @@ is_margin first later =
     let margin = narrowed_by start later in
     record {
       begins = by-front start later;
-      comparable = by-comparable start margin later (starts-self margin);
+      comparable = by-comparable start margin later (starts_with_of_eq margin margin refl);
       longest = λ other starts all.
-          starts-long margin other (by-longest start other later starts all);
+          starts_with_length margin other (by-longest start other later starts all);
     }
 
 margin_one : (first : List ℕ) (later : List (List ℕ)) (margin : List ℕ)
@@ -233,9 +220,9 @@ begins-first line ls =
     let leads : StartsWith (chars line) start =
     ap (λ n. take n (chars line)) (length-prefix_len is_whitespace (chars line)) in
     All-cons (λ l. is_blank_line l ≡ false → StartsWith (chars l) margin) line ls
-    (λ full. starts-trans (chars line) start margin leads front)
+    (λ full. starts_with_trans (chars line) start margin leads front)
     (begins-all margin ls (white-front start margin (white-leading (chars line)) front)
-    (by-comparable start margin ls (starts-self margin)))
+    (by-comparable start margin ls (starts_with_of_eq margin margin refl)))
 
 from-first : (line : List ℕ) (ls : List (List ℕ)) (n : ℕ) (b : Bool) → is_blank_line line ≡ b
     → All (λ l. is_blank_line l ≡ false → StartsWith (chars l) (margin_of_lines (drop n ls))) ls

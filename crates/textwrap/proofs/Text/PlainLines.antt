@@ -10,6 +10,7 @@ use Rattle.std.proofs.lemmas.List.Elements.{All-nil, All-cons, All-head, All-tai
 use Rattle.std.proofs.lemmas.List.Elements.{All-weaker, All-get_or}
 use Rattle.textwrap_words.specs.Blanks.{blank, trimmed_len, without_final_blanks}
 use Rattle.textwrap_base.specs.Lists.{last}
+use Rattle.textwrap_base.proofs.Division.Greedy.{some_from_nonempty}
 use Rattle.textwrap_base.proofs.ListLemmas.{all-right}
 use Rattle.textwrap_words.proofs.Word.Texts.{trimmed-past}
 use Rattle.textwrap_lines.specs.LineEnding.{line_feed}
@@ -19,10 +20,6 @@ use Rattle.textwrap_lines.proofs.Paragraph.LinesApart.{last-append}
 use Rattle.textwrap.proofs.Text.InPlace.{blank_joined, feed_joined}
 
 -- ---- what plain lines begin and end with
-
-some_length : (text : List ℕ) → text ≢ [] → 0 < length text
-some_length [] some = absurd (some refl)
-some_length (c ∷ text) some = omega arith
 
 -- a text without prefix characters in front, with more behind it
 prefix-append : (text more : List ℕ) → text ≢ [] → line_prefix text ≡ []
@@ -50,7 +47,7 @@ pub record IsSolid (line : List ℕ) : Type 0 where
 
 solid_word : (word : List ℕ) → IsPlainWord word → IsSolid word
 solid_word word plain =
-    let some = some_length word plain.some in
+    let some = some_from_nonempty word plain.some in
     record {
       some = some;
       no_feed = All-weaker IsPlainByte (λ c. c ≢ line_feed) (λ c is. is.2) word plain.bytes;

@@ -1,15 +1,18 @@
 -- Lemmas on what lines begin with: the characters of their indents, and what they have in common.
-use Rattle.std.proofs.Common.{◌≡◌, ℕ, zero, suc, ◌+◌, ◌<◌, ◌≤◌, Bool, true, false, cond, nat_eq}
+use Rattle.std.proofs.Common.{◌≡◌, ℕ, suc, ◌+◌, ◌<◌, ◌≤◌, Bool, true, false, cond, nat_eq}
 use Rattle.std.proofs.Common.{List, [], ◌∷◌, length, take, drop, All, refl, arith}
 use Rattle.std.proofs.Common.{sym, ap, ◌∙◌, subst, eq-eqb, ◌≢◌, ◌↔◌}
 use Rattle.std.specs.Io.{StartsWith}
+use Rattle.std.proofs.Transfers.{starts_with_length, starts_with_of_append, starts_with_of_eq}
+use Rattle.std.proofs.Transfers.{starts_with_trans}
 use Rattle.std.proofs.lemmas.Bool.Decides.{nat_tests}
 use Rattle.std.specs.Prelude.{slice_range, ◌-◌}
 use Rattle.std.specs.Str.{IsUtf8, IsAscii, IsCharBoundary}
 use Rattle.std.specs.List.{prefix_len, common_prefix_len, zip, fold}
 use Rattle.std.proofs.lemmas.Str.{IsUtf8-from_ascii, IsCharBoundary-from_take, IsAscii-take}
+use Rattle.std.proofs.lemmas.Str.Ascii.{IsAscii-cons}
 use Rattle.std.proofs.lemmas.List.Sums.{prefix_len-le-length}
-use Rattle.std.proofs.lemmas.List.{take-take, take_min, length-take, take_all}
+use Rattle.std.proofs.lemmas.List.{take-append-drop, take-take}
 use Rattle.std.proofs.lemmas.List.Elements.{All-nil, All-cons, All-head, All-tail}
 use Rattle.textwrap.specs.Refilling.{is_prefix_character, line_prefix, common_start}
 use Rattle.textwrap.specs.Refilling.{common_prefix, IsCommonPrefix}
@@ -19,10 +22,6 @@ use Rattle.textwrap.specs.Refilling.{common_prefix, IsCommonPrefix}
 prefix_character-below : (c : ℕ) → is_prefix_character c ≡ true → c < 128
 prefix_character-below c is = grind (arith, nat_tests)
 
-ascii-cons : (c : ℕ) (cs : List ℕ) → c < 128 → IsAscii cs → IsAscii (c ∷ cs)
-ascii-cons c cs small ascii zero = small
-ascii-cons c cs small ascii (suc i) = ascii i
-
 ascii-cut : (c : ℕ) (cs : List ℕ) (b : Bool) → is_prefix_character c ≡ b
     → IsAscii (take (prefix_len is_prefix_character cs) cs)
     → IsAscii (take (cond b (1 + prefix_len is_prefix_character cs) 0) (c ∷ cs))
@@ -30,7 +29,7 @@ ascii-cut c cs true is ascii =
     let front = prefix_len is_prefix_character cs in
     let one : suc front ≡ 1 + front = omega arith in
     subst (λ n. IsAscii (take n (c ∷ cs))) one
-    (ascii-cons c (take front cs) (prefix_character-below c is) ascii)
+    (IsAscii-cons c (take front cs) (prefix_character-below c is) ascii)
 ascii-cut c cs false is ascii = λ i. omega arith
 
 pub line_prefix-ascii : (line : List ℕ) → IsAscii (line_prefix line)
@@ -69,28 +68,16 @@ common_start-ascii xs ys ascii = IsAscii-take xs (common_prefix_len nat_eq xs ys
 
 -- ---- what a text begins with
 
-pub StartsWith-le : (xs p : List ℕ) → StartsWith xs p → length p ≤ length xs
-StartsWith-le xs p starts = omega (arith, ap length starts, length-take (length p) xs)
-
-StartsWith-self : (xs : List ℕ) → StartsWith xs xs
-StartsWith-self xs = take_all (length xs) xs (omega arith)
-
-pub StartsWith-trans : (xs ys zs : List ℕ) → StartsWith xs ys → StartsWith ys zs → StartsWith xs zs
-StartsWith-trans xs ys zs outer inner =
-    sym (take-take (length zs) (length ys) xs (StartsWith-le ys zs inner))
-    ∙ ap (take (length zs)) outer ∙ inner
-
-StartsWith-take : (n : ℕ) (xs : List ℕ) → StartsWith xs (take n xs)
-StartsWith-take n xs = ap (λ k. take k xs) (length-take n xs) ∙ take_min n xs
-
 pub StartsWith-boundary : (xs p : List ℕ) → IsUtf8 xs → IsUtf8 p → StartsWith xs p
     → IsCharBoundary xs (length p)
 StartsWith-boundary xs p utf8 prefix starts =
-    IsCharBoundary-from_take xs (length p) utf8 (StartsWith-le xs p starts)
+    IsCharBoundary-from_take xs (length p) utf8 (starts_with_length xs p starts)
     (subst IsUtf8 (sym starts) prefix)
 
 pub line_prefix-begins : (line : List ℕ) → StartsWith line (line_prefix line)
-line_prefix-begins line = StartsWith-take (prefix_len is_prefix_character line) line
+line_prefix-begins line =
+    let n = prefix_len is_prefix_character line in
+    starts_with_of_append line (take n line) (drop n line) (sym (take-append-drop n line))
 
 -- ---- what two texts begin with
 
@@ -115,7 +102,9 @@ take_common (x ∷ xs) (y ∷ ys) =
 
 common_start-right : (xs ys : List ℕ) → StartsWith ys (common_start xs ys)
 common_start-right xs ys =
-    subst (StartsWith ys) (sym (take_common xs ys)) (StartsWith-take (common_len xs ys) ys)
+    let n = common_len xs ys in
+    subst (StartsWith ys) (sym (take_common xs ys))
+    (starts_with_of_append ys (take n ys) (drop n ys) (sym (take-append-drop n ys)))
 
 common_len-longest : (other xs ys : List ℕ) → StartsWith xs other → StartsWith ys other
     → length other ≤ common_len xs ys
@@ -140,16 +129,19 @@ fold-begins : (text : List ℕ) (texts : List (List ℕ))
     → StartsWith text (fold common_start text texts)
     × All (λ t. StartsWith t (fold common_start text texts)) texts
 fold-begins text [] = (
-  StartsWith-self text,
+  starts_with_of_eq text text refl,
   All-nil (λ t. StartsWith t text),
 )
 fold-begins text (next ∷ texts) =
+    let n = common_len text next in
     let start = common_start text next in
     let whole = fold common_start start texts in
     let (first, others) = fold-begins start texts in (
-      StartsWith-trans text start whole (StartsWith-take (common_len text next) text) first,
+      starts_with_trans text start whole
+          (starts_with_of_append text (take n text) (drop n text) (sym (take-append-drop n text)))
+          first,
       All-cons (λ t. StartsWith t whole) next texts
-          (StartsWith-trans next start whole (common_start-right text next) first) others,
+          (starts_with_trans next start whole (common_start-right text next) first) others,
     )
 
 pub common_prefix-begins : (texts : List (List ℕ))
@@ -161,7 +153,7 @@ common_prefix-begins (text ∷ texts) =
 
 fold-longest : (other text : List ℕ) (texts : List (List ℕ)) → StartsWith text other
     → All (λ t. StartsWith t other) texts → length other ≤ length (fold common_start text texts)
-fold-longest other text [] first others = StartsWith-le text other first
+fold-longest other text [] first others = starts_with_length text other first
 fold-longest other text (next ∷ texts) first others =
     fold-longest other (common_start text next) texts
     (common_start-longest other text next first

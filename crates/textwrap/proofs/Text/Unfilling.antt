@@ -7,6 +7,7 @@ use Rattle.std.specs.Prelude.{Option, Some, None, ◌==◌, ◌&&◌, nat_eq, is
 use Rattle.std.specs.Io.{StartsWith}
 use Rattle.std.specs.List.{flat_map, slice_split, ends_with}
 use Rattle.std.specs.Str.Lines.{lines, lines_of_parts, strip_carriage_return}
+use Rattle.std.proofs.Transfers.{starts_with_trans}
 use Rattle.std.proofs.lemmas.Bool.Decides.{nat_tests}
 use Rattle.std.proofs.lemmas.List.{nil_from_length}
 use Rattle.std.proofs.lemmas.List.Elements.{All-nil, All-cons, All-head, All-tail, All-filter}
@@ -18,8 +19,7 @@ use Rattle.textwrap.specs.Refilling.{EndedLine, ended_lines_of, ended_lines, has
 use Rattle.textwrap.specs.Refilling.{nonempty_lines, line_prefix, common_prefix, unfilled_initial}
 use Rattle.textwrap.specs.Refilling.{unfilled_subsequent, joined_text, without_indents}
 use Rattle.textwrap.specs.Refilling.{detected_among, detected_ending, keeps_ending}
-use Rattle.textwrap.proofs.Text.Prefixes.{common_prefix-begins, StartsWith-trans}
-use Rattle.textwrap.proofs.Text.Prefixes.{line_prefix-begins}
+use Rattle.textwrap.proofs.Text.Prefixes.{common_prefix-begins, line_prefix-begins}
 
 -- ---- the lines with their endings are std's lines
 
@@ -48,7 +48,7 @@ begins-each : (indent : List ℕ) (es : List EndedLine)
 begins-each indent [] all = All-nil (λ e. StartsWith e.line indent)
 begins-each indent (e ∷ es) all =
     All-cons (λ l. StartsWith l.line indent) e es
-    (StartsWith-trans e.line (line_prefix e.line) indent (line_prefix-begins e.line)
+    (starts_with_trans e.line (line_prefix e.line) indent (line_prefix-begins e.line)
     (All-head (λ t. StartsWith t indent) (line_prefix e.line) (map line_prefix (texts_of es)) all))
     (begins-each indent es
     (All-tail (λ t. StartsWith t indent) (line_prefix e.line) (map line_prefix (texts_of es)) all))

@@ -19,7 +19,7 @@ use Rattle.textwrap_words.proofs.Units.Parts.{units-part}
 use Rattle.textwrap_words.proofs.Word.Breaking.{AreBroken-exists}
 use Rattle.textwrap_words.proofs.Word.BrokenPieces.{broken_texts-some, broken_texts-tile}
 use Rattle.textwrap_words.proofs.Word.Texts.{IsMeasured, trimmed-past}
-use Rattle.textwrap_words.proofs.Word.Words.{AreChunks-chunks}
+use Rattle.textwrap_words.proofs.Word.Words.{AreChunks-chunks, AreCutApart-tail}
 use Rattle.textwrap_lines.specs.Options.{Settings}
 use Rattle.textwrap_lines.specs.Paragraph.{empty_word, front_pieces, later_width, pieces_of}
 use Rattle.textwrap_words.specs.WordSplitters.{Splitter, ends_in_hyphen, points_of}
@@ -186,11 +186,6 @@ broken_word-stands limit w measured =
     record { follow = follow; space = space }
 
 -- ---- the words of a line
-
-AreCutApart-tail : (chunk : List ℕ) (chunks : List (List ℕ)) → AreCutApart (chunk ∷ chunks)
-    → AreCutApart chunks
-AreCutApart-tail chunk chunks cut = λ before after left right is.
-    cut (chunk ∷ before) after left right (ap (λ l. chunk ∷ l) is)
 
 word-plain : (chunk : List ℕ) → chunk ≢ [] → is_blank (get_or chunk 0 0) ≡ false
     → BeginsPlain (without_final_blanks chunk)

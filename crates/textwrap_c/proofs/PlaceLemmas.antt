@@ -23,12 +23,6 @@ use Rattle.textwrap_c.specs.declared.told.TextwrapLine.{TextwrapLine}
 
 -- ---- what a text goes on with
 
-pub stands-at : (text before slice after : List ℕ) → text ≡ before ++ slice ++ after
-    → drop (length before) text ≡ slice ++ after
-stands-at text before slice after is =
-    ap (drop (length before)) (is ∙ append_assoc before slice after)
-    ∙ drop-append_seam before (slice ++ after)
-
 -- at a place inside it or at its end, the text goes on so
 pub record GoesOn (text : List ℕ) (at : ℕ) (rest : List ℕ) : Type 0 where
   pub within : at ≤ length text

@@ -8,7 +8,6 @@ use Rattle.std.specs.Prelude.{slice_range}
 use Rattle.std.specs.List.{flat_map}
 use Rattle.std.specs.declared.borrow.CowStr.{CowStr}
 use Rattle.std.proofs.lemmas.Bool.{true≢false}
-use Rattle.std.proofs.lemmas.Bool.Decides.{nat_tests}
 use Rattle.std.specs.List.{drop-map}
 use Rattle.std.proofs.lemmas.List.{drop_at, drop_more, length-append, length-drop, length-map}
 use Rattle.std.proofs.lemmas.List.{map-append, take_all, take_at}
@@ -22,6 +21,7 @@ use Rattle.textwrap_words.specs.Words.{WordText}
 use Rattle.textwrap_words.proofs.Word.Texts.{AreBlanks, no_blanks}
 use Rattle.textwrap_c.specs.Told.{AreLaid, BeginsPlain, HasIndent, IsLaid, TellsLines, slice_in}
 use Rattle.textwrap_lines.proofs.Text.Endings.{join-paragraphs_of}
+use Rattle.textwrap_lines.proofs.Text.Lines.{is_later-or}
 use Rattle.textwrap_c.specs.Wrapping.{ArePlacedLines, built_bytes, built_text, paragraph_places}
 use Rattle.textwrap_c.specs.Wrapping.{place_of, text_places}
 use Rattle.textwrap_c.specs.declared.told.TextwrapLine.{TextwrapLine}
@@ -356,11 +356,6 @@ module _ (settings : Settings) (Divides : Bool → List ℕ → List (List WordT
         built_are = nothing ∙ ap built_text (sym none);
         within = λ some. omega (arith, whole);
       }
-
-  -- a line is out where one was out, or one was added
-  is_later-or : (now before added : ℕ) → now ≡ before + added
-      → nat_lt 0 now ≡ nat_lt 0 before || nat_lt 0 added
-  is_later-or now before added is = grind (arith, nat_tests)
 
   flat-push : (groups : List (List LineParts)) (parts : List LineParts)
       → flat_map (λ ps. ps) (groups ++ parts ∷ []) ≡ flat_map (λ ps. ps) groups ++ parts

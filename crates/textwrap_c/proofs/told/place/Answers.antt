@@ -1,7 +1,7 @@
 use Rattle.std.proofs.Common.{◌≡◌, ◌++◌, length, inl, inr, ap, ◌∙◌, arith}
 use Rattle.std.proofs.lemmas.Bool.{cases_lt}
-use Rattle.std.proofs.lemmas.List.{length-append}
-use Rattle.textwrap_c.proofs.PlaceLemmas.{stands-at}
+use Rattle.std.proofs.lemmas.List.{append_assoc, length-append}
+use Rattle.std.proofs.lemmas.List.Prefix.{front_rest}
 use Rattle.textwrap_c.proofs.told.place.Goals as goal
 
 pub unreachable-requires : goal.unreachable-requires
@@ -13,13 +13,15 @@ unreachable-requires c =
     let one = length-append before c.args.slice.now in
     let all = length-append (before ++ c.args.slice.now) after in
     c.in-None.ensures.cases (length before) (omega arith) after
-    (stands-at text before c.args.slice.now after same)
+    (front_rest text before (c.args.slice.now ++ after)
+    (same ∙ append_assoc before c.args.slice.now after))
 
 pub returns-clause-first : goal.returns-clause-first
 returns-clause-first c = λ before after is.
     let same = c.range_from.ensures.value ∙ is in
     elim (cases_lt (length before) c.in-Some.at) [
       | inl less ↦ absurd (c.in-Some.ensures.cases.1.0 (length before) less after
-          (stands-at c.range_from.result.now before c.args.slice.now after same))
+          (front_rest c.range_from.result.now before (c.args.slice.now ++ after)
+          (same ∙ append_assoc before c.args.slice.now after)))
       | inr most ↦ omega (arith, most)
     ]

@@ -62,7 +62,7 @@ impl<'a> Options<'a> {
             subsequent_indent: "",
             break_words: true,
             wrap_algorithm: WrapAlgorithm::OptimalFit(Penalties::new()),
-            word_separator: WordSeparator::new(),
+            word_separator: WordSeparator::AsciiSpace,
             word_splitter,
             preserve_trailing_space: false,
             even_paragraphs: false,

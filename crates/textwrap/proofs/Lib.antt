@@ -1,3 +1,4 @@
+pub mod Common
 pub mod Cutting
 pub mod Dividing
 pub mod Text

@@ -1,7 +1,11 @@
 pub mod Fewest
 pub mod Greedy
+pub mod GreedyTest
 pub mod Grown
+pub mod GrownLines
 pub mod Map
 pub mod OneLine
 pub mod Rows
+pub mod SameWidths
 pub mod Unique
+pub mod Widths

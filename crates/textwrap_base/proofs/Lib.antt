@@ -1,4 +1,9 @@
+pub mod Characters
+pub mod Common
 pub mod Cost
 pub mod Division
-pub mod ListLemmas
+pub mod Lists
+pub mod Numbers
 pub mod Search
+pub mod Utf8
+pub mod Whitespace

@@ -1,5 +1,6 @@
 pub mod Best
 pub mod Costs
 pub mod Digits
+pub mod Pushed
 pub mod Steps
 pub mod Stretches

@@ -1,10 +1,11 @@
 -- Lemmas on options with built-in parts, whose relation of divided paragraphs can be named.
-use Rattle.std.proofs.Common.{◌≡◌, ℕ, List, subst}
-use Rattle.textwrap.specs.Columns.{IsInColumns, layout_of}
+use Rattle.textwrap_base.proofs.Common.{◌≡◌, ℕ, List, subst}
+use Rattle.textwrap.proofs.Common.{layout_of, Settings, settings_view, DividesBy, Line, joined_text}
+use Rattle.textwrap.specs.Columns.{IsInColumns}
 use Rattle.textwrap.specs.Filling.{IsFilled}
-use Rattle.textwrap.specs.Options.{Settings, settings_view, HasParts}
-use Rattle.textwrap.specs.Paragraph.{DividesAs, DividesBy, DividesUnder, Line}
-use Rattle.textwrap.specs.Refilling.{IsRefilled, with_indents_of, joined_text}
+use Rattle.textwrap.specs.Options.{HasParts}
+use Rattle.textwrap.specs.Paragraph.{DividesAs, DividesUnder}
+use Rattle.textwrap.specs.Refilling.{IsRefilled, with_indents_of}
 use Rattle.textwrap.specs.Text.{AreTextLines}
 use Rattle.textwrap.specs.WordSplitters.{Splitter}
 use Rattle.textwrap.specs.WrapAlgorithms.{Algorithm}

@@ -1,8 +1,7 @@
 -- What was written of lines that are told.
-use Rattle.std.proofs.Common.{◌≡◌, ℕ, suc, ◌+◌, ◌<◌, ◌⊎◌, inl, inr, List, [], ◌∷◌, ◌++◌, drop}
-use Rattle.std.proofs.Common.{length}
-use Rattle.std.proofs.Common.{sym, ap, ◌∙◌, subst}
-use Rattle.textwrap.specs.Paragraph.{Line, Slice, Built}
+use Rattle.textwrap_base.proofs.Common.{◌≡◌, ℕ, suc, ◌+◌, ◌<◌, ◌⊎◌, inl, inr, List, [], ◌∷◌, ◌++◌}
+use Rattle.textwrap_base.proofs.Common.{drop, length, sym, ap, ◌∙◌, subst}
+use Rattle.textwrap.proofs.Common.{Line, Slice, Built}
 use Rattle.textwrap_c.specs.Room.{BeginsWith}
 use Rattle.textwrap_c.specs.Status.{done, too_small}
 use Rattle.textwrap_c.specs.Told.{WritesTold}

@@ -1,5 +1,5 @@
 -- What is written into lent room, seen as an answer.
-use Rattle.std.proofs.Common.{◌≡◌, ℕ, List, subst, sym}
+use Rattle.textwrap_base.proofs.Common.{◌≡◌, ℕ, List, subst, sym}
 use Rattle.textwrap_c.specs.Room.{WritesText}
 
 -- bytes that are such an answer were written

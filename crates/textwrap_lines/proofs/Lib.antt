@@ -1,3 +1,4 @@
+pub mod Common
 pub mod Paragraph
 pub mod PrintableTexts
 pub mod Standing

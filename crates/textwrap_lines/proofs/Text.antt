@@ -1,9 +1,13 @@
 pub mod Directly
+pub mod EndingTexts
 pub mod Endings
+pub mod Groups
 pub mod Lines
 pub mod Lossless
 pub mod Narrow
 pub mod Paragraphs
 pub mod Promises
 pub mod Sinks
+pub mod Taken
 pub mod Unique
+pub mod Wrapped

@@ -1,5 +1,8 @@
+pub mod HasPiece
 pub mod Joined
 pub mod Line
 pub mod Pieces
+pub mod Points
+pub mod SoFar
 pub mod Steps
 pub mod Unbroken

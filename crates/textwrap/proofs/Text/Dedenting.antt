@@ -1,77 +1,22 @@
 -- Lemmas on how `dedent` compares a margin with a line, cuts lines and joins them.
-use Rattle.std.proofs.Common.{◌≡◌, ◌⊎◌, inl, inr, ℕ, suc, ◌+◌, ◌≤◌, ◌==◌, Bool, true, false}
-use Rattle.std.proofs.Common.{cond, List, [], ◌∷◌, ◌++◌, length, take, drop, get_or}
-use Rattle.std.proofs.Common.{map, refl, sym, ap, ◌∙◌, subst, arith, length-take, ◌-◌, ◌<◌, min}
-use Rattle.std.proofs.Common.{append_assoc, append-nil, length-append, take-append-drop}
-use mathlib.Core.Logic.{⊎_elim}
-use lib.Utf8.{scalar}
-use Rattle.std.specs.Char.{encode_utf8, is_whitespace}
-use Rattle.std.specs.Io.{StartsWith}
-use Rattle.std.specs.List.{enumerate_from, join_with_byte, prefix_len}
-use Rattle.std.specs.List.{slice_range, take_while, zip}
-use Rattle.std.specs.Str.{IsCharBoundary, IsUtf8, all_scalars, chars, encode_utf8_all}
-use Rattle.std.specs.Str.{skip_leading_whitespace, trim_start}
-use Rattle.std.proofs.lemmas.Bool.{eq-eqb, and_parts}
-use Rattle.std.proofs.lemmas.Bool.{and_from, ne_eqb, cases_lt}
-use Rattle.std.proofs.lemmas.List.{take_all, drop_all, take_at, drop_at, take_more, drop_more}
-use Rattle.std.proofs.lemmas.List.{length-map, map_more}
+use Rattle.textwrap_base.proofs.Common.{◌≡◌, ℕ, ◌+◌, ◌≤◌, ◌==◌, cond, List, [], ◌∷◌, ◌++◌, length}
+use Rattle.textwrap_base.proofs.Common.{take, drop, get_or, map, refl, sym, ap, ◌∙◌, arith}
+use Rattle.textwrap_base.proofs.Common.{length-take, ◌-◌, ◌<◌, min, append_assoc, append-nil}
+use Rattle.textwrap_base.proofs.Common.{length-append, take-append-drop, ⊎_elim, join_with_byte}
+use Rattle.textwrap_base.proofs.Common.{zip, IsUtf8, encode_utf8_all, eq-eqb, ne_eqb, take_all}
+use Rattle.textwrap_base.proofs.Common.{drop_all, take_more, drop_more, length-map}
+use Rattle.textwrap.proofs.Common.{leading_whitespace, narrowed}
+use Rattle.std.specs.List.{enumerate_from}
+use Rattle.std.specs.Str.{chars, skip_leading_whitespace, trim_start}
+use Rattle.std.proofs.lemmas.List.{map_more}
 use Rattle.std.proofs.lemmas.List.FromFn.{length-enumerate_from, get_or-enumerate_from}
 use Rattle.std.proofs.lemmas.Slice.Zip.{length-zip, get_or-zip}
-use Rattle.std.proofs.lemmas.Str.{IsCharBoundary-at_seam, encodes-append, encodes-chars}
-use Rattle.std.proofs.lemmas.Str.{scalars-chars}
-use Rattle.textwrap.specs.Indentation.{leading_whitespace}
-use Rattle.textwrap.specs.Indentation.{narrowed}
+use Rattle.textwrap_base.proofs.Characters.{IsCut, cut_text}
+use Rattle.textwrap_base.proofs.Whitespace.{leading-skipped}
+use Rattle.textwrap_base.proofs.Numbers.{either_short}
+use Rattle.textwrap_base.proofs.Lists.Maps.{join-push}
 
 -- ---- a text that is cut after some of its characters
-
-scalars-parts : (cs ds : List ℕ) → all_scalars (cs ++ ds) ≡ true
-    → (all_scalars cs ≡ true) × (all_scalars ds ≡ true)
-scalars-parts [] ds all = (refl, all)
-scalars-parts (c ∷ cs) ds all =
-    let (here, rest) = and_parts (scalar c) (all_scalars (cs ++ ds)) all in
-    let (front, back) = scalars-parts cs ds rest in
-    (and_from (scalar c) (all_scalars cs) here front, back)
-
--- the bytes before and after the cut
-pub record IsCut (text cs ds : List ℕ) : Type 0 where
-  pub whole : text ≡ encode_utf8_all cs ++ encode_utf8_all ds
-  pub front : take (length (encode_utf8_all cs)) text ≡ encode_utf8_all cs
-  pub back : drop (length (encode_utf8_all cs)) text ≡ encode_utf8_all ds
-  pub boundary : IsCharBoundary text (length (encode_utf8_all cs))
-
-pub cut_text : (text cs ds : List ℕ) → IsUtf8 text → chars text ≡ cs ++ ds → IsCut text cs ds
-cut_text text cs ds utf8 is =
-    let front = encode_utf8_all cs in
-    let back = encode_utf8_all ds in
-    let whole : text ≡ front ++ back =
-    sym (encodes-chars text utf8) ∙ ap encode_utf8_all is ∙ encodes-append cs ds in
-    let all : all_scalars (cs ++ ds) ≡ true =
-    ap all_scalars (sym is) ∙ scalars-chars text utf8 in
-    let (_, behind) = scalars-parts cs ds all in
-    record {
-      whole = whole;
-      front = ap (take (length front)) whole ∙ take_at front back (length front) refl;
-      back = ap (drop (length front)) whole ∙ drop_at front back (length front) refl;
-      boundary = IsCharBoundary-at_seam text front back whole (ds, (behind, refl));
-    }
-
-pub from_start : (text : List ℕ) (n : ℕ) → slice_range text 0 n ≡ take n text
-from_start text n = let same : n - 0 ≡ n = omega arith in ap (λ k. take k text) same
-
--- a text without its leading whitespace
-skipped-split : (c : ℕ) (cs : List ℕ) (n : ℕ) (b : Bool)
-    → cs ≡ take n cs ++ skip_leading_whitespace cs
-    → c ∷ cs ≡ take (cond b (1 + n) 0) (c ∷ cs) ++ cond b (skip_leading_whitespace cs) (c ∷ cs)
-skipped-split c cs n true is =
-    let more : 1 + n ≡ suc n = omega arith in
-    ap (λ l. c ∷ l) is
-    ∙ ap (λ k. take k (c ∷ cs) ++ skip_leading_whitespace cs) (sym more)
-skipped-split c cs n false is = refl
-
-leading-skipped : (cs : List ℕ) → cs ≡ take_while is_whitespace cs ++ skip_leading_whitespace cs
-leading-skipped [] = refl
-leading-skipped (c ∷ cs) =
-    skipped-split c cs (prefix_len is_whitespace cs) (is_whitespace c) (leading-skipped cs)
 
 pub leading-cut : (line : List ℕ) → IsUtf8 line
     → IsCut line (leading_whitespace line) (skip_leading_whitespace (chars line))
@@ -88,11 +33,6 @@ leading-len line utf8 =
     omega (arith, ap length (leading-cut line utf8).whole, length-append front back)
 
 -- ---- a margin that is compared with a line, character by character
-
-either_short : (a b n : ℕ) → n ≡ min a b → (a ≤ n) ⊎ (b ≤ n)
-either_short a b n is =
-    ⊎_elim {C = (a ≤ n) ⊎ (b ≤ n)} (λ (less : a < b). inl (omega arith))
-    (λ (more : b ≤ a). inr (omega arith)) (cases_lt a b)
 
 narrowed-ended : (margin : List ℕ) → narrowed margin [] ≡ margin
 narrowed-ended [] = refl
@@ -162,59 +102,7 @@ narrowed-done ms ls n all so_far =
     ∙ ap (λ l. take n ms ++ narrowed (drop n ms) l) (sym (drop_all n ls short)) ∙ so_far)
     (either_short (length ms) (length ls) n len)
 
--- the bytes of one character more
-pub encoded-more : (ms : List ℕ) (n a : ℕ) → n < length ms → a ≡ get_or ms n a
-    → length (encode_utf8_all (take (n + 1) ms))
-    ≡ length (encode_utf8_all (take n ms)) + length (encode_utf8 a)
-encoded-more ms n a within is =
-    ap (λ l. length (encode_utf8_all l))
-    (take_more ms n a within ∙ ap (λ x. take n ms ++ x ∷ []) (sym is))
-    ∙ ap length (encodes-append (take n ms) (a ∷ [])
-    ∙ ap (λ l. encode_utf8_all (take n ms) ++ l) (append-nil (encode_utf8 a)))
-    ∙ length-append (encode_utf8_all (take n ms)) (encode_utf8 a)
-
-pub encoded-within : (text : List ℕ) (n : ℕ) → IsUtf8 text
-    → length (encode_utf8_all (take n (chars text))) ≤ length text
-encoded-within text n utf8 =
-    let front = take n (chars text) in
-    let back = drop n (chars text) in
-    let cut = cut_text text front back utf8 (sym (take-append-drop n (chars text))) in
-    omega (
-      arith,
-      ap length cut.whole,
-      length-append (encode_utf8_all front) (encode_utf8_all back),
-    )
-
--- a line that begins with a margin is cut after it
-pub after-margin : (line margin : List ℕ) → IsUtf8 line → IsUtf8 margin
-    → StartsWith (chars line) (chars margin)
-    → IsCharBoundary line (length margin)
-    × (drop (length margin) line ≡ encode_utf8_all (drop (length (chars margin)) (chars line)))
-after-margin line margin utf8 margin_utf8 starts =
-    let rest = drop (length (chars margin)) (chars line) in
-    let cut = cut_text line (chars margin) rest utf8
-    (sym (take-append-drop (length (chars margin)) (chars line)) ∙ ap (λ l. l ++ rest) starts) in
-    let bytes = encodes-chars margin margin_utf8 in (
-      subst (λ m. IsCharBoundary line (length m)) bytes cut.boundary,
-      subst (λ m. drop (length m) line ≡ encode_utf8_all rest) bytes cut.back,
-    )
-
-pub lines-next : (ls : List (List ℕ)) (n : ℕ) (line : List ℕ) → n < length ls
-    → line ≡ get_or ls n line → drop n ls ≡ line ∷ drop (n + 1) ls
-lines-next ls n line within is =
-    drop_more ls n line within ∙ ap (λ l. l ∷ drop (n + 1) ls) (sym is)
-
 -- ---- lines that are joined
-
-join-push : (xs : List (List ℕ)) (y : List ℕ) → 0 < length xs
-    → (join_with_byte 10 xs ++ 10 ∷ []) ++ y ≡ join_with_byte 10 (xs ++ y ∷ [])
-join-push [] y some = absurd (omega arith)
-join-push (x ∷ []) y some = append_assoc x (10 ∷ []) y
-join-push (x ∷ z ∷ xs) y some =
-    let rest = join_with_byte 10 (z ∷ xs) in
-    ap (λ l. l ++ y) (append_assoc x (10 ∷ rest) (10 ∷ []))
-    ∙ append_assoc x (10 ∷ (rest ++ 10 ∷ [])) y
-    ∙ ap (λ l. x ++ (10 ∷ l)) (join-push (z ∷ xs) y (omega arith))
 
 -- the line at place n of the enumerated lines
 pub record IsLineAt (ls : List (List ℕ)) (n i : ℕ) (line : List ℕ) : Type 0 where

@@ -1,17 +1,15 @@
 -- Lemmas on the lines of a text with their endings: the first, and what follows it.
-use Rattle.std.proofs.Common.{◌≡◌, ◌≢◌, ℕ, ◌+◌, ◌-◌, ◌<◌, Bool, true, false, cond}
-use Rattle.std.proofs.Common.{not, List, [], ◌∷◌, ◌++◌, length, take, get_or, refl}
-use Rattle.std.proofs.Common.{arith, sym, ap, ◌∙◌}
-use Rattle.std.specs.Prelude.{◌==◌, Some, None}
-use Rattle.std.specs.List.{slice_split, position_or_len, before_first, after_first}
-use Rattle.std.proofs.lemmas.Bool.{false_from_ne_true, not-true}
-use Rattle.std.proofs.lemmas.List.{take_more, take_all, length_push, take_at}
+use Rattle.textwrap_base.proofs.Common.{◌≡◌, ◌≢◌, ℕ, ◌+◌, ◌-◌, ◌<◌, Bool, true, false, cond, not}
+use Rattle.textwrap_base.proofs.Common.{List, [], ◌∷◌, ◌++◌, length, take, get_or, refl, arith, sym}
+use Rattle.textwrap_base.proofs.Common.{ap, ◌∙◌, ◌==◌, Some, None, slice_split, false_from_ne_true}
+use Rattle.textwrap_base.proofs.Common.{not-true, take_more, take_all, length_push, take_at, last}
+use Rattle.textwrap.proofs.Common.{EndedLine, ended_lines_of}
+use Rattle.std.specs.List.{position_or_len, before_first, after_first}
 use Rattle.std.proofs.lemmas.List.Splits.{slice_split_first, slice_split_none, length-slice_split}
 use Rattle.std.proofs.lemmas.List.Sums.{prefix_len_passes}
-use Rattle.textwrap_base.specs.Lists.{last}
-use Rattle.textwrap_base.proofs.ListLemmas.{last-push}
+use Rattle.textwrap_base.proofs.Lists.Parts.{last-push}
 use Rattle.textwrap_lines.specs.declared.line_ending.LineEnding.TheVariants.{CRLF, LF}
-use Rattle.textwrap.specs.Refilling.{EndedLine, line_before_feed, ended_lines_of, ended_lines}
+use Rattle.textwrap.specs.Refilling.{line_before_feed, ended_lines}
 
 abbrev pub is_feed : ℕ → Bool
 is_feed b = b == 10

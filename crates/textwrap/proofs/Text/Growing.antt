@@ -1,103 +1,24 @@
 -- Lemmas on filling a part in place word by word: what is known of the line so far, and of the
 -- offsets so far.
-use Rattle.std.proofs.Common.{◌≡◌, ◌≢◌, ℕ, ◌+◌, ◌-◌, ◌<◌, ◌≤◌, List, [], ◌∷◌, ◌++◌, All, length, map}
-use Rattle.std.proofs.Common.{refl, sym, ap, ◌∙◌, subst, arith, append_assoc, append-nil}
-use Rattle.std.proofs.Common.{length-append}
-use Rattle.std.proofs.lemmas.List.Elements.{All-nil, All-cons, All-head, All-tail}
-use Rattle.textwrap_base.specs.Division.{closed_width, open_width, Fits, IsGreedy}
-use Rattle.textwrap_words.specs.Words.{WordText, sizes_of, tile_of, tiled, word_of, words_of}
-use Rattle.textwrap_base.proofs.Division.Greedy.{closed_width-push, open_width-append}
-use Rattle.textwrap_base.proofs.Division.Greedy.{some_from_nonempty}
-use Rattle.textwrap_words.proofs.Word.Texts.{HasNoPenalty}
-use Rattle.textwrap_words.proofs.Word.Tiling.{tiled-append, tiled-push, tiled-words_of}
-use Rattle.textwrap_words.proofs.Word.Words.{words_unique}
-use Rattle.textwrap_lines.proofs.Text.Lossless.{tiled-word_of}
-use Rattle.textwrap.specs.InPlace.{FitsOneLine, breaks_of}
-use Rattle.textwrap.proofs.Text.InPlaceLines.{line_width-one}
+use Rattle.textwrap_base.proofs.Common.{◌≡◌, ◌≢◌, ℕ, ◌+◌, ◌-◌, ◌<◌, ◌≤◌, List, [], ◌∷◌, ◌++◌}
+use Rattle.textwrap_base.proofs.Common.{length, refl, sym, ap, ◌∙◌, subst, arith, append_assoc}
+use Rattle.textwrap_base.proofs.Common.{append-nil, length-append, All-tail, closed_width}
+use Rattle.textwrap_base.proofs.Common.{open_width, Fits, IsGreedy}
+use Rattle.textwrap_words.proofs.Common.{WordText, sizes_of, tile_of, tiled, words_of}
+use Rattle.textwrap.proofs.Common.{FitsOneLine, breaks_of}
+use Rattle.textwrap_base.proofs.Division.Widths.{open_width-append}
+use Rattle.textwrap_words.proofs.Word.Tiling.{tiled-push}
+use Rattle.textwrap_base.proofs.Division.SameWidths.{line_width-one}
 use Rattle.textwrap_base.proofs.Division.Grown.{grown, grown-full, grown-room, grown-begins}
-use Rattle.textwrap_base.proofs.Division.Grown.{grown-greedy, prefix-closes}
-
--- ---- the words of a part have bytes, and no penalty
-
-pub record IsPlain (word : WordText) : Type 0 where
-  pub penalty : HasNoPenalty word
-  pub some : 0 < length (tile_of word)
-
-plain-chunks : (parts : List (List ℕ)) → All (λ part. part ≢ []) parts
-    → All IsPlain (map word_of parts)
-plain-chunks [] some = All-nil IsPlain
-plain-chunks (part ∷ parts) some =
-    All-cons IsPlain (word_of part) (map word_of parts)
-    (record {
-      penalty = refl;
-      some = subst (λ l. 0 < length l)
-          (sym (tiled-word_of part) ∙ append-nil (tile_of (word_of part)))
-          (some_from_nonempty part (All-head (λ p. p ≢ []) part parts some));
-    })
-    (plain-chunks parts (All-tail (λ p. p ≢ []) part parts some))
-
-plain-words : (part : List ℕ) → All IsPlain (words_of part)
-plain-words part =
-    let (parts, are, is) = (words_unique part (words_of part)).1 refl in
-    subst (All IsPlain) (sym is) (plain-chunks parts are.nonempty)
+use Rattle.textwrap_base.proofs.Division.Grown.{prefix-closes}
+use Rattle.textwrap_base.proofs.Division.GrownLines.{grown-greedy}
+use Rattle.textwrap.proofs.Text.LineSoFar.{HasLine, line_some, closes, first, IsPlain, passed}
 
 -- ---- the line so far, from the offset `begin` of the text, and the words that are left
-
-pub record HasLine (width start : ℕ) (part old breaks : List ℕ) (begin end taken : ℕ)
-    (left line : List WordText) : Type 0 where
-  pub after : start ≤ begin
-  pub end_is : end ≡ begin + length (tiled line)
-  pub taken_is : taken ≡ open_width sizes_of line
-  pub some : line ≢ [] → begin < end
-  pub plain : All IsPlain left
-  pub room : end + length (tiled left) ≡ start + length part
-  pub places : breaks ++ breaks_of begin (grown sizes_of width width left line)
-      ≡ old ++ breaks_of start (grown sizes_of width width (words_of part) [])
-  pub whole : FitsOneLine width part → line ++ left ≡ words_of part
-
-pub HasLine-begin : (width start : ℕ) (part old : List ℕ) (left : List WordText)
-    → left ≡ words_of part → HasLine width start part old old start start 0 left []
-HasLine-begin width start part old left is = record {
-  after = omega arith;
-  end_is = omega arith;
-  taken_is = refl;
-  some = λ none. absurd (none refl);
-  plain = subst (All IsPlain) (sym is) (plain-words part);
-  room = omega (arith, ap length (ap tiled is ∙ tiled-words_of part));
-  places = ap (λ ws. old ++ breaks_of start (grown sizes_of width width ws [])) is;
-  whole = λ fits. is;
-}
-
-line_some : (ws : List WordText) → 0 < length (tiled ws) → 0 < length ws
-line_some [] some = some
-line_some (w ∷ ws) some = omega arith
 
 module _ {width start : ℕ} {part old breaks : List ℕ} {begin end taken : ℕ} {x : WordText}
     {left line : List WordText}
     (has : HasLine width start part old breaks begin end taken (x ∷ left) line) where
-  first : IsPlain x
-  first = All-head IsPlain x left has.plain
-
-  closes : closed_width sizes_of (line ++ x ∷ []) ≡ taken + x.width
-  closes = omega (
-    arith,
-    closed_width-push sizes_of line x,
-    has.taken_is,
-    ap length first.penalty,
-  )
-
-  passed : (len : ℕ) → len ≡ length (tile_of x)
-      → end + len + length (tiled left) ≡ start + length part
-  passed len is =
-      omega (
-        arith,
-        is,
-        has.room,
-        ap length (tiled-append (x ∷ []) left),
-        length-append (tile_of x) (tiled left),
-        ap length (append-nil (tile_of x)),
-      )
-
   -- the line has no room for the word, so the blank before it is a place
   pub HasLine-break : (from len more : ℕ) (pushed : List ℕ) → begin < end
       → width < taken + x.width → from ≡ end → len ≡ length (tile_of x)
@@ -105,7 +26,7 @@ module _ {width start : ℕ} {part old breaks : List ℕ} {begin end taken : ℕ
       → HasLine width start part old pushed from (end + len) more left (x ∷ [])
   HasLine-break from len more pushed began over from_is len_is more_is pushed_is =
       let some : 0 < length line = line_some line (omega (arith, began, has.end_is)) in
-      let full : width < closed_width sizes_of (line ++ x ∷ []) = omega (arith, closes, over) in
+      let full : width < closed_width sizes_of (line ++ x ∷ []) = omega (arith, closes has, over) in
       let (others, rest, is) = grown-begins sizes_of width width left (x ∷ []) in
       let next = grown sizes_of width width left (x ∷ []) in
       let after : breaks_of begin (line ∷ next) ≡ (end - 1) ∷ breaks_of end next =
@@ -116,9 +37,9 @@ module _ {width start : ℕ} {part old breaks : List ℕ} {begin end taken : ℕ
         after = omega (arith, from_is, has.after, has.end_is);
         end_is = omega (arith, from_is, len_is, ap length (append-nil (tile_of x)));
         taken_is = omega (arith, more_is);
-        some = λ any. omega (arith, from_is, len_is, first.some);
+        some = λ any. omega (arith, from_is, len_is, (first has).some);
         plain = All-tail IsPlain x left has.plain;
-        room = passed len len_is;
+        room = passed has len len_is;
         places = ap (λ n. pushed ++ breaks_of n next) from_is
             ∙ ap (λ l. l ++ breaks_of end next) pushed_is
             ∙ append_assoc breaks ((end - 1) ∷ []) (breaks_of end next)
@@ -143,7 +64,7 @@ module _ {width start : ℕ} {part old breaks : List ℕ} {begin end taken : ℕ
       let room : 0 < length line → closed_width sizes_of (line ++ x ∷ []) ≤ width =
       λ some. omega (
         arith,
-        closes,
+        closes has,
         within (has.some (λ none. absurd (omega (
           arith,
           some,
@@ -162,9 +83,9 @@ module _ {width start : ℕ} {part old breaks : List ℕ} {begin end taken : ℕ
           length-append (tiled line) (tile_of x),
         );
         taken_is = omega (arith, more_is, has.taken_is, open_width-append sizes_of line (x ∷ []));
-        some = λ any. omega (arith, from_is, len_is, first.some, has.end_is);
+        some = λ any. omega (arith, from_is, len_is, (first has).some, has.end_is);
         plain = All-tail IsPlain x left has.plain;
-        room = passed len len_is;
+        room = passed has len len_is;
         places = ap (λ n. kept ++ breaks_of n next) from_is
             ∙ ap (λ l. l ++ breaks_of begin next) kept_is
             ∙ ap (λ ls. breaks ++ breaks_of begin ls)
@@ -192,7 +113,7 @@ module _ {width start : ℕ} {part old breaks : List ℕ} {begin end taken : ℕ
     arith,
     has.after,
     has.end_is,
-    passed (length (tile_of x)) refl,
+    passed has (length (tile_of x)) refl,
     length-append x.word x.whitespace,
   )
 
@@ -201,7 +122,7 @@ module _ {width start : ℕ} {part old breaks : List ℕ} {begin end taken : ℕ
   HasLine-fits fits began =
       omega (
         arith,
-        closes,
+        closes has,
         prefix-closes sizes_of width line x left
             (subst (λ ws. Fits sizes_of width ws) (sym (has.whole fits)) fits)
             (line_some line (omega (arith, began, has.end_is))),

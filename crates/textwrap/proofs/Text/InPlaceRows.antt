@@ -1,14 +1,12 @@
 -- Worked rows on texts that are filled in place.
-use Rattle.std.proofs.Common.{◌≡◌, ◌≢◌, List, [], ◌∷◌, take, drop, get_or, codes, refl, ap, arith}
-use Rattle.std.specs.List.{flat_map}
+use Rattle.textwrap_base.proofs.Common.{◌≡◌, ◌≢◌, List, [], ◌∷◌, take, drop, get_or, codes, refl}
+use Rattle.textwrap_base.proofs.Common.{ap, arith, flat_map, All-nil, All-cons, Fits}
+use Rattle.textwrap_words.proofs.Common.{WordText, sizes_of, words_of}
+use Rattle.textwrap_lines.proofs.Common.{join_with}
+use Rattle.textwrap.proofs.Common.{broken_lines, IsFilledInPlace, with_line_feeds, breaks_of}
 use Rattle.std.specs.Str.{chars}
-use Rattle.std.proofs.lemmas.List.Elements.{All-nil, All-cons}
 use Rattle.unicode.specs.Width.Width.{char_width}
-use Rattle.textwrap_base.specs.Division.{Fits}
-use Rattle.textwrap_words.specs.Words.{WordText, sizes_of, words_of}
-use Rattle.textwrap.specs.InPlace.{broken_lines, IsFilledInPlace, with_line_feeds, breaks_of}
-use Rattle.textwrap_lines.specs.LineEnding.{join_with}
-use Rattle.textwrap.proofs.Text.InPlaceLines.{filled_one}
+use Rattle.textwrap.proofs.Text.InPlaceParagraphs.{filled_one}
 
 -- the words of a line, of which the first two are on a line of their own
 abbrev after_two : List WordText → List (List WordText)

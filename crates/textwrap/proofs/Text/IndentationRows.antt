@@ -1,8 +1,9 @@
 -- Worked rows on indented and dedented texts.
-use Rattle.std.proofs.Common.{◌≡◌, [], ◌∷◌, refl, codes}
+use Rattle.textwrap_base.proofs.Common.{◌≡◌, [], ◌∷◌, refl, codes, encode_utf8_all}
+use Rattle.textwrap.proofs.Common.{ended_parts, margin_of}
 use Rattle.std.specs.Char.{encode_utf8}
-use Rattle.std.specs.Str.{chars, trim_end, encode_utf8_all}
-use Rattle.textwrap.specs.Indentation.{ended_parts, indented, margin_of, dedented}
+use Rattle.std.specs.Str.{chars, trim_end}
+use Rattle.textwrap.specs.Indentation.{indented, dedented}
 
 ended_parts-empty_line : ended_parts (codes "a\r\n\nb")
     ≡ codes "a\r\n" ∷ codes "\n" ∷ codes "b" ∷ []

@@ -1,19 +1,16 @@
 -- Lemmas on the layout of a text, as its lines show it one after another.
-use Rattle.std.proofs.Common.{◌≡◌, ℕ, ◌+◌, ◌<◌, max, List, [], ◌∷◌, ◌++◌, length, drop, map, get_or}
-use Rattle.std.proofs.Common.{refl, sym, ap, ◌∙◌, arith}
-use Rattle.std.specs.Prelude.{Option, Some, None, option_to_list, unwrap_or, IfSome}
-use Rattle.std.specs.List.{fold}
-use Rattle.std.specs.Str.{IsAscii}
-use Rattle.std.specs.Str.Lines.{lines}
+use Rattle.textwrap_base.proofs.Common.{◌≡◌, ℕ, ◌+◌, ◌<◌, max, List, [], ◌∷◌, ◌++◌, length, drop}
+use Rattle.textwrap_base.proofs.Common.{map, get_or, refl, sym, ap, ◌∙◌, arith, Option, Some, None}
+use Rattle.textwrap_base.proofs.Common.{unwrap_or, fold, IsAscii, lines, YieldsList-turn}
+use Rattle.textwrap_base.proofs.Common.{YieldsList-end, YieldsList-from_lines, drop_more}
+use Rattle.textwrap_base.proofs.Common.{get_or_default, Bor}
+use Rattle.textwrap_words.proofs.Common.{text_width}
+use Rattle.textwrap_lines.proofs.Common.{Settings}
+use Rattle.textwrap.proofs.Common.{line_prefix, common_prefix}
+use Rattle.std.specs.Prelude.{option_to_list, IfSome}
 use Rattle.std.specs.Str.Iter.{lines_rest, lines_steps}
-use Rattle.std.proofs.lemmas.Iterator.Consumers.{YieldsList-turn, YieldsList-end}
-use Rattle.std.proofs.lemmas.Iterator.Splits.{YieldsList-from_lines}
-use Rattle.std.proofs.lemmas.List.{drop_more, get_or_default}
-use denote.Ref.{Bor}
-use Rattle.textwrap_words.specs.Units.{text_width}
-use Rattle.textwrap_words.proofs.Word.Texts.{text_width-nil}
-use Rattle.textwrap_lines.specs.Options.{Settings, settings_at}
-use Rattle.textwrap.specs.Refilling.{line_prefix, common_prefix}
+use Rattle.textwrap_words.proofs.Word.Measured.{text_width-nil}
+use Rattle.textwrap_lines.specs.Options.{settings_at}
 use Rattle.textwrap.proofs.Text.Prefixes.{line_prefix-ascii, common_start-ascii}
 
 -- the lines after the first

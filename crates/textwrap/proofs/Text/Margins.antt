@@ -1,136 +1,18 @@
 -- Lemmas on margins: a text has one, and its lines begin with it.
-use Rattle.std.proofs.Common.{◌≡◌, ◌↔◌, inl, inr, ℕ, suc, ◌+◌, ◌==◌, Bool, true, false}
-use Rattle.std.proofs.Common.{cond, Option, None, Some, List, [], ◌∷◌, length, take, drop, get_or}
-use Rattle.std.proofs.Common.{All, refl, sym, ap, ◌∙◌, subst, arith}
+use Rattle.textwrap_base.proofs.Common.{◌≡◌, ◌↔◌, inl, inr, ℕ, suc, ◌+◌, Bool, true, false, cond}
+use Rattle.textwrap_base.proofs.Common.{Option, None, Some, List, [], ◌∷◌, length, take, drop, All}
+use Rattle.textwrap_base.proofs.Common.{refl, sym, ap, ◌∙◌, subst, arith, StartsWith, list_all}
+use Rattle.textwrap_base.proofs.Common.{prefix_len, Bor, option_map, unwrap_or, lines}
+use Rattle.textwrap_base.proofs.Common.{starts_with_length, starts_with_of_eq, starts_with_trans}
+use Rattle.textwrap_base.proofs.Common.{false≢true, take_all, chars-nil, length-prefix_len, All-nil}
+use Rattle.textwrap_base.proofs.Common.{All-cons, All-head, All-tail}
+use Rattle.textwrap.proofs.Common.{is_blank_line, leading_whitespace, margin_of}
 use Rattle.std.specs.Char.{is_whitespace}
-use Rattle.std.specs.Io.{StartsWith}
-use Rattle.std.specs.List.{fold, list_all, prefix_len}
-use Rattle.std.specs.List.{take_while}
-use Rattle.std.specs.Borrow.{Bor}
-use Rattle.std.specs.Option.{option_map, unwrap_or}
 use Rattle.std.specs.Str.{chars}
-use Rattle.std.specs.Str.Lines.{lines}
-use Rattle.std.proofs.Transfers.{starts_with_length, starts_with_of_eq, starts_with_trans}
-use Rattle.std.proofs.lemmas.Bool.{eqb-true, eqb-false, false≢true, and_parts}
-use Rattle.std.proofs.lemmas.Bool.{and_from}
-use Rattle.std.proofs.lemmas.List.{take_all}
-use Rattle.std.proofs.lemmas.Str.{chars-nil}
-use Rattle.std.proofs.lemmas.List.Folds.{length-prefix_len}
-use Rattle.std.proofs.lemmas.List.Elements.{All-nil, All-cons, All-head, All-tail}
-use Rattle.textwrap.specs.Indentation.{is_blank_line, leading_whitespace, AreComparable, IsMargin}
-use Rattle.textwrap.specs.Indentation.{IsMarginOfLines, IsMarginOf, narrowed, margin_of_lines}
-use Rattle.textwrap.specs.Indentation.{margin_of, lines_from_first}
-
--- ---- prefixes
-
-starts-head : (x y : ℕ) (xs ys : List ℕ) → StartsWith (x ∷ xs) (y ∷ ys) → x ≡ y
-starts-head x y xs ys is = ap (λ l. get_or l 0 0) is
-
-starts-tail : (x y : ℕ) (xs ys : List ℕ) → StartsWith (x ∷ xs) (y ∷ ys) → StartsWith xs ys
-starts-tail x y xs ys is = ap (drop 1) is
-
-starts-cons : (x y : ℕ) (xs ys : List ℕ) → x ≡ y → StartsWith xs ys
-    → StartsWith (x ∷ xs) (y ∷ ys)
-starts-cons x y xs ys same is = ap (λ l. x ∷ l) is ∙ ap (λ z. z ∷ ys) same
-
-nothing-starts : (y : ℕ) (ys : List ℕ) → StartsWith [] (y ∷ ys) → ⊥
-nothing-starts y ys is = omega (arith, ap length is)
-
--- ---- a margin and one line
-
-narrowed-front : (margin line : List ℕ) → StartsWith margin (narrowed margin line)
-narrowed-front [] line = refl
-narrowed-front (c ∷ margin) [] = starts_with_of_eq (c ∷ margin) (c ∷ margin) refl
-narrowed-front (c ∷ margin) (d ∷ line) =
-    elim (c == d) as (λ b. StartsWith (c ∷ margin) (cond b (c ∷ narrowed margin line) [])) [
-      | true ↦ starts-cons c c margin (narrowed margin line) refl (narrowed-front margin line)
-      | false ↦ refl
-    ]
-
-comparable-cons : (c d : ℕ) (xs ys : List ℕ) → c ≡ d → AreComparable xs ys
-    → AreComparable (c ∷ xs) (d ∷ ys)
-comparable-cons c d xs ys same (inl is) = inl (starts-cons c d xs ys same is)
-comparable-cons c d xs ys same (inr is) = inr (starts-cons d c ys xs (sym same) is)
-
-comparable-head : (c d : ℕ) (xs ys : List ℕ) → AreComparable (c ∷ xs) (d ∷ ys) → c ≡ d
-comparable-head c d xs ys (inl is) = starts-head c d xs ys is
-comparable-head c d xs ys (inr is) = sym (starts-head d c ys xs is)
-
-comparable-tail : (c d : ℕ) (xs ys : List ℕ) → AreComparable (c ∷ xs) (d ∷ ys)
-    → AreComparable xs ys
-comparable-tail c d xs ys (inl is) = inl (starts-tail c d xs ys is)
-comparable-tail c d xs ys (inr is) = inr (starts-tail d c ys xs is)
-
-comparable-step : (c d e : ℕ) (rest line other : List ℕ) (b : Bool) → (c == d) ≡ b
-    → (StartsWith rest other → AreComparable other line)
-    → StartsWith (cond b (c ∷ rest) []) (e ∷ other) → AreComparable (e ∷ other) (d ∷ line)
-comparable-step c d e rest line other true is more starts =
-    comparable-cons e d other line (sym (starts-head c e rest other starts) ∙ eqb-true c d is)
-    (more (starts-tail c e rest other starts))
-comparable-step c d e rest line other false is more starts =
-    absurd (nothing-starts e other starts)
-
--- what a narrowed margin begins with is comparable with the line
-narrowed-comparable : (margin line other : List ℕ) → StartsWith (narrowed margin line) other
-    → AreComparable other line
-narrowed-comparable margin line [] starts = inr refl
-narrowed-comparable [] line (e ∷ other) starts = absurd (nothing-starts e other starts)
-narrowed-comparable (c ∷ margin) [] (e ∷ other) starts = inl refl
-narrowed-comparable (c ∷ margin) (d ∷ line) (e ∷ other) starts =
-    comparable-step c d e (narrowed margin line) line other (c == d) refl
-    (narrowed-comparable margin line other) starts
-
-longest-step : (c d e : ℕ) (rest other : List ℕ) (b : Bool) → (c == d) ≡ b → c ≡ e → e ≡ d
-    → StartsWith rest other → StartsWith (cond b (c ∷ rest) []) (e ∷ other)
-longest-step c d e rest other true is first second more = starts-cons c e rest other first more
-longest-step c d e rest other false is first second more =
-    absurd (eqb-false c d is (first ∙ second))
-
--- and what the margin begins with and is comparable with the line, the narrowed margin begins with
-narrowed-longest : (margin line other : List ℕ) → StartsWith margin other
-    → AreComparable other line → StartsWith (narrowed margin line) other
-narrowed-longest margin line [] starts comparable = refl
-narrowed-longest [] line (e ∷ other) starts comparable = starts
-narrowed-longest (c ∷ margin) [] (e ∷ other) starts comparable = starts
-narrowed-longest (c ∷ margin) (d ∷ line) (e ∷ other) starts comparable =
-    longest-step c d e (narrowed margin line) other (c == d) refl
-    (starts-head c e margin other starts) (comparable-head e d other line comparable)
-    (narrowed-longest margin line other (starts-tail c e margin other starts)
-    (comparable-tail e d other line comparable))
-
--- ---- a margin and the later lines
-
-abbrev pub narrowed_by : List ℕ → List (List ℕ) → List ℕ
-narrowed_by margin later = fold (λ m line. narrowed m (chars line)) margin later
-
-by-front : (margin : List ℕ) (later : List (List ℕ))
-    → StartsWith margin (narrowed_by margin later)
-by-front margin [] = starts_with_of_eq margin margin refl
-by-front margin (line ∷ later) =
-    let next = narrowed margin (chars line) in
-    starts_with_trans margin next (narrowed_by next later) (narrowed-front margin (chars line))
-    (by-front next later)
-
-by-comparable : (margin other : List ℕ) (later : List (List ℕ))
-    → StartsWith (narrowed_by margin later) other
-    → All (λ line. AreComparable other (chars line)) later
-by-comparable margin other [] starts = All-nil (λ line. AreComparable other (chars line))
-by-comparable margin other (line ∷ later) starts =
-    let next = narrowed margin (chars line) in
-    All-cons (λ l. AreComparable other (chars l)) line later
-    (narrowed-comparable margin (chars line) other
-    (starts_with_trans next (narrowed_by next later) other (by-front next later) starts))
-    (by-comparable next other later starts)
-
-by-longest : (margin other : List ℕ) (later : List (List ℕ)) → StartsWith margin other
-    → All (λ line. AreComparable other (chars line)) later
-    → StartsWith (narrowed_by margin later) other
-by-longest margin other [] starts all = starts
-by-longest margin other (line ∷ later) starts all =
-    by-longest (narrowed margin (chars line)) other later
-    (narrowed-longest margin (chars line) other starts
-    (All-head (λ l. AreComparable other (chars l)) line later all))
-    (All-tail (λ l. AreComparable other (chars l)) line later all)
+use Rattle.textwrap.specs.Indentation.{AreComparable, IsMargin, IsMarginOfLines, IsMarginOf}
+use Rattle.textwrap.specs.Indentation.{margin_of_lines, lines_from_first}
+use Rattle.textwrap_base.proofs.Whitespace.{white-front, white-leading}
+use Rattle.textwrap.proofs.Text.Narrowed.{narrowed_by, by-front, by-comparable, by-longest}
 
 -- ---- the margin of a text
 
@@ -167,30 +49,6 @@ pub margins_one : (text margin : List ℕ) → IsMarginOf text margin ↔ (margi
 margins_one text margin = margins_of_lines (lines_from_first text) margin
 
 -- ---- each line that is not blank begins with the margin
-
-white-front : (xs ys : List ℕ) → list_all is_whitespace xs ≡ true → StartsWith xs ys
-    → list_all is_whitespace ys ≡ true
-white-front xs [] white starts = refl
-white-front [] (y ∷ ys) white starts = absurd (nothing-starts y ys starts)
-white-front (x ∷ xs) (y ∷ ys) white starts =
-    let (here, rest) = and_parts (is_whitespace x) (list_all is_whitespace xs) white in
-    and_from (is_whitespace y) (list_all is_whitespace ys)
-    (ap is_whitespace (sym (starts-head x y xs ys starts)) ∙ here)
-    (white-front xs ys rest (starts-tail x y xs ys starts))
-
-white-taken : (c : ℕ) (cs : List ℕ) (n : ℕ) (b : Bool) → is_whitespace c ≡ b
-    → list_all is_whitespace (take n cs) ≡ true
-    → list_all is_whitespace (take (cond b (1 + n) 0) (c ∷ cs)) ≡ true
-white-taken c cs n true is rest =
-    let more : 1 + n ≡ suc n = omega arith in
-    ap (λ k. list_all is_whitespace (take k (c ∷ cs))) more
-    ∙ and_from (is_whitespace c) (list_all is_whitespace (take n cs)) is rest
-white-taken c cs n false is rest = refl
-
-white-leading : (cs : List ℕ) → list_all is_whitespace (take_while is_whitespace cs) ≡ true
-white-leading [] = refl
-white-leading (c ∷ cs) =
-    white-taken c cs (prefix_len is_whitespace cs) (is_whitespace c) refl (white-leading cs)
 
 begins-later : (margin : List ℕ) (line : List ℕ) → list_all is_whitespace margin ≡ true
     → AreComparable margin (chars line) → is_blank_line line ≡ false

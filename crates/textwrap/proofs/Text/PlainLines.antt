@@ -1,23 +1,19 @@
 -- Lemmas on plain lines: what bytes they have, what they begin and end with, their parts between
 -- blanks, and blanks in the place of the line feeds between them.
-use Rattle.std.proofs.Common.{◌≡◌, ◌≢◌, ℕ, ◌+◌, ◌-◌, ◌<◌, ◌==◌, Bool, true, false, cond, List, []}
-use Rattle.std.proofs.Common.{◌∷◌, ◌++◌, All, length, get_or, take, drop, refl, sym, ap, ◌∙◌, subst}
-use Rattle.std.proofs.Common.{arith, append_assoc, length-append}
-use Rattle.std.specs.List.{prefix_len}
-use Rattle.std.proofs.lemmas.Bool.{ne_eqb}
-use Rattle.std.proofs.lemmas.List.{take_all, length-take, map-append}
-use Rattle.std.proofs.lemmas.List.Elements.{All-nil, All-cons, All-head, All-tail, All-append}
-use Rattle.std.proofs.lemmas.List.Elements.{All-weaker, All-get_or}
-use Rattle.textwrap_words.specs.Blanks.{blank, trimmed_len, without_final_blanks}
-use Rattle.textwrap_base.specs.Lists.{last}
-use Rattle.textwrap_base.proofs.Division.Greedy.{some_from_nonempty}
-use Rattle.textwrap_base.proofs.ListLemmas.{all-right}
+use Rattle.textwrap_base.proofs.Common.{◌≡◌, ◌≢◌, ℕ, ◌+◌, ◌-◌, ◌<◌, ◌==◌, Bool, true, false, cond}
+use Rattle.textwrap_base.proofs.Common.{List, [], ◌∷◌, ◌++◌, All, length, take, refl, sym, ap, ◌∙◌}
+use Rattle.textwrap_base.proofs.Common.{subst, arith, append_assoc, length-append, prefix_len}
+use Rattle.textwrap_base.proofs.Common.{ne_eqb, take_all, length-take, map-append, All-nil}
+use Rattle.textwrap_base.proofs.Common.{All-cons, All-head, All-tail, All-append, All-weaker, last}
+use Rattle.textwrap_words.proofs.Common.{blank, trimmed_len, without_final_blanks}
+use Rattle.textwrap_lines.proofs.Common.{line_feed}
+use Rattle.textwrap.proofs.Common.{is_prefix_character, line_prefix, IsPlainByte, IsPlainWord}
+use Rattle.textwrap.proofs.Common.{IsPlainLine, blanked}
+use Rattle.std.proofs.lemmas.List.Elements.{All-get_or}
+use Rattle.textwrap_base.proofs.Lists.Parts.{some_from_nonempty}
 use Rattle.textwrap_words.proofs.Word.Texts.{trimmed-past}
-use Rattle.textwrap_lines.specs.LineEnding.{line_feed}
-use Rattle.textwrap.specs.Refilling.{is_prefix_character, line_prefix, IsPlainByte, IsPlainWord}
-use Rattle.textwrap.specs.Refilling.{IsPlainLine, blanked}
-use Rattle.textwrap_lines.proofs.Paragraph.LinesApart.{last-append}
-use Rattle.textwrap.proofs.Text.InPlace.{blank_joined, feed_joined}
+use Rattle.textwrap_lines.proofs.Paragraph.WordsApart.{last-append}
+use Rattle.textwrap.proofs.Text.JoinedLines.{blank_joined, feed_joined}
 
 -- ---- what plain lines begin and end with
 
@@ -86,90 +82,6 @@ unblank-solid line is =
     let past = trimmed-past line (length line - 1) (omega (arith, is.some))
     (ne_eqb (last line) 32 is.ends.0) in
     take_all (trimmed_len line) line (omega (arith, past, is.some))
-
--- ---- the parts of plain lines between blanks
-
--- where a word and a blank begin a text that is cut at a blank: it is cut behind the word, or later
-data Meets (word rest before after : List ℕ) : Type 0 where
-  Here : word ≡ before → rest ≡ after → Meets word rest before after
-  Later : (between : List ℕ) → before ≡ word ++ blank ∷ between
-      → rest ≡ between ++ blank ∷ after → Meets word rest before after
-
-meets : (word rest before after : List ℕ) → All (λ c. c ≢ blank) word
-    → word ++ blank ∷ rest ≡ before ++ blank ∷ after → Meets word rest before after
-meets [] rest [] after none same = Here refl (ap (drop 1) same)
-meets [] rest (b ∷ before) after none same =
-    Later before (ap (λ c. c ∷ before) (sym (ap (λ l. get_or l 0 0) same))) (ap (drop 1) same)
-meets (c ∷ word) rest [] after none same =
-    absurd (All-head (λ d. d ≢ blank) c word none (ap (λ l. get_or l 0 0) same))
-meets (c ∷ word) rest (b ∷ before) after none same =
-    let first : c ≡ b = ap (λ l. get_or l 0 0) same in
-    elim (meets word rest before after (All-tail (λ d. d ≢ blank) c word none)
-    (ap (drop 1) same)) [
-      | Here is rest_is ↦ Here (ap (λ d. d ∷ word) first ∙ ap (λ l. b ∷ l) is) rest_is
-      | Later between is rest_is ↦
-          Later between (ap (λ d. d ∷ before) (sym first) ∙ ap (λ l. c ∷ l) is) rest_is
-    ]
-
-no_blank : (word : List ℕ) → IsPlainWord word → All (λ c. c ≢ blank) word
-no_blank word plain = All-weaker IsPlainByte (λ c. c ≢ blank) (λ c is. is.0) word plain.bytes
-
-one_word : (word : List ℕ) → IsPlainWord word → IsPlainLine word
-one_word word plain =
-    (word ∷ [], λ none. cc, All-cons IsPlainWord word [] plain (All-nil IsPlainWord), refl)
-
-onto_line : (word line : List ℕ) → IsPlainWord word → IsPlainLine line
-    → IsPlainLine (word ++ blank ∷ line)
-onto_line word line plain ([], some, all, is) = absurd (some refl)
-onto_line word line plain (next ∷ words, some, all, is) = (
-  word ∷ next ∷ words,
-  λ none. cc,
-  All-cons IsPlainWord word (next ∷ words) plain all,
-  ap (λ l. word ++ blank ∷ l) is
-      ∙ sym (append_assoc word (blank ∷ []) (blank_joined (next ∷ words))),
-)
-
--- plain words are cut at a blank
-cut_words : (word : List ℕ) (words : List (List ℕ)) (before after : List ℕ)
-    → All IsPlainWord (word ∷ words) → blank_joined (word ∷ words) ≡ before ++ blank ∷ after
-    → IsPlainLine before × IsPlainLine after
-cut_words word [] before after plain is =
-    absurd (All-head (λ c. c ≢ blank) blank after
-    (all-right (λ c. c ≢ blank) before (blank ∷ after)
-    (subst (All (λ c. c ≢ blank)) is
-    (no_blank word (All-head IsPlainWord word [] plain)))) refl)
-cut_words word (next ∷ words) before after plain is =
-    let first = All-head IsPlainWord word (next ∷ words) plain in
-    let others = All-tail IsPlainWord word (next ∷ words) plain in
-    let more = blank_joined (next ∷ words) in
-    elim (meets word more before after (no_blank word first)
-    (sym (append_assoc word (blank ∷ []) more) ∙ is)) [
-      | Here same rest ↦ (
-        subst IsPlainLine same (one_word word first),
-        (next ∷ words, λ none. cc, others, sym rest),
-      )
-      | Later between same rest ↦
-          let parts = cut_words next words between after others rest in (
-            subst IsPlainLine (sym same) (onto_line word between first parts.0),
-            parts.1,
-          )
-    ]
-
-cut_line : (line before after : List ℕ) → IsPlainLine line → line ≡ before ++ blank ∷ after
-    → IsPlainLine before × IsPlainLine after
-cut_line line before after ([], some, plain, is) at = absurd (some refl)
-cut_line line before after (word ∷ words, some, plain, is) at =
-    cut_words word words before after plain (sym is ∙ at)
-
-pub plain_parts : (parts : List (List ℕ)) → IsPlainLine (blank_joined parts)
-    → All IsPlainLine parts
-plain_parts [] plain = All-nil IsPlainLine
-plain_parts (part ∷ []) plain = All-cons IsPlainLine part [] plain (All-nil IsPlainLine)
-plain_parts (part ∷ next ∷ parts) plain =
-    let more = blank_joined (next ∷ parts) in
-    let cut = cut_line (blank_joined (part ∷ next ∷ parts)) part more plain
-    (append_assoc part (blank ∷ []) more) in
-    All-cons IsPlainLine part (next ∷ parts) cut.0 (plain_parts (next ∷ parts) cut.1)
 
 -- ---- blanks in the place of line feeds
 

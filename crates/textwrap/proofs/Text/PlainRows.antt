@@ -1,8 +1,8 @@
 -- Worked rows on plain texts.
-use Rattle.std.proofs.Common.{◌≡◌, ℕ, ◌≤◌, [], ◌∷◌, length, codes, refl, ap, arith}
-use Rattle.std.proofs.lemmas.List.Elements.{All-nil, All-cons}
-use Rattle.textwrap.specs.Refilling.{line_prefix, IsPlainByte, IsPlainWord, IsPlainLine, IsPlain}
-use Rattle.textwrap.specs.Refilling.{blanked}
+use Rattle.textwrap_base.proofs.Common.{◌≡◌, ℕ, ◌≤◌, [], ◌∷◌, length, codes, refl, ap, arith}
+use Rattle.textwrap_base.proofs.Common.{All-nil, All-cons}
+use Rattle.textwrap.proofs.Common.{line_prefix, IsPlainByte, IsPlainWord, IsPlainLine, IsPlain}
+use Rattle.textwrap.proofs.Common.{blanked}
 use Rattle.textwrap.proofs.Text.Refilling.{unfilled-plain}
 
 pub blanked-lines : blanked (codes "a b\nc") ≡ codes "a b c"

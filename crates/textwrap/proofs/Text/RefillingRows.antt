@@ -1,11 +1,10 @@
 -- Worked rows on unfilled texts and their lines, as theorems by computation.
-use Rattle.std.proofs.Common.{◌≡◌, true, [], ◌∷◌, refl, codes}
-use Rattle.std.specs.Prelude.{Some, None}
+use Rattle.textwrap_base.proofs.Common.{◌≡◌, true, [], ◌∷◌, refl, codes, Some, None}
+use Rattle.textwrap.proofs.Common.{nonempty_lines, joined_text, common_prefix, keeps_ending}
 use Rattle.std.specs.Str.{chars}
 use Rattle.unicode.specs.Width.Width.{char_width}
 use Rattle.textwrap_lines.specs.Options.{settings_at}
-use Rattle.textwrap.specs.Refilling.{nonempty_lines, unfilled_text, unfilled_settings, joined_text}
-use Rattle.textwrap.specs.Refilling.{common_prefix, keeps_ending}
+use Rattle.textwrap.specs.Refilling.{unfilled_text, unfilled_settings}
 use Rattle.textwrap_lines.specs.declared.line_ending.LineEnding.TheVariants.{CRLF, LF}
 
 nonempty_lines-mixed : nonempty_lines (codes "LF\nCRLF\r\n\r\n\nend")

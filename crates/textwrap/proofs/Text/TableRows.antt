@@ -1,9 +1,9 @@
 -- Worked rows on texts in columns.
-use Rattle.std.proofs.Common.{◌≡◌, [], ◌∷◌, refl, codes}
+use Rattle.textwrap_base.proofs.Common.{◌≡◌, [], ◌∷◌, refl, codes}
+use Rattle.textwrap.proofs.Common.{inner_width, cells, layout_of}
 use Rattle.std.specs.Str.{chars}
 use Rattle.unicode.specs.Width.Width.{char_width}
-use Rattle.textwrap.specs.Columns.{inner_width, column_width, cells, cells_by_column, layout_of}
-use Rattle.textwrap.specs.Columns.{table_rows, row_parts}
+use Rattle.textwrap.specs.Columns.{column_width, cells_by_column, table_rows, row_parts}
 
 inner_width-gaps : inner_width 21 4 (codes "|") (codes "|") (codes "|") ≡ 16
 unfolding chars char_width

@@ -1,25 +1,24 @@
 -- Lemmas on what unfilling gives: lines begin with their indents, are joined, and show their
 -- ending.
-use Rattle.std.proofs.Common.{◌≡◌, ℕ, Bool, true, false, cond, List, [], ◌∷◌, ◌++◌, length}
-use Rattle.std.proofs.Common.{drop, map, filter, All, refl, sym, ap, ◌∙◌, subst, arith, get_or}
-use Rattle.std.proofs.Common.{append_assoc, append-nil}
-use Rattle.std.specs.Prelude.{Option, Some, None, ◌==◌, ◌&&◌, nat_eq, is_some, unwrap_or}
-use Rattle.std.specs.Io.{StartsWith}
-use Rattle.std.specs.List.{flat_map, slice_split, ends_with}
-use Rattle.std.specs.Str.Lines.{lines, lines_of_parts, strip_carriage_return}
-use Rattle.std.proofs.Transfers.{starts_with_trans}
-use Rattle.std.proofs.lemmas.Bool.Decides.{nat_tests}
-use Rattle.std.proofs.lemmas.List.{nil_from_length}
-use Rattle.std.proofs.lemmas.List.Elements.{All-nil, All-cons, All-head, All-tail, All-filter}
-use Rattle.textwrap_words.specs.Blanks.{blank}
+use Rattle.textwrap_base.proofs.Common.{◌≡◌, ℕ, Bool, true, false, cond, List, [], ◌∷◌, ◌++◌}
+use Rattle.textwrap_base.proofs.Common.{length, drop, map, filter, All, refl, sym, ap, ◌∙◌, subst}
+use Rattle.textwrap_base.proofs.Common.{arith, get_or, append_assoc, append-nil, Option, Some, None}
+use Rattle.textwrap_base.proofs.Common.{◌==◌, ◌&&◌, nat_eq, unwrap_or, StartsWith, flat_map}
+use Rattle.textwrap_base.proofs.Common.{slice_split, ends_with, lines, starts_with_trans, nat_tests}
+use Rattle.textwrap_base.proofs.Common.{nil_from_length, All-nil, All-cons, All-head, All-tail}
+use Rattle.textwrap_words.proofs.Common.{blank}
+use Rattle.textwrap_lines.proofs.Common.{ending_bytes, join_with}
+use Rattle.textwrap.proofs.Common.{EndedLine, ended_lines_of, nonempty_lines, line_prefix}
+use Rattle.textwrap.proofs.Common.{common_prefix, unfilled_initial, unfilled_subsequent}
+use Rattle.textwrap.proofs.Common.{joined_text, detected_among, detected_ending, keeps_ending}
+use Rattle.std.specs.Prelude.{is_some}
+use Rattle.std.specs.Str.Lines.{lines_of_parts, strip_carriage_return}
+use Rattle.std.proofs.lemmas.List.Elements.{All-filter}
 use Rattle.textwrap_lines.specs.declared.line_ending.LineEnding.{LineEnding}
 use Rattle.textwrap_lines.specs.declared.line_ending.LineEnding.TheVariants.{CRLF, LF}
-use Rattle.textwrap_lines.specs.LineEnding.{ending_bytes, join_with}
-use Rattle.textwrap.specs.Refilling.{EndedLine, ended_lines_of, ended_lines, has_text}
-use Rattle.textwrap.specs.Refilling.{nonempty_lines, line_prefix, common_prefix, unfilled_initial}
-use Rattle.textwrap.specs.Refilling.{unfilled_subsequent, joined_text, without_indents}
-use Rattle.textwrap.specs.Refilling.{detected_among, detected_ending, keeps_ending}
-use Rattle.textwrap.proofs.Text.Prefixes.{common_prefix-begins, line_prefix-begins}
+use Rattle.textwrap.specs.Refilling.{ended_lines, has_text, without_indents}
+use Rattle.textwrap.proofs.Text.CommonPrefixes.{common_prefix-begins}
+use Rattle.textwrap.proofs.Text.Prefixes.{line_prefix-begins}
 
 -- ---- the lines with their endings are std's lines
 

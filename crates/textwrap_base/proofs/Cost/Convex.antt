@@ -1,87 +1,14 @@
 -- Line costs are convex where closed widths never fall. What a line costs beside its gap comes from
 -- its end alone. The gap depends on what its end closes at, less what stands before its start; the
 -- first never falls along the ends, nor the second along the starts, and the gap's cost is convex.
-use Rattle.std.proofs.Common.{◌≡◌, ℕ, zero, suc, ◌+◌, ◌-◌, ◌*◌, ◌<◌, ◌≤◌, true, false, ltb, eqb}
-use Rattle.std.proofs.Common.{max, List, [], ◌∷◌, length, get_or, take, slice_range, refl}
-use Rattle.std.proofs.Common.{inl, inr, arith}
-use Rattle.std.proofs.lemmas.Bool.{cases_lt}
-use Rattle.std.proofs.lemmas.Bool.Decides.{nat_tests}
-use Rattle.textwrap_base.specs.Sizes.{Sizes}
-use Rattle.textwrap_base.specs.Division.{line_width, closed_width, open_width}
-use Rattle.textwrap_base.specs.Cost.{PricedSizes, fit_cost}
-use Rattle.textwrap_base.specs.Queue.{AreConvex, NeverFalls}
-use Rattle.textwrap_base.specs.Table.{line_costs, fragment_costs}
+use Rattle.textwrap_base.proofs.Common.{◌≡◌, ℕ, zero, suc, ◌+◌, ◌-◌, ◌<◌, ◌≤◌, false, eqb, max}
+use Rattle.textwrap_base.proofs.Common.{List, [], ◌∷◌, length, get_or, take, slice_range, arith}
+use Rattle.textwrap_base.proofs.Common.{nat_tests, Sizes, line_width, closed_width, open_width}
+use Rattle.textwrap_base.proofs.Common.{PricedSizes, NeverFalls, line_costs, fragment_costs}
+use Rattle.textwrap_base.specs.Queue.{AreConvex}
 use Rattle.textwrap_base.specs.declared.penalties.Penalties.{Penalties}
-use Rattle.textwrap_base.proofs.Cost.Measures.{line_cost-slice, closed_width-slice}
-use Rattle.textwrap_base.proofs.Cost.Measures.{open_width-slice}
-
--- ---- the cost of missing the target
-
-module _ (p : Penalties) (target : ℕ) where
-  -- what a line of this closed width adds where others follow it
-  abbrev gap_cost : ℕ → ℕ
-  gap_cost closed = fit_cost p target closed false false
-
-  gap_cost-under : (gap closed : ℕ) → closed + gap ≡ target → gap_cost closed ≡ gap * gap
-  gap_cost-under gap closed is =
-      let fits : ltb target closed ≡ false = grind (arith, nat_tests) in
-      let left : target - closed ≡ gap = omega arith in rw (fits, left) refl
-
-  gap_cost-over : (more closed : ℕ) → closed ≡ target + more
-      → gap_cost closed ≡ more * p.overflow_penalty
-  gap_cost-over zero closed is =
-      let fits : ltb target closed ≡ false = grind (arith, nat_tests) in
-      let left : target - closed ≡ 0 = omega arith in rw (fits, left) (omega arith)
-  gap_cost-over (suc more) closed is =
-      let over : ltb target closed ≡ true = grind (arith, nat_tests) in
-      let past : closed - target ≡ suc more = omega arith in rw (over, past) refl
-
-  -- the difference that a unit makes never falls
-  gap_cost-next : (closed : ℕ)
-      → gap_cost (closed + 1) + gap_cost (closed + 1) ≤ gap_cost (closed + 2) + gap_cost closed
-  gap_cost-next closed = elim (cases_lt closed target) [
-    | inr over ↦
-        let more = closed - target in
-        omega (
-          arith,
-          gap_cost-over more closed (omega arith),
-          gap_cost-over (more + 1) (closed + 1) (omega arith),
-          gap_cost-over (more + 2) (closed + 2) (omega arith),
-        )
-    | inl under ↦ elim (cases_lt (closed + 1) target) [
-      | inr last ↦ omega (
-        arith,
-        gap_cost-under 1 closed (omega arith),
-        gap_cost-under 0 (closed + 1) (omega arith),
-      )
-      | inl more ↦
-          let gap = target - (closed + 2) in
-          omega (
-            arith,
-            gap_cost-under (gap + 2) closed (omega arith),
-            gap_cost-under (gap + 1) (closed + 1) (omega arith),
-            gap_cost-under gap (closed + 2) (omega arith),
-          )
-    ]
-  ]
-
-  gap_cost-step : (closed more : ℕ) → gap_cost (closed + 1) + gap_cost (closed + more)
-      ≤ gap_cost (closed + more + 1) + gap_cost closed
-  gap_cost-step closed zero = let same : closed + 0 ≡ closed = omega arith in rw same (omega arith)
-  gap_cost-step closed (suc more) =
-      let same : closed + suc more ≡ closed + more + 1 = omega arith in
-      let next : closed + more + 1 + 1 ≡ closed + more + 2 = omega arith in
-      rw (same, next) (omega (arith, gap_cost-step closed more, gap_cost-next (closed + more)))
-
-  gap_cost-convex : (closed u v : ℕ) → gap_cost (closed + u) + gap_cost (closed + v)
-      ≤ gap_cost (closed + u + v) + gap_cost closed
-  gap_cost-convex closed zero v =
-      let same : closed + 0 ≡ closed = omega arith in rw same (omega arith)
-  gap_cost-convex closed (suc u) v =
-      let same : closed + suc u ≡ closed + u + 1 = omega arith in
-      let next : closed + u + 1 + v ≡ closed + u + v + 1 = omega arith in
-      rw (same, next)
-      (omega (arith, gap_cost-convex closed u v, gap_cost-step (closed + u) v))
+use Rattle.textwrap_base.proofs.Cost.Slices.{line_cost-slice, closed_width-slice, open_width-slice}
+use Rattle.textwrap_base.proofs.Cost.Gaps.{gap_cost, gap_cost-convex}
 
 -- ---- the cost of a line
 

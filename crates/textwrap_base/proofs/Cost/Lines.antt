@@ -1,20 +1,15 @@
 -- From lines to the starts of lines, and back.
-use Rattle.std.proofs.Common.{◌≡◌, ℕ, suc, ◌+◌, ◌-◌, ◌<◌, ◌≤◌, ◌≢◌, eqb, false, List, [], ◌∷◌, ◌++◌}
-use Rattle.std.proofs.Common.{length, get_or, map, reverse, take, drop, All, slice_range, refl, sym}
-use Rattle.std.proofs.Common.{◌∙◌, ap, subst, add-zero, arith, append_assoc, length-append}
-use Rattle.std.specs.List.{flat_map}
+use Rattle.textwrap_base.proofs.Common.{◌≡◌, ℕ, suc, ◌+◌, ◌<◌, ◌≤◌, ◌≢◌, eqb, List, [], ◌∷◌, ◌++◌}
+use Rattle.textwrap_base.proofs.Common.{length, get_or, reverse, drop, All, slice_range, refl, sym}
+use Rattle.textwrap_base.proofs.Common.{◌∙◌, ap, subst, add-zero, arith, append_assoc}
+use Rattle.textwrap_base.proofs.Common.{length-append, flat_map, All-head, All-tail, All-cons}
+use Rattle.textwrap_base.proofs.Common.{drop_split, line_width, IsDivision, PricedSizes, line_cost}
+use Rattle.textwrap_base.proofs.Common.{line_costs, FollowStarts}
 use mathlib.Core.List.{reverse_aux}
-use Rattle.std.proofs.lemmas.List.{take_at, drop_at, map_push, reverse-append}
-use Rattle.std.proofs.lemmas.List.Elements.{All-head, All-tail, All-cons}
-use Rattle.std.proofs.lemmas.Bool.{eqb-false}
-use Rattle.std.proofs.lemmas.List.Folds.{drop_split}
-use Rattle.textwrap_base.specs.Division.{line_width, IsDivision}
-use Rattle.textwrap_base.specs.Cost.{PricedSizes, line_cost, lines_cost, starts_from}
-use Rattle.textwrap_base.specs.Table.{line_costs, FollowStarts}
+use Rattle.textwrap_base.specs.Cost.{lines_cost, starts_from}
 use Rattle.textwrap_base.specs.declared.penalties.Penalties.{Penalties}
-use Rattle.textwrap_base.proofs.Cost.Measures.{take_slice, length-slice}
+use Rattle.textwrap_base.proofs.Lists.Parts.{length-slice, some_from_nonempty, slice_middle}
 use Rattle.textwrap_base.proofs.Cost.Starts.{AreStarts, starts_cost, FollowBack}
-use Rattle.textwrap_base.proofs.Division.Greedy.{some_from_nonempty}
 
 -- where the lines start, the last line first
 abbrev pub starts_back : {X : Type 0} → List (List X) → List ℕ
@@ -32,13 +27,6 @@ pub joined_division : {X : Type 0} (ys : List X) (lines : List (List X)) → 0 <
     → joined lines ≡ ys → All (λ line. line ≢ []) lines → IsDivision ys lines
 joined_division [] lines p e h = absurd (omega arith)
 joined_division (y ∷ ys) lines p e h = (e, h)
-
--- a part in the middle of a list
-slice_middle : {X : Type 0} (front line rest : List X) (at end : ℕ) → length front ≡ at
-    → at + length line ≡ end → slice_range (front ++ (line ++ rest)) at end ≡ line
-slice_middle front line rest at end e k =
-    let len : length line ≡ end - at = omega arith in
-    rw (drop_at front (line ++ rest) at e) (take_at line rest (end - at) len)
 
 module _ {X : Type 0} (priced : X → PricedSizes) (penalties : Penalties) (widths : List ℕ)
     (xs : List X) where
@@ -107,18 +95,6 @@ pub FollowStarts-same : {X : Type 0} (starts : List ℕ) (at end : ℕ) (lines :
     → at ≡ end → FollowStarts starts end lines → FollowStarts starts at lines
 FollowStarts-same starts at end lines e f = subst (λ k. FollowStarts starts k lines) (sym e) f
 
-pub reverse_map_push : {X Y : Type 0} (f : X → Y) (xs : List X) (x : X)
-    → reverse (map f (xs ++ x ∷ [])) ≡ f x ∷ reverse (map f xs)
-reverse_map_push f xs x = ap reverse (map_push f xs x) ∙ reverse-append (map f xs) (f x ∷ [])
-
-reverse_aux-map : {X Y : Type 0} (f : X → Y) (xs front : List X)
-    → map f (reverse_aux xs front) ≡ reverse_aux (map f xs) (map f front)
-reverse_aux-map f [] front = refl
-reverse_aux-map f (x ∷ xs) front = reverse_aux-map f xs (x ∷ front)
-
-pub reverse-map : {X Y : Type 0} (f : X → Y) (xs : List X) → map f (reverse xs) ≡ reverse (map f xs)
-reverse-map f xs = reverse_aux-map f xs []
-
 pub lines_more : {X : Type 0} (fragments : List X) (starts : List ℕ) (lines : List (List X))
     (start end : ℕ) → start < end → end ≤ length fragments → get_or starts end 0 ≡ start
     → joined lines ≡ drop end fragments → All (λ line. line ≢ []) lines
@@ -141,54 +117,3 @@ lines_more fragments starts lines start end below within at tiles some follow =
             lines e follow,
       ),
     )
-
-pub some_from_test : (n : ℕ) → eqb n 0 ≡ false → 0 < n
-some_from_test n e = let ne = eqb-false n 0 e in omega (arith, ne)
-
--- ---- the lines of given starts
-
-abbrev pub lines_after : {X : Type 0} → List ℕ → List X → ℕ → List (List X) → List (List X)
-lines_after [] xs j after = after
-lines_after (i ∷ rest) xs j after = lines_after rest xs i (slice_range xs i j ∷ after)
-
-pub joined_after : {X : Type 0} (starts : List ℕ) (xs : List X) (j : ℕ) (after : List (List X))
-    → j ≤ length xs → AreStarts starts j
-    → joined (lines_after starts xs j after) ≡ take j xs ++ joined after
-joined_after [] xs j after l h = rw h refl
-joined_after (i ∷ rest) xs j after l (h, hs) =
-    joined_after rest xs i (slice_range xs i j ∷ after) (omega arith) hs
-    ∙ sym (append_assoc (take i xs) (slice_range xs i j) (joined after))
-    ∙ ap (λ l. l ++ joined after) (sym (take_slice xs i j (omega arith)))
-
-pub some_after : {X : Type 0} (starts : List ℕ) (xs : List X) (j : ℕ) (after : List (List X))
-    → j ≤ length xs → AreStarts starts j → All (λ line. line ≢ []) after
-    → All (λ line. line ≢ []) (lines_after starts xs j after)
-some_after [] xs j after l h some = some
-some_after (i ∷ rest) xs j after l (h, hs) some =
-    let len = length-slice xs i j l in
-    let nonempty : slice_range xs i j ≢ [] = λ q. let z = ap length q in omega (arith, z) in
-    some_after rest xs i (slice_range xs i j ∷ after) (omega arith) hs
-    (All-cons (λ line. line ≢ []) (slice_range xs i j) after nonempty some)
-
-pub cost_after_starts : {X : Type 0} (priced : X → PricedSizes) (penalties : Penalties)
-    (widths : List ℕ) (starts : List ℕ) (xs : List X) (j : ℕ) (after : List (List X))
-    → j ≤ length xs → AreStarts starts j
-    → lines_cost priced penalties widths (length xs) 0 0 (lines_after starts xs j after)
-    ≡ starts_cost starts (line_costs priced penalties widths xs) j + lines_cost priced penalties
-    widths (length xs) (length starts) j after
-cost_after_starts priced penalties widths [] xs j after l h =
-    ap (λ k. lines_cost priced penalties widths (length xs) 0 k after) (sym h)
-    ∙ (let e : lines_cost priced penalties widths (length xs) 0 j after
-    ≡ 0 + lines_cost priced penalties widths (length xs) 0 j after = omega arith in e)
-cost_after_starts priced penalties widths (i ∷ rest) xs j after l (h, hs) =
-    let len = length-slice xs i j l in
-    let end : i + length (slice_range xs i j) ≡ j = omega arith in
-    let first = ap (λ k. line_cost priced penalties (line_width widths (length rest))
-    (eqb k (length xs)) (slice_range xs i j)) end in
-    let more = ap (λ k. lines_cost priced penalties widths (length xs) (length rest + 1) k after)
-    end in
-    let number = ap (λ m. lines_cost priced penalties widths (length xs) m j after)
-    (let q : length rest + 1 ≡ suc (length rest) = omega arith in q) in
-    let before = cost_after_starts priced penalties widths rest xs i (slice_range xs i j ∷ after)
-    (omega arith) hs in
-    before ∙ (omega (arith, first, more, number))

@@ -1,14 +1,13 @@
 -- The optimal division of fragments is one of what a function makes of them.
-use Rattle.std.proofs.Common.{◌≡◌, ℕ, ◌+◌, List, [], ◌∷◌, length, get_or, map, sym, ap, ◌∙◌, subst}
-use Rattle.std.proofs.lemmas.List.{length-map}
+use Rattle.textwrap_base.proofs.Common.{◌≡◌, ℕ, ◌+◌, List, [], ◌∷◌, length, get_or, map, sym, ap}
+use Rattle.textwrap_base.proofs.Common.{◌∙◌, subst, length-map, IsDivision, PricedSizes, line_costs}
+use Rattle.textwrap_base.proofs.Common.{fragments_table, FollowStarts, IsByTable}
 use Rattle.std.proofs.lemmas.Simd.{map-map}
-use Rattle.textwrap_base.specs.Division.{IsDivision}
-use Rattle.textwrap_base.specs.Cost.{PricedSizes}
-use Rattle.textwrap_base.specs.Table.{table, line_costs, fragments_table, FollowStarts, IsByTable}
+use Rattle.textwrap_base.specs.Table.{table}
 use Rattle.textwrap_base.specs.OptimalFit.{IsByOptimalFit}
 use Rattle.textwrap_base.specs.declared.minima.table.Entry.{Entry}
 use Rattle.textwrap_base.specs.declared.penalties.Penalties.{Penalties}
-use Rattle.textwrap_base.proofs.Cost.Measures.{line_costs-map}
+use Rattle.textwrap_base.proofs.Cost.SizesAlone.{line_costs-map}
 use Rattle.textwrap_base.proofs.Cost.Chosen.{by_table-chosen}
 
 module _ {X Y : Type 0} (f : X → Y) (priced : Y → PricedSizes) where

@@ -1,19 +1,17 @@
 -- Where the table of fragments overflows, and where it does not.
-use Rattle.std.proofs.Common.{◌≡◌, ℕ, zero, suc, ◌-◌, ◌^◌, ◌<◌, ◌≤◌, eqb, List, length, get_or}
-use Rattle.std.proofs.Common.{take, min, All, ap, arith, Result, Ok, Err, IsErrAnd}
-use Rattle.std.proofs.lemmas.List.Elements.{All-take}
-use Rattle.textwrap_base.specs.Sizes.{Sizes}
-use Rattle.textwrap_base.specs.Division.{line_width}
-use Rattle.textwrap_base.specs.Cost.{PricedSizes, total_width}
-use Rattle.textwrap_base.specs.Errors.{Overflowed}
-use Rattle.textwrap_base.specs.Queue.{AreAtMost}
-use Rattle.textwrap_base.specs.Table.{entry_at, table, line_costs, fragments_table}
+use Rattle.textwrap_base.proofs.Common.{◌≡◌, ℕ, zero, suc, ◌-◌, ◌^◌, ◌<◌, ◌≤◌, eqb, List, length}
+use Rattle.textwrap_base.proofs.Common.{get_or, take, min, All, ap, arith, Result, Ok, Err}
+use Rattle.textwrap_base.proofs.Common.{IsErrAnd, All-take, Sizes, line_width, PricedSizes}
+use Rattle.textwrap_base.proofs.Common.{total_width, Overflowed, AreAtMost, entry_at, line_costs}
+use Rattle.textwrap_base.proofs.Common.{fragments_table}
+use Rattle.textwrap_base.specs.Table.{table}
 use Rattle.textwrap_base.specs.declared.minima.table.Entry.{Entry}
 use Rattle.textwrap_base.specs.declared.errors.WrapError.{WrapError}
 use Rattle.textwrap_base.specs.declared.errors.WrapError.TheVariants.{Memory, Overflow}
 use Rattle.textwrap_base.specs.declared.penalties.Penalties.{Penalties}
-use Rattle.textwrap_base.proofs.Cost.Table.{table-least, entry-table_first}
-use Rattle.textwrap_base.proofs.Cost.Measures.{closed_width-le, line_cost-le, total_width-take}
+use Rattle.textwrap_base.proofs.Cost.LeastEntries.{table-least}
+use Rattle.textwrap_base.proofs.Cost.Table.{entry-table_first}
+use Rattle.textwrap_base.proofs.Cost.Bounds.{closed_width-le, line_cost-le, total_width-take}
 
 -- one line is a division of each prefix
 pub one_line : (cost : ℕ → ℕ → ℕ → ℕ) (n j : ℕ) → j < n

@@ -1,20 +1,18 @@
 -- The line costs of a queue case suit a search by a queue.
-use Rattle.std.proofs.Common.{inl, inr, ℕ, zero, suc, ◌^◌, ◌-◌, ◌<◌, ◌≤◌, eqb, min, max, List, [], ◌∷◌, length}
-use Rattle.std.proofs.Common.{take, drop, slice_range, slice_index, ap, arith}
-use Rattle.std.proofs.lemmas.List.Elements.{All-take, All-drop}
-use Rattle.textwrap_base.specs.Sizes.{Sizes}
-use Rattle.textwrap_base.specs.Division.{line_width, closed_width}
-use Rattle.textwrap_base.specs.Cost.{PricedSizes, total_width}
-use Rattle.textwrap_base.specs.Queue.{queue_limit, AreSmall, SuitQueue, IsQueueCase}
-use Rattle.textwrap_base.specs.Table.{fragment_costs, fragments_table, entry_at, line_costs}
-use Rattle.textwrap_base.specs.Table.{TableOverflows}
+use Rattle.textwrap_base.proofs.Common.{inl, inr, ℕ, zero, suc, ◌^◌, ◌-◌, ◌<◌, ◌≤◌, eqb, min, max}
+use Rattle.textwrap_base.proofs.Common.{List, [], ◌∷◌, length, take, drop, slice_range, slice_index}
+use Rattle.textwrap_base.proofs.Common.{ap, arith, All-take, All-drop, Sizes, line_width}
+use Rattle.textwrap_base.proofs.Common.{closed_width, PricedSizes, total_width, queue_limit}
+use Rattle.textwrap_base.proofs.Common.{SuitQueue, IsQueueCase, fragment_costs, fragments_table}
+use Rattle.textwrap_base.proofs.Common.{entry_at, line_costs, TableOverflows}
+use Rattle.textwrap_base.specs.Queue.{AreSmall}
 use Rattle.textwrap_base.specs.declared.minima.table.Entry.{Entry}
 use Rattle.textwrap_base.specs.declared.penalties.Penalties.{Penalties}
 use Rattle.textwrap_base.proofs.Division.Greedy.{closed_width-end}
-use Rattle.textwrap_base.proofs.Cost.Chosen.{line_costs-steady}
+use Rattle.textwrap_base.proofs.Cost.Begun.{line_costs-steady}
 use Rattle.textwrap_base.proofs.Cost.Convex.{AreConvex-rising}
-use Rattle.textwrap_base.proofs.Cost.Measures.{take_slice, closed_width-le, total_width-take}
-use Rattle.textwrap_base.proofs.Cost.Measures.{line_cost-le}
+use Rattle.textwrap_base.proofs.Lists.Parts.{take_slice}
+use Rattle.textwrap_base.proofs.Cost.Bounds.{closed_width-le, total_width-take, line_cost-le}
 use Rattle.textwrap_base.proofs.Cost.Overflow.{one_line}
 use Rattle.textwrap_base.proofs.Cost.Table.{entry-table_first}
 

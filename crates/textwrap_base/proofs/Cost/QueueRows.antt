@@ -1,13 +1,11 @@
 -- Worked rows at the default penalties: what is a queue case and what is none, and line costs that
 -- are not convex.
-use Rattle.std.proofs.Common.{ℕ, zero, suc, ◌+◌, ◌^◌, ◌<◌, ◌≤◌, List, [], ◌∷◌, slice_index}
-use Rattle.std.proofs.Common.{refl, arith}
-use Rattle.std.proofs.lemmas.List.Elements.{All-nil, All-cons, All-head, All-tail}
-use Rattle.textwrap_base.specs.Sizes.{Sizes}
-use Rattle.textwrap_base.specs.Penalties.{default_penalties}
-use Rattle.textwrap_base.specs.Cost.{PricedSizes, priced_at, AreEqualFromSecond}
-use Rattle.textwrap_base.specs.Queue.{queue_limit, AreAtMost, AreConvex, NeverFalls, IsQueueCase}
-use Rattle.textwrap_base.specs.Table.{fragment_costs}
+use Rattle.textwrap_base.proofs.Common.{ℕ, zero, suc, ◌+◌, ◌^◌, ◌<◌, ◌≤◌, List, [], ◌∷◌}
+use Rattle.textwrap_base.proofs.Common.{slice_index, refl, arith, All-nil, All-cons, All-head}
+use Rattle.textwrap_base.proofs.Common.{All-tail, Sizes, default_penalties, PricedSizes, priced_at}
+use Rattle.textwrap_base.proofs.Common.{AreEqualFromSecond, queue_limit, AreAtMost, NeverFalls}
+use Rattle.textwrap_base.proofs.Common.{IsQueueCase, fragment_costs}
+use Rattle.textwrap_base.specs.Queue.{AreConvex}
 use Rattle.textwrap_base.proofs.Cost.Rows.{falling}
 use Rattle.textwrap_base.proofs.Division.Rows.{sized}
 

@@ -1,16 +1,15 @@
 -- What a call by optimal fit returns, from what the table's call returned.
-use Rattle.std.proofs.Common.{◌≡◌, ℕ, ◌+◌, ◌^◌, ◌<◌, ◌≤◌, inl, List, length, Result, Ok, Err, IsErrAnd, sym}
-use Rattle.std.proofs.Common.{subst}
-use Rattle.textwrap_base.specs.Cost.{PricedSizes, total_width}
-use Rattle.textwrap_base.specs.Minima.{table_steps}
-use Rattle.textwrap_base.specs.Table.{fragments_table, TableOverflows, IsByTable, StopsAtOverflow}
-use Rattle.textwrap_base.specs.Table.{CountsSteps}
+use Rattle.textwrap_base.proofs.Common.{◌≡◌, ℕ, ◌+◌, ◌^◌, ◌<◌, ◌≤◌, inl, List, length, Result, Ok}
+use Rattle.textwrap_base.proofs.Common.{Err, IsErrAnd, sym, subst, PricedSizes, total_width}
+use Rattle.textwrap_base.proofs.Common.{table_steps, fragments_table, TableOverflows, IsByTable}
+use Rattle.textwrap_base.proofs.Common.{Overflowed}
+use Rattle.textwrap_base.specs.Table.{StopsAtOverflow, CountsSteps}
 use Rattle.textwrap_base.specs.OptimalFit.{IsOptimalFitResult}
-use Rattle.textwrap_base.specs.Errors.{Overflowed}
 use Rattle.textwrap_base.specs.declared.errors.WrapError.{WrapError}
 use Rattle.textwrap_base.specs.declared.errors.WrapError.TheVariants.{Memory, Overflow}
 use Rattle.textwrap_base.specs.declared.penalties.Penalties.{Penalties}
-use Rattle.textwrap_base.proofs.Cost.Chosen.{by_table-chosen, table-overflows, overflows-table}
+use Rattle.textwrap_base.proofs.Cost.Chosen.{by_table-chosen}
+use Rattle.textwrap_base.proofs.Cost.Reached.{table-overflows, overflows-table}
 
 passed_on : (A B : Type 0) (e : WrapError) → Overflowed {A = A} (Err e) → Overflowed {A = B} (Err e)
 passed_on A B (Memory memory) over = over

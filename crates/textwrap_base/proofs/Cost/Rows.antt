@@ -1,11 +1,9 @@
 -- Worked tables at the default penalties: what their entries start at and cost.
-use Rattle.std.proofs.Common.{◌≡◌, ℕ, List, [], ◌∷◌, map, take, refl}
-use Rattle.textwrap_base.specs.Sizes.{Sizes}
+use Rattle.textwrap_base.proofs.Common.{◌≡◌, ℕ, List, [], ◌∷◌, map, take, refl, Sizes}
+use Rattle.textwrap_base.proofs.Common.{default_penalties, closed_width, priced_at, division_cost}
+use Rattle.textwrap_base.proofs.Common.{fragments_table}
 use Rattle.textwrap_base.proofs.Division.Rows.{sized}
-use Rattle.textwrap_base.specs.Penalties.{default_penalties}
-use Rattle.textwrap_base.specs.Division.{closed_width}
-use Rattle.textwrap_base.specs.Cost.{priced_at, division_cost}
-use Rattle.textwrap_base.specs.Table.{table, fragments_table}
+use Rattle.textwrap_base.specs.Table.{table}
 use Rattle.textwrap_base.specs.declared.minima.table.Entry.{Entry}
 
 -- the start and the cost of each entry

@@ -1,17 +1,13 @@
 -- Divisions by the starts of their lines, the last line first: the table follows the chosen one
 -- back.
-use Rattle.std.proofs.Common.{◌≡◌, ℕ, zero, suc, ◌+◌, ◌<◌, ◌≤◌, ◌⊎◌, ◌≢◌, inl, inr, List, [], ◌∷◌}
-use Rattle.std.proofs.Common.{length, get_or, map, refl, sym, ◌∙◌, ap, subst, arith}
-use Rattle.std.specs.Prelude.{⊤}
-use Rattle.std.proofs.lemmas.List.{get_or-map, length-map}
-use Rattle.std.proofs.lemmas.Bool.{cases_eq}
-use Rattle.textwrap_base.specs.Cost.{AreNoLater}
-use Rattle.textwrap_base.specs.Table.{first_entry, entry_from, entry_at, table, minimum_of}
-use Rattle.textwrap_base.specs.Table.{IsLeastBelow, IsTable}
-use Rattle.textwrap_base.specs.declared.minima.Minimum.{Minimum}
+use Rattle.textwrap_base.proofs.Common.{◌≡◌, ℕ, zero, suc, ◌+◌, ◌<◌, ◌≤◌, ◌⊎◌, ◌≢◌, inl, inr, List}
+use Rattle.textwrap_base.proofs.Common.{[], ◌∷◌, length, get_or, map, refl, sym, ◌∙◌, ap, subst}
+use Rattle.textwrap_base.proofs.Common.{arith, ⊤, get_or-map, cases_eq, AreNoLater, first_entry}
+use Rattle.textwrap_base.proofs.Common.{entry_from, entry_at, IsLeastBelow}
+use Rattle.textwrap_base.specs.Table.{table, IsTable}
 use Rattle.textwrap_base.specs.declared.minima.table.Entry.{Entry}
-use Rattle.textwrap_base.proofs.Cost.Table.{length-table, entry-table_first, entry-table_longer}
-use Rattle.textwrap_base.proofs.Cost.Table.{table-least}
+use Rattle.textwrap_base.proofs.Cost.Table.{length-table, entry-table_first}
+use Rattle.textwrap_base.proofs.Cost.LeastEntries.{entry-table_longer, table-least}
 
 -- the starts of a division of j fragments, the last line first
 abbrev pub AreStarts : List ℕ → ℕ → Type 0
@@ -65,48 +61,6 @@ pub start-at : (cost : ℕ → ℕ → ℕ → ℕ) (n : ℕ) (entries : List En
     (entry_at entries j).start
 start-at cost n entries is j l = let len = is.len in
     get_or-map (λ (x : Entry). x.start) entries j first_entry 0 (omega arith)
-
--- ---- the starts and costs that are reported
-
-pub starts_of_minima : (entries : List Entry)
-    → map (λ (m : Minimum). m.start) (map minimum_of entries) ≡ map (λ (x : Entry). x.start) entries
-starts_of_minima [] = refl
-starts_of_minima (x ∷ entries) = ap (λ l. x.start ∷ l) (starts_of_minima entries)
-
-costs_of_minima : (entries : List Entry)
-    → map (λ (m : Minimum). m.cost) (map minimum_of entries) ≡ map (λ (x : Entry). x.cost) entries
-costs_of_minima [] = refl
-costs_of_minima (x ∷ entries) = ap (λ l. x.cost ∷ l) (costs_of_minima entries)
-
-module _ (cost : ℕ → ℕ → ℕ → ℕ) (n : ℕ) (minima : List Minimum)
-    (reported : minima ≡ map minimum_of (table cost n)) where
-  pub starts_reported : map (λ (m : Minimum). m.start) minima ≡ map (λ (x : Entry). x.start)
-      (table cost n)
-  starts_reported = ap (map (λ (m : Minimum). m.start)) reported ∙ starts_of_minima (table cost n)
-
-  pub cost_reported : (j : ℕ) → j ≤ n
-      → get_or (map (λ (m : Minimum). m.cost) minima) j 0 ≡ (entry_at (table cost n) j).cost
-  cost_reported j l =
-      let len = length-table cost n in
-      ap (λ ms. get_or (map (λ (m : Minimum). m.cost) ms) j 0) reported
-      ∙ ap (λ cs. get_or cs j 0) (costs_of_minima (table cost n))
-      ∙ get_or-map (λ (x : Entry). x.cost) (table cost n) j first_entry 0 (omega (arith, len, l))
-
-  pub length_reported : length minima ≡ n + 1
-  length_reported = ap length reported ∙ length-map (table cost n) minimum_of ∙ length-table cost n
-
-  pub first_reported : get_or (map (λ (m : Minimum). m.start) minima) 0 0 ≡ 0
-  first_reported = ap (λ l. get_or l 0 0) starts_reported
-      ∙ start-at cost n (table cost n) (table-is_table cost n) 0 (omega arith)
-      ∙ ap (λ (x : Entry). x.start) (entry-table_first cost n)
-
-  pub later_reported : (j : ℕ) → 0 < j → j ≤ n
-      → get_or (map (λ (m : Minimum). m.start) minima) j 0 < j
-  later_reported j p l =
-      let is = table-is_table cost n in
-      let e = ap (λ l. get_or l j 0) starts_reported ∙ start-at cost n (table cost n) is j l in
-      let later = is.later j p l in
-      let below = later.below in omega (arith, e, below)
 
 -- ---- what it follows
 

@@ -1,7 +1,6 @@
 -- How many steps a table takes.
-use Rattle.std.proofs.Common.{◌≡◌, ℕ, zero, suc, ◌+◌, ◌≤◌, ◌⊎◌, ◌≢◌, inl, inr, arith}
-use Rattle.std.proofs.lemmas.Bool.{cases_eq}
-use Rattle.textwrap_base.specs.Minima.{counted, table_steps}
+use Rattle.textwrap_base.proofs.Common.{◌≡◌, ℕ, zero, suc, ◌+◌, ◌≤◌, ◌⊎◌, ◌≢◌, inl, inr, arith}
+use Rattle.textwrap_base.proofs.Common.{cases_eq, counted, table_steps}
 
 pub table_steps_more : (n : ℕ) → table_steps (n + 1) ≡ table_steps n + (n + 1)
 table_steps_more n = omega arith

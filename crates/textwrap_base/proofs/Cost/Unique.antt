@@ -1,12 +1,14 @@
 -- Only one division is the chosen one, and only one follows the table.
-use Rattle.std.proofs.Common.{◌≡◌, ℕ, ◌+◌, inl, inr, List, [], ◌∷◌, length, get_or, take, drop}
-use Rattle.std.proofs.Common.{map, reverse, refl, sym, ◌∙◌, ap, subst, arith}
-use Rattle.std.proofs.lemmas.List.{append-nil, reverse-reverse, take_at, drop_at}
-use Rattle.textwrap_base.specs.Cost.{PricedSizes, starts_from, AreNoLater, IsChosen}
+use Rattle.textwrap_base.proofs.Common.{◌≡◌, ℕ, ◌+◌, inl, inr, List, [], ◌∷◌, length, get_or, take}
+use Rattle.textwrap_base.proofs.Common.{drop, map, reverse, refl, sym, ◌∙◌, ap, subst, arith}
+use Rattle.textwrap_base.proofs.Common.{append-nil, take_at, drop_at, PricedSizes, AreNoLater}
+use Rattle.textwrap_base.proofs.Common.{fragments_table, IsByTable}
+use Rattle.std.proofs.lemmas.List.{reverse-reverse}
+use Rattle.textwrap_base.specs.Cost.{starts_from, IsChosen}
 use Rattle.textwrap_base.specs.declared.penalties.Penalties.{Penalties}
-use Rattle.textwrap_base.specs.Table.{fragments_table, IsByTable}
 use Rattle.textwrap_base.specs.declared.minima.table.Entry.{Entry}
-use Rattle.textwrap_base.proofs.Cost.Chosen.{begin_starts, begin_follow, whole}
+use Rattle.textwrap_base.proofs.Cost.Begun.{begin_starts, begin_follow}
+use Rattle.textwrap_base.proofs.Cost.Chosen.{whole}
 use Rattle.textwrap_base.proofs.Cost.Lines.{starts_back, joined}
 use Rattle.textwrap_base.proofs.Cost.Starts.{AreStarts, FollowBack}
 

@@ -1,12 +1,12 @@
 -- No division whose lines all fit has fewer lines than the greedy one.
-use Rattle.std.proofs.Common.{◌≡◌, ◌≢◌, ℕ, ◌+◌, ◌≤◌, List, [], ◌∷◌, ◌++◌, length, drop, All, refl}
-use Rattle.std.proofs.Common.{sym, ap, ◌∙◌, arith, length-append, append_assoc}
-use Rattle.std.proofs.lemmas.List.{drop-append-le, drop_at}
-use Rattle.std.proofs.lemmas.List.Elements.{All-head, All-tail}
-use Rattle.textwrap_base.specs.Sizes.{Sizes}
-use Rattle.textwrap_base.specs.Division.{line_width, AllFit, AllFull, IsAdmissible, IsGreedy}
-use Rattle.textwrap_base.proofs.ListLemmas.{flat}
-use Rattle.textwrap_base.proofs.Division.Greedy.{some_from_nonempty, full_line_ends_last}
+use Rattle.textwrap_base.proofs.Common.{◌≡◌, ◌≢◌, ℕ, ◌+◌, ◌≤◌, List, [], ◌∷◌, ◌++◌, length, drop}
+use Rattle.textwrap_base.proofs.Common.{All, refl, sym, ap, ◌∙◌, arith, length-append, append_assoc}
+use Rattle.textwrap_base.proofs.Common.{drop_at, All-head, All-tail, Sizes, line_width, AllFit}
+use Rattle.textwrap_base.proofs.Common.{AllFull, IsGreedy}
+use Rattle.std.proofs.lemmas.List.{drop-append-le}
+use Rattle.textwrap_base.specs.Division.{IsAdmissible}
+use Rattle.textwrap_base.proofs.Lists.Parts.{flat, some_from_nonempty}
+use Rattle.textwrap_base.proofs.Division.Greedy.{full_line_ends_last}
 
 module _ {X : Type 0} (sizes : X → Sizes) (widths : List ℕ) where
   -- full lines are not more than other lines that all fit and begin no later

@@ -1,40 +1,16 @@
 -- Lemmas on the widths of lines and on divisions.
-use Rattle.std.proofs.Common.{◌≡◌, ◌≢◌, ℕ, suc, ◌+◌, ◌-◌, ◌<◌, ◌≤◌, List, [], ◌∷◌, ◌++◌, length}
-use Rattle.std.proofs.Common.{get_or, map, take, drop, refl, sym, ap, ◌∙◌, subst, arith, ⊎_elim}
-use Rattle.std.proofs.Common.{add-zero, length-drop, length-append, take-append-drop, append_assoc, All}
-use Rattle.std.specs.List.{flat_map}
-use Rattle.std.proofs.Math.Seq.{take-append-add}
-use Rattle.std.proofs.lemmas.List.{take_all, take_more, take-append-le, length_push, length-take-le}
-use Rattle.std.proofs.lemmas.List.{nil_from_length, get_or-drop}
-use Rattle.std.proofs.lemmas.List.Elements.{All-nil, All-cons, All-head}
-use Rattle.std.proofs.lemmas.List.Sums.{sum_by-cons, sum_by-append}
-use Rattle.std.proofs.lemmas.Bool.{cases_lt}
-use Rattle.textwrap_base.specs.Sizes.{Sizes}
-use Rattle.textwrap_base.specs.Division.{line_width, closed_width, open_width, Fits, AllFit}
-use Rattle.textwrap_base.specs.Division.{AllFull, IsGreedy}
-
-pub some_from_nonempty : {X : Type 0} (xs : List X) → xs ≢ [] → 0 < length xs
-some_from_nonempty [] some = absurd (some refl)
-some_from_nonempty (x ∷ xs) some = omega arith
+use Rattle.textwrap_base.proofs.Common.{◌≡◌, ◌≢◌, ℕ, suc, ◌+◌, ◌<◌, ◌≤◌, List, [], ◌∷◌, ◌++◌}
+use Rattle.textwrap_base.proofs.Common.{length, get_or, take, drop, refl, sym, ap, ◌∙◌, subst}
+use Rattle.textwrap_base.proofs.Common.{arith, ⊎_elim, add-zero, length-drop, length-append}
+use Rattle.textwrap_base.proofs.Common.{take-append-drop, append_assoc, All, flat_map}
+use Rattle.textwrap_base.proofs.Common.{take-append-add, take_all, take_more, take-append-le}
+use Rattle.textwrap_base.proofs.Common.{length_push, length-take-le, nil_from_length, get_or-drop}
+use Rattle.textwrap_base.proofs.Common.{All-nil, All-cons, All-head, cases_lt, Sizes, line_width}
+use Rattle.textwrap_base.proofs.Common.{closed_width, Fits, AllFit, AllFull, IsGreedy}
+use Rattle.textwrap_base.proofs.Lists.Parts.{some_from_nonempty}
+use Rattle.textwrap_base.proofs.Division.Widths.{take_one_more}
 
 module _ {X : Type 0} (sizes : X → Sizes) where
-  pub open_width-cons : (x : X) (xs : List X)
-      → open_width sizes (x ∷ xs) ≡ (sizes x).width + (sizes x).whitespace + open_width sizes xs
-  open_width-cons x xs = sum_by-cons (λ (y : X). (sizes y).width + (sizes y).whitespace) x xs
-
-  pub open_width-append : (xs ys : List X)
-      → open_width sizes (xs ++ ys) ≡ open_width sizes xs + open_width sizes ys
-  open_width-append xs ys = sum_by-append (λ (y : X). (sizes y).width + (sizes y).whitespace) xs ys
-
-  pub closed_width-push : (xs : List X) (x : X)
-      → closed_width sizes (xs ++ x ∷ []) ≡ open_width sizes xs + (sizes x).width +
-      (sizes x).penalty
-  closed_width-push [] x = omega arith
-  closed_width-push (y ∷ []) x = omega arith
-  closed_width-push (y ∷ z ∷ xs) x =
-      let e = open_width-cons y (z ∷ xs) in
-      let h = closed_width-push (z ∷ xs) x in omega (arith, e, h)
-
   -- a line that fits takes one more fragment, if that is its first or it closes within the width
   pub Fits-push : (width : ℕ) (xs : List X) (x : X) → Fits sizes width xs
       → (0 < length xs → closed_width sizes (xs ++ x ∷ []) ≤ width)
@@ -52,41 +28,11 @@ module _ {X : Type 0} (sizes : X → Sizes) where
       (more (omega arith)))
       (cases_lt k (length xs + 1))
 
-  -- the first i fragments and the one at i
-  pub take_one_more : (xs : List X) (i : ℕ) (x : X) → i < length xs → x ≡ get_or xs i x
-      → take (i + 1) xs ≡ take i xs ++ x ∷ []
-  take_one_more xs i x within is = take_more xs i x within ∙ ap (λ y. take i xs ++ y ∷ []) (sym is)
-
-  pub open_width-take : (xs : List X) (i : ℕ) (x : X) → i < length xs → x ≡ get_or xs i x
-      → open_width sizes (take (i + 1) xs) ≡ open_width sizes (take i xs) +
-      ((sizes x).width + (sizes x).whitespace)
-  open_width-take xs i x within is =
-      let more = ap (open_width sizes) (take_one_more xs i x within is)
-      ∙ open_width-append (take i xs) (x ∷ []) in omega (arith, more)
-
-  pub closed_width-take : (xs : List X) (i : ℕ) (x : X) → i < length xs → x ≡ get_or xs i x
-      → closed_width sizes (take (i + 1) xs) ≡ open_width sizes (take i xs) + (sizes x).width +
-      (sizes x).penalty
-  closed_width-take xs i x within is = ap (closed_width sizes) (take_one_more xs i x within is)
-      ∙ closed_width-push (take i xs) x
-
-  -- with one fragment more, its widths and the whitespace before it take the place of the penalty
-  -- before it
-  pub closed_width-next : (xs : List X) (j : ℕ) (x y : X) → 0 < j → j < length xs
-      → x ≡ get_or xs (j - 1) x → y ≡ get_or xs j y
-      → closed_width sizes (take (j + 1) xs) + (sizes x).penalty ≡ closed_width sizes (take j xs) +
-      ((sizes x).whitespace + (sizes y).width + (sizes y).penalty)
-  closed_width-next xs j x y some within before last =
-      let same : j - 1 + 1 ≡ j = omega arith in
-      let closed = rw same at (closed_width-take xs (j - 1) x (omega arith) before) in
-      let opened = rw same at (open_width-take xs (j - 1) x (omega arith) before) in
-      omega (arith, closed, opened, closed_width-take xs j y within last)
-
   pub Fits-take : (width : ℕ) (xs : List X) (i : ℕ) (x : X) → i < length xs → x ≡ get_or xs i x
       → Fits sizes width (take i xs)
       → (0 < i → closed_width sizes (take (i + 1) xs) ≤ width) → Fits sizes width (take (i + 1) xs)
   Fits-take width xs i x within is fits more =
-      let one_more = take_one_more xs i x within is in
+      let one_more = take_one_more sizes xs i x within is in
       let len : length (take i xs) ≡ i = length-take-le i xs (omega arith) in
       subst (Fits sizes width) (sym one_more)
       (Fits-push width (take i xs) x fits
@@ -124,13 +70,6 @@ module _ {X : Type 0} (sizes : X → Sizes) where
       absurd (omega (arith, within, end, full)))
       (λ (within : length other ≤ length (before ++ line)). within)
       (cases_lt (length (before ++ line)) (length other))
-
-pub closed_width-map : {X Y : Type 0} (f : X → Y) (sizes : Y → Sizes) (xs : List X)
-    → closed_width sizes (map f xs) ≡ closed_width (λ x. sizes (f x)) xs
-closed_width-map f sizes [] = refl
-closed_width-map f sizes (x ∷ []) = refl
-closed_width-map f sizes (x ∷ y ∷ xs) = ap (λ n. (sizes (f x)).width + (sizes (f x)).whitespace + n)
-    (closed_width-map f sizes (y ∷ xs))
 
 -- a greedy division of the fragments that are left, from a line's number on; none are left by no
 -- lines

@@ -1,15 +1,11 @@
 -- A division of fragments is one of what a function makes of them.
-use Rattle.std.proofs.Common.{◌≡◌, ◌≢◌, ℕ, ◌+◌, ◌<◌, ◌≤◌, List, [], ◌∷◌, ◌++◌, take, map, All, refl}
-use Rattle.std.proofs.Common.{sym, ap, ◌∙◌, subst, arith, length}
-use Rattle.std.specs.List.{flat_map}
-use Rattle.std.proofs.lemmas.List.{map-append, length-map, take-map}
-use Rattle.std.proofs.lemmas.List.Elements.{All-nil, All-cons, All-head, All-tail}
-use Rattle.textwrap_base.specs.Sizes.{Sizes}
-use Rattle.textwrap_base.specs.Division.{line_width, closed_width, IsDivision, Fits, AllFit}
-use Rattle.textwrap_base.specs.Division.{AllFull, IsGreedy}
-use Rattle.textwrap_base.specs.Cost.{priced_at}
+use Rattle.textwrap_base.proofs.Common.{◌≡◌, ◌≢◌, ℕ, ◌+◌, ◌<◌, ◌≤◌, List, [], ◌∷◌, ◌++◌, take, map}
+use Rattle.textwrap_base.proofs.Common.{All, refl, sym, ap, ◌∙◌, subst, arith, length, flat_map}
+use Rattle.textwrap_base.proofs.Common.{map-append, length-map, take-map, All-nil, All-cons}
+use Rattle.textwrap_base.proofs.Common.{All-head, All-tail, Sizes, line_width, closed_width}
+use Rattle.textwrap_base.proofs.Common.{IsDivision, Fits, AllFit, AllFull, IsGreedy, priced_at}
 use Rattle.textwrap_base.specs.Algorithms.{Algorithm, Greedy, LeastCost, IsDividedBy}
-use Rattle.textwrap_base.proofs.Division.Greedy.{closed_width-map}
+use Rattle.textwrap_base.proofs.Division.Widths.{closed_width-map}
 use Rattle.textwrap_base.proofs.Cost.Map.{IsByOptimalFit-map}
 
 module _ {X Y : Type 0} (f : X → Y) (sizes : Y → Sizes) where

@@ -1,13 +1,9 @@
 -- A list of fragments has at most one greedy division.
-use Rattle.std.proofs.Common.{◌≡◌, ◌≢◌, ℕ, ◌+◌, ◌<◌, ◌≤◌, List, [], ◌∷◌, length, refl, sym, ap, ◌∙◌}
-use Rattle.std.proofs.Common.{subst, arith, length-append}
-use Rattle.std.specs.List.{flat_map}
-use Rattle.std.proofs.lemmas.List.Elements.{All-head, All-tail}
-use Rattle.textwrap_base.specs.Sizes.{Sizes}
-use Rattle.textwrap_base.specs.Division.{line_width, AllFull, IsGreedy}
-use Rattle.textwrap_base.proofs.ListLemmas.{flat, same_parts}
-use Rattle.textwrap_base.proofs.Division.Greedy.{IsGreedyFrom, some_from_nonempty}
-use Rattle.textwrap_base.proofs.Division.Greedy.{full_line_ends_last}
+use Rattle.textwrap_base.proofs.Common.{◌≡◌, ◌≢◌, ℕ, ◌+◌, ◌<◌, ◌≤◌, List, [], ◌∷◌, length, refl}
+use Rattle.textwrap_base.proofs.Common.{sym, ap, ◌∙◌, subst, arith, length-append, flat_map}
+use Rattle.textwrap_base.proofs.Common.{All-head, All-tail, Sizes, line_width, AllFull, IsGreedy}
+use Rattle.textwrap_base.proofs.Lists.Parts.{flat, same_parts, some_from_nonempty}
+use Rattle.textwrap_base.proofs.Division.Greedy.{IsGreedyFrom, full_line_ends_last}
 
 module _ {X : Type 0} (sizes : X → Sizes) (widths : List ℕ) where
   AllFull-tail : (number : ℕ) (line : List X) (lines : List (List X))

@@ -1,13 +1,11 @@
 -- The best start of an end from 1 on, as one more start comes into question.
-use Rattle.std.proofs.Common.{◌≡◌, ℕ, ◌+◌, ◌<◌, ◌≤◌, ◌⊎◌, inl, inr, refl, ap, arith}
-use Rattle.std.proofs.lemmas.Bool.{cases_lt}
-use Rattle.textwrap_base.specs.Minima.{Costs}
-use Rattle.textwrap_base.specs.Queue.{SuitQueue}
-use Rattle.textwrap_base.specs.Search.{least_entry, cost_from, IsBestStart}
-use Rattle.textwrap_base.specs.Table.{table, entry_from, minimum_of, IsLeastBelow}
+use Rattle.textwrap_base.proofs.Common.{◌≡◌, ℕ, ◌+◌, ◌<◌, ◌≤◌, ◌⊎◌, inl, inr, refl, ap, arith}
+use Rattle.textwrap_base.proofs.Common.{cases_lt, Costs, SuitQueue, least_entry, cost_from}
+use Rattle.textwrap_base.proofs.Common.{IsBestStart, entry_from, minimum_of, IsLeastBelow}
+use Rattle.textwrap_base.specs.Table.{table}
 use Rattle.textwrap_base.specs.declared.minima.table.Entry.{Entry}
 use Rattle.textwrap_base.proofs.Cost.Starts.{table-is_table}
-use Rattle.textwrap_base.proofs.Cost.Table.{least_one}
+use Rattle.textwrap_base.proofs.Cost.LeastEntries.{least_one}
 use Rattle.textwrap_base.proofs.Search.Costs.{cheaper_later}
 
 module _ (costs : Costs) (m start : ℕ) (next : start ≡ m + 1) where

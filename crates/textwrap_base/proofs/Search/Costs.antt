@@ -1,13 +1,12 @@
 -- What the first fragments cost, by the start of their last line, where the costs suit a queue.
-use Rattle.std.proofs.Common.{◌≡◌, ℕ, zero, suc, ◌+◌, ◌^◌, ◌<◌, ◌≤◌, ◌⊎◌, inl, inr, min, List, []}
-use Rattle.std.proofs.Common.{◌∷◌, ◌++◌, length, get_or, map, refl, sym, ap, ◌∙◌, arith}
-use Rattle.std.proofs.lemmas.Bool.{cases_lt}
-use Rattle.std.proofs.lemmas.List.{length-map, get_or-map, ext_get_or, length_push, get_or_push}
-use Rattle.std.proofs.lemmas.List.{get_or_append_left}
-use Rattle.textwrap_base.specs.Minima.{Costs}
-use Rattle.textwrap_base.specs.Queue.{SuitQueue}
-use Rattle.textwrap_base.specs.Search.{least_entry, cost_from, AreMinima}
-use Rattle.textwrap_base.specs.Table.{first_entry, table, minimum_of}
+use Rattle.textwrap_base.proofs.Common.{◌≡◌, ℕ, zero, suc, ◌+◌, ◌^◌, ◌<◌, ◌≤◌, ◌⊎◌, inl, inr, min}
+use Rattle.textwrap_base.proofs.Common.{List, [], ◌∷◌, ◌++◌, length, get_or, map, refl, sym, ap}
+use Rattle.textwrap_base.proofs.Common.{◌∙◌, arith, cases_lt, length-map, get_or-map, length_push}
+use Rattle.textwrap_base.proofs.Common.{get_or_push, get_or_append_left, Costs, SuitQueue}
+use Rattle.textwrap_base.proofs.Common.{least_entry, cost_from, first_entry, minimum_of}
+use Rattle.std.proofs.lemmas.List.{ext_get_or}
+use Rattle.textwrap_base.specs.Search.{AreMinima}
+use Rattle.textwrap_base.specs.Table.{table}
 use Rattle.textwrap_base.specs.declared.minima.Minimum.{Minimum}
 use Rattle.textwrap_base.specs.declared.minima.table.Entry.{Entry}
 use Rattle.textwrap_base.proofs.Cost.Starts.{table-is_table}

@@ -1,7 +1,7 @@
 -- How many binary digits a number has.
-use Rattle.std.proofs.Common.{ℕ, zero, suc, ◌+◌, ◌/◌, ◌^◌, ◌<◌, ◌≤◌, arith}
+use Rattle.textwrap_base.proofs.Common.{ℕ, zero, suc, ◌+◌, ◌/◌, ◌^◌, ◌<◌, ◌≤◌, arith, binary_digits}
 use Rattle.std.proofs.Math.Nat.{pow-suc}
-use Rattle.textwrap_base.specs.Queue.{digits_within, binary_digits}
+use Rattle.textwrap_base.specs.Queue.{digits_within}
 
 -- a number below 2 ^ k has at most k digits
 digits_most : (most n k : ℕ) → n < 2 ^ k → digits_within most n ≤ k

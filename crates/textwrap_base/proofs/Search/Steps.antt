@@ -1,8 +1,7 @@
 -- How many steps a search takes.
-use Rattle.std.proofs.Common.{◌≡◌, ℕ, ◌+◌, ◌*◌, ◌-◌, ◌/◌, ◌<◌, ◌≤◌, ◌⊎◌, inl, inr, arith}
-use Rattle.std.proofs.lemmas.Bool.{cases_lt}
+use Rattle.textwrap_base.proofs.Common.{◌≡◌, ℕ, ◌+◌, ◌*◌, ◌-◌, ◌/◌, ◌<◌, ◌≤◌, ◌⊎◌, inl, inr, arith}
+use Rattle.textwrap_base.proofs.Common.{cases_lt, binary_digits}
 use Rattle.std.proofs.Math.Nat.{mul-le-mul_right}
-use Rattle.textwrap_base.specs.Queue.{binary_digits}
 use Rattle.textwrap_base.proofs.Search.Digits.{digits_mono, digits_half}
 
 -- in the second half, the number of ends to come has a digit less than that of all

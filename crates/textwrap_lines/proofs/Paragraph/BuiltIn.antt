@@ -1,19 +1,15 @@
 -- Lemmas on built-in parts among the options: what they divide is what the parts do as values.
-use Rattle.std.proofs.Common.{◌≡◌, ℕ, List, ap, ◌∙◌, subst}
-use Rattle.std.specs.Prelude.{Some}
-use Rattle.textwrap_words.specs.WrapAlgorithms.{Algorithm, Greedy, LeastCost, MayDivide}
-use Rattle.textwrap_words.specs.WrapAlgorithms.{algorithm_view}
 use Rattle.textwrap_words.specs.declared.wrap_algorithms.WrapAlgorithm as algorithms
-use Rattle.textwrap_lines.specs.Options.{Settings, settings_view, HasParts}
-use Rattle.textwrap_lines.specs.Filling.{IsFilled}
-use Rattle.textwrap_lines.specs.Text.{AreTextLines}
-use Rattle.textwrap_lines.specs.declared.options.Options.{Options}
-use Rattle.textwrap_lines.specs.Paragraph.{IsDividedInto, DividesAs, DividesBy, Line}
-use Rattle.textwrap_words.specs.WordSeparators.{MaySeparate}
-use Rattle.textwrap_words.specs.WordSplitters.{Splitter, Whole, AtHyphens, MaySplit}
-use Rattle.textwrap_words.specs.WordSplitters.{splitter_view}
 use Rattle.textwrap_words.specs.declared.word_separators.WordSeparator as separators
 use Rattle.textwrap_words.specs.declared.word_splitters.WordSplitter as splitters
+use Rattle.textwrap_base.proofs.Common.{◌≡◌, ℕ, List, ap, ◌∙◌, subst, Some}
+use Rattle.textwrap_words.proofs.Common.{Algorithm, Greedy, LeastCost, MayDivide, algorithm_view}
+use Rattle.textwrap_words.proofs.Common.{MaySeparate, Splitter, Whole, AtHyphens, MaySplit}
+use Rattle.textwrap_words.proofs.Common.{splitter_view}
+use Rattle.textwrap_lines.proofs.Common.{Settings, settings_view, IsFilled, AreTextLines}
+use Rattle.textwrap_lines.proofs.Common.{IsDividedInto, DividesAs, DividesBy, Line}
+use Rattle.textwrap_lines.specs.Options.{HasParts}
+use Rattle.textwrap_lines.specs.declared.options.Options.{Options}
 
 same_parts : (settings : Settings) (first other : Splitter) (algorithm next : Algorithm)
     → first ≡ other → algorithm ≡ next

@@ -1,23 +1,19 @@
 -- Lemmas on lines that keep to the width, their indents with them: those of a paragraph whose first
 -- line is divided for the width that its own indent leaves.
-use Rattle.std.proofs.Common.{◌≡◌, ℕ, ◌+◌, ◌<◌, ◌≤◌, Bool, true, false, ◌&&◌, ◌==◌, nat_lt}
-use Rattle.std.proofs.Common.{List, [], ◌∷◌, All, length, cond, inl, inr, ⊎_elim, ap, ◌∙◌}
-use Rattle.std.proofs.Common.{arith}
-use Rattle.std.proofs.lemmas.Bool.{and_parts, cases_lt, eqb-true}
-use Rattle.std.proofs.lemmas.List.{nil_from_length}
-use Rattle.std.proofs.lemmas.List.Elements.{All-nil, All-cons}
-use Rattle.textwrap_base.specs.Division.{closed_width}
-use Rattle.textwrap_words.specs.Units.{text_width}
-use Rattle.textwrap_words.specs.Words.{WordText, sizes_of, word_of}
-use Rattle.textwrap_words.proofs.Word.Texts.{text_width-nil}
-use Rattle.textwrap_lines.specs.Options.{Settings}
-use Rattle.textwrap_lines.specs.Paragraph.{IsOneCharacter, OnlyCharactersPass, KeepsToWidth}
-use Rattle.textwrap_lines.specs.Paragraph.{first_width, later_width, width_after, widths_of}
-use Rattle.textwrap_lines.specs.Paragraph.{LineParts, indent_of, is_whole, parts_of, parts_from}
-use Rattle.textwrap_lines.proofs.Paragraph.LongLines.{later_is}
+use Rattle.textwrap_base.proofs.Common.{◌≡◌, ℕ, ◌+◌, ◌<◌, ◌≤◌, Bool, true, false, ◌&&◌, ◌==◌}
+use Rattle.textwrap_base.proofs.Common.{nat_lt, List, [], ◌∷◌, All, length, cond, inl, inr, ⊎_elim}
+use Rattle.textwrap_base.proofs.Common.{ap, ◌∙◌, arith, and_parts, cases_lt, eqb-true}
+use Rattle.textwrap_base.proofs.Common.{nil_from_length, All-nil, All-cons, closed_width}
+use Rattle.textwrap_words.proofs.Common.{text_width, WordText, sizes_of, word_of}
+use Rattle.textwrap_lines.proofs.Common.{Settings, OnlyCharactersPass, KeepsToWidth, first_width}
+use Rattle.textwrap_lines.proofs.Common.{later_width, width_after, widths_of, LineParts, indent_of}
+use Rattle.textwrap_lines.proofs.Common.{is_whole, parts_of, parts_from}
+use Rattle.textwrap_words.proofs.Word.Measured.{text_width-nil}
+use Rattle.textwrap_lines.specs.Paragraph.{IsOneCharacter}
+use Rattle.textwrap_lines.proofs.Paragraph.PassingLines.{later_is}
 
 module _ (settings : Settings) where
-  abbrev Keeps : LineParts → Type 0
+  abbrev pub Keeps : LineParts → Type 0
   Keeps = KeepsToWidth settings.width
 
   abbrev own_width : Bool → ℕ

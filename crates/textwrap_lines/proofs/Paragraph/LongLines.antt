@@ -1,95 +1,22 @@
 -- Lemmas on lines that pass their width: by first fit, where words are broken, each is one piece
 -- with one character that takes columns.
-use Rattle.std.proofs.Common.{◌≡◌, ℕ, zero, suc, ◌+◌, ◌<◌, ◌≤◌, min, Bool, true, false, cond, ◌==◌}
-use Rattle.std.proofs.Common.{List, [], ◌∷◌, ◌++◌, All, length, get_or, take, refl, sym, ap, ◌∙◌}
-use Rattle.std.proofs.Common.{subst}
-use Rattle.std.proofs.Common.{arith, ◌&&◌}
-use Rattle.std.specs.Str.{IsUtf8}
-use Rattle.std.proofs.lemmas.List.{nil_from_length, take_all}
-use Rattle.std.proofs.lemmas.Bool.{eqb-true}
-use Rattle.std.proofs.lemmas.List.Elements.{All-nil, All-cons, All-head, All-append}
-use Rattle.textwrap_words.specs.Breaking.{broken_words}
-use Rattle.textwrap_base.specs.Division.{line_width, closed_width, Fits, AllFit}
-use Rattle.textwrap_words.specs.Units.{text_width}
-use Rattle.textwrap_words.specs.Words.{WordText, sizes_of}
+use Rattle.textwrap_base.proofs.Common.{◌≡◌, ℕ, zero, suc, ◌≤◌, Bool, true, false, cond, ◌==◌, List}
+use Rattle.textwrap_base.proofs.Common.{[], ◌∷◌, ◌++◌, All, length, take, refl, sym, ap, ◌∙◌, subst}
+use Rattle.textwrap_base.proofs.Common.{arith, ◌&&◌, IsUtf8, nil_from_length, eqb-true, All-nil}
+use Rattle.textwrap_base.proofs.Common.{All-cons, All-append, line_width}
+use Rattle.textwrap_words.proofs.Common.{broken_words, text_width, WordText, sizes_of, AreCuts}
+use Rattle.textwrap_words.proofs.Common.{ends_in_hyphen, Greedy, IsDividedBy}
+use Rattle.textwrap_lines.proofs.Common.{Settings, empty_word, front_pieces, IsDividedInto}
+use Rattle.textwrap_lines.proofs.Common.{widths_of, first_width, width_after, later_width}
+use Rattle.textwrap_lines.proofs.Common.{OnlyCharactersPass}
 use Rattle.textwrap_words.proofs.Word.Overlong.{IsTight, broken_words-tight}
-use Rattle.textwrap_words.proofs.Word.Texts.{HasNoPenalty, text_width-nil}
-use Rattle.textwrap_lines.specs.Options.{Settings}
-use Rattle.textwrap_lines.specs.Paragraph.{empty_word, front_pieces, IsDividedInto}
-use Rattle.textwrap_lines.specs.Paragraph.{widths_of, first_width, width_after, later_width}
-use Rattle.textwrap_lines.specs.Paragraph.{IsOneCharacter, OnlyCharactersPass}
+use Rattle.textwrap_words.proofs.Word.Measured.{HasNoPenalty, text_width-nil}
 use Rattle.textwrap_base.proofs.Division.Map.{IsDivision-whole}
-use Rattle.textwrap_base.proofs.ListLemmas.{flat, all-left, all-right}
-use Rattle.textwrap_words.specs.Cuts.{AreCuts}
-use Rattle.textwrap_words.specs.WordSplitters.{ends_in_hyphen}
-use Rattle.textwrap_words.specs.WrapAlgorithms.{Greedy, IsDividedBy}
-use Rattle.textwrap_lines.proofs.Paragraph.Pieces.{pieces-no_penalty}
-use Rattle.textwrap_words.proofs.Word.Pieces.{AreTexts, split-measured}
-
--- ---- a line
-
--- two pieces or more never pass
-two_fit : (width : ℕ) (w v : WordText) (ws : List WordText) → Fits sizes_of width (w ∷ v ∷ ws)
-    → width < closed_width sizes_of (w ∷ v ∷ ws) → ⊥
-two_fit width w v ws fits past =
-    let line = w ∷ v ∷ ws in
-    let within : closed_width sizes_of line ≤ width = subst (λ l. closed_width sizes_of l ≤ width)
-    (take_all (length line) line (omega arith)) (fits (length line) (omega arith) (omega arith))
-    in omega (arith, within, past)
-
-line_passes : (limit width : ℕ) (line : List WordText) → Fits sizes_of width line → limit ≤ width
-    → All (IsTight limit) line → All HasNoPenalty line → width < closed_width sizes_of line
-    → IsOneCharacter line
-line_passes limit width [] fits room tight none past = absurd (omega arith)
-line_passes limit width (w ∷ []) fits room tight none past =
-    let plain : length w.penalty ≡ 0 = ap length (All-head HasNoPenalty w [] none) in
-    (w, refl, All-head (IsTight limit) w [] tight (omega (arith, room, past, plain)))
-line_passes limit width (w ∷ v ∷ ws) fits room tight none past =
-    absurd (two_fit width w v ws fits past)
-
--- ---- the lines of a division
-
-lines_pass : (limit : ℕ) (widths : List ℕ) (number : ℕ) (lines : List (List WordText))
-    → AllFit sizes_of widths number lines → ((k : ℕ) → number ≤ k → limit ≤ line_width widths k)
-    → All (IsTight limit) (flat lines) → All HasNoPenalty (flat lines)
-    → OnlyCharactersPass widths number lines
-lines_pass limit widths number [] fit room tight none = tt
-lines_pass limit widths number (line ∷ lines) fit room tight none = (
-  line_passes limit (line_width widths number) line fit.0 (room number (omega arith))
-      (all-left (IsTight limit) line (flat lines) tight)
-      (all-left HasNoPenalty line (flat lines) none),
-  lines_pass limit widths (number + 1) lines fit.1 (λ k from. room k (omega (arith, from)))
-      (all-right (IsTight limit) line (flat lines) tight)
-      (all-right HasNoPenalty line (flat lines) none),
-)
-
-pub later_is : (first later k : ℕ) → 1 ≤ k → line_width (first ∷ later ∷ []) k ≡ later
-later_is first later k from = let last : min k 1 ≡ 1 = omega (arith, from) in
-    ap (λ n. get_or (first ∷ later ∷ []) n 0) last
-
--- an empty piece in front has room on the first line, however narrow
-first_passes : (width : ℕ) (line rest others : List WordText) → line ++ rest ≡ empty_word ∷ others
-    → Fits sizes_of width line → width < closed_width sizes_of line → ⊥
-first_passes width [] rest others is fits past = absurd (omega arith)
-first_passes width (w ∷ []) rest others is fits past =
-    let empty : w ≡ empty_word = cc in
-    let nothing : closed_width sizes_of (w ∷ []) ≡ 0 =
-    ap (λ v. closed_width sizes_of (v ∷ [])) empty in omega (arith, nothing, past)
-first_passes width (w ∷ v ∷ ws) rest others is fits past = two_fit width w v ws fits past
-
-front_passes : (first later : ℕ) (lines : List (List WordText)) (others : List WordText)
-    → flat lines ≡ empty_word ∷ others → AllFit sizes_of (first ∷ later ∷ []) 0 lines
-    → All (IsTight later) (flat lines) → All HasNoPenalty (flat lines)
-    → OnlyCharactersPass (first ∷ later ∷ []) 0 lines
-front_passes first later [] others is fit tight none = tt
-front_passes first later (line ∷ lines) others is fit tight none = (
-  λ past. absurd (first_passes (line_width (first ∷ later ∷ []) 0) line
-      (flat lines) others is fit.0 past),
-  lines_pass later (first ∷ later ∷ []) 1 lines fit.1
-      (λ k from. let same = later_is first later k from in omega (arith, same))
-      (all-right (IsTight later) line (flat lines) tight)
-      (all-right HasNoPenalty line (flat lines) none),
-)
+use Rattle.textwrap_base.proofs.Lists.Parts.{flat}
+use Rattle.textwrap_lines.proofs.Paragraph.GivenPieces.{pieces-no_penalty}
+use Rattle.textwrap_words.proofs.Word.Pieces.{AreTexts}
+use Rattle.textwrap_words.proofs.Word.SplitPieces.{split-measured}
+use Rattle.textwrap_lines.proofs.Paragraph.PassingLines.{later_is, lines_pass, front_passes}
 
 -- ---- the lines of a paragraph
 

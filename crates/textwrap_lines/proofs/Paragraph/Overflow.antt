@@ -1,31 +1,26 @@
 -- Lemmas on overflow: only where a caller gives the points of words, and optimal fit divides them.
-use Rattle.std.proofs.Common.{◌≡◌, ◌≢◌, ◌++◌, ℕ, ◌<◌, ◌^◌, List, length, map, take, refl, ap, ◌∙◌}
-use Rattle.std.proofs.Common.{arith}
-use Rattle.std.proofs.lemmas.List.{map-append, take_at}
-use Rattle.std.specs.Prelude.{Some, None, Err, IsErrAnd, IsSomeAnd, Result, Ok, alloc_error}
-use Rattle.std.specs.Str.{IsUtf8}
-use Rattle.std.specs.declared.borrow.CowStr.{CowStr}
-use Rattle.textwrap_base.specs.Cost.{total_width}
-use Rattle.textwrap_base.specs.Errors.{Fits64Bits, Overflowed}
-use Rattle.textwrap_base.specs.Sizes.{Sizes}
-use Rattle.textwrap_words.specs.Words.{word_view, sizes_of, Tiles}
-use Rattle.textwrap_words.specs.WrapAlgorithms.{LeastCost, OverflowsBy, algorithm_view}
+use Rattle.textwrap_words.specs.declared.wrap_algorithms.WrapAlgorithm as algorithms
+use Rattle.textwrap_words.specs.declared.word_splitters.WordSplitter as splitters
+use Rattle.textwrap_base.proofs.Common.{◌≡◌, ◌≢◌, ◌++◌, ℕ, ◌<◌, ◌^◌, List, length, map, take, refl}
+use Rattle.textwrap_base.proofs.Common.{ap, ◌∙◌, arith, map-append, take_at, Some, None, Err}
+use Rattle.textwrap_base.proofs.Common.{IsErrAnd, Result, Ok, IsUtf8, CowStr, total_width}
+use Rattle.textwrap_base.proofs.Common.{Overflowed, Sizes}
+use Rattle.textwrap_words.proofs.Common.{word_view, sizes_of, Tiles, LeastCost, algorithm_view}
+use Rattle.textwrap_words.proofs.Common.{MaySeparate, MaySplit, splitter_view}
+use Rattle.textwrap_lines.proofs.Common.{MayOverflow, settings_view, ArePieces, LineParts}
+use Rattle.textwrap_lines.proofs.Common.{line_view, line_from}
+use Rattle.std.specs.Prelude.{IsSomeAnd, alloc_error}
+use Rattle.textwrap_base.specs.Errors.{Fits64Bits}
+use Rattle.textwrap_words.specs.WrapAlgorithms.{OverflowsBy}
 use Rattle.textwrap_base.specs.declared.errors.WrapError.{WrapError}
 use Rattle.textwrap_base.specs.declared.errors.WrapError.TheVariants.{Memory, Overflow}
 use Rattle.textwrap_base.specs.declared.penalties.Penalties.{Penalties}
 use Rattle.textwrap_words.specs.declared.words.Word.{Word}
-use Rattle.textwrap_words.specs.declared.wrap_algorithms.WrapAlgorithm as algorithms
 use Rattle.textwrap_lines.specs.Fuzzing.{AppendsLines}
-use Rattle.textwrap_lines.specs.Options.{MayOverflow, settings_view}
-use Rattle.textwrap_lines.specs.Paragraph.{ArePieces, LineParts, line_view, line_from}
-use Rattle.textwrap_words.specs.WordSeparators.{MaySeparate}
-use Rattle.textwrap_words.specs.WordSplitters.{MaySplit, splitter_view}
 use Rattle.textwrap_lines.specs.declared.options.Options.{Options}
-use Rattle.textwrap_words.specs.declared.word_splitters.WordSplitter as splitters
 use Rattle.textwrap_lines.proofs.Paragraph.Lines.{total_width-pieces}
-use Rattle.textwrap_lines.proofs.Paragraph.Pieces.{pieces-bounded}
-use Rattle.textwrap_words.proofs.Word.GivenCuts.{MaySeparate-texts, MaySplit-cuts}
-use Rattle.textwrap_words.proofs.Word.GivenCuts.{MaySplit-hyphens}
+use Rattle.textwrap_lines.proofs.Paragraph.GivenPieces.{pieces-bounded}
+use Rattle.textwrap_words.proofs.Word.GivenCuts.{MaySeparate-texts, MaySplit-cuts, MaySplit-hyphens}
 
 -- an algorithm that refuses with Overflow is optimal fit
 pub overflow-optimal : {E X : Type 0} {e : _} (algorithm : algorithms.WrapAlgorithm E e)

@@ -1,22 +1,17 @@
 -- The pieces of a printable paragraph are those of the settings, and so are its lines.
-use Rattle.std.proofs.Common.{◌≡◌, ℕ, Bool, true, false, cond, ◌==◌, ◌&&◌, List, [], ◌∷◌, ◌++◌, All}
-use Rattle.std.proofs.Common.{length, map, refl, sym, ap, ◌∙◌, arith}
-use Rattle.std.specs.Prelude.{◌||◌}
-use Rattle.std.specs.List.{onto_first}
-use Rattle.textwrap_words.specs.Breaking.{broken_words}
-use Rattle.textwrap_words.specs.Units.{text_width}
-use Rattle.textwrap_words.specs.Words.{WordText, tiled, word_of, is_cut, chunks, words_of}
-use Rattle.textwrap_base.proofs.ListLemmas.{flat, all-left, all-right}
-use Rattle.textwrap_words.proofs.Word.Texts.{HasNoPenalty, text_width-nil}
-use Rattle.textwrap_lines.specs.Options.{Settings}
-use Rattle.textwrap_lines.specs.Paragraph.{covered}
-use Rattle.textwrap_lines.specs.Paragraph.{Slice, line_from, parts_from, indent_of, widths_of}
-use Rattle.textwrap_lines.specs.Paragraph.{width_after, later_width, first_width, pieces_of}
-use Rattle.textwrap_lines.specs.Paragraph.{empty_word, front_pieces}
-use Rattle.textwrap_words.specs.WordSplitters.{Splitter, Whole, AtHyphens, split_words}
-use Rattle.textwrap_lines.specs.Printable.{IsPrintable, parts, pieces_after, printable_cut}
+use Rattle.textwrap_base.proofs.Common.{◌≡◌, ℕ, Bool, true, false, cond, ◌==◌, ◌&&◌, List, [], ◌∷◌}
+use Rattle.textwrap_base.proofs.Common.{◌++◌, All, length, map, refl, sym, ap, ◌∙◌, arith, ◌||◌}
+use Rattle.textwrap_base.proofs.Common.{onto_first}
+use Rattle.textwrap_words.proofs.Common.{broken_words, text_width, WordText, tiled, word_of, is_cut}
+use Rattle.textwrap_words.proofs.Common.{chunks, words_of, Splitter, Whole, AtHyphens, split_words}
+use Rattle.textwrap_lines.proofs.Common.{Settings, covered, Slice, line_from, parts_from, indent_of}
+use Rattle.textwrap_lines.proofs.Common.{widths_of, width_after, later_width, first_width}
+use Rattle.textwrap_lines.proofs.Common.{pieces_of, empty_word, front_pieces, IsPrintable, parts}
+use Rattle.textwrap_lines.proofs.Common.{pieces_after, printable_cut}
+use Rattle.textwrap_base.proofs.Lists.Parts.{flat, all-left, all-right}
+use Rattle.textwrap_words.proofs.Word.Measured.{HasNoPenalty, text_width-nil}
 use Rattle.textwrap_lines.specs.Direct.{HasBareLines, hyphens_of}
-use Rattle.textwrap_lines.proofs.Paragraph.Lines.{line_from-pieces}
+use Rattle.textwrap_lines.proofs.Paragraph.WholeLine.{line_from-pieces}
 use Rattle.textwrap_lines.proofs.PrintableTexts.Lines.{one_width}
 use Rattle.textwrap_lines.proofs.PrintableTexts.Hyphens.{split-hyphens}
 

@@ -1,25 +1,21 @@
 -- The first line of a printable text, found by its bytes.
-use Rattle.std.proofs.Common.{◌≡◌, ℕ, suc, ◌+◌, ◌<◌, ◌≤◌, true, false, List, [], ◌∷◌, ◌++◌, length}
-use Rattle.std.proofs.Common.{take, drop, get_or, refl, sym, ap, ◌∙◌, subst, arith, add-zero}
-use Rattle.std.proofs.Common.{length-append, length-drop}
-use Rattle.std.proofs.Math.Seq.{take-append-add}
-use Rattle.std.proofs.lemmas.List.{take_at, drop_at, take_all, drop_all, length-take-le, take-take}
-use Rattle.std.proofs.lemmas.List.{get_or-drop}
-use Rattle.std.proofs.lemmas.List.Elements.{All-take, All-drop}
-use Rattle.textwrap_words.specs.Blanks.{is_blank, trimmed_len}
-use Rattle.textwrap_base.specs.Division.{closed_width, open_width, Fits}
-use Rattle.textwrap_words.specs.Words.{piece, WordText, sizes_of}
-use Rattle.textwrap_base.proofs.Division.Greedy.{open_width-cons, closed_width-push}
-use Rattle.textwrap_lines.specs.Paragraph.{covered}
-use Rattle.textwrap_lines.specs.Printable.{IsPrintableByte, IsPrintable, CutTest, pieces_after}
-use Rattle.textwrap_lines.specs.Printable.{cut_at}
-use Rattle.textwrap_lines.specs.Printable.{byte_before, IsFirstLine}
+use Rattle.textwrap_base.proofs.Common.{◌≡◌, ℕ, suc, ◌+◌, ◌<◌, ◌≤◌, true, false, List, [], ◌∷◌}
+use Rattle.textwrap_base.proofs.Common.{◌++◌, length, take, drop, get_or, refl, sym, ap, ◌∙◌, subst}
+use Rattle.textwrap_base.proofs.Common.{arith, add-zero, length-append, length-drop}
+use Rattle.textwrap_base.proofs.Common.{take-append-add, take_at, drop_at, take_all, drop_all}
+use Rattle.textwrap_base.proofs.Common.{length-take-le, take-take, get_or-drop, All-take, All-drop}
+use Rattle.textwrap_base.proofs.Common.{closed_width, open_width, Fits}
+use Rattle.textwrap_words.proofs.Common.{is_blank, trimmed_len, piece, WordText, sizes_of}
+use Rattle.textwrap_lines.proofs.Common.{covered, IsPrintableByte, IsPrintable, CutTest}
+use Rattle.textwrap_lines.proofs.Common.{pieces_after, cut_at, byte_before, IsFirstLine}
+use Rattle.textwrap_base.proofs.Division.Widths.{open_width-cons, closed_width-push}
 use Rattle.textwrap_lines.proofs.PrintableTexts.Texts.{printable-width}
-use Rattle.textwrap_lines.proofs.PrintableTexts.Pieces.{open-exact, Fits-exact, pieces-tile}
-use Rattle.textwrap_lines.proofs.PrintableTexts.Pieces.{pieces-exact, pieces-some, CutsBeforeOthers}
-use Rattle.textwrap_lines.proofs.PrintableTexts.Pieces.{pieces-cover}
-use Rattle.textwrap_lines.proofs.PrintableTexts.FirstPiece.{pieces-at_cut, BeginsWide, begins_wide}
+use Rattle.textwrap_lines.proofs.PrintableTexts.Exact.{open-exact, Fits-exact}
+use Rattle.textwrap_lines.proofs.PrintableTexts.Pieces.{pieces-tile, pieces-exact, pieces-some}
+use Rattle.textwrap_lines.proofs.PrintableTexts.Pieces.{CutsBeforeOthers, pieces-cover}
+use Rattle.textwrap_lines.proofs.PrintableTexts.FirstPiece.{pieces-at_cut, begins_wide}
 use Rattle.textwrap_lines.proofs.PrintableTexts.FirstPiece.{pieces-broken}
+use Rattle.textwrap_lines.proofs.PrintableTexts.BrokenFront.{BeginsWide}
 
 -- a line of some pieces has no room for the next piece, where that has so many columns
 full_line : (limit n : ℕ) (all ws vs : List WordText) → all ≡ ws ++ vs → BeginsWide n vs

@@ -1,132 +1,23 @@
 -- Lemmas on the pieces that a printable text begins with.
-use Rattle.std.proofs.Common.{◌≡◌, ◌≢◌, ℕ, zero, suc, ◌+◌, ◌<◌, ◌≤◌, Bool, true, false, cond, ltb}
-use Rattle.std.proofs.Common.{List, [], ◌∷◌, ◌++◌, length, map, take, drop, get_or, refl, sym, ap}
-use Rattle.std.proofs.Common.{◌∙◌, subst, arith, add-zero, length-append, length-drop, add-one}
-use Rattle.std.specs.List.{onto_first}
-use Rattle.std.proofs.Math.Seq.{take-append-add}
-use Rattle.std.proofs.lemmas.Bool.{lt-ltb, ltb-true, ltb-false}
-use Rattle.std.proofs.lemmas.List.{take_at, drop_at, take_all, drop_all, map-append, length-take-le}
-use Rattle.std.proofs.lemmas.List.{get_or-drop}
-use Rattle.std.proofs.lemmas.List.Concat.{flat_map-append}
-use Rattle.std.proofs.lemmas.List.Elements.{All-take, All-drop, All-append}
-use Rattle.textwrap_words.specs.Blanks.{is_blank, trimmed_len, without_final_blanks, final_blanks}
-use Rattle.textwrap_words.specs.Breaking.{broken_texts, broken_word, broken_words, broken_pieces}
-use Rattle.textwrap_words.specs.Breaking.{pieces_with}
-use Rattle.textwrap_words.specs.Units.{text_width}
-use Rattle.textwrap_words.specs.Words.{piece, WordText, word_of}
-use Rattle.textwrap_base.proofs.ListLemmas.{flat, onto_front, all-left, all-right}
+use Rattle.textwrap_base.proofs.Common.{◌≡◌, ℕ, zero, suc, ◌+◌, ◌<◌, ◌≤◌, Bool, true, false, List}
+use Rattle.textwrap_base.proofs.Common.{[], ◌∷◌, ◌++◌, length, map, take, drop, get_or, refl, sym}
+use Rattle.textwrap_base.proofs.Common.{ap, ◌∙◌, subst, arith, add-zero, length-drop, add-one}
+use Rattle.textwrap_base.proofs.Common.{onto_first, take_at, map-append, length-take-le}
+use Rattle.textwrap_base.proofs.Common.{get_or-drop, flat_map-append, All-take}
+use Rattle.textwrap_words.proofs.Common.{is_blank, trimmed_len, broken_word, broken_words, piece}
+use Rattle.textwrap_words.proofs.Common.{word_of}
+use Rattle.textwrap_lines.proofs.Common.{IsPrintableByte, IsPrintable, CutTest, parts, pieces_after}
+use Rattle.textwrap_lines.proofs.Common.{cut_at}
+use Rattle.std.proofs.Common.{ltb}
+use Rattle.textwrap_base.proofs.Lists.Parts.{flat, onto_front}
 use Rattle.textwrap_words.proofs.Word.Texts.{trimmed-past}
-use Rattle.textwrap_words.proofs.Word.BrokenPieces.{broken_texts-nil, broken_texts-some}
-use Rattle.textwrap_words.proofs.Word.BrokenPieces.{pieces_with-more}
-use Rattle.textwrap_lines.specs.Printable.{IsPrintableByte, IsPrintable, CutTest, parts}
-use Rattle.textwrap_lines.specs.Printable.{pieces_after, cut_at}
-use Rattle.textwrap_lines.proofs.PrintableTexts.Texts.{printable-utf8, printable-width}
-use Rattle.textwrap_lines.proofs.PrintableTexts.Texts.{broken_texts-printable}
-use Rattle.textwrap_lines.proofs.PrintableTexts.Texts.{trimmed-front}
+use Rattle.textwrap_lines.proofs.PrintableTexts.Texts.{printable-width}
 use Rattle.textwrap_lines.proofs.PrintableTexts.Parts.{next_parts, flat-parts, parts-some}
-use Rattle.textwrap_lines.proofs.PrintableTexts.Parts.{parts-at_cut}
-use Rattle.textwrap_lines.proofs.PrintableTexts.Parts.{parts-no_cut}
-
--- ---- how wide the first piece is
-
--- the first of these pieces has so many columns at least
-pub record BeginsWide (n : ℕ) (pieces : List WordText) : Type 0 where
-  pub first : WordText
-  pub others : List WordText
-  pub are : pieces ≡ first ∷ others
-  pub wide : n ≤ first.width
-
-begins_wide-step : (limit n : ℕ) (w : WordText) (ws : List WordText) (t : Bool) → 0 < limit
-    → n ≤ limit → IsPrintable w.word → w.width ≡ length w.word → n ≤ length w.word
-    → ltb limit w.width ≡ t → BeginsWide n (broken_words limit (w ∷ ws))
-begins_wide-step limit n w ws false room within printable width long is = record {
-  first = w;
-  others = broken_words limit ws;
-  are = ap (λ b. cond b (broken_pieces limit w) (w ∷ []) ++ broken_words limit ws) is;
-  wide = omega (arith, width, long);
-}
-begins_wide-step limit n w ws true room within printable width long is =
-    let wider = ltb-true limit w.width is in
-    let front = take limit w.word in
-    let back = drop limit w.word in
-    let texts = broken_texts-printable limit w.word printable room (omega (arith, wider, width)) in
-    let left = length-drop limit w.word in
-    let some =
-    broken_texts-some limit back (printable-utf8 back
-    (All-drop IsPrintableByte limit w.word printable))
-    (λ e. let none = ap length e in omega (arith, none, left, wider, width)) in
-    let front_len = length-take-le limit w.word (omega (arith, wider, width)) in
-    let front_width = printable-width front (All-take IsPrintableByte limit w.word printable) in
-    record {
-      first = piece front [] [];
-      others = pieces_with w.whitespace w.penalty (broken_texts limit back)
-          ++ broken_words limit ws;
-      are = ap (λ b. cond b (broken_pieces limit w) (w ∷ []) ++ broken_words limit ws) is
-          ∙ ap (λ ts. pieces_with w.whitespace w.penalty ts ++ broken_words limit ws) texts
-          ∙ ap (λ vs. vs ++ broken_words limit ws)
-          (pieces_with-more w.whitespace w.penalty front (broken_texts limit back) some);
-      wide = omega (arith, within, front_len, front_width);
-    }
+use Rattle.textwrap_lines.proofs.PrintableTexts.Parts.{parts-at_cut, parts-no_cut}
+use Rattle.textwrap_lines.proofs.PrintableTexts.BrokenFront.{BeginsWide, begins_wide-step}
+use Rattle.textwrap_lines.proofs.PrintableTexts.BrokenFront.{broken-front}
 
 -- ---- a word that is broken
-
--- the pieces of a word, whether it is wider than the limit or not
-word_of-same : (limit : ℕ) (p : List ℕ) → IsPrintable p → 0 < limit → 0 < trimmed_len p → (t : Bool)
-    → ltb limit (word_of p).width ≡ t
-    → pieces_with (final_blanks p) [] (broken_texts limit (without_final_blanks p))
-    ≡ cond t (broken_pieces limit (word_of p)) (word_of p ∷ [])
-word_of-same limit p printable room some true is = refl
-word_of-same limit p printable room some false is =
-    let word = without_final_blanks p in
-    let word_printable = All-take IsPrintableByte (trimmed_len p) p printable in
-    let len : length word ≡ trimmed_len p = length-take-le (trimmed_len p) p (omega arith) in
-    let width = printable-width word word_printable in
-    let within : length word ≤ limit =
-    omega (arith, ltb-false limit (word_of p).width is, width) in
-    let texts : broken_texts limit word ≡ word ∷ [] =
-    broken_texts-printable limit word word_printable room (omega (arith, len, some))
-    ∙ ap (λ t. t ∷ broken_texts limit (drop limit word)) (take_all limit word within)
-    ∙ ap (λ t. word ∷ broken_texts limit t) (drop_all limit word within)
-    ∙ ap (λ ts. word ∷ ts) (broken_texts-nil limit) in
-    ap (pieces_with (final_blanks p) []) texts
-
--- the first word is wider than the limit: a piece of it, and the pieces of the rest
-broken-front : (limit : ℕ) (front p : List ℕ) → IsPrintable (front ++ p) → 0 < limit
-    → length front ≡ limit → 0 < trimmed_len p
-    → broken_word limit (word_of (front ++ p)) ≡ piece front [] [] ∷ broken_word limit (word_of p)
-broken-front limit front p printable room len some =
-    let both = trimmed-front front p some in
-    let rest = without_final_blanks p in
-    let whole = front ++ p in
-    let p_printable = all-right IsPrintableByte front p printable in
-    let rest_printable = All-take IsPrintableByte (trimmed_len p) p p_printable in
-    let rest_len : length rest ≡ trimmed_len p = length-take-le (trimmed_len p) p (omega arith) in
-    let word : without_final_blanks whole ≡ front ++ rest =
-    ap (λ n. take n whole) both.0 ∙ take-append-add front p (trimmed_len p) in
-    let word_printable =
-    All-append IsPrintableByte front rest (all-left IsPrintableByte front p printable)
-    rest_printable in
-    let word_len = length-append front rest in
-    let width : (word_of whole).width ≡ length (front ++ rest) =
-    ap text_width word ∙ printable-width (front ++ rest) word_printable in
-    let wide : ltb limit (word_of whole).width ≡ true =
-    lt-ltb limit (word_of whole).width (omega (arith, width, word_len, len, rest_len, some)) in
-    let texts : broken_texts limit (without_final_blanks whole)
-    ≡ front ∷ broken_texts limit rest =
-    ap (broken_texts limit) word
-    ∙ broken_texts-printable limit (front ++ rest) word_printable room
-    (omega (arith, word_len, rest_len, some))
-    ∙ ap (λ t. t ∷ broken_texts limit (drop limit (front ++ rest))) (take_at front rest limit len)
-    ∙ ap (λ t. front ∷ broken_texts limit t) (drop_at front rest limit len) in
-    let more : broken_texts limit rest ≢ [] =
-    broken_texts-some limit rest (printable-utf8 rest rest_printable)
-    (λ e. let none = ap length e in omega (arith, none, rest_len, some)) in
-    ap (λ b. cond b (broken_pieces limit (word_of whole)) (word_of whole ∷ [])) wide
-    ∙ ap (pieces_with (final_blanks whole) []) texts
-    ∙ pieces_with-more (final_blanks whole) [] front (broken_texts limit rest) more
-    ∙ ap (λ bs. piece front [] [] ∷ pieces_with bs [] (broken_texts limit rest)) both.1
-    ∙ ap (λ ws. piece front [] [] ∷ ws)
-    (word_of-same limit p p_printable room some (ltb limit (word_of p).width) refl)
 
 module _ (cut : CutTest) where
   -- ---- the pieces at a cut

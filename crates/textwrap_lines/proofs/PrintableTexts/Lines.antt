@@ -1,18 +1,15 @@
 -- The lines of a printable paragraph, one after the other.
-use Rattle.std.proofs.Common.{◌≡◌, ℕ, zero, suc, ◌+◌, ◌-◌, ◌<◌, Bool, List, []}
-use Rattle.std.proofs.Common.{◌∷◌, ◌++◌, length, map, take, drop, get_or, refl, sym, ap, ◌∙◌, subst}
-use Rattle.std.proofs.Common.{arith, append_assoc, append-nil}
-use Rattle.std.proofs.lemmas.List.{nil_from_length, map-append, length_push}
-use Rattle.textwrap_base.specs.Division.{line_width, closed_width, Fits, IsGreedy}
-use Rattle.textwrap_base.specs.Lists.{last}
-use Rattle.textwrap_words.specs.Words.{WordText, sizes_of}
+use Rattle.textwrap_base.proofs.Common.{◌≡◌, ℕ, zero, suc, ◌+◌, ◌-◌, ◌<◌, Bool, List, [], ◌∷◌, ◌++◌}
+use Rattle.textwrap_base.proofs.Common.{length, map, take, drop, get_or, refl, sym, ap, ◌∙◌, subst}
+use Rattle.textwrap_base.proofs.Common.{arith, append_assoc, append-nil, nil_from_length}
+use Rattle.textwrap_base.proofs.Common.{map-append, length_push, line_width, closed_width, Fits}
+use Rattle.textwrap_base.proofs.Common.{IsGreedy, last}
+use Rattle.textwrap_words.proofs.Common.{WordText, sizes_of}
+use Rattle.textwrap_lines.proofs.Common.{Took, covered, Slice, IsPrintable, pieces_after}
+use Rattle.textwrap_lines.proofs.Common.{byte_before, printable_cut, IsFirstLine}
 use Rattle.textwrap_base.proofs.Division.Greedy.{IsGreedyFrom, IsGreedyFrom-nil, IsGreedyFrom-cons}
 use Rattle.textwrap_base.proofs.Division.Greedy.{IsGreedy-from}
-use Rattle.textwrap_lines.specs.LineSinks.{Took}
-use Rattle.textwrap_lines.specs.Paragraph.{covered, Slice}
-use Rattle.textwrap_lines.specs.Printable.{IsPrintable, pieces_after, byte_before, printable_cut}
-use Rattle.textwrap_lines.specs.Printable.{IsFirstLine}
-use Rattle.textwrap_lines.proofs.Paragraph.LongLines.{later_is}
+use Rattle.textwrap_lines.proofs.Paragraph.PassingLines.{later_is}
 use Rattle.textwrap_lines.specs.declared.line_sinks.LineSink.{LineSink}
 use Rattle.textwrap_lines.proofs.Text.Sinks.{Took-none, Took-then}
 use Rattle.textwrap_lines.proofs.PrintableTexts.Pieces.{pieces-some}

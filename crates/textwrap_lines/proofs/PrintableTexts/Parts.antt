@@ -1,20 +1,15 @@
 -- Lemmas on the parts that a printable text is cut into.
-use Rattle.std.proofs.Common.{◌≡◌, ℕ, zero, suc, ◌+◌, ◌<◌, ◌≤◌, Bool, true, false, cond, List, []}
-use Rattle.std.proofs.Common.{◌∷◌, ◌++◌, length, take, drop, get_or, refl, ap, ◌∙◌, arith, add-one}
-use Rattle.std.specs.List.{onto_first}
-use Rattle.textwrap_base.proofs.ListLemmas.{flat, flat-onto_first, onto_front}
-use Rattle.textwrap_lines.specs.Printable.{CutTest, parts, cut_at}
-use Rattle.textwrap_lines.proofs.Text.Endings.{onto_first-some}
+use Rattle.textwrap_base.proofs.Common.{◌≡◌, ℕ, zero, suc, ◌+◌, ◌<◌, ◌≤◌, Bool, true, false, cond}
+use Rattle.textwrap_base.proofs.Common.{List, [], ◌∷◌, ◌++◌, length, take, drop, get_or, refl, ap}
+use Rattle.textwrap_base.proofs.Common.{◌∙◌, arith, add-one, onto_first}
+use Rattle.textwrap_lines.proofs.Common.{CutTest, parts, cut_at}
+use Rattle.textwrap_base.proofs.Lists.Parts.{flat, flat-onto_first, onto_front, onto_first-some}
+use Rattle.textwrap_base.proofs.Lists.Parts.{onto_first-append}
 
 -- one step, where the answer of the test is named
 abbrev pub next_parts : CutTest → Bool → ℕ → List ℕ → List (List ℕ)
 next_parts cut here b rest =
     cond here ((b ∷ []) ∷ parts cut b rest) (onto_first b (parts cut b rest))
-
-pub onto_first-append : (c : ℕ) (ps qs : List (List ℕ)) → 0 < length ps
-    → onto_first c (ps ++ qs) ≡ onto_first c ps ++ qs
-onto_first-append c [] qs some = absurd (omega arith)
-onto_first-append c (p ∷ ps) qs some = refl
 
 module _ (cut : CutTest) where
   pub parts-some : (a b : ℕ) (cs : List ℕ) → 0 < length (parts cut a (b ∷ cs))

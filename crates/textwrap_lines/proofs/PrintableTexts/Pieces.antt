@@ -1,89 +1,24 @@
 -- Lemmas on the pieces of a printable text: they tile it, and take as many columns as bytes.
-use Rattle.std.proofs.Common.{◌≡◌, ◌≢◌, ℕ, ◌<◌, ◌≤◌, Bool, true, false, List, [], ◌∷◌, All, length}
-use Rattle.std.proofs.Common.{map, refl, sym, ap, ◌∙◌, subst, arith, length-append, length-drop}
-use Rattle.std.specs.Prelude.{IsUtf8}
-use Rattle.std.proofs.lemmas.List.{nil_from_length, length-map}
-use Rattle.std.proofs.lemmas.List.Elements.{All-nil, All-cons, All-head, All-tail, All-map}
-use Rattle.std.proofs.lemmas.List.Elements.{All-weaker}
-use Rattle.textwrap_words.specs.Blanks.{is_blank, trimmed_len, without_final_blanks, final_blanks}
-use Rattle.textwrap_words.specs.Breaking.{broken_word}
-use Rattle.textwrap_base.specs.Division.{closed_width, open_width, Fits}
-use Rattle.textwrap_words.specs.Words.{WordText, sizes_of, tile_of, tiled, word_of}
-use Rattle.textwrap_base.proofs.ListLemmas.{all-left, all-right}
+use Rattle.textwrap_base.proofs.Common.{◌≡◌, ◌≢◌, ℕ, ◌<◌, Bool, true, false, List, [], ◌∷◌, All}
+use Rattle.textwrap_base.proofs.Common.{length, map, refl, sym, ap, ◌∙◌, subst, arith, length-drop}
+use Rattle.textwrap_base.proofs.Common.{IsUtf8, nil_from_length, length-map, All-map, All-weaker}
+use Rattle.textwrap_words.proofs.Common.{is_blank, trimmed_len, without_final_blanks, final_blanks}
+use Rattle.textwrap_words.proofs.Common.{broken_word, WordText, tiled, word_of}
+use Rattle.textwrap_lines.proofs.Common.{covered, IsPrintable, CutTest, parts, pieces_after}
+use Rattle.textwrap_base.proofs.Lists.Parts.{length-onto_first}
 use Rattle.textwrap_words.proofs.Word.Tiling.{tiled-map}
-use Rattle.textwrap_words.proofs.Word.Texts.{IsMeasured, HasNoPenalty, final_blanks-more}
-use Rattle.textwrap_words.proofs.Word.Texts.{trimmed-past, word_of-measured}
+use Rattle.textwrap_words.proofs.Word.Measured.{IsMeasured, HasNoPenalty, word_of-measured}
+use Rattle.textwrap_words.proofs.Word.Texts.{final_blanks-more, trimmed-past}
 use Rattle.textwrap_words.proofs.Word.BrokenPieces.{tiled-broken_words}
 use Rattle.textwrap_words.proofs.Word.BrokenTexts.{broken_words-measured, broken_words-no_penalty}
-use Rattle.textwrap_base.proofs.Division.Greedy.{open_width-cons}
-use Rattle.textwrap_base.proofs.Division.OneLine.{closed-take}
-use Rattle.textwrap_lines.specs.Paragraph.{covered}
-use Rattle.textwrap_lines.specs.Printable.{IsPrintableByte, IsPrintable, CutTest, parts}
-use Rattle.textwrap_lines.specs.Printable.{pieces_after}
-use Rattle.textwrap_lines.proofs.Paragraph.LastBlanks.{last_space, last_space-append}
-use Rattle.textwrap_lines.proofs.Paragraph.LastBlanks.{flat_map-space, broken_words-ends}
-use Rattle.textwrap_lines.proofs.Paragraph.LastBlanks.{space-onto_first, length-onto_first}
+use Rattle.textwrap_lines.proofs.Paragraph.EndsAs.{last_space, last_space-append, flat_map-space}
+use Rattle.textwrap_lines.proofs.Paragraph.EndsAs.{broken_words-ends}
+use Rattle.textwrap_lines.proofs.Paragraph.LastWord.{space-onto_first}
 use Rattle.textwrap_lines.proofs.Paragraph.LastBlanks.{covered-tiled}
-use Rattle.textwrap_lines.proofs.Paragraph.Pieces.{wide-some}
-use Rattle.textwrap_lines.proofs.PrintableTexts.Texts.{printable-utf8, printable-width}
-use Rattle.textwrap_lines.proofs.PrintableTexts.Texts.{flat-printable}
+use Rattle.textwrap_lines.proofs.Paragraph.GivenPieces.{wide-some}
+use Rattle.textwrap_lines.proofs.PrintableTexts.Texts.{printable-utf8, flat-printable}
 use Rattle.textwrap_lines.proofs.PrintableTexts.Parts.{next_parts, flat-parts, parts-some}
-
--- ---- as many columns as bytes
-
--- a word with as many columns as bytes, and without a penalty
-pub record IsExact (w : WordText) : Type 0 where
-  pub width : w.width ≡ length w.word
-  pub penalty : HasNoPenalty w
-
-exact-words : (ws : List WordText) → All IsMeasured ws → All HasNoPenalty ws
-    → IsPrintable (tiled ws)
-    → All IsExact ws
-exact-words [] measured none printable = All-nil IsExact
-exact-words (w ∷ ws) measured none printable =
-    let here = All-head IsMeasured w ws measured in
-    let word =
-    all-left IsPrintableByte w.word w.whitespace (all-left IsPrintableByte (tile_of w)
-    (tiled ws) printable) in
-    All-cons IsExact w ws
-    (record {
-      width = here.width ∙ printable-width w.word word;
-      penalty = All-head HasNoPenalty w ws none;
-    })
-    (exact-words ws (All-tail IsMeasured w ws measured) (All-tail HasNoPenalty w ws none)
-    (all-right IsPrintableByte (tile_of w) (tiled ws) printable))
-
-closed-exact : (ws : List WordText) → All IsExact ws
-    → closed_width sizes_of ws ≡ length (covered ws)
-closed-exact [] all = refl
-closed-exact (w ∷ []) all =
-    let here = All-head IsExact w [] all in
-    let none : length w.penalty ≡ 0 = ap length here.penalty in omega (arith, here.width, none)
-closed-exact (w ∷ v ∷ ws) all =
-    let here = All-head IsExact w (v ∷ ws) all in
-    let rest = closed-exact (v ∷ ws) (All-tail IsExact w (v ∷ ws) all) in
-    let tile = length-append w.word w.whitespace in
-    let whole = length-append (tile_of w) (covered (v ∷ ws)) in
-    omega (arith, here.width, rest, tile, whole)
-
-pub open-exact : (ws : List WordText) → All IsExact ws → open_width sizes_of ws ≡ length (tiled ws)
-open-exact [] all = refl
-open-exact (w ∷ ws) all =
-    let here = All-head IsExact w ws all in
-    let rest = open-exact ws (All-tail IsExact w ws all) in
-    let tile = length-append w.word w.whitespace in
-    let whole = length-append (tile_of w) (tiled ws) in
-    let more = open_width-cons sizes_of w ws in
-    omega (arith, here.width, rest, tile, whole, more)
-
-pub Fits-exact : (limit : ℕ) (ws : List WordText) → All IsExact ws → length (covered ws) ≤ limit
-    → Fits sizes_of limit ws
-Fits-exact limit ws all room = λ k two within.
-    let none = All-weaker IsExact (λ w. length w.penalty ≡ 0) (λ w exact. ap length exact.penalty)
-    ws all in
-    let part = closed-take sizes_of ws k none in
-    let whole = closed-exact ws all in
-    omega (arith, part, whole, room)
+use Rattle.textwrap_lines.proofs.PrintableTexts.Exact.{IsExact, exact-words}
 
 -- ---- the pieces of a text
 
@@ -91,7 +26,7 @@ module _ (cut : CutTest) (limit a : ℕ) (text : List ℕ) (printable : IsPrinta
   abbrev words : List WordText
   words = map word_of (parts cut a text)
 
-  abbrev pieces : List WordText
+  abbrev pub pieces : List WordText
   pieces = pieces_after cut limit a text
 
   words-measured : All IsMeasured words

@@ -1,18 +1,13 @@
 -- What a search by bytes finds is the first line.
-use Rattle.std.proofs.Common.{inl, inr, ◌≡◌, ◌≢◌, ℕ, zero, suc, ◌+◌, ◌-◌, ◌<◌, ◌≤◌, ◌⊎◌, Bool, true}
-use Rattle.std.proofs.Common.{false, not, ◌==◌, ◌&&◌, List, ◌∷◌, length, take, drop, get_or, refl}
-use Rattle.std.proofs.Common.{sym, ap, ◌∙◌, subst, arith, add-zero, length-drop, length-take}
-use Rattle.std.specs.Prelude.{◌||◌}
-use Rattle.std.specs.Char.{is_ascii_alphanumeric}
-use Rattle.std.proofs.lemmas.Bool.{and_right, ne_eqb, cases_lt, cases_Bool, cases_eq, or_left}
-use Rattle.std.proofs.lemmas.Bool.{false≢true}
-use Rattle.std.proofs.lemmas.List.{take_all, length-take-le, get_or-drop, get_or-take, drop_more}
-use Rattle.textwrap_words.specs.Blanks.{is_blank, trimmed_len}
-use Rattle.textwrap_words.specs.Words.{is_cut}
+use Rattle.textwrap_base.proofs.Common.{inl, inr, ◌≡◌, ℕ, zero, suc, ◌+◌, ◌-◌, ◌<◌, ◌≤◌, true}
+use Rattle.textwrap_base.proofs.Common.{false, not, ◌&&◌, List, ◌∷◌, length, take, drop, get_or}
+use Rattle.textwrap_base.proofs.Common.{sym, ap, ◌∙◌, subst, arith, length-drop, length-take}
+use Rattle.textwrap_base.proofs.Common.{cases_Bool, false≢true, take_all, length-take-le}
+use Rattle.textwrap_base.proofs.Common.{get_or-drop, get_or-take, drop_more}
+use Rattle.textwrap_words.proofs.Common.{is_blank, trimmed_len, is_cut}
+use Rattle.textwrap_lines.proofs.Common.{IsPrintable, CutTest, cut_at, BlanksBetween, NoCutBetween}
+use Rattle.textwrap_lines.proofs.Common.{IsFirstLine}
 use Rattle.textwrap_words.proofs.Word.Texts.{trimmed-past}
-use Rattle.textwrap_lines.specs.Printable.{IsPrintable, CutTest, cut_at, printable_cut}
-use Rattle.textwrap_lines.specs.Printable.{BlanksBetween}
-use Rattle.textwrap_lines.specs.Printable.{NoCutBetween, IsFirstLine}
 use Rattle.textwrap_lines.proofs.PrintableTexts.Texts.{trimmed-le}
 use Rattle.textwrap_lines.proofs.PrintableTexts.Pieces.{CutsBeforeOthers}
 use Rattle.textwrap_lines.proofs.PrintableTexts.FirstLine.{first_line-all, first_line-cut}
@@ -37,7 +32,7 @@ module _ (cut : CutTest) (before_others : CutsBeforeOthers cut) (at_blanks : Cut
       (subst (IsFirstLine cut limit a text (trimmed_len text)) is
       (first_line-all cut before_others limit a text printable room some keeps))
 
-  line_len-blanks : 0 < length text → (next : ℕ) → length text ≤ next → next ≤ length text
+  pub line_len-blanks : 0 < length text → (next : ℕ) → length text ≤ next → next ≤ length text
       → BlanksBetween text limit next → IsLineLen next
   line_len-blanks some next from to blanks =
       line_len-all some (trimmed-le text limit (λ k le lt. blanks k le (omega (arith, lt, from))))
@@ -112,80 +107,3 @@ module _ (cut : CutTest) (before_others : CutsBeforeOthers cut) (at_blanks : Cut
       subst (λ n. IsFirstLine cut limit a text n limit) (sym len)
       (first_line-broken cut before_others limit a text printable room m is inside
       (λ k le. none k (omega arith) (omega (arith, le, is))) other)
-
-  -- blanks stand at the width
-  line_len-forward : (next : ℕ) → limit < next → next < length text
-      → BlanksBetween text limit next → is_blank (get_or text next 0) ≡ false → IsLineLen next
-  line_len-forward zero past inside blanks other = absurd (omega (arith, past))
-  line_len-forward (suc m) past inside blanks other =
-      let front = take (suc m) text in
-      let place : m + 1 ≡ suc m = omega arith in
-      let seam : is_cut (get_or text m 0) (get_or text (m + 1) 0) ≡ true =
-      ap (λ n. is_cut (get_or text m 0) (get_or text n 0)) place
-      ∙ ap (λ b. b && not (is_blank (get_or text (suc m) 0)))
-      (blanks m (omega (arith, past)) (omega arith)) ∙ ap not other in
-      let taken = length-take (suc m) text in
-      let keeps =
-      trimmed-le front limit (λ k le lt.
-      ap is_blank (get_or-take (suc m) text k 0 (omega (arith, taken, lt)))
-      ∙ blanks k le (omega (arith, taken, lt))) in
-      let back = drop (suc m) text in
-      let len = length-drop (suc m) text in
-      first_line-cut cut before_others limit a text printable room m 0 (omega (arith, inside))
-      (at_blanks (get_or (a ∷ text) m 0) (get_or text m 0) (get_or text (m + 1) 0) seam) keeps
-      (omega (arith, past)) (omega (arith, room))
-      (omega (arith, len, inside)) (λ k lt. absurd (omega (arith, lt)))
-      (ap is_blank (get_or-drop (suc m) text 0 0 ∙ ap (λ n. get_or text n 0) (add-zero (suc m)))
-      ∙ other)
-
-  -- a blank stands at the width, and blanks alone up to the next line
-  pub line_len-past_blanks : (next : ℕ) → limit < length text → get_or text limit 0 ≡ 32
-      → limit ≤ next → next ≤ length text → BlanksBetween text limit next
-      → (next < length text → get_or text next 0 ≢ 32) → IsLineLen next
-  line_len-past_blanks next inside blank from to blanks stops =
-      elim (cases_lt next (length text)) [
-        | inr past ↦ line_len-blanks (omega (arith, inside)) next past to blanks
-        | inl less ↦
-            line_len-forward next (after less) less blanks
-            (ne_eqb (get_or text next 0) 32 (stops less))
-      ]
-    where
-      after : next < length text → limit < next
-      after less = elim (cases_lt limit next) [
-        | inl past ↦ past
-        | inr same ↦
-            let e : limit ≡ next = omega (arith, from, same) in
-            absurd (stops less (ap (λ n. get_or text n 0) (sym e) ∙ blank))
-      ]
-
--- ---- the cuts of a printable text
-
-pub printable_cut-others : (hyphens : Bool) → CutsBeforeOthers (printable_cut hyphens)
-printable_cut-others hyphens a b c is = by (cases_eq c 32)
-  where
-    none : (d : ℕ) → d ≡ 32 → printable_cut hyphens a b d ≡ false
-    none d e =
-        let seam : is_cut b 32 ≡ false = and_right (is_blank b) false refl in
-        let front = hyphens && (b == 45) && is_ascii_alphanumeric a in
-        let point : (front && is_ascii_alphanumeric 32) ≡ false = and_right front false refl in
-        ap (printable_cut hyphens a b) e
-        ∙ ap (λ t. t || (front && is_ascii_alphanumeric 32)) seam ∙ point
-
-    by : (c ≡ 32) ⊎ (c ≡ 32 → ⊥) → is_blank c ≡ false
-    by (inr other) = ne_eqb c 32 other
-    by (inl blank) = absurd (false≢true (sym (none c blank) ∙ is))
-
-pub printable_cut-blanks : (hyphens : Bool) → CutsAtBlanks (printable_cut hyphens)
-printable_cut-blanks hyphens a b c is = or_left (is_cut b c) _ is
-
--- at one place more there is no cut
-pub NoCut-more : (cut : CutTest) (limit a : ℕ) (text : List ℕ) (n : ℕ)
-    → NoCutBetween cut a text n limit → cut_at cut a text (n - 1) ≡ false
-    → NoCutBetween cut a text (n - 1) limit
-NoCut-more cut limit a text n none here k from to =
-    elim (cases_lt k n) [
-      | inl below ↦
-          let place : n - 1 ≡ k = omega (arith, from, below) in
-          ap (cut_at cut a text) (sym place) ∙ here
-      | inr above ↦ none k above to
-    ]

@@ -1,28 +1,19 @@
 -- Lemmas on printable texts: each byte is a visible character of one column.
-use Rattle.std.proofs.Common.{inl, inr, ◌≡◌, ℕ, zero, suc, ◌+◌, ◌-◌, ◌<◌, ◌≤◌, true, false, eqb}
-use Rattle.std.proofs.Common.{List, [], ◌∷◌, ◌++◌, All, length, map, take, drop, get_or, refl, sym}
-use Rattle.std.proofs.Common.{ap, ◌∙◌, arith}
-use Rattle.std.specs.Prelude.{chars, IsUtf8}
-use Rattle.std.specs.Str.{IsAscii}
-use Rattle.std.specs.List.{list_all}
-use Rattle.std.proofs.lemmas.Bool.{ne_eqb, cases_lt, false≢true}
-use Rattle.std.proofs.lemmas.Bool.Decides.{nat_tests}
-use Rattle.std.proofs.lemmas.List.{get_or_past}
-use Rattle.std.proofs.lemmas.List.Elements.{All-nil, All-cons, All-head, All-tail, All-take}
-use Rattle.std.proofs.lemmas.List.Elements.{All-drop, All-weaker}
+use Rattle.textwrap_base.proofs.Common.{inl, inr, ◌≡◌, ℕ, ◌+◌, ◌-◌, ◌<◌, ◌≤◌, true, false, eqb}
+use Rattle.textwrap_base.proofs.Common.{List, [], ◌∷◌, ◌++◌, All, length, map, get_or, refl, sym}
+use Rattle.textwrap_base.proofs.Common.{ap, ◌∙◌, arith, IsUtf8, IsAscii, list_all, ne_eqb, cases_lt}
+use Rattle.textwrap_base.proofs.Common.{false≢true, nat_tests, get_or_past, All-nil, All-cons}
+use Rattle.textwrap_base.proofs.Common.{All-head, All-tail, All-weaker, IsUtf8-from_ascii}
+use Rattle.textwrap_base.proofs.Common.{chars-IsAscii}
+use Rattle.textwrap_words.proofs.Common.{is_blank, trimmed_len, final_blanks, TextUnit, Visible}
+use Rattle.textwrap_words.proofs.Common.{columns, units, units_past, unit_at, taken_at, text_width}
+use Rattle.textwrap_words.proofs.Common.{is_printable}
+use Rattle.textwrap_lines.proofs.Common.{IsPrintableByte, IsPrintable}
+use Rattle.std.specs.Prelude.{chars}
 use Rattle.std.proofs.lemmas.List.Sums.{list_all-from_AllPass}
-use Rattle.std.proofs.lemmas.Str.{IsUtf8-from_ascii, chars-IsAscii}
-use Rattle.textwrap_words.specs.Blanks.{is_blank, trimmed_len, final_blanks}
-use Rattle.textwrap_words.specs.Breaking.{units_text, broken_units, broken_texts}
-use Rattle.textwrap_words.specs.Units.{TextUnit, Visible, columns, units, units_past, unit_at}
-use Rattle.textwrap_words.specs.Units.{taken_at, text_width, is_printable}
 use Rattle.textwrap_words.proofs.Units.Widths.{printable-columns, text_width-plain}
-use Rattle.textwrap_base.proofs.ListLemmas.{flat, all-left, all-right}
+use Rattle.textwrap_base.proofs.Lists.Parts.{flat, all-left, all-right}
 use Rattle.textwrap_words.proofs.Word.Texts.{final_blanks-more, trimmed-other}
-use Rattle.textwrap_words.proofs.Word.Breaking.{taken_units, left_units, parts_after-is}
-use Rattle.textwrap_words.proofs.Word.Breaking.{is_due-first, due-false, due-true}
-use Rattle.textwrap_words.proofs.Word.BrokenPieces.{units_text-chars}
-use Rattle.textwrap_lines.specs.Printable.{IsPrintableByte, IsPrintable}
 
 pub printable-ascii : (text : List ℕ) → IsPrintable text → IsAscii text
 printable-ascii text printable i =
@@ -50,7 +41,7 @@ passes-printable text printable =
 pub printable-width : (text : List ℕ) → IsPrintable text → text_width text ≡ length text
 printable-width text printable = text_width-plain text (passes-printable text printable)
 
-columns-printable : (c : ℕ) → IsPrintableByte c → columns c ≡ 1
+pub columns-printable : (c : ℕ) → IsPrintableByte c → columns c ≡ 1
 columns-printable c printable = printable-columns c (printable-byte c printable)
 
 units-printable : (cs : List ℕ) → IsPrintable cs → units cs ≡ map Visible cs
@@ -64,87 +55,12 @@ units-printable (c ∷ cs) printable =
     ∙ ap (λ n. Visible c ∷ units_past n cs) taken
     ∙ ap (λ us. Visible c ∷ us) (units-printable cs (All-tail IsPrintableByte c cs printable))
 
-abbrev units_of : List ℕ → List TextUnit
+abbrev pub units_of : List ℕ → List TextUnit
 units_of text = units (chars text)
 
-units_of-printable : (text : List ℕ) → IsPrintable text → units_of text ≡ map Visible text
+pub units_of-printable : (text : List ℕ) → IsPrintable text → units_of text ≡ map Visible text
 units_of-printable text printable = ap units (chars-IsAscii text (printable-ascii text printable))
     ∙ units-printable text printable
-
--- ---- breaking
-
--- a part with some columns takes bytes up to the limit
-left-printable : (limit width : ℕ) (cs : List ℕ) → IsPrintable cs → 0 < width
-    → (room : ℕ) → width + room ≡ limit
-    → left_units limit width (map Visible cs) ≡ map Visible (drop room cs)
-left-printable limit width [] printable some zero is = refl
-left-printable limit width [] printable some (suc room) is = refl
-left-printable limit width (c ∷ cs) printable some zero is =
-    let one = columns-printable c (All-head IsPrintableByte c cs printable) in
-    rw (due-true limit width c some (omega (arith, one, is))) refl
-left-printable limit width (c ∷ cs) printable some (suc room) is =
-    let one = columns-printable c (All-head IsPrintableByte c cs printable) in
-    let next : width + columns c ≡ suc width = omega (arith, one) in
-    let rest =
-    left-printable limit (suc width) cs (All-tail IsPrintableByte c cs printable) (omega arith) room
-    (omega (arith, is)) in
-    rw (due-false limit width c (λ _. omega (arith, one, is)))
-    (ap (λ n. left_units limit n (map Visible cs)) next ∙ rest)
-
-taken-printable : (limit width : ℕ) (cs : List ℕ) → IsPrintable cs → 0 < width
-    → (room : ℕ) → width + room ≡ limit
-    → taken_units limit width (map Visible cs) ≡ map Visible (take room cs)
-taken-printable limit width [] printable some zero is = refl
-taken-printable limit width [] printable some (suc room) is = refl
-taken-printable limit width (c ∷ cs) printable some zero is =
-    let one = columns-printable c (All-head IsPrintableByte c cs printable) in
-    rw (due-true limit width c some (omega (arith, one, is))) refl
-taken-printable limit width (c ∷ cs) printable some (suc room) is =
-    let one = columns-printable c (All-head IsPrintableByte c cs printable) in
-    let next : width + columns c ≡ suc width = omega (arith, one) in
-    let rest =
-    taken-printable limit (suc width) cs (All-tail IsPrintableByte c cs printable)
-    (omega arith) room
-    (omega (arith, is)) in
-    rw (due-false limit width c (λ _. omega (arith, one, is)))
-    (ap (λ us. Visible c ∷ us) (ap (λ n. taken_units limit n (map Visible cs)) next ∙ rest))
-
-units_text-printable : (text : List ℕ) → IsPrintable text → units_text (map Visible text) ≡ text
-units_text-printable text printable = ap units_text (sym (units_of-printable text printable))
-    ∙ units_text-chars text (printable-utf8 text printable)
-
--- a text is broken after as many bytes as the limit has columns
-pub broken_texts-printable : (limit : ℕ) (text : List ℕ) → IsPrintable text → 0 < limit
-    → 0 < length text
-    → broken_texts limit text ≡ take limit text ∷ broken_texts limit (drop limit text)
-broken_texts-printable limit [] printable room some = absurd (omega arith)
-broken_texts-printable zero (c ∷ cs) printable room some = absurd (omega arith)
-broken_texts-printable (suc n) (c ∷ cs) printable room some =
-    let limit = suc n in
-    let text = c ∷ cs in
-    let one = columns-printable c (All-head IsPrintableByte c cs printable) in
-    let first : 0 + columns c ≡ 1 = omega (arith, one) in
-    let rest = All-tail IsPrintableByte c cs printable in
-    let front = All-take IsPrintableByte limit text printable in
-    let taken : taken_units limit 0 (map Visible text) ≡ map Visible (take limit text) =
-    rw (is_due-first limit (Visible c))
-    (ap (λ us. Visible c ∷ us) (ap (λ k. taken_units limit k (map Visible cs)) first
-    ∙ taken-printable limit 1 cs rest (omega arith) n (omega arith))) in
-    let left : left_units limit 0 (map Visible text) ≡ map Visible (drop limit text) =
-    rw (is_due-first limit (Visible c))
-    (ap (λ k. left_units limit k (map Visible cs)) first
-    ∙ left-printable limit 1 cs rest (omega arith) n (omega arith)) in
-    let parts : broken_units limit (map Visible text)
-    ≡ map Visible (take limit text) ∷ broken_units limit (map Visible (drop limit text)) =
-    parts_after-is limit 0 (map Visible text)
-    ∙ ap (λ us. us ∷ broken_units limit (left_units limit 0 (map Visible text))) taken
-    ∙ ap (λ us. map Visible (take limit text) ∷ broken_units limit us) left in
-    ap (λ us. map units_text (broken_units limit us)) (units_of-printable text printable)
-    ∙ ap (map units_text) parts
-    ∙ ap (λ t. t ∷ map units_text (broken_units limit (map Visible (drop limit text))))
-    (units_text-printable (take limit text) front)
-    ∙ ap (λ us. take limit text ∷ map units_text (broken_units limit us))
-    (sym (units_of-printable (drop limit text) (All-drop IsPrintableByte limit text printable)))
 
 -- ---- the parts of a printable text
 

@@ -1,34 +1,31 @@
 -- The lines of least cost of pieces, found from where they stand.
-use Rattle.std.proofs.Common.{◌≡◌, ℕ, ◌<◌, List, [], ◌∷◌, All, length, map, sym, ap, ◌∙◌}
-use Rattle.std.proofs.Common.{subst, arith, Bool}
-use Rattle.std.specs.Str.{IsUtf8}
-use Rattle.std.proofs.lemmas.Str.{IsCharBoundary-start}
-use Rattle.textwrap_base.specs.Cost.{PricedSizes, priced_at}
+use Rattle.textwrap_base.proofs.Common.{◌≡◌, ℕ, ◌<◌, List, [], ◌∷◌, All, length, map, sym, ap, ◌∙◌}
+use Rattle.textwrap_base.proofs.Common.{subst, arith, Bool, IsUtf8, IsCharBoundary-start}
+use Rattle.textwrap_base.proofs.Common.{PricedSizes, priced_at, SuitQueue, FollowStarts, IsByTable}
+use Rattle.textwrap_base.proofs.Common.{fragment_costs, fragments_table}
+use Rattle.textwrap_words.proofs.Common.{WordText, sizes_of, tiled, Splitter}
+use Rattle.textwrap_lines.proofs.Common.{Settings, line_from, parts_from, pieces_of, widths_of}
+use Rattle.textwrap_lines.proofs.Common.{first_width, later_width, HaveTexts, span_lines}
+use Rattle.textwrap_lines.proofs.Common.{span_priced, spans_from}
 use Rattle.textwrap_base.specs.OptimalFit.{IsByOptimalFit}
-use Rattle.textwrap_base.specs.Queue.{SuitQueue}
-use Rattle.textwrap_base.specs.Table.{FollowStarts, IsByTable, fragment_costs, fragments_table}
-use Rattle.textwrap_words.specs.Words.{WordText, sizes_of, tiled}
 use Rattle.textwrap_base.specs.declared.penalties.Penalties.{Penalties}
 use Rattle.textwrap_base.proofs.Cost.Chosen.{by_table-chosen}
 use Rattle.textwrap_base.proofs.Cost.Lines.{division_joined, joined_division}
 use Rattle.textwrap_base.proofs.Cost.Map.{fragments_table-map}
-use Rattle.textwrap_base.proofs.ListLemmas.{flat}
+use Rattle.textwrap_base.proofs.Lists.Parts.{flat}
 use Rattle.textwrap_words.proofs.Word.Bounds.{IsBounded-measured}
-use Rattle.textwrap_words.proofs.Word.Texts.{HasNoPenalty, IsMeasured}
+use Rattle.textwrap_words.proofs.Word.Measured.{HasNoPenalty, IsMeasured}
 use Rattle.textwrap_lines.specs.Cheapest.{SuitSearch}
-use Rattle.textwrap_lines.specs.Options.{Settings}
-use Rattle.textwrap_lines.specs.Paragraph.{line_from, parts_from, pieces_of, widths_of}
-use Rattle.textwrap_lines.specs.Paragraph.{first_width, later_width}
-use Rattle.textwrap_lines.specs.Spans.{AreSpans, HaveTexts, span_lines, span_priced, spans_from}
-use Rattle.textwrap_words.specs.WordSplitters.{Splitter}
+use Rattle.textwrap_lines.specs.Spans.{AreSpans}
 use Rattle.textwrap_lines.specs.declared.spans.Span.{Span}
 use Rattle.textwrap_lines.proofs.Paragraph.Pieces.{pieces_of-measured, pieces_of-no_penalty}
 use Rattle.textwrap_lines.proofs.Paragraph.Pieces.{pieces_of-tile}
 use Rattle.textwrap_lines.proofs.Standing.Costs.{AreSpans-from, priced-spans, suits-spans}
-use Rattle.textwrap_lines.proofs.Standing.Lines.{Stand, Stand-follow, Stand-some, lines-found, stand}
+use Rattle.textwrap_lines.proofs.Standing.Stand.{Stand, Stand-follow, Stand-some, stand}
+use Rattle.textwrap_lines.proofs.Standing.Lines.{lines-found}
 use Rattle.textwrap_lines.proofs.Standing.Lists.{length-spans}
 
-abbrev word_priced : Penalties → WordText → PricedSizes
+abbrev pub word_priced : Penalties → WordText → PricedSizes
 word_priced penalties w = priced_at penalties (sizes_of w)
 
 -- ---- the division of the pieces
@@ -93,7 +90,7 @@ tiled-some (w ∷ ws) text tile some = omega arith
 
 module _ (settings : Settings) (splitter : Splitter) (is_later : Bool) (text : List ℕ)
     (penalties : Penalties) (utf8 : IsUtf8 text) (some : 0 < length text) where
-  abbrev pieces : List WordText
+  abbrev pub pieces : List WordText
   pieces = pieces_of settings splitter text
 
   tile : tiled pieces ≡ text

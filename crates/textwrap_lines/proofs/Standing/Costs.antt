@@ -1,24 +1,23 @@
 -- What lines of pieces cost that are known by where they stand.
-use Rattle.std.proofs.Common.{◌≡◌, ℕ, zero, suc, ◌+◌, ◌-◌, ◌<◌, ◌≤◌, eqb, List, [], ◌∷◌, All, max}
-use Rattle.std.proofs.Common.{length, map, take, get_or, slice_range, refl, sym, ap, ◌∙◌, arith}
-use Rattle.std.proofs.lemmas.List.{take-take}
-use Rattle.std.proofs.lemmas.List.Elements.{All-head, All-tail}
-use Rattle.textwrap_base.specs.Cost.{PricedSizes, fit_cost, line_cost, priced_at, total_width}
-use Rattle.textwrap_base.specs.Cost.{usual_break_penalty, AreEqualFromSecond}
-use Rattle.textwrap_base.specs.Division.{closed_width, open_width}
-use Rattle.textwrap_base.specs.Queue.{SuitQueue, NeverFalls}
-use Rattle.textwrap_base.specs.Table.{fragment_costs}
-use Rattle.textwrap_words.specs.Words.{WordText, sizes_of, tiled}
+use Rattle.textwrap_base.proofs.Common.{◌≡◌, ℕ, zero, suc, ◌+◌, ◌-◌, ◌<◌, ◌≤◌, eqb, List, [], ◌∷◌}
+use Rattle.textwrap_base.proofs.Common.{All, max, length, map, take, get_or, slice_range, refl, sym}
+use Rattle.textwrap_base.proofs.Common.{ap, ◌∙◌, arith, take-take, All-head, All-tail, PricedSizes}
+use Rattle.textwrap_base.proofs.Common.{fit_cost, line_cost, priced_at, total_width}
+use Rattle.textwrap_base.proofs.Common.{AreEqualFromSecond, closed_width, open_width, SuitQueue}
+use Rattle.textwrap_base.proofs.Common.{NeverFalls, fragment_costs}
+use Rattle.textwrap_words.proofs.Common.{WordText, sizes_of, tiled}
+use Rattle.textwrap_lines.proofs.Common.{span_of, span_priced, spans_from}
+use Rattle.textwrap_base.specs.Cost.{usual_break_penalty}
 use Rattle.textwrap_base.specs.declared.penalties.Penalties.{Penalties}
-use Rattle.textwrap_base.proofs.Cost.Measures.{open_width-slice, closed_width-slice}
-use Rattle.textwrap_base.proofs.Cost.Measures.{line_cost-slice, total_width-cons}
+use Rattle.textwrap_base.proofs.Cost.Slices.{open_width-slice, closed_width-slice, line_cost-slice}
+use Rattle.textwrap_base.proofs.Cost.SizesAlone.{total_width-cons}
 use Rattle.textwrap_base.proofs.Cost.QueueCase.{SuitQueue-queue_case}
-use Rattle.textwrap_base.proofs.Division.Greedy.{open_width-cons}
+use Rattle.textwrap_base.proofs.Division.Widths.{open_width-cons}
 use Rattle.textwrap_base.proofs.Division.OneLine.{closed-take}
 use Rattle.textwrap_words.proofs.Word.Bounds.{IsBounded, total_width-bounded}
-use Rattle.textwrap_words.proofs.Word.Texts.{HasNoPenalty}
+use Rattle.textwrap_words.proofs.Word.Measured.{HasNoPenalty}
 use Rattle.textwrap_lines.specs.Cheapest.{SuitSearch}
-use Rattle.textwrap_lines.specs.Spans.{AreSpans, span_of, span_priced, span_sizes, spans_from}
+use Rattle.textwrap_lines.specs.Spans.{AreSpans, span_sizes}
 use Rattle.textwrap_lines.specs.declared.spans.Span.{Span}
 
 -- ---- the cost of a line

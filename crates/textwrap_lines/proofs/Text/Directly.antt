@@ -1,20 +1,19 @@
 -- Lemmas on paragraphs that are divided without a list of words.
-use Rattle.std.proofs.Common.{◌≡◌, ℕ, Bool, true, false, List, All, map, refl, sym, ap, ◌∙◌, subst}
-use Rattle.std.specs.Str.{IsUtf8}
-use Rattle.std.specs.Prelude.{Some, Result, Ok, Err, IfErr, IsErrAnd, alloc_error}
-use Rattle.textwrap_words.specs.Breaking.{broken_words}
-use Rattle.textwrap_words.specs.Words.{WordText, sizes_of, words_of}
-use Rattle.textwrap_words.specs.WrapAlgorithms.{Algorithm, IsDividedBy, algorithm_view}
+use Rattle.textwrap_base.proofs.Common.{◌≡◌, ℕ, Bool, true, false, List, All, map, refl, sym, ap}
+use Rattle.textwrap_base.proofs.Common.{◌∙◌, subst, IsUtf8, Some, Result, Ok, Err, IsErrAnd}
+use Rattle.textwrap_words.proofs.Common.{broken_words, WordText, sizes_of, words_of, Algorithm}
+use Rattle.textwrap_words.proofs.Common.{IsDividedBy, algorithm_view, Splitter, Whole, AtHyphens}
+use Rattle.textwrap_words.proofs.Common.{split_words, splitter_of}
+use Rattle.textwrap_lines.proofs.Common.{Settings, settings_view, Slice, line_from, covered}
+use Rattle.textwrap_lines.proofs.Common.{parts_from, pieces_of, widths_of, DividesBy, IsPrintable}
+use Rattle.textwrap_lines.proofs.Common.{pieces_after, printable_cut}
+use Rattle.std.specs.Prelude.{IfErr, alloc_error}
 use Rattle.textwrap_base.specs.declared.errors.WrapError.{WrapError}
 use Rattle.textwrap_base.specs.declared.errors.WrapError.TheVariants.{Memory}
 use Rattle.textwrap_base.proofs.Division.Map.{IsDividedBy-whole}
-use Rattle.textwrap_words.proofs.Word.Texts.{HasNoPenalty}
+use Rattle.textwrap_words.proofs.Word.Measured.{HasNoPenalty}
 use Rattle.textwrap_lines.specs.Direct.{IsDirect, HasBareLines, hyphens_of}
-use Rattle.textwrap_lines.specs.Options.{Settings, settings_view, HasParts}
-use Rattle.textwrap_lines.specs.Paragraph.{Slice, line_from, covered, parts_from, pieces_of}
-use Rattle.textwrap_lines.specs.Paragraph.{widths_of, DividesBy}
-use Rattle.textwrap_lines.specs.Printable.{IsPrintable, pieces_after, printable_cut}
-use Rattle.textwrap_words.specs.WordSplitters.{Splitter, Whole, AtHyphens, split_words, splitter_of}
+use Rattle.textwrap_lines.specs.Options.{HasParts}
 use Rattle.textwrap_lines.specs.declared.options.Options.{Options}
 use Rattle.textwrap_lines.proofs.Paragraph.BuiltIn.{divides}
 use Rattle.textwrap_lines.proofs.Paragraph.Pieces.{pieces_of-no_penalty, ArePieces-computed}

@@ -1,28 +1,18 @@
 -- Lemmas on the lines of a text.
-use Rattle.std.proofs.Common.{◌≡◌, ℕ, zero, suc, ◌+◌, ◌<◌, ◌||◌, nat_lt, Option, None, Some}
-use Rattle.std.proofs.Common.{MatchOption, cond, Bool, true, false, List, [], ◌∷◌, ◌++◌, length}
-use Rattle.std.proofs.Common.{get_or}
-use Rattle.std.proofs.Common.{take, map, refl, sym, ap, ◌∙◌, subst, arith, append_assoc, append-nil}
-use Rattle.std.proofs.Common.{length-append}
-use Rattle.std.specs.Borrow.{Bor}
+use Rattle.textwrap_base.proofs.Common.{◌≡◌, ℕ, zero, suc, ◌+◌, ◌<◌, ◌||◌, nat_lt, Option, None}
+use Rattle.textwrap_base.proofs.Common.{Some, Bool, false, List, [], ◌∷◌, ◌++◌, length, get_or}
+use Rattle.textwrap_base.proofs.Common.{take, map, refl, sym, ap, ◌∙◌, subst, arith, append_assoc}
+use Rattle.textwrap_base.proofs.Common.{append-nil, length-append, Bor, flat_map, CowStr, take_more}
+use Rattle.textwrap_base.proofs.Common.{map-append, length-map, flat_map-append}
+use Rattle.textwrap_words.proofs.Common.{WordText}
+use Rattle.textwrap_lines.proofs.Common.{Settings, paragraphs_of, join_with, Line, LineParts}
+use Rattle.textwrap_lines.proofs.Common.{line_view, line_from, line_bytes, AreParagraphParts}
+use Rattle.textwrap_lines.proofs.Common.{AreGroups, AreTextLines}
+use Rattle.std.proofs.Common.{MatchOption}
 use Rattle.std.specs.Cow.{cow_str_bytes}
-use Rattle.std.specs.List.{flat_map}
-use Rattle.std.specs.Option.{is_some}
-use Rattle.std.specs.declared.borrow.CowStr.{CowStr}
 use Rattle.std.specs.declared.borrow.CowStr.TheVariants.{Borrowed, Owned}
-use Rattle.std.proofs.lemmas.Bool.Decides.{nat_tests}
-use Rattle.std.proofs.lemmas.List.{take_more, map-append, length-map}
-use Rattle.std.proofs.lemmas.List.Concat.{flat_map-append}
 use Rattle.textwrap_lines.specs.declared.line_ending.LineEnding.{LineEnding}
-use Rattle.textwrap_lines.specs.Options.{Settings}
-use Rattle.textwrap_lines.specs.LineEnding.{paragraphs_of, join_with}
-use Rattle.textwrap_words.specs.Blanks.{without_final_blanks}
-use Rattle.textwrap_words.specs.Words.{WordText, word_of}
-use Rattle.textwrap_lines.specs.Paragraph.{Line, LineParts, line_view, line_from, line_bytes}
-use Rattle.textwrap_lines.specs.Paragraph.{parts_of, is_whole, AreParagraphParts}
-use Rattle.textwrap_lines.specs.Text.{AreGroups, AreTextLines}
-use Rattle.textwrap_lines.specs.Filling.{IsFilled}
-use Rattle.textwrap_lines.proofs.Paragraph.Lines.{line_from-whole, AreParagraphParts-whole}
+use Rattle.textwrap_base.proofs.Numbers.{is_later-or}
 
 -- ---- joined lines
 
@@ -81,11 +71,6 @@ paragraphs_left ending (Some rest) = paragraphs_of ending rest.now
 abbrev pub bytes_left : Option (Bor (List ℕ)) → ℕ
 bytes_left None = 0
 bytes_left (Some rest) = length rest.now + 1
-
--- a line is out where one was out, or one was added
-pub is_later-or : (now before added : ℕ) → now ≡ before + added
-    → nat_lt 0 now ≡ nat_lt 0 before || nat_lt 0 added
-is_later-or now before added is = grind (arith, nat_tests)
 
 module _ (settings : Settings) (Divides : Bool → List ℕ → List (List WordText) → Type 0) where
   -- the lines are those of the paragraphs so far: with right lines of the paragraphs left they are

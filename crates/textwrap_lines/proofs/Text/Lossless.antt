@@ -1,147 +1,20 @@
 -- Lemmas on what is left off the lines of a text: only blanks, and with them the slices tile the
 -- text.
-use Rattle.std.proofs.Common.{◌≡◌, ℕ, Bool, true, false, cond, ◌==◌, ◌&&◌, ◌||◌, nat_lt, MatchBool}
-use Rattle.std.proofs.Common.{List, [], ◌∷◌, ◌++◌, All, length, map, refl, sym, ap, ◌∙◌, subst}
-use Rattle.std.proofs.Common.{append_assoc, append-nil, take-append-drop}
-use Rattle.std.specs.List.{flat_map}
-use Rattle.std.specs.Io.{StartsWith}
-use Rattle.std.specs.Str.{IsUtf8}
-use Rattle.std.proofs.Transfers.{starts_with_of_eq}
-use Rattle.std.proofs.lemmas.Bool.{true≢false}
-use Rattle.std.proofs.lemmas.List.Elements.{All-nil, All-cons, All-head, All-tail, All-append}
-use Rattle.std.proofs.lemmas.List.Elements.{All-weaker}
-use Rattle.textwrap_words.specs.Words.{WordText, tile_of, tiled, word_of}
-use Rattle.textwrap_words.specs.Blanks.{trimmed_len}
-use Rattle.textwrap_words.proofs.Word.Texts.{AreBlanks, EndsInBlanks, final_blanks-blank, no_blanks}
-use Rattle.textwrap_base.proofs.ListLemmas.{all-left, all-right}
-use Rattle.textwrap_words.proofs.Word.Tiling.{tiled-append}
-use Rattle.textwrap_lines.specs.Options.{Settings}
-use Rattle.textwrap_lines.specs.LineEnding.{paragraphs_of}
-use Rattle.textwrap_lines.specs.Paragraph.{LineParts, covered, indent_of, keeps_whitespace}
-use Rattle.textwrap_lines.specs.Paragraph.{last_piece, parts_of, parts_from, is_whole}
-use Rattle.textwrap_lines.specs.Paragraph.{AreParagraphParts}
-use Rattle.textwrap_lines.specs.Text.{AreGroups, covered_by, LosesOnlyBlanks}
-use Rattle.textwrap_lines.proofs.Text.Endings.{paragraphs_of-utf8}
-
--- only blanks are left off, and nothing where blanks are preserved
-record LeavesBlanks (settings : Settings) (p : LineParts) : Type 0 where
-  blanks : AreBlanks p.left_off
-  kept : settings.preserve_trailing_space ≡ true → p.left_off ≡ []
-
--- ---- a line of a division
-
--- the parts of a line, by whether its last whitespace is kept
-abbrev parts_keeping : Settings → Bool → List WordText → WordText → Bool → LineParts
-parts_keeping settings is_later line last keeps = record {
-  pieces = line;
-  indent = indent_of settings is_later;
-  slice = cond keeps (tiled line) (covered line);
-  penalty = last.penalty;
-  left_off = cond keeps [] last.whitespace;
-}
-
-pub covered-last : (w : WordText) (ws : List WordText)
-    → covered (w ∷ ws) ++ (last_piece w ws).whitespace ≡ tiled (w ∷ ws)
-covered-last w [] = sym (append-nil (tile_of w))
-covered-last w (v ∷ ws) = append_assoc (tile_of w) (covered (v ∷ ws)) (last_piece v ws).whitespace
-    ∙ ap (λ l. tile_of w ++ l) (covered-last v ws)
-
-tile-keeping : (settings : Settings) (is_later : Bool) (w : WordText) (ws : List WordText)
-    (keeps : Bool)
-    → (parts_keeping settings is_later (w ∷ ws) (last_piece w ws) keeps).slice ++
-    (parts_keeping settings is_later (w ∷ ws) (last_piece w ws) keeps).left_off ≡ tiled (w ∷ ws)
-tile-keeping settings is_later w ws true = append-nil (tiled (w ∷ ws))
-tile-keeping settings is_later w ws false = covered-last w ws
-
-parts_of-tile : (settings : Settings) (is_later : Bool) (line : List WordText)
-    → (parts_of settings is_later line).slice ++ (parts_of settings is_later line).left_off
-    ≡ tiled line
-parts_of-tile settings is_later [] = refl
-parts_of-tile settings is_later (w ∷ ws) =
-    tile-keeping settings is_later w ws (keeps_whitespace settings (last_piece w ws))
-
-last_piece-blanks : (w : WordText) (ws : List WordText) → All EndsInBlanks (w ∷ ws)
-    → EndsInBlanks (last_piece w ws)
-last_piece-blanks w [] all = All-head EndsInBlanks w [] all
-last_piece-blanks w (v ∷ ws) all = last_piece-blanks v ws (All-tail EndsInBlanks w (v ∷ ws) all)
-
-keeping-blanks : (settings : Settings) (is_later : Bool) (line : List WordText) (last : WordText)
-    → EndsInBlanks last → (keeps : Bool) → keeps_whitespace settings last ≡ keeps
-    → LeavesBlanks settings (parts_keeping settings is_later line last keeps)
-keeping-blanks settings is_later line last ending true is =
-    record { blanks = no_blanks; kept = λ _. refl }
-keeping-blanks settings is_later line last ending false is =
-    record {
-      blanks = ending.blanks;
-      kept = λ preserved. ending.none
-          (ap (λ b. b && (length last.penalty == 0)) (sym preserved) ∙ is);
-    }
-
-parts_of-blanks : (settings : Settings) (is_later : Bool) (line : List WordText)
-    → All EndsInBlanks line → LeavesBlanks settings (parts_of settings is_later line)
-parts_of-blanks settings is_later [] all = record { blanks = no_blanks; kept = λ _. refl }
-parts_of-blanks settings is_later (w ∷ ws) all = keeping-blanks settings is_later (w ∷ ws)
-    (last_piece w ws) (last_piece-blanks w ws all) (keeps_whitespace settings (last_piece w ws))
-    refl
-
--- ---- the lines of a division
-
-covered_by-parts_from : (settings : Settings) (is_later : Bool) (division : List (List WordText))
-    → covered_by (parts_from settings is_later division) ≡ tiled (flat_map (λ line. line) division)
-covered_by-parts_from settings is_later [] = refl
-covered_by-parts_from settings is_later (line ∷ lines) =
-    ap (λ l. l ++ covered_by (parts_from settings true lines))
-    (parts_of-tile settings is_later line)
-    ∙ ap (λ l. tiled line ++ l) (covered_by-parts_from settings true lines)
-    ∙ sym (tiled-append line (flat_map (λ l. l) lines))
-
-parts_from-blanks : (settings : Settings) (is_later : Bool) (division : List (List WordText))
-    → All EndsInBlanks (flat_map (λ line. line) division)
-    → All (LeavesBlanks settings) (parts_from settings is_later division)
-parts_from-blanks settings is_later [] all = All-nil (LeavesBlanks settings)
-parts_from-blanks settings is_later (line ∷ lines) all =
-    All-cons (LeavesBlanks settings) (parts_of settings is_later line)
-    (parts_from settings true lines)
-    (parts_of-blanks settings is_later line
-    (all-left EndsInBlanks line (flat_map (λ l. l) lines) all))
-    (parts_from-blanks settings true lines
-    (all-right EndsInBlanks line (flat_map (λ l. l) lines) all))
-
--- ---- the lines of a paragraph
-
-pub tiled-word_of : (text : List ℕ) → tiled (word_of text ∷ []) ≡ text
-tiled-word_of text = append-nil (tile_of (word_of text)) ∙ take-append-drop (trimmed_len text) text
-
-pub word_of-blanks : (text : List ℕ) → EndsInBlanks (word_of text)
-word_of-blanks text =
-    record { blanks = final_blanks-blank text; none = λ some. absurd (true≢false some) }
-
--- ---- what holds of each paragraph's lines holds of the text's
-
-pub groups-map : (IsPart : List ℕ → Type 0) (Are Keep : Bool → List ℕ → List LineParts → Type 0)
-    → ((is_later : Bool) (paragraph : List ℕ) (parts : List LineParts) → IsPart paragraph
-    → Are is_later paragraph parts → Keep is_later paragraph parts)
-    → (is_later : Bool) (paragraphs : List (List ℕ)) (groups : List (List LineParts))
-    → All IsPart paragraphs → AreGroups Are is_later paragraphs groups
-    → AreGroups Keep is_later paragraphs groups
-groups-map IsPart Are Keep each is_later [] groups all are = are
-groups-map IsPart Are Keep each is_later (paragraph ∷ paragraphs) [] all are = absurd are
-groups-map IsPart Are Keep each is_later (paragraph ∷ paragraphs) (parts ∷ groups) all are = (
-  each is_later paragraph parts (All-head IsPart paragraph paragraphs all) are.0,
-  groups-map IsPart Are Keep each (is_later || nat_lt 0 (length parts)) paragraphs groups
-      (All-tail IsPart paragraph paragraphs all) are.1,
-)
-
-pub groups-all : (Keeps : LineParts → Type 0) (is_later : Bool) (paragraphs : List (List ℕ))
-    (groups : List (List LineParts))
-    → AreGroups (λ is_later paragraph parts. All Keeps parts) is_later paragraphs groups
-    → All Keeps (flat_map (λ ps. ps) groups)
-groups-all Keeps is_later [] groups are =
-    subst (λ gs. All Keeps (flat_map (λ ps. ps) gs)) (sym are) (All-nil Keeps)
-groups-all Keeps is_later (paragraph ∷ paragraphs) [] are = absurd are
-groups-all Keeps is_later (paragraph ∷ paragraphs) (parts ∷ groups) are =
-    All-append Keeps parts (flat_map (λ ps. ps) groups) are.0
-    (groups-all Keeps (is_later || nat_lt 0 (length parts)) paragraphs groups are.1)
+use Rattle.textwrap_base.proofs.Common.{◌≡◌, ℕ, Bool, true, false, ◌||◌, nat_lt, MatchBool, List}
+use Rattle.textwrap_base.proofs.Common.{[], ◌∷◌, All, length, map, sym, ap, ◌∙◌, subst, flat_map}
+use Rattle.textwrap_base.proofs.Common.{StartsWith, IsUtf8, starts_with_of_eq, All-nil, All-cons}
+use Rattle.textwrap_base.proofs.Common.{All-head, All-tail, All-weaker}
+use Rattle.textwrap_words.proofs.Common.{WordText, tiled, word_of}
+use Rattle.textwrap_lines.proofs.Common.{Settings, paragraphs_of, LineParts, is_whole}
+use Rattle.textwrap_lines.proofs.Common.{AreParagraphParts, AreGroups}
+use Rattle.textwrap_words.proofs.Word.Texts.{AreBlanks}
+use Rattle.textwrap_words.proofs.Word.Measured.{EndsInBlanks}
+use Rattle.textwrap_lines.specs.Text.{covered_by, LosesOnlyBlanks}
+use Rattle.textwrap_lines.proofs.Text.EndingTexts.{paragraphs_of-utf8}
+use Rattle.textwrap_lines.proofs.Paragraph.LeftOff.{tiled-word_of, word_of-blanks}
+use Rattle.textwrap_lines.proofs.Paragraph.LeftOff.{covered_by-parts_from, LeavesBlanks}
+use Rattle.textwrap_lines.proofs.Paragraph.LeftOff.{parts_from-blanks}
+use Rattle.textwrap_lines.proofs.Text.Groups.{groups-all, groups-map}
 
 -- ---- the lines of a paragraph that is divided so
 

@@ -1,16 +1,15 @@
 -- Lemmas on texts in which no character takes more columns than bytes.
-use Rattle.std.proofs.Common.{ℕ, List, [], ◌∷◌, ◌++◌, All, length, subst, sym, ◌≤◌, append_assoc}
+use Rattle.textwrap_base.proofs.Common.{ℕ, List, [], ◌∷◌, ◌++◌, All, length, subst, sym, ◌≤◌}
+use Rattle.textwrap_base.proofs.Common.{append_assoc, IsUtf8, All-nil, All-cons, All-head, All-tail}
+use Rattle.textwrap_base.proofs.Common.{IsUtf8-from_ascii, chars-append}
+use Rattle.textwrap_words.proofs.Common.{columns, IsNarrow}
+use Rattle.textwrap_lines.proofs.Common.{ending_bytes, paragraphs_of, join_with}
 use Rattle.std.specs.Prelude.{chars, encode_utf8}
-use Rattle.std.specs.Str.{IsUtf8}
-use Rattle.std.proofs.lemmas.List.Elements.{All-nil, All-cons, All-head, All-tail}
-use Rattle.std.proofs.lemmas.Str.{IsUtf8-from_ascii, chars-append}
 use Rattle.std.proofs.lemmas.Str.Ascii.{IsAscii-from_all}
-use Rattle.textwrap_words.specs.Units.{columns, IsNarrow}
-use Rattle.textwrap_base.proofs.ListLemmas.{all-left, all-right}
-use Rattle.textwrap_lines.specs.LineEnding.{ending_bytes, paragraphs_of, join_with}
+use Rattle.textwrap_base.proofs.Lists.Parts.{all-left, all-right}
 use Rattle.textwrap_lines.specs.declared.line_ending.LineEnding.{LineEnding}
-use Rattle.textwrap_lines.proofs.Text.Endings.{ending_bytes-ascii, join-paragraphs_of}
-use Rattle.textwrap_lines.proofs.Text.Endings.{paragraphs_of-utf8}
+use Rattle.textwrap_lines.proofs.Text.EndingTexts.{ending_bytes-ascii, join-paragraphs_of}
+use Rattle.textwrap_lines.proofs.Text.EndingTexts.{paragraphs_of-utf8}
 
 -- the parts of a narrow text are narrow
 pub narrow_parts : (front rest : List ℕ) → IsUtf8 front → IsNarrow (front ++ rest)

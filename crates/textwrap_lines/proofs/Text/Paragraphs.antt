@@ -1,19 +1,19 @@
 -- A text has its paragraphs in exactly one way.
-use Rattle.std.proofs.Common.{◌≡◌, ◌≢◌, ◌↔◌, ℕ, zero, suc, ◌-◌, ◌<◌, Bool, true, false, cond}
-use Rattle.std.proofs.Common.{nat_eq, List, [], ◌∷◌, ◌++◌, length, take, drop, get_or, All, refl}
-use Rattle.std.proofs.Common.{sym, ap, ◌∙◌, subst, arith, append_assoc, append-nil}
-use Rattle.std.proofs.Common.{take-append-drop, length-append, length-drop}
-use Rattle.std.specs.List.{onto_first, starts_with}
-use Rattle.std.proofs.lemmas.Bool.{false≢true}
-use Rattle.std.proofs.lemmas.List.{take_at, drop_at, drop-append-le}
-use Rattle.std.proofs.lemmas.List.Elements.{All-nil, All-cons, All-head, All-tail}
+use Rattle.textwrap_base.proofs.Common.{◌≡◌, ◌≢◌, ◌↔◌, ℕ, zero, suc, ◌-◌, ◌<◌, Bool, true, false}
+use Rattle.textwrap_base.proofs.Common.{cond, nat_eq, List, [], ◌∷◌, ◌++◌, length, take, drop}
+use Rattle.textwrap_base.proofs.Common.{get_or, All, refl, sym, ap, ◌∙◌, subst, arith, append_assoc}
+use Rattle.textwrap_base.proofs.Common.{append-nil, take-append-drop, length-append, length-drop}
+use Rattle.textwrap_base.proofs.Common.{onto_first, starts_with, false≢true, take_at, drop_at}
+use Rattle.textwrap_base.proofs.Common.{All-nil, All-cons, All-head, All-tail}
+use Rattle.textwrap_lines.proofs.Common.{ending_bytes, paragraphs_of, parts_past, join_with}
+use Rattle.std.proofs.lemmas.List.{drop-append-le}
 use Rattle.textwrap_lines.specs.declared.line_ending.LineEnding.{LineEnding}
 use Rattle.textwrap_lines.specs.declared.line_ending.LineEnding.TheVariants.{CRLF, LF}
-use Rattle.textwrap_lines.specs.LineEnding.{ending_bytes, paragraphs_of, parts_past, join_with}
 use Rattle.textwrap_lines.specs.LineEnding.{Lacks, AreParagraphs}
-use Rattle.textwrap_lines.proofs.Text.Endings.{ending_bytes-some, starts_with-true}
-use Rattle.textwrap_lines.proofs.Text.Endings.{parts_past-first, parts_past-none, parts_past-some}
-use Rattle.textwrap_lines.proofs.Text.Endings.{join-parts_past, join-paragraphs_of}
+use Rattle.textwrap_lines.proofs.Text.Endings.{ending_bytes-some, parts_past-first, parts_past-none}
+use Rattle.textwrap_lines.proofs.Text.Endings.{parts_past-some, join-parts_past}
+use Rattle.textwrap_lines.proofs.Text.EndingTexts.{join-paragraphs_of}
+use Rattle.textwrap_base.proofs.Lists.Prefixes.{starts_with-true}
 
 -- ---- no part has an ending in it
 

@@ -1,24 +1,22 @@
 -- Lemmas on what takes lines, one after another.
-use Rattle.std.proofs.Common.{◌≡◌, ◌==◌, ◌+◌, ◌<◌, ℕ, Bool, true, cond, nat_lt, List, [], ◌∷◌, ◌++◌, length}
-use Rattle.std.proofs.Common.{take, get_or, map, refl, sym, ap, ◌∙◌, subst, append-nil, append_assoc, arith}
-use Rattle.std.specs.Prelude.{◌≢◌, Option, Some, None}
-use Rattle.std.proofs.lemmas.Bool.{lt-ltb, eqb-true, cond_both}
-use Rattle.std.proofs.lemmas.List.{map-append, map_more, length-map, length-take-le, length_push}
-use Rattle.std.proofs.lemmas.List.{nil_from_length}
-use Rattle.textwrap_words.specs.Words.{WordText}
-use Rattle.textwrap_lines.specs.LineEnding.{ending_bytes, join_with, paragraphs_of}
-use Rattle.textwrap_lines.specs.LineSinks.{HasOneMore, Holds, Took, kind_of}
-use Rattle.textwrap_lines.specs.Options.{Settings}
-use Rattle.textwrap_lines.specs.Paragraph.{Line, LineParts, Slice, Built, line_bytes, line_from}
-use Rattle.textwrap_lines.specs.Paragraph.{assembled_line, parts_of, parts_from, AreParagraphParts}
-use Rattle.textwrap_lines.specs.Text.{AreTextLines}
+use Rattle.textwrap_base.proofs.Common.{◌≡◌, ◌==◌, ◌+◌, ◌<◌, ℕ, Bool, true, cond, nat_lt, List, []}
+use Rattle.textwrap_base.proofs.Common.{◌∷◌, ◌++◌, length, take, get_or, map, refl, sym, ap, ◌∙◌}
+use Rattle.textwrap_base.proofs.Common.{subst, append-nil, append_assoc, arith, ◌≢◌, Option, Some}
+use Rattle.textwrap_base.proofs.Common.{None, lt-ltb, eqb-true, cond_both, map-append, length-map}
+use Rattle.textwrap_base.proofs.Common.{length-take-le, length_push, nil_from_length}
+use Rattle.textwrap_words.proofs.Common.{WordText}
+use Rattle.textwrap_lines.proofs.Common.{ending_bytes, join_with, Took, Settings, Line, Slice}
+use Rattle.textwrap_lines.proofs.Common.{line_bytes, line_from, assembled_line, parts_of}
+use Rattle.textwrap_lines.proofs.Common.{parts_from}
+use Rattle.std.proofs.lemmas.List.{map_more}
+use Rattle.textwrap_lines.specs.LineSinks.{HasOneMore, Holds}
+use Rattle.textwrap_lines.specs.Paragraph.{Built}
 use Rattle.textwrap_lines.specs.declared.line_ending.LineEnding.{LineEnding}
 use Rattle.textwrap_lines.specs.declared.line_sinks.JoinedLines.{JoinedLines}
 use Rattle.textwrap_lines.specs.declared.line_sinks.LineSink.{LineSink}
 use Rattle.textwrap_lines.specs.declared.line_sinks.LineSink.TheVariants.{Joined}
 use Rattle.textwrap_lines.proofs.Paragraph.Lines.{parts_from-push}
-use Rattle.textwrap_lines.proofs.Text.Lines.{join-push, HasGroups, HasGroups-start, HasGroups-more}
-use Rattle.textwrap_lines.proofs.Text.Lines.{HasGroups-end}
+use Rattle.textwrap_lines.proofs.Text.Lines.{join-push}
 
 pub kind-joined : {kind : Option LineEnding} (ending : LineEnding) → kind ≡ Some ending
     → kind ≢ None
@@ -116,48 +114,3 @@ Took-line v settings is_later has_line division i d start now next within has_is
     (parts_of settings has_line here ∷ [])))
     (Took-then start now next (map line_from (parts_from settings is_later before))
     (line_from (parts_of settings has_line here) ∷ []) so_far one)
-
--- ---- one paragraph after the other
-
-module _ (settings : Settings) (Divides : Bool → List ℕ → List (List WordText) → Type 0)
-    {Z : Type 0} where
-  -- the lines that were taken are those of the paragraphs so far
-  pub record HasTaken (text : List ℕ) (old now : LineSink Z) (left : List (List ℕ)) : Type 0 where
-    pub lines : List Line
-    pub groups : HasGroups settings Divides text lines left
-    pub held : Holds now lines
-    pub kind : kind_of now ≡ kind_of old
-
-  pub HasTaken-start : (text : List ℕ) (sink : LineSink Z) → Holds sink []
-      → HasTaken text sink sink (paragraphs_of settings.line_ending text)
-  HasTaken-start text sink none = record {
-    lines = [];
-    groups = HasGroups-start settings Divides text [] refl;
-    held = none;
-    kind = refl;
-  }
-
-  pub HasTaken-more : (text : List ℕ) (old now next : LineSink Z) (left after : List (List ℕ))
-      (paragraph : List ℕ) (is_later : Bool) → HasTaken text old now left → left ≡ paragraph ∷ after
-      → ((held : List Line) → Holds now held → is_later ≡ nat_lt 0 (length held))
-      → (parts : List LineParts)
-      × AreParagraphParts settings Divides is_later paragraph parts
-      × Took now next (map line_from parts)
-      → HasTaken text old next after
-  HasTaken-more text old now next left after paragraph is_later so_far left_is is_out
-      (parts, are, took) = record {
-        lines = so_far.lines ++ map line_from parts;
-        groups = HasGroups-more settings Divides text so_far.lines _ left after paragraph parts
-            so_far.groups left_is
-            (subst (λ b. AreParagraphParts settings Divides b paragraph parts)
-            (is_out so_far.lines so_far.held) are)
-            refl;
-        held = took.held so_far.lines so_far.held;
-        kind = took.kind ∙ so_far.kind;
-      }
-
-  pub HasTaken-end : (text : List ℕ) (old now : LineSink Z) → HasTaken text old now []
-      → (taken : List Line) × AreTextLines settings Divides text taken × Holds now taken
-      × (kind_of now ≡ kind_of old)
-  HasTaken-end text old now all =
-      (all.lines, HasGroups-end settings Divides text all.lines all.groups, all.held, all.kind)

@@ -1,23 +1,17 @@
 -- Lemmas on the lines of a text: the definitions leave one list of lines, and one filled text.
-use Rattle.std.proofs.Common.{◌≡◌, ℕ, Bool, true, false, MatchBool, ◌||◌, nat_lt, List, [], ◌∷◌}
-use Rattle.std.proofs.Common.{length, map, sym, ap, ◌∙◌, subst}
-use Rattle.textwrap_base.specs.Sizes.{Sizes}
-use Rattle.textwrap_words.specs.WrapAlgorithms.{Algorithm, Greedy, LeastCost, IsDividedBy}
-use Rattle.textwrap_base.specs.Cost.{AreEqualFromSecond, priced_at}
-use Rattle.textwrap_words.specs.Words.{WordText, sizes_of, word_of}
+use Rattle.textwrap_base.proofs.Common.{◌≡◌, ℕ, Bool, true, false, MatchBool, ◌||◌, nat_lt, List}
+use Rattle.textwrap_base.proofs.Common.{[], ◌∷◌, length, map, sym, ap, ◌∙◌, subst, Sizes}
+use Rattle.textwrap_base.proofs.Common.{AreEqualFromSecond, priced_at, flat_map}
+use Rattle.textwrap_words.proofs.Common.{Algorithm, Greedy, LeastCost, IsDividedBy, WordText}
+use Rattle.textwrap_words.proofs.Common.{sizes_of, word_of, Splitter}
+use Rattle.textwrap_lines.proofs.Common.{Settings, ending_bytes, join_with, paragraphs_of, Line}
+use Rattle.textwrap_lines.proofs.Common.{LineParts, line_from, line_bytes, parts_from, widths_of}
+use Rattle.textwrap_lines.proofs.Common.{is_whole, DividesAs, AreDividedParts, AreParagraphParts}
+use Rattle.textwrap_lines.proofs.Common.{AreGroups, AreTextLines, IsFilled}
 use Rattle.textwrap_base.proofs.Division.Unique.{greedy_unique}
 use Rattle.textwrap_base.proofs.Cost.Unique.{chosen_one}
-use Rattle.textwrap_lines.specs.Options.{Settings}
-use Rattle.textwrap_lines.specs.LineEnding.{ending_bytes, join_with, paragraphs_of}
-use Rattle.std.specs.List.{flat_map}
-use Rattle.textwrap_lines.specs.Paragraph.{Line, LineParts, line_from, line_bytes, parts_from}
-use Rattle.textwrap_lines.specs.Paragraph.{widths_of, is_whole, DividesAs, AreDividedParts}
-use Rattle.textwrap_lines.specs.Paragraph.{AreParagraphParts}
-use Rattle.textwrap_words.specs.WordSplitters.{Splitter}
 use Rattle.textwrap_lines.proofs.Paragraph.Pieces.{ArePieces-is}
 use Rattle.textwrap_lines.proofs.Standing.Costs.{two-equal}
-use Rattle.textwrap_lines.specs.Text.{AreGroups, AreTextLines}
-use Rattle.textwrap_lines.specs.Filling.{IsFilled}
 
 divided_one : {X : Type 0} (algorithm : Algorithm) (sizes : X → Sizes) (widths : List ℕ)
     (xs : List X) (lines others : List (List X)) → AreEqualFromSecond widths

@@ -1,67 +1,26 @@
 -- The lines that are found piece by piece are those of first fit.
-use Rattle.std.proofs.Common.{◌≡◌, ℕ, ◌+◌, ◌&&◌, ◌==◌, Bool, true, false, cond, nat_lt, not}
-use Rattle.std.proofs.Common.{List, [], ◌∷◌, ◌++◌, All, length, map, refl, sym, ap, ◌∙◌, subst}
-use Rattle.std.proofs.Common.{arith, ⊎_elim, append_assoc}
-use Rattle.std.proofs.lemmas.Bool.{and_parts, and_cases, cond_both, lt-ltb, ltb-true, ltb-false}
-use Rattle.std.proofs.lemmas.List.{length_push}
-use Rattle.std.proofs.lemmas.List.Elements.{All-head}
-use Rattle.textwrap_base.specs.Division.{closed_width, open_width, IsGreedy}
-use Rattle.textwrap_words.specs.Words.{WordText, sizes_of}
-use Rattle.textwrap_base.proofs.Division.Greedy.{closed_width-push, open_width-append}
-use Rattle.textwrap_base.proofs.Division.Grown.{grown, grown-full, grown-room, grown-greedy}
-use Rattle.textwrap_base.proofs.ListLemmas.{all-left, all-right}
-use Rattle.textwrap_words.proofs.Word.Texts.{HasNoPenalty}
-use Rattle.textwrap_lines.specs.Layout.{front_of}
-use Rattle.textwrap_lines.specs.Options.{Settings}
-use Rattle.textwrap_lines.specs.Paragraph.{assembled_line, covered, empty_word, first_width}
-use Rattle.textwrap_lines.specs.Paragraph.{indent_of, later_width}
-use Rattle.textwrap_lines.specs.Paragraph.{line_from, parts_from, parts_of, widths_of}
+use Rattle.textwrap_base.proofs.Common.{◌≡◌, ℕ, ◌+◌, ◌&&◌, ◌==◌, Bool, true, false, cond, nat_lt}
+use Rattle.textwrap_base.proofs.Common.{not, List, [], ◌∷◌, ◌++◌, All, length, map, refl, sym, ap}
+use Rattle.textwrap_base.proofs.Common.{◌∙◌, subst, arith, ⊎_elim, append_assoc, and_parts}
+use Rattle.textwrap_base.proofs.Common.{cond_both, lt-ltb, ltb-true, ltb-false, All-head}
+use Rattle.textwrap_base.proofs.Common.{closed_width, open_width, IsGreedy}
+use Rattle.textwrap_words.proofs.Common.{WordText, sizes_of}
+use Rattle.textwrap_lines.proofs.Common.{front_of, Settings, assembled_line, covered, empty_word}
+use Rattle.textwrap_lines.proofs.Common.{first_width, indent_of, later_width, line_from, parts_from}
+use Rattle.textwrap_lines.proofs.Common.{parts_of, widths_of, lines_from}
+use Rattle.std.proofs.lemmas.Bool.{and_cases}
+use Rattle.textwrap_base.proofs.Division.Widths.{closed_width-push}
+use Rattle.textwrap_base.proofs.Division.Grown.{grown, grown-full, grown-room}
+use Rattle.textwrap_base.proofs.Division.GrownLines.{grown-greedy}
+use Rattle.textwrap_base.proofs.Lists.Parts.{all-left, all-right}
+use Rattle.textwrap_words.proofs.Word.Measured.{HasNoPenalty}
 use Rattle.textwrap_lines.specs.WordLines.{LineSoFar, first_line, is_past, line_of, lines_after}
-use Rattle.textwrap_lines.specs.WordLines.{lines_from, no_pieces, with_piece}
-use Rattle.textwrap_lines.proofs.Paragraph.LastBlanks.{last_space, last_space-append, covered-space}
-use Rattle.textwrap_lines.proofs.Paragraph.Lines.{assembled-parts, covered-push}
-use Rattle.textwrap_lines.proofs.Paragraph.LongLines.{later_is}
-
--- the line of these pieces
-abbrev so_far : ℕ → List ℕ → List WordText → LineSoFar
-so_far width indent ps = record {
-  width = width;
-  indent = indent;
-  begun = nat_lt 0 (length ps);
-  slice = covered ps;
-  gap = last_space ps;
-  columns = open_width sizes_of ps;
-}
-
-so_far-push : (width : ℕ) (indent : List ℕ) (ps : List WordText) (x : WordText)
-    → with_piece (so_far width indent ps) x ≡ so_far width indent (ps ++ x ∷ [])
-so_far-push width indent ps x =
-    let slice : (covered ps ++ last_space ps) ++ x.word ≡ covered (ps ++ x ∷ []) =
-    ap (λ l. l ++ x.word) (covered-space ps) ∙ sym (covered-push ps x) in
-    let gap : x.whitespace ≡ last_space (ps ++ x ∷ []) =
-    sym (last_space-append ps (x ∷ []) (omega arith)) in
-    let len = length_push ps x in
-    let begun : true ≡ nat_lt 0 (length (ps ++ x ∷ [])) =
-    sym (lt-ltb 0 (length (ps ++ x ∷ [])) (omega (arith, len))) in
-    let columns : open_width sizes_of ps + (x.width + length x.whitespace)
-    ≡ open_width sizes_of (ps ++ x ∷ []) =
-    omega (arith, open_width-append sizes_of ps (x ∷ [])) in
-    let line : Bool → List ℕ → List ℕ → ℕ → LineSoFar =
-    λ b s t n. record {
-      width = width;
-      indent = indent;
-      begun = b;
-      slice = s;
-      gap = t;
-      columns = n;
-    } in
-    let before = (covered ps ++ last_space ps) ++ x.word in
-    let taken = open_width sizes_of ps + (x.width + length x.whitespace) in
-    let is_begun = nat_lt 0 (length (ps ++ x ∷ [])) in
-    ap (λ b. line b before x.whitespace taken) begun
-    ∙ ap (λ s. line is_begun s x.whitespace taken) slice
-    ∙ ap (λ t. line is_begun (covered (ps ++ x ∷ [])) t taken) gap
-    ∙ ap (line is_begun (covered (ps ++ x ∷ [])) (last_space (ps ++ x ∷ []))) columns
+use Rattle.textwrap_lines.specs.WordLines.{no_pieces, with_piece}
+use Rattle.textwrap_lines.proofs.Paragraph.EndsAs.{last_space}
+use Rattle.textwrap_lines.proofs.Paragraph.LastBlanks.{covered-space}
+use Rattle.textwrap_lines.proofs.Paragraph.WholeLine.{assembled-parts}
+use Rattle.textwrap_lines.proofs.Paragraph.PassingLines.{later_is}
+use Rattle.textwrap_lines.proofs.WordLines.SoFar.{so_far, so_far-push}
 
 module _ (settings : Settings) where
   -- the line of these pieces is that of the settings

@@ -1,25 +1,20 @@
 -- Lemmas on the pieces of a word that is split and broken.
-use Rattle.std.proofs.Common.{◌≡◌, ◌≢◌, ℕ, suc, ◌+◌, ◌-◌, ◌<◌, ◌≤◌, true, false, cond, nat_lt, List}
-use Rattle.std.proofs.Common.{[], ◌∷◌, ◌++◌, All, length, get_or, drop, refl, sym, ap, ◌∙◌, arith}
-use Rattle.std.proofs.Common.{append-nil}
-use Rattle.std.specs.Prelude.{filter, slice_range}
-use Rattle.std.specs.List.{range_with_len}
-use Rattle.std.specs.List.Sorted.{IsNonDecreasing}
-use Rattle.std.specs.Str.{IsUtf8, IsCharBoundary}
-use Rattle.std.proofs.lemmas.Bool.{cond-true, lt-ltb}
-use Rattle.std.proofs.lemmas.List.Concat.{flat_map-append}
-use Rattle.std.proofs.lemmas.List.Elements.{All-nil, All-cons, All-head, All-tail, All-weaker}
-use Rattle.std.proofs.lemmas.Str.{IsUtf8-drop, IsUtf8-between, IsCharBoundary-start}
-use Rattle.textwrap_words.specs.Breaking.{pieces_with, broken_pieces, broken_word, broken_words}
-use Rattle.textwrap_words.specs.Breaking.{broken_texts}
-use Rattle.textwrap_words.specs.Units.{text_width}
-use Rattle.textwrap_words.specs.Words.{WordText, piece, tile_of, tiled}
+use Rattle.textwrap_base.proofs.Common.{◌≡◌, ◌≢◌, ℕ, suc, ◌<◌, ◌≤◌, nat_lt, List, [], ◌∷◌, ◌++◌}
+use Rattle.textwrap_base.proofs.Common.{All, length, get_or, drop, refl, sym, ap, ◌∙◌, arith}
+use Rattle.textwrap_base.proofs.Common.{append-nil, slice_range, IsNonDecreasing, IsUtf8}
+use Rattle.textwrap_base.proofs.Common.{IsCharBoundary, lt-ltb, flat_map-append, All-nil, All-cons}
+use Rattle.textwrap_base.proofs.Common.{All-head, All-tail, All-weaker, IsUtf8-drop, IsUtf8-between}
+use Rattle.textwrap_base.proofs.Common.{IsCharBoundary-start}
+use Rattle.textwrap_words.proofs.Common.{pieces_with, broken_pieces, broken_word, broken_words}
+use Rattle.textwrap_words.proofs.Common.{broken_texts, text_width, WordText, piece, tile_of, tiled}
+use Rattle.textwrap_words.proofs.Common.{Splitter, cut_penalty, points_of, split_from, split_pieces}
+use Rattle.textwrap_words.proofs.Common.{split_word, split_words}
+use Rattle.std.proofs.lemmas.Bool.{cond-true}
 use Rattle.textwrap_words.proofs.Word.BrokenPieces.{tiled-broken_words}
-use Rattle.textwrap_words.proofs.Word.Texts.{text_width-nil}
+use Rattle.textwrap_words.proofs.Word.Measured.{text_width-nil}
 use Rattle.textwrap_words.proofs.Word.Tiling.{tiled-append}
-use Rattle.textwrap_words.specs.WordSplitters.{Splitter, is_hyphen_point, cut_penalty, points_of}
-use Rattle.textwrap_words.specs.WordSplitters.{split_from, split_pieces, split_word, split_words}
-use Rattle.textwrap_words.proofs.Word.Splitting.{points_of-cuts, tiled-split_pieces}
+use Rattle.textwrap_words.proofs.Word.Splitting.{points_of-cuts}
+use Rattle.textwrap_words.proofs.Word.SplitTiling.{tiled-split_pieces}
 
 -- ---- a word and its pieces
 
@@ -65,71 +60,6 @@ pub tiled-broken_all : (limit : ℕ) (words : List WordText) → All (λ w. IsUt
 tiled-broken_all limit words utf8 wide =
     tiled-broken_words limit words utf8
     (All-weaker IsWide (λ w. limit < w.width → w.word ≢ []) (wide-some limit) words wide)
-
--- ---- the points of a word, one after the other
-
--- those from an offset on
-abbrev pub points_from : List ℕ → ℕ → List ℕ
-points_from text point =
-    filter (is_hyphen_point text) (range_with_len point (length text - point))
-
-pub points_from-end : (text : List ℕ) (point : ℕ) → length text ≤ point
-    → points_from text point ≡ []
-points_from-end text point past =
-    let none : length text - point ≡ 0 = omega (arith, past) in
-    ap (λ n. filter (is_hyphen_point text) (range_with_len point n)) none
-
-points_from-is : (text : List ℕ) (point : ℕ) → point < length text
-    → points_from text point ≡ cond (is_hyphen_point text point)
-    (point ∷ points_from text (point + 1)) (points_from text (point + 1))
-points_from-is text point inside =
-    let more : length text - point ≡ suc (length text - (point + 1)) = omega (arith, inside) in
-    ap (λ n. filter (is_hyphen_point text) (range_with_len point n)) more
-
-pub points_from-point : (text : List ℕ) (point : ℕ) → point < length text
-    → is_hyphen_point text point ≡ true
-    → points_from text point ≡ point ∷ points_from text (point + 1)
-points_from-point text point inside is =
-    points_from-is text point inside
-    ∙ ap (λ b. cond b (point ∷ points_from text (point + 1)) (points_from text (point + 1))) is
-
-pub points_from-none : (text : List ℕ) (point : ℕ) → point < length text
-    → is_hyphen_point text point ≡ false
-    → points_from text point ≡ points_from text (point + 1)
-points_from-none text point inside is =
-    points_from-is text point inside
-    ∙ ap (λ b. cond b (point ∷ points_from text (point + 1)) (points_from text (point + 1))) is
-
--- a word without points stays whole
-pub split-none : (w : WordText) → IsWide w → split_pieces [] w ≡ w ∷ []
-split-none w wide =
-    let one : ℕ → List WordText = λ n.
-    record { word = w.word; whitespace = w.whitespace; penalty = w.penalty; width = n } ∷ [] in
-    ap one (sym wide)
-
--- one point more of a word that is split from an offset on, and the last piece
-abbrev pub pieces_from : ℕ → WordText → ℕ → ℕ → List WordText
-pieces_from limit w start point = broken_words limit (split_from w start (points_from w.word point))
-
-pub pieces_from-point : (limit : ℕ) (w : WordText) (start point : ℕ) → point < length w.word
-    → is_hyphen_point w.word point ≡ true
-    → pieces_from limit w start point
-    ≡ broken_word limit (piece (slice_range w.word start point) [] (cut_penalty w.word point))
-    ++ pieces_from limit w point (point + 1)
-pieces_from-point limit w start point inside is =
-    ap (λ ps. broken_words limit (split_from w start ps)) (points_from-point w.word point inside is)
-
-pub pieces_from-none : (limit : ℕ) (w : WordText) (start point : ℕ) → point < length w.word
-    → is_hyphen_point w.word point ≡ false
-    → pieces_from limit w start point ≡ pieces_from limit w start (point + 1)
-pieces_from-none limit w start point inside is =
-    ap (λ ps. broken_words limit (split_from w start ps)) (points_from-none w.word point inside is)
-
-pub pieces_from-end : (limit : ℕ) (w : WordText) (start point : ℕ) → length w.word ≤ point
-    → pieces_from limit w start point
-    ≡ broken_word limit (piece (drop start w.word) w.whitespace w.penalty) ++ []
-pieces_from-end limit w start point past =
-    ap (λ ps. broken_words limit (split_from w start ps)) (points_from-end w.word point past)
 
 -- ---- the pieces of a word that is split and broken tile it
 

@@ -1,17 +1,13 @@
 -- Words that stay whole are broken past a limit that none reaches.
-use Rattle.std.proofs.Common.{◌≡◌, ℕ, ◌-◌, ◌*◌, ◌^◌, ◌<◌, ◌≤◌, Bool, true, false, cond}
-use Rattle.std.proofs.Common.{List, [], ◌∷◌, ◌++◌, All, length, refl, sym, ap, ◌∙◌, arith}
-use Rattle.std.proofs.Common.{length-append}
-use Rattle.std.specs.Str.{IsUtf8}
-use Rattle.std.proofs.lemmas.Bool.{le-ltb}
-use Rattle.std.proofs.lemmas.List.Elements.{All-head, All-tail}
-use Rattle.textwrap_words.specs.Breaking.{broken_words, broken_pieces}
-use Rattle.textwrap_words.specs.Words.{WordText, tile_of, tiled, words_of}
+use Rattle.textwrap_base.proofs.Common.{◌≡◌, ℕ, ◌-◌, ◌*◌, ◌^◌, ◌<◌, ◌≤◌, Bool, true, false, cond}
+use Rattle.textwrap_base.proofs.Common.{List, [], ◌∷◌, ◌++◌, All, length, refl, sym, ap, ◌∙◌, arith}
+use Rattle.textwrap_base.proofs.Common.{length-append, IsUtf8, le-ltb, All-head, All-tail}
+use Rattle.textwrap_words.proofs.Common.{broken_words, broken_pieces, WordText, tile_of, tiled}
+use Rattle.textwrap_words.proofs.Common.{words_of, Splitter, split_words}
+use Rattle.textwrap_lines.proofs.Common.{front_of, Settings, front_pieces, later_width, pieces_of}
 use Rattle.textwrap_words.proofs.Word.Bounds.{IsBounded, IsBounded-measured}
-use Rattle.textwrap_lines.specs.Layout.{break_limit, front_of}
-use Rattle.textwrap_lines.specs.Options.{Settings}
-use Rattle.textwrap_lines.specs.Paragraph.{front_pieces, later_width, pieces_of, text_limit}
-use Rattle.textwrap_words.specs.WordSplitters.{Splitter, split_words}
+use Rattle.textwrap_lines.specs.Layout.{break_limit}
+use Rattle.textwrap_lines.specs.Paragraph.{text_limit}
 use Rattle.textwrap_lines.proofs.Paragraph.Pieces.{pieces_of-tile, split_pieces_of-measured}
 use Rattle.textwrap_words.proofs.Word.Pieces.{split_pieces_of-no_penalty}
 

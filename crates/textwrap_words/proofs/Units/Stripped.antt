@@ -1,19 +1,16 @@
 -- Lemmas on the text of the visible characters.
-use Rattle.std.proofs.Common.{◌≤◌, length-append}
-use Rattle.std.proofs.Common.{◌≡◌, ◌≢◌, ℕ, zero, suc, ◌+◌, ◌<◌, Bool, cond, eqb}
-use Rattle.std.proofs.Common.{List, [], ◌∷◌, ◌++◌, length, get_or, drop, sym, ap, ◌∙◌, arith}
-use Rattle.std.proofs.Common.{All, append-nil, append_assoc, inl, inr}
-use Rattle.std.specs.List.{flat_map}
-use Rattle.std.specs.Str.{chars, encode_utf8_all}
+use Rattle.textwrap_base.proofs.Common.{◌≤◌, length-append, ◌≡◌, ◌≢◌, ℕ, zero, suc, ◌+◌, ◌<◌, Bool}
+use Rattle.textwrap_base.proofs.Common.{cond, eqb, List, [], ◌∷◌, ◌++◌, length, get_or, drop, sym}
+use Rattle.textwrap_base.proofs.Common.{ap, ◌∙◌, arith, All, append-nil, append_assoc, inl, inr}
+use Rattle.textwrap_base.proofs.Common.{flat_map, encode_utf8_all, cases_Bool, eqb-false, All-nil}
+use Rattle.textwrap_base.proofs.Common.{All-cons, All-head, All-tail, All-append, All-from_get_or}
+use Rattle.textwrap_words.proofs.Common.{escape, escape_len, units_past, visible_of, stripped}
+use Rattle.textwrap_words.proofs.Common.{taken_in, visible_in}
+use Rattle.std.specs.Str.{chars}
 use lib.Utf8.{encode}
-use Rattle.std.proofs.lemmas.Bool.{cases_Bool, eqb-false}
 use Rattle.std.proofs.lemmas.List.{at_drop_more}
-use Rattle.std.proofs.lemmas.List.Elements.{All-nil, All-cons, All-head, All-tail, All-append}
-use Rattle.std.proofs.lemmas.List.Elements.{All-from_get_or}
 use Rattle.std.proofs.lemmas.Str.{inside_one}
 use Rattle.textwrap_words.specs.declared.escapes.State.{State}
-use Rattle.textwrap_words.specs.Units.{escape, escape_len, units_past, visible_of, stripped}
-use Rattle.textwrap_words.specs.Escapes.{taken_in, visible_in}
 
 -- the text of the visible ones among the characters to come
 abbrev pub text_in : State → List ℕ → List ℕ

@@ -1,22 +1,19 @@
 -- Lemmas on the units of a text and their columns.
-use Rattle.std.proofs.Common.{◌≡◌, ℕ, zero, suc, ◌+◌, ◌*◌, ◌<◌, ◌≤◌, Bool, true, false, cond, eqb}
-use Rattle.std.proofs.Common.{List, [], ◌∷◌, length, get_or, take, drop, sym, ap, subst, zero-add}
-use Rattle.std.proofs.Common.{◌∙◌, arith, length-append, All, refl}
-use Rattle.std.specs.List.{flat_map, sum_by, list_all}
-use Rattle.std.specs.Str.{chars, IsUtf8, IsAscii}
+use Rattle.textwrap_base.proofs.Common.{◌≡◌, ℕ, zero, suc, ◌+◌, ◌*◌, ◌<◌, ◌≤◌, Bool, true, false}
+use Rattle.textwrap_base.proofs.Common.{cond, eqb, List, [], ◌∷◌, length, get_or, take, drop, sym}
+use Rattle.textwrap_base.proofs.Common.{ap, subst, zero-add, ◌∙◌, arith, length-append, All, refl}
+use Rattle.textwrap_base.proofs.Common.{flat_map, sum_by, list_all, IsUtf8, IsAscii, and_parts}
+use Rattle.textwrap_base.proofs.Common.{nat_tests, All-head, All-tail, sum_by-cons, sum_by-append}
+use Rattle.textwrap_base.proofs.Common.{length-encode, encodes-chars, chars-IsAscii}
+use Rattle.textwrap_words.proofs.Common.{Visible, Sequence, escape_len, unit_at, taken_at}
+use Rattle.textwrap_words.proofs.Common.{units_past, visible_of, columns, text_width, IsNarrow}
+use Rattle.textwrap_words.proofs.Common.{is_printable, visible_in}
+use Rattle.std.specs.Str.{chars}
 use lib.Utf8.{encode, encodes}
-use Rattle.std.proofs.lemmas.Bool.{and_parts}
-use Rattle.std.proofs.lemmas.Bool.Decides.{nat_tests}
 use Rattle.std.proofs.lemmas.List.{at_drop_more}
-use Rattle.std.proofs.lemmas.List.Elements.{All-head, All-tail}
-use Rattle.std.proofs.lemmas.List.Sums.{sum_by-cons, sum_by-append}
-use Rattle.std.proofs.lemmas.Str.{length-encode, encodes-chars, chars-IsAscii}
 use Rattle.unicode_width.specs.Width.{char_width}
 use Rattle.unicode_width.proofs.Rules.{width_or_zero-le}
 use Rattle.textwrap_words.specs.declared.escapes.State.{State}
-use Rattle.textwrap_words.specs.Units.{Visible, Sequence, escape_len, unit_at, taken_at, units_past}
-use Rattle.textwrap_words.specs.Units.{visible_of, columns, text_width, IsNarrow, is_printable}
-use Rattle.textwrap_words.specs.Escapes.{visible_in}
 
 -- the columns of the characters to come
 abbrev pub columns_in : State → List ℕ → ℕ

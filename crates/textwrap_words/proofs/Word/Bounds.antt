@@ -1,14 +1,12 @@
 -- All widths of words together keep to twice the bytes that they tile, where they have no
 -- penalties, and a line of narrow ones to their bytes.
-use Rattle.std.proofs.Common.{◌≡◌, ◌*◌, ◌≤◌, List, [], ◌∷◌, All, length, sym, ap, subst, arith}
-use Rattle.std.proofs.Common.{length-append}
-use Rattle.std.proofs.lemmas.List.Elements.{All-head, All-tail}
-use Rattle.textwrap_base.specs.Cost.{total_width}
-use Rattle.textwrap_base.specs.Division.{closed_width}
-use Rattle.textwrap_words.specs.Words.{WordText, sizes_of, tile_of, tiled}
-use Rattle.textwrap_base.proofs.Cost.Measures.{total_width-cons}
+use Rattle.textwrap_base.proofs.Common.{◌≡◌, ◌*◌, ◌≤◌, List, [], ◌∷◌, All, length, sym, ap, subst}
+use Rattle.textwrap_base.proofs.Common.{arith, length-append, All-head, All-tail, total_width}
+use Rattle.textwrap_base.proofs.Common.{closed_width}
+use Rattle.textwrap_words.proofs.Common.{WordText, sizes_of, tile_of, tiled}
+use Rattle.textwrap_base.proofs.Cost.SizesAlone.{total_width-cons}
 use Rattle.textwrap_words.proofs.Units.Widths.{text_width-le}
-use Rattle.textwrap_words.proofs.Word.Texts.{IsMeasured, HasNoPenalty}
+use Rattle.textwrap_words.proofs.Word.Measured.{IsMeasured, HasNoPenalty}
 
 -- ---- words whose widths keep to twice their bytes
 

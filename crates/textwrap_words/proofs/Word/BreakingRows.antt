@@ -1,11 +1,10 @@
 -- Worked rows on the pieces of a word that is too wide. In a text `\u{1b}` is ESC.
-use Rattle.std.proofs.Common.{◌≡◌, [], ◌∷◌, refl, codes}
+use Rattle.textwrap_base.proofs.Common.{◌≡◌, [], ◌∷◌, refl, codes}
+use Rattle.textwrap_words.proofs.Common.{broken_units, broken_texts, broken_pieces, broken_words}
+use Rattle.textwrap_words.proofs.Common.{Visible, Sequence, units, word_of}
 use Rattle.std.specs.Str.{chars}
 use lib.Utf8.{encode}
 use Rattle.unicode_width.specs.Width.{char_width}
-use Rattle.textwrap_words.specs.Breaking.{broken_units, broken_texts, broken_pieces, broken_words}
-use Rattle.textwrap_words.specs.Units.{Visible, Sequence, units}
-use Rattle.textwrap_words.specs.Words.{word_of}
 
 -- ---- units
 

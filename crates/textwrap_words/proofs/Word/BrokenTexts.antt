@@ -1,46 +1,19 @@
 -- Lemmas on the pieces of broken words: they are text, measured, and keep the word's blanks and
 -- penalty at its end.
-use Rattle.std.proofs.Common.{◌≡◌, ℕ, ◌≤◌, Bool, true, false, cond, List, [], ◌∷◌, ◌++◌, All}
-use Rattle.std.proofs.Common.{length, take, drop, map, refl, sym, ap, ◌∙◌, subst, arith}
-use Rattle.std.proofs.Common.{length-append}
-use Rattle.std.specs.Prelude.{chars, encode_utf8_all}
-use Rattle.std.specs.List.{flat_map}
-use Rattle.std.specs.Str.{IsUtf8}
-use Rattle.std.proofs.lemmas.List.{take_at, drop_at}
-use Rattle.std.proofs.lemmas.List.Concat.{flat_map-append}
-use Rattle.std.proofs.lemmas.List.Elements.{All-nil, All-cons, All-head, All-tail, All-append}
-use Rattle.std.proofs.lemmas.Str.{encodes-append, IsUtf8-take, IsUtf8-past_char}
-use Rattle.std.proofs.lemmas.Str.{IsCharBoundary-from_drop}
-use Rattle.textwrap_words.specs.Words.{piece, WordText}
-use Rattle.textwrap_words.specs.Breaking.{pieces_with, units_text, broken_units, broken_texts}
-use Rattle.textwrap_words.specs.Breaking.{broken_pieces, broken_word, broken_words}
-use Rattle.textwrap_words.specs.Units.{TextUnit, characters, units}
-use Rattle.textwrap_words.proofs.Word.Breaking.{AreBroken-exists}
-use Rattle.textwrap_words.proofs.Word.BrokenPieces.{units_text-chars}
-use Rattle.textwrap_words.proofs.Word.Texts.{IsMeasured, EndsInBlanks, HasNoPenalty, no_blanks}
+use Rattle.textwrap_base.proofs.Common.{ℕ, Bool, true, false, cond, List, [], ◌∷◌, All, map, refl}
+use Rattle.textwrap_base.proofs.Common.{sym, ap, ◌∙◌, subst, encode_utf8_all, flat_map, IsUtf8}
+use Rattle.textwrap_base.proofs.Common.{flat_map-append, All-nil, All-cons, All-head, All-tail}
+use Rattle.textwrap_base.proofs.Common.{All-append}
+use Rattle.textwrap_words.proofs.Common.{piece, WordText, pieces_with, units_text, broken_units}
+use Rattle.textwrap_words.proofs.Common.{broken_texts, broken_pieces, broken_word, broken_words}
+use Rattle.textwrap_words.proofs.Common.{TextUnit, characters, units}
+use Rattle.std.specs.Prelude.{chars}
+use Rattle.textwrap_words.proofs.Word.BreakingExists.{AreBroken-exists}
+use Rattle.textwrap_words.proofs.Word.PieceTexts.{units_text-chars}
+use Rattle.textwrap_words.proofs.Word.Measured.{IsMeasured, EndsInBlanks, HasNoPenalty, no_blanks}
+use Rattle.textwrap_base.proofs.Characters.{utf8-front, utf8-back}
 
 -- ---- the texts of broken pieces
-
-pub utf8-back : (xs ys : List ℕ) → IsUtf8 (encode_utf8_all (xs ++ ys)) → IsUtf8 (encode_utf8_all ys)
-utf8-back [] ys u = u
-utf8-back (x ∷ xs) ys u =
-    utf8-back xs ys (IsUtf8-past_char (encode_utf8_all (x ∷ xs ++ ys))
-    (encode_utf8_all (xs ++ ys)) x u refl)
-
-utf8-front : (xs ys : List ℕ) → IsUtf8 (encode_utf8_all (xs ++ ys)) → IsUtf8 (encode_utf8_all xs)
-utf8-front xs ys u =
-    let front = encode_utf8_all xs in
-    let back = encode_utf8_all ys in
-    let whole = encode_utf8_all (xs ++ ys) in
-    let all : whole ≡ front ++ back = encodes-append xs ys in
-    let within : length front ≤ length whole =
-    omega (arith, ap length all, length-append front back) in
-    let rest : drop (length front) whole ≡ back = ap (drop (length front)) all
-    ∙ drop_at front back (length front) refl in
-    let cut = IsCharBoundary-from_drop whole (length front) within
-    (subst IsUtf8 (sym rest) (utf8-back xs ys u)) in
-    subst IsUtf8 (ap (take (length front)) all ∙ take_at front back (length front) refl)
-    (IsUtf8-take whole (length front) u cut)
 
 texts-utf8 : (parts : List (List TextUnit)) → IsUtf8 (units_text (flat_map (λ part. part) parts))
     → All IsUtf8 (map units_text parts)

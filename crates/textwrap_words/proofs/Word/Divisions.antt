@@ -1,24 +1,22 @@
 -- Lemmas on what an algorithm may divide, also one of a caller: its lines are the first elements in
 -- order, and along a view they are those of what the view gives.
-use Rattle.std.proofs.Common.{◌≡◌, ◌≢◌, ℕ, suc, ◌+◌, ◌-◌, ◌≤◌, ◌<◌, List, [], ◌∷◌, ◌++◌, length, map}
-use Rattle.std.proofs.Common.{take, drop, get_or, refl, sym, ap, ◌∙◌, subst, arith}
-use Rattle.std.proofs.Common.{append_assoc, append-nil}
-use Rattle.std.specs.Prelude.{All, Some, None, Ok, slice_range}
-use Rattle.std.specs.List.Sorted.{IsNonDecreasing}
-use Rattle.std.proofs.lemmas.List.{map-id, take-map, drop-map, length-map}
-use Rattle.std.proofs.lemmas.List.Folds.{drop_split}
+use Rattle.textwrap_base.proofs.Common.{◌≡◌, ◌≢◌, ℕ, suc, ◌+◌, ◌-◌, ◌≤◌, ◌<◌, List, [], ◌∷◌, ◌++◌}
+use Rattle.textwrap_base.proofs.Common.{length, map, take, drop, get_or, refl, sym, ap, ◌∙◌, subst}
+use Rattle.textwrap_base.proofs.Common.{arith, append_assoc, append-nil, All, Some, None, Ok}
+use Rattle.textwrap_base.proofs.Common.{slice_range, IsNonDecreasing, map-id, take-map, length-map}
+use Rattle.textwrap_base.proofs.Common.{drop_split}
+use Rattle.textwrap_words.proofs.Common.{WordText, word_view, sizes_of, Greedy, LeastCost}
+use Rattle.textwrap_words.proofs.Common.{IsDividedBy, MayDivide, algorithm_view}
+use Rattle.std.proofs.lemmas.List.{drop-map}
 use Rattle.textwrap_words.specs.LineEnds.{AreEnds, lines_from}
-use Rattle.textwrap_words.specs.Words.{WordText, word_view, sizes_of}
-use Rattle.textwrap_words.specs.WrapAlgorithms.{Greedy, LeastCost, IsDividedBy, MayEnd}
-use Rattle.textwrap_words.specs.WrapAlgorithms.{MayDivide, algorithm_view}
+use Rattle.textwrap_words.specs.WrapAlgorithms.{MayEnd}
 use Rattle.textwrap_words.specs.declared.wrap_algorithms.WrapAlgorithm.{WrapAlgorithm}
 use Rattle.textwrap_words.specs.declared.wrap_algorithms.WrapAlgorithm.TheVariants.{FirstFit}
 use Rattle.textwrap_words.specs.declared.wrap_algorithms.WrapAlgorithm.TheVariants.{OptimalFit}
 use Rattle.textwrap_words.specs.declared.wrap_algorithms.WrapAlgorithm.TheVariants.{Custom}
 use Rattle.textwrap_words.specs.declared.wrap_algorithms.line_ends.LineEnds.{LineEnds}
-use Rattle.textwrap_base.proofs.Division.Map.{IsDividedBy-map, IsDividedBy-whole}
-use Rattle.textwrap_base.proofs.Division.Map.{IsDividedBy-some}
-use Rattle.textwrap_base.proofs.ListLemmas.{flat, Begins}
+use Rattle.textwrap_base.proofs.Division.Map.{IsDividedBy-map, IsDividedBy-whole, IsDividedBy-some}
+use Rattle.textwrap_base.proofs.Lists.Parts.{flat, Begins}
 
 lines_from-begin : {X : Type 0} (xs : List X) (start : ℕ) (ends : List ℕ) → IsNonDecreasing ends
     → ((k : ℕ) → k < length ends → start ≤ get_or ends k 0)

@@ -1,23 +1,20 @@
 -- Lemmas on what a separator and a splitter may give, also by functions of a caller.
-use Rattle.std.proofs.Common.{◌≡◌, ◌≢◌, ℕ, true, List, All, map}
-use Rattle.std.proofs.Common.{take, refl, sym, subst}
-use Rattle.std.specs.Prelude.{None, Ok}
-use Rattle.std.specs.Str.{IsUtf8}
-use Rattle.std.proofs.lemmas.List.Elements.{All-map, All-weaker}
-use Rattle.textwrap_words.specs.Words.{WordText, word_of}
-use Rattle.textwrap_words.proofs.Word.Texts.{IsMeasured, HasNoPenalty, word_of-measured}
+use Rattle.textwrap_words.specs.declared.word_splitters.WordSplitter as splitters
+use Rattle.textwrap_base.proofs.Common.{◌≡◌, ◌≢◌, ℕ, true, List, All, map, take, refl, sym, subst}
+use Rattle.textwrap_base.proofs.Common.{None, Ok, IsUtf8, All-map, All-weaker}
+use Rattle.textwrap_words.proofs.Common.{WordText, word_of, AreCuts, AreInnerCuts, parts_between}
+use Rattle.textwrap_words.proofs.Common.{MaySeparate, MaySplit, ends_in_hyphen, splitter_view}
+use Rattle.textwrap_words.proofs.Common.{Whole, AtHyphens}
+use Rattle.textwrap_words.proofs.Word.Measured.{IsMeasured, HasNoPenalty, word_of-measured}
 use Rattle.textwrap_words.proofs.Word.Pieces.{AreTexts, AreTexts-words, ArePoints-cuts}
 use Rattle.textwrap_words.proofs.Word.Pieces.{ArePoints-hyphens}
-use Rattle.textwrap_words.specs.Cuts.{AreCuts, AreInnerCuts, parts_between}
 use Rattle.textwrap_words.proofs.Word.Parts.{inner-cuts, parts_between-tile, parts_between-utf8}
-use Rattle.textwrap_words.specs.WordSeparators.{MayCut, MaySeparate}
-use Rattle.textwrap_words.specs.WordSplitters.{MayPoint, MaySplit, ends_in_hyphen, splitter_view}
-use Rattle.textwrap_words.specs.WordSplitters.{Whole, AtHyphens}
+use Rattle.textwrap_words.specs.WordSeparators.{MayCut}
+use Rattle.textwrap_words.specs.WordSplitters.{MayPoint}
 use Rattle.textwrap_words.specs.declared.word_separators.WordSeparator.{WordSeparator}
 use Rattle.textwrap_words.specs.declared.word_separators.WordSeparator.TheVariants.{AsciiSpace}
 use Rattle.textwrap_words.specs.declared.word_separators.WordSeparator.TheVariants.{Custom}
 use Rattle.textwrap_words.specs.declared.word_separators.line_cuts.LineCuts.{LineCuts}
-use Rattle.textwrap_words.specs.declared.word_splitters.WordSplitter as splitters
 use Rattle.textwrap_words.specs.declared.word_splitters.word_cuts.WordCuts.{WordCuts}
 
 -- ---- words at cuts

@@ -1,12 +1,10 @@
 -- Worked rows on the lines of texts: a greedy division, and what lines cost.
-use Rattle.std.proofs.Common.{◌≡◌, ℕ, List, [], ◌∷◌, length, map, refl, codes}
+use Rattle.textwrap_base.proofs.Common.{◌≡◌, ℕ, List, [], ◌∷◌, length, map, refl, codes, priced_at}
+use Rattle.textwrap_base.proofs.Common.{division_cost, IsGreedy, default_penalties}
+use Rattle.textwrap_words.proofs.Common.{sizes_of, words_of}
 use Rattle.std.specs.Str.{chars}
 use Rattle.unicode_width.specs.Width.{char_width}
-use Rattle.textwrap_base.specs.Cost.{priced_at, division_cost}
-use Rattle.textwrap_base.specs.Division.{IsGreedy}
-use Rattle.textwrap_base.specs.Penalties.{default_penalties}
-use Rattle.textwrap_base.proofs.Division.Rows.{IsGreedy-from_test}
-use Rattle.textwrap_words.specs.Words.{sizes_of, words_of}
+use Rattle.textwrap_base.proofs.Division.GreedyTest.{IsGreedy-from_test}
 
 -- a line of a text, by its words
 IsGreedy-words : IsGreedy sizes_of (10 ∷ [])

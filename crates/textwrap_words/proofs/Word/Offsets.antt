@@ -1,92 +1,15 @@
 -- Lemmas on where the visible characters of a line end, and on the code that reads a line up to
 -- each of them.
-use Rattle.std.proofs.Common.{◌≡◌, ◌≢◌, ℕ, ◌+◌, ◌≤◌, Bool, true, false, not, cond, eqb, List, []}
-use Rattle.std.proofs.Common.{◌∷◌, ◌++◌, length, take, drop, refl, sym, ap, ◌∙◌, arith}
-use Rattle.std.proofs.Common.{inl, inr, add-zero, append-nil, append_assoc, length-append}
-use Rattle.std.specs.Str.{chars, encode_utf8_all, IsUtf8}
+use Rattle.textwrap_base.proofs.Common.{◌≡◌, ℕ, ◌+◌, ◌≤◌, Bool, true, false, cond, List, [], ◌∷◌}
+use Rattle.textwrap_base.proofs.Common.{◌++◌, length, drop, refl, sym, ap, ◌∙◌, arith, inl, inr}
+use Rattle.textwrap_base.proofs.Common.{append-nil, append_assoc, length-append, IsUtf8, cases_Bool}
+use Rattle.textwrap_base.proofs.Common.{drop-drop, drop_at, length-drop, nil_from_length, chars-nil}
+use Rattle.textwrap_base.proofs.Common.{chars_past_char, IsUtf8-past_char}
+use Rattle.textwrap_words.proofs.Common.{stripped, VisibleEnd, is_cut_after, cuts_among, cuts_at}
+use Rattle.std.specs.Str.{chars}
 use lib.Utf8.{encode}
-use Rattle.std.proofs.lemmas.Bool.{cases_Bool}
-use Rattle.std.proofs.lemmas.List.{drop-drop, drop_at, length-drop, nil_from_length}
-use Rattle.std.proofs.lemmas.Str.{chars-nil, chars_past_char, IsUtf8-past_char}
 use Rattle.textwrap_words.specs.declared.escapes.State.{State}
-use Rattle.textwrap_words.specs.declared.escapes.State.TheVariants.{Text, Escape, Control, Command}
-use Rattle.textwrap_words.specs.Escapes.{taken_in, visible_in}
-use Rattle.textwrap_words.specs.Units.{Visible, Sequence, escape_len, unit_at, taken_at}
-use Rattle.textwrap_words.specs.Units.{units_past, stripped}
-use Rattle.textwrap_words.proofs.Units.Parts.{units_in, next_of, shows, step-is, taken-step}
-use Rattle.textwrap_words.specs.WordOffsets.{VisibleEnd, ends_from, is_cut_after, cuts_among, cuts_at}
-
--- ---- the ends of the visible ones among the characters to come
-
--- where a character ends that begins at these places
-abbrev pub end_of : ℕ → ℕ → ℕ → VisibleEnd
-end_of at shown c =
-    record { character = c; end = at + length (encode c); shown = shown + length (encode c) }
-
--- the units are those that the state has begun, which are no longer visible, and those after them
-abbrev pub ends_in : State → ℕ → ℕ → List ℕ → List VisibleEnd
-ends_in s at shown cs =
-    ends_from (at + length (encode_utf8_all (take (taken_in s cs) cs))) shown (units_in s cs)
-
--- the ends from one more character on, if it is visible or not
-abbrev ends_past : Bool → State → ℕ → ℕ → ℕ → List ℕ → List VisibleEnd
-ends_past flag next at shown c cs =
-    cond flag (end_of at shown c ∷ ends_in next (at + length (encode c))
-    (shown + length (encode c)) cs) (ends_in next (at + length (encode c)) shown cs)
-
--- a place after one character and others
-past-one : (at c : ℕ) (cs : List ℕ)
-    → at + length (encode_utf8_all (c ∷ cs)) ≡ (at + length (encode c)) + length (encode_utf8_all cs)
-past-one at c cs = omega (arith, length-append (encode c) (encode_utf8_all cs))
-
-ends-text : (at shown c : ℕ) (cs : List ℕ)
-    → ends_in Text at shown (c ∷ cs) ≡ ends_past (shows Text c) (next_of Text c) at shown c cs
-ends-text at shown c cs =
-    ap (λ n. ends_from n shown (unit_at c cs ∷ units_past (taken_at c cs) cs)) (add-zero at)
-    ∙ elim (eqb c 27) as (λ b. ends_from at shown
-    (cond b (Sequence (c ∷ take (escape_len cs) cs)) (Visible c)
-    ∷ units_past (cond b (escape_len cs) 0) cs)
-    ≡ ends_past (not b) (cond b Escape Text) at shown c cs) [
-      | true ↦ ap (λ n. ends_from n shown (units_past (escape_len cs) cs))
-          (past-one at c (take (escape_len cs) cs))
-      | false ↦ ap (λ n. end_of at shown c
-          ∷ ends_from n (shown + length (encode c)) (units_past 0 cs))
-          (sym (add-zero (at + length (encode c))))
-    ]
-
-ends-inside : (s : State) (at shown c : ℕ) (cs : List ℕ) → s ≢ Text
-    → ends_in s at shown (c ∷ cs) ≡ ends_in (next_of s c) (at + length (encode c)) shown cs
-ends-inside s at shown c cs inside =
-    let more = taken_in (next_of s c) cs in
-    ap (λ n. ends_from (at + length (encode_utf8_all (take n (c ∷ cs)))) shown
-    (units_past n (c ∷ cs))) (taken-step s c cs inside)
-    ∙ ap (λ n. ends_from n shown (units_past more cs)) (past-one at c (take more cs))
-
-ends-plain : (s : State) (at shown c : ℕ) (cs : List ℕ)
-    → ends_in s at shown (c ∷ cs) ≡ ends_past (shows s c) (next_of s c) at shown c cs
-ends-plain Text at shown c cs = ends-text at shown c cs
-ends-plain Escape at shown c cs = ends-inside Escape at shown c cs (λ e. cc)
-ends-plain Control at shown c cs = ends-inside Control at shown c cs (λ e. cc)
-ends-plain (Command last) at shown c cs = ends-inside (Command last) at shown c cs (λ e. cc)
-
--- what a step says of each text that may follow
-abbrev pub IsStep : State → ℕ → State → Bool → Type 0
-IsStep s c next flag = (cs : List ℕ) → visible_in s (c ∷ cs) ≡ cond flag (c ∷ visible_in next cs)
-    (visible_in next cs)
-
-ends-step : (s : State) (at shown c : ℕ) (cs : List ℕ) (next : State) (flag : Bool)
-    → IsStep s c next flag
-    → ends_in s at shown (c ∷ cs) ≡ ends_past flag next at shown c cs
-ends-step s at shown c cs next flag step =
-    let known = step-is s next flag c step in
-    let taken : taken_in (next_of s c) cs ≡ taken_in next cs = sym (known.1 cs) in
-    ends-plain s at shown c cs
-    ∙ ap (λ b. ends_past b (next_of s c) at shown c cs) (sym known.0)
-    ∙ ap (λ n. cond flag (end_of at shown c
-    ∷ ends_from ((at + length (encode c)) + length (encode_utf8_all (take n cs)))
-    (shown + length (encode c)) (units_past n cs))
-    (ends_from ((at + length (encode c)) + length (encode_utf8_all (take n cs))) shown
-    (units_past n cs))) taken
+use Rattle.textwrap_words.proofs.Word.VisibleEnds.{ends_in, IsStep, ends_past, ends-step, end_of}
 
 -- ---- the cuts
 

@@ -1,32 +1,16 @@
 -- Lemmas on the parts of a text between cuts.
-use Rattle.std.proofs.Common.{inl, inr, ◌≡◌, ℕ, zero, suc, ◌<◌, ◌≤◌, List, [], ◌∷◌, ◌++◌, All, map}
-use Rattle.std.proofs.Common.{add-one, length, get_or, drop, sym, ap, ◌∙◌, arith, append-nil, ◌==◌}
-use Rattle.std.specs.Prelude.{slice_range}
-use Rattle.std.specs.List.Sorted.{IsStrictlyIncreasing, IsNonDecreasing}
-use Rattle.std.specs.Str.{IsUtf8, IsCharBoundary}
-use Rattle.std.proofs.lemmas.Bool.{cases_Bool, cases_eq, eqb-true}
+use Rattle.textwrap_base.proofs.Common.{inl, inr, ◌≡◌, ℕ, suc, ◌<◌, ◌≤◌, List, [], ◌∷◌, ◌++◌, All}
+use Rattle.textwrap_base.proofs.Common.{map, length, get_or, drop, sym, ap, ◌∙◌, arith, append-nil}
+use Rattle.textwrap_base.proofs.Common.{◌==◌, slice_range, IsNonDecreasing, IsUtf8, IsCharBoundary}
+use Rattle.textwrap_base.proofs.Common.{cases_Bool, eqb-true, nil_from_length, drop_split, All-nil}
+use Rattle.textwrap_base.proofs.Common.{All-cons, All-head, All-tail, IsUtf8-drop, IsUtf8-between}
+use Rattle.textwrap_base.proofs.Common.{IsCharBoundary-start}
+use Rattle.textwrap_words.proofs.Common.{tiled, word_of, AreCuts, AreInnerCuts, parts_between}
 use Rattle.std.proofs.lemmas.List.Sorted.{IsNonDecreasingBy-from_default}
-use Rattle.std.proofs.lemmas.List.{nil_from_length}
-use Rattle.std.proofs.lemmas.List.Folds.{drop_split}
-use Rattle.std.proofs.lemmas.List.Elements.{All-nil, All-cons, All-head, All-tail}
-use Rattle.std.proofs.lemmas.Str.{IsUtf8-drop, IsUtf8-between, IsCharBoundary-start}
-use Rattle.textwrap_words.specs.Words.{tiled, word_of}
-use Rattle.textwrap_base.proofs.ListLemmas.{flat}
+use Rattle.textwrap_base.proofs.Lists.Parts.{flat}
 use Rattle.textwrap_words.proofs.Word.Tiling.{tiled-map}
-use Rattle.textwrap_words.specs.Cuts.{AreCuts, AreInnerCuts, parts_from, parts_between}
-
-pub increasing-le : (xs : List ℕ) → IsStrictlyIncreasing xs → (i j : ℕ) → i ≤ j → j < length xs
-    → get_or xs i 0 ≤ get_or xs j 0
-increasing-le xs up i zero le within = let first : i ≡ 0 = omega arith in rw first (omega arith)
-increasing-le xs up i (suc j) le within =
-    elim (cases_eq i (suc j)) [
-      | inl same ↦ rw same (omega arith)
-      | inr other ↦ let step : get_or xs j 0 < get_or xs (suc j) 0 =
-          rw add-one at (up j (omega arith)) in
-          let before : get_or xs i 0 ≤ get_or xs j 0 =
-          increasing-le xs up i j (omega (arith, other)) (omega arith) in
-          omega (arith, step, before)
-    ]
+use Rattle.textwrap_words.specs.Cuts.{parts_from}
+use Rattle.textwrap_base.proofs.Lists.Rising.{increasing-le}
 
 -- ---- the parts are the line
 

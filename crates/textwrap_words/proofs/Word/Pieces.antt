@@ -1,24 +1,18 @@
 -- Lemmas on words and their pieces: they are texts that tile a line, whatever the points.
-use Rattle.std.proofs.Common.{subst, ◌≡◌, ℕ, suc, ◌<◌, ◌≤◌, true, cond, List, [], ◌∷◌, ◌++◌, All}
-use Rattle.std.proofs.Common.{length, get_or, take, drop, refl, sym, ap, ◌∙◌, arith}
-use Rattle.std.specs.List.{slice_range}
-use Rattle.std.specs.List.Sorted.{IsNonDecreasing}
-use Rattle.std.specs.Str.{IsUtf8, IsCharBoundary}
-use Rattle.std.proofs.lemmas.Bool.{and_parts}
-use Rattle.std.proofs.lemmas.List.Concat.{flat_map-append}
-use Rattle.std.proofs.lemmas.List.Elements.{All-nil, All-cons, All-head, All-tail, All-append}
-use Rattle.std.proofs.lemmas.List.Elements.{All-map, filter_passes}
-use Rattle.std.proofs.lemmas.Str.{IsUtf8-drop, IsUtf8-between, IsCharBoundary-start}
-use Rattle.textwrap_words.specs.Blanks.{is_blank}
-use Rattle.textwrap_words.specs.Cuts.{AreCuts}
-use Rattle.textwrap_words.specs.WordSplitters.{Splitter, Whole, AtHyphens, hyphen, ends_in_hyphen}
-use Rattle.textwrap_words.specs.WordSplitters.{is_hyphen_point, inner_offsets, cut_penalty}
-use Rattle.textwrap_words.specs.WordSplitters.{points_of, split_from, split_pieces, split_word}
-use Rattle.textwrap_words.specs.WordSplitters.{split_words, ArePoints, AreSplit}
-use Rattle.textwrap_words.specs.Words.{piece, WordText, tile_of, tiled, word_of, words_of, chunks}
-use Rattle.textwrap_words.specs.Words.{AreWordsOf}
-use Rattle.textwrap_words.proofs.Word.Splitting.{points_of-cuts, tiled-split_pieces}
-use Rattle.textwrap_words.proofs.Word.Texts.{IsMeasured, HasNoPenalty, words_of-measured}
+use Rattle.textwrap_base.proofs.Common.{subst, ◌≡◌, ℕ, suc, ◌<◌, ◌≤◌, true, cond, List, [], ◌∷◌}
+use Rattle.textwrap_base.proofs.Common.{◌++◌, All, length, get_or, take, drop, refl, sym, ap, ◌∙◌}
+use Rattle.textwrap_base.proofs.Common.{arith, slice_range, IsNonDecreasing, IsUtf8, IsCharBoundary}
+use Rattle.textwrap_base.proofs.Common.{and_parts, All-nil, All-cons, All-head, All-tail}
+use Rattle.textwrap_base.proofs.Common.{All-append, All-map, IsUtf8-drop, IsUtf8-between}
+use Rattle.textwrap_words.proofs.Common.{is_blank, AreCuts, Splitter, Whole, AtHyphens, hyphen}
+use Rattle.textwrap_words.proofs.Common.{ends_in_hyphen, is_hyphen_point, cut_penalty, points_of}
+use Rattle.textwrap_words.proofs.Common.{split_from, split_pieces, split_word, split_words}
+use Rattle.textwrap_words.proofs.Common.{ArePoints, AreSplit, piece, WordText, tiled, word_of}
+use Rattle.textwrap_words.proofs.Common.{words_of, chunks, AreWordsOf}
+use Rattle.std.proofs.lemmas.List.Elements.{filter_passes}
+use Rattle.textwrap_words.specs.WordSplitters.{inner_offsets}
+use Rattle.textwrap_words.proofs.Word.Splitting.{points_of-cuts}
+use Rattle.textwrap_words.proofs.Word.Measured.{IsMeasured, HasNoPenalty, words_of-measured}
 use Rattle.textwrap_words.proofs.Word.Tiling.{tiled-words_of}
 use Rattle.textwrap_words.proofs.Word.Words.{words_unique}
 
@@ -53,7 +47,7 @@ pub record AreTexts (line : List ℕ) (words : List WordText) : Type 0 where
   pub measured : All IsMeasured words
   pub plain : All HasNoPenalty words
 
-split_from-measured : (w : WordText) (start : ℕ) (points : List ℕ) → IsMeasured w
+pub split_from-measured : (w : WordText) (start : ℕ) (points : List ℕ) → IsMeasured w
     → IsCharBoundary w.word start → IsNonDecreasing points → All (IsCharBoundary w.word) points
     → ((k : ℕ) → k < length points → start ≤ get_or points k 0)
     → All IsMeasured (split_from w start points)
@@ -90,7 +84,7 @@ points_of-hyphens AtHyphens text =
     λ k d lt. (and_parts _ _ (and_parts _ _
     (filter_passes (is_hyphen_point text) (inner_offsets text) k d lt)).0).0
 
-split_from-no_penalty : (w : WordText) (start : ℕ) (points : List ℕ) → HasNoPenalty w
+pub split_from-no_penalty : (w : WordText) (start : ℕ) (points : List ℕ) → HasNoPenalty w
     → All (λ p. ends_in_hyphen (take p w.word) ≡ true) points
     → All HasNoPenalty (split_from w start points)
 split_from-no_penalty w start [] none ends =
@@ -138,63 +132,3 @@ pub ArePoints-hyphens : (splitter : Splitter) (text points : List ℕ)
 ArePoints-hyphens splitter text points are =
     subst (All (λ p. ends_in_hyphen (take p text) ≡ true)) (sym are)
     (points_of-hyphens splitter text)
-
--- ---- the pieces of such words, at any points where they may be cut
-
-module _ (Words : List ℕ → List WordText → Type 0) (Points : List ℕ → List ℕ → Type 0)
-    (texts : (line : List ℕ) (words : List WordText) → IsUtf8 line → Words line words
-    → AreTexts line words)
-    (cuts : (text points : List ℕ) → IsUtf8 text → Points text points → AreCuts text points) where
-  AreSplit-measured : (words pieces : List WordText) → All IsMeasured words
-      → AreSplit Points words pieces → All IsMeasured pieces
-  AreSplit-measured [] pieces all are = subst (All IsMeasured) (sym are) (All-nil IsMeasured)
-  AreSplit-measured (w ∷ words) pieces all (points, rest, points_are, rest_are, is) =
-      let measured = All-head IsMeasured w words all in
-      let at = cuts w.word points measured.utf8 points_are in
-      subst (All IsMeasured) (sym is)
-      (All-append IsMeasured (split_pieces points w) rest
-      (split_from-measured w 0 points measured (IsCharBoundary-start w.word measured.utf8)
-      at.in_order at.between (λ k lt. omega arith))
-      (AreSplit-measured words rest (All-tail IsMeasured w words all) rest_are))
-
-  AreSplit-tile : (words pieces : List WordText) → All IsMeasured words
-      → AreSplit Points words pieces → tiled pieces ≡ tiled words
-  AreSplit-tile [] pieces all are = ap tiled are
-  AreSplit-tile (w ∷ words) pieces all (points, rest, points_are, rest_are, is) =
-      let measured = All-head IsMeasured w words all in
-      ap tiled is ∙ flat_map-append tile_of (split_pieces points w) rest
-      ∙ ap (λ l. l ++ tiled rest)
-      (tiled-split_pieces points w (cuts w.word points measured.utf8 points_are))
-      ∙ ap (λ l. tile_of w ++ l)
-      (AreSplit-tile words rest (All-tail IsMeasured w words all) rest_are)
-
-  -- the split words of a paragraph
-  abbrev pub AreSplitWords : List ℕ → List WordText → Type 0
-  AreSplitWords paragraph split =
-      (words : List WordText) × Words paragraph words × AreSplit Points words split
-
-  pub split-measured : (paragraph : List ℕ) (split : List WordText) → IsUtf8 paragraph
-      → AreSplitWords paragraph split → All IsMeasured split
-  split-measured paragraph split utf8 (words, words_are, split_are) =
-      AreSplit-measured words split (texts paragraph words utf8 words_are).measured split_are
-
-  pub split-tile : (paragraph : List ℕ) (split : List WordText) → IsUtf8 paragraph
-      → AreSplitWords paragraph split → tiled split ≡ paragraph
-  split-tile paragraph split utf8 (words, words_are, split_are) =
-      let are = texts paragraph words utf8 words_are in
-      AreSplit-tile words split are.measured split_are ∙ are.tile
-
--- ---- where points stand after hyphens, the pieces have no penalties
-
-module _ (Points : List ℕ → List ℕ → Type 0) (hyphens : (text points : List ℕ)
-    → Points text points → All (λ p. ends_in_hyphen (take p text) ≡ true) points) where
-  pub AreSplit-no_penalty : (words pieces : List WordText) → All HasNoPenalty words
-      → AreSplit Points words pieces → All HasNoPenalty pieces
-  AreSplit-no_penalty [] pieces all are =
-      subst (All HasNoPenalty) (sym are) (All-nil HasNoPenalty)
-  AreSplit-no_penalty (w ∷ words) pieces all (points, rest, points_are, rest_are, is) =
-      subst (All HasNoPenalty) (sym is)
-      (All-append HasNoPenalty (split_pieces points w) rest
-      (split_from-no_penalty w 0 points (All-head HasNoPenalty w words all)
-      (hyphens w.word points points_are))
-      (AreSplit-no_penalty words rest (All-tail HasNoPenalty w words all) rest_are))

@@ -1,9 +1,8 @@
 -- Worked rows on the pieces of a word that is split at points. In a text `\u{1b}` is ESC.
-use Rattle.std.proofs.Common.{◌≡◌, [], ◌∷◌, refl, codes}
+use Rattle.textwrap_base.proofs.Common.{◌≡◌, [], ◌∷◌, refl, codes}
+use Rattle.textwrap_words.proofs.Common.{split_pieces, word_of}
 use Rattle.std.specs.Str.{chars}
 use Rattle.unicode.specs.Width.Width.{char_width}
-use Rattle.textwrap_words.specs.WordSplitters.{split_pieces}
-use Rattle.textwrap_words.specs.Words.{word_of}
 
 split_pieces-nowhere : split_pieces [] (word_of (codes "foo-bar ")) ≡ word_of
     (codes "foo-bar ") ∷ []

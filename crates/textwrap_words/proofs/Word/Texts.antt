@@ -1,53 +1,17 @@
 -- Lemmas on the texts of the words of a line: they are UTF-8, and blanks stand between them.
-use Rattle.std.proofs.Common.{inl, inr, ◌≡◌, ℕ, zero, suc, ◌+◌, ◌-◌, ◌<◌, ◌≤◌, Bool, true, false}
-use Rattle.std.proofs.Common.{not, cond, ◌==◌, List, [], ◌∷◌, ◌++◌, All, length, get_or, take, drop}
-use Rattle.std.proofs.Common.{refl, sym, ap, ◌∙◌, subst, arith, append_assoc, append-nil}
-use Rattle.std.proofs.Common.{length-append, length-drop}
-use Rattle.std.specs.Prelude.{reverse}
-use Rattle.std.specs.List.{onto_first, suffix_len, sum_by}
-use Rattle.std.specs.Str.{IsUtf8, IsCharBoundary}
-use Rattle.std.proofs.lemmas.Bool.{and_parts, cases_lt, eqb-true, false≢true}
-use Rattle.std.proofs.lemmas.List.{get_or_at, get_or-drop, get_or-reverse, length-reverse}
-use Rattle.std.proofs.lemmas.List.{length_push, take_at, drop_at}
-use Rattle.std.proofs.lemmas.List.Elements.{All-nil, All-cons, All-map, All-weaker}
+use Rattle.textwrap_base.proofs.Common.{inl, inr, ◌≡◌, ℕ, zero, suc, ◌+◌, ◌-◌, ◌<◌, ◌≤◌, Bool, true}
+use Rattle.textwrap_base.proofs.Common.{false, not, cond, List, [], ◌∷◌, ◌++◌, All, length, get_or}
+use Rattle.textwrap_base.proofs.Common.{drop, refl, sym, ap, ◌∙◌, subst, arith, append_assoc}
+use Rattle.textwrap_base.proofs.Common.{append-nil, length-drop, reverse, onto_first, suffix_len}
+use Rattle.textwrap_base.proofs.Common.{IsUtf8, IsCharBoundary, and_parts, cases_lt, eqb-true}
+use Rattle.textwrap_base.proofs.Common.{false≢true, get_or-drop, All-nil, All-cons, IsUtf8-take}
+use Rattle.textwrap_words.proofs.Common.{is_cut, chunks, is_blank, trimmed_len}
+use Rattle.textwrap_words.proofs.Common.{without_final_blanks, final_blanks}
+use Rattle.std.proofs.lemmas.List.{get_or-reverse, length-reverse}
 use Rattle.std.proofs.lemmas.List.Sums.{prefix_len_passes, prefix_len_stops, suffix_len_is}
-use Rattle.std.proofs.lemmas.Str.{IsUtf8-take, IsUtf8-drop, IsCharBoundary-end}
-use Rattle.std.proofs.lemmas.Str.{IsCharBoundary-before_ascii, IsCharBoundary-after_ascii}
-use Rattle.std.proofs.lemmas.Str.{chars-nil}
-use Rattle.textwrap_base.proofs.ListLemmas.{onto_front, onto_front-onto_first}
-use Rattle.textwrap_words.specs.Units.{columns, visible, text_width}
-use Rattle.textwrap_words.specs.Words.{WordText, word_of, is_cut, chunks, words_of}
-use Rattle.textwrap_words.specs.Blanks.{is_blank, trimmed_len, without_final_blanks, final_blanks}
-
--- ---- a text, cut at an ASCII byte
-
--- what comes before the byte, what goes up to it, what it begins, and what comes after it
-pub record AsciiSeam (before after : List ℕ) (c : ℕ) : Type 0 where
-  pub front : IsUtf8 before
-  pub through : IsUtf8 (before ++ c ∷ [])
-  pub from : IsUtf8 (c ∷ after)
-  pub back : IsUtf8 after
-
-pub ascii_seam : (before after : List ℕ) (c : ℕ) → IsUtf8 (before ++ c ∷ after) → c < 128
-    → AsciiSeam before after c
-ascii_seam before after c utf8 ascii =
-    let bs = before ++ c ∷ after in
-    let i = length before in
-    let byte : get_or bs i 0 ≡ c = get_or_at before c after 0 (length before) refl in
-    let within : length before < length bs = omega (arith, length-append before (c ∷ after)) in
-    let at : IsCharBoundary bs i = IsCharBoundary-before_ascii bs i within (omega (arith, byte)) in
-    let past : IsCharBoundary bs (i + 1) = IsCharBoundary-after_ascii bs i utf8 within
-    (omega (arith, byte)) in
-    let whole : bs ≡ (before ++ c ∷ []) ++ after = sym (append_assoc before (c ∷ []) after) in
-    let len : length (before ++ c ∷ []) ≡ i + 1 = length_push before c in
-    record {
-      front = subst IsUtf8 (take_at before (c ∷ after) i refl) (IsUtf8-take bs i utf8 at);
-      through = subst IsUtf8 (ap (take (i + 1)) whole ∙ take_at (before ++ c ∷ []) after
-          (i + 1) len) (IsUtf8-take bs (i + 1) utf8 past);
-      from = subst IsUtf8 (drop_at before (c ∷ after) i refl) (IsUtf8-drop bs i utf8 at);
-      back = subst IsUtf8 (ap (drop (i + 1)) whole ∙ drop_at (before ++ c ∷ []) after (i + 1) len)
-          (IsUtf8-drop bs (i + 1) utf8 past);
-    }
+use Rattle.std.proofs.lemmas.Str.{IsCharBoundary-end, IsCharBoundary-before_ascii}
+use Rattle.textwrap_base.proofs.Lists.Parts.{onto_front, onto_front-onto_first}
+use Rattle.textwrap_base.proofs.Utf8.{ascii_seam}
 
 -- ---- the parts of a text, where bytes stand before the first
 
@@ -154,44 +118,3 @@ without_final_blanks-utf8 bytes utf8 =
           subst (IsCharBoundary bytes) whole (IsCharBoundary-end bytes)
     ] in
     IsUtf8-take bytes n utf8 at
-
--- ---- the words of a line
-
--- blanks stand after the word, and none where it has a penalty
-pub record EndsInBlanks (w : WordText) : Type 0 where
-  pub blanks : AreBlanks w.whitespace
-  pub none : (length w.penalty == 0) ≡ false → w.whitespace ≡ []
-
--- a word of UTF-8, with the columns of its own text, and with blanks after it
-pub record IsMeasured (w : WordText) : Type 0 where
-  pub utf8 : IsUtf8 w.word
-  pub width : w.width ≡ text_width w.word
-  pub ending : EndsInBlanks w
-
-pub word_of-measured : (bytes : List ℕ) → IsUtf8 bytes → IsMeasured (word_of bytes)
-word_of-measured bytes utf8 = record {
-  utf8 = without_final_blanks-utf8 bytes utf8;
-  width = refl;
-  ending = record {
-    blanks = final_blanks-blank bytes;
-    none = λ some.
-        absurd (false≢true (sym some));
-  };
-}
-
-pub words_of-measured : (line : List ℕ) → IsUtf8 line → All IsMeasured (words_of line)
-words_of-measured line utf8 =
-    All-map IsMeasured word_of (chunks line)
-    (All-weaker IsUtf8 (λ bytes. IsMeasured (word_of bytes)) word_of-measured
-    (chunks line) (chunks-utf8 line utf8))
-
-pub text_width-nil : text_width [] ≡ 0
-text_width-nil = ap (λ cs. sum_by columns (visible cs)) chars-nil
-
--- ---- a word without text, and words without penalties
-
-abbrev pub HasNoPenalty : WordText → Type 0
-HasNoPenalty w = w.penalty ≡ []
-
-pub no_blanks : AreBlanks []
-no_blanks = All-nil (λ c. is_blank c ≡ true)

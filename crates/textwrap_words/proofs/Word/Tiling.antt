@@ -1,17 +1,13 @@
 -- Lemmas on the words of a line, and on texts that words tile.
-use Rattle.std.proofs.Common.{◌≡◌, ℕ, zero, suc, ◌+◌, ◌<◌, ◌≤◌, true, false, cond, List, [], ◌∷◌}
-use Rattle.std.proofs.Common.{◌++◌, length, get_or, take, drop, map, refl, sym, ap, ◌∙◌, subst}
-use Rattle.std.proofs.Common.{arith, add-one, take-append-drop, length-append, append-nil, ◌-◌}
-use Rattle.std.specs.List.{onto_first}
-use Rattle.std.specs.Str.{IsUtf8, IsCharBoundary}
-use Rattle.std.proofs.lemmas.List.{map-append, take_more}
-use Rattle.std.proofs.lemmas.List.Concat.{flat_map-append}
-use Rattle.std.proofs.lemmas.Str.{IsCharBoundary-after_ascii}
-use Rattle.textwrap_base.proofs.ListLemmas.{flat, flat-onto_first}
+use Rattle.textwrap_base.proofs.Common.{◌≡◌, ℕ, zero, suc, ◌+◌, ◌<◌, ◌≤◌, true, false, cond, List}
+use Rattle.textwrap_base.proofs.Common.{[], ◌∷◌, ◌++◌, length, get_or, take, drop, map, refl, sym}
+use Rattle.textwrap_base.proofs.Common.{ap, ◌∙◌, arith, add-one, take-append-drop, length-append}
+use Rattle.textwrap_base.proofs.Common.{append-nil, onto_first, map-append, take_more}
+use Rattle.textwrap_base.proofs.Common.{flat_map-append}
+use Rattle.textwrap_words.proofs.Common.{WordText, word_view, word_of, tile_of, tiled, is_cut}
+use Rattle.textwrap_words.proofs.Common.{chunks, words_of, trimmed_len}
+use Rattle.textwrap_base.proofs.Lists.Parts.{flat, flat-onto_first}
 use Rattle.textwrap_words.specs.declared.words.Word.{Word}
-use Rattle.textwrap_words.specs.Words.{WordText, word_view, word_of, tile_of, tiled, is_cut, chunks}
-use Rattle.textwrap_words.specs.Words.{words_of}
-use Rattle.textwrap_words.specs.Blanks.{trimmed_len}
 
 -- ---- chunks
 
@@ -89,18 +85,4 @@ tiled-take-le words i =
       ap length whole,
       length-append (tiled (map word_view (take i words)))
           (tiled (map word_view (drop i words))),
-    )
-
--- ---- where a text may be cut
-
-pub IsCharBoundary-after_blank : (bs : List ℕ) (n : ℕ) → IsUtf8 bs → 0 < n → n ≤ length bs
-    → (n < length bs → get_or bs (n - 1) 0 ≡ 32) → IsCharBoundary bs n
-IsCharBoundary-after_blank bs zero utf8 some within blank = absurd (omega arith)
-IsCharBoundary-after_blank bs (suc n) utf8 some within blank =
-    let before : suc n - 1 ≡ n = omega arith in (
-      within,
-      λ more.
-          let byte : get_or bs n 0 ≡ 32 = sym (ap (λ k. get_or bs k 0) before) ∙ blank more in
-          (subst (IsCharBoundary bs) (add-one n) (IsCharBoundary-after_ascii bs n utf8 (omega arith)
-          (omega arith))).1 more,
     )

@@ -1,9 +1,10 @@
-use Rattle.std.proofs.Common.{◌+◌, ap, ◌∙◌, arith, map, sym, length}
-use Rattle.textwrap.specs.Columns.{layout_view, padded}
-use Rattle.textwrap_lines.specs.Paragraph.{line_view, line_bytes}
-use Rattle.textwrap.proofs.Text.Table.{cell_is, length-gapped-more, gapped-past}
-use Rattle.textwrap.proofs.Text.Table.{IfNone-always}
 use Rattle.textwrap.proofs.columns.later_len.Goals as goal
+use Rattle.textwrap_base.proofs.Common.{◌+◌, ap, ◌∙◌, arith, map, sym, length}
+use Rattle.textwrap_lines.proofs.Common.{line_view, line_bytes}
+use Rattle.textwrap.proofs.Common.{layout_view, padded}
+use Rattle.textwrap.proofs.Text.Cells.{cell_is}
+use Rattle.textwrap.proofs.Text.TableBytes.{length-gapped-more, gapped-past}
+use Rattle.textwrap_base.proofs.Numbers.{IfNone-always}
 
 pub loop-later-preserved : goal.loop-later-preserved
 loop-later-preserved g c =

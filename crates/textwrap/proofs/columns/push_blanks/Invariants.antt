@@ -1,7 +1,6 @@
-use Rattle.std.proofs.Common.{◌≡◌, ◌++◌}
-use Rattle.std.specs.String.{string_bytes}
-use Rattle.textwrap.specs.Columns.{blanks}
 use Rattle.textwrap.proofs.columns.push_blanks.Given as goal
+use Rattle.textwrap_base.proofs.Common.{◌≡◌, ◌++◌, string_bytes}
+use Rattle.textwrap.proofs.Common.{blanks}
 
 abbrev pub invariant-loop : goal.invariant-loop
 invariant-loop g l = string_bytes l.row ≡ string_bytes l.fn.row ++ blanks l.counter

@@ -1,9 +1,8 @@
-use Rattle.std.proofs.Common.{◌++◌, ◌+◌, map, ap, ◌∙◌, arith, sym}
-use Rattle.std.specs.String.{string_bytes}
-use Rattle.textwrap.specs.Columns.{layout_view, padded}
-use Rattle.textwrap_lines.specs.Paragraph.{line_view, line_bytes}
-use Rattle.textwrap.proofs.Text.Table.{cell_is, gapped-more}
 use Rattle.textwrap.proofs.columns.push_later.Goals as goal
+use Rattle.textwrap_base.proofs.Common.{◌++◌, ◌+◌, map, ap, ◌∙◌, arith, sym, string_bytes}
+use Rattle.textwrap_lines.proofs.Common.{line_view, line_bytes}
+use Rattle.textwrap.proofs.Common.{layout_view, padded}
+use Rattle.textwrap.proofs.Text.Cells.{cell_is, gapped-more}
 
 pub loop-later-preserved : goal.loop-later-preserved
 loop-later-preserved g c =

@@ -1,9 +1,8 @@
-use Rattle.std.proofs.Common.{◌≡◌, ◌+◌, ◌-◌, ◌*◌, ◌<◌, ◌≤◌, ◌++◌, length, map}
-use Rattle.std.specs.List.{range_with_len}
-use Rattle.std.specs.String.{string_bytes}
-use Rattle.textwrap.specs.Columns.{layout_view, gapped, cell}
-use Rattle.textwrap_lines.specs.Paragraph.{line_view, line_bytes}
 use Rattle.textwrap.proofs.columns.push_later.Given as goal
+use Rattle.textwrap_base.proofs.Common.{◌≡◌, ◌+◌, ◌-◌, ◌*◌, ◌<◌, ◌≤◌, ◌++◌, length, map}
+use Rattle.textwrap_base.proofs.Common.{range_with_len, string_bytes}
+use Rattle.textwrap_lines.proofs.Common.{line_view, line_bytes}
+use Rattle.textwrap.proofs.Common.{layout_view, gapped, cell}
 
 -- the later cells so far, where the last line stands, and that there is a column for each
 abbrev pub invariant-loop-later : goal.invariant-loop-later

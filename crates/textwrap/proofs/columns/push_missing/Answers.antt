@@ -1,8 +1,7 @@
-use Rattle.std.proofs.Common.{◌++◌, ap, ◌∙◌, append_assoc}
-use Rattle.std.specs.String.{string_bytes}
-use Rattle.textwrap.specs.Columns.{blanks}
-use Rattle.textwrap.proofs.Text.Table.{run_more}
 use Rattle.textwrap.proofs.columns.push_missing.Goals as goal
+use Rattle.textwrap_base.proofs.Common.{◌++◌, ap, ◌∙◌, append_assoc, string_bytes}
+use Rattle.textwrap.proofs.Common.{blanks}
+use Rattle.textwrap_base.proofs.Lists.Repeated.{run_more}
 
 pub loop-preserved : goal.loop-preserved
 loop-preserved g c =

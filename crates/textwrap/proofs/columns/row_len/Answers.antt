@@ -1,11 +1,11 @@
-use Rattle.std.proofs.Common.{◌≡◌, ◌+◌, ◌-◌, ◌*◌, ◌≤◌, ◌<◌, ◌^◌, ◌⊎◌, ap, sym, ◌∙◌, arith, subst}
-use Rattle.std.proofs.Common.{map, length, min}
-use Rattle.std.proofs.lemmas.List.{length-map}
-use Rattle.std.specs.Prelude.{SomeIff}
-use Rattle.textwrap.specs.Columns.{layout_view, padded, cells, row_text}
-use Rattle.textwrap_lines.specs.Paragraph.{line_view, line_bytes}
-use Rattle.textwrap.proofs.Text.Table.{cell_is, length-row_text, length-gapped-row, SomeIff-ok}
 use Rattle.textwrap.proofs.columns.row_len.Goals as goal
+use Rattle.textwrap_base.proofs.Common.{◌≡◌, ◌+◌, ◌-◌, ◌*◌, ◌≤◌, ◌<◌, ◌^◌, ◌⊎◌, ap, sym, ◌∙◌, arith}
+use Rattle.textwrap_base.proofs.Common.{subst, map, length, min, length-map, SomeIff}
+use Rattle.textwrap_lines.proofs.Common.{line_view, line_bytes}
+use Rattle.textwrap.proofs.Common.{layout_view, padded, cells, row_text}
+use Rattle.textwrap.proofs.Text.Cells.{cell_is}
+use Rattle.textwrap.proofs.Text.TableBytes.{length-row_text, length-gapped-row}
+use Rattle.textwrap_base.proofs.Numbers.{SomeIff-ok}
 
 pub returns-in_err-first_len : goal.returns-in_err-first_len
 returns-in_err-first_len g c =

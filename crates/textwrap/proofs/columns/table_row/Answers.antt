@@ -1,10 +1,10 @@
-use Rattle.std.proofs.Common.{◌≡◌, ◌++◌, ◌+◌, ◌-◌, ◌*◌, ◌≤◌, ◌⊎◌, map, ap, sym, ◌∙◌, arith, subst}
-use Rattle.std.proofs.lemmas.List.{length-map}
-use Rattle.std.specs.List.{range_with_len, repeat}
-use Rattle.textwrap.specs.Columns.{layout_view, blanks, cell, padded, gapped}
-use Rattle.textwrap_lines.specs.Paragraph.{line_view, line_bytes}
-use Rattle.textwrap.proofs.Text.Table.{cell_is, row_text-written}
 use Rattle.textwrap.proofs.columns.table_row.Goals as goal
+use Rattle.textwrap_base.proofs.Common.{◌≡◌, ◌++◌, ◌+◌, ◌-◌, ◌*◌, ◌≤◌, ◌⊎◌, map, ap, sym, ◌∙◌}
+use Rattle.textwrap_base.proofs.Common.{arith, subst, length-map, range_with_len, repeat}
+use Rattle.textwrap_lines.proofs.Common.{line_view, line_bytes}
+use Rattle.textwrap.proofs.Common.{layout_view, blanks, cell, padded, gapped}
+use Rattle.textwrap.proofs.Text.Cells.{cell_is}
+use Rattle.textwrap.proofs.Text.Table.{row_text-written}
 
 pub returns : goal.returns
 returns g c =

@@ -1,12 +1,10 @@
-use Rattle.std.proofs.Common.{ℕ, List, ◌∷◌, [], ◌++◌, length, map, ap, sym, ◌∙◌, arith}
-use Rattle.std.proofs.lemmas.List.{map-append}
-use Rattle.std.proofs.lemmas.List.FromFn.{map-range_with_len_more}
-use Rattle.std.specs.List.{range_with_len}
-use Rattle.std.specs.String.{string_bytes}
-use Rattle.textwrap.specs.Columns.{layout_view, row_text, cells}
-use Rattle.textwrap_lines.specs.Paragraph.{line_view, line_bytes}
-use Rattle.textwrap.proofs.Text.Table.{rows-le_lines}
 use Rattle.textwrap.proofs.columns.table_rows.Goals as goal
+use Rattle.textwrap_base.proofs.Common.{ℕ, List, ◌∷◌, [], ◌++◌, length, map, ap, sym, ◌∙◌, arith}
+use Rattle.textwrap_base.proofs.Common.{map-append, map-range_with_len_more, range_with_len}
+use Rattle.textwrap_base.proofs.Common.{string_bytes}
+use Rattle.textwrap_lines.proofs.Common.{line_view, line_bytes}
+use Rattle.textwrap.proofs.Common.{layout_view, row_text, cells}
+use Rattle.textwrap_base.proofs.Numbers.{rows-le_lines}
 
 pub table_row-requires-clause-within : goal.table_row-requires-clause-within
 table_row-requires-clause-within g c =

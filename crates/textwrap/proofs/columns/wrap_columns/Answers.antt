@@ -1,9 +1,9 @@
-use Rattle.std.proofs.Common.{◌≡◌, ◌*◌, map, ap, ◌∙◌, arith}
-use Rattle.textwrap.specs.Columns.{column_width, inner_width, layout_of, table_rows}
-use Rattle.textwrap_lines.specs.Options.{settings_view}
-use Rattle.textwrap_lines.specs.Paragraph.{line_view, line_bytes}
-use Rattle.textwrap.proofs.Text.Table.{AreTextLines-methods}
 use Rattle.textwrap.proofs.columns.wrap_columns.Goals as goal
+use Rattle.textwrap_base.proofs.Common.{◌≡◌, ◌*◌, map, ap, ◌∙◌, arith}
+use Rattle.textwrap_lines.proofs.Common.{settings_view, line_view, line_bytes}
+use Rattle.textwrap.proofs.Common.{inner_width, layout_of}
+use Rattle.textwrap.specs.Columns.{column_width, table_rows}
+use Rattle.textwrap.proofs.Text.TableLines.{AreTextLines-methods}
 
 pub returns-clause-rows : goal.returns-clause-rows
 returns-clause-rows g c =

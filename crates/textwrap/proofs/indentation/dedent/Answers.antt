@@ -1,24 +1,19 @@
-use Rattle.std.proofs.Common.{◌≡◌, ◌++◌, ◌∷◌, [], ◌==◌, cond, false, length, map, take, sym, ap}
-use Rattle.std.proofs.Common.{◌∙◌, subst, arith, append-nil}
+use Rattle.textwrap.proofs.indentation.dedent.Goals as goal
+use Rattle.textwrap_base.proofs.Common.{◌≡◌, ◌++◌, ◌∷◌, [], ◌==◌, cond, false, length, map, take}
+use Rattle.textwrap_base.proofs.Common.{sym, ap, ◌∙◌, subst, arith, append-nil, StartsWith}
+use Rattle.textwrap_base.proofs.Common.{join_with_byte, lines, string_bytes, YieldsList-turn}
+use Rattle.textwrap_base.proofs.Common.{YieldsList-end, YieldsList-from_lines, length_push}
+use Rattle.textwrap_base.proofs.Common.{take_all, last}
+use Rattle.textwrap.proofs.Common.{is_blank_line, margin_of}
 use Rattle.std.specs.Char.{encode_utf8}
-use Rattle.std.specs.Io.{StartsWith}
-use Rattle.std.specs.List.{join_with_byte}
 use Rattle.std.specs.Str.{chars}
-use Rattle.std.specs.Str.Lines.{lines}
-use Rattle.std.specs.String.{string_bytes}
-use Rattle.std.proofs.lemmas.Iterator.Consumers.{YieldsList-turn, YieldsList-end}
 use Rattle.std.proofs.lemmas.Iterator.Consumers.{YieldsList-from_enumerate}
-use Rattle.std.proofs.lemmas.Iterator.Splits.{YieldsList-from_lines}
-use Rattle.std.proofs.lemmas.List.{length_push, take_all}
 use Rattle.std.proofs.lemmas.List.FromFn.{length-enumerate_from}
 use Rattle.std.proofs.lemmas.Str.{encode_ascii}
-use Rattle.textwrap_base.specs.Lists.{last}
-use Rattle.textwrap.specs.Indentation.{is_blank_line, without_margin, margin_of}
+use Rattle.textwrap.specs.Indentation.{without_margin}
 use Rattle.textwrap.proofs.Text.Dedenting.{IsLineAt, line_at, joined-first, joined-more}
 use Rattle.textwrap.proofs.Text.Margins.{lines_begin_with_margin}
-use Rattle.textwrap.proofs.indentation.dedent.Goals as goal
-use Rattle.textwrap.proofs.indentation.dedent.Goals.{In-Some}
-use Rattle.textwrap.proofs.indentation.dedent.Goals.{then-i-gt0+in_ok-push, else-i-gt0}
+use Rattle.textwrap.proofs.indentation.dedent.Goals.{In-Some, then-i-gt0+in_ok-push, else-i-gt0}
 use Rattle.textwrap.proofs.indentation.dedent.Goals.{then-ends_with+in_ok-push-2, else-ends_with}
 
 line_feed : encode_utf8 10 ≡ 10 ∷ []

@@ -1,10 +1,7 @@
-use Rattle.std.proofs.Common.{◌≡◌, length, map, take}
-use Rattle.std.specs.List.{join_with_byte}
-use Rattle.std.specs.Str.{chars}
-use Rattle.std.specs.Str.Lines.{lines}
-use Rattle.std.specs.String.{string_bytes}
-use Rattle.textwrap.specs.Indentation.{without_margin}
 use Rattle.textwrap.proofs.indentation.dedent.Given as goal
+use Rattle.textwrap_base.proofs.Common.{◌≡◌, length, map, take, join_with_byte, lines, string_bytes}
+use Rattle.std.specs.Str.{chars}
+use Rattle.textwrap.specs.Indentation.{without_margin}
 
 -- the lines so far, without the margin
 abbrev pub invariant-loop-i : goal.invariant-loop-i

@@ -1,12 +1,12 @@
-use Rattle.std.proofs.Common.{◌≡◌, ◌++◌, cond, length, sym, ap, ◌∙◌, arith, append_assoc}
-use Rattle.std.specs.List.{flat_map}
-use Rattle.std.specs.Str.{trim_end}
-use Rattle.std.specs.String.{string_bytes}
-use Rattle.std.proofs.lemmas.Iterator.Consumers.{YieldsList-turn, YieldsList-end}
-use Rattle.std.proofs.lemmas.List.{length_push, take_all}
-use Rattle.textwrap.specs.Indentation.{ended_parts, indent_of_part, indented_part}
-use Rattle.textwrap.proofs.Text.Indentation.{YieldsList-from_split_inclusive, indented-more}
 use Rattle.textwrap.proofs.indentation.indent.Goals as goal
+use Rattle.textwrap_base.proofs.Common.{◌≡◌, ◌++◌, cond, length, sym, ap, ◌∙◌, arith, append_assoc}
+use Rattle.textwrap_base.proofs.Common.{flat_map, string_bytes, YieldsList-turn, YieldsList-end}
+use Rattle.textwrap_base.proofs.Common.{length_push, take_all}
+use Rattle.textwrap.proofs.Common.{ended_parts}
+use Rattle.std.specs.Str.{trim_end}
+use Rattle.textwrap.specs.Indentation.{indent_of_part, indented_part}
+use Rattle.textwrap.proofs.Text.EndedParts.{YieldsList-from_split_inclusive}
+use Rattle.textwrap_base.proofs.Lists.Maps.{indented-more}
 use Rattle.textwrap.proofs.indentation.indent.Goals.{then-is_blank_line, else-is_blank_line}
 
 pub loop-part-preserved : goal.loop-part-preserved

@@ -1,8 +1,7 @@
-use Rattle.std.proofs.Common.{◌≡◌, length, take}
-use Rattle.std.specs.List.{flat_map}
-use Rattle.std.specs.String.{string_bytes}
-use Rattle.textwrap.specs.Indentation.{ended_parts, indented_part}
 use Rattle.textwrap.proofs.indentation.indent.Given as goal
+use Rattle.textwrap_base.proofs.Common.{◌≡◌, length, take, flat_map, string_bytes}
+use Rattle.textwrap.proofs.Common.{ended_parts}
+use Rattle.textwrap.specs.Indentation.{indented_part}
 
 -- the parts so far, each indented
 abbrev pub invariant-loop-part : goal.invariant-loop-part

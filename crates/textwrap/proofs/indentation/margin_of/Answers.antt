@@ -1,14 +1,12 @@
-use Rattle.std.proofs.Common.{◌≡◌, ◌+◌, ◌∷◌, length, drop, refl, sym, ap, ◌∙◌, arith, None}
-use Rattle.std.specs.Option.{option_map}
-use Rattle.std.specs.Str.{chars}
-use Rattle.std.specs.Str.Lines.{lines}
-use Rattle.std.proofs.lemmas.Iterator.Consumers.{YieldsList-turn, YieldsList-end}
-use Rattle.std.proofs.lemmas.Iterator.Splits.{YieldsList-from_lines}
-use Rattle.std.proofs.lemmas.List.{drop_all, length_push}
-use Rattle.textwrap.proofs.Text.Margins.{margin_after, margin_after-blank, margin_after-first}
-use Rattle.textwrap.proofs.Text.Dedenting.{lines-next}
-use Rattle.textwrap.proofs.Text.Margins.{margin_after-end, narrowed_by}
 use Rattle.textwrap.proofs.indentation.margin_of.Goals as goal
+use Rattle.textwrap_base.proofs.Common.{◌≡◌, ◌+◌, ◌∷◌, length, drop, refl, sym, ap, ◌∙◌, arith}
+use Rattle.textwrap_base.proofs.Common.{None, option_map, lines, YieldsList-turn, YieldsList-end}
+use Rattle.textwrap_base.proofs.Common.{YieldsList-from_lines, drop_all, length_push}
+use Rattle.std.specs.Str.{chars}
+use Rattle.textwrap.proofs.Text.Margins.{margin_after, margin_after-blank, margin_after-first}
+use Rattle.textwrap.proofs.Text.Margins.{margin_after-end}
+use Rattle.textwrap.proofs.Text.Narrowed.{narrowed_by}
+use Rattle.textwrap_base.proofs.Lists.Parts.{lines-next}
 use Rattle.textwrap.proofs.indentation.margin_of.Goals.{In-Some}
 
 -- the lines to come, from this one on

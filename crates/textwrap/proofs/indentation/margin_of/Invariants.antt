@@ -1,10 +1,8 @@
-use Rattle.std.proofs.Common.{◌≡◌, length, drop}
-use Rattle.std.specs.Option.{option_map}
-use Rattle.std.specs.Str.{chars}
-use Rattle.std.specs.Str.Lines.{lines}
-use Rattle.textwrap.specs.Indentation.{margin_of}
-use Rattle.textwrap.proofs.Text.Margins.{margin_after}
 use Rattle.textwrap.proofs.indentation.margin_of.Given as goal
+use Rattle.textwrap_base.proofs.Common.{◌≡◌, length, drop, option_map, lines}
+use Rattle.textwrap.proofs.Common.{margin_of}
+use Rattle.std.specs.Str.{chars}
+use Rattle.textwrap.proofs.Text.Margins.{margin_after}
 
 -- the margin so far, narrowed by the lines to come, is that of the text
 abbrev pub invariant-loop-line : goal.invariant-loop-line

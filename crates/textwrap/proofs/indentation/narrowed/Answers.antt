@@ -1,14 +1,14 @@
-use Rattle.std.proofs.Common.{◌+◌, length, take, drop, sym, ap, ◌∙◌, subst, arith}
-use Rattle.std.proofs.Common.{take-append-drop}
-use Rattle.std.specs.Str.{IsCharBoundary, chars}
-use Rattle.std.proofs.lemmas.Iterator.{YieldsList-from_chars, YieldsList-from_zip}
-use Rattle.std.proofs.lemmas.Iterator.Consumers.{YieldsList-turn, YieldsList-end}
-use Rattle.std.proofs.lemmas.List.{length_push}
-use Rattle.std.proofs.lemmas.Str.{chars_from_encodes}
-use Rattle.textwrap.proofs.Text.Dedenting.{from_start, AreAt, zip_at, IsCut, cut_text}
-use Rattle.textwrap.proofs.Text.Dedenting.{narrowed-stop, narrowed-step, narrowed-done}
-use Rattle.textwrap.proofs.Text.Dedenting.{encoded-more, encoded-within}
 use Rattle.textwrap.proofs.indentation.narrowed.Goals as goal
+use Rattle.textwrap_base.proofs.Common.{◌+◌, length, take, drop, sym, ap, ◌∙◌, subst, arith}
+use Rattle.textwrap_base.proofs.Common.{take-append-drop, IsCharBoundary, YieldsList-from_chars}
+use Rattle.textwrap_base.proofs.Common.{YieldsList-turn, YieldsList-end, length_push}
+use Rattle.textwrap_base.proofs.Common.{chars_from_encodes}
+use Rattle.std.specs.Str.{chars}
+use Rattle.std.proofs.lemmas.Iterator.{YieldsList-from_zip}
+use Rattle.textwrap_base.proofs.Lists.Parts.{from_start}
+use Rattle.textwrap.proofs.Text.Dedenting.{AreAt, zip_at, narrowed-stop, narrowed-step}
+use Rattle.textwrap.proofs.Text.Dedenting.{narrowed-done}
+use Rattle.textwrap_base.proofs.Characters.{IsCut, cut_text, encoded-more, encoded-within}
 use Rattle.textwrap.proofs.indentation.narrowed.Goals.{In-Some}
 
 -- the characters of this turn

@@ -1,7 +1,7 @@
-use Rattle.std.proofs.Common.{◌≡◌, ◌++◌, length, take, drop}
-use Rattle.std.specs.Str.{chars, encode_utf8_all}
-use Rattle.textwrap.specs.Indentation.{narrowed}
 use Rattle.textwrap.proofs.indentation.narrowed.Given as goal
+use Rattle.textwrap_base.proofs.Common.{◌≡◌, ◌++◌, length, take, drop, encode_utf8_all}
+use Rattle.textwrap.proofs.Common.{narrowed}
+use Rattle.std.specs.Str.{chars}
 
 -- the characters so far are the same in both
 abbrev pub invariant-loop-ours : goal.invariant-loop-ours

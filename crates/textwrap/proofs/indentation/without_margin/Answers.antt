@@ -1,8 +1,9 @@
-use Rattle.std.proofs.Common.{◌≡◌, [], cond, false, length, drop, sym, ap, ◌∙◌}
-use Rattle.std.specs.Str.{chars, encode_utf8_all}
-use Rattle.textwrap.specs.Indentation.{is_blank_line}
-use Rattle.textwrap.proofs.Text.Dedenting.{after-margin}
 use Rattle.textwrap.proofs.indentation.without_margin.Goals as goal
+use Rattle.textwrap_base.proofs.Common.{◌≡◌, [], cond, false, length, drop, sym, ap, ◌∙◌}
+use Rattle.textwrap_base.proofs.Common.{encode_utf8_all}
+use Rattle.textwrap.proofs.Common.{is_blank_line}
+use Rattle.std.specs.Str.{chars}
+use Rattle.textwrap_base.proofs.Characters.{after-margin}
 
 pub range_from-requires : goal.range_from-requires
 range_from-requires c =

@@ -1,17 +1,15 @@
-use Rattle.std.proofs.Common.{◌≡◌, ◌<◌, All, length, sym, ap, ◌∙◌, subst, arith}
-use Rattle.std.specs.String.{string_bytes}
-use Rattle.std.specs.Str.{IsUtf8}
+use Rattle.textwrap.proofs.inplace.fill_inplace.Goals as goal
+use Rattle.textwrap_base.proofs.Common.{◌≡◌, ◌<◌, All, length, sym, ap, ◌∙◌, subst, arith}
+use Rattle.textwrap_base.proofs.Common.{string_bytes, IsUtf8, false≢true}
+use Rattle.textwrap_lines.proofs.Common.{paragraphs_of}
+use Rattle.textwrap.proofs.Common.{IsFilledInPlace, FitsOneLine, breaks_from}
 use Rattle.std.specs.Vec.{with_items}
-use Rattle.std.proofs.lemmas.Bool.{false≢true}
 use Rattle.std.proofs.lemmas.List.{with_items_is}
 use Rattle.std.proofs.lemmas.Str.{IsUtf8-string_bytes}
-use Rattle.textwrap_lines.specs.LineEnding.{paragraphs_of}
 use Rattle.textwrap_lines.specs.declared.line_ending.LineEnding.TheVariants.{LF}
-use Rattle.textwrap.specs.InPlace.{IsFilledInPlace, FitsOneLine, breaks_from}
-use Rattle.textwrap.proofs.Text.Breaks.{feeds-within, filled-by_feeds}
+use Rattle.textwrap.proofs.Text.Feeds.{feeds-within, filled-by_feeds}
 use Rattle.textwrap.proofs.Text.InPlace.{filled-keeps}
-use Rattle.textwrap.proofs.Text.InPlaceLines.{unchanged-fits}
-use Rattle.textwrap.proofs.inplace.fill_inplace.Goals as goal
+use Rattle.textwrap.proofs.Text.InPlaceFits.{unchanged-fits}
 use Rattle.textwrap.proofs.inplace.fill_inplace.Goals.{After-put_line_feeds}
 
 -- the bytes with their line feeds fill the text

@@ -1,12 +1,9 @@
-use Rattle.std.proofs.Common.{All, ap, ◌∙◌, subst, arith}
-use Rattle.textwrap_lines.specs.declared.line_ending.LineEnding.TheVariants.{LF}
-use Rattle.std.proofs.lemmas.Bool.{false≢true}
-use Rattle.std.proofs.lemmas.List.Elements.{All-head, All-tail}
-use Rattle.textwrap.specs.InPlace.{FitsOneLine}
-use Rattle.textwrap.proofs.Text.Breaks.{HasBreaks, HasBreaks-more, HasBreaks-end}
-use Rattle.textwrap.proofs.Text.Breaks.{bytes_left-split}
-use Rattle.textwrap_lines.proofs.Text.Lines.{paragraphs_left, paragraphs_left-split, bytes_left}
 use Rattle.textwrap.proofs.inplace.find_breaks.Goals as goal
+use Rattle.textwrap_base.proofs.Common.{All, ap, ◌∙◌, subst, arith, false≢true, All-head, All-tail}
+use Rattle.textwrap.proofs.Common.{FitsOneLine}
+use Rattle.textwrap_lines.specs.declared.line_ending.LineEnding.TheVariants.{LF}
+use Rattle.textwrap.proofs.Text.Breaks.{HasBreaks, HasBreaks-more, HasBreaks-end, bytes_left-split}
+use Rattle.textwrap_lines.proofs.Text.Lines.{paragraphs_left, paragraphs_left-split, bytes_left}
 
 pub loop-rest-preserved : goal.loop-rest-preserved
 loop-rest-preserved g c =

@@ -1,10 +1,10 @@
-use Rattle.std.proofs.Common.{◌+◌, ◌≤◌, All, length}
-use Rattle.textwrap_lines.specs.LineEnding.{paragraphs_of}
+use Rattle.textwrap.proofs.inplace.find_breaks.Given as goal
+use Rattle.textwrap_base.proofs.Common.{◌+◌, ◌≤◌, All, length}
+use Rattle.textwrap_lines.proofs.Common.{paragraphs_of}
+use Rattle.textwrap.proofs.Common.{FitsOneLine}
 use Rattle.textwrap_lines.specs.declared.line_ending.LineEnding.TheVariants.{LF}
-use Rattle.textwrap.specs.InPlace.{FitsOneLine}
 use Rattle.textwrap.proofs.Text.Breaks.{HasBreaks}
 use Rattle.textwrap_lines.proofs.Text.Lines.{paragraphs_left, bytes_left}
-use Rattle.textwrap.proofs.inplace.find_breaks.Given as goal
 
 -- the places so far, and those of the parts left, are the places of the text
 abbrev pub invariant-loop-rest : goal.invariant-loop-rest

@@ -1,11 +1,10 @@
-use Rattle.std.proofs.Common.{◌+◌, ◌<◌, ◌≤◌, [], ◌∷◌, ◌++◌, length, ap, ◌∙◌, subst, arith, length-append}
-use Rattle.std.proofs.Common.{⊎_elim}
-use Rattle.std.proofs.lemmas.Bool.{cases_lt}
-use Rattle.textwrap_words.specs.Words.{word_view}
-use Rattle.textwrap.proofs.Text.Growing.{HasLine, HasLine-begin, HasLine-break, HasLine-join}
-use Rattle.textwrap.proofs.Text.Growing.{HasLine-none, HasLine-within, HasLine-fits}
-use Rattle.textwrap.proofs.Text.Growing.{HasLine-end}
 use Rattle.textwrap.proofs.inplace.push_breaks.Goals as goal
+use Rattle.textwrap_base.proofs.Common.{◌+◌, ◌<◌, ◌≤◌, [], ◌∷◌, ◌++◌, length, ap, ◌∙◌, subst, arith}
+use Rattle.textwrap_base.proofs.Common.{length-append, ⊎_elim, cases_lt}
+use Rattle.textwrap_words.proofs.Common.{word_view}
+use Rattle.textwrap.proofs.Text.LineSoFar.{HasLine, HasLine-begin}
+use Rattle.textwrap.proofs.Text.Growing.{HasLine-break, HasLine-join, HasLine-none, HasLine-within}
+use Rattle.textwrap.proofs.Text.Growing.{HasLine-fits, HasLine-end}
 use Rattle.textwrap.proofs.inplace.push_breaks.Goals.{then-line_start-end+then-open_width-word_width+in_ok-push}
 use Rattle.textwrap.proofs.inplace.push_breaks.Goals.{else-line_start-end}
 use Rattle.textwrap.proofs.inplace.push_breaks.Goals.{else-line_start-end-via-then-line_start-end+else-open_width-word_width}

@@ -1,6 +1,6 @@
-use Rattle.std.proofs.Common.{◌≡◌, length, drop}
-use Rattle.textwrap.specs.InPlace.{with_line_feeds}
 use Rattle.textwrap.proofs.inplace.put_line_feeds.Given as goal
+use Rattle.textwrap_base.proofs.Common.{◌≡◌, length, drop}
+use Rattle.textwrap.proofs.Common.{with_line_feeds}
 
 -- line feeds in the places left make of the bytes what they are to become
 abbrev pub invariant-loop-place : goal.invariant-loop-place

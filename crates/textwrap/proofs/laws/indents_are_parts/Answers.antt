@@ -1,6 +1,7 @@
-use Rattle.textwrap.proofs.Text.Indentation.{ended_parts_one, ended_parts-indented}
-use Rattle.textwrap.proofs.Text.Indentation.{indented-whole, indents-removed, text-removed}
 use Rattle.textwrap.proofs.laws.indents_are_parts.Goals as goal
+use Rattle.textwrap.proofs.Text.EndedUnique.{ended_parts_one}
+use Rattle.textwrap.proofs.Text.Indentation.{ended_parts-indented, indented-whole, indents-removed}
+use Rattle.textwrap.proofs.Text.Indentation.{text-removed}
 
 pub returns : goal.returns
 returns c = record {

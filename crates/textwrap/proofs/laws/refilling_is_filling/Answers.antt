@@ -1,7 +1,7 @@
-use Rattle.textwrap_lines.specs.Paragraph.{DividesAs}
+use Rattle.textwrap.proofs.laws.refilling_is_filling.Goals as goal
+use Rattle.textwrap_lines.proofs.Common.{DividesAs}
 use Rattle.textwrap.proofs.Text.PlainFilled.{filled-plain}
 use Rattle.textwrap.proofs.Text.Refilling.{refilled-filled, refilled-twice}
-use Rattle.textwrap.proofs.laws.refilling_is_filling.Goals as goal
 
 pub returns : goal.returns
 returns c = record {

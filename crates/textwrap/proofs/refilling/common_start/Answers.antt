@@ -1,16 +1,15 @@
-use Rattle.std.proofs.Common.{◌≡◌, nat_eq, rules, subst, sym, ◌∙◌}
-use Rattle.std.specs.List.{common_prefix_len, zip}
-use Rattle.std.specs.Str.{IsCharBoundary}
+use Rattle.textwrap.proofs.refilling.common_start.Goals as goal
+use Rattle.textwrap_base.proofs.Common.{◌≡◌, nat_eq, rules, subst, sym, ◌∙◌, common_prefix_len, zip}
+use Rattle.textwrap_base.proofs.Common.{IsCharBoundary, length-prefix_len}
 use Rattle.std.proofs.lemmas.Iterator.{YieldsList-from_zip}
 use Rattle.std.proofs.lemmas.Iterator.Adapters.{YieldsList-from_bytes}
 use Rattle.std.proofs.lemmas.Iterator.Consumers.{count_from_yields_List}
 use Rattle.std.proofs.lemmas.Iterator.Search.{YieldsList-from_take_while}
-use Rattle.std.proofs.lemmas.List.Folds.{length-prefix_len}
 use Rattle.std.proofs.lemmas.List.Sums.{common_prefix_len-le}
 use Rattle.std.proofs.lemmas.Str.{IsCharBoundary-from_ascii}
 use borrow.Author.Tests.{tests}
-use Rattle.textwrap.proofs.Text.Prefixes.{zip-common, slice_range-front}
-use Rattle.textwrap.proofs.refilling.common_start.Goals as goal
+use Rattle.textwrap_base.proofs.Lists.Prefixes.{zip-common}
+use Rattle.textwrap.proofs.Text.Prefixes.{slice_range-front}
 
 pub range-requires-clause-end_boundary : goal.range-requires-clause-end_boundary
 range-requires-clause-end_boundary c =

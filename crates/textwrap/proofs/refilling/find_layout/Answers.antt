@@ -1,19 +1,16 @@
-use Rattle.std.proofs.Common.{◌≡◌, ◌+◌, [], ◌∷◌, ◌++◌, max, get_or, map, drop, length, refl, sym}
-use Rattle.std.proofs.Common.{ap, ◌∙◌, subst, arith, append-nil}
-use Rattle.std.specs.List.{fold}
-use Rattle.std.specs.Str.{IsAscii}
-use Rattle.std.specs.Str.Lines.{lines}
+use Rattle.textwrap.proofs.refilling.find_layout.Goals as goal
+use Rattle.textwrap_base.proofs.Common.{◌≡◌, ◌+◌, [], ◌∷◌, ◌++◌, max, get_or, map, drop, length}
+use Rattle.textwrap_base.proofs.Common.{refl, sym, ap, ◌∙◌, subst, arith, append-nil, fold, IsAscii}
+use Rattle.textwrap_base.proofs.Common.{lines, YieldsList-turn, YieldsList-end}
+use Rattle.textwrap_base.proofs.Common.{YieldsList-from_lines, length_push, drop_all}
+use Rattle.textwrap_words.proofs.Common.{text_width}
+use Rattle.textwrap.proofs.Common.{line_prefix, common_prefix, unfilled_initial}
+use Rattle.textwrap.proofs.Common.{unfilled_subsequent}
 use Rattle.std.proofs.lemmas.Iterator.Adapters.{YieldsList-from_skip}
-use Rattle.std.proofs.lemmas.Iterator.Consumers.{YieldsList-turn, YieldsList-end}
-use Rattle.std.proofs.lemmas.Iterator.Splits.{YieldsList-from_lines}
-use Rattle.std.proofs.lemmas.List.{length_push, drop_all}
-use Rattle.textwrap_words.specs.Units.{text_width}
-use Rattle.textwrap.specs.Refilling.{line_prefix, common_prefix, unfilled_width, unfilled_initial}
-use Rattle.textwrap.specs.Refilling.{unfilled_subsequent}
+use Rattle.textwrap.specs.Refilling.{unfilled_width}
 use Rattle.textwrap.proofs.Text.Layout.{width-first, first_line, width-more, common-more}
 use Rattle.textwrap.proofs.Text.Layout.{narrowed-ascii, common-end, later_lines, texts_in}
 use Rattle.textwrap.proofs.Text.Layout.{settings-with}
-use Rattle.textwrap.proofs.refilling.find_layout.Goals as goal
 
 pub loop-line-init : goal.loop-line-init
 loop-line-init c =

@@ -1,11 +1,10 @@
-use Rattle.std.proofs.Common.{◌≡◌, ◌++◌, length, drop, map, max, IfSome}
-use Rattle.std.specs.List.{fold}
-use Rattle.std.specs.Str.{IsAscii}
-use Rattle.textwrap_words.specs.Units.{text_width}
-use Rattle.textwrap.specs.Refilling.{line_prefix, common_prefix, unfilled_width}
-use Rattle.textwrap.specs.Refilling.{unfilled_subsequent}
-use Rattle.textwrap.proofs.Text.Layout.{later_lines, texts_in}
 use Rattle.textwrap.proofs.refilling.find_layout.Given as goal
+use Rattle.textwrap_base.proofs.Common.{◌≡◌, ◌++◌, length, drop, map, max, fold, IsAscii}
+use Rattle.textwrap_words.proofs.Common.{text_width}
+use Rattle.textwrap.proofs.Common.{line_prefix, common_prefix, unfilled_subsequent}
+use Rattle.std.proofs.Common.{IfSome}
+use Rattle.textwrap.specs.Refilling.{unfilled_width}
+use Rattle.textwrap.proofs.Text.Layout.{later_lines, texts_in}
 
 -- the widest line so far, and the lines to come, make the width; what the later lines have had in
 -- common so far, and the prefixes to come, make the subsequent indent

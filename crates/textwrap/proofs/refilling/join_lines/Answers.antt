@@ -1,8 +1,7 @@
-use Rattle.std.proofs.Common.{nat_eq, sym, ap, ◌∙◌}
-use Rattle.std.specs.List.{ends_with}
+use Rattle.textwrap.proofs.refilling.join_lines.Goals as goal
+use Rattle.textwrap_base.proofs.Common.{nat_eq, sym, ap, ◌∙◌, ends_with}
 use Rattle.std.proofs.lemmas.Str.Pattern.{ends_text}
 use Rattle.textwrap.proofs.Text.Unfilling.{keeps_ending-some}
-use Rattle.textwrap.proofs.refilling.join_lines.Goals as goal
 
 pub returns-clause-keeps : goal.returns-clause-keeps
 returns-clause-keeps g c =

@@ -1,13 +1,12 @@
-use Rattle.std.proofs.Common.{◌≡◌, [], ◌∷◌, ◌++◌, length, drop, map, All, subst, sym, ap, ◌∙◌}
-use Rattle.std.proofs.Common.{append_assoc}
-use Rattle.std.specs.Io.{StartsWith}
-use Rattle.std.specs.String.{string_bytes}
-use Rattle.std.proofs.lemmas.List.Elements.{All-head, All-tail}
-use Rattle.textwrap_words.specs.Blanks.{blank}
-use Rattle.textwrap.specs.Refilling.{ended_line_view, detected_among}
+use Rattle.textwrap.proofs.refilling.join_without_indents.Goals as goal
+use Rattle.textwrap_base.proofs.Common.{◌≡◌, [], ◌∷◌, ◌++◌, length, drop, map, All, subst, sym, ap}
+use Rattle.textwrap_base.proofs.Common.{◌∙◌, append_assoc, StartsWith, string_bytes, All-head}
+use Rattle.textwrap_base.proofs.Common.{All-tail}
+use Rattle.textwrap_words.proofs.Common.{blank}
+use Rattle.textwrap.proofs.Common.{detected_among}
+use Rattle.textwrap.specs.Refilling.{ended_line_view}
 use Rattle.textwrap.proofs.Text.Unfilling.{lines-begin, added_lines, joined_text-some}
 use Rattle.textwrap.proofs.Text.Unfilling.{detected_among-two}
-use Rattle.textwrap.proofs.refilling.join_without_indents.Goals as goal
 
 pub without_indent-requires : goal.without_indent-requires
 without_indent-requires g c =

@@ -1,9 +1,7 @@
-use Rattle.std.proofs.Common.{◌≡◌, ◌∷◌, ◌++◌, length, map, All}
-use Rattle.std.specs.Io.{StartsWith}
-use Rattle.std.specs.String.{string_bytes}
-use Rattle.textwrap.specs.Refilling.{joined_text, detected_among, detected_ending}
-use Rattle.textwrap.proofs.Text.Unfilling.{added_lines}
 use Rattle.textwrap.proofs.refilling.join_without_indents.Given as goal
+use Rattle.textwrap_base.proofs.Common.{◌≡◌, ◌∷◌, ◌++◌, length, map, All, StartsWith, string_bytes}
+use Rattle.textwrap.proofs.Common.{joined_text, detected_among, detected_ending}
+use Rattle.textwrap.proofs.Text.Unfilling.{added_lines}
 
 -- the text so far, and what the lines to come add, are the joined text; these lines begin with
 -- their indent; and the ending so far stands for those that came

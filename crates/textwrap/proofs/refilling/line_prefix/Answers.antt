@@ -1,14 +1,12 @@
-use Rattle.std.proofs.Common.{◌≡◌, rules, subst, sym, ◌∙◌}
-use Rattle.std.specs.List.{prefix_len}
-use Rattle.std.specs.Str.{IsCharBoundary}
+use Rattle.textwrap.proofs.refilling.line_prefix.Goals as goal
+use Rattle.textwrap_base.proofs.Common.{◌≡◌, rules, subst, sym, ◌∙◌, prefix_len, IsCharBoundary}
+use Rattle.textwrap_base.proofs.Common.{length-prefix_len}
+use Rattle.textwrap.proofs.Common.{is_prefix_character}
 use Rattle.std.proofs.lemmas.Iterator.Adapters.{YieldsList-from_bytes}
 use Rattle.std.proofs.lemmas.Iterator.Consumers.{count_from_yields_List}
 use Rattle.std.proofs.lemmas.Iterator.Search.{YieldsList-from_take_while}
-use Rattle.std.proofs.lemmas.List.Folds.{length-prefix_len}
 use borrow.Author.Tests.{tests}
-use Rattle.textwrap.specs.Refilling.{is_prefix_character}
 use Rattle.textwrap.proofs.Text.Prefixes.{line_prefix-boundary, slice_range-front}
-use Rattle.textwrap.proofs.refilling.line_prefix.Goals as goal
 
 pub range-requires-clause-end_boundary : goal.range-requires-clause-end_boundary
 range-requires-clause-end_boundary c =

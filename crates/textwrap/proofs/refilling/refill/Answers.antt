@@ -1,11 +1,9 @@
-use Rattle.std.proofs.Common.{◌≡◌, ◌++◌, append-nil, subst, sym, ap, ◌∙◌}
-use Rattle.std.specs.Prelude.{string_bytes}
-use Rattle.textwrap_lines.specs.Filling.{IsFilled}
-use Rattle.textwrap_lines.specs.Options.{settings_view}
-use Rattle.textwrap_lines.specs.Paragraph.{DividesUnder}
-use Rattle.textwrap.specs.Refilling.{joined_text, added_ending, unfilled_initial}
-use Rattle.textwrap.specs.Refilling.{unfilled_subsequent}
 use Rattle.textwrap.proofs.refilling.refill.Goals as goal
+use Rattle.textwrap_base.proofs.Common.{◌≡◌, ◌++◌, append-nil, subst, sym, ap, ◌∙◌, string_bytes}
+use Rattle.textwrap_lines.proofs.Common.{IsFilled, settings_view}
+use Rattle.textwrap.proofs.Common.{joined_text, unfilled_initial, unfilled_subsequent}
+use Rattle.textwrap_lines.specs.Paragraph.{DividesUnder}
+use Rattle.textwrap.specs.Refilling.{added_ending}
 use Rattle.textwrap.proofs.refilling.refill.Goals.{then-keeps_ending+in_ok-push_str}
 use Rattle.textwrap.proofs.refilling.refill.Goals.{else-keeps_ending}
 

@@ -1,6 +1,5 @@
-use Rattle.std.proofs.Common.{◌≡◌, ◌<◌, ◌^◌, take}
-use Rattle.textwrap_base.specs.Division.{open_width, Fits}
 use Rattle.textwrap_base.proofs.first_fit.fitting_len.Given as goal
+use Rattle.textwrap_base.proofs.Common.{◌≡◌, ◌<◌, ◌^◌, take, open_width, Fits}
 
 abbrev pub invariant-loop-i : goal.invariant-loop-i
 invariant-loop-i g l =

@@ -1,13 +1,11 @@
-use Rattle.std.proofs.Common.{◌≡◌, [], ◌∷◌, ◌+◌, ◌<◌, ◌≤◌, take, length, map, vec_len, sym, ap, ◌∙◌}
-use Rattle.std.proofs.Common.{subst, arith}
-use Rattle.textwrap_base.specs.Division.{line_width, closed_width, Fits, IsGreedy}
-use Rattle.std.proofs.lemmas.Bool.Decides.{nat_tests}
-use Rattle.std.proofs.lemmas.List.{append-nil, length-map}
+use Rattle.textwrap_base.proofs.first_fit.wrap_first_fit.Goals as goal
+use Rattle.textwrap_base.proofs.Common.{◌≡◌, [], ◌∷◌, ◌+◌, ◌<◌, ◌≤◌, take, length, map, vec_len}
+use Rattle.textwrap_base.proofs.Common.{sym, ap, ◌∙◌, subst, arith, line_width, closed_width, Fits}
+use Rattle.textwrap_base.proofs.Common.{IsGreedy, nat_tests, append-nil, length-map}
 use Rattle.textwrap_base.proofs.Division.Fewest.{greedy_fewest}
 use Rattle.textwrap_base.proofs.Division.Greedy.{IsGreedyFrom, IsGreedyFrom-nil, IsGreedyFrom-cons}
 use Rattle.textwrap_base.proofs.Division.Greedy.{IsGreedy-from}
-use Rattle.textwrap_base.proofs.ListLemmas.{map-push-append}
-use Rattle.textwrap_base.proofs.first_fit.wrap_first_fit.Goals as goal
+use Rattle.textwrap_base.proofs.Lists.Maps.{map-push-append}
 
 pub loop-rest-init : goal.loop-rest-init
 loop-rest-init g c = (

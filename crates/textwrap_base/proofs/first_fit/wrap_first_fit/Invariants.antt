@@ -1,6 +1,6 @@
-use Rattle.std.proofs.Common.{◌<◌, ◌++◌, length, map, vec_len}
-use Rattle.textwrap_base.proofs.Division.Greedy.{IsGreedyFrom}
 use Rattle.textwrap_base.proofs.first_fit.wrap_first_fit.Given as goal
+use Rattle.textwrap_base.proofs.Common.{◌<◌, ◌++◌, length, map, vec_len}
+use Rattle.textwrap_base.proofs.Division.Greedy.{IsGreedyFrom}
 
 -- the lines so far, and any greedy division of the rest, are a greedy division of all
 abbrev pub invariant-loop-rest : goal.invariant-loop-rest

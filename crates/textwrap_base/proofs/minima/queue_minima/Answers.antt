@@ -1,13 +1,11 @@
-use Rattle.std.proofs.Common.{length, map, sym, ap, ◌∙◌, subst}
-use Rattle.std.proofs.lemmas.Result.{IfOk-weaker}
-use Rattle.textwrap_base.specs.Cost.{PricedSizes, priced_by, IsLeastCost}
-use Rattle.textwrap_base.specs.Minima.{Costs}
-use Rattle.textwrap_base.specs.Queue.{SuitQueue}
-use Rattle.textwrap_base.specs.Table.{table, line_costs, minimum_of}
-use Rattle.textwrap_base.proofs.Cost.Chosen.{entry-least_cost}
-use Rattle.textwrap_base.proofs.Cost.QueueCase.{SuitQueue-queue_case}
-use Rattle.textwrap_base.proofs.Cost.Starts.{cost_reported}
 use Rattle.textwrap_base.proofs.minima.queue_minima.Goals as goal
+use Rattle.textwrap_base.proofs.Common.{length, map, sym, ap, ◌∙◌, subst, PricedSizes, priced_by}
+use Rattle.textwrap_base.proofs.Common.{IsLeastCost, Costs, SuitQueue, line_costs, minimum_of}
+use Rattle.std.proofs.lemmas.Result.{IfOk-weaker}
+use Rattle.textwrap_base.specs.Table.{table}
+use Rattle.textwrap_base.proofs.Cost.Reached.{entry-least_cost}
+use Rattle.textwrap_base.proofs.Cost.QueueCase.{SuitQueue-queue_case}
+use Rattle.textwrap_base.proofs.Cost.Reported.{cost_reported}
 
 pub queue_search-minima-requires : goal.queue_search-minima-requires
 queue_search-minima-requires g c = record {

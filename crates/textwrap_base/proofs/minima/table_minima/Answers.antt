@@ -1,14 +1,14 @@
-use Rattle.std.proofs.Common.{◌≡◌, Vec, arith, ◌∙◌, ap, sym, subst, map, length, ℕ, ◌≤◌, ◌<◌, ◌^◌, inl, inr}
-use Rattle.textwrap_base.specs.Cost.{PricedSizes, priced_by, IsLeastCost}
-use Rattle.textwrap_base.specs.Minima.{Costs, counted, table_steps}
-use Rattle.textwrap_base.specs.Table.{table, entry_at, minimum_of, fragment_costs, line_costs}
-use Rattle.textwrap_base.specs.Table.{IsFirstPast}
+use Rattle.textwrap_base.proofs.minima.table_minima.Goals as goal
+use Rattle.textwrap_base.proofs.Common.{◌≡◌, Vec, arith, ◌∙◌, ap, sym, subst, map, length, ℕ, ◌≤◌}
+use Rattle.textwrap_base.proofs.Common.{◌<◌, ◌^◌, inl, inr, PricedSizes, priced_by, IsLeastCost}
+use Rattle.textwrap_base.proofs.Common.{Costs, counted, table_steps, entry_at, minimum_of}
+use Rattle.textwrap_base.proofs.Common.{fragment_costs, line_costs}
+use Rattle.textwrap_base.specs.Table.{table, IsFirstPast}
 use Rattle.textwrap_base.proofs.Cost.Results.{steps-refused}
 use Rattle.textwrap_base.specs.declared.minima.table.Entry.{Entry}
-use Rattle.textwrap_base.proofs.Cost.Chosen.{entry-least_cost}
-use Rattle.textwrap_base.proofs.Cost.Starts.{cost_reported}
+use Rattle.textwrap_base.proofs.Cost.Reached.{entry-least_cost}
+use Rattle.textwrap_base.proofs.Cost.Reported.{cost_reported}
 use Rattle.textwrap_base.proofs.Cost.Overflow.{table-fits, overflowed_on}
-use Rattle.textwrap_base.proofs.minima.table_minima.Goals as goal
 
 pub returns-in_err-entries-clause-overflow_only : goal.returns-in_err-entries-clause-overflow_only
 returns-in_err-entries-clause-overflow_only g c =

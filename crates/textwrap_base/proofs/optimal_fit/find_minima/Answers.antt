@@ -1,7 +1,6 @@
-use Rattle.std.proofs.Common.{refl}
-use Rattle.textwrap_base.specs.Cost.{priced_by}
-use Rattle.textwrap_base.proofs.Cost.QueueCase.{queue_case-fits}
 use Rattle.textwrap_base.proofs.optimal_fit.find_minima.Goals as goal
+use Rattle.textwrap_base.proofs.Common.{refl, priced_by}
+use Rattle.textwrap_base.proofs.Cost.QueueCase.{queue_case-fits}
 
 pub returns-then-is_queue_case-clause-ok_only : goal.returns-then-is_queue_case-clause-ok_only
 returns-then-is_queue_case-clause-ok_only g c =

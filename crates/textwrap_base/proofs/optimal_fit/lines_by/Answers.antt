@@ -1,11 +1,10 @@
-use Rattle.std.proofs.Common.{arith, Bor, sym, ◌∙◌, ap, subst, ◌≡◌, ◌≢◌, [], All, List, reverse}
-use Rattle.std.proofs.Common.{map, length, drop}
-use Rattle.textwrap_base.specs.Table.{FollowStarts}
-use Rattle.textwrap_base.specs.Division.{IsDivision}
-use Rattle.textwrap_base.specs.declared.minima.Minimum.{Minimum}
-use Rattle.textwrap_base.proofs.Cost.Lines.{joined, reverse_map_push, reverse-map, joined_division}
-use Rattle.textwrap_base.proofs.Cost.Lines.{lines_more, some_from_test}
 use Rattle.textwrap_base.proofs.optimal_fit.lines_by.Goals as goal
+use Rattle.textwrap_base.proofs.Common.{arith, Bor, sym, ◌∙◌, ap, subst, ◌≡◌, ◌≢◌, [], All, List}
+use Rattle.textwrap_base.proofs.Common.{reverse, map, length, drop, FollowStarts, IsDivision}
+use Rattle.textwrap_base.specs.declared.minima.Minimum.{Minimum}
+use Rattle.textwrap_base.proofs.Cost.Lines.{joined, joined_division, lines_more}
+use Rattle.textwrap_base.proofs.Lists.Maps.{reverse_map_push, reverse-map}
+use Rattle.textwrap_base.proofs.Numbers.{some_from_test}
 
 pub line_start-start-requires-clause-before : goal.line_start-start-requires-clause-before
 line_start-start-requires-clause-before g c = c.requires.later c.loop-end.end (omega arith)

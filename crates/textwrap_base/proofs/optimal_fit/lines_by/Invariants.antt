@@ -1,8 +1,7 @@
-use Rattle.std.proofs.Common.{◌≡◌, ◌≢◌, ◌≤◌, [], All, map, reverse, drop, length}
-use Rattle.std.specs.List.{flat_map}
-use Rattle.textwrap_base.specs.Table.{FollowStarts}
-use Rattle.textwrap_base.specs.declared.minima.Minimum.{Minimum}
 use Rattle.textwrap_base.proofs.optimal_fit.lines_by.Given as goal
+use Rattle.textwrap_base.proofs.Common.{◌≡◌, ◌≢◌, ◌≤◌, [], All, map, reverse, drop, length}
+use Rattle.textwrap_base.proofs.Common.{flat_map, FollowStarts}
+use Rattle.textwrap_base.specs.declared.minima.Minimum.{Minimum}
 
 abbrev pub invariant-loop-end : goal.invariant-loop-end
 invariant-loop-end g l = record {

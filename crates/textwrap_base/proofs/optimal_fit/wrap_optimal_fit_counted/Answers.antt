@@ -1,11 +1,9 @@
-use Rattle.std.proofs.Common.{Vec, Bor, List, map, ◌∙◌, length}
-use Rattle.textwrap_base.specs.Cost.{priced_by}
-use Rattle.textwrap_base.specs.Table.{line_costs}
+use Rattle.textwrap_base.proofs.optimal_fit.wrap_optimal_fit_counted.Goals as goal
+use Rattle.textwrap_base.proofs.Common.{Vec, Bor, List, map, ◌∙◌, length, priced_by, line_costs}
 use Rattle.textwrap_base.specs.declared.minima.Minimum.{Minimum}
 use Rattle.textwrap_base.proofs.Cost.Results.{optimal-returned, optimal-refused}
-use Rattle.textwrap_base.proofs.Cost.Starts.{starts_reported, length_reported, first_reported}
-use Rattle.textwrap_base.proofs.Cost.Starts.{later_reported}
-use Rattle.textwrap_base.proofs.optimal_fit.wrap_optimal_fit_counted.Goals as goal
+use Rattle.textwrap_base.proofs.Cost.Reported.{starts_reported, length_reported, first_reported}
+use Rattle.textwrap_base.proofs.Cost.Reported.{later_reported}
 
 pub lines_by-requires-clause-len : goal.lines_by-requires-clause-len
 lines_by-requires-clause-len g c =

@@ -1,9 +1,7 @@
-use Rattle.std.proofs.Common.{map, sym, subst}
-use Rattle.std.proofs.lemmas.List.{map_push}
-use Rattle.std.specs.String.{string_bytes}
-use Rattle.textwrap_c.specs.Columns.{AreToldRows}
-use Rattle.textwrap_c.proofs.PlaceLemmas.{AreToldRows-push}
 use Rattle.textwrap_c.proofs.columns.tell_rows.Goals as goal
+use Rattle.textwrap_base.proofs.Common.{map, sym, subst, map_push, string_bytes}
+use Rattle.textwrap_c.specs.Columns.{AreToldRows}
+use Rattle.textwrap_c.proofs.GroupLemmas.{AreToldRows-push}
 
 pub loop-row-preserved-in_ok-push : goal.loop-row-preserved-in_ok-push
 loop-row-preserved-in_ok-push c =

@@ -1,7 +1,6 @@
-use Rattle.std.proofs.Common.{map}
-use Rattle.std.specs.String.{string_bytes}
-use Rattle.textwrap_c.specs.Columns.{AreToldRows}
 use Rattle.textwrap_c.proofs.columns.tell_rows.Given as goal
+use Rattle.textwrap_base.proofs.Common.{map, string_bytes}
+use Rattle.textwrap_c.specs.Columns.{AreToldRows}
 
 -- the rows so far are told
 abbrev pub invariant-loop-row : goal.invariant-loop-row

@@ -1,12 +1,11 @@
-use Rattle.std.proofs.Common.{ℕ, List, ◌++◌, map, refl, subst, sym, arith}
-use Rattle.std.specs.String.{string_bytes}
-use Rattle.textwrap.specs.Paragraph.{Built}
+use Rattle.textwrap_c.proofs.columns.textwrap_wrap_columns.Goals as goal
+use Rattle.textwrap_base.proofs.Common.{ℕ, List, ◌++◌, map, refl, subst, sym, arith, string_bytes}
+use Rattle.textwrap.proofs.Common.{Built}
 use Rattle.textwrap_c.specs.Options.{settings_of, splitter_of, algorithm_of}
 use Rattle.textwrap_c.specs.Wrapping.{ShowLines, built_text}
 use Rattle.textwrap_c.proofs.BuiltInParts.{columns-as}
 use Rattle.textwrap_c.proofs.LineLemmas.{WritesLines-told}
-use Rattle.textwrap_c.proofs.PlaceLemmas.{rows-shown}
-use Rattle.textwrap_c.proofs.columns.textwrap_wrap_columns.Goals as goal
+use Rattle.textwrap_c.proofs.GroupLemmas.{rows-shown}
 
 pub returns-clause-columns : goal.returns-clause-columns
 returns-clause-columns c =

@@ -1,5 +1,5 @@
-use Rattle.textwrap_c.proofs.RoomLemmas.{WritesText-answer}
 use Rattle.textwrap_c.proofs.filling.textwrap_fill.Goals as goal
+use Rattle.textwrap_c.proofs.RoomLemmas.{WritesText-answer}
 
 pub returns-in-Ok-fill-clause-filled : goal.returns-in-Ok-fill-clause-filled
 returns-in-Ok-fill-clause-filled c =

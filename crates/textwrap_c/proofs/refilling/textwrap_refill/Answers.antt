@@ -1,8 +1,8 @@
-use Rattle.std.specs.String.{string_bytes}
+use Rattle.textwrap_c.proofs.refilling.textwrap_refill.Goals as goal
+use Rattle.textwrap_base.proofs.Common.{string_bytes}
 use Rattle.textwrap_c.specs.Options.{settings_of, splitter_of, algorithm_of}
 use Rattle.textwrap_c.proofs.BuiltInParts.{refilled-as}
 use Rattle.textwrap_c.proofs.RoomLemmas.{WritesText-answer}
-use Rattle.textwrap_c.proofs.refilling.textwrap_refill.Goals as goal
 
 pub returns-in-Ok-refill-clause-refilled : goal.returns-in-Ok-refill-clause-refilled
 returns-in-Ok-refill-clause-refilled c =

@@ -1,8 +1,7 @@
-use Rattle.std.proofs.Common.{◌≡◌, ◌++◌, length, inl, inr, ap, ◌∙◌, arith}
-use Rattle.std.proofs.lemmas.Bool.{cases_lt}
-use Rattle.std.proofs.lemmas.List.{append_assoc, length-append}
-use Rattle.std.proofs.lemmas.List.Prefix.{front_rest}
 use Rattle.textwrap_c.proofs.told.place.Goals as goal
+use Rattle.textwrap_base.proofs.Common.{◌≡◌, ◌++◌, length, inl, inr, ap, ◌∙◌, arith, cases_lt}
+use Rattle.textwrap_base.proofs.Common.{append_assoc, length-append}
+use Rattle.std.proofs.lemmas.List.Prefix.{front_rest}
 
 pub unreachable-requires : goal.unreachable-requires
 unreachable-requires c =

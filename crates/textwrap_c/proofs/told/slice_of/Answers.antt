@@ -1,9 +1,8 @@
-use Rattle.std.proofs.Common.{◌≡◌, length, take, ap, sym, ◌∙◌, subst, arith, IsUtf8}
-use Rattle.std.proofs.lemmas.List.{length-take}
-use Rattle.std.proofs.lemmas.Str.{IsCharBoundary-from_take}
-use Rattle.textwrap.specs.Paragraph.{line_view}
-use Rattle.textwrap_c.specs.Told.{HasIndent}
 use Rattle.textwrap_c.proofs.told.slice_of.Goals as goal
+use Rattle.textwrap_base.proofs.Common.{◌≡◌, length, take, ap, sym, ◌∙◌, subst, arith, IsUtf8}
+use Rattle.textwrap_base.proofs.Common.{length-take, IsCharBoundary-from_take}
+use Rattle.textwrap.proofs.Common.{line_view}
+use Rattle.textwrap_c.specs.Told.{HasIndent}
 
 pub range_from-requires : goal.range_from-requires
 range_from-requires c = λ some.

@@ -1,11 +1,11 @@
-use Rattle.std.proofs.Common.{◌≡◌, [], rules, drop, map, ap, refl, sym, ◌∙◌, arith}
-use Rattle.std.proofs.Math.ListN.{drop_of_length-le}
-use Rattle.std.proofs.lemmas.Str.{IsCharBoundary-start}
-use Rattle.textwrap.specs.Options.{settings_view}
-use Rattle.textwrap.specs.Paragraph.{indent_of, line_view}
-use Rattle.textwrap_c.proofs.ToldLemmas.{HasTold-end, HasTold-left, HasTold-next, HasTold-stands}
-use Rattle.textwrap_c.proofs.ToldLemmas.{HasTold-start, next, next-left}
 use Rattle.textwrap_c.proofs.told.tell_lines.Goals as goal
+use Rattle.textwrap_base.proofs.Common.{◌≡◌, [], rules, drop, map, ap, refl, sym, ◌∙◌, arith}
+use Rattle.textwrap_base.proofs.Common.{IsCharBoundary-start}
+use Rattle.textwrap.proofs.Common.{settings_view, indent_of, line_view}
+use Rattle.std.proofs.Math.ListN.{drop_of_length-le}
+use Rattle.textwrap_c.proofs.ToldLemmas.{HasTold-end, HasTold-left, HasTold-start}
+use Rattle.textwrap_c.proofs.ToldNextLemmas.{HasTold-next, HasTold-stands, next}
+use Rattle.textwrap_c.proofs.NextLemmas.{next-left}
 use Rattle.textwrap_c.proofs.told.tell_lines.Goals.{then-is_later, else-is_later}
 
 pub loop-line-init : goal.loop-line-init

@@ -1,10 +1,7 @@
-use Rattle.std.proofs.Common.{drop, map, IsCharBoundary}
-use denote.Text.{Utf8}
-use denote.Shadow.{shadow}
-use Rattle.textwrap.specs.Options.{settings_view}
-use Rattle.textwrap.specs.Paragraph.{AreParagraphParts, DividesBy, line_view}
-use Rattle.textwrap_c.proofs.ToldLemmas.{HasTold}
 use Rattle.textwrap_c.proofs.told.tell_lines.Given as goal
+use Rattle.textwrap_base.proofs.Common.{drop, map, IsCharBoundary, Utf8, shadow}
+use Rattle.textwrap.proofs.Common.{settings_view, AreParagraphParts, DividesBy, line_view}
+use Rattle.textwrap_c.proofs.ToldLemmas.{HasTold}
 
 -- the lines so far are told, and the next slice is looked for at a place between characters
 abbrev pub invariant-loop-line : goal.invariant-loop-line

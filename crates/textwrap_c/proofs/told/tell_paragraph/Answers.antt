@@ -1,9 +1,8 @@
-use Rattle.std.proofs.Common.{◌≡◌, ◌++◌, length, map, nat_lt, ap, sym, ◌∙◌, subst, arith}
-use Rattle.textwrap.specs.Options.{settings_view}
-use Rattle.textwrap.specs.Paragraph.{AreParagraphParts, DividesBy, line_view}
-use Rattle.textwrap_c.proofs.LaidLemmas.{options-laid, options-tile}
-use Rattle.textwrap_c.proofs.ToldLemmas.{added-lines}
 use Rattle.textwrap_c.proofs.told.tell_paragraph.Goals as goal
+use Rattle.textwrap_base.proofs.Common.{◌≡◌, ◌++◌, length, map, nat_lt, ap, sym, ◌∙◌, subst, arith}
+use Rattle.textwrap.proofs.Common.{settings_view, AreParagraphParts, DividesBy, line_view}
+use Rattle.textwrap_c.proofs.LaidLemmas.{options-laid, options-tile}
+use Rattle.textwrap_c.proofs.NextLemmas.{added-lines}
 
 pub tell_lines-requires-clause-are : goal.tell_lines-requires-clause-are
 tell_lines-requires-clause-are g c =

@@ -1,15 +1,14 @@
-use Rattle.std.proofs.Common.{◌+◌, ◌≤◌, length, map, nat_lt, ap, sym, ◌∙◌, subst, arith}
-use Rattle.std.proofs.lemmas.List.{length-map}
-use Rattle.textwrap.specs.LineEnding.{ending_bytes}
-use Rattle.textwrap.specs.Options.{settings_view}
-use Rattle.textwrap.specs.Paragraph.{AreParagraphParts, DividesBy, line_view}
+use Rattle.textwrap_c.proofs.told.tell_text.Goals as goal
+use Rattle.textwrap_base.proofs.Common.{◌+◌, ◌≤◌, length, map, nat_lt, ap, sym, ◌∙◌, subst, arith}
+use Rattle.textwrap_base.proofs.Common.{length-map}
+use Rattle.textwrap.proofs.Common.{ending_bytes, settings_view, AreParagraphParts, DividesBy}
+use Rattle.textwrap.proofs.Common.{line_view}
 use Rattle.textwrap_c.specs.Told.{TellsLines}
 use Rattle.textwrap_lines.specs.declared.line_ending.LineEnding.{LineEnding}
 use Rattle.textwrap_lines.specs.declared.line_ending.LineEnding.TheVariants.{CRLF, LF}
 use Rattle.textwrap_lines.proofs.Text.Lines.{paragraphs_left, paragraphs_left-split}
-use Rattle.textwrap_c.proofs.ToldLemmas.{HasPlaced-end, HasPlaced-fits, HasPlaced-more}
-use Rattle.textwrap_c.proofs.ToldLemmas.{HasPlaced-start}
-use Rattle.textwrap_c.proofs.told.tell_text.Goals as goal
+use Rattle.textwrap_c.proofs.PlacedNextLemmas.{HasPlaced-end, HasPlaced-more}
+use Rattle.textwrap_c.proofs.PlacedLemmas.{HasPlaced-fits, HasPlaced-start}
 
 ending-short : (ending : LineEnding) → length (ending_bytes ending) ≤ 2
 ending-short CRLF = omega arith

@@ -1,9 +1,8 @@
-use Rattle.std.proofs.Common.{map}
-use Rattle.textwrap.specs.Options.{settings_view}
-use Rattle.textwrap.specs.Paragraph.{DividesBy, line_view}
-use Rattle.textwrap_lines.proofs.Text.Lines.{bytes_left, paragraphs_left}
-use Rattle.textwrap_c.proofs.ToldLemmas.{HasPlaced}
 use Rattle.textwrap_c.proofs.told.tell_text.Given as goal
+use Rattle.textwrap_base.proofs.Common.{map}
+use Rattle.textwrap.proofs.Common.{settings_view, DividesBy, line_view}
+use Rattle.textwrap_lines.proofs.Text.Lines.{bytes_left, paragraphs_left}
+use Rattle.textwrap_c.proofs.PlacedLemmas.{HasPlaced}
 
 -- the lines of the paragraphs so far are told
 abbrev pub invariant-loop-rest : goal.invariant-loop-rest

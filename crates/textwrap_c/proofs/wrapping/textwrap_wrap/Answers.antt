@@ -1,8 +1,8 @@
+use Rattle.textwrap_c.proofs.wrapping.textwrap_wrap.Goals as goal
 use Rattle.textwrap_c.specs.Options.{settings_of, splitter_of, algorithm_of}
 use Rattle.textwrap_c.proofs.BuiltInParts.{placed-as}
 use Rattle.textwrap_c.proofs.LaidLemmas.{placed-shown}
 use Rattle.textwrap_c.proofs.LineLemmas.{WritesLines-told}
-use Rattle.textwrap_c.proofs.wrapping.textwrap_wrap.Goals as goal
 
 pub tell_text-requires : goal.tell_text-requires
 tell_text-requires c =

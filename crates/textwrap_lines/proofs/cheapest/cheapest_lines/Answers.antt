@@ -1,15 +1,8 @@
-use Rattle.std.proofs.Common.{[], ◌∷◌, length, map, ◌∙◌, subst}
-use Rattle.std.specs.Prelude.{Result, Ok, Err, IfOk}
-use Rattle.textwrap_base.specs.Table.{line_costs, FollowStarts}
-use Rattle.textwrap_base.proofs.Cost.Starts.{starts_reported, length_reported, later_reported}
-use Rattle.textwrap_lines.specs.Spans.{span_priced}
 use Rattle.textwrap_lines.proofs.cheapest.cheapest_lines.Goals as goal
-
--- two facts on a value make a third
-both : {T E : Type 0} (r : Result T E) (P Q R : T → Type 0) → ((x : T) → P x → Q x → R x)
-    → IfOk r P → IfOk r Q → IfOk r R
-both (Ok x) P Q R third one two = third x one two
-both (Err e) P Q R third one two = tt
+use Rattle.textwrap_base.proofs.Common.{[], ◌∷◌, length, map, ◌∙◌, subst, line_costs, FollowStarts}
+use Rattle.textwrap_lines.proofs.Common.{span_priced}
+use Rattle.textwrap_base.proofs.Cost.Reported.{starts_reported, length_reported, later_reported}
+use Rattle.textwrap_base.proofs.Numbers.{both}
 
 pub lines_by-requires-clause-len : goal.lines_by-requires-clause-len
 lines_by-requires-clause-len g c =

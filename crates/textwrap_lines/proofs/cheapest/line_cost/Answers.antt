@@ -1,7 +1,7 @@
-use Rattle.std.proofs.Common.{◌+◌, ◌-◌, sym, ap, ◌∙◌, arith}
+use Rattle.textwrap_lines.proofs.cheapest.line_cost.Goals as goal
+use Rattle.textwrap_base.proofs.Common.{◌+◌, ◌-◌, sym, ap, ◌∙◌, arith}
 use Rattle.textwrap_lines.specs.Spans.{no_span}
 use Rattle.textwrap_lines.proofs.Standing.Costs.{columns-rise, line_cost-spans}
-use Rattle.textwrap_lines.proofs.cheapest.line_cost.Goals as goal
 
 pub overflow_sub-closed-2 : goal.overflow_sub-closed-2
 overflow_sub-closed-2 c =

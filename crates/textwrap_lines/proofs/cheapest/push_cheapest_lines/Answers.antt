@@ -1,14 +1,9 @@
-use Rattle.std.proofs.Common.{List, map, sym, ◌∙◌, subst, Bor}
-use Rattle.std.proofs.lemmas.Result.{on_ok_weaker}
-use Rattle.textwrap_base.specs.Table.{IsByTable}
-use Rattle.textwrap_lines.specs.LineSinks.{Took}
-use Rattle.textwrap_lines.specs.Options.{settings_view}
-use Rattle.textwrap_lines.specs.Paragraph.{widths_of}
-use Rattle.textwrap_lines.specs.Spans.{span_priced}
-use Rattle.textwrap_words.specs.WordSplitters.{splitter_of}
+use Rattle.textwrap_lines.proofs.cheapest.push_cheapest_lines.Goals as goal
+use Rattle.textwrap_base.proofs.Common.{List, map, sym, ◌∙◌, subst, Bor, on_ok_weaker, IsByTable}
+use Rattle.textwrap_words.proofs.Common.{splitter_of}
+use Rattle.textwrap_lines.proofs.Common.{Took, settings_view, widths_of, span_priced}
 use Rattle.textwrap_lines.specs.declared.spans.Span.{Span}
 use Rattle.textwrap_lines.proofs.Standing.Cheapest.{found-are, found-lines, found-some, found-suit}
-use Rattle.textwrap_lines.proofs.cheapest.push_cheapest_lines.Goals as goal
 
 pub cheapest_lines-requires-clause-are : goal.cheapest_lines-requires-clause-are
 cheapest_lines-requires-clause-are g c =

@@ -1,9 +1,7 @@
-use Rattle.std.proofs.Common.{◌≡◌, [], ◌∷◌, cond, slice_range, refl, ap, ◌∙◌, subst, arith}
-use Rattle.std.proofs.lemmas.Result.{on_ok_weaker}
-use Rattle.textwrap_lines.specs.LineSinks.{Took}
-use Rattle.textwrap_lines.specs.Options.{settings_view}
-use Rattle.textwrap_lines.specs.Paragraph.{assembled_line, indent_of}
 use Rattle.textwrap_lines.proofs.cheapest.push_line.Goals as goal
+use Rattle.textwrap_base.proofs.Common.{◌≡◌, [], ◌∷◌, cond, slice_range, refl, ap, ◌∙◌, subst}
+use Rattle.textwrap_base.proofs.Common.{arith, on_ok_weaker}
+use Rattle.textwrap_lines.proofs.Common.{Took, settings_view, assembled_line, indent_of}
 use Rattle.textwrap_lines.proofs.cheapest.push_line.Goals.{then-options, else-options}
 
 pub range-requires-clause-start_le_end : goal.range-requires-clause-start_le_end

@@ -1,13 +1,10 @@
-use Rattle.std.proofs.Common.{◌+◌, List, Bor, [], drop, map, refl, sym, ap, ◌∙◌, subst, append-nil}
-use Rattle.std.proofs.Common.{◌++◌, arith}
-use Rattle.std.proofs.lemmas.List.{drop_more, drop_all}
-use Rattle.textwrap_lines.specs.LineSinks.{Took}
-use Rattle.textwrap_lines.specs.Options.{settings_view}
-use Rattle.textwrap_lines.specs.Spans.{HaveTexts, span_lines}
+use Rattle.textwrap_lines.proofs.cheapest.push_lines.Goals as goal
+use Rattle.textwrap_base.proofs.Common.{◌+◌, List, Bor, [], drop, map, refl, sym, ap, ◌∙◌, subst}
+use Rattle.textwrap_base.proofs.Common.{append-nil, ◌++◌, arith, drop_more, drop_all}
+use Rattle.textwrap_lines.proofs.Common.{Took, settings_view, HaveTexts, span_lines}
 use Rattle.textwrap_lines.specs.declared.spans.Span.{Span}
 use Rattle.textwrap_lines.proofs.Standing.Lines.{HasLinesBut, LinesBut-next}
 use Rattle.textwrap_lines.proofs.Text.Sinks.{Took-none}
-use Rattle.textwrap_lines.proofs.cheapest.push_lines.Goals as goal
 
 pub loop-line-init : goal.loop-line-init
 loop-line-init g c = record {

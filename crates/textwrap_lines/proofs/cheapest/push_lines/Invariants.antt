@@ -1,8 +1,7 @@
-use Rattle.std.proofs.Common.{drop, map}
-use Rattle.textwrap_lines.specs.Options.{settings_view}
-use Rattle.textwrap_lines.specs.Spans.{HaveTexts, span_lines}
-use Rattle.textwrap_lines.proofs.Standing.Lines.{HasLinesBut}
 use Rattle.textwrap_lines.proofs.cheapest.push_lines.Given as goal
+use Rattle.textwrap_base.proofs.Common.{drop, map}
+use Rattle.textwrap_lines.proofs.Common.{settings_view, HaveTexts, span_lines}
+use Rattle.textwrap_lines.proofs.Standing.Lines.{HasLinesBut}
 
 -- the lines so far were taken, and the others are found in the rest of the text
 abbrev pub invariant-loop-line : goal.invariant-loop-line

@@ -1,7 +1,7 @@
-use Rattle.std.proofs.Common.{ap}
-use Rattle.textwrap_words.specs.WrapAlgorithms.{Greedy, LeastCost, algorithm_view}
-use Rattle.textwrap_lines.proofs.Text.Directly.{direct-divided}
 use Rattle.textwrap_lines.proofs.direct.push_directly.Goals as goal
+use Rattle.textwrap_base.proofs.Common.{ap}
+use Rattle.textwrap_words.proofs.Common.{Greedy, LeastCost, algorithm_view}
+use Rattle.textwrap_lines.proofs.Text.Directly.{direct-divided}
 
 pub returns-in_ok-push_greedy_lines-in-FirstFit-clause-pushed :
     goal.returns-in_ok-push_greedy_lines-in-FirstFit-clause-pushed

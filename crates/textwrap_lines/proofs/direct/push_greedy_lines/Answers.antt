@@ -1,11 +1,8 @@
-use Rattle.std.proofs.Common.{sym, subst}
-use Rattle.std.proofs.lemmas.Result.{on_ok_weaker}
-use Rattle.textwrap_words.specs.WrapAlgorithms.{Greedy}
-use Rattle.textwrap_lines.specs.LineSinks.{Took}
-use Rattle.textwrap_lines.specs.Options.{settings_view}
-use Rattle.textwrap_lines.specs.Printable.{IsPrintable}
-use Rattle.textwrap_lines.proofs.Text.Directly.{bare-divided}
 use Rattle.textwrap_lines.proofs.direct.push_greedy_lines.Goals as goal
+use Rattle.textwrap_base.proofs.Common.{sym, subst, on_ok_weaker}
+use Rattle.textwrap_words.proofs.Common.{Greedy}
+use Rattle.textwrap_lines.proofs.Common.{Took, settings_view, IsPrintable}
+use Rattle.textwrap_lines.proofs.Text.Directly.{bare-divided}
 
 pub returns-then-is_printable : goal.returns-then-is_printable
 returns-then-is_printable g c =

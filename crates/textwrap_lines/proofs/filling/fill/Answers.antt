@@ -1,7 +1,7 @@
-use Rattle.std.proofs.Common.{◌∙◌}
+use Rattle.textwrap_lines.proofs.filling.fill.Goals as goal
+use Rattle.textwrap_base.proofs.Common.{◌∙◌}
 use Rattle.textwrap_lines.proofs.Paragraph.BuiltIn.{filled-as}
 use Rattle.textwrap_lines.proofs.Text.Sinks.{kind-joined}
-use Rattle.textwrap_lines.proofs.filling.fill.Goals as goal
 
 pub into_text-requires : goal.into_text-requires
 into_text-requires g c =

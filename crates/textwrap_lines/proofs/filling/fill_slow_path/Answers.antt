@@ -1,6 +1,6 @@
-use Rattle.std.proofs.Common.{rules}
-use Rattle.textwrap_lines.proofs.Paragraph.BuiltIn.{filled-as}
 use Rattle.textwrap_lines.proofs.filling.fill_slow_path.Goals as goal
+use Rattle.textwrap_base.proofs.Common.{rules}
+use Rattle.textwrap_lines.proofs.Paragraph.BuiltIn.{filled-as}
 
 pub returns-clause-built_in : goal.returns-clause-built_in
 returns-clause-built_in g c = λ settings splitter algorithm parts.

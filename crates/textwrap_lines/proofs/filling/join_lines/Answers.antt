@@ -1,9 +1,7 @@
-use Rattle.std.proofs.Common.{◌≡◌, ◌++◌, take, map, ap, sym, ◌∙◌, arith}
-use Rattle.std.specs.String.{string_bytes}
-use Rattle.textwrap_lines.specs.LineEnding.{ending_bytes, join_with}
-use Rattle.textwrap_lines.specs.Paragraph.{line_view, line_bytes}
-use Rattle.textwrap_lines.proofs.Text.Lines.{join-take_first, join-take_more}
 use Rattle.textwrap_lines.proofs.filling.join_lines.Goals as goal
+use Rattle.textwrap_base.proofs.Common.{◌≡◌, ◌++◌, take, map, ap, sym, ◌∙◌, arith, string_bytes}
+use Rattle.textwrap_lines.proofs.Common.{ending_bytes, join_with, line_view, line_bytes}
+use Rattle.textwrap_lines.proofs.Text.Lines.{join-take_first, join-take_more}
 use Rattle.textwrap_lines.proofs.filling.join_lines.Goals.{then-i-gt0+in_ok-push_str, else-i-gt0}
 
 pub loop-i-preserved : goal.loop-i-preserved

@@ -1,6 +1,6 @@
-use Rattle.std.proofs.Common.{length, ◌-◌, ◌≤◌}
-use Rattle.textwrap_lines.specs.Printable.{BlanksBetween}
 use Rattle.textwrap_lines.proofs.printable.blanks_end.Given as goal
+use Rattle.textwrap_base.proofs.Common.{length, ◌-◌, ◌≤◌}
+use Rattle.textwrap_lines.proofs.Common.{BlanksBetween}
 
 abbrev pub invariant-loop-end : goal.invariant-loop-end
 invariant-loop-end l =

@@ -1,6 +1,6 @@
-use Rattle.std.proofs.Common.{◌≡◌, ℕ, ◌<◌, true, slice_index}
-use Rattle.textwrap_lines.specs.Printable.{IsPrintableByte, IsPrintable}
 use Rattle.textwrap_lines.proofs.printable.is_printable.Given as goal
+use Rattle.textwrap_base.proofs.Common.{◌≡◌, ℕ, ◌<◌, true, slice_index}
+use Rattle.textwrap_lines.proofs.Common.{IsPrintableByte, IsPrintable}
 
 -- it says whether the bytes so far are printable
 abbrev pub invariant-loop-byte : goal.invariant-loop-byte

@@ -1,7 +1,7 @@
-use Rattle.std.proofs.Common.{sym, ◌∙◌, arith}
-use Rattle.textwrap_lines.specs.Printable.{printable_cut}
-use Rattle.textwrap_lines.proofs.PrintableTexts.Search.{NoCut-more}
 use Rattle.textwrap_lines.proofs.printable.last_cut.Goals as goal
+use Rattle.textwrap_base.proofs.Common.{sym, ◌∙◌, arith}
+use Rattle.textwrap_lines.proofs.Common.{printable_cut}
+use Rattle.textwrap_lines.proofs.PrintableTexts.Cuts.{NoCut-more}
 
 pub loop-place-preserved : goal.loop-place-preserved
 loop-place-preserved c =

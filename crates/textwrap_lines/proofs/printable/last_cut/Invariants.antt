@@ -1,6 +1,6 @@
-use Rattle.std.proofs.Common.{◌≤◌}
-use Rattle.textwrap_lines.specs.Printable.{NoCutBetween, printable_cut}
 use Rattle.textwrap_lines.proofs.printable.last_cut.Given as goal
+use Rattle.textwrap_base.proofs.Common.{◌≤◌}
+use Rattle.textwrap_lines.proofs.Common.{NoCutBetween, printable_cut}
 
 abbrev pub invariant-loop-place : goal.invariant-loop-place
 invariant-loop-place l =

@@ -1,10 +1,10 @@
-use Rattle.std.proofs.Common.{◌<◌, subst, arith, length}
-use Rattle.std.proofs.lemmas.Bool.{ne_eqb}
-use Rattle.textwrap_lines.specs.Printable.{NoCutBetween, printable_cut}
-use Rattle.textwrap_lines.proofs.PrintableTexts.Search.{printable_cut-others, printable_cut-blanks}
-use Rattle.textwrap_lines.proofs.PrintableTexts.Search.{line_len-all, line_len-past_blanks}
-use Rattle.textwrap_lines.proofs.PrintableTexts.Search.{line_len-back, line_len-broken}
 use Rattle.textwrap_lines.proofs.printable.line_len.Goals as goal
+use Rattle.textwrap_base.proofs.Common.{◌<◌, subst, arith, length, ne_eqb}
+use Rattle.textwrap_lines.proofs.Common.{NoCutBetween, printable_cut}
+use Rattle.textwrap_lines.proofs.PrintableTexts.Cuts.{printable_cut-others, printable_cut-blanks}
+use Rattle.textwrap_lines.proofs.PrintableTexts.Search.{line_len-all, line_len-back}
+use Rattle.textwrap_lines.proofs.PrintableTexts.Search.{line_len-broken}
+use Rattle.textwrap_lines.proofs.PrintableTexts.SearchOn.{line_len-past_blanks}
 
 pub returns-then-text-width-clause-line : goal.returns-then-text-width-clause-line
 returns-then-text-width-clause-line c =

@@ -1,11 +1,10 @@
-use Rattle.std.proofs.Common.{◌≡◌, ◌-◌, take, drop, length, slice_index, ap, sym, ◌∙◌, subst, arith}
-use Rattle.std.proofs.lemmas.Bool.{eqb-true}
-use Rattle.std.proofs.lemmas.List.Elements.{All-drop}
-use Rattle.textwrap_lines.specs.Printable.{IsPrintableByte, IsPrintable, IsFirstLine, byte_before}
-use Rattle.textwrap_lines.specs.Printable.{printable_cut}
+use Rattle.textwrap_lines.proofs.printable.push_printable_lines.Goals as goal
+use Rattle.textwrap_base.proofs.Common.{◌≡◌, ◌-◌, take, drop, length, slice_index, ap, sym, ◌∙◌}
+use Rattle.textwrap_base.proofs.Common.{subst, arith, eqb-true, All-drop}
+use Rattle.textwrap_lines.proofs.Common.{IsPrintableByte, IsPrintable, IsFirstLine, byte_before}
+use Rattle.textwrap_lines.proofs.Common.{printable_cut}
 use Rattle.textwrap_lines.proofs.PrintableTexts.Lines.{HasLines-start, HasLines-line, HasLines-end}
 use Rattle.textwrap_lines.proofs.PrintableTexts.Lines.{byte_before-some}
-use Rattle.textwrap_lines.proofs.printable.push_printable_lines.Goals as goal
 
 pub loop-rest-init : goal.loop-rest-init
 loop-rest-init g c = (

@@ -1,9 +1,7 @@
-use Rattle.std.proofs.Common.{length}
-use denote.Shadow.{shadow}
-use denote.Text.{Utf8}
-use Rattle.textwrap_lines.specs.Printable.{IsPrintable}
-use Rattle.textwrap_lines.proofs.PrintableTexts.Lines.{HasLines}
 use Rattle.textwrap_lines.proofs.printable.push_printable_lines.Given as goal
+use Rattle.textwrap_base.proofs.Common.{length, shadow, Utf8}
+use Rattle.textwrap_lines.proofs.Common.{IsPrintable}
+use Rattle.textwrap_lines.proofs.PrintableTexts.Lines.{HasLines}
 
 -- with right lines of the rest, the lines so far are those of the paragraph
 abbrev pub invariant-loop-rest : goal.invariant-loop-rest

@@ -1,8 +1,8 @@
-use Rattle.std.proofs.Common.{inl, inr, ◌≡◌, ap, sym, ◌∙◌, arith, slice_index}
-use Rattle.std.proofs.lemmas.Bool.{cases_lt, not-true}
-use Rattle.textwrap_lines.specs.Printable.{printable_cut}
-use Rattle.textwrap_lines.proofs.PrintableTexts.NextPiece.{NoCut-next}
 use Rattle.textwrap_lines.proofs.spans.word_len.Goals as goal
+use Rattle.textwrap_base.proofs.Common.{inl, inr, ◌≡◌, ap, sym, ◌∙◌, arith, slice_index, cases_lt}
+use Rattle.textwrap_base.proofs.Common.{not-true}
+use Rattle.textwrap_lines.proofs.Common.{printable_cut}
+use Rattle.textwrap_lines.proofs.PrintableTexts.Uncut.{NoCut-next}
 use Rattle.textwrap_lines.proofs.spans.word_len.Goals.{then-len-eq0, else-len-eq0}
 
 pub loop-len-preserved : goal.loop-len-preserved

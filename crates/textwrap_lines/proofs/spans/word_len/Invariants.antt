@@ -1,7 +1,7 @@
-use Rattle.std.proofs.Common.{ℕ, ◌≢◌, ◌<◌, ◌≤◌, ◌-◌, slice_index}
-use Rattle.textwrap_words.specs.Blanks.{blank}
-use Rattle.textwrap_lines.specs.Printable.{NoCutBetween, printable_cut}
 use Rattle.textwrap_lines.proofs.spans.word_len.Given as goal
+use Rattle.textwrap_base.proofs.Common.{ℕ, ◌≢◌, ◌<◌, ◌≤◌, ◌-◌, slice_index}
+use Rattle.textwrap_words.proofs.Common.{blank}
+use Rattle.textwrap_lines.proofs.Common.{NoCutBetween, printable_cut}
 
 abbrev pub invariant-loop-len : goal.invariant-loop-len
 invariant-loop-len l = record {

@@ -1,19 +1,15 @@
-use Rattle.std.proofs.Common.{◌≡◌, ◌++◌, [], ◌∷◌, All, map, ap, ◌∙◌, sym, subst, append-nil, arith}
-use Rattle.std.specs.Str.{IsUtf8}
-use Rattle.std.proofs.lemmas.List.Elements.{All-head, All-tail, All-weaker}
-use Rattle.std.proofs.lemmas.Result.{on_ok_weaker}
-use Rattle.textwrap_words.specs.Breaking.{broken_words}
-use Rattle.textwrap_base.specs.Division.{IsGreedy}
-use Rattle.textwrap_words.specs.Words.{word_view, words_of, sizes_of, tiled}
-use Rattle.textwrap_words.proofs.Word.Texts.{HasNoPenalty, IsMeasured, words_of-measured}
+use Rattle.textwrap_lines.proofs.word_lines.push_lines_by_words.Goals as goal
+use Rattle.textwrap_base.proofs.Common.{◌≡◌, ◌++◌, [], ◌∷◌, All, map, ap, ◌∙◌, sym, subst}
+use Rattle.textwrap_base.proofs.Common.{append-nil, arith, IsUtf8, All-head, All-tail, All-weaker}
+use Rattle.textwrap_base.proofs.Common.{on_ok_weaker, IsGreedy}
+use Rattle.textwrap_words.proofs.Common.{broken_words, word_view, words_of, sizes_of, tiled}
+use Rattle.textwrap_words.proofs.Common.{splitter_of, split_words}
+use Rattle.textwrap_lines.proofs.Common.{Took, front_of, settings_view, line_from, parts_from}
+use Rattle.textwrap_lines.proofs.Common.{pieces_of, widths_of, GoesOn, IsNext, later_lines}
+use Rattle.textwrap_lines.proofs.Common.{line_so_far, lines_from}
+use Rattle.textwrap_words.proofs.Word.Measured.{HasNoPenalty, IsMeasured, words_of-measured}
 use Rattle.textwrap_words.proofs.Word.Tiling.{tiled-words_of}
-use Rattle.textwrap_lines.specs.LineSinks.{Took}
-use Rattle.textwrap_lines.specs.Layout.{front_of}
-use Rattle.textwrap_lines.specs.Options.{settings_view}
-use Rattle.textwrap_lines.specs.Paragraph.{line_from, parts_from, pieces_of, widths_of}
-use Rattle.textwrap_lines.specs.WordLines.{GoesOn, IsNext, later_lines, line_of}
-use Rattle.textwrap_lines.specs.WordLines.{line_so_far, lines_after, lines_from}
-use Rattle.textwrap_words.specs.WordSplitters.{splitter_of, split_words}
+use Rattle.textwrap_lines.specs.WordLines.{line_of, lines_after}
 use Rattle.textwrap_lines.proofs.Paragraph.Pieces.{pieces_of-no_penalty}
 use Rattle.textwrap_lines.proofs.Text.Sinks.{Took-then}
 use Rattle.textwrap_lines.proofs.WordLines.Joined.{lines-greedy}
@@ -22,7 +18,6 @@ use Rattle.textwrap_lines.proofs.WordLines.Pieces.{word_pieces, word_pieces-cons
 use Rattle.textwrap_lines.proofs.WordLines.Steps.{GoesOn-next, GoesOn-start, GoesOn-then}
 use Rattle.textwrap_lines.proofs.WordLines.Steps.{IsNext-same}
 use Rattle.textwrap_lines.proofs.WordLines.Unbroken.{limited-pieces}
-use Rattle.textwrap_lines.proofs.word_lines.push_lines_by_words.Goals as goal
 
 pub loop-word-init : goal.loop-word-init
 loop-word-init g c =

@@ -1,10 +1,8 @@
-use Rattle.std.proofs.Common.{All}
-use Rattle.textwrap_words.specs.Breaking.{broken_words}
-use Rattle.textwrap_words.specs.Words.{words_of}
-use Rattle.textwrap_words.proofs.Word.Texts.{IsMeasured}
-use Rattle.textwrap_lines.specs.WordLines.{GoesOn, later_lines}
-use Rattle.textwrap_words.specs.WordSplitters.{splitter_of, split_words}
 use Rattle.textwrap_lines.proofs.word_lines.push_lines_by_words.Given as goal
+use Rattle.textwrap_base.proofs.Common.{All}
+use Rattle.textwrap_words.proofs.Common.{broken_words, words_of, splitter_of, split_words}
+use Rattle.textwrap_lines.proofs.Common.{GoesOn, later_lines}
+use Rattle.textwrap_words.proofs.Word.Measured.{IsMeasured}
 
 -- the pieces of the words so far were taken
 abbrev pub invariant-loop-word : goal.invariant-loop-word

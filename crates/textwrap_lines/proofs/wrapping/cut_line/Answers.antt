@@ -1,12 +1,11 @@
-use Rattle.std.proofs.Common.{◌≡◌, ◌+◌, [], ◌∷◌, ◌++◌, length, take, drop, map, cond, refl, ◌∙◌, ap}
-use Rattle.std.proofs.Common.{sym, subst, arith}
-use Rattle.std.specs.Str.{IsUtf8, IsCharBoundary}
-use Rattle.textwrap_words.specs.Words.{word_view, tiled}
-use Rattle.textwrap_lines.specs.Paragraph.{covered}
-use Rattle.textwrap_lines.proofs.Paragraph.Lines.{cuts_before_whitespace, IsCharBoundary-cut}
-use Rattle.textwrap_lines.proofs.Paragraph.Lines.{IsCharBoundary-past_whitespace}
-use Rattle.textwrap_lines.proofs.Paragraph.Lines.{IsCharBoundary-whole}
 use Rattle.textwrap_lines.proofs.wrapping.cut_line.Goals as goal
+use Rattle.textwrap_base.proofs.Common.{◌≡◌, ◌+◌, [], ◌∷◌, ◌++◌, length, take, drop, map, cond}
+use Rattle.textwrap_base.proofs.Common.{refl, ◌∙◌, ap, sym, subst, arith, IsUtf8, IsCharBoundary}
+use Rattle.textwrap_words.proofs.Common.{word_view, tiled}
+use Rattle.textwrap_lines.proofs.Common.{covered}
+use Rattle.textwrap_lines.proofs.Paragraph.Covered.{cuts_before_whitespace, IsCharBoundary-cut}
+use Rattle.textwrap_lines.proofs.Paragraph.Covered.{IsCharBoundary-past_whitespace}
+use Rattle.textwrap_lines.proofs.Paragraph.Covered.{IsCharBoundary-whole}
 
 pub split_at-requires : goal.split_at-requires
 split_at-requires c =

@@ -1,13 +1,10 @@
-use Rattle.std.proofs.Common.{[], ◌∷◌, ◌++◌, All, map, subst, sym, ap, ◌∙◌, append_assoc}
-use Rattle.std.proofs.Common.{append-nil}
-use Rattle.std.proofs.lemmas.List.Elements.{All-tail}
-use Rattle.textwrap_words.specs.Words.{word_view}
-use Rattle.textwrap_words.proofs.Word.Texts.{IsMeasured}
-use Rattle.textwrap_words.specs.WordSeparators.{MaySeparate}
-use Rattle.textwrap_words.specs.WordSplitters.{AreSplit, MaySplit}
-use Rattle.textwrap_words.proofs.Word.GivenCuts.{MaySeparate-texts}
-use Rattle.textwrap_words.proofs.Word.Splitting.{AreSplit-push}
 use Rattle.textwrap_lines.proofs.wrapping.find_split_words.Goals as goal
+use Rattle.textwrap_base.proofs.Common.{[], ◌∷◌, ◌++◌, All, map, subst, sym, ap, ◌∙◌, append_assoc}
+use Rattle.textwrap_base.proofs.Common.{append-nil, All-tail}
+use Rattle.textwrap_words.proofs.Common.{word_view, MaySeparate, AreSplit, MaySplit}
+use Rattle.textwrap_words.proofs.Word.Measured.{IsMeasured}
+use Rattle.textwrap_words.proofs.Word.GivenCuts.{MaySeparate-texts}
+use Rattle.textwrap_words.proofs.Word.SplitTiling.{AreSplit-push}
 
 pub loop-word-init : goal.loop-word-init
 loop-word-init g c =

@@ -1,9 +1,7 @@
-use Rattle.std.proofs.Common.{◌++◌, All, List, map}
-use Rattle.textwrap_words.specs.Words.{WordText, word_view}
-use Rattle.textwrap_words.proofs.Word.Texts.{IsMeasured}
-use Rattle.textwrap_words.specs.WordSeparators.{MaySeparate}
-use Rattle.textwrap_words.specs.WordSplitters.{AreSplit, MaySplit}
 use Rattle.textwrap_lines.proofs.wrapping.find_split_words.Given as goal
+use Rattle.textwrap_base.proofs.Common.{◌++◌, All, List, map}
+use Rattle.textwrap_words.proofs.Common.{WordText, word_view, MaySeparate, AreSplit, MaySplit}
+use Rattle.textwrap_words.proofs.Word.Measured.{IsMeasured}
 
 -- the pieces so far are those of the words before the ones that are left, and each of these is
 -- measured

@@ -1,22 +1,16 @@
-use Rattle.std.proofs.Common.{List, Vec, Bor, ◌≡◌, ◌++◌, map, ap, ◌∙◌, sym, subst, arith}
-use Rattle.std.specs.Io.{StartsWith}
-use Rattle.std.specs.List.{flat_map}
-use Rattle.std.proofs.Transfers.{starts_with_of_append}
-use Rattle.std.proofs.lemmas.List.{map-append}
-use Rattle.textwrap_words.specs.Words.{word_view, tiled, Tiles}
+use Rattle.textwrap_lines.proofs.wrapping.push_divided.Goals as goal
+use Rattle.textwrap_base.proofs.Common.{List, Vec, Bor, ◌≡◌, ◌++◌, map, ap, ◌∙◌, sym, subst, arith}
+use Rattle.textwrap_base.proofs.Common.{StartsWith, flat_map, starts_with_of_append, map-append}
+use Rattle.textwrap_words.proofs.Common.{word_view, tiled, Tiles, MaySeparate, MaySplit}
+use Rattle.textwrap_lines.proofs.Common.{Took, settings_view, ArePieces, line_from, parts_from}
+use Rattle.textwrap_lines.proofs.Common.{widths_of}
 use Rattle.textwrap_words.specs.declared.words.Word.{Word}
 use Rattle.textwrap_words.proofs.Word.Divisions.{MayDivide-begins}
-use Rattle.textwrap_base.proofs.ListLemmas.{flat}
+use Rattle.textwrap_base.proofs.Lists.Parts.{flat}
 use Rattle.textwrap_words.proofs.Word.Tiling.{tiled-append}
-use Rattle.textwrap_lines.specs.LineSinks.{Took}
-use Rattle.textwrap_lines.specs.Options.{settings_view}
-use Rattle.textwrap_lines.specs.Paragraph.{ArePieces, line_from, parts_from, widths_of}
-use Rattle.textwrap_words.specs.WordSeparators.{MaySeparate}
-use Rattle.textwrap_words.specs.WordSplitters.{MaySplit}
 use Rattle.textwrap_lines.proofs.Paragraph.Lines.{tiled-lines, AreDividedParts-from}
 use Rattle.textwrap_lines.proofs.Paragraph.Overflow.{only-memory}
 use Rattle.textwrap_lines.proofs.Text.Directly.{passed-on}
-use Rattle.textwrap_lines.proofs.wrapping.push_divided.Goals as goal
 
 pub push_lines-requires : goal.push_lines-requires
 push_lines-requires g c =

@@ -1,10 +1,8 @@
-use Rattle.std.proofs.Common.{◌≡◌, ◌&&◌, ◌==◌, length, [], ◌∷◌, ◌∙◌, ap, sym, subst}
-use Rattle.textwrap_words.specs.Words.{word_view}
-use Rattle.textwrap_lines.specs.LineSinks.{Took}
-use Rattle.textwrap_lines.specs.Options.{settings_view}
-use Rattle.textwrap_lines.specs.Paragraph.{keeps_whitespace}
-use Rattle.textwrap_lines.proofs.Paragraph.Lines.{line_from-parts_of}
 use Rattle.textwrap_lines.proofs.wrapping.push_line.Goals as goal
+use Rattle.textwrap_base.proofs.Common.{◌≡◌, ◌&&◌, ◌==◌, length, [], ◌∷◌, ◌∙◌, ap, sym, subst}
+use Rattle.textwrap_words.proofs.Common.{word_view}
+use Rattle.textwrap_lines.proofs.Common.{Took, settings_view, keeps_whitespace}
+use Rattle.textwrap_lines.proofs.Paragraph.EndingLine.{line_from-parts_of}
 use Rattle.textwrap_lines.proofs.wrapping.push_line.Goals.{then-options, else-options}
 
 pub returns-clause-line : goal.returns-clause-line

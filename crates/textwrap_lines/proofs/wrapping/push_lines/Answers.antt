@@ -1,13 +1,10 @@
-use Rattle.std.proofs.Common.{◌+◌, true, cond, drop, subst, sym, map, rules, ap, arith, refl}
-use Rattle.std.specs.Io.{StartsWith}
-use Rattle.std.specs.List.{flat_map}
-use Rattle.std.proofs.lemmas.Bool.{lt-ltb}
-use Rattle.std.proofs.lemmas.List.{drop_more}
-use Rattle.textwrap_words.specs.Words.{word_view, tiled}
-use Rattle.textwrap_lines.specs.Options.{settings_view}
-use Rattle.textwrap_lines.proofs.Paragraph.Lines.{starts-parts}
-use Rattle.textwrap_lines.proofs.Text.Sinks.{Took-none, Took-line}
 use Rattle.textwrap_lines.proofs.wrapping.push_lines.Goals as goal
+use Rattle.textwrap_base.proofs.Common.{◌+◌, true, cond, drop, subst, sym, map, rules, ap, arith}
+use Rattle.textwrap_base.proofs.Common.{refl, StartsWith, flat_map, lt-ltb, drop_more}
+use Rattle.textwrap_words.proofs.Common.{word_view, tiled}
+use Rattle.textwrap_lines.proofs.Common.{settings_view}
+use Rattle.textwrap_base.proofs.Lists.Prefixes.{starts-parts}
+use Rattle.textwrap_lines.proofs.Text.Sinks.{Took-none, Took-line}
 
 pub loop-pieces-init : goal.loop-pieces-init
 loop-pieces-init g c = (c.utf8.paragraph, c.requires, refl, Took-none c.args.lines.now)

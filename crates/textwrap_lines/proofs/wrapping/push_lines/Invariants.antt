@@ -1,13 +1,8 @@
-use Rattle.std.proofs.Common.{◌≡◌, true, cond, nat_lt, take, drop, map}
-use denote.Text.{Utf8}
-use denote.Shadow.{shadow}
-use Rattle.std.specs.Io.{StartsWith}
-use Rattle.std.specs.List.{flat_map}
-use Rattle.textwrap_words.specs.Words.{word_view, tiled}
-use Rattle.textwrap_lines.specs.LineSinks.{Took}
-use Rattle.textwrap_lines.specs.Options.{settings_view}
-use Rattle.textwrap_lines.specs.Paragraph.{line_from, parts_from}
 use Rattle.textwrap_lines.proofs.wrapping.push_lines.Given as goal
+use Rattle.textwrap_base.proofs.Common.{◌≡◌, true, cond, nat_lt, take, drop, map, Utf8, shadow}
+use Rattle.textwrap_base.proofs.Common.{StartsWith, flat_map}
+use Rattle.textwrap_words.proofs.Common.{word_view, tiled}
+use Rattle.textwrap_lines.proofs.Common.{Took, settings_view, line_from, parts_from}
 
 -- the lines so far were taken, and the rest of the paragraph begins with what the others tile
 abbrev pub invariant-loop-pieces : goal.invariant-loop-pieces

@@ -1,12 +1,10 @@
-use Rattle.std.proofs.Common.{[], ◌∷◌, map, ap, sym, refl, ◌∙◌, subst}
-use Rattle.std.proofs.lemmas.Result.{on_ok_weaker}
-use Rattle.textwrap_words.specs.Words.{word_of}
-use Rattle.textwrap_lines.specs.LineSinks.{Took}
-use Rattle.textwrap_lines.specs.Options.{settings_view}
-use Rattle.textwrap_lines.specs.Paragraph.{Slice, line_from, parts_of, parts_from, DividesBy}
-use Rattle.textwrap_lines.proofs.Paragraph.Lines.{line_from-whole, AreParagraphParts-whole}
-use Rattle.textwrap_lines.proofs.Paragraph.Lines.{AreParagraphParts-divided}
 use Rattle.textwrap_lines.proofs.wrapping.push_paragraph.Goals as goal
+use Rattle.textwrap_base.proofs.Common.{[], ◌∷◌, map, ap, sym, refl, ◌∙◌, subst, on_ok_weaker}
+use Rattle.textwrap_words.proofs.Common.{word_of}
+use Rattle.textwrap_lines.proofs.Common.{Took, settings_view, Slice, line_from, parts_of}
+use Rattle.textwrap_lines.proofs.Common.{parts_from, DividesBy}
+use Rattle.textwrap_lines.proofs.Paragraph.WholeLine.{line_from-whole, AreParagraphParts-whole}
+use Rattle.textwrap_lines.proofs.Paragraph.WholeLine.{AreParagraphParts-divided}
 
 pub returns-then-is_one_line-clause-taken : goal.returns-then-is_one_line-clause-taken
 returns-then-is_one_line-clause-taken g c =

@@ -1,9 +1,8 @@
-use Rattle.std.proofs.Common.{ap, ◌∙◌, subst}
-use Rattle.textwrap_lines.specs.Options.{settings_view}
-use Rattle.textwrap_lines.specs.Paragraph.{DividesBy}
-use Rattle.textwrap_lines.proofs.Text.Lines.{paragraphs_left, paragraphs_left-split}
-use Rattle.textwrap_lines.proofs.Text.Sinks.{HasTaken, HasTaken-start, HasTaken-more, HasTaken-end}
 use Rattle.textwrap_lines.proofs.wrapping.push_text.Goals as goal
+use Rattle.textwrap_base.proofs.Common.{ap, ◌∙◌, subst}
+use Rattle.textwrap_lines.proofs.Common.{settings_view, DividesBy}
+use Rattle.textwrap_lines.proofs.Text.Lines.{paragraphs_left, paragraphs_left-split}
+use Rattle.textwrap_lines.proofs.Text.Taken.{HasTaken, HasTaken-start, HasTaken-more, HasTaken-end}
 
 pub loop-rest-init : goal.loop-rest-init
 loop-rest-init g c =

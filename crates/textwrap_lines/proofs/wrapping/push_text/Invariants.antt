@@ -1,8 +1,7 @@
-use Rattle.textwrap_lines.specs.Options.{settings_view}
-use Rattle.textwrap_lines.specs.Paragraph.{DividesBy}
-use Rattle.textwrap_lines.proofs.Text.Lines.{paragraphs_left, bytes_left}
-use Rattle.textwrap_lines.proofs.Text.Sinks.{HasTaken}
 use Rattle.textwrap_lines.proofs.wrapping.push_text.Given as goal
+use Rattle.textwrap_lines.proofs.Common.{settings_view, DividesBy}
+use Rattle.textwrap_lines.proofs.Text.Lines.{paragraphs_left, bytes_left}
+use Rattle.textwrap_lines.proofs.Text.Taken.{HasTaken}
 
 -- the lines that were taken, and those of the paragraphs left, are the lines of the text
 abbrev pub invariant-loop-rest : goal.invariant-loop-rest

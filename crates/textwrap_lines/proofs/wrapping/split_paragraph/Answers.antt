@@ -1,7 +1,7 @@
-use Rattle.std.proofs.Common.{◌≡◌, ◌≤◌, ◌∷◌, ◌++◌, length, drop, ◌∙◌, ap, sym, arith}
-use Rattle.textwrap_lines.specs.LineEnding.{parts_past}
-use Rattle.textwrap_lines.proofs.Text.Endings.{ending_bytes-some, parts_past-first, parts_past-none}
 use Rattle.textwrap_lines.proofs.wrapping.split_paragraph.Goals as goal
+use Rattle.textwrap_base.proofs.Common.{◌≡◌, ◌≤◌, ◌∷◌, ◌++◌, length, drop, ◌∙◌, ap, sym, arith}
+use Rattle.textwrap_lines.proofs.Common.{parts_past}
+use Rattle.textwrap_lines.proofs.Text.Endings.{ending_bytes-some, parts_past-first, parts_past-none}
 
 pub returns-in-Some-clause-paragraphs : goal.returns-in-Some-clause-paragraphs
 returns-in-Some-clause-paragraphs c =

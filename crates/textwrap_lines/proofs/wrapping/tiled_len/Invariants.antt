@@ -1,7 +1,6 @@
-use Rattle.std.proofs.Common.{◌≡◌, length, take, map}
-use Rattle.std.specs.Str.{IsUtf8}
-use Rattle.textwrap_words.specs.Words.{word_view, tiled}
 use Rattle.textwrap_lines.proofs.wrapping.tiled_len.Given as goal
+use Rattle.textwrap_base.proofs.Common.{◌≡◌, length, take, map, IsUtf8}
+use Rattle.textwrap_words.proofs.Common.{word_view, tiled}
 
 -- the pieces so far are measured, and are text
 abbrev pub invariant-loop-piece : goal.invariant-loop-piece

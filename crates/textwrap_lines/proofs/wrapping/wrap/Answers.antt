@@ -1,10 +1,8 @@
-use Rattle.std.proofs.Common.{map, sym, subst, ◌∙◌}
-use Rattle.textwrap_lines.specs.Options.{settings_view}
-use Rattle.textwrap_lines.specs.Paragraph.{line_view, DividesBy}
-use Rattle.textwrap_lines.specs.Text.{AreTextLines}
-use Rattle.textwrap_lines.proofs.Text.Promises.{IsWrapped-options, LinesKeepToWidth-options}
-use Rattle.textwrap_lines.proofs.Paragraph.BuiltIn.{lines-as}
 use Rattle.textwrap_lines.proofs.wrapping.wrap.Goals as goal
+use Rattle.textwrap_base.proofs.Common.{map, sym, subst, ◌∙◌}
+use Rattle.textwrap_lines.proofs.Common.{settings_view, line_view, DividesBy, AreTextLines}
+use Rattle.textwrap_lines.proofs.Text.Wrapped.{IsWrapped-options, LinesKeepToWidth-options}
+use Rattle.textwrap_lines.proofs.Paragraph.BuiltIn.{lines-as}
 
 pub into_list-requires : goal.into_list-requires
 into_list-requires g c =

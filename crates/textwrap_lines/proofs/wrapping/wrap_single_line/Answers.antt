@@ -1,11 +1,11 @@
-use Rattle.std.proofs.Common.{Bool, List, not, nat_lt, length, [], ◌++◌, map, ap, sym, ◌∙◌, subst, arith}
-use Rattle.textwrap_lines.specs.Options.{MayOverflow, settings_view}
-use Rattle.textwrap_lines.specs.Paragraph.{AreParagraphParts, DividesBy, LineParts, line_from}
-use Rattle.textwrap_lines.specs.Paragraph.{line_view}
-use Rattle.textwrap_lines.proofs.Paragraph.Lines.{not_empty}
+use Rattle.textwrap_lines.proofs.wrapping.wrap_single_line.Goals as goal
+use Rattle.textwrap_base.proofs.Common.{Bool, List, not, nat_lt, length, [], ◌++◌, map, ap, sym}
+use Rattle.textwrap_base.proofs.Common.{◌∙◌, subst, arith}
+use Rattle.textwrap_lines.proofs.Common.{MayOverflow, settings_view, AreParagraphParts, DividesBy}
+use Rattle.textwrap_lines.proofs.Common.{LineParts, line_from, line_view}
+use Rattle.textwrap_base.proofs.Numbers.{not_empty}
 use Rattle.textwrap_lines.proofs.Paragraph.Overflow.{appends-none, appends-own}
 use Rattle.textwrap_lines.proofs.Paragraph.Shortcut.{paragraph-divided-by}
-use Rattle.textwrap_lines.proofs.wrapping.wrap_single_line.Goals as goal
 
 pub returns-in_err-push_paragraph-clause-appended :
     goal.returns-in_err-push_paragraph-clause-appended

@@ -1,20 +1,14 @@
-use Rattle.std.proofs.Common.{not, nat_lt, length, List, [], ◌++◌, map, ap, refl, ◌∙◌, subst}
-use Rattle.std.proofs.Common.{arith}
-use Rattle.textwrap_words.specs.WrapAlgorithms.{algorithm_view}
-use Rattle.textwrap_words.specs.Words.{WordText}
-use Rattle.textwrap_words.proofs.Word.Divisions.{MayDivide-greedy}
-use Rattle.textwrap_lines.specs.LineSinks.{Took}
-use Rattle.textwrap_lines.specs.Options.{MayOverflow, settings_view}
-use Rattle.textwrap_lines.specs.Paragraph.{AreDividedParts, DividesBy, line_from, line_view}
-use Rattle.textwrap_lines.specs.Paragraph.{parts_from, widths_of}
-use Rattle.textwrap_words.specs.WordSeparators.{MaySeparate}
-use Rattle.textwrap_words.specs.WordSplitters.{MaySplit}
-use Rattle.textwrap_lines.proofs.Paragraph.LongLines.{long_lines}
-use Rattle.textwrap_lines.proofs.Paragraph.Lines.{not_empty}
-use Rattle.textwrap_lines.proofs.Paragraph.Overflow.{appends-none, appends-own}
-use Rattle.textwrap_words.proofs.Word.GivenCuts.{MaySeparate-texts, MaySplit-cuts}
-use Rattle.textwrap_words.proofs.Word.GivenCuts.{MaySplit-hyphens}
 use Rattle.textwrap_lines.proofs.wrapping.wrap_single_line_slow_path.Goals as goal
+use Rattle.textwrap_base.proofs.Common.{not, nat_lt, length, List, [], ◌++◌, map, ap, refl, ◌∙◌}
+use Rattle.textwrap_base.proofs.Common.{subst, arith}
+use Rattle.textwrap_words.proofs.Common.{algorithm_view, WordText, MaySeparate, MaySplit}
+use Rattle.textwrap_lines.proofs.Common.{Took, MayOverflow, settings_view, AreDividedParts}
+use Rattle.textwrap_lines.proofs.Common.{DividesBy, line_from, line_view, parts_from, widths_of}
+use Rattle.textwrap_words.proofs.Word.Divisions.{MayDivide-greedy}
+use Rattle.textwrap_lines.proofs.Paragraph.LongLines.{long_lines}
+use Rattle.textwrap_base.proofs.Numbers.{not_empty}
+use Rattle.textwrap_lines.proofs.Paragraph.Overflow.{appends-none, appends-own}
+use Rattle.textwrap_words.proofs.Word.GivenCuts.{MaySeparate-texts, MaySplit-cuts, MaySplit-hyphens}
 
 pub returns-in_err-push_divided-clause-appended : goal.returns-in_err-push_divided-clause-appended
 returns-in_err-push_divided-clause-appended g c =

@@ -1,7 +1,6 @@
-use Rattle.std.proofs.Common.{◌≡◌, ◌+◌, ◌<◌, ◌≤◌, take, length, get_or}
-use Rattle.std.specs.List.{suffix_len}
-use Rattle.textwrap_words.specs.Blanks.{is_blank}
 use Rattle.textwrap_words.proofs.blanks.trimmed_len.Given as goal
+use Rattle.textwrap_base.proofs.Common.{◌≡◌, ◌+◌, ◌<◌, ◌≤◌, take, length, get_or, suffix_len}
+use Rattle.textwrap_words.proofs.Common.{is_blank}
 
 -- the blanks passed, and those of what is left, are the blanks at the end
 abbrev pub invariant-loop-end : goal.invariant-loop-end

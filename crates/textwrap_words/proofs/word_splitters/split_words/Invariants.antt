@@ -1,8 +1,7 @@
-use Rattle.std.proofs.Common.{map}
-use Rattle.std.specs.Iterator.{IsFinite}
-use Rattle.textwrap_words.specs.Words.{word_view}
-use Rattle.textwrap_words.specs.WordSplitters.{AreSplit}
 use Rattle.textwrap_words.proofs.word_splitters.split_words.Given as goal
+use Rattle.textwrap_base.proofs.Common.{map}
+use Rattle.textwrap_words.proofs.Common.{word_view, AreSplit}
+use Rattle.std.specs.Iterator.{IsFinite}
 
 -- the pieces so far are those of the words so far
 abbrev pub invariant-loop-word : goal.invariant-loop-word

@@ -1,13 +1,11 @@
-use Rattle.std.proofs.Common.{◌≡◌, true, length, cond, sym, ◌∙◌, arith}
-use Rattle.std.proofs.lemmas.Iterator.{YieldsList-from_chars}
-use Rattle.std.proofs.lemmas.Iterator.Consumers.{YieldsList-turn, YieldsList-end}
-use Rattle.std.proofs.lemmas.List.{at_drop_all, length_push}
-use Rattle.std.specs.List.{list_all}
+use Rattle.textwrap_words.proofs.words.display_width.Goals as goal
+use Rattle.textwrap_base.proofs.Common.{◌≡◌, true, length, cond, sym, ◌∙◌, arith}
+use Rattle.textwrap_base.proofs.Common.{YieldsList-from_chars, YieldsList-turn, YieldsList-end}
+use Rattle.textwrap_base.proofs.Common.{at_drop_all, length_push, list_all}
+use Rattle.textwrap_words.proofs.Common.{columns, is_printable}
 use Rattle.std.specs.Str.{chars}
 use Rattle.textwrap_words.proofs.Units.Widths.{text_width-le, columns_in, columns_in-step}
 use Rattle.textwrap_words.proofs.Units.Widths.{text_width-plain}
-use Rattle.textwrap_words.specs.Units.{columns, is_printable}
-use Rattle.textwrap_words.proofs.words.display_width.Goals as goal
 use Rattle.textwrap_words.proofs.words.display_width.Goals.{then-is_visible, else-is_visible}
 
 pub overflow_add-width : goal.overflow_add-width

@@ -1,7 +1,6 @@
-use Rattle.std.proofs.Common.{◌≡◌, drop}
-use Rattle.std.specs.List.{list_all}
-use Rattle.textwrap_words.specs.Units.{is_printable}
 use Rattle.textwrap_words.proofs.words.is_plain.Given as goal
+use Rattle.textwrap_base.proofs.Common.{◌≡◌, drop, list_all}
+use Rattle.textwrap_words.proofs.Common.{is_printable}
 
 -- the bytes to come decide
 abbrev pub invariant-loop-byte : goal.invariant-loop-byte

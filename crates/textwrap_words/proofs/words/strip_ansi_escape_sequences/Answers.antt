@@ -1,12 +1,10 @@
-use Rattle.std.proofs.Common.{◌≡◌, ◌≢◌, ◌+◌, ◌++◌, length, drop, string_bytes, append-nil, sym, ap}
-use Rattle.std.proofs.Common.{arith, All, ◌∙◌, subst}
-use Rattle.std.proofs.lemmas.Iterator.{YieldsList-from_chars}
-use Rattle.std.proofs.lemmas.Iterator.Consumers.{YieldsList-turn, YieldsList-end}
-use Rattle.std.proofs.lemmas.List.{at_drop_all, length_push}
-use Rattle.std.specs.Str.{chars}
-use Rattle.textwrap_words.specs.Units.{escape, stripped}
-use Rattle.textwrap_words.proofs.Units.Stripped.{text_in, text_in-step, stripped-plain}
 use Rattle.textwrap_words.proofs.words.strip_ansi_escape_sequences.Goals as goal
+use Rattle.textwrap_base.proofs.Common.{◌≡◌, ◌≢◌, ◌+◌, ◌++◌, length, drop, string_bytes, append-nil}
+use Rattle.textwrap_base.proofs.Common.{sym, ap, arith, All, ◌∙◌, subst, YieldsList-from_chars}
+use Rattle.textwrap_base.proofs.Common.{YieldsList-turn, YieldsList-end, at_drop_all, length_push}
+use Rattle.textwrap_words.proofs.Common.{escape, stripped}
+use Rattle.std.specs.Str.{chars}
+use Rattle.textwrap_words.proofs.Units.Stripped.{text_in, text_in-step, stripped-plain}
 use Rattle.textwrap_words.proofs.words.strip_ansi_escape_sequences.Goals.{In-None}
 
 pub loop-ch-preserved-in_ok-push : goal.loop-ch-preserved-in_ok-push

@@ -1,6 +1,6 @@
-use Rattle.std.proofs.Common.{◌≡◌, ◌+◌, ◌-◌, arith}
-use Rattle.textwrap_base.proofs.Cost.Measures.{no_measure, before_fits, measured_closed}
 use Rattle.textwrap_base.proofs.minima.line_costs.closed_width.Goals as goal
+use Rattle.textwrap_base.proofs.Common.{◌≡◌, ◌+◌, ◌-◌, arith}
+use Rattle.textwrap_base.proofs.Cost.Measures.{no_measure, before_fits, measured_closed}
 
 pub overflow_add-result : goal.overflow_add-result
 overflow_add-result c =

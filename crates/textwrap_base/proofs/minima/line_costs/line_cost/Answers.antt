@@ -1,6 +1,6 @@
-use Rattle.std.proofs.Common.{rules}
-use Rattle.textwrap_base.proofs.Cost.Measures.{no_measure, line_cost-measured}
 use Rattle.textwrap_base.proofs.minima.line_costs.line_cost.Goals as goal
+use Rattle.textwrap_base.proofs.Common.{rules}
+use Rattle.textwrap_base.proofs.Cost.Measures.{no_measure, line_cost-measured}
 
 pub returns : goal.returns
 returns c = rw (line_cost-measured c.args.penalties.now c.args.line_width c.args.measures.now

@@ -1,11 +1,8 @@
-use Rattle.std.proofs.Common.{arith, ◌∙◌, ap, take, map}
-use Rattle.std.proofs.lemmas.List.{take_all}
-use Rattle.textwrap_base.specs.Sizes.{Sizes}
-use Rattle.textwrap_base.specs.Cost.{priced_by}
-use Rattle.textwrap_base.specs.LineCosts.{measured}
+use Rattle.textwrap_base.proofs.minima.line_costs.measures_of.Goals as goal
+use Rattle.textwrap_base.proofs.Common.{arith, ◌∙◌, ap, take, map, take_all, Sizes, priced_by}
+use Rattle.textwrap_base.proofs.Common.{measured}
 use Rattle.textwrap_base.proofs.Cost.Measures.{measured_sizes, sizes-same, open_width-same}
 use Rattle.textwrap_base.proofs.Cost.Measures.{total_width-same, open_width-total}
-use Rattle.textwrap_base.proofs.minima.line_costs.measures_of.Goals as goal
 
 pub overflow_add-before-in-loop-fragment : goal.overflow_add-before-in-loop-fragment
 overflow_add-before-in-loop-fragment g c =

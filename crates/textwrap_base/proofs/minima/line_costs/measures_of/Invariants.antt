@@ -1,10 +1,8 @@
-use Rattle.std.proofs.Common.{◌≡◌, ℕ, ◌-◌, ◌^◌, ◌<◌, ◌≤◌, All, length, get_or, take, map}
-use Rattle.textwrap_base.specs.Division.{open_width}
-use Rattle.textwrap_base.specs.Cost.{priced_by}
-use Rattle.textwrap_base.specs.LineCosts.{measured}
+use Rattle.textwrap_base.proofs.minima.line_costs.measures_of.Given as goal
+use Rattle.textwrap_base.proofs.Common.{◌≡◌, ℕ, ◌-◌, ◌^◌, ◌<◌, ◌≤◌, All, length, get_or, take, map}
+use Rattle.textwrap_base.proofs.Common.{open_width, priced_by, measured}
 use Rattle.textwrap_base.proofs.Cost.Measures.{measured_sizes}
 use Rattle.textwrap_base.specs.declared.minima.line_costs.Measure.{Measure}
-use Rattle.textwrap_base.proofs.minima.line_costs.measures_of.Given as goal
 
 abbrev pub invariant-loop-fragment : goal.invariant-loop-fragment
 invariant-loop-fragment g l = record {

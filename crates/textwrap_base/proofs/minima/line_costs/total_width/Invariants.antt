@@ -1,6 +1,5 @@
-use Rattle.std.proofs.Common.{◌≡◌, ◌<◌, ◌^◌, take}
-use Rattle.textwrap_base.specs.Cost.{total_width}
 use Rattle.textwrap_base.proofs.minima.line_costs.total_width.Given as goal
+use Rattle.textwrap_base.proofs.Common.{◌≡◌, ◌<◌, ◌^◌, take, total_width}
 
 abbrev pub invariant-loop-fragment : goal.invariant-loop-fragment
 invariant-loop-fragment g l = record {

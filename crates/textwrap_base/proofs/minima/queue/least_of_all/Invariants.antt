@@ -1,8 +1,7 @@
-use Rattle.std.proofs.Common.{◌≡◌}
-use Rattle.textwrap_base.specs.Minima.{counted}
-use Rattle.textwrap_base.specs.Search.{least_entry, cost_from}
-use Rattle.textwrap_base.specs.Table.{table, entry_from, IsLeastBelow}
 use Rattle.textwrap_base.proofs.minima.queue.least_of_all.Given as goal
+use Rattle.textwrap_base.proofs.Common.{◌≡◌, counted, least_entry, cost_from, entry_from}
+use Rattle.textwrap_base.proofs.Common.{IsLeastBelow}
+use Rattle.textwrap_base.specs.Table.{table}
 
 abbrev pub invariant-loop-start : goal.invariant-loop-start
 invariant-loop-start g l =

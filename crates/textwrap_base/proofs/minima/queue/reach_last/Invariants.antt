@@ -1,8 +1,8 @@
-use Rattle.std.proofs.Common.{◌≡◌, ◌+◌, ◌*◌, ◌-◌, ◌/◌, ◌<◌, ◌≤◌, vec_len}
-use Rattle.textwrap_base.specs.Queue.{binary_digits}
-use Rattle.textwrap_base.specs.Search.{AreMinima}
-use Rattle.textwrap_base.specs.Stretches.{HasEnd, AreStretches}
 use Rattle.textwrap_base.proofs.minima.queue.reach_last.Given as goal
+use Rattle.textwrap_base.proofs.Common.{◌≡◌, ◌+◌, ◌*◌, ◌-◌, ◌/◌, ◌<◌, ◌≤◌, vec_len, binary_digits}
+use Rattle.textwrap_base.proofs.Common.{HasEnd}
+use Rattle.textwrap_base.specs.Search.{AreMinima}
+use Rattle.textwrap_base.specs.Stretches.{AreStretches}
 
 -- the starts of the second half have less than half of the ends to come: so their bisections are
 -- shorter by a look of two steps

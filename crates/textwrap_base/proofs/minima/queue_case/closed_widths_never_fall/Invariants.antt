@@ -1,6 +1,5 @@
-use Rattle.std.proofs.Common.{ℕ, ◌+◌, ◌<◌, ◌≤◌, take}
-use Rattle.textwrap_base.specs.Division.{closed_width}
 use Rattle.textwrap_base.proofs.minima.queue_case.closed_widths_never_fall.Given as goal
+use Rattle.textwrap_base.proofs.Common.{ℕ, ◌+◌, ◌<◌, ◌≤◌, take, closed_width}
 
 abbrev pub invariant-loop-last : goal.invariant-loop-last
 invariant-loop-last g l = (j : ℕ) → 0 < j → j < l.last

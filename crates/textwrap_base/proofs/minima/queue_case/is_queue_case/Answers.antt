@@ -1,9 +1,7 @@
-use Rattle.std.proofs.Common.{rules}
-use Rattle.textwrap_base.specs.Cost.{priced_by}
-use Rattle.textwrap_base.specs.Queue.{IsQueueCase}
+use Rattle.textwrap_base.proofs.minima.queue_case.is_queue_case.Goals as goal
+use Rattle.textwrap_base.proofs.Common.{rules, priced_by, IsQueueCase}
 use Rattle.textwrap_base.proofs.Cost.Convex.{AreConvex-rising}
 use Rattle.textwrap_base.proofs.Cost.QueueCase.{SuitQueue-queue_case}
-use Rattle.textwrap_base.proofs.minima.queue_case.is_queue_case.Goals as goal
 
 pub returns-then-break_penalties_suit-clause-convex : goal.returns-then-break_penalties_suit-clause-convex
 returns-then-break_penalties_suit-clause-convex g c = λ yes.

@@ -1,6 +1,5 @@
-use Rattle.std.proofs.Common.{◌≡◌, ℕ, ◌<◌, ◌≤◌, slice_index}
-use Rattle.textwrap_base.specs.Queue.{queue_limit}
 use Rattle.textwrap_base.proofs.minima.queue_case.line_widths_suit.Given as goal
+use Rattle.textwrap_base.proofs.Common.{◌≡◌, ℕ, ◌<◌, ◌≤◌, slice_index, queue_limit}
 
 abbrev pub invariant-loop-number : goal.invariant-loop-number
 invariant-loop-number l = record {

@@ -1,12 +1,10 @@
-use Rattle.std.proofs.Common.{◌≡◌, ◌+◌, ◌-◌, ◌<◌, ◌≤◌, length, take, vec_len, arith, rules, sym}
-use Rattle.std.proofs.Common.{ap, ◌∙◌}
-use Rattle.std.proofs.lemmas.List.{take_all, take-take, length-take}
-use Rattle.textwrap_base.specs.Search.{cost_from}
-use Rattle.textwrap_base.specs.Stretches.{stretch_at, IsPriced}
-use Rattle.textwrap_base.specs.declared.minima.stretches.Stretch.{Stretch}
-use Rattle.textwrap_base.proofs.Search.Stretches.{HaveBest-take, IsBestFrom-beaten}
-use Rattle.textwrap_base.proofs.Search.Stretches.{stretch_at-read, stretch_at-left, begins_after}
 use Rattle.textwrap_base.proofs.minima.stretches.drop_beaten.Goals as goal
+use Rattle.textwrap_base.proofs.Common.{◌≡◌, ◌+◌, ◌-◌, ◌<◌, ◌≤◌, length, take, vec_len, arith}
+use Rattle.textwrap_base.proofs.Common.{rules, sym, ap, ◌∙◌, take_all, take-take, length-take}
+use Rattle.textwrap_base.proofs.Common.{cost_from, stretch_at, IsPriced}
+use Rattle.textwrap_base.specs.declared.minima.stretches.Stretch.{Stretch}
+use Rattle.textwrap_base.proofs.Search.Stretches.{HaveBest-take, IsBestFrom-beaten, stretch_at-read}
+use Rattle.textwrap_base.proofs.Search.Stretches.{stretch_at-left, begins_after}
 
 pub loop-stretches-init : goal.loop-stretches-init
 loop-stretches-init g c =

@@ -1,7 +1,6 @@
-use Rattle.std.proofs.Common.{◌≡◌, ◌+◌, ◌-◌, ◌<◌, ◌≤◌, length, take, vec_len}
-use Rattle.textwrap_base.specs.Search.{cost_from, IsBestFrom}
-use Rattle.textwrap_base.specs.Stretches.{stretch_at, HaveBest}
 use Rattle.textwrap_base.proofs.minima.stretches.drop_beaten.Given as goal
+use Rattle.textwrap_base.proofs.Common.{◌≡◌, ◌+◌, ◌-◌, ◌<◌, ◌≤◌, length, take, vec_len, cost_from}
+use Rattle.textwrap_base.proofs.Common.{IsBestFrom, stretch_at, HaveBest}
 
 abbrev pub invariant-loop-stretches : goal.invariant-loop-stretches
 invariant-loop-stretches g l =

@@ -1,9 +1,8 @@
-use Rattle.std.proofs.Common.{◌≡◌, ◌+◌, ◌-◌, ◌<◌, ◌≤◌, length, vec_len, arith, max}
-use Rattle.textwrap_base.specs.Search.{cost_from, IsBestFrom}
-use Rattle.textwrap_base.specs.Stretches.{stretch_at, HaveBest}
+use Rattle.textwrap_base.proofs.minima.stretches.new_stretch.Goals as goal
+use Rattle.textwrap_base.proofs.Common.{◌≡◌, ◌+◌, ◌-◌, ◌<◌, ◌≤◌, length, vec_len, arith, max}
+use Rattle.textwrap_base.proofs.Common.{cost_from, IsBestFrom, stretch_at, HaveBest}
 use Rattle.textwrap_base.proofs.Search.Digits.{digits_mono}
 use Rattle.textwrap_base.proofs.Search.Stretches.{stretch_at-read, stretch_at-left, taken_over}
-use Rattle.textwrap_base.proofs.minima.stretches.new_stretch.Goals as goal
 
 taken : (g : _) (c : goal.After-take_over g)
     → HaveBest (g.C.CostSource.costs c.args.costs.now) (length c.args.minima.now - 1)

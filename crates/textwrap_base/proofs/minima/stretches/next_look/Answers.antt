@@ -1,6 +1,6 @@
-use Rattle.std.proofs.Common.{◌+◌, ◌-◌, ◌/◌, arith}
-use Rattle.textwrap_base.proofs.Search.Digits.{digits_mono, digits_half}
 use Rattle.textwrap_base.proofs.minima.stretches.next_look.Goals as goal
+use Rattle.textwrap_base.proofs.Common.{◌+◌, ◌-◌, ◌/◌, arith}
+use Rattle.textwrap_base.proofs.Search.Digits.{digits_mono, digits_half}
 
 pub returns-then-near-eq0-clause-below : goal.returns-then-near-eq0-clause-below
 returns-then-near-eq0-clause-below c =

@@ -1,15 +1,7 @@
-use Rattle.std.proofs.Common.{◌≡◌, ℕ, ◌∙◌, rules}
-use Rattle.std.proofs.Common.{IsSome, Option, Some, None, SomeIff}
-use Rattle.textwrap_base.proofs.Search.Costs.{cost_from-asked, cost_from-fits}
 use Rattle.textwrap_base.proofs.minima.stretches.price.Goals as goal
-
-some_where : (o : Option ℕ) (P : Type 0) (v : ℕ) → SomeIff o P v → P → IsSome o
-some_where None P v h p = absurd (h p)
-some_where (Some x) P v h p = search rules
-
-value_where : (o : Option ℕ) (P : Type 0) (v x : ℕ) → SomeIff o P v → o ≡ Some x → x ≡ v
-value_where None P v x h e = cc
-value_where (Some y) P v x h e = let f : x ≡ y = cc in f ∙ h.1
+use Rattle.textwrap_base.proofs.Common.{◌∙◌}
+use Rattle.textwrap_base.proofs.Search.Costs.{cost_from-asked, cost_from-fits}
+use Rattle.textwrap_base.proofs.Numbers.{some_where, value_where}
 
 pub unwrap-requires : goal.unwrap-requires
 unwrap-requires g c =

@@ -1,7 +1,5 @@
-use Rattle.std.proofs.Common.{◌≡◌, ◌+◌, ◌*◌, ◌-◌, ◌<◌, ◌≤◌}
-use Rattle.textwrap_base.specs.Queue.{binary_digits}
-use Rattle.textwrap_base.specs.Search.{cost_from}
 use Rattle.textwrap_base.proofs.minima.stretches.take_over.Given as goal
+use Rattle.textwrap_base.proofs.Common.{◌≡◌, ◌+◌, ◌*◌, ◌-◌, ◌<◌, ◌≤◌, binary_digits, cost_from}
 
 abbrev pub invariant-loop-low : goal.invariant-loop-low
 invariant-loop-low g l =

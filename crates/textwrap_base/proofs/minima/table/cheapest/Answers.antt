@@ -1,6 +1,6 @@
-use Rattle.std.proofs.Common.{arith, rules}
-use Rattle.textwrap_base.proofs.Cost.Table.{best_more}
 use Rattle.textwrap_base.proofs.minima.table.cheapest.Goals as goal
+use Rattle.textwrap_base.proofs.Common.{arith, rules}
+use Rattle.textwrap_base.proofs.Cost.Table.{best_more}
 
 pub loop-start-preserved : goal.loop-start-preserved
 loop-start-preserved g c =

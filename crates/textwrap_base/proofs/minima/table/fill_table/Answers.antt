@@ -1,12 +1,13 @@
-use Rattle.std.proofs.Common.{◌≡◌, ◌+◌, ◌<◌, ◌^◌, arith, rules, refl, sym, ◌∙◌, subst}
-use Rattle.textwrap_base.specs.Minima.{table_steps}
+use Rattle.textwrap_base.proofs.minima.table.fill_table.Goals as goal
+use Rattle.textwrap_base.proofs.Common.{◌≡◌, ◌+◌, ◌<◌, ◌^◌, arith, rules, refl, sym, ◌∙◌, subst}
+use Rattle.textwrap_base.proofs.Common.{table_steps}
 use Rattle.textwrap_base.specs.Table.{table}
-use Rattle.textwrap_base.proofs.Cost.Table.{length-table, table_next, table_past, table_fits}
+use Rattle.textwrap_base.proofs.Cost.Table.{length-table}
+use Rattle.textwrap_base.proofs.Cost.LeastEntries.{table_next, table_past, table_fits, table_pushed}
+use Rattle.textwrap_base.proofs.Cost.LeastEntries.{numbers_of, entry-table_longer}
 use Rattle.textwrap_base.specs.declared.minima.table.Entry.{Entry}
-use Rattle.textwrap_base.proofs.Cost.Table.{table_pushed, numbers_of, entry-table_longer}
 use Rattle.textwrap_base.proofs.Cost.Steps.{table_steps_more, table_steps_mono, counted_more}
 use Rattle.textwrap_base.proofs.Cost.Steps.{counted_next}
-use Rattle.textwrap_base.proofs.minima.table.fill_table.Goals as goal
 
 pub loop-last-init : goal.loop-last-init
 unfolding table

@@ -1,11 +1,8 @@
-use Rattle.std.proofs.Common.{◌∷◌, [], sym, subst}
-use Rattle.std.specs.Prelude.{OnOk}
-use Rattle.std.proofs.lemmas.Result.{on_ok_weaker}
-use Rattle.textwrap_lines.specs.LineSinks.{Took}
-use Rattle.textwrap_lines.specs.Paragraph.{assembled_line}
+use Rattle.textwrap_lines.proofs.line_sinks.LineSink.push_line.Goals as goal
+use Rattle.textwrap_base.proofs.Common.{◌∷◌, [], sym, subst, OnOk, on_ok_weaker}
+use Rattle.textwrap_lines.proofs.Common.{Took, assembled_line}
 use Rattle.textwrap_lines.specs.declared.line_sinks.LineSink.TheVariants.{Joined}
 use Rattle.textwrap_lines.proofs.Text.Sinks.{Took-joined, assembled-bytes}
-use Rattle.textwrap_lines.proofs.line_sinks.LineSink.push_line.Goals as goal
 
 pub returns-in-Joined : goal.returns-in-Joined
 returns-in-Joined g c =

@@ -1,11 +1,8 @@
-use Rattle.std.proofs.Common.{◌∷◌, [], append-nil, sym, subst}
-use Rattle.std.specs.Prelude.{OnOk}
-use Rattle.std.proofs.lemmas.Result.{on_ok_weaker}
-use Rattle.textwrap_lines.specs.LineSinks.{Took}
-use Rattle.textwrap_lines.specs.Paragraph.{Slice}
+use Rattle.textwrap_lines.proofs.line_sinks.LineSink.push_slice.Goals as goal
+use Rattle.textwrap_base.proofs.Common.{◌∷◌, [], append-nil, sym, subst, OnOk, on_ok_weaker}
+use Rattle.textwrap_lines.proofs.Common.{Took, Slice}
 use Rattle.textwrap_lines.specs.declared.line_sinks.LineSink.TheVariants.{Joined}
 use Rattle.textwrap_lines.proofs.Text.Sinks.{Took-joined}
-use Rattle.textwrap_lines.proofs.line_sinks.LineSink.push_slice.Goals as goal
 
 pub returns-in-Joined : goal.returns-in-Joined
 returns-in-Joined g c =

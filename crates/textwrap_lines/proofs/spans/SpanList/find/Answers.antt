@@ -1,14 +1,10 @@
-use Rattle.std.proofs.Common.{◌++◌, ap, ◌∙◌, subst, arith}
-use Rattle.textwrap_words.specs.Breaking.{broken_words}
-use Rattle.textwrap_words.specs.Words.{words_of}
-use Rattle.textwrap_lines.specs.Layout.{front_of}
-use Rattle.textwrap_lines.specs.Options.{settings_view}
-use Rattle.textwrap_lines.specs.Printable.{IsPrintable, pieces_after, printable_cut}
-use Rattle.textwrap_lines.specs.Spans.{spans_from}
-use Rattle.textwrap_words.specs.WordSplitters.{splitter_of, split_words}
+use Rattle.textwrap_lines.proofs.spans.SpanList.find.Goals as goal
+use Rattle.textwrap_base.proofs.Common.{◌++◌, ap, ◌∙◌, subst, arith}
+use Rattle.textwrap_words.proofs.Common.{broken_words, words_of, splitter_of, split_words}
+use Rattle.textwrap_lines.proofs.Common.{front_of, settings_view, IsPrintable, pieces_after}
+use Rattle.textwrap_lines.proofs.Common.{printable_cut, spans_from}
 use Rattle.textwrap_lines.proofs.Text.Directly.{pieces-by_bytes}
 use Rattle.textwrap_lines.proofs.WordLines.Unbroken.{limited-pieces}
-use Rattle.textwrap_lines.proofs.spans.SpanList.find.Goals as goal
 
 pub returns-then-is_printable : goal.returns-then-is_printable
 returns-then-is_printable g c =

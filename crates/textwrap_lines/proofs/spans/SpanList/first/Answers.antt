@@ -1,8 +1,6 @@
-use Rattle.std.proofs.Common.{◌≡◌, [], ◌∷◌, cond, refl, sym, ap, ◌∙◌}
-use Rattle.textwrap_lines.specs.Layout.{front_of}
-use Rattle.textwrap_lines.specs.Options.{settings_view}
-use Rattle.textwrap_lines.specs.Paragraph.{empty_word, front_pieces}
 use Rattle.textwrap_lines.proofs.spans.SpanList.first.Goals as goal
+use Rattle.textwrap_base.proofs.Common.{◌≡◌, [], ◌∷◌, cond, refl, sym, ap, ◌∙◌}
+use Rattle.textwrap_lines.proofs.Common.{front_of, settings_view, empty_word, front_pieces}
 use Rattle.textwrap_lines.proofs.spans.SpanList.first.Goals.{then-options+then-not-is_empty+in_ok-push}
 use Rattle.textwrap_lines.proofs.spans.SpanList.first.Goals.{else-options}
 use Rattle.textwrap_lines.proofs.spans.SpanList.first.Goals.{else-options-via-then-options+else-not-is_empty}

@@ -1,6 +1,6 @@
-use Rattle.std.proofs.Common.{refl, ◌∙◌, arith}
-use Rattle.textwrap_lines.proofs.Standing.Lists.{HasMore-piece}
 use Rattle.textwrap_lines.proofs.spans.SpanList.push.Goals as goal
+use Rattle.textwrap_base.proofs.Common.{refl, ◌∙◌, arith}
+use Rattle.textwrap_lines.proofs.Standing.Lists.{HasMore-piece}
 
 pub returns-clause-more : goal.returns-clause-more
 returns-clause-more g c = λ w len width blanks.

@@ -1,13 +1,12 @@
-use Rattle.std.proofs.Common.{◌≡◌, [], ◌∷◌, All, length, ap, ◌∙◌, sym, subst, arith, append-nil}
-use Rattle.std.proofs.Common.{length-append}
-use Rattle.std.proofs.lemmas.List.Elements.{All-head, All-tail}
-use Rattle.textwrap_words.specs.Breaking.{broken_word, broken_pieces, pieces_left}
-use Rattle.textwrap_words.specs.Words.{tile_of, tiled, word_view}
+use Rattle.textwrap_lines.proofs.spans.SpanList.push_broken.Goals as goal
+use Rattle.textwrap_base.proofs.Common.{◌≡◌, [], ◌∷◌, All, length, ap, ◌∙◌, sym, subst, arith}
+use Rattle.textwrap_base.proofs.Common.{append-nil, length-append, All-head, All-tail}
+use Rattle.textwrap_words.proofs.Common.{broken_word, broken_pieces, pieces_left, tile_of, tiled}
+use Rattle.textwrap_words.proofs.Common.{word_view}
 use Rattle.textwrap_lines.proofs.Standing.Lists.{AllBut-end, AllBut-len, AllBut-none, AllBut-then}
 use Rattle.textwrap_lines.proofs.Standing.Lists.{HasAllBut}
 use Rattle.textwrap_lines.proofs.WordLines.Pieces.{IsWide, broken_pieces-wide, broken_word-wide}
 use Rattle.textwrap_lines.proofs.WordLines.Pieces.{tiled-broken}
-use Rattle.textwrap_lines.proofs.spans.SpanList.push_broken.Goals as goal
 
 pub loop-piece-init : goal.loop-piece-init
 loop-piece-init g c =

@@ -1,9 +1,8 @@
-use Rattle.std.proofs.Common.{All}
-use Rattle.textwrap_words.specs.Breaking.{broken_word, pieces_left}
-use Rattle.textwrap_words.specs.Words.{word_view}
+use Rattle.textwrap_lines.proofs.spans.SpanList.push_broken.Given as goal
+use Rattle.textwrap_base.proofs.Common.{All}
+use Rattle.textwrap_words.proofs.Common.{broken_word, pieces_left, word_view}
 use Rattle.textwrap_lines.proofs.Standing.Lists.{HasAllBut}
 use Rattle.textwrap_lines.proofs.WordLines.Pieces.{IsWide}
-use Rattle.textwrap_lines.proofs.spans.SpanList.push_broken.Given as goal
 
 -- the pieces so far were added, and the others have the columns of their texts
 abbrev pub invariant-loop-piece : goal.invariant-loop-piece

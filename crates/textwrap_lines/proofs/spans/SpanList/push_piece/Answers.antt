@@ -1,9 +1,7 @@
-use Rattle.std.proofs.Common.{refl, sym, ap, arith, length, length-append}
-use Rattle.std.proofs.lemmas.Result.{on_ok_weaker}
-use Rattle.textwrap_words.specs.Units.{text_width}
-use Rattle.textwrap_words.specs.Words.{word_view}
-use Rattle.textwrap_words.proofs.Units.Widths.{text_width-le}
 use Rattle.textwrap_lines.proofs.spans.SpanList.push_piece.Goals as goal
+use Rattle.textwrap_base.proofs.Common.{refl, sym, ap, arith, length, length-append, on_ok_weaker}
+use Rattle.textwrap_words.proofs.Common.{text_width, word_view}
+use Rattle.textwrap_words.proofs.Units.Widths.{text_width-le}
 
 pub push-requires-clause-room : goal.push-requires-clause-room
 push-requires-clause-room g c =

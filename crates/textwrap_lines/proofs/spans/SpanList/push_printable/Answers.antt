@@ -1,13 +1,14 @@
-use Rattle.std.proofs.Common.{◌≡◌, ◌+◌, ◌-◌, [], ◌∷◌, All, slice_index, take, drop, get_or, length}
-use Rattle.std.proofs.Common.{ap, sym, ◌∙◌, subst, arith, length-append, length-drop, length-take}
-use Rattle.std.proofs.lemmas.List.{take_all, drop_all, drop-drop, get_or-drop}
-use Rattle.std.proofs.lemmas.List.Elements.{All-drop, All-head}
-use Rattle.textwrap_lines.specs.Printable.{IsFirstPiece, IsPrintableByte, byte_before}
-use Rattle.textwrap_lines.specs.Printable.{pieces_after, printable_cut}
-use Rattle.textwrap_lines.proofs.PrintableTexts.Lines.{byte_before-some}
-use Rattle.textwrap_lines.proofs.PrintableTexts.Pieces.{IsExact, pieces-exact}
-use Rattle.textwrap_lines.proofs.Standing.Lists.{AllBut-end, AllBut-none, AllBut-then, HasAllBut}
 use Rattle.textwrap_lines.proofs.spans.SpanList.push_printable.Goals as goal
+use Rattle.textwrap_base.proofs.Common.{◌≡◌, ◌+◌, ◌-◌, [], ◌∷◌, All, slice_index, take, drop}
+use Rattle.textwrap_base.proofs.Common.{get_or, length, ap, sym, ◌∙◌, subst, arith, length-append}
+use Rattle.textwrap_base.proofs.Common.{length-drop, length-take, take_all, drop_all, drop-drop}
+use Rattle.textwrap_base.proofs.Common.{get_or-drop, All-drop, All-head}
+use Rattle.textwrap_lines.proofs.Common.{IsFirstPiece, IsPrintableByte, byte_before, pieces_after}
+use Rattle.textwrap_lines.proofs.Common.{printable_cut}
+use Rattle.textwrap_lines.proofs.PrintableTexts.Lines.{byte_before-some}
+use Rattle.textwrap_lines.proofs.PrintableTexts.Exact.{IsExact}
+use Rattle.textwrap_lines.proofs.PrintableTexts.Pieces.{pieces-exact}
+use Rattle.textwrap_lines.proofs.Standing.Lists.{AllBut-end, AllBut-none, AllBut-then, HasAllBut}
 
 pub loop-start-init : goal.loop-start-init
 loop-start-init g c = record {

@@ -1,7 +1,7 @@
-use Rattle.std.proofs.Common.{◌≡◌, ◌+◌, ◌-◌, ◌≤◌, drop, length}
-use Rattle.textwrap_lines.specs.Printable.{pieces_after, printable_cut}
-use Rattle.textwrap_lines.proofs.Standing.Lists.{HasAllBut}
 use Rattle.textwrap_lines.proofs.spans.SpanList.push_printable.Given as goal
+use Rattle.textwrap_base.proofs.Common.{◌≡◌, ◌+◌, ◌-◌, ◌≤◌, drop, length}
+use Rattle.textwrap_lines.proofs.Common.{pieces_after, printable_cut}
+use Rattle.textwrap_lines.proofs.Standing.Lists.{HasAllBut}
 
 -- the pieces before `start` were added
 abbrev pub invariant-loop-start : goal.invariant-loop-start

@@ -1,11 +1,9 @@
-use Rattle.std.proofs.Common.{◌+◌, drop, map, ap, subst, arith}
-use Rattle.std.proofs.lemmas.List.{drop_all}
-use Rattle.textwrap_words.specs.Breaking.{broken_words}
-use Rattle.textwrap_words.specs.Words.{word_view}
+use Rattle.textwrap_lines.proofs.spans.SpanList.push_split.Goals as goal
+use Rattle.textwrap_base.proofs.Common.{◌+◌, drop, map, ap, subst, arith, drop_all}
+use Rattle.textwrap_words.proofs.Common.{broken_words, word_view}
 use Rattle.textwrap_lines.specs.Paragraph.{text_limit}
 use Rattle.textwrap_lines.proofs.Standing.Lists.{AllBut-end, AllBut-none, AllBut-then, HasAllBut}
-use Rattle.textwrap_lines.proofs.Standing.Lists.{next-left, next-room, next-text, next-wide}
-use Rattle.textwrap_lines.proofs.spans.SpanList.push_split.Goals as goal
+use Rattle.textwrap_lines.proofs.Standing.Words.{next-left, next-room, next-text, next-wide}
 
 pub loop-word-init : goal.loop-word-init
 loop-word-init g c =

@@ -1,8 +1,7 @@
-use Rattle.std.proofs.Common.{drop, map}
-use Rattle.textwrap_words.specs.Breaking.{broken_words}
-use Rattle.textwrap_words.specs.Words.{word_view}
-use Rattle.textwrap_lines.proofs.Standing.Lists.{HasAllBut}
 use Rattle.textwrap_lines.proofs.spans.SpanList.push_split.Given as goal
+use Rattle.textwrap_base.proofs.Common.{drop, map}
+use Rattle.textwrap_words.proofs.Common.{broken_words, word_view}
+use Rattle.textwrap_lines.proofs.Standing.Lists.{HasAllBut}
 
 -- the pieces of the words so far were added
 abbrev pub invariant-loop-word : goal.invariant-loop-word

@@ -1,20 +1,18 @@
-use Rattle.std.proofs.Common.{◌≡◌, ◌++◌, All, length, map, ap, ◌∙◌, sym, subst}
-use Rattle.std.proofs.Common.{append-nil, arith, length-append}
-use Rattle.std.proofs.lemmas.List.Elements.{All-head, All-tail, All-weaker}
-use Rattle.std.proofs.lemmas.Str.{IsCharBoundary-start}
-use Rattle.textwrap_words.specs.Breaking.{broken_words}
-use Rattle.textwrap_words.specs.Words.{tile_of, tiled, word_view, words_of}
-use Rattle.textwrap_words.proofs.Word.Texts.{IsMeasured, words_of-measured}
+use Rattle.textwrap_lines.proofs.spans.SpanList.push_words.Goals as goal
+use Rattle.textwrap_base.proofs.Common.{◌≡◌, ◌++◌, All, length, map, ap, ◌∙◌, sym, subst}
+use Rattle.textwrap_base.proofs.Common.{append-nil, arith, length-append, All-head, All-tail}
+use Rattle.textwrap_base.proofs.Common.{All-weaker, IsCharBoundary-start}
+use Rattle.textwrap_words.proofs.Common.{broken_words, tile_of, tiled, word_view, words_of}
+use Rattle.textwrap_words.proofs.Common.{points_of, splitter_of, split_pieces, split_words}
+use Rattle.textwrap_words.proofs.Word.Measured.{IsMeasured, words_of-measured}
 use Rattle.textwrap_words.proofs.Word.Tiling.{tiled-append, tiled-words_of}
-use Rattle.textwrap_words.specs.WordSplitters.{points_of, splitter_of, split_pieces}
-use Rattle.textwrap_words.specs.WordSplitters.{split_words}
 use Rattle.textwrap_lines.proofs.Standing.Lists.{AllBut-end, AllBut-len, AllBut-none, AllBut-then}
 use Rattle.textwrap_lines.proofs.Standing.Lists.{HasAllBut}
-use Rattle.textwrap_words.proofs.Word.Splitting.{points_of-cuts, tiled-split_pieces}
-use Rattle.textwrap_lines.proofs.WordLines.Pieces.{IsText, IsWide, split_from-texts, split_from-wide}
-use Rattle.textwrap_lines.proofs.WordLines.Pieces.{tiled-split, tiled-split_all, word_pieces}
-use Rattle.textwrap_lines.proofs.WordLines.Pieces.{word_pieces-cons}
-use Rattle.textwrap_lines.proofs.spans.SpanList.push_words.Goals as goal
+use Rattle.textwrap_words.proofs.Word.Splitting.{points_of-cuts}
+use Rattle.textwrap_words.proofs.Word.SplitTiling.{tiled-split_pieces}
+use Rattle.textwrap_lines.proofs.WordLines.Pieces.{IsText, IsWide, split_from-texts}
+use Rattle.textwrap_lines.proofs.WordLines.Pieces.{split_from-wide, tiled-split, tiled-split_all}
+use Rattle.textwrap_lines.proofs.WordLines.Pieces.{word_pieces, word_pieces-cons}
 
 pub loop-word-init : goal.loop-word-init
 loop-word-init g c =

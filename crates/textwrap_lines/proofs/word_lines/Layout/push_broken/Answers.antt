@@ -1,13 +1,11 @@
-use Rattle.std.proofs.Common.{◌≡◌, [], ◌∷◌, All, ap, ◌∙◌, sym, subst}
-use Rattle.std.proofs.lemmas.List.Elements.{All-head, All-tail}
-use Rattle.textwrap_words.specs.Breaking.{broken_word, broken_pieces, pieces_left}
-use Rattle.textwrap_words.specs.Words.{word_view}
-use Rattle.textwrap_lines.specs.WordLines.{GoesOn, later_lines}
+use Rattle.textwrap_lines.proofs.word_lines.Layout.push_broken.Goals as goal
+use Rattle.textwrap_base.proofs.Common.{◌≡◌, [], ◌∷◌, All, ap, ◌∙◌, sym, subst, All-head, All-tail}
+use Rattle.textwrap_words.proofs.Common.{broken_word, broken_pieces, pieces_left, word_view}
+use Rattle.textwrap_lines.proofs.Common.{GoesOn, later_lines}
 use Rattle.textwrap_lines.proofs.WordLines.Pieces.{IsWide, broken_pieces-wide, broken_word-wide}
 use Rattle.textwrap_lines.proofs.WordLines.Pieces.{tiled-broken}
 use Rattle.textwrap_lines.proofs.WordLines.Steps.{IsNext-same, GoesOn-start, GoesOn-next}
 use Rattle.textwrap_lines.proofs.WordLines.Steps.{GoesOn-then}
-use Rattle.textwrap_lines.proofs.word_lines.Layout.push_broken.Goals as goal
 
 pub loop-piece-init : goal.loop-piece-init
 loop-piece-init g c =

@@ -1,22 +1,18 @@
-use Rattle.std.proofs.Common.{◌≡◌, ◌+◌, nat_eq, false, [], ◌∷◌, drop, refl}
-use Rattle.std.proofs.Common.{ap, ◌∙◌, sym, subst, arith, append-nil}
-use Rattle.std.specs.Prelude.{OnOk, slice_range}
-use Rattle.std.specs.Str.{IsUtf8}
-use Rattle.std.specs.List.{list_any}
-use Rattle.std.proofs.lemmas.Result.{on_ok_weaker}
-use Rattle.std.proofs.lemmas.Str.{IsCharBoundary-start, IsUtf8-between}
-use Rattle.textwrap_words.specs.Breaking.{broken_word, broken_words}
-use Rattle.textwrap_words.specs.Words.{piece, word_view}
-use Rattle.textwrap_lines.specs.WordLines.{GoesOn, IsNext, later_lines}
-use Rattle.textwrap_words.specs.WordSplitters.{AtHyphens, splitter_of, points_of, hyphen}
-use Rattle.textwrap_words.specs.WordSplitters.{hyphen_points, cut_penalty, split_pieces, split_word}
-use Rattle.textwrap_words.proofs.Word.Splitting.{after-hyphen, hyphen_points-none}
-use Rattle.textwrap_lines.proofs.WordLines.Pieces.{pieces_from, pieces_from-point}
-use Rattle.textwrap_lines.proofs.WordLines.Pieces.{pieces_from-none, pieces_from-end, split-none}
-use Rattle.textwrap_lines.proofs.WordLines.Pieces.{tiled-split, tiled-broken}
-use Rattle.textwrap_lines.proofs.WordLines.Steps.{IsNext-same, GoesOn-start}
-use Rattle.textwrap_lines.proofs.WordLines.Steps.{GoesOn-next, GoesOn-then}
 use Rattle.textwrap_lines.proofs.word_lines.Layout.push_word.Goals as goal
+use Rattle.textwrap_base.proofs.Common.{◌≡◌, ◌+◌, nat_eq, false, [], ◌∷◌, drop, refl, ap, ◌∙◌, sym}
+use Rattle.textwrap_base.proofs.Common.{subst, arith, append-nil, OnOk, slice_range, IsUtf8}
+use Rattle.textwrap_base.proofs.Common.{list_any, on_ok_weaker, IsCharBoundary-start}
+use Rattle.textwrap_base.proofs.Common.{IsUtf8-between}
+use Rattle.textwrap_words.proofs.Common.{broken_word, broken_words, piece, word_view, AtHyphens}
+use Rattle.textwrap_words.proofs.Common.{splitter_of, points_of, hyphen, hyphen_points, cut_penalty}
+use Rattle.textwrap_words.proofs.Common.{split_pieces, split_word}
+use Rattle.textwrap_lines.proofs.Common.{GoesOn, IsNext, later_lines}
+use Rattle.textwrap_words.proofs.Word.Splitting.{after-hyphen, hyphen_points-none}
+use Rattle.textwrap_lines.proofs.WordLines.Points.{pieces_from, pieces_from-point, pieces_from-none}
+use Rattle.textwrap_lines.proofs.WordLines.Points.{pieces_from-end, split-none}
+use Rattle.textwrap_lines.proofs.WordLines.Pieces.{tiled-split, tiled-broken}
+use Rattle.textwrap_lines.proofs.WordLines.Steps.{IsNext-same, GoesOn-start, GoesOn-next}
+use Rattle.textwrap_lines.proofs.WordLines.Steps.{GoesOn-then}
 use Rattle.textwrap_lines.proofs.word_lines.Layout.push_word.Goals.{then-not-self-via-then-not-self}
 use Rattle.textwrap_lines.proofs.word_lines.Layout.push_word.Goals.{then-not-self-via-else-not-self+then-not-contains}
 use Rattle.textwrap_lines.proofs.word_lines.Layout.push_word.Goals.{then-is_hyphen_point+in_ok-push_broken}

@@ -1,11 +1,8 @@
-use Rattle.std.proofs.Common.{◌≤◌}
-use Rattle.std.specs.Str.{IsCharBoundary}
-use Rattle.textwrap_words.specs.Breaking.{broken_words}
-use Rattle.textwrap_words.specs.Words.{word_view}
-use Rattle.textwrap_lines.specs.WordLines.{GoesOn, later_lines}
-use Rattle.textwrap_words.specs.WordSplitters.{hyphen_points, split_pieces}
-use Rattle.textwrap_lines.proofs.WordLines.Pieces.{pieces_from}
 use Rattle.textwrap_lines.proofs.word_lines.Layout.push_word.Given as goal
+use Rattle.textwrap_base.proofs.Common.{◌≤◌, IsCharBoundary}
+use Rattle.textwrap_words.proofs.Common.{broken_words, word_view, hyphen_points, split_pieces}
+use Rattle.textwrap_lines.proofs.Common.{GoesOn, later_lines}
+use Rattle.textwrap_lines.proofs.WordLines.Points.{pieces_from}
 
 -- the pieces before the offset `start` were taken
 abbrev pub invariant-loop-point : goal.invariant-loop-point

@@ -1,6 +1,5 @@
-use Rattle.std.proofs.Common.{arith}
-use Rattle.std.proofs.lemmas.Str.{IsCharBoundary-start}
 use Rattle.textwrap_lines.proofs.word_lines.OpenLine.at_start.Goals as goal
+use Rattle.textwrap_base.proofs.Common.{arith, IsCharBoundary-start}
 
 pub invariant_of-result : goal.invariant_of-result
 invariant_of-result c = record {

@@ -1,9 +1,8 @@
-use Rattle.std.proofs.Common.{◌≡◌, ◌-◌, [], ◌∷◌, cond, take, refl, ap, ◌∙◌, subst, arith}
-use Rattle.std.proofs.lemmas.Result.{on_ok_weaker}
-use Rattle.textwrap_lines.specs.LineSinks.{Took}
-use Rattle.textwrap_lines.specs.Paragraph.{assembled_line}
-use Rattle.textwrap_lines.proofs.WordLines.Line.{line-text}
 use Rattle.textwrap_lines.proofs.word_lines.OpenLine.push_to.Goals as goal
+use Rattle.textwrap_base.proofs.Common.{◌≡◌, ◌-◌, [], ◌∷◌, cond, take, refl, ap, ◌∙◌, subst, arith}
+use Rattle.textwrap_base.proofs.Common.{on_ok_weaker}
+use Rattle.textwrap_lines.proofs.Common.{Took, assembled_line}
+use Rattle.textwrap_lines.proofs.WordLines.HasPiece.{line-text}
 use Rattle.textwrap_lines.proofs.word_lines.OpenLine.push_to.Goals.{then-self, else-self}
 use Rattle.textwrap_lines.proofs.word_lines.OpenLine.push_to.Goals.{then-keeps_blanks}
 use Rattle.textwrap_lines.proofs.word_lines.OpenLine.push_to.Goals.{else-keeps_blanks}

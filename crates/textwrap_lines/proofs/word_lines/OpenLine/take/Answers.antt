@@ -1,6 +1,6 @@
-use Rattle.std.proofs.Common.{refl, arith}
-use Rattle.textwrap_lines.proofs.WordLines.Line.{has_piece}
 use Rattle.textwrap_lines.proofs.word_lines.OpenLine.take.Goals as goal
+use Rattle.textwrap_base.proofs.Common.{refl, arith}
+use Rattle.textwrap_lines.proofs.WordLines.HasPiece.{has_piece}
 
 pub overflow_add-self : goal.overflow_add-self
 overflow_add-self c =

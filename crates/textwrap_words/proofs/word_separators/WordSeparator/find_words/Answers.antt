@@ -1,9 +1,8 @@
-use Rattle.std.proofs.Common.{ap, sym, ◌∙◌, subst}
-use Rattle.textwrap_words.specs.Words.{tiled}
+use Rattle.textwrap_words.proofs.word_separators.WordSeparator.find_words.Goals as goal
+use Rattle.textwrap_base.proofs.Common.{ap, sym, ◌∙◌, subst}
+use Rattle.textwrap_words.proofs.Common.{tiled, MaySeparate}
 use Rattle.textwrap_words.proofs.Word.Tiling.{tiled-words_of}
 use Rattle.textwrap_words.proofs.Word.Words.{words_unique}
-use Rattle.textwrap_words.specs.WordSeparators.{MaySeparate}
-use Rattle.textwrap_words.proofs.word_separators.WordSeparator.find_words.Goals as goal
 
 pub returns-in-AsciiSpace-clause-words : goal.returns-in-AsciiSpace-clause-words
 returns-in-AsciiSpace-clause-words g c =

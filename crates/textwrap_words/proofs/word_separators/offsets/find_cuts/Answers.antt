@@ -1,11 +1,9 @@
-use Rattle.std.proofs.Common.{◌≡◌, ℕ, ◌+◌, ◌++◌, List, ◌∷◌, [], Bool, true, false, length, refl}
-use Rattle.std.proofs.Common.{sym, ap, ◌∙◌, arith}
-use Rattle.std.specs.Str.Iter.{char_indices_offset}
-use lib.Utf8.{encode}
-use Rattle.textwrap_words.specs.Units.{stripped}
-use Rattle.textwrap_words.specs.WordOffsets.{is_cut_after}
-use Rattle.textwrap_words.proofs.Word.Offsets.{IsFinding-step, IsFinding-end}
 use Rattle.textwrap_words.proofs.word_separators.offsets.find_cuts.Goals as goal
+use Rattle.textwrap_base.proofs.Common.{◌≡◌, ℕ, ◌+◌, ◌++◌, List, ◌∷◌, [], Bool, true, false, length}
+use Rattle.textwrap_base.proofs.Common.{refl, sym, ap, ◌∙◌, arith, char_indices_offset}
+use Rattle.textwrap_words.proofs.Common.{stripped, is_cut_after}
+use lib.Utf8.{encode}
+use Rattle.textwrap_words.proofs.Word.Offsets.{IsFinding-step, IsFinding-end}
 
 -- an answer of `is_cut_after`, in the words of the definition
 answered : (offsets : List ℕ) (total ch shown len here whole : ℕ) (b answer : Bool)

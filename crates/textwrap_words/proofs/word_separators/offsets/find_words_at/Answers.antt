@@ -1,10 +1,9 @@
-use Rattle.std.proofs.Common.{◌≡◌, map, sym, ap, ◌∙◌, subst}
-use Rattle.std.proofs.lemmas.Result.{IfOk-weaker}
-use Rattle.textwrap_words.specs.Words.{word_view, word_of, tiled, Tiles}
-use Rattle.textwrap_words.specs.Cuts.{AreCuts, parts_between}
-use Rattle.textwrap_words.proofs.Word.OffsetCuts.{cuts_at-AreCuts}
-use Rattle.textwrap_words.proofs.Word.Parts.{parts_between-tile}
 use Rattle.textwrap_words.proofs.word_separators.offsets.find_words_at.Goals as goal
+use Rattle.textwrap_base.proofs.Common.{◌≡◌, map, sym, ap, ◌∙◌, subst}
+use Rattle.textwrap_words.proofs.Common.{word_view, word_of, tiled, Tiles, AreCuts, parts_between}
+use Rattle.std.proofs.lemmas.Result.{IfOk-weaker}
+use Rattle.textwrap_words.proofs.Word.OffsetPlaces.{cuts_at-AreCuts}
+use Rattle.textwrap_words.proofs.Word.Parts.{parts_between-tile}
 
 pub words_between-requires : goal.words_between-requires
 words_between-requires g c =

@@ -1,13 +1,11 @@
-use Rattle.std.proofs.Common.{◌+◌, [], length, drop, ap, ◌∙◌, arith, length-append}
-use Rattle.std.proofs.lemmas.Iterator.{YieldsList-from_chars}
-use Rattle.std.proofs.lemmas.Iterator.Consumers.{YieldsList-turn, YieldsList-end}
-use Rattle.std.proofs.lemmas.List.{at_drop_all, length_push}
-use Rattle.std.proofs.lemmas.Str.{encodes-chars}
+use Rattle.textwrap_words.proofs.word_separators.offsets.visible_len.Goals as goal
+use Rattle.textwrap_base.proofs.Common.{◌+◌, [], length, drop, ap, ◌∙◌, arith, length-append}
+use Rattle.textwrap_base.proofs.Common.{YieldsList-from_chars, YieldsList-turn, YieldsList-end}
+use Rattle.textwrap_base.proofs.Common.{at_drop_all, length_push, encodes-chars}
 use Rattle.std.specs.Str.{chars}
 use lib.Utf8.{encode}
 use Rattle.textwrap_words.specs.declared.escapes.State.TheVariants.{Text}
 use Rattle.textwrap_words.proofs.Units.Stripped.{text_in, text_in-step, text_in-short}
-use Rattle.textwrap_words.proofs.word_separators.offsets.visible_len.Goals as goal
 
 pub overflow_add-len : goal.overflow_add-len
 overflow_add-len c =

@@ -1,8 +1,8 @@
-use Rattle.std.proofs.Common.{◌≡◌, ◌+◌, length, drop}
+use Rattle.textwrap_words.proofs.word_separators.offsets.visible_len.Given as goal
+use Rattle.textwrap_base.proofs.Common.{◌≡◌, ◌+◌, length, drop}
+use Rattle.textwrap_words.proofs.Common.{stripped}
 use Rattle.std.specs.Str.{chars}
 use Rattle.textwrap_words.proofs.Units.Stripped.{text_in}
-use Rattle.textwrap_words.specs.Units.{stripped}
-use Rattle.textwrap_words.proofs.word_separators.offsets.visible_len.Given as goal
 
 -- the bytes so far, and those of the characters to come, are the whole
 abbrev pub invariant-loop-ch : goal.invariant-loop-ch

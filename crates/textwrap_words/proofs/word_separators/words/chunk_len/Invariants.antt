@@ -1,6 +1,6 @@
-use Rattle.std.proofs.Common.{◌≡◌, ℕ, ◌+◌, ◌-◌, ◌<◌, ◌≤◌, false, get_or, length}
-use Rattle.textwrap_words.specs.Words.{is_cut}
 use Rattle.textwrap_words.proofs.word_separators.words.chunk_len.Given as goal
+use Rattle.textwrap_base.proofs.Common.{◌≡◌, ℕ, ◌+◌, ◌-◌, ◌<◌, ◌≤◌, false, get_or, length}
+use Rattle.textwrap_words.proofs.Common.{is_cut}
 
 -- there is no cut before the end so far
 abbrev pub invariant-loop-end : goal.invariant-loop-end

@@ -1,8 +1,8 @@
-use Rattle.std.proofs.Common.{◌≡◌, ℕ, ◌++◌, ◌<◌, ◌≤◌, drop, length, map, get_or}
-use Rattle.std.specs.Prelude.{IsCharBoundary}
-use Rattle.textwrap_words.specs.Words.{word_view, word_of}
-use Rattle.textwrap_words.specs.Cuts.{parts_from}
 use Rattle.textwrap_words.proofs.word_separators.words.words_between.Given as goal
+use Rattle.textwrap_base.proofs.Common.{◌≡◌, ℕ, ◌++◌, ◌<◌, ◌≤◌, drop, length, map, get_or}
+use Rattle.textwrap_base.proofs.Common.{IsCharBoundary}
+use Rattle.textwrap_words.proofs.Common.{word_view, word_of}
+use Rattle.textwrap_words.specs.Cuts.{parts_from}
 
 -- the words so far, and those of what follows the last cut, are those of the line
 abbrev pub invariant-loop-cut : goal.invariant-loop-cut

@@ -1,8 +1,8 @@
-use Rattle.std.proofs.Common.{◌≡◌, ◌++◌, length, sym, ap, ◌∙◌}
+use Rattle.textwrap_words.proofs.word_splitters.hyphens.ends_alphanumeric.Goals as goal
+use Rattle.textwrap_base.proofs.Common.{◌≡◌, ◌++◌, length, sym, ap, ◌∙◌}
 use Rattle.std.specs.Str.Iter.{chars_rest}
 use lib.Utf8.{encode}
 use Rattle.textwrap_words.proofs.Word.Splitting.{ends-none, ends-some}
-use Rattle.textwrap_words.proofs.word_splitters.hyphens.ends_alphanumeric.Goals as goal
 
 pub returns-in-Some : goal.returns-in-Some
 returns-in-Some c =

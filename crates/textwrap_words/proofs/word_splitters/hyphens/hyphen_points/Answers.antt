@@ -1,12 +1,9 @@
-use Rattle.std.proofs.Common.{◌≡◌, ◌-◌, ◌++◌, [], ◌∷◌, ◌==◌, cond, false, length, sym, ap, ◌∙◌}
-use Rattle.std.proofs.Common.{subst, arith}
-use Rattle.std.specs.List.{list_any, range_with_len}
-use Rattle.std.specs.Prelude.{filter}
-use Rattle.textwrap_words.specs.WordSplitters.{is_hyphen_point, hyphen}
-use Rattle.textwrap_words.specs.Cuts.{AreCuts}
-use Rattle.textwrap_words.proofs.Word.Splitting.{points-more, hyphen_points-cuts}
-use Rattle.textwrap_words.proofs.Word.Splitting.{hyphen_points-none}
 use Rattle.textwrap_words.proofs.word_splitters.hyphens.hyphen_points.Goals as goal
+use Rattle.textwrap_base.proofs.Common.{◌≡◌, ◌-◌, ◌++◌, [], ◌∷◌, ◌==◌, cond, false, length, sym, ap}
+use Rattle.textwrap_base.proofs.Common.{◌∙◌, subst, arith, list_any, range_with_len, filter}
+use Rattle.textwrap_words.proofs.Common.{is_hyphen_point, hyphen, AreCuts}
+use Rattle.textwrap_base.proofs.Lists.Ranges.{points-more}
+use Rattle.textwrap_words.proofs.Word.Splitting.{hyphen_points-cuts, hyphen_points-none}
 use Rattle.textwrap_words.proofs.word_splitters.hyphens.hyphen_points.Goals.{then-is_hyphen_point+in_ok-push}
 use Rattle.textwrap_words.proofs.word_splitters.hyphens.hyphen_points.Goals.{else-is_hyphen_point}
 

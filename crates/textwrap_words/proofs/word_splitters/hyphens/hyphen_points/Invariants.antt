@@ -1,8 +1,6 @@
-use Rattle.std.proofs.Common.{◌≡◌, ◌-◌, ◌≤◌, length}
-use Rattle.std.specs.Prelude.{filter}
-use Rattle.std.specs.List.{range_with_len}
-use Rattle.textwrap_words.specs.WordSplitters.{is_hyphen_point}
 use Rattle.textwrap_words.proofs.word_splitters.hyphens.hyphen_points.Given as goal
+use Rattle.textwrap_base.proofs.Common.{◌≡◌, ◌-◌, ◌≤◌, length, filter, range_with_len}
+use Rattle.textwrap_words.proofs.Common.{is_hyphen_point}
 
 -- the points before this offset
 abbrev pub invariant-loop-point : goal.invariant-loop-point

@@ -1,7 +1,6 @@
-use Rattle.std.proofs.Common.{◌≡◌, ◌+◌, ◌-◌, ◌<◌, length, get_or, subst, arith}
-use Rattle.std.specs.Prelude.{IsCharBoundary}
-use Rattle.std.proofs.lemmas.Str.{IsCharBoundary-after_ascii}
 use Rattle.textwrap_words.proofs.word_splitters.hyphens.is_hyphen_point.Goals as goal
+use Rattle.textwrap_base.proofs.Common.{◌≡◌, ◌+◌, ◌-◌, ◌<◌, length, get_or, subst, arith}
+use Rattle.textwrap_base.proofs.Common.{IsCharBoundary, IsCharBoundary-after_ascii}
 
 pub range_from-requires : goal.range_from-requires
 range_from-requires c = λ some.

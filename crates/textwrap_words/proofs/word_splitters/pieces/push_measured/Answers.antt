@@ -1,9 +1,7 @@
-use Rattle.std.proofs.Common.{◌≡◌, ◌++◌, ◌∷◌, [], map, ap, ◌∙◌, sym, arith}
-use Rattle.std.proofs.lemmas.Bool.{eqb-true}
-use Rattle.std.proofs.lemmas.List.{nil_from_length, map_push}
-use Rattle.textwrap_words.specs.Words.{word_view}
-use Rattle.textwrap_words.specs.WordSplitters.{split_pieces}
 use Rattle.textwrap_words.proofs.word_splitters.pieces.push_measured.Goals as goal
+use Rattle.textwrap_base.proofs.Common.{◌≡◌, ◌++◌, ◌∷◌, [], map, ap, ◌∙◌, sym, arith, eqb-true}
+use Rattle.textwrap_base.proofs.Common.{nil_from_length, map_push}
+use Rattle.textwrap_words.proofs.Common.{word_view, split_pieces}
 
 pub returns : goal.returns
 returns g c = (

@@ -1,8 +1,7 @@
-use Rattle.std.proofs.Common.{◌≡◌, ℕ, ◌++◌, ◌<◌, ◌≤◌, drop, length, map, get_or}
-use Rattle.std.specs.Prelude.{IsCharBoundary}
-use Rattle.textwrap_words.specs.Words.{word_view}
-use Rattle.textwrap_words.specs.WordSplitters.{split_from, split_pieces}
 use Rattle.textwrap_words.proofs.word_splitters.pieces.push_split.Given as goal
+use Rattle.textwrap_base.proofs.Common.{◌≡◌, ℕ, ◌++◌, ◌<◌, ◌≤◌, drop, length, map, get_or}
+use Rattle.textwrap_base.proofs.Common.{IsCharBoundary}
+use Rattle.textwrap_words.proofs.Common.{word_view, split_from, split_pieces}
 
 -- the pieces so far, and those of what follows the last cut, are those of the word
 abbrev pub invariant-loop-point : goal.invariant-loop-point

@@ -1,8 +1,7 @@
-use Rattle.std.proofs.Common.{◌≡◌, map}
-use Rattle.std.specs.Iterator.{IsFinite}
-use Rattle.textwrap_words.specs.Breaking.{broken_words}
-use Rattle.textwrap_words.specs.Words.{word_view}
 use Rattle.textwrap_words.proofs.words.breaking.break_words.Given as goal
+use Rattle.textwrap_base.proofs.Common.{◌≡◌, map}
+use Rattle.textwrap_words.proofs.Common.{broken_words, word_view}
+use Rattle.std.specs.Iterator.{IsFinite}
 
 abbrev pub invariant-loop-word : goal.invariant-loop-word
 invariant-loop-word g l =

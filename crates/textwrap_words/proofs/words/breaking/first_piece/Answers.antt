@@ -1,10 +1,11 @@
-use Rattle.std.proofs.Common.{length, ◌≡◌, ◌+◌, sym, ap, subst, arith}
+use Rattle.textwrap_words.proofs.words.breaking.first_piece.Goals as goal
+use Rattle.textwrap_base.proofs.Common.{length, ◌≡◌, ◌+◌, sym, ap, subst, arith}
 use Rattle.textwrap_words.proofs.Word.Breaking.{due-true, due-false}
 use Rattle.textwrap_words.proofs.Units.Widths.{columns-le}
-use Rattle.textwrap_words.proofs.Word.BrokenPieces.{added, IsReading-start, IsReading-step}
-use Rattle.textwrap_words.proofs.Word.BrokenPieces.{IsReading-cut, IsReading-end, IsReading-room}
-use Rattle.textwrap_words.proofs.Word.BrokenPieces.{IsFirstPiece}
-use Rattle.textwrap_words.proofs.words.breaking.first_piece.Goals as goal
+use Rattle.textwrap_words.proofs.Word.FirstUnits.{added}
+use Rattle.textwrap_words.proofs.Word.ReadPieces.{IsReading-start, IsReading-step, IsReading-cut}
+use Rattle.textwrap_words.proofs.Word.ReadPieces.{IsReading-end, IsReading-room}
+use Rattle.textwrap_words.proofs.Word.PieceTexts.{IsFirstPiece}
 use Rattle.textwrap_words.proofs.words.breaking.first_piece.Goals.{Then-width-columns, In-None}
 use Rattle.textwrap_words.proofs.words.breaking.first_piece.Goals.{else-width-gt0-via-then-width-gt0+else-width-columns}
 use Rattle.textwrap_words.proofs.words.breaking.first_piece.Goals.{else-width-gt0-via-else-width-gt0}

@@ -1,6 +1,7 @@
-use Rattle.std.specs.Str.Iter.{char_indices_rest, char_indices_offset}
-use Rattle.textwrap_words.proofs.Word.BrokenPieces.{IsReading}
 use Rattle.textwrap_words.proofs.words.breaking.first_piece.Given as goal
+use Rattle.textwrap_base.proofs.Common.{char_indices_offset}
+use Rattle.std.specs.Str.Iter.{char_indices_rest}
+use Rattle.textwrap_words.proofs.Word.ReadPieces.{IsReading}
 
 abbrev pub invariant-loop-at : goal.invariant-loop-at
 invariant-loop-at l = IsReading l.line_width l.text (char_indices_offset l.at-iterator)

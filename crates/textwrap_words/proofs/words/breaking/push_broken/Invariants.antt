@@ -1,7 +1,6 @@
-use Rattle.std.proofs.Common.{◌≡◌, ◌++◌, map}
-use Rattle.textwrap_words.specs.Breaking.{broken_word, pieces_left}
-use Rattle.textwrap_words.specs.Words.{word_view}
 use Rattle.textwrap_words.proofs.words.breaking.push_broken.Given as goal
+use Rattle.textwrap_base.proofs.Common.{◌≡◌, ◌++◌, map}
+use Rattle.textwrap_words.proofs.Common.{broken_word, pieces_left, word_view}
 
 -- what was pushed, and the pieces that are left, are the word
 abbrev pub invariant-loop-piece : goal.invariant-loop-piece

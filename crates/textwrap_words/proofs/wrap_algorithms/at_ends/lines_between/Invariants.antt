@@ -1,6 +1,6 @@
-use Rattle.std.proofs.Common.{◌≡◌, ℕ, ◌++◌, ◌<◌, ◌≤◌, map, drop, length, get_or}
-use Rattle.textwrap_words.specs.LineEnds.{lines_from, lines_between}
 use Rattle.textwrap_words.proofs.wrap_algorithms.at_ends.lines_between.Given as goal
+use Rattle.textwrap_base.proofs.Common.{◌≡◌, ℕ, ◌++◌, ◌<◌, ◌≤◌, map, drop, length, get_or}
+use Rattle.textwrap_words.specs.LineEnds.{lines_from, lines_between}
 
 -- the lines so far, and those that follow them, are the lines between all ends
 abbrev pub invariant-loop-end : goal.invariant-loop-end

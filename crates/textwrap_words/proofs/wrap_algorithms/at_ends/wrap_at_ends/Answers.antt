@@ -1,6 +1,6 @@
-use Rattle.std.proofs.Common.{◌∙◌, ap, refl}
-use Rattle.textwrap_words.specs.LineEnds.{lines_between}
 use Rattle.textwrap_words.proofs.wrap_algorithms.at_ends.wrap_at_ends.Goals as goal
+use Rattle.textwrap_base.proofs.Common.{◌∙◌, ap, refl}
+use Rattle.textwrap_words.specs.LineEnds.{lines_between}
 
 pub returns : goal.returns
 returns g c = record {

@@ -1,6 +1,6 @@
-use Rattle.std.proofs.Common.{◌≡◌, length}
-use Rattle.textwrap.specs.Refilling.{nonempty_lines}
 use Rattle.textwrap.proofs.refilling.lines.NonEmptyLinesIterator.next.Given as goal
+use Rattle.textwrap_base.proofs.Common.{◌≡◌, length}
+use Rattle.textwrap.proofs.Common.{nonempty_lines}
 
 -- the lines that were passed over are empty
 abbrev pub invariant-loop-self : goal.invariant-loop-self

@@ -1,10 +1,7 @@
-use Rattle.std.proofs.Common.{arith, sym, ◌∙◌, ap}
-use Rattle.textwrap_base.specs.Cost.{PricedSizes}
-use Rattle.textwrap_base.specs.Minima.{LineCostsView}
-use Rattle.textwrap_base.specs.Table.{line_costs}
-use Rattle.textwrap_base.specs.LineCosts.{measured}
-use Rattle.textwrap_base.proofs.Cost.Measures.{line_costs-at}
 use Rattle.textwrap_base.proofs.minima.line_costs.LineCostsCostSource.candidate.Goals as goal
+use Rattle.textwrap_base.proofs.Common.{arith, sym, ◌∙◌, ap, PricedSizes, line_costs, measured}
+use Rattle.textwrap_base.specs.Minima.{LineCostsView}
+use Rattle.textwrap_base.proofs.Cost.SizesAlone.{line_costs-at}
 
 pub returns-clause-cost : goal.returns-clause-cost
 returns-clause-cost g c =

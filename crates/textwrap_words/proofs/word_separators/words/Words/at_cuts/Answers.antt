@@ -1,9 +1,8 @@
-use Rattle.std.proofs.Common.{refl, ap, map, ◌∙◌, sym, subst}
-use Rattle.textwrap_words.specs.Words.{word_view, word_of, tiled}
-use Rattle.textwrap_words.specs.Cuts.{AreCuts, parts_between}
+use Rattle.textwrap_words.proofs.word_separators.words.Words.at_cuts.Goals as goal
+use Rattle.textwrap_base.proofs.Common.{refl, ap, map, ◌∙◌, sym, subst}
+use Rattle.textwrap_words.proofs.Common.{word_view, word_of, tiled, AreCuts, parts_between}
 use Rattle.textwrap_words.proofs.Word.Parts.{inner-cuts}
 use Rattle.textwrap_words.proofs.Word.GivenCuts.{MayCut-cuts, parts-texts}
-use Rattle.textwrap_words.proofs.word_separators.words.Words.at_cuts.Goals as goal
 
 pub words_between-requires : goal.words_between-requires
 words_between-requires g c =

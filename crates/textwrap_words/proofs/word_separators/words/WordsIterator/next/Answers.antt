@@ -1,7 +1,6 @@
-use Rattle.std.proofs.Common.{subst}
-use Rattle.std.specs.Str.{IsCharBoundary}
-use Rattle.textwrap_words.proofs.Word.Tiling.{IsCharBoundary-after_blank}
 use Rattle.textwrap_words.proofs.word_separators.words.WordsIterator.next.Goals as goal
+use Rattle.textwrap_base.proofs.Common.{subst, IsCharBoundary}
+use Rattle.textwrap_base.proofs.Utf8.{IsCharBoundary-after_blank}
 
 pub split_at-requires : goal.split_at-requires
 split_at-requires g c =

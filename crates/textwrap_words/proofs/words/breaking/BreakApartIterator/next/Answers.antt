@@ -1,10 +1,7 @@
-use Rattle.std.proofs.Common.{◌≡◌, ◌∷◌, sym, subst}
-use Rattle.std.specs.Prelude.{IsUtf8}
-use Rattle.std.proofs.lemmas.Bool.{eqb-true, eqb-false}
-use Rattle.textwrap_words.specs.Breaking.{broken_texts}
-use Rattle.textwrap_words.specs.Units.{text_width}
-use Rattle.textwrap_words.proofs.Word.BrokenPieces.{turn-none, turn-last, turn-more}
 use Rattle.textwrap_words.proofs.words.breaking.BreakApartIterator.next.Goals as goal
+use Rattle.textwrap_base.proofs.Common.{◌≡◌, ◌∷◌, sym, subst, IsUtf8, eqb-true, eqb-false}
+use Rattle.textwrap_words.proofs.Common.{broken_texts, text_width}
+use Rattle.textwrap_words.proofs.Word.BrokenPieces.{turn-none, turn-last, turn-more}
 
 pub returns-then-is_empty-clause-steps : goal.returns-then-is_empty-clause-steps
 returns-then-is_empty-clause-steps c =

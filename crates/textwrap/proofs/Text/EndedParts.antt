@@ -1,0 +1,88 @@
+-- The parts of a text that is cut after each line feed.
+use Rattle.textwrap_base.proofs.Common.{◌≡◌, ◌≢◌, ℕ, ◌+◌, ◌<◌, cond, Option, None, Some, List, []}
+use Rattle.textwrap_base.proofs.Common.{◌∷◌, ◌++◌, length, take, drop, refl, sym, ap, ◌∙◌, subst}
+use Rattle.textwrap_base.proofs.Common.{arith, append_assoc, append-nil, take-append-drop}
+use Rattle.textwrap_base.proofs.Common.{onto_first, ne_eqb, nil_from_length, All-head, All-tail}
+use Rattle.textwrap_base.proofs.Common.{All-from_get_or}
+use Rattle.textwrap.proofs.Common.{ended_parts}
+use Rattle.std.proofs.Common.{MatchOption}
+use Rattle.std.specs.Str.Iter.{split_inclusive_steps, split_inclusive_text, split_inclusive_pattern}
+use Rattle.std.specs.Str.Pattern.{FindsChar}
+use Rattle.std.proofs.lemmas.Iterator.{YieldsList}
+use Rattle.std.proofs.lemmas.Iterator.Splits.{YieldsList-from_shown_while}
+use Rattle.std.proofs.lemmas.List.{append_cancel_right, append_cancel_left}
+use Rattle.std.proofs.lemmas.Str.Pattern.{NoCharPasses-char, drop_at_char}
+use Rattle.textwrap.specs.Indentation.{HasNoLineFeed}
+
+pub ended_parts-front : (front rest : List ℕ) → HasNoLineFeed front
+    → ended_parts (front ++ 10 ∷ rest) ≡ (front ++ 10 ∷ []) ∷ ended_parts rest
+ended_parts-front [] rest lacks = refl
+ended_parts-front (c ∷ front) rest lacks =
+    let parts = ended_parts (front ++ 10 ∷ rest) in
+    ap (λ b. cond b ((c ∷ []) ∷ parts) (onto_first c parts))
+    (ne_eqb c 10 (All-head (λ d. d ≢ 10) c front lacks))
+    ∙ ap (onto_first c) (ended_parts-front front rest (All-tail (λ d. d ≢ 10) c front lacks))
+
+ended_parts-last : (c : ℕ) (cs : List ℕ) → HasNoLineFeed (c ∷ cs)
+    → ended_parts (c ∷ cs) ≡ (c ∷ cs) ∷ []
+ended_parts-last c [] lacks =
+    ap (λ b. cond b ((c ∷ []) ∷ []) (onto_first c []))
+    (ne_eqb c 10 (All-head (λ d. d ≢ 10) c [] lacks))
+ended_parts-last c (d ∷ cs) lacks =
+    let parts = ended_parts (d ∷ cs) in
+    ap (λ b. cond b ((c ∷ []) ∷ parts) (onto_first c parts))
+    (ne_eqb c 10 (All-head (λ e. e ≢ 10) c (d ∷ cs) lacks))
+    ∙ ap (onto_first c) (ended_parts-last d cs (All-tail (λ e. e ≢ 10) c (d ∷ cs) lacks))
+
+pub ended_parts-whole : (part : List ℕ) → HasNoLineFeed part → part ≢ []
+    → ended_parts part ≡ part ∷ []
+ended_parts-whole [] lacks some = absurd (some refl)
+ended_parts-whole (c ∷ cs) lacks some = ended_parts-last c cs lacks
+
+-- what a search for the line feed finds is the first part
+first_part : (w x rest : List ℕ) (found : Option (ℕ × ℕ)) → w ≡ x ++ rest → FindsChar 10 w found
+    → MatchOption found ((x ≡ w) × (0 < length w)) (λ q. 0 < q.1 → x ≡ take q.1 w)
+    → ended_parts w ≡ x ∷ ended_parts rest
+first_part w x rest None is lacks (all, some) =
+    let left : rest ≡ [] = append_cancel_left w rest []
+    (ap (λ l. l ++ rest) (sym all) ∙ sym is ∙ sym (append-nil w)) in
+    ended_parts-whole w (All-from_get_or (λ c. c ≢ 10) w 0
+    (λ k within. NoCharPasses-char 10 w k lacks (omega arith) within))
+    (λ none. omega (arith, some, ap length none))
+    ∙ ap (λ p. p ∷ []) (sym all) ∙ ap (λ r. x ∷ ended_parts r) (sym left)
+first_part w x rest (Some q) is (before, at) cut =
+    let front = take q.0 w in
+    let ends : q.1 ≡ q.0 + 1 = at.ends in
+    let first = cut (omega arith) in
+    let here : drop q.0 w ≡ 10 ∷ drop q.1 w = drop_at_char 10 w q.0 q.1 at (omega arith) in
+    let whole : w ≡ front ++ 10 ∷ drop q.1 w =
+    sym (take-append-drop q.0 w) ∙ ap (λ l. front ++ l) here in
+    let left : rest ≡ drop q.1 w = append_cancel_left x rest (drop q.1 w)
+    (sym is ∙ sym (take-append-drop q.1 w) ∙ ap (λ l. l ++ drop q.1 w) (sym first)) in
+    let part : x ≡ front ++ 10 ∷ [] = append_cancel_right x (front ++ 10 ∷ []) (drop q.1 w)
+    (ap (λ l. x ++ l) (sym left) ∙ sym is ∙ whole
+    ∙ sym (append_assoc front (10 ∷ []) (drop q.1 w))) in
+    let free : HasNoLineFeed front = All-from_get_or (λ c. c ≢ 10) front 0
+    (λ k within. NoCharPasses-char 10 front k before (omega arith) within) in
+    ap ended_parts whole ∙ ended_parts-front front (drop q.1 w) free
+    ∙ ap (λ p. p ∷ ended_parts (drop q.1 w)) (sym part)
+    ∙ ap (λ r. x ∷ ended_parts r) (sym left)
+
+-- `split_inclusive` at the line feed gives the parts
+pub YieldsList-from_split_inclusive : {s : _} (text : List ℕ)
+    → split_inclusive_text {P = ℕ} s ≡ text
+    → split_inclusive_pattern {P = ℕ} s ≡ 10
+    → YieldsList (split_inclusive_steps FindsChar (λ a b. b ≡ a)) (λ x. x.now) s
+    (ended_parts text)
+YieldsList-from_split_inclusive {s} text is pattern =
+    let steps = split_inclusive_steps FindsChar (λ a b. b ≡ a) in
+    subst (λ bs. YieldsList steps (λ x. x.now) s (ended_parts bs)) is
+    (YieldsList-from_shown_while steps (λ x. x.now)
+    (λ t. ended_parts (split_inclusive_text {P = ℕ} t))
+    (λ t. split_inclusive_pattern {P = ℕ} t ≡ 10)
+    (λ t u h k. ap (λ bs. length (ended_parts bs)) (nil_from_length (split_inclusive_text t) k.1.0))
+    (λ t x u h k. (
+      k.0 ∙ h,
+      first_part (split_inclusive_text t) x.now (split_inclusive_text u) k.1.1.0 k.1.0
+          (subst (λ c. FindsChar c (split_inclusive_text t) k.1.1.0) h k.1.1.1) k.1.1.2,
+    )) s pattern)

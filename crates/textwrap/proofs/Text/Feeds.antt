@@ -1,0 +1,144 @@
+-- The line feeds in their places.
+use Rattle.textwrap_base.proofs.Common.{◌≡◌, ℕ, ◌+◌, ◌-◌, ◌<◌, List, [], ◌∷◌, ◌++◌, All, length}
+use Rattle.textwrap_base.proofs.Common.{refl, sym, ap, ◌∙◌, subst, arith, append_assoc, append-nil}
+use Rattle.textwrap_base.proofs.Common.{length-append, flat_map, length_push}
+use Rattle.textwrap_words.proofs.Common.{blank, WordText, tiled}
+use Rattle.textwrap_lines.proofs.Common.{ending_bytes, paragraphs_of, line_feed}
+use Rattle.textwrap.proofs.Common.{broken_lines, AreDividedAt, breaks_of, breaks_from}
+use Rattle.textwrap.proofs.Common.{with_line_feeds, IsFilledInPlace}
+use Rattle.textwrap.proofs.Text.Places.{places-within}
+use Rattle.std.proofs.Common.{set}
+use Rattle.std.proofs.lemmas.List.{set_at}
+use Rattle.textwrap_base.proofs.Lists.Parts.{flat}
+use Rattle.textwrap_words.proofs.Word.Tiling.{tiled-append}
+use Rattle.textwrap_lines.specs.declared.line_ending.LineEnding.TheVariants.{LF}
+use Rattle.textwrap_lines.proofs.Text.Endings.{join_with-cons, parts_past-some}
+use Rattle.textwrap_lines.proofs.Text.EndingTexts.{join-paragraphs_of}
+use Rattle.textwrap_lines.proofs.Paragraph.LinesApart.{shortened, AreLinesApart, IsBroken-greedy}
+use Rattle.textwrap.proofs.Text.JoinedLines.{feed_joined, broken_lines-some, tiled-broken}
+use Rattle.textwrap.proofs.Text.JoinedLines.{join-append, length-joined, all_broken-some}
+use Rattle.textwrap.proofs.Text.JoinedLines.{divisions-some}
+
+-- the bytes with the line feeds of a part, before those of what follows it
+feeds-part : (start : ℕ) (before : List ℕ) (lines : List (List WordText)) (after places : List ℕ)
+    → 0 < length lines → AreLinesApart lines → length before ≡ start
+    → with_line_feeds (breaks_of start lines ++ places) (before ++ (tiled (flat lines) ++ after))
+    ≡ with_line_feeds places (before ++ (feed_joined (broken_lines lines) ++ after))
+feeds-part start before [] after places some apart len = absurd (omega arith)
+feeds-part start before (line ∷ []) after places some apart len =
+    ap (λ ws. with_line_feeds places (before ++ (tiled ws ++ after))) (append-nil line)
+feeds-part start before (line ∷ next ∷ lines) after places some (words, ending, apart) len =
+    let text = shortened (tiled line) in
+    let rest = tiled (flat (next ∷ lines)) in
+    let end = start + length (tiled line) in
+    let joined = feed_joined (broken_lines (next ∷ lines)) in
+    let others = breaks_of end (next ∷ lines) ++ places in
+    let shorter : length (tiled line) ≡ length text + 1 = ap length ending
+    ∙ length_push text blank in
+    let place : length (before ++ text) ≡ end - 1 =
+    omega (arith, len, shorter, length-append before text) in
+    let past : length ((before ++ text) ++ line_feed ∷ []) ≡ end =
+    omega (arith, len, shorter, length-append before text, length_push (before ++ text) line_feed)
+    in
+    let old_seam : before ++ (((text ++ blank ∷ []) ++ rest) ++ after) ≡ (before ++ text)
+    ++ blank ∷ (rest ++ after) = simp append_assoc in
+    let old : before ++ (tiled (flat (line ∷ next ∷ lines)) ++ after) ≡ (before ++ text)
+    ++ blank ∷ (rest ++ after) =
+    ap (λ l. before ++ (l ++ after)) (tiled-append line (flat (next ∷ lines))
+    ∙ ap (λ l. l ++ rest) ending) ∙ old_seam in
+    let new_seam : ((before ++ text) ++ line_feed ∷ []) ++ (joined ++ after) ≡ before
+    ++ (((text ++ line_feed ∷ []) ++ joined) ++ after) = simp append_assoc in
+    let new : ((before ++ text) ++ line_feed ∷ []) ++ (joined ++ after) ≡ before
+    ++ (feed_joined (broken_lines (line ∷ next ∷ lines)) ++ after) =
+    new_seam ∙ ap (λ l. before ++ (l ++ after))
+    (sym (join_with-cons (line_feed ∷ []) text (broken_lines (next ∷ lines))
+    (broken_lines-some next lines))) in
+    ap (λ l. with_line_feeds others (set l (end - 1) line_feed)) old
+    ∙ ap (with_line_feeds others) (set_at (before ++ text) blank (rest ++ after) line_feed (end - 1)
+    place ∙ sym (append_assoc (before ++ text) (line_feed ∷ []) (rest ++ after)))
+    ∙ feeds-part end ((before ++ text) ++ line_feed ∷ []) (next ∷ lines) after places (omega arith)
+    apart past
+    ∙ ap (with_line_feeds places) new
+
+-- the lines of the parts in a row: a line feed stood between each two parts
+feeds-parts : (width start : ℕ) (before : List ℕ) (parts : List (List ℕ))
+    (divisions : List (List (List WordText))) → 0 < length parts
+    → AreDividedAt width parts divisions → length before ≡ start
+    → with_line_feeds (breaks_from start divisions) (before ++ feed_joined parts)
+    ≡ before ++ feed_joined (flat_map broken_lines divisions)
+feeds-parts width start before [] divisions some divided len = absurd (omega arith)
+feeds-parts width start before (part ∷ parts) [] some divided len = absurd divided
+feeds-parts width start before (part ∷ []) (lines ∷ divisions) some (greedy, none) len =
+    let broken = IsBroken-greedy (width ∷ []) part lines greedy in
+    let after = breaks_from (start + length (tiled (flat lines)) + 1) in
+    ap (λ ds. with_line_feeds (breaks_of start lines ++ after ds) (before ++ part)) none
+    ∙ ap (λ l. with_line_feeds (breaks_of start lines ++ []) (before ++ l))
+    (sym broken.tiles ∙ sym (append-nil (tiled (flat lines))))
+    ∙ feeds-part start before lines [] [] broken.some broken.apart len
+    ∙ ap (λ l. before ++ l) (append-nil (feed_joined (broken_lines lines)))
+    ∙ ap (λ l. before ++ feed_joined l) (sym (append-nil (broken_lines lines)))
+    ∙ ap (λ ds. before ++ feed_joined (broken_lines lines ++ flat_map broken_lines ds)) (sym none)
+feeds-parts width start before (part ∷ next ∷ parts) (lines ∷ divisions) some (greedy, divided)
+    len =
+    let broken = IsBroken-greedy (width ∷ []) part lines greedy in
+    let past = start + length (tiled (flat lines)) + 1 in
+    let row = feed_joined (broken_lines lines) in
+    let rest = feed_joined (next ∷ parts) in
+    let seam : before ++ (row ++ (line_feed ∷ [] ++ rest)) ≡ (before ++ (row ++ line_feed ∷ []))
+    ++ rest = simp append_assoc in
+    let place : length (before ++ (row ++ line_feed ∷ [])) ≡ past = omega (
+      arith,
+      len,
+      length-append before (row ++ line_feed ∷ []),
+      length_push row line_feed,
+      length-joined blank line_feed (broken_lines lines),
+      ap length (tiled-broken lines broken.some broken.apart),
+    ) in
+    ap (λ l. with_line_feeds (breaks_of start lines ++ breaks_from past divisions) (before ++ l))
+    (join_with-cons (line_feed ∷ []) part (next ∷ parts) (omega arith)
+    ∙ append_assoc part (line_feed ∷ []) rest
+    ∙ ap (λ l. l ++ (line_feed ∷ [] ++ rest)) (sym broken.tiles))
+    ∙ feeds-part start before lines (line_feed ∷ [] ++ rest) (breaks_from past divisions)
+    broken.some broken.apart len
+    ∙ ap (with_line_feeds (breaks_from past divisions)) seam
+    ∙ feeds-parts width past (before ++ (row ++ line_feed ∷ [])) (next ∷ parts) divisions
+    (omega arith) divided place
+    ∙ append_assoc before (row ++ line_feed ∷ []) (feed_joined (flat_map broken_lines divisions))
+    ∙ ap (λ l. before ++ l) (append_assoc row (line_feed ∷ [])
+    (feed_joined (flat_map broken_lines divisions))
+    ∙ sym (join-append (line_feed ∷ []) (broken_lines lines) (flat_map broken_lines divisions)
+    (all_broken-some lines broken.some)
+    (divisions-some width next parts divisions divided)))
+
+-- the line feeds in their places fill the text
+pub feeds-filled : (width : ℕ) (text : List ℕ) (divisions : List (List (List WordText)))
+    → AreDividedAt width (paragraphs_of LF text) divisions
+    → IsFilledInPlace width text (with_line_feeds (breaks_from 0 divisions) text)
+feeds-filled width text divisions divided = (
+  divisions,
+  divided,
+  ap (with_line_feeds (breaks_from 0 divisions)) (sym (join-paragraphs_of LF text))
+      ∙ feeds-parts width 0 [] (paragraphs_of LF text) divisions
+      (parts_past-some (ending_bytes LF) 0 text) divided refl,
+)
+
+pub feeds-within : (width : ℕ) (text : List ℕ) (divisions : List (List (List WordText)))
+    → AreDividedAt width (paragraphs_of LF text) divisions
+    → All (λ place. place < length text) (breaks_from 0 divisions)
+feeds-within width text divisions divided =
+    places-within width 0 (length text) (paragraphs_of LF text) divisions divided
+    (omega (arith, ap length (join-paragraphs_of LF text)))
+
+-- the line feeds, put in their places among the bytes of the text
+pub filled-by_feeds : (width : ℕ) (text searched bytes breaks places new : List ℕ)
+    (divisions : List (List (List WordText)))
+    → AreDividedAt width (paragraphs_of LF searched) divisions → breaks ≡ breaks_from 0 divisions
+    → searched ≡ text → bytes ≡ text → places ≡ breaks → new ≡ with_line_feeds places bytes
+    → IsFilledInPlace width text new
+filled-by_feeds width text searched bytes breaks places new divisions divided breaks_are same whole
+    places_are new_is =
+    subst (IsFilledInPlace width text)
+    (sym (new_is ∙ ap (λ l. with_line_feeds l bytes) (places_are ∙ breaks_are)
+    ∙ ap (with_line_feeds (breaks_from 0 divisions)) whole))
+    (feeds-filled width text divisions
+    (subst (λ l. AreDividedAt width (paragraphs_of LF l) divisions) same divided))

@@ -1,0 +1,77 @@
+-- The lines of a part in a row, joined by blanks and by line feeds.
+use Rattle.textwrap_base.proofs.Common.{◌≡◌, ℕ, ◌<◌, List, [], ◌∷◌, ◌++◌, length, refl, sym, ap}
+use Rattle.textwrap_base.proofs.Common.{◌∙◌, arith, append_assoc, append-nil, length-append}
+use Rattle.textwrap_base.proofs.Common.{flat_map, length_push}
+use Rattle.textwrap_words.proofs.Common.{blank, WordText, tiled}
+use Rattle.textwrap_lines.proofs.Common.{join_with, line_feed}
+use Rattle.textwrap.proofs.Common.{broken_lines, AreDividedAt}
+use Rattle.textwrap_base.proofs.Lists.Parts.{flat}
+use Rattle.textwrap_words.proofs.Word.Tiling.{tiled-append}
+use Rattle.textwrap_lines.proofs.Text.Endings.{join_with-cons}
+use Rattle.textwrap_lines.proofs.Paragraph.LinesApart.{shortened, AreLinesApart, IsBroken}
+use Rattle.textwrap_lines.proofs.Paragraph.LinesApart.{IsBroken-greedy}
+
+abbrev pub blank_joined : List (List ℕ) → List ℕ
+blank_joined texts = join_with (blank ∷ []) texts
+
+abbrev pub feed_joined : List (List ℕ) → List ℕ
+feed_joined texts = join_with (line_feed ∷ []) texts
+
+pub broken_lines-some : (line : List WordText) (lines : List (List WordText))
+    → 0 < length (broken_lines (line ∷ lines))
+broken_lines-some line [] = omega arith
+broken_lines-some line (next ∷ lines) = omega arith
+
+-- before the lines are broken, blanks stand between them
+pub tiled-broken : (lines : List (List WordText)) → 0 < length lines → AreLinesApart lines
+    → tiled (flat lines) ≡ blank_joined (broken_lines lines)
+tiled-broken [] some apart = absurd (omega arith)
+tiled-broken (line ∷ []) some apart = ap tiled (append-nil line)
+tiled-broken (line ∷ next ∷ lines) some (words, ending, apart) =
+    tiled-append line (flat (next ∷ lines))
+    ∙ ap (λ l. l ++ tiled (flat (next ∷ lines))) ending
+    ∙ ap (λ l. (shortened (tiled line) ++ blank ∷ []) ++ l)
+    (tiled-broken (next ∷ lines) (omega arith) apart)
+    ∙ sym (join_with-cons (blank ∷ []) (shortened (tiled line)) (broken_lines (next ∷ lines))
+    (broken_lines-some next lines))
+
+pub join-broken : (part : List ℕ) (lines : List (List WordText)) → IsBroken part lines
+    → part ≡ blank_joined (broken_lines lines)
+join-broken part lines broken = sym broken.tiles ∙ tiled-broken lines broken.some broken.apart
+
+pub join-append : (separator : List ℕ) (xs ys : List (List ℕ)) → 0 < length xs → 0 < length ys
+    → join_with separator (xs ++ ys)
+    ≡ join_with separator xs ++ (separator ++ join_with separator ys)
+join-append separator [] ys some more = absurd (omega arith)
+join-append separator (x ∷ []) ys some more =
+    join_with-cons separator x ys more ∙ append_assoc x separator (join_with separator ys)
+join-append separator (x ∷ y ∷ xs) ys some more =
+    ap (λ l. (x ++ separator) ++ l) (join-append separator (y ∷ xs) ys (omega arith) more)
+    ∙ sym (append_assoc (x ++ separator) (join_with separator (y ∷ xs))
+    (separator ++ join_with separator ys))
+
+pub length-joined : (c d : ℕ) (texts : List (List ℕ))
+    → length (join_with (c ∷ []) texts) ≡ length (join_with (d ∷ []) texts)
+length-joined c d [] = refl
+length-joined c d (text ∷ []) = refl
+length-joined c d (text ∷ next ∷ texts) = omega (
+  arith,
+  length-joined c d (next ∷ texts),
+  length_push text c,
+  length_push text d,
+  length-append (text ++ c ∷ []) (join_with (c ∷ []) (next ∷ texts)),
+  length-append (text ++ d ∷ []) (join_with (d ∷ []) (next ∷ texts)),
+)
+
+pub all_broken-some : (lines : List (List WordText)) → 0 < length lines
+    → 0 < length (broken_lines lines)
+all_broken-some [] some = absurd (omega arith)
+all_broken-some (line ∷ lines) some = broken_lines-some line lines
+
+pub divisions-some : (width : ℕ) (part : List ℕ) (parts : List (List ℕ))
+    (divisions : List (List (List WordText))) → AreDividedAt width (part ∷ parts) divisions
+    → 0 < length (flat_map broken_lines divisions)
+divisions-some width part parts [] divided = absurd divided
+divisions-some width part parts (lines ∷ divisions) (greedy, divided) =
+    let some = all_broken-some lines (IsBroken-greedy (width ∷ []) part lines greedy).some in
+    omega (arith, some, length-append (broken_lines lines) (flat_map broken_lines divisions))

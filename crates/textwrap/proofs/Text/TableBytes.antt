@@ -1,0 +1,133 @@
+-- How many bytes the rows of a table take.
+use Rattle.textwrap_base.proofs.Common.{◌≡◌, ℕ, suc, ◌+◌, ◌-◌, ◌*◌, ◌<◌, ◌≤◌, ◌⊎◌, List, [], ◌++◌}
+use Rattle.textwrap_base.proofs.Common.{length, map, refl, ap, ◌∙◌, arith, ⊎_elim, length-append}
+use Rattle.textwrap_base.proofs.Common.{cases_lt, range_with_len, repeat, ◌^◌, map-append}
+use Rattle.textwrap_base.proofs.Common.{flat_map-append}
+use Rattle.textwrap_words.proofs.Common.{blank}
+use Rattle.textwrap_lines.proofs.Common.{join_with}
+use Rattle.textwrap.proofs.Common.{Layout, blanks, cell, cells, padded, row_text, gapped}
+use Rattle.textwrap.proofs.Text.Cells.{gapped-more, join-gapped}
+use Rattle.textwrap.proofs.Text.Table.{row_text-written}
+use Rattle.std.proofs.lemmas.List.{length-replicate}
+use Rattle.textwrap_base.proofs.Lists.Ranges.{range-split}
+use Rattle.textwrap_base.proofs.Lists.Repeated.{length-repeat}
+
+pub length-gapped-more : (layout : Layout) (lines : List (List ℕ)) (step first later : ℕ)
+    → length (gapped layout (map (cell lines step first) (range_with_len 1 (later + 1))))
+    ≡ length (gapped layout (map (cell lines step first) (range_with_len 1 later)))
+    + (length layout.middle
+    + length (padded layout.column_width (cell lines step first (later + 1))))
+length-gapped-more layout lines step first later =
+    let so_far = gapped layout (map (cell lines step first) (range_with_len 1 later)) in
+    let text = padded layout.column_width (cell lines step first (later + 1)) in
+    omega (
+      arith,
+      ap length (gapped-more layout lines step first later [] so_far refl),
+      length-append (so_far ++ layout.middle) text,
+      length-append so_far layout.middle,
+    )
+
+-- a row has the bytes of its gaps, its first cell, the later cells with a line, those without, and
+-- its spare blanks
+pub length-row_text : (layout : Layout) (lines : List (List ℕ)) (step first later : ℕ)
+    → (later + 1 ≡ layout.columns) ⊎ (length lines ≤ first + (later + 1) * step)
+    → later + 1 ≤ layout.columns
+    → length (row_text layout (cells lines step layout.columns first))
+    ≡ (layout.columns - 1 - later) * (length layout.middle + layout.column_width)
+    + length (padded layout.column_width (cell lines step first 0))
+    + length (gapped layout (map (cell lines step first) (range_with_len 1 later)))
+    + layout.spare_width + (length layout.left + length layout.right)
+length-row_text layout lines step first later all within =
+    let head = padded layout.column_width (cell lines step first 0) in
+    let some = gapped layout (map (cell lines step first) (range_with_len 1 later)) in
+    let empty = layout.middle ++ blanks layout.column_width in
+    let run = repeat (layout.columns - 1 - later) empty in
+    let spare = blanks layout.spare_width in
+    let missing = layout.columns - 1 - later in
+    let empty_len : length empty ≡ length layout.middle + layout.column_width =
+    length-append layout.middle (blanks layout.column_width)
+    ∙ ap (λ n. length layout.middle + n) (length-replicate layout.column_width blank) in
+    let run_len : length run ≡ missing * (length layout.middle + layout.column_width) =
+    length-repeat missing empty ∙ ap (λ n. missing * n) empty_len in
+    omega (
+      arith,
+      ap length (row_text-written layout lines step first later all within),
+      length-append ((((layout.left ++ head) ++ some) ++ run) ++ spare) layout.right,
+      length-append (((layout.left ++ head) ++ some) ++ run) spare,
+      length-append ((layout.left ++ head) ++ some) run,
+      length-append (layout.left ++ head) some,
+      length-append layout.left head,
+      run_len,
+      length-replicate layout.spare_width blank,
+    )
+
+-- the later cells with a line are among all later cells
+pub length-gapped-within : (layout : Layout) (lines : List (List ℕ)) (step first later more : ℕ)
+    → later ≤ more
+    → length (gapped layout (map (cell lines step first) (range_with_len 1 later)))
+    ≤ length (gapped layout (map (cell lines step first) (range_with_len 1 more)))
+length-gapped-within layout lines step first later more within =
+    let at = cell lines step first in
+    let front = map at (range_with_len 1 later) in
+    let back = map at (range_with_len (1 + later) (more - later)) in
+    let whole : more ≡ later + (more - later) = omega (arith, within) in
+    omega (
+      arith,
+      ap (λ n. length (gapped layout (map at (range_with_len 1 n)))) whole,
+      ap (λ l. length (gapped layout l)) (ap (map at) (range-split 1 later (more - later))
+          ∙ map-append at (range_with_len 1 later) (range_with_len (1 + later) (more - later))),
+      ap length (flat_map-append (λ text. layout.middle ++ padded layout.column_width text)
+          front back),
+      length-append (gapped layout front) (gapped layout back),
+    )
+
+-- so where some bytes of theirs have no number, nor have all
+pub gapped-past : (layout : Layout) (lines : List (List ℕ)) (step first later len part : ℕ)
+    → len ≡ length (gapped layout (map (cell lines step first) (range_with_len 1 later)))
+    → later + 1 ≤ layout.columns - 1
+    → part ≤ len + length layout.middle
+    + length (padded layout.column_width (cell lines step first (later + 1)))
+    → ¬ (part < 2 ^ 64)
+    → 2 ^ 64
+    ≤ length (gapped layout (map (cell lines step first) (range_with_len 1 (layout.columns - 1))))
+gapped-past layout lines step first later len part len_is room within past =
+    let all = length (gapped layout (map (cell lines step first)
+    (range_with_len 1 (layout.columns - 1)))) in
+    ⊎_elim
+    (λ (fits : all < 2 ^ 64).
+    absurd (past (omega (
+      arith,
+      fits,
+      len_is,
+      within,
+      length-gapped-more layout lines step first later,
+      length-gapped-within layout lines step first (later + 1) (layout.columns - 1) room,
+    ))))
+    (λ (most : 2 ^ 64 ≤ all). most)
+    (cases_lt all (2 ^ 64))
+
+-- and all later cells are in the row
+pub length-gapped-row : (layout : Layout) (lines : List (List ℕ)) (step first : ℕ)
+    → 1 ≤ layout.columns
+    → length (gapped layout (map (cell lines step first) (range_with_len 1 (layout.columns - 1))))
+    + length (padded layout.column_width (cell lines step first 0))
+    ≤ length (row_text layout (cells lines step layout.columns first))
+length-gapped-row layout lines step first some =
+    let at = cell lines step first in
+    let head = padded layout.column_width (at 0) in
+    let later = map at (range_with_len 1 (layout.columns - 1)) in
+    let row = join_with layout.middle (map (padded layout.column_width)
+    (cells lines step layout.columns first)) in
+    let whole : layout.columns ≡ suc (layout.columns - 1) = omega (arith, some) in
+    let joined : row ≡ head ++ gapped layout later =
+    ap (λ n. join_with layout.middle (map (padded layout.column_width)
+    (map at (range_with_len 0 n)))) whole
+    ∙ join-gapped layout (at 0) later in
+    omega (
+      arith,
+      ap length joined,
+      length-append head (gapped layout later),
+      length-append ((layout.left ++ row) ++ blanks layout.spare_width) layout.right,
+      length-append (layout.left ++ row) (blanks layout.spare_width),
+      length-append layout.left row,
+    )

@@ -1,0 +1,81 @@
+-- The cells of a table, one column after another.
+use Rattle.textwrap_base.proofs.Common.{◌≡◌, ℕ, zero, suc, ◌+◌, ◌-◌, ◌*◌, ◌<◌, ◌≤◌, List, [], ◌∷◌}
+use Rattle.textwrap_base.proofs.Common.{◌++◌, length, get_or, map, refl, sym, ap, ◌∙◌, arith}
+use Rattle.textwrap_base.proofs.Common.{flat_map, range_with_len, map-append, get_or_past}
+use Rattle.textwrap.proofs.Common.{cell, cells}
+use Rattle.std.proofs.Common.{replicate}
+use Rattle.std.proofs.lemmas.Grind.{div_ceil_times}
+use Rattle.std.proofs.lemmas.List.FromFn.{get_or-map-range_with_len, fill_by_all}
+use Rattle.textwrap.specs.Columns.{row_count, column_cells, cells_by_column}
+use Rattle.textwrap_base.proofs.Lists.Ranges.{range-split}
+
+-- what stands at these places
+abbrev lines_at : List (List ℕ) → ℕ → ℕ → List (List ℕ)
+lines_at lines from count = map (λ i. get_or lines i []) (range_with_len from count)
+
+module _ (lines : List (List ℕ)) where
+  past-empty : (from count : ℕ) → length lines ≤ from → lines_at lines from count ≡ replicate count []
+  past-empty from zero past = refl
+  past-empty from (suc count) past =
+      ap (λ x. x ∷ lines_at lines (from + 1) count) (get_or_past lines from [] past)
+      ∙ ap (λ l. [] ∷ l) (past-empty (from + 1) count (omega arith))
+
+  -- the places of one column follow one another
+  column-at : (columns c : ℕ) → c < columns → (r count : ℕ)
+      → map (λ k. get_or (cells lines (row_count lines columns) columns k) c [])
+      (range_with_len r count)
+      ≡ lines_at lines (c * row_count lines columns + r) count
+  column-at columns c within r zero = refl
+  column-at columns c within r (suc count) =
+      let rows = row_count lines columns in
+      let here : r + c * rows ≡ c * rows + r = omega arith in
+      let next : c * rows + (r + 1) ≡ c * rows + r + 1 = omega arith in
+      ap (λ x. x ∷ map (λ k. get_or (cells lines rows columns k) c [])
+      (range_with_len (r + 1) count))
+      (get_or-map-range_with_len (cell lines rows r) 0 columns c c [] within (omega arith)
+      ∙ ap (λ i. get_or lines i []) here)
+      ∙ ap (λ l. get_or lines (c * rows + r) [] ∷ l) (column-at columns c within (r + 1) count
+      ∙ ap (λ i. lines_at lines i count) next)
+
+  -- and those of the columns do
+  columns-at : (columns c count : ℕ) → c + count ≤ columns
+      → flat_map (column_cells lines columns) (range_with_len c count)
+      ≡ lines_at lines (c * row_count lines columns) (count * row_count lines columns)
+  columns-at columns c zero within =
+      let none : 0 * row_count lines columns ≡ 0 = omega arith in
+      ap (λ n. lines_at lines (c * row_count lines columns) n) (sym none)
+  columns-at columns c (suc count) within =
+      let rows = row_count lines columns in
+      let start : c * rows + 0 ≡ c * rows = omega arith in
+      let next : (c + 1) * rows ≡ c * rows + rows = omega arith in
+      let all : rows + count * rows ≡ suc count * rows = omega arith in
+      ap (λ l. l ++ flat_map (column_cells lines columns) (range_with_len (c + 1) count))
+      (column-at columns c (omega arith) 0 rows ∙ ap (λ i. lines_at lines i rows) start)
+      ∙ ap (λ l. lines_at lines (c * rows) rows ++ l) (columns-at columns (c + 1) count (omega arith)
+      ∙ ap (λ i. lines_at lines i (count * rows)) next)
+      ∙ sym (map-append (λ i. get_or lines i []) (range_with_len (c * rows) rows)
+      (range_with_len (c * rows + rows) (count * rows)))
+      ∙ ap (map (λ i. get_or lines i [])) (sym (range-split (c * rows) rows (count * rows))
+      ∙ ap (range_with_len (c * rows)) all)
+
+pub columns_kept : (lines : List (List ℕ)) (columns : ℕ) → 1 ≤ columns
+    → (empty : ℕ) × (cells_by_column lines columns ≡ lines ++ replicate empty [])
+columns_kept lines columns some =
+    let rows = row_count lines columns in
+    let all = div_ceil_times (length lines) columns some in
+    let empty = columns * rows - length lines in
+    let room : length lines ≤ columns * rows = omega (arith, all.0) in
+    let whole : length lines + empty ≡ columns * rows = omega (arith, room) in
+    let start : 0 * rows ≡ 0 = omega arith in
+    let from : 0 + length lines ≡ length lines = omega arith in (
+      empty,
+      columns-at lines columns 0 columns (omega arith)
+          ∙ ap (λ i. lines_at lines i (columns * rows)) start
+          ∙ ap (lines_at lines 0) (sym whole)
+          ∙ ap (map (λ i. get_or lines i [])) (range-split 0 (length lines) empty)
+          ∙ map-append (λ i. get_or lines i []) (range_with_len 0 (length lines))
+          (range_with_len (0 + length lines) empty)
+          ∙ ap (λ l. l ++ lines_at lines (0 + length lines) empty)
+          (sym (fill_by_all (λ i. get_or lines i []) lines (length lines) [] refl (λ k within. refl)))
+          ∙ ap (λ l. lines ++ l) (past-empty lines (0 + length lines) empty (omega (arith, from))),
+    )

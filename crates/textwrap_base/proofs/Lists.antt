@@ -1,0 +1,6 @@
+pub mod Maps
+pub mod Parts
+pub mod Prefixes
+pub mod Ranges
+pub mod Repeated
+pub mod Rising

@@ -1,0 +1,62 @@
+-- The line of pieces of which the last is known.
+use Rattle.textwrap_base.proofs.Common.{◌≡◌, ℕ, Bool, cond, List, [], ◌∷◌, ◌++◌, map, refl, sym, ap}
+use Rattle.textwrap_base.proofs.Common.{◌∙◌, map-append}
+use Rattle.textwrap_words.proofs.Common.{WordText, word_view, tiled}
+use Rattle.textwrap_lines.proofs.Common.{Settings, LineParts, assembled_line, line_from, covered}
+use Rattle.textwrap_lines.proofs.Common.{last_piece, keeps_whitespace, indent_of, parts_of}
+use Rattle.textwrap_words.specs.declared.words.Word.{Word}
+
+last_piece-push : (w : WordText) (ws : List WordText) (last : WordText)
+    → last_piece w (ws ++ last ∷ []) ≡ last
+last_piece-push w [] last = refl
+last_piece-push w (v ∷ ws) last = last_piece-push v ws last
+
+-- the same line by its last piece
+abbrev parts_ending : Settings → Bool → List WordText → WordText → LineParts
+parts_ending settings is_later line last = record {
+  pieces = line;
+  indent = indent_of settings is_later;
+  slice = cond (keeps_whitespace settings last) (tiled line) (covered line);
+  penalty = last.penalty;
+  left_off = cond (keeps_whitespace settings last) [] last.whitespace;
+}
+
+parts_of-push : (settings : Settings) (is_later : Bool) (ws : List WordText) (last : WordText)
+    → parts_of settings is_later (ws ++ last ∷ []) ≡ parts_ending settings is_later
+    (ws ++ last ∷ []) last
+parts_of-push settings is_later [] last = refl
+parts_of-push settings is_later (w ∷ ws) last =
+    ap (parts_ending settings is_later (w ∷ (ws ++ last ∷ []))) (last_piece-push w ws last)
+
+ending_line : (settings : Settings) (is_later : Bool) (line : List WordText) (last : WordText)
+    (indent slice : List ℕ) (keeps : Bool) → indent ≡ indent_of settings is_later
+    → keeps ≡ keeps_whitespace settings last
+    → slice ≡ cond keeps (tiled line) (covered line)
+    → assembled_line indent slice last.penalty ≡ line_from (parts_ending settings is_later line last)
+ending_line settings is_later line last indent slice keeps indent_is keeps_is slice_is =
+    ap (λ i. assembled_line i slice last.penalty) indent_is
+    ∙ ap (λ s. assembled_line (indent_of settings is_later) s last.penalty)
+    (slice_is ∙ ap (λ b. cond b (tiled line) (covered line)) keeps_is)
+
+-- a line made of the slice that its pieces cover
+pub line_from-parts_of : (settings : Settings) (is_later : Bool) (pieces front : List Word)
+    (last : Word) (indent slice : List ℕ) (keeps : Bool) → pieces ≡ front ++ last ∷ []
+    → indent ≡ indent_of settings is_later
+    → keeps ≡ keeps_whitespace settings (word_view last)
+    → slice ≡ cond keeps (tiled (map word_view (front ++ last ∷ [])))
+    (covered (map word_view (front ++ last ∷ [])))
+    → assembled_line indent slice last.penalty.now
+    ≡ line_from (parts_of settings is_later (map word_view pieces))
+line_from-parts_of settings is_later pieces front last indent slice keeps is indent_is keeps_is
+    slice_is =
+    let line = map word_view (front ++ last ∷ []) in
+    let views : line ≡ map word_view front ++ word_view last ∷ [] =
+    map-append word_view front (last ∷ []) in
+    let ending : parts_of settings is_later line ≡ parts_ending settings is_later line
+    (word_view last) =
+    ap (parts_of settings is_later) views ∙ parts_of-push settings is_later (map word_view front)
+    (word_view last) ∙ ap (λ l. parts_ending settings is_later l (word_view last))
+    (sym views) in
+    ending_line settings is_later line (word_view last) indent slice keeps indent_is keeps_is
+    slice_is ∙ ap line_from (sym ending)
+    ∙ ap (λ ps. line_from (parts_of settings is_later (map word_view ps))) (sym is)

@@ -1,0 +1,109 @@
+-- Words that are replaced by pieces of them end as they did.
+use Rattle.textwrap_base.proofs.Common.{◌≡◌, ◌≢◌, ℕ, ◌<◌, Bool, true, false, cond, List, [], ◌∷◌}
+use Rattle.textwrap_base.proofs.Common.{◌++◌, All, length, refl, ap, ◌∙◌, arith, append-nil}
+use Rattle.textwrap_base.proofs.Common.{length-append, flat_map, slice_range, ltb-true, All-head}
+use Rattle.textwrap_base.proofs.Common.{All-tail, All-weaker}
+use Rattle.textwrap_words.proofs.Common.{piece, WordText, broken_pieces, broken_texts, broken_word}
+use Rattle.textwrap_words.proofs.Common.{pieces_with, Splitter, cut_penalty, points_of, split_from}
+use Rattle.textwrap_words.proofs.Common.{split_word}
+use Rattle.textwrap_lines.proofs.Common.{last_piece}
+use Rattle.std.proofs.Common.{ltb}
+use Rattle.textwrap_words.proofs.Word.PieceTexts.{broken_texts-some}
+use Rattle.textwrap_words.proofs.Word.Measured.{IsMeasured}
+use Rattle.textwrap_lines.proofs.Paragraph.GivenPieces.{wide-some}
+
+-- the whitespace of the last of these words
+abbrev pub last_space : List WordText → List ℕ
+last_space [] = []
+last_space (w ∷ ws) = (last_piece w ws).whitespace
+
+last_piece-append : (w : WordText) (ws : List WordText) (v : WordText) (vs : List WordText)
+    → last_piece w (ws ++ v ∷ vs) ≡ last_piece v vs
+last_piece-append w [] v vs = refl
+last_piece-append w (u ∷ ws) v vs = last_piece-append u ws v vs
+
+pub last_space-append : (ws vs : List WordText) → 0 < length vs
+    → last_space (ws ++ vs) ≡ last_space vs
+last_space-append [] vs some = refl
+last_space-append (w ∷ ws) [] some = absurd (omega arith)
+last_space-append (w ∷ ws) (v ∷ vs) some = ap (λ u. u.whitespace) (last_piece-append w ws v vs)
+
+-- the pieces end with the word's own whitespace
+pub record EndsAs (f : WordText → List WordText) (w : WordText) : Type 0 where
+  pub some : 0 < length (f w)
+  pub space : last_space (f w) ≡ w.whitespace
+
+flat_map-some : (f : WordText → List WordText) (w : WordText) (ws : List WordText) → EndsAs f w
+    → 0 < length (flat_map f (w ∷ ws))
+flat_map-some f w ws ends = let len = length-append (f w) (flat_map f ws) in
+    omega (arith, ends.some, len)
+
+pub flat_map-space : (f : WordText → List WordText) (ws : List WordText) → All (EndsAs f) ws
+    → last_space (flat_map f ws) ≡ last_space ws
+flat_map-space f [] all = refl
+flat_map-space f (w ∷ []) all = ap last_space (append-nil (f w))
+    ∙ (All-head (EndsAs f) w [] all).space
+flat_map-space f (w ∷ v ∷ ws) all =
+    let rest = All-tail (EndsAs f) w (v ∷ ws) all in
+    last_space-append (f w) (flat_map f (v ∷ ws))
+    (flat_map-some f v ws (All-head (EndsAs f) v ws rest)) ∙ flat_map-space f (v ∷ ws) rest
+
+split_from-some : (w : WordText) (start : ℕ) (points : List ℕ)
+    → 0 < length (split_from w start points)
+split_from-some w start [] = omega arith
+split_from-some w start (point ∷ points) = omega arith
+
+split_from-space : (w : WordText) (start : ℕ) (points : List ℕ)
+    → last_space (split_from w start points) ≡ w.whitespace
+split_from-space w start [] = refl
+split_from-space w start (point ∷ points) =
+    last_space-append (piece (slice_range w.word start point) [] (cut_penalty w.word point) ∷ [])
+    (split_from w point points) (split_from-some w point points)
+    ∙ split_from-space w point points
+
+pub split_word-ends : (splitter : Splitter) (w : WordText) → EndsAs (split_word splitter) w
+split_word-ends splitter w =
+    record {
+      some = split_from-some w 0 (points_of splitter w.word);
+      space = split_from-space w 0
+          (points_of splitter w.word);
+    }
+
+pieces_with-some : (whitespace penalty : List ℕ) (texts : List (List ℕ)) → texts ≢ []
+    → 0 < length (pieces_with whitespace penalty texts)
+pieces_with-some whitespace penalty [] some = absurd (some refl)
+pieces_with-some whitespace penalty (text ∷ []) some = omega arith
+pieces_with-some whitespace penalty (text ∷ next ∷ texts) some = omega arith
+
+pieces_with-space : (whitespace penalty : List ℕ) (text : List ℕ) (texts : List (List ℕ))
+    → last_space (pieces_with whitespace penalty (text ∷ texts)) ≡ whitespace
+pieces_with-space whitespace penalty text [] = refl
+pieces_with-space whitespace penalty text (next ∷ texts) =
+    last_space-append (piece text [] [] ∷ []) (pieces_with whitespace penalty (next ∷ texts))
+    (pieces_with-some whitespace penalty (next ∷ texts)
+    (λ none. absurd (omega (arith, ap length none))))
+    ∙ pieces_with-space whitespace penalty next texts
+
+pieces_with-ends : (whitespace penalty : List ℕ) (texts : List (List ℕ)) → texts ≢ []
+    → last_space (pieces_with whitespace penalty texts) ≡ whitespace
+pieces_with-ends whitespace penalty [] some = absurd (some refl)
+pieces_with-ends whitespace penalty (text ∷ texts) some =
+    pieces_with-space whitespace penalty text texts
+
+broken_word-ends : (limit : ℕ) (w : WordText) → IsMeasured w → (b : Bool) → ltb limit w.width ≡ b
+    → (0 < length (cond b (broken_pieces limit w) (w ∷ [])))
+    × (last_space (cond b (broken_pieces limit w) (w ∷ [])) ≡ w.whitespace)
+broken_word-ends limit w measured true wide =
+    let some = broken_texts-some limit w.word measured.utf8
+    (wide-some limit w measured (ltb-true limit w.width wide)) in (
+      pieces_with-some w.whitespace w.penalty (broken_texts limit w.word) some,
+      pieces_with-ends w.whitespace w.penalty (broken_texts limit w.word) some,
+    )
+broken_word-ends limit w measured false fits = (omega arith, refl)
+
+pub broken_words-ends : (limit : ℕ) (words : List WordText) → All IsMeasured words
+    → All (EndsAs (broken_word limit)) words
+broken_words-ends limit words measured =
+    All-weaker IsMeasured (EndsAs (broken_word limit))
+    (λ w m. let ends = broken_word-ends limit w m (ltb limit w.width) refl in
+    record { some = ends.0; space = ends.1 }) words measured

@@ -1,0 +1,95 @@
+-- Where the last piece of a line ends.
+use Rattle.textwrap_base.proofs.Common.{◌≡◌, ℕ, suc, ◌+◌, ◌-◌, List, [], ◌∷◌, ◌++◌, All, length}
+use Rattle.textwrap_base.proofs.Common.{drop, get_or, refl, sym, ap, ◌∙◌, subst, arith}
+use Rattle.textwrap_base.proofs.Common.{append_assoc, append-nil, length-append, IsUtf8}
+use Rattle.textwrap_base.proofs.Common.{IsCharBoundary, eqb-true, drop_at, drop-drop, All-head}
+use Rattle.textwrap_base.proofs.Common.{All-tail, IsUtf8-from_ascii}
+use Rattle.textwrap_words.proofs.Common.{WordText, tile_of, tiled}
+use Rattle.textwrap_lines.proofs.Common.{covered, span_of, spans_from}
+use Rattle.std.proofs.lemmas.Str.Ascii.{IsAscii-from_all}
+use Rattle.textwrap_words.proofs.Word.Texts.{AreBlanks}
+use Rattle.textwrap_words.proofs.Word.Measured.{IsMeasured}
+use Rattle.textwrap_lines.specs.Spans.{MayEnd, last_span, no_span}
+use Rattle.textwrap_lines.specs.declared.spans.Span.{Span}
+use Rattle.textwrap_lines.proofs.WordLines.Line.{piece-ends, slice-ends, utf8-after}
+
+last_span-cons : (s t : Span) (spans : List Span)
+    → last_span (s ∷ t ∷ spans) ≡ last_span (t ∷ spans)
+last_span-cons s t spans =
+    let place : length (s ∷ t ∷ spans) - 1 ≡ suc (length (t ∷ spans) - 1) = omega arith in
+    ap (λ n. get_or (s ∷ t ∷ spans) n no_span) place
+
+blanks-utf8 : (bytes : List ℕ) → AreBlanks bytes → IsUtf8 bytes
+blanks-utf8 bytes blanks =
+    IsUtf8-from_ascii bytes (IsAscii-from_all bytes (λ k d lt.
+    let here = eqb-true (get_or bytes k d) 32 (blanks k d lt) in omega (arith, here)))
+
+-- the last piece of these ends where they do
+pub record EndsLine (text : List ℕ) (at : ℕ) (words : List WordText) (last : Span) : Type 0 where
+  pub word_end : last.word_end ≡ at + length (covered words)
+  pub end : last.end ≡ at + length (tiled words)
+  pub may : MayEnd text at last
+
+module _ (text : List ℕ) where
+  pub ends-line : (at columns : ℕ) (w : WordText) (ws : List WordText) (after : List ℕ)
+      → drop at text ≡ tiled (w ∷ ws) ++ after → IsCharBoundary text at → IsUtf8 (drop at text)
+      → All IsMeasured (w ∷ ws)
+      → EndsLine text at (w ∷ ws) (last_span (spans_from at columns (w ∷ ws)))
+  ends-line at columns w [] after seam begins utf8 measured =
+      let here = All-head IsMeasured w [] measured in
+      let space = blanks-utf8 w.whitespace here.ending.blanks in
+      let next : drop at text ≡ (w.word ++ w.whitespace) ++ after =
+      seam ∙ ap (λ l. l ++ after) (append-nil (tile_of w)) in
+      let tile = length-append w.word w.whitespace in
+      let one = ap length (append-nil (tile_of w)) in
+      record {
+        word_end = refl;
+        end = omega (arith, tile, one);
+        may = record {
+          start = begins;
+          word = slice-ends text at at (length w.word) (length w.whitespace) w.word w.whitespace
+              after (omega arith) begins.0 utf8 here.utf8 space refl refl next;
+          end = piece-ends text at at (length w.word) (length w.whitespace) w.word w.whitespace
+              after (omega arith) begins.0 utf8 here.utf8 space refl refl next;
+          some = omega arith;
+          order = omega arith;
+        };
+      }
+  ends-line at columns w (v ∷ vs) after seam begins utf8 measured =
+      let here = All-head IsMeasured w (v ∷ vs) measured in
+      let space = blanks-utf8 w.whitespace here.ending.blanks in
+      let m = length w.word in
+      let n = length w.whitespace in
+      let rest = tiled (v ∷ vs) ++ after in
+      let next : drop at text ≡ (w.word ++ w.whitespace) ++ rest =
+      seam ∙ append_assoc (tile_of w) (tiled (v ∷ vs)) after in
+      let boundary = piece-ends text at at m n w.word w.whitespace rest (omega arith) begins.0 utf8
+      here.utf8 space refl refl next in
+      let then : drop (at + m + n) text ≡ rest =
+      sym (drop-drop n (at + m) text) ∙ ap (drop n) (sym (drop-drop m at text)
+      ∙ ap (drop m) (next ∙ append_assoc w.word w.whitespace rest)
+      ∙ drop_at w.word (w.whitespace ++ rest) m refl) ∙ drop_at w.whitespace rest n refl in
+      let utf8_then = utf8-after text at at m n w.word w.whitespace rest (omega arith) begins.0 utf8
+      here.utf8 space refl refl next in
+      let ends = ends-line (at + m + n) (columns + w.width + n) v vs after then boundary utf8_then
+      (All-tail IsMeasured w (v ∷ vs) measured) in
+      let last : last_span (spans_from at columns (w ∷ v ∷ vs))
+      ≡ last_span (spans_from (at + m + n) (columns + w.width + n) (v ∷ vs)) =
+      last_span-cons (span_of at columns w) (span_of (at + m + n) (columns + w.width + n) v)
+      (spans_from (at + m + n + length v.word + length v.whitespace)
+      (columns + w.width + n + v.width + length v.whitespace) vs) in
+      let tile = length-append w.word w.whitespace in
+      let whole = length-append (tile_of w) (tiled (v ∷ vs)) in
+      let cover = length-append (tile_of w) (covered (v ∷ vs)) in
+      let order = ends.may.some in
+      subst (EndsLine text at (w ∷ v ∷ vs)) (sym last) record {
+        word_end = omega (arith, ends.word_end, tile, cover);
+        end = omega (arith, ends.end, tile, whole);
+        may = record {
+          start = begins;
+          word = ends.may.word;
+          end = ends.may.end;
+          some = omega (arith, order);
+          order = ends.may.order;
+        };
+      }

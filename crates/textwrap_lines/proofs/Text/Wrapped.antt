@@ -1,0 +1,79 @@
+-- What `wrap` promises, by the options.
+use Rattle.textwrap_base.proofs.Common.{◌≡◌, ◌≢◌, ℕ, append-nil, true, List, [], refl, ap, ◌∙◌}
+use Rattle.textwrap_base.proofs.Common.{subst, Some, None, IsUtf8}
+use Rattle.textwrap_words.proofs.Common.{IsNarrow, AreWordsOf, sizes_of, Algorithm, Greedy}
+use Rattle.textwrap_words.proofs.Common.{LeastCost, IsDividedBy, MayDivide, algorithm_view}
+use Rattle.textwrap_words.proofs.Common.{MaySeparate, Splitter, ArePoints, MaySplit, splitter_view}
+use Rattle.textwrap_lines.proofs.Common.{DividesAs, DividesBy, Line, Settings, settings_view}
+use Rattle.textwrap_lines.proofs.Common.{AreTextLines}
+use Rattle.textwrap_lines.proofs.Text.Promises.{IsWrapped-by, LinesKeepToWidth-by}
+use Rattle.textwrap_words.specs.declared.wrap_algorithms.WrapAlgorithm.TheVariants.{FirstFit}
+use Rattle.textwrap_base.proofs.Division.Map.{IsDividedBy-some, IsDividedBy-whole}
+use Rattle.textwrap_base.proofs.Lists.Parts.{flat}
+use Rattle.textwrap_lines.specs.Text.{IsWrapped, LinesKeepToWidth}
+use Rattle.textwrap_lines.specs.declared.options.Options.{Options}
+use Rattle.textwrap_words.proofs.Word.Pieces.{AreTexts-words, ArePoints-cuts, ArePoints-hyphens}
+use Rattle.textwrap_words.proofs.Word.GivenCuts.{MaySeparate-texts, MaySplit-cuts, MaySplit-hyphens}
+use Rattle.textwrap_words.proofs.Word.Divisions.{MayDivide-begins, MayDivide-whole, MayDivide-some}
+use Rattle.textwrap_words.proofs.Word.Divisions.{MayDivide-greedy}
+
+-- by built-in parts
+greedy-is : (algorithm : Algorithm) → Some algorithm ≡ Some Greedy → algorithm ≡ Greedy
+greedy-is Greedy is = refl
+greedy-is (LeastCost penalties) is = cc
+
+pub IsWrapped-from : (settings : Settings) (algorithm : Algorithm) (splitter : Splitter)
+    (text : List ℕ) (lines : List Line) → IsUtf8 text
+    → AreTextLines settings (DividesAs splitter algorithm settings) text lines
+    → IsWrapped settings (Some splitter) (Some algorithm) (DividesAs splitter algorithm settings)
+    text lines
+IsWrapped-from settings algorithm splitter text lines utf8 are =
+    IsWrapped-by settings AreWordsOf (ArePoints splitter) (IsDividedBy algorithm sizes_of)
+    AreTexts-words (ArePoints-cuts splitter)
+    (λ widths pieces division divided. (
+      [],
+      append-nil (flat division)
+          ∙ IsDividedBy-whole sizes_of algorithm widths pieces division divided,
+    ))
+    (Some splitter) (Some algorithm) (λ _. ArePoints-hyphens splitter)
+    (λ _. IsDividedBy-whole sizes_of algorithm) (λ _. IsDividedBy-some sizes_of algorithm)
+    (λ first widths pieces division divided.
+    subst (λ a. IsDividedBy a sizes_of widths pieces division) (greedy-is algorithm first) divided)
+    text lines utf8 are
+
+module _ {E C : Type 0} {e : _} {c : _} (options : Options E C e c) where
+  pub IsWrapped-options : (text : List ℕ) (lines : List Line) → IsUtf8 text
+      → AreTextLines (settings_view options) (DividesBy options) text lines
+      → IsWrapped (settings_view options) (splitter_view options.word_splitter)
+      (algorithm_view options.wrap_algorithm) (DividesBy options) text lines
+  IsWrapped-options text lines utf8 are =
+      let algorithm = options.wrap_algorithm in
+      IsWrapped-by (settings_view options) (MaySeparate options.word_separator)
+      (MaySplit options.word_splitter) (MayDivide algorithm (λ w. w))
+      (MaySeparate-texts options.word_separator) (MaySplit-cuts options.word_splitter)
+      (MayDivide-begins algorithm (λ w. w))
+      (splitter_view options.word_splitter) (algorithm_view algorithm)
+      (MaySplit-hyphens options.word_splitter)
+      (λ built_in widths pieces division. MayDivide-whole algorithm (λ w. w) widths pieces division
+      built_in)
+      (λ built_in widths pieces division. MayDivide-some algorithm (λ w. w) widths pieces division
+      built_in)
+      (λ first widths pieces division. MayDivide-greedy algorithm (λ w. w) widths pieces division
+      first)
+      text lines utf8 are
+
+  pub LinesKeepToWidth-options : (text : List ℕ) (lines : List Line) → IsUtf8 text
+      → options.even_paragraphs ≡ true → options.wrap_algorithm ≡ FirstFit
+      → splitter_view options.word_splitter ≢ None → options.break_words ≡ true → IsNarrow text
+      → AreTextLines (settings_view options) (DividesBy options) text lines
+      → LinesKeepToWidth (settings_view options) (DividesBy options) text lines
+  LinesKeepToWidth-options text lines utf8 even first built_in breaks narrow are =
+      let algorithm = options.wrap_algorithm in
+      LinesKeepToWidth-by (settings_view options) (MaySeparate options.word_separator)
+      (MaySplit options.word_splitter) (MayDivide algorithm (λ w. w))
+      (MaySeparate-texts options.word_separator) (MaySplit-cuts options.word_splitter)
+      (MayDivide-begins algorithm (λ w. w))
+      (MaySplit-hyphens options.word_splitter built_in)
+      (λ widths pieces division. MayDivide-greedy algorithm (λ w. w) widths pieces division
+      (ap algorithm_view first))
+      text lines utf8 even breaks narrow are

@@ -1,0 +1,127 @@
+-- The computed parts have the properties.
+use Rattle.textwrap_base.proofs.Common.{inl, inr, ◌≡◌, ◌≢◌, ℕ, ◌+◌, true, false, List, [], ◌∷◌}
+use Rattle.textwrap_base.proofs.Common.{◌++◌, refl, sym, ap, ◌∙◌, subst, zero-add, add-zero, arith}
+use Rattle.textwrap_base.proofs.Common.{All, onto_first, cases_Bool, and_parts, ltb-true, All-nil}
+use Rattle.textwrap_base.proofs.Common.{All-cons, sum_by-cons}
+use Rattle.textwrap_words.proofs.Common.{TextUnit, Visible, Sequence, columns, unit_width}
+use Rattle.textwrap_words.proofs.Common.{units_width, IsKept, AllPartsFull, is_due, broken_units}
+use Rattle.textwrap_words.proofs.Word.Breaking.{IsKeptAfter, IsFullAfter, is_due-first, IsKept-from}
+use Rattle.textwrap_words.proofs.Word.Breaking.{AllPartsFull-cons, taken_units, left_units}
+use Rattle.textwrap_words.proofs.Word.Breaking.{broken_units-cons, parts_after-is}
+use Rattle.std.proofs.Common.{ltb}
+use Rattle.textwrap_base.proofs.Lists.Parts.{flat}
+use Rattle.textwrap_words.specs.Breaking.{AreBroken}
+
+-- what holds of the parts of some units, where the first goes on from `width` columns
+record AreBrokenAfter (limit width : ℕ) (us first : List TextUnit)
+    (parts : List (List TextUnit)) : Type 0 where
+  tiles : first ++ flat parts ≡ us
+  kept_first : IsKeptAfter limit width first
+  full_first : IsFullAfter limit (width + units_width first) parts
+  nonempty : All (λ part. part ≢ []) parts
+  kept : All (IsKept limit) parts
+  full : AllPartsFull limit parts
+
+after-nil : (limit width : ℕ) → AreBrokenAfter limit width [] [] []
+after-nil limit width =
+    record {
+      tiles = refl;
+      kept_first = tt;
+      full_first = tt;
+      nonempty = All-nil (λ part. part ≢ []);
+      kept = All-nil (IsKept limit);
+      full = tt;
+    }
+
+after-on : (limit width : ℕ) (u : TextUnit) (us first : List TextUnit)
+    (parts : List (List TextUnit)) → is_due limit width u ≡ false
+    → AreBrokenAfter limit (width + unit_width u) us first parts
+    → AreBrokenAfter limit width (u ∷ us) (u ∷ first) parts
+after-on limit width u us first parts on h = record {
+  tiles = ap (λ vs. u ∷ vs) h.tiles;
+  kept_first = (on, h.kept_first);
+  full_first =
+      let e : width + unit_width u + units_width first ≡ width + units_width (u ∷ first) =
+      omega (arith, sum_by-cons unit_width u first) in
+      subst (λ n. IsFullAfter limit n parts) e h.full_first;
+  nonempty = h.nonempty;
+  kept = h.kept;
+  full = h.full;
+}
+
+due-parts : (limit width : ℕ) (u : TextUnit) (first : List TextUnit) (parts : List (List TextUnit))
+    → is_due limit width u ≡ true → IsFullAfter limit width ((u ∷ first) ∷ parts)
+due-parts limit width (Visible c) first parts due =
+    let both = and_parts (ltb 0 width) (ltb limit (width + columns c)) due in
+    (c, first, refl, ltb-true 0 width both.0, ltb-true limit (width + columns c) both.1)
+due-parts limit width (Sequence cs) first parts due = cc
+
+after-cut : (limit width : ℕ) (u : TextUnit) (us first : List TextUnit)
+    (parts : List (List TextUnit)) → is_due limit width u ≡ true
+    → AreBrokenAfter limit (unit_width u) us first parts
+    → AreBrokenAfter limit width (u ∷ us) [] ((u ∷ first) ∷ parts)
+after-cut limit width u us first parts due h =
+    let kept_part : IsKeptAfter limit 0 (u ∷ first) = (
+      is_due-first limit u,
+      subst (λ n. IsKeptAfter limit n first)
+          (sym (zero-add (unit_width u))) h.kept_first,
+    ) in
+    let full_part = subst (λ n. IsFullAfter limit n parts)
+    (sym (sum_by-cons unit_width u first)) h.full_first in
+    record {
+      tiles = ap (λ vs. u ∷ vs) h.tiles;
+      kept_first = tt;
+      full_first = subst (λ n. IsFullAfter limit n ((u ∷ first) ∷ parts)) (sym (add-zero width))
+          (due-parts limit width u first parts due);
+      nonempty = All-cons (λ part. part ≢ []) (u ∷ first) parts (λ e. cc) h.nonempty;
+      kept = All-cons (IsKept limit) (u ∷ first) parts (IsKept-from limit (u ∷ first) kept_part)
+          h.kept;
+      full = AllPartsFull-cons limit (u ∷ first) parts full_part h.full;
+    }
+
+after-is : (limit width : ℕ) (us : List TextUnit)
+    → AreBrokenAfter limit width us (taken_units limit width us)
+    (broken_units limit (left_units limit width us))
+after-is limit width [] = after-nil limit width
+after-is limit width (u ∷ us) =
+    elim (cases_Bool (is_due limit width u)) [
+      | inl due ↦
+          let e : (u ∷ taken_units limit (unit_width u) us) ∷ broken_units limit
+          (left_units limit (unit_width u) us) ≡ broken_units limit (u ∷ us)
+          = sym (broken_units-cons limit u us
+          ∙ ap (onto_first u) (parts_after-is limit (unit_width u) us)) in
+          rw due (subst (AreBrokenAfter limit width (u ∷ us) []) e
+          (after-cut limit width u us _ _ due (after-is limit (unit_width u) us)))
+      | inr on ↦ rw on (after-on limit width u us _ _ on (after-is limit (width + unit_width u) us))
+    ]
+
+pub AreBroken-exists : (limit : ℕ) (us : List TextUnit) → AreBroken limit us (broken_units limit us)
+AreBroken-exists limit [] =
+    record {
+      tiles = refl;
+      nonempty = All-nil (λ part. part ≢ []);
+      kept = All-nil (IsKept limit);
+      full = tt;
+    }
+AreBroken-exists limit (u ∷ us) =
+    let first = u ∷ taken_units limit (unit_width u) us in
+    let parts = broken_units limit (left_units limit (unit_width u) us) in
+    let e : first ∷ parts ≡ broken_units limit (u ∷ us) =
+    sym (broken_units-cons limit u us
+    ∙ ap (onto_first u) (parts_after-is limit (unit_width u) us)) in
+    let h = after-is limit (unit_width u) us in
+    let kept_part : IsKeptAfter limit 0 first = (
+      is_due-first limit u,
+      subst
+          (λ n. IsKeptAfter limit n (taken_units limit (unit_width u) us))
+          (sym (zero-add (unit_width u))) h.kept_first,
+    ) in
+    let full_part = subst (λ n. IsFullAfter limit n parts)
+    (sym (sum_by-cons unit_width u (taken_units limit (unit_width u) us))) h.full_first in
+    let broken : AreBroken limit (u ∷ us) (first ∷ parts) = record {
+      tiles = ap (λ vs. u ∷ vs) h.tiles;
+      nonempty = All-cons (λ part. part ≢ []) first parts (λ e. cc) h.nonempty;
+      kept = All-cons (IsKept limit) first parts (IsKept-from limit first kept_part) h.kept;
+      full = AllPartsFull-cons limit first parts full_part h.full;
+    } in
+    subst (AreBroken limit (u ∷ us)) e broken

@@ -2,15 +2,11 @@
 //! the algorithm is optimal fit.
 #![tactic(auto)]
 
-use filling::{RunError, fault};
-use program::{complain, execute};
 use std::env::Env;
 use std::process::ExitCode;
 use std::{env, io};
-
-mod arguments;
-mod filling;
-mod program;
+use textwrap_program::filling::{RunError, fault};
+use textwrap_program::program::{complain, execute};
 
 fn main(rt: HostRuntime) -> ExitCode {
     let mut messages = rt.stderr();

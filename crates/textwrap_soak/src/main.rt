@@ -3,43 +3,13 @@
 //!
 //! The round number k, counted from 0, has the seed `SEED + k`. So `textwrap_soak SEED 1` repeats
 //! the one round of a seed, which the program names where a promise is broken.
-//!
-//! This program is tested, and proved to be safe and to end. It is not proved to check what it says:
-//! it is for those who want to see the promises kept, beside their proofs.
 #![tactic(auto)]
 
-use answers::Textwrap;
-use program::{NO_MEMORY, complain, execute};
+use soak_checks::answers::Textwrap;
+use soak_checks::program::{NO_MEMORY, complain, execute};
 use std::env::Env;
 use std::process::ExitCode;
 use std::{env, io};
-
-mod arguments;
-mod program;
-mod soak;
-
-// What a round checks: its numbers, texts, options and fragments, which are a case.
-mod blocks;
-mod cases;
-mod random;
-mod settings;
-mod texts;
-
-// How it checks them: a module for each promise, or for some that are alike, which asks the library
-// and checks its answers. `divisions` tries all divisions for `least_cost`.
-mod answers;
-mod divisions;
-mod findings;
-mod fitting;
-mod in_place;
-mod least_cost;
-mod lossless;
-mod paths;
-mod promises;
-mod refilling;
-mod searching;
-#[cfg(test)]
-mod tests;
 
 fn main(rt: HostRuntime) -> ExitCode {
     let mut messages = rt.stderr();

@@ -1,10 +1,10 @@
+use Rattle.textwrap_uses.proofs.mail.sent_lines.Goals as goal
 use Rattle.std.proofs.Common.{map, subst}
 use Rattle.textwrap.specs.Options.{settings_view}
 use Rattle.textwrap.specs.Paragraph.{line_view, DividesUnder}
 use Rattle.textwrap.specs.Text.{AreTextLines}
 use Rattle.textwrap.specs.declared.LineEnding.TheVariants.{CRLF}
-use Rattle.textwrap.proofs.Text.Table.{AreTextLines-methods}
-use Rattle.textwrap_uses.proofs.mail.sent_lines.Goals as goal
+use Rattle.textwrap.proofs.Text.TableLines.{AreTextLines-methods}
 
 pub returns-clause-lines : goal.returns-clause-lines
 returns-clause-lines g c =

@@ -1,0 +1,57 @@
+//! The program, over its arguments, a library and two writers.
+ghost use Rattle.std.specs.Prelude.{◌≡◌};
+
+use crate::answers::Library;
+use crate::arguments::arguments;
+use crate::soak::{Outcome, soak};
+use std::alloc::Global;
+use std::io;
+use std::io::Write;
+
+/// What the program says where its arguments mean no request.
+const USAGE: &str = "usage: textwrap_soak SEED ROUNDS";
+
+/// What it says where memory runs out.
+pub const NO_MEMORY: &str = "textwrap_soak: out of memory";
+
+/// What it says where the counts cannot be written.
+const NOT_WRITTEN: &str = "textwrap_soak: cannot write output";
+
+/// Runs the program and returns the status that it ends with: 0 if all promises are kept and the
+/// output is written, 1 if one is broken or after a fault, and 2 if the words after the program's
+/// name mean no request. Unless the status is 0, `messages` says why.
+pub fn execute<L: Library, W: Write, M: Write>(
+    alloc: Global,
+    words: &[String],
+    library: &L,
+    output: &mut W,
+    messages: &mut M,
+) -> u8 {
+    let Some(request) = arguments(words) else {
+        return complain(messages, USAGE, 2);
+    };
+    match soak(alloc, library, request) {
+        Ok(Outcome::Kept(report)) => match write_line(output, &report) {
+            Ok(()) => 0,
+            Err(_) => complain(messages, NOT_WRITTEN, 1),
+        },
+        Ok(Outcome::Broken(report)) => complain(messages, &report, 1),
+        Err(_) => complain(messages, NO_MEMORY, 1),
+    }
+}
+
+/// Writes a message, and returns the status. Where even that fails, the status alone shows why the
+/// program ended.
+pub fn complain<M: Write>(messages: &mut M, message: &str, status: u8) -> u8
+    ensures { result ≡ status }
+{
+    let _written = write_line(messages, message);
+    status
+}
+
+/// Writes a line and its line feed.
+fn write_line<W: Write>(writer: &mut W, line: &str) -> io::Result<()> {
+    writer.write_all(line.as_bytes())?;
+    writer.write_all(b"\n")?;
+    writer.flush()
+}

@@ -1,0 +1,142 @@
+//! Random texts.
+ghost use Rattle.std.specs.Prelude.{◌<◌, length};
+
+use crate::random::Random;
+use std::alloc::{AllocError, Global};
+
+/// What a text has beside words, blanks, hyphens, wide characters and line endings.
+#[derive(Clone, Copy)]
+pub enum Alphabet {
+    /// Punctuation.
+    Prose,
+    /// Whole escape sequences.
+    Coloured,
+    /// Escape sequences that are cut, and those that have a blank or a hyphen in them.
+    Cut,
+}
+
+const WORDS: &[&str] = &[
+    "a",
+    "I",
+    "to",
+    "of",
+    "and",
+    "the",
+    "word",
+    "lines",
+    "column",
+    "3",
+    "x7",
+    "_",
+    "A1b2",
+    "fitting",
+    "paragraph",
+    "typesetting",
+    "characteristically",
+    "pneumonoultramicroscopicsilicovolcanoconiosis",
+];
+
+const BLANKS: &[&str] = &[" ", " ", " ", "  ", "   ", "         "];
+
+const HYPHENS: &[&str] = &["-", "-", "--", "a-b", "1-2", "-x", "²-b"];
+
+/// Characters of two columns, of one, and of none.
+const WIDE: &[&str] = &[
+    "あ", "안녕", "漢字", "😂", "é", "²", "\u{301}", "e\u{301}", "\u{200b}", "\u{a0}", "\u{ad}", "\t",
+];
+
+const ENDINGS: &[&str] = &["\n", "\n", "\r\n", "\r\n", "\r", "\n\n", "\r\n\r\n"];
+
+const PUNCTUATION: &[&str] = &[".", ",", "?", ": ", "(", ")", "#", "> ", "* "];
+
+const SEQUENCES: &[&str] = &[
+    "\x1b[31m",
+    "\x1b[0m",
+    "\x1b[1;4m",
+    "\x1b!",
+    "\x1b]a\x07",
+    "\x1b]8;;http://example.com\x1b\\",
+];
+
+const CUT_SEQUENCES: &[&str] = &[
+    "\x1b",
+    "\x1b[",
+    "\x1b[12",
+    "\x1b[3-1m",
+    "\x1b[3 1m",
+    "\x1b]",
+    "\x1b]x y",
+    "\x1b]x-y\x07",
+    "\x1b]x\x1b",
+    "\x1b[31m",
+    "\x07",
+    "\\",
+];
+
+/// What a plain word may begin with or go on with, beside letters.
+const PLAIN_PARTS: &[&str] = &[
+    "あ", "é", "\u{301}", "\t", "\x1b[31m", "\x1b[0m", "\x1b[12", "\x1b", ".", "²", "7",
+];
+
+/// A text of this alphabet, sometimes empty.
+pub fn random_text(
+    alloc: Global,
+    random: &mut Random,
+    alphabet: Alphabet,
+) -> Result<String, AllocError> {
+    let mut text = String::new(alloc);
+    let most = random.pick(&[1, 4, 12, 40, 120]);
+    for _ in 0..random.below(most) {
+        push_part(random, alphabet, &mut text)?;
+    }
+    Ok(text)
+}
+
+/// Adds a word, blanks or another part.
+fn push_part(random: &mut Random, alphabet: Alphabet, text: &mut String) -> Result<(), AllocError> {
+    match random.below(16) {
+        0..=5 => text.push_str(random.pick(WORDS)),
+        6..=10 => text.push_str(random.pick(BLANKS)),
+        11 => text.push_str(random.pick(HYPHENS)),
+        12 => text.push_str(random.pick(ENDINGS)),
+        13 => text.push_str(random.pick(WIDE)),
+        _ => text.push_str(random.pick(rare_parts(alphabet))),
+    }
+}
+
+/// The parts that this alphabet alone has.
+fn rare_parts(alphabet: Alphabet) -> &'static [&'static str]
+    ensures { 0 < length result.now }
+{
+    match alphabet {
+        Alphabet::Prose => PUNCTUATION,
+        Alphabet::Coloured => SEQUENCES,
+        Alphabet::Cut => CUT_SEQUENCES,
+    }
+}
+
+/// A plain text: words with one blank or one line feed between each two, none of which begins like
+/// an indent. Sometimes it is empty.
+pub fn random_plain_text(alloc: Global, random: &mut Random) -> Result<String, AllocError> {
+    let mut text = String::new(alloc);
+    for word in 0..random.below(30) {
+        if word > 0 {
+            text.push(random.pick(&[' ', ' ', ' ', '\n']))?;
+        }
+        push_plain_word(random, &mut text)?;
+    }
+    Ok(text)
+}
+
+/// Adds a plain word.
+fn push_plain_word(random: &mut Random, text: &mut String) -> Result<(), AllocError> {
+    if random.is_one_in(4) {
+        text.push_str(random.pick(PLAIN_PARTS))?;
+    }
+    text.push_str(random.pick(WORDS))?;
+    match random.below(4) {
+        0 => text.push_str(random.pick(HYPHENS)),
+        1 => text.push_str(random.pick(PLAIN_PARTS)),
+        _ => Ok(()),
+    }
+}

@@ -1,7 +1,0 @@
-use Rattle.std.proofs.Common.{◌≡◌, drop}
-use Rattle.std.specs.Str.{all_ascii_digits}
-use Rattle.textwrap_cli.proofs.arguments.is_all_digits.Given as goal
-
--- the bytes to come decide
-abbrev pub invariant-loop-byte : goal.invariant-loop-byte
-invariant-loop-byte l = all_ascii_digits (drop l.byte-index l.bytes) ≡ all_ascii_digits l.bytes

@@ -60,11 +60,7 @@ const HUGE: &[usize] = &[0, 1, 7, 1 << 62, usize::MAX / 2, usize::MAX - 1, usize
 
 impl Problem {
     /// A random problem of fewer than `bound` fragments.
-    pub fn random(
-        alloc: Global,
-        random: &mut Random,
-        bound: usize,
-    ) -> Result<Self, AllocError>
+    pub fn random(alloc: Global, random: &mut Random, bound: usize) -> Result<Self, AllocError>
         requires { 0 < bound }
     {
         Ok(Problem {

@@ -12,11 +12,7 @@ use textwrap::words::{display_width, strip_ansi_escape_sequences};
 
 /// Checks the widths of these lines of the case's text. An escape sequence that is cut hides or shows
 /// other characters in a line than in its pieces, so of such texts nothing is said.
-pub fn check(
-    alloc: Global,
-    case: &Case,
-    lines: &[CowStr<'_>],
-) -> Result<Finding, AllocError> {
+pub fn check(alloc: Global, case: &Case, lines: &[CowStr<'_>]) -> Result<Finding, AllocError> {
     let settings = &case.settings;
     let is_first_fit = matches!(settings.algorithm, Algorithm::FirstFit);
     let is_cut = matches!(case.alphabet, Alphabet::Cut);

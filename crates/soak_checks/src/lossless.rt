@@ -20,11 +20,7 @@ pub struct PlacedLine<'l> {
 }
 
 /// Checks that these are lines of the case's text.
-pub fn check(
-    alloc: Global,
-    case: &Case,
-    lines: &[CowStr<'_>],
-) -> Result<Finding, AllocError> {
+pub fn check(alloc: Global, case: &Case, lines: &[CowStr<'_>]) -> Result<Finding, AllocError> {
     let placed = place_lines(alloc, case.text.as_str(), &case.settings, lines)?;
     Ok(Finding::of(placed.is_some()))
 }

@@ -47,11 +47,7 @@ impl<'c> Ways<'c> {
 }
 
 /// Checks that the texts of `fill` and of `fill_slow_path` are the lines of the lists, joined.
-pub fn check_filled(
-    alloc: Global,
-    case: &Case,
-    ways: &Ways<'_>,
-) -> Result<Finding, AllocError> {
+pub fn check_filled(alloc: Global, case: &Case, ways: &Ways<'_>) -> Result<Finding, AllocError> {
     let joined = join(alloc, &ways.by_lists, case.settings.line_ending.as_str())?;
     Ok(Finding::of(ways.filled == joined && ways.filled_slowly == joined))
 }

@@ -42,11 +42,7 @@ pub fn check_refilled(found: &Refills) -> Finding {
 
 /// Checks that filling a plain text of one line, with its words kept whole, only makes some blanks
 /// line feeds, and that refilling it at a second width is filling it once at that width.
-pub fn check_twice(
-    alloc: Global,
-    case: &Case,
-    found: &Refills,
-) -> Result<Finding, AllocError> {
+pub fn check_twice(alloc: Global, case: &Case, found: &Refills) -> Result<Finding, AllocError> {
     let is_text = on_one_line(alloc, &found.first)? == on_one_line(alloc, &case.plain)?;
     Ok(Finding::of(is_text && found.twice == found.once))
 }

@@ -58,11 +58,7 @@ pub fn broken_promise(
 }
 
 /// The line that counts the rounds, and the checks of each promise.
-pub fn describe_kept(
-    alloc: Global,
-    rounds: u64,
-    counts: &Counts,
-) -> Result<String, AllocError> {
+pub fn describe_kept(alloc: Global, rounds: u64, counts: &Counts) -> Result<String, AllocError> {
     let mut line = format!(in alloc; "rounds={rounds}")?;
     for ((_, name), count) in PROMISES.iter().zip(counts) {
         write!(line, " {name}={count}")?;

@@ -1,4 +1,4 @@
--- The places of the lines of a text: what stands there, and how they are found.
+-- The places of the lines of a text: what stands there.
 use Rattle.textwrap_base.proofs.Common.{◌≡◌, ℕ, ◌+◌, ◌-◌, ◌≤◌, ◌==◌, Bool, true, false, cond, List}
 use Rattle.textwrap_base.proofs.Common.{[], ◌∷◌, ◌++◌, take, drop, length, map, sym, ap, refl, ◌∙◌}
 use Rattle.textwrap_base.proofs.Common.{subst, arith, append_assoc, slice_range, drop-drop}

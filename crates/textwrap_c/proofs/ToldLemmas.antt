@@ -1,4 +1,4 @@
--- The lines of a paragraph, told one after another.
+-- The lines of a paragraph, told so far.
 use Rattle.textwrap_base.proofs.Common.{◌≡◌, ℕ, ◌+◌, ◌⊎◌, ◌==◌, inl, inr, Bool, true, false, cond}
 use Rattle.textwrap_base.proofs.Common.{List, [], ◌∷◌, ◌++◌, take, drop, length, map, refl, sym, ap}
 use Rattle.textwrap_base.proofs.Common.{◌∙◌, subst, arith, append_assoc, append-nil, true≢false}

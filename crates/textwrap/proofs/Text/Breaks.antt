@@ -1,4 +1,4 @@
--- Lemmas on the places where a text that is filled in place gets its line feeds.
+-- The line feeds of a text that is filled in place, one part after another.
 use Rattle.textwrap_base.proofs.Common.{◌≡◌, ℕ, ◌+◌, List, [], ◌∷◌, ◌++◌, length, refl, sym, ap}
 use Rattle.textwrap_base.proofs.Common.{◌∙◌, subst, arith, append_assoc, append-nil, length-append}
 use Rattle.textwrap_base.proofs.Common.{Bor, Option, None, Some, length_push, IsGreedy}

@@ -1,4 +1,4 @@
--- Lemmas on texts that are filled in place: the lines in a row, and the blanks that change.
+-- Texts that are filled in place: only blanks change.
 use Rattle.textwrap_base.proofs.Common.{◌≡◌, ℕ, zero, suc, ◌<◌, ◌⊎◌, inl, inr, List, [], ◌∷◌, ◌++◌}
 use Rattle.textwrap_base.proofs.Common.{length, refl, sym, ap, ◌∙◌, subst, arith, append_assoc}
 use Rattle.textwrap_base.proofs.Common.{append-nil, flat_map, IsUtf8-append, IsUtf8-from_ascii}

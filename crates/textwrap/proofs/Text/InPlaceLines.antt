@@ -1,4 +1,4 @@
--- Lemmas on the lines of a text that is filled in place: they are the lines of the wrapped text.
+-- The lines of a text that is filled in place are the lines of the wrapped text.
 use Rattle.textwrap_base.proofs.Common.{◌≡◌, ℕ, ◌-◌, ◌<◌, ◌≤◌, Bool, true, false, ◌||◌, nat_lt}
 use Rattle.textwrap_base.proofs.Common.{◌==◌, List, [], ◌∷◌, ◌++◌, All, length, map, refl, sym, ap}
 use Rattle.textwrap_base.proofs.Common.{◌∙◌, subst, arith, flat_map, IsUtf8, and_parts, ltb-true}

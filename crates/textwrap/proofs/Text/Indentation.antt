@@ -1,4 +1,4 @@
--- Lemmas on blank lines, on a text that is cut after each line feed, and on indents.
+-- Lemmas on blank lines, and on indents.
 use Rattle.textwrap_base.proofs.Common.{◌≡◌, ◌≢◌, ◌⊎◌, ℕ, ◌==◌, true, false, cond, List, [], ◌∷◌}
 use Rattle.textwrap_base.proofs.Common.{◌++◌, length, drop, map, All, refl, sym, ap, ◌∙◌, subst}
 use Rattle.textwrap_base.proofs.Common.{append_assoc, inl, inr, flat_map, IsUtf8, All-head}

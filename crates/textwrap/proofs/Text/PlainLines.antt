@@ -1,5 +1,5 @@
--- Lemmas on plain lines: what bytes they have, what they begin and end with, their parts between
--- blanks, and blanks in the place of the line feeds between them.
+-- Plain lines: what they begin and end with, and blanks in the place of the line feeds between
+-- them.
 use Rattle.textwrap_base.proofs.Common.{◌≡◌, ◌≢◌, ℕ, ◌+◌, ◌-◌, ◌<◌, ◌==◌, Bool, true, false, cond}
 use Rattle.textwrap_base.proofs.Common.{List, [], ◌∷◌, ◌++◌, All, length, take, refl, sym, ap, ◌∙◌}
 use Rattle.textwrap_base.proofs.Common.{subst, arith, append_assoc, length-append, prefix_len}

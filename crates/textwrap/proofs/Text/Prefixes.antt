@@ -1,4 +1,4 @@
--- Lemmas on what lines begin with: the characters of their indents, and what they have in common.
+-- Lemmas on the characters of the indent of a line, and on what two texts have in common.
 use Rattle.textwrap_base.proofs.Common.{◌≡◌, ℕ, suc, ◌+◌, ◌<◌, Bool, true, false, cond, nat_eq}
 use Rattle.textwrap_base.proofs.Common.{List, [], ◌∷◌, take, drop, refl, arith, sym, ap, subst}
 use Rattle.textwrap_base.proofs.Common.{StartsWith, starts_with_of_append, nat_tests, slice_range}

@@ -1,4 +1,4 @@
--- Lemmas on plain texts: unfilled, and filled again.
+-- Plain texts, unfilled and filled again.
 use Rattle.textwrap_base.proofs.Common.{◌≡◌, ◌≢◌, ◌↔◌, ℕ, Bool, false, List, [], ◌++◌, All, sym, ap}
 use Rattle.textwrap_base.proofs.Common.{◌∙◌, subst, append-nil}
 use Rattle.textwrap_words.proofs.Common.{WordText, Algorithm}

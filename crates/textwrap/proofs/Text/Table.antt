@@ -1,4 +1,4 @@
--- Lemmas on the rows of a table.
+-- Lemmas on the rows of a table, as they are written.
 use Rattle.textwrap_base.proofs.Common.{◌≡◌, ℕ, suc, ◌+◌, ◌-◌, ◌*◌, ◌≤◌, ◌⊎◌, List, ◌++◌, length}
 use Rattle.textwrap_base.proofs.Common.{map, sym, ap, ◌∙◌, arith, append_assoc, inl, inr}
 use Rattle.textwrap_base.proofs.Common.{range_with_len, repeat}

@@ -1,4 +1,4 @@
--- What a table of lines keeps to: even rows, and all lines.
+-- The rows of a table are even.
 use Rattle.textwrap_base.proofs.Common.{◌≡◌, ℕ, zero, suc, ◌+◌, ◌-◌, ◌*◌, ◌≤◌, true, List, [], ◌∷◌}
 use Rattle.textwrap_base.proofs.Common.{◌++◌, get_or, map, refl, sym, ap, ◌∙◌, arith, append_assoc}
 use Rattle.textwrap_base.proofs.Common.{append-nil, All, sum_by, flat_map, range_with_len, list_all}

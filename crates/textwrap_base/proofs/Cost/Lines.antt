@@ -1,4 +1,4 @@
--- From lines to the starts of lines, and back.
+-- From lines to the starts of lines.
 use Rattle.textwrap_base.proofs.Common.{◌≡◌, ℕ, suc, ◌+◌, ◌<◌, ◌≤◌, ◌≢◌, eqb, List, [], ◌∷◌, ◌++◌}
 use Rattle.textwrap_base.proofs.Common.{length, get_or, reverse, drop, All, slice_range, refl, sym}
 use Rattle.textwrap_base.proofs.Common.{◌∙◌, ap, subst, add-zero, arith, append_assoc}

@@ -1,4 +1,4 @@
--- The closed width and the cost of a part of the fragments, from running sums of their widths.
+-- Running sums of the widths of fragments, and what lines take and cost by them.
 use Rattle.textwrap_base.proofs.Common.{◌≡◌, ℕ, ◌+◌, ◌-◌, ◌^◌, ◌<◌, ◌≤◌, eqb, List, length, get_or}
 use Rattle.textwrap_base.proofs.Common.{take, map, slice_range, max, sym, ◌∙◌, ap, arith}
 use Rattle.textwrap_base.proofs.Common.{length-map, Sizes, closed_width, open_width, PricedSizes}

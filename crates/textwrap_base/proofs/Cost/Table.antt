@@ -1,4 +1,4 @@
--- The entries of the table: how many they are, and that each is the least.
+-- The entries of the table, one start after another: the new entry is the least.
 use Rattle.textwrap_base.proofs.Common.{◌≡◌, ℕ, zero, suc, ◌+◌, ◌^◌, ◌<◌, ◌≤◌, true, false}
 use Rattle.textwrap_base.proofs.Common.{if◌then◌else◌, List, [], ◌∷◌, length, ◌⊎◌, ◌≢◌, inl, inr}
 use Rattle.textwrap_base.proofs.Common.{Option, Some, None, SomeIff, refl, ◌∙◌, arith, length_push}

@@ -1,4 +1,4 @@
--- Lemmas on the widths of lines and on divisions.
+-- Lemmas on lines that fit, and on greedy divisions.
 use Rattle.textwrap_base.proofs.Common.{◌≡◌, ◌≢◌, ℕ, suc, ◌+◌, ◌<◌, ◌≤◌, List, [], ◌∷◌, ◌++◌}
 use Rattle.textwrap_base.proofs.Common.{length, get_or, take, drop, refl, sym, ap, ◌∙◌, subst}
 use Rattle.textwrap_base.proofs.Common.{arith, ⊎_elim, add-zero, length-drop, length-append}

@@ -1,5 +1,4 @@
--- Fragments without penalties, for which the first line has room, are divided into that line, by
--- each algorithm.
+-- Fragments without penalties, for which the first line has room, are one line by first fit.
 use Rattle.textwrap_base.proofs.Common.{◌≡◌, ◌≢◌, ℕ, zero, suc, ◌≤◌, List, [], ◌∷◌, length, take}
 use Rattle.textwrap_base.proofs.Common.{All, refl, ap, arith, append-nil, All-nil, All-cons}
 use Rattle.textwrap_base.proofs.Common.{All-head, All-tail, Sizes, line_width, closed_width}

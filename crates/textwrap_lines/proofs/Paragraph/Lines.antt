@@ -1,4 +1,4 @@
--- Lemmas on what the words of a line cover.
+-- The lines of a division, one after another, and the widths of its pieces.
 use Rattle.textwrap_base.proofs.Common.{◌≡◌, ℕ, Bool, true, cond, nat_lt, ◌≤◌, List, [], ◌∷◌, ◌++◌}
 use Rattle.textwrap_base.proofs.Common.{length, map, refl, sym, ap, ◌∙◌, arith, ◌*◌, All, flat_map}
 use Rattle.textwrap_base.proofs.Common.{nat_tests, map-append, total_width}

@@ -1,5 +1,4 @@
--- Lemmas on the lines of a division of words: each has the words of its own text, and each but the
--- last ends in a blank.
+-- The lines of a division of words: each but the last ends in a blank.
 use Rattle.textwrap_base.proofs.Common.{◌≡◌, ◌≢◌, ℕ, ◌+◌, ◌-◌, ◌<◌, List, [], ◌∷◌, ◌++◌, All}
 use Rattle.textwrap_base.proofs.Common.{length, take, refl, sym, ap, ◌∙◌, subst, arith, append-nil}
 use Rattle.textwrap_base.proofs.Common.{⊤, take_all, take_more, All-head, All-tail, IsDivision}

@@ -1,5 +1,5 @@
--- Lemmas on lines that pass their width: by first fit, where words are broken, each is one piece
--- with one character that takes columns.
+-- By first fit, where words are broken, a line that passes its width is one piece with one
+-- character that takes columns.
 use Rattle.textwrap_base.proofs.Common.{◌≡◌, ℕ, zero, suc, ◌≤◌, Bool, true, false, cond, ◌==◌, List}
 use Rattle.textwrap_base.proofs.Common.{[], ◌∷◌, ◌++◌, All, length, take, refl, sym, ap, ◌∙◌, subst}
 use Rattle.textwrap_base.proofs.Common.{arith, ◌&&◌, IsUtf8, nil_from_length, eqb-true, All-nil}

@@ -1,4 +1,4 @@
--- Lemmas on the pieces of a paragraph: they tile it, and blanks stand between them.
+-- The built-in parts leave exactly the computed pieces of a paragraph, which tile it.
 use Rattle.textwrap_base.proofs.Common.{subst, ◌≡◌, ◌↔◌, ℕ, Bool, List, [], All, refl, sym, ap, ◌∙◌}
 use Rattle.textwrap_base.proofs.Common.{flat_map, IsUtf8}
 use Rattle.textwrap_words.proofs.Common.{WordText, sizes_of, tiled, word_of, words_of, AreWordsOf}

@@ -1,4 +1,4 @@
--- Lemmas on the pieces of a printable text: they tile it, and take as many columns as bytes.
+-- The pieces of a printable text: they tile it.
 use Rattle.textwrap_base.proofs.Common.{◌≡◌, ◌≢◌, ℕ, ◌<◌, Bool, true, false, List, [], ◌∷◌, All}
 use Rattle.textwrap_base.proofs.Common.{length, map, refl, sym, ap, ◌∙◌, subst, arith, length-drop}
 use Rattle.textwrap_base.proofs.Common.{IsUtf8, nil_from_length, length-map, All-map, All-weaker}

@@ -1,4 +1,4 @@
--- Lemmas on the paragraphs between line endings.
+-- Lemmas on the parts of a text between line endings.
 use Rattle.textwrap_base.proofs.Common.{◌≡◌, ◌≢◌, ℕ, zero, suc, ◌-◌, ◌<◌, ◌≤◌, Bool, true, false}
 use Rattle.textwrap_base.proofs.Common.{cond, nat_eq, List, [], ◌∷◌, ◌++◌, length, take, drop, refl}
 use Rattle.textwrap_base.proofs.Common.{sym, ap, ◌∙◌, arith, length-append, length-drop, onto_first}

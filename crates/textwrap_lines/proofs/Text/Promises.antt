@@ -1,5 +1,4 @@
--- Lemmas on what the lines of a text keep to: there is one at least, they lose only blanks, add
--- only indents, and by first fit, where words are broken, they keep to their widths.
+-- What the lines of a text keep to, by what those of its paragraphs do.
 use Rattle.textwrap_base.proofs.Common.{◌≡◌, ◌≢◌, ℕ, take, ◌<◌, Bool, true, false, List, All}
 use Rattle.textwrap_base.proofs.Common.{length, sym, ap, ◌∙◌, arith, StartsWith, Option, Some, None}
 use Rattle.textwrap_base.proofs.Common.{IsUtf8, starts_with_of_append, length-map}

@@ -1,4 +1,4 @@
--- Lemmas on the line that takes the next piece.
+-- Where the next piece of a line stands in the text.
 use Rattle.textwrap_base.proofs.Common.{◌≡◌, ℕ, ◌+◌, ◌≤◌, List, ◌++◌, length, take, drop, ap, ◌∙◌}
 use Rattle.textwrap_base.proofs.Common.{sym, subst, arith, append_assoc, length-append, length-drop}
 use Rattle.textwrap_base.proofs.Common.{take-append-drop, IsUtf8, IsCharBoundary, take_at, drop_at}

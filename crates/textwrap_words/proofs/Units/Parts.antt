@@ -1,4 +1,4 @@
--- Lemmas on the units of a text and of its parts, and on the states that read them.
+-- Lemmas on the units of a text and of its parts.
 use Rattle.textwrap_base.proofs.Common.{inl, inr, ◌≡◌, ◌≢◌, ℕ, zero, suc, ◌+◌, ◌<◌, ◌≤◌, Bool, true}
 use Rattle.textwrap_base.proofs.Common.{false, cond, eqb, List, [], ◌∷◌, ◌++◌, refl, sym, ap, ◌∙◌}
 use Rattle.textwrap_base.proofs.Common.{subst, zero-add, arith, length, take, drop, flat_map}

@@ -1,5 +1,5 @@
--- Worked rows on the units of a text, its columns and the words of a line. In a text `\u{1b}` is
--- ESC and `\u{7}` is BEL.
+-- Worked rows on the units of a text and its columns. In a text `\u{1b}` is ESC and `\u{7}` is
+-- BEL.
 use Rattle.textwrap_base.proofs.Common.{◌≡◌, true, false, [], ◌∷◌, refl, codes}
 use Rattle.textwrap_words.proofs.Common.{Visible, Sequence, ends, units, columns, text_width}
 use Rattle.std.specs.Str.{chars}

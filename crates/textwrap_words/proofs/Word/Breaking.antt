@@ -1,5 +1,4 @@
--- Lemmas on the parts into which units are broken: the computed parts have the properties, and no
--- others have.
+-- Lemmas on the parts into which units are broken, one after another.
 use Rattle.textwrap_base.proofs.Common.{inl, inr, ◌≡◌, ℕ, ◌+◌, ◌<◌, ◌≤◌, true, false, cond, List}
 use Rattle.textwrap_base.proofs.Common.{[], ◌∷◌, ◌++◌, refl, sym, ap, subst, zero-add, arith, ⊤}
 use Rattle.textwrap_base.proofs.Common.{onto_first, cases_Bool, nat_tests, sum_by-cons}

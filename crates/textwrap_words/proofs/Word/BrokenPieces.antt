@@ -1,5 +1,4 @@
--- Lemmas on the pieces of a word: what the reader finds is the first piece, and the pieces tile the
--- word.
+-- The pieces of a word as words: they tile it.
 use Rattle.textwrap_base.proofs.Common.{inl, inr, ◌≡◌, ◌≢◌, ℕ, ◌<◌, List, [], ◌∷◌, ◌++◌, refl, sym}
 use Rattle.textwrap_base.proofs.Common.{ap, ◌∙◌, length, All, IsUtf8, flat_map, cases_Bool}
 use Rattle.textwrap_base.proofs.Common.{ltb-true, nil_from_length, append-nil, append_assoc}

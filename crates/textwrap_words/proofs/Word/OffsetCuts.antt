@@ -1,5 +1,5 @@
--- Lemmas on the cuts of a line at offsets of its visible text: which they are, that no other list
--- has them, and what they leave of the line.
+-- The cuts of a line at offsets of its visible text are those that the definition names, and no
+-- others.
 use Rattle.textwrap_base.proofs.Common.{◌≡◌, ◌↔◌, ℕ, ◌+◌, ◌<◌, true, not, List, [], ◌∷◌, ◌++◌}
 use Rattle.textwrap_base.proofs.Common.{length, map, sym, ap, ◌∙◌, subst, arith, inl, inr, zero-add}
 use Rattle.textwrap_base.proofs.Common.{◌==◌, ◌&&◌, nat_lt, All, list_any, Contains}

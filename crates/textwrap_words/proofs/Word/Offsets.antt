@@ -1,5 +1,4 @@
--- Lemmas on where the visible characters of a line end, and on the code that reads a line up to
--- each of them.
+-- The code that finds the cuts at offsets.
 use Rattle.textwrap_base.proofs.Common.{◌≡◌, ℕ, ◌+◌, ◌≤◌, Bool, true, false, cond, List, [], ◌∷◌}
 use Rattle.textwrap_base.proofs.Common.{◌++◌, length, drop, refl, sym, ap, ◌∙◌, arith, inl, inr}
 use Rattle.textwrap_base.proofs.Common.{append-nil, append_assoc, length-append, IsUtf8, cases_Bool}

@@ -1,5 +1,4 @@
--- Lemmas on pieces of broken words that are wider than the limit: they have one character that
--- takes columns.
+-- Pieces of broken words that are wider than the limit have one character that takes columns.
 use Rattle.textwrap_base.proofs.Common.{◌≡◌, ℕ, ◌<◌, Bool, true, false, cond, List, [], ◌∷◌, All}
 use Rattle.textwrap_base.proofs.Common.{length, map, refl, sym, ap, ◌∙◌, arith, flat_map, sum_by}
 use Rattle.textwrap_base.proofs.Common.{IsUtf8, false≢true, nat_tests, All-nil, All-cons, All-head}

@@ -1,4 +1,4 @@
--- Lemmas on the points at which words are split, and on their pieces.
+-- Lemmas on the points at which words are split.
 use Rattle.textwrap_base.proofs.Common.{◌≡◌, ℕ, ◌+◌, ◌-◌, ◌<◌, ◌≤◌, true, false, List, [], ◌∷◌}
 use Rattle.textwrap_base.proofs.Common.{◌++◌, refl, sym, ap, ◌∙◌, subst, arith, length, take, drop}
 use Rattle.textwrap_base.proofs.Common.{get_or, ◌==◌, ◌||◌, reverse, filter, All, IsUtf8}

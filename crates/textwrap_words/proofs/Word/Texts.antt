@@ -1,4 +1,4 @@
--- Lemmas on the texts of the words of a line: they are UTF-8, and blanks stand between them.
+-- The chunks of a line are UTF-8; the blanks at the end of a text.
 use Rattle.textwrap_base.proofs.Common.{inl, inr, ◌≡◌, ℕ, zero, suc, ◌+◌, ◌-◌, ◌<◌, ◌≤◌, Bool, true}
 use Rattle.textwrap_base.proofs.Common.{false, not, cond, List, [], ◌∷◌, ◌++◌, All, length, get_or}
 use Rattle.textwrap_base.proofs.Common.{drop, refl, sym, ap, ◌∙◌, subst, arith, append_assoc}

@@ -1,4 +1,4 @@
--- A line has exactly one list of words.
+-- The computed chunks of a line are its chunks, so it has exactly one list of words.
 use Rattle.textwrap_base.proofs.Common.{◌≡◌, ◌≢◌, ◌↔◌, ℕ, ◌<◌, Bool, true, false, cond, List, []}
 use Rattle.textwrap_base.proofs.Common.{◌∷◌, All, length, get_or, drop, map, refl, sym, ap, ◌∙◌}
 use Rattle.textwrap_base.proofs.Common.{subst, arith, length-append, slice_index, onto_first}

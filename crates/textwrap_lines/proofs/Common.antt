@@ -4,19 +4,30 @@ pub use Rattle.textwrap_lines.specs.Layout.{front_of}
 pub use Rattle.textwrap_lines.specs.LineEnding.{ending_bytes, join_with, line_feed, paragraphs_of}
 pub use Rattle.textwrap_lines.specs.LineEnding.{parts_past}
 pub use Rattle.textwrap_lines.specs.LineSinks.{Took}
-pub use Rattle.textwrap_lines.specs.Options.{MayOverflow, Settings, settings_view}
+pub use Rattle.textwrap_lines.specs.Options.{HasParts, MayOverflow, Settings, settings_view}
 pub use Rattle.textwrap_lines.specs.Paragraph.{AreDividedParts, AreIndented, AreParagraphParts}
 pub use Rattle.textwrap_lines.specs.Paragraph.{ArePieces, assembled_line, covered, DividesAs}
 pub use Rattle.textwrap_lines.specs.Paragraph.{DividesBy, empty_word, first_width, front_pieces}
-pub use Rattle.textwrap_lines.specs.Paragraph.{indent_of, is_whole, IsDividedInto, keeps_whitespace}
-pub use Rattle.textwrap_lines.specs.Paragraph.{KeepsToWidth, last_piece, later_width, Line}
-pub use Rattle.textwrap_lines.specs.Paragraph.{line_bytes, line_from, line_view, LineParts}
-pub use Rattle.textwrap_lines.specs.Paragraph.{OnlyCharactersPass, parts_from, parts_of, pieces_of}
-pub use Rattle.textwrap_lines.specs.Paragraph.{Slice, width_after, widths_of}
+pub use Rattle.textwrap_lines.specs.Paragraph.{indent_of, is_whole, IsDividedInto, IsOneCharacter}
+pub use Rattle.textwrap_lines.specs.Paragraph.{keeps_whitespace, KeepsToWidth, KeepToWidths}
+pub use Rattle.textwrap_lines.specs.Paragraph.{last_piece, later_width, Line, line_bytes, line_from}
+pub use Rattle.textwrap_lines.specs.Paragraph.{line_view, LineParts, OnlyCharactersPass, parts_from}
+pub use Rattle.textwrap_lines.specs.Paragraph.{parts_of, pieces_of, Slice, text_limit, width_after}
+pub use Rattle.textwrap_lines.specs.Paragraph.{widths_of}
 pub use Rattle.textwrap_lines.specs.Printable.{BlanksBetween, byte_before, cut_at, CutTest}
 pub use Rattle.textwrap_lines.specs.Printable.{IsFirstLine, IsFirstPiece, IsPrintable}
 pub use Rattle.textwrap_lines.specs.Printable.{IsPrintableByte, NoCutBetween, parts, pieces_after}
 pub use Rattle.textwrap_lines.specs.Printable.{printable_cut}
-pub use Rattle.textwrap_lines.specs.Spans.{HaveTexts, span_lines, span_of, span_priced, spans_from}
-pub use Rattle.textwrap_lines.specs.Text.{AreGroups, AreTextLines}
-pub use Rattle.textwrap_lines.specs.WordLines.{GoesOn, IsNext, later_lines, line_so_far, lines_from}
+pub use Rattle.textwrap_lines.specs.Spans.{AreSpans, HaveTexts, last_span, no_span, span_lines}
+pub use Rattle.textwrap_lines.specs.Spans.{span_of, span_priced, spans_from}
+pub use Rattle.textwrap_lines.specs.Text.{AreGroups, AreTextLines, covered_by, IsWrapped}
+pub use Rattle.textwrap_lines.specs.Text.{LinesKeepToWidth}
+pub use Rattle.textwrap_lines.specs.WordLines.{GoesOn, IsNext, later_lines, line_of, line_so_far}
+pub use Rattle.textwrap_lines.specs.WordLines.{lines_after, lines_from, LineSoFar, with_piece}
+pub use Rattle.textwrap_base.specs.declared.penalties.Penalties.{Penalties}
+pub use Rattle.textwrap_lines.specs.declared.line_ending.LineEnding.{LineEnding}
+pub use Rattle.textwrap_lines.specs.declared.line_sinks.LineSink.{LineSink}
+pub use Rattle.textwrap_lines.specs.declared.options.Options.{Options}
+pub use Rattle.textwrap_lines.specs.declared.spans.Span.{Span}
+pub use Rattle.textwrap_lines.specs.declared.word_lines.OpenLine.{OpenLine}
+pub use Rattle.textwrap_words.specs.declared.words.Word.{Word}

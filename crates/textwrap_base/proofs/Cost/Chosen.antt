@@ -8,7 +8,7 @@ use Rattle.textwrap_base.specs.declared.minima.table.Entry.{Entry}
 use Rattle.textwrap_base.specs.declared.penalties.Penalties.{Penalties}
 use Rattle.textwrap_base.proofs.Cost.Lines.{starts_back, joined, division_joined}
 use Rattle.textwrap_base.proofs.Cost.Starts.{table-is_table, table_least, table_followed}
-use Rattle.textwrap_base.proofs.Cost.Starts.{table_earliest}
+use Rattle.textwrap_base.proofs.Cost.Starts.{table_earliest, AreStarts, FollowBack}
 use Rattle.textwrap_base.proofs.Cost.Begun.{begin_cost, line_costs-steady, begin_starts}
 use Rattle.textwrap_base.proofs.Cost.Begun.{begin_follow}
 
@@ -30,61 +30,65 @@ whole xs lines p h =
     let (tiles, some) = division_joined xs lines p h in
     (tiles ∙ sym (take_all (length xs) xs (omega arith)), some)
 
--- the division by the table costs what its last entry says
-by_table-cost : {X : Type 0} (priced : X → PricedSizes) (penalties : Penalties) (widths : List ℕ)
-    (xs : List X) (lines : List (List X)) → 0 < length xs → AreEqualFromSecond widths
-    → IsByTable priced penalties widths xs lines
-    → division_cost priced penalties widths (length xs) lines ≡
-    (entry_at (fragments_table priced penalties widths xs) (length xs)).cost
-by_table-cost priced penalties widths xs lines p equal h =
-    let (tiles, some) = whole xs lines p h.division in
-    sym (begin_cost priced penalties widths xs lines (length xs) (omega arith) tiles)
-    ∙ table_followed (line_costs priced penalties widths xs) (length xs)
-    (fragments_table priced penalties widths xs)
-    (table-is_table (line_costs priced penalties widths xs) (length xs))
-    (line_costs-steady priced penalties widths xs equal)
-    (starts_back lines) (length xs) (omega arith)
-    (begin_starts priced penalties widths xs lines (length xs) (omega arith) tiles some)
-    (begin_follow priced penalties widths xs lines (length xs)
-    (map (λ (x : Entry). x.start) (fragments_table priced penalties widths xs))
-    (omega arith) tiles h.starts)
+module _ {X : Type 0} (priced : X → PricedSizes) (penalties : Penalties) (widths : List ℕ)
+    (xs : List X) where
+  -- what the table says that the first fragments cost
+  abbrev pub cost_at : ℕ → ℕ
+  cost_at j = (entry_at (fragments_table priced penalties widths xs) j).cost
 
--- no division of a prefix costs less than its entry says
-pub begin-least : {X : Type 0} (priced : X → PricedSizes) (penalties : Penalties) (widths : List ℕ)
-    (xs : List X) (others : List (List X)) (j : ℕ) → j ≤ length xs → AreEqualFromSecond widths
-    → joined others ≡ take j xs → All (λ line. line ≢ []) others
-    → (entry_at (fragments_table priced penalties widths xs) j).cost ≤ division_cost priced
-    penalties widths (length xs) others
-begin-least priced penalties widths xs others j l equal tiles some =
-    let cost = begin_cost priced penalties widths xs others j l tiles in
-    let least = table_least (line_costs priced penalties widths xs) (length xs)
-    (fragments_table priced penalties widths xs)
-    (table-is_table (line_costs priced penalties widths xs) (length xs))
-    (line_costs-steady priced penalties widths xs equal)
-    (starts_back others) j l (begin_starts priced penalties widths xs others j l tiles some) in
-    omega (arith, cost, least)
+  -- what lines cost of which the last may be the last of all
+  abbrev pub cost_of : List (List X) → ℕ
+  cost_of lines = division_cost priced penalties widths (length xs) lines
 
-chosen-earliest : {X : Type 0} (priced : X → PricedSizes) (penalties : Penalties) (widths : List ℕ)
-    (xs : List X) (lines others : List (List X)) → 0 < length xs → AreEqualFromSecond widths
-    → IsByTable priced penalties widths xs lines → IsDivision xs others
-    → division_cost priced penalties widths (length xs) others ≡ division_cost priced penalties
-    widths (length xs) lines → AreNoLater (starts_back lines) (starts_back others)
-chosen-earliest priced penalties widths xs lines others p equal h o same =
-    let (tiles, some) = whole xs lines p h.division in
-    let (tiles_other, some_other) = whole xs others p o in
-    table_earliest (line_costs priced penalties widths xs) (length xs)
-    (fragments_table priced penalties widths xs)
-    (table-is_table (line_costs priced penalties widths xs) (length xs))
-    (line_costs-steady priced penalties widths xs equal)
-    (starts_back lines) (starts_back others) (length xs) (omega arith)
-    (begin_starts priced penalties widths xs lines (length xs) (omega arith) tiles some)
-    (begin_follow priced penalties widths xs lines (length xs)
-    (map (λ (x : Entry). x.start) (fragments_table priced penalties widths xs))
-    (omega arith) tiles h.starts)
-    (begin_starts priced penalties widths xs others (length xs)
-    (omega arith) tiles_other some_other)
-    (begin_cost priced penalties widths xs others (length xs) (omega arith) tiles_other ∙ same
-    ∙ by_table-cost priced penalties widths xs lines p equal h)
+  -- no division of a prefix costs less than its entry says
+  pub begin-least : (others : List (List X)) (j : ℕ) → j ≤ length xs → AreEqualFromSecond widths
+      → joined others ≡ take j xs → All (λ line. line ≢ []) others → cost_at j ≤ cost_of others
+  begin-least others j l equal tiles some =
+      let cost = begin_cost priced penalties widths xs others j l tiles in
+      let least = table_least (line_costs priced penalties widths xs) (length xs)
+      (fragments_table priced penalties widths xs)
+      (table-is_table (line_costs priced penalties widths xs) (length xs))
+      (line_costs-steady priced penalties widths xs equal)
+      (starts_back others) j l (begin_starts priced penalties widths xs others j l tiles some) in
+      omega (arith, cost, least)
+
+  module _ (lines : List (List X)) (p : 0 < length xs) (equal : AreEqualFromSecond widths)
+      (by : IsByTable priced penalties widths xs lines) where
+    begins : AreStarts (starts_back lines) (length xs)
+    begins =
+        let (tiles, some) = whole xs lines p by.division in
+        begin_starts priced penalties widths xs lines (length xs) (omega arith) tiles some
+
+    follows : FollowBack (starts_back lines)
+        (map (λ (x : Entry). x.start) (fragments_table priced penalties widths xs)) (length xs)
+    follows =
+        begin_follow priced penalties widths xs lines (length xs)
+        (map (λ (x : Entry). x.start) (fragments_table priced penalties widths xs))
+        (omega arith) (whole xs lines p by.division).0 by.starts
+
+    -- the division by the table costs what its last entry says
+    by_table-cost : cost_of lines ≡ cost_at (length xs)
+    by_table-cost =
+        sym (begin_cost priced penalties widths xs lines (length xs) (omega arith)
+        (whole xs lines p by.division).0)
+        ∙ table_followed (line_costs priced penalties widths xs) (length xs)
+        (fragments_table priced penalties widths xs)
+        (table-is_table (line_costs priced penalties widths xs) (length xs))
+        (line_costs-steady priced penalties widths xs equal)
+        (starts_back lines) (length xs) (omega arith) begins follows
+
+    chosen-earliest : (others : List (List X)) → IsDivision xs others
+        → cost_of others ≡ cost_of lines → AreNoLater (starts_back lines) (starts_back others)
+    chosen-earliest others o same =
+        let (tiles, some) = whole xs others p o in
+        table_earliest (line_costs priced penalties widths xs) (length xs)
+        (fragments_table priced penalties widths xs)
+        (table-is_table (line_costs priced penalties widths xs) (length xs))
+        (line_costs-steady priced penalties widths xs equal)
+        (starts_back lines) (starts_back others) (length xs) (omega arith) begins follows
+        (begin_starts priced penalties widths xs others (length xs) (omega arith) tiles some)
+        (begin_cost priced penalties widths xs others (length xs) (omega arith) tiles ∙ same
+        ∙ by_table-cost)
 
 pub by_table-chosen : {X : Type 0} (priced : X → PricedSizes) (penalties : Penalties)
     (widths : List ℕ) (xs : List X) (lines : List (List X)) → AreEqualFromSecond widths
@@ -100,6 +104,5 @@ by_table-chosen priced penalties widths (x ∷ xs) lines equal h =
           let (tiles, some) = whole (x ∷ xs) others p o in
           let least = begin-least priced penalties widths (x ∷ xs) others (length (x ∷ xs))
           (omega arith) equal tiles some in omega (arith, cost, least);
-      earliest = λ others o same. chosen-earliest priced penalties widths
-          (x ∷ xs) lines others p equal h o same;
+      earliest = chosen-earliest priced penalties widths (x ∷ xs) lines p equal h;
     }

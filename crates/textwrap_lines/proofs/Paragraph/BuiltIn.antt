@@ -5,17 +5,27 @@ use Rattle.textwrap_words.specs.declared.word_splitters.WordSplitter as splitter
 use Rattle.textwrap_base.proofs.Common.{◌≡◌, ℕ, List, ap, ◌∙◌, subst, Some}
 use Rattle.textwrap_words.proofs.Common.{Algorithm, Greedy, LeastCost, MayDivide, algorithm_view}
 use Rattle.textwrap_words.proofs.Common.{MaySeparate, Splitter, Whole, AtHyphens, MaySplit}
-use Rattle.textwrap_words.proofs.Common.{splitter_view}
+use Rattle.textwrap_words.proofs.Common.{splitter_view, AreWordsOf, ArePoints, IsDividedBy}
+use Rattle.textwrap_words.proofs.Common.{sizes_of}
 use Rattle.textwrap_lines.proofs.Common.{Settings, settings_view, IsFilled, AreTextLines}
-use Rattle.textwrap_lines.proofs.Common.{IsDividedInto, DividesAs, DividesBy, Line}
-use Rattle.textwrap_lines.specs.Options.{HasParts}
-use Rattle.textwrap_lines.specs.declared.options.Options.{Options}
+use Rattle.textwrap_lines.proofs.Common.{IsDividedInto, DividesAs, DividesBy, Line, HasParts}
+use Rattle.textwrap_lines.proofs.Common.{Options}
 
-same_parts : (settings : Settings) (first other : Splitter) (algorithm next : Algorithm)
-    → first ≡ other → algorithm ≡ next
-    → DividesAs first algorithm settings ≡ DividesAs other next settings
-same_parts settings first other algorithm next is same =
-    ap (λ s. DividesAs s algorithm settings) is ∙ ap (λ a. DividesAs other a settings) same
+points-as : {C : Type 0} {c : _} (splitter : splitters.WordSplitter C c) (s : Splitter)
+    → splitter_view splitter ≡ Some s → MaySplit splitter ≡ ArePoints s
+points-as splitters.TheVariants.NoHyphenation s is = let same : Whole ≡ s = cc in ap ArePoints same
+points-as splitters.TheVariants.HyphenSplitter s is =
+    let same : AtHyphens ≡ s = cc in ap ArePoints same
+points-as (splitters.TheVariants.Custom given) s is = cc
+
+division-as : {E : Type 0} {e : _} (algorithm : algorithms.WrapAlgorithm E e) (a : Algorithm)
+    → algorithm_view algorithm ≡ Some a
+    → MayDivide algorithm (λ w. w) ≡ IsDividedBy a sizes_of
+division-as algorithms.TheVariants.FirstFit a is =
+    let same : Greedy ≡ a = cc in ap (λ b. IsDividedBy b sizes_of) same
+division-as (algorithms.TheVariants.OptimalFit penalties) a is =
+    let same : LeastCost penalties ≡ a = cc in ap (λ b. IsDividedBy b sizes_of) same
+division-as (algorithms.TheVariants.Custom given) a is = cc
 
 module _ {E C : Type 0} {e : _} {c : _} (settings : Settings) where
   pub divided-as : (separator : separators.WordSeparator C c)
@@ -25,24 +35,12 @@ module _ {E C : Type 0} {e : _} {c : _} (settings : Settings) where
       → IsDividedInto settings (MaySeparate separator) (MaySplit splitter)
       (MayDivide algorithm (λ w. w))
       ≡ DividesAs s a settings
-  divided-as (separators.TheVariants.Custom given) splitter algorithm s a is is_splitter
-      is_algorithm = cc
-  divided-as separators.TheVariants.AsciiSpace (splitters.TheVariants.Custom given) algorithm s a is
-      is_splitter is_algorithm = cc
-  divided-as separators.TheVariants.AsciiSpace splitter (algorithms.TheVariants.Custom given) s a is
-      is_splitter is_algorithm = cc
-  divided-as separators.TheVariants.AsciiSpace splitters.TheVariants.NoHyphenation
-      algorithms.TheVariants.FirstFit s a is is_splitter is_algorithm =
-      same_parts settings Whole s Greedy a (cc) (cc)
-  divided-as separators.TheVariants.AsciiSpace splitters.TheVariants.NoHyphenation
-      (algorithms.TheVariants.OptimalFit penalties) s a is is_splitter is_algorithm =
-      same_parts settings Whole s (LeastCost penalties) a (cc) (cc)
-  divided-as separators.TheVariants.AsciiSpace splitters.TheVariants.HyphenSplitter
-      algorithms.TheVariants.FirstFit s a is is_splitter is_algorithm =
-      same_parts settings AtHyphens s Greedy a (cc) (cc)
-  divided-as separators.TheVariants.AsciiSpace splitters.TheVariants.HyphenSplitter
-      (algorithms.TheVariants.OptimalFit penalties) s a is is_splitter is_algorithm =
-      same_parts settings AtHyphens s (LeastCost penalties) a (cc) (cc)
+  divided-as separator splitter algorithm s a is is_splitter is_algorithm =
+      ap (λ word_separator. IsDividedInto settings (MaySeparate word_separator) (MaySplit splitter)
+      (MayDivide algorithm (λ w. w))) is
+      ∙ ap (λ Points. IsDividedInto settings AreWordsOf Points (MayDivide algorithm (λ w. w)))
+      (points-as splitter s is_splitter)
+      ∙ ap (IsDividedInto settings AreWordsOf (ArePoints s)) (division-as algorithm a is_algorithm)
 
 module _ {E C : Type 0} {e : _} {c : _} (options : Options E C e c) (settings : Settings)
     (splitter : Splitter) (algorithm : Algorithm)

@@ -5,9 +5,8 @@ use Rattle.textwrap_base.proofs.Common.{append-nil, length-append, take-append-d
 use Rattle.textwrap_base.proofs.Common.{IsUtf8, IsCharBoundary, IsUtf8-append, IsUtf8-drop}
 use Rattle.textwrap_base.proofs.Common.{IsCharBoundary-from_take, map-append, take_at, drop_at}
 use Rattle.textwrap_words.proofs.Common.{WordText, word_view, tile_of, tiled}
-use Rattle.textwrap_lines.proofs.Common.{covered}
+use Rattle.textwrap_lines.proofs.Common.{covered, Word}
 use Rattle.std.proofs.lemmas.Str.{IsCharBoundary-from_rest}
-use Rattle.textwrap_words.specs.declared.words.Word.{Word}
 use Rattle.textwrap_words.proofs.Word.Tiling.{tiled-push}
 
 pub covered-push : (ws : List WordText) (w : WordText) → covered (ws ++ w ∷ []) ≡ tiled ws ++ w.word
@@ -50,12 +49,7 @@ cuts_before_whitespace text words front last is starts =
       rest = ap (drop (length before + length last.word.now)) whole
           ∙ drop_at (before ++ last.word.now) (last.whitespace.now ++ after)
           (length before + length last.word.now) len;
-      within = omega (
-        arith,
-        ap length whole,
-        length-append (before ++ last.word.now)
-            (last.whitespace.now ++ after),
-      );
+      within = omega (arith, len, ap length whole, length-append {A = ℕ});
       covers = ap covered views ∙ covered-push (map word_view front) (word_view last);
     }
 

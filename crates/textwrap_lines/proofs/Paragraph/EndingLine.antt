@@ -3,30 +3,21 @@ use Rattle.textwrap_base.proofs.Common.{◌≡◌, ℕ, Bool, cond, List, [], �
 use Rattle.textwrap_base.proofs.Common.{◌∙◌, map-append}
 use Rattle.textwrap_words.proofs.Common.{WordText, word_view, tiled}
 use Rattle.textwrap_lines.proofs.Common.{Settings, LineParts, assembled_line, line_from, covered}
-use Rattle.textwrap_lines.proofs.Common.{last_piece, keeps_whitespace, indent_of, parts_of}
-use Rattle.textwrap_words.specs.declared.words.Word.{Word}
-
-last_piece-push : (w : WordText) (ws : List WordText) (last : WordText)
-    → last_piece w (ws ++ last ∷ []) ≡ last
-last_piece-push w [] last = refl
-last_piece-push w (v ∷ ws) last = last_piece-push v ws last
+use Rattle.textwrap_lines.proofs.Common.{keeps_whitespace, indent_of, parts_of, Word}
+use Rattle.textwrap_lines.proofs.Paragraph.EndsAs.{last_piece-append}
+use Rattle.textwrap_lines.proofs.Paragraph.LeftOff.{parts_keeping}
 
 -- the same line by its last piece
 abbrev parts_ending : Settings → Bool → List WordText → WordText → LineParts
-parts_ending settings is_later line last = record {
-  pieces = line;
-  indent = indent_of settings is_later;
-  slice = cond (keeps_whitespace settings last) (tiled line) (covered line);
-  penalty = last.penalty;
-  left_off = cond (keeps_whitespace settings last) [] last.whitespace;
-}
+parts_ending settings is_later line last =
+    parts_keeping settings is_later line last (keeps_whitespace settings last)
 
 parts_of-push : (settings : Settings) (is_later : Bool) (ws : List WordText) (last : WordText)
     → parts_of settings is_later (ws ++ last ∷ []) ≡ parts_ending settings is_later
     (ws ++ last ∷ []) last
 parts_of-push settings is_later [] last = refl
 parts_of-push settings is_later (w ∷ ws) last =
-    ap (parts_ending settings is_later (w ∷ (ws ++ last ∷ []))) (last_piece-push w ws last)
+    ap (parts_ending settings is_later (w ∷ (ws ++ last ∷ []))) (last_piece-append w ws last [])
 
 ending_line : (settings : Settings) (is_later : Bool) (line : List WordText) (last : WordText)
     (indent slice : List ℕ) (keeps : Bool) → indent ≡ indent_of settings is_later

@@ -1,8 +1,8 @@
 -- Words that are replaced by pieces of them end as they did.
-use Rattle.textwrap_base.proofs.Common.{◌≡◌, ◌≢◌, ℕ, ◌<◌, Bool, true, false, cond, List, [], ◌∷◌}
-use Rattle.textwrap_base.proofs.Common.{◌++◌, All, length, refl, ap, ◌∙◌, arith, append-nil}
-use Rattle.textwrap_base.proofs.Common.{length-append, flat_map, slice_range, ltb-true, All-head}
-use Rattle.textwrap_base.proofs.Common.{All-tail, All-weaker}
+use Rattle.textwrap_base.proofs.Common.{◌≡◌, ◌≢◌, ℕ, ◌<◌, List, [], ◌∷◌, ◌++◌, All, length, refl}
+use Rattle.textwrap_base.proofs.Common.{ap, ◌∙◌, arith, append-nil, length-append, flat_map}
+use Rattle.textwrap_base.proofs.Common.{slice_range, ltb-true, All-head, All-tail, All-weaker}
+use Rattle.textwrap_base.proofs.Common.{cond_both}
 use Rattle.textwrap_words.proofs.Common.{piece, WordText, broken_pieces, broken_texts, broken_word}
 use Rattle.textwrap_words.proofs.Common.{pieces_with, Splitter, cut_penalty, points_of, split_from}
 use Rattle.textwrap_words.proofs.Common.{split_word}
@@ -17,7 +17,7 @@ abbrev pub last_space : List WordText → List ℕ
 last_space [] = []
 last_space (w ∷ ws) = (last_piece w ws).whitespace
 
-last_piece-append : (w : WordText) (ws : List WordText) (v : WordText) (vs : List WordText)
+pub last_piece-append : (w : WordText) (ws : List WordText) (v : WordText) (vs : List WordText)
     → last_piece w (ws ++ v ∷ vs) ≡ last_piece v vs
 last_piece-append w [] v vs = refl
 last_piece-append w (u ∷ ws) v vs = last_piece-append u ws v vs
@@ -62,12 +62,10 @@ split_from-space w start (point ∷ points) =
     ∙ split_from-space w point points
 
 pub split_word-ends : (splitter : Splitter) (w : WordText) → EndsAs (split_word splitter) w
-split_word-ends splitter w =
-    record {
-      some = split_from-some w 0 (points_of splitter w.word);
-      space = split_from-space w 0
-          (points_of splitter w.word);
-    }
+split_word-ends splitter w = record {
+  some = split_from-some w 0 (points_of splitter w.word);
+  space = split_from-space w 0 (points_of splitter w.word);
+}
 
 pieces_with-some : (whitespace penalty : List ℕ) (texts : List (List ℕ)) → texts ≢ []
     → 0 < length (pieces_with whitespace penalty texts)
@@ -75,35 +73,31 @@ pieces_with-some whitespace penalty [] some = absurd (some refl)
 pieces_with-some whitespace penalty (text ∷ []) some = omega arith
 pieces_with-some whitespace penalty (text ∷ next ∷ texts) some = omega arith
 
-pieces_with-space : (whitespace penalty : List ℕ) (text : List ℕ) (texts : List (List ℕ))
-    → last_space (pieces_with whitespace penalty (text ∷ texts)) ≡ whitespace
-pieces_with-space whitespace penalty text [] = refl
-pieces_with-space whitespace penalty text (next ∷ texts) =
-    last_space-append (piece text [] [] ∷ []) (pieces_with whitespace penalty (next ∷ texts))
-    (pieces_with-some whitespace penalty (next ∷ texts)
-    (λ none. absurd (omega (arith, ap length none))))
-    ∙ pieces_with-space whitespace penalty next texts
-
-pieces_with-ends : (whitespace penalty : List ℕ) (texts : List (List ℕ)) → texts ≢ []
+pieces_with-space : (whitespace penalty : List ℕ) (texts : List (List ℕ)) → texts ≢ []
     → last_space (pieces_with whitespace penalty texts) ≡ whitespace
-pieces_with-ends whitespace penalty [] some = absurd (some refl)
-pieces_with-ends whitespace penalty (text ∷ texts) some =
-    pieces_with-space whitespace penalty text texts
+pieces_with-space whitespace penalty [] some = absurd (some refl)
+pieces_with-space whitespace penalty (text ∷ []) some = refl
+pieces_with-space whitespace penalty (text ∷ next ∷ texts) some =
+    let more : next ∷ texts ≢ [] = λ none. absurd (omega (arith, ap length none)) in
+    last_space-append (piece text [] [] ∷ []) (pieces_with whitespace penalty (next ∷ texts))
+    (pieces_with-some whitespace penalty (next ∷ texts) more)
+    ∙ pieces_with-space whitespace penalty (next ∷ texts) more
 
-broken_word-ends : (limit : ℕ) (w : WordText) → IsMeasured w → (b : Bool) → ltb limit w.width ≡ b
-    → (0 < length (cond b (broken_pieces limit w) (w ∷ [])))
-    × (last_space (cond b (broken_pieces limit w) (w ∷ [])) ≡ w.whitespace)
-broken_word-ends limit w measured true wide =
+broken_word-ends : (limit : ℕ) (w : WordText) → IsMeasured w
+    → (0 < length (broken_word limit w)) × (last_space (broken_word limit w) ≡ w.whitespace)
+broken_word-ends limit w measured =
+    cond_both (ltb limit w.width) (broken_pieces limit w) (w ∷ [])
+    (λ ps. (0 < length ps) × (last_space ps ≡ w.whitespace))
+    (λ wide.
     let some = broken_texts-some limit w.word measured.utf8
     (wide-some limit w measured (ltb-true limit w.width wide)) in (
       pieces_with-some w.whitespace w.penalty (broken_texts limit w.word) some,
-      pieces_with-ends w.whitespace w.penalty (broken_texts limit w.word) some,
-    )
-broken_word-ends limit w measured false fits = (omega arith, refl)
+      pieces_with-space w.whitespace w.penalty (broken_texts limit w.word) some,
+    )) (λ _. (omega arith, refl))
 
 pub broken_words-ends : (limit : ℕ) (words : List WordText) → All IsMeasured words
     → All (EndsAs (broken_word limit)) words
 broken_words-ends limit words measured =
     All-weaker IsMeasured (EndsAs (broken_word limit))
-    (λ w m. let ends = broken_word-ends limit w m (ltb limit w.width) refl in
-    record { some = ends.0; space = ends.1 }) words measured
+    (λ w m. let ends = broken_word-ends limit w m in record { some = ends.0; space = ends.1 })
+    words measured

@@ -1,16 +1,15 @@
 -- Lemmas on lines that keep to the width, their indents with them: those of a paragraph whose first
 -- line is divided for the width that its own indent leaves.
-use Rattle.textwrap_base.proofs.Common.{◌≡◌, ℕ, ◌+◌, ◌<◌, ◌≤◌, Bool, true, false, ◌&&◌, ◌==◌}
-use Rattle.textwrap_base.proofs.Common.{nat_lt, List, [], ◌∷◌, All, length, cond, inl, inr, ⊎_elim}
-use Rattle.textwrap_base.proofs.Common.{ap, ◌∙◌, arith, and_parts, cases_lt, eqb-true}
-use Rattle.textwrap_base.proofs.Common.{nil_from_length, All-nil, All-cons, closed_width}
+use Rattle.textwrap_base.proofs.Common.{◌≡◌, ℕ, ◌+◌, ◌<◌, ◌≤◌, Bool, true, false, ◌&&◌, List, []}
+use Rattle.textwrap_base.proofs.Common.{◌∷◌, All, cond, inl, inr, ⊎_elim, ap, ◌∙◌, arith, cases_lt}
+use Rattle.textwrap_base.proofs.Common.{All-nil, All-cons, closed_width}
 use Rattle.textwrap_words.proofs.Common.{text_width, WordText, sizes_of, word_of}
 use Rattle.textwrap_lines.proofs.Common.{Settings, OnlyCharactersPass, KeepsToWidth, first_width}
 use Rattle.textwrap_lines.proofs.Common.{later_width, width_after, widths_of, LineParts, indent_of}
-use Rattle.textwrap_lines.proofs.Common.{is_whole, parts_of, parts_from}
+use Rattle.textwrap_lines.proofs.Common.{is_whole, parts_of, parts_from, IsOneCharacter}
 use Rattle.textwrap_words.proofs.Word.Measured.{text_width-nil}
-use Rattle.textwrap_lines.specs.Paragraph.{IsOneCharacter}
 use Rattle.textwrap_lines.proofs.Paragraph.PassingLines.{later_is}
+use Rattle.textwrap_lines.proofs.Paragraph.WholeLine.{whole_unindented}
 
 module _ (settings : Settings) where
   abbrev pub Keeps : LineParts → Type 0
@@ -68,11 +67,7 @@ module _ (settings : Settings) where
       → closed_width sizes_of (word_of paragraph ∷ []) ≤ settings.width
       → All Keeps (parts_from settings is_later ((word_of paragraph ∷ []) ∷ []))
   whole-even is_later paragraph whole within =
-      let tests = and_parts (length (indent_of settings is_later) == 0)
-      (nat_lt (length paragraph) settings.width) whole in
-      let empty = nil_from_length (indent_of settings is_later)
-      (eqb-true (length (indent_of settings is_later)) 0 tests.0) in
-      let none : text_width (indent_of settings is_later) ≡ 0 = ap text_width empty
-      ∙ text_width-nil in
+      let none : text_width (indent_of settings is_later) ≡ 0 =
+      ap text_width (whole_unindented settings is_later paragraph whole) ∙ text_width-nil in
       All-cons Keeps (parts_of settings is_later (word_of paragraph ∷ [])) []
       (inl (omega (arith, none, within))) (All-nil Keeps)

@@ -6,17 +6,17 @@ use Rattle.textwrap_words.proofs.Common.{IsNarrow, WordText, sizes_of, word_of, 
 use Rattle.textwrap_words.proofs.Common.{ends_in_hyphen, AreCuts}
 use Rattle.textwrap_lines.proofs.Common.{LineParts, parts_from, is_whole, widths_of, IsDividedInto}
 use Rattle.textwrap_lines.proofs.Common.{AreIndented, AreParagraphParts, OnlyCharactersPass}
-use Rattle.textwrap_lines.proofs.Common.{KeepsToWidth, Settings}
+use Rattle.textwrap_lines.proofs.Common.{KeepsToWidth, Settings, KeepToWidths}
 use Rattle.textwrap_lines.proofs.Paragraph.Kept.{parts_from-pieces, parts_from-indented}
 use Rattle.textwrap_lines.proofs.Paragraph.Kept.{HasNoHyphen, parts_from-no_hyphen}
 use Rattle.textwrap_lines.proofs.Paragraph.Kept.{whole_line-within}
 use Rattle.textwrap_base.proofs.Lists.Parts.{flat, all-left, Begins}
 use Rattle.textwrap_words.proofs.Word.Measured.{HasNoPenalty}
-use Rattle.textwrap_lines.specs.Paragraph.{KeepToWidths}
 use Rattle.textwrap_lines.proofs.Paragraph.EvenLines.{division-even, whole-even}
 use Rattle.textwrap_lines.proofs.Paragraph.LongLines.{long_lines}
 use Rattle.textwrap_words.proofs.Word.Pieces.{AreTexts}
 use Rattle.textwrap_lines.proofs.Paragraph.GivenPieces.{pieces-no_penalty}
+use Rattle.textwrap_lines.proofs.Paragraph.WholeLine.{laid_out-cases}
 
 module _ (settings : Settings) (Words : List ℕ → List WordText → Type 0)
     (Points : List ℕ → List ℕ → Type 0)
@@ -35,15 +35,10 @@ module _ (settings : Settings) (Words : List ℕ → List WordText → Type 0)
       let lines : length parts ≡ length division =
       sym (length-map parts (λ p. p.pieces)) ∙ ap (λ ps. length (map (λ p. p.pieces) ps)) is
       ∙ ap length (parts_from-pieces settings is_later division) in
-      omega (arith, lines, some (is_whole settings is_later paragraph) laid_out)
-    where
-      some : (whole : Bool)
-          → MatchBool whole (division ≡ (word_of paragraph ∷ []) ∷ [])
-          (Divides is_later paragraph division)
-          → 0 < length division
-      some true one = omega (arith, ap length one)
-      some false (pieces, are, divided) =
-          divided-some (widths_of settings is_later) pieces division divided
+      let some = laid_out-cases (λ d. 0 < length d) paragraph _ division (omega arith)
+      (λ (pieces, are, divided). divided-some (widths_of settings is_later) pieces division divided)
+      (is_whole settings is_later paragraph) laid_out in
+      omega (arith, lines, some)
 
   pub paragraph-indented : (is_later : Bool) (paragraph : List ℕ) (parts : List LineParts)
       → IsUtf8 paragraph → AreParts is_later paragraph parts
@@ -64,18 +59,14 @@ module _ (settings : Settings) (Words : List ℕ → List WordText → Type 0)
     paragraph-no_hyphen hyphens is_later paragraph parts utf8 (division, laid_out, is) =
         subst (All HasNoHyphen) (sym is)
         (parts_from-no_hyphen settings is_later division
-        (none (is_whole settings is_later paragraph) laid_out))
-      where
-        none : (whole : Bool)
-            → MatchBool whole (division ≡ (word_of paragraph ∷ []) ∷ [])
-            (Divides is_later paragraph division) → All HasNoPenalty (flat division)
-        none true one = subst (λ d. All HasNoPenalty (flat d)) (sym one)
-            (All-cons HasNoPenalty (word_of paragraph) [] refl (All-nil HasNoPenalty))
-        none false (pieces, are, divided) =
-            let (rest, whole) = begins (widths_of settings is_later) pieces division divided in
-            all-left HasNoPenalty (flat division) rest
-            (subst (All HasNoPenalty) (sym whole)
-            (pieces-no_penalty settings Words Points texts cuts hyphens paragraph pieces utf8 are))
+        (laid_out-cases (λ d. All HasNoPenalty (flat d)) paragraph _ division
+        (All-cons HasNoPenalty (word_of paragraph) [] refl (All-nil HasNoPenalty))
+        (λ (pieces, are, divided).
+        let (rest, whole) = begins (widths_of settings is_later) pieces division divided in
+        all-left HasNoPenalty (flat division) rest
+        (subst (All HasNoPenalty) (sym whole)
+        (pieces-no_penalty settings Words Points texts cuts hyphens paragraph pieces utf8 are)))
+        (is_whole settings is_later paragraph) laid_out))
 
     pub paragraph-keeps : ((text points : List ℕ) → Points text points
         → All (λ p. ends_in_hyphen (take p text) ≡ true) points)

@@ -56,12 +56,7 @@ covered-tiled ws text space tile =
     let whole : covered ws ++ blanks ≡ text =
     ap (λ l. covered ws ++ l) (sym space) ∙ covered-space ws ∙ tile in
     let len : length (covered ws) ≡ trimmed_len text =
-    omega (
-      arith,
-      ap length whole,
-      length-append (covered ws) blanks,
-      length-drop (trimmed_len text) text,
-    ) in
+    omega (arith, ap length whole, length-append (covered ws) blanks, length-drop {A = ℕ}) in
     sym (take_at (covered ws) blanks (trimmed_len text) len) ∙ ap (take (trimmed_len text)) whole
 
 pub covered-words_of : (line : List ℕ) → covered (words_of line) ≡ without_final_blanks line

@@ -5,12 +5,11 @@ use Rattle.textwrap_base.proofs.Common.{append-nil, take-append-drop, flat_map, 
 use Rattle.textwrap_base.proofs.Common.{All-cons, All-head, All-tail}
 use Rattle.textwrap_words.proofs.Common.{WordText, tile_of, tiled, word_of, trimmed_len}
 use Rattle.textwrap_lines.proofs.Common.{Settings, LineParts, covered, indent_of, keeps_whitespace}
-use Rattle.textwrap_lines.proofs.Common.{last_piece, parts_of, parts_from}
+use Rattle.textwrap_lines.proofs.Common.{last_piece, parts_of, parts_from, covered_by}
 use Rattle.textwrap_words.proofs.Word.Texts.{AreBlanks, final_blanks-blank}
 use Rattle.textwrap_words.proofs.Word.Measured.{EndsInBlanks, no_blanks}
 use Rattle.textwrap_base.proofs.Lists.Parts.{all-left, all-right}
 use Rattle.textwrap_words.proofs.Word.Tiling.{tiled-append}
-use Rattle.textwrap_lines.specs.Text.{covered_by}
 
 -- only blanks are left off, and nothing where blanks are preserved
 pub record LeavesBlanks (settings : Settings) (p : LineParts) : Type 0 where
@@ -18,7 +17,7 @@ pub record LeavesBlanks (settings : Settings) (p : LineParts) : Type 0 where
   pub kept : settings.preserve_trailing_space ≡ true → p.left_off ≡ []
 
 -- the parts of a line, by whether its last whitespace is kept
-abbrev parts_keeping : Settings → Bool → List WordText → WordText → Bool → LineParts
+abbrev pub parts_keeping : Settings → Bool → List WordText → WordText → Bool → LineParts
 parts_keeping settings is_later line last keeps = record {
   pieces = line;
   indent = indent_of settings is_later;
@@ -33,19 +32,15 @@ covered-last w [] = sym (append-nil (tile_of w))
 covered-last w (v ∷ ws) = append_assoc (tile_of w) (covered (v ∷ ws)) (last_piece v ws).whitespace
     ∙ ap (λ l. tile_of w ++ l) (covered-last v ws)
 
-tile-keeping : (settings : Settings) (is_later : Bool) (w : WordText) (ws : List WordText)
-    (keeps : Bool)
-    → (parts_keeping settings is_later (w ∷ ws) (last_piece w ws) keeps).slice ++
-    (parts_keeping settings is_later (w ∷ ws) (last_piece w ws) keeps).left_off ≡ tiled (w ∷ ws)
-tile-keeping settings is_later w ws true = append-nil (tiled (w ∷ ws))
-tile-keeping settings is_later w ws false = covered-last w ws
-
 parts_of-tile : (settings : Settings) (is_later : Bool) (line : List WordText)
     → (parts_of settings is_later line).slice ++ (parts_of settings is_later line).left_off
     ≡ tiled line
 parts_of-tile settings is_later [] = refl
 parts_of-tile settings is_later (w ∷ ws) =
-    tile-keeping settings is_later w ws (keeps_whitespace settings (last_piece w ws))
+    let line = w ∷ ws in
+    elim (keeps_whitespace settings (last_piece w ws)) as (λ keeps. cond keeps (tiled line)
+    (covered line) ++ cond keeps [] (last_piece w ws).whitespace ≡ tiled line)
+    [ true ↦ append-nil (tiled line) | false ↦ covered-last w ws ]
 
 last_piece-blanks : (w : WordText) (ws : List WordText) → All EndsInBlanks (w ∷ ws)
     → EndsInBlanks (last_piece w ws)
@@ -57,12 +52,11 @@ keeping-blanks : (settings : Settings) (is_later : Bool) (line : List WordText) 
     → LeavesBlanks settings (parts_keeping settings is_later line last keeps)
 keeping-blanks settings is_later line last ending true is =
     record { blanks = no_blanks; kept = λ _. refl }
-keeping-blanks settings is_later line last ending false is =
-    record {
-      blanks = ending.blanks;
-      kept = λ preserved. ending.none
-          (ap (λ b. b && (length last.penalty == 0)) (sym preserved) ∙ is);
-    }
+keeping-blanks settings is_later line last ending false is = record {
+  blanks = ending.blanks;
+  kept = λ preserved. ending.none
+      (ap (λ b. b && (length last.penalty == 0)) (sym preserved) ∙ is);
+}
 
 parts_of-blanks : (settings : Settings) (is_later : Bool) (line : List WordText)
     → All EndsInBlanks line → LeavesBlanks settings (parts_of settings is_later line)

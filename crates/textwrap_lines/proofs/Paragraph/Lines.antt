@@ -4,8 +4,7 @@ use Rattle.textwrap_base.proofs.Common.{length, map, refl, sym, ap, ◌∙◌, a
 use Rattle.textwrap_base.proofs.Common.{nat_tests, map-append, total_width}
 use Rattle.textwrap_words.proofs.Common.{WordText, word_view, sizes_of, tiled, Tiles, MayDivide}
 use Rattle.textwrap_lines.proofs.Common.{Settings, parts_of, parts_from, ArePieces, widths_of}
-use Rattle.textwrap_lines.proofs.Common.{IsDividedInto, AreDividedParts}
-use Rattle.textwrap_words.specs.declared.words.Word.{Word}
+use Rattle.textwrap_lines.proofs.Common.{IsDividedInto, AreDividedParts, Word}
 use Rattle.textwrap_words.specs.declared.wrap_algorithms.WrapAlgorithm.{WrapAlgorithm}
 use Rattle.textwrap_words.proofs.Word.Divisions.{MayDivide-map}
 use Rattle.textwrap_base.proofs.Cost.Measures.{total_width-same}

@@ -8,16 +8,13 @@ use Rattle.textwrap_base.proofs.Common.{Overflowed, Sizes}
 use Rattle.textwrap_words.proofs.Common.{word_view, sizes_of, Tiles, LeastCost, algorithm_view}
 use Rattle.textwrap_words.proofs.Common.{MaySeparate, MaySplit, splitter_view}
 use Rattle.textwrap_lines.proofs.Common.{MayOverflow, settings_view, ArePieces, LineParts}
-use Rattle.textwrap_lines.proofs.Common.{line_view, line_from}
+use Rattle.textwrap_lines.proofs.Common.{line_view, line_from, Penalties, Word, Options}
 use Rattle.std.specs.Prelude.{IsSomeAnd, alloc_error}
 use Rattle.textwrap_base.specs.Errors.{Fits64Bits}
 use Rattle.textwrap_words.specs.WrapAlgorithms.{OverflowsBy}
 use Rattle.textwrap_base.specs.declared.errors.WrapError.{WrapError}
 use Rattle.textwrap_base.specs.declared.errors.WrapError.TheVariants.{Memory, Overflow}
-use Rattle.textwrap_base.specs.declared.penalties.Penalties.{Penalties}
-use Rattle.textwrap_words.specs.declared.words.Word.{Word}
 use Rattle.textwrap_lines.specs.Fuzzing.{AppendsLines}
-use Rattle.textwrap_lines.specs.declared.options.Options.{Options}
 use Rattle.textwrap_lines.proofs.Paragraph.Lines.{total_width-pieces}
 use Rattle.textwrap_lines.proofs.Paragraph.GivenPieces.{pieces-bounded}
 use Rattle.textwrap_words.proofs.Word.GivenCuts.{MaySeparate-texts, MaySplit-cuts, MaySplit-hyphens}

@@ -3,10 +3,9 @@ use Rattle.textwrap_base.proofs.Common.{◌≡◌, ℕ, ◌+◌, ◌<◌, ◌≤
 use Rattle.textwrap_base.proofs.Common.{length, get_or, refl, ap, subst, arith, take_all, All-head}
 use Rattle.textwrap_base.proofs.Common.{line_width, closed_width, Fits, AllFit}
 use Rattle.textwrap_words.proofs.Common.{WordText, sizes_of}
-use Rattle.textwrap_lines.proofs.Common.{empty_word, OnlyCharactersPass}
+use Rattle.textwrap_lines.proofs.Common.{empty_word, OnlyCharactersPass, IsOneCharacter}
 use Rattle.textwrap_words.proofs.Word.Overlong.{IsTight}
 use Rattle.textwrap_words.proofs.Word.Measured.{HasNoPenalty}
-use Rattle.textwrap_lines.specs.Paragraph.{IsOneCharacter}
 use Rattle.textwrap_base.proofs.Lists.Parts.{flat, all-left, all-right}
 
 -- two pieces or more never pass

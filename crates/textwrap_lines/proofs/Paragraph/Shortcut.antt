@@ -3,13 +3,12 @@
 use Rattle.textwrap_words.specs.declared.word_separators.WordSeparator as separators
 use Rattle.textwrap_words.specs.declared.word_splitters.WordSplitter as splitters
 use Rattle.textwrap_words.specs.declared.wrap_algorithms.WrapAlgorithm as algorithms
-use Rattle.textwrap_base.proofs.Common.{◌≡◌, ◌≢◌, ℕ, ◌≤◌, Bool, true, false, cond, ◌&&◌, ◌==◌}
-use Rattle.textwrap_base.proofs.Common.{nat_lt, MatchBool, List, [], ◌∷◌, length, map, refl, sym}
-use Rattle.textwrap_base.proofs.Common.{ap, ◌∙◌, subst, arith, IsUtf8, and_parts, eqb-true}
-use Rattle.textwrap_base.proofs.Common.{ltb-true, nil_from_length, All-weaker, closed_width, None}
+use Rattle.textwrap_base.proofs.Common.{◌≡◌, ◌≢◌, ℕ, ◌≤◌, Bool, true, false, ◌&&◌, ◌==◌, nat_lt}
+use Rattle.textwrap_base.proofs.Common.{MatchBool, List, [], ◌∷◌, length, map, refl, sym, ap, ◌∙◌}
+use Rattle.textwrap_base.proofs.Common.{subst, arith, IsUtf8, and_parts, ltb-true, All-weaker}
+use Rattle.textwrap_base.proofs.Common.{closed_width, None, Option, Some, cond_both}
 use Rattle.textwrap_words.proofs.Common.{text_width, IsNarrow, WordText, sizes_of, word_of}
-use Rattle.textwrap_words.proofs.Common.{MaySeparate, Splitter, Whole, AtHyphens, MaySplit}
-use Rattle.textwrap_words.proofs.Common.{splitter_view, Greedy, LeastCost, MayDivide}
+use Rattle.textwrap_words.proofs.Common.{MaySeparate, Splitter, MaySplit, splitter_view, MayDivide}
 use Rattle.textwrap_words.proofs.Common.{algorithm_view, Algorithm}
 use Rattle.textwrap_lines.proofs.Common.{Settings, Line, LineParts, line_from, indent_of, parts_of}
 use Rattle.textwrap_lines.proofs.Common.{pieces_of, widths_of, width_after, is_whole, first_width}
@@ -19,30 +18,24 @@ use Rattle.textwrap_base.proofs.Cost.OneLine.{IsDividedBy-one_line}
 use Rattle.textwrap_words.proofs.Word.Measured.{HasNoPenalty, text_width-nil}
 use Rattle.textwrap_lines.proofs.Paragraph.Pieces.{ArePieces-computed, pieces_of-no_penalty}
 use Rattle.textwrap_lines.proofs.Paragraph.OneLine.{closed-pieces_of, same_line}
+use Rattle.textwrap_lines.proofs.Paragraph.WholeLine.{whole_unindented}
+use Rattle.textwrap_lines.proofs.Paragraph.BuiltIn.{divided-as}
 
 -- ---- the shortcut
 
 -- without indents, a paragraph's first line has the whole width
 first_width-unindented : (settings : Settings) (is_later : Bool) → settings.initial_indent ≡ []
     → indent_of settings is_later ≡ [] → settings.width ≤ first_width settings is_later
-first_width-unindented settings false unindented none =
-    let narrow : text_width settings.initial_indent ≡ 0 = ap text_width unindented
-    ∙ text_width-nil in
-    elim settings.even_paragraphs as (λ b. settings.width ≤ cond (b && false) (later_width settings)
-    (width_after settings settings.initial_indent)) [
-      | true ↦ omega (arith, narrow)
-      | false ↦ omega (arith, narrow)
-    ]
-first_width-unindented settings true unindented none =
-    let narrow : text_width settings.initial_indent ≡ 0 = ap text_width unindented
-    ∙ text_width-nil in
-    let narrower : text_width settings.subsequent_indent ≡ 0 = ap text_width none
-    ∙ text_width-nil in
-    elim settings.even_paragraphs as (λ b. settings.width ≤ cond (b && true) (later_width settings)
-    (width_after settings settings.initial_indent)) [
-      | true ↦ omega (arith, narrower)
-      | false ↦ omega (arith, narrow)
-    ]
+first_width-unindented settings is_later unindented none =
+    cond_both (settings.even_paragraphs && is_later) (later_width settings)
+    (width_after settings settings.initial_indent) (λ n. settings.width ≤ n)
+    (λ both.
+    let later = (and_parts settings.even_paragraphs is_later both).1 in
+    let narrow : text_width settings.subsequent_indent ≡ 0 =
+    ap text_width (ap (indent_of settings) (sym later) ∙ none) ∙ text_width-nil in
+    omega (arith, narrow))
+    (λ _. let narrow : text_width settings.initial_indent ≡ 0 =
+    ap text_width unindented ∙ text_width-nil in omega (arith, narrow))
 
 module _ (settings : Settings) (algorithm : Algorithm) (splitter : Splitter) where
   -- the lines of a paragraph are those of a division of its pieces
@@ -61,8 +54,7 @@ module _ (settings : Settings) (algorithm : Algorithm) (splitter : Splitter) whe
       let pieces = pieces_of settings splitter paragraph in
       let tests = and_parts (length (indent_of settings is_later) == 0)
       (nat_lt (length paragraph) settings.width) whole in
-      let without = nil_from_length (indent_of settings is_later)
-      (eqb-true (length (indent_of settings is_later)) 0 tests.0) in
+      let without = whole_unindented settings is_later paragraph whole in
       let shorter = ltb-true (length paragraph) settings.width tests.1 in
       let wide = first_width-unindented settings is_later unindented without in
       let room : closed_width sizes_of pieces ≤ first_width settings is_later =
@@ -102,6 +94,14 @@ module _ (settings : Settings) (algorithm : Algorithm) (splitter : Splitter) whe
           (whole-divided is_later paragraph utf8 unindented narrow is_true)
       by_case false is_false divided = (parts, (division, divided, is), refl)
 
+-- the lines of a paragraph are those of a division too, where there are no indents
+abbrev IsDividedToo : Settings → (Bool → List ℕ → List (List WordText) → Type 0) → Type 0
+IsDividedToo settings Divides = (is_later : Bool) (paragraph : List ℕ) (parts : List LineParts)
+    → IsUtf8 paragraph → settings.initial_indent ≡ [] → IsNarrow paragraph
+    → AreParagraphParts settings Divides is_later paragraph parts
+    → (others : List LineParts) × AreDividedParts settings Divides is_later paragraph others
+    × (map line_from others ≡ map line_from parts)
+
 -- the same by the parts of any options, where they are built in
 module _ {E C : Type 0} {e : _} {c : _} (settings : Settings) where
   abbrev pub Divides : separators.WordSeparator C c → splitters.WordSplitter C c
@@ -113,28 +113,16 @@ module _ {E C : Type 0} {e : _} {c : _} (settings : Settings) where
   pub paragraph-divided-by : (separator : separators.WordSeparator C c)
       (splitter : splitters.WordSplitter C c) (algorithm : algorithms.WrapAlgorithm E e)
       → separator ≡ separators.TheVariants.AsciiSpace → splitter_view splitter ≢ None
-      → algorithm_view algorithm ≢ None → (is_later : Bool) (paragraph : List ℕ)
-      (parts : List LineParts) → IsUtf8 paragraph → settings.initial_indent ≡ []
-      → IsNarrow paragraph
-      → AreParagraphParts settings (Divides separator splitter algorithm) is_later paragraph parts
-      → (others : List LineParts)
-      × AreDividedParts settings (Divides separator splitter algorithm) is_later paragraph others
-      × (map line_from others ≡ map line_from parts)
-  paragraph-divided-by (separators.TheVariants.Custom given) splitter algorithm is s_built a_built =
-      cc
-  paragraph-divided-by separators.TheVariants.AsciiSpace (splitters.TheVariants.Custom given)
-      algorithm is s_built a_built = absurd (s_built refl)
-  paragraph-divided-by separators.TheVariants.AsciiSpace splitter
-      (algorithms.TheVariants.Custom given) is s_built a_built = absurd (a_built refl)
-  paragraph-divided-by separators.TheVariants.AsciiSpace splitters.TheVariants.NoHyphenation
-      algorithms.TheVariants.FirstFit is s_built a_built =
-      paragraph-divided settings Greedy Whole
-  paragraph-divided-by separators.TheVariants.AsciiSpace splitters.TheVariants.NoHyphenation
-      (algorithms.TheVariants.OptimalFit penalties) is s_built a_built =
-      paragraph-divided settings (LeastCost penalties) Whole
-  paragraph-divided-by separators.TheVariants.AsciiSpace splitters.TheVariants.HyphenSplitter
-      algorithms.TheVariants.FirstFit is s_built a_built =
-      paragraph-divided settings Greedy AtHyphens
-  paragraph-divided-by separators.TheVariants.AsciiSpace splitters.TheVariants.HyphenSplitter
-      (algorithms.TheVariants.OptimalFit penalties) is s_built a_built =
-      paragraph-divided settings (LeastCost penalties) AtHyphens
+      → algorithm_view algorithm ≢ None
+      → IsDividedToo settings (Divides separator splitter algorithm)
+  paragraph-divided-by separator splitter algorithm is s_built a_built =
+      by (splitter_view splitter) refl (algorithm_view algorithm) refl
+    where
+      by : (s : Option Splitter) → splitter_view splitter ≡ s → (a : Option Algorithm)
+          → algorithm_view algorithm ≡ a
+          → IsDividedToo settings (Divides separator splitter algorithm)
+      by None s_is a a_is = absurd (s_built s_is)
+      by (Some s) s_is None a_is = absurd (a_built a_is)
+      by (Some s) s_is (Some a) a_is = subst (IsDividedToo settings)
+          (sym (divided-as settings separator splitter algorithm s a is s_is a_is))
+          (paragraph-divided settings a s)

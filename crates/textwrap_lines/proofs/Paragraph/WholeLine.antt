@@ -10,18 +10,6 @@ use Rattle.textwrap_lines.proofs.Common.{AreDividedParts, AreParagraphParts}
 use Rattle.textwrap_lines.proofs.Paragraph.LeftOff.{tiled-word_of}
 use Rattle.textwrap_words.proofs.Word.Measured.{HasNoPenalty}
 
-line_keeping : (indent tile cover : List ℕ) (last : WordText) (preserves : Bool) → indent ≡ []
-    → HasNoPenalty last
-    → assembled_line indent (cond (preserves && (length last.penalty == 0)) tile cover) last.penalty
-    ≡ Slice (cond preserves tile cover)
-line_keeping indent tile cover last true none_before none =
-    ap (λ i. assembled_line i (cond (true && (length last.penalty == 0)) tile cover) last.penalty)
-    none_before
-    ∙ ap (λ p. assembled_line [] (cond (true && (length p == 0)) tile cover) p) none
-line_keeping indent tile cover last false none_before none =
-    ap (λ i. assembled_line i cover last.penalty) none_before
-    ∙ ap (λ p. assembled_line [] cover p) none
-
 pub last_piece-no_penalty : (w : WordText) (ws : List WordText) → All HasNoPenalty (w ∷ ws)
     → HasNoPenalty (last_piece w ws)
 last_piece-no_penalty w [] all = All-head HasNoPenalty w [] all
@@ -35,18 +23,16 @@ pub assembled-parts : (settings : Settings) (is_later : Bool) (w : WordText) (ws
     (cond settings.preserve_trailing_space (tiled (w ∷ ws)) (covered (w ∷ ws))) []
     ≡ line_from (parts_of settings is_later (w ∷ ws))
 assembled-parts settings is_later w ws none =
-    kept settings.preserve_trailing_space
-    ∙ ap (λ p. assembled_line (indent_of settings is_later)
-    (cond (settings.preserve_trailing_space && (length p == 0)) (tiled (w ∷ ws)) (covered (w ∷ ws)))
-    p) (sym (last_piece-no_penalty w ws none))
-  where
-    kept : (keeps : Bool)
-        → assembled_line (indent_of settings is_later)
-        (cond keeps (tiled (w ∷ ws)) (covered (w ∷ ws))) []
-        ≡ assembled_line (indent_of settings is_later)
-        (cond (keeps && (length {A = ℕ} [] == 0)) (tiled (w ∷ ws)) (covered (w ∷ ws))) []
-    kept true = refl
-    kept false = refl
+    let indent = indent_of settings is_later in
+    let tile = tiled (w ∷ ws) in
+    let cover = covered (w ∷ ws) in
+    (elim settings.preserve_trailing_space as (λ keeps. assembled_line indent
+    (cond keeps tile cover) []
+    ≡ assembled_line indent (cond (keeps && (length {A = ℕ} [] == 0)) tile cover) [])
+    [ true ↦ refl | false ↦ refl ])
+    ∙ ap (λ p. assembled_line indent
+    (cond (settings.preserve_trailing_space && (length p == 0)) tile cover) p)
+    (sym (last_piece-no_penalty w ws none))
 
 -- pieces without penalties on a line without indent
 pub line_from-pieces : (settings : Settings) (is_later : Bool) (ws : List WordText)
@@ -57,11 +43,11 @@ line_from-pieces settings is_later [] unindented none =
     elim settings.preserve_trailing_space as (λ b. Slice [] ≡ Slice (cond b [] []))
     [ true ↦ refl | false ↦ refl ]
 line_from-pieces settings is_later (w ∷ ws) unindented none =
-    line_keeping (indent_of settings is_later) (tiled (w ∷ ws)) (covered (w ∷ ws))
-    (last_piece w ws) settings.preserve_trailing_space unindented
-    (last_piece-no_penalty w ws none)
+    sym (assembled-parts settings is_later w ws none)
+    ∙ ap (λ i. assembled_line i
+    (cond settings.preserve_trailing_space (tiled (w ∷ ws)) (covered (w ∷ ws))) []) unindented
 
-whole_unindented : (settings : Settings) (is_later : Bool) (paragraph : List ℕ)
+pub whole_unindented : (settings : Settings) (is_later : Bool) (paragraph : List ℕ)
     → is_whole settings is_later paragraph ≡ true → indent_of settings is_later ≡ []
 whole_unindented settings is_later paragraph whole =
     nil_from_length (indent_of settings is_later) (eqb-true (length (indent_of settings is_later)) 0
@@ -78,6 +64,14 @@ line_from-whole settings is_later paragraph whole =
     (All-cons HasNoPenalty (word_of paragraph) [] refl (All-nil HasNoPenalty))
     ∙ ap (λ tile. Slice (cond settings.preserve_trailing_space tile
     (without_final_blanks paragraph))) (tiled-word_of paragraph)
+
+-- what holds of the line of the whole paragraph, and of the divisions, holds of the lines
+pub laid_out-cases : (P : List (List WordText) → Type 0) (paragraph : List ℕ) (Divided : Type 0)
+    (division : List (List WordText)) → P ((word_of paragraph ∷ []) ∷ []) → (Divided → P division)
+    → (whole : Bool) → MatchBool whole (division ≡ (word_of paragraph ∷ []) ∷ []) Divided
+    → P division
+laid_out-cases P paragraph Divided division one divided true is = subst P (sym is) one
+laid_out-cases P paragraph Divided division one divided false is = divided is
 
 pub AreParagraphParts-whole : (settings : Settings) (Divides : Bool → List ℕ
     → List (List WordText) → Type 0) (is_later : Bool) (paragraph : List ℕ)

@@ -10,41 +10,25 @@ use Rattle.textwrap_words.proofs.Word.Breaking.{taken_units, left_units, parts_a
 use Rattle.textwrap_words.proofs.Word.Breaking.{is_due-first, due-false, due-true}
 use Rattle.textwrap_words.proofs.Word.PieceTexts.{units_text-chars}
 
--- a part with some columns takes bytes up to the limit
-left-printable : (limit width : ℕ) (cs : List ℕ) → IsPrintable cs → 0 < width
+-- a part with some columns takes bytes up to the limit, and leaves the others
+part-printable : (limit width : ℕ) (cs : List ℕ) → IsPrintable cs → 0 < width
     → (room : ℕ) → width + room ≡ limit
-    → left_units limit width (map Visible cs) ≡ map Visible (drop room cs)
-left-printable limit width [] printable some zero is = refl
-left-printable limit width [] printable some (suc room) is = refl
-left-printable limit width (c ∷ cs) printable some zero is =
+    → (taken_units limit width (map Visible cs) ≡ map Visible (take room cs))
+    × (left_units limit width (map Visible cs) ≡ map Visible (drop room cs))
+part-printable limit width [] printable some zero is = (refl, refl)
+part-printable limit width [] printable some (suc room) is = (refl, refl)
+part-printable limit width (c ∷ cs) printable some zero is =
     let one = columns-printable c (All-head IsPrintableByte c cs printable) in
-    rw (due-true limit width c some (omega (arith, one, is))) refl
-left-printable limit width (c ∷ cs) printable some (suc room) is =
+    rw (due-true limit width c some (omega (arith, one, is))) (refl, refl)
+part-printable limit width (c ∷ cs) printable some (suc room) is =
     let one = columns-printable c (All-head IsPrintableByte c cs printable) in
     let next : width + columns c ≡ suc width = omega (arith, one) in
-    let rest =
-    left-printable limit (suc width) cs (All-tail IsPrintableByte c cs printable) (omega arith) room
-    (omega (arith, is)) in
-    rw (due-false limit width c (λ _. omega (arith, one, is)))
-    (ap (λ n. left_units limit n (map Visible cs)) next ∙ rest)
-
-taken-printable : (limit width : ℕ) (cs : List ℕ) → IsPrintable cs → 0 < width
-    → (room : ℕ) → width + room ≡ limit
-    → taken_units limit width (map Visible cs) ≡ map Visible (take room cs)
-taken-printable limit width [] printable some zero is = refl
-taken-printable limit width [] printable some (suc room) is = refl
-taken-printable limit width (c ∷ cs) printable some zero is =
-    let one = columns-printable c (All-head IsPrintableByte c cs printable) in
-    rw (due-true limit width c some (omega (arith, one, is))) refl
-taken-printable limit width (c ∷ cs) printable some (suc room) is =
-    let one = columns-printable c (All-head IsPrintableByte c cs printable) in
-    let next : width + columns c ≡ suc width = omega (arith, one) in
-    let rest =
-    taken-printable limit (suc width) cs (All-tail IsPrintableByte c cs printable)
-    (omega arith) room
-    (omega (arith, is)) in
-    rw (due-false limit width c (λ _. omega (arith, one, is)))
-    (ap (λ us. Visible c ∷ us) (ap (λ n. taken_units limit n (map Visible cs)) next ∙ rest))
+    let rest = part-printable limit (suc width) cs (All-tail IsPrintableByte c cs printable)
+    (omega arith) room (omega (arith, is)) in
+    rw (due-false limit width c (λ _. omega (arith, one, is))) (
+      ap (λ us. Visible c ∷ us) (ap (λ n. taken_units limit n (map Visible cs)) next ∙ rest.0),
+      ap (λ n. left_units limit n (map Visible cs)) next ∙ rest.1,
+    )
 
 units_text-printable : (text : List ℕ) → IsPrintable text → units_text (map Visible text) ≡ text
 units_text-printable text printable = ap units_text (sym (units_of-printable text printable))
@@ -61,24 +45,22 @@ broken_texts-printable (suc n) (c ∷ cs) printable room some =
     let text = c ∷ cs in
     let one = columns-printable c (All-head IsPrintableByte c cs printable) in
     let first : 0 + columns c ≡ 1 = omega (arith, one) in
-    let rest = All-tail IsPrintableByte c cs printable in
+    let rest = part-printable limit 1 cs (All-tail IsPrintableByte c cs printable) (omega arith) n
+    (omega arith) in
     let front = All-take IsPrintableByte limit text printable in
     let taken : taken_units limit 0 (map Visible text) ≡ map Visible (take limit text) =
     rw (is_due-first limit (Visible c))
     (ap (λ us. Visible c ∷ us) (ap (λ k. taken_units limit k (map Visible cs)) first
-    ∙ taken-printable limit 1 cs rest (omega arith) n (omega arith))) in
+    ∙ rest.0)) in
     let left : left_units limit 0 (map Visible text) ≡ map Visible (drop limit text) =
     rw (is_due-first limit (Visible c))
-    (ap (λ k. left_units limit k (map Visible cs)) first
-    ∙ left-printable limit 1 cs rest (omega arith) n (omega arith)) in
+    (ap (λ k. left_units limit k (map Visible cs)) first ∙ rest.1) in
     let parts : broken_units limit (map Visible text)
     ≡ map Visible (take limit text) ∷ broken_units limit (map Visible (drop limit text)) =
     parts_after-is limit 0 (map Visible text)
-    ∙ ap (λ us. us ∷ broken_units limit (left_units limit 0 (map Visible text))) taken
-    ∙ ap (λ us. map Visible (take limit text) ∷ broken_units limit us) left in
-    ap (λ us. map units_text (broken_units limit us)) (units_of-printable text printable)
-    ∙ ap (map units_text) parts
-    ∙ ap (λ t. t ∷ map units_text (broken_units limit (map Visible (drop limit text))))
-    (units_text-printable (take limit text) front)
-    ∙ ap (λ us. take limit text ∷ map units_text (broken_units limit us))
-    (sym (units_of-printable (drop limit text) (All-drop IsPrintableByte limit text printable)))
+    ∙ cc in
+    let whole = units_of-printable text printable in
+    let first_part = units_text-printable (take limit text) front in
+    let others =
+    units_of-printable (drop limit text) (All-drop IsPrintableByte limit text printable) in
+    ap (map units_text) (ap (broken_units limit) whole ∙ parts) ∙ cc

@@ -1,32 +1,20 @@
 -- The pieces of a printable paragraph are those of the settings, and so are its lines.
-use Rattle.textwrap_base.proofs.Common.{◌≡◌, ℕ, Bool, true, false, cond, ◌==◌, ◌&&◌, List, [], ◌∷◌}
-use Rattle.textwrap_base.proofs.Common.{◌++◌, All, length, map, refl, sym, ap, ◌∙◌, arith, ◌||◌}
-use Rattle.textwrap_base.proofs.Common.{onto_first}
-use Rattle.textwrap_words.proofs.Common.{broken_words, text_width, WordText, tiled, word_of, is_cut}
-use Rattle.textwrap_words.proofs.Common.{chunks, words_of, Splitter, Whole, AtHyphens, split_words}
+use Rattle.textwrap_base.proofs.Common.{◌≡◌, ℕ, Bool, true, false, cond, ◌&&◌, List, [], ◌∷◌, All}
+use Rattle.textwrap_base.proofs.Common.{map, refl, sym, ap, ◌∙◌, arith}
+use Rattle.textwrap_words.proofs.Common.{broken_words, text_width, WordText, tiled, word_of, chunks}
+use Rattle.textwrap_words.proofs.Common.{words_of, Splitter, Whole, AtHyphens, split_words}
 use Rattle.textwrap_lines.proofs.Common.{Settings, covered, Slice, line_from, parts_from, indent_of}
 use Rattle.textwrap_lines.proofs.Common.{widths_of, width_after, later_width, first_width}
-use Rattle.textwrap_lines.proofs.Common.{pieces_of, empty_word, front_pieces, IsPrintable, parts}
-use Rattle.textwrap_lines.proofs.Common.{pieces_after, printable_cut}
+use Rattle.textwrap_lines.proofs.Common.{pieces_of, IsPrintable, parts, pieces_after, printable_cut}
 use Rattle.textwrap_base.proofs.Lists.Parts.{flat, all-left, all-right}
 use Rattle.textwrap_words.proofs.Word.Measured.{HasNoPenalty, text_width-nil}
 use Rattle.textwrap_lines.specs.Direct.{HasBareLines, hyphens_of}
 use Rattle.textwrap_lines.proofs.Paragraph.WholeLine.{line_from-pieces}
+use Rattle.textwrap_lines.proofs.Paragraph.LastWord.{chunks-parts}
 use Rattle.textwrap_lines.proofs.PrintableTexts.Lines.{one_width}
 use Rattle.textwrap_lines.proofs.PrintableTexts.Hyphens.{split-hyphens}
 
 -- ---- without hyphens
-
-chunks-parts : (a : ℕ) (text : List ℕ) → chunks text ≡ parts (printable_cut false) a text
-chunks-parts a [] = refl
-chunks-parts a (b ∷ []) = refl
-chunks-parts a (b ∷ c ∷ cs) =
-    elim (is_cut b c) as (λ t. cond t ((b ∷ []) ∷ chunks (c ∷ cs)) (onto_first b (chunks (c ∷ cs)))
-    ≡ cond (t || false) ((b ∷ []) ∷ parts (printable_cut false) b (c ∷ cs))
-    (onto_first b (parts (printable_cut false) b (c ∷ cs)))) [
-      | true ↦ ap (λ ps. (b ∷ []) ∷ ps) (chunks-parts b (c ∷ cs))
-      | false ↦ ap (onto_first b) (chunks-parts b (c ∷ cs))
-    ]
 
 pub split-whole : (ps : List (List ℕ)) → split_words Whole (map word_of ps) ≡ map word_of ps
 split-whole [] = refl
@@ -51,12 +39,11 @@ pub pieces_of-bare : (settings : Settings) (splitter : Splitter) (text : List �
     → HasBareLines settings → pieces_of settings splitter text
     ≡ broken_words settings.width (split_words splitter (words_of text))
 pieces_of-bare settings splitter text fit =
-    let limit = later_width settings in
-    let split = split_words splitter (words_of text) in
-    ap (λ b. cond b (front_pieces settings ++ broken_words limit split) split) fit.breaks
-    ∙ ap (λ i. cond (length i == 0) [] (empty_word ∷ []) ++ broken_words limit split) fit.initial
-    ∙ ap (λ n. broken_words n split)
-    (width_after-none settings settings.subsequent_indent fit.subsequent)
+    rw (
+      fit.breaks,
+      fit.initial,
+      width_after-none settings settings.subsequent_indent fit.subsequent,
+    ) refl
 
 first_width-bare : (settings : Settings) (is_later : Bool) → HasBareLines settings
     → first_width settings is_later ≡ settings.width
@@ -70,9 +57,10 @@ first_width-bare settings is_later fit =
 pub widths_of-bare : (settings : Settings) (is_later : Bool) → HasBareLines settings
     → widths_of settings is_later ≡ one_width settings.width
 widths_of-bare settings is_later fit =
-    ap (λ n. n ∷ later_width settings ∷ []) (first_width-bare settings is_later fit)
-    ∙ ap (λ n. settings.width ∷ n ∷ [])
-    (width_after-none settings settings.subsequent_indent fit.subsequent)
+    cc (
+      first_width-bare settings is_later fit,
+      width_after-none settings settings.subsequent_indent fit.subsequent,
+    )
 
 -- ---- the lines
 

@@ -1,9 +1,9 @@
 -- How wide the first piece of a printable text is, and a word that is broken.
-use Rattle.textwrap_base.proofs.Common.{◌≡◌, ◌≢◌, ℕ, ◌<◌, ◌≤◌, Bool, true, false, cond, List, []}
-use Rattle.textwrap_base.proofs.Common.{◌∷◌, ◌++◌, length, take, drop, refl, ap, ◌∙◌, arith}
-use Rattle.textwrap_base.proofs.Common.{length-append, length-drop, take-append-add, lt-ltb}
-use Rattle.textwrap_base.proofs.Common.{ltb-true, ltb-false, take_at, drop_at, take_all, drop_all}
-use Rattle.textwrap_base.proofs.Common.{length-take-le, All-take, All-drop, All-append}
+use Rattle.textwrap_base.proofs.Common.{◌≡◌, ◌≢◌, ℕ, ◌<◌, ◌≤◌, true, cond, List, [], ◌∷◌, ◌++◌}
+use Rattle.textwrap_base.proofs.Common.{length, take, drop, refl, ap, ◌∙◌, arith, length-append}
+use Rattle.textwrap_base.proofs.Common.{length-drop, take-append-add, lt-ltb, ltb-true, ltb-false}
+use Rattle.textwrap_base.proofs.Common.{take_at, drop_at, take_all, drop_all, length-take-le}
+use Rattle.textwrap_base.proofs.Common.{All-take, All-drop, All-append, cond_both}
 use Rattle.textwrap_words.proofs.Common.{trimmed_len, without_final_blanks, final_blanks}
 use Rattle.textwrap_words.proofs.Common.{broken_texts, broken_word, broken_words, broken_pieces}
 use Rattle.textwrap_words.proofs.Common.{pieces_with, text_width, piece, WordText, word_of}
@@ -23,16 +23,13 @@ pub record BeginsWide (n : ℕ) (pieces : List WordText) : Type 0 where
   pub are : pieces ≡ first ∷ others
   pub wide : n ≤ first.width
 
-pub begins_wide-step : (limit n : ℕ) (w : WordText) (ws : List WordText) (t : Bool) → 0 < limit
-    → n ≤ limit → IsPrintable w.word → w.width ≡ length w.word → n ≤ length w.word
-    → ltb limit w.width ≡ t → BeginsWide n (broken_words limit (w ∷ ws))
-begins_wide-step limit n w ws false room within printable width long is = record {
-  first = w;
-  others = broken_words limit ws;
-  are = ap (λ b. cond b (broken_pieces limit w) (w ∷ []) ++ broken_words limit ws) is;
-  wide = omega (arith, width, long);
-}
-begins_wide-step limit n w ws true room within printable width long is =
+pub begins_wide-step : (limit n : ℕ) (w : WordText) (ws : List WordText) → 0 < limit → n ≤ limit
+    → IsPrintable w.word → w.width ≡ length w.word → n ≤ length w.word
+    → BeginsWide n (broken_words limit (w ∷ ws))
+begins_wide-step limit n w ws room within printable width long =
+    cond_both (ltb limit w.width) (broken_pieces limit w) (w ∷ [])
+    (λ ps. BeginsWide n (ps ++ broken_words limit ws))
+    (λ is.
     let wider = ltb-true limit w.width is in
     let front = take limit w.word in
     let back = drop limit w.word in
@@ -48,21 +45,28 @@ begins_wide-step limit n w ws true room within printable width long is =
       first = piece front [] [];
       others = pieces_with w.whitespace w.penalty (broken_texts limit back)
           ++ broken_words limit ws;
-      are = ap (λ b. cond b (broken_pieces limit w) (w ∷ []) ++ broken_words limit ws) is
-          ∙ ap (λ ts. pieces_with w.whitespace w.penalty ts ++ broken_words limit ws) texts
+      are = ap (λ ts. pieces_with w.whitespace w.penalty ts ++ broken_words limit ws) texts
           ∙ ap (λ vs. vs ++ broken_words limit ws)
           (pieces_with-more w.whitespace w.penalty front (broken_texts limit back) some);
       wide = omega (arith, within, front_len, front_width);
-    }
+    })
+    (λ _. record {
+      first = w;
+      others = broken_words limit ws;
+      are = refl;
+      wide = omega (arith, width, long);
+    })
 
 -- the pieces of a word, whether it is wider than the limit or not
-word_of-same : (limit : ℕ) (p : List ℕ) → IsPrintable p → 0 < limit → 0 < trimmed_len p → (t : Bool)
-    → ltb limit (word_of p).width ≡ t
+word_of-same : (limit : ℕ) (p : List ℕ) → IsPrintable p → 0 < limit → 0 < trimmed_len p
     → pieces_with (final_blanks p) [] (broken_texts limit (without_final_blanks p))
-    ≡ cond t (broken_pieces limit (word_of p)) (word_of p ∷ [])
-word_of-same limit p printable room some true is = refl
-word_of-same limit p printable room some false is =
+    ≡ broken_word limit (word_of p)
+word_of-same limit p printable room some =
     let word = without_final_blanks p in
+    let pieces = pieces_with (final_blanks p) [] (broken_texts limit word) in
+    cond_both (ltb limit (word_of p).width) (broken_pieces limit (word_of p)) (word_of p ∷ [])
+    (λ ps. pieces ≡ ps) (λ _. refl)
+    (λ is.
     let word_printable = All-take IsPrintableByte (trimmed_len p) p printable in
     let len : length word ≡ trimmed_len p = length-take-le (trimmed_len p) p (omega arith) in
     let width = printable-width word word_printable in
@@ -73,7 +77,7 @@ word_of-same limit p printable room some false is =
     ∙ ap (λ t. t ∷ broken_texts limit (drop limit word)) (take_all limit word within)
     ∙ ap (λ t. word ∷ broken_texts limit t) (drop_all limit word within)
     ∙ ap (λ ts. word ∷ ts) (broken_texts-nil limit) in
-    ap (pieces_with (final_blanks p) []) texts
+    ap (pieces_with (final_blanks p) []) texts)
 
 -- the first word is wider than the limit: a piece of it, and the pieces of the rest
 pub broken-front : (limit : ℕ) (front p : List ℕ) → IsPrintable (front ++ p) → 0 < limit
@@ -111,4 +115,4 @@ broken-front limit front p printable room len some =
     ∙ pieces_with-more (final_blanks whole) [] front (broken_texts limit rest) more
     ∙ ap (λ bs. piece front [] [] ∷ pieces_with bs [] (broken_texts limit rest)) both.1
     ∙ ap (λ ws. piece front [] [] ∷ ws)
-    (word_of-same limit p p_printable room some (ltb limit (word_of p).width) refl)
+    (word_of-same limit p p_printable room some)

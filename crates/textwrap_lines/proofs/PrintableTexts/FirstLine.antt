@@ -12,7 +12,8 @@ use Rattle.textwrap_base.proofs.Division.Widths.{open_width-cons, closed_width-p
 use Rattle.textwrap_lines.proofs.PrintableTexts.Texts.{printable-width}
 use Rattle.textwrap_lines.proofs.PrintableTexts.Exact.{open-exact, Fits-exact}
 use Rattle.textwrap_lines.proofs.PrintableTexts.Pieces.{pieces-tile, pieces-exact, pieces-some}
-use Rattle.textwrap_lines.proofs.PrintableTexts.Pieces.{CutsBeforeOthers, pieces-cover}
+use Rattle.textwrap_lines.proofs.PrintableTexts.Pieces.{pieces-cover}
+use Rattle.textwrap_lines.proofs.Paragraph.LastWord.{CutsBeforeOthers}
 use Rattle.textwrap_lines.proofs.PrintableTexts.FirstPiece.{pieces-at_cut, begins_wide}
 use Rattle.textwrap_lines.proofs.PrintableTexts.FirstPiece.{pieces-broken}
 use Rattle.textwrap_lines.proofs.PrintableTexts.BrokenFront.{BeginsWide}

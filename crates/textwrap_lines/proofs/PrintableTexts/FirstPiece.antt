@@ -8,7 +8,6 @@ use Rattle.textwrap_words.proofs.Common.{is_blank, trimmed_len, broken_word, bro
 use Rattle.textwrap_words.proofs.Common.{word_of}
 use Rattle.textwrap_lines.proofs.Common.{IsPrintableByte, IsPrintable, CutTest, parts, pieces_after}
 use Rattle.textwrap_lines.proofs.Common.{cut_at}
-use Rattle.std.proofs.Common.{ltb}
 use Rattle.textwrap_base.proofs.Lists.Parts.{flat, onto_front}
 use Rattle.textwrap_words.proofs.Word.Texts.{trimmed-past}
 use Rattle.textwrap_lines.proofs.PrintableTexts.Texts.{printable-width}
@@ -102,8 +101,8 @@ module _ (cut : CutTest) where
       let len : length w.word ≡ trimmed_len found.part =
       length-take-le (trimmed_len found.part) found.part (omega arith) in
       subst (λ ps. BeginsWide (m + 1) (broken_words limit (map word_of ps))) (sym found.are)
-      (begins_wide-step limit (m + 1) w (map word_of found.others) (ltb limit w.width) room within
-      word (printable-width w.word word) (omega (arith, len, past)) refl)
+      (begins_wide-step limit (m + 1) w (map word_of found.others) room within
+      word (printable-width w.word word) (omega (arith, len, past)))
 
   -- ---- a first word that is broken
 

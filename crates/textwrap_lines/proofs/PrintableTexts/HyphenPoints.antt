@@ -124,8 +124,5 @@ point-printable before b c rest printable =
     ∙ ap begins_alphanumeric (chars-IsAscii (c ∷ rest) (printable-ascii (c ∷ rest) next_printable))
     ∙ begins-printable (c ∷ rest) next_printable in (
       ends,
-      ap (λ t. t && begins_alphanumeric (reverse (chars (take (p - 1) w)))
-          && begins_alphanumeric (chars (drop p w))) ends
-          ∙ ap (λ t. (b == 45) && t && begins_alphanumeric (chars (drop p w))) earlier
-          ∙ ap (λ t. (b == 45) && is_ascii_alphanumeric (context before) && t) later,
+      cc (ends, earlier, later),
     )

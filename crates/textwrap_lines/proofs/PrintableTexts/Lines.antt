@@ -6,11 +6,10 @@ use Rattle.textwrap_base.proofs.Common.{map-append, length_push, line_width, clo
 use Rattle.textwrap_base.proofs.Common.{IsGreedy, last}
 use Rattle.textwrap_words.proofs.Common.{WordText, sizes_of}
 use Rattle.textwrap_lines.proofs.Common.{Took, covered, Slice, IsPrintable, pieces_after}
-use Rattle.textwrap_lines.proofs.Common.{byte_before, printable_cut, IsFirstLine}
+use Rattle.textwrap_lines.proofs.Common.{byte_before, printable_cut, IsFirstLine, LineSink}
 use Rattle.textwrap_base.proofs.Division.Greedy.{IsGreedyFrom, IsGreedyFrom-nil, IsGreedyFrom-cons}
 use Rattle.textwrap_base.proofs.Division.Greedy.{IsGreedy-from}
 use Rattle.textwrap_lines.proofs.Paragraph.PassingLines.{later_is}
-use Rattle.textwrap_lines.specs.declared.line_sinks.LineSink.{LineSink}
 use Rattle.textwrap_lines.proofs.Text.Sinks.{Took-none, Took-then}
 use Rattle.textwrap_lines.proofs.PrintableTexts.Pieces.{pieces-some}
 

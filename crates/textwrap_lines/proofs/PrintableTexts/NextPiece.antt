@@ -5,7 +5,7 @@ use Rattle.textwrap_base.proofs.Common.{cases_Bool, ne_eqb}
 use Rattle.textwrap_words.proofs.Common.{is_blank, is_cut}
 use Rattle.textwrap_lines.proofs.Common.{IsPrintable, CutTest, cut_at, BlanksBetween, NoCutBetween}
 use Rattle.textwrap_lines.proofs.Common.{IsFirstPiece}
-use Rattle.textwrap_lines.proofs.PrintableTexts.Pieces.{CutsBeforeOthers}
+use Rattle.textwrap_lines.proofs.Paragraph.LastWord.{CutsBeforeOthers}
 use Rattle.textwrap_lines.proofs.PrintableTexts.Search.{CutsAtBlanks}
 use Rattle.textwrap_lines.proofs.PrintableTexts.PieceFront.{piece-all, piece-cut, piece-broken}
 

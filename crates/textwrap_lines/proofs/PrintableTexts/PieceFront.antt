@@ -12,7 +12,7 @@ use Rattle.textwrap_lines.proofs.PrintableTexts.Uncut.{uncut_blank, one_piece}
 use Rattle.textwrap_words.proofs.Word.Texts.{trimmed-past}
 use Rattle.textwrap_words.proofs.Word.Tiling.{tile_of-word_of}
 use Rattle.textwrap_lines.proofs.PrintableTexts.Texts.{trimmed-le}
-use Rattle.textwrap_lines.proofs.PrintableTexts.Pieces.{CutsBeforeOthers}
+use Rattle.textwrap_lines.proofs.Paragraph.LastWord.{CutsBeforeOthers}
 use Rattle.textwrap_lines.proofs.PrintableTexts.FirstPiece.{pieces-at_cut, pieces-broken}
 use Rattle.textwrap_lines.proofs.PrintableTexts.Search.{CutsAtBlanks}
 

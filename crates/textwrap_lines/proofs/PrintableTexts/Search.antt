@@ -1,15 +1,15 @@
 -- What a search by bytes finds is the first line.
-use Rattle.textwrap_base.proofs.Common.{inl, inr, ◌≡◌, ℕ, zero, suc, ◌+◌, ◌-◌, ◌<◌, ◌≤◌, true}
-use Rattle.textwrap_base.proofs.Common.{false, not, ◌&&◌, List, ◌∷◌, length, take, drop, get_or}
-use Rattle.textwrap_base.proofs.Common.{sym, ap, ◌∙◌, subst, arith, length-drop, length-take}
-use Rattle.textwrap_base.proofs.Common.{cases_Bool, false≢true, take_all, length-take-le}
-use Rattle.textwrap_base.proofs.Common.{get_or-drop, get_or-take, drop_more}
+use Rattle.textwrap_base.proofs.Common.{◌≡◌, ℕ, zero, suc, ◌+◌, ◌-◌, ◌<◌, ◌≤◌, true, false, not}
+use Rattle.textwrap_base.proofs.Common.{◌&&◌, List, ◌∷◌, length, take, drop, get_or, sym, ap, ◌∙◌}
+use Rattle.textwrap_base.proofs.Common.{subst, arith, length-drop, length-take, false≢true}
+use Rattle.textwrap_base.proofs.Common.{take_all, length-take-le, get_or-drop, get_or-take}
+use Rattle.textwrap_base.proofs.Common.{drop_more, false_from_ne_true}
 use Rattle.textwrap_words.proofs.Common.{is_blank, trimmed_len, is_cut}
 use Rattle.textwrap_lines.proofs.Common.{IsPrintable, CutTest, cut_at, BlanksBetween, NoCutBetween}
 use Rattle.textwrap_lines.proofs.Common.{IsFirstLine}
 use Rattle.textwrap_words.proofs.Word.Texts.{trimmed-past}
 use Rattle.textwrap_lines.proofs.PrintableTexts.Texts.{trimmed-le}
-use Rattle.textwrap_lines.proofs.PrintableTexts.Pieces.{CutsBeforeOthers}
+use Rattle.textwrap_lines.proofs.Paragraph.LastWord.{CutsBeforeOthers}
 use Rattle.textwrap_lines.proofs.PrintableTexts.FirstLine.{first_line-all, first_line-cut}
 use Rattle.textwrap_lines.proofs.PrintableTexts.FirstLine.{first_line-broken}
 
@@ -90,16 +90,13 @@ module _ (cut : CutTest) (before_others : CutsBeforeOthers cut) (at_blanks : Cut
       let front = take limit text in
       let front_len : length front ≡ limit = length-take-le limit text (omega (arith, inside)) in
       let before : is_blank (get_or text m 0) ≡ false =
-      elim (cases_Bool (is_blank (get_or text m 0))) [
-        | inr other_before ↦ other_before
-        | inl blank ↦
-            let place : m + 1 ≡ limit = omega (arith, room) in
-            let seam : is_cut (get_or text m 0) (get_or text (m + 1) 0) ≡ true =
-            ap (λ n. is_cut (get_or text m 0) (get_or text n 0)) place
-            ∙ ap (λ b. b && not (is_blank (get_or text limit 0))) blank ∙ ap not other in
-            absurd (false≢true (sym (none m (omega arith) (omega (arith, room)))
-            ∙ at_blanks (get_or (a ∷ text) m 0) (get_or text m 0) (get_or text (m + 1) 0) seam))
-      ] in
+      false_from_ne_true (is_blank (get_or text m 0)) (λ blank.
+      let place : m + 1 ≡ limit = omega (arith, room) in
+      let seam : is_cut (get_or text m 0) (get_or text (m + 1) 0) ≡ true =
+      ap (λ n. is_cut (get_or text m 0) (get_or text n 0)) place
+      ∙ ap (λ b. b && not (is_blank (get_or text limit 0))) blank ∙ ap not other in
+      false≢true (sym (none m (omega arith) (omega (arith, room)))
+      ∙ at_blanks (get_or (a ∷ text) m 0) (get_or text m 0) (get_or text (m + 1) 0) seam)) in
       let past =
       trimmed-past front m (omega (arith, front_len, room))
       (ap is_blank (get_or-take limit text m 0 (omega (arith, room))) ∙ before) in

@@ -7,7 +7,7 @@ use Rattle.textwrap_words.proofs.Common.{is_blank, is_cut}
 use Rattle.textwrap_lines.proofs.Common.{IsPrintable, CutTest, BlanksBetween}
 use Rattle.textwrap_lines.proofs.PrintableTexts.Search.{IsLineLen, CutsAtBlanks, line_len-blanks}
 use Rattle.textwrap_lines.proofs.PrintableTexts.Texts.{trimmed-le}
-use Rattle.textwrap_lines.proofs.PrintableTexts.Pieces.{CutsBeforeOthers}
+use Rattle.textwrap_lines.proofs.Paragraph.LastWord.{CutsBeforeOthers}
 use Rattle.textwrap_lines.proofs.PrintableTexts.FirstLine.{first_line-cut}
 
 module _ (cut : CutTest) (before_others : CutsBeforeOthers cut) (at_blanks : CutsAtBlanks cut)

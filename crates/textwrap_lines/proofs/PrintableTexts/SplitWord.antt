@@ -75,10 +75,7 @@ module _ (w : WordText) (printable : IsPrintable w.word) (none : w.penalty ≡ [
       (sym front_len)
       ∙ next ∙ ap (map word_of) (onto_nothing (parts hyphen_cut b (c ∷ rest ++ w.whitespace))
       (parts-some hyphen_cut b c (rest ++ w.whitespace))) in
-      ap (λ l. piece l [] (cut_penalty w.word place) ∷ split_from w place others) slice
-      ∙ ap (λ p. piece part [] p ∷ split_from w place others) penalty
-      ∙ ap (λ v. v ∷ split_from w place others) (sym (word_of-seam x [] b other no_blanks))
-      ∙ ap (λ vs. word_of part ∷ vs) tail
+      let seam = word_of-seam x [] b other no_blanks in cc
   split-at rest before x a b c place false splits is at cut hyphened =
       let part = x ++ b ∷ [] in
       let part_len = length_push x b in

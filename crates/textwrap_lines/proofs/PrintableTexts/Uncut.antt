@@ -2,9 +2,9 @@
 use Rattle.textwrap_base.proofs.Common.{inl, inr, ◌≡◌, ℕ, suc, ◌+◌, ◌-◌, ◌<◌, ◌≤◌, true, false}
 use Rattle.textwrap_base.proofs.Common.{cond, List, [], ◌∷◌, ◌++◌, length, map, get_or, refl, sym}
 use Rattle.textwrap_base.proofs.Common.{ap, ◌∙◌, arith, add-one, zero, ◌==◌, ◌&&◌, take, drop}
-use Rattle.textwrap_base.proofs.Common.{onto_first, cases_lt, cases_Bool, false≢true, le-ltb}
-use Rattle.textwrap_base.proofs.Common.{and_right, eqb-true, length-take-le, All-take, All-head}
-use Rattle.textwrap_base.proofs.Common.{All-tail, is_ascii_alphanumeric, take-append-add}
+use Rattle.textwrap_base.proofs.Common.{onto_first, cases_lt, false≢true, le-ltb, and_right}
+use Rattle.textwrap_base.proofs.Common.{eqb-true, length-take-le, All-take, All-head, All-tail}
+use Rattle.textwrap_base.proofs.Common.{is_ascii_alphanumeric, take-append-add, false_from_ne_true}
 use Rattle.textwrap_words.proofs.Common.{is_blank, trimmed_len, without_final_blanks, final_blanks}
 use Rattle.textwrap_words.proofs.Common.{broken_words, broken_pieces, word_of, piece}
 use Rattle.textwrap_lines.proofs.Common.{IsPrintable, IsPrintableByte, CutTest, parts, cut_at}
@@ -13,7 +13,7 @@ use Rattle.textwrap_lines.proofs.PrintableTexts.HyphenPoints.{hyphen_cut}
 use Rattle.std.proofs.Common.{ltb}
 use Rattle.textwrap_lines.proofs.PrintableTexts.Texts.{printable-width, trimmed-front, trimmed-le}
 use Rattle.textwrap_lines.proofs.PrintableTexts.Parts.{next_parts}
-use Rattle.textwrap_lines.proofs.PrintableTexts.Pieces.{CutsBeforeOthers}
+use Rattle.textwrap_lines.proofs.Paragraph.LastWord.{CutsBeforeOthers}
 use Rattle.textwrap_lines.proofs.PrintableTexts.Search.{CutsAtBlanks}
 use Rattle.textwrap_words.proofs.Word.Texts.{AreBlanks, trimmed-past}
 
@@ -59,11 +59,9 @@ module _ (cut : CutTest) (before_others : CutsBeforeOthers cut) (at_blanks : Cut
   -- no cut stands before a blank
   pub uncut_blank : (a : ℕ) (text : List ℕ) (k : ℕ) → is_blank (get_or text (k + 1) 0) ≡ true
       → cut_at cut a text k ≡ false
-  uncut_blank a text k blank = elim (cases_Bool (cut_at cut a text k)) [
-    | inr not_cut ↦ not_cut
-    | inl is ↦ absurd (false≢true (sym (before_others (get_or (a ∷ text) k 0) (get_or text k 0)
-        (get_or text (k + 1) 0) is) ∙ blank))
-  ]
+  uncut_blank a text k blank = false_from_ne_true (cut_at cut a text k)
+      (λ is. false≢true (sym (before_others (get_or (a ∷ text) k 0) (get_or text k 0)
+      (get_or text (k + 1) 0) is) ∙ blank))
 
 pub no_cut-blanks : (a b : ℕ) (bl : List ℕ) → AreBlanks bl → parts hyphen_cut a (b ∷ bl) ≡ (b ∷ bl) ∷ []
 no_cut-blanks a b [] blanks = refl

@@ -6,9 +6,8 @@ use Rattle.textwrap_base.proofs.Common.{fragment_costs, fragments_table}
 use Rattle.textwrap_words.proofs.Common.{WordText, sizes_of, tiled, Splitter}
 use Rattle.textwrap_lines.proofs.Common.{Settings, line_from, parts_from, pieces_of, widths_of}
 use Rattle.textwrap_lines.proofs.Common.{first_width, later_width, HaveTexts, span_lines}
-use Rattle.textwrap_lines.proofs.Common.{span_priced, spans_from}
+use Rattle.textwrap_lines.proofs.Common.{span_priced, spans_from, Penalties, AreSpans, Span}
 use Rattle.textwrap_base.specs.OptimalFit.{IsByOptimalFit}
-use Rattle.textwrap_base.specs.declared.penalties.Penalties.{Penalties}
 use Rattle.textwrap_base.proofs.Cost.Chosen.{by_table-chosen}
 use Rattle.textwrap_base.proofs.Cost.Lines.{division_joined, joined_division}
 use Rattle.textwrap_base.proofs.Cost.Map.{fragments_table-map}
@@ -16,8 +15,6 @@ use Rattle.textwrap_base.proofs.Lists.Parts.{flat}
 use Rattle.textwrap_words.proofs.Word.Bounds.{IsBounded-measured}
 use Rattle.textwrap_words.proofs.Word.Measured.{HasNoPenalty, IsMeasured}
 use Rattle.textwrap_lines.specs.Cheapest.{SuitSearch}
-use Rattle.textwrap_lines.specs.Spans.{AreSpans}
-use Rattle.textwrap_lines.specs.declared.spans.Span.{Span}
 use Rattle.textwrap_lines.proofs.Paragraph.Pieces.{pieces_of-measured, pieces_of-no_penalty}
 use Rattle.textwrap_lines.proofs.Paragraph.Pieces.{pieces_of-tile}
 use Rattle.textwrap_lines.proofs.Standing.Costs.{AreSpans-from, priced-spans, suits-spans}
@@ -29,11 +26,6 @@ abbrev pub word_priced : Penalties → WordText → PricedSizes
 word_priced penalties w = priced_at penalties (sizes_of w)
 
 -- ---- the division of the pieces
-
-follow-same : {X E : Type 0} (start : E → ℕ) (es fs : List E) (lines : List (List X)) → es ≡ fs
-    → FollowStarts (map start es) 0 lines → FollowStarts (map start fs) 0 lines
-follow-same start es fs lines same follow =
-    subst (λ starts. FollowStarts starts 0 lines) (ap (map start) same) follow
 
 -- the pieces are divided as the places where they stand
 pub record FoundDivision (penalties : Penalties) (widths : List ℕ) (ws : List WordText)
@@ -63,7 +55,8 @@ module _ (penalties : Penalties) (widths : List ℕ) (ws : List WordText)
       let joined = division_joined spans lines count by.division in
       let found = stand 0 0 ws lines joined.1 joined.0 in
       let division = found.0 in
-      let starts = follow-same _ _ _ lines tables-same by.starts in
+      let starts = subst (λ entries. FollowStarts (map (λ entry. entry.start) entries) 0 lines)
+      tables-same by.starts in
       let by_table : IsByTable (word_priced penalties) penalties widths ws division =
       record {
         division = joined_division ws division some found.1

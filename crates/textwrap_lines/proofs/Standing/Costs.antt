@@ -1,14 +1,12 @@
 -- What lines of pieces cost that are known by where they stand.
 use Rattle.textwrap_base.proofs.Common.{◌≡◌, ℕ, zero, suc, ◌+◌, ◌-◌, ◌<◌, ◌≤◌, eqb, List, [], ◌∷◌}
-use Rattle.textwrap_base.proofs.Common.{All, max, length, map, take, get_or, slice_range, refl, sym}
-use Rattle.textwrap_base.proofs.Common.{ap, ◌∙◌, arith, take-take, All-head, All-tail, PricedSizes}
-use Rattle.textwrap_base.proofs.Common.{fit_cost, line_cost, priced_at, total_width}
-use Rattle.textwrap_base.proofs.Common.{AreEqualFromSecond, closed_width, open_width, SuitQueue}
-use Rattle.textwrap_base.proofs.Common.{NeverFalls, fragment_costs}
+use Rattle.textwrap_base.proofs.Common.{All, max, length, map, take, get_or, slice_range, refl, ap}
+use Rattle.textwrap_base.proofs.Common.{arith, take-take, All-head, All-tail, fit_cost, line_cost}
+use Rattle.textwrap_base.proofs.Common.{priced_at, total_width, AreEqualFromSecond, closed_width}
+use Rattle.textwrap_base.proofs.Common.{open_width, SuitQueue, NeverFalls, fragment_costs}
 use Rattle.textwrap_words.proofs.Common.{WordText, sizes_of, tiled}
-use Rattle.textwrap_lines.proofs.Common.{span_of, span_priced, spans_from}
-use Rattle.textwrap_base.specs.Cost.{usual_break_penalty}
-use Rattle.textwrap_base.specs.declared.penalties.Penalties.{Penalties}
+use Rattle.textwrap_lines.proofs.Common.{span_of, span_priced, spans_from, Penalties, AreSpans}
+use Rattle.textwrap_lines.proofs.Common.{Span}
 use Rattle.textwrap_base.proofs.Cost.Slices.{open_width-slice, closed_width-slice, line_cost-slice}
 use Rattle.textwrap_base.proofs.Cost.SizesAlone.{total_width-cons}
 use Rattle.textwrap_base.proofs.Cost.QueueCase.{SuitQueue-queue_case}
@@ -17,8 +15,7 @@ use Rattle.textwrap_base.proofs.Division.OneLine.{closed-take}
 use Rattle.textwrap_words.proofs.Word.Bounds.{IsBounded, total_width-bounded}
 use Rattle.textwrap_words.proofs.Word.Measured.{HasNoPenalty}
 use Rattle.textwrap_lines.specs.Cheapest.{SuitSearch}
-use Rattle.textwrap_lines.specs.Spans.{AreSpans, span_sizes}
-use Rattle.textwrap_lines.specs.declared.spans.Span.{Span}
+use Rattle.textwrap_lines.specs.Spans.{span_sizes}
 
 -- ---- the cost of a line
 
@@ -75,12 +72,6 @@ pub AreSpans-from : (ws : List WordText) → AreSpans (spans_from 0 0 ws)
 AreSpans-from ws i d within =
     let here = spans-begin 0 0 ws i d within in (omega (arith, here.0), here.1)
 
-abbrev priced_sizes : ℕ → ℕ → ℕ → ℕ → PricedSizes
-priced_sizes width whitespace penalty break_penalty = record {
-  sizes = record { width = width; whitespace = whitespace; penalty = penalty };
-  break_penalty = break_penalty;
-}
-
 -- they have the sizes of the pieces, which have no penalty
 pub priced-spans : (penalties : Penalties) (at columns : ℕ) (ws : List WordText)
     → All HasNoPenalty ws
@@ -92,13 +83,9 @@ priced-spans penalties at columns (w ∷ ws) all =
     let none : length w.penalty ≡ 0 = ap length (All-head HasNoPenalty w ws all) in
     let width : columns + w.width - columns ≡ w.width = omega arith in
     let whitespace : at + m + n - (at + m) ≡ n = omega arith in
-    let others = map span_priced (spans_from (at + m + n) (columns + w.width + n) ws) in
-    ap (λ k. priced_sizes k (at + m + n - (at + m)) 0 0 ∷ others) width
-    ∙ ap (λ k. priced_sizes w.width k 0 0 ∷ others) whitespace
-    ∙ ap (λ k. priced_sizes w.width n k (usual_break_penalty penalties k) ∷ others) (sym none)
-    ∙ ap (λ vs. priced_at penalties (sizes_of w) ∷ vs)
-    (priced-spans penalties (at + m + n) (columns + w.width + n) ws
-    (All-tail HasNoPenalty w ws all))
+    let others = priced-spans penalties (at + m + n) (columns + w.width + n) ws
+    (All-tail HasNoPenalty w ws all) in
+    cc
 
 -- all of them together are as wide as the pieces
 total-spans : (at columns : ℕ) (ws : List WordText) → All HasNoPenalty ws

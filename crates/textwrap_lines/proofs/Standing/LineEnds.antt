@@ -2,27 +2,19 @@
 use Rattle.textwrap_base.proofs.Common.{◌≡◌, ℕ, suc, ◌+◌, ◌-◌, List, [], ◌∷◌, ◌++◌, All, length}
 use Rattle.textwrap_base.proofs.Common.{drop, get_or, refl, sym, ap, ◌∙◌, subst, arith}
 use Rattle.textwrap_base.proofs.Common.{append_assoc, append-nil, length-append, IsUtf8}
-use Rattle.textwrap_base.proofs.Common.{IsCharBoundary, eqb-true, drop_at, drop-drop, All-head}
-use Rattle.textwrap_base.proofs.Common.{All-tail, IsUtf8-from_ascii}
+use Rattle.textwrap_base.proofs.Common.{IsCharBoundary, drop_at, drop-drop, All-head, All-tail}
 use Rattle.textwrap_words.proofs.Common.{WordText, tile_of, tiled}
-use Rattle.textwrap_lines.proofs.Common.{covered, span_of, spans_from}
-use Rattle.std.proofs.lemmas.Str.Ascii.{IsAscii-from_all}
-use Rattle.textwrap_words.proofs.Word.Texts.{AreBlanks}
+use Rattle.textwrap_lines.proofs.Common.{covered, span_of, spans_from, last_span, no_span, Span}
 use Rattle.textwrap_words.proofs.Word.Measured.{IsMeasured}
-use Rattle.textwrap_lines.specs.Spans.{MayEnd, last_span, no_span}
-use Rattle.textwrap_lines.specs.declared.spans.Span.{Span}
+use Rattle.textwrap_lines.specs.Spans.{MayEnd}
 use Rattle.textwrap_lines.proofs.WordLines.Line.{piece-ends, slice-ends, utf8-after}
+use Rattle.textwrap_lines.proofs.Paragraph.OneLine.{blanks-utf8}
 
 last_span-cons : (s t : Span) (spans : List Span)
     → last_span (s ∷ t ∷ spans) ≡ last_span (t ∷ spans)
 last_span-cons s t spans =
     let place : length (s ∷ t ∷ spans) - 1 ≡ suc (length (t ∷ spans) - 1) = omega arith in
     ap (λ n. get_or (s ∷ t ∷ spans) n no_span) place
-
-blanks-utf8 : (bytes : List ℕ) → AreBlanks bytes → IsUtf8 bytes
-blanks-utf8 bytes blanks =
-    IsUtf8-from_ascii bytes (IsAscii-from_all bytes (λ k d lt.
-    let here = eqb-true (get_or bytes k d) 32 (blanks k d lt) in omega (arith, here)))
 
 -- the last piece of these ends where they do
 pub record EndsLine (text : List ℕ) (at : ℕ) (words : List WordText) (last : Span) : Type 0 where

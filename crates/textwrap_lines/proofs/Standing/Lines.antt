@@ -7,13 +7,11 @@ use Rattle.textwrap_base.proofs.Common.{open_width}
 use Rattle.textwrap_words.proofs.Common.{WordText, sizes_of, tiled}
 use Rattle.textwrap_lines.proofs.Common.{Took, Settings, assembled_line, covered, indent_of}
 use Rattle.textwrap_lines.proofs.Common.{line_from, parts_from, Line, parts_of, HaveTexts}
-use Rattle.textwrap_lines.proofs.Common.{span_lines, spans_from}
+use Rattle.textwrap_lines.proofs.Common.{span_lines, spans_from, last_span, LineSink, Span}
 use Rattle.textwrap_base.proofs.Lists.Parts.{flat, all-left, all-right}
 use Rattle.textwrap_words.proofs.Word.Measured.{HasNoPenalty, IsMeasured}
 use Rattle.textwrap_words.proofs.Word.Tiling.{tiled-append}
-use Rattle.textwrap_lines.specs.Spans.{last_span, span_line}
-use Rattle.textwrap_lines.specs.declared.line_sinks.LineSink.{LineSink}
-use Rattle.textwrap_lines.specs.declared.spans.Span.{Span}
+use Rattle.textwrap_lines.specs.Spans.{span_line}
 use Rattle.textwrap_lines.proofs.Paragraph.LastBlanks.{covered-space}
 use Rattle.textwrap_lines.proofs.Paragraph.EndsAs.{last_space}
 use Rattle.textwrap_lines.proofs.Paragraph.WholeLine.{assembled-parts}

@@ -22,12 +22,10 @@ pub spans-append : (at columns : ℕ) (xs ys : List WordText)
 spans-append at columns [] ys =
     let place : at ≡ at + length (tiled []) = omega arith in
     let width : columns ≡ columns + open_width sizes_of [] = omega arith in
-    ap (λ n. spans_from n columns ys) place
-    ∙ ap (λ n. spans_from (at + length (tiled [])) n ys) width
+    cc
 spans-append at columns (x ∷ xs) ys =
     let end = at + length x.word + length x.whitespace in
     let after = columns + x.width + length x.whitespace in
-    let front = spans_from end after xs in
     let tile = length-append x.word x.whitespace in
     let whole = length-append (tile_of x) (tiled xs) in
     let more = open_width-cons sizes_of x xs in
@@ -35,9 +33,8 @@ spans-append at columns (x ∷ xs) ys =
     omega (arith, tile, whole) in
     let width : after + open_width sizes_of xs ≡ columns + open_width sizes_of (x ∷ xs) =
     omega (arith, more) in
-    ap (λ l. span_of at columns x ∷ l) (spans-append end after xs ys
-    ∙ ap (λ n. front ++ spans_from n (after + open_width sizes_of xs) ys) place
-    ∙ ap (λ n. front ++ spans_from (at + length (tiled (x ∷ xs))) n ys) width)
+    let rest = spans-append end after xs ys in
+    cc
 
 tile-length : (w : WordText)
     → length (tiled (w ∷ [])) ≡ length w.word + length w.whitespace
@@ -63,11 +60,7 @@ module _ {Z : Type 0} where
             let opens = open_width-append sizes_of before (w ∷ []) in
             let after = open_width-cons sizes_of w [] in
             record {
-              spans = items ∙ ap (λ l. l ++ span_of old.len old.columns w ∷ []) lists.spans
-                  ∙ ap (λ n. spans_from 0 0 before ++ span_of n old.columns w ∷ []) place
-                  ∙ ap (λ n. spans_from 0 0 before
-                  ++ span_of (0 + length (tiled before)) n w ∷ []) width
-                  ∙ sym (spans-append 0 0 before (w ∷ []));
+              spans = cc (items, lists.spans, place, width, spans-append 0 0 before (w ∷ []));
               len = omega (arith, len, lists.len, tiles, lens, one);
               columns = omega (arith, columns, lists.columns, opens, after);
             };

@@ -4,9 +4,8 @@ use Rattle.textwrap_base.proofs.Common.{take, drop, get_or, refl, sym, ap, ◌�
 use Rattle.textwrap_base.proofs.Common.{length-append, take-append-drop, ⊤, length-take-le, All-nil}
 use Rattle.textwrap_base.proofs.Common.{All-cons, All-head, All-tail, open_width, FollowStarts}
 use Rattle.textwrap_words.proofs.Common.{WordText, sizes_of, tiled}
-use Rattle.textwrap_lines.proofs.Common.{spans_from}
+use Rattle.textwrap_lines.proofs.Common.{spans_from, Span}
 use Rattle.textwrap_base.proofs.Lists.Parts.{flat, same_parts}
-use Rattle.textwrap_lines.specs.declared.spans.Span.{Span}
 use Rattle.textwrap_lines.proofs.Standing.Lists.{length-spans, spans-append}
 
 -- each line has pieces, which stand so, after so many bytes and columns

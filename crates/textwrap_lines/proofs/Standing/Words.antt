@@ -4,9 +4,9 @@ use Rattle.textwrap_base.proofs.Common.{arith, append-nil, length-append, All, d
 use Rattle.textwrap_base.proofs.Common.{drop_more, All-drop, All-head}
 use Rattle.textwrap_words.proofs.Common.{broken_word, broken_words, WordText, tile_of, tiled}
 use Rattle.textwrap_words.proofs.Common.{word_view}
+use Rattle.textwrap_lines.proofs.Common.{Word}
 use Rattle.textwrap_lines.proofs.Standing.Lists.{HasAllBut, AllBut-len}
 use Rattle.std.proofs.lemmas.List.{drop-map}
-use Rattle.textwrap_words.specs.declared.words.Word.{Word}
 use Rattle.textwrap_words.proofs.Word.Tiling.{tiled-append}
 use Rattle.textwrap_lines.specs.declared.spans.SpanList.{SpanList}
 use Rattle.textwrap_lines.proofs.WordLines.Pieces.{IsText, IsWide, tiled-broken, tiled-broken_all}

@@ -6,15 +6,13 @@ use Rattle.textwrap_words.proofs.Common.{IsDividedBy, algorithm_view, Splitter, 
 use Rattle.textwrap_words.proofs.Common.{split_words, splitter_of}
 use Rattle.textwrap_lines.proofs.Common.{Settings, settings_view, Slice, line_from, covered}
 use Rattle.textwrap_lines.proofs.Common.{parts_from, pieces_of, widths_of, DividesBy, IsPrintable}
-use Rattle.textwrap_lines.proofs.Common.{pieces_after, printable_cut}
+use Rattle.textwrap_lines.proofs.Common.{pieces_after, printable_cut, HasParts, Options}
 use Rattle.std.specs.Prelude.{IfErr, alloc_error}
 use Rattle.textwrap_base.specs.declared.errors.WrapError.{WrapError}
 use Rattle.textwrap_base.specs.declared.errors.WrapError.TheVariants.{Memory}
 use Rattle.textwrap_base.proofs.Division.Map.{IsDividedBy-whole}
 use Rattle.textwrap_words.proofs.Word.Measured.{HasNoPenalty}
 use Rattle.textwrap_lines.specs.Direct.{IsDirect, HasBareLines, hyphens_of}
-use Rattle.textwrap_lines.specs.Options.{HasParts}
-use Rattle.textwrap_lines.specs.declared.options.Options.{Options}
 use Rattle.textwrap_lines.proofs.Paragraph.BuiltIn.{divides}
 use Rattle.textwrap_lines.proofs.Paragraph.Pieces.{pieces_of-no_penalty, ArePieces-computed}
 use Rattle.textwrap_lines.proofs.PrintableTexts.Bridge.{lines-slices, pieces-printable}

@@ -1,10 +1,9 @@
 -- Lemmas on the parts of a text between line endings.
-use Rattle.textwrap_base.proofs.Common.{◌≡◌, ◌≢◌, ℕ, zero, suc, ◌-◌, ◌<◌, ◌≤◌, Bool, true, false}
-use Rattle.textwrap_base.proofs.Common.{cond, nat_eq, List, [], ◌∷◌, ◌++◌, length, take, drop, refl}
-use Rattle.textwrap_base.proofs.Common.{sym, ap, ◌∙◌, arith, length-append, length-drop, onto_first}
-use Rattle.textwrap_base.proofs.Common.{starts_with, drop_at}
-use Rattle.textwrap_lines.proofs.Common.{ending_bytes, parts_past, join_with}
-use Rattle.textwrap_lines.specs.declared.line_ending.LineEnding.{LineEnding}
+use Rattle.textwrap_base.proofs.Common.{◌≡◌, ◌≢◌, ℕ, zero, suc, ◌-◌, ◌<◌, ◌≤◌, true, false, cond}
+use Rattle.textwrap_base.proofs.Common.{nat_eq, List, [], ◌∷◌, ◌++◌, length, take, drop, refl, sym}
+use Rattle.textwrap_base.proofs.Common.{ap, ◌∙◌, arith, length-append, length-drop, onto_first}
+use Rattle.textwrap_base.proofs.Common.{starts_with, drop_at, cond_both}
+use Rattle.textwrap_lines.proofs.Common.{ending_bytes, parts_past, join_with, LineEnding}
 use Rattle.textwrap_lines.specs.declared.line_ending.LineEnding.TheVariants.{CRLF, LF}
 use Rattle.textwrap_base.proofs.Lists.Parts.{onto_first-some}
 use Rattle.textwrap_base.proofs.Lists.Prefixes.{starts_with-true, drop-ending, starts_with-false}
@@ -75,25 +74,17 @@ join_with-onto_first separator c [] = refl
 join_with-onto_first separator c (part ∷ []) = refl
 join_with-onto_first separator c (part ∷ next ∷ parts) = refl
 
-join-cut : (ending : List ℕ) → 0 < length ending → (c : ℕ) (cs : List ℕ) (b : Bool)
-    → starts_with nat_eq (c ∷ cs) ending ≡ b
-    → join_with ending (parts_past ending (length ending - 1) cs) ≡ drop (length ending - 1) cs
-    → join_with ending (parts_past ending 0 cs) ≡ cs
-    → join_with ending (cond b ([] ∷ parts_past ending (length ending - 1) cs)
-    (onto_first c (parts_past ending 0 cs))) ≡ c ∷ cs
-join-cut ending some c cs true starts after whole =
-    join_with-cons ending [] (parts_past ending (length ending - 1) cs)
-    (parts_past-some ending (length ending - 1) cs)
-    ∙ ap (λ l. ending ++ l) (after ∙ sym (drop-ending ending c cs some))
-    ∙ sym (starts_with-rest ending (c ∷ cs) starts)
-join-cut ending some c cs false starts after whole =
-    join_with-onto_first ending c (parts_past ending 0 cs) ∙ ap (λ l. c ∷ l) whole
-
 pub join-parts_past : (ending : List ℕ) → 0 < length ending → (n : ℕ) (cs : List ℕ)
     → join_with ending (parts_past ending n cs) ≡ drop n cs
 join-parts_past ending some zero [] = refl
 join-parts_past ending some (suc n) [] = refl
 join-parts_past ending some zero (c ∷ cs) =
-    join-cut ending some c cs (starts_with nat_eq (c ∷ cs) ending) refl
-    (join-parts_past ending some (length ending - 1) cs) (join-parts_past ending some 0 cs)
+    cond_both (starts_with nat_eq (c ∷ cs) ending) ([] ∷ parts_past ending (length ending - 1) cs)
+    (onto_first c (parts_past ending 0 cs)) (λ ps. join_with ending ps ≡ c ∷ cs)
+    (λ starts. join_with-cons ending [] (parts_past ending (length ending - 1) cs)
+    (parts_past-some ending (length ending - 1) cs)
+    ∙ ap (λ l. ending ++ l) (join-parts_past ending some (length ending - 1) cs
+    ∙ sym (drop-ending ending c cs some)) ∙ sym (starts_with-rest ending (c ∷ cs) starts))
+    (λ _. join_with-onto_first ending c (parts_past ending 0 cs)
+    ∙ ap (λ l. c ∷ l) (join-parts_past ending some 0 cs))
 join-parts_past ending some (suc n) (c ∷ cs) = join-parts_past ending some n cs

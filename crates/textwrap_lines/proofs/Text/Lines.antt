@@ -7,11 +7,10 @@ use Rattle.textwrap_base.proofs.Common.{map-append, length-map, flat_map-append}
 use Rattle.textwrap_words.proofs.Common.{WordText}
 use Rattle.textwrap_lines.proofs.Common.{Settings, paragraphs_of, join_with, Line, LineParts}
 use Rattle.textwrap_lines.proofs.Common.{line_view, line_from, line_bytes, AreParagraphParts}
-use Rattle.textwrap_lines.proofs.Common.{AreGroups, AreTextLines}
+use Rattle.textwrap_lines.proofs.Common.{AreGroups, AreTextLines, LineEnding}
 use Rattle.std.proofs.Common.{MatchOption}
 use Rattle.std.specs.Cow.{cow_str_bytes}
 use Rattle.std.specs.declared.borrow.CowStr.TheVariants.{Borrowed, Owned}
-use Rattle.textwrap_lines.specs.declared.line_ending.LineEnding.{LineEnding}
 use Rattle.textwrap_base.proofs.Numbers.{is_later-or}
 
 -- ---- joined lines
@@ -132,15 +131,12 @@ module _ (settings : Settings) (Divides : Bool → List ℕ → List (List WordT
   -- at the end they are lines of the whole text
   pub HasGroups-end : (text : List ℕ) (lines : List Line) → HasGroups text lines []
       → AreTextLines settings Divides text lines
-  HasGroups-end text lines all =
-      record {
-        groups = all.groups;
-        defined = subst
-            (AreGroups (AreParagraphParts settings Divides) false
-            (paragraphs_of settings.line_ending text))
-            (append-nil all.groups) (all.more [] refl);
-        given = all.given;
-      }
+  HasGroups-end text lines all = record {
+    groups = all.groups;
+    defined = subst (AreGroups (AreParagraphParts settings Divides) false
+        (paragraphs_of settings.line_ending text)) (append-nil all.groups) (all.more [] refl);
+    given = all.given;
+  }
 
 pub paragraphs_left-split : (ending : LineEnding) (rest : List ℕ) (after : Option (Bor (List ℕ)))
     (paragraph : List ℕ)

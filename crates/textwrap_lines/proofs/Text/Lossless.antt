@@ -1,61 +1,41 @@
 -- Lemmas on what is left off the lines of a text: only blanks, and with them the slices tile the
 -- text.
-use Rattle.textwrap_base.proofs.Common.{◌≡◌, ℕ, Bool, true, false, ◌||◌, nat_lt, MatchBool, List}
-use Rattle.textwrap_base.proofs.Common.{[], ◌∷◌, All, length, map, sym, ap, ◌∙◌, subst, flat_map}
-use Rattle.textwrap_base.proofs.Common.{StartsWith, IsUtf8, starts_with_of_eq, All-nil, All-cons}
-use Rattle.textwrap_base.proofs.Common.{All-head, All-tail, All-weaker}
+use Rattle.textwrap_base.proofs.Common.{◌≡◌, ℕ, Bool, false, ◌||◌, nat_lt, List, [], ◌∷◌, All}
+use Rattle.textwrap_base.proofs.Common.{length, map, sym, ap, ◌∙◌, subst, StartsWith, IsUtf8}
+use Rattle.textwrap_base.proofs.Common.{starts_with_of_eq, All-nil, All-cons, All-head, All-tail}
+use Rattle.textwrap_base.proofs.Common.{All-weaker}
 use Rattle.textwrap_words.proofs.Common.{WordText, tiled, word_of}
 use Rattle.textwrap_lines.proofs.Common.{Settings, paragraphs_of, LineParts, is_whole}
-use Rattle.textwrap_lines.proofs.Common.{AreParagraphParts, AreGroups}
+use Rattle.textwrap_lines.proofs.Common.{AreParagraphParts, AreGroups, covered_by}
 use Rattle.textwrap_words.proofs.Word.Texts.{AreBlanks}
 use Rattle.textwrap_words.proofs.Word.Measured.{EndsInBlanks}
-use Rattle.textwrap_lines.specs.Text.{covered_by, LosesOnlyBlanks}
+use Rattle.textwrap_lines.specs.Text.{LosesOnlyBlanks}
 use Rattle.textwrap_lines.proofs.Text.EndingTexts.{paragraphs_of-utf8}
 use Rattle.textwrap_lines.proofs.Paragraph.LeftOff.{tiled-word_of, word_of-blanks}
 use Rattle.textwrap_lines.proofs.Paragraph.LeftOff.{covered_by-parts_from, LeavesBlanks}
 use Rattle.textwrap_lines.proofs.Paragraph.LeftOff.{parts_from-blanks}
 use Rattle.textwrap_lines.proofs.Text.Groups.{groups-all, groups-map}
+use Rattle.textwrap_lines.proofs.Paragraph.WholeLine.{laid_out-cases}
+use Rattle.textwrap_base.proofs.Lists.Parts.{flat}
 
 -- ---- the lines of a paragraph that is divided so
 
 module _ (settings : Settings) (Divides : Bool → List ℕ → List (List WordText) → Type 0)
     (begin : (is_later : Bool) (paragraph : List ℕ) (division : List (List WordText))
     → IsUtf8 paragraph → Divides is_later paragraph division
-    → StartsWith paragraph (tiled (flat_map (λ line. line) division)))
+    → StartsWith paragraph (tiled (flat division)))
     (blanks : (is_later : Bool) (paragraph : List ℕ) (division : List (List WordText))
     → IsUtf8 paragraph → Divides is_later paragraph division
-    → All EndsInBlanks (flat_map (λ line. line) division)) where
-  laid_out-begin : (is_later : Bool) (paragraph : List ℕ) (division : List (List WordText))
-      → IsUtf8 paragraph → (whole : Bool)
-      → MatchBool whole (division ≡ (word_of paragraph ∷ []) ∷ [])
-      (Divides is_later paragraph division)
-      → StartsWith paragraph (tiled (flat_map (λ line. line) division))
-  laid_out-begin is_later paragraph division utf8 true is =
-      starts_with_of_eq paragraph (tiled (flat_map (λ line. line) division))
-      (sym (ap (λ d. tiled (flat_map (λ line. line) d)) is ∙ tiled-word_of paragraph))
-  laid_out-begin is_later paragraph division utf8 false divided =
-      begin is_later paragraph division utf8 divided
-
-  laid_out-blanks : (is_later : Bool) (paragraph : List ℕ) (division : List (List WordText))
-      → IsUtf8 paragraph → (whole : Bool)
-      → MatchBool whole (division ≡ (word_of paragraph ∷ []) ∷ [])
-      (Divides is_later paragraph division)
-      → All EndsInBlanks (flat_map (λ line. line) division)
-  laid_out-blanks is_later paragraph division utf8 true is =
-      subst (λ d. All EndsInBlanks (flat_map (λ line. line) d)) (sym is)
-      (All-cons EndsInBlanks (word_of paragraph) [] (word_of-blanks paragraph)
-      (All-nil EndsInBlanks))
-  laid_out-blanks is_later paragraph division utf8 false divided =
-      blanks is_later paragraph division utf8 divided
-
+    → All EndsInBlanks (flat division)) where
   parts-begin : (is_later : Bool) (paragraph : List ℕ) (parts : List LineParts)
       → IsUtf8 paragraph → AreParagraphParts settings Divides is_later paragraph parts
       → StartsWith paragraph (covered_by parts)
   parts-begin is_later paragraph parts utf8 (division, laid_out, is) =
       subst (StartsWith paragraph)
       (sym (ap covered_by is ∙ covered_by-parts_from settings is_later division))
-      (laid_out-begin is_later paragraph division utf8 (is_whole settings is_later paragraph)
-      laid_out)
+      (laid_out-cases (λ d. StartsWith paragraph (tiled (flat d))) paragraph _ division
+      (starts_with_of_eq paragraph _ (sym (tiled-word_of paragraph)))
+      (begin is_later paragraph division utf8) (is_whole settings is_later paragraph) laid_out)
 
   parts-blanks : (is_later : Bool) (paragraph : List ℕ) (parts : List LineParts) → IsUtf8 paragraph
       → AreParagraphParts settings Divides is_later paragraph parts
@@ -63,7 +43,9 @@ module _ (settings : Settings) (Divides : Bool → List ℕ → List (List WordT
   parts-blanks is_later paragraph parts utf8 (division, laid_out, is) =
       subst (All (LeavesBlanks settings)) (sym is)
       (parts_from-blanks settings is_later division
-      (laid_out-blanks is_later paragraph division utf8
+      (laid_out-cases (λ d. All EndsInBlanks (flat d)) paragraph _ division
+      (All-cons EndsInBlanks (word_of paragraph) [] (word_of-blanks paragraph)
+      (All-nil EndsInBlanks)) (blanks is_later paragraph division utf8)
       (is_whole settings is_later paragraph) laid_out))
 
   -- ---- the lines of a text
@@ -76,7 +58,7 @@ module _ (settings : Settings) (Divides : Bool → List ℕ → List (List WordT
   LosesOnlyBlanks-from text groups utf8 defined =
       let paragraphs = paragraphs_of settings.line_ending text in
       let all = paragraphs_of-utf8 settings.line_ending text utf8 in
-      let parts = flat_map (λ ps. ps) groups in
+      let parts = flat groups in
       let leaves = groups-all (LeavesBlanks settings) false paragraphs groups
       (groups-map IsUtf8 (AreParagraphParts settings Divides)
       (λ is_later paragraph parts. All (LeavesBlanks settings) parts) parts-blanks false paragraphs
@@ -96,23 +78,14 @@ module _ (settings : Settings) (Divides : Bool → List ℕ → List (List WordT
 module _ (settings : Settings) (Divides : Bool → List ℕ → List (List WordText) → Type 0)
     (tiles : (is_later : Bool) (paragraph : List ℕ) (division : List (List WordText))
     → IsUtf8 paragraph → Divides is_later paragraph division
-    → tiled (flat_map (λ line. line) division) ≡ paragraph) where
-  laid_out-tile : (is_later : Bool) (paragraph : List ℕ) (division : List (List WordText))
-      → IsUtf8 paragraph → (whole : Bool)
-      → MatchBool whole (division ≡ (word_of paragraph ∷ []) ∷ [])
-      (Divides is_later paragraph division)
-      → tiled (flat_map (λ line. line) division) ≡ paragraph
-  laid_out-tile is_later paragraph division utf8 true is =
-      ap (λ d. tiled (flat_map (λ line. line) d)) is ∙ tiled-word_of paragraph
-  laid_out-tile is_later paragraph division utf8 false divided =
-      tiles is_later paragraph division utf8 divided
-
+    → tiled (flat division) ≡ paragraph) where
   parts-tile : (is_later : Bool) (paragraph : List ℕ) (parts : List LineParts) → IsUtf8 paragraph
       → AreParagraphParts settings Divides is_later paragraph parts → covered_by parts ≡ paragraph
   parts-tile is_later paragraph parts utf8 (division, laid_out, is) =
       ap covered_by is ∙ covered_by-parts_from settings is_later division
-      ∙ laid_out-tile is_later paragraph division utf8 (is_whole settings is_later paragraph)
-      laid_out
+      ∙ laid_out-cases (λ d. tiled (flat d) ≡ paragraph) paragraph _ division
+      (tiled-word_of paragraph) (tiles is_later paragraph division utf8)
+      (is_whole settings is_later paragraph) laid_out
 
   pub groups-tile : (is_later : Bool) (paragraphs : List (List ℕ)) (groups : List (List LineParts))
       → All IsUtf8 paragraphs

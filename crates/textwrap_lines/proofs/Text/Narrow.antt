@@ -3,11 +3,10 @@ use Rattle.textwrap_base.proofs.Common.{ℕ, List, [], ◌∷◌, ◌++◌, All,
 use Rattle.textwrap_base.proofs.Common.{append_assoc, IsUtf8, All-nil, All-cons, All-head, All-tail}
 use Rattle.textwrap_base.proofs.Common.{IsUtf8-from_ascii, chars-append}
 use Rattle.textwrap_words.proofs.Common.{columns, IsNarrow}
-use Rattle.textwrap_lines.proofs.Common.{ending_bytes, paragraphs_of, join_with}
+use Rattle.textwrap_lines.proofs.Common.{ending_bytes, paragraphs_of, join_with, LineEnding}
 use Rattle.std.specs.Prelude.{chars, encode_utf8}
 use Rattle.std.proofs.lemmas.Str.Ascii.{IsAscii-from_all}
 use Rattle.textwrap_base.proofs.Lists.Parts.{all-left, all-right}
-use Rattle.textwrap_lines.specs.declared.line_ending.LineEnding.{LineEnding}
 use Rattle.textwrap_lines.proofs.Text.EndingTexts.{ending_bytes-ascii, join-paragraphs_of}
 use Rattle.textwrap_lines.proofs.Text.EndingTexts.{paragraphs_of-utf8}
 

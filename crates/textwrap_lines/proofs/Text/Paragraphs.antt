@@ -1,13 +1,13 @@
 -- A text has its paragraphs in exactly one way.
-use Rattle.textwrap_base.proofs.Common.{◌≡◌, ◌≢◌, ◌↔◌, ℕ, zero, suc, ◌-◌, ◌<◌, Bool, true, false}
-use Rattle.textwrap_base.proofs.Common.{cond, nat_eq, List, [], ◌∷◌, ◌++◌, length, take, drop}
-use Rattle.textwrap_base.proofs.Common.{get_or, All, refl, sym, ap, ◌∙◌, subst, arith, append_assoc}
-use Rattle.textwrap_base.proofs.Common.{append-nil, take-append-drop, length-append, length-drop}
-use Rattle.textwrap_base.proofs.Common.{onto_first, starts_with, false≢true, take_at, drop_at}
-use Rattle.textwrap_base.proofs.Common.{All-nil, All-cons, All-head, All-tail}
+use Rattle.textwrap_base.proofs.Common.{◌≡◌, ◌≢◌, ◌↔◌, ℕ, zero, suc, ◌-◌, ◌<◌, false, nat_eq, List}
+use Rattle.textwrap_base.proofs.Common.{[], ◌∷◌, ◌++◌, length, take, drop, get_or, All, refl, sym}
+use Rattle.textwrap_base.proofs.Common.{ap, ◌∙◌, subst, arith, append_assoc, append-nil}
+use Rattle.textwrap_base.proofs.Common.{take-append-drop, length-append, length-drop, onto_first}
+use Rattle.textwrap_base.proofs.Common.{starts_with, false≢true, take_at, drop_at, All-nil}
+use Rattle.textwrap_base.proofs.Common.{All-cons, All-head, All-tail, cond_both}
 use Rattle.textwrap_lines.proofs.Common.{ending_bytes, paragraphs_of, parts_past, join_with}
+use Rattle.textwrap_lines.proofs.Common.{LineEnding}
 use Rattle.std.proofs.lemmas.List.{drop-append-le}
-use Rattle.textwrap_lines.specs.declared.line_ending.LineEnding.{LineEnding}
 use Rattle.textwrap_lines.specs.declared.line_ending.LineEnding.TheVariants.{CRLF, LF}
 use Rattle.textwrap_lines.specs.LineEnding.{Lacks, AreParagraphs}
 use Rattle.textwrap_lines.proofs.Text.Endings.{ending_bytes-some, parts_past-first, parts_past-none}
@@ -19,13 +19,7 @@ use Rattle.textwrap_base.proofs.Lists.Prefixes.{starts_with-true}
 
 lacks-nil : (ending : List ℕ) → 0 < length ending → Lacks ending []
 lacks-nil ending some before after is =
-    absurd (omega (
-      arith,
-      some,
-      ap length is,
-      length-append before (ending ++ after),
-      length-append ending after,
-    ))
+    absurd (omega (arith, some, ap length is, length-append {A = ℕ}))
 
 -- the text that the parts make begins with the first
 begins : (ending part : List ℕ) (parts : List (List ℕ)) (text : List ℕ)
@@ -61,26 +55,18 @@ lacks-onto_first ending some c cs (part ∷ parts) not_here any is all =
     ∙ not_here) (All-head (Lacks ending) part parts all))
     (All-tail (Lacks ending) part parts all)
 
-lacks-cut : (ending : List ℕ) → 0 < length ending → (c : ℕ) (cs : List ℕ) (b : Bool)
-    → starts_with nat_eq (c ∷ cs) ending ≡ b
-    → All (Lacks ending) (parts_past ending (length ending - 1) cs)
-    → All (Lacks ending) (parts_past ending 0 cs)
-    → All (Lacks ending) (cond b ([] ∷ parts_past ending (length ending - 1) cs)
-    (onto_first c (parts_past ending 0 cs)))
-lacks-cut ending some c cs true starts after joined =
-    All-cons (Lacks ending) [] (parts_past ending (length ending - 1) cs)
-    (lacks-nil ending some) after
-lacks-cut ending some c cs false starts after joined =
-    lacks-onto_first ending some c cs (parts_past ending 0 cs) starts (parts_past-some ending 0 cs)
-    (join-parts_past ending some 0 cs) joined
-
 parts_past-lacks : (ending : List ℕ) → 0 < length ending → (n : ℕ) (cs : List ℕ)
     → All (Lacks ending) (parts_past ending n cs)
 parts_past-lacks ending some n [] = All-cons (Lacks ending) [] [] (lacks-nil ending some)
     (All-nil (Lacks ending))
 parts_past-lacks ending some zero (c ∷ cs) =
-    lacks-cut ending some c cs (starts_with nat_eq (c ∷ cs) ending) refl
-    (parts_past-lacks ending some (length ending - 1) cs) (parts_past-lacks ending some 0 cs)
+    cond_both (starts_with nat_eq (c ∷ cs) ending) ([] ∷ parts_past ending (length ending - 1) cs)
+    (onto_first c (parts_past ending 0 cs)) (All (Lacks ending))
+    (λ _. All-cons (Lacks ending) [] (parts_past ending (length ending - 1) cs)
+    (lacks-nil ending some) (parts_past-lacks ending some (length ending - 1) cs))
+    (λ none. lacks-onto_first ending some c cs (parts_past ending 0 cs) none
+    (parts_past-some ending 0 cs) (join-parts_past ending some 0 cs)
+    (parts_past-lacks ending some 0 cs))
 parts_past-lacks ending some (suc n) (c ∷ cs) = parts_past-lacks ending some n cs
 
 -- ---- there are no others

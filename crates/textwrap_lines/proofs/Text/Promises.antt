@@ -6,9 +6,8 @@ use Rattle.textwrap_words.proofs.Common.{IsNarrow, WordText, sizes_of, tiled, Al
 use Rattle.textwrap_words.proofs.Common.{IsDividedBy, Splitter, ends_in_hyphen, AreCuts}
 use Rattle.textwrap_lines.proofs.Common.{paragraphs_of, ending_bytes, Line, line_from, widths_of}
 use Rattle.textwrap_lines.proofs.Common.{AreIndented, KeepsToWidth, Settings, AreTextLines}
+use Rattle.textwrap_lines.proofs.Common.{KeepToWidths, IsWrapped, LinesKeepToWidth}
 use Rattle.textwrap_base.proofs.Lists.Parts.{flat, Begins}
-use Rattle.textwrap_lines.specs.Paragraph.{KeepToWidths}
-use Rattle.textwrap_lines.specs.Text.{IsWrapped, LinesKeepToWidth}
 use Rattle.textwrap_words.proofs.Word.Pieces.{AreTexts}
 use Rattle.textwrap_lines.proofs.Paragraph.GivenPieces.{pieces-tile, divided-begin, divided-blanks}
 use Rattle.textwrap_lines.proofs.Text.EndingTexts.{paragraphs_of-utf8}

@@ -7,13 +7,11 @@ use Rattle.textwrap_base.proofs.Common.{length-take-le, length_push, nil_from_le
 use Rattle.textwrap_words.proofs.Common.{WordText}
 use Rattle.textwrap_lines.proofs.Common.{ending_bytes, join_with, Took, Settings, Line, Slice}
 use Rattle.textwrap_lines.proofs.Common.{line_bytes, line_from, assembled_line, parts_of}
-use Rattle.textwrap_lines.proofs.Common.{parts_from}
+use Rattle.textwrap_lines.proofs.Common.{parts_from, LineEnding, LineSink}
 use Rattle.std.proofs.lemmas.List.{map_more}
 use Rattle.textwrap_lines.specs.LineSinks.{HasOneMore, Holds}
 use Rattle.textwrap_lines.specs.Paragraph.{Built}
-use Rattle.textwrap_lines.specs.declared.line_ending.LineEnding.{LineEnding}
 use Rattle.textwrap_lines.specs.declared.line_sinks.JoinedLines.{JoinedLines}
-use Rattle.textwrap_lines.specs.declared.line_sinks.LineSink.{LineSink}
 use Rattle.textwrap_lines.specs.declared.line_sinks.LineSink.TheVariants.{Joined}
 use Rattle.textwrap_lines.proofs.Paragraph.Lines.{parts_from-push}
 use Rattle.textwrap_lines.proofs.Text.Lines.{join-push}

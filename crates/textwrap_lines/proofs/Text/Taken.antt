@@ -3,9 +3,8 @@ use Rattle.textwrap_base.proofs.Common.{◌≡◌, ℕ, Bool, nat_lt, List, [], 
 use Rattle.textwrap_base.proofs.Common.{refl, ◌∙◌, subst}
 use Rattle.textwrap_words.proofs.Common.{WordText}
 use Rattle.textwrap_lines.proofs.Common.{paragraphs_of, Took, Settings, Line, LineParts, line_from}
-use Rattle.textwrap_lines.proofs.Common.{AreParagraphParts, AreTextLines}
+use Rattle.textwrap_lines.proofs.Common.{AreParagraphParts, AreTextLines, LineSink}
 use Rattle.textwrap_lines.specs.LineSinks.{Holds, kind_of}
-use Rattle.textwrap_lines.specs.declared.line_sinks.LineSink.{LineSink}
 use Rattle.textwrap_lines.proofs.Text.Lines.{HasGroups, HasGroups-start, HasGroups-more}
 use Rattle.textwrap_lines.proofs.Text.Lines.{HasGroups-end}
 

@@ -5,13 +5,11 @@ use Rattle.textwrap_words.proofs.Common.{IsNarrow, AreWordsOf, sizes_of, Algorit
 use Rattle.textwrap_words.proofs.Common.{LeastCost, IsDividedBy, MayDivide, algorithm_view}
 use Rattle.textwrap_words.proofs.Common.{MaySeparate, Splitter, ArePoints, MaySplit, splitter_view}
 use Rattle.textwrap_lines.proofs.Common.{DividesAs, DividesBy, Line, Settings, settings_view}
-use Rattle.textwrap_lines.proofs.Common.{AreTextLines}
+use Rattle.textwrap_lines.proofs.Common.{AreTextLines, IsWrapped, LinesKeepToWidth, Options}
 use Rattle.textwrap_lines.proofs.Text.Promises.{IsWrapped-by, LinesKeepToWidth-by}
 use Rattle.textwrap_words.specs.declared.wrap_algorithms.WrapAlgorithm.TheVariants.{FirstFit}
 use Rattle.textwrap_base.proofs.Division.Map.{IsDividedBy-some, IsDividedBy-whole}
 use Rattle.textwrap_base.proofs.Lists.Parts.{flat}
-use Rattle.textwrap_lines.specs.Text.{IsWrapped, LinesKeepToWidth}
-use Rattle.textwrap_lines.specs.declared.options.Options.{Options}
 use Rattle.textwrap_words.proofs.Word.Pieces.{AreTexts-words, ArePoints-cuts, ArePoints-hyphens}
 use Rattle.textwrap_words.proofs.Word.GivenCuts.{MaySeparate-texts, MaySplit-cuts, MaySplit-hyphens}
 use Rattle.textwrap_words.proofs.Word.Divisions.{MayDivide-begins, MayDivide-whole, MayDivide-some}

@@ -4,13 +4,11 @@ use Rattle.textwrap_base.proofs.Common.{drop, refl, ap, ◌∙◌, sym, arith, a
 use Rattle.textwrap_base.proofs.Common.{take-append-drop, Bool, true, false, cond, IsUtf8}
 use Rattle.textwrap_base.proofs.Common.{IsCharBoundary, take-take}
 use Rattle.textwrap_words.proofs.Common.{text_width, tile_of, word_view}
-use Rattle.textwrap_lines.proofs.Common.{line_so_far, IsNext}
+use Rattle.textwrap_lines.proofs.Common.{line_so_far, IsNext, Word, OpenLine}
 use Rattle.textwrap_lines.proofs.WordLines.Line.{piece-within, slice-ends, piece-ends, slice-after}
 use Rattle.textwrap_lines.proofs.WordLines.Line.{gap-after, utf8-after, place-after}
-use Rattle.textwrap_words.specs.declared.words.Word.{Word}
 use Rattle.textwrap_words.proofs.Units.Widths.{text_width-le}
 use Rattle.textwrap_lines.specs.WordLines.{coming}
-use Rattle.textwrap_lines.specs.declared.word_lines.OpenLine.{OpenLine}
 
 -- the line with one more piece, whose word and whitespace have so many bytes
 pub record HasPiece (line : OpenLine) (piece : Word) (n m : ℕ) : Type 0 where

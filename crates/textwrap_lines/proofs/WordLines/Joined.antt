@@ -7,15 +7,15 @@ use Rattle.textwrap_base.proofs.Common.{closed_width, open_width, IsGreedy}
 use Rattle.textwrap_words.proofs.Common.{WordText, sizes_of}
 use Rattle.textwrap_lines.proofs.Common.{front_of, Settings, assembled_line, covered, empty_word}
 use Rattle.textwrap_lines.proofs.Common.{first_width, indent_of, later_width, line_from, parts_from}
-use Rattle.textwrap_lines.proofs.Common.{parts_of, widths_of, lines_from}
+use Rattle.textwrap_lines.proofs.Common.{parts_of, widths_of, lines_from, LineSoFar, line_of}
+use Rattle.textwrap_lines.proofs.Common.{lines_after, with_piece}
 use Rattle.std.proofs.lemmas.Bool.{and_cases}
 use Rattle.textwrap_base.proofs.Division.Widths.{closed_width-push}
 use Rattle.textwrap_base.proofs.Division.Grown.{grown, grown-full, grown-room}
 use Rattle.textwrap_base.proofs.Division.GrownLines.{grown-greedy}
 use Rattle.textwrap_base.proofs.Lists.Parts.{all-left, all-right}
 use Rattle.textwrap_words.proofs.Word.Measured.{HasNoPenalty}
-use Rattle.textwrap_lines.specs.WordLines.{LineSoFar, first_line, is_past, line_of, lines_after}
-use Rattle.textwrap_lines.specs.WordLines.{no_pieces, with_piece}
+use Rattle.textwrap_lines.specs.WordLines.{first_line, is_past, no_pieces}
 use Rattle.textwrap_lines.proofs.Paragraph.EndsAs.{last_space}
 use Rattle.textwrap_lines.proofs.Paragraph.LastBlanks.{covered-space}
 use Rattle.textwrap_lines.proofs.Paragraph.WholeLine.{assembled-parts}

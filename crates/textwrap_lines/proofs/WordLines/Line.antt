@@ -16,16 +16,8 @@ module _ (text : List ℕ) (covered len n m : ℕ) (word gap after : List ℕ)
   seam = next ∙ append_assoc word gap after
 
   pub piece-within : len + n + m ≤ length text
-  piece-within = omega (
-    arith,
-    within,
-    n_is,
-    m_is,
-    length-drop len text,
-    ap length seam,
-    length-append word (gap ++ after),
-    length-append gap after,
-  )
+  piece-within =
+      omega (arith, within, n_is, m_is, length-drop len text, ap length seam, length-append {A = ℕ})
 
   word_taken : take n (drop len text) ≡ word
   word_taken = ap (take n) seam ∙ take_at word (gap ++ after) n (sym n_is)

@@ -40,16 +40,6 @@ pub broken_word-wide : (limit : ℕ) (w : WordText) → limit < w.width
 broken_word-wide limit w wide =
     cond-true (nat_lt limit w.width) (broken_pieces limit w) (w ∷ []) (lt-ltb limit w.width wide)
 
-pub tiled-broken : (limit : ℕ) (w : WordText) → IsUtf8 w.word → IsWide w
-    → tiled (w ∷ []) ≡ tiled (broken_word limit w)
-tiled-broken limit w utf8 wide =
-    sym (ap tiled (sym (append-nil (broken_word limit w)))
-    ∙ tiled-broken_words limit (w ∷ []) (All-cons (λ v. IsUtf8 v.word) w [] utf8
-    (All-nil (λ v. IsUtf8 v.word)))
-    (All-cons (λ v. limit < v.width → v.word ≢ []) w []
-    (λ past none. absurd (omega (arith, past, wide, ap text_width none, text_width-nil)))
-    (All-nil (λ v. limit < v.width → v.word ≢ []))))
-
 wide-some : (limit : ℕ) (w : WordText) → IsWide w → limit < w.width → w.word ≢ []
 wide-some limit w wide past none =
     absurd (omega (arith, past, wide, ap text_width none, text_width-nil))
@@ -60,6 +50,14 @@ pub tiled-broken_all : (limit : ℕ) (words : List WordText) → All (λ w. IsUt
 tiled-broken_all limit words utf8 wide =
     tiled-broken_words limit words utf8
     (All-weaker IsWide (λ w. limit < w.width → w.word ≢ []) (wide-some limit) words wide)
+
+pub tiled-broken : (limit : ℕ) (w : WordText) → IsUtf8 w.word → IsWide w
+    → tiled (w ∷ []) ≡ tiled (broken_word limit w)
+tiled-broken limit w utf8 wide =
+    sym (ap tiled (sym (append-nil (broken_word limit w)))
+    ∙ tiled-broken_all limit (w ∷ [])
+    (All-cons (λ v. IsUtf8 v.word) w [] utf8 (All-nil (λ v. IsUtf8 v.word)))
+    (All-cons IsWide w [] wide (All-nil IsWide)))
 
 -- ---- the pieces of a word that is split and broken tile it
 

@@ -1,7 +1,7 @@
 -- The points of a word, one after another.
 use Rattle.textwrap_base.proofs.Common.{◌≡◌, ℕ, suc, ◌+◌, ◌-◌, ◌<◌, ◌≤◌, true, false, cond, List}
 use Rattle.textwrap_base.proofs.Common.{[], ◌∷◌, ◌++◌, length, drop, sym, ap, ◌∙◌, arith, filter}
-use Rattle.textwrap_base.proofs.Common.{slice_range, range_with_len}
+use Rattle.textwrap_base.proofs.Common.{slice_range, range_with_len, Bool}
 use Rattle.textwrap_words.proofs.Common.{broken_word, broken_words, WordText, piece}
 use Rattle.textwrap_words.proofs.Common.{is_hyphen_point, cut_penalty, split_from, split_pieces}
 use Rattle.textwrap_lines.proofs.WordLines.Pieces.{IsWide}
@@ -17,26 +17,14 @@ points_from-end text point past =
     let none : length text - point ≡ 0 = omega (arith, past) in
     ap (λ n. filter (is_hyphen_point text) (range_with_len point n)) none
 
-points_from-is : (text : List ℕ) (point : ℕ) → point < length text
-    → points_from text point ≡ cond (is_hyphen_point text point)
-    (point ∷ points_from text (point + 1)) (points_from text (point + 1))
-points_from-is text point inside =
+points_from-at : (text : List ℕ) (point : ℕ) → point < length text → (b : Bool)
+    → is_hyphen_point text point ≡ b
+    → points_from text point ≡ cond b (point ∷ points_from text (point + 1))
+    (points_from text (point + 1))
+points_from-at text point inside b is =
     let more : length text - point ≡ suc (length text - (point + 1)) = omega (arith, inside) in
     ap (λ n. filter (is_hyphen_point text) (range_with_len point n)) more
-
-pub points_from-point : (text : List ℕ) (point : ℕ) → point < length text
-    → is_hyphen_point text point ≡ true
-    → points_from text point ≡ point ∷ points_from text (point + 1)
-points_from-point text point inside is =
-    points_from-is text point inside
-    ∙ ap (λ b. cond b (point ∷ points_from text (point + 1)) (points_from text (point + 1))) is
-
-pub points_from-none : (text : List ℕ) (point : ℕ) → point < length text
-    → is_hyphen_point text point ≡ false
-    → points_from text point ≡ points_from text (point + 1)
-points_from-none text point inside is =
-    points_from-is text point inside
-    ∙ ap (λ b. cond b (point ∷ points_from text (point + 1)) (points_from text (point + 1))) is
+    ∙ ap (λ t. cond t (point ∷ points_from text (point + 1)) (points_from text (point + 1))) is
 
 -- a word without points stays whole
 pub split-none : (w : WordText) → IsWide w → split_pieces [] w ≡ w ∷ []
@@ -55,13 +43,15 @@ pub pieces_from-point : (limit : ℕ) (w : WordText) (start point : ℕ) → poi
     ≡ broken_word limit (piece (slice_range w.word start point) [] (cut_penalty w.word point))
     ++ pieces_from limit w point (point + 1)
 pieces_from-point limit w start point inside is =
-    ap (λ ps. broken_words limit (split_from w start ps)) (points_from-point w.word point inside is)
+    ap (λ ps. broken_words limit (split_from w start ps))
+    (points_from-at w.word point inside true is)
 
 pub pieces_from-none : (limit : ℕ) (w : WordText) (start point : ℕ) → point < length w.word
     → is_hyphen_point w.word point ≡ false
     → pieces_from limit w start point ≡ pieces_from limit w start (point + 1)
 pieces_from-none limit w start point inside is =
-    ap (λ ps. broken_words limit (split_from w start ps)) (points_from-none w.word point inside is)
+    ap (λ ps. broken_words limit (split_from w start ps))
+    (points_from-at w.word point inside false is)
 
 pub pieces_from-end : (limit : ℕ) (w : WordText) (start point : ℕ) → length w.word ≤ point
     → pieces_from limit w start point

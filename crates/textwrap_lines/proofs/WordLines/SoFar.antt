@@ -1,11 +1,9 @@
 -- The line so far, and the pieces in it.
-use Rattle.textwrap_base.proofs.Common.{◌≡◌, ℕ, ◌+◌, Bool, true, nat_lt, List, [], ◌∷◌, ◌++◌}
-use Rattle.textwrap_base.proofs.Common.{length, sym, ap, ◌∙◌, arith, lt-ltb, length_push}
-use Rattle.textwrap_base.proofs.Common.{open_width}
+use Rattle.textwrap_base.proofs.Common.{◌≡◌, ℕ, ◌+◌, true, nat_lt, List, [], ◌∷◌, ◌++◌, length, sym}
+use Rattle.textwrap_base.proofs.Common.{ap, ◌∙◌, arith, lt-ltb, length_push, open_width}
 use Rattle.textwrap_words.proofs.Common.{WordText, sizes_of}
-use Rattle.textwrap_lines.proofs.Common.{covered}
+use Rattle.textwrap_lines.proofs.Common.{covered, LineSoFar, with_piece}
 use Rattle.textwrap_base.proofs.Division.Widths.{open_width-append}
-use Rattle.textwrap_lines.specs.WordLines.{LineSoFar, with_piece}
 use Rattle.textwrap_lines.proofs.Paragraph.EndsAs.{last_space, last_space-append}
 use Rattle.textwrap_lines.proofs.Paragraph.LastBlanks.{covered-space}
 use Rattle.textwrap_lines.proofs.Paragraph.Covered.{covered-push}
@@ -34,19 +32,4 @@ so_far-push width indent ps x =
     let columns : open_width sizes_of ps + (x.width + length x.whitespace)
     ≡ open_width sizes_of (ps ++ x ∷ []) =
     omega (arith, open_width-append sizes_of ps (x ∷ [])) in
-    let line : Bool → List ℕ → List ℕ → ℕ → LineSoFar =
-    λ b s t n. record {
-      width = width;
-      indent = indent;
-      begun = b;
-      slice = s;
-      gap = t;
-      columns = n;
-    } in
-    let before = (covered ps ++ last_space ps) ++ x.word in
-    let taken = open_width sizes_of ps + (x.width + length x.whitespace) in
-    let is_begun = nat_lt 0 (length (ps ++ x ∷ [])) in
-    ap (λ b. line b before x.whitespace taken) begun
-    ∙ ap (λ s. line is_begun s x.whitespace taken) slice
-    ∙ ap (λ t. line is_begun (covered (ps ++ x ∷ [])) t taken) gap
-    ∙ ap (line is_begun (covered (ps ++ x ∷ [])) (last_space (ps ++ x ∷ []))) columns
+    cc

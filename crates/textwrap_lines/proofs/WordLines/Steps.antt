@@ -1,11 +1,10 @@
 -- Lemmas on lines that are written piece by piece.
 use Rattle.textwrap_base.proofs.Common.{◌≡◌, ℕ, List, [], ◌++◌, refl, ap, sym, ◌∙◌, append_assoc}
 use Rattle.textwrap_words.proofs.Common.{WordText, tiled}
-use Rattle.textwrap_lines.proofs.Common.{GoesOn, IsNext, line_so_far, lines_from}
+use Rattle.textwrap_lines.proofs.Common.{GoesOn, IsNext, line_so_far, lines_from, LineSink}
+use Rattle.textwrap_lines.proofs.Common.{OpenLine}
 use Rattle.textwrap_words.proofs.Word.Tiling.{tiled-append}
 use Rattle.textwrap_lines.specs.WordLines.{LaterLines}
-use Rattle.textwrap_lines.specs.declared.line_sinks.LineSink.{LineSink}
-use Rattle.textwrap_lines.specs.declared.word_lines.OpenLine.{OpenLine}
 use Rattle.textwrap_lines.proofs.Text.Sinks.{Took-none, Took-then}
 
 -- pieces that tile the same

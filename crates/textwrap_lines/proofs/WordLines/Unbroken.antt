@@ -5,9 +5,9 @@ use Rattle.textwrap_base.proofs.Common.{length-append, IsUtf8, le-ltb, All-head,
 use Rattle.textwrap_words.proofs.Common.{broken_words, broken_pieces, WordText, tile_of, tiled}
 use Rattle.textwrap_words.proofs.Common.{words_of, Splitter, split_words}
 use Rattle.textwrap_lines.proofs.Common.{front_of, Settings, front_pieces, later_width, pieces_of}
+use Rattle.textwrap_lines.proofs.Common.{text_limit}
 use Rattle.textwrap_words.proofs.Word.Bounds.{IsBounded, IsBounded-measured}
 use Rattle.textwrap_lines.specs.Layout.{break_limit}
-use Rattle.textwrap_lines.specs.Paragraph.{text_limit}
 use Rattle.textwrap_lines.proofs.Paragraph.Pieces.{pieces_of-tile, split_pieces_of-measured}
 use Rattle.textwrap_words.proofs.Word.Pieces.{split_pieces_of-no_penalty}
 

@@ -10,10 +10,7 @@ use Rattle.textwrap_base.proofs.Cost.Reported.{cost_reported}
 pub queue_search-minima-requires : goal.queue_search-minima-requires
 queue_search-minima-requires g c = record {
   suits = subst SuitQueue (sym c.in-Ok.ensures.costs)
-      (SuitQueue-queue_case
-      (priced_by g.T.Fragment.sizes g.T.Fragment.own_break_penalty c.args.penalties.now)
-      c.args.penalties.now c.args.line_widths.now
-      c.args.fragments.now c.requires.case);
+      (SuitQueue-queue_case _ _ _ _ c.requires.case);
 }
 
 pub returns-clause-entries : goal.returns-clause-entries

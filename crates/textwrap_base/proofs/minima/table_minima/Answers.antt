@@ -88,10 +88,7 @@ returns-in_err-entries-clause-steps g c =
     let added : c.add.new.self ≡ counted c.args.steps.now c.steps.result = c.add.ensures in
     let most : after ≤ counted c.in_ok-costs.costs.steps (table_steps (length given)) =
     c.in_err-entries.ensures.steps_most in
-    steps-refused (Vec Entry g.row.A.Denot)
-    (priced_by g.T.Fragment.sizes g.T.Fragment.own_break_penalty c.args.penalties.now) c.args.penalties.now
-    c.args.line_widths.now c.args.fragments.now c.args.steps.now c.add.new.self
-    c.from_residual-in_err-entries.result c.in_err-entries.field-0.0
+    steps-refused (Vec Entry g.row.A.Denot) _ _ _ _ _ _ _ c.in_err-entries.field-0.0
     c.from_residual-in_err-entries.ensures.1
     (omega (arith, most, all, count, asked, added)) (omega (arith, added))
     (λ wide. absurd (c.in_ok-costs.ensures.too_wide wide))

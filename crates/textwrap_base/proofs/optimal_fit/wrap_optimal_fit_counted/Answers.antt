@@ -7,35 +7,20 @@ use Rattle.textwrap_base.proofs.Cost.Reported.{later_reported}
 
 pub lines_by-requires-clause-len : goal.lines_by-requires-clause-len
 lines_by-requires-clause-len g c =
-    length_reported (line_costs (priced_by g.T.Fragment.sizes g.T.Fragment.own_break_penalty c.args.penalties.now)
-    c.args.penalties.now c.args.line_widths.now c.args.fragments.now)
-    (length c.args.fragments.now) c.deref.result.now (c.deref.ensures.value
-    ∙ c.in_ok-minima.ensures.entries)
+    length_reported _ _ _ (c.deref.ensures.value ∙ c.in_ok-minima.ensures.entries)
 
 pub lines_by-requires-clause-first : goal.lines_by-requires-clause-first
 lines_by-requires-clause-first g c =
-    first_reported (line_costs (priced_by g.T.Fragment.sizes g.T.Fragment.own_break_penalty c.args.penalties.now)
-    c.args.penalties.now c.args.line_widths.now c.args.fragments.now)
-    (length c.args.fragments.now) c.deref.result.now (c.deref.ensures.value
-    ∙ c.in_ok-minima.ensures.entries)
+    first_reported _ _ _ (c.deref.ensures.value ∙ c.in_ok-minima.ensures.entries)
 
 pub lines_by-requires-clause-later : goal.lines_by-requires-clause-later
 lines_by-requires-clause-later g c =
-    later_reported (line_costs (priced_by g.T.Fragment.sizes g.T.Fragment.own_break_penalty c.args.penalties.now)
-    c.args.penalties.now c.args.line_widths.now c.args.fragments.now)
-    (length c.args.fragments.now) c.deref.result.now (c.deref.ensures.value
-    ∙ c.in_ok-minima.ensures.entries)
+    later_reported _ _ _ (c.deref.ensures.value ∙ c.in_ok-minima.ensures.entries)
 
 pub returns-clause-fit : goal.returns-clause-fit
 returns-clause-fit g c =
-    let starts = starts_reported
-    (line_costs (priced_by g.T.Fragment.sizes g.T.Fragment.own_break_penalty c.args.penalties.now)
-    c.args.penalties.now c.args.line_widths.now c.args.fragments.now)
-    (length c.args.fragments.now) c.deref.result.now (c.deref.ensures.value
-    ∙ c.in_ok-minima.ensures.entries) in
-    optimal-returned (priced_by g.T.Fragment.sizes g.T.Fragment.own_break_penalty c.args.penalties.now)
-    c.args.penalties.now c.args.line_widths.now c.args.fragments.now
-    (λ (lines : Vec (Bor (List g.row.T.Denot)) g.row.A.Denot).
+    let starts = starts_reported _ _ _ (c.deref.ensures.value ∙ c.in_ok-minima.ensures.entries) in
+    optimal-returned _ _ _ _ (λ (lines : Vec (Bor (List g.row.T.Denot)) g.row.A.Denot).
     map (λ (line : Bor (List g.row.T.Denot)). line.now) lines.items)
     c.in_ok-lines_by.field-0
     record {
@@ -45,9 +30,7 @@ returns-clause-fit g c =
 
 pub returns-in_err-minima-clause-fit : goal.returns-in_err-minima-clause-fit
 returns-in_err-minima-clause-fit g c =
-    optimal-refused (priced_by g.T.Fragment.sizes g.T.Fragment.own_break_penalty c.args.penalties.now)
-    c.args.penalties.now c.args.line_widths.now c.args.fragments.now
-    (λ (lines : Vec (Bor (List g.row.T.Denot)) g.row.A.Denot).
+    optimal-refused _ _ _ _ (λ (lines : Vec (Bor (List g.row.T.Denot)) g.row.A.Denot).
     map (λ (line : Bor (List g.row.T.Denot)). line.now) lines.items)
     (Vec Minimum g.row.A.Denot) c.from_residual.result c.in_err-minima.field-0.0
     c.from_residual.ensures.1 c.in_err-minima.ensures.overflow_only c.in_err-minima.ensures.too_wide
@@ -55,8 +38,7 @@ returns-in_err-minima-clause-fit g c =
 
 pub returns-clause-steps : goal.returns-clause-steps
 returns-clause-steps g c =
-    λ table. let found = c.in_ok-minima.ensures.steps table in
-    record {
+    λ table. let found = c.in_ok-minima.ensures.steps table in record {
       ok = found.ok;
       exact = found.exact;
       most = found.most;

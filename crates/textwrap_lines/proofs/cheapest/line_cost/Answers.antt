@@ -1,6 +1,6 @@
 use Rattle.textwrap_lines.proofs.cheapest.line_cost.Goals as goal
 use Rattle.textwrap_base.proofs.Common.{◌+◌, ◌-◌, sym, ap, ◌∙◌, arith}
-use Rattle.textwrap_lines.specs.Spans.{no_span}
+use Rattle.textwrap_lines.proofs.Common.{no_span}
 use Rattle.textwrap_lines.proofs.Standing.Costs.{columns-rise, line_cost-spans}
 
 pub overflow_sub-closed-2 : goal.overflow_sub-closed-2

@@ -1,14 +1,10 @@
 use Rattle.textwrap_lines.proofs.cheapest.lines_by.Goals as goal
 use Rattle.textwrap_base.proofs.Common.{arith, Bor, sym, ◌∙◌, ap, subst, ◌≡◌, ◌≢◌, [], All, List}
 use Rattle.textwrap_base.proofs.Common.{reverse, map, drop, FollowStarts, IsDivision}
+use Rattle.textwrap_lines.proofs.Common.{Span}
 use Rattle.textwrap_base.specs.declared.minima.Minimum.{Minimum}
 use Rattle.textwrap_base.proofs.Cost.Lines.{joined, joined_division, lines_more}
 use Rattle.textwrap_base.proofs.Lists.Maps.{reverse_map_push, reverse-map}
-use Rattle.textwrap_lines.specs.declared.spans.Span.{Span}
-
-pub line_start-start-requires-clause-before : goal.line_start-start-requires-clause-before
-line_start-start-requires-clause-before g c = c.requires.later c.loop-end.end (omega arith)
-    (omega arith)
 
 pub loop-end-preserved : goal.loop-end-preserved
 loop-end-preserved g c =
@@ -31,24 +27,19 @@ loop-end-preserved g c =
           (sym shape) more.2;
     }
 
-pub returns-clause-division : goal.returns-clause-division
-returns-clause-division g c =
+pub returns : goal.returns
+returns g c =
     let shape = ap (map (λ (line : Bor (List Span)). line.now)) c.reverse.ensures.items
     ∙ reverse-map (λ (line : Bor (List Span)). line.now) c.loop-end.lines.items in
     let start : c.loop-end.end ≡ 0 = omega arith in
-    let tiles = c.loop-end.invariant.tiles ∙ ap (λ n. drop n c.args.spans.now) start in
-    subst (λ (lines : List (List Span)). IsDivision c.args.spans.now lines) (sym shape)
-    (joined_division c.args.spans.now
-    (reverse (map (λ line. line.now) c.loop-end.lines.items)) c.requires.some tiles
-    c.loop-end.invariant.nonempty)
-
-pub returns-clause-follow : goal.returns-clause-follow
-returns-clause-follow g c =
-    let shape = ap (map (λ (line : Bor (List Span)). line.now)) c.reverse.ensures.items
-    ∙ reverse-map (λ (line : Bor (List Span)). line.now) c.loop-end.lines.items in
-    let start : c.loop-end.end ≡ 0 = omega arith in
-    subst (λ (lines : List (List Span)). FollowStarts
-    (map (λ (m : Minimum). m.start) c.args.minima.now) 0 lines) (sym shape)
-    (subst (λ n. FollowStarts (map (λ (m : Minimum). m.start) c.args.minima.now) n
-    (reverse (map (λ line. line.now) c.loop-end.lines.items))) start
-    c.loop-end.invariant.follow)
+    let lines = reverse (map (λ line. line.now) c.loop-end.lines.items) in
+    record {
+      division = subst (λ (ls : List (List Span)). IsDivision c.args.spans.now ls) (sym shape)
+          (joined_division c.args.spans.now lines c.requires.some
+          (c.loop-end.invariant.tiles ∙ ap (λ n. drop n c.args.spans.now) start)
+          c.loop-end.invariant.nonempty);
+      follow = subst (λ (ls : List (List Span)). FollowStarts
+          (map (λ (m : Minimum). m.start) c.args.minima.now) 0 ls) (sym shape)
+          (subst (λ n. FollowStarts (map (λ (m : Minimum). m.start) c.args.minima.now) n lines)
+          start c.loop-end.invariant.follow);
+    }

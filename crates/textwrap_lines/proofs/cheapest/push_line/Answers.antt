@@ -11,9 +11,6 @@ range-requires-clause-start_le_end g c =
       | else-options w ↦ omega (arith, w.end-is, c.requires.some)
     ]
 
-pub range-requires-clause-start_boundary : goal.range-requires-clause-start_boundary
-range-requires-clause-start_boundary g c = λ some. c.requires.start
-
 pub range-requires-clause-end_boundary : goal.range-requires-clause-end_boundary
 range-requires-clause-end_boundary g c =
     elim c.if-options.branch [

@@ -1,8 +1,7 @@
 use Rattle.textwrap_lines.proofs.cheapest.push_lines.Goals as goal
 use Rattle.textwrap_base.proofs.Common.{◌+◌, List, Bor, [], drop, map, refl, sym, ap, ◌∙◌, subst}
 use Rattle.textwrap_base.proofs.Common.{append-nil, ◌++◌, arith, drop_more, drop_all}
-use Rattle.textwrap_lines.proofs.Common.{Took, settings_view, HaveTexts, span_lines}
-use Rattle.textwrap_lines.specs.declared.spans.Span.{Span}
+use Rattle.textwrap_lines.proofs.Common.{Took, settings_view, HaveTexts, span_lines, Span}
 use Rattle.textwrap_lines.proofs.Standing.Lines.{HasLinesBut, LinesBut-next}
 use Rattle.textwrap_lines.proofs.Text.Sinks.{Took-none}
 

@@ -1,7 +1,8 @@
 use Rattle.textwrap_lines.proofs.printable.line_len.Goals as goal
 use Rattle.textwrap_base.proofs.Common.{◌<◌, subst, arith, length, ne_eqb}
 use Rattle.textwrap_lines.proofs.Common.{NoCutBetween, printable_cut}
-use Rattle.textwrap_lines.proofs.PrintableTexts.Cuts.{printable_cut-others, printable_cut-blanks}
+use Rattle.textwrap_lines.proofs.Paragraph.LastWord.{printable_cut-others}
+use Rattle.textwrap_lines.proofs.PrintableTexts.Cuts.{printable_cut-blanks}
 use Rattle.textwrap_lines.proofs.PrintableTexts.Search.{line_len-all, line_len-back}
 use Rattle.textwrap_lines.proofs.PrintableTexts.Search.{line_len-broken}
 use Rattle.textwrap_lines.proofs.PrintableTexts.SearchOn.{line_len-past_blanks}

@@ -1,7 +1,8 @@
 use Rattle.textwrap_lines.proofs.spans.first_piece.Goals as goal
 use Rattle.textwrap_lines.proofs.Common.{printable_cut}
 use Rattle.textwrap_lines.proofs.PrintableTexts.NextPiece.{first_piece-found}
-use Rattle.textwrap_lines.proofs.PrintableTexts.Cuts.{printable_cut-others, printable_cut-blanks}
+use Rattle.textwrap_lines.proofs.Paragraph.LastWord.{printable_cut-others}
+use Rattle.textwrap_lines.proofs.PrintableTexts.Cuts.{printable_cut-blanks}
 
 pub returns : goal.returns
 returns c =

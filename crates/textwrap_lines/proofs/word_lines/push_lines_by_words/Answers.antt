@@ -6,10 +6,9 @@ use Rattle.textwrap_words.proofs.Common.{broken_words, word_view, words_of, size
 use Rattle.textwrap_words.proofs.Common.{splitter_of, split_words}
 use Rattle.textwrap_lines.proofs.Common.{Took, front_of, settings_view, line_from, parts_from}
 use Rattle.textwrap_lines.proofs.Common.{pieces_of, widths_of, GoesOn, IsNext, later_lines}
-use Rattle.textwrap_lines.proofs.Common.{line_so_far, lines_from}
+use Rattle.textwrap_lines.proofs.Common.{line_so_far, lines_from, line_of, lines_after}
 use Rattle.textwrap_words.proofs.Word.Measured.{HasNoPenalty, IsMeasured, words_of-measured}
 use Rattle.textwrap_words.proofs.Word.Tiling.{tiled-words_of}
-use Rattle.textwrap_lines.specs.WordLines.{line_of, lines_after}
 use Rattle.textwrap_lines.proofs.Paragraph.Pieces.{pieces_of-no_penalty}
 use Rattle.textwrap_lines.proofs.Text.Sinks.{Took-then}
 use Rattle.textwrap_lines.proofs.WordLines.Joined.{lines-greedy}
@@ -18,6 +17,7 @@ use Rattle.textwrap_lines.proofs.WordLines.Pieces.{word_pieces, word_pieces-cons
 use Rattle.textwrap_lines.proofs.WordLines.Steps.{GoesOn-next, GoesOn-start, GoesOn-then}
 use Rattle.textwrap_lines.proofs.WordLines.Steps.{IsNext-same}
 use Rattle.textwrap_lines.proofs.WordLines.Unbroken.{limited-pieces}
+use Rattle.textwrap_lines.proofs.word_lines.push_lines_by_words.Goals.{In-Some}
 
 pub loop-word-init : goal.loop-word-init
 loop-word-init g c =
@@ -38,44 +38,53 @@ loop-word-init g c =
           (words_of-measured c.args.paragraph.now c.utf8.paragraph);
     }
 
-pub push_word-requires-clause-utf8 : goal.push_word-requires-clause-utf8
-push_word-requires-clause-utf8 g c =
-    (All-head IsMeasured (word_view c.in-Some.word) c.next.new.self
-    (subst (All IsMeasured) c.in-Some.ensures.steps c.loop-word.invariant.measured)).utf8
+word_measured : (g : _) (c : In-Some g) → IsMeasured (word_view c.in-Some.word)
+word_measured g c = All-head IsMeasured (word_view c.in-Some.word) c.next.new.self
+    (subst (All IsMeasured) c.in-Some.ensures.steps c.loop-word.invariant.measured)
 
-pub push_word-requires-clause-width : goal.push_word-requires-clause-width
-push_word-requires-clause-width g c =
-    (All-head IsMeasured (word_view c.in-Some.word) c.next.new.self
-    (subst (All IsMeasured) c.in-Some.ensures.steps c.loop-word.invariant.measured)).width
+-- the pieces of the next word are the next that are left
+next_left : (g : _) (c : In-Some g) → GoesOn (later_lines c.of-layout.result) c.args.lines.now
+    c.first-line.result (broken_words c.of-layout.result.limit
+    (split_words (splitter_of c.args.hyphens) (words_of c.args.paragraph.now))) c.loop-word.lines
+    c.loop-word.line (word_pieces c.of-layout.result.limit (splitter_of c.args.hyphens)
+    (word_view c.in-Some.word) ++ broken_words c.of-layout.result.limit
+    (split_words (splitter_of c.args.hyphens) c.next.new.self))
+next_left g c =
+    let limit = c.of-layout.result.limit in
+    let splitter = splitter_of c.args.hyphens in
+    subst (GoesOn (later_lines c.of-layout.result) c.args.lines.now c.first-line.result
+    (broken_words limit (split_words splitter (words_of c.args.paragraph.now))) c.loop-word.lines
+    c.loop-word.line)
+    (ap (λ ws. broken_words limit (split_words splitter ws)) c.in-Some.ensures.steps
+    ∙ word_pieces-cons limit splitter (word_view c.in-Some.word) c.next.new.self)
+    c.loop-word.invariant.taken
 
-pub push_word-requires-clause-next : goal.push_word-requires-clause-next
-push_word-requires-clause-next g c =
-    let later = later_lines c.of-layout.result in
+pub push_word-requires : goal.push_word-requires
+push_word-requires g c =
+    let at = (goal.at.push_word-requires g c).In-Some in
+    let measured = word_measured g at in
     let limit = c.of-layout.result.limit in
     let splitter = splitter_of c.args.hyphens in
     let paragraph = c.args.paragraph.now in
     let words = words_of paragraph in
     let word = word_view c.in-Some.word in
-    let left = c.next.new.self in
-    let line = c.first-line.result in
     let all = broken_words limit (split_words splitter words) in
-    let measured = words_of-measured paragraph c.utf8.paragraph in
-    let utf8 = (All-head IsMeasured word left
-    (subst (All IsMeasured) c.in-Some.ensures.steps c.loop-word.invariant.measured)).utf8 in
     let tiles = tiled-split_all limit splitter words
-    (All-weaker IsMeasured IsText (λ w m. m.utf8) words measured) ∙ tiled-words_of paragraph in
-    let begin : IsNext line all = record {
+    (All-weaker IsMeasured IsText (λ w m. m.utf8) words
+    (words_of-measured paragraph c.utf8.paragraph)) ∙ tiled-words_of paragraph in
+    let begin : IsNext c.first-line.result all = record {
       utf8 = subst IsUtf8 (sym c.first-line.ensures.place) c.utf8.paragraph;
       after = [];
       place = c.first-line.ensures.place ∙ sym tiles ∙ sym (append-nil (tiled all));
     } in
-    IsNext-same c.loop-word.line (word_pieces limit splitter word) (word ∷ [])
-    (sym (tiled-split limit splitter word utf8))
-    (GoesOn-next later (word_pieces limit splitter word)
-    (broken_words limit (split_words splitter left))
-    (subst (GoesOn later c.args.lines.now line all c.loop-word.lines c.loop-word.line)
-    (ap (λ ws. broken_words limit (split_words splitter ws)) c.in-Some.ensures.steps
-    ∙ word_pieces-cons limit splitter word left) c.loop-word.invariant.taken) begin)
+    record {
+      utf8 = measured.utf8;
+      width = measured.width;
+      next = IsNext-same c.loop-word.line (word_pieces limit splitter word) (word ∷ [])
+          (sym (tiled-split limit splitter word measured.utf8))
+          (GoesOn-next (later_lines c.of-layout.result) (word_pieces limit splitter word)
+          (broken_words limit (split_words splitter c.next.new.self)) (next_left g at) begin);
+    }
 
 pub loop-word-preserved : goal.loop-word-preserved
 loop-word-preserved g c =
@@ -83,23 +92,15 @@ loop-word-preserved g c =
     let limit = c.of-layout.result.limit in
     let splitter = splitter_of c.args.hyphens in
     let word = word_view c.in-Some.word in
-    let left = c.next.new.self in
-    let line = c.first-line.result in
-    let all = broken_words limit (split_words splitter (words_of c.args.paragraph.now)) in
-    let step = subst (λ h. GoesOn later c.loop-word.lines c.loop-word.line
-    (broken_words limit (split_words (splitter_of h) (word ∷ []))) c.push_word.new.lines
-    c.push_word.new.line []) c.of-layout.ensures.hyphens in
     record {
       taken = GoesOn-then later (word_pieces limit splitter word)
-          (broken_words limit (split_words splitter left))
-          (subst (GoesOn later c.args.lines.now line all c.loop-word.lines c.loop-word.line)
-          (ap (λ ws. broken_words limit (split_words splitter ws)) c.in-Some.ensures.steps
-          ∙ word_pieces-cons limit splitter word left) c.loop-word.invariant.taken)
+          (broken_words limit (split_words splitter c.next.new.self))
+          (next_left g (goal.at.loop-word-preserved g c).In-Some)
           c.push_word.new.lines c.push_word.new.line
           (subst (λ h. GoesOn later c.loop-word.lines c.loop-word.line
           (word_pieces limit (splitter_of h) word) c.push_word.new.lines c.push_word.new.line [])
           c.of-layout.ensures.hyphens c.in_ok-push_word.ensures);
-      measured = All-tail IsMeasured word left
+      measured = All-tail IsMeasured word c.next.new.self
           (subst (All IsMeasured) c.in-Some.ensures.steps c.loop-word.invariant.measured);
     }
 

@@ -1,12 +1,11 @@
 use Rattle.textwrap_lines.proofs.wrapping.find_pieces.Goals as goal
 use Rattle.textwrap_base.proofs.Common.{◌≡◌, [], ◌∷◌, ◌++◌, cond, map, sym, ap, ◌∙◌}
 use Rattle.textwrap_words.proofs.Common.{broken_words, word_view, MaySeparate, MaySplit}
-use Rattle.textwrap_lines.proofs.Common.{settings_view, empty_word, front_pieces, later_width}
+use Rattle.textwrap_lines.proofs.Common.{settings_view, empty_word, front_pieces, later_width, Word}
 use Rattle.std.proofs.Common.{Iter}
 use Rattle.std.specs.Iterator.Adapters.{copied_source}
 use Rattle.std.specs.Slice.Iter.{iter_rest}
 use Rattle.std.specs.declared.iter.Copied.{Copied}
-use Rattle.textwrap_words.specs.declared.words.Word.{Word}
 use Rattle.textwrap_base.proofs.Lists.Maps.{given-copied}
 use Rattle.textwrap_lines.proofs.Paragraph.Pieces.{word_of-nil}
 use Rattle.textwrap_lines.proofs.Paragraph.GivenPieces.{pieces-tile}

@@ -3,8 +3,7 @@ use Rattle.textwrap_base.proofs.Common.{List, Vec, Bor, ◌≡◌, ◌++◌, map
 use Rattle.textwrap_base.proofs.Common.{StartsWith, flat_map, starts_with_of_append, map-append}
 use Rattle.textwrap_words.proofs.Common.{word_view, tiled, Tiles, MaySeparate, MaySplit}
 use Rattle.textwrap_lines.proofs.Common.{Took, settings_view, ArePieces, line_from, parts_from}
-use Rattle.textwrap_lines.proofs.Common.{widths_of}
-use Rattle.textwrap_words.specs.declared.words.Word.{Word}
+use Rattle.textwrap_lines.proofs.Common.{widths_of, Word}
 use Rattle.textwrap_words.proofs.Word.Divisions.{MayDivide-begins}
 use Rattle.textwrap_base.proofs.Lists.Parts.{flat}
 use Rattle.textwrap_words.proofs.Word.Tiling.{tiled-append}

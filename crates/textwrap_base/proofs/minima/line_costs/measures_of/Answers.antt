@@ -6,11 +6,8 @@ use Rattle.textwrap_base.proofs.Cost.Measures.{total_width-same, open_width-tota
 
 pub overflow_add-before-in-loop-fragment : goal.overflow_add-before-in-loop-fragment
 overflow_add-before-in-loop-fragment g c =
-    let sizes = sizes-same measured (priced_by g.T.Fragment.sizes g.T.Fragment.own_break_penalty c.args.penalties.now)
-    c.loop-fragment.measures.items (take c.loop-fragment.fragment-index c.args.fragments.now)
-    c.loop-fragment.invariant.priced in
-    let same = open_width-same measured_sizes g.T.Fragment.sizes c.loop-fragment.measures.items
-    (take c.loop-fragment.fragment-index c.args.fragments.now) sizes in
+    let sizes = sizes-same _ _ _ _ c.loop-fragment.invariant.priced in
+    let same = open_width-same _ _ _ _ sizes in
     let all = open_width-total g.T.Fragment.sizes c.args.fragments.now
     c.loop-fragment.fragment-index c.fragment-item.result (omega arith) in
     let is = ap g.T.Fragment.sizes c.fragment-item.is in
@@ -31,11 +28,8 @@ overflow_add-before-in-loop-fragment g c =
 pub returns-clause-measured : goal.returns-clause-measured
 returns-clause-measured g c =
     let all = take_all c.loop-fragment.fragment-index c.args.fragments.now (omega arith) in
-    let sizes = sizes-same measured (priced_by g.T.Fragment.sizes g.T.Fragment.own_break_penalty c.args.penalties.now)
-    c.loop-fragment.measures.items (take c.loop-fragment.fragment-index c.args.fragments.now)
-    c.loop-fragment.invariant.priced in
-    let same = total_width-same measured_sizes g.T.Fragment.sizes c.loop-fragment.measures.items
-    c.args.fragments.now (sizes ∙ ap (map g.T.Fragment.sizes) all) in
+    let sizes = sizes-same _ _ _ _ c.loop-fragment.invariant.priced in
+    let same = total_width-same _ _ _ c.args.fragments.now (sizes ∙ ap (map g.T.Fragment.sizes) all) in
     record {
       before = c.loop-fragment.invariant.all;
       total = omega (arith, same, c.requires);

@@ -15,7 +15,4 @@ returns-then-break_penalties_suit-clause-suits g c = λ yes.
     (priced_by g.T.Fragment.sizes g.T.Fragment.own_break_penalty c.args.penalties.now)
     c.args.penalties.now c.args.line_widths.now
     c.args.fragments.now = search (rules, yes) in
-    SuitQueue-queue_case
-    (priced_by g.T.Fragment.sizes g.T.Fragment.own_break_penalty c.args.penalties.now)
-    c.args.penalties.now c.args.line_widths.now
-    c.args.fragments.now case
+    SuitQueue-queue_case _ _ _ _ case

@@ -22,15 +22,8 @@ loop-piece-init g c =
       wide = subst (All IsWide) (sym left) (broken_pieces-wide limit word);
     }
 
-pub push_piece-requires-in-loop-piece-clause-width :
-    goal.push_piece-requires-in-loop-piece-clause-width
-push_piece-requires-in-loop-piece-clause-width g c =
-    All-head IsWide (word_view c.in-Some.piece) (pieces_left c.next.new.self)
-    (subst (All IsWide) c.in-Some.ensures.steps c.loop-piece.invariant.wide)
-
-pub push_piece-requires-in-loop-piece-clause-room :
-    goal.push_piece-requires-in-loop-piece-clause-room
-push_piece-requires-in-loop-piece-clause-room g c =
+pub push_piece-requires-in-loop-piece : goal.push_piece-requires-in-loop-piece
+push_piece-requires-in-loop-piece g c =
     let limit = c.args.limit in
     let word = word_view c.args.word.now in
     let piece = word_view c.in-Some.piece in
@@ -41,7 +34,11 @@ push_piece-requires-in-loop-piece-clause-room g c =
     let whole = ap length (tiled-broken limit word c.requires.utf8 c.requires.width) in
     let one = ap length (append-nil (tile_of word)) in
     let parts = length-append (tile_of piece) (tiled left) in
-    omega (arith, len, whole, one, parts, c.requires.room)
+    record {
+      width = All-head IsWide piece left
+          (subst (All IsWide) c.in-Some.ensures.steps c.loop-piece.invariant.wide);
+      room = omega (arith, len, whole, one, parts, c.requires.room);
+    }
 
 pub loop-piece-preserved : goal.loop-piece-preserved
 loop-piece-preserved g c =

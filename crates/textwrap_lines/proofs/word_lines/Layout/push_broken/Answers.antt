@@ -24,24 +24,22 @@ loop-piece-init g c =
       wide = subst (All IsWide) (sym left) (broken_pieces-wide layout.limit word);
     }
 
-pub push_piece-requires-in-loop-piece-clause-width :
-    goal.push_piece-requires-in-loop-piece-clause-width
-push_piece-requires-in-loop-piece-clause-width g c =
-    All-head IsWide (word_view c.in-Some.piece) (pieces_left c.next.new.self)
-    (subst (All IsWide) c.in-Some.ensures.steps c.loop-piece.invariant.wide)
-
-pub push_piece-requires-in-loop-piece-clause-next :
-    goal.push_piece-requires-in-loop-piece-clause-next
-push_piece-requires-in-loop-piece-clause-next g c =
+pub push_piece-requires-in-loop-piece : goal.push_piece-requires-in-loop-piece
+push_piece-requires-in-loop-piece g c =
     let layout = c.args.self.now in
     let word = word_view c.args.word.now in
     let taken = subst (GoesOn (later_lines layout) c.args.lines.now
     c.args.line.now (broken_word layout.limit word) c.loop-piece.lines
     c.loop-piece.line) c.in-Some.ensures.steps c.loop-piece.invariant.taken in
-    GoesOn-next (later_lines layout) (word_view c.in-Some.piece ∷ [])
-    (pieces_left c.next.new.self) taken
-    (IsNext-same c.args.line.now (word ∷ []) (broken_word layout.limit word)
-    (tiled-broken layout.limit word c.requires.utf8 c.requires.width) c.requires.next)
+    let piece = word_view c.in-Some.piece in
+    let left = pieces_left c.next.new.self in
+    record {
+      width = All-head IsWide piece left
+          (subst (All IsWide) c.in-Some.ensures.steps c.loop-piece.invariant.wide);
+      next = GoesOn-next (later_lines layout) (piece ∷ []) left taken
+          (IsNext-same c.args.line.now (word ∷ []) (broken_word layout.limit word)
+          (tiled-broken layout.limit word c.requires.utf8 c.requires.width) c.requires.next);
+    }
 
 pub loop-piece-preserved : goal.loop-piece-preserved
 loop-piece-preserved g c =

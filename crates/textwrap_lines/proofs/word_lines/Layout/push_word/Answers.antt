@@ -52,12 +52,6 @@ loop-point-init g c =
       before = omega arith;
     }
 
-pub inner_piece-requires-clause-order : goal.inner_piece-requires-clause-order
-inner_piece-requires-clause-order g c = c.loop-point.invariant.before
-
-pub inner_piece-requires-clause-from_cut : goal.inner_piece-requires-clause-from_cut
-inner_piece-requires-clause-from_cut g c = λ some. c.loop-point.invariant.cut
-
 pub inner_piece-requires-clause-to_cut : goal.inner_piece-requires-clause-to_cut
 inner_piece-requires-clause-to_cut g c =
     after-hyphen c.args.word.now.word.now c.loop-point.point c.requires.utf8
@@ -132,9 +126,6 @@ loop-point-preserved g c =
             before = omega (arith, c.loop-point.invariant.before);
           })
     ]
-
-pub range_from-rest-requires : goal.range_from-rest-requires
-range_from-rest-requires g c = λ some. c.loop-point.invariant.cut
 
 pub push_broken-requires-2-clause-next : goal.push_broken-requires-2-clause-next
 push_broken-requires-2-clause-next g c =

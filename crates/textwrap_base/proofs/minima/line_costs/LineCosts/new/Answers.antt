@@ -16,7 +16,5 @@ returns-clause-costs g c =
 
 pub returns-clause-break_penalties : goal.returns-clause-break_penalties
 returns-clause-break_penalties g c =
-    break_penalties-measured (2 ^ 64 - 1)
-    (priced_by g.T.Fragment.sizes g.T.Fragment.own_break_penalty c.args.penalties.now)
-    c.in_ok-measures_of.field-0.items c.args.fragments.now c.in_ok-measures_of.ensures.priced
+    break_penalties-measured _ _ _ _ c.in_ok-measures_of.ensures.priced
     c.in_ok-measures_of.ensures.break_penalties

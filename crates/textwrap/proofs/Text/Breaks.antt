@@ -1,6 +1,6 @@
 -- The line feeds of a text that is filled in place, one part after another.
 use Rattle.textwrap_base.proofs.Common.{◌≡◌, ℕ, ◌+◌, List, [], ◌∷◌, ◌++◌, length, refl, sym, ap}
-use Rattle.textwrap_base.proofs.Common.{◌∙◌, subst, arith, append_assoc, append-nil, length-append}
+use Rattle.textwrap_base.proofs.Common.{◌∙◌, arith, append_assoc, append-nil, length-append}
 use Rattle.textwrap_base.proofs.Common.{Bor, Option, None, Some, length_push, IsGreedy}
 use Rattle.textwrap_words.proofs.Common.{WordText, sizes_of, tiled, words_of}
 use Rattle.textwrap_lines.proofs.Common.{paragraphs_of, line_feed}
@@ -36,15 +36,10 @@ HasBreaks-more width text breaks more start part left after lines so_far left_is
     record {
       more = λ divisions divided.
           let (all, are, is) = so_far.more (lines ∷ divisions)
-          (subst (λ ps. AreDividedAt width ps (lines ∷ divisions)) (sym left_is)
-          (greedy, divided)) in (
+          (rw left_is (greedy, divided)) in (
             all,
             are,
-            ap (λ l. l ++ breaks_from (start + (length part + 1)) divisions) more_is
-                ∙ append_assoc breaks (breaks_of start lines)
-                (breaks_from (start + (length part + 1)) divisions)
-                ∙ ap (λ n. breaks ++ (breaks_of start lines ++ breaks_from n divisions)) (sym past)
-                ∙ is,
+            rw (more_is, append_assoc, ← past) is,
           );
     }
 

@@ -8,7 +8,6 @@ use Rattle.textwrap_words.proofs.Common.{text_width}
 use Rattle.textwrap_lines.proofs.Common.{join_with, line_view, line_bytes}
 use Rattle.textwrap.proofs.Common.{Layout, blanks, cell, padded, gapped}
 use Rattle.std.specs.Cow.{cow_str_bytes}
-use Rattle.std.proofs.lemmas.List.{flat_map_more}
 use Rattle.textwrap_words.proofs.Word.Measured.{text_width-nil}
 use Rattle.textwrap_lines.proofs.Text.Lines.{line_bytes-line_view}
 use Rattle.textwrap_base.proofs.Lists.Ranges.{range-split}
@@ -32,13 +31,8 @@ pub gapped-more : (layout : Layout) (lines : List (List ℕ)) (step first later 
     → (row ++ layout.middle) ++ padded layout.column_width (cell lines step first (later + 1))
     ≡ before ++ gapped layout (map (cell lines step first) (range_with_len 1 (later + 1)))
 gapped-more layout lines step first later before row is =
-    let cs = map (cell lines step first) (range_with_len 1 later) in
-    let c = cell lines step first (later + 1) in
-    append_assoc row layout.middle (padded layout.column_width c)
-    ∙ ap (λ l. l ++ (layout.middle ++ padded layout.column_width c)) is
-    ∙ flat_map_more (λ text. layout.middle ++ padded layout.column_width text) before cs c
-    ∙ ap (λ l. before ++ gapped layout l)
-    (sym (map-range_with_len_more (cell lines step first) 1 later (later + 1) (omega arith)))
+    rw (map-range_with_len_more (cell lines step first) 1 later (later + 1) (omega arith))
+    (simp (is, flat_map-append, append_assoc, append-nil))
 
 padded-nil : (width : ℕ) → padded width [] ≡ blanks width
 padded-nil width =
@@ -67,11 +61,7 @@ pub join-gapped : (layout : Layout) (x : List ℕ) (xs : List (List ℕ))
     ≡ padded layout.column_width x ++ gapped layout xs
 join-gapped layout x [] = sym (append-nil (padded layout.column_width x))
 join-gapped layout x (y ∷ ys) =
-    let px = padded layout.column_width x in
-    let py = padded layout.column_width y in
-    ap (λ l. (px ++ layout.middle) ++ l) (join-gapped layout y ys)
-    ∙ append_assoc px layout.middle (py ++ gapped layout ys)
-    ∙ ap (λ l. px ++ l) (sym (append_assoc layout.middle py (gapped layout ys)))
+    simp (append_assoc, join-gapped layout y ys)
 
 -- the later cells: those of lines, and a run of those without
 pub gapped-all : (layout : Layout) (lines : List (List ℕ)) (step first later count : ℕ)
@@ -86,12 +76,11 @@ gapped-all layout lines step first later count (inl none) =
     ∙ append-nil (gapped layout (map (cell lines step first) (range_with_len 1 later)))
     ∙ ap (λ n. gapped layout (map (cell lines step first) (range_with_len 1 n))) (sym same)
 gapped-all layout lines step first later count (inr past) =
-    let at = cell lines step first in
     let here : later + 1 ≡ 1 + later = omega arith in
     let from : length lines ≤ first + (1 + later) * step = omega arith in
-    ap (λ l. gapped layout (map at (range_with_len 1 later)) ++ l)
-    (sym (gapped-missing layout lines step first (1 + later) count from))
-    ∙ sym (flat_map-append (λ text. layout.middle ++ padded layout.column_width text)
-    (map at (range_with_len 1 later)) (map at (range_with_len (1 + later) count)))
-    ∙ ap (gapped layout) (sym (map-append at (range_with_len 1 later)
-    (range_with_len (1 + later) count)) ∙ ap (map at) (sym (range-split 1 later count)))
+    simp (
+      range-split,
+      map-append,
+      flat_map-append,
+      gapped-missing layout lines step first (1 + later) count from,
+    )

@@ -1,6 +1,6 @@
 -- A text without line feeds is cut at blanks where it is filled with whole words.
 use Rattle.textwrap_base.proofs.Common.{◌≡◌, ◌≢◌, ℕ, ◌<◌, Bool, true, false, MatchBool, List, []}
-use Rattle.textwrap_base.proofs.Common.{◌∷◌, ◌++◌, All, length, map, refl, sym, ap, ◌∙◌, subst}
+use Rattle.textwrap_base.proofs.Common.{◌∷◌, All, length, map, refl, sym, ap, ◌∙◌, subst}
 use Rattle.textwrap_base.proofs.Common.{arith, append-nil, All-head, All-drop, IsDivision, Sizes}
 use Rattle.textwrap_words.proofs.Common.{without_final_blanks, WordText, sizes_of, tiled, word_of}
 use Rattle.textwrap_words.proofs.Common.{words_of, AreWordsOf, Algorithm, Greedy, LeastCost}
@@ -85,8 +85,7 @@ module _ (width : ℕ) (algorithm : Algorithm) (text : List ℕ) where
     parts = text ∷ [];
     some = omega arith;
     text_is = refl;
-    filled_is = ap (λ ds. joined_lines (parts_from (unbroken_at width) false ds)) is
-        ∙ ap line_bytes (line_from-whole (unbroken_at width) false text whole);
+    filled_is = rw is (ap line_bytes (line_from-whole (unbroken_at width) false text whole));
   }
   cut-laid_out division false whole divided = cut-division division divided
 
@@ -103,8 +102,7 @@ module _ (width : ℕ) (algorithm : Algorithm) (text : List ℕ) where
       → IsCutAtBlanks text (joined_lines (flat groups))
   cut-groups [] are = absurd are
   cut-groups (parts ∷ groups) (are, none) =
-      subst (λ ps. IsCutAtBlanks text (joined_lines ps))
-      (sym (append-nil parts) ∙ ap (λ gs. parts ++ flat gs) (sym none)) (cut-parts parts are)
+      rw (none, append-nil) (cut-parts parts are)
 
 -- a text without line feeds is one paragraph
 one_paragraph : (text : List ℕ) → All (λ c. c ≢ line_feed) text → paragraphs_of LF text ≡ text ∷ []
@@ -117,7 +115,5 @@ pub cut-filled : (width : ℕ) (algorithm : Algorithm) (text filled : List ℕ)
     → All (λ c. c ≢ line_feed) text → IsFilledUnbroken width algorithm text filled
     → IsCutAtBlanks text filled
 cut-filled width algorithm text filled none (lines, are, is) =
-    subst (IsCutAtBlanks text) (sym (is ∙ ap (λ ls. feed_joined (map line_bytes ls)) are.given))
-    (cut-groups width algorithm text are.groups
-    (subst (λ ps. AreGroups (AreParagraphParts (unbroken_at width) (Divides width algorithm)) false
-    ps are.groups) (one_paragraph text none) are.defined))
+    rw (is, are.given) (cut-groups width algorithm text are.groups
+    (rw (one_paragraph text none) at are.defined))

@@ -63,30 +63,19 @@ narrowed-more : (ms ls : List ℕ) (n a b : ℕ) → AreAt ms ls n a b
     → narrowed (drop n ms) (drop n ls)
     ≡ cond (a == b) (a ∷ narrowed (drop (n + 1) ms) (drop (n + 1) ls)) []
 narrowed-more ms ls n a b here =
-    ap (λ l. narrowed l (drop n ls))
-    (drop_more ms n a here.in_margin ∙ ap (λ x. x ∷ drop (n + 1) ms) (sym here.ours))
-    ∙ ap (narrowed (a ∷ drop (n + 1) ms))
-    (drop_more ls n b here.in_line ∙ ap (λ x. x ∷ drop (n + 1) ls) (sym here.theirs))
+    rw (drop_more ms n a here.in_margin, drop_more ls n b here.in_line, ← here.ours, ← here.theirs)
 
 pub narrowed-stop : (ms ls : List ℕ) (n a b : ℕ) → AreAt ms ls n a b → (a ≡ b → ⊥)
     → take n ms ++ narrowed (drop n ms) (drop n ls) ≡ narrowed ms ls → take n ms ≡ narrowed ms ls
 narrowed-stop ms ls n a b here other so_far =
-    sym (append-nil (take n ms))
-    ∙ ap (λ l. take n ms ++ l) (sym (narrowed-more ms ls n a b here
-    ∙ ap (λ t. cond t (a ∷ narrowed (drop (n + 1) ms) (drop (n + 1) ls)) []) (ne_eqb a b other)))
-    ∙ so_far
+    simp append-nil at (rw (narrowed-more ms ls n a b here, ne_eqb a b other) at so_far)
 
 pub narrowed-step : (ms ls : List ℕ) (n a b : ℕ) → AreAt ms ls n a b → a ≡ b
     → take n ms ++ narrowed (drop n ms) (drop n ls) ≡ narrowed ms ls
     → take (n + 1) ms ++ narrowed (drop (n + 1) ms) (drop (n + 1) ls) ≡ narrowed ms ls
 narrowed-step ms ls n a b here same so_far =
-    let rest = narrowed (drop (n + 1) ms) (drop (n + 1) ls) in
-    ap (λ l. l ++ rest)
-    (take_more ms n a here.in_margin ∙ ap (λ x. take n ms ++ x ∷ []) (sym here.ours))
-    ∙ append_assoc (take n ms) (a ∷ []) rest
-    ∙ ap (λ l. take n ms ++ l) (sym (narrowed-more ms ls n a b here
-    ∙ ap (λ t. cond t (a ∷ rest) []) (eq-eqb a b same)))
-    ∙ so_far
+    rw (take_more ms n a here.in_margin, ← here.ours, append_assoc)
+    (rw (narrowed-more ms ls n a b here, eq-eqb a b same) at so_far)
 
 pub narrowed-done : (ms ls : List ℕ) (n : ℕ) → n ≡ length (zip ms ls)
     → take n ms ++ narrowed (drop n ms) (drop n ls) ≡ narrowed ms ls → ms ≡ narrowed ms ls
@@ -94,12 +83,9 @@ narrowed-done ms ls n all so_far =
     let len : n ≡ min (length ms) (length ls) = all ∙ length-zip ms ls in
     ⊎_elim
     (λ (short : length ms ≤ n).
-    sym (take_all n ms short) ∙ sym (append-nil (take n ms))
-    ∙ ap (λ l. take n ms ++ narrowed l (drop n ls)) (sym (drop_all n ms short)) ∙ so_far)
+    rw (take_all n ms short, drop_all n ms short, append-nil) at so_far)
     (λ (short : length ls ≤ n).
-    sym (take-append-drop n ms)
-    ∙ ap (λ l. take n ms ++ l) (sym (narrowed-ended (drop n ms)))
-    ∙ ap (λ l. take n ms ++ narrowed (drop n ms) l) (sym (drop_all n ls short)) ∙ so_far)
+    rw (drop_all n ls short, narrowed-ended, take-append-drop) at so_far)
     (either_short (length ms) (length ls) n len)
 
 -- ---- lines that are joined
@@ -122,19 +108,14 @@ joined-map : (f : List ℕ → List ℕ) (ls : List (List ℕ)) (n i : ℕ) (lin
     → IsLineAt ls n i line
     → join_with_byte 10 (map f (take n ls) ++ f line ∷ [])
     ≡ join_with_byte 10 (map f (take (n + 1) ls))
-joined-map f ls n i line here =
-    ap (join_with_byte 10) (ap (λ l. map f (take n ls) ++ f l ∷ []) here.is
-    ∙ sym (map_more f ls n line here.within))
+joined-map f ls n i line here = rw (map_more f ls n line here.within, ← here.is)
 
 pub joined-first : (f : List ℕ → List ℕ) (ls : List (List ℕ)) (n i : ℕ) (line text : List ℕ)
     → IsLineAt ls n i line → i ≡ 0 → text ≡ join_with_byte 10 (map f (take n ls))
     → text ++ f line ≡ join_with_byte 10 (map f (take (n + 1) ls))
 joined-first f ls n i line text here first so_far =
     let none : n ≡ 0 = sym here.place ∙ first in
-    ap (λ l. l ++ f line)
-    (so_far ∙ ap (λ k. join_with_byte 10 (map f (take k ls))) none)
-    ∙ ap (λ k. join_with_byte 10 (map f (take k ls) ++ f line ∷ [])) (sym none)
-    ∙ joined-map f ls n i line here
+    rw (so_far, ← joined-map f ls n i line here, none)
 
 pub joined-more : (f : List ℕ → List ℕ) (ls : List (List ℕ)) (n i : ℕ) (line text : List ℕ)
     → IsLineAt ls n i line → 0 < i → text ≡ join_with_byte 10 (map f (take n ls))
@@ -142,7 +123,6 @@ pub joined-more : (f : List ℕ → List ℕ) (ls : List (List ℕ)) (n i : ℕ)
 joined-more f ls n i line text here later so_far =
     let place = here.place in
     let within = here.within in
-    ap (λ l. (l ++ 10 ∷ []) ++ f line) so_far
-    ∙ join-push (map f (take n ls)) (f line)
-    (omega (arith, length-map (take n ls) f, length-take n ls))
-    ∙ joined-map f ls n i line here
+    rw (so_far, ← joined-map f ls n i line here)
+    (join-push (map f (take n ls)) (f line)
+    (omega (arith, length-map (take n ls) f, length-take n ls)))

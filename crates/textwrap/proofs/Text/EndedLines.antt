@@ -91,7 +91,4 @@ pub ended_lines-cut : (text part rest : List ℕ) (l : EndedLine)
     × (rest ≡ after_first is_feed text)
     → line_before_feed part ≡ l → ended_lines text ≡ l ∷ ended_lines rest
 ended_lines-cut text part rest l cut first =
-    ended_lines-feed text cut.0
-    ∙ ap (λ p. line_before_feed p ∷ ended_lines (after_first is_feed text)) (sym cut.1)
-    ∙ ap (λ k. k ∷ ended_lines (after_first is_feed text)) first
-    ∙ ap (λ r. l ∷ ended_lines r) (sym cut.2)
+    rw (ended_lines-feed text cut.0, ← cut.1, ← cut.2, first)

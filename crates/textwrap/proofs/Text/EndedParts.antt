@@ -1,8 +1,8 @@
 -- The parts of a text that is cut after each line feed.
-use Rattle.textwrap_base.proofs.Common.{◌≡◌, ◌≢◌, ℕ, ◌+◌, ◌<◌, cond, Option, None, Some, List, []}
+use Rattle.textwrap_base.proofs.Common.{◌≡◌, ◌≢◌, ℕ, ◌+◌, ◌<◌, Option, None, Some, List, []}
 use Rattle.textwrap_base.proofs.Common.{◌∷◌, ◌++◌, length, take, drop, refl, sym, ap, ◌∙◌, subst}
 use Rattle.textwrap_base.proofs.Common.{arith, append_assoc, append-nil, take-append-drop}
-use Rattle.textwrap_base.proofs.Common.{onto_first, ne_eqb, nil_from_length, All-head, All-tail}
+use Rattle.textwrap_base.proofs.Common.{ne_eqb, nil_from_length, All-head, All-tail}
 use Rattle.textwrap_base.proofs.Common.{All-from_get_or}
 use Rattle.textwrap.proofs.Common.{ended_parts}
 use Rattle.std.proofs.Common.{MatchOption}
@@ -18,26 +18,20 @@ pub ended_parts-front : (front rest : List ℕ) → HasNoLineFeed front
     → ended_parts (front ++ 10 ∷ rest) ≡ (front ++ 10 ∷ []) ∷ ended_parts rest
 ended_parts-front [] rest lacks = refl
 ended_parts-front (c ∷ front) rest lacks =
-    let parts = ended_parts (front ++ 10 ∷ rest) in
-    ap (λ b. cond b ((c ∷ []) ∷ parts) (onto_first c parts))
-    (ne_eqb c 10 (All-head (λ d. d ≢ 10) c front lacks))
-    ∙ ap (onto_first c) (ended_parts-front front rest (All-tail (λ d. d ≢ 10) c front lacks))
-
-ended_parts-last : (c : ℕ) (cs : List ℕ) → HasNoLineFeed (c ∷ cs)
-    → ended_parts (c ∷ cs) ≡ (c ∷ cs) ∷ []
-ended_parts-last c [] lacks =
-    ap (λ b. cond b ((c ∷ []) ∷ []) (onto_first c []))
-    (ne_eqb c 10 (All-head (λ d. d ≢ 10) c [] lacks))
-ended_parts-last c (d ∷ cs) lacks =
-    let parts = ended_parts (d ∷ cs) in
-    ap (λ b. cond b ((c ∷ []) ∷ parts) (onto_first c parts))
-    (ne_eqb c 10 (All-head (λ e. e ≢ 10) c (d ∷ cs) lacks))
-    ∙ ap (onto_first c) (ended_parts-last d cs (All-tail (λ e. e ≢ 10) c (d ∷ cs) lacks))
+    rw (
+      ne_eqb c 10 (All-head (λ d. d ≢ 10) c front lacks),
+      ended_parts-front front rest (All-tail (λ d. d ≢ 10) c front lacks),
+    )
 
 pub ended_parts-whole : (part : List ℕ) → HasNoLineFeed part → part ≢ []
     → ended_parts part ≡ part ∷ []
 ended_parts-whole [] lacks some = absurd (some refl)
-ended_parts-whole (c ∷ cs) lacks some = ended_parts-last c cs lacks
+ended_parts-whole (c ∷ []) lacks some = rw (ne_eqb c 10 (All-head (λ d. d ≢ 10) c [] lacks))
+ended_parts-whole (c ∷ d ∷ cs) lacks some =
+    rw (
+      ne_eqb c 10 (All-head (λ e. e ≢ 10) c (d ∷ cs) lacks),
+      ended_parts-whole (d ∷ cs) (All-tail (λ e. e ≢ 10) c (d ∷ cs) lacks) (λ none. cc),
+    )
 
 -- what a search for the line feed finds is the first part
 first_part : (w x rest : List ℕ) (found : Option (ℕ × ℕ)) → w ≡ x ++ rest → FindsChar 10 w found
@@ -46,10 +40,9 @@ first_part : (w x rest : List ℕ) (found : Option (ℕ × ℕ)) → w ≡ x ++ 
 first_part w x rest None is lacks (all, some) =
     let left : rest ≡ [] = append_cancel_left w rest []
     (ap (λ l. l ++ rest) (sym all) ∙ sym is ∙ sym (append-nil w)) in
-    ended_parts-whole w (All-from_get_or (λ c. c ≢ 10) w 0
+    rw (all, left) (ended_parts-whole w (All-from_get_or (λ c. c ≢ 10) w 0
     (λ k within. NoCharPasses-char 10 w k lacks (omega arith) within))
-    (λ none. omega (arith, some, ap length none))
-    ∙ ap (λ p. p ∷ []) (sym all) ∙ ap (λ r. x ∷ ended_parts r) (sym left)
+    (λ none. omega (arith, some, ap length none)))
 first_part w x rest (Some q) is (before, at) cut =
     let front = take q.0 w in
     let ends : q.1 ≡ q.0 + 1 = at.ends in
@@ -64,9 +57,7 @@ first_part w x rest (Some q) is (before, at) cut =
     ∙ sym (append_assoc front (10 ∷ []) (drop q.1 w))) in
     let free : HasNoLineFeed front = All-from_get_or (λ c. c ≢ 10) front 0
     (λ k within. NoCharPasses-char 10 front k before (omega arith) within) in
-    ap ended_parts whole ∙ ended_parts-front front (drop q.1 w) free
-    ∙ ap (λ p. p ∷ ended_parts (drop q.1 w)) (sym part)
-    ∙ ap (λ r. x ∷ ended_parts r) (sym left)
+    ap ended_parts whole ∙ rw (part, left) (ended_parts-front front (drop q.1 w) free)
 
 -- `split_inclusive` at the line feed gives the parts
 pub YieldsList-from_split_inclusive : {s : _} (text : List ℕ)

@@ -1,6 +1,6 @@
 -- A text has its parts in one way.
 use Rattle.textwrap_base.proofs.Common.{◌≡◌, ◌≢◌, ◌↔◌, ℕ, ◌==◌, Bool, true, false, cond, List, []}
-use Rattle.textwrap_base.proofs.Common.{◌∷◌, ◌++◌, refl, sym, ap, ◌∙◌, subst, append_assoc}
+use Rattle.textwrap_base.proofs.Common.{◌∷◌, refl, sym, ap, ◌∙◌, subst, append_assoc}
 use Rattle.textwrap_base.proofs.Common.{append-nil, inl, inr, flat_map, onto_first, eqb-true}
 use Rattle.textwrap_base.proofs.Common.{eqb-false, All-nil, All-cons}
 use Rattle.textwrap.proofs.Common.{ended_parts}
@@ -51,15 +51,16 @@ pub ended_parts-flat : (parts : List (List ℕ)) → AreEnded parts
     → ended_parts (flat_map (λ part. part) parts) ≡ parts
 ended_parts-flat [] all = refl
 ended_parts-flat (part ∷ []) (inl (front, lacks, is)) =
-    ap ended_parts (append-nil part ∙ is) ∙ ended_parts-front front [] lacks
-    ∙ ap (λ p. p ∷ []) (sym is)
+    rw (append-nil, is) (ended_parts-front front [] lacks)
 ended_parts-flat (part ∷ []) (inr (lacks, some)) =
     ap ended_parts (append-nil part) ∙ ended_parts-whole part lacks some
 ended_parts-flat (part ∷ next ∷ parts) ((front, lacks, is), all) =
-    let rest = flat_map (λ p. p) (next ∷ parts) in
-    ap (λ p. ended_parts (p ++ rest)) is ∙ ap ended_parts (append_assoc front (10 ∷ []) rest)
-    ∙ ended_parts-front front rest lacks ∙ ap (λ p. p ∷ ended_parts rest) (sym is)
-    ∙ ap (λ ps. part ∷ ps) (ended_parts-flat (next ∷ parts) all)
+    rw (
+      is,
+      append_assoc,
+      ended_parts-front front (flat_map (λ p. p) (next ∷ parts)) lacks,
+      ended_parts-flat (next ∷ parts) all,
+    )
 
 pub ended_parts_one : (text : List ℕ) (parts : List (List ℕ))
     → AreEndedParts text parts ↔ (parts ≡ ended_parts text)

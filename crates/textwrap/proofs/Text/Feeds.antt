@@ -1,6 +1,6 @@
 -- The line feeds in their places.
 use Rattle.textwrap_base.proofs.Common.{◌≡◌, ℕ, ◌+◌, ◌-◌, ◌<◌, List, [], ◌∷◌, ◌++◌, All, length}
-use Rattle.textwrap_base.proofs.Common.{refl, sym, ap, ◌∙◌, subst, arith, append_assoc, append-nil}
+use Rattle.textwrap_base.proofs.Common.{refl, sym, ap, ◌∙◌, arith, append_assoc, append-nil}
 use Rattle.textwrap_base.proofs.Common.{length-append, flat_map, length_push}
 use Rattle.textwrap_words.proofs.Common.{blank, WordText, tiled}
 use Rattle.textwrap_lines.proofs.Common.{ending_bytes, paragraphs_of, line_feed}
@@ -40,19 +40,14 @@ feeds-part start before (line ∷ next ∷ lines) after places some (words, endi
     let past : length ((before ++ text) ++ line_feed ∷ []) ≡ end =
     omega (arith, len, shorter, length-append before text, length_push (before ++ text) line_feed)
     in
-    let old_seam : before ++ (((text ++ blank ∷ []) ++ rest) ++ after) ≡ (before ++ text)
-    ++ blank ∷ (rest ++ after) = simp append_assoc in
     let old : before ++ (tiled (flat (line ∷ next ∷ lines)) ++ after) ≡ (before ++ text)
     ++ blank ∷ (rest ++ after) =
     ap (λ l. before ++ (l ++ after)) (tiled-append line (flat (next ∷ lines))
-    ∙ ap (λ l. l ++ rest) ending) ∙ old_seam in
-    let new_seam : ((before ++ text) ++ line_feed ∷ []) ++ (joined ++ after) ≡ before
-    ++ (((text ++ line_feed ∷ []) ++ joined) ++ after) = simp append_assoc in
+    ∙ ap (λ l. l ++ rest) ending) ∙ simp append_assoc in
     let new : ((before ++ text) ++ line_feed ∷ []) ++ (joined ++ after) ≡ before
     ++ (feed_joined (broken_lines (line ∷ next ∷ lines)) ++ after) =
-    new_seam ∙ ap (λ l. before ++ (l ++ after))
-    (sym (join_with-cons (line_feed ∷ []) text (broken_lines (next ∷ lines))
-    (broken_lines-some next lines))) in
+    rw (join_with-cons (line_feed ∷ []) text (broken_lines (next ∷ lines))
+    (broken_lines-some next lines)) (simp append_assoc) in
     ap (λ l. with_line_feeds others (set l (end - 1) line_feed)) old
     ∙ ap (with_line_feeds others) (set_at (before ++ text) blank (rest ++ after) line_feed (end - 1)
     place ∙ sym (append_assoc (before ++ text) (line_feed ∷ []) (rest ++ after)))
@@ -70,22 +65,14 @@ feeds-parts width start before [] divisions some divided len = absurd (omega ari
 feeds-parts width start before (part ∷ parts) [] some divided len = absurd divided
 feeds-parts width start before (part ∷ []) (lines ∷ divisions) some (greedy, none) len =
     let broken = IsBroken-greedy (width ∷ []) part lines greedy in
-    let after = breaks_from (start + length (tiled (flat lines)) + 1) in
-    ap (λ ds. with_line_feeds (breaks_of start lines ++ after ds) (before ++ part)) none
-    ∙ ap (λ l. with_line_feeds (breaks_of start lines ++ []) (before ++ l))
-    (sym broken.tiles ∙ sym (append-nil (tiled (flat lines))))
-    ∙ feeds-part start before lines [] [] broken.some broken.apart len
-    ∙ ap (λ l. before ++ l) (append-nil (feed_joined (broken_lines lines)))
-    ∙ ap (λ l. before ++ feed_joined l) (sym (append-nil (broken_lines lines)))
-    ∙ ap (λ ds. before ++ feed_joined (broken_lines lines ++ flat_map broken_lines ds)) (sym none)
+    let all = feeds-part start before lines [] [] broken.some broken.apart len in
+    rw (none, ← broken.tiles) (simp append-nil (simp append-nil at all))
 feeds-parts width start before (part ∷ next ∷ parts) (lines ∷ divisions) some (greedy, divided)
     len =
     let broken = IsBroken-greedy (width ∷ []) part lines greedy in
     let past = start + length (tiled (flat lines)) + 1 in
     let row = feed_joined (broken_lines lines) in
     let rest = feed_joined (next ∷ parts) in
-    let seam : before ++ (row ++ (line_feed ∷ [] ++ rest)) ≡ (before ++ (row ++ line_feed ∷ []))
-    ++ rest = simp append_assoc in
     let place : length (before ++ (row ++ line_feed ∷ [])) ≡ past = omega (
       arith,
       len,
@@ -94,21 +81,17 @@ feeds-parts width start before (part ∷ next ∷ parts) (lines ∷ divisions) s
       length-joined blank line_feed (broken_lines lines),
       ap length (tiled-broken lines broken.some broken.apart),
     ) in
-    ap (λ l. with_line_feeds (breaks_of start lines ++ breaks_from past divisions) (before ++ l))
-    (join_with-cons (line_feed ∷ []) part (next ∷ parts) (omega arith)
-    ∙ append_assoc part (line_feed ∷ []) rest
-    ∙ ap (λ l. l ++ (line_feed ∷ [] ++ rest)) (sym broken.tiles))
-    ∙ feeds-part start before lines (line_feed ∷ [] ++ rest) (breaks_from past divisions)
-    broken.some broken.apart len
-    ∙ ap (with_line_feeds (breaks_from past divisions)) seam
-    ∙ feeds-parts width past (before ++ (row ++ line_feed ∷ [])) (next ∷ parts) divisions
-    (omega arith) divided place
-    ∙ append_assoc before (row ++ line_feed ∷ []) (feed_joined (flat_map broken_lines divisions))
-    ∙ ap (λ l. before ++ l) (append_assoc row (line_feed ∷ [])
-    (feed_joined (flat_map broken_lines divisions))
-    ∙ sym (join-append (line_feed ∷ []) (broken_lines lines) (flat_map broken_lines divisions)
-    (all_broken-some lines broken.some)
-    (divisions-some width next parts divisions divided)))
+    let first = feeds-part start before lines (line_feed ∷ rest) (breaks_from past divisions)
+    broken.some broken.apart len in
+    let later = feeds-parts width past (before ++ (row ++ line_feed ∷ [])) (next ∷ parts) divisions
+    (omega arith) divided place in
+    rw (
+      ← broken.tiles,
+      join-append (line_feed ∷ []) (broken_lines lines)
+          (flat_map broken_lines divisions) (all_broken-some lines broken.some)
+          (divisions-some width next parts divisions divided),
+    )
+    (simp append_assoc (first ∙ simp append_assoc at later))
 
 -- the line feeds in their places fill the text
 pub feeds-filled : (width : ℕ) (text : List ℕ) (divisions : List (List (List WordText)))
@@ -137,8 +120,5 @@ pub filled-by_feeds : (width : ℕ) (text searched bytes breaks places new : Lis
     → IsFilledInPlace width text new
 filled-by_feeds width text searched bytes breaks places new divisions divided breaks_are same whole
     places_are new_is =
-    subst (IsFilledInPlace width text)
-    (sym (new_is ∙ ap (λ l. with_line_feeds l bytes) (places_are ∙ breaks_are)
-    ∙ ap (with_line_feeds (breaks_from 0 divisions)) whole))
-    (feeds-filled width text divisions
-    (subst (λ l. AreDividedAt width (paragraphs_of LF l) divisions) same divided))
+    rw (new_is, whole, places_are, breaks_are)
+    (feeds-filled width text divisions (rw same at divided))

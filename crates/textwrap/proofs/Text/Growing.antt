@@ -40,13 +40,13 @@ module _ {width start : ℕ} {part old breaks : List ℕ} {begin end taken : ℕ
         some = λ any. omega (arith, from_is, len_is, (first has).some);
         plain = All-tail IsPlain x left has.plain;
         room = passed has len len_is;
-        places = ap (λ n. pushed ++ breaks_of n next) from_is
-            ∙ ap (λ l. l ++ breaks_of end next) pushed_is
-            ∙ append_assoc breaks ((end - 1) ∷ []) (breaks_of end next)
-            ∙ ap (λ l. breaks ++ l) (sym after)
-            ∙ ap (λ ls. breaks ++ breaks_of begin ls)
-            (sym (grown-full sizes_of width width x left line some full))
-            ∙ has.places;
+        places = rw (
+          from_is,
+          pushed_is,
+          append_assoc,
+          ← after,
+          ← grown-full sizes_of width width x left line some full,
+        ) has.places;
         whole = λ fits. absurd (omega (
           arith,
           full,
@@ -71,7 +71,6 @@ module _ {width start : ℕ} {part old breaks : List ℕ} {begin end taken : ℕ
           ap length none,
         )))),
       ) in
-      let next = grown sizes_of width width left (line ++ x ∷ []) in
       record {
         after = omega (arith, from_is, has.after);
         end_is = omega (
@@ -86,11 +85,8 @@ module _ {width start : ℕ} {part old breaks : List ℕ} {begin end taken : ℕ
         some = λ any. omega (arith, from_is, len_is, (first has).some, has.end_is);
         plain = All-tail IsPlain x left has.plain;
         room = passed has len len_is;
-        places = ap (λ n. kept ++ breaks_of n next) from_is
-            ∙ ap (λ l. l ++ breaks_of begin next) kept_is
-            ∙ ap (λ ls. breaks ++ breaks_of begin ls)
-            (sym (grown-room sizes_of width width x left line room))
-            ∙ has.places;
+        places = rw (from_is, kept_is, ← grown-room sizes_of width width x left line room)
+            has.places;
         whole = λ fits. append_assoc line (x ∷ []) left ∙ has.whole fits;
       }
 

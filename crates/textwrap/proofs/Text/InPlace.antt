@@ -51,8 +51,7 @@ changes-part : (width : ℕ) (part : List ℕ) (lines : List (List WordText))
     → IsGreedy sizes_of (width ∷ []) (words_of part) lines
     → Changes part (feed_joined (broken_lines lines))
 changes-part width part lines greedy =
-    subst (λ l. Changes l (feed_joined (broken_lines lines)))
-    (sym (join-broken part lines (IsBroken-greedy (width ∷ []) part lines greedy)))
+    rw (join-broken part lines (IsBroken-greedy (width ∷ []) part lines greedy))
     (changes-joined (broken_lines lines))
 
 changes-parts : (width : ℕ) (parts : List (List ℕ)) (divisions : List (List (List WordText)))
@@ -61,10 +60,7 @@ changes-parts : (width : ℕ) (parts : List (List ℕ)) (divisions : List (List 
 changes-parts width [] divisions some divided = absurd (omega arith)
 changes-parts width (part ∷ parts) [] some divided = absurd divided
 changes-parts width (part ∷ []) (lines ∷ divisions) some (greedy, none) =
-    subst (λ l. Changes part (feed_joined l))
-    (sym (append-nil (broken_lines lines))
-    ∙ ap (λ ds. broken_lines lines ++ flat_map broken_lines ds) (sym none))
-    (changes-part width part lines greedy)
+    rw (none, append-nil) (changes-part width part lines greedy)
 changes-parts width (part ∷ next ∷ parts) (lines ∷ divisions) some (greedy, divided) =
     let rest = flat_map broken_lines divisions in
     subst (Changes (feed_joined (part ∷ next ∷ parts)))
@@ -125,11 +121,9 @@ pub record KeepsText (old new : List ℕ) : Type 0 where
 pub filled-keeps : (width : ℕ) (text filled : List ℕ) → IsFilledInPlace width text filled
     → KeepsText text filled
 filled-keeps width text filled (divisions, divided, is) =
-    let changes : Changes text filled = subst (Changes text) (sym is)
-    (subst (λ l. Changes l (feed_joined (flat_map broken_lines divisions)))
-    (join-paragraphs_of LF text)
+    let changes : Changes text filled = rw (is, ← join-paragraphs_of LF text)
     (changes-parts width (paragraphs_of LF text) divisions
-    (parts_past-some (ending_bytes LF) 0 text) divided)) in
+    (parts_past-some (ending_bytes LF) 0 text) divided) in
     record {
       len = changes-len text filled changes;
       only_blanks = changes-each text filled changes;

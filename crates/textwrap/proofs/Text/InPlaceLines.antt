@@ -1,6 +1,6 @@
 -- The lines of a text that is filled in place are the lines of the wrapped text.
 use Rattle.textwrap_base.proofs.Common.{◌≡◌, ℕ, ◌-◌, ◌<◌, ◌≤◌, Bool, true, false, ◌||◌, nat_lt}
-use Rattle.textwrap_base.proofs.Common.{◌==◌, List, [], ◌∷◌, ◌++◌, All, length, map, refl, sym, ap}
+use Rattle.textwrap_base.proofs.Common.{◌==◌, List, [], ◌∷◌, All, length, map, refl, sym, ap}
 use Rattle.textwrap_base.proofs.Common.{◌∙◌, subst, arith, flat_map, IsUtf8, and_parts, ltb-true}
 use Rattle.textwrap_base.proofs.Common.{map-append, All-head, All-tail, All-map, line_width}
 use Rattle.textwrap_base.proofs.Common.{closed_width, IsGreedy}
@@ -92,9 +92,8 @@ module _ (width : ℕ) (is_later : Bool) (part : List ℕ) (lines : List (List W
   has_lines true whole = record {
     parts = parts_of (unbroken_at width) is_later (word_of part ∷ []) ∷ [];
     are = AreParagraphParts-whole (unbroken_at width) (Divides width) is_later part whole;
-    lines_are = ap (λ l. l ∷ []) (line_from-whole (unbroken_at width) is_later part whole
-        ∙ ap trimmed_line (sym (tiled-words_of part)))
-        ∙ ap (λ ls. map trimmed_line (broken_lines ls)) (sym (one_line whole));
+    lines_are = rw (one_line whole, tiled-words_of part)
+        (ap (λ l. l ∷ []) (line_from-whole (unbroken_at width) is_later part whole));
   }
   has_lines false longer = record {
     parts = parts_from (unbroken_at width) is_later lines;
@@ -130,10 +129,7 @@ groups_of width is_later (part ∷ parts) (lines ∷ divisions) utf8 narrow (gre
     record {
       groups = first.parts ∷ rest.groups;
       are = (first.are, rest.are);
-      lines_are = map-append line_from first.parts (flat rest.groups)
-          ∙ ap (λ ls. ls ++ map line_from (flat rest.groups)) first.lines_are
-          ∙ ap (λ ls. map trimmed_line (broken_lines lines) ++ ls) rest.lines_are
-          ∙ sym (map-append trimmed_line (broken_lines lines) (flat_map broken_lines divisions));
+      lines_are = simp (map-append, first.lines_are, rest.lines_are);
     }
 
 pub filled-wrapped : (width : ℕ) (text filled : List ℕ) → IsUtf8 text → IsNarrow text

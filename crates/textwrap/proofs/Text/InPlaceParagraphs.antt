@@ -32,14 +32,11 @@ filled_one width text filled other (divisions, divided, is) (others, others_divi
 
 Lacks-left : (ending text more : List ℕ) → Lacks ending (text ++ more) → Lacks ending text
 Lacks-left ending text more lacks before after is =
-    lacks before (after ++ more) (ap (λ l. l ++ more) is
-    ∙ append_assoc before (ending ++ after) more
-    ∙ ap (λ l. before ++ l) (append_assoc ending after more))
+    lacks before (after ++ more) (rw is (simp append_assoc))
 
 Lacks-right : (ending text more : List ℕ) → Lacks ending (text ++ more) → Lacks ending more
 Lacks-right ending text more lacks before after is =
-    lacks (text ++ before) after (ap (λ l. text ++ l) is
-    ∙ sym (append_assoc text before (ending ++ after)))
+    lacks (text ++ before) after (rw is (simp append_assoc))
 
 lacks-joined : (ending separator : List ℕ) (texts : List (List ℕ))
     → Lacks ending (join_with separator texts) → All (Lacks ending) texts

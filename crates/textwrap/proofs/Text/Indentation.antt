@@ -5,7 +5,6 @@ use Rattle.textwrap_base.proofs.Common.{append_assoc, inl, inr, flat_map, IsUtf8
 use Rattle.textwrap_base.proofs.Common.{All-tail, All-append}
 use Rattle.textwrap.proofs.Common.{is_blank_line, ended_parts}
 use Rattle.std.specs.Str.{chars, trim_start, trim_end}
-use Rattle.std.proofs.lemmas.Bool.{cond-false}
 use Rattle.textwrap_base.proofs.Lists.Parts.{nil_after, all-left}
 use Rattle.textwrap.specs.Indentation.{indent_of_part, indented, HasNoLineFeed, EndsInLineFeed}
 use Rattle.textwrap.specs.Indentation.{AreEnded}
@@ -79,14 +78,12 @@ whole-map prefix (part ∷ parts) (inl bare) =
       | true ↦ bare
       | false ↦ refl
     ] in
-    ap (λ l. (l ++ part) ∷ map (λ p. indent_of_part prefix p ++ p) parts) same
-    ∙ ap (λ ps. (prefix ++ part) ∷ ps) (whole-map prefix parts (inl bare))
+    rw (same, whole-map prefix parts (inl bare))
 whole-map prefix (part ∷ parts) (inr full) =
-    ap (λ l. (l ++ part) ∷ map (λ p. indent_of_part prefix p ++ p) parts)
-    (cond-false (is_blank_line part) (trim_end prefix) prefix
-    (All-head (λ p. is_blank_line p ≡ false) part parts full))
-    ∙ ap (λ ps. (prefix ++ part) ∷ ps)
-    (whole-map prefix parts (inr (All-tail (λ p. is_blank_line p ≡ false) part parts full)))
+    rw (
+      All-head (λ p. is_blank_line p ≡ false) part parts full,
+      whole-map prefix parts (inr (All-tail (λ p. is_blank_line p ≡ false) part parts full)),
+    )
 
 pub indented-whole : (prefix text : List ℕ)
     → (trim_end prefix ≡ prefix) ⊎ All (λ part. is_blank_line part ≡ false) (ended_parts text)

@@ -1,7 +1,7 @@
 -- The lines of a part in a row, joined by blanks and by line feeds.
 use Rattle.textwrap_base.proofs.Common.{◌≡◌, ℕ, ◌<◌, List, [], ◌∷◌, ◌++◌, length, refl, sym, ap}
 use Rattle.textwrap_base.proofs.Common.{◌∙◌, arith, append_assoc, append-nil, length-append}
-use Rattle.textwrap_base.proofs.Common.{flat_map, length_push}
+use Rattle.textwrap_base.proofs.Common.{flat_map}
 use Rattle.textwrap_words.proofs.Common.{blank, WordText, tiled}
 use Rattle.textwrap_lines.proofs.Common.{join_with, line_feed}
 use Rattle.textwrap.proofs.Common.{broken_lines, AreDividedAt}
@@ -46,22 +46,14 @@ join-append separator [] ys some more = absurd (omega arith)
 join-append separator (x ∷ []) ys some more =
     join_with-cons separator x ys more ∙ append_assoc x separator (join_with separator ys)
 join-append separator (x ∷ y ∷ xs) ys some more =
-    ap (λ l. (x ++ separator) ++ l) (join-append separator (y ∷ xs) ys (omega arith) more)
-    ∙ sym (append_assoc (x ++ separator) (join_with separator (y ∷ xs))
-    (separator ++ join_with separator ys))
+    rw (join-append separator (y ∷ xs) ys (omega arith) more) (simp append_assoc)
 
 pub length-joined : (c d : ℕ) (texts : List (List ℕ))
     → length (join_with (c ∷ []) texts) ≡ length (join_with (d ∷ []) texts)
 length-joined c d [] = refl
 length-joined c d (text ∷ []) = refl
-length-joined c d (text ∷ next ∷ texts) = omega (
-  arith,
-  length-joined c d (next ∷ texts),
-  length_push text c,
-  length_push text d,
-  length-append (text ++ c ∷ []) (join_with (c ∷ []) (next ∷ texts)),
-  length-append (text ++ d ∷ []) (join_with (d ∷ []) (next ∷ texts)),
-)
+length-joined c d (text ∷ next ∷ texts) =
+    simp (length-append, length-joined c d (next ∷ texts))
 
 pub all_broken-some : (lines : List (List WordText)) → 0 < length lines
     → 0 < length (broken_lines lines)

@@ -46,9 +46,7 @@ pub width-more : (width : ℕ) (texts : List (List ℕ)) (n : ℕ) (text : List 
     → text ≡ get_or texts n text
     → fold max width (map text_width (drop n texts))
     ≡ fold max (max width (text_width text)) (map text_width (drop (n + 1) texts))
-width-more width texts n text within is =
-    ap (λ ls. fold max width (map text_width ls)) (drop_more texts n text within)
-    ∙ ap (λ l. fold max (max width (text_width l)) (map text_width (drop (n + 1) texts))) (sym is)
+width-more width texts n text within is = rw (drop_more texts n text within, ← is)
 
 narrowed : (common : Option (Bor (List ℕ))) (prefix : List ℕ) (rest : List (List ℕ))
     → common_prefix (common_prefix (texts_in common ++ prefix ∷ []) ∷ rest)
@@ -62,11 +60,8 @@ pub common-more : (common : Option (Bor (List ℕ))) (new : List ℕ) (texts : L
     → common_prefix (texts_in common ++ map line_prefix (drop n texts))
     ≡ common_prefix (new ∷ map line_prefix (drop (n + 1) texts))
 common-more common new texts n text within is narrows =
-    let rest = map line_prefix (drop (n + 1) texts) in
-    ap (λ ls. common_prefix (texts_in common ++ map line_prefix ls)) (drop_more texts n text within)
-    ∙ ap (λ l. common_prefix (texts_in common ++ line_prefix l ∷ rest)) (sym is)
-    ∙ sym (narrowed common (line_prefix text) rest)
-    ∙ ap (λ c. common_prefix (c ∷ rest)) (sym narrows)
+    rw (drop_more texts n text within, ← is, narrows)
+    (sym (narrowed common (line_prefix text) (map line_prefix (drop (n + 1) texts))))
 
 pub narrowed-ascii : (common : Option (Bor (List ℕ))) (text : List ℕ)
     → IfSome common (λ c. IsAscii c.now)
@@ -92,6 +87,4 @@ pub settings-with : (width found : ℕ) (initial subsequent first later : List �
     → with_indents initial subsequent (settings_at width)
     ≡ with_indents first later (settings_at found)
 settings-with width found initial subsequent first later wide begins goes_on =
-    ap (λ w. with_indents initial subsequent (settings_at w)) wide
-    ∙ ap (λ i. with_indents i subsequent (settings_at found)) begins
-    ∙ ap (λ i. with_indents first i (settings_at found)) goes_on
+    rw (wide, begins, goes_on)

@@ -5,7 +5,7 @@ use Rattle.textwrap_base.proofs.Common.{refl, sym, ap, ◌∙◌, subst, arith, 
 use Rattle.textwrap_base.proofs.Common.{prefix_len, Bor, option_map, unwrap_or, lines}
 use Rattle.textwrap_base.proofs.Common.{starts_with_length, starts_with_of_eq, starts_with_trans}
 use Rattle.textwrap_base.proofs.Common.{false≢true, take_all, chars-nil, length-prefix_len, All-nil}
-use Rattle.textwrap_base.proofs.Common.{All-cons, All-head, All-tail}
+use Rattle.textwrap_base.proofs.Common.{All-cons, All-weaker}
 use Rattle.textwrap.proofs.Common.{is_blank_line, leading_whitespace, margin_of}
 use Rattle.std.specs.Char.{is_whitespace}
 use Rattle.std.specs.Str.{chars}
@@ -57,17 +57,6 @@ begins-later margin line white (inr starts) full = starts
 begins-later margin line white (inl starts) full =
     absurd (false≢true (sym full ∙ white-front margin (chars line) white starts))
 
-begins-all : (margin : List ℕ) (ls : List (List ℕ)) → list_all is_whitespace margin ≡ true
-    → All (λ line. AreComparable margin (chars line)) ls
-    → All (λ line. is_blank_line line ≡ false → StartsWith (chars line) margin) ls
-begins-all margin [] white all =
-    All-nil (λ line. is_blank_line line ≡ false → StartsWith (chars line) margin)
-begins-all margin (line ∷ ls) white all =
-    All-cons (λ l. is_blank_line l ≡ false → StartsWith (chars l) margin) line ls
-    (begins-later margin line white
-    (All-head (λ l. AreComparable margin (chars l)) line ls all))
-    (begins-all margin ls white (All-tail (λ l. AreComparable margin (chars l)) line ls all))
-
 begins-first : (line : List ℕ) (ls : List (List ℕ))
     → All (λ l. is_blank_line l ≡ false
     → StartsWith (chars l) (narrowed_by (leading_whitespace line) ls)) (line ∷ ls)
@@ -79,7 +68,9 @@ begins-first line ls =
     ap (λ n. take n (chars line)) (length-prefix_len is_whitespace (chars line)) in
     All-cons (λ l. is_blank_line l ≡ false → StartsWith (chars l) margin) line ls
     (λ full. starts_with_trans (chars line) start margin leads front)
-    (begins-all margin ls (white-front start margin (white-leading (chars line)) front)
+    (All-weaker (λ l. AreComparable margin (chars l))
+    (λ l. is_blank_line l ≡ false → StartsWith (chars l) margin)
+    (λ l. begins-later margin l (white-front start margin (white-leading (chars line)) front)) ls
     (by-comparable start margin ls (starts_with_of_eq margin margin refl)))
 
 from-first : (line : List ℕ) (ls : List (List ℕ)) (n : ℕ) (b : Bool) → is_blank_line line ≡ b
@@ -88,8 +79,7 @@ from-first : (line : List ℕ) (ls : List (List ℕ)) (n : ℕ) (b : Bool) → i
     → StartsWith (chars l) (margin_of_lines (drop (cond b (1 + n) 0) (line ∷ ls)))) (line ∷ ls)
 from-first line ls n true blank all =
     let more : 1 + n ≡ suc n = omega arith in
-    subst (λ k. All (λ l. is_blank_line l ≡ false
-    → StartsWith (chars l) (margin_of_lines (drop k (line ∷ ls)))) (line ∷ ls)) (sym more)
+    rw more
     (All-cons (λ l. is_blank_line l ≡ false
     → StartsWith (chars l) (margin_of_lines (drop n ls))) line ls
     (λ full. absurd (false≢true (sym full ∙ blank))) all)
@@ -116,8 +106,7 @@ pub margin_after-blank : (line : List ℕ) (ls : List (List ℕ)) → is_blank_l
 margin_after-blank line ls blank =
     let n = prefix_len is_blank_line ls in
     let more : 1 + n ≡ suc n = omega arith in
-    ap (λ b. margin_of_lines (drop (cond b (1 + n) 0) (line ∷ ls))) blank
-    ∙ ap (λ k. margin_of_lines (drop k (line ∷ ls))) more
+    rw (blank, more)
 
 pub margin_after-first : (line : List ℕ) (ls : List (List ℕ)) → is_blank_line line ≡ false
     → margin_after None (line ∷ ls) ≡ margin_after (Some (leading_whitespace line)) ls

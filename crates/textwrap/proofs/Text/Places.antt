@@ -1,6 +1,6 @@
 -- The places of the line feeds are in the text.
 use Rattle.textwrap_base.proofs.Common.{ℕ, ◌+◌, ◌-◌, ◌<◌, ◌≤◌, List, [], ◌∷◌, ◌++◌, All, length}
-use Rattle.textwrap_base.proofs.Common.{sym, ap, ◌∙◌, subst, arith, length-append, length_push}
+use Rattle.textwrap_base.proofs.Common.{ap, ◌∙◌, arith, length-append, length_push}
 use Rattle.textwrap_base.proofs.Common.{All-nil, All-cons, All-append}
 use Rattle.textwrap_words.proofs.Common.{blank, WordText, tiled}
 use Rattle.textwrap_lines.proofs.Common.{line_feed}
@@ -30,16 +30,14 @@ pub places-within : (width start limit : ℕ) (parts : List (List ℕ))
     → start + length (feed_joined parts) ≤ limit
     → All (λ place. place < limit) (breaks_from start divisions)
 places-within width start limit [] divisions none room =
-    subst (λ ds. All (λ place. place < limit) (breaks_from start ds)) (sym none)
-    (All-nil (λ place. place < limit))
+    rw none (All-nil (λ place. place < limit))
 places-within width start limit (part ∷ parts) [] divided room = absurd divided
 places-within width start limit (part ∷ []) (lines ∷ divisions) (greedy, divided) room =
     let broken = IsBroken-greedy (width ∷ []) part lines greedy in
     let past = start + length (tiled (flat lines)) + 1 in
     All-append (λ place. place < limit) (breaks_of start lines) (breaks_from past divisions)
     (places-part start limit lines broken.apart (omega (arith, room, ap length broken.tiles)))
-    (subst (λ ds. All (λ place. place < limit) (breaks_from past ds)) (sym divided)
-    (All-nil (λ place. place < limit)))
+    (rw divided (All-nil (λ place. place < limit)))
 places-within width start limit (part ∷ next ∷ parts) (lines ∷ divisions) (greedy, divided) room =
     let broken = IsBroken-greedy (width ∷ []) part lines greedy in
     let past = start + length (tiled (flat lines)) + 1 in

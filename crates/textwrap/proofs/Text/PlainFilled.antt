@@ -1,10 +1,11 @@
 -- Lemmas on a plain text that is filled with whole words: it is plain again.
 use Rattle.textwrap_base.proofs.Common.{◌≡◌, ◌≢◌, ℕ, ◌<◌, List, [], ◌∷◌, ◌++◌, All, length, map}
 use Rattle.textwrap_base.proofs.Common.{refl, sym, ap, ◌∙◌, subst, arith, append_assoc}
-use Rattle.textwrap_base.proofs.Common.{length-append, All-nil, All-head, All-tail}
+use Rattle.textwrap_base.proofs.Common.{length-append, All-nil, All-head, All-weaker}
 use Rattle.textwrap_words.proofs.Common.{blank, without_final_blanks, Algorithm}
 use Rattle.textwrap_lines.proofs.Common.{line_feed}
 use Rattle.textwrap.proofs.Common.{IsFilledUnbroken, IsPlainLine, IsPlain, blanked}
+use Rattle.std.proofs.lemmas.List.Folds.{map_fixed}
 use Rattle.textwrap_base.proofs.Lists.Parts.{all-right}
 use Rattle.textwrap.proofs.Text.JoinedLines.{blank_joined, feed_joined}
 use Rattle.textwrap.proofs.Text.PlainLines.{solid, unblank-solid, blanked-joined}
@@ -15,11 +16,10 @@ use Rattle.textwrap.proofs.Text.CutAtBlanks.{IsCutAtBlanks, cut-filled}
 
 unblank-plain : (parts : List (List ℕ)) → All IsPlainLine parts
     → map without_final_blanks parts ≡ parts
-unblank-plain [] plain = refl
-unblank-plain (part ∷ parts) plain =
-    ap (λ l. l ∷ map without_final_blanks parts)
-    (unblank-solid part (solid part (All-head IsPlainLine part parts plain)))
-    ∙ ap (λ ps. part ∷ ps) (unblank-plain parts (All-tail IsPlainLine part parts plain))
+unblank-plain parts plain =
+    map_fixed without_final_blanks parts
+    (All-weaker IsPlainLine (λ part. without_final_blanks part ≡ part)
+    (λ part is. unblank-solid part (solid part is)) parts plain)
 
 abbrev pub IsPlainCut : List ℕ → List ℕ → Type 0
 IsPlainCut text filled = IsPlain filled × (blanked filled ≡ text)

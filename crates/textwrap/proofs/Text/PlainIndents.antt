@@ -5,11 +5,11 @@ use Rattle.textwrap_base.proofs.Common.{arith, length-append, take-append-drop, 
 use Rattle.textwrap_base.proofs.Common.{and_right, false_from_ne_true, map-id, All-head, All-tail}
 use Rattle.textwrap_base.proofs.Common.{All-drop, last}
 use Rattle.textwrap_lines.proofs.Common.{line_feed, ending_bytes}
-use Rattle.textwrap.proofs.Common.{line_prefix, IsPlainLine, nonempty_lines, common_start}
+use Rattle.textwrap.proofs.Common.{line_prefix, IsPlainLine, common_start}
 use Rattle.textwrap.proofs.Common.{common_prefix, unfilled_initial, unfilled_subsequent}
 use Rattle.textwrap.proofs.Common.{detected_ending, keeps_ending, joined_text}
 use Rattle.textwrap.proofs.Text.PlainUnfilled.{lines-plain, texts-plain}
-use Rattle.std.specs.Prelude.{is_some, slice_index_or}
+use Rattle.std.specs.Prelude.{is_some}
 use Rattle.std.proofs.lemmas.Slice.Eq.{bytes_eq-Decides}
 use Rattle.textwrap.specs.Refilling.{unfilled_ending, without_indents}
 use Rattle.textwrap_lines.specs.declared.line_ending.LineEnding.{LineEnding}
@@ -23,8 +23,7 @@ pub initial-plain : (parts : List (List ℕ)) → All IsPlainLine parts
     → unfilled_initial (feed_joined parts) ≡ []
 initial-plain [] plain = refl
 initial-plain (part ∷ parts) plain =
-    ap (λ ls. line_prefix (slice_index_or ls 0 [])) (lines-plain (part ∷ parts) plain)
-    ∙ (solid part (All-head IsPlainLine part parts plain)).begins
+    rw (lines-plain (part ∷ parts) plain) (solid part (All-head IsPlainLine part parts plain)).begins
 
 common_start-none : (texts : List (List ℕ)) → fold common_start [] texts ≡ []
 common_start-none [] = refl
@@ -34,15 +33,14 @@ common_prefix-plain : (parts : List (List ℕ)) → All IsPlainLine parts
     → common_prefix (map line_prefix parts) ≡ []
 common_prefix-plain [] plain = refl
 common_prefix-plain (part ∷ parts) plain =
-    ap (λ start. fold common_start start (map line_prefix parts))
-    (solid part (All-head IsPlainLine part parts plain)).begins
-    ∙ common_start-none (map line_prefix parts)
+    rw (solid part (All-head IsPlainLine part parts plain)).begins
+    (common_start-none (map line_prefix parts))
 
 pub subsequent-plain : (parts : List (List ℕ)) → All IsPlainLine parts
     → unfilled_subsequent (feed_joined parts) ≡ []
 subsequent-plain parts plain =
-    ap (λ ls. common_prefix (map line_prefix (drop 1 ls))) (lines-plain parts plain)
-    ∙ common_prefix-plain (drop 1 parts) (All-drop IsPlainLine 1 parts plain)
+    rw (lines-plain parts plain)
+    (common_prefix-plain (drop 1 parts) (All-drop IsPlainLine 1 parts plain))
 
 without_indents-none : (parts : List (List ℕ)) → without_indents [] [] parts ≡ parts
 without_indents-none [] = refl
@@ -51,13 +49,12 @@ without_indents-none (part ∷ parts) = ap (λ ls. part ∷ ls) (map-id parts)
 pub joined-plain : (parts : List (List ℕ)) → All IsPlainLine parts
     → joined_text (feed_joined parts) ≡ blank_joined parts
 joined-plain parts plain =
-    let text = feed_joined parts in
-    ap (λ i. blank_joined (without_indents i (unfilled_subsequent text)
-    (map (λ l. l.line) (nonempty_lines text)))) (initial-plain parts plain)
-    ∙ ap (λ i. blank_joined (without_indents [] i (map (λ l. l.line) (nonempty_lines text))))
-    (subsequent-plain parts plain)
-    ∙ ap (λ ls. blank_joined (without_indents [] [] ls)) (texts-plain parts plain)
-    ∙ ap blank_joined (without_indents-none parts)
+    rw (
+      initial-plain parts plain,
+      subsequent-plain parts plain,
+      texts-plain parts plain,
+      without_indents-none parts,
+    )
 
 feeds-some : (part : List ℕ) (parts : List (List ℕ)) → All IsPlainLine (part ∷ parts)
     → 0 < length (feed_joined (part ∷ parts))

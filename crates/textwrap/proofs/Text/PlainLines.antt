@@ -10,6 +10,7 @@ use Rattle.textwrap_lines.proofs.Common.{line_feed}
 use Rattle.textwrap.proofs.Common.{is_prefix_character, line_prefix, IsPlainByte, IsPlainWord}
 use Rattle.textwrap.proofs.Common.{IsPlainLine, blanked}
 use Rattle.std.proofs.lemmas.List.Elements.{All-get_or}
+use Rattle.std.proofs.lemmas.List.Folds.{map_fixed}
 use Rattle.textwrap_base.proofs.Lists.Parts.{some_from_nonempty}
 use Rattle.textwrap_words.proofs.Word.Texts.{trimmed-past}
 use Rattle.textwrap_lines.proofs.Paragraph.WordsApart.{last-append}
@@ -86,14 +87,10 @@ unblank-solid line is =
 -- ---- blanks in the place of line feeds
 
 blanked-same : (text : List ℕ) → All (λ c. c ≢ line_feed) text → blanked text ≡ text
-blanked-same [] none = refl
-blanked-same (c ∷ text) none =
-    ap (λ b. cond b blank c ∷ blanked text)
-    (ne_eqb c line_feed (All-head (λ d. d ≢ line_feed) c text none))
-    ∙ ap (λ l. c ∷ l) (blanked-same text (All-tail (λ d. d ≢ line_feed) c text none))
-
-blanked-append : (text more : List ℕ) → blanked (text ++ more) ≡ blanked text ++ blanked more
-blanked-append text more = map-append (λ c. cond (c == line_feed) blank c) text more
+blanked-same text none =
+    map_fixed (λ c. cond (c == line_feed) blank c) text
+    (All-weaker (λ c. c ≢ line_feed) (λ c. cond (c == line_feed) blank c ≡ c)
+    (λ c other. ap (λ b. cond b blank c) (ne_eqb c line_feed other)) text none)
 
 pub blanked-joined : (lines : List (List ℕ)) → All IsPlainLine lines
     → blanked (feed_joined lines) ≡ blank_joined lines
@@ -102,9 +99,8 @@ blanked-joined (line ∷ []) plain =
     blanked-same line (solid line (All-head IsPlainLine line [] plain)).no_feed
 blanked-joined (line ∷ next ∷ lines) plain =
     let here = solid line (All-head IsPlainLine line (next ∷ lines) plain) in
-    blanked-append (line ++ line_feed ∷ []) (feed_joined (next ∷ lines))
-    ∙ ap (λ l. l ++ blanked (feed_joined (next ∷ lines)))
-    (blanked-append line (line_feed ∷ []) ∙ ap (λ l. l ++ blank ∷ [])
-    (blanked-same line here.no_feed))
-    ∙ ap (λ l. (line ++ blank ∷ []) ++ l)
-    (blanked-joined (next ∷ lines) (All-tail IsPlainLine line (next ∷ lines) plain))
+    simp (
+      map-append,
+      blanked-same line here.no_feed,
+      blanked-joined (next ∷ lines) (All-tail IsPlainLine line (next ∷ lines) plain),
+    )

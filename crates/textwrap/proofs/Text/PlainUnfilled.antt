@@ -1,13 +1,13 @@
 -- The lines of a plain text, unfilled.
-use Rattle.textwrap_base.proofs.Common.{◌≡◌, ◌≢◌, ℕ, ◌-◌, ◌==◌, true, false, cond, nat_lt, List, []}
+use Rattle.textwrap_base.proofs.Common.{◌≡◌, ◌≢◌, ℕ, ◌-◌, ◌==◌, false, cond, List, []}
 use Rattle.textwrap_base.proofs.Common.{◌∷◌, All, length, take, map, refl, ap, ◌∙◌, arith}
-use Rattle.textwrap_base.proofs.Common.{append_assoc, None, filter, slice_split, lines, ne_eqb}
+use Rattle.textwrap_base.proofs.Common.{append_assoc, filter, slice_split, lines, ne_eqb}
 use Rattle.textwrap_base.proofs.Common.{lt-ltb, All-head, All-tail, All-weaker, last}
 use Rattle.textwrap_lines.proofs.Common.{line_feed}
 use Rattle.textwrap.proofs.Common.{IsPlainLine, EndedLine, ended_lines_of, nonempty_lines}
 use Rattle.std.specs.Str.Lines.{lines_of_parts, strip_carriage_return}
 use Rattle.std.proofs.lemmas.List.Splits.{slice_split_none, slice_split_at}
-use Rattle.textwrap.specs.Refilling.{line_before_feed, has_text}
+use Rattle.textwrap.specs.Refilling.{has_text}
 use Rattle.textwrap.proofs.Text.JoinedLines.{feed_joined}
 use Rattle.textwrap.proofs.Text.PlainLines.{IsSolid, solid}
 
@@ -41,10 +41,10 @@ lines_of-plain : (line : List ℕ) (others : List (List ℕ)) → All IsPlainLin
 lines_of-plain line [] plain = ap (λ b. cond b [] (line ∷ []))
     (not_empty line (solid line (All-head IsPlainLine line [] plain)))
 lines_of-plain line (next ∷ others) plain =
-    ap (λ l. l ∷ lines_of_parts (next ∷ others))
-    (kept_return line (solid line (All-head IsPlainLine line (next ∷ others) plain)))
-    ∙ ap (λ ls. line ∷ ls)
-    (lines_of-plain next others (All-tail IsPlainLine line (next ∷ others) plain))
+    rw (
+      kept_return line (solid line (All-head IsPlainLine line (next ∷ others) plain)),
+      lines_of-plain next others (All-tail IsPlainLine line (next ∷ others) plain),
+    )
 
 pub lines-plain : (parts : List (List ℕ)) → All IsPlainLine parts → lines (feed_joined parts) ≡ parts
 lines-plain [] plain = refl
@@ -58,20 +58,14 @@ ended-plain : (line : List ℕ) (others : List (List ℕ)) → All IsPlainLine (
     → texts_of (ended_lines_of (line ∷ others)) ≡ line ∷ others
 ended-plain line [] plain =
     let here = solid line (All-head IsPlainLine line [] plain) in
-    let ended : EndedLine = record { line = line; ending = None } in
-    ap (λ b. texts_of (cond b [] (ended ∷ []))) (not_empty line here)
-    ∙ ap (λ b. map (λ l. l.line) (cond b (ended ∷ []) [])) (lt-ltb 0 (length line) here.some)
+    rw (not_empty line here, lt-ltb 0 (length line) here.some)
 ended-plain line (next ∷ others) plain =
     let here = solid line (All-head IsPlainLine line (next ∷ others) plain) in
-    let kept = kept_return line here in
-    let ended = line_before_feed line in
-    let rest = filter has_text (ended_lines_of (next ∷ others)) in
-    let has : has_text ended ≡ true =
-    ap (λ l. nat_lt 0 (length l)) kept ∙ lt-ltb 0 (length line) here.some in
-    ap (λ b. map (λ l. l.line) (cond b (ended ∷ rest) rest)) has
-    ∙ ap (λ l. l ∷ texts_of (ended_lines_of (next ∷ others))) kept
-    ∙ ap (λ ls. line ∷ ls)
-    (ended-plain next others (All-tail IsPlainLine line (next ∷ others) plain))
+    rw (
+      kept_return line here,
+      lt-ltb 0 (length line) here.some,
+      ended-plain next others (All-tail IsPlainLine line (next ∷ others) plain),
+    )
 
 pub texts-plain : (parts : List (List ℕ)) → All IsPlainLine parts
     → map (λ l. l.line) (nonempty_lines (feed_joined parts)) ≡ parts

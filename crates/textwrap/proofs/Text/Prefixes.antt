@@ -1,8 +1,8 @@
 -- Lemmas on the characters of the indent of a line, and on what two texts have in common.
 use Rattle.textwrap_base.proofs.Common.{◌≡◌, ℕ, suc, ◌+◌, ◌<◌, Bool, true, false, cond, nat_eq}
-use Rattle.textwrap_base.proofs.Common.{List, [], ◌∷◌, take, drop, refl, arith, sym, ap, subst}
-use Rattle.textwrap_base.proofs.Common.{StartsWith, starts_with_of_append, nat_tests, slice_range}
-use Rattle.textwrap_base.proofs.Common.{◌-◌, IsUtf8, IsAscii, IsCharBoundary, prefix_len}
+use Rattle.textwrap_base.proofs.Common.{List, [], ◌∷◌, take, drop, refl, arith, sym, subst}
+use Rattle.textwrap_base.proofs.Common.{StartsWith, starts_with_of_append, nat_tests}
+use Rattle.textwrap_base.proofs.Common.{IsUtf8, IsAscii, IsCharBoundary, prefix_len}
 use Rattle.textwrap_base.proofs.Common.{common_prefix_len, IsUtf8-from_ascii}
 use Rattle.textwrap_base.proofs.Common.{IsCharBoundary-from_take, take-append-drop}
 use Rattle.textwrap.proofs.Common.{is_prefix_character, line_prefix, common_start}
@@ -36,10 +36,6 @@ line_prefix-boundary line utf8 =
     IsCharBoundary-from_take line (prefix_len is_prefix_character line) utf8
     (prefix_len-le-length is_prefix_character line)
     (IsUtf8-from_ascii (line_prefix line) (line_prefix-ascii line))
-
-pub slice_range-front : (xs : List ℕ) (n m : ℕ) → n ≡ m → slice_range xs 0 n ≡ take m xs
-slice_range-front xs n m same = let whole : n - 0 ≡ m = omega arith in
-    ap (λ k. take k xs) whole
 
 -- ---- what two texts have in common
 

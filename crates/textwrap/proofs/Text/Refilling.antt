@@ -41,12 +41,10 @@ module _ (Divides : Settings → Bool → List ℕ → List (List WordText) → 
   refilled-filled settings text refilled unindented plain =
       let of_text = unfilled-plain text plain in
       let same : with_indents_of text settings ≡ settings =
-      ap (λ i. record settings {
-        initial_indent = i;
-        subsequent_indent = unfilled_subsequent text;
-      }) (of_text.initial ∙ sym unindented.initial)
-      ∙ ap (λ i. record settings { subsequent_indent = i })
-      (of_text.subsequent ∙ sym unindented.subsequent) in
+      rw (
+        of_text.initial ∙ sym unindented.initial,
+        of_text.subsequent ∙ sym unindented.subsequent,
+      ) in
       let nothing : (filled : List ℕ)
       → filled ++ added_ending (keeps_ending text) settings.line_ending ≡ filled =
       λ filled. ap (λ b. filled ++ added_ending b settings.line_ending) of_text.keeps

@@ -1,12 +1,10 @@
 -- How many bytes the rows of a table take.
-use Rattle.textwrap_base.proofs.Common.{◌≡◌, ℕ, suc, ◌+◌, ◌-◌, ◌*◌, ◌<◌, ◌≤◌, ◌⊎◌, List, [], ◌++◌}
+use Rattle.textwrap_base.proofs.Common.{◌≡◌, ℕ, ◌+◌, ◌-◌, ◌*◌, ◌<◌, ◌≤◌, ◌⊎◌, inl, List, [], ◌++◌}
 use Rattle.textwrap_base.proofs.Common.{length, map, refl, ap, ◌∙◌, arith, ⊎_elim, length-append}
-use Rattle.textwrap_base.proofs.Common.{cases_lt, range_with_len, repeat, ◌^◌, map-append}
+use Rattle.textwrap_base.proofs.Common.{cases_lt, range_with_len, ◌^◌, map-append}
 use Rattle.textwrap_base.proofs.Common.{flat_map-append}
-use Rattle.textwrap_words.proofs.Common.{blank}
-use Rattle.textwrap_lines.proofs.Common.{join_with}
-use Rattle.textwrap.proofs.Common.{Layout, blanks, cell, cells, padded, row_text, gapped}
-use Rattle.textwrap.proofs.Text.Cells.{gapped-more, join-gapped}
+use Rattle.textwrap.proofs.Common.{Layout, cell, cells, padded, row_text, gapped}
+use Rattle.textwrap.proofs.Text.Cells.{gapped-more}
 use Rattle.textwrap.proofs.Text.Table.{row_text-written}
 use Rattle.std.proofs.lemmas.List.{length-replicate}
 use Rattle.textwrap_base.proofs.Lists.Ranges.{range-split}
@@ -19,13 +17,8 @@ pub length-gapped-more : (layout : Layout) (lines : List (List ℕ)) (step first
     + length (padded layout.column_width (cell lines step first (later + 1))))
 length-gapped-more layout lines step first later =
     let so_far = gapped layout (map (cell lines step first) (range_with_len 1 later)) in
-    let text = padded layout.column_width (cell lines step first (later + 1)) in
-    omega (
-      arith,
-      ap length (gapped-more layout lines step first later [] so_far refl),
-      length-append (so_far ++ layout.middle) text,
-      length-append so_far layout.middle,
-    )
+    rw (← gapped-more layout lines step first later [] so_far refl)
+    (simp length-append (omega arith))
 
 -- a row has the bytes of its gaps, its first cell, the later cells with a line, those without, and
 -- its spare blanks
@@ -38,28 +31,8 @@ pub length-row_text : (layout : Layout) (lines : List (List ℕ)) (step first la
     + length (gapped layout (map (cell lines step first) (range_with_len 1 later)))
     + layout.spare_width + (length layout.left + length layout.right)
 length-row_text layout lines step first later all within =
-    let head = padded layout.column_width (cell lines step first 0) in
-    let some = gapped layout (map (cell lines step first) (range_with_len 1 later)) in
-    let empty = layout.middle ++ blanks layout.column_width in
-    let run = repeat (layout.columns - 1 - later) empty in
-    let spare = blanks layout.spare_width in
-    let missing = layout.columns - 1 - later in
-    let empty_len : length empty ≡ length layout.middle + layout.column_width =
-    length-append layout.middle (blanks layout.column_width)
-    ∙ ap (λ n. length layout.middle + n) (length-replicate layout.column_width blank) in
-    let run_len : length run ≡ missing * (length layout.middle + layout.column_width) =
-    length-repeat missing empty ∙ ap (λ n. missing * n) empty_len in
-    omega (
-      arith,
-      ap length (row_text-written layout lines step first later all within),
-      length-append ((((layout.left ++ head) ++ some) ++ run) ++ spare) layout.right,
-      length-append (((layout.left ++ head) ++ some) ++ run) spare,
-      length-append ((layout.left ++ head) ++ some) run,
-      length-append (layout.left ++ head) some,
-      length-append layout.left head,
-      run_len,
-      length-replicate layout.spare_width blank,
-    )
+    rw (← row_text-written layout lines step first later all within)
+    (simp (length-append, length-repeat, length-replicate) (omega arith))
 
 -- the later cells with a line are among all later cells
 pub length-gapped-within : (layout : Layout) (lines : List (List ℕ)) (step first later more : ℕ)
@@ -112,22 +85,7 @@ pub length-gapped-row : (layout : Layout) (lines : List (List ℕ)) (step first 
     → length (gapped layout (map (cell lines step first) (range_with_len 1 (layout.columns - 1))))
     + length (padded layout.column_width (cell lines step first 0))
     ≤ length (row_text layout (cells lines step layout.columns first))
-length-gapped-row layout lines step first some =
-    let at = cell lines step first in
-    let head = padded layout.column_width (at 0) in
-    let later = map at (range_with_len 1 (layout.columns - 1)) in
-    let row = join_with layout.middle (map (padded layout.column_width)
-    (cells lines step layout.columns first)) in
-    let whole : layout.columns ≡ suc (layout.columns - 1) = omega (arith, some) in
-    let joined : row ≡ head ++ gapped layout later =
-    ap (λ n. join_with layout.middle (map (padded layout.column_width)
-    (map at (range_with_len 0 n)))) whole
-    ∙ join-gapped layout (at 0) later in
-    omega (
-      arith,
-      ap length joined,
-      length-append head (gapped layout later),
-      length-append ((layout.left ++ row) ++ blanks layout.spare_width) layout.right,
-      length-append (layout.left ++ row) (blanks layout.spare_width),
-      length-append layout.left row,
-    )
+length-gapped-row layout lines step first some = omega (
+  arith,
+  length-row_text layout lines step first (layout.columns - 1) (inl (omega arith)) (omega arith),
+)

@@ -30,12 +30,12 @@ module _ (lines : List (List ℕ)) where
       let rows = row_count lines columns in
       let here : r + c * rows ≡ c * rows + r = omega arith in
       let next : c * rows + (r + 1) ≡ c * rows + r + 1 = omega arith in
-      ap (λ x. x ∷ map (λ k. get_or (cells lines rows columns k) c [])
-      (range_with_len (r + 1) count))
-      (get_or-map-range_with_len (cell lines rows r) 0 columns c c [] within (omega arith)
-      ∙ ap (λ i. get_or lines i []) here)
-      ∙ ap (λ l. get_or lines (c * rows + r) [] ∷ l) (column-at columns c within (r + 1) count
-      ∙ ap (λ i. lines_at lines i count) next)
+      rw (
+        get_or-map-range_with_len (cell lines rows r) 0 columns c c [] within (omega arith),
+        here,
+        column-at columns c within (r + 1) count,
+        next,
+      )
 
   -- and those of the columns do
   columns-at : (columns c count : ℕ) → c + count ≤ columns
@@ -49,14 +49,15 @@ module _ (lines : List (List ℕ)) where
       let start : c * rows + 0 ≡ c * rows = omega arith in
       let next : (c + 1) * rows ≡ c * rows + rows = omega arith in
       let all : rows + count * rows ≡ suc count * rows = omega arith in
-      ap (λ l. l ++ flat_map (column_cells lines columns) (range_with_len (c + 1) count))
-      (column-at columns c (omega arith) 0 rows ∙ ap (λ i. lines_at lines i rows) start)
-      ∙ ap (λ l. lines_at lines (c * rows) rows ++ l) (columns-at columns (c + 1) count (omega arith)
-      ∙ ap (λ i. lines_at lines i (count * rows)) next)
-      ∙ sym (map-append (λ i. get_or lines i []) (range_with_len (c * rows) rows)
-      (range_with_len (c * rows + rows) (count * rows)))
-      ∙ ap (map (λ i. get_or lines i [])) (sym (range-split (c * rows) rows (count * rows))
-      ∙ ap (range_with_len (c * rows)) all)
+      rw (
+        column-at columns c (omega arith) 0 rows,
+        start,
+        columns-at columns (c + 1) count (omega arith),
+        next,
+        ← all,
+        range-split (c * rows) rows (count * rows),
+        map-append,
+      )
 
 pub columns_kept : (lines : List (List ℕ)) (columns : ℕ) → 1 ≤ columns
     → (empty : ℕ) × (cells_by_column lines columns ≡ lines ++ replicate empty [])
@@ -72,10 +73,11 @@ columns_kept lines columns some =
       columns-at lines columns 0 columns (omega arith)
           ∙ ap (λ i. lines_at lines i (columns * rows)) start
           ∙ ap (lines_at lines 0) (sym whole)
-          ∙ ap (map (λ i. get_or lines i [])) (range-split 0 (length lines) empty)
-          ∙ map-append (λ i. get_or lines i []) (range_with_len 0 (length lines))
-          (range_with_len (0 + length lines) empty)
-          ∙ ap (λ l. l ++ lines_at lines (0 + length lines) empty)
-          (sym (fill_by_all (λ i. get_or lines i []) lines (length lines) [] refl (λ k within. refl)))
-          ∙ ap (λ l. lines ++ l) (past-empty lines (0 + length lines) empty (omega (arith, from))),
+          ∙ rw (
+            range-split 0 (length lines) empty,
+            map-append,
+            past-empty lines (0 + length lines) empty (omega (arith, from)),
+          )
+          (ap (λ l. l ++ replicate empty [])
+          (sym (fill_by_all (λ i. get_or lines i []) lines (length lines) [] refl (λ k within. refl)))),
     )

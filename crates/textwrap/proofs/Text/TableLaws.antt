@@ -1,6 +1,6 @@
 -- The rows of a table are even.
 use Rattle.textwrap_base.proofs.Common.{◌≡◌, ℕ, zero, suc, ◌+◌, ◌-◌, ◌*◌, ◌≤◌, true, List, [], ◌∷◌}
-use Rattle.textwrap_base.proofs.Common.{◌++◌, get_or, map, refl, sym, ap, ◌∙◌, arith, append_assoc}
+use Rattle.textwrap_base.proofs.Common.{◌++◌, get_or, map, refl, ap, ◌∙◌, arith, append_assoc}
 use Rattle.textwrap_base.proofs.Common.{append-nil, All, sum_by, flat_map, range_with_len, list_all}
 use Rattle.textwrap_base.proofs.Common.{flat_map-append, All-head, All-tail, sum_by-cons}
 use Rattle.textwrap_base.proofs.Common.{sum_by-append}
@@ -22,23 +22,12 @@ cell_parts-joined layout [] = refl
 cell_parts-joined layout (text ∷ []) =
     ap (λ l. text ++ l) (append-nil (blanks (layout.column_width - text_width text)))
 cell_parts-joined layout (text ∷ next ∷ texts) =
-    let padding = blanks (layout.column_width - text_width text) in
-    let others = join_with layout.middle (map (padded layout.column_width) (next ∷ texts)) in
-    ap (λ l. text ++ (padding ++ (layout.middle ++ l))) (cell_parts-joined layout (next ∷ texts))
-    ∙ sym (append_assoc text padding (layout.middle ++ others))
-    ∙ sym (append_assoc (text ++ padding) layout.middle others)
+    simp (append_assoc, cell_parts-joined layout (next ∷ texts))
 
 pub row_parts-joined : (layout : Layout) (row : List (List ℕ))
     → flat_map (λ part. part) (row_parts layout row) ≡ row_text layout row
 row_parts-joined layout row =
-    let spare = blanks layout.spare_width in
-    let joined = join_with layout.middle (map (padded layout.column_width) row) in
-    ap (λ l. layout.left ++ l)
-    (flat_map-append (λ part. part) (cell_parts layout row) (spare ∷ layout.right ∷ [])
-    ∙ ap (λ l. l ++ (spare ++ (layout.right ++ []))) (cell_parts-joined layout row)
-    ∙ ap (λ l. joined ++ (spare ++ l)) (append-nil layout.right))
-    ∙ sym (append_assoc layout.left joined (spare ++ layout.right))
-    ∙ sym (append_assoc (layout.left ++ joined) spare layout.right)
+    simp (flat_map-append, append_assoc, append-nil, cell_parts-joined layout row)
 
 -- ---- their widths
 
@@ -63,15 +52,7 @@ module _ (layout : Layout) (lines : List (List ℕ)) (rows r : ℕ)
       (range_with_len c (suc others))))
       ≡ suc others * layout.column_width + others * text_width layout.middle
   cell_parts-width c zero =
-      let text = cell lines rows r c in
-      let padding = blanks (layout.column_width - text_width text) in
-      omega (
-        arith,
-        fits (r + c * rows),
-        blanks-width (layout.column_width - text_width text),
-        sum_by-cons text_width text (padding ∷ []),
-        sum_by-cons text_width padding [],
-      )
+      simp blanks-width (omega (arith, fits (r + c * rows)))
   cell_parts-width c (suc others) =
       let text = cell lines rows r c in
       let padding = blanks (layout.column_width - text_width text) in

@@ -1,7 +1,7 @@
 -- Lemmas on what unfilling gives: lines begin with their indents, are joined, and show their
 -- ending.
 use Rattle.textwrap_base.proofs.Common.{◌≡◌, ℕ, Bool, true, false, cond, List, [], ◌∷◌, ◌++◌}
-use Rattle.textwrap_base.proofs.Common.{length, drop, map, filter, All, refl, sym, ap, ◌∙◌, subst}
+use Rattle.textwrap_base.proofs.Common.{length, drop, map, filter, All, refl, sym, ap, subst}
 use Rattle.textwrap_base.proofs.Common.{arith, get_or, append_assoc, append-nil, Option, Some, None}
 use Rattle.textwrap_base.proofs.Common.{◌==◌, ◌&&◌, nat_eq, unwrap_or, StartsWith, flat_map}
 use Rattle.textwrap_base.proofs.Common.{slice_split, ends_with, lines, starts_with_trans, nat_tests}
@@ -16,7 +16,7 @@ use Rattle.std.specs.Str.Lines.{lines_of_parts, strip_carriage_return}
 use Rattle.std.proofs.lemmas.List.Elements.{All-filter}
 use Rattle.textwrap_lines.specs.declared.line_ending.LineEnding.{LineEnding}
 use Rattle.textwrap_lines.specs.declared.line_ending.LineEnding.TheVariants.{CRLF, LF}
-use Rattle.textwrap.specs.Refilling.{ended_lines, has_text, without_indents}
+use Rattle.textwrap.specs.Refilling.{ended_lines, has_text}
 use Rattle.textwrap.proofs.Text.CommonPrefixes.{common_prefix-begins}
 use Rattle.textwrap.proofs.Text.Prefixes.{line_prefix-begins}
 
@@ -106,20 +106,15 @@ join-added : (first : List ℕ) (n : ℕ) (es : List EndedLine)
     → join_with (blank ∷ []) (first ∷ map (drop n) (texts_of es)) ≡ first ++ added_lines n es
 join-added first n [] = sym (append-nil first)
 join-added first n (e ∷ es) =
-    ap (λ l. (first ++ blank ∷ []) ++ l) (join-added (drop n e.line) n es)
-    ∙ append_assoc first (blank ∷ []) (drop n e.line ++ added_lines n es)
+    simp (append_assoc, join-added (drop n e.line) n es)
 
 pub joined_text-some : (text initial subsequent : List ℕ) (e : EndedLine) (rest : List EndedLine)
     → initial ≡ unfilled_initial text → subsequent ≡ unfilled_subsequent text
     → nonempty_lines text ≡ e ∷ rest
     → drop (length initial) e.line ++ added_lines (length subsequent) rest ≡ joined_text text
 joined_text-some text initial subsequent e rest first later some =
-    ap (λ l. drop (length l) e.line ++ added_lines (length subsequent) rest) first
-    ∙ ap (λ l. drop (length (unfilled_initial text)) e.line ++ added_lines (length l) rest) later
-    ∙ sym (ap (λ es. join_with (blank ∷ []) (without_indents (unfilled_initial text)
-    (unfilled_subsequent text) (texts_of es))) some
-    ∙ join-added (drop (length (unfilled_initial text)) e.line)
-    (length (unfilled_subsequent text)) rest)
+    rw (first, later, some) (sym (join-added (drop (length (unfilled_initial text)) e.line)
+    (length (unfilled_subsequent text)) rest))
 
 -- ---- the detected ending
 

@@ -1,6 +1,6 @@
 use Rattle.textwrap.proofs.columns.row_len.Goals as goal
 use Rattle.textwrap_base.proofs.Common.{◌≡◌, ◌+◌, ◌-◌, ◌*◌, ◌≤◌, ◌<◌, ◌^◌, ◌⊎◌, ap, sym, ◌∙◌, arith}
-use Rattle.textwrap_base.proofs.Common.{subst, map, length, min, length-map, SomeIff}
+use Rattle.textwrap_base.proofs.Common.{subst, map, length, min, length-map}
 use Rattle.textwrap_lines.proofs.Common.{line_view, line_bytes}
 use Rattle.textwrap.proofs.Common.{layout_view, padded, cells, row_text}
 use Rattle.textwrap.proofs.Text.Cells.{cell_is}
@@ -16,8 +16,7 @@ returns-in_err-first_len g c =
     c.args.step c.args.first 0 c.args.first (omega arith) c.requires.within
     c.index-lines-first.is) in
     let row = length-gapped-row layout lines c.args.step c.args.first c.requires.columns in
-    subst (λ r. SomeIff r (len < 2 ^ 64) len) (sym c.from_residual.ensures)
-    (λ fits. c.in_err-first_len.ensures
+    rw c.from_residual.ensures (λ fits. c.in_err-first_len.ensures
     (omega (arith, row, fits, ap (λ l. length (padded layout.column_width l)) text)))
 
 pub returns-in_err-later : goal.returns-in_err-later
@@ -26,8 +25,7 @@ returns-in_err-later g c =
     let lines = map line_bytes (map line_view c.args.lines.now) in
     let len = length (row_text layout (cells lines c.args.step layout.columns c.args.first)) in
     let row = length-gapped-row layout lines c.args.step c.args.first c.requires.columns in
-    subst (λ r. SomeIff r (len < 2 ^ 64) len) (sym c.from_residual-in_err-later.ensures)
-    (λ fits. absurd (omega (arith, row, fits, c.in_err-later.ensures.none)))
+    rw c.from_residual-in_err-later.ensures (λ fits. absurd (omega (arith, row, fits, c.in_err-later.ensures.none)))
 
 pub returns : goal.returns
 returns g c =
@@ -52,7 +50,7 @@ returns g c =
       c.saturating_mul-missing_len.ensures,
       c.saturating_add-len.ensures,
     ) in
-    subst (λ r. SomeIff r (len < 2 ^ 64) len) (sym c.ok.ensures.value)
+    rw c.ok.ensures.value
     (SomeIff-ok c.try_from.result (c.saturating_add-len.result < 2 ^ 64) (len < 2 ^ 64)
     c.saturating_add-len.result len c.try_from.ensures
     (λ fits. (omega (arith, fits, counted), omega (arith, fits, counted)))

@@ -1,8 +1,8 @@
 use Rattle.textwrap.proofs.columns.wrap_columns.Goals as goal
 use Rattle.textwrap_base.proofs.Common.{◌≡◌, ◌*◌, map, ap, ◌∙◌, arith}
-use Rattle.textwrap_lines.proofs.Common.{settings_view, line_view, line_bytes}
+use Rattle.textwrap_lines.proofs.Common.{settings_view, line_view}
 use Rattle.textwrap.proofs.Common.{inner_width, layout_of}
-use Rattle.textwrap.specs.Columns.{column_width, table_rows}
+use Rattle.textwrap.specs.Columns.{column_width}
 use Rattle.textwrap.proofs.Text.TableLines.{AreTextLines-methods}
 
 pub returns-clause-rows : goal.returns-clause-rows
@@ -31,15 +31,5 @@ returns-clause-rows g c =
           (c.width.ensures.settings
           ∙ ap (λ w. record (settings_view c.args.options) { width = w }) width_is)
           c.width.ensures.methods c.in_ok-lines.ensures.lines.are,
-      c.in_ok-table_rows.ensures
-          ∙ ap (λ l. table_rows (record layout {
-            column_width = c.column_width-column_width.result;
-            spare_width = c.saturating_sub.result;
-          }) (map line_bytes (map line_view l))) c.deref.ensures.value
-          ∙ ap (λ w. table_rows (record layout {
-            column_width = w;
-            spare_width = c.saturating_sub.result;
-          }) (map line_bytes (map line_view c.in_ok-lines.lines.items))) width_is
-          ∙ ap (λ s. table_rows (record layout { spare_width = s })
-          (map line_bytes (map line_view c.in_ok-lines.lines.items))) spare_is,
+      rw (c.in_ok-table_rows.ensures, c.deref.ensures.value, width_is, spare_is),
     )

@@ -1,5 +1,5 @@
 use Rattle.textwrap.proofs.indentation.dedent.Goals as goal
-use Rattle.textwrap_base.proofs.Common.{◌≡◌, ◌++◌, ◌∷◌, [], ◌==◌, cond, false, length, map, take}
+use Rattle.textwrap_base.proofs.Common.{◌≡◌, ◌++◌, ◌∷◌, [], ◌==◌, cond, false, length, map}
 use Rattle.textwrap_base.proofs.Common.{sym, ap, ◌∙◌, subst, arith, append-nil, StartsWith}
 use Rattle.textwrap_base.proofs.Common.{join_with_byte, lines, string_bytes, YieldsList-turn}
 use Rattle.textwrap_base.proofs.Common.{YieldsList-end, YieldsList-from_lines, length_push}
@@ -67,11 +67,11 @@ returns g c =
     (YieldsList-from_lines c.args.s.now cc) cc) c.loop-i.yielded _ c.loop-i.yielded_by _
     c.next.new.self c.in-None.is c.next.ensures.steps in
     let all : string_bytes c.loop-i.text ≡ join_with_byte 10 (map f ls) =
-    c.loop-i.invariant
-    ∙ ap (λ m. join_with_byte 10 (map (without_margin m) (take (length c.loop-i.yielded) ls)))
-    c.margin_of-margin.ensures
-    ∙ ap (λ l. join_with_byte 10 (map f l)) (take_all (length c.loop-i.yielded) ls
-    (omega (arith, t.1, length-enumerate_from 0 ls))) in
+    rw (
+      c.margin_of-margin.ensures,
+      take_all (length c.loop-i.yielded) ls
+          (omega (arith, t.1, length-enumerate_from 0 ls)),
+    ) at c.loop-i.invariant in
     let ended : c.ends_with.result ≡ (last c.args.s.now == 10) =
     c.ends_with.ensures.byte (omega arith) (omega arith) (λ w o k. k) in
     let before = string_bytes c.loop-i.text in
@@ -83,7 +83,4 @@ returns g c =
       | else-ends_with w ↦ rw w.if-ends_with.false (ap string_bytes w.text-is
           ∙ sym (append-nil before))
     ] in
-    record {
-      dedented = grown ∙ ap (λ l. l ++ cond c.ends_with.result (10 ∷ []) []) all
-          ∙ ap (λ b. join_with_byte 10 (map f ls) ++ cond b (10 ∷ []) []) ended;
-    }
+    record { dedented = rw (grown, all, ended) }

@@ -1,5 +1,5 @@
 use Rattle.textwrap.proofs.inplace.find_breaks.Goals as goal
-use Rattle.textwrap_base.proofs.Common.{All, ap, ◌∙◌, subst, arith, false≢true, All-head, All-tail}
+use Rattle.textwrap_base.proofs.Common.{ap, ◌∙◌, subst, arith, false≢true, All-head, All-tail}
 use Rattle.textwrap.proofs.Common.{FitsOneLine}
 use Rattle.textwrap_lines.specs.declared.line_ending.LineEnding.TheVariants.{LF}
 use Rattle.textwrap.proofs.Text.Breaks.{HasBreaks, HasBreaks-more, HasBreaks-end, bytes_left-split}
@@ -20,8 +20,7 @@ loop-rest-preserved g c =
           c.loop-rest.invariant.0 (ap (paragraphs_left LF) c.in-Some.is ∙ first) added.1 added.2,
       omega (arith, c.loop-rest.invariant.1, len, room),
       λ fits. All-tail (FitsOneLine c.args.width) part (paragraphs_left LF after)
-          (subst (All (FitsOneLine c.args.width)) (ap (paragraphs_left LF) c.in-Some.is ∙ first)
-          (c.loop-rest.invariant.2 fits)),
+          (rw (c.in-Some.is, first) at c.loop-rest.invariant.2 fits),
     )
 
 pub returns-clause-breaks : goal.returns-clause-breaks
@@ -36,6 +35,5 @@ returns-in_err-push_breaks-clause-succeeds g c = λ fits.
     let first = paragraphs_left-split LF c.in-Some.text.now after part
     c.split_paragraph.ensures.paragraphs in
     let fit = All-head (FitsOneLine c.args.width) part (paragraphs_left LF after)
-    (subst (All (FitsOneLine c.args.width)) (ap (paragraphs_left LF) c.in-Some.is ∙ first)
-    (c.loop-rest.invariant.2 fits)) in
+    (rw (c.in-Some.is, first) at c.loop-rest.invariant.2 fits) in
     absurd (false≢true (c.in_err-push_breaks.ensures.succeeds fit))

@@ -1,8 +1,8 @@
 use Rattle.textwrap.proofs.inplace.push_breaks.Goals as goal
-use Rattle.textwrap_base.proofs.Common.{◌+◌, ◌<◌, ◌≤◌, [], ◌∷◌, ◌++◌, length, ap, ◌∙◌, subst, arith}
+use Rattle.textwrap_base.proofs.Common.{◌+◌, ◌<◌, ◌≤◌, [], ◌∷◌, ◌++◌, length, ap, ◌∙◌, arith}
 use Rattle.textwrap_base.proofs.Common.{length-append, ⊎_elim, cases_lt}
 use Rattle.textwrap_words.proofs.Common.{word_view}
-use Rattle.textwrap.proofs.Text.LineSoFar.{HasLine, HasLine-begin}
+use Rattle.textwrap.proofs.Text.LineSoFar.{HasLine-begin}
 use Rattle.textwrap.proofs.Text.Growing.{HasLine-break, HasLine-join, HasLine-none, HasLine-within}
 use Rattle.textwrap.proofs.Text.Growing.{HasLine-fits, HasLine-end}
 use Rattle.textwrap.proofs.inplace.push_breaks.Goals.{then-line_start-end+then-open_width-word_width+in_ok-push}
@@ -24,9 +24,7 @@ loop-word-init g c = (
 pub returns-in_err-push-clause-succeeds : goal.returns-in_err-push-clause-succeeds
 returns-in_err-push-clause-succeeds g c = λ fits.
     let (line, has) = c.loop-word.invariant.0 in
-    let here = subst (λ ws. HasLine c.args.width c.args.start c.args.part.now
-    c.args.breaks.now.items c.loop-word.breaks.items c.loop-word.line_start c.loop-word.end
-    c.loop-word.open_width ws line) c.in-Some.ensures.steps has in
+    let here = rw c.in-Some.ensures.steps at has in
     let within = HasLine-fits here fits c.if-line_start-end.true in
     absurd (omega (arith, within, c.if-open_width-word_width.true))
 
@@ -38,9 +36,7 @@ loop-word-preserved g c =
     let len = length word.word + length word.whitespace in
     let taken = now.open_width + (c.width-word_width.result + length word.whitespace) in
     let len_is = length-append word.word word.whitespace in
-    let here = subst (λ ws. HasLine c.args.width c.args.start c.args.part.now
-    c.args.breaks.now.items c.loop-word.breaks.items c.loop-word.line_start c.loop-word.end
-    c.loop-word.open_width ws line) c.in-Some.ensures.steps has in
+    let here = rw c.in-Some.ensures.steps at has in
     let within = HasLine-within here in
     elim now.branch [
       | then-line_start-end+then-open_width-word_width+in_ok-push w ↦ (

@@ -1,5 +1,5 @@
 use Rattle.textwrap.proofs.refilling.find_layout.Goals as goal
-use Rattle.textwrap_base.proofs.Common.{◌≡◌, ◌+◌, [], ◌∷◌, ◌++◌, max, get_or, map, drop, length}
+use Rattle.textwrap_base.proofs.Common.{◌≡◌, [], ◌∷◌, ◌++◌, max, get_or, map, drop, length}
 use Rattle.textwrap_base.proofs.Common.{refl, sym, ap, ◌∙◌, subst, arith, append-nil, fold, IsAscii}
 use Rattle.textwrap_base.proofs.Common.{lines, YieldsList-turn, YieldsList-end}
 use Rattle.textwrap_base.proofs.Common.{YieldsList-from_lines, length_push, drop_all}
@@ -41,13 +41,11 @@ loop-line-preserved c =
     c.narrow.ensures ∙ ap (λ p. common_prefix (texts_in c.loop-line.common ++ p ∷ []))
     c.line_prefix.ensures in
     record {
-      width = ap (λ k. fold max c.max-width.result (map text_width (drop k texts))) count
-          ∙ ap (λ w. fold max w (map text_width (drop (length before + 1) texts))) wide
-          ∙ sym (width-more c.loop-line.width texts (length before) line turn.0 turn.1)
-          ∙ c.loop-line.invariant.width;
-      common = ap (λ k. common_prefix (c.narrow.result.now ∷ map line_prefix (drop k texts))) count
-          ∙ sym (common-more c.loop-line.common c.narrow.result.now texts (length before) line
-          turn.0 turn.1 narrows) ∙ c.loop-line.invariant.common;
+      width = rw (count, wide)
+          (sym (width-more c.loop-line.width texts (length before) line turn.0 turn.1)
+          ∙ c.loop-line.invariant.width);
+      common = rw count (sym (common-more c.loop-line.common c.narrow.result.now texts (length before) line
+          turn.0 turn.1 narrows) ∙ c.loop-line.invariant.common);
       ascii = subst IsAscii (sym narrows)
           (narrowed-ascii c.loop-line.common line c.loop-line.invariant.ascii);
     }
@@ -65,13 +63,10 @@ returns c =
     ap (λ b. b.now) c.unwrap_or-first.ensures
     ∙ first_line _ _ text c.next.result _ c.lines.ensures.rest c.next.ensures.steps refl in
     let width : c.loop-line.width ≡ unfilled_width text =
-    ap (λ ls. fold max c.loop-line.width (map text_width ls)) (sym none)
-    ∙ c.loop-line.invariant.width in
+    rw none at c.loop-line.invariant.width in
     let initial : c.line_prefix-2.result.now ≡ unfilled_initial text =
     c.line_prefix-2.ensures ∙ ap line_prefix first in
     let subsequent : c.unwrap_or.result.now ≡ unfilled_subsequent text =
     ap (λ b. b.now) c.unwrap_or.ensures ∙ common-end c.loop-line.common _ refl
-    ∙ ap common_prefix (sym (append-nil (texts_in c.loop-line.common)))
-    ∙ ap (λ ls. common_prefix (texts_in c.loop-line.common ++ map line_prefix ls)) (sym none)
-    ∙ c.loop-line.invariant.common in
+    ∙ (rw (none, append-nil) at c.loop-line.invariant.common) in
     settings-with c.loop-line.width _ _ _ _ _ width initial subsequent

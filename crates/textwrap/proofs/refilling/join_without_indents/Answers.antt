@@ -1,11 +1,11 @@
 use Rattle.textwrap.proofs.refilling.join_without_indents.Goals as goal
-use Rattle.textwrap_base.proofs.Common.{◌≡◌, [], ◌∷◌, ◌++◌, length, drop, map, All, subst, sym, ap}
+use Rattle.textwrap_base.proofs.Common.{◌≡◌, [], ◌∷◌, ◌++◌, length, drop, map, subst, sym, ap}
 use Rattle.textwrap_base.proofs.Common.{◌∙◌, append_assoc, StartsWith, string_bytes, All-head}
 use Rattle.textwrap_base.proofs.Common.{All-tail}
 use Rattle.textwrap_words.proofs.Common.{blank}
 use Rattle.textwrap.proofs.Common.{detected_among}
 use Rattle.textwrap.specs.Refilling.{ended_line_view}
-use Rattle.textwrap.proofs.Text.Unfilling.{lines-begin, added_lines, joined_text-some}
+use Rattle.textwrap.proofs.Text.Unfilling.{lines-begin, joined_text-some}
 use Rattle.textwrap.proofs.Text.Unfilling.{detected_among-two}
 
 pub without_indent-requires : goal.without_indent-requires
@@ -25,15 +25,11 @@ loop-line-init g c =
     c.in-Some.first.now = c.in_ok-push_str.ensures.bytes
     ∙ ap (λ l. l ++ piece) c.new-joined.ensures.bytes ∙ c.without_indent.ensures in
     record {
-      joined = ap (λ l. l ++ added_lines (length c.args.subsequent_indent.now)
-          c.into_iter-line-iterator.result) pushed
-          ∙ ap (λ es. drop (length c.args.initial_indent.now) c.in-Some.first.now
-          ++ added_lines (length c.args.subsequent_indent.now) es) left
-          ∙ joined_text-some text c.args.initial_indent.now c.args.subsequent_indent.now first
-          c.next.new.self c.requires.initial c.requires.subsequent steps;
-      begins = subst (All (λ e. StartsWith e.line c.args.subsequent_indent.now)) (sym left)
-          (subst (λ l. All (λ e. StartsWith e.line l) c.next.new.self)
-          (sym c.requires.subsequent) (lines-begin text first c.next.new.self steps).1);
+      joined = rw (pushed, left) (joined_text-some text c.args.initial_indent.now
+          c.args.subsequent_indent.now first c.next.new.self c.requires.initial
+          c.requires.subsequent steps);
+      begins = rw (left, c.requires.subsequent)
+          (lines-begin text first c.next.new.self steps).1;
       detected = ap (λ es. detected_among (c.in-Some.ending ∷ map (λ e. e.ending) es)) left
           ∙ ap (λ es. detected_among (map (λ e. e.ending) es)) (sym steps);
     }
@@ -43,8 +39,7 @@ without_indent-requires-in-loop-line g c =
     let line = ended_line_view (c.in-Some-2.line, c.in-Some-2.ending) in
     All-head (λ e. StartsWith e.line c.args.subsequent_indent.now) line
     c.next-in-loop-line.new.self
-    (subst (All (λ e. StartsWith e.line c.args.subsequent_indent.now)) c.in-Some-2.ensures.steps
-    c.loop-line.invariant.begins)
+    (rw c.in-Some-2.ensures.steps at c.loop-line.invariant.begins)
 
 pub loop-line-preserved : goal.loop-line-preserved
 loop-line-preserved g c =
@@ -60,12 +55,9 @@ loop-line-preserved g c =
     ∙ ap (λ l. (before ++ blank ∷ []) ++ l) c.without_indent-in-loop-line.ensures
     ∙ append_assoc before (blank ∷ []) piece in
     record {
-      joined = ap (λ l. l ++ added_lines n left) pushed
-          ∙ append_assoc before (blank ∷ piece) (added_lines n left)
-          ∙ ap (λ es. before ++ added_lines n es) (sym steps) ∙ c.loop-line.invariant.joined;
+      joined = rw (pushed, append_assoc) (rw steps at c.loop-line.invariant.joined);
       begins = All-tail (λ e. StartsWith e.line c.args.subsequent_indent.now) line left
-          (subst (All (λ e. StartsWith e.line c.args.subsequent_indent.now)) steps
-          c.loop-line.invariant.begins);
+          (rw steps at c.loop-line.invariant.begins);
       detected = ap (λ d. detected_among (d ∷ map (λ e. e.ending) left))
           c.stronger_ending-detected.ensures
           ∙ detected_among-two c.loop-line.detected c.in-Some-2.ending

@@ -5,7 +5,6 @@ pub mod CutAtBlanks
 pub mod Dedenting
 pub mod EndedLines
 pub mod EndedParts
-pub mod EndedUnique
 pub mod Feeds
 pub mod Growing
 pub mod InPlace
@@ -21,7 +20,6 @@ pub mod Layout
 pub mod LineSoFar
 pub mod Margins
 pub mod Narrowed
-pub mod Places
 pub mod PlainFilled
 pub mod PlainIndents
 pub mod PlainLines
@@ -31,7 +29,6 @@ pub mod PlainUnfilled
 pub mod Prefixes
 pub mod Refilling
 pub mod RefillingRows
-pub mod Table
 pub mod TableBytes
 pub mod TableColumns
 pub mod TableLaws

@@ -1,8 +1,9 @@
--- The line feeds of a text that is filled in place, one part after another.
+-- The places of the line feeds: those of one part after the other, and that they are in the text.
 use Rattle.textwrap_base.proofs.Common.{◌≡◌, ℕ, ◌+◌, List, [], ◌∷◌, ◌++◌, length, refl, sym, ap}
-use Rattle.textwrap_base.proofs.Common.{◌∙◌, arith, append_assoc, append-nil, length-append}
-use Rattle.textwrap_base.proofs.Common.{Bor, Option, None, Some, length_push, IsGreedy}
-use Rattle.textwrap_words.proofs.Common.{WordText, sizes_of, tiled, words_of}
+use Rattle.textwrap_base.proofs.Common.{◌∙◌, arith, append_assoc, append-nil, length-append, Bor}
+use Rattle.textwrap_base.proofs.Common.{Option, None, Some, length_push, IsGreedy, ◌-◌, ◌<◌, ◌≤◌}
+use Rattle.textwrap_base.proofs.Common.{All, All-nil, All-cons, All-append}
+use Rattle.textwrap_words.proofs.Common.{WordText, sizes_of, tiled, words_of, blank}
 use Rattle.textwrap_lines.proofs.Common.{paragraphs_of, line_feed}
 use Rattle.textwrap.proofs.Common.{AreDividedAt, breaks_of, breaks_from}
 use Rattle.textwrap_base.proofs.Lists.Parts.{flat}
@@ -10,8 +11,9 @@ use Rattle.textwrap_lines.specs.declared.line_ending.LineEnding.TheVariants.{LF}
 use Rattle.textwrap_lines.proofs.Text.Endings.{join_with-cons, parts_past-some}
 use Rattle.textwrap_lines.proofs.Text.EndingTexts.{join-paragraphs_of}
 use Rattle.textwrap_lines.proofs.Text.Lines.{paragraphs_left, bytes_left}
-use Rattle.textwrap_lines.proofs.Paragraph.LinesApart.{IsBroken-greedy}
+use Rattle.textwrap_lines.proofs.Paragraph.LinesApart.{IsBroken-greedy, shortened, AreLinesApart}
 use Rattle.textwrap.proofs.Text.JoinedLines.{feed_joined}
+use Rattle.textwrap_words.proofs.Word.Tiling.{tiled-append}
 
 -- ---- one part after the other
 
@@ -66,3 +68,44 @@ bytes_left-split rest part (Some more) is =
       length-append (part ++ line_feed ∷ []) more.now,
       length_push part line_feed,
     )
+
+-- ---- they are in the text
+
+places-part : (start limit : ℕ) (lines : List (List WordText)) → AreLinesApart lines
+    → start + length (tiled (flat lines)) ≤ limit
+    → All (λ place. place < limit) (breaks_of start lines)
+places-part start limit [] apart room = All-nil (λ place. place < limit)
+places-part start limit (line ∷ []) apart room = All-nil (λ place. place < limit)
+places-part start limit (line ∷ next ∷ lines) (words, ending, apart) room =
+    let whole = ap length (tiled-append line (flat (next ∷ lines))) in
+    let len = length-append (tiled line) (tiled (flat (next ∷ lines))) in
+    let some = ap length ending ∙ length_push (shortened (tiled line)) blank in
+    All-cons (λ place. place < limit) (start + length (tiled line) - 1)
+    (breaks_of (start + length (tiled line)) (next ∷ lines))
+    (omega (arith, room, whole, len, some))
+    (places-part (start + length (tiled line)) limit (next ∷ lines) apart
+    (omega (arith, room, whole, len)))
+
+pub places-within : (width start limit : ℕ) (parts : List (List ℕ))
+    (divisions : List (List (List WordText))) → AreDividedAt width parts divisions
+    → start + length (feed_joined parts) ≤ limit
+    → All (λ place. place < limit) (breaks_from start divisions)
+places-within width start limit [] divisions none room =
+    rw none (All-nil (λ place. place < limit))
+places-within width start limit (part ∷ parts) [] divided room = absurd divided
+places-within width start limit (part ∷ []) (lines ∷ divisions) (greedy, divided) room =
+    let broken = IsBroken-greedy (width ∷ []) part lines greedy in
+    let past = start + length (tiled (flat lines)) + 1 in
+    All-append (λ place. place < limit) (breaks_of start lines) (breaks_from past divisions)
+    (places-part start limit lines broken.apart (omega (arith, room, ap length broken.tiles)))
+    (rw divided (All-nil (λ place. place < limit)))
+places-within width start limit (part ∷ next ∷ parts) (lines ∷ divisions) (greedy, divided) room =
+    let broken = IsBroken-greedy (width ∷ []) part lines greedy in
+    let past = start + length (tiled (flat lines)) + 1 in
+    let len = length-append (part ++ line_feed ∷ []) (feed_joined (next ∷ parts)) in
+    let one = length_push part line_feed in
+    All-append (λ place. place < limit) (breaks_of start lines) (breaks_from past divisions)
+    (places-part start limit lines broken.apart
+    (omega (arith, room, ap length broken.tiles, len, one)))
+    (places-within width past limit (next ∷ parts) divisions divided
+    (omega (arith, room, ap length broken.tiles, len, one)))

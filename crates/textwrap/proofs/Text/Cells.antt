@@ -1,4 +1,4 @@
--- The cells of a row, with the gaps between them.
+-- The cells of a row, with the gaps between them, and the rows that they make.
 use Rattle.textwrap_base.proofs.Common.{◌≡◌, ℕ, zero, suc, ◌+◌, ◌-◌, ◌*◌, ◌<◌, ◌≤◌, ◌⊎◌, List, []}
 use Rattle.textwrap_base.proofs.Common.{◌∷◌, ◌++◌, length, get_or, map, refl, sym, ap, ◌∙◌, arith}
 use Rattle.textwrap_base.proofs.Common.{append_assoc, append-nil, inl, inr, range_with_len, repeat}
@@ -6,7 +6,7 @@ use Rattle.textwrap_base.proofs.Common.{CowStr, get_or-map, get_or_past, length-
 use Rattle.textwrap_base.proofs.Common.{flat_map-append, map-range_with_len_more}
 use Rattle.textwrap_words.proofs.Common.{text_width}
 use Rattle.textwrap_lines.proofs.Common.{join_with, line_view, line_bytes}
-use Rattle.textwrap.proofs.Common.{Layout, blanks, cell, padded, gapped}
+use Rattle.textwrap.proofs.Common.{Layout, blanks, cell, padded, gapped, cells, row_text}
 use Rattle.std.specs.Cow.{cow_str_bytes}
 use Rattle.textwrap_words.proofs.Word.Measured.{text_width-nil}
 use Rattle.textwrap_lines.proofs.Text.Lines.{line_bytes-line_view}
@@ -84,3 +84,34 @@ gapped-all layout lines step first later count (inr past) =
       flat_map-append,
       gapped-missing layout lines step first (1 + later) count from,
     )
+
+-- ---- rows
+
+-- a row, part by part
+pub row_text-parts : (layout : Layout) (lines : List (List ℕ)) (step first later count : ℕ)
+    → (count ≡ 0) ⊎ (length lines ≤ first + (later + 1) * step)
+    → layout.columns ≡ suc (later + count)
+    → ((((layout.left ++ padded layout.column_width (cell lines step first 0))
+    ++ gapped layout (map (cell lines step first) (range_with_len 1 later)))
+    ++ repeat count (layout.middle ++ blanks layout.column_width))
+    ++ blanks layout.spare_width) ++ layout.right
+    ≡ row_text layout (cells lines step layout.columns first)
+row_text-parts layout lines step first later count all columns =
+    rw (columns, join-gapped, ← gapped-all layout lines step first later count all)
+    (simp append_assoc)
+
+-- the same where the run fills the columns up
+pub row_text-written : (layout : Layout) (lines : List (List ℕ)) (step first later : ℕ)
+    → (later + 1 ≡ layout.columns) ⊎ (length lines ≤ first + (later + 1) * step)
+    → later + 1 ≤ layout.columns
+    → ((((layout.left ++ padded layout.column_width (cell lines step first 0))
+    ++ gapped layout (map (cell lines step first) (range_with_len 1 later)))
+    ++ repeat (layout.columns - 1 - later) (layout.middle ++ blanks layout.column_width))
+    ++ blanks layout.spare_width) ++ layout.right
+    ≡ row_text layout (cells lines step layout.columns first)
+row_text-written layout lines step first later (inl full) within =
+    row_text-parts layout lines step first later (layout.columns - 1 - later)
+    (inl (omega arith)) (omega arith)
+row_text-written layout lines step first later (inr past) within =
+    row_text-parts layout lines step first later (layout.columns - 1 - later)
+    (inr past) (omega arith)

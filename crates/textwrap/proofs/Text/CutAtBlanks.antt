@@ -64,7 +64,7 @@ module _ (width : ℕ) (algorithm : Algorithm) (text : List ℕ) where
       division divided in
       let tile : tiled pieces ≡ text = ap tiled words ∙ tiled-words_of text in
       let of_text : AreWordsOf (tiled pieces) pieces =
-      subst (λ l. AreWordsOf l pieces) (sym tile) ((words_unique text pieces).1 words) in
+      rw tile ((words_unique text pieces).1 words) in
       let apart = apart_from pieces division lines of_text in
       record {
         parts = broken_lines division;
@@ -93,8 +93,7 @@ module _ (width : ℕ) (algorithm : Algorithm) (text : List ℕ) where
       → AreParagraphParts (unbroken_at width) (Divides width algorithm) false text parts
       → IsCutAtBlanks text (joined_lines parts)
   cut-parts parts (division, laid_out, is) =
-      subst (λ ps. IsCutAtBlanks text (joined_lines ps)) (sym is)
-      (cut-laid_out division (is_whole (unbroken_at width) false text) refl laid_out)
+      rw is (cut-laid_out division (is_whole (unbroken_at width) false text) refl laid_out)
 
   cut-groups : (groups : List (List LineParts))
       → AreGroups (AreParagraphParts (unbroken_at width) (Divides width algorithm)) false

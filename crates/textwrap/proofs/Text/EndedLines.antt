@@ -19,11 +19,7 @@ is_feed b = b == 10
 line_before_feed-by : (part : List ℕ) (b : Bool) → (last part == 13) ≡ b
     → line_before_feed part
     ≡ record { line = cond b (take (length part - 1) part) part; ending = Some (cond b CRLF LF) }
-line_before_feed-by part b is =
-    ap (λ b. record {
-      line = cond b (take (length part - 1) part) part;
-      ending = Some (cond b CRLF LF);
-    }) is
+line_before_feed-by part b is = rw is
 
 pub line_before_feed-return : (part line : List ℕ) → part ≡ line ++ 13 ∷ []
     → line_before_feed part ≡ record { line = line; ending = Some CRLF }

@@ -6,7 +6,7 @@ use Rattle.textwrap_words.proofs.Common.{blank, WordText, tiled}
 use Rattle.textwrap_lines.proofs.Common.{ending_bytes, paragraphs_of, line_feed}
 use Rattle.textwrap.proofs.Common.{broken_lines, AreDividedAt, breaks_of, breaks_from}
 use Rattle.textwrap.proofs.Common.{with_line_feeds, IsFilledInPlace}
-use Rattle.textwrap.proofs.Text.Places.{places-within}
+use Rattle.textwrap.proofs.Text.Breaks.{places-within}
 use Rattle.std.proofs.Common.{set}
 use Rattle.std.proofs.lemmas.List.{set_at}
 use Rattle.textwrap_base.proofs.Lists.Parts.{flat}

@@ -65,11 +65,8 @@ module _ {width start : ℕ} {part old breaks : List ℕ} {begin end taken : ℕ
       λ some. omega (
         arith,
         closes has,
-        within (has.some (λ none. absurd (omega (
-          arith,
-          some,
-          ap length none,
-        )))),
+        within (has.some
+            (λ none. omega (arith, ap length none))),
       ) in
       record {
         after = omega (arith, from_is, has.after);
@@ -93,11 +90,7 @@ module _ {width start : ℕ} {part old breaks : List ℕ} {begin end taken : ℕ
   -- a line without bytes has no columns
   pub HasLine-none : end ≤ begin → taken ≡ 0
   HasLine-none none =
-      omega (
-        arith,
-        has.taken_is,
-        no_width line (λ some. absurd (omega (arith, none, has.some some))),
-      )
+      omega (arith, has.taken_is, no_width line (λ some. omega (arith, has.some some)))
     where
       no_width : (ws : List WordText) → (ws ≢ [] → ⊥) → open_width sizes_of ws ≡ 0
       no_width [] none = refl

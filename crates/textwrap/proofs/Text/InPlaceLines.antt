@@ -1,14 +1,14 @@
 -- The lines of a text that is filled in place are the lines of the wrapped text.
 use Rattle.textwrap_base.proofs.Common.{◌≡◌, ℕ, ◌-◌, ◌<◌, ◌≤◌, Bool, true, false, ◌||◌, nat_lt}
 use Rattle.textwrap_base.proofs.Common.{◌==◌, List, [], ◌∷◌, All, length, map, refl, sym, ap}
-use Rattle.textwrap_base.proofs.Common.{◌∙◌, subst, arith, flat_map, IsUtf8, and_parts, ltb-true}
+use Rattle.textwrap_base.proofs.Common.{◌∙◌, arith, flat_map, IsUtf8, and_parts, ltb-true}
 use Rattle.textwrap_base.proofs.Common.{map-append, All-head, All-tail, All-map, line_width}
 use Rattle.textwrap_base.proofs.Common.{closed_width, IsGreedy}
 use Rattle.textwrap_words.proofs.Common.{text_width, IsNarrow, WordText, sizes_of, word_of}
-use Rattle.textwrap_words.proofs.Common.{words_of, chunks, AreWordsOf, Greedy, Whole, ArePoints}
+use Rattle.textwrap_words.proofs.Common.{words_of, chunks, Greedy, Whole}
 use Rattle.textwrap_lines.proofs.Common.{paragraphs_of, LineParts, line_from, indent_of, is_whole}
 use Rattle.textwrap_lines.proofs.Common.{parts_of, parts_from, pieces_of, widths_of, DividesAs}
-use Rattle.textwrap_lines.proofs.Common.{ArePieces, AreParagraphParts, AreGroups, AreTextLines}
+use Rattle.textwrap_lines.proofs.Common.{AreParagraphParts, AreGroups, AreTextLines}
 use Rattle.textwrap.proofs.Common.{broken_lines, AreDividedAt, IsFilledInPlace, unbroken_at}
 use Rattle.textwrap_base.proofs.Cost.OneLine.{IsDividedBy-one_line}
 use Rattle.textwrap_base.proofs.Division.Unique.{greedy_unique}
@@ -60,8 +60,8 @@ module _ (width : ℕ) (is_later : Bool) (part : List ℕ) (lines : List (List W
       (and_parts (length (indent_of (unbroken_at width) is_later) == 0)
       (nat_lt (length part) width) whole).1 in
       let closed : closed_width sizes_of (words_of part) ≤ length part =
-      subst (λ ws. closed_width sizes_of ws ≤ length part) (pieces_of-unbroken width part)
-      (closed-pieces_of (unbroken_at width) Whole part utf8 narrow) in
+      rw (pieces_of-unbroken width part)
+      at (closed-pieces_of (unbroken_at width) Whole part utf8 narrow) in
       let none : All (λ w. (sizes_of w).penalty ≡ 0) (words_of part) =
       All-map (λ w. (sizes_of w).penalty ≡ 0) word_of (chunks part) (λ k d lt. refl) in
       let room : closed_width sizes_of (words_of part) ≤ line_width (width ∷ []) 0 =
@@ -72,11 +72,8 @@ module _ (width : ℕ) (is_later : Bool) (part : List ℕ) (lines : List (List W
   divides : Divides width is_later part lines
   divides = (
     words_of part,
-    subst (λ ws. ArePieces (unbroken_at width) AreWordsOf (ArePoints Whole)
-        part ws) (pieces_of-unbroken width part)
-        (ArePieces-computed (unbroken_at width) Whole part),
-    subst (λ ws. IsGreedy sizes_of ws (words_of part) lines)
-        (sym (widths_of-unbroken width is_later))
+    rw (pieces_of-unbroken width part) at (ArePieces-computed (unbroken_at width) Whole part),
+    rw (widths_of-unbroken width is_later)
         (IsGreedy-same sizes_of (width ∷ []) (width ∷ width ∷ [])
         (λ number. line_width-one width number ∙ sym (line_width-two width number))
         (words_of part) lines greedy),

@@ -10,8 +10,8 @@ use Rattle.textwrap.specs.Indentation.{indent_of_part, indented, HasNoLineFeed, 
 use Rattle.textwrap.specs.Indentation.{AreEnded}
 use Rattle.textwrap_base.proofs.Whitespace.{skipped, trim_end-front}
 use Rattle.textwrap_base.proofs.Lists.Maps.{flat-map, dropped-map}
-use Rattle.textwrap.proofs.Text.EndedUnique.{ended_parts-flat, AreEnded-ended_parts}
-use Rattle.textwrap.proofs.Text.EndedUnique.{flat-ended_parts}
+use Rattle.textwrap.proofs.Text.EndedParts.{ended_parts-flat, AreEnded-ended_parts}
+use Rattle.textwrap.proofs.Text.EndedParts.{flat-ended_parts}
 
 -- ---- blank lines
 

@@ -1,8 +1,8 @@
 -- Lemmas on a plain text that is filled with whole words: it is plain again.
-use Rattle.textwrap_base.proofs.Common.{◌≡◌, ◌≢◌, ℕ, ◌<◌, List, [], ◌∷◌, ◌++◌, All, length, map}
+use Rattle.textwrap_base.proofs.Common.{◌≡◌, ◌≢◌, ℕ, ◌<◌, List, [], ◌∷◌, All, length, map}
 use Rattle.textwrap_base.proofs.Common.{refl, sym, ap, ◌∙◌, subst, arith, append_assoc}
 use Rattle.textwrap_base.proofs.Common.{length-append, All-nil, All-head, All-weaker}
-use Rattle.textwrap_words.proofs.Common.{blank, without_final_blanks, Algorithm}
+use Rattle.textwrap_words.proofs.Common.{without_final_blanks, Algorithm}
 use Rattle.textwrap_lines.proofs.Common.{line_feed}
 use Rattle.textwrap.proofs.Common.{IsFilledUnbroken, IsPlainLine, IsPlain, blanked}
 use Rattle.std.proofs.lemmas.List.Folds.{map_fixed}
@@ -39,13 +39,7 @@ none_joined : (parts : List (List ℕ)) → 0 < length parts → [] ≡ blank_jo
 none_joined [] some is = absurd (omega arith)
 none_joined (part ∷ []) some is = ap without_final_blanks (sym is)
 none_joined (part ∷ next ∷ parts) some is =
-    let more = blank_joined (next ∷ parts) in
-    absurd (omega (
-      arith,
-      ap length is,
-      length-append (part ++ blank ∷ []) more,
-      length-append part (blank ∷ []),
-    ))
+    absurd (omega (arith, simp length-append at (ap length is)))
 
 pub filled-plain : (width : ℕ) (algorithm : Algorithm) (text filled : List ℕ) → IsPlain text
     → All (λ c. c ≢ line_feed) text → IsFilledUnbroken width algorithm text filled

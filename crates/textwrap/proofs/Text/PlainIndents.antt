@@ -23,7 +23,8 @@ pub initial-plain : (parts : List (List ℕ)) → All IsPlainLine parts
     → unfilled_initial (feed_joined parts) ≡ []
 initial-plain [] plain = refl
 initial-plain (part ∷ parts) plain =
-    rw (lines-plain (part ∷ parts) plain) (solid part (All-head IsPlainLine part parts plain)).begins
+    rw (lines-plain (part ∷ parts) plain)
+    (solid part (All-head IsPlainLine part parts plain)).begins
 
 common_start-none : (texts : List (List ℕ)) → fold common_start [] texts ≡ []
 common_start-none [] = refl
@@ -59,12 +60,7 @@ joined-plain parts plain =
 feeds-some : (part : List ℕ) (parts : List (List ℕ)) → All IsPlainLine (part ∷ parts)
     → 0 < length (feed_joined (part ∷ parts))
 feeds-some part [] plain = (solid part (All-head IsPlainLine part [] plain)).some
-feeds-some part (next ∷ parts) plain =
-    omega (
-      arith,
-      length-append (part ++ line_feed ∷ []) (feed_joined (next ∷ parts)),
-      feeds-some next parts (All-tail IsPlainLine part (next ∷ parts) plain),
-    )
+feeds-some part (next ∷ parts) plain = simp length-append (omega arith)
 
 feeds-last : (part : List ℕ) (parts : List (List ℕ)) → All IsPlainLine (part ∷ parts)
     → last (feed_joined (part ∷ parts)) ≢ line_feed

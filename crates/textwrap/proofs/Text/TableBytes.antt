@@ -1,11 +1,9 @@
 -- How many bytes the rows of a table take.
-use Rattle.textwrap_base.proofs.Common.{◌≡◌, ℕ, ◌+◌, ◌-◌, ◌*◌, ◌<◌, ◌≤◌, ◌⊎◌, inl, List, [], ◌++◌}
-use Rattle.textwrap_base.proofs.Common.{length, map, refl, ap, ◌∙◌, arith, ⊎_elim, length-append}
-use Rattle.textwrap_base.proofs.Common.{cases_lt, range_with_len, ◌^◌, map-append}
-use Rattle.textwrap_base.proofs.Common.{flat_map-append}
+use Rattle.textwrap_base.proofs.Common.{◌≡◌, ℕ, ◌+◌, ◌-◌, ◌*◌, ◌<◌, ◌≤◌, ◌⊎◌, inl, List, []}
+use Rattle.textwrap_base.proofs.Common.{length, map, refl, arith, length-append}
+use Rattle.textwrap_base.proofs.Common.{range_with_len, ◌^◌, map-append, flat_map-append}
 use Rattle.textwrap.proofs.Common.{Layout, cell, cells, padded, row_text, gapped}
-use Rattle.textwrap.proofs.Text.Cells.{gapped-more}
-use Rattle.textwrap.proofs.Text.Table.{row_text-written}
+use Rattle.textwrap.proofs.Text.Cells.{gapped-more, row_text-written}
 use Rattle.std.proofs.lemmas.List.{length-replicate}
 use Rattle.textwrap_base.proofs.Lists.Ranges.{range-split}
 use Rattle.textwrap_base.proofs.Lists.Repeated.{length-repeat}
@@ -40,19 +38,9 @@ pub length-gapped-within : (layout : Layout) (lines : List (List ℕ)) (step fir
     → length (gapped layout (map (cell lines step first) (range_with_len 1 later)))
     ≤ length (gapped layout (map (cell lines step first) (range_with_len 1 more)))
 length-gapped-within layout lines step first later more within =
-    let at = cell lines step first in
-    let front = map at (range_with_len 1 later) in
-    let back = map at (range_with_len (1 + later) (more - later)) in
     let whole : more ≡ later + (more - later) = omega (arith, within) in
-    omega (
-      arith,
-      ap (λ n. length (gapped layout (map at (range_with_len 1 n)))) whole,
-      ap (λ l. length (gapped layout l)) (ap (map at) (range-split 1 later (more - later))
-          ∙ map-append at (range_with_len 1 later) (range_with_len (1 + later) (more - later))),
-      ap length (flat_map-append (λ text. layout.middle ++ padded layout.column_width text)
-          front back),
-      length-append (gapped layout front) (gapped layout back),
-    )
+    rw (whole, range-split 1 later (more - later))
+    (simp (map-append, flat_map-append, length-append) (omega arith))
 
 -- so where some bytes of theirs have no number, nor have all
 pub gapped-past : (layout : Layout) (lines : List (List ℕ)) (step first later len part : ℕ)
@@ -63,21 +51,14 @@ pub gapped-past : (layout : Layout) (lines : List (List ℕ)) (step first later 
     → ¬ (part < 2 ^ 64)
     → 2 ^ 64
     ≤ length (gapped layout (map (cell lines step first) (range_with_len 1 (layout.columns - 1))))
-gapped-past layout lines step first later len part len_is room within past =
-    let all = length (gapped layout (map (cell lines step first)
-    (range_with_len 1 (layout.columns - 1)))) in
-    ⊎_elim
-    (λ (fits : all < 2 ^ 64).
-    absurd (past (omega (
-      arith,
-      fits,
-      len_is,
-      within,
-      length-gapped-more layout lines step first later,
-      length-gapped-within layout lines step first (later + 1) (layout.columns - 1) room,
-    ))))
-    (λ (most : 2 ^ 64 ≤ all). most)
-    (cases_lt all (2 ^ 64))
+gapped-past layout lines step first later len part len_is room within past = omega (
+  arith,
+  past,
+  len_is,
+  within,
+  length-gapped-more layout lines step first later,
+  length-gapped-within layout lines step first (later + 1) (layout.columns - 1) room,
+)
 
 -- and all later cells are in the row
 pub length-gapped-row : (layout : Layout) (lines : List (List ℕ)) (step first : ℕ)

@@ -79,5 +79,6 @@ columns_kept lines columns some =
             past-empty lines (0 + length lines) empty (omega (arith, from)),
           )
           (ap (λ l. l ++ replicate empty [])
-          (sym (fill_by_all (λ i. get_or lines i []) lines (length lines) [] refl (λ k within. refl)))),
+          (sym (fill_by_all (λ i. get_or lines i []) lines (length lines) [] refl
+          (λ k within. refl)))),
     )

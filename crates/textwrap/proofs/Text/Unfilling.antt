@@ -1,7 +1,7 @@
 -- Lemmas on what unfilling gives: lines begin with their indents, are joined, and show their
 -- ending.
 use Rattle.textwrap_base.proofs.Common.{◌≡◌, ℕ, Bool, true, false, cond, List, [], ◌∷◌, ◌++◌}
-use Rattle.textwrap_base.proofs.Common.{length, drop, map, filter, All, refl, sym, ap, subst}
+use Rattle.textwrap_base.proofs.Common.{length, drop, map, filter, All, refl, sym, ap}
 use Rattle.textwrap_base.proofs.Common.{arith, get_or, append_assoc, append-nil, Option, Some, None}
 use Rattle.textwrap_base.proofs.Common.{◌==◌, ◌&&◌, nat_eq, unwrap_or, StartsWith, flat_map}
 use Rattle.textwrap_base.proofs.Common.{slice_split, ends_with, lines, starts_with_trans, nat_tests}
@@ -66,19 +66,16 @@ begin-cut first es true some e rest is =
     (begins-each subsequent es (common_prefix-begins (map line_prefix (texts_of es)))) in
     let same : first ≡ e = cc in
     let others : filter has_text es ≡ rest = cc in (
-      subst (λ l. StartsWith l.line (line_prefix first.line)) same
-          (line_prefix-begins first.line),
-      subst (All (λ l. StartsWith l.line subsequent)) others each,
+      rw (← same) (line_prefix-begins first.line),
+      rw others at each,
     )
 begin-cut first es false none e rest is =
     let subsequent = common_prefix (map line_prefix (texts_of es)) in
     let each = All-filter has_text (λ l. StartsWith l.line subsequent) es
     (begins-each subsequent es (common_prefix-begins (map line_prefix (texts_of es)))) in
     let empty : length first.line ≡ 0 = grind (arith, nat_tests) in (
-      subst (λ line. StartsWith e.line (line_prefix line)) (sym (nil_from_length first.line empty))
-          refl,
-      All-tail (λ l. StartsWith l.line subsequent) e rest
-          (subst (All (λ l. StartsWith l.line subsequent)) is each),
+      rw (nil_from_length first.line empty),
+      All-tail (λ l. StartsWith l.line subsequent) e rest (rw is at each),
     )
 
 begin-lines : (es : List EndedLine)
@@ -92,9 +89,7 @@ pub lines-begin : (text : List ℕ) (e : EndedLine) (rest : List EndedLine)
     → StartsWith e.line (unfilled_initial text)
     × All (λ l. StartsWith l.line (unfilled_subsequent text)) rest
 lines-begin text =
-    subst (λ ls. BeginWith (line_prefix (get_or ls 0 []))
-    (common_prefix (map line_prefix (drop 1 ls))) (nonempty_lines text))
-    (texts_of-ended_lines text) (begin-lines (ended_lines text))
+    rw (texts_of-ended_lines text) at (begin-lines (ended_lines text))
 
 -- ---- joined lines
 

@@ -1,5 +1,5 @@
 use Rattle.textwrap.proofs.columns.push_missing.Goals as goal
-use Rattle.textwrap_base.proofs.Common.{◌++◌, ap, ◌∙◌, append_assoc, string_bytes}
+use Rattle.textwrap_base.proofs.Common.{◌++◌, append_assoc, string_bytes}
 use Rattle.textwrap.proofs.Common.{blanks}
 use Rattle.textwrap_base.proofs.Lists.Repeated.{run_more}
 
@@ -7,8 +7,6 @@ pub loop-preserved : goal.loop-preserved
 loop-preserved g c =
     let middle = c.args.table.now.middle_gap.now in
     let padding = blanks c.args.table.now.column_width in
-    c.in_ok-push_blanks.ensures
-    ∙ ap (λ l. l ++ padding) c.in_ok-push_str.ensures.bytes
-    ∙ append_assoc (string_bytes c.loop.row) middle padding
-    ∙ run_more (string_bytes c.args.row.now) (string_bytes c.loop.row) (middle ++ padding)
-    c.loop.counter c.loop.invariant
+    rw (c.in_ok-push_blanks.ensures, c.in_ok-push_str.ensures.bytes, append_assoc)
+    (run_more (string_bytes c.args.row.now) (string_bytes c.loop.row) (middle ++ padding)
+    c.loop.counter c.loop.invariant)

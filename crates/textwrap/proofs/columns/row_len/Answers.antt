@@ -25,7 +25,8 @@ returns-in_err-later g c =
     let lines = map line_bytes (map line_view c.args.lines.now) in
     let len = length (row_text layout (cells lines c.args.step layout.columns c.args.first)) in
     let row = length-gapped-row layout lines c.args.step c.args.first c.requires.columns in
-    rw c.from_residual-in_err-later.ensures (λ fits. absurd (omega (arith, row, fits, c.in_err-later.ensures.none)))
+    rw c.from_residual-in_err-later.ensures
+    (λ fits. absurd (omega (arith, row, fits, c.in_err-later.ensures.none)))
 
 pub returns : goal.returns
 returns g c =

@@ -3,8 +3,7 @@ use Rattle.textwrap_base.proofs.Common.{◌≡◌, ◌+◌, ◌*◌, ◌≤◌, 
 use Rattle.textwrap_base.proofs.Common.{arith, subst, length-map}
 use Rattle.textwrap_lines.proofs.Common.{line_view, line_bytes}
 use Rattle.textwrap.proofs.Common.{layout_view}
-use Rattle.textwrap.proofs.Text.Cells.{cell_is}
-use Rattle.textwrap.proofs.Text.Table.{row_text-written}
+use Rattle.textwrap.proofs.Text.Cells.{cell_is, row_text-written}
 
 pub returns : goal.returns
 returns g c =
@@ -20,7 +19,8 @@ returns g c =
       c.in_ok-push_str.ensures.bytes,
       c.in_ok-row.ensures.bytes,
       c.as_str.ensures.value ∙ sym (cell_is c.args.lines.now c.index-lines-first.result
-          c.args.step c.args.first 0 c.args.first (omega arith) c.requires.within c.index-lines-first.is),
+          c.args.step c.args.first 0 c.args.first (omega arith) c.requires.within
+          c.index-lines-first.is),
     )
     (row_text-written layout lines c.args.step c.args.first later
     (subst (λ n. (later + 1 ≡ layout.columns) ⊎ (n ≤ c.args.first + (later + 1) * c.args.step))

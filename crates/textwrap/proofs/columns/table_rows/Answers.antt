@@ -1,7 +1,6 @@
 use Rattle.textwrap.proofs.columns.table_rows.Goals as goal
-use Rattle.textwrap_base.proofs.Common.{ℕ, List, ◌∷◌, [], ◌++◌, length, map, ap, sym, ◌∙◌, arith}
-use Rattle.textwrap_base.proofs.Common.{map-append, map-range_with_len_more, range_with_len}
-use Rattle.textwrap_base.proofs.Common.{string_bytes}
+use Rattle.textwrap_base.proofs.Common.{ℕ, List, length, map, sym, arith}
+use Rattle.textwrap_base.proofs.Common.{map-append, map-range_with_len_more}
 use Rattle.textwrap_lines.proofs.Common.{line_view, line_bytes}
 use Rattle.textwrap.proofs.Common.{layout_view, row_text, cells}
 use Rattle.textwrap_base.proofs.Numbers.{rows-le_lines}
@@ -28,8 +27,5 @@ loop-r-preserved g c =
     let lines = map line_bytes (map line_view c.args.lines.now) in
     let row : ℕ → List ℕ = λ r. row_text (layout_view c.args.table.now)
     (cells lines c.div_ceil-count.result c.args.table.now.columns r) in
-    ap (map string_bytes) c.in_ok-push.ensures.items
-    ∙ map-append string_bytes c.loop-r.rows.items (c.in_ok-table_row.field-0 ∷ [])
-    ∙ ap (λ l. l ++ string_bytes c.in_ok-table_row.field-0 ∷ []) c.loop-r.invariant
-    ∙ ap (λ l. map row (range_with_len 0 c.loop-r.r) ++ l ∷ []) c.in_ok-table_row.ensures
-    ∙ sym (map-range_with_len_more row 0 c.loop-r.r c.loop-r.r (omega arith))
+    rw (c.in_ok-push.ensures.items, map-append, c.loop-r.invariant, c.in_ok-table_row.ensures)
+    (sym (map-range_with_len_more row 0 c.loop-r.r c.loop-r.r (omega arith)))

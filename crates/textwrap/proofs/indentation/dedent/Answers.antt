@@ -1,9 +1,8 @@
 use Rattle.textwrap.proofs.indentation.dedent.Goals as goal
-use Rattle.textwrap_base.proofs.Common.{◌≡◌, ◌++◌, ◌∷◌, [], ◌==◌, cond, false, length, map}
-use Rattle.textwrap_base.proofs.Common.{sym, ap, ◌∙◌, subst, arith, append-nil, StartsWith}
-use Rattle.textwrap_base.proofs.Common.{join_with_byte, lines, string_bytes, YieldsList-turn}
-use Rattle.textwrap_base.proofs.Common.{YieldsList-end, YieldsList-from_lines, length_push}
-use Rattle.textwrap_base.proofs.Common.{take_all, last}
+use Rattle.textwrap_base.proofs.Common.{◌≡◌, ◌++◌, ◌∷◌, [], ◌==◌, cond, false, length, map, sym, ap}
+use Rattle.textwrap_base.proofs.Common.{◌∙◌, subst, arith, append-nil, StartsWith, join_with_byte}
+use Rattle.textwrap_base.proofs.Common.{lines, string_bytes, YieldsList-turn, YieldsList-end}
+use Rattle.textwrap_base.proofs.Common.{YieldsList-from_lines, length_push, take_all, last}
 use Rattle.textwrap.proofs.Common.{is_blank_line, margin_of}
 use Rattle.std.specs.Char.{encode_utf8}
 use Rattle.std.specs.Str.{chars}
@@ -49,14 +48,12 @@ loop-i-preserved g c =
     ∙ ap (λ l. string_bytes c.if-i-gt0.text ++ l) c.without_margin.ensures in
     rw length_push (elim c.if-i-gt0.branch [
       | then-i-gt0+in_ok-push w ↦
-          grown ∙ ap (λ l. l ++ f line) (ap string_bytes w.text-is ∙ w.in_ok-push.ensures.bytes
-          ∙ ap (λ b. string_bytes c.loop-i.text ++ b) line_feed)
-          ∙ joined-more f ls n c.in-Some.i line (string_bytes c.loop-i.text) here
-          w.if-i-gt0.true c.loop-i.invariant
+          rw (grown, w.text-is, w.in_ok-push.ensures.bytes, line_feed)
+          (joined-more f ls n c.in-Some.i line (string_bytes c.loop-i.text) here
+          w.if-i-gt0.true c.loop-i.invariant)
       | else-i-gt0 w ↦
-          grown ∙ ap (λ l. l ++ f line) (ap string_bytes w.text-is)
-          ∙ joined-first f ls n c.in-Some.i line (string_bytes c.loop-i.text) here
-          (omega arith) c.loop-i.invariant
+          rw (grown, w.text-is) (joined-first f ls n c.in-Some.i line
+          (string_bytes c.loop-i.text) here (omega arith) c.loop-i.invariant)
     ])
 
 pub returns : goal.returns

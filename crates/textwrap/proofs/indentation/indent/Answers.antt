@@ -1,9 +1,8 @@
 use Rattle.textwrap.proofs.indentation.indent.Goals as goal
-use Rattle.textwrap_base.proofs.Common.{◌≡◌, ◌++◌, cond, length, sym, ap, ◌∙◌, arith, append_assoc}
+use Rattle.textwrap_base.proofs.Common.{◌≡◌, ◌++◌, length, ap, ◌∙◌, arith, append_assoc}
 use Rattle.textwrap_base.proofs.Common.{flat_map, string_bytes, YieldsList-turn, YieldsList-end}
 use Rattle.textwrap_base.proofs.Common.{length_push, take_all}
 use Rattle.textwrap.proofs.Common.{ended_parts}
-use Rattle.std.specs.Str.{trim_end}
 use Rattle.textwrap.specs.Indentation.{indent_of_part, indented_part}
 use Rattle.textwrap.proofs.Text.EndedParts.{YieldsList-from_split_inclusive}
 use Rattle.textwrap_base.proofs.Lists.Maps.{indented-more}
@@ -18,20 +17,15 @@ loop-part-preserved g c =
     c.next.ensures.steps in
     let indent : c.if-is_blank_line.indent.now ≡ indent_of_part prefix part =
     elim c.if-is_blank_line.branch [
-      | then-is_blank_line w ↦ ap (λ p. p.now) w.indent-is
-          ∙ c.trim_end-bare_prefix.ensures.trim
-          ∙ sym (ap (λ b. cond b (trim_end prefix) prefix)
-          (sym c.is_blank_line.ensures ∙ w.if-is_blank_line.true))
-      | else-is_blank_line w ↦ ap (λ p. p.now) w.indent-is
-          ∙ sym (ap (λ b. cond b (trim_end prefix) prefix)
-          (sym c.is_blank_line.ensures ∙ w.if-is_blank_line.false))
+      | then-is_blank_line w ↦
+          rw (w.indent-is, ← c.is_blank_line.ensures, w.if-is_blank_line.true)
+          c.trim_end-bare_prefix.ensures.trim
+      | else-is_blank_line w ↦
+          rw (w.indent-is, ← c.is_blank_line.ensures, w.if-is_blank_line.false)
     ] in
     let grown : string_bytes c.push_str-in-loop-part.new.self
     ≡ string_bytes c.loop-part.text ++ indented_part prefix part =
-    c.in_ok-push_str-2.ensures.bytes
-    ∙ ap (λ l. l ++ part) (c.in_ok-push_str.ensures.bytes
-    ∙ ap (λ l. string_bytes c.loop-part.text ++ l) indent)
-    ∙ append_assoc (string_bytes c.loop-part.text) (indent_of_part prefix part) part in
+    rw (c.in_ok-push_str-2.ensures.bytes, c.in_ok-push_str.ensures.bytes, indent, append_assoc) in
     rw length_push (grown ∙ indented-more (indented_part prefix) (ended_parts c.args.s.now)
     (length c.loop-part.yielded) part (string_bytes c.loop-part.text) t.0 t.1
     c.loop-part.invariant)

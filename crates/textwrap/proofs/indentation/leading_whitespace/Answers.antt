@@ -1,5 +1,5 @@
 use Rattle.textwrap.proofs.indentation.leading_whitespace.Goals as goal
-use Rattle.textwrap_base.proofs.Common.{◌≡◌, ◌-◌, length, take, sym, ap, ◌∙◌, subst, IsCharBoundary}
+use Rattle.textwrap_base.proofs.Common.{◌≡◌, ◌-◌, length, take, sym, ap, ◌∙◌}
 use Rattle.textwrap_base.proofs.Common.{encode_utf8_all, chars_from_encodes}
 use Rattle.textwrap.proofs.Common.{leading_whitespace}
 use Rattle.textwrap_base.proofs.Lists.Parts.{from_start}
@@ -8,8 +8,8 @@ use Rattle.textwrap.proofs.Text.Dedenting.{leading-cut, leading-len}
 pub range-requires-clause-end_boundary : goal.range-requires-clause-end_boundary
 range-requires-clause-end_boundary c =
     let line = c.args.line.now in
-    subst (IsCharBoundary line) (sym (ap (λ t. length line - length t) c.trim_start.ensures.trim
-    ∙ leading-len line c.utf8.line)) (leading-cut line c.utf8.line).boundary
+    rw (c.trim_start.ensures.trim, leading-len line c.utf8.line)
+    (leading-cut line c.utf8.line).boundary
 
 pub returns : goal.returns
 returns c =

@@ -1,11 +1,10 @@
 use Rattle.textwrap.proofs.indentation.margin_of.Goals as goal
 use Rattle.textwrap_base.proofs.Common.{◌≡◌, ◌+◌, ◌∷◌, length, drop, refl, sym, ap, ◌∙◌, arith}
-use Rattle.textwrap_base.proofs.Common.{None, option_map, lines, YieldsList-turn, YieldsList-end}
+use Rattle.textwrap_base.proofs.Common.{option_map, lines, YieldsList-turn, YieldsList-end}
 use Rattle.textwrap_base.proofs.Common.{YieldsList-from_lines, drop_all, length_push}
 use Rattle.std.specs.Str.{chars}
 use Rattle.textwrap.proofs.Text.Margins.{margin_after, margin_after-blank, margin_after-first}
 use Rattle.textwrap.proofs.Text.Margins.{margin_after-end}
-use Rattle.textwrap.proofs.Text.Narrowed.{narrowed_by}
 use Rattle.textwrap_base.proofs.Lists.Parts.{lines-next}
 use Rattle.textwrap.proofs.indentation.margin_of.Goals.{In-Some}
 
@@ -20,34 +19,26 @@ next c =
 
 pub loop-line-preserved-in-Some-margin : goal.loop-line-preserved-in-Some-margin
 loop-line-preserved-in-Some-margin c =
-    let ls = lines c.args.s.now in
-    let n = length c.loop-line.yielded in
-    rw length_push (ap (λ m. narrowed_by m (drop (n + 1) ls)) c.narrowed.ensures
-    ∙ ap (narrowed_by (chars c.in-Some-margin.margin.now))
-    (sym (next (goal.at.loop-line-preserved-in-Some-margin c).In-Some))
-    ∙ ap (λ o. margin_after (option_map (λ m. chars m.now) o) (drop n ls)) (sym c.in-Some-margin.is)
-    ∙ c.loop-line.invariant)
+    rw (length_push, c.narrowed.ensures) (rw (
+      c.in-Some-margin.is,
+      next (goal.at.loop-line-preserved-in-Some-margin c).In-Some,
+    ) at c.loop-line.invariant)
 
 pub loop-line-preserved-in-None-margin : goal.loop-line-preserved-in-None-margin
 loop-line-preserved-in-None-margin c =
-    let ls = lines c.args.s.now in
-    let n = length c.loop-line.yielded in
-    rw length_push (sym (margin_after-blank c.in-Some.line.now (drop (n + 1) ls)
+    rw length_push (sym (margin_after-blank c.in-Some.line.now
+    (drop (length c.loop-line.yielded + 1) (lines c.args.s.now))
     (sym c.is_blank_line.ensures ∙ c.if-is_blank_line.true))
-    ∙ ap (margin_after None) (sym (next (goal.at.loop-line-preserved-in-None-margin c).In-Some))
-    ∙ ap (λ o. margin_after (option_map (λ m. chars m.now) o) (drop n ls)) (sym c.in-None-margin.is)
-    ∙ c.loop-line.invariant)
+    ∙ (rw (c.in-None-margin.is, next (goal.at.loop-line-preserved-in-None-margin c).In-Some)
+    at c.loop-line.invariant))
 
 pub loop-line-preserved : goal.loop-line-preserved
 loop-line-preserved c =
-    let ls = lines c.args.s.now in
-    let n = length c.loop-line.yielded in
-    rw length_push (ap (λ m. narrowed_by m (drop (n + 1) ls)) c.leading_whitespace.ensures
-    ∙ sym (margin_after-first c.in-Some.line.now (drop (n + 1) ls)
+    rw (length_push, c.leading_whitespace.ensures) (sym (margin_after-first c.in-Some.line.now
+    (drop (length c.loop-line.yielded + 1) (lines c.args.s.now))
     (sym c.is_blank_line.ensures ∙ c.if-is_blank_line.false))
-    ∙ ap (margin_after None) (sym (next (goal.at.loop-line-preserved c).In-Some))
-    ∙ ap (λ o. margin_after (option_map (λ m. chars m.now) o) (drop n ls)) (sym c.in-None-2.is)
-    ∙ c.loop-line.invariant)
+    ∙ (rw (c.in-None-2.is, next (goal.at.loop-line-preserved c).In-Some)
+    at c.loop-line.invariant))
 
 pub returns : goal.returns
 returns c =

@@ -1,8 +1,6 @@
 use Rattle.textwrap.proofs.indentation.without_margin.Goals as goal
-use Rattle.textwrap_base.proofs.Common.{◌≡◌, [], cond, false, length, drop, sym, ap, ◌∙◌}
-use Rattle.textwrap_base.proofs.Common.{encode_utf8_all}
+use Rattle.textwrap_base.proofs.Common.{◌≡◌, false, sym, ◌∙◌}
 use Rattle.textwrap.proofs.Common.{is_blank_line}
-use Rattle.std.specs.Str.{chars}
 use Rattle.textwrap_base.proofs.Characters.{after-margin}
 
 pub range_from-requires : goal.range_from-requires
@@ -16,8 +14,5 @@ pub returns : goal.returns
 returns c =
     let full : is_blank_line c.args.line.now ≡ false =
     sym c.is_blank_line.ensures ∙ c.if-is_blank_line.false in
-    let rest = drop (length (chars c.args.margin.now)) (chars c.args.line.now) in
-    c.range_from.ensures.value
-    ∙ (after-margin c.args.line.now c.args.margin.now c.utf8.line c.utf8.margin
-    (c.requires full)).1
-    ∙ sym (ap (λ b. cond b [] (encode_utf8_all rest)) full)
+    rw full (c.range_from.ensures.value ∙ (after-margin c.args.line.now c.args.margin.now
+    c.utf8.line c.utf8.margin (c.requires full)).1)

@@ -58,8 +58,7 @@ unreachable-requires g c =
 pub returns-clause-filled : goal.returns-clause-filled
 returns-clause-filled g c =
     let after = (goal.at.returns-clause-filled g c).After-put_line_feeds in
-    subst (IsFilledInPlace c.args.width (string_bytes c.args.text.now))
-    (sym (ap (λ v. v.items) c.in-Ok.ensures.ok ∙ all_bytes g after)) (filled g after)
+    rw (c.in-Ok.ensures.ok, all_bytes g after) (filled g after)
 
 pub returns-clause-only_blanks : goal.returns-clause-only_blanks
 returns-clause-only_blanks g c =

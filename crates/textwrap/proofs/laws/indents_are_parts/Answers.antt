@@ -1,5 +1,5 @@
 use Rattle.textwrap.proofs.laws.indents_are_parts.Goals as goal
-use Rattle.textwrap.proofs.Text.EndedUnique.{ended_parts_one}
+use Rattle.textwrap.proofs.Text.EndedParts.{ended_parts_one}
 use Rattle.textwrap.proofs.Text.Indentation.{ended_parts-indented, indented-whole, indents-removed}
 use Rattle.textwrap.proofs.Text.Indentation.{text-removed}
 

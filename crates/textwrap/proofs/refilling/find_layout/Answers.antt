@@ -1,6 +1,6 @@
 use Rattle.textwrap.proofs.refilling.find_layout.Goals as goal
-use Rattle.textwrap_base.proofs.Common.{◌≡◌, [], ◌∷◌, ◌++◌, max, get_or, map, drop, length}
-use Rattle.textwrap_base.proofs.Common.{refl, sym, ap, ◌∙◌, subst, arith, append-nil, fold, IsAscii}
+use Rattle.textwrap_base.proofs.Common.{◌≡◌, [], ◌∷◌, ◌++◌, max, get_or, drop, length}
+use Rattle.textwrap_base.proofs.Common.{refl, sym, ap, ◌∙◌, subst, arith, append-nil, IsAscii}
 use Rattle.textwrap_base.proofs.Common.{lines, YieldsList-turn, YieldsList-end}
 use Rattle.textwrap_base.proofs.Common.{YieldsList-from_lines, length_push, drop_all}
 use Rattle.textwrap_words.proofs.Common.{text_width}
@@ -19,8 +19,7 @@ loop-line-init c =
     ap (λ b. b.now) c.unwrap_or-first.ensures
     ∙ first_line _ _ text c.next.result _ c.lines.ensures.rest c.next.ensures.steps refl in
     record {
-      width = ap (λ w. fold max w (map text_width (later_lines text)))
-          (c.display_width-width.ensures.width ∙ ap text_width first) ∙ width-first (lines text);
+      width = rw (c.display_width-width.ensures.width, first) (width-first (lines text));
       common = refl;
       ascii = tt;
     }
@@ -44,7 +43,8 @@ loop-line-preserved c =
       width = rw (count, wide)
           (sym (width-more c.loop-line.width texts (length before) line turn.0 turn.1)
           ∙ c.loop-line.invariant.width);
-      common = rw count (sym (common-more c.loop-line.common c.narrow.result.now texts (length before) line
+      common = rw count (sym (common-more c.loop-line.common c.narrow.result.now texts
+          (length before) line
           turn.0 turn.1 narrows) ∙ c.loop-line.invariant.common);
       ascii = subst IsAscii (sym narrows)
           (narrowed-ascii c.loop-line.common line c.loop-line.invariant.ascii);

@@ -1,12 +1,10 @@
 use Rattle.textwrap.proofs.refilling.join_without_indents.Goals as goal
-use Rattle.textwrap_base.proofs.Common.{◌≡◌, [], ◌∷◌, ◌++◌, length, drop, map, subst, sym, ap}
-use Rattle.textwrap_base.proofs.Common.{◌∙◌, append_assoc, StartsWith, string_bytes, All-head}
-use Rattle.textwrap_base.proofs.Common.{All-tail}
+use Rattle.textwrap_base.proofs.Common.{◌≡◌, ◌∷◌, ◌++◌, length, drop, map, subst, sym, ap, ◌∙◌}
+use Rattle.textwrap_base.proofs.Common.{append_assoc, StartsWith, string_bytes, All-head, All-tail}
 use Rattle.textwrap_words.proofs.Common.{blank}
 use Rattle.textwrap.proofs.Common.{detected_among}
 use Rattle.textwrap.specs.Refilling.{ended_line_view}
-use Rattle.textwrap.proofs.Text.Unfilling.{lines-begin, joined_text-some}
-use Rattle.textwrap.proofs.Text.Unfilling.{detected_among-two}
+use Rattle.textwrap.proofs.Text.Unfilling.{lines-begin, joined_text-some, detected_among-two}
 
 pub without_indent-requires : goal.without_indent-requires
 without_indent-requires g c =
@@ -51,9 +49,7 @@ loop-line-preserved g c =
     let piece = drop n c.in-Some-2.line.now in
     let pushed : string_bytes c.push_str-in-loop-line-2.new.self ≡ before ++ blank ∷ piece =
     c.in_ok-push_str-3.ensures.bytes
-    ∙ ap (λ l. l ++ c.without_indent-in-loop-line.result.now) c.in_ok-push_str-2.ensures.bytes
-    ∙ ap (λ l. (before ++ blank ∷ []) ++ l) c.without_indent-in-loop-line.ensures
-    ∙ append_assoc before (blank ∷ []) piece in
+    ∙ rw (c.in_ok-push_str-2.ensures.bytes, c.without_indent-in-loop-line.ensures, append_assoc) in
     record {
       joined = rw (pushed, append_assoc) (rw steps at c.loop-line.invariant.joined);
       begins = All-tail (λ e. StartsWith e.line c.args.subsequent_indent.now) line left

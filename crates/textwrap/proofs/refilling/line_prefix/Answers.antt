@@ -1,6 +1,5 @@
 use Rattle.textwrap.proofs.refilling.line_prefix.Goals as goal
-use Rattle.textwrap_base.proofs.Common.{◌≡◌, rules, take, ap, ◌∙◌, prefix_len}
-use Rattle.textwrap_base.proofs.Common.{length-prefix_len}
+use Rattle.textwrap_base.proofs.Common.{◌≡◌, rules, take, ap, ◌∙◌, prefix_len, length-prefix_len}
 use Rattle.textwrap.proofs.Common.{is_prefix_character}
 use Rattle.std.proofs.lemmas.Iterator.Adapters.{YieldsList-from_bytes}
 use Rattle.std.proofs.lemmas.Iterator.Consumers.{count_from_yields_List}

@@ -1,8 +1,8 @@
 -- The units of a text are units.
 use Rattle.textwrap_base.proofs.Common.{◌≡◌, inl, inr, ⊎_elim, ℕ, zero, suc, ◌<◌, ◌≤◌, Bool, true}
-use Rattle.textwrap_base.proofs.Common.{false, cond, ◌==◌, List, [], ◌∷◌, length, take, refl, sym}
-use Rattle.textwrap_base.proofs.Common.{ap, ◌∙◌, subst, arith, cases_lt, eqb-true, eqb-false}
-use Rattle.textwrap_base.proofs.Common.{length-take-le, take-take, take_all}
+use Rattle.textwrap_base.proofs.Common.{false, cond, ◌==◌, List, [], ◌∷◌, length, take, refl, ap}
+use Rattle.textwrap_base.proofs.Common.{◌∙◌, arith, cases_lt, eqb-true, eqb-false, length-take-le}
+use Rattle.textwrap_base.proofs.Common.{take-take, take_all}
 use Rattle.textwrap_words.proofs.Common.{TextUnit, Visible, Sequence, escape, ends, escape_len}
 use Rattle.textwrap_words.proofs.Common.{taken_at, units_past, units}
 use Rattle.textwrap_words.proofs.Units.Sequences.{StopsAt, escape-stops}
@@ -14,7 +14,7 @@ AreUnits-cons u [] whole rest = inl whole
 AreUnits-cons u (v ∷ us) whole rest = (whole, rest)
 
 AreUnits-open : (u : TextUnit) (us : List TextUnit) → IsOpen u → us ≡ [] → AreUnits (u ∷ us)
-AreUnits-open u us open_last none = subst (λ us. AreUnits (u ∷ us)) (sym none) (inr open_last)
+AreUnits-open u us open_last none = rw none (inr open_last)
 
 sequence-units : (cs : List ℕ) (n : ℕ) → StopsAt ends cs n → AreUnits (units_past n cs)
     → AreUnits (Sequence (escape ∷ take n cs) ∷ units_past n cs)
@@ -39,8 +39,7 @@ AreUnits-at : (c : ℕ) (cs : List ℕ) (b : Bool) → (c == escape) ≡ b
     → AreUnits (cond b (Sequence (c ∷ take (escape_len cs) cs)) (Visible c) ∷ units_past
     (cond b (escape_len cs) 0) cs)
 AreUnits-at c cs true is rest =
-    subst (λ x. AreUnits (Sequence (x ∷ take (escape_len cs) cs) ∷ units_past (escape_len cs) cs))
-    (sym (eqb-true c escape is)) (sequence-units cs (escape_len cs) (escape-stops cs) rest)
+    rw (eqb-true c escape is) (sequence-units cs (escape_len cs) (escape-stops cs) rest)
 AreUnits-at c cs false is rest = AreUnits-cons (Visible c) (units_past 0 cs)
     (eqb-false c escape is) rest
 

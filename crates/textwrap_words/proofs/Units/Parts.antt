@@ -16,13 +16,9 @@ use Rattle.textwrap_words.specs.Units.{control_len}
 pub units_past-tile : (n : ℕ) (cs : List ℕ) → flat_map characters (units_past n cs) ≡ drop n cs
 units_past-tile n [] = sym (drop_all n [] (omega arith))
 units_past-tile zero (c ∷ cs) =
-    elim (eqb c 27) as (λ b. characters
-    (cond b (Sequence (c ∷ take (escape_len cs) cs)) (Visible c)) ++ flat_map characters
-    (units_past (cond b (escape_len cs) 0) cs) ≡ c ∷ cs) [
-      | true ↦ ap (λ ds. c ∷ ds)
-          (ap (λ ds. take (escape_len cs) cs ++ ds) (units_past-tile (escape_len cs) cs)
-          ∙ take-append-drop (escape_len cs) cs)
-      | false ↦ ap (λ ds. c ∷ ds) (units_past-tile 0 cs)
+    elim (cases_Bool (eqb c 27)) [
+      | inl t ↦ rw (t, units_past-tile (escape_len cs) cs, take-append-drop (escape_len cs) cs) refl
+      | inr f ↦ rw f (ap (λ ds. c ∷ ds) (units_past-tile 0 cs))
     ]
 units_past-tile (suc n) (c ∷ cs) = units_past-tile n cs
 

@@ -1,8 +1,8 @@
 -- How far an escape sequence goes.
 use Rattle.textwrap_base.proofs.Common.{◌≡◌, ◌⊎◌, inl, inr, ⊎_elim, ℕ, zero, suc, ◌<◌, ◌≤◌, Bool}
 use Rattle.textwrap_base.proofs.Common.{true, false, cond, List, [], ◌∷◌, ◌++◌, length, take, refl}
-use Rattle.textwrap_base.proofs.Common.{sym, ap, ◌∙◌, subst, arith, cases_Bool, nat_tests}
-use Rattle.textwrap_base.proofs.Common.{append-nil, append_assoc, last}
+use Rattle.textwrap_base.proofs.Common.{sym, ap, ◌∙◌, arith, cases_Bool, nat_tests, append-nil}
+use Rattle.textwrap_base.proofs.Common.{append_assoc, last}
 use Rattle.textwrap_words.proofs.Common.{is_control_start, is_control_end, is_command_start}
 use Rattle.textwrap_words.proofs.Common.{is_command_end, ends, command_len, escape_len}
 use Rattle.textwrap_base.proofs.Lists.Parts.{last_but_one, last-push, last_but_one-push}
@@ -17,13 +17,6 @@ pub record StopsAt (passes : List ℕ → Bool) (cs : List ℕ) (n : ℕ) : Type
 StopsAt-cons : (whole tail : List ℕ → Bool) (c : ℕ) (cs : List ℕ) (n : ℕ) → whole [] ≡ false
     → ((l : List ℕ) → whole (c ∷ l) ≡ tail l) → StopsAt tail cs n → StopsAt whole (c ∷ cs) (suc n)
 StopsAt-cons whole tail c cs n none along stops =
-    let before : (k : ℕ) → k < suc n → whole (take k (c ∷ cs)) ≡ false =
-    λ k. elim k as (λ k. k < suc n
-    → whole (take k (c ∷ cs)) ≡ false) [
-      | zero ↦ λ _. none
-      | suc k ↦ λ below.
-          along (take k cs) ∙ stops.before k (omega arith)
-    ] in
     record {
       within = omega (arith, stops.within);
       before = before;
@@ -31,6 +24,18 @@ StopsAt-cons whole tail c cs n none along stops =
           (λ (all : (n ≡ length cs) × (tail (take n cs) ≡ false)).
           inr (ap suc all.0, along (take n cs) ∙ all.1)) stops.stop;
     }
+  where
+    before : (k : ℕ) → k < suc n → whole (take k (c ∷ cs)) ≡ false
+    before zero below = none
+    before (suc k) below = along (take k cs) ∙ stops.before k (omega arith)
+
+-- of no characters none passes, so that all of them are taken
+StopsAt-nil : (passes : List ℕ → Bool) → passes [] ≡ false → StopsAt passes [] 0
+StopsAt-nil passes none = record {
+  within = omega arith;
+  before = λ k below. absurd (omega arith);
+  stop = inr (refl, none);
+}
 
 module _ (passes : List ℕ → Bool) (test : ℕ → ℕ → Bool) (len : ℕ → List ℕ → ℕ)
     (len-nil : (b : ℕ) → len b [] ≡ 0)
@@ -40,31 +45,20 @@ module _ (passes : List ℕ → Bool) (test : ℕ → ℕ → Bool) (len : ℕ �
     StopsAt-len : (cs front : List ℕ) (b : ℕ) → passes front ≡ false
         → ((c : ℕ) → passes (front ++ c ∷ []) ≡ test b c)
         → StopsAt (λ l. passes (front ++ l)) cs (len b cs)
-    StopsAt-len [] front b none next = subst (StopsAt (λ l. passes (front ++ l)) []) (sym (len-nil b))
-        (record {
-          within = omega arith;
-          before = λ k below. absurd (omega arith);
-          stop = inr (refl, ap passes (append-nil front) ∙ none);
-        })
+    StopsAt-len [] front b none next =
+        rw len-nil (StopsAt-nil (λ l. passes (front ++ l)) (rw append-nil none))
     StopsAt-len (c ∷ cs) front b none next =
-        let first : (k : ℕ) → k < 1 → passes (front ++ take k (c ∷ cs)) ≡ false =
-        λ k. elim k as (λ k. k < 1 → passes (front ++ take k (c ∷ cs)) ≡ false) [
-          | zero ↦ λ _.
-              ap passes (append-nil front) ∙ none
-          | suc k ↦ λ below. absurd (omega arith)
-        ] in
-        subst (StopsAt (λ l. passes (front ++ l)) (c ∷ cs)) (sym (len-cons b c cs))
-        (⊎_elim
-        (λ (here : test b c ≡ true).
-        subst (λ t. StopsAt (λ l. passes (front ++ l)) (c ∷ cs) (cond t 1 (suc (len c cs))))
-        (sym here) (record { within = omega arith; before = first; stop = inl (next c ∙ here) }))
-        (λ (on : test b c ≡ false).
-        subst (λ t. StopsAt (λ l. passes (front ++ l)) (c ∷ cs) (cond t 1 (suc (len c cs)))) (sym on)
-        (StopsAt-cons (λ l. passes (front ++ l)) (λ l. passes ((front ++ c ∷ []) ++ l)) c cs
-        (len c cs) (ap passes (append-nil front) ∙ none)
-        (λ l. ap passes (sym (append_assoc front (c ∷ []) l)))
-        (StopsAt-len cs (front ++ c ∷ []) c (next c ∙ on) (passes-push front c))))
-        (cases_Bool (test b c)))
+        let first : (k : ℕ) → k < 1 → passes (front ++ take k (c ∷ cs)) ≡ false = λ k below.
+        let start : k ≡ 0 = omega arith in rw (start, append-nil front) none in
+        elim (cases_Bool (test b c)) [
+          | inl here ↦ rw (len-cons b c cs, here)
+              (record { within = omega arith; before = first; stop = inl (next c ∙ here) })
+          | inr on ↦ rw (len-cons b c cs, on)
+              (StopsAt-cons (λ l. passes (front ++ l)) (λ l. passes ((front ++ c ∷ []) ++ l)) c cs
+              (len c cs) (rw append-nil none)
+              (λ l. ap passes (sym (append_assoc front (c ∷ []) l)))
+              (StopsAt-len cs (front ++ c ∷ []) c (next c ∙ on) (passes-push front c)))
+        ]
 
 control-stops : (cs : List ℕ) → StopsAt (λ l. is_control_end (last l)) cs (control_len cs)
 control-stops cs =
@@ -104,11 +98,5 @@ escape-cons c cs false false is_control is_command =
     }))
 
 pub escape-stops : (cs : List ℕ) → StopsAt ends cs (escape_len cs)
-escape-stops [] =
-    record {
-      within = omega arith;
-      before = λ k below. absurd (omega arith);
-      stop = inr
-          (refl, refl);
-    }
+escape-stops [] = StopsAt-nil ends refl
 escape-stops (c ∷ cs) = escape-cons c cs (is_control_start c) (is_command_start c) refl refl

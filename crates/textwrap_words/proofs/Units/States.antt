@@ -1,11 +1,10 @@
 -- What the states of the reader show and take of a text.
-use Rattle.textwrap_base.proofs.Common.{inl, inr, ◌≡◌, ◌≢◌, ℕ, suc, Bool, true, false, not, cond}
-use Rattle.textwrap_base.proofs.Common.{eqb, List, [], ◌∷◌, ◌++◌, refl, sym, ap, ◌∙◌, length, take}
-use Rattle.textwrap_base.proofs.Common.{flat_map, cases_Bool, eqb-true}
-use Rattle.textwrap_words.proofs.Common.{TextUnit, Visible, Sequence, is_control_start}
-use Rattle.textwrap_words.proofs.Common.{is_control_end, is_command_start, is_command_end}
-use Rattle.textwrap_words.proofs.Common.{command_len, escape_len, unit_at, units_past, visible_of}
-use Rattle.textwrap_words.proofs.Common.{taken_in, visible_in}
+use Rattle.textwrap_base.proofs.Common.{inl, inr, ◌≡◌, ◌≢◌, ℕ, suc, Bool, false, not, cond, eqb}
+use Rattle.textwrap_base.proofs.Common.{List, [], ◌∷◌, refl, sym, ap, ◌∙◌, length, flat_map}
+use Rattle.textwrap_base.proofs.Common.{cases_Bool, eqb-true}
+use Rattle.textwrap_words.proofs.Common.{TextUnit, is_control_start, is_control_end}
+use Rattle.textwrap_words.proofs.Common.{is_command_start, is_command_end, command_len, unit_at}
+use Rattle.textwrap_words.proofs.Common.{units_past, visible_of, taken_in, visible_in}
 use Rattle.textwrap_words.specs.declared.escapes.State.{State}
 use Rattle.textwrap_words.specs.declared.escapes.State.TheVariants.{Text, Escape, Control, Command}
 use Rattle.textwrap_base.proofs.Numbers.{same-flag, same-rest}
@@ -46,11 +45,7 @@ visible-step : (s : State) (c : ℕ) (cs : List ℕ)
     → visible_in s (c ∷ cs) ≡ cond (shows s c) (c ∷ visible_in (next_of s c) cs)
     (visible_in (next_of s c) cs)
 visible-step Text c cs =
-    elim (eqb c 27) as (λ b. visible_of
-    (cond b (Sequence (c ∷ take (escape_len cs) cs)) (Visible c)) ++ flat_map visible_of
-    (units_past (cond b (escape_len cs) 0) cs)
-    ≡ cond (not b) (c ∷ visible_in (cond b Escape Text) cs) (visible_in (cond b Escape Text) cs))
-    [ true ↦ refl | false ↦ refl ]
+    elim (cases_Bool (eqb c 27)) [ inl t ↦ rw t refl | inr f ↦ rw f refl ]
 visible-step Escape c cs = visible-inside Escape c cs (λ e. cc)
 visible-step Control c cs = visible-inside Control c cs (λ e. cc)
 visible-step (Command last) c cs = visible-inside (Command last) c cs (λ e. cc)
@@ -100,11 +95,14 @@ same-taken s t h cs =
     ∙ state_showing-is t)
     ∙ sym (plain_of-taken t cs)
 
+-- what a step says of each text that may follow
+abbrev pub IsStep : State → ℕ → State → Bool → Type 0
+IsStep s c next flag = (cs : List ℕ) → visible_in s (c ∷ cs) ≡ cond flag (c ∷ visible_in next cs)
+    (visible_in next cs)
+
 -- what a step shows of every text determines the flag, and what the state that it gives takes of
 -- every text
-pub step-is : (s next : State) (flag : Bool) (c : ℕ)
-    → ((cs : List ℕ) → visible_in s (c ∷ cs) ≡ cond flag (c ∷ visible_in next cs)
-    (visible_in next cs))
+pub step-is : (s next : State) (flag : Bool) (c : ℕ) → IsStep s c next flag
     → (flag ≡ shows s c) × ((cs : List ℕ) → taken_in next cs ≡ taken_in (next_of s c) cs)
 step-is s next flag c h =
     let flag_is : flag ≡ shows s c =
@@ -127,6 +125,5 @@ units_in-inside s c cs inside = ap (λ n. units_past n (c ∷ cs)) (taken-step s
 
 pub units_in-text : (c : ℕ) (cs : List ℕ)
     → units_in Text (c ∷ cs) ≡ unit_at c cs ∷ units_in (next_of Text c) cs
-units_in-text c cs = elim (eqb c 27) as (λ b. unit_at c cs ∷ units_past
-    (cond b (escape_len cs) 0) cs ≡ unit_at c cs ∷ units_in (cond b Escape Text) cs)
-    [ true ↦ refl | false ↦ refl ]
+units_in-text c cs =
+    elim (cases_Bool (eqb c 27)) [ inl t ↦ rw t refl | inr f ↦ rw f refl ]

@@ -11,6 +11,7 @@ use lib.Utf8.{encode}
 use Rattle.std.proofs.lemmas.List.{at_drop_more}
 use Rattle.std.proofs.lemmas.Str.{inside_one}
 use Rattle.textwrap_words.specs.declared.escapes.State.{State}
+use Rattle.textwrap_words.proofs.Units.States.{IsStep}
 
 -- the text of the visible ones among the characters to come
 abbrev pub text_in : State → List ℕ → List ℕ
@@ -18,9 +19,7 @@ text_in state cs = encode_utf8_all (visible_in state cs)
 
 -- a step over the character at place n moves it from there to the text so far, if it is visible
 pub text_in-step : (state after : State) (is_visible : Bool) (text : List ℕ) (cs : List ℕ) (n c : ℕ)
-    → (n < length cs) × (c ≡ get_or cs n c)
-    → ((ds : List ℕ) → visible_in state (c ∷ ds) ≡ cond is_visible (c ∷ visible_in after ds)
-    (visible_in after ds))
+    → (n < length cs) × (c ≡ get_or cs n c) → IsStep state c after is_visible
     → cond is_visible (text ++ encode c) text ++ text_in after (drop (n + 1) cs)
     ≡ text ++ text_in state (drop n cs)
 text_in-step state after is_visible text cs n c here step =
@@ -74,20 +73,11 @@ visible-short : (n : ℕ) (cs : List ℕ)
     ≤ length (encode_utf8_all cs)
 visible-short n [] = omega arith
 visible-short zero (c ∷ cs) = elim (cases_Bool (eqb c 27)) [
-  | inl t ↦ rw t (omega (
-    arith,
-    visible-short (escape_len cs) cs,
-    length-append (encode c) (encode_utf8_all cs),
-  ))
-  | inr f ↦ rw f (omega (
-    arith,
-    visible-short 0 cs,
-    length-append (encode c) (encode_utf8_all cs),
-    length-append (encode c) (encode_utf8_all (flat_map visible_of (units_past 0 cs))),
-  ))
+  | inl t ↦ rw t (omega (arith, visible-short (escape_len cs) cs, length-append {A = ℕ}))
+  | inr f ↦ rw f (omega (arith, visible-short 0 cs, length-append {A = ℕ}))
 ]
 visible-short (suc n) (c ∷ cs) =
-    omega (arith, visible-short n cs, length-append (encode c) (encode_utf8_all cs))
+    omega (arith, visible-short n cs, length-append {A = ℕ})
 
 pub text_in-short : (state : State) (cs : List ℕ)
     → length (text_in state cs) ≤ length (encode_utf8_all cs)

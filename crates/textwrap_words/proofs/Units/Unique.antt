@@ -1,8 +1,8 @@
 -- A text is in units in exactly one way.
-use Rattle.textwrap_base.proofs.Common.{◌≡◌, ◌≢◌, ◌↔◌, ◌⊎◌, inl, inr, ⊎_elim, ℕ, ◌<◌, true, false}
-use Rattle.textwrap_base.proofs.Common.{List, [], ◌∷◌, ◌++◌, length, get_or, take, drop, refl, sym}
-use Rattle.textwrap_base.proofs.Common.{ap, ◌∙◌, subst, arith, length-append, flat_map, true≢false}
-use Rattle.textwrap_base.proofs.Common.{take_at, take-append-le}
+use Rattle.textwrap_base.proofs.Common.{◌≡◌, ◌≢◌, ◌↔◌, ◌⊎◌, inl, inr, append-nil, ℕ, ◌<◌, true}
+use Rattle.textwrap_base.proofs.Common.{false, List, [], ◌∷◌, ◌++◌, length, get_or, take, drop}
+use Rattle.textwrap_base.proofs.Common.{refl, sym, ap, ◌∙◌, subst, arith, length-append, flat_map}
+use Rattle.textwrap_base.proofs.Common.{true≢false, take_at, take-append-le}
 use Rattle.textwrap_words.proofs.Common.{TextUnit, Visible, Sequence, characters, escape, ends}
 use Rattle.textwrap_words.proofs.Common.{units}
 use Rattle.textwrap_base.proofs.Lists.Parts.{same_parts}
@@ -23,14 +23,9 @@ Begins-from : (cs : List ℕ) (us : List TextUnit) → AreUnits (Sequence cs ∷
 Begins-from cs [] (inl whole) =
     record { body = whole.0; shape = whole.1; before = whole.3; stop = inl whole.2; rest = tt }
 Begins-from cs [] (inr open_last) =
-    record {
-      body = open_last.0;
-      shape = open_last.1;
-      before = λ k below. open_last.2 k
-          (omega arith);
-      stop = inr refl;
-      rest = tt;
-    }
+    let before : (k : ℕ) → k < length open_last.0 → ends (take k open_last.0) ≡ false =
+    λ k below. open_last.2 k (omega arith) in
+    record { body = open_last.0; shape = open_last.1; before = before; stop = inr refl; rest = tt }
 Begins-from cs (v ∷ us) (whole, rest) =
     record { body = whole.0; shape = whole.1; before = whole.3; stop = inl whole.2; rest = rest }
 
@@ -41,39 +36,32 @@ AreUnits-visible c [] (inr open_last) = absurd open_last
 AreUnits-visible c (v ∷ us) (whole, rest) = (whole, rest)
 
 -- a sequence does not begin another one that is longer
-not_shorter : (x y r s : List ℕ) → x ++ r ≡ y ++ s
-    → ((k : ℕ) → k < length y → ends (take k y) ≡ false) → (ends x ≡ true) ⊎ (r ≡ [])
+not_shorter : (x y s : List ℕ) (us : List TextUnit) → x ++ flat_map characters us ≡ y ++ s
+    → ((k : ℕ) → k < length y → ends (take k y) ≡ false) → (ends x ≡ true) ⊎ (us ≡ [])
     → length x < length y → ⊥
-not_shorter x y r s same before (inl passed) short =
-    let front : x ≡ take (length x) y = sym (take_at x r (length x) refl)
+not_shorter x y s us same before (inl passed) short =
+    let front : x ≡ take (length x) y = sym (take_at x (flat_map characters us) (length x) refl)
     ∙ ap (take (length x)) same ∙ take-append-le (length x) y s (omega arith) in
     true≢false (sym passed ∙ ap ends front ∙ before (length x) short)
-not_shorter x y r s same before (inr none) short =
-    omega (arith, length-append x r, length-append y s, ap length same, ap length none)
+not_shorter x y s us same before (inr none) short =
+    omega (arith, length-append y s, ap length (sym (append-nil x) ∙ rw none at same))
 
 -- two texts that begin with a sequence begin with the same one
-module _ (xs ys : List ℕ) (us vs : List TextUnit) (first : Begins xs us) (second : Begins ys vs)
-    (same : xs ++ flat_map characters us ≡ ys ++ flat_map characters vs) where
-  same_bodies : first.body ++ flat_map characters us ≡ second.body ++ flat_map characters vs
-  same_bodies = ap (drop 1) (ap (λ l. l ++ flat_map characters us) (sym first.shape) ∙ same
-      ∙ ap (λ l. l ++ flat_map characters vs) second.shape)
-
-  same_sequence : (xs ≡ ys) × (flat_map characters us ≡ flat_map characters vs)
-  same_sequence =
-      let not_less : length first.body < length second.body
-      → ⊥ = not_shorter first.body second.body (flat_map characters us)
-      (flat_map characters vs) same_bodies second.before
-      (⊎_elim (λ (e : ends first.body ≡ true). inl e)
-      (λ (e : us ≡ []). inr (ap (flat_map characters) e)) first.stop) in
-      let not_more : length second.body < length first.body
-      → ⊥ = not_shorter second.body first.body (flat_map characters vs) (flat_map characters us)
-      (sym same_bodies) first.before
-      (⊎_elim (λ (e : ends second.body ≡ true). inl e)
-      (λ (e : vs ≡ []). inr (ap (flat_map characters) e)) second.stop) in
-      let parts : (first.body ≡ second.body) × (flat_map characters us ≡ flat_map characters vs) =
-      same_parts first.body second.body (flat_map characters us)
-      (flat_map characters vs) same_bodies (omega arith) in
-      (first.shape ∙ ap (λ l. escape ∷ l) parts.0 ∙ sym second.shape, parts.1)
+same_sequence : (xs ys : List ℕ) (us vs : List TextUnit) → Begins xs us → Begins ys vs
+    → xs ++ flat_map characters us ≡ ys ++ flat_map characters vs
+    → (xs ≡ ys) × (flat_map characters us ≡ flat_map characters vs)
+same_sequence xs ys us vs first second same =
+    let bodies : first.body ++ flat_map characters us ≡ second.body ++ flat_map characters vs =
+    ap (drop 1) (ap (λ l. l ++ flat_map characters us) (sym first.shape) ∙ same
+    ∙ ap (λ l. l ++ flat_map characters vs) second.shape) in
+    let not_less = not_shorter first.body second.body (flat_map characters vs) us bodies
+    second.before first.stop in
+    let not_more = not_shorter second.body first.body (flat_map characters us) vs (sym bodies)
+    first.before second.stop in
+    let parts : (first.body ≡ second.body) × (flat_map characters us ≡ flat_map characters vs) =
+    same_parts first.body second.body (flat_map characters us)
+    (flat_map characters vs) bodies (omega arith) in
+    (first.shape ∙ ap (λ l. escape ∷ l) parts.0 ∙ sym second.shape, parts.1)
 
 some_characters : (u : TextUnit) (us : List TextUnit) → AreUnits (u ∷ us)
     → 0 < length (flat_map characters (u ∷ us))

@@ -1,10 +1,10 @@
 -- Lemmas on the units of a text and their columns.
-use Rattle.textwrap_base.proofs.Common.{◌≡◌, ℕ, zero, suc, ◌+◌, ◌*◌, ◌<◌, ◌≤◌, Bool, true, false}
-use Rattle.textwrap_base.proofs.Common.{cond, eqb, List, [], ◌∷◌, length, get_or, take, drop, sym}
-use Rattle.textwrap_base.proofs.Common.{ap, subst, zero-add, ◌∙◌, arith, length-append, All, refl}
-use Rattle.textwrap_base.proofs.Common.{flat_map, sum_by, list_all, IsUtf8, IsAscii, and_parts}
-use Rattle.textwrap_base.proofs.Common.{nat_tests, All-head, All-tail, sum_by-cons, sum_by-append}
-use Rattle.textwrap_base.proofs.Common.{length-encode, encodes-chars, chars-IsAscii}
+use Rattle.textwrap_base.proofs.Common.{inl, inr, cases_Bool, ◌≡◌, ℕ, zero, suc, ◌+◌, ◌*◌, ◌<◌, ◌≤◌}
+use Rattle.textwrap_base.proofs.Common.{Bool, true, false, cond, eqb, List, [], ◌∷◌, length, get_or}
+use Rattle.textwrap_base.proofs.Common.{take, drop, sym, ap, zero-add, ◌∙◌, arith, length-append}
+use Rattle.textwrap_base.proofs.Common.{All, refl, flat_map, sum_by, list_all, IsUtf8, IsAscii}
+use Rattle.textwrap_base.proofs.Common.{and_parts, nat_tests, All-head, All-tail, sum_by-cons}
+use Rattle.textwrap_base.proofs.Common.{sum_by-append, length-encode, encodes-chars, chars-IsAscii}
 use Rattle.textwrap_words.proofs.Common.{Visible, Sequence, escape_len, unit_at, taken_at}
 use Rattle.textwrap_words.proofs.Common.{units_past, visible_of, columns, text_width, IsNarrow}
 use Rattle.textwrap_words.proofs.Common.{is_printable, visible_in}
@@ -14,6 +14,7 @@ use Rattle.std.proofs.lemmas.List.{at_drop_more}
 use Rattle.unicode_width.specs.Width.{char_width}
 use Rattle.unicode_width.proofs.Rules.{width_or_zero-le}
 use Rattle.textwrap_words.specs.declared.escapes.State.{State}
+use Rattle.textwrap_words.proofs.Units.States.{IsStep}
 
 -- the columns of the characters to come
 abbrev pub columns_in : State → List ℕ → ℕ
@@ -21,20 +22,17 @@ columns_in state cs = sum_by columns (visible_in state cs)
 
 -- one step over the character at place n
 pub columns_in-step : (state after : State) (is_visible : Bool) (cs : List ℕ) (n c : ℕ)
-    → (n < length cs) × (c ≡ get_or cs n c)
-    → ((ds : List ℕ) → visible_in state (c ∷ ds) ≡ cond is_visible (c ∷ visible_in after ds)
-    (visible_in after ds))
+    → (n < length cs) × (c ≡ get_or cs n c) → IsStep state c after is_visible
     → columns_in state (drop n cs) ≡ cond is_visible (columns c) 0 + columns_in after
     (drop (n + 1) cs)
-columns_in-step state after true cs n c here step =
-    at_drop_more (columns_in state) cs n c here.0 ∙ ap (λ x. columns_in state (x ∷ drop (n + 1) cs))
-    (sym here.1)
-    ∙ ap (sum_by columns) (step (drop (n + 1) cs))
-    ∙ sum_by-cons columns c (visible_in after (drop (n + 1) cs))
-columns_in-step state after false cs n c here step =
-    at_drop_more (columns_in state) cs n c here.0 ∙ ap (λ x. columns_in state (x ∷ drop (n + 1) cs))
-    (sym here.1)
-    ∙ ap (sum_by columns) (step (drop (n + 1) cs)) ∙ sym (zero-add _)
+columns_in-step state after is_visible cs n c here step =
+    let rest = drop (n + 1) cs in
+    at_drop_more (columns_in state) cs n c here.0
+    ∙ ap (λ x. columns_in state (x ∷ rest)) (sym here.1) ∙ ap (sum_by columns) (step rest)
+    ∙ elim (cases_Bool is_visible) [
+      | inl t ↦ rw t (sum_by-cons columns c (visible_in after rest))
+      | inr f ↦ rw f (sym (zero-add (columns_in after rest)))
+    ]
 
 columns-ascii : (c : ℕ) → c < 128 → columns c ≤ 1
 unfolding char_width
@@ -74,17 +72,13 @@ columns-narrow (c ∷ cs) narrow =
 
 pub text_width-le : (bytes : List ℕ) → IsUtf8 bytes → text_width bytes ≤ 2 * length bytes
 text_width-le bytes utf8 =
-    let twice : sum_by columns (chars bytes) ≤ 2 * length bytes =
-    subst (λ x. sum_by columns (chars bytes) ≤ 2 * length x) (encodes-chars bytes utf8)
-    (columns-twice (chars bytes)) in
+    let twice = rw (encodes-chars bytes utf8) at (columns-twice (chars bytes)) in
     omega (arith, visible-le 0 (chars bytes), twice)
 
 pub text_width-narrow : (bytes : List ℕ) → IsUtf8 bytes → IsNarrow bytes
     → text_width bytes ≤ length bytes
 text_width-narrow bytes utf8 narrow =
-    let once : sum_by columns (chars bytes) ≤ length bytes =
-    subst (λ x. sum_by columns (chars bytes) ≤ length x) (encodes-chars bytes utf8)
-    (columns-narrow (chars bytes) narrow) in
+    let once = rw (encodes-chars bytes utf8) at (columns-narrow (chars bytes) narrow) in
     omega (arith, visible-le 0 (chars bytes), once)
 
 -- ---- a text of printable ASCII characters: each takes one byte and one column

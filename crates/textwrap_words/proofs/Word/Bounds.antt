@@ -1,9 +1,9 @@
 -- All widths of words together keep to twice the bytes that they tile, where they have no
 -- penalties, and a line of narrow ones to their bytes.
-use Rattle.textwrap_base.proofs.Common.{◌≡◌, ◌*◌, ◌≤◌, List, [], ◌∷◌, All, length, sym, ap, subst}
-use Rattle.textwrap_base.proofs.Common.{arith, length-append, All-head, All-tail, total_width}
-use Rattle.textwrap_base.proofs.Common.{closed_width}
-use Rattle.textwrap_words.proofs.Common.{WordText, sizes_of, tile_of, tiled}
+use Rattle.textwrap_base.proofs.Common.{ℕ, ◌≡◌, ◌*◌, ◌≤◌, List, [], ◌∷◌, All, length, sym, ap}
+use Rattle.textwrap_base.proofs.Common.{subst, arith, length-append, All-head, All-tail}
+use Rattle.textwrap_base.proofs.Common.{total_width, closed_width}
+use Rattle.textwrap_words.proofs.Common.{WordText, sizes_of, tiled}
 use Rattle.textwrap_base.proofs.Cost.SizesAlone.{total_width-cons}
 use Rattle.textwrap_words.proofs.Units.Widths.{text_width-le}
 use Rattle.textwrap_words.proofs.Word.Measured.{IsMeasured, HasNoPenalty}
@@ -28,11 +28,8 @@ total_width-bounded [] all = omega arith
 total_width-bounded (w ∷ words) all =
     let here = All-head IsBounded w words all in
     let rest = total_width-bounded words (All-tail IsBounded w words all) in
-    let sum = total_width-cons sizes_of w words in
     let none : length w.penalty ≡ 0 = ap length here.penalty in
-    let tile = length-append w.word w.whitespace in
-    let whole = length-append (tile_of w) (tiled words) in
-    omega (arith, here.width, rest, sum, none, tile, whole)
+    omega (arith, here.width, total_width-cons sizes_of w words, length-append {A = ℕ})
 
 -- ---- words whose widths keep to their bytes
 
@@ -46,11 +43,8 @@ closed_width-narrow [] all = omega arith
 closed_width-narrow (w ∷ []) all =
     let here = All-head IsNarrowWord w [] all in
     let none : length w.penalty ≡ 0 = ap length here.penalty in
-    let tile = length-append w.word w.whitespace in
-    let whole = length-append (tile_of w) [] in omega (arith, here.width, none, tile, whole)
+    omega (arith, here.width, length-append {A = ℕ})
 closed_width-narrow (w ∷ v ∷ words) all =
     let here = All-head IsNarrowWord w (v ∷ words) all in
     let rest = closed_width-narrow (v ∷ words) (All-tail IsNarrowWord w (v ∷ words) all) in
-    let tile = length-append w.word w.whitespace in
-    let whole = length-append (tile_of w) (tiled (v ∷ words)) in
-    omega (arith, here.width, rest, tile, whole)
+    omega (arith, here.width, length-append {A = ℕ})

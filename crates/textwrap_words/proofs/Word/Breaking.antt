@@ -34,23 +34,18 @@ pub parts_after-is : (limit width : ℕ) (us : List TextUnit)
     (left_units limit width us)
 parts_after-is limit width [] = refl
 parts_after-is limit width (u ∷ us) =
-    elim (is_due limit width u) as (λ b.
-    cond b ([] ∷ onto_first u (parts_after limit (unit_width u) us))
-    (onto_first u (parts_after limit (width + unit_width u) us))
-    ≡ cond b [] (u ∷ taken_units limit (width + unit_width u) us) ∷ broken_units limit
-    (cond b (u ∷ us) (left_units limit (width + unit_width u) us))) [
-      | true ↦ ap (λ parts. [] ∷ parts) (sym (broken_units-cons limit u us))
-      | false ↦ ap (onto_first u) (parts_after-is limit (width + unit_width u) us)
+    elim (cases_Bool (is_due limit width u)) [
+      | inl t ↦ rw t (ap (λ parts. [] ∷ parts) (sym (broken_units-cons limit u us)))
+      | inr f ↦ rw f (ap (onto_first u) (parts_after-is limit (width + unit_width u) us))
     ]
 
 pub taken-left : (limit width : ℕ) (us : List TextUnit)
     → taken_units limit width us ++ left_units limit width us ≡ us
 taken-left limit width [] = refl
 taken-left limit width (u ∷ us) =
-    elim (is_due limit width u) as (λ b. cond b [] (u ∷ taken_units limit (width + unit_width u) us)
-    ++ cond b (u ∷ us) (left_units limit (width + unit_width u) us) ≡ u ∷ us) [
-      | true ↦ refl
-      | false ↦ ap (λ vs. u ∷ vs) (taken-left limit (width + unit_width u) us)
+    elim (cases_Bool (is_due limit width u)) [
+      | inl t ↦ rw t refl
+      | inr f ↦ rw f (ap (λ vs. u ∷ vs) (taken-left limit (width + unit_width u) us))
     ]
 
 -- ---- a part that goes on from some columns
@@ -98,12 +93,8 @@ kept-at : (limit width : ℕ) (before after : List TextUnit) (c : ℕ)
 kept-at limit width [] after c k some = omega (arith, due-room limit width c k.0 (omega arith))
 kept-at limit width (u ∷ before) after c k some =
     let more = sum_by-cons unit_width u before in
-    omega (
-      arith,
-      more,
-      kept-at limit (width + unit_width u) before after c k.1
-          (omega (arith, more)),
-    )
+    let later = kept-at limit (width + unit_width u) before after c k.1 (omega (arith, more)) in
+    omega (arith, more, later)
 
 pub IsKept-after : (limit : ℕ) (part : List TextUnit) → IsKept limit part → IsKeptAfter limit 0 part
 IsKept-after limit part h =

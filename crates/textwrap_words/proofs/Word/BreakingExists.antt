@@ -1,10 +1,10 @@
 -- The computed parts have the properties.
 use Rattle.textwrap_base.proofs.Common.{inl, inr, ◌≡◌, ◌≢◌, ℕ, ◌+◌, true, false, List, [], ◌∷◌}
 use Rattle.textwrap_base.proofs.Common.{◌++◌, refl, sym, ap, ◌∙◌, subst, zero-add, add-zero, arith}
-use Rattle.textwrap_base.proofs.Common.{All, onto_first, cases_Bool, and_parts, ltb-true, All-nil}
+use Rattle.textwrap_base.proofs.Common.{onto_first, cases_Bool, and_parts, ltb-true, All-nil}
 use Rattle.textwrap_base.proofs.Common.{All-cons, sum_by-cons}
 use Rattle.textwrap_words.proofs.Common.{TextUnit, Visible, Sequence, columns, unit_width}
-use Rattle.textwrap_words.proofs.Common.{units_width, IsKept, AllPartsFull, is_due, broken_units}
+use Rattle.textwrap_words.proofs.Common.{units_width, IsKept, is_due, broken_units}
 use Rattle.textwrap_words.proofs.Word.Breaking.{IsKeptAfter, IsFullAfter, is_due-first, IsKept-from}
 use Rattle.textwrap_words.proofs.Word.Breaking.{AllPartsFull-cons, taken_units, left_units}
 use Rattle.textwrap_words.proofs.Word.Breaking.{broken_units-cons, parts_after-is}
@@ -18,20 +18,15 @@ record AreBrokenAfter (limit width : ℕ) (us first : List TextUnit)
   tiles : first ++ flat parts ≡ us
   kept_first : IsKeptAfter limit width first
   full_first : IsFullAfter limit (width + units_width first) parts
-  nonempty : All (λ part. part ≢ []) parts
-  kept : All (IsKept limit) parts
-  full : AllPartsFull limit parts
+  others : AreBroken limit (flat parts) parts
 
-after-nil : (limit width : ℕ) → AreBrokenAfter limit width [] [] []
-after-nil limit width =
-    record {
-      tiles = refl;
-      kept_first = tt;
-      full_first = tt;
-      nonempty = All-nil (λ part. part ≢ []);
-      kept = All-nil (IsKept limit);
-      full = tt;
-    }
+nothing-broken : (limit : ℕ) → AreBroken limit [] []
+nothing-broken limit = record {
+  tiles = refl;
+  nonempty = All-nil (λ part. part ≢ []);
+  kept = All-nil (IsKept limit);
+  full = tt;
+}
 
 after-on : (limit width : ℕ) (u : TextUnit) (us first : List TextUnit)
     (parts : List (List TextUnit)) → is_due limit width u ≡ false
@@ -44,9 +39,7 @@ after-on limit width u us first parts on h = record {
       let e : width + unit_width u + units_width first ≡ width + units_width (u ∷ first) =
       omega (arith, sum_by-cons unit_width u first) in
       subst (λ n. IsFullAfter limit n parts) e h.full_first;
-  nonempty = h.nonempty;
-  kept = h.kept;
-  full = h.full;
+  others = h.others;
 }
 
 due-parts : (limit width : ℕ) (u : TextUnit) (first : List TextUnit) (parts : List (List TextUnit))
@@ -56,72 +49,58 @@ due-parts limit width (Visible c) first parts due =
     (c, first, refl, ltb-true 0 width both.0, ltb-true limit (width + columns c) both.1)
 due-parts limit width (Sequence cs) first parts due = cc
 
-after-cut : (limit width : ℕ) (u : TextUnit) (us first : List TextUnit)
-    (parts : List (List TextUnit)) → is_due limit width u ≡ true
+-- what goes on after a unit makes, with this unit before it, the parts of units by themselves
+from-first : (limit : ℕ) (u : TextUnit) (us first : List TextUnit) (parts : List (List TextUnit))
     → AreBrokenAfter limit (unit_width u) us first parts
-    → AreBrokenAfter limit width (u ∷ us) [] ((u ∷ first) ∷ parts)
-after-cut limit width u us first parts due h =
+    → AreBroken limit (u ∷ us) ((u ∷ first) ∷ parts)
+from-first limit u us first parts h =
     let kept_part : IsKeptAfter limit 0 (u ∷ first) = (
       is_due-first limit u,
-      subst (λ n. IsKeptAfter limit n first)
-          (sym (zero-add (unit_width u))) h.kept_first,
+      subst (λ n. IsKeptAfter limit n first) (sym (zero-add (unit_width u))) h.kept_first,
     ) in
     let full_part = subst (λ n. IsFullAfter limit n parts)
     (sym (sum_by-cons unit_width u first)) h.full_first in
     record {
       tiles = ap (λ vs. u ∷ vs) h.tiles;
+      nonempty = All-cons (λ part. part ≢ []) (u ∷ first) parts (λ e. cc) h.others.nonempty;
+      kept = All-cons (IsKept limit) (u ∷ first) parts (IsKept-from limit (u ∷ first) kept_part)
+          h.others.kept;
+      full = AllPartsFull-cons limit (u ∷ first) parts full_part h.others.full;
+    }
+
+after-cut : (limit width : ℕ) (u : TextUnit) (us first : List TextUnit)
+    (parts : List (List TextUnit)) → is_due limit width u ≡ true
+    → AreBrokenAfter limit (unit_width u) us first parts
+    → AreBrokenAfter limit width (u ∷ us) [] ((u ∷ first) ∷ parts)
+after-cut limit width u us first parts due h =
+    let broken = from-first limit u us first parts h in
+    record {
+      tiles = broken.tiles;
       kept_first = tt;
       full_first = subst (λ n. IsFullAfter limit n ((u ∷ first) ∷ parts)) (sym (add-zero width))
           (due-parts limit width u first parts due);
-      nonempty = All-cons (λ part. part ≢ []) (u ∷ first) parts (λ e. cc) h.nonempty;
-      kept = All-cons (IsKept limit) (u ∷ first) parts (IsKept-from limit (u ∷ first) kept_part)
-          h.kept;
-      full = AllPartsFull-cons limit (u ∷ first) parts full_part h.full;
+      others = subst (λ vs. AreBroken limit vs ((u ∷ first) ∷ parts)) (sym broken.tiles) broken;
     }
+
+first-next : (limit : ℕ) (u : TextUnit) (us : List TextUnit)
+    → (u ∷ taken_units limit (unit_width u) us) ∷ broken_units limit
+    (left_units limit (unit_width u) us) ≡ broken_units limit (u ∷ us)
+first-next limit u us = sym (broken_units-cons limit u us
+    ∙ ap (onto_first u) (parts_after-is limit (unit_width u) us))
 
 after-is : (limit width : ℕ) (us : List TextUnit)
     → AreBrokenAfter limit width us (taken_units limit width us)
     (broken_units limit (left_units limit width us))
-after-is limit width [] = after-nil limit width
+after-is limit width [] =
+    record { tiles = refl; kept_first = tt; full_first = tt; others = nothing-broken limit }
 after-is limit width (u ∷ us) =
     elim (cases_Bool (is_due limit width u)) [
-      | inl due ↦
-          let e : (u ∷ taken_units limit (unit_width u) us) ∷ broken_units limit
-          (left_units limit (unit_width u) us) ≡ broken_units limit (u ∷ us)
-          = sym (broken_units-cons limit u us
-          ∙ ap (onto_first u) (parts_after-is limit (unit_width u) us)) in
-          rw due (subst (AreBrokenAfter limit width (u ∷ us) []) e
+      | inl due ↦ rw due (subst (AreBrokenAfter limit width (u ∷ us) []) (first-next limit u us)
           (after-cut limit width u us _ _ due (after-is limit (unit_width u) us)))
       | inr on ↦ rw on (after-on limit width u us _ _ on (after-is limit (width + unit_width u) us))
     ]
 
 pub AreBroken-exists : (limit : ℕ) (us : List TextUnit) → AreBroken limit us (broken_units limit us)
-AreBroken-exists limit [] =
-    record {
-      tiles = refl;
-      nonempty = All-nil (λ part. part ≢ []);
-      kept = All-nil (IsKept limit);
-      full = tt;
-    }
-AreBroken-exists limit (u ∷ us) =
-    let first = u ∷ taken_units limit (unit_width u) us in
-    let parts = broken_units limit (left_units limit (unit_width u) us) in
-    let e : first ∷ parts ≡ broken_units limit (u ∷ us) =
-    sym (broken_units-cons limit u us
-    ∙ ap (onto_first u) (parts_after-is limit (unit_width u) us)) in
-    let h = after-is limit (unit_width u) us in
-    let kept_part : IsKeptAfter limit 0 first = (
-      is_due-first limit u,
-      subst
-          (λ n. IsKeptAfter limit n (taken_units limit (unit_width u) us))
-          (sym (zero-add (unit_width u))) h.kept_first,
-    ) in
-    let full_part = subst (λ n. IsFullAfter limit n parts)
-    (sym (sum_by-cons unit_width u (taken_units limit (unit_width u) us))) h.full_first in
-    let broken : AreBroken limit (u ∷ us) (first ∷ parts) = record {
-      tiles = ap (λ vs. u ∷ vs) h.tiles;
-      nonempty = All-cons (λ part. part ≢ []) first parts (λ e. cc) h.nonempty;
-      kept = All-cons (IsKept limit) first parts (IsKept-from limit first kept_part) h.kept;
-      full = AllPartsFull-cons limit first parts full_part h.full;
-    } in
-    subst (AreBroken limit (u ∷ us)) e broken
+AreBroken-exists limit [] = nothing-broken limit
+AreBroken-exists limit (u ∷ us) = subst (AreBroken limit (u ∷ us)) (first-next limit u us)
+    (from-first limit u us _ _ (after-is limit (unit_width u) us))

@@ -1,6 +1,6 @@
 -- No parts but the computed ones have the properties.
 use Rattle.textwrap_base.proofs.Common.{◌≡◌, ◌≢◌, ℕ, ◌+◌, List, [], ◌∷◌, ◌++◌, refl, sym, ap, ◌∙◌}
-use Rattle.textwrap_base.proofs.Common.{subst, zero-add, add-zero, arith, All, onto_first, All-head}
+use Rattle.textwrap_base.proofs.Common.{zero-add, add-zero, arith, All, onto_first, All-head}
 use Rattle.textwrap_base.proofs.Common.{All-tail, sum_by-cons}
 use Rattle.textwrap_words.proofs.Common.{TextUnit, Visible, columns, unit_width, units_width}
 use Rattle.textwrap_words.proofs.Common.{IsKept, AllPartsFull, broken_units}
@@ -25,20 +25,15 @@ whole : (limit width : ℕ) (first : List TextUnit) (parts : List (List TextUnit
     → parts_after limit width (first ++ flat parts) ≡ first ∷ parts
 whole limit width first [] k f ks fs = along limit width first [] [] k refl
 whole limit width first (next ∷ parts) k (c, after, e, some, over) ks fs =
-    let P : List TextUnit → Type 0 = λ part. parts_after limit (width + units_width first)
-    (part ++ flat parts) ≡ [] ∷ part ∷ parts in
     let kept = IsKept-after limit (Visible c ∷ after)
-    (subst (IsKept limit) e (All-head (IsKept limit) next parts ks)) in
-    let Q : ℕ → Type 0 = λ n. IsFullAfter limit n parts in
-    let full = subst Q (sum_by-cons unit_width (Visible c) after)
-    (subst (λ part. IsFullAfter limit (units_width part) parts) e
-    (AllPartsFull-head limit next parts fs)) in
-    let rest = whole limit (columns c) after parts
-    (subst (λ n. IsKeptAfter limit n after) (zero-add (columns c)) kept.1) full
+    (rw e at (All-head (IsKept limit) next parts ks)) in
+    let full = rw (sum_by-cons unit_width (Visible c) after) at
+    (rw e at (AllPartsFull-head limit next parts fs)) in
+    let rest = whole limit (columns c) after parts (rw (zero-add (columns c)) at kept.1) full
     (All-tail (IsKept limit) next parts ks) (AllPartsFull-tail limit next parts fs) in
     along limit width first (next ++ flat parts) (next ∷ parts) k
-    (subst P (sym e) (rw (due-true limit (width + units_width first) c some over)
-    (ap (λ ps. [] ∷ onto_first (Visible c) ps) rest)))
+    (rw (e, due-true limit (width + units_width first) c some over)
+    (ap (λ ps. [] ∷ onto_first (Visible c) ps) rest))
 
 pub AreBroken-unique : (limit : ℕ) (us : List TextUnit) (parts : List (List TextUnit))
     → AreBroken limit us parts → parts ≡ broken_units limit us
@@ -47,8 +42,8 @@ AreBroken-unique limit us ([] ∷ parts) h =
     absurd (All-head (λ part. part ≢ []) [] parts h.nonempty refl)
 AreBroken-unique limit us ((u ∷ first) ∷ parts) h =
     let kept = IsKept-after limit (u ∷ first) (All-head (IsKept limit) (u ∷ first) parts h.kept) in
-    let full = subst (λ n. IsFullAfter limit n parts) (sym (zero-add (units_width (u ∷ first))))
-    (AllPartsFull-head limit (u ∷ first) parts h.full) in
+    let full : IsFullAfter limit (0 + units_width (u ∷ first)) parts =
+    rw zero-add (AllPartsFull-head limit (u ∷ first) parts h.full) in
     sym (whole limit 0 (u ∷ first) parts kept full
     (All-tail (IsKept limit) (u ∷ first) parts h.kept)
     (AllPartsFull-tail limit (u ∷ first) parts h.full))

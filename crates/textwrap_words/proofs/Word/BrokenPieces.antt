@@ -1,8 +1,8 @@
 -- The pieces of a word as words: they tile it.
 use Rattle.textwrap_base.proofs.Common.{inl, inr, ◌≡◌, ◌≢◌, ℕ, ◌<◌, List, [], ◌∷◌, ◌++◌, refl, sym}
-use Rattle.textwrap_base.proofs.Common.{ap, ◌∙◌, length, All, IsUtf8, flat_map, cases_Bool}
-use Rattle.textwrap_base.proofs.Common.{ltb-true, nil_from_length, append-nil, append_assoc}
-use Rattle.textwrap_base.proofs.Common.{flat_map-append, All-head, All-tail}
+use Rattle.textwrap_base.proofs.Common.{ap, ◌∙◌, length, take, drop, All, IsUtf8, flat_map}
+use Rattle.textwrap_base.proofs.Common.{cases_Bool, ltb-true, nil_from_length, append-nil}
+use Rattle.textwrap_base.proofs.Common.{append_assoc, flat_map-append, All-head, All-tail}
 use Rattle.textwrap_words.proofs.Common.{text_width, WordText, tile_of, tiled, piece, pieces_with}
 use Rattle.textwrap_words.proofs.Common.{broken_texts, broken_pieces, broken_word, broken_words}
 use Rattle.std.proofs.Common.{ltb}
@@ -24,27 +24,29 @@ turn-none limit whitespace penalty text none =
     ap (λ t. pieces_with whitespace penalty (broken_texts limit t)) (nil_from_length text none)
     ∙ ap (pieces_with whitespace penalty) (broken_texts-nil limit)
 
-pub turn-last : (limit : ℕ) (whitespace penalty text front back : List ℕ) (width : ℕ)
-    → broken_texts limit text ≡ front ∷ broken_texts limit back → width ≡ text_width front
+pub turn-last : (limit : ℕ) (whitespace penalty text front back : List ℕ) (len width : ℕ)
+    → broken_texts limit text ≡ take len text ∷ broken_texts limit (drop len text)
+    → width ≡ text_width (take len text) → front ≡ take len text → back ≡ drop len text
     → length back ≡ 0
     → pieces_with whitespace penalty (broken_texts limit text)
     ≡ record { word = front; whitespace = whitespace; penalty = penalty; width = width } ∷
     pieces_with whitespace penalty (broken_texts limit back)
-turn-last limit whitespace penalty text front back width first wide none =
+turn-last limit whitespace penalty text front back len width first wide front_is back_is none =
     let ended : broken_texts limit back ≡ [] = ap (broken_texts limit) (nil_from_length back none)
     ∙ broken_texts-nil limit in
-    rw (first, ended, wide) refl
+    rw (first, ← back_is, ended, wide, front_is) refl
 
-pub turn-more : (limit : ℕ) (whitespace penalty text front back : List ℕ) (width : ℕ)
-    → broken_texts limit text ≡ front ∷ broken_texts limit back → width ≡ text_width front
-    → (length back ≡ 0 → ⊥) → IsUtf8 back
+pub turn-more : (limit : ℕ) (whitespace penalty text front back : List ℕ) (len width : ℕ)
+    → broken_texts limit text ≡ take len text ∷ broken_texts limit (drop len text)
+    → width ≡ text_width (take len text) → front ≡ take len text → back ≡ drop len text
+    → (length back ≡ 0 → ⊥) → IsUtf8 (drop len text)
     → pieces_with whitespace penalty (broken_texts limit text)
     ≡ record { word = front; whitespace = []; penalty = []; width = width } ∷ pieces_with
     whitespace penalty (broken_texts limit back)
-turn-more limit whitespace penalty text front back width first wide some utf8 =
-    let more = pieces_with-more whitespace penalty front (broken_texts limit back)
-    (broken_texts-some limit back utf8 (λ e. some (ap length e))) in
-    ap (pieces_with whitespace penalty) first ∙ more ∙ rw wide refl
+turn-more limit whitespace penalty text front back len width first wide front_is back_is some utf8 =
+    rw (wide, front_is, back_is) (ap (pieces_with whitespace penalty) first
+    ∙ pieces_with-more whitespace penalty (take len text) (broken_texts limit (drop len text))
+    (broken_texts-some limit (drop len text) utf8 (λ e. some (ap length (back_is ∙ e)))))
 
 pub pieces_with-texts : (whitespace penalty : List ℕ) (texts : List (List ℕ))
     → flat_map (λ w. w.word) (pieces_with whitespace penalty texts) ≡ flat_map (λ text. text) texts
@@ -56,12 +58,11 @@ pieces_with-texts whitespace penalty (text ∷ next ∷ texts) =
 pub tiled-pieces_with : (whitespace penalty : List ℕ) (texts : List (List ℕ)) → texts ≢ []
     → tiled (pieces_with whitespace penalty texts) ≡ flat_map (λ text. text) texts ++ whitespace
 tiled-pieces_with whitespace penalty [] some = absurd (some refl)
-tiled-pieces_with whitespace penalty (text ∷ []) some = append-nil (text ++ whitespace)
-    ∙ ap (λ t. t ++ whitespace) (sym (append-nil text))
+tiled-pieces_with whitespace penalty (text ∷ []) some = simp append-nil
 tiled-pieces_with whitespace penalty (text ∷ next ∷ texts) some =
-    ap (λ t. t ++ tiled (pieces_with whitespace penalty (next ∷ texts))) (append-nil text)
-    ∙ ap (λ ts. text ++ ts) (tiled-pieces_with whitespace penalty (next ∷ texts) (λ e. cc))
-    ∙ sym (append_assoc text (flat_map (λ t. t) (next ∷ texts)) whitespace)
+    let rest = tiled-pieces_with whitespace penalty (next ∷ texts) (λ e. cc) in
+    rw (append-nil text, rest)
+    (sym (append_assoc text (flat_map (λ t. t) (next ∷ texts)) whitespace))
 
 -- ---- tiling
 

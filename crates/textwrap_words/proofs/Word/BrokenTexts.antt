@@ -1,9 +1,9 @@
 -- Lemmas on the pieces of broken words: they are text, measured, and keep the word's blanks and
 -- penalty at its end.
-use Rattle.textwrap_base.proofs.Common.{ℕ, Bool, true, false, cond, List, [], ◌∷◌, All, map, refl}
-use Rattle.textwrap_base.proofs.Common.{sym, ap, ◌∙◌, subst, encode_utf8_all, flat_map, IsUtf8}
-use Rattle.textwrap_base.proofs.Common.{flat_map-append, All-nil, All-cons, All-head, All-tail}
-use Rattle.textwrap_base.proofs.Common.{All-append}
+use Rattle.textwrap_base.proofs.Common.{ℕ, ⊤, Bool, true, false, cond, List, [], ◌∷◌, All, map}
+use Rattle.textwrap_base.proofs.Common.{refl, sym, ap, ◌∙◌, subst, encode_utf8_all, flat_map}
+use Rattle.textwrap_base.proofs.Common.{IsUtf8, flat_map-append, All-nil, All-cons, All-head}
+use Rattle.textwrap_base.proofs.Common.{All-tail}
 use Rattle.textwrap_words.proofs.Common.{piece, WordText, pieces_with, units_text, broken_units}
 use Rattle.textwrap_words.proofs.Common.{broken_texts, broken_pieces, broken_word, broken_words}
 use Rattle.textwrap_words.proofs.Common.{TextUnit, characters, units}
@@ -11,6 +11,7 @@ use Rattle.std.specs.Prelude.{chars}
 use Rattle.textwrap_words.proofs.Word.BreakingExists.{AreBroken-exists}
 use Rattle.textwrap_words.proofs.Word.PieceTexts.{units_text-chars}
 use Rattle.textwrap_words.proofs.Word.Measured.{IsMeasured, EndsInBlanks, HasNoPenalty, no_blanks}
+use Rattle.textwrap_words.proofs.Word.Measured.{All-each}
 use Rattle.textwrap_base.proofs.Characters.{utf8-front, utf8-back}
 
 -- ---- the texts of broken pieces
@@ -35,63 +36,52 @@ broken_texts-utf8 limit text utf8 =
 
 -- ---- the pieces as words
 
-pieces_with-measured : (whitespace penalty : List ℕ) → EndsInBlanks (piece [] whitespace penalty)
-    → (texts : List (List ℕ)) → All IsUtf8 texts
-    → All IsMeasured (pieces_with whitespace penalty texts)
-pieces_with-measured whitespace penalty ending [] utf8 = All-nil IsMeasured
-pieces_with-measured whitespace penalty ending (text ∷ []) utf8 =
-    All-cons IsMeasured (piece text whitespace penalty) []
-    (record {
-      utf8 = All-head IsUtf8 text [] utf8;
-      width = refl;
-      ending = record { blanks = ending.blanks; none = ending.none };
-    }) (All-nil IsMeasured)
-pieces_with-measured whitespace penalty ending (text ∷ next ∷ texts) utf8 =
-    All-cons IsMeasured (piece text [] []) (pieces_with whitespace penalty (next ∷ texts))
-    (record {
-      utf8 = All-head IsUtf8 text (next ∷ texts) utf8;
-      width = refl;
-      ending = record { blanks = no_blanks; none = λ _. refl };
-    })
-    (pieces_with-measured whitespace penalty ending (next ∷ texts)
-    (All-tail IsUtf8 text (next ∷ texts) utf8))
+-- what a piece has because of its text, all pieces have: P of the piece follows from Q of its text
+pub pieces_with-all : (P : WordText → Type 0) (Q : List ℕ → Type 0) (whitespace penalty : List ℕ)
+    → ((text : List ℕ) → Q text → P (piece text [] []))
+    → ((text : List ℕ) → Q text → P (piece text whitespace penalty))
+    → (texts : List (List ℕ)) → All Q texts → All P (pieces_with whitespace penalty texts)
+pieces_with-all P Q whitespace penalty inner final [] all = All-nil P
+pieces_with-all P Q whitespace penalty inner final (text ∷ []) all =
+    All-cons P (piece text whitespace penalty) [] (final text (All-head Q text [] all)) (All-nil P)
+pieces_with-all P Q whitespace penalty inner final (text ∷ next ∷ texts) all =
+    All-cons P (piece text [] []) (pieces_with whitespace penalty (next ∷ texts))
+    (inner text (All-head Q text (next ∷ texts) all))
+    (pieces_with-all P Q whitespace penalty inner final (next ∷ texts)
+    (All-tail Q text (next ∷ texts) all))
 
 broken_word-measured : (limit : ℕ) (w : WordText) → IsMeasured w → (b : Bool)
     → All IsMeasured (cond b (broken_pieces limit w) (w ∷ []))
 broken_word-measured limit w measured true =
-    pieces_with-measured w.whitespace w.penalty
-    (record { blanks = measured.ending.blanks; none = measured.ending.none })
+    let of_text : (whitespace penalty text : List ℕ) → EndsInBlanks (piece [] whitespace penalty)
+    → IsUtf8 text → IsMeasured (piece text whitespace penalty) =
+    λ whitespace penalty text ending utf8. record {
+      utf8 = utf8;
+      width = refl;
+      ending = record { blanks = ending.blanks; none = ending.none };
+    } in
+    pieces_with-all IsMeasured IsUtf8 w.whitespace w.penalty
+    (λ text. of_text [] [] text (record { blanks = no_blanks; none = λ _. refl }))
+    (λ text. of_text w.whitespace w.penalty text
+    (record { blanks = measured.ending.blanks; none = measured.ending.none }))
     (broken_texts limit w.word) (broken_texts-utf8 limit w.word measured.utf8)
 broken_word-measured limit w measured false = All-cons IsMeasured w [] measured (All-nil IsMeasured)
 
 pub broken_words-measured : (limit : ℕ) (words : List WordText) → All IsMeasured words
     → All IsMeasured (broken_words limit words)
-broken_words-measured limit [] all = All-nil IsMeasured
-broken_words-measured limit (w ∷ words) all =
-    All-append IsMeasured (broken_word limit w) (broken_words limit words)
-    (broken_word-measured limit w (All-head IsMeasured w words all) _)
-    (broken_words-measured limit words (All-tail IsMeasured w words all))
-
-pieces_with-no_penalty : (whitespace : List ℕ) (texts : List (List ℕ))
-    → All HasNoPenalty (pieces_with whitespace [] texts)
-pieces_with-no_penalty whitespace [] = All-nil HasNoPenalty
-pieces_with-no_penalty whitespace (text ∷ []) =
-    All-cons HasNoPenalty (piece text whitespace []) [] refl (All-nil HasNoPenalty)
-pieces_with-no_penalty whitespace (text ∷ next ∷ texts) =
-    All-cons HasNoPenalty (piece text [] []) (pieces_with whitespace [] (next ∷ texts)) refl
-    (pieces_with-no_penalty whitespace (next ∷ texts))
+broken_words-measured limit =
+    All-each IsMeasured IsMeasured (broken_word limit)
+    (λ w measured. broken_word-measured limit w measured _)
 
 broken_word-no_penalty : (limit : ℕ) (w : WordText) → HasNoPenalty w → (b : Bool)
     → All HasNoPenalty (cond b (broken_pieces limit w) (w ∷ []))
 broken_word-no_penalty limit w none true =
-    subst (λ p. All HasNoPenalty (pieces_with w.whitespace p (broken_texts limit w.word)))
-    (sym none) (pieces_with-no_penalty w.whitespace (broken_texts limit w.word))
+    pieces_with-all HasNoPenalty (λ _. ⊤) w.whitespace w.penalty (λ _ _. refl) (λ _ _. none)
+    (broken_texts limit w.word) (λ k d lt. tt)
 broken_word-no_penalty limit w none false = All-cons HasNoPenalty w [] none (All-nil HasNoPenalty)
 
 pub broken_words-no_penalty : (limit : ℕ) (words : List WordText) → All HasNoPenalty words
     → All HasNoPenalty (broken_words limit words)
-broken_words-no_penalty limit [] all = All-nil HasNoPenalty
-broken_words-no_penalty limit (w ∷ words) all =
-    All-append HasNoPenalty (broken_word limit w) (broken_words limit words)
-    (broken_word-no_penalty limit w (All-head HasNoPenalty w words all) _)
-    (broken_words-no_penalty limit words (All-tail HasNoPenalty w words all))
+broken_words-no_penalty limit =
+    All-each HasNoPenalty HasNoPenalty (broken_word limit)
+    (λ w none. broken_word-no_penalty limit w none _)

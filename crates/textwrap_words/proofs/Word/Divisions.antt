@@ -1,10 +1,9 @@
 -- Lemmas on what an algorithm may divide, also one of a caller: its lines are the first elements in
 -- order, and along a view they are those of what the view gives.
-use Rattle.textwrap_base.proofs.Common.{◌≡◌, ◌≢◌, ℕ, suc, ◌+◌, ◌-◌, ◌≤◌, ◌<◌, List, [], ◌∷◌, ◌++◌}
-use Rattle.textwrap_base.proofs.Common.{length, map, take, drop, get_or, refl, sym, ap, ◌∙◌, subst}
-use Rattle.textwrap_base.proofs.Common.{arith, append_assoc, append-nil, All, Some, None, Ok}
-use Rattle.textwrap_base.proofs.Common.{slice_range, IsNonDecreasing, map-id, take-map, length-map}
-use Rattle.textwrap_base.proofs.Common.{drop_split}
+use Rattle.textwrap_base.proofs.Common.{◌≡◌, ◌≢◌, ℕ, suc, ◌-◌, ◌≤◌, ◌<◌, List, [], ◌∷◌, ◌++◌}
+use Rattle.textwrap_base.proofs.Common.{length, map, drop, get_or, refl, sym, ap, ◌∙◌, subst, arith}
+use Rattle.textwrap_base.proofs.Common.{append_assoc, append-nil, All, Some, None, Ok, slice_range}
+use Rattle.textwrap_base.proofs.Common.{IsNonDecreasing, map-id, take-map, length-map, drop_split}
 use Rattle.textwrap_words.proofs.Common.{WordText, word_view, sizes_of, Greedy, LeastCost}
 use Rattle.textwrap_words.proofs.Common.{IsDividedBy, MayDivide, algorithm_view}
 use Rattle.std.proofs.lemmas.List.{drop-map}
@@ -36,11 +35,8 @@ lines_from-map : {X Y : Type 0} (f : X → Y) (xs : List X) (start : ℕ) (ends 
     → map (map f) (lines_from xs start ends) ≡ lines_from (map f xs) start ends
 lines_from-map f xs start [] = refl
 lines_from-map f xs start (end ∷ ends) =
-    let one : map f (slice_range xs start end) ≡ slice_range (map f xs) start end =
-    sym (take-map f (end - start) (drop start xs))
-    ∙ ap (take (end - start)) (sym (drop-map f start xs)) in
-    ap (λ l. l ∷ map (map f) (lines_from xs end ends)) one
-    ∙ ap (λ ls. slice_range (map f xs) start end ∷ ls) (lines_from-map f xs end ends)
+    rw (drop-map f start xs, take-map f (end - start) (drop start xs))
+    (ap (λ ls. map f (slice_range xs start end) ∷ ls) (lines_from-map f xs end ends))
 
 -- ---- what an algorithm may divide
 

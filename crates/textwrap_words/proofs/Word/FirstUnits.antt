@@ -1,20 +1,14 @@
 -- The units of the first part, one after another.
-use Rattle.textwrap_base.proofs.Common.{◌≡◌, ◌≢◌, ℕ, ◌+◌, Bool, true, false, not, cond, eqb, List}
-use Rattle.textwrap_base.proofs.Common.{[], ◌∷◌, refl, sym, ap, ◌∙◌, subst, zero-add, add-zero}
-use Rattle.textwrap_base.proofs.Common.{arith, take, not-true, sum_by-cons}
-use Rattle.textwrap_words.proofs.Common.{TextUnit, Visible, Sequence, columns, escape_len, unit_at}
-use Rattle.textwrap_words.proofs.Common.{taken_at, units_past, units, visible_in, unit_width}
+use Rattle.textwrap_base.proofs.Common.{inl, inr, cases_Bool, ◌≡◌, ◌≢◌, ℕ, ◌+◌, Bool, true, false}
+use Rattle.textwrap_base.proofs.Common.{not, cond, eqb, List, [], ◌∷◌, refl, sym, ap, ◌∙◌, subst}
+use Rattle.textwrap_base.proofs.Common.{zero-add, add-zero, arith, not-true, sum_by-cons}
+use Rattle.textwrap_words.proofs.Common.{TextUnit, Visible, columns, unit_at, units, unit_width}
 use Rattle.textwrap_words.proofs.Common.{units_width, is_due}
 use Rattle.textwrap_words.specs.declared.escapes.State.{State}
 use Rattle.textwrap_words.specs.declared.escapes.State.TheVariants.{Text, Escape, Control, Command}
 use Rattle.textwrap_words.proofs.Word.Breaking.{taken_units, left_units}
-use Rattle.textwrap_words.proofs.Units.States.{units_in, next_of, shows, step-is, units_in-inside}
-use Rattle.textwrap_words.proofs.Units.States.{units_in-text}
-
--- what the step of a reader shows
-abbrev pub IsStep : State → ℕ → State → Bool → Type 0
-IsStep s c next flag = (cs : List ℕ) → visible_in s (c ∷ cs) ≡ cond flag (c ∷ visible_in next cs)
-    (visible_in next cs)
+use Rattle.textwrap_words.proofs.Units.States.{units_in, next_of, shows, IsStep, step-is}
+use Rattle.textwrap_words.proofs.Units.States.{units_in-text, units_in-inside}
 
 -- the reader stands in the first piece of `cs`, which has `width` columns up to here, with `rest`
 -- to come
@@ -38,13 +32,10 @@ text-unit : (limit width c : ℕ) (cs : List ℕ)
     → (is_due limit width (unit_at c cs) ≡ false)
     × (unit_width (unit_at c cs) ≡ added (shows Text c) c)
 text-unit limit width c cs room =
-    let P : Bool → Type 0 = λ b. (not b ≡ true → is_due limit width (Visible c) ≡ false)
-    → (is_due limit width (cond b (Sequence (c ∷ take (escape_len cs) cs)) (Visible c)) ≡ false)
-    × (unit_width (cond b (Sequence (c ∷ take (escape_len cs) cs)) (Visible c)) ≡ added
-    (not b) c) in
-    let at : (b : Bool) → P b =
-    elim [ true ↦ λ room. (refl, refl) | false ↦ λ room. (room refl, refl) ] in
-    at (eqb c 27) room
+    elim (cases_Bool (eqb c 27)) [
+      | inl t ↦ rw t (refl, refl)
+      | inr f ↦ rw f (room (ap not f), refl)
+    ]
 
 -- what comes in the state after a character, with what that character adds
 record GoesOn (limit width : ℕ) (us : List TextUnit) (more : ℕ) (vs : List TextUnit) : Type 0 where
@@ -60,11 +51,8 @@ goes-unit limit width u us on = record {
 }
 
 goes-nowhere : (limit width : ℕ) (us : List TextUnit) → GoesOn limit width us 0 us
-goes-nowhere limit width us = record {
-  leaves = ap (λ n. left_units limit n us) (sym (add-zero width));
-  wide = ap (λ n. units_width (taken_units limit n us)) (sym (add-zero width))
-      ∙ sym (zero-add (units_width (taken_units limit (width + 0) us)));
-}
+goes-nowhere limit width us =
+    record { leaves = rw (add-zero width) refl; wide = rw (add-zero width, zero-add) refl }
 
 goes-inside : (limit width : ℕ) (s : State) (c : ℕ) (cs : List ℕ) → s ≢ Text
     → GoesOn limit width (units_in s (c ∷ cs)) 0 (units_in (next_of s c) cs)
@@ -78,10 +66,7 @@ goes-on : (limit width : ℕ) (s : State) (c : ℕ) (cs : List ℕ)
 goes-on limit width Text c cs room =
     let both = text-unit limit width c cs room in
     let on = goes-unit limit width (unit_at c cs) (units_in (next_of Text c) cs) both.0 in
-    subst (λ us. GoesOn limit width us (added (shows Text c) c) (units_in (next_of Text c) cs))
-    (sym (units_in-text c cs))
-    (subst (λ n. GoesOn limit width (unit_at c cs ∷ units_in (next_of Text c) cs) n
-    (units_in (next_of Text c) cs)) both.1 on)
+    rw (units_in-text c cs, ← both.1) on
 goes-on limit width Escape c cs room = goes-inside limit width Escape c cs (λ e. cc)
 goes-on limit width Control c cs room = goes-inside limit width Control c cs (λ e. cc)
 goes-on limit width (Command last) c cs room = goes-inside limit width (Command last) c cs (λ e. cc)
@@ -92,11 +77,8 @@ pub IsInFirst-step : (limit : ℕ) (cs : List ℕ) (s : State) (width c : ℕ) (
     → IsInFirst limit cs next (width + added flag c) rest
 IsInFirst-step limit cs s width c rest next flag h step room =
     let is = step-is s next flag c step in
-    let before = units_in s (c ∷ rest) in
-    let here = subst (λ n. GoesOn limit width before (added (shows s c) c) (units_past n rest))
-    (sym (is.1 rest)) (goes-on limit width s c rest (λ e. room (is.0 ∙ e))) in
-    let on = subst (λ b. GoesOn limit width before (added b c) (units_in next rest))
-    (sym is.0) here in
+    let on : GoesOn limit width (units_in s (c ∷ rest)) (added flag c) (units_in next rest) =
+    rw (is.0, is.1 rest) (goes-on limit width s c rest (λ e. room (is.0 ∙ e))) in
     record { leaves = h.leaves ∙ on.leaves; wide = omega (arith, h.wide, on.wide) }
 
 -- where the first piece ends and the reader goes no further
@@ -104,19 +86,14 @@ pub record EndsHere (limit : ℕ) (cs : List ℕ) (width : ℕ) (us : List TextU
   pub leaves : left_units limit 0 (units cs) ≡ us
   pub wide : units_width (taken_units limit 0 (units cs)) ≡ width
 
-due-ends : (limit width : ℕ) (u : TextUnit) (us : List TextUnit) → is_due limit width u ≡ true
-    → (left_units limit width (u ∷ us) ≡ u ∷ us)
-    × (units_width (taken_units limit width (u ∷ us)) ≡ 0)
-due-ends limit width u us due = (rw due refl, rw due refl)
-
 pub IsInFirst-cut : (limit : ℕ) (cs : List ℕ) (s : State) (width c : ℕ) (rest : List ℕ)
     (next : State) → IsInFirst limit cs s width (c ∷ rest) → IsStep s c next true
     → is_due limit width (Visible c) ≡ true → EndsHere limit cs width (units (c ∷ rest))
 IsInFirst-cut limit cs Text width c rest next h step due =
     let plain = not-true (eqb c 27) (sym (step-is Text next true c step).0) in
     let due_unit : is_due limit width (unit_at c rest) ≡ true = rw plain due in
-    let both = due-ends limit width (unit_at c rest) (units_past (taken_at c rest) rest) due_unit in
-    record { leaves = h.leaves ∙ both.0; wide = omega (arith, h.wide, both.1) }
+    let wide = rw due_unit at h.wide in
+    record { leaves = rw due_unit at h.leaves; wide = omega (arith, wide) }
 IsInFirst-cut limit cs Escape width c rest next h step due = let e =
     (step-is Escape next true c step).0 in cc
 IsInFirst-cut limit cs Control width c rest next h step due = let e =

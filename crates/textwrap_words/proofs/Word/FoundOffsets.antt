@@ -1,10 +1,9 @@
 -- The cuts that a walk along a line finds are those at the offsets.
-use Rattle.textwrap_base.proofs.Common.{◌≡◌, ℕ, ◌+◌, true, List, [], ◌∷◌, ◌++◌, length, refl, sym}
-use Rattle.textwrap_base.proofs.Common.{ap, ◌∙◌, subst, arith, inl, inr, length-append, flat_map}
+use Rattle.textwrap_base.proofs.Common.{◌≡◌, ℕ, ◌+◌, true, List, [], ◌∷◌, ◌++◌, length, refl, ap}
+use Rattle.textwrap_base.proofs.Common.{◌∙◌, subst, arith, inl, inr, length-append, flat_map}
 use Rattle.textwrap_base.proofs.Common.{Contains, encode_utf8_all, cases_Bool, encodes-append}
 use Rattle.textwrap_words.proofs.Common.{units_text, TextUnit, Visible, Sequence, characters}
-use Rattle.textwrap_words.proofs.Common.{visible_of, shown_len, VisibleEnd, ends_from, is_cut_after}
-use Rattle.textwrap_words.proofs.Common.{cuts_among}
+use Rattle.textwrap_words.proofs.Common.{shown_len, VisibleEnd, ends_from, is_cut_after, cuts_among}
 use lib.Utf8.{encode}
 use Rattle.textwrap_base.proofs.Utf8.{one-text}
 use Rattle.textwrap_base.proofs.Lists.Rising.{contains-nil, contains-cases, contains-later}
@@ -27,7 +26,7 @@ found-visible offsets total at shown c us cut f =
     let front = f.before ++ Visible f.character ∷ [] in
     let further : shown + shown_len (Visible c ∷ front)
     ≡ (shown + length (encode c)) + shown_len front =
-    omega (arith, length-append (encode c) (encode_utf8_all (flat_map visible_of front))) in
+    omega (arith, length-append {A = ℕ}) in
     record {
       before = Visible c ∷ f.before;
       character = f.character;
@@ -42,16 +41,13 @@ found-sequence : (offsets : List ℕ) (total at shown : ℕ) (cs : List ℕ) (us
     → IsFound offsets total at shown (Sequence cs ∷ us) cut
 found-sequence offsets total at shown cs us cut f =
     let front = f.before ++ Visible f.character ∷ [] in
-    let text : length (units_text (Sequence cs ∷ front))
-    ≡ length (encode_utf8_all cs) + length (units_text front) =
-    ap length (encodes-append cs (flat_map characters front))
-    ∙ length-append (encode_utf8_all cs) (units_text front) in
+    let text = ap length (encodes-append cs (flat_map characters front)) in
     record {
       before = Sequence cs ∷ f.before;
       character = f.character;
       after = f.after;
       divided = ap (λ vs. Sequence cs ∷ vs) f.divided;
-      place = omega (arith, f.place, text);
+      place = omega (arith, f.place, text, length-append {A = ℕ});
       passes = f.passes;
     }
 
@@ -98,18 +94,17 @@ pub found-contains : (offsets : List ℕ) (total : ℕ) (before after : List Tex
     (at + length (units_text (before ++ Visible c ∷ [])))
 found-contains offsets total [] after c at shown passes =
     let len = length (encode c) in
-    let t : is_cut_after offsets total c (shown + len) ≡ true =
-    ap (λ n. is_cut_after offsets total c (shown + n)) (sym (one-text c)) ∙ passes in
-    rw t (contains-here (at + len) (at + length (encode_utf8_all (c ∷ [])))
+    rw (rw (one-text c) at passes)
+    (contains-here (at + len) (at + length (encode_utf8_all (c ∷ [])))
     (cuts_among offsets total (ends_from (at + len) (shown + len) after))
     (omega (arith, one-text c)))
 found-contains offsets total (Visible d ∷ before) after c at shown passes =
     let len = length (encode d) in
     let front = before ++ Visible c ∷ [] in
     let place : (at + len) + length (units_text front) ≡ at + length (units_text (Visible d ∷ front)) =
-    omega (arith, length-append (encode d) (units_text front)) in
+    omega (arith, length-append {A = ℕ}) in
     let further : (shown + len) + shown_len front ≡ shown + shown_len (Visible d ∷ front) =
-    omega (arith, length-append (encode d) (encode_utf8_all (flat_map visible_of front))) in
+    omega (arith, length-append {A = ℕ}) in
     among-more offsets total (record { character = d; end = at + len; shown = shown + len })
     (ends_from (at + len) (shown + len) (front ++ after))
     (at + length (units_text (Visible d ∷ front)))
@@ -122,10 +117,6 @@ found-contains offsets total (Sequence cs ∷ before) after c at shown passes =
     let front = before ++ Visible c ∷ [] in
     let place : (at + len) + length (units_text front)
     ≡ at + length (units_text (Sequence cs ∷ front)) =
-    omega (
-      arith,
-      ap length (encodes-append cs (flat_map characters front)),
-      length-append (encode_utf8_all cs) (units_text front),
-    ) in
+    rw (encodes-append cs (flat_map characters front)) (omega (arith, length-append {A = ℕ})) in
     subst (Contains (cuts_among offsets total (ends_from (at + len) shown (front ++ after)))) place
     (found-contains offsets total before after c (at + len) shown passes)

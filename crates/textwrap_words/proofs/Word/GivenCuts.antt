@@ -1,13 +1,12 @@
 -- Lemmas on what a separator and a splitter may give, also by functions of a caller.
 use Rattle.textwrap_words.specs.declared.word_splitters.WordSplitter as splitters
 use Rattle.textwrap_base.proofs.Common.{◌≡◌, ◌≢◌, ℕ, true, List, All, map, take, refl, sym, subst}
-use Rattle.textwrap_base.proofs.Common.{None, Ok, IsUtf8, All-map, All-weaker}
+use Rattle.textwrap_base.proofs.Common.{None, Ok, IsUtf8}
 use Rattle.textwrap_words.proofs.Common.{WordText, word_of, AreCuts, AreInnerCuts, parts_between}
 use Rattle.textwrap_words.proofs.Common.{MaySeparate, MaySplit, ends_in_hyphen, splitter_view}
 use Rattle.textwrap_words.proofs.Common.{Whole, AtHyphens}
-use Rattle.textwrap_words.proofs.Word.Measured.{IsMeasured, HasNoPenalty, word_of-measured}
-use Rattle.textwrap_words.proofs.Word.Pieces.{AreTexts, AreTexts-words, ArePoints-cuts}
-use Rattle.textwrap_words.proofs.Word.Pieces.{ArePoints-hyphens}
+use Rattle.textwrap_words.proofs.Word.Pieces.{AreTexts, AreTexts-words, AreTexts-parts}
+use Rattle.textwrap_words.proofs.Word.Pieces.{ArePoints-cuts, ArePoints-hyphens}
 use Rattle.textwrap_words.proofs.Word.Parts.{inner-cuts, parts_between-tile, parts_between-utf8}
 use Rattle.textwrap_words.specs.WordSeparators.{MayCut}
 use Rattle.textwrap_words.specs.WordSplitters.{MayPoint}
@@ -22,14 +21,8 @@ use Rattle.textwrap_words.specs.declared.word_splitters.word_cuts.WordCuts.{Word
 pub parts-texts : (line cuts : List ℕ) → IsUtf8 line → AreCuts line cuts
     → AreTexts line (map word_of (parts_between cuts line))
 parts-texts line cuts utf8 are =
-    let parts = parts_between cuts line in
-    record {
-      tile = parts_between-tile cuts line are.in_order;
-      measured = All-map IsMeasured word_of parts
-          (All-weaker IsUtf8 (λ part. IsMeasured (word_of part)) word_of-measured parts
-          (parts_between-utf8 cuts line utf8 are));
-      plain = All-map HasNoPenalty word_of parts (λ k d lt. refl);
-    }
+    AreTexts-parts line (parts_between cuts line) (parts_between-tile cuts line are.in_order)
+    (parts_between-utf8 cuts line utf8 are)
 
 -- ---- what is given
 

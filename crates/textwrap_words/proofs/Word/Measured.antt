@@ -1,7 +1,8 @@
 -- The words of a line are text, are measured, and end in blanks.
-use Rattle.textwrap_base.proofs.Common.{◌≡◌, ℕ, true, false, ◌==◌, List, [], All, length, refl, sym}
-use Rattle.textwrap_base.proofs.Common.{ap, sum_by, IsUtf8, false≢true, All-nil, All-map}
-use Rattle.textwrap_base.proofs.Common.{All-weaker, chars-nil}
+use Rattle.textwrap_base.proofs.Common.{◌≡◌, ℕ, true, false, ◌==◌, List, [], ◌∷◌, All, All-append}
+use Rattle.textwrap_base.proofs.Common.{All-head, All-tail, flat_map, length, refl, sym, map, ap}
+use Rattle.textwrap_base.proofs.Common.{sum_by, IsUtf8, false≢true, All-nil, All-map, All-weaker}
+use Rattle.textwrap_base.proofs.Common.{chars-nil}
 use Rattle.textwrap_words.proofs.Common.{columns, text_width, WordText, word_of, chunks, words_of}
 use Rattle.textwrap_words.proofs.Common.{is_blank}
 use Rattle.textwrap_words.proofs.Word.Texts.{AreBlanks, without_final_blanks-utf8}
@@ -30,14 +31,25 @@ word_of-measured bytes utf8 = record {
   };
 }
 
+pub words-measured : (parts : List (List ℕ)) → All IsUtf8 parts → All IsMeasured (map word_of parts)
+words-measured parts utf8 =
+    All-map IsMeasured word_of parts
+    (All-weaker IsUtf8 (λ part. IsMeasured (word_of part)) word_of-measured parts utf8)
+
 pub words_of-measured : (line : List ℕ) → IsUtf8 line → All IsMeasured (words_of line)
-words_of-measured line utf8 =
-    All-map IsMeasured word_of (chunks line)
-    (All-weaker IsUtf8 (λ bytes. IsMeasured (word_of bytes)) word_of-measured
-    (chunks line) (chunks-utf8 line utf8))
+words_of-measured line utf8 = words-measured (chunks line) (chunks-utf8 line utf8)
 
 pub text_width-nil : text_width [] ≡ 0
 text_width-nil = ap (λ cs. sum_by columns (visible cs)) chars-nil
+
+-- words become lists of words: Q holds of all of these, if it does of those of each word with P
+pub All-each : (P Q : WordText → Type 0) (f : WordText → List WordText)
+    → ((w : WordText) → P w → All Q (f w)) → (words : List WordText) → All P words
+    → All Q (flat_map f words)
+All-each P Q f each [] all = All-nil Q
+All-each P Q f each (w ∷ words) all =
+    All-append Q (f w) (flat_map f words) (each w (All-head P w words all))
+    (All-each P Q f each words (All-tail P w words all))
 
 abbrev pub HasNoPenalty : WordText → Type 0
 HasNoPenalty w = w.penalty ≡ []

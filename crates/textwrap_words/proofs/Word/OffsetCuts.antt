@@ -63,11 +63,8 @@ cut-found offsets line cut h =
     let total = length (stripped line) in
     let f = contains-found offsets total (units (chars line)) 0 0 cut h in
     let front = f.before ++ Visible f.character ∷ [] in
-    let both = and_parts (not (is_any_hyphen f.character) && nat_lt (0 + shown_len front) total)
-    (list_any (λ offset. offset == 0 + shown_len front) offsets) f.passes in
-    let first = and_parts (not (is_any_hyphen f.character)) (nat_lt (0 + shown_len front) total)
-    both.0 in
-    let start : 0 + shown_len front ≡ shown_len front = zero-add (shown_len front) in
+    let both = and_parts _ _ (rw (zero-add (shown_len front)) at f.passes) in
+    let first = and_parts _ _ both.0 in
     record {
       before = f.before;
       character = f.character;
@@ -75,8 +72,8 @@ cut-found offsets line cut h =
       divided = f.divided;
       place = f.place ∙ zero-add (length (units_text front));
       unhyphened = not-true (is_any_hyphen f.character) first.0;
-      given = subst (Contains offsets) start (any-contains (0 + shown_len front) offsets both.1);
-      inside = subst (λ n. n < total) start (ltb-true (0 + shown_len front) total first.1);
+      given = any-contains (shown_len front) offsets both.1;
+      inside = ltb-true (shown_len front) total first.1;
     }
 
 cut-contained : (offsets line : List ℕ) (cut : ℕ) → IsCutAt offsets line cut
@@ -84,9 +81,8 @@ cut-contained : (offsets line : List ℕ) (cut : ℕ) → IsCutAt offsets line c
 cut-contained offsets line cut h =
     let total = length (stripped line) in
     let front = h.before ++ Visible h.character ∷ [] in
-    let start : 0 + shown_len front ≡ shown_len front = zero-add (shown_len front) in
     let passes : is_cut_after offsets total h.character (0 + shown_len front) ≡ true =
-    ap (is_cut_after offsets total h.character) start
+    ap (is_cut_after offsets total h.character) (zero-add (shown_len front))
     ∙ and_from (not (is_any_hyphen h.character) && nat_lt (shown_len front) total)
     (list_any (λ offset. offset == shown_len front) offsets)
     (and_from (not (is_any_hyphen h.character)) (nat_lt (shown_len front) total)

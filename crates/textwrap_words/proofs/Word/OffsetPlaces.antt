@@ -7,7 +7,6 @@ use Rattle.textwrap_words.proofs.Common.{units_text, TextUnit, Visible, Sequence
 use Rattle.textwrap_words.proofs.Common.{visible_of, stripped, shown_len, cuts_at, AreCuts}
 use Rattle.textwrap_words.proofs.Word.OffsetCuts.{cut-found, cuts_at-cuts}
 use Rattle.std.specs.Str.{chars}
-use lib.Utf8.{encode}
 use Rattle.std.proofs.lemmas.List.Elements.{All-contains_itself}
 use Rattle.std.proofs.lemmas.List.Sorted.{IsNonDecreasingBy-from_default}
 use Rattle.std.proofs.lemmas.Str.{IsCharBoundary-at_seam}
@@ -18,20 +17,10 @@ use Rattle.textwrap_base.proofs.Lists.Rising.{increasing-le}
 
 shown-short : (us : List TextUnit) → shown_len us ≤ length (units_text us)
 shown-short [] = omega arith
-shown-short (Visible c ∷ us) =
-    omega (
-      arith,
-      shown-short us,
-      length-append (encode c) (units_text us),
-      length-append (encode c) (encode_utf8_all (flat_map visible_of us)),
-    )
+shown-short (Visible c ∷ us) = omega (arith, shown-short us, length-append {A = ℕ})
 shown-short (Sequence cs ∷ us) =
-    omega (
-      arith,
-      shown-short us,
-      ap length (encodes-append cs (flat_map characters us)),
-      length-append (encode_utf8_all cs) (units_text us),
-    )
+    rw (encodes-append cs (flat_map characters us))
+    (omega (arith, shown-short us, length-append {A = ℕ}))
 
 cut-inside : (offsets line : List ℕ) (cut : ℕ) → IsUtf8 line → IsCutAt offsets line cut
     → (cut < length line) × IsCharBoundary line cut
@@ -53,15 +42,7 @@ cut-inside offsets line cut utf8 h =
     ∙ ap length (encodes-append (flat_map visible_of front) (flat_map visible_of h.after))
     ∙ length-append (encode_utf8_all (flat_map visible_of front))
     (encode_utf8_all (flat_map visible_of h.after)) in (
-      omega (
-        arith,
-        h.inside,
-        h.place,
-        shown,
-        shown-short h.after,
-        ap length seam,
-        length-append (units_text front) (units_text h.after),
-      ),
+      omega (arith, h.inside, h.place, shown-short h.after, ap length seam, length-append {A = ℕ}),
       subst (IsCharBoundary line) (sym h.place)
           (IsCharBoundary-at_seam line (units_text front) (units_text h.after) seam back),
     )

@@ -8,7 +8,8 @@ use Rattle.textwrap_words.proofs.Common.{stripped, VisibleEnd, is_cut_after, cut
 use Rattle.std.specs.Str.{chars}
 use lib.Utf8.{encode}
 use Rattle.textwrap_words.specs.declared.escapes.State.{State}
-use Rattle.textwrap_words.proofs.Word.VisibleEnds.{ends_in, IsStep, ends_past, ends-step, end_of}
+use Rattle.textwrap_words.proofs.Word.VisibleEnds.{ends_in, ends_past, ends-step, end_of}
+use Rattle.textwrap_words.proofs.Units.States.{IsStep}
 
 -- ---- the cuts
 
@@ -35,13 +36,7 @@ pub IsFinding-room : (offsets line : List ℕ) (at : ℕ) (rest : List ℕ) (s :
     (cuts : List ℕ) (c : ℕ) (after : List ℕ) → IsFinding offsets line at rest s shown cuts
     → rest ≡ encode c ++ after → at + length (encode c) ≤ length line
 IsFinding-room offsets line at rest s shown cuts c after h e =
-    omega (
-      arith,
-      h.within,
-      length-drop at line,
-      ap length (h.place ∙ e),
-      length-append (encode c) after,
-    )
+    omega (arith, h.within, ap length (h.place ∙ e), length-drop {A = ℕ}, length-append {A = ℕ})
 
 -- a character is read: the cut after it is found, if there is one
 pub IsFinding-step : (offsets line : List ℕ) (at : ℕ) (rest : List ℕ) (s : State) (shown : ℕ)

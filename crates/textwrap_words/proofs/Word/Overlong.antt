@@ -2,18 +2,18 @@
 use Rattle.textwrap_base.proofs.Common.{◌≡◌, ℕ, ◌<◌, Bool, true, false, cond, List, [], ◌∷◌, All}
 use Rattle.textwrap_base.proofs.Common.{length, map, refl, sym, ap, ◌∙◌, arith, flat_map, sum_by}
 use Rattle.textwrap_base.proofs.Common.{IsUtf8, false≢true, nat_tests, All-nil, All-cons, All-head}
-use Rattle.textwrap_base.proofs.Common.{All-tail, All-append, chars_from_encodes}
-use Rattle.textwrap_words.proofs.Common.{units_width, IsKept, pieces_with, units_text, broken_units}
+use Rattle.textwrap_base.proofs.Common.{All-tail, chars_from_encodes}
+use Rattle.textwrap_words.proofs.Common.{units_width, IsKept, units_text, broken_units}
 use Rattle.textwrap_words.proofs.Common.{broken_texts, broken_pieces, broken_word, broken_words}
-use Rattle.textwrap_words.proofs.Common.{piece, WordText, TextUnit, characters, units, visible_of}
+use Rattle.textwrap_words.proofs.Common.{WordText, TextUnit, characters, units, visible_of}
 use Rattle.textwrap_words.proofs.Common.{columns, text_width}
 use Rattle.std.proofs.Common.{ltb}
 use Rattle.std.specs.Prelude.{chars}
 use Rattle.textwrap_words.specs.Units.{column_characters}
 use Rattle.textwrap_words.proofs.Word.BreakingExists.{AreBroken-exists}
-use Rattle.textwrap_words.proofs.Word.BrokenTexts.{broken_texts-utf8}
+use Rattle.textwrap_words.proofs.Word.BrokenTexts.{broken_texts-utf8, pieces_with-all}
 use Rattle.textwrap_words.proofs.Units.Parts.{units_width-is}
-use Rattle.textwrap_words.proofs.Word.Measured.{IsMeasured}
+use Rattle.textwrap_words.proofs.Word.Measured.{IsMeasured, All-each}
 use Rattle.textwrap_words.proofs.Word.WideParts.{IsOwn, column_units, single, parts-own}
 
 -- ---- a part that is wider than the limit
@@ -60,22 +60,11 @@ module _ (limit : ℕ) where
   abbrev pub IsTight : WordText → Type 0
   IsTight w = limit < w.width → length (column_characters w.word) ≡ 1
 
-  pieces_with-tight : (whitespace penalty : List ℕ) (texts : List (List ℕ)) → All IsTightText texts
-      → All IsTight (pieces_with whitespace penalty texts)
-  pieces_with-tight whitespace penalty [] tight = All-nil IsTight
-  pieces_with-tight whitespace penalty (text ∷ []) tight =
-      All-cons IsTight (piece text whitespace penalty) [] (All-head IsTightText text [] tight)
-      (All-nil IsTight)
-  pieces_with-tight whitespace penalty (text ∷ next ∷ texts) tight =
-      All-cons IsTight (piece text [] []) (pieces_with whitespace penalty (next ∷ texts))
-      (All-head IsTightText text (next ∷ texts) tight)
-      (pieces_with-tight whitespace penalty (next ∷ texts)
-      (All-tail IsTightText text (next ∷ texts) tight))
-
   broken_word-tight : (w : WordText) → IsUtf8 w.word → (b : Bool) → ltb limit w.width ≡ b
       → All IsTight (cond b (broken_pieces limit w) (w ∷ []))
-  broken_word-tight w utf8 true wide = pieces_with-tight w.whitespace w.penalty
-      (broken_texts limit w.word) (broken_texts-tight w.word utf8)
+  broken_word-tight w utf8 true wide =
+      pieces_with-all IsTight IsTightText w.whitespace w.penalty (λ _ tight. tight)
+      (λ _ tight. tight) (broken_texts limit w.word) (broken_texts-tight w.word utf8)
   broken_word-tight w utf8 false fits =
       All-cons IsTight w [] (λ wide. absurd (false≢true (sym fits ∙ ltb_wide limit w.width wide)))
       (All-nil IsTight)
@@ -85,8 +74,6 @@ module _ (limit : ℕ) where
 
   pub broken_words-tight : (words : List WordText) → All IsMeasured words
       → All IsTight (broken_words limit words)
-  broken_words-tight [] measured = All-nil IsTight
-  broken_words-tight (w ∷ words) measured =
-      All-append IsTight (broken_word limit w) (broken_words limit words)
-      (broken_word-tight w (All-head IsMeasured w words measured).utf8 (ltb limit w.width) refl)
-      (broken_words-tight words (All-tail IsMeasured w words measured))
+  broken_words-tight =
+      All-each IsMeasured IsTight (broken_word limit)
+      (λ w measured. broken_word-tight w measured.utf8 (ltb limit w.width) refl)

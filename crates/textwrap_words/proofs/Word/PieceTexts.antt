@@ -1,8 +1,9 @@
 -- The texts of the pieces of a word.
 use Rattle.textwrap_base.proofs.Common.{◌≡◌, ◌≢◌, ℕ, ◌≤◌, List, [], ◌∷◌, ◌++◌, refl, sym, ap, ◌∙◌}
-use Rattle.textwrap_base.proofs.Common.{length, take, drop, map, IsUtf8, encode_utf8_all, flat_map}
-use Rattle.textwrap_base.proofs.Common.{sum_by, take-append-drop, flat_map-append, chars-nil}
-use Rattle.textwrap_base.proofs.Common.{chars-append, encodes-append, encodes-chars, IsUtf8-take}
+use Rattle.textwrap_base.proofs.Common.{length, take, drop, map, IsUtf8, IsCharBoundary}
+use Rattle.textwrap_base.proofs.Common.{encode_utf8_all, flat_map, sum_by, take-append-drop}
+use Rattle.textwrap_base.proofs.Common.{flat_map-append, chars-nil, chars-append, encodes-append}
+use Rattle.textwrap_base.proofs.Common.{encodes-chars, IsUtf8-take}
 use Rattle.textwrap_words.proofs.Common.{TextUnit, characters, columns, units, visible_of}
 use Rattle.textwrap_words.proofs.Common.{text_width, units_text, broken_units, broken_texts}
 use Rattle.textwrap_words.proofs.Word.FirstUnits.{EndsHere}
@@ -56,6 +57,7 @@ pub record IsFirstPiece (limit : ℕ) (text : List ℕ) (len width : ℕ) : Type
   pub first : broken_texts limit text ≡ take len text ∷ broken_texts limit (drop len text)
   pub wide : width ≡ text_width (take len text)
   pub rest : IsUtf8 (drop len text)
+  pub boundary : IsCharBoundary text len
 
 pub IsFirstPiece-found : (limit : ℕ) (text : List ℕ) (len width : ℕ) → IsUtf8 text → text ≢ []
     → len ≤ length text → IsUtf8 (drop len text)
@@ -65,8 +67,8 @@ IsFirstPiece-found limit text len width utf8 some within rest_utf8 found =
     let us = units (chars text) in
     let part = taken_units limit 0 us in
     let rest = units (chars (drop len text)) in
-    let front_utf8 = IsUtf8-take text len utf8 (IsCharBoundary-from_drop text len within rest_utf8)
-    in
+    let boundary = IsCharBoundary-from_drop text len within rest_utf8 in
+    let front_utf8 = IsUtf8-take text len utf8 boundary in
     let split : us ≡ part ++ rest = sym (taken-left limit 0 us)
     ∙ ap (λ vs. part ++ vs) found.leaves in
     let both : chars (take len text) ++ chars (drop len text) ≡ flat_map characters part ++ chars
@@ -89,4 +91,5 @@ IsFirstPiece-found limit text len width utf8 some within rest_utf8 found =
       wide = sym found.wide ∙ sym (units_width-is part)
           ∙ ap (λ vs. sum_by columns (flat_map visible_of vs)) (sym own);
       rest = rest_utf8;
+      boundary = boundary;
     }

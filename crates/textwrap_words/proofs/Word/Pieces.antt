@@ -1,9 +1,9 @@
 -- Lemmas on words and their pieces: they are texts that tile a line, whatever the points.
-use Rattle.textwrap_base.proofs.Common.{subst, ◌≡◌, ℕ, suc, ◌<◌, ◌≤◌, true, cond, List, [], ◌∷◌}
-use Rattle.textwrap_base.proofs.Common.{◌++◌, All, length, get_or, take, drop, refl, sym, ap, ◌∙◌}
-use Rattle.textwrap_base.proofs.Common.{arith, slice_range, IsNonDecreasing, IsUtf8, IsCharBoundary}
-use Rattle.textwrap_base.proofs.Common.{and_parts, All-nil, All-cons, All-head, All-tail}
-use Rattle.textwrap_base.proofs.Common.{All-append, All-map, IsUtf8-drop, IsUtf8-between}
+use Rattle.textwrap_base.proofs.Common.{map, subst, ◌≡◌, ℕ, suc, ◌<◌, ◌≤◌, true, cond, List, []}
+use Rattle.textwrap_base.proofs.Common.{◌∷◌, ◌++◌, All, length, get_or, take, drop, refl, sym, ap}
+use Rattle.textwrap_base.proofs.Common.{◌∙◌, arith, slice_range, IsNonDecreasing, IsUtf8}
+use Rattle.textwrap_base.proofs.Common.{IsCharBoundary, and_parts, All-nil, All-cons, All-head}
+use Rattle.textwrap_base.proofs.Common.{All-tail, All-map, IsUtf8-drop, IsUtf8-between}
 use Rattle.textwrap_words.proofs.Common.{is_blank, AreCuts, Splitter, Whole, AtHyphens, hyphen}
 use Rattle.textwrap_words.proofs.Common.{ends_in_hyphen, is_hyphen_point, cut_penalty, points_of}
 use Rattle.textwrap_words.proofs.Common.{split_from, split_pieces, split_word, split_words}
@@ -12,8 +12,9 @@ use Rattle.textwrap_words.proofs.Common.{words_of, chunks, AreWordsOf}
 use Rattle.std.proofs.lemmas.List.Elements.{filter_passes}
 use Rattle.textwrap_words.specs.WordSplitters.{inner_offsets}
 use Rattle.textwrap_words.proofs.Word.Splitting.{points_of-cuts}
-use Rattle.textwrap_words.proofs.Word.Measured.{IsMeasured, HasNoPenalty, words_of-measured}
+use Rattle.textwrap_words.proofs.Word.Measured.{IsMeasured, HasNoPenalty, words-measured, All-each}
 use Rattle.textwrap_words.proofs.Word.Tiling.{tiled-words_of}
+use Rattle.textwrap_words.proofs.Word.Texts.{chunks-utf8}
 use Rattle.textwrap_words.proofs.Word.Words.{words_unique}
 
 -- ---- the pieces of built-in parts are the computed ones
@@ -98,29 +99,28 @@ split_from-no_penalty w start (point ∷ points) none ends =
     (split_from-no_penalty w point points none
     (All-tail (λ p. ends_in_hyphen (take p w.word) ≡ true) point points ends))
 
-split_words-no_penalty : (splitter : Splitter) (words : List WordText) → All HasNoPenalty words
-    → All HasNoPenalty (split_words splitter words)
-split_words-no_penalty splitter [] none = All-nil HasNoPenalty
-split_words-no_penalty splitter (w ∷ words) none =
-    All-append HasNoPenalty (split_word splitter w) (split_words splitter words)
-    (split_from-no_penalty w 0 (points_of splitter w.word) (All-head HasNoPenalty w words none)
-    (points_of-hyphens splitter w.word))
-    (split_words-no_penalty splitter words (All-tail HasNoPenalty w words none))
-
 pub split_pieces_of-no_penalty : (splitter : Splitter) (paragraph : List ℕ)
     → All HasNoPenalty (split_pieces_of splitter paragraph)
 split_pieces_of-no_penalty splitter paragraph =
-    split_words-no_penalty splitter (words_of paragraph)
-    (All-map HasNoPenalty word_of (chunks paragraph) (λ k d lt. refl))
+    All-each HasNoPenalty HasNoPenalty (split_word splitter)
+    (λ w none. split_from-no_penalty w 0 (points_of splitter w.word) none
+    (points_of-hyphens splitter w.word))
+    (words_of paragraph) (All-map HasNoPenalty word_of (chunks paragraph) (λ k d lt. refl))
+
+-- the parts of a line, each taken as a word
+pub AreTexts-parts : (line : List ℕ) (parts : List (List ℕ)) → tiled (map word_of parts) ≡ line
+    → All IsUtf8 parts → AreTexts line (map word_of parts)
+AreTexts-parts line parts tile utf8 = record {
+  tile = tile;
+  measured = words-measured parts utf8;
+  plain = All-map HasNoPenalty word_of parts (λ k d lt. refl);
+}
 
 pub AreTexts-words : (line : List ℕ) (words : List WordText) → IsUtf8 line → AreWordsOf line words
     → AreTexts line words
 AreTexts-words line words utf8 are =
-    subst (AreTexts line) (sym ((words_unique line words).0 are)) (record {
-      tile = tiled-words_of line;
-      measured = words_of-measured line utf8;
-      plain = All-map HasNoPenalty word_of (chunks line) (λ k d lt. refl);
-    })
+    subst (AreTexts line) (sym ((words_unique line words).0 are))
+    (AreTexts-parts line (chunks line) (tiled-words_of line) (chunks-utf8 line utf8))
 
 pub ArePoints-cuts : (splitter : Splitter) (text points : List ℕ) → IsUtf8 text
     → ArePoints splitter text points → AreCuts text points

@@ -5,13 +5,13 @@ use Rattle.textwrap_base.proofs.Common.{IsUtf8, nil_from_length, length-append, 
 use Rattle.textwrap_base.proofs.Common.{drop-drop, drop_at, drop_all, chars-nil, IsUtf8-nil}
 use Rattle.textwrap_base.proofs.Common.{IsUtf8-past_char, chars_past_char}
 use Rattle.textwrap_words.proofs.Common.{Visible, units, is_due}
-use Rattle.textwrap_words.proofs.Word.FirstUnits.{IsInFirst, IsInFirst-start, added, IsStep}
-use Rattle.textwrap_words.proofs.Word.FirstUnits.{IsInFirst-step, IsInFirst-cut, EndsHere}
-use Rattle.textwrap_words.proofs.Word.FirstUnits.{IsInFirst-end}
+use Rattle.textwrap_words.proofs.Word.FirstUnits.{IsInFirst, IsInFirst-start, added, IsInFirst-step}
+use Rattle.textwrap_words.proofs.Word.FirstUnits.{IsInFirst-cut, EndsHere, IsInFirst-end}
 use Rattle.textwrap_words.proofs.Word.PieceTexts.{IsFirstPiece, IsFirstPiece-found}
 use Rattle.std.specs.Prelude.{chars, encode_utf8}
 use Rattle.textwrap_words.specs.declared.escapes.State.{State}
 use Rattle.textwrap_words.specs.declared.escapes.State.TheVariants.{Text}
+use Rattle.textwrap_words.proofs.Units.States.{IsStep}
 use Rattle.textwrap_words.proofs.Units.Widths.{columns-le}
 
 pub record IsReading (limit : ℕ) (text : List ℕ) (at : ℕ) (rest : List ℕ) (state : State)
@@ -38,14 +38,7 @@ pub IsReading-room : (limit : ℕ) (text : List ℕ) (at : ℕ) (rest : List ℕ
     (width c : ℕ) (after : List ℕ) → IsReading limit text at rest state width
     → rest ≡ encode_utf8 c ++ after → at + length (encode_utf8 c) ≤ length text
 IsReading-room limit text at rest state width c after h e =
-    omega (
-      arith,
-      h.within,
-      length-drop at text,
-      ap length (h.place ∙ e),
-      length-append
-          (encode_utf8 c) after,
-    )
+    omega (arith, h.within, ap length (h.place ∙ e), length-drop {A = ℕ}, length-append {A = ℕ})
 
 added-le : (flag : Bool) (c : ℕ) → added flag c ≤ 2 * length (encode_utf8 c)
 added-le true c = columns-le c

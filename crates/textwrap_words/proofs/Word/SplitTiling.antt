@@ -17,10 +17,9 @@ tiled-split_from w start (point ∷ points) in_order before =
     (omega arith) in
     let rest = tiled-split_from w point points later
     (λ k lt. in_order 0 (suc k) 0 (omega arith) (omega arith)) in
-    ap (λ l. l ++ tiled (split_from w point points)) (append-nil (slice_range w.word start point))
-    ∙ ap (λ l. slice_range w.word start point ++ l) rest
-    ∙ sym (append_assoc (slice_range w.word start point) (drop point w.word) w.whitespace)
-    ∙ ap (λ l. l ++ w.whitespace) (sym (drop_split w.word start point (before 0 (omega arith))))
+    rw (append-nil (slice_range w.word start point), rest)
+    (sym (append_assoc (slice_range w.word start point) (drop point w.word) w.whitespace)
+    ∙ ap (λ l. l ++ w.whitespace) (sym (drop_split w.word start point (before 0 (omega arith)))))
 
 pub tiled-split_pieces : (points : List ℕ) (w : WordText) → AreCuts w.word points
     → tiled (split_pieces points w) ≡ tile_of w

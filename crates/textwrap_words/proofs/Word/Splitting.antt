@@ -46,6 +46,13 @@ ends-some text rest c utf8 e =
 -- ---- the points
 
 -- a text may be cut after a hyphen
+pub after-hyphen_byte : (text : List ℕ) (point : ℕ) → IsUtf8 text → 0 < point → point < length text
+    → get_or text (point - 1) 0 ≡ 45 → IsCharBoundary text point
+after-hyphen_byte text point utf8 start inside here =
+    let next : point - 1 + 1 ≡ point = omega arith in
+    subst (IsCharBoundary text) next
+    (IsCharBoundary-after_ascii text (point - 1) utf8 (omega arith) (omega (arith, here)))
+
 pub after-hyphen : (text : List ℕ) (point : ℕ) → IsUtf8 text → 1 ≤ point → point < length text
     → is_hyphen_point text point ≡ true → IsCharBoundary text point
 after-hyphen text point utf8 start inside is =
@@ -53,12 +60,9 @@ after-hyphen text point utf8 start inside is =
     let ends : get_or (take point text) (length (take point text) - 1) 0 ≡ 45 =
     eqb-true _ 45 hyphenated.0 in
     let len : length (take point text) - 1 ≡ point - 1 = omega (arith, length-take point text) in
-    let here : get_or text (point - 1) 0 ≡ 45 =
-    sym (get_or-take point text (point - 1) 0 (omega arith))
-    ∙ ap (λ n. get_or (take point text) n 0) (sym len) ∙ ends in
-    let next : point - 1 + 1 ≡ point = omega arith in
-    subst (IsCharBoundary text) next (IsCharBoundary-after_ascii text (point - 1) utf8 (omega arith)
-    (omega (arith, here)))
+    after-hyphen_byte text point utf8 (omega arith) inside
+    (sym (get_or-take point text (point - 1) 0 (omega arith))
+    ∙ ap (λ n. get_or (take point text) n 0) (sym len) ∙ ends)
 
 -- a text without hyphens has no points
 any-ends : (text : List ℕ) → ends_in_hyphen text ≡ true → list_any (λ c. c == hyphen) text ≡ true

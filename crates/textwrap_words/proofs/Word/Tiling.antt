@@ -1,9 +1,9 @@
 -- Lemmas on the words of a line, and on texts that words tile.
-use Rattle.textwrap_base.proofs.Common.{◌≡◌, ℕ, zero, suc, ◌+◌, ◌<◌, ◌≤◌, true, false, cond, List}
-use Rattle.textwrap_base.proofs.Common.{[], ◌∷◌, ◌++◌, length, get_or, take, drop, map, refl, sym}
-use Rattle.textwrap_base.proofs.Common.{ap, ◌∙◌, arith, add-one, take-append-drop, length-append}
-use Rattle.textwrap_base.proofs.Common.{append-nil, onto_first, map-append, take_more}
-use Rattle.textwrap_base.proofs.Common.{flat_map-append}
+use Rattle.textwrap_base.proofs.Common.{inl, inr, cases_Bool, ◌≡◌, ℕ, zero, suc, ◌+◌, ◌<◌, ◌≤◌}
+use Rattle.textwrap_base.proofs.Common.{true, false, cond, List, [], ◌∷◌, ◌++◌, length, get_or}
+use Rattle.textwrap_base.proofs.Common.{take, drop, map, refl, ap, ◌∙◌, arith, add-one}
+use Rattle.textwrap_base.proofs.Common.{take-append-drop, length-append, append-nil, onto_first}
+use Rattle.textwrap_base.proofs.Common.{map-append, take_more, flat_map-append}
 use Rattle.textwrap_words.proofs.Common.{WordText, word_view, word_of, tile_of, tiled, is_cut}
 use Rattle.textwrap_words.proofs.Common.{chunks, words_of, trimmed_len}
 use Rattle.textwrap_base.proofs.Lists.Parts.{flat, flat-onto_first}
@@ -15,10 +15,9 @@ pub join-chunks : (line : List ℕ) → flat (chunks line) ≡ line
 join-chunks [] = refl
 join-chunks (c ∷ []) = refl
 join-chunks (c ∷ d ∷ cs) =
-    elim (is_cut c d) as (λ b.
-    flat (cond b ((c ∷ []) ∷ chunks (d ∷ cs)) (onto_first c (chunks (d ∷ cs)))) ≡ c ∷ d ∷ cs) [
-      | true ↦ ap (λ l. c ∷ l) (join-chunks (d ∷ cs))
-      | false ↦ flat-onto_first c (chunks (d ∷ cs)) ∙ ap (λ l. c ∷ l) (join-chunks (d ∷ cs))
+    elim (cases_Bool (is_cut c d)) [
+      | inl t ↦ rw t (ap (λ l. c ∷ l) (join-chunks (d ∷ cs)))
+      | inr f ↦ rw f (flat-onto_first c (chunks (d ∷ cs)) ∙ ap (λ l. c ∷ l) (join-chunks (d ∷ cs)))
     ]
 
 -- the first chunk ends at the first cut
@@ -65,24 +64,13 @@ pub tiled-take : (words : List Word) (i : ℕ) (d : Word) (a b : List ℕ) → i
     → a ≡ (get_or words i d).word.now → b ≡ (get_or words i d).whitespace.now
     → tiled (map word_view (take (i + 1) words)) ≡ tiled (map word_view (take i words)) ++ (a ++ b)
 tiled-take words i d a b within word whitespace =
-    ap (λ l. tiled (map word_view l)) (take_more words i d within)
-    ∙ ap tiled (map-append word_view (take i words) (get_or words i d ∷ []))
-    ∙ tiled-push (map word_view (take i words)) (word_view (get_or words i d))
-    ∙ ap (λ l. tiled (map word_view (take i words)) ++ (l ++ (get_or words i d).whitespace.now))
-    (sym word)
-    ∙ ap (λ l. tiled (map word_view (take i words)) ++ (a ++ l)) (sym whitespace)
+    rw (take_more words i d within, word, whitespace)
+    (ap tiled (map-append word_view (take i words) (get_or words i d ∷ []))
+    ∙ tiled-push (map word_view (take i words)) (word_view (get_or words i d)))
 
 pub tiled-take-le : (words : List Word) (i : ℕ)
     → length (tiled (map word_view (take i words))) ≤ length (tiled (map word_view words))
 tiled-take-le words i =
-    let whole : tiled (map word_view words) ≡ tiled (map word_view (take i words)) ++ tiled
-    (map word_view (drop i words)) =
-    ap (λ l. tiled (map word_view l)) (sym (take-append-drop i words))
-    ∙ ap tiled (map-append word_view (take i words) (drop i words))
-    ∙ tiled-append (map word_view (take i words)) (map word_view (drop i words)) in
-    omega (
-      arith,
-      ap length whole,
-      length-append (tiled (map word_view (take i words)))
-          (tiled (map word_view (drop i words))),
-    )
+    let parts = simp (map-append, flat_map-append, length-append) at
+    (ap (λ l. length (tiled (map word_view l))) (take-append-drop i words)) in
+    omega (arith, parts)

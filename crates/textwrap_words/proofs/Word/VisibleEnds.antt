@@ -1,12 +1,13 @@
 -- Where the visible characters of a line end.
-use Rattle.textwrap_base.proofs.Common.{◌≡◌, ◌≢◌, ℕ, ◌+◌, Bool, true, false, not, cond, eqb, List}
-use Rattle.textwrap_base.proofs.Common.{◌∷◌, length, take, sym, ap, ◌∙◌, add-zero, encode_utf8_all}
-use Rattle.textwrap_words.proofs.Common.{taken_in, visible_in, Visible, Sequence, escape_len}
-use Rattle.textwrap_words.proofs.Common.{unit_at, taken_at, units_past, VisibleEnd, ends_from}
+use Rattle.textwrap_base.proofs.Common.{inl, inr, cases_Bool, ◌≡◌, ◌≢◌, ℕ, ◌+◌, Bool, cond, eqb}
+use Rattle.textwrap_base.proofs.Common.{List, ◌∷◌, length, take, refl, sym, ap, ◌∙◌, add-zero}
+use Rattle.textwrap_base.proofs.Common.{encode_utf8_all}
+use Rattle.textwrap_words.proofs.Common.{taken_in, escape_len, units_past, VisibleEnd, ends_from}
 use lib.Utf8.{encode}
 use Rattle.textwrap_words.specs.declared.escapes.State.{State}
 use Rattle.textwrap_words.specs.declared.escapes.State.TheVariants.{Text, Escape, Control, Command}
-use Rattle.textwrap_words.proofs.Units.States.{units_in, next_of, shows, step-is, taken-step}
+use Rattle.textwrap_words.proofs.Units.States.{units_in, next_of, shows, IsStep, step-is}
+use Rattle.textwrap_words.proofs.Units.States.{taken-step}
 use Rattle.textwrap_base.proofs.Utf8.{past-one}
 
 -- where a character ends that begins at these places
@@ -28,16 +29,10 @@ ends_past flag next at shown c cs =
 ends-text : (at shown c : ℕ) (cs : List ℕ)
     → ends_in Text at shown (c ∷ cs) ≡ ends_past (shows Text c) (next_of Text c) at shown c cs
 ends-text at shown c cs =
-    ap (λ n. ends_from n shown (unit_at c cs ∷ units_past (taken_at c cs) cs)) (add-zero at)
-    ∙ elim (eqb c 27) as (λ b. ends_from at shown
-    (cond b (Sequence (c ∷ take (escape_len cs) cs)) (Visible c)
-    ∷ units_past (cond b (escape_len cs) 0) cs)
-    ≡ ends_past (not b) (cond b Escape Text) at shown c cs) [
-      | true ↦ ap (λ n. ends_from n shown (units_past (escape_len cs) cs))
-          (past-one at c (take (escape_len cs) cs))
-      | false ↦ ap (λ n. end_of at shown c
-          ∷ ends_from n (shown + length (encode c)) (units_past 0 cs))
-          (sym (add-zero (at + length (encode c))))
+    elim (cases_Bool (eqb c 27)) [
+      | inl t ↦ rw (add-zero at, t) (ap (λ n. ends_from n shown (units_past (escape_len cs) cs))
+          (past-one at c (take (escape_len cs) cs)))
+      | inr f ↦ rw (add-zero at, f, add-zero (at + length (encode c))) refl
     ]
 
 ends-inside : (s : State) (at shown c : ℕ) (cs : List ℕ) → s ≢ Text
@@ -54,11 +49,6 @@ ends-plain Text at shown c cs = ends-text at shown c cs
 ends-plain Escape at shown c cs = ends-inside Escape at shown c cs (λ e. cc)
 ends-plain Control at shown c cs = ends-inside Control at shown c cs (λ e. cc)
 ends-plain (Command last) at shown c cs = ends-inside (Command last) at shown c cs (λ e. cc)
-
--- what a step says of each text that may follow
-abbrev pub IsStep : State → ℕ → State → Bool → Type 0
-IsStep s c next flag = (cs : List ℕ) → visible_in s (c ∷ cs) ≡ cond flag (c ∷ visible_in next cs)
-    (visible_in next cs)
 
 pub ends-step : (s : State) (at shown c : ℕ) (cs : List ℕ) (next : State) (flag : Bool)
     → IsStep s c next flag

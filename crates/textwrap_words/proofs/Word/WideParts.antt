@@ -46,15 +46,16 @@ seen c some = grind (arith, nat_tests, some)
 -- units without columns show no character that takes any
 no_columns : (us : List TextUnit) → units_width us ≡ 0 → length (column_units us) ≡ 0
 no_columns [] none = refl
-no_columns (Visible c ∷ us) none = let sum = sum_by-cons unit_width (Visible c) us in
+no_columns (Visible c ∷ us) none =
+    let sum = sum_by-cons unit_width (Visible c) us in
     rw (unseen c (omega (arith, sum))) (no_columns us (omega (arith, sum)))
-no_columns (Sequence cs ∷ us) none = let sum = sum_by-cons unit_width (Sequence cs) us in
-    no_columns us (omega (arith, sum))
+no_columns (Sequence cs ∷ us) none =
+    no_columns us (omega (arith, sum_by-cons unit_width (Sequence cs) us))
 
 width-push : (front : List TextUnit) (u : TextUnit)
     → units_width (front ++ u ∷ []) ≡ units_width front + unit_width u
-width-push front u = let sum = sum_by-append unit_width front (u ∷ []) in let last =
-    sum_by-cons unit_width u [] in omega (arith, sum, last)
+width-push front u =
+    omega (arith, sum_by-append unit_width front (u ∷ []), sum_by-cons unit_width u [])
 
 module _ (limit : ℕ) where
   kept-push : (front : List TextUnit) (u : TextUnit) (us : List TextUnit)
@@ -66,20 +67,20 @@ module _ (limit : ℕ) where
       → IsKept limit (front ++ u ∷ us) → 0 < units_width front
       → (units_width us ≡ 0) ⊎ (units_width (front ++ u ∷ []) + units_width us ≤ limit)
       → (units_width (u ∷ us) ≡ 0) ⊎ (units_width front + units_width (u ∷ us) ≤ limit)
-  later_step front u us kept some (inr within) = let push = width-push front u in let sum =
-      sum_by-cons unit_width u us in inr (omega (arith, within, push, sum))
-  later_step front (Sequence cs) us kept some (inl none) = let sum =
-      sum_by-cons unit_width (Sequence cs) us in inl (omega (arith, none, sum))
+  later_step front u us kept some (inr within) =
+      inr (omega (arith, width-push front u, sum_by-cons unit_width u us))
+  later_step front (Sequence cs) us kept some (inl none) =
+      inl (omega (arith, sum_by-cons unit_width (Sequence cs) us))
   later_step front (Visible c) us kept some (inl none) =
-      let sum = sum_by-cons unit_width (Visible c) us in
-      let here = kept front us c refl some in inr (omega (arith, here, none, sum))
+      let here = kept front us c refl some in
+      inr (omega (arith, sum_by-cons unit_width (Visible c) us))
 
   later : (front us : List TextUnit) → IsKept limit (front ++ us) → 0 < units_width front
       → (units_width us ≡ 0) ⊎ (units_width front + units_width us ≤ limit)
   later front [] kept some = inl refl
   later front (u ∷ us) kept some =
       later_step front u us kept some (later (front ++ u ∷ []) us (kept-push front u us kept)
-      (let push = width-push front u in omega (arith, some, push)))
+      (omega (arith, width-push front u)))
 
   -- so units that pass the limit show one character that takes columns
   single_after : (front : List TextUnit) (c : ℕ) (us : List TextUnit)
@@ -87,28 +88,25 @@ module _ (limit : ℕ) where
       → limit < units_width (Visible c ∷ us) → 0 < columns c → length (column_units us) ≡ 0
   single_after front c us kept none wide some =
       let push = width-push front (Visible c) in
-      let sum = sum_by-cons unit_width (Visible c) us in
       elim (later (front ++ Visible c ∷ []) us (kept-push front (Visible c) us kept)
-      (omega (arith, push, some))) [
+      (omega (arith, push))) [
         | inl nothing ↦ no_columns us nothing
-        | inr within ↦ absurd (omega (arith, within, push, sum, none, wide))
+        | inr within ↦ absurd (omega (arith, push, sum_by-cons unit_width (Visible c) us))
       ]
 
   pub single : (front us : List TextUnit) → IsKept limit (front ++ us) → units_width front ≡ 0
       → limit < units_width us → length (column_units us) ≡ 1
   single front [] kept none wide = absurd (omega arith)
   single front (Sequence cs ∷ us) kept none wide =
-      let push = width-push front (Sequence cs) in
-      let sum = sum_by-cons unit_width (Sequence cs) us in
       single (front ++ Sequence cs ∷ []) us (kept-push front (Sequence cs) us kept)
-      (omega (arith, push, none)) (omega (arith, sum, wide))
+      (omega (arith, width-push front (Sequence cs)))
+      (omega (arith, sum_by-cons unit_width (Sequence cs) us))
   single front (Visible c ∷ us) kept none wide =
       elim (cases_lt 0 (columns c)) [
         | inl some ↦ rw (seen c some) (ap suc (single_after front c us kept none wide some))
         | inr nothing ↦
-            let push = width-push front (Visible c) in
-            let sum = sum_by-cons unit_width (Visible c) us in
-            rw (unseen c (omega (arith, nothing)))
+            rw (unseen c (omega arith))
             (single (front ++ Visible c ∷ []) us (kept-push front (Visible c) us kept)
-            (omega (arith, push, none, nothing)) (omega (arith, sum, wide, nothing)))
+            (omega (arith, width-push front (Visible c)))
+            (omega (arith, sum_by-cons unit_width (Visible c) us)))
       ]

@@ -1,26 +1,18 @@
 use Rattle.textwrap_words.proofs.word_separators.offsets.find_cuts.Goals as goal
-use Rattle.textwrap_base.proofs.Common.{◌≡◌, ℕ, ◌+◌, ◌++◌, List, ◌∷◌, [], Bool, true, false, length}
+use Rattle.textwrap_base.proofs.Common.{◌≡◌, ◌+◌, ◌++◌, ◌∷◌, [], true, false, length}
 use Rattle.textwrap_base.proofs.Common.{refl, sym, ap, ◌∙◌, arith, char_indices_offset}
 use Rattle.textwrap_words.proofs.Common.{stripped, is_cut_after}
 use lib.Utf8.{encode}
 use Rattle.textwrap_words.proofs.Word.Offsets.{IsFinding-step, IsFinding-end}
 
--- an answer of `is_cut_after`, in the words of the definition
-answered : (offsets : List ℕ) (total ch shown len here whole : ℕ) (b answer : Bool)
-    → answer ≡ is_cut_after offsets total ch (shown + len) → answer ≡ b → len ≡ here
-    → total ≡ whole → is_cut_after offsets whole ch (shown + here) ≡ b
-answered offsets total ch shown len here whole b answer is known len_is total_is =
-    ap (λ n. is_cut_after offsets n ch (shown + here)) (sym total_is)
-    ∙ ap (λ n. is_cut_after offsets total ch (shown + n)) (sym len_is) ∙ sym is ∙ known
-
 pub loop-at-preserved-in_ok-push : goal.loop-at-preserved-in_ok-push
 loop-at-preserved-in_ok-push g c =
     let s = c.in-Some.ensures.steps in
     let len = length (encode c.in-Some.ch) in
-    let passes = answered c.args.offsets.now c.visible_len-total.result c.in-Some.ch c.loop-at.shown
-    c.len_utf8-shown.result len (length (stripped c.args.line.now)) true c.is_cut_after.result
-    c.is_cut_after.ensures c.if-is_cut_after.true c.len_utf8-shown.ensures.len
-    c.visible_len-total.ensures in
+    let passes : is_cut_after c.args.offsets.now (length (stripped c.args.line.now)) c.in-Some.ch
+    (c.loop-at.shown + len) ≡ true =
+    rw (← c.len_utf8-shown.ensures.len, ← c.visible_len-total.ensures)
+    (sym c.is_cut_after.ensures ∙ c.if-is_cut_after.true) in
     let place : c.in-Some.at + c.len_utf8.result ≡ char_indices_offset c.loop-at.at-iterator + len =
     omega (arith, s.0, c.len_utf8.ensures.len) in
     let grown : c.push.new.self.items
@@ -34,10 +26,10 @@ loop-at-preserved-in_ok-push g c =
 pub loop-at-preserved-else-is_cut_after : goal.loop-at-preserved-else-is_cut_after
 loop-at-preserved-else-is_cut_after g c =
     let s = c.in-Some.ensures.steps in
-    let fails = answered c.args.offsets.now c.visible_len-total.result c.in-Some.ch c.loop-at.shown
-    c.len_utf8-shown.result (length (encode c.in-Some.ch)) (length (stripped c.args.line.now)) false
-    c.is_cut_after.result c.is_cut_after.ensures c.if-is_cut_after.false
-    c.len_utf8-shown.ensures.len c.visible_len-total.ensures in
+    let fails : is_cut_after c.args.offsets.now (length (stripped c.args.line.now)) c.in-Some.ch
+    (c.loop-at.shown + length (encode c.in-Some.ch)) ≡ false =
+    rw (← c.len_utf8-shown.ensures.len, ← c.visible_len-total.ensures)
+    (sym c.is_cut_after.ensures ∙ c.if-is_cut_after.false) in
     IsFinding-step _ _ _ _ _ _ _ _ _ c.step-next.result.0 c.step-next.result.1 c.loop-at.invariant
     s.1 c.step-next.ensures _ _ _ s.2
     (rw c.if-is_visible.true (ap (λ n. c.loop-at.shown + n) c.len_utf8-shown.ensures.len))

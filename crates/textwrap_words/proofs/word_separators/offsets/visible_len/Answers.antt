@@ -1,47 +1,39 @@
 use Rattle.textwrap_words.proofs.word_separators.offsets.visible_len.Goals as goal
-use Rattle.textwrap_base.proofs.Common.{◌+◌, [], length, drop, ap, ◌∙◌, arith, length-append}
-use Rattle.textwrap_base.proofs.Common.{YieldsList-from_chars, YieldsList-turn, YieldsList-end}
-use Rattle.textwrap_base.proofs.Common.{at_drop_all, length_push, encodes-chars}
+use Rattle.textwrap_base.proofs.Common.{ℕ, ◌≡◌, ◌+◌, [], length, drop, ap, ◌∙◌, arith}
+use Rattle.textwrap_base.proofs.Common.{length-append, YieldsList-from_chars, YieldsList-turn}
+use Rattle.textwrap_base.proofs.Common.{YieldsList-end, at_drop_all, length_push, encodes-chars}
 use Rattle.std.specs.Str.{chars}
-use lib.Utf8.{encode}
 use Rattle.textwrap_words.specs.declared.escapes.State.TheVariants.{Text}
+use Rattle.textwrap_words.proofs.word_separators.offsets.visible_len.Goals.{After-len_utf8-len}
 use Rattle.textwrap_words.proofs.Units.Stripped.{text_in, text_in-step, text_in-short}
 
-pub overflow_add-len : goal.overflow_add-len
-overflow_add-len c =
+-- the bytes of a visible character, and those of what follows it
+counted : (c : After-len_utf8-len) → c.len_utf8-len.result + length
+    (text_in c.step-next.result.0 (drop (length c.loop-ch.yielded + 1) (chars c.args.line.now)))
+    ≡ length (text_in c.loop-ch.state (drop (length c.loop-ch.yielded) (chars c.args.line.now)))
+counted c =
     let line = c.args.line.now in
-    let rest = text_in c.step-next.result.0 (drop (length c.loop-ch.yielded + 1) (chars line)) in
     let t = YieldsList-turn (YieldsList-from_chars line c.utf8.line cc) c.loop-ch.yielded
     _ c.loop-ch.yielded_by _ _ c.in-Some.ch c.in-Some.is c.next.ensures.steps in
     let step = rw c.if-is_visible.true at (text_in-step c.loop-ch.state c.step-next.result.0
     c.step-next.result.1 [] (chars line) (length c.loop-ch.yielded) c.in-Some.ch t
     c.step-next.ensures) in
+    omega (arith, ap length step, length-append {A = ℕ}, c.len_utf8-len.ensures.len)
+
+pub overflow_add-len : goal.overflow_add-len
+overflow_add-len c =
     omega (
       arith,
-      ap length step,
-      length-append (encode c.in-Some.ch) rest,
-      c.len_utf8-len.ensures.len,
+      counted (goal.at.overflow_add-len c).After-len_utf8-len,
       c.loop-ch.invariant,
-      text_in-short Text (chars line),
-      ap length (encodes-chars line c.utf8.line),
+      text_in-short Text (chars c.args.line.now),
+      ap length (encodes-chars c.args.line.now c.utf8.line),
     )
 
 pub loop-ch-preserved-then-is_visible : goal.loop-ch-preserved-then-is_visible
 loop-ch-preserved-then-is_visible c =
-    let line = c.args.line.now in
-    let rest = text_in c.step-next.result.0 (drop (length c.loop-ch.yielded + 1) (chars line)) in
-    let t = YieldsList-turn (YieldsList-from_chars line c.utf8.line cc) c.loop-ch.yielded
-    _ c.loop-ch.yielded_by _ _ c.in-Some.ch c.in-Some.is c.next.ensures.steps in
-    let step = rw c.if-is_visible.true at (text_in-step c.loop-ch.state c.step-next.result.0
-    c.step-next.result.1 [] (chars line) (length c.loop-ch.yielded) c.in-Some.ch t
-    c.step-next.ensures) in
-    rw length_push (omega (
-      arith,
-      ap length step,
-      length-append (encode c.in-Some.ch) rest,
-      c.len_utf8-len.ensures.len,
-      c.loop-ch.invariant,
-    ))
+    let more = counted (goal.at.loop-ch-preserved-then-is_visible c).After-len_utf8-len in
+    rw length_push (omega (arith, more, c.loop-ch.invariant))
 
 pub loop-ch-preserved : goal.loop-ch-preserved
 loop-ch-preserved c =

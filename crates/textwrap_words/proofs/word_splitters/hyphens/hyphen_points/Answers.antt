@@ -22,18 +22,14 @@ loop-point-preserved g c =
     c.loop-point.invariant.points c.is_hyphen_point.ensures.point grown in
     record { points = more; inside = omega arith }
 
-pub returns-clause-points : goal.returns-clause-points
-returns-clause-points g c =
-    let whole : c.loop-point.point - 1 ≡ length c.args.word.now - 1 = omega arith in
-    c.loop-point.invariant.points
-    ∙ ap (λ n. filter (is_hyphen_point c.args.word.now) (range_with_len 1 n)) whole
-
-pub returns-clause-cuts : goal.returns-clause-cuts
-returns-clause-cuts g c =
+pub returns : goal.returns
+returns g c =
     let whole : c.loop-point.point - 1 ≡ length c.args.word.now - 1 = omega arith in
     let points = c.loop-point.invariant.points
     ∙ ap (λ n. filter (is_hyphen_point c.args.word.now) (range_with_len 1 n)) whole in
-    subst (AreCuts c.args.word.now) (sym points) (hyphen_points-cuts c.args.word.now c.utf8.word)
+    let cuts = subst (AreCuts c.args.word.now) (sym points)
+    (hyphen_points-cuts c.args.word.now c.utf8.word) in
+    record { points = points; cuts = cuts }
 
 pub returns-then-not-contains-clause-points : goal.returns-then-not-contains-clause-points
 returns-then-not-contains-clause-points g c =

@@ -1,12 +1,11 @@
 use Rattle.textwrap_words.proofs.words.breaking.first_piece.Goals as goal
-use Rattle.textwrap_base.proofs.Common.{length, ◌≡◌, ◌+◌, sym, ap, subst, arith}
+use Rattle.textwrap_base.proofs.Common.{◌≡◌, ◌+◌, sym, ap, subst, arith}
 use Rattle.textwrap_words.proofs.Word.Breaking.{due-true, due-false}
 use Rattle.textwrap_words.proofs.Units.Widths.{columns-le}
 use Rattle.textwrap_words.proofs.Word.FirstUnits.{added}
 use Rattle.textwrap_words.proofs.Word.ReadPieces.{IsReading-start, IsReading-step, IsReading-cut}
 use Rattle.textwrap_words.proofs.Word.ReadPieces.{IsReading-end, IsReading-room}
 use Rattle.textwrap_words.proofs.Word.PieceTexts.{IsFirstPiece}
-use Rattle.textwrap_words.proofs.words.breaking.first_piece.Goals.{Then-width-columns, In-None}
 use Rattle.textwrap_words.proofs.words.breaking.first_piece.Goals.{else-width-gt0-via-then-width-gt0+else-width-columns}
 use Rattle.textwrap_words.proofs.words.breaking.first_piece.Goals.{else-width-gt0-via-else-width-gt0}
 
@@ -24,21 +23,15 @@ overflow_add-width c =
       IsReading-room _ _ _ _ _ _ _ _ c.loop-at.invariant s.1,
     )
 
-cut : (c : Then-width-columns)
-    → IsFirstPiece c.args.line_width c.args.text.now c.in-Some.at c.loop-at.width
-cut c =
+pub returns-then-width-columns : goal.returns-then-width-columns
+returns-then-width-columns c =
     let s = c.in-Some.ensures.steps in
     let due = due-true c.args.line_width c.loop-at.width c.in-Some.ch c.if-width-gt0.true
     (omega (arith, c.columns-columns.ensures)) in
-    subst (λ n. IsFirstPiece c.args.line_width c.args.text.now n c.loop-at.width) (sym s.0)
-    (IsReading-cut _ _ _ _ _ _ _ _ c.step-next.result.0 c.step-next.result.1 c.utf8.text c.requires
-    c.loop-at.invariant s.1 c.step-next.ensures c.if-is_visible.true due)
-
-pub returns-then-width-columns-clause-first : goal.returns-then-width-columns-clause-first
-returns-then-width-columns-clause-first c = (cut c).first
-
-pub returns-then-width-columns-clause-width : goal.returns-then-width-columns-clause-width
-returns-then-width-columns-clause-width c = (cut c).wide
+    let cut = subst (λ n. IsFirstPiece c.args.line_width c.args.text.now n c.loop-at.width)
+    (sym s.0) (IsReading-cut _ _ _ _ _ _ _ _ c.step-next.result.0 c.step-next.result.1 c.utf8.text
+    c.requires c.loop-at.invariant s.1 c.step-next.ensures c.if-is_visible.true due) in
+    record { boundary = cut.boundary; first = cut.first; width = cut.wide; rest = cut.rest }
 
 pub loop-at-preserved-else-width-gt0 : goal.loop-at-preserved-else-width-gt0
 loop-at-preserved-else-width-gt0 c =
@@ -63,19 +56,8 @@ loop-at-preserved c =
     IsReading-step _ _ _ _ _ _ _ _ _ c.step-next.result.1 c.loop-at.invariant s.1
     c.step-next.ensures (λ e. let f = c.if-is_visible.false in cc) _ _ s.2 same
 
-end : (c : In-None) → IsFirstPiece c.args.line_width c.args.text.now
-    (length c.args.text.now) c.loop-at.width
-end c = IsReading-end _ _ _ _ _ _ c.utf8.text c.requires c.loop-at.invariant
-    c.in-None.ensures.steps.0
-
-pub returns-clause-first : goal.returns-clause-first
-returns-clause-first c = (end c).first
-
-pub returns-clause-width : goal.returns-clause-width
-returns-clause-width c = (end c).wide
-
-pub returns-then-width-columns-clause-rest : goal.returns-then-width-columns-clause-rest
-returns-then-width-columns-clause-rest c = (cut c).rest
-
-pub returns-clause-rest : goal.returns-clause-rest
-returns-clause-rest c = (end c).rest
+pub returns : goal.returns
+returns c =
+    let end = IsReading-end _ _ _ _ _ _ c.utf8.text c.requires c.loop-at.invariant
+    c.in-None.ensures.steps.0 in
+    record { boundary = end.boundary; first = end.first; width = end.wide; rest = end.rest }

@@ -2,13 +2,20 @@ use Rattle.textwrap_words.proofs.word_separators.words.Words.at_cuts.Goals as go
 use Rattle.textwrap_base.proofs.Common.{refl, ap, map, ◌∙◌, sym, subst}
 use Rattle.textwrap_words.proofs.Common.{word_view, word_of, tiled, AreCuts, parts_between}
 use Rattle.textwrap_words.proofs.Word.Parts.{inner-cuts}
+use Rattle.textwrap_words.proofs.word_separators.words.Words.at_cuts.Goals.{In_ok-cuts}
 use Rattle.textwrap_words.proofs.Word.GivenCuts.{MayCut-cuts, parts-texts}
+
+-- what was answered is cuts of the line
+ready : (g : _) (c : In_ok-cuts g) → AreCuts c.args.line.now c.in_ok-cuts.cuts.items
+ready g c =
+    inner-cuts c.args.line.now c.in_ok-cuts.cuts.items
+    (MayCut-cuts c.args.line_cuts c.args.line.now c.in_ok-cuts.cuts.items c.utf8.line
+    (c.args.line_cuts.alloc, c.args.line, c.in_ok-cuts.cuts, refl, refl, c.in_ok-cuts.ensures.0))
 
 pub words_between-requires : goal.words_between-requires
 words_between-requires g c =
     subst (AreCuts c.args.line.now) (sym c.deref.ensures.value)
-    (inner-cuts c.args.line.now c.in_ok-cuts.cuts.items (MayCut-cuts c.args.line_cuts c.args.line.now c.in_ok-cuts.cuts.items c.utf8.line
-    (c.args.line_cuts.alloc, c.args.line, c.in_ok-cuts.cuts, refl, refl, c.in_ok-cuts.ensures.0)))
+    (ready g (goal.at.words_between-requires g c).In_ok-cuts)
 
 pub returns-clause-words : goal.returns-clause-words
 returns-clause-words g c = (
@@ -23,5 +30,4 @@ returns-clause-tiles g c =
     ap tiled (ap (map word_view) c.into_iter.ensures.rest ∙ c.in_ok-words.ensures)
     ∙ (parts-texts c.args.line.now c.deref.result.now c.utf8.line
     (subst (AreCuts c.args.line.now) (sym c.deref.ensures.value)
-    (inner-cuts c.args.line.now c.in_ok-cuts.cuts.items (MayCut-cuts c.args.line_cuts c.args.line.now c.in_ok-cuts.cuts.items c.utf8.line
-    (c.args.line_cuts.alloc, c.args.line, c.in_ok-cuts.cuts, refl, refl, c.in_ok-cuts.ensures.0))))).tile
+    (ready g (goal.at.returns-clause-tiles g c).In_ok-cuts))).tile

@@ -5,7 +5,7 @@ pub use Rattle.textwrap.specs.InPlace.{AreDividedAt, breaks_from, breaks_of, bro
 pub use Rattle.textwrap.specs.InPlace.{FitsOneLine, IsFilledInPlace, with_line_feeds}
 pub use Rattle.textwrap.specs.Indentation.{ended_parts, is_blank_line, leading_whitespace}
 pub use Rattle.textwrap.specs.Indentation.{margin_of, narrowed}
-pub use Rattle.textwrap.specs.Laws.{IsFilledUnbroken, unbroken_at}
+pub use Rattle.textwrap.specs.Laws.{IsFilledWhole, IsIndent, KeepsWords, unbroken_at}
 pub use Rattle.textwrap.specs.LineEnding.{ending_bytes, join_with, paragraphs_of}
 pub use Rattle.textwrap.specs.Options.{Settings, settings_view}
 pub use Rattle.textwrap.specs.Paragraph.{AreParagraphParts, Built, DividesBy, indent_of, Line}

@@ -1,71 +1,92 @@
 -- Lemmas for a caller whose function finds cuts, points or ends one after another: the empty list
--- is right, and a right one grows.
+-- is right, and a right one grows, also at the characters of a loop over `char_indices`.
 pub use Rattle.textwrap_words.proofs.Word.Parts.{inner-cuts}
-use Rattle.textwrap_base.proofs.Common.{inl, inr, ◌+◌, ◌-◌, ◌≡◌, ℕ, ◌<◌, ◌≤◌, List, [], ◌∷◌, ◌++◌}
-use Rattle.textwrap_base.proofs.Common.{length, get_or, arith, IsCharBoundary, cases_lt}
-use Rattle.textwrap_base.proofs.Common.{length_push, get_or_default, get_or_push}
-use Rattle.textwrap_base.proofs.Common.{get_or_append_left, All-nil}
+use Rattle.textwrap_base.proofs.Common.{◌+◌, ◌-◌, ◌≡◌, ℕ, ◌<◌, ◌≤◌, List, [], ◌∷◌, ◌++◌, length}
+use Rattle.textwrap_base.proofs.Common.{get_or, arith, IsCharBoundary, cases_lt, length_push}
+use Rattle.textwrap_base.proofs.Common.{get_or_default, get_or_push, get_or_append_left, All-nil}
+use Rattle.textwrap_base.proofs.Common.{rules, IsUtf8, drop, Some, sym, ap, ◌∙◌, IsUtf8-drop}
+use Rattle.textwrap_base.proofs.Common.{char_indices_offset, IsCharBoundary-start, length-append}
+use Rattle.textwrap_base.proofs.Common.{length-drop, length-encode}
+use Rattle.std.proofs.lemmas.Str.{len_utf8_bounds, IsCharBoundary-past_char, drop_past_char}
 use Rattle.textwrap_words.proofs.Common.{AreInnerCuts}
 use Rattle.std.specs.List.Sorted.{IsStrictlyIncreasing}
 use Rattle.std.proofs.lemmas.List.Elements.{All-push}
 use Rattle.std.proofs.lemmas.List.Sorted.{IsNonDecreasingBy-push}
+use Rattle.std.specs.Char.{len_utf8}
+use Rattle.std.specs.Str.Iter.{char_indices_rest, char_indices_steps}
+use Rattle.std.specs.declared.str.CharIndices.{CharIndices}
 use Rattle.textwrap_words.specs.LineEnds.{AreEnds}
+use Rattle.std.proofs.lemmas.Grind.{common_steps, elements}
 
 -- the last of the numbers, if there are any, is this one
 abbrev pub EndWith : List ℕ → ℕ → Type 0
 EndWith ns last = 0 < length ns → get_or ns (length ns - 1) 0 ≡ last
 
 pub EndWith-push : (ns : List ℕ) (n : ℕ) → EndWith (ns ++ n ∷ []) n
-EndWith-push ns n some =
-    let len = length_push ns n in
-    get_or_push ns n 0 (length (ns ++ n ∷ []) - 1) (omega (arith, len))
+EndWith-push ns n some = search (rules, length_push, get_or_push)
 
 increasing-push : (ns : List ℕ) (n last : ℕ) → IsStrictlyIncreasing ns → EndWith ns last
     → last < n → IsStrictlyIncreasing (ns ++ n ∷ [])
 increasing-push ns n last increasing ends below k within =
-    let len = length_push ns n in
-    let here = get_or_append_left ns (n ∷ []) 0 k (omega (arith, len, within)) in
-    elim (cases_lt (k + 1) (length ns)) [
-      | inl less ↦
-          let next = get_or_append_left ns (n ∷ []) 0 (k + 1) less in
-          let rise = increasing k less in omega (arith, here, next, rise)
-      | inr more ↦
-          let next = get_or_push ns n 0 (k + 1) (omega (arith, len, within, more)) in
-          let place : length ns - 1 ≡ k = omega (arith, len, within, more) in
-          let is = ends (omega (arith, len, within)) in
-          let same : get_or ns k 0 ≡ last = rw place at is in
-          omega (arith, here, next, same, below)
-    ]
+    search (rules, length_push, get_or_append_left, cases_lt, get_or_push)
 
 pub inner-none : (text : List ℕ) → AreInnerCuts text []
-inner-none text = record {
-  in_order = λ k within. absurd (omega (arith, within));
-  after_start = All-nil _;
-  before_end = All-nil _;
-  between = All-nil _;
-}
+inner-none text = search (rules, All-nil)
 
 pub inner-push : (text cuts : List ℕ) (cut last : ℕ) → AreInnerCuts text cuts → EndWith cuts last
     → last < cut → cut < length text → IsCharBoundary text cut → AreInnerCuts text (cuts ++ cut ∷ [])
-inner-push text cuts cut last are ends above inside boundary = record {
-  in_order = increasing-push cuts cut last are.in_order ends above;
-  after_start = All-push (λ cut. 0 < cut) cuts cut are.after_start (omega (arith, above));
-  before_end = All-push (λ cut. cut < length text) cuts cut are.before_end inside;
-  between = All-push (IsCharBoundary text) cuts cut are.between boundary;
-}
+inner-push text cuts cut last are ends above inside boundary =
+    search (rules, common_steps, increasing-push, All-push)
+
+-- where a reader by `char_indices` stands in a text: before a character, or at the end
+pub record HasReadTo (text : List ℕ) (reader : CharIndices) : Type 0 where
+  pub boundary : IsCharBoundary text (char_indices_offset reader)
+  pub rest : char_indices_rest reader ≡ drop (char_indices_offset reader) text
+
+pub HasReadTo-start : (text : List ℕ) (reader : CharIndices) → IsUtf8 text
+    → char_indices_rest reader ≡ text → char_indices_offset reader ≡ 0 → HasReadTo text reader
+HasReadTo-start text reader utf8 all start = grind (arith, IsCharBoundary-start)
+
+-- it stands so after each character too
+pub HasReadTo-next : (text : List ℕ) (here next : CharIndices) (at c : ℕ) → IsUtf8 text
+    → HasReadTo text here → char_indices_steps here (Some (at, c)) next → HasReadTo text next
+HasReadTo-next text here next at c utf8 read step =
+    let offset = char_indices_offset here in
+    let begins = sym read.rest ∙ step.1 in
+    let place : char_indices_offset next ≡ offset + len_utf8 c =
+    omega (arith, step.2, length-encode c) in
+    record {
+      boundary = rw place (IsCharBoundary-past_char text _ offset c read.boundary.0
+          (IsUtf8-drop text offset utf8 read.boundary) begins);
+      rest = rw place (sym (drop_past_char text _ offset c begins));
+    }
+
+-- a cut before a character that is not the first
+pub inner-push-before : (text cuts : List ℕ) (here next : CharIndices) (at c last : ℕ)
+    → HasReadTo text here → char_indices_steps here (Some (at, c)) next → AreInnerCuts text cuts
+    → EndWith cuts last → last < at → AreInnerCuts text (cuts ++ at ∷ [])
+inner-push-before text cuts here next at c last read step are ends above =
+    let left = ap length (sym read.rest ∙ step.1) in
+    let inside : at < length text =
+    search (rules, arith, length-drop, length-append, length-encode) in
+    inner-push text cuts at last are ends above inside (rw step.0 read.boundary)
+
+-- a cut after a character that is not the last
+pub inner-push-after : (text cuts : List ℕ) (here next : CharIndices) (at c last : ℕ)
+    → IsUtf8 text → HasReadTo text here → char_indices_steps here (Some (at, c)) next
+    → AreInnerCuts text cuts → EndWith cuts last → last ≤ at → at + len_utf8 c < length text
+    → AreInnerCuts text (cuts ++ (at + len_utf8 c) ∷ [])
+inner-push-after text cuts here next at c last utf8 read step are ends above inside =
+    let place : char_indices_offset next ≡ at + len_utf8 c =
+    omega (arith, step.0, step.2, length-encode c) in
+    inner-push text cuts (at + len_utf8 c) last are ends
+    (omega (arith, above, (len_utf8_bounds c).0)) inside
+    (rw place at (HasReadTo-next text here next at c utf8 read step).boundary)
 
 pub ends-none : {X : Type 0} (xs : List X) → AreEnds xs []
-ends-none xs = record {
-  in_order = λ i j d le within. absurd (omega (arith, within));
-  within = All-nil _;
-}
+ends-none xs = search (rules, All-nil)
 
 pub ends-push : {X : Type 0} (xs : List X) (ends : List ℕ) (end last : ℕ) → AreEnds xs ends
     → EndWith ends last → last ≤ end → end ≤ length xs → AreEnds xs (ends ++ end ∷ [])
-ends-push xs ends end last are ends_with above inside = record {
-  in_order = IsNonDecreasingBy-push (λ n. n) ends end are.in_order
-      (λ d some. let is = ends_with some in
-      let read = get_or_default ends (length ends - 1) d 0 (omega (arith, some)) in
-      omega (arith, is, read, above));
-  within = All-push (λ end. end ≤ length xs) ends end are.within inside;
-}
+ends-push xs ends end last are ends_with above inside =
+    grind (arith, elements, IsNonDecreasingBy-push, get_or_default, All-push)

@@ -1,4 +1,5 @@
 pub mod Breaks
+pub mod BuiltInParts
 pub mod Cells
 pub mod CommonPrefixes
 pub mod CutAtBlanks
@@ -15,6 +16,7 @@ pub mod InPlaceParts
 pub mod InPlaceRows
 pub mod Indentation
 pub mod IndentationRows
+pub mod IndentsBack
 pub mod JoinedLines
 pub mod Layout
 pub mod LineSoFar
@@ -28,10 +30,13 @@ pub mod PlainRows
 pub mod PlainUnfilled
 pub mod Prefixes
 pub mod Refilling
+pub mod RefillingIndents
 pub mod RefillingRows
+pub mod RowEndings
 pub mod TableBytes
 pub mod TableColumns
 pub mod TableLaws
 pub mod TableLines
 pub mod TableRows
 pub mod Unfilling
+pub mod WholeLines

@@ -121,11 +121,17 @@ cells_by_column lines columns = flat_map (column_cells lines columns) (range_wit
 
 -- ---- a text
 
--- the rows of a table of the text's lines, which are wrapped at the width of a column
+-- the settings by which the text of a table is wrapped: those that are given, at the width of a
+-- column
+abbrev pub at_column_width : Settings → ℕ → List ℕ → List ℕ → List ℕ → Settings
+at_column_width settings columns left middle right =
+    record settings { width = (layout_of settings.width columns left middle right).column_width }
+
+-- the rows of a table of the text's lines, which are wrapped by these
 abbrev pub IsInColumns : Settings → (Settings → Bool → List ℕ → List (List WordText) → Type 0)
     → ℕ → List ℕ → List ℕ → List ℕ → List ℕ → List (List ℕ) → Type 0
 IsInColumns settings Divides columns text left middle right rows =
     let layout = layout_of settings.width columns left middle right in
-    let narrow = record settings { width = layout.column_width } in
+    let narrow = at_column_width settings columns left middle right in
     (lines : List Line) × AreTextLines narrow (Divides narrow) text lines
     × (rows ≡ table_rows layout (map line_bytes lines))

@@ -32,6 +32,13 @@ indented_part prefix part = indent_of_part prefix part ++ part
 abbrev pub indented : List ℕ → List ℕ → List ℕ
 indented prefix text = flat_map (indented_part prefix) (ended_parts text)
 
+-- a part without the prefix: where what follows the prefix's own text is blank, it is that, and else
+-- it is what follows the whole prefix
+abbrev pub unindented_part : List ℕ → List ℕ → List ℕ
+unindented_part prefix part =
+    let rest = drop (length (trim_end prefix)) part in
+    if is_blank_line rest then rest else drop (length prefix) part
+
 abbrev pub HasNoLineFeed : List ℕ → Type 0
 HasNoLineFeed text = All (λ c. c ≢ line_feed) text
 

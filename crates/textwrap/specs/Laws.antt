@@ -1,5 +1,5 @@
 -- What the laws say.
-use Rattle.std.specs.Prelude.{◌≡◌, ◌↔◌, ◌⊎◌, ℕ, false, List, ◌++◌, All, IsUtf8, length}
+use Rattle.std.specs.Prelude.{◌≡◌, ◌↔◌, ◌⊎◌, ℕ, true, false, List, ◌++◌, All, IsUtf8, length}
 use Rattle.std.specs.Prelude.{◌≢◌, ◌+◌, ◌-◌, ◌*◌, ◌≤◌, [], drop, map, replicate, sum_by}
 use Rattle.std.specs.Io.{StartsWith}
 use Rattle.std.specs.List.{flat_map}
@@ -20,7 +20,9 @@ use Rattle.textwrap.specs.Columns.{row_parts, cells_by_column}
 use Rattle.textwrap.specs.InPlace.{IsFilledInPlace}
 use Rattle.textwrap.specs.Indentation.{is_blank_line, ended_parts, indented, indented_part}
 use Rattle.textwrap.specs.Indentation.{HasNoLineFeed, AreEndedParts, IsMarginOf, margin_of}
-use Rattle.textwrap.specs.Refilling.{IsCommonPrefix, common_prefix, IsRefilled, IsPlain, blanked}
+use Rattle.textwrap.specs.Indentation.{unindented_part}
+use Rattle.textwrap.specs.Refilling.{IsCommonPrefix, common_prefix, is_prefix_character}
+use Rattle.textwrap.specs.Refilling.{IsRefilled, IsPlain, blanked}
 pub use Rattle.textwrap_lines.specs.Laws.{UnitsAreUnique, WordsAreUnique, BrokenPiecesAreUnique}
 pub use Rattle.textwrap_lines.specs.Laws.{BrokenTextsTile, BrokenPiecesTile, BrokenWordsTile}
 pub use Rattle.textwrap_lines.specs.Laws.{GreedyDivisionIsUnique, ChosenDivisionIsUnique}
@@ -31,6 +33,7 @@ pub use Rattle.textwrap_lines.specs.Laws.{WordsAtAreUnique}
 pub use Rattle.textwrap_lines.specs.Laws.{ForBuiltIn, DividedLinesAreUnique}
 pub use Rattle.textwrap_lines.specs.Laws.{ParagraphLinesAreUnique, TextLinesAreUnique}
 pub use Rattle.textwrap_lines.specs.Laws.{FilledTextIsUnique, TextLinesAreWrapped, PointsAreCuts}
+pub use Rattle.textwrap_lines.specs.Laws.{EvenLinesKeepToWidth, PrintedLinesKeepToWidth}
 pub use Rattle.textwrap_lines.specs.Laws.{SplitPiecesTile, SplitWordsTile}
 
 -- a text is filled in place in one way at each width
@@ -80,6 +83,15 @@ IndentsComeOff =
     (map (drop (length prefix)) parts ≡ ended_parts text)
     × (flat_map (drop (length prefix)) parts ≡ text)
 
+-- with any prefix that has no line feed, each part comes back without what was put before it, and so
+-- does the text
+abbrev pub IndentsComeBack : Type 0
+IndentsComeBack =
+    (prefix text : List ℕ) → IsUtf8 prefix → HasNoLineFeed prefix
+    → let parts : List (List ℕ) = ended_parts (indented prefix text) in
+    (map (unindented_part prefix) parts ≡ ended_parts text)
+    × (flat_map (unindented_part prefix) parts ≡ text)
+
 -- a text has one margin, the computed one
 abbrev pub MarginsAreUnique : Type 0
 MarginsAreUnique = (text margin : List ℕ) → IsMarginOf text margin ↔ (margin ≡ margin_of text)
@@ -109,28 +121,76 @@ RefilledIsFilled =
     → IsRefilled settings (DividesAs splitter algorithm) text refilled
     ↔ IsFilled settings (DividesAs splitter algorithm settings) (blanked text) refilled
 
--- the text filled at a width by an algorithm, its words neither split nor broken
-abbrev pub IsFilledUnbroken : ℕ → Algorithm → List ℕ → List ℕ → Type 0
-IsFilledUnbroken width algorithm =
-    IsFilled (unbroken_at width) (DividesAs Whole algorithm (unbroken_at width))
+-- words stay whole, lines lose the blanks at their ends, and a line feed ends each
+pub record KeepsWords (settings : Settings) : Type 0 where
+  pub unbroken : settings.break_words ≡ false
+  pub trimmed : settings.preserve_trailing_space ≡ false
+  pub feeds : settings.line_ending ≡ LF
 
--- a plain text without line feeds, so filled, is plain, and is the text but for blanks that became
--- line feeds
+-- the text filled by these settings and this algorithm, and its words not split
+abbrev pub IsFilledWhole : Settings → Algorithm → List ℕ → List ℕ → Type 0
+IsFilledWhole settings algorithm = IsFilled settings (DividesAs Whole algorithm settings)
+
+-- a plain text without line feeds, so filled without indents, is plain, and is the text but for
+-- blanks that became line feeds
 abbrev pub FilledIsPlain : Type 0
 FilledIsPlain =
-    (width : ℕ) (algorithm : Algorithm) (text filled : List ℕ) → IsPlain text
-    → All (λ c. c ≢ line_feed) text → IsFilledUnbroken width algorithm text filled
+    (settings : Settings) (algorithm : Algorithm) (text filled : List ℕ)
+    → KeepsWords settings → IsUnindented settings → IsPlain text
+    → All (λ c. c ≢ line_feed) text → IsFilledWhole settings algorithm text filled
     → IsPlain filled × (blanked filled ≡ text)
 
 -- so what is refilled after that, without indents, is what filling the text gives at once, whatever
 -- the second settings, splitter and algorithm
 abbrev pub FilledTwiceIsFilledOnce : Type 0
 FilledTwiceIsFilledOnce =
-    (width : ℕ) (first second : Algorithm) (settings : Settings) (splitter : Splitter)
-    (text filled refilled : List ℕ) → IsUnindented settings
-    → IsPlain text → All (λ c. c ≢ line_feed) text → IsFilledUnbroken width first text filled
-    → IsRefilled settings (DividesAs splitter second) filled refilled
-    ↔ IsFilled settings (DividesAs splitter second settings) text refilled
+    (first second : Settings) (one other : Algorithm) (splitter : Splitter)
+    (text filled refilled : List ℕ) → KeepsWords first → IsUnindented first → IsUnindented second
+    → IsPlain text → All (λ c. c ≢ line_feed) text → IsFilledWhole first one text filled
+    → IsRefilled second (DividesAs splitter other) filled refilled
+    ↔ IsFilled second (DividesAs splitter other second) text refilled
+
+-- it has only characters that an indent may have
+abbrev pub IsIndent : List ℕ → Type 0
+IsIndent indent = All (λ c. is_prefix_character c ≡ true) indent
+
+-- a plain text without line feeds, so filled under two indents into two lines or more
+pub record IsIndentedFill (settings : Settings) (algorithm : Algorithm) (text filled : List ℕ)
+    : Type 0 where
+  pub keeps : KeepsWords settings
+  pub initial : IsIndent settings.initial_indent
+  pub subsequent : IsIndent settings.subsequent_indent
+  pub plain : IsPlain text
+  pub no_feed : All (λ c. c ≢ line_feed) text
+  pub is_filled : IsFilledWhole settings algorithm text filled
+  pub more : 2 ≤ length (lines filled)
+
+-- these settings, with the indents of others
+abbrev pub with_indents_as : Settings → Settings → Settings
+with_indents_as other settings = record settings {
+  initial_indent = other.initial_indent;
+  subsequent_indent = other.subsequent_indent;
+}
+
+-- what is refilled after that is what filling the text under these indents gives at once
+abbrev pub RefillingKeepsIndents : Type 0
+RefillingKeepsIndents =
+    (first second : Settings) (one other : Algorithm) (splitter : Splitter)
+    (text filled refilled : List ℕ) → IsIndentedFill first one text filled
+    → let indented : Settings = with_indents_as first second in
+    IsRefilled second (DividesAs splitter other) filled refilled
+    ↔ IsFilled indented (DividesAs splitter other indented) text refilled
+
+-- and where that keeps words whole too, and has two lines or more, what is refilled once more is
+-- what refilling the first filled text gives at once
+abbrev pub RefilledTwiceIsRefilledOnce : Type 0
+RefilledTwiceIsRefilledOnce =
+    (first second third : Settings) (one other last : Algorithm) (splitter : Splitter)
+    (text filled refilled again : List ℕ) → IsIndentedFill first one text filled
+    → KeepsWords second → IsRefilled second (DividesAs Whole other) filled refilled
+    → 2 ≤ length (lines refilled)
+    → IsRefilled third (DividesAs splitter last) refilled again
+    ↔ IsRefilled third (DividesAs splitter last) filled again
 
 -- the parts of a row make its text
 abbrev pub RowsAreParts : Type 0

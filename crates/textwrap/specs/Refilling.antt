@@ -19,7 +19,7 @@ use Rattle.textwrap_lines.specs.Options.{Settings, settings_at}
 use Rattle.textwrap_lines.specs.declared.line_ending.LineEnding.{LineEnding}
 use Rattle.textwrap_lines.specs.declared.line_ending.LineEnding.TheVariants.{CRLF, LF}
 use Rattle.textwrap_lines.specs.declared.options.Options.{Options}
-use Rattle.textwrap.specs.declared.refilling.Layout.{Layout}
+use Rattle.textwrap.specs.declared.refilling.TextLayout.{TextLayout}
 use Rattle.textwrap_words.specs.declared.word_separators.WordSeparator.TheVariants.{AsciiSpace}
 use Rattle.textwrap_words.specs.declared.word_splitters.WordSplitter.TheVariants.{HyphenSplitter}
 
@@ -163,7 +163,7 @@ unfilled_settings text =
     record layout { line_ending = unfilled_ending text }
 
 -- a layout as settings, all else by the defaults
-abbrev pub layout_settings : Layout → Settings
+abbrev pub layout_settings : TextLayout → Settings
 layout_settings l = record (settings_at l.width) {
   line_ending = l.line_ending;
   initial_indent = l.initial_indent.now;

@@ -4,8 +4,12 @@ ghost use Rattle.std.specs.Prelude.{string_bytes, IfOk, IfErr, IfSome, IfNone, S
 ghost use Rattle.std.specs.List.{range_with_len, repeat};
 ghost use Rattle.textwrap.specs.Columns.{blanks, inner_width, column_width, layout_view, cell};
 ghost use Rattle.textwrap.specs.Columns.{cells, padded, gapped, row_text, table_rows, IsInColumns};
-ghost use Rattle.textwrap_lines.specs.Options.{settings_view, MayOverflow};
-ghost use Rattle.textwrap_lines.specs.Paragraph.{line_view, line_bytes, DividesUnder};
+ghost use Rattle.textwrap.specs.Columns.{at_column_width};
+ghost use Rattle.textwrap_lines.specs.Options.{Settings, settings_view, HasParts, MayOverflow};
+ghost use Rattle.textwrap_lines.specs.Paragraph.{line_view, line_bytes, DividesAs, DividesUnder};
+ghost use Rattle.textwrap_lines.specs.Text.{SomeMayPass64BitsUnder};
+ghost use Rattle.textwrap_words.specs.WordSplitters.{Splitter};
+ghost use Rattle.textwrap_words.specs.WrapAlgorithms.{Algorithm};
 
 use crate::words::display_width;
 use crate::wrap_algorithms::WrapError;
@@ -45,7 +49,8 @@ struct Table<'a> {
 /// joined: no line ending is added.
 ///
 /// # Errors
-/// Those of `wrap`. A row too long for any memory is refused before any of it is written.
+/// Those of `wrap`. A row that is longer than 64 bits can say is out of memory too, and is refused
+/// before any of it is written.
 pub fn wrap_columns<A: Allocator + Copy>(
     alloc: A,
     text: &str,
@@ -59,7 +64,17 @@ pub fn wrap_columns<A: Allocator + Copy>(
     ensures rows { IfOk result (λ rows. IsInColumns (settings_view options.entry)
         (DividesUnder options.entry) columns text.now left_gap.now middle_gap.now right_gap.now
         (map string_bytes rows.items)) }
+    // The same rows, where all parts are built in and can be named.
+    ensures built_in { IfOk result (λ rows.
+        (settings : Settings) (splitter : Splitter) (algorithm : Algorithm)
+        → HasParts options.entry settings splitter algorithm → IsInColumns settings
+        (DividesAs splitter algorithm) columns text.now left_gap.now middle_gap.now right_gap.now
+        (map string_bytes rows.items)) }
     ensures only_memory { ¬ MayOverflow options.entry
+        → IfErr result (λ error. error ≡ WrapError.Memory alloc_error) }
+    // Overflow only where a paragraph may have pieces that pass 64 bits together.
+    ensures no_overflow { ¬ SomeMayPass64BitsUnder options.entry (at_column_width
+        (settings_view options.entry) columns left_gap.now middle_gap.now right_gap.now) text.now
         → IfErr result (λ error. error ≡ WrapError.Memory alloc_error) }
 {
     let inner = inner_width(options.width, columns, left_gap, middle_gap, right_gap);

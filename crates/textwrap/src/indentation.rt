@@ -19,7 +19,13 @@ pub fn indent<A: Allocator + Copy>(alloc: A, s: &str, prefix: &str) -> Result<St
     ensures indented { IfOk result (λ text. string_bytes text ≡ indented prefix.now s.now) }
 {
     let bare_prefix = prefix.trim_end();
-    let mut text = String::new(alloc);
+    // A text of one line grows no more. An empty text needs no memory, and asks for none.
+    let room = if s.is_empty() {
+        0
+    } else {
+        s.len() + prefix.len()
+    };
+    let mut text = String::with_capacity(alloc, room)?;
     for part in s.split_inclusive('\n') {
         let indent = if is_blank_line(part) {
             bare_prefix
@@ -46,7 +52,10 @@ pub fn dedent<A: Allocator + Copy>(alloc: A, s: &str) -> Result<String<A>, Alloc
     ensures dedented { IfOk result (λ text. string_bytes text ≡ dedented s.now) }
 {
     let margin = margin_of(s);
-    let mut text = String::new(alloc);
+    // No dedented text is longer than the text. Of blanks alone nothing may be left, and then no
+    // memory is needed.
+    let room = if is_blank_line(s) { 0 } else { s.len() };
+    let mut text = String::with_capacity(alloc, room)?;
     for (i, line) in s.lines().enumerate() {
         if i > 0 {
             text.push('\n')?;

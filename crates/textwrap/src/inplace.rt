@@ -26,9 +26,9 @@ use textwrap_words::inner::words_at_blanks;
 /// The new lines, without the blanks at their ends, are those of `wrap` by first fit with words
 /// kept whole, if no character takes more columns than its bytes
 /// (`laws::filled_in_place_is_wrapped`). With the tables of the crate `unicode_width` this holds of
-/// every text: all characters were tried.
+/// every text: a test tries each character.
 ///
-/// Memory is needed for the offsets of the blanks that change, and for nothing else.
+/// Memory is needed for the offsets of the blanks that change.
 ///
 /// # Errors
 /// [`AllocError`] where memory runs out. Then the text is as it was. A text that stays as it is

@@ -5,9 +5,12 @@ ghost use Rattle.std.specs.Io.{StartsWith};
 ghost use Rattle.std.specs.Str.{IsAscii};
 ghost use Rattle.textwrap_base.specs.Penalties.{default_penalties};
 ghost use Rattle.textwrap_words.specs.declared.wrap_algorithms.WrapAlgorithm.TheVariants.{OptimalFit};
-ghost use Rattle.textwrap_lines.specs.Options.{settings_at, settings_view};
-ghost use Rattle.textwrap_lines.specs.Options.{MayOverflow};
-ghost use Rattle.textwrap_lines.specs.Paragraph.{DividesUnder};
+ghost use Rattle.textwrap_lines.specs.Options.{Settings, settings_at, settings_view};
+ghost use Rattle.textwrap_lines.specs.Options.{HasParts, MayOverflow};
+ghost use Rattle.textwrap_lines.specs.Paragraph.{DividesAs, DividesUnder};
+ghost use Rattle.textwrap_lines.specs.Text.{SomeMayPass64BitsUnder};
+ghost use Rattle.textwrap_words.specs.WordSplitters.{Splitter};
+ghost use Rattle.textwrap_words.specs.WrapAlgorithms.{Algorithm};
 ghost use Rattle.textwrap.specs.Refilling.{is_prefix_character, line_prefix, common_start};
 ghost use Rattle.textwrap.specs.Refilling.{unfilled_text, unfilled_settings, joined_text};
 ghost use Rattle.textwrap.specs.Refilling.{keeps_ending, IsRefilled, HasDefaultMethods};
@@ -18,17 +21,16 @@ ghost use Rattle.textwrap.specs.Refilling.{detected_among, detected_ending, comm
 ghost use Rattle.textwrap_words.specs.declared.word_separators.WordSeparator.TheVariants.{AsciiSpace};
 ghost use Rattle.textwrap_words.specs.declared.word_splitters.WordSplitter.TheVariants.{HyphenSplitter};
 
-use crate::word_separators::WordSeparator;
-use crate::word_splitters::WordSplitter;
 use crate::words::display_width;
-use crate::wrap_algorithms::{Penalties, WrapAlgorithm, WrapError};
+use crate::wrap_algorithms::WrapError;
 use lines::NonEmptyLines;
 use std::alloc::{AllocError, Allocator};
+use textwrap_lines::inner::DEFAULTS;
 use textwrap_lines::{LineEnding, Options, fill};
 
 mod lines;
 
-/// Joins the lines of a filled text, and finds out how it was filled.
+/// Joins the lines of a filled text, and finds out how it was filled. The text is one paragraph.
 ///
 /// The indents are what the lines begin with of blanks and `-`, `+`, `*`, `>`, `#`, `/`: the first
 /// line's is the initial indent, and what all later lines have in common is the subsequent indent.
@@ -61,11 +63,16 @@ pub fn unfill<'t, A: Allocator + Copy>(
     Ok((unfilled, with_layout(layout)))
 }
 
-/// Fills a filled text again, with the indents that it has.
+/// Fills a filled paragraph again, with the indents that it has.
 ///
 /// The text is unfilled as [`unfill`] does it, and filled with the options, but for the indents,
 /// which are its own. Where the unfilled text ends in a line ending, the new text ends in that of
 /// the options. At 12 columns `"/// foo\n/// bar baz\n"` becomes `"/// foo bar\n/// baz\n"`.
+///
+/// A text of more than one paragraph becomes one: at 20 columns `"> one two\n>\n> three four\n"`, whose
+/// later lines have only `>` in common, becomes `"> one two   three\n>four\n"`. And the end of a
+/// comment is a word like any other: `"/* one two\n * three */\n"` may end in a line of its own,
+/// ` * */`. Refill each paragraph by itself, without what ends it.
 ///
 /// # Errors
 /// Those of `wrap`.
@@ -76,7 +83,16 @@ pub fn refill<A: Allocator + Copy>(
 ) -> Result<String<A>, WrapError>
     ensures refilled { IfOk result (λ refilled. IsRefilled (settings_view options.entry)
         (DividesUnder options.entry) filled_text.now (string_bytes refilled)) }
+    // The same text, where all parts are built in and can be named.
+    ensures built_in { IfOk result (λ refilled.
+        (settings : Settings) (splitter : Splitter) (algorithm : Algorithm)
+        → HasParts options.entry settings splitter algorithm → IsRefilled settings
+        (DividesAs splitter algorithm) filled_text.now (string_bytes refilled)) }
     ensures only_memory { ¬ MayOverflow options.entry
+        → IfErr result (λ error. error ≡ WrapError.Memory alloc_error) }
+    // Overflow only where a paragraph of the joined text may have pieces that pass 64 bits together.
+    ensures no_overflow { ¬ SomeMayPass64BitsUnder options.entry
+        (with_indents_of filled_text.now (settings_view options.entry)) (joined_text filled_text.now)
         → IfErr result (λ error. error ≡ WrapError.Memory alloc_error) }
 {
     let line_ending = options.line_ending;
@@ -95,7 +111,7 @@ pub fn refill<A: Allocator + Copy>(
 
 /// How a text seems to have been filled.
 #[derive(Clone, Copy)]
-struct Layout<'t> {
+struct TextLayout<'t> {
     /// The columns of its widest line.
     width: usize,
     line_ending: LineEnding,
@@ -104,24 +120,16 @@ struct Layout<'t> {
 }
 
 /// The options with this layout, all else by the defaults.
-fn with_layout(layout: Layout<'_>) -> Options<'_>
+fn with_layout(layout: TextLayout<'_>) -> Options<'_>
     ensures settings { settings_view result ≡ layout_settings layout.entry }
     ensures methods { HasDefaultMethods result }
 {
-    let word_splitter = WordSplitter::HyphenSplitter;
-    // Field by field: options that `Options::new` has made would be handed out by two crates, and
-    // the checker tells only within one crate that they hold no function of its own.
     Options {
         width: layout.width,
         line_ending: layout.line_ending,
         initial_indent: layout.initial_indent,
         subsequent_indent: layout.subsequent_indent,
-        break_words: true,
-        wrap_algorithm: WrapAlgorithm::OptimalFit(Penalties::new()),
-        word_separator: WordSeparator::AsciiSpace,
-        word_splitter,
-        preserve_trailing_space: false,
-        even_paragraphs: false,
+        ..DEFAULTS
     }
 }
 
@@ -130,7 +138,7 @@ fn with_layout(layout: Layout<'_>) -> Options<'_>
 fn join_lines<'t, A: Allocator>(
     alloc: A,
     text: &'t str,
-) -> Result<(String<A>, Layout<'t>, bool), AllocError>
+) -> Result<(String<A>, TextLayout<'t>, bool), AllocError>
     ensures joined { IfOk result (λ unfilled. string_bytes unfilled.0 ≡ joined_text text.now) }
     ensures layout { IfOk result (λ unfilled. layout_settings unfilled.1
         ≡ unfilled_settings text.now) }
@@ -147,7 +155,7 @@ fn join_lines<'t, A: Allocator>(
         return Ok((joined, layout, false));
     };
     let keeps_ending = text.ends_with(ending.as_str());
-    let layout = Layout {
+    let layout = TextLayout {
         line_ending: ending,
         ..layout
     };
@@ -155,7 +163,7 @@ fn join_lines<'t, A: Allocator>(
 }
 
 /// The width and the indents of the text, and LF.
-fn find_layout(text: &str) -> Layout<'_>
+fn find_layout(text: &str) -> TextLayout<'_>
     ensures { layout_settings result
         ≡ with_indents_of text.now (settings_at (unfilled_width text.now)) }
 {
@@ -166,7 +174,7 @@ fn find_layout(text: &str) -> Layout<'_>
         width = width.max(display_width(line));
         common = Some(narrow(common, line_prefix(line)));
     }
-    Layout {
+    TextLayout {
         width,
         line_ending: LineEnding::LF,
         initial_indent: line_prefix(first),
@@ -187,12 +195,16 @@ fn join_without_indents<A: Allocator>(
     ensures joined { IfOk result (λ unfilled. string_bytes unfilled.0 ≡ joined_text text.now) }
     ensures detected { IfOk result (λ unfilled. unfilled.1 ≡ detected_ending text.now) }
 {
-    let mut joined = String::new(alloc);
     let mut lines = NonEmptyLines(text);
     let Some((first, ending)) = lines.next() else {
-        return Ok((joined, None));
+        return Ok((String::new(alloc), None));
     };
-    joined.push_str(without_indent(first, initial_indent))?;
+    let first = without_indent(first, initial_indent);
+    // No unfilled text is longer than the text. Of an indent alone nothing may be left, and then no
+    // memory is needed.
+    let room = if first.is_empty() { 0 } else { text.len() };
+    let mut joined = String::with_capacity(alloc, room)?;
+    joined.push_str(first)?;
     let mut detected = ending;
     for (line, ending) in lines {
         joined.push_str(" ")?;

@@ -6,7 +6,9 @@ use Rattle.textwrap_base.proofs.Common.{IsCharBoundary, IsUtf8, take_at, drop_at
 use Rattle.textwrap_base.proofs.Common.{encodes-append, IsUtf8-take, IsUtf8-past_char}
 use Rattle.textwrap_base.proofs.Common.{encodes-chars, and_parts, and_from, StartsWith}
 use Rattle.std.specs.Str.{all_scalars, chars}
+use Rattle.textwrap_base.proofs.Common.{zero, suc, chars-IsAscii, length-encode}
 use Rattle.std.proofs.lemmas.Str.{IsCharBoundary-from_drop, IsCharBoundary-at_seam, scalars-chars}
+use Rattle.std.proofs.lemmas.Str.{len_utf8_bounds}
 use lib.Utf8.{scalar}
 use Rattle.std.specs.Char.{encode_utf8}
 
@@ -54,13 +56,7 @@ cut_text text cs ds utf8 is =
     sym (encodes-chars text utf8) ∙ ap encode_utf8_all is ∙ encodes-append cs ds in
     let all : all_scalars (cs ++ ds) ≡ true =
     ap all_scalars (sym is) ∙ scalars-chars text utf8 in
-    let (_, behind) = scalars-parts cs ds all in
-    record {
-      whole = whole;
-      front = ap (take (length front)) whole ∙ take_at front back (length front) refl;
-      back = ap (drop (length front)) whole ∙ drop_at front back (length front) refl;
-      boundary = IsCharBoundary-at_seam text front back whole (ds, (behind, refl));
-    }
+    grind (arith, scalars-parts, take_at, drop_at, IsCharBoundary-at_seam)
 
 -- the bytes of one character more
 pub encoded-more : (ms : List ℕ) (n a : ℕ) → n < length ms → a ≡ get_or ms n a
@@ -79,11 +75,7 @@ encoded-within text n utf8 =
     let front = take n (chars text) in
     let back = drop n (chars text) in
     let cut = cut_text text front back utf8 (sym (take-append-drop n (chars text))) in
-    omega (
-      arith,
-      ap length cut.whole,
-      length-append (encode_utf8_all front) (encode_utf8_all back),
-    )
+    omega (arith, length-append (encode_utf8_all front) (encode_utf8_all back))
 
 -- a line that begins with a margin is cut after it
 pub after-margin : (line margin : List ℕ) → IsUtf8 line → IsUtf8 margin
@@ -94,7 +86,18 @@ after-margin line margin utf8 margin_utf8 starts =
     let rest = drop (length (chars margin)) (chars line) in
     let cut = cut_text line (chars margin) rest utf8
     (sym (take-append-drop (length (chars margin)) (chars line)) ∙ ap (λ l. l ++ rest) starts) in
-    let bytes = encodes-chars margin margin_utf8 in (
-      subst (λ m. IsCharBoundary line (length m)) bytes cut.boundary,
-      subst (λ m. drop (length m) line ≡ encode_utf8_all rest) bytes cut.back,
-    )
+    grind (arith, encodes-chars)
+
+-- a character has a byte
+pub some-bytes : (c : ℕ) → 0 < length (encode_utf8 c)
+some-bytes c = omega (arith, length-encode c, (len_utf8_bounds c).0)
+
+-- a byte of ASCII is its character
+pub one-byte : (l : List ℕ) (b : ℕ) → length l ≡ 1 → get_or l 0 0 ≡ b → b < 128 → chars l ≡ l
+one-byte l b one is ascii = chars-IsAscii l (λ k. by l k one is)
+  where
+    by : (l : List ℕ) (k : ℕ) → length l ≡ 1 → get_or l 0 0 ≡ b → get_or l k 0 < 128
+    by [] k one is = absurd (omega (arith, one))
+    by (x ∷ []) zero one is = omega (arith, is, ascii)
+    by (x ∷ []) (suc k) one is = omega arith
+    by (x ∷ y ∷ l) k one is = absurd (omega (arith, one))

@@ -1,6 +1,5 @@
 pub mod Fewest
 pub mod Greedy
-pub mod GreedyTest
 pub mod Grown
 pub mod GrownLines
 pub mod Map

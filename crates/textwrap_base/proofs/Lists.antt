@@ -4,3 +4,4 @@ pub mod Prefixes
 pub mod Ranges
 pub mod Repeated
 pub mod Rising
+pub mod Slices

@@ -1,10 +1,10 @@
 -- Numbers, tests of them, and results that hold them.
-use Rattle.textwrap_base.proofs.Common.{◌≡◌, ℕ, ◌<◌, eqb, false, arith, ◌+◌, ◌-◌, ◌≤◌, Bool, true}
+use Rattle.textwrap_base.proofs.Common.{◌≡◌, ℕ, ◌<◌, eqb, false, arith, ◌+◌, ◌≤◌, Bool, true}
 use Rattle.textwrap_base.proofs.Common.{if◌then◌else◌, ◌^◌, not, ◌==◌, nat_lt, ◌||◌, suc, refl, ◌⊎◌}
-use Rattle.textwrap_base.proofs.Common.{inl, inr, min, ◌/◌, ◌∙◌, cond, List, [], ◌∷◌, rules}
+use Rattle.textwrap_base.proofs.Common.{inl, inr, min, ◌∙◌, cond, List, [], ◌∷◌, rules}
 use Rattle.textwrap_base.proofs.Common.{eqb-false, cases_lt, nat_tests, ⊎_elim, Option, None, Some}
 use Rattle.textwrap_base.proofs.Common.{SomeIff, Result, Ok, Err}
-use Rattle.std.proofs.Common.{◌%◌, IsSome}
+use Rattle.std.proofs.Common.{IsSome}
 use Rattle.std.proofs.Math.Nat.{le-mul_of_pos_right, min-le_right, mod-add-div'}
 use Rattle.std.specs.Int.{div_ceil}
 use Rattle.std.specs.Prelude.{IfNone, IfOk}
@@ -12,9 +12,6 @@ use Rattle.std.specs.Result.{OkIff, result_ok}
 
 pub some_from_test : (n : ℕ) → eqb n 0 ≡ false → 0 < n
 some_from_test n e = let ne = eqb-false n 0 e in omega (arith, ne)
-
-pub single_is : (i k : ℕ) → i ≤ k → eqb (k + 1 - i) 1 ≡ eqb (k + 1) (i + 1)
-single_is i k h = grind (arith, nat_tests)
 
 pub if_le : (test : Bool) (a b most : ℕ) → a ≤ most → b ≤ most → (if test then a else b) ≤ most
 if_le true a b most h k = h
@@ -47,23 +44,13 @@ either_short a b n is =
 -- no table has more rows than lines
 pub rows-le_lines : (lines columns : ℕ) → 1 ≤ columns → div_ceil lines columns ≤ lines
 rows-le_lines lines columns some =
-    let full = lines / columns in
-    omega (
-      arith,
-      le-mul_of_pos_right full some,
-      mod-add-div' lines columns,
-      min-le_right 1 (lines % columns),
-    )
+    grind (arith, le-mul_of_pos_right, mod-add-div', min-le_right)
 
 pub same-flag : (a b : Bool) (c : ℕ) → cond a (c ∷ []) [] ≡ cond b (c ∷ []) [] → a ≡ b
 same-flag true true c e = refl
 same-flag true false c e = cc
 same-flag false true c e = cc
 same-flag false false c e = refl
-
-pub same-rest : (a : Bool) (c : ℕ) (xs ys : List ℕ) → cond a (c ∷ xs) xs ≡ cond a (c ∷ ys) ys → xs ≡ ys
-same-rest true c xs ys e = cc
-same-rest false c xs ys e = e
 
 pub some_where : (o : Option ℕ) (P : Type 0) (v : ℕ) → SomeIff o P v → P → IsSome o
 some_where None P v h p = absurd (h p)

@@ -1,12 +1,11 @@
 -- Texts of UTF-8: where characters end, and what is left of a text.
-use Rattle.textwrap_base.proofs.Common.{◌≡◌, ℕ, ◌≤◌, List, [], ◌∷◌, ◌++◌, length, take, drop, refl}
-use Rattle.textwrap_base.proofs.Common.{sym, ap, ◌∙◌, subst, arith, length-append, append-nil, ◌+◌}
-use Rattle.textwrap_base.proofs.Common.{add-zero, get_or, zero, suc, ◌<◌, add-one, ◌-◌}
-use Rattle.textwrap_base.proofs.Common.{append_assoc, All, encode_utf8_all, IsCharBoundary, IsUtf8}
-use Rattle.textwrap_base.proofs.Common.{take_at, drop_at, length_push, IsUtf8-take}
-use Rattle.textwrap_base.proofs.Common.{IsCharBoundary-after_ascii, IsUtf8-drop}
-use Rattle.textwrap_base.proofs.Common.{IsCharBoundary-from_take, cond_both, ltb-true, All-head}
-use Rattle.textwrap_base.proofs.Common.{All-tail, StartsWith, starts_with_length}
+use Rattle.textwrap_base.proofs.Common.{◌≡◌, ℕ, ◌≤◌, List, [], ◌∷◌, ◌++◌, length, refl, sym, ap}
+use Rattle.textwrap_base.proofs.Common.{◌∙◌, subst, arith, length-append, append-nil, ◌+◌, add-zero}
+use Rattle.textwrap_base.proofs.Common.{get_or, zero, suc, ◌<◌, add-one, ◌-◌, append_assoc, All}
+use Rattle.textwrap_base.proofs.Common.{encode_utf8_all, IsCharBoundary, IsUtf8, take_at, drop_at}
+use Rattle.textwrap_base.proofs.Common.{length_push, IsUtf8-take, IsCharBoundary-after_ascii}
+use Rattle.textwrap_base.proofs.Common.{IsUtf8-drop, IsCharBoundary-from_take, cond_both, ltb-true}
+use Rattle.textwrap_base.proofs.Common.{All-head, All-tail, StartsWith, starts_with_length}
 use Rattle.std.proofs.Common.{ltb}
 use Rattle.std.proofs.lemmas.List.{get_or-append-add, get_or_at}
 use Rattle.std.proofs.lemmas.Str.{IsCharBoundary-before_ascii}
@@ -47,13 +46,7 @@ pub IsCharBoundary-after_blank : (bs : List ℕ) (n : ℕ) → IsUtf8 bs → 0 <
     → (n < length bs → get_or bs (n - 1) 0 ≡ 32) → IsCharBoundary bs n
 IsCharBoundary-after_blank bs zero utf8 some within blank = absurd (omega arith)
 IsCharBoundary-after_blank bs (suc n) utf8 some within blank =
-    let before : suc n - 1 ≡ n = omega arith in (
-      within,
-      λ more.
-          let byte : get_or bs n 0 ≡ 32 = sym (ap (λ k. get_or bs k 0) before) ∙ blank more in
-          (subst (IsCharBoundary bs) (add-one n) (IsCharBoundary-after_ascii bs n utf8 (omega arith)
-          (omega arith))).1 more,
-    )
+    grind (arith, add-one, IsCharBoundary-after_ascii)
 
 -- what comes before the byte, what goes up to it, what it begins, and what comes after it
 pub record AsciiSeam (before after : List ℕ) (c : ℕ) : Type 0 where
@@ -69,19 +62,10 @@ ascii_seam before after c utf8 ascii =
     let i = length before in
     let byte : get_or bs i 0 ≡ c = get_or_at before c after 0 (length before) refl in
     let within : length before < length bs = omega (arith, length-append before (c ∷ after)) in
-    let at : IsCharBoundary bs i = IsCharBoundary-before_ascii bs i within (omega (arith, byte)) in
     let past : IsCharBoundary bs (i + 1) = IsCharBoundary-after_ascii bs i utf8 within
     (omega (arith, byte)) in
     let whole : bs ≡ (before ++ c ∷ []) ++ after = sym (append_assoc before (c ∷ []) after) in
-    let len : length (before ++ c ∷ []) ≡ i + 1 = length_push before c in
-    record {
-      front = subst IsUtf8 (take_at before (c ∷ after) i refl) (IsUtf8-take bs i utf8 at);
-      through = subst IsUtf8 (ap (take (i + 1)) whole ∙ take_at (before ++ c ∷ []) after
-          (i + 1) len) (IsUtf8-take bs (i + 1) utf8 past);
-      from = subst IsUtf8 (drop_at before (c ∷ after) i refl) (IsUtf8-drop bs i utf8 at);
-      back = subst IsUtf8 (ap (drop (i + 1)) whole ∙ drop_at (before ++ c ∷ []) after (i + 1) len)
-          (IsUtf8-drop bs (i + 1) utf8 past);
-    }
+    grind (arith, length_push, take_at, IsUtf8-take, drop_at, IsUtf8-drop)
 
 pub after_ascii : (front rest : List ℕ) → All (λ c. c < 128) front → IsUtf8 (front ++ rest)
     → IsUtf8 rest

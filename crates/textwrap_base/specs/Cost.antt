@@ -92,7 +92,7 @@ module _ {X : Type 0} (priced : X → PricedSizes) (penalties : Penalties) (widt
       line_cost priced penalties (line_width widths number) (at + length line == n) line
       + lines_cost n (number + 1) (at + length line) lines
 
-  -- the cost of a division of a prefix of n fragments, or of all
+  -- the cost of a division of some prefix of the fragments, which are n in all
   abbrev pub division_cost : ℕ → List (List X) → ℕ
   division_cost n lines = lines_cost n 0 0 lines
 

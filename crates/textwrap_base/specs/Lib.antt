@@ -5,6 +5,7 @@ pub mod Errors
 pub mod Laws
 pub mod LineCosts
 pub mod Lists
+pub mod Measured
 pub mod Minima
 pub mod OptimalFit
 pub mod Penalties

@@ -1,10 +1,9 @@
 -- The measures of fragments: their widths and break penalties, and what stands before them on a
 -- line without end.
-use Rattle.std.specs.Prelude.{◌≡◌, ℕ, ◌<◌, List, length, take, slice_index_or}
+use Rattle.std.specs.Prelude.{◌+◌, List}
 use Rattle.textwrap_base.specs.Sizes.{Sizes}
-use Rattle.textwrap_base.specs.Division.{open_width}
-use Rattle.textwrap_base.specs.Cost.{PricedSizes, total_width}
-use Rattle.textwrap_base.specs.Errors.{Fits128Bits}
+use Rattle.textwrap_base.specs.Cost.{PricedSizes}
+use Rattle.textwrap_base.specs.Measured.{AreMeasured}
 use Rattle.textwrap_base.specs.declared.minima.line_costs.Measure.{Measure}
 
 abbrev pub measured : Measure → PricedSizes
@@ -13,7 +12,6 @@ measured m =
     record { sizes = s; break_penalty = m.break_penalty }
 
 -- each measure knows the open width of those before it, and all widths together keep to 128 bits
-pub record AreMeasured (measures : List Measure) : Type 0 where
-  pub before : (i : ℕ) (d : Measure) → i < length measures → (slice_index_or measures i d).before
-      ≡ open_width (λ m. (measured m).sizes) (take i measures)
-  pub total : Fits128Bits (total_width (λ m. (measured m).sizes) measures)
+abbrev pub AreMeasures : List Measure → Type 0
+AreMeasures measures =
+    AreMeasured measured (λ m. m.before) (λ m. m.before + m.width + m.penalty) measures

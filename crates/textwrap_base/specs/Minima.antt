@@ -8,7 +8,7 @@ pub record Costs : Type 0 where
   pub ends : ℕ
   pub cost : ℕ → ℕ → ℕ → ℕ
 
--- a count after `more` steps: it stays where it would pass 128 bits
+-- a count after `more` steps: it stays at the greatest number of 128 bits where it would pass that
 abbrev pub counted : ℕ → ℕ → ℕ
 counted count more = max count (min (count + more) (2 ^ 128 - 1))
 

@@ -1,5 +1,5 @@
 -- What optimal fit gives.
-use Rattle.std.specs.Prelude.{ℕ, List, Result, IfOk, OnOk}
+use Rattle.std.specs.Prelude.{◌≡◌, ℕ, List, Result, Ok, Err, IfOk, OnOk, ⊤}
 use Rattle.textwrap_base.specs.Cost.{PricedSizes, total_width, AreEqualFromSecond, IsChosen}
 use Rattle.textwrap_base.specs.Cost.{Overflows}
 use Rattle.textwrap_base.specs.Table.{IsByTable, TableOverflows}
@@ -25,3 +25,16 @@ module _ {X : Type 0} (priced : X → PricedSizes) (penalties : Penalties) (widt
     pub table_ok_only : OnOk r (¬ TableOverflows priced penalties widths xs)
     pub too_wide : Passes128Bits (total_width (λ x. (priced x).sizes) xs) → Overflowed r
     pub no_overflow : Fits64Bits (total_width (λ x. (priced x).sizes) xs) → ¬ Overflowed r
+
+  -- where both are Ok they have the same lines, and where one overflows the other is not Ok
+  abbrev pub IsSameResult : {A : Type 0} → (A → List (List X)) → Result A WrapError
+      → Result A WrapError → Type 0
+  IsSameResult {A} lines (Ok value) (Ok other) = lines value ≡ lines other
+  IsSameResult {A} lines (Ok value) (Err error) = ¬ Overflowed {A = A} (Err error)
+  IsSameResult {A} lines (Err error) (Ok other) = ¬ Overflowed {A = A} (Err error)
+  IsSameResult {A} lines (Err error) (Err other) = ⊤
+
+  -- the result is that of each such call, but for memory that runs out
+  abbrev pub IsTheResult : {A : Type 0} → List X → (A → List (List X)) → Result A WrapError → Type 0
+  IsTheResult {A} xs lines r =
+      (other : Result A WrapError) → IsOptimalFitResult xs lines other → IsSameResult lines r other

@@ -9,13 +9,13 @@ use Rattle.textwrap_base.specs.declared.penalties.Penalties.{Penalties}
 
 -- ---- line costs
 
--- the same, with a number that is large enough to count down from
+-- how many binary digits n has, at most so many
 abbrev pub digits_within : ℕ → ℕ → ℕ
 digits_within zero n = 0
 digits_within (suc most) zero = 0
 digits_within (suc most) (suc n) = suc (digits_within most (suc n / 2))
 
--- how many binary digits n has: 0 has none
+-- how many it has: n has at most n of them, and 0 has none
 abbrev pub binary_digits : ℕ → ℕ
 binary_digits n = digits_within n n
 

@@ -1,5 +1,6 @@
 //! The lowest part of `textwrap`: fragments of given widths, and their division into lines. Nothing in
-//! it knows of texts. The crate `textwrap` passes its public items on. The items have the examples.
+//! it knows of texts. The crate `textwrap` passes its public items on, but
+//! for `inner`. The items have the examples.
 #![tactic(auto)]
 
 pub use errors::{OverflowError, WrapError};
@@ -11,8 +12,10 @@ pub use penalties::Penalties;
 mod errors;
 mod first_fit;
 mod fragments;
+pub mod inner;
 pub mod laws;
 mod line_widths;
+mod measured;
 pub mod minima;
 mod optimal_fit;
 mod penalties;

@@ -6,7 +6,7 @@ ghost use Rattle.textwrap_base.specs.Errors.{Fits64Bits, Passes128Bits, Overflow
 ghost use Rattle.textwrap_base.specs.Queue.{IsQueueCase, CountsSearch};
 ghost use Rattle.textwrap_base.specs.Table.{fragments_table, minimum_of, FollowStarts};
 ghost use Rattle.textwrap_base.specs.Table.{TableOverflows, CountsSteps};
-ghost use Rattle.textwrap_base.specs.OptimalFit.{IsOptimalFitResult};
+ghost use Rattle.textwrap_base.specs.OptimalFit.{IsOptimalFitResult, IsTheResult};
 
 use crate::errors::WrapError;
 use crate::fragments::Fragment;
@@ -61,6 +61,9 @@ pub fn wrap_optimal_fit_counted<'a, A: Allocator + Copy, T: Fragment>(
 ) -> Result<Vec<&'a [T], A>, WrapError>
     ensures fit { IsOptimalFitResult (priced_by T.sizes T.own_break_penalty penalties.now) penalties.now
         line_widths.now fragments.now (λ lines. map (λ line. line.now) lines.items) result }
+    // No other result of `wrap_optimal_fit` is right, but for memory that runs out.
+    ensures same { IsTheResult (priced_by T.sizes T.own_break_penalty penalties.now) penalties.now
+        line_widths.now fragments.now (λ lines. map (λ line. line.now) lines.items) result }
     ensures steps { ¬ IsQueueCase (priced_by T.sizes T.own_break_penalty penalties.now) penalties.now
         line_widths.now fragments.now
         → CountsSteps (priced_by T.sizes T.own_break_penalty penalties.now) penalties.now
@@ -107,8 +110,12 @@ fn find_minima<A: Allocator + Copy, T: Fragment>(
     table_minima(alloc, fragments, line_widths, penalties, steps)
 }
 
-/// The lines that follow the starts of the minima back from the end of the fragments.
-fn lines_by<'a, A: Allocator, T>(
+/// The lines that follow the starts of the minima back from the end of the fragments. Minima whose
+/// starts are 0, 0, 0 and 2 divide three fragments into the first two and the third.
+///
+/// # Errors
+/// [`AllocError`] where memory runs out.
+pub fn lines_by<'a, A: Allocator, T>(
     alloc: A,
     fragments: &'a [T],
     minima: &[Minimum],

@@ -5,7 +5,7 @@ ghost use Rattle.textwrap_base.specs.Penalties.{default_penalties};
 
 /// What the lines of a division cost, in whole numbers of any unit (after Knuth and Plass,
 /// "Breaking Paragraphs into Lines", 1981). By the default penalties, a line that is one unit too
-/// wide and has no hyphen at its end costs 3500.
+/// wide and has no hyphen added at its end costs 3500.
 #[derive(Clone, Copy, Debug, PartialEq, Eq)]
 pub struct Penalties {
     /// What each line costs.
@@ -22,19 +22,22 @@ pub struct Penalties {
     pub hyphen_penalty: usize,
 }
 
+/// The default penalties.
+pub const DEFAULT_PENALTIES: Penalties = Penalties {
+    nline_penalty: 1000,
+    overflow_penalty: 2500,
+    short_last_line_fraction: 4,
+    short_last_line_penalty: 25,
+    hyphen_penalty: 25,
+};
+
 impl Penalties {
     /// The default penalties: 1000 for each line, 2500 for each unit too wide, 25 for a last line
-    /// of a single fragment below a quarter of its target, and 25 for a hyphen.
+    /// of a single fragment below a quarter of its target, and 25 for a hyphen that is added.
     pub fn new() -> Self
         ensures { result ≡ default_penalties }
     {
-        Penalties {
-            nline_penalty: 1000,
-            overflow_penalty: 2500,
-            short_last_line_fraction: 4,
-            short_last_line_penalty: 25,
-            hyphen_penalty: 25,
-        }
+        DEFAULT_PENALTIES
     }
 
     /// What a line usually costs more that ends with a fragment of this penalty width: the

@@ -1,104 +1,107 @@
--- The lines of a text and the rows of a table stand where they are told.
-use Rattle.textwrap_base.proofs.Common.{◌≡◌, ℕ, ◌+◌, ◌≤◌, List, [], ◌∷◌, ◌++◌, length, map, sym, ap}
-use Rattle.textwrap_base.proofs.Common.{refl, ◌∙◌, subst, arith, append_assoc, append-nil, flat_map}
-use Rattle.textwrap_base.proofs.Common.{length-append, map-append, map_push, flat_map-append}
-use Rattle.textwrap.proofs.Common.{join_with, Built, LineParts, line_from, covered_by}
-use Rattle.textwrap_c.proofs.PlaceLemmas.{GoesOn, passes, paragraph-shown, shows-here}
-use Rattle.textwrap_c.specs.Columns.{AreToldRows, row_places}
-use Rattle.textwrap_c.specs.Wrapping.{ShowLines, built_bytes, built_text, paragraph_places}
-use Rattle.textwrap_c.specs.Wrapping.{place_of, text_places}
-use Rattle.textwrap_c.specs.declared.told.TextwrapLine.{TextwrapLine}
+-- The lines of a text stand where they are reported.
+use Rattle.textwrap_base.proofs.Common.{◌≡◌, ℕ, ◌+◌, ◌≤◌, ◌==◌, Bool, true, false, cond, List, []}
+use Rattle.textwrap_base.proofs.Common.{◌∷◌, ◌++◌, length, map, sym, ap, refl, ◌∙◌, subst, arith}
+use Rattle.textwrap_base.proofs.Common.{append_assoc, append-nil, flat_map, length-append}
+use Rattle.textwrap_base.proofs.Common.{map-append, IsUtf8}
+use Rattle.textwrap.proofs.Common.{ending_bytes, join_with, paragraphs_of, Settings, Line, Slice}
+use Rattle.textwrap.proofs.Common.{Built, LineParts, line_from, covered_by}
+use Rattle.textwrap.specs.Paragraph.{DividesAs}
+use Rattle.textwrap.specs.WordSplitters.{Splitter}
+use Rattle.textwrap.specs.WrapAlgorithms.{Algorithm}
+use Rattle.textwrap_lines.specs.Places.{ArePlacedLines, CutLine, built_text, cut_line, cut_lines}
+use Rattle.textwrap_lines.specs.Places.{lines_of, places_of, text_cuts}
+use Rattle.textwrap_lines.specs.declared.places.Place.{Place}
+use Rattle.textwrap_lines.proofs.Paragraph.Pieces.{IsDividedInto-tile}
+use Rattle.textwrap_lines.proofs.Text.Cuts.{lines_of-cut_lines}
+use Rattle.textwrap_lines.proofs.Text.EndingTexts.{join-paragraphs_of, paragraphs_of-utf8}
+use Rattle.textwrap_lines.proofs.Text.Lossless.{groups-tile}
+use Rattle.textwrap_c.specs.Wrapping.{ShowLines}
+use Rattle.textwrap_c.proofs.PlaceLemmas.{AreCut, HasRest, passes, shown}
 
-abbrev pub flat_groups : List (List LineParts) → List LineParts
-flat_groups groups = flat_map (λ parts. parts) groups
+-- a line in front of others: a slice where the text goes on with it, or a text of its own
+line-cut : (text : List ℕ) (others : List CutLine) (is_slice : Bool)
+    (slice left_off built rest : List ℕ) (from at : ℕ) → from ≤ at
+    → HasRest text at ((slice ++ left_off) ++ rest)
+    → ((next : ℕ) → next ≤ at + length (slice ++ left_off) → AreCut text next others)
+    → AreCut text from (cut_line at (cond is_slice (Slice slice) (Built built)) ∷ others)
+line-cut text others true slice left_off built rest from at after goes more =
+    let pass = passes text slice (left_off ++ rest) at
+    (subst (HasRest text at) (append_assoc slice left_off rest) goes) in
+    let sum = length-append slice left_off in
+    ((after, pass.within, pass.here), more (at + length slice) (omega (arith, sum)))
+line-cut text others false slice left_off built rest from at after goes more =
+    (tt, more from (omega (arith, after)))
 
-module _ (room room_rest : List ℕ) (parts others : List LineParts) (used : ℕ)
-    (goes : GoesOn room used (built_text (map line_from (parts ++ others)) ++ room_rest)) where
-  pub room_here : GoesOn room used (built_text (map line_from parts)
-      ++ (built_text (map line_from others) ++ room_rest))
-  room_here = subst (GoesOn room used) (ap (λ ls. built_text ls ++ room_rest)
-      (map-append line_from parts others)
-      ∙ ap (λ bytes. bytes ++ room_rest)
-      (flat_map-append built_bytes (map line_from parts) (map line_from others))
-      ∙ append_assoc (built_text (map line_from parts)) (built_text (map line_from others))
-      room_rest) goes
+-- the lines of a paragraph in front of others
+paragraph-cut : (text : List ℕ) (others : List CutLine) (parts : List LineParts) (rest : List ℕ)
+    (from at : ℕ) → from ≤ at → HasRest text at (covered_by parts ++ rest)
+    → ((next : ℕ) → next ≤ at + length (covered_by parts) → AreCut text next others)
+    → AreCut text from (cut_lines at parts ++ others)
+paragraph-cut text others [] rest from at after goes more = more from (omega (arith, after))
+paragraph-cut text others (p ∷ parts) rest from at after goes more =
+    let piece = p.slice ++ p.left_off in
+    let covered = covered_by parts in
+    let here = subst (HasRest text at) (append_assoc piece covered rest) goes in
+    let sum = length-append piece covered in
+    line-cut text (cut_lines (at + length piece) parts ++ others)
+    (length (p.indent ++ p.penalty) == 0) p.slice p.left_off (p.indent ++ p.slice ++ p.penalty)
+    (covered ++ rest) from at after here
+    (λ next le. paragraph-cut text others parts rest next (at + length piece) le
+    (passes text piece (covered ++ rest) at here).after
+    (λ last within. more last (omega (arith, within, sum))))
 
-  room_after : GoesOn room (used + length (built_text (map line_from parts)))
-      (built_text (map line_from others) ++ room_rest)
-  room_after = (passes room (built_text (map line_from parts))
-      (built_text (map line_from others) ++ room_rest) used room_here).after
-
--- where the text goes on with paragraphs that the lines cover, and the room with their text
-pub groups-shown : (text room room_rest separator : List ℕ) (groups : List (List LineParts))
-    (from start used : ℕ) → from ≤ start
-    → GoesOn text start (join_with separator (map covered_by groups))
-    → GoesOn room used (built_text (map line_from (flat_groups groups)) ++ room_rest)
-    → ShowLines text room from used (map line_from (flat_groups groups))
-    (text_places (length separator) start used (map covered_by groups) groups)
-groups-shown text room room_rest separator [] from start used after goes room_goes = refl
-groups-shown text room room_rest separator (parts ∷ []) from start used after goes room_goes =
-    subst (λ ls. ShowLines text room from used ls (paragraph_places start used parts ++ []))
-    (sym (map-append line_from parts []))
-    (paragraph-shown text room [] [] parts [] room_rest from start used after
-    (subst (GoesOn text start) (sym (append-nil (covered_by parts))) goes)
-    (room_here room room_rest parts [] used room_goes) (λ next le. refl))
-groups-shown text room room_rest separator (parts ∷ more ∷ groups) from start used after goes
-    room_goes =
-    let others = flat_groups (more ∷ groups) in
+-- where the text goes on with paragraphs that the lines cover
+groups-cut : (text separator : List ℕ) (groups : List (List LineParts)) (from start : ℕ)
+    → from ≤ start → HasRest text start (join_with separator (map covered_by groups))
+    → AreCut text from (text_cuts (length separator) start (map covered_by groups) groups)
+groups-cut text separator [] from start after goes = tt
+groups-cut text separator (parts ∷ []) from start after goes =
+    paragraph-cut text [] parts [] from start after
+    (subst (HasRest text start) (sym (append-nil (covered_by parts))) goes) (λ next le. tt)
+groups-cut text separator (parts ∷ more ∷ groups) from start after goes =
     let covered = covered_by parts in
     let joined = join_with separator (map covered_by (more ∷ groups)) in
-    let used_after = used + length (built_text (map line_from parts)) in
-    let start_after = start + length covered + length separator in
-    let told = text_places (length separator) start_after used_after
-    (map covered_by (more ∷ groups)) (more ∷ groups) in
-    let here : GoesOn text start (covered ++ (separator ++ joined)) =
-    subst (GoesOn text start) (append_assoc covered separator joined) goes in
+    let here = subst (HasRest text start) (append_assoc covered separator joined) goes in
     let past = (passes text covered (separator ++ joined) start here).after in
     let next_goes = (passes text separator joined (start + length covered) past).after in
-    subst (λ ls. ShowLines text room from used ls (paragraph_places start used parts ++ told))
-    (sym (map-append line_from parts others))
-    (paragraph-shown text room (map line_from others) told parts (separator ++ joined)
-    (built_text (map line_from others) ++ room_rest) from start used after here
-    (room_here room room_rest parts others used room_goes)
-    (λ next le. groups-shown text room room_rest separator (more ∷ groups) next start_after
-    used_after (omega (arith, le)) next_goes
-    (room_after room room_rest parts others used room_goes)))
+    paragraph-cut text _ parts (separator ++ joined) from start after here
+    (λ next le. groups-cut text separator (more ∷ groups) next
+    (start + length covered + length separator) (omega (arith, le)) next_goes)
 
--- rows, which are all lines of their own
-pub rows-shown : (text room room_rest : List ℕ) (rows : List (List ℕ)) (used : ℕ)
-    → GoesOn room used (built_text (map Built rows) ++ room_rest)
-    → ShowLines text room 0 used (map Built rows) (row_places used rows)
-rows-shown text room room_rest [] used goes = refl
-rows-shown text room room_rest (row ∷ rows) used goes =
-    let more = built_text (map Built rows) ++ room_rest in
-    let here : GoesOn room used (row ++ more) = subst (GoesOn room used)
-    (append_assoc row (built_text (map Built rows)) room_rest) goes in (
-      record { built = refl; shows = shows-here room row more used 1 here; offset = refl },
-      rows-shown text room room_rest rows (used + length row)
-          (passes room row more used here).after,
-    )
+lines_of-text_cuts : (ending start : ℕ) (groups : List (List LineParts))
+    → lines_of (text_cuts ending start (map covered_by groups) groups)
+    ≡ map line_from (flat_map (λ parts. parts) groups)
+lines_of-text_cuts ending start [] = refl
+lines_of-text_cuts ending start (parts ∷ groups) =
+    let next = start + length (covered_by parts) + ending in
+    map-append (λ (cut : CutLine). cut.line) (cut_lines start parts)
+    (text_cuts ending next (map covered_by groups) groups)
+    ∙ ap (λ ls. ls ++ lines_of (text_cuts ending next (map covered_by groups) groups))
+    (lines_of-cut_lines start parts)
+    ∙ ap (λ ls. map line_from parts ++ ls) (lines_of-text_cuts ending next groups)
+    ∙ sym (map-append line_from parts (flat_map (λ ps. ps) groups))
 
-row_places-push : (rows : List (List ℕ)) (row : List ℕ) (used after : ℕ)
-    → after ≡ used + length (built_text (map Built rows))
-    → row_places used (rows ++ row ∷ []) ≡ row_places used rows ++ place_of 0 after (Built row) ∷ []
-row_places-push [] row used after is =
-    let same : used ≡ after = omega (arith, is) in
-    ap (λ n. place_of 0 n (Built row) ∷ []) same
-row_places-push (first ∷ rows) row used after is =
-    let sum = length-append first (built_text (map Built rows)) in
-    ap (λ told. place_of 0 used (Built first) ∷ told)
-    (row_places-push rows row (used + length first) after (omega (arith, is, sum)))
-
-pub AreToldRows-push : (rows : List (List ℕ)) (row : List ℕ) (places more : List TextwrapLine)
-    (built grown : List ℕ) → AreToldRows rows places built
-    → more ≡ places ++ place_of 0 (length built) (Built row) ∷ [] → grown ≡ built ++ row
-    → AreToldRows (rows ++ row ∷ []) more grown
-AreToldRows-push rows row places more built grown (places_are, built_is) more_is grown_is = (
-  more_is ∙ ap (λ ps. ps ++ place_of 0 (length built) (Built row) ∷ []) places_are
-      ∙ sym (row_places-push rows row 0 (length built) (let len = ap length built_is in
-      omega (arith, len))),
-  grown_is ∙ ap (λ b. b ++ row) built_is
-      ∙ sym (ap built_text (map_push Built rows row)
-      ∙ flat_map-append built_bytes (map Built rows) (Built row ∷ [])
-      ∙ ap (λ b. built_text (map Built rows) ++ b) (append-nil row)),
-)
+-- what is reported of the lines of a text shows them
+pub placed-shown : (settings : Settings) (splitter : Splitter) (algorithm : Algorithm)
+    (text : List ℕ) (lines : List Line) (places : List Place) → IsUtf8 text
+    → ArePlacedLines settings (DividesAs splitter algorithm settings) text lines places
+    → (rest : List ℕ) → ShowLines text (built_text lines ++ rest) 0 0 lines places
+placed-shown settings splitter algorithm text lines places utf8 placed rest =
+    let ending = ending_bytes settings.line_ending in
+    let paragraphs = paragraphs_of settings.line_ending text in
+    let groups = placed.are.groups in
+    let cuts = text_cuts (length ending) 0 (map covered_by groups) groups in
+    let tile : map covered_by groups ≡ paragraphs =
+    groups-tile settings (DividesAs splitter algorithm settings)
+    (IsDividedInto-tile settings algorithm splitter) false paragraphs groups
+    (paragraphs_of-utf8 settings.line_ending text utf8) placed.are.defined in
+    let whole : text ≡ join_with ending (map covered_by groups) =
+    sym (ap (join_with ending) tile ∙ join-paragraphs_of settings.line_ending text) in
+    let here = shown text (built_text (lines_of cuts) ++ rest) rest cuts 0 0
+    (groups-cut text ending groups 0 0 (omega arith) (record { within = omega arith; is = whole }))
+    (record { within = omega arith; is = refl }) in
+    subst (λ ls. ShowLines text (built_text ls ++ rest) 0 0 ls places)
+    (lines_of-text_cuts (length ending) 0 groups ∙ sym placed.are.given)
+    (subst (ShowLines text (built_text (lines_of cuts) ++ rest) 0 0 (lines_of cuts))
+    (ap (λ ps. places_of 0 (text_cuts (length ending) 0 ps groups)) tile ∙ sym placed.places_are)
+    here)

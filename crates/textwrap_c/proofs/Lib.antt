@@ -1,16 +1,5 @@
-pub mod BrokenLemmas
-pub mod BuiltInParts
-pub mod FoundLemmas
 pub mod GroupLemmas
-pub mod LaidLemmas
-pub mod LaidLineLemmas
 pub mod LineLemmas
-pub mod NextLemmas
-pub mod PieceLemmas
 pub mod PlaceLemmas
-pub mod PlacedLemmas
-pub mod PlacedNextLemmas
 pub mod RoomLemmas
-pub mod SplitLemmas
-pub mod ToldLemmas
-pub mod ToldNextLemmas
+pub mod RowLemmas

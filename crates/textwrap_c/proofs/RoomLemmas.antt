@@ -9,10 +9,10 @@ pub WritesText-answer : {X : Type 0} (IsAnswer : List X → Type 0) (bytes : Lis
     → WritesText IsAnswer status room_before room_after len_before len_after
 WritesText-answer IsAnswer bytes status room_before room_after len_before len_after is writes =
     record {
-      written = λ done. let (answer, same, told, room) = writes.written done in
-          (answer, subst IsAnswer (sym same) is, told, room);
-      told = λ short. let (answer, same, told, room) = writes.told short in
-          (answer, subst IsAnswer (sym same) is, told, room);
+      written = λ done. let (answer, same, reported, room) = writes.written done in
+          (answer, subst IsAnswer (sym same) is, reported, room);
+      reported = λ short. let (answer, same, reported, room) = writes.reported short in
+          (answer, subst IsAnswer (sym same) is, reported, room);
       kept = writes.kept;
       kept_len = writes.kept_len;
     }

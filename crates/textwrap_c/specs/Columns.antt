@@ -1,8 +1,8 @@
--- What is told of rows.
-use Rattle.std.specs.Prelude.{◌≡◌, ℕ, ◌+◌, List, [], ◌∷◌, length, map, IsUtf8}
+-- What is reported of rows.
+use Rattle.std.specs.Prelude.{◌≡◌, ℕ, List, map, IsUtf8}
 use Rattle.textwrap.specs.Paragraph.{Line, Built}
-use Rattle.textwrap_c.specs.Wrapping.{built_text, place_of}
-use Rattle.textwrap_c.specs.declared.told.TextwrapLine.{TextwrapLine}
+use Rattle.textwrap_lines.specs.Places.{CutLine, built_text, cut_line, lines_of, places_of}
+use Rattle.textwrap_lines.specs.declared.places.Place.{Place}
 use Rattle.textwrap_c.specs.declared.columns.TextwrapGaps.{TextwrapGaps}
 
 -- the gaps are texts
@@ -15,12 +15,11 @@ pub record AreTextGaps (gaps : TextwrapGaps) : Type 0 where
 abbrev pub AreRows : (List (List ℕ) → Type 0) → List Line → Type 0
 AreRows Are lines = (rows : List (List ℕ)) × Are rows × (lines ≡ map Built rows)
 
--- the places of lines of their own, and their text for the room
-abbrev pub row_places : ℕ → List (List ℕ) → List TextwrapLine
-row_places used [] = []
-row_places used (row ∷ rows) =
-    place_of 0 used (Built row) ∷ row_places (used + length row) rows
+-- lines of their own were cut from nowhere
+abbrev pub row_cuts : List (List ℕ) → List CutLine
+row_cuts rows = map (λ row. cut_line 0 (Built row)) rows
 
-abbrev pub AreToldRows : List (List ℕ) → List TextwrapLine → List ℕ → Type 0
-AreToldRows rows places built =
-    (places ≡ row_places 0 rows) × (built ≡ built_text (map Built rows))
+-- the places of such rows, and their text for the room
+abbrev pub ArePlacedRows : List (List ℕ) → List Place → List ℕ → Type 0
+ArePlacedRows rows places built =
+    (places ≡ places_of 0 (row_cuts rows)) × (built ≡ built_text (lines_of (row_cuts rows)))

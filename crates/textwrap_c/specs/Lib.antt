@@ -3,5 +3,5 @@ pub mod Options
 pub mod Refilling
 pub mod Room
 pub mod Status
-pub mod Told
+pub mod Reported
 pub mod Wrapping

@@ -1,6 +1,6 @@
 -- What the numbers of the options mean.
 use Rattle.std.specs.Prelude.{◌≡◌, ℕ, ◌≤◌, ◌==◌, [], ◌∷◌, Bool, not, IsUtf8, if◌then◌else◌}
-use Rattle.textwrap.specs.Options.{Settings}
+use Rattle.textwrap.specs.Options.{Settings, settings_at}
 use Rattle.textwrap.specs.WordSplitters.{Splitter, Whole, AtHyphens}
 use Rattle.textwrap.specs.WrapAlgorithms.{Algorithm, Greedy, LeastCost}
 use Rattle.textwrap_base.specs.declared.penalties.Penalties.{Penalties}
@@ -27,8 +27,7 @@ abbrev pub splitter_of : TextwrapOptions → Splitter
 splitter_of o = if o.split_at_hyphens == 0 then Whole else AtHyphens
 
 abbrev pub settings_of : TextwrapOptions → Settings
-settings_of o = record {
-  width = o.width;
+settings_of o = record (settings_at o.width) {
   line_ending = if o.crlf == 0 then LF else CRLF;
   initial_indent = o.initial_indent.now;
   subsequent_indent = o.subsequent_indent.now;

@@ -17,7 +17,7 @@ abbrev pub ending_number : LineEnding → ℕ
 ending_number LF = 0
 ending_number CRLF = 1
 
--- what is told of these settings
+-- what is reported of these settings
 pub record IsLayout (settings : Settings) (layout : TextwrapLayout) : Type 0 where
   pub width : layout.width ≡ settings.width
   pub crlf : layout.crlf ≡ ending_number settings.line_ending

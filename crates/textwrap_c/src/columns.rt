@@ -2,19 +2,19 @@
 ghost use Rattle.std.specs.Prelude.{◌≡◌, ◌≤◌, ◌<◌, ◌↔◌, ◌⊎◌, IsUtf8, IfOk, map, string_bytes};
 ghost use Rattle.textwrap.specs.Columns.{IsInColumns};
 ghost use Rattle.textwrap.specs.Paragraph.{DividesAs};
-ghost use Rattle.textwrap_c.specs.Columns.{AreTextGaps, AreRows, AreToldRows};
+ghost use Rattle.textwrap_c.specs.Columns.{AreTextGaps, AreRows, ArePlacedRows};
 ghost use Rattle.textwrap_c.specs.Options.{settings_of, splitter_of, algorithm_of, AreKnown};
 ghost use Rattle.textwrap_c.specs.Options.{AreTexts};
 ghost use Rattle.textwrap_c.specs.Status.{not_utf8, unknown_options};
 ghost use Rattle.textwrap_c.specs.Wrapping.{WritesLines};
 
 use crate::options::{TextwrapOptions, read_options};
+use crate::reported::{TextwrapLine, put_lines};
 use crate::status::{NOT_UTF8, OUT_OF_MEMORY, UNKNOWN_OPTIONS};
-use crate::told::{TextwrapLine, ToldLines, put_lines};
 use std::alloc::{AllocError, Global};
-use std::borrow::CowStr;
 use std::str;
 use textwrap::wrap_columns;
+use textwrap_lines::placed::PlacedLines;
 
 /// What stands around the cells of a row, in UTF-8.
 #[repr(C)]
@@ -69,20 +69,20 @@ pub extern "C" fn textwrap_wrap_columns(
     let Ok(found) = wrap_columns(alloc, text, columns, options, left, middle, right) else {
         return OUT_OF_MEMORY;
     };
-    let Ok(told) = tell_rows(alloc, found) else {
+    let Ok(placed) = place_rows(alloc, found) else {
         return OUT_OF_MEMORY;
     };
-    put_lines(&told, rows, count, room, len)
+    put_lines(&placed, rows, count, room, len)
 }
 
-/// The rows, told as lines of their own.
-fn tell_rows(alloc: Global, rows: Vec<String>) -> Result<ToldLines, AllocError>
-    ensures { IfOk result (λ told. AreToldRows (map string_bytes rows.items) told.places.items
-        told.built.items) }
+/// The rows, placed as lines of their own.
+fn place_rows(alloc: Global, rows: Vec<String>) -> Result<PlacedLines<Global>, AllocError>
+    ensures { IfOk result (λ placed. ArePlacedRows (map string_bytes rows.items)
+        placed.places.items placed.built.items) }
 {
-    let mut told = ToldLines::new(alloc);
+    let mut placed = PlacedLines::new(alloc);
     for row in rows {
-        told.push(&CowStr::Owned(row), 0)?;
+        placed.push_built("", &row, "")?;
     }
-    Ok(told)
+    Ok(placed)
 }

@@ -10,10 +10,10 @@ pub mod filling;
 pub mod indentation;
 pub mod options;
 pub mod refilling;
+mod reported;
 mod room;
 pub mod status;
 #[cfg(test)]
 mod tests;
-mod told;
 pub mod widths;
 pub mod wrapping;

@@ -10,7 +10,8 @@ ghost use Rattle.textwrap_c.specs.Status.{not_utf8, unknown_options};
 use crate::status::{NOT_UTF8, UNKNOWN_OPTIONS};
 use std::str;
 use textwrap::wrap_algorithms::Penalties;
-use textwrap::{LineEnding, Options, WordSeparator, WordSplitter, WrapAlgorithm};
+use textwrap::{LineEnding, Options, WordSplitter, WrapAlgorithm};
+use textwrap_lines::inner::DEFAULTS;
 
 /// The version of [`TextwrapOptions`].
 pub const VERSION: u32 = 1;
@@ -46,11 +47,12 @@ pub struct TextwrapOptions<'a> {
     pub nline_penalty: usize,
     /// What each column past the width costs.
     pub overflow_penalty: usize,
-    /// A last line of one word is short if it takes less than this fraction of the width.
+    /// A last line of one piece is short if it takes less than the width divided by this. An empty
+    /// piece before the first word of an indented text counts.
     pub short_last_line_fraction: usize,
     /// What a short last line costs.
     pub short_last_line_penalty: usize,
-    /// What a line costs more that ends in an added hyphen.
+    /// What a line costs more that ends in an added hyphen. The built-in splitters add none.
     pub hyphen_penalty: usize,
     /// 0 each, until a later option takes one, for which 0 will change nothing.
     pub reserved_sizes: [usize; 4],
@@ -89,10 +91,10 @@ pub(crate) fn read_options<'a>(given: &TextwrapOptions<'a>) -> Result<Options<'a
         subsequent_indent,
         break_words: given.break_words != 0,
         wrap_algorithm: read_algorithm(given),
-        word_separator: WordSeparator::AsciiSpace,
         word_splitter: read_splitter(given),
         preserve_trailing_space: given.preserve_trailing_space != 0,
         even_paragraphs: given.even_paragraphs != 0,
+        ..DEFAULTS
     })
 }
 

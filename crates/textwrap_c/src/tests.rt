@@ -9,27 +9,32 @@ use crate::widths::textwrap_display_width;
 use crate::wrapping::{TextwrapLine, textwrap_wrap};
 use std::alloc::Global;
 
+mod large;
+
+/// The library's defaults at 10 columns.
+const DEFAULTS: TextwrapOptions<'_> = TextwrapOptions {
+    version: VERSION,
+    optimal_fit: 1,
+    split_at_hyphens: 1,
+    break_words: 1,
+    preserve_trailing_space: 0,
+    even_paragraphs: 0,
+    crlf: 0,
+    reserved: 0,
+    width: 10,
+    initial_indent: b"",
+    subsequent_indent: b"",
+    nline_penalty: 1000,
+    overflow_penalty: 2500,
+    short_last_line_fraction: 4,
+    short_last_line_penalty: 25,
+    hyphen_penalty: 25,
+    reserved_sizes: [0; 4],
+};
+
 /// The library's defaults at this width.
 fn at(width: usize) -> TextwrapOptions<'static> {
-    TextwrapOptions {
-        version: VERSION,
-        optimal_fit: 1,
-        split_at_hyphens: 1,
-        break_words: 1,
-        preserve_trailing_space: 0,
-        even_paragraphs: 0,
-        crlf: 0,
-        reserved: 0,
-        width,
-        initial_indent: b"",
-        subsequent_indent: b"",
-        nline_penalty: 1000,
-        overflow_penalty: 2500,
-        short_last_line_fraction: 4,
-        short_last_line_penalty: 25,
-        hyphen_penalty: 25,
-        reserved_sizes: [0; 4],
-    }
+    TextwrapOptions { width, ..DEFAULTS }
 }
 
 /// A text whose lines at 10 columns differ by algorithm and penalties.
@@ -67,107 +72,133 @@ fn a_text_is_filled_where_it_has_room(rt: HostRuntime) {
     assert_eq!(rt; &room, b"foo bar\nbaz.....");
 }
 
+const FILLED: &[(TextwrapOptions<'_>, &[u8], &[u8])] = &[
+    (
+        DEFAULTS,
+        HAMLET,
+        b"To be,\nor not to\nbe: that\nis the\nquestion",
+    ),
+    (
+        TextwrapOptions {
+            optimal_fit: 0,
+            ..DEFAULTS
+        },
+        HAMLET,
+        b"To be, or\nnot to be:\nthat is\nthe\nquestion",
+    ),
+    (
+        TextwrapOptions {
+            nline_penalty: 1_000_000,
+            ..DEFAULTS
+        },
+        HAMLET,
+        HAMLET,
+    ),
+    (
+        TextwrapOptions {
+            overflow_penalty: 0,
+            ..DEFAULTS
+        },
+        HAMLET,
+        HAMLET,
+    ),
+    (
+        TextwrapOptions {
+            width: 11,
+            ..DEFAULTS
+        },
+        b"foo bar baz a",
+        b"foo bar\nbaz a",
+    ),
+    (
+        TextwrapOptions {
+            short_last_line_penalty: 0,
+            width: 11,
+            ..DEFAULTS
+        },
+        b"foo bar baz a",
+        b"foo bar baz\na",
+    ),
+    (
+        TextwrapOptions {
+            short_last_line_fraction: 20,
+            width: 11,
+            ..DEFAULTS
+        },
+        b"foo bar baz a",
+        b"foo bar baz\na",
+    ),
+    (
+        TextwrapOptions {
+            width: 5,
+            ..DEFAULTS
+        },
+        b"foo-bar",
+        b"foo-\nbar",
+    ),
+    (
+        TextwrapOptions {
+            split_at_hyphens: 0,
+            width: 5,
+            ..DEFAULTS
+        },
+        b"foo-bar",
+        b"foo-b\nar",
+    ),
+    (
+        TextwrapOptions {
+            break_words: 0,
+            width: 5,
+            ..DEFAULTS
+        },
+        b"foobarbaz",
+        b"foobarbaz",
+    ),
+    (
+        TextwrapOptions {
+            preserve_trailing_space: 1,
+            width: 5,
+            ..DEFAULTS
+        },
+        b"foo bar",
+        b"foo \nbar",
+    ),
+    (
+        TextwrapOptions {
+            crlf: 1,
+            width: 5,
+            ..DEFAULTS
+        },
+        b"foo bar\r\nbaz",
+        b"foo\r\nbar\r\nbaz",
+    ),
+    (
+        TextwrapOptions {
+            initial_indent: b"* ",
+            subsequent_indent: b"    ",
+            width: 9,
+            ..DEFAULTS
+        },
+        b"foo bar\nbaz qu",
+        b"* foo bar\n    baz qu",
+    ),
+    (
+        TextwrapOptions {
+            initial_indent: b"* ",
+            subsequent_indent: b"    ",
+            even_paragraphs: 1,
+            width: 9,
+            ..DEFAULTS
+        },
+        b"foo bar\nbaz qu",
+        b"* foo bar\n    baz\n    qu",
+    ),
+];
+
 /// Each of these options alone changes what is written.
 #[test]
 fn each_option_reaches_the_library(rt: HostRuntime) {
-    let rows: &[(TextwrapOptions<'_>, &[u8], &[u8])] = &[
-        (
-            at(10),
-            HAMLET,
-            b"To be,\nor not to\nbe: that\nis the\nquestion",
-        ),
-        (
-            TextwrapOptions {
-                optimal_fit: 0,
-                ..at(10)
-            },
-            HAMLET,
-            b"To be, or\nnot to be:\nthat is\nthe\nquestion",
-        ),
-        (
-            TextwrapOptions {
-                nline_penalty: 1_000_000,
-                ..at(10)
-            },
-            HAMLET,
-            HAMLET,
-        ),
-        (
-            TextwrapOptions {
-                overflow_penalty: 0,
-                ..at(10)
-            },
-            HAMLET,
-            HAMLET,
-        ),
-        (at(11), b"foo bar baz a", b"foo bar\nbaz a"),
-        (
-            TextwrapOptions {
-                short_last_line_penalty: 0,
-                ..at(11)
-            },
-            b"foo bar baz a",
-            b"foo bar baz\na",
-        ),
-        (
-            TextwrapOptions {
-                short_last_line_fraction: 20,
-                ..at(11)
-            },
-            b"foo bar baz a",
-            b"foo bar baz\na",
-        ),
-        (at(5), b"foo-bar", b"foo-\nbar"),
-        (
-            TextwrapOptions {
-                split_at_hyphens: 0,
-                ..at(5)
-            },
-            b"foo-bar",
-            b"foo-b\nar",
-        ),
-        (
-            TextwrapOptions {
-                break_words: 0,
-                ..at(5)
-            },
-            b"foobarbaz",
-            b"foobarbaz",
-        ),
-        (
-            TextwrapOptions {
-                preserve_trailing_space: 1,
-                ..at(5)
-            },
-            b"foo bar",
-            b"foo \nbar",
-        ),
-        (
-            TextwrapOptions { crlf: 1, ..at(5) },
-            b"foo bar\r\nbaz",
-            b"foo\r\nbar\r\nbaz",
-        ),
-        (
-            TextwrapOptions {
-                initial_indent: b"* ",
-                subsequent_indent: b"    ",
-                ..at(9)
-            },
-            b"foo bar\nbaz qu",
-            b"* foo bar\n    baz qu",
-        ),
-        (
-            TextwrapOptions {
-                initial_indent: b"* ",
-                subsequent_indent: b"    ",
-                even_paragraphs: 1,
-                ..at(9)
-            },
-            b"foo bar\nbaz qu",
-            b"* foo bar\n    baz\n    qu",
-        ),
-    ];
-    for (options, text, filled) in rows {
+    for (options, text, filled) in FILLED {
         let mut room = [0; 64];
         let mut len = 0;
         let status = textwrap_fill(rt.alloc(), text, options, &mut room, &mut len);
@@ -176,33 +207,35 @@ fn each_option_reaches_the_library(rt: HostRuntime) {
     }
 }
 
+const UNKNOWN: &[TextwrapOptions<'_>] = &[
+    TextwrapOptions {
+        version: 2,
+        ..DEFAULTS
+    },
+    TextwrapOptions {
+        optimal_fit: 2,
+        ..DEFAULTS
+    },
+    TextwrapOptions {
+        even_paragraphs: 2,
+        ..DEFAULTS
+    },
+    TextwrapOptions {
+        reserved: 1,
+        ..DEFAULTS
+    },
+    TextwrapOptions {
+        reserved_sizes: [0, 0, 0, 1],
+        ..DEFAULTS
+    },
+];
+
 #[test]
 fn options_without_a_meaning_are_refused(rt: HostRuntime) {
-    for options in [
-        TextwrapOptions {
-            version: 2,
-            ..at(10)
-        },
-        TextwrapOptions {
-            optimal_fit: 2,
-            ..at(10)
-        },
-        TextwrapOptions {
-            even_paragraphs: 2,
-            ..at(10)
-        },
-        TextwrapOptions {
-            reserved: 1,
-            ..at(10)
-        },
-        TextwrapOptions {
-            reserved_sizes: [0, 0, 0, 1],
-            ..at(10)
-        },
-    ] {
+    for options in UNKNOWN {
         let mut room = [0; 8];
         let mut len = 5;
-        let status = textwrap_fill(rt.alloc(), b"foo", &options, &mut room, &mut len);
+        let status = textwrap_fill(rt.alloc(), b"foo", options, &mut room, &mut len);
         assert_eq!(rt; (status, len), (UNKNOWN_OPTIONS, 5));
         assert_eq!(rt; room, [0; 8]);
     }
@@ -281,7 +314,7 @@ fn wrap_into(
 
 /// The second line is no part of the first one, which is a text of its own.
 #[test]
-fn a_slice_after_a_built_line_is_told_where_it_was_cut(rt: HostRuntime) {
+fn a_slice_after_a_built_line_is_reported_where_it_was_cut(rt: HostRuntime) {
     let options = TextwrapOptions {
         initial_indent: b"* ",
         ..at(6)
@@ -296,7 +329,7 @@ fn a_slice_after_a_built_line_is_told_where_it_was_cut(rt: HostRuntime) {
 
 /// The empty line stands at its own paragraph, and not behind the line before it.
 #[test]
-fn an_empty_paragraph_is_told_where_it_stands(rt: HostRuntime) {
+fn an_empty_paragraph_is_reported_where_it_stands(rt: HostRuntime) {
     let mut lines = [NOWHERE; 4];
     let found = wrap_into(rt.alloc(), b"foo  \n\n  \nbar", &at(10), &mut lines);
     assert_eq!(rt; found, (DONE, 4));
@@ -310,7 +343,7 @@ fn an_empty_paragraph_is_told_where_it_stands(rt: HostRuntime) {
 
 /// A line that is a line feed or a carriage return alone is not the one in the ending before it.
 #[test]
-fn half_an_ending_is_told_where_it_stands(rt: HostRuntime) {
+fn half_an_ending_is_reported_where_it_stands(rt: HostRuntime) {
     let options = TextwrapOptions { crlf: 1, ..at(10) };
     let mut lines = [NOWHERE; 4];
     let found = wrap_into(rt.alloc(), b"a\r\n\n\r\n\r\r\nb", &options, &mut lines);

@@ -4,17 +4,19 @@ ghost use Rattle.textwrap.specs.Paragraph.{DividesAs};
 ghost use Rattle.textwrap_c.specs.Options.{settings_of, splitter_of, algorithm_of, AreKnown};
 ghost use Rattle.textwrap_c.specs.Options.{AreTexts};
 ghost use Rattle.textwrap_c.specs.Status.{not_utf8, unknown_options};
-ghost use Rattle.textwrap_c.specs.Wrapping.{ArePlacedLines, WritesLines};
+ghost use Rattle.textwrap_c.specs.Wrapping.{WritesLines};
+ghost use Rattle.textwrap_lines.specs.Places.{ArePlacedLines};
 
 use crate::options::{TextwrapOptions, read_options};
+pub use crate::reported::TextwrapLine;
+use crate::reported::put_lines;
 use crate::status::{NOT_UTF8, OUT_OF_MEMORY};
-pub use crate::told::TextwrapLine;
-use crate::told::{put_lines, tell_text};
 use std::alloc::Global;
 use std::str;
+use textwrap_lines::placed::place_lines;
 
 /// Writes where the lines of the text stand, and how many they are to `count`. A line that is a
-/// slice of the text is told at the place that it was cut from. A line with an indent is a text of
+/// slice of the text is reported at the place that it was cut from. A line with an indent is a text of
 /// its own: these go to the front of the room, one after another, and `len` is that of all. Where
 /// the lines or the room are too short for them, only `count` and `len` are written, so that a
 /// second call can bring both.
@@ -43,8 +45,8 @@ pub extern "C" fn textwrap_wrap(
     let Ok(text) = str::from_utf8(text) else {
         return NOT_UTF8;
     };
-    let Ok(told) = tell_text(alloc, text, &options) else {
+    let Ok(placed) = place_lines(alloc, text, &options) else {
         return OUT_OF_MEMORY;
     };
-    put_lines(&told, lines, count, room, len)
+    put_lines(&placed, lines, count, room, len)
 }

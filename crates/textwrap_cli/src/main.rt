@@ -5,12 +5,13 @@
 use std::env::Env;
 use std::process::ExitCode;
 use std::{env, io};
+use textwrap_program::arguments::words_after_name;
 use textwrap_program::filling::{RunError, fault};
 use textwrap_program::program::{complain, execute};
 
 fn main(rt: HostRuntime) -> ExitCode {
     let mut messages = rt.stderr();
-    let status = match words_after_name(&rt) {
+    let status = match words(&rt) {
         Ok(words) => execute(
             rt.alloc(),
             &words,
@@ -23,14 +24,7 @@ fn main(rt: HostRuntime) -> ExitCode {
     ExitCode::from(status)
 }
 
-/// The program's arguments without its name.
-fn words_after_name(rt: &(impl Env + AllocGlobal)) -> io::Result<Vec<String>> {
-    let mut arguments = env::args(rt)?;
-    let _name = arguments.next();
-    // One by one, since `collect` would grow again where its first reservation is refused.
-    let mut words = Vec::new(rt.alloc());
-    for word in arguments {
-        words.push(word)?;
-    }
-    Ok(words)
+/// The words that the program was called with.
+fn words(rt: &(impl Env + AllocGlobal)) -> io::Result<Vec<String>> {
+    Ok(words_after_name(rt.alloc(), env::args(rt)?)?)
 }

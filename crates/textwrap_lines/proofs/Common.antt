@@ -13,21 +13,26 @@ pub use Rattle.textwrap_lines.specs.Paragraph.{keeps_whitespace, KeepsToWidth, K
 pub use Rattle.textwrap_lines.specs.Paragraph.{last_piece, later_width, Line, line_bytes, line_from}
 pub use Rattle.textwrap_lines.specs.Paragraph.{line_view, LineParts, OnlyCharactersPass, parts_from}
 pub use Rattle.textwrap_lines.specs.Paragraph.{parts_of, pieces_of, Slice, text_limit, width_after}
-pub use Rattle.textwrap_lines.specs.Paragraph.{widths_of}
-pub use Rattle.textwrap_lines.specs.Printable.{BlanksBetween, byte_before, cut_at, CutTest}
-pub use Rattle.textwrap_lines.specs.Printable.{IsFirstLine, IsFirstPiece, IsPrintable}
-pub use Rattle.textwrap_lines.specs.Printable.{IsPrintableByte, NoCutBetween, parts, pieces_after}
-pub use Rattle.textwrap_lines.specs.Printable.{printable_cut}
+pub use Rattle.textwrap_lines.specs.Paragraph.{last_space, widths_of}
+pub use Rattle.textwrap_lines.specs.Places.{AreCutLines, built_bytes, built_text, cut_line}
+pub use Rattle.textwrap_lines.specs.Places.{cut_lines, CutLine, further, lines_of, place_of}
+pub use Rattle.textwrap_lines.specs.Places.{places_of, text_cuts}
+pub use Rattle.textwrap_lines.specs.Printable.{byte_before, cut_at, CutTest}
+pub use Rattle.textwrap_lines.specs.Printable.{IsFirstLine}
+pub use Rattle.textwrap_lines.specs.Printable.{NoCutBetween, parts, pieces_after, printable_cut}
 pub use Rattle.textwrap_lines.specs.Spans.{AreSpans, HaveTexts, last_span, no_span, span_lines}
 pub use Rattle.textwrap_lines.specs.Spans.{span_of, span_priced, spans_from}
 pub use Rattle.textwrap_lines.specs.Text.{AreGroups, AreTextLines, covered_by, IsWrapped}
-pub use Rattle.textwrap_lines.specs.Text.{LinesKeepToWidth}
-pub use Rattle.textwrap_lines.specs.WordLines.{GoesOn, IsNext, later_lines, line_of, line_so_far}
-pub use Rattle.textwrap_lines.specs.WordLines.{lines_after, lines_from, LineSoFar, with_piece}
+pub use Rattle.textwrap_lines.specs.Text.{LinesKeepToWidth, HasWholeSequences, HasNoEscape}
+pub use Rattle.textwrap_lines.specs.Text.{CutsNoSequence, IsPrintedWithin, CanKeepToWidth}
+pub use Rattle.textwrap_lines.specs.Text.{ArePrintedWithin}
+pub use Rattle.textwrap_lines.specs.PieceLines.{line_of, line_so_far, lines_from, LineSoFar}
+pub use Rattle.textwrap_lines.specs.PieceLines.{with_piece}
+pub use Rattle.textwrap_words.specs.Units.{IsPrintable, IsPrintableByte}
 pub use Rattle.textwrap_base.specs.declared.penalties.Penalties.{Penalties}
 pub use Rattle.textwrap_lines.specs.declared.line_ending.LineEnding.{LineEnding}
 pub use Rattle.textwrap_lines.specs.declared.line_sinks.LineSink.{LineSink}
 pub use Rattle.textwrap_lines.specs.declared.options.Options.{Options}
 pub use Rattle.textwrap_lines.specs.declared.spans.Span.{Span}
-pub use Rattle.textwrap_lines.specs.declared.word_lines.OpenLine.{OpenLine}
+pub use Rattle.textwrap_lines.specs.declared.piece_lines.OpenLine.{OpenLine}
 pub use Rattle.textwrap_words.specs.declared.words.Word.{Word}

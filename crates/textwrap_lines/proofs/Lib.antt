@@ -1,6 +1,6 @@
 pub mod Common
 pub mod Paragraph
 pub mod PrintableTexts
-pub mod Standing
+pub mod PlacedPieces
 pub mod Text
-pub mod WordLines
+pub mod PieceLines

@@ -1,3 +1,4 @@
+pub mod Cuts
 pub mod Directly
 pub mod EndingTexts
 pub mod Endings
@@ -6,8 +7,11 @@ pub mod Lines
 pub mod Lossless
 pub mod Narrow
 pub mod Paragraphs
+pub mod Printed
+pub mod PrintedLines
 pub mod Promises
 pub mod Sinks
 pub mod Taken
 pub mod Unique
+pub mod WholeSequences
 pub mod Wrapped

@@ -1,13 +1,15 @@
 -- What the laws say.
-use Rattle.std.specs.Prelude.{◌≡◌, ◌↔◌, ℕ, Bool, List, IsUtf8, Some}
+use Rattle.std.specs.Prelude.{◌≡◌, ◌↔◌, ℕ, Bool, true, List, IsUtf8, Some}
+use Rattle.textwrap_words.specs.Units.{IsNarrow}
 use Rattle.textwrap_words.specs.Words.{WordText, AreWordsOf}
-use Rattle.textwrap_words.specs.WrapAlgorithms.{Algorithm}
+use Rattle.textwrap_words.specs.WrapAlgorithms.{Algorithm, Greedy}
 use Rattle.textwrap_lines.specs.Filling.{IsFilled}
 use Rattle.textwrap_lines.specs.LineEnding.{AreParagraphs, paragraphs_of}
 use Rattle.textwrap_lines.specs.Options.{Settings}
 use Rattle.textwrap_lines.specs.Paragraph.{ArePieces, pieces_of, DividesAs, AreDividedParts}
 use Rattle.textwrap_lines.specs.Paragraph.{AreParagraphParts, Line}
-use Rattle.textwrap_lines.specs.Text.{AreTextLines, IsWrapped}
+use Rattle.textwrap_lines.specs.Text.{AreTextLines, IsWrapped, LinesKeepToWidth}
+use Rattle.textwrap_lines.specs.Text.{CanKeepToWidth, ArePrintedWithin}
 use Rattle.textwrap_words.specs.WordSplitters.{Splitter, ArePoints}
 use Rattle.textwrap_lines.specs.declared.line_ending.LineEnding.{LineEnding}
 pub use Rattle.textwrap_words.specs.Laws.{UnitsAreUnique, WordsAreUnique, BrokenPiecesAreUnique}
@@ -57,8 +59,8 @@ TextLinesAreUnique = ForBuiltIn (λ settings Divides. IsUnique (AreTextLines set
 abbrev pub FilledTextIsUnique : Type 0
 FilledTextIsUnique = ForBuiltIn (λ settings Divides. IsUnique (IsFilled settings Divides))
 
--- by built-in parts the lines of a text lose only blanks, add only indents, and keep to their
--- widths
+-- by built-in parts the lines of a text lose only blanks and add only indents, and by first fit, if
+-- words are broken, they keep to their widths
 abbrev pub TextLinesAreWrapped : Type 0
 TextLinesAreWrapped =
     (settings : Settings) (algorithm : Algorithm) (splitter : Splitter) (text : List ℕ)
@@ -67,3 +69,22 @@ TextLinesAreWrapped =
     DividesAs splitter algorithm settings in
     AreTextLines settings Divides text lines
     → IsWrapped settings (Some splitter) (Some algorithm) Divides text lines
+
+-- where paragraphs are even, words broken, and characters narrow, by first fit the lines keep to
+-- the width with their indents, if they can
+abbrev pub EvenLinesKeepToWidth : Type 0
+EvenLinesKeepToWidth =
+    (settings : Settings) (splitter : Splitter) (text : List ℕ) (lines : List Line) → IsUtf8 text
+    → settings.even_paragraphs ≡ true → settings.break_words ≡ true → IsNarrow text
+    → let Divides : Bool → List ℕ → List (List WordText) → Type 0 =
+    DividesAs splitter Greedy settings in
+    AreTextLines settings Divides text lines → LinesKeepToWidth settings Divides text lines
+
+-- by first fit the lines keep to the width as they are printed, where they can
+abbrev pub PrintedLinesKeepToWidth : Type 0
+PrintedLinesKeepToWidth =
+    (settings : Settings) (splitter : Splitter) (text : List ℕ) (lines : List Line) → IsUtf8 text
+    → CanKeepToWidth settings text
+    → let Divides : Bool → List ℕ → List (List WordText) → Type 0 =
+    DividesAs splitter Greedy settings in
+    AreTextLines settings Divides text lines → ArePrintedWithin settings Divides text lines

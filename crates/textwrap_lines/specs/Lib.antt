@@ -8,10 +8,11 @@ pub mod LineEnding
 pub mod LineSinks
 pub mod Options
 pub mod Paragraph
+pub mod Places
 pub mod Printable
 pub mod Spans
 pub mod Text
-pub mod WordLines
+pub mod PieceLines
 pub use Rattle.textwrap_base.specs.Cost
 pub use Rattle.textwrap_base.specs.Division
 pub use Rattle.textwrap_base.specs.Errors

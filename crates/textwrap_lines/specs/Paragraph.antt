@@ -1,13 +1,14 @@
 -- The lines of a paragraph.
-use Rattle.std.specs.Prelude.{◌≡◌, ℕ, ◌+◌, ◌-◌, ◌^◌, ◌<◌, ◌≤◌, Bool, true, ◌&&◌, ◌==◌, nat_lt}
-use Rattle.std.specs.Prelude.{List, [], ◌∷◌, ◌++◌, All, length, map, if◌then◌else◌, MatchBool, ⊤}
-use Rattle.std.specs.Prelude.{◌⊎◌}
+use Rattle.std.specs.Prelude.{◌≡◌, ℕ, ◌+◌, ◌-◌, ◌^◌, ◌<◌, ◌≤◌, Bool, true, ◌&&◌, ◌==◌, nat_lt, List}
+use Rattle.std.specs.Prelude.{[], ◌∷◌, ◌++◌, All, length, map, if◌then◌else◌, MatchBool, ⊤, ◌⊎◌}
 use Rattle.std.specs.String.{string_bytes}
 use Rattle.std.specs.declared.borrow.CowStr.{CowStr}
 use Rattle.std.specs.declared.borrow.CowStr.TheVariants.{Borrowed, Owned}
 use Rattle.textwrap_words.specs.WrapAlgorithms.{Algorithm, IsDividedBy, MayDivide}
 use Rattle.textwrap_words.specs.Breaking.{broken_words}
+use Rattle.textwrap_base.specs.Cost.{total_width}
 use Rattle.textwrap_base.specs.Division.{line_width, closed_width}
+use Rattle.textwrap_base.specs.Errors.{Fits64Bits}
 use Rattle.textwrap_words.specs.Units.{text_width, IsNarrow, column_characters}
 use Rattle.textwrap_words.specs.Words.{WordText, sizes_of, tiled, word_of, words_of, AreWordsOf}
 use Rattle.textwrap_lines.specs.Options.{Settings, settings_view}
@@ -131,6 +132,18 @@ DividesAs splitter algorithm settings =
 abbrev pub DividesByDefault : Settings → Algorithm → Bool → List ℕ → List (List WordText) → Type 0
 DividesByDefault settings algorithm = DividesAs AtHyphens algorithm settings
 
+-- under these settings the paragraph may have pieces whose widths pass 64 bits together, by the
+-- separator and the splitter of the options
+abbrev pub MayPass64BitsUnder : {E C : Type 0} {e : _} {c : _} → Options E C e c → Settings
+    → List ℕ → Type 0
+MayPass64BitsUnder o settings paragraph =
+    (pieces : List WordText)
+    × ArePieces settings (MaySeparate o.word_separator) (MaySplit o.word_splitter) paragraph pieces
+    × ¬ Fits64Bits (total_width sizes_of pieces)
+
+abbrev pub MayPass64Bits : {E C : Type 0} {e : _} {c : _} → Options E C e c → List ℕ → Type 0
+MayPass64Bits o = MayPass64BitsUnder o (settings_view o)
+
 -- ---- the lines of a division, where `is_later` says that a line stands before them
 
 -- what pieces cover, without the last one's whitespace
@@ -142,6 +155,11 @@ covered (w ∷ v ∷ words) = w.word ++ w.whitespace ++ covered (v ∷ words)
 abbrev pub last_piece : WordText → List WordText → WordText
 last_piece w [] = w
 last_piece w (v ∷ words) = last_piece v words
+
+-- the whitespace of the last piece
+abbrev pub last_space : List WordText → List ℕ
+last_space [] = []
+last_space (w ∷ words) = (last_piece w words).whitespace
 
 module _ (settings : Settings) where
   abbrev pub indent_of : Bool → List ℕ

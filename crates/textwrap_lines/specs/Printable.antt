@@ -1,22 +1,15 @@
 -- Printable texts, which are of printable ASCII alone, and the lines of first fit that they are cut
 -- into.
-use Rattle.std.specs.Prelude.{◌≡◌, ℕ, ◌+◌, ◌<◌, ◌≤◌, Bool, true, false, ◌&&◌, ◌||◌, ◌==◌, List, []}
-use Rattle.std.specs.Prelude.{◌∷◌, All, length, map, take, drop, slice_index, if◌then◌else◌}
+use Rattle.std.specs.Prelude.{◌≡◌, ℕ, ◌+◌, ◌<◌, ◌≤◌, Bool, false, ◌&&◌, ◌||◌, ◌==◌, List, []}
+use Rattle.std.specs.Prelude.{◌∷◌, ◌++◌, length, map, take, drop, slice_index, if◌then◌else◌}
 use Rattle.std.specs.Char.{is_ascii_alphanumeric}
 use Rattle.std.specs.List.{onto_first}
-use Rattle.textwrap_words.specs.Blanks.{is_blank}
+use Rattle.textwrap_words.specs.Blanks.{without_final_blanks}
 use Rattle.textwrap_words.specs.Breaking.{broken_words}
 use Rattle.textwrap_base.specs.Division.{Fits, closed_width}
-use Rattle.textwrap_words.specs.Words.{WordText, is_cut, sizes_of, tile_of, word_of}
+use Rattle.textwrap_words.specs.Words.{WordText, is_cut, sizes_of, word_of}
 use Rattle.textwrap_lines.specs.Paragraph.{covered}
-use Rattle.textwrap_words.specs.WordSplitters.{hyphen}
-
--- a printable character of ASCII
-abbrev pub IsPrintableByte : ℕ → Type 0
-IsPrintableByte c = (32 ≤ c) × (c < 127)
-
-abbrev pub IsPrintable : List ℕ → Type 0
-IsPrintable text = All IsPrintableByte text
+use Rattle.textwrap_words.specs.WordSplitters.{hyphen, Splitter, Whole, AtHyphens}
 
 -- ---- the parts that a text is cut into, and its pieces
 
@@ -44,17 +37,15 @@ cut_at cut a text m =
 abbrev pub byte_before : ℕ → List ℕ → ℕ → ℕ
 byte_before a text n = slice_index (a ∷ text) n
 
--- a printable text is cut into words, and where that is asked after hyphens between letters or
--- digits
-abbrev pub printable_cut : Bool → CutTest
-printable_cut hyphens a b c =
-    is_cut b c
-    || (hyphens && (b == hyphen) && is_ascii_alphanumeric a && is_ascii_alphanumeric c)
+-- a printable text is split nowhere, or after hyphens between letters or digits
+abbrev pub printable_point : Splitter → CutTest
+printable_point Whole a b c = false
+printable_point AtHyphens a b c =
+    (b == hyphen) && is_ascii_alphanumeric a && is_ascii_alphanumeric c
 
--- blanks stand from one place on up to another
-abbrev pub BlanksBetween : List ℕ → ℕ → ℕ → Type 0
-BlanksBetween text from to =
-    (k : ℕ) → from ≤ k → k < to → is_blank (slice_index text k) ≡ true
+-- it is cut into words, and these are split
+abbrev pub printable_cut : Splitter → CutTest
+printable_cut splitter a b c = is_cut b c || printable_point splitter a b c
 
 -- the text is not cut after the bytes from one place on up to another
 abbrev pub NoCutBetween : CutTest → ℕ → List ℕ → ℕ → ℕ → Type 0
@@ -62,28 +53,16 @@ NoCutBetween cut a text from to = (k : ℕ) → from ≤ k → k < to → cut_at
 
 -- ---- lines
 
--- so many of the pieces are the first line of first fit: they cover `slice` bytes, and the other
--- pieces are those of what follows `next` bytes
-pub record IsFirstLine (cut : CutTest) (limit a : ℕ) (text : List ℕ) (slice next : ℕ)
+-- these pieces are the first line of first fit: the others are those of what follows `next` bytes,
+-- and the first of these has no room. Words are broken past `limit` columns
+pub record IsFirstLine (cut : CutTest) (limit width a : ℕ) (text : List ℕ) (next : ℕ)
     : Type 0 where
-  pub count : ℕ
-  pub some : 0 < count
-  pub within : count ≤ length (pieces_after cut limit a text)
-  pub covers : covered (take count (pieces_after cut limit a text)) ≡ take slice text
-  pub rest : drop count (pieces_after cut limit a text)
-      ≡ pieces_after cut limit (byte_before a text next) (drop next text)
-  pub fits : Fits sizes_of limit (take count (pieces_after cut limit a text))
-  pub full : count < length (pieces_after cut limit a text)
-      → limit < closed_width sizes_of (take (count + 1) (pieces_after cut limit a text))
-
--- ---- pieces
-
--- the first piece has so many bytes without its whitespace, and so many with it; the other pieces
--- are those of what follows it
-pub record IsFirstPiece (cut : CutTest) (limit a : ℕ) (text : List ℕ) (word_len len : ℕ)
-    : Type 0 where
-  pub first : WordText
+  pub line : List WordText
+  pub some : 0 < length line
   pub are : pieces_after cut limit a text
-      ≡ first ∷ pieces_after cut limit (byte_before a text len) (drop len text)
-  pub word : length first.word ≡ word_len
-  pub whole : length (tile_of first) ≡ len
+      ≡ line ++ pieces_after cut limit (byte_before a text next) (drop next text)
+  pub covers : covered line ≡ without_final_blanks (take next text)
+  pub fits : Fits sizes_of width line
+  pub full : (w : WordText) (ws : List WordText)
+      → pieces_after cut limit (byte_before a text next) (drop next text) ≡ w ∷ ws
+      → width < closed_width sizes_of (line ++ w ∷ [])

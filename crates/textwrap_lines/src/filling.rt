@@ -6,20 +6,21 @@ ghost use Rattle.textwrap_words.specs.WordSplitters.{Splitter};
 ghost use Rattle.textwrap_words.specs.WrapAlgorithms.{Algorithm};
 ghost use Rattle.textwrap_lines.specs.Paragraph.{DividesAs, DividesBy, line_bytes, line_view};
 ghost use Rattle.textwrap_lines.specs.Filling.{IsFilled};
+ghost use Rattle.textwrap_lines.specs.Text.{SomeMayPass64Bits};
 
 use crate::line_ending::LineEnding;
 use crate::line_sinks::LineSink;
 use crate::options::Options;
-use crate::wrapping::{push_text, wrap};
+use crate::wrapping::{Way, push_text};
 use std::alloc::{AllocError, Allocator};
 use std::borrow::CowStr;
 use textwrap_words::wrap_algorithms::WrapError;
 
-/// The lines of [`wrap`], joined by the line ending. At 10 columns `foo bar baz` becomes `foo bar`,
+/// The lines of [`wrap`](crate::wrap), joined by the line ending. At 10 columns `foo bar baz` becomes `foo bar`,
 /// a line feed and `baz`.
 ///
 /// # Errors
-/// Those of [`wrap`].
+/// Those of [`wrap`](crate::wrap).
 pub fn fill<A: Allocator + Copy>(
     alloc: A,
     text: &str,
@@ -34,19 +35,23 @@ pub fn fill<A: Allocator + Copy>(
         (DividesAs splitter algorithm settings) text.now (string_bytes filled)) }
     ensures only_memory { ¬ MayOverflow options.entry
         → IfErr result (λ error. error ≡ WrapError.Memory alloc_error) }
+    // Overflow needs a paragraph whose pieces are together wider than 64 bits can say.
+    ensures no_overflow { ¬ SomeMayPass64Bits options.entry text.now
+        → IfErr result (λ error. error ≡ WrapError.Memory alloc_error) }
 {
     // This is enough but where lines end inside words or have indents, or the ending is CRLF.
     let filled = String::with_capacity(alloc, text.len())?;
     let mut lines = LineSink::joined(filled, options.line_ending);
-    push_text(alloc, text, &options, &mut lines)?;
+    push_text(alloc, text, &options, Way::Shortest, &mut lines)?;
     Ok(lines.into_text())
 }
 
-/// The same text as [`fill`](crate::fill), always by way of a list of lines. At 5 columns
+/// The same text as [`fill`](crate::fill), always by lists of words, of pieces and of lines, but
+/// where a paragraph is one line as a whole. At 5 columns
 /// `"ab\ncdefghijkl"` becomes `"ab\ncdefg\nhijkl"`.
 ///
 /// # Errors
-/// Those of [`wrap`].
+/// Those of [`wrap`](crate::wrap).
 pub fn fill_slow_path<A: Allocator + Copy>(
     alloc: A,
     text: &str,
@@ -61,10 +66,13 @@ pub fn fill_slow_path<A: Allocator + Copy>(
         (DividesAs splitter algorithm settings) text.now (string_bytes filled)) }
     ensures only_memory { ¬ MayOverflow options.entry
         → IfErr result (λ error. error ≡ WrapError.Memory alloc_error) }
+    // Overflow needs a paragraph whose pieces are together wider than 64 bits can say.
+    ensures no_overflow { ¬ SomeMayPass64Bits options.entry text.now
+        → IfErr result (λ error. error ≡ WrapError.Memory alloc_error) }
 {
-    let line_ending = options.line_ending;
-    let lines = wrap(alloc, text, options)?;
-    Ok(join_lines(alloc, &lines, line_ending)?)
+    let mut lines = LineSink::listed(alloc);
+    push_text(alloc, text, &options, Way::ByLists, &mut lines)?;
+    Ok(join_lines(alloc, &lines.into_list(), options.line_ending)?)
 }
 
 /// The lines with the line ending between each two.

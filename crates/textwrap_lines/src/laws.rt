@@ -6,7 +6,8 @@
 ghost use Rattle.textwrap_lines.specs.Laws.{ParagraphsAreUnique, PiecesAreUnique};
 ghost use Rattle.textwrap_lines.specs.Laws.{DividedLinesAreUnique, ParagraphLinesAreUnique};
 ghost use Rattle.textwrap_lines.specs.Laws.{TextLinesAreUnique, FilledTextIsUnique};
-ghost use Rattle.textwrap_lines.specs.Laws.{TextLinesAreWrapped};
+ghost use Rattle.textwrap_lines.specs.Laws.{TextLinesAreWrapped, EvenLinesKeepToWidth};
+ghost use Rattle.textwrap_lines.specs.Laws.{PrintedLinesKeepToWidth};
 
 pub use textwrap_words::laws::{
     broken_pieces_are_unique, broken_pieces_tile, chosen_division_is_unique,
@@ -26,8 +27,9 @@ pub fn pieces_are_unique()
     ensures { PiecesAreUnique }
 {}
 
-/// A paragraph has one list of lines, as a whole or divided, a text has one, and one filled text,
-/// whatever the options. So the contracts of `wrap`, `fill` and `fuzzing` leave them no choice.
+/// By built-in parts a paragraph has one list of lines, as a whole or divided, a text has one, and one
+/// filled text, whatever else the options say. So the contracts of `wrap`, `fill` and `fuzzing` leave
+/// them no choice.
 pub fn lines_are_unique()
     ensures divided { DividedLinesAreUnique }
     ensures paragraph { ParagraphLinesAreUnique }
@@ -35,9 +37,14 @@ pub fn lines_are_unique()
     ensures filled { FilledTextIsUnique }
 {}
 
-/// With a built-in separator and splitter, the lines of a text, and so those that `fill` joins, are
-/// at least one, lose only blanks and add only indents. By first fit, where words are broken, they
-/// keep to their widths.
+/// By built-in parts, the lines of a text, and so those that `fill` joins, are at least one, lose only
+/// blanks and add only indents. By first fit, where words are broken, they keep to their widths; where
+/// paragraphs are even and no character takes more columns than bytes, they keep to the width with
+/// their indents, if they can. So they do as they are printed, in the columns that `display_width`
+/// measures, if no blanks are preserved and neither an indent nor a piece cuts an escape sequence; for
+/// this a text of one paragraph need not be even.
 pub fn text_lines_are_wrapped()
-    ensures { TextLinesAreWrapped }
+    ensures wrapped { TextLinesAreWrapped }
+    ensures even { EvenLinesKeepToWidth }
+    ensures printed { PrintedLinesKeepToWidth }
 {}

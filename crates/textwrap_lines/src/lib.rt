@@ -1,5 +1,6 @@
 //! The middle of `textwrap`: a text cut into lines for a width, and these lines joined. The crate
-//! `textwrap` passes its public items on, but for the module `parts`. The items have the examples.
+//! `textwrap` passes its public items on, but for the modules `inner`, `parts` and `placed`. The items
+//! have the examples.
 #![tactic(auto)]
 
 pub use filling::fill;
@@ -10,14 +11,18 @@ pub use wrapping::wrap;
 mod cheapest;
 mod direct;
 mod filling;
+mod first_line;
 pub mod fuzzing;
+pub mod inner;
 pub mod laws;
 mod layout;
 mod line_ending;
 mod line_sinks;
 mod options;
 pub mod parts;
+mod piece_lines;
+pub mod placed;
+mod places;
 mod printable;
 mod spans;
-mod word_lines;
 mod wrapping;

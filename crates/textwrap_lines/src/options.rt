@@ -3,9 +3,10 @@ ghost use Rattle.std.specs.Prelude.{◌≡◌, [], false, true, IsOk, MatchResul
 
 use crate::line_ending::LineEnding;
 use std::alloc::AllocError;
+use textwrap_base::inner::DEFAULT_PENALTIES;
 use textwrap_words::word_separators::WordSeparator;
 use textwrap_words::word_splitters::WordSplitter;
-use textwrap_words::wrap_algorithms::{Penalties, WrapAlgorithm};
+use textwrap_words::wrap_algorithms::WrapAlgorithm;
 
 /// How a text is wrapped. No call on it allocates.
 ///
@@ -44,6 +45,25 @@ pub struct Options<'a> {
     pub even_paragraphs: bool,
 }
 
+/// Hyphens are split points that need no dictionary.
+const DEFAULT_SPLITTER: WordSplitter = WordSplitter::HyphenSplitter;
+
+/// The defaults, at a width of 0 columns. A crate above that hands out options begins with these:
+/// of options that a function has made, the checker tells only within the crate of that function
+/// that they hold no function of its own.
+pub const DEFAULTS: Options<'static> = Options {
+    width: 0,
+    line_ending: LineEnding::LF,
+    initial_indent: "",
+    subsequent_indent: "",
+    break_words: true,
+    wrap_algorithm: WrapAlgorithm::OptimalFit(DEFAULT_PENALTIES),
+    word_separator: WordSeparator::AsciiSpace,
+    word_splitter: DEFAULT_SPLITTER,
+    preserve_trailing_space: false,
+    even_paragraphs: false,
+};
+
 impl<'a> Options<'a> {
     ghost use Rattle.textwrap_lines.specs.Options.{settings_view, HasDefaults, KeepsMethods};
 
@@ -53,20 +73,7 @@ impl<'a> Options<'a> {
     pub fn new(width: usize) -> Self
         ensures { HasDefaults width result }
     {
-        // Hyphens are split points that need no dictionary.
-        let word_splitter = WordSplitter::HyphenSplitter;
-        Options {
-            width,
-            line_ending: LineEnding::LF,
-            initial_indent: "",
-            subsequent_indent: "",
-            break_words: true,
-            wrap_algorithm: WrapAlgorithm::OptimalFit(Penalties::new()),
-            word_separator: WordSeparator::AsciiSpace,
-            word_splitter,
-            preserve_trailing_space: false,
-            even_paragraphs: false,
-        }
+        Options { width, ..DEFAULTS }
     }
 
     /// The same options with this width, in columns.

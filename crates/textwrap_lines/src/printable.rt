@@ -1,91 +1,93 @@
 //! Lines of a printable text, one of printable ASCII alone. They are found by its bytes, without a
 //! list of words: a line goes up to its width, and from there back to the last place where the text
 //! is cut.
-ghost use Rattle.std.specs.Prelude.{ℕ, ◌≡◌, ◌≢◌, ◌↔◌, ◌<◌, ◌≤◌, ◌-◌, Bool, true, List, [], ◌∷◌};
-ghost use Rattle.std.specs.Prelude.{◌++◌, map, length, take, slice_index, string_bytes, IsTrue};
-ghost use Rattle.std.specs.Prelude.{OnOk};
-ghost use Rattle.textwrap_words.specs.Blanks.{blank, trimmed_len};
-ghost use Rattle.textwrap_base.specs.Division.{IsGreedy};
-ghost use Rattle.textwrap_words.specs.Words.{WordText, sizes_of};
+ghost use Rattle.std.specs.Prelude.{◌≡◌, ◌<◌, ◌≤◌, ◌-◌, true, length, take, drop};
+ghost use Rattle.std.specs.Prelude.{IsCharBoundary, OnOk, if◌then◌else◌};
+ghost use Rattle.textwrap_words.specs.Blanks.{trimmed_len};
+ghost use Rattle.textwrap_words.specs.Pieces.{as_splitter, stand_from};
+ghost use Rattle.textwrap_lines.specs.Layout.{break_limit, limit_at};
 ghost use Rattle.textwrap_lines.specs.LineSinks.{Took};
-ghost use Rattle.textwrap_lines.specs.Paragraph.{covered, Slice};
-ghost use Rattle.textwrap_lines.specs.Printable.{IsPrintable, IsFirstLine, cut_at};
-ghost use Rattle.textwrap_lines.specs.Printable.{byte_before};
+ghost use Rattle.textwrap_lines.specs.Options.{settings_view};
+ghost use Rattle.textwrap_lines.specs.Paragraph.{indent_of, later_width};
+ghost use Rattle.textwrap_words.specs.Units.{IsPrintable};
+ghost use Rattle.textwrap_lines.specs.Printable.{IsFirstLine, cut_at};
+ghost use Rattle.textwrap_lines.specs.Printable.{NoCutBetween, byte_before};
 ghost use Rattle.textwrap_lines.specs.Printable.{pieces_after, printable_cut};
-ghost use Rattle.textwrap_lines.specs.Printable.{BlanksBetween};
-ghost use Rattle.textwrap_lines.specs.Printable.{NoCutBetween};
+ghost use Rattle.textwrap_lines.specs.PieceLines.{lines_left, no_pieces};
 
+use crate::layout::{later_width, next_indent};
 use crate::line_sinks::LineSink;
+use crate::options::Options;
 use std::alloc::{AllocError, Allocator};
-use textwrap_words::blanks::trimmed_len;
+use textwrap_words::blanks::{blanks_end, trimmed_len};
+use textwrap_words::inner::BuiltInSplitter;
 
-/// Whether each byte is printable ASCII.
-pub(crate) fn is_printable(bytes: &[u8]) -> bool
-    ensures { IsTrue result ↔ IsPrintable bytes.now }
-{
-    // Without a stop at the first that is not, the processor can look at many bytes at once.
-    let mut all = true;
-    for byte in bytes {
-        all &= 32 <= *byte && *byte < 127;
-    }
-    all
-}
-
-/// Pushes the lines of a printable paragraph by first fit. `hyphens` says whether words are split
-/// after hyphens.
+/// Pushes the lines of a printable paragraph from a place on by first fit, where they all have the
+/// width of the later ones. `is_later` says that a line stands before them.
 ///
 /// # Errors
 /// [`AllocError`] where memory runs out.
-pub(crate) fn push_printable_lines<'t, A: Allocator>(
+pub(crate) fn push_printable_lines<'t, A: Allocator + Copy>(
+    alloc: A,
     paragraph: &'t str,
-    width: usize,
-    hyphens: bool,
+    start: usize,
+    options: &Options<'_>,
+    is_later: bool,
+    splitter: BuiltInSplitter,
     lines: &mut LineSink<'t, A>,
 ) -> Result<(), AllocError>
     requires printable { IsPrintable paragraph.now }
-    requires some { 0 < length paragraph.now }
-    requires width { 0 < width }
-    ensures { OnOk result ((division : List (List WordText))
-        × IsGreedy sizes_of (width ∷ width ∷ [])
-        (pieces_after (printable_cut hyphens) width 32 paragraph.now) division
-        × Took lines.old lines.new (map Slice (map covered division))) }
+    requires start { IsCharBoundary paragraph.now start }
+    requires room { 0 < later_width (settings_view options.now) }
+    ensures { OnOk result (Took lines.old lines.new (lines_left (settings_view options.now)
+        (no_pieces paragraph.now start (later_width (settings_view options.now))
+        (indent_of (settings_view options.now) is_later)) (stand_from start
+        (pieces_after (printable_cut (as_splitter splitter)) (break_limit
+        (settings_view options.now)) (byte_before 32 paragraph.now start)
+        (drop start paragraph.now))))) }
 {
-    let mut rest = paragraph;
-    let mut before = b' ';
+    let width = later_width(options);
+    let mut rest = &paragraph[start..];
+    let mut before = byte_before(paragraph.as_bytes(), b' ', start);
+    let mut has_line = is_later;
     while !rest.is_empty() {
+        let place = paragraph.len() - rest.len();
         let bytes = rest.as_bytes();
-        let (slice, next) = next_line(bytes, before, width, hyphens);
-        lines.push_slice(&rest[..slice])?;
+        let next = line_len(bytes, before, width, splitter, options.break_words);
+        let end = slice_len(bytes, next, options.preserve_trailing_space);
+        let indent = next_indent(options, has_line);
+        lines.push_line(alloc, indent, place, &rest[..end], "")?;
         before = bytes[next - 1];
         rest = &rest[next..];
+        has_line = true;
     }
     Ok(())
 }
 
-/// Where the first line of a printable text ends, without its final blanks, and where the next line
-/// begins. `before` is the byte before the text.
-fn next_line(text: &[u8], before: u8, width: usize, hyphens: bool) -> (usize, usize)
-    requires printable { IsPrintable text.now }
-    requires some { 0 < length text.now }
-    requires width { 0 < width }
-    ensures line { IsFirstLine (printable_cut hyphens) width before text.now result.0 result.1 }
-    ensures slice { result.0 ≤ result.1 }
-    ensures some { 0 < result.1 }
-    ensures within { result.1 ≤ length text.now }
+/// How many bytes of a line are its slice: all up to the next line, or those without the blanks at
+/// their end.
+fn slice_len(text: &[u8], next: usize, keeps_blanks: bool) -> usize
+    requires { next ≤ length text.now }
+    ensures value { result
+        ≡ (if keeps_blanks then next else trimmed_len (take next text.now)) }
+    ensures within { result ≤ next }
 {
-    let next = line_len(text, before, width, hyphens);
-    (trimmed_len(&text[..next]), next)
+    if keeps_blanks {
+        return next;
+    }
+    trimmed_len(&text[..next])
 }
 
-/// How many bytes come before the second line. Blanks that stand from the width on belong to the
-/// first; where none stands there, it ends at the last cut up to the width, and without one at the
-/// width.
-fn line_len(text: &[u8], before: u8, width: usize, hyphens: bool) -> usize
+/// How many bytes of a printable text come before its second line, where `before` is the byte before
+/// the text, and `breaks` says that words wider than a line are broken. Blanks that stand from the
+/// width on belong to the first line; where none stands there, it ends at the last cut up to the
+/// width. Without one its first word is too wide: it is broken at the width, or goes on to its end.
+fn line_len(text: &[u8], before: u8, width: usize, splitter: BuiltInSplitter, breaks: bool) -> usize
     requires printable { IsPrintable text.now }
     requires some { 0 < length text.now }
     requires width { 0 < width }
-    ensures line { IsFirstLine (printable_cut hyphens) width before text.now
-        (trimmed_len (take result text.now)) result }
+    ensures line { IsFirstLine (printable_cut (as_splitter splitter)) (limit_at breaks width)
+        width before text.now result }
     ensures some { 0 < result }
     ensures within { result ≤ length text.now }
 {
@@ -95,53 +97,62 @@ fn line_len(text: &[u8], before: u8, width: usize, hyphens: bool) -> usize
     if text[width] == b' ' {
         return blanks_end(text, width);
     }
-    let cut = last_cut(text, before, width, hyphens);
-    if cut == 0 { width } else { cut }
-}
-
-/// Where the blanks end that stand from a place on.
-pub(crate) fn blanks_end(text: &[u8], start: usize) -> usize
-    requires { start ≤ length text.now }
-    ensures after { start ≤ result }
-    ensures within { result ≤ length text.now }
-    ensures blanks { BlanksBetween text.now start result }
-    ensures stops { result < length text.now → slice_index text.now result ≢ blank }
-{
-    let mut end = start;
-    while end < text.len() && text[end] == b' ' {
-        end += 1;
+    let cut = last_cut(text, before, width, splitter);
+    if cut > 0 {
+        return cut;
     }
-    end
+    if breaks {
+        return width;
+    }
+    next_cut(text, before, width + 1, splitter)
 }
 
 /// The last place up to the end at which a printable text is cut, 0 where there is none.
-fn last_cut(text: &[u8], before: u8, end: usize, hyphens: bool) -> usize
+fn last_cut(text: &[u8], before: u8, end: usize, splitter: BuiltInSplitter) -> usize
     requires { end < length text.now }
     ensures within { result ≤ end }
     ensures cut { 0 < result
-        → cut_at (printable_cut hyphens) before text.now (result - 1) ≡ true }
-    ensures last { NoCutBetween (printable_cut hyphens) before text.now result end }
+        → cut_at (printable_cut (as_splitter splitter)) before text.now (result - 1) ≡ true }
+    ensures last { NoCutBetween (printable_cut (as_splitter splitter)) before text.now result end }
 {
     let mut place = end;
-    while place > 0 && !is_cut_at(text, before, place, hyphens) {
+    while place > 0 && !is_cut_at(text, before, place, splitter) {
         place -= 1;
     }
     place
 }
 
-/// Whether a printable text is cut before the byte at a place.
-pub(crate) fn is_cut_at(text: &[u8], before: u8, place: usize, hyphens: bool) -> bool
-    requires after_start { 0 < place }
-    requires before_end { place < length text.now }
-    ensures { result ≡ cut_at (printable_cut hyphens) before text.now (place - 1) }
+/// The first place from the start on at which a printable text is cut, its end where there is none.
+fn next_cut(text: &[u8], before: u8, start: usize, splitter: BuiltInSplitter) -> usize
+    requires after_start { 0 < start }
+    requires within { start ≤ length text.now }
+    ensures from { start ≤ result }
+    ensures within { result ≤ length text.now }
+    ensures cut { result < length text.now
+        → cut_at (printable_cut (as_splitter splitter)) before text.now (result - 1) ≡ true }
+    ensures first { NoCutBetween (printable_cut (as_splitter splitter)) before text.now (start - 1)
+        (result - 1) }
 {
-    let front = byte_before(text, before, place - 1);
-    is_cut(front, text[place - 1], text[place], hyphens)
+    let mut place = start;
+    while place < text.len() && !is_cut_at(text, before, place, splitter) {
+        place += 1;
+    }
+    place
 }
 
-/// The byte before the one at a place.
+/// Whether a printable text is cut before the byte at a place.
+pub(crate) fn is_cut_at(text: &[u8], before: u8, place: usize, splitter: BuiltInSplitter) -> bool
+    requires after_start { 0 < place }
+    requires before_end { place < length text.now }
+    ensures { result ≡ cut_at (printable_cut (as_splitter splitter)) before text.now (place - 1) }
+{
+    let front = byte_before(text, before, place - 1);
+    is_cut(front, text[place - 1], text[place], splitter)
+}
+
+/// The byte before a place.
 fn byte_before(text: &[u8], before: u8, place: usize) -> u8
-    requires { place < length text.now }
+    requires { place ≤ length text.now }
     ensures { result ≡ byte_before before text.now place }
 {
     if place == 0 {
@@ -151,12 +162,12 @@ fn byte_before(text: &[u8], before: u8, place: usize) -> u8
 }
 
 /// Whether a printable text is cut between two bytes, where a third stands before them.
-fn is_cut(front: u8, before: u8, after: u8, hyphens: bool) -> bool
-    ensures { result ≡ printable_cut hyphens front before after }
+fn is_cut(front: u8, before: u8, after: u8, splitter: BuiltInSplitter) -> bool
+    ensures { result ≡ printable_cut (as_splitter splitter) front before after }
 {
     before == b' ' && after != b' '
-        || hyphens
-            && before == b'-'
+        || before == b'-'
+            && matches!(splitter, BuiltInSplitter::HyphenSplitter)
             && front.is_ascii_alphanumeric()
             && after.is_ascii_alphanumeric()
 }

@@ -8,7 +8,7 @@ ghost use Rattle.std.specs.Io.{StartsWith};
 ghost use Rattle.textwrap_words.specs.Blanks.{without_final_blanks};
 ghost use Rattle.textwrap_base.specs.Cost.{total_width};
 ghost use Rattle.textwrap_base.specs.Errors.{Fits64Bits, Overflowed};
-ghost use Rattle.textwrap_words.specs.WrapAlgorithms.{Algorithm, algorithm_view, LeastCost};
+ghost use Rattle.textwrap_words.specs.WrapAlgorithms.{Algorithm, algorithm_view, Greedy, LeastCost};
 ghost use Rattle.textwrap_words.specs.WrapAlgorithms.{MayDivide};
 ghost use Rattle.textwrap_words.specs.Units.{IsNarrow};
 ghost use Rattle.textwrap_words.specs.Words.{WordText, word_view, sizes_of, tiled, Tiles};
@@ -19,18 +19,20 @@ ghost use Rattle.textwrap_lines.specs.LineEnding.{paragraphs_of};
 ghost use Rattle.textwrap_lines.specs.LineSinks.{Holds, Took, kind_of};
 ghost use Rattle.textwrap_lines.specs.Options.{Settings, settings_view, HasBuiltInParts};
 ghost use Rattle.textwrap_lines.specs.Options.{HasParts, MayOverflow};
-ghost use Rattle.textwrap_lines.specs.Paragraph.{text_limit, Line, LineParts, line_view};
-ghost use Rattle.textwrap_lines.specs.Paragraph.{line_from, covered};
+ghost use Rattle.textwrap_lines.specs.Paragraph.{text_limit, LineParts, line_view};
+ghost use Rattle.textwrap_lines.specs.Paragraph.{covered};
 ghost use Rattle.textwrap_lines.specs.Paragraph.{ArePieces, widths_of, width_after, indent_of};
 ghost use Rattle.textwrap_lines.specs.Paragraph.{is_whole, parts_of, parts_from, Adds, DividesBy};
 ghost use Rattle.textwrap_lines.specs.Paragraph.{AreDividedParts, AreParagraphParts};
-ghost use Rattle.textwrap_lines.specs.Paragraph.{DividesAs, OnlyCharactersPass};
+ghost use Rattle.textwrap_lines.specs.Paragraph.{DividesAs, MayPass64Bits, OnlyCharactersPass};
+ghost use Rattle.textwrap_lines.specs.Places.{AreCutLines, CutLine, cut_lines};
 ghost use Rattle.textwrap_lines.specs.Text.{AreTextLines, IsWrapped, LinesKeepToWidth};
+ghost use Rattle.textwrap_lines.specs.Text.{CanKeepToWidth, ArePrintedWithin, SomeMayPass64Bits};
 ghost use Rattle.textwrap_words.specs.WordSeparators.{MaySeparate};
 ghost use Rattle.textwrap_words.specs.WordSplitters.{AreSplit, MaySplit, Splitter, splitter_view};
 
 use crate::direct::push_directly;
-use crate::layout::{line_widths, next_indent};
+use crate::layout::{later_width, line_widths, next_indent};
 use crate::line_ending::LineEnding;
 use crate::line_sinks::LineSink;
 use crate::options::Options;
@@ -52,9 +54,10 @@ use textwrap_words::wrap_algorithms::WrapError;
 /// the indents are added; a line with an indent is a text of its own. By first fit, where words are
 /// broken, no line of a divided paragraph passes the width that it was divided for, but one that is
 /// a single piece with one character that takes columns. With [`Options::even_paragraphs`], and if no
-/// character takes more columns than bytes, a line keeps to the width of the options together with
-/// its indent, but such a piece, and unless the indent alone passes the width. Blanks preserved at
-/// the end of a line do not count.
+/// character takes more columns than bytes, such a line keeps to the width of the options together
+/// with its indent, but for such a piece, and unless the indent alone passes the width. Blanks
+/// preserved at the end of a line do not count. So does the line as it is printed, if words stand
+/// between blanks, none are preserved and no escape sequence is cut.
 ///
 /// # Errors
 /// [`WrapError::Memory`] where memory runs out, or a function of the caller says so.
@@ -83,12 +86,34 @@ pub fn wrap<'t, A: Allocator + Copy>(
         (settings : Settings) (splitter : Splitter) (algorithm : Algorithm)
         → HasParts options.entry settings splitter algorithm → AreTextLines settings
         (DividesAs splitter algorithm settings) text.now (map line_view lines.items)) }
+    ensures built_in_even { IfOk result (λ lines. (settings : Settings) (splitter : Splitter)
+        → HasParts options.entry settings splitter Greedy → settings.even_paragraphs ≡ true
+        → settings.break_words ≡ true → IsNarrow text.now → LinesKeepToWidth settings
+        (DividesAs splitter Greedy settings) text.now (map line_view lines.items)) }
+    // And so they do in the columns that they are printed in, if no blanks are preserved and neither
+    // an indent nor a piece cuts an escape sequence; a text of one paragraph need not be even.
+    ensures printed { IfOk result (λ lines. (settings : Settings) (splitter : Splitter)
+        → HasParts options.entry settings splitter Greedy → CanKeepToWidth settings text.now
+        → ArePrintedWithin settings (DividesAs splitter Greedy settings) text.now
+        (map line_view lines.items)) }
     ensures only_memory { ¬ MayOverflow options.entry
+        → IfErr result (λ error. error ≡ WrapError.Memory alloc_error) }
+    // Overflow needs a paragraph whose pieces are together wider than 64 bits can say.
+    ensures no_overflow { ¬ SomeMayPass64Bits options.entry text.now
         → IfErr result (λ error. error ≡ WrapError.Memory alloc_error) }
 {
     let mut lines = LineSink::listed(alloc);
-    push_text(alloc, text, &options, &mut lines)?;
+    push_text(alloc, text, &options, Way::Shortest, &mut lines)?;
     Ok(lines.into_list())
+}
+
+/// How the lines of a paragraph are found that is not one line as a whole.
+#[derive(Clone, Copy)]
+pub(crate) enum Way {
+    /// Without a list of its words, where its parts are built in.
+    Shortest,
+    /// By lists of its words and pieces, whatever the parts are.
+    ByLists,
 }
 
 /// Pushes the lines of a text to what has taken none.
@@ -99,20 +124,26 @@ pub(crate) fn push_text<'t, A: Allocator + Copy>(
     alloc: A,
     text: &'t str,
     options: &Options<'_>,
+    way: Way,
     lines: &mut LineSink<'t, A>,
 ) -> Result<(), WrapError>
     requires none { Holds lines.now [] }
-    ensures lines { OnOk result ((taken : List Line) × AreTextLines (settings_view options.now)
+    ensures lines { OnOk result ((taken : List CutLine) × AreCutLines (settings_view options.now)
         (DividesBy options.now) text.now taken × Holds lines.new taken
         × (kind_of lines.new ≡ kind_of lines.old)) }
     ensures only_memory { ¬ MayOverflow options.now
         → IfErr result (λ error. error ≡ WrapError.Memory alloc_error) }
+    ensures no_overflow { ¬ SomeMayPass64Bits options.now text.now
+        → IfErr result (λ error. error ≡ WrapError.Memory alloc_error) }
 {
+    let mut start = 0;
     let mut rest = Some(text);
     while let Some(text) = rest {
         let (paragraph, after) = split_paragraph(text, options.line_ending);
+        lines.begin_paragraph(start);
         let is_later = lines.has_line();
-        push_paragraph(alloc, paragraph, options, is_later, lines)?;
+        push_paragraph(alloc, paragraph, options, is_later, way, lines)?;
+        start += paragraph.len() + options.line_ending.as_str().len();
         rest = after;
     }
     Ok(())
@@ -127,19 +158,25 @@ fn push_paragraph<'t, A: Allocator + Copy>(
     paragraph: &'t str,
     options: &Options<'_>,
     is_later: bool,
+    way: Way,
     lines: &mut LineSink<'t, A>,
 ) -> Result<(), WrapError>
     ensures taken { OnOk result ((parts : List LineParts)
         × AreParagraphParts (settings_view options.now) (DividesBy options.now) is_later
         paragraph.now parts
-        × Took lines.old lines.new (map line_from parts)) }
+        × Took lines.old lines.new (cut_lines 0 parts)) }
     ensures only_memory { ¬ MayOverflow options.now
+        → IfErr result (λ error. error ≡ WrapError.Memory alloc_error) }
+    ensures no_overflow { ¬ MayPass64Bits options.now paragraph.now
         → IfErr result (λ error. error ≡ WrapError.Memory alloc_error) }
 {
     if is_one_line(paragraph, options, is_later) {
-        return Ok(lines.push_slice(whole_line(paragraph, options))?);
+        let slice = whole_line(paragraph, options);
+        return Ok(lines.push_line(alloc, "", 0, slice, "")?);
     }
-    // This saves the lists of words and of the lines' pieces.
+    if matches!(way, Way::ByLists) {
+        return push_divided(alloc, paragraph, options, is_later, lines);
+    }
     let pushed = push_directly(alloc, paragraph, options, is_later, lines)?;
     if pushed {
         return Ok(());
@@ -160,9 +197,11 @@ fn push_divided<'t, A: Allocator + Copy>(
 ) -> Result<(), WrapError>
     ensures taken { OnOk result ((division : List (List WordText))
         × DividesBy options.now is_later paragraph.now division
-        × Took lines.old lines.new (map line_from
+        × Took lines.old lines.new (cut_lines 0
         (parts_from (settings_view options.now) is_later division))) }
     ensures only_memory { ¬ MayOverflow options.now
+        → IfErr result (λ error. error ≡ WrapError.Memory alloc_error) }
+    ensures no_overflow { ¬ MayPass64Bits options.now paragraph.now
         → IfErr result (λ error. error ≡ WrapError.Memory alloc_error) }
 {
     let pieces = find_pieces(alloc, paragraph, options)?;
@@ -204,6 +243,9 @@ pub fn wrap_single_line<'t, A: Allocator + Copy>(
     ensures appended { AppendsLines (MayOverflow options.now)
         (AreParagraphParts (settings_view options.now) (DividesBy options.now)
         (nat_lt 0 (length lines.old.items)) line.now) lines.old.items lines.new.items result }
+    // Overflow needs pieces that are together wider than 64 bits can say.
+    ensures no_overflow { ¬ MayPass64Bits options.now line.now
+        → IfErr result (λ error. error ≡ WrapError.Memory alloc_error) }
     // By built-in parts, without an initial indent, and without characters that take more columns
     // than bytes, these are lines of the slow path.
     ensures as_slow_path { HasBuiltInParts options.now → options.now.initial_indent.now ≡ []
@@ -215,7 +257,7 @@ pub fn wrap_single_line<'t, A: Allocator + Copy>(
     // A list of its own, so that an error leaves the other as it was.
     let is_later = !lines.is_empty();
     let mut found = LineSink::listed(alloc);
-    push_paragraph(alloc, line, options, is_later, &mut found)?;
+    push_paragraph(alloc, line, options, is_later, Way::Shortest, &mut found)?;
     let mut found = found.into_list();
     Ok(lines.append(&mut found)?)
 }
@@ -258,6 +300,9 @@ pub fn wrap_single_line_slow_path<'t, A: Allocator + Copy>(
     ensures appended { AppendsLines (MayOverflow options.now)
         (AreDividedParts (settings_view options.now) (DividesBy options.now)
         (nat_lt 0 (length lines.old.items)) line.now) lines.old.items lines.new.items result }
+    // Overflow needs pieces that are together wider than 64 bits can say.
+    ensures no_overflow { ¬ MayPass64Bits options.now line.now
+        → IfErr result (λ error. error ≡ WrapError.Memory alloc_error) }
     // By first fit and a built-in splitter, where words are broken, a line passes its width only
     // where it is one piece with one character that takes columns.
     ensures overlong { options.now.wrap_algorithm ≡ FirstFit
@@ -291,8 +336,8 @@ fn find_pieces<'t, A: Allocator + Copy>(
     if !options.break_words {
         return Ok(split);
     }
-    let (_, width) = line_widths(options, false);
-    // Lent, since the checker does not cover handing on a list that any allocator made.
+    let width = later_width(options);
+    // By reference, since the checker does not cover handing on a list that any allocator made.
     let mut broken = break_words(alloc, split.iter().copied(), width)?;
     if !options.initial_indent.is_empty() {
         // Where the first word has no room beside the indent, the first line is the indent alone.
@@ -349,43 +394,46 @@ fn push_lines<'t, A: Allocator + Copy>(
 ) -> Result<(), AllocError>
     requires { StartsWith paragraph.now
         (flat_map (λ line. tiled (map word_view line.now)) division.now) }
-    ensures { OnOk result (Took lines.old lines.new (map line_from
+    ensures { OnOk result (Took lines.old lines.new (cut_lines 0
         (parts_from (settings_view options.now) is_later
         (map (λ line. map word_view line.now) division.now)))) }
 {
     let mut rest = paragraph;
     let mut has_line = is_later;
     for pieces in division {
-        rest = push_line(alloc, rest, pieces, options, has_line, lines)?;
+        let start = paragraph.len() - rest.len();
+        rest = push_line(alloc, start, rest, pieces, options, has_line, lines)?;
         has_line = true;
     }
     Ok(())
 }
 
 /// Pushes the line of the pieces with which the text begins, and returns the text after them.
+/// `start` bytes of the paragraph come before it.
 fn push_line<'t, A: Allocator + Copy>(
     alloc: A,
+    start: usize,
     text: &'t str,
     pieces: &[Word<'_>],
     options: &Options<'_>,
     is_later: bool,
     lines: &mut LineSink<'t, A>,
 ) -> Result<&'t str, AllocError>
-    requires { StartsWith text.now (tiled (map word_view pieces.now)) }
-    ensures line { OnOk result (Took lines.old lines.new
-        (line_from (parts_of (settings_view options.now) is_later (map word_view pieces.now))
-        ∷ [])) }
+    requires begins { StartsWith text.now (tiled (map word_view pieces.now)) }
+    requires start { start < text_limit }
+    ensures line { OnOk result (Took lines.old lines.new (cut_lines start
+        (parts_of (settings_view options.now) is_later (map word_view pieces.now) ∷ []))) }
     ensures rest { IfOk result (λ rest. rest.now
         ≡ drop (length (tiled (map word_view pieces.now))) text.now) }
 {
     let Some((last, front)) = pieces.split_last() else {
-        lines.push_slice("")?;
+        lines.push_line(alloc, "", start, "", "")?;
         return Ok(text);
     };
     let indent = next_indent(options, is_later);
     let keeps_whitespace = options.preserve_trailing_space && last.penalty.is_empty();
     let (slice, rest) = cut_line(text, front, last, keeps_whitespace);
-    lines.push_line(alloc, indent, slice, last.penalty)?;
+    lines.push_line(alloc, indent, start, slice, last.penalty)?;
     Ok(rest)
 }
 

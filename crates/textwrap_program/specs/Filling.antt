@@ -31,8 +31,8 @@ module _ (width : ℕ) (algorithm : Algorithm) where
       IsUtf8 input × ((output : List ℕ) × IsFilledAt width algorithm input output
       × WritesPrefix old new output)
 
-  -- what becomes of a reader and a writer: the whole input is read and filled, or the fault comes
-  -- while reading, and nothing is written
+  -- what becomes of a reader and a writer: the whole input is read and filled, or there is a fault
+  -- before anything is written
   abbrev pub Runs : Option (List ℕ) → Option (List ℕ) → Option (List ℕ) → Option (List ℕ)
       → Option RunError → Type 0
   Runs unread left old new (Some Read) = Keeps old new

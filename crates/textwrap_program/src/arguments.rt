@@ -1,7 +1,10 @@
 //! The program's arguments.
-ghost use Rattle.std.specs.Prelude.{◌≡◌, map, string_bytes};
+ghost use Rattle.std.specs.Prelude.{◌≡◌, List, drop, map, string_bytes, IfOk};
+ghost use Rattle.std.specs.Iterator.{Drains, IsFinite};
 ghost use Rattle.std.specs.Str.{all_ascii_digits};
 ghost use Rattle.textwrap_program.specs.Arguments.{width_of, algorithm_of, request_with, request_of};
+
+use std::alloc::{AllocError, Allocator};
 
 /// How words are divided into lines: one of the two ways that the arguments can name.
 #[derive(Clone, Copy, Debug, PartialEq, Eq)]
@@ -19,6 +22,30 @@ pub struct FillRequest {
     pub width: usize,
     /// How words are divided into lines.
     pub algorithm: Algorithm,
+}
+
+/// The arguments without the first, which is the program's name. The iterator has to end.
+///
+/// # Errors
+/// [`AllocError`] where memory runs out.
+pub fn words_after_name<A: Allocator, I: Iterator<Item = String>>(
+    alloc: A,
+    arguments: I,
+) -> Result<Vec<String, A>, AllocError>
+    requires can { I.can_next arguments }
+    requires ends { IsFinite (I.remaining arguments) }
+    ensures { IfOk result (λ words. (given : List _) × Drains I.next_gives arguments given
+        × (words.items ≡ drop 1 given)) }
+{
+    // One by one, since `collect` would grow again where its first reservation is refused.
+    let mut words = Vec::new(alloc);
+    for word in arguments {
+        words.push(word)?;
+    }
+    if !words.is_empty() {
+        words.remove(0);
+    }
+    Ok(words)
 }
 
 /// The request that the words after the program's name mean: a width in ASCII digits, and `first`

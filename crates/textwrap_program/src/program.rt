@@ -5,7 +5,7 @@ ghost use Rattle.textwrap_program.specs.Program.{Executes, TriesLine};
 
 use crate::arguments::arguments;
 use crate::filling::{fault, run, write_line};
-use std::alloc::Global;
+use std::alloc::Allocator;
 use std::io::{Read, Write};
 
 /// What the program says where its arguments mean no request.
@@ -14,8 +14,8 @@ const USAGE: &str = "usage: textwrap_cli WIDTH [first|optimal]";
 /// Runs the program and returns the status that it ends with: 0 if the output is written, 1 after
 /// a fault, and 2 if the words after the program's name mean no request. In the last two cases one
 /// line of `messages` says why.
-pub fn execute<R: Read, W: Write, M: Write>(
-    alloc: Global,
+pub fn execute<A: Allocator + Copy, R: Read, W: Write, M: Write>(
+    alloc: A,
     words: &[String],
     reader: &mut R,
     output: &mut W,

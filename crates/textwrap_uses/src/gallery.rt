@@ -1,13 +1,14 @@
-//! Pictures hung in rows, divided at the least cost.
-ghost use Rattle.std.specs.Prelude.{[], ◌∷◌, map, IfOk};
+//! Pictures hung in rows: in as few as fit, or divided at the least cost.
+ghost use Rattle.std.specs.Prelude.{◌≤◌, List, [], ◌∷◌, length, map, IfOk};
 ghost use Rattle.textwrap.specs.Cost.{priced_at, IsChosen};
+ghost use Rattle.textwrap.specs.Division.{IsAdmissible};
 ghost use Rattle.textwrap.specs.Penalties.{default_penalties};
 ghost use Rattle.textwrap.specs.Sizes.{Sizes};
 
-use std::alloc::Global;
+use std::alloc::{AllocError, Global};
 use textwrap::WrapError;
 use textwrap::words::Fragment;
-use textwrap::wrap_algorithms::{Penalties, wrap_optimal_fit};
+use textwrap::wrap_algorithms::{Penalties, wrap_first_fit, wrap_optimal_fit};
 
 /// A picture on a wall.
 #[derive(Clone, Copy, Debug)]
@@ -40,6 +41,19 @@ impl Fragment for Picture {
     fn break_penalty(&self, penalties: &Penalties) -> usize {
         penalties.usual_break_penalty(self.penalty_width())
     }
+}
+
+/// The pictures in rows for a wall of this width in centimetres, in as few rows as fit there.
+pub fn few_rows<'p>(
+    alloc: Global,
+    pictures: &'p [Picture],
+    wall_width: usize,
+) -> Result<Vec<&'p [Picture]>, AllocError>
+    ensures fewest { IfOk result (λ rows. (others : List (List Picture))
+        → IsAdmissible ⟦<Picture as Fragment>⟧.sizes (wall_width ∷ []) pictures.now others
+        → length rows.items ≤ length others) }
+{
+    wrap_first_fit(alloc, pictures, &[wall_width])
 }
 
 /// The pictures in rows for a wall of this width in centimetres, divided at the least cost.

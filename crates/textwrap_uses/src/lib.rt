@@ -3,10 +3,15 @@
 #![tactic(auto)]
 
 pub mod checking;
+pub mod comments;
 pub mod gallery;
 pub mod help;
 pub mod lists;
 pub mod mail;
+pub mod notes;
 pub mod paths;
+pub mod scripts;
+pub mod sentences;
+pub mod tables;
 #[cfg(test)]
 mod tests;

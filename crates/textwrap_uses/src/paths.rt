@@ -1,10 +1,10 @@
 //! Paths of files, cut into lines after their slashes.
-ghost use Rattle.std.specs.Prelude.{◌≡◌, List, map, IfOk};
+ghost use Rattle.std.specs.Prelude.{◌≡◌, List, map, All, IfOk};
 ghost use Rattle.std.specs.List.{flat_map};
 ghost use Rattle.textwrap.specs.Cuts.{AreInnerCuts};
 ghost use Rattle.textwrap.specs.LineEnding.{paragraphs_of};
 ghost use Rattle.textwrap.specs.Paragraph.{LineParts, line_view, line_from};
-ghost use Rattle.textwrap.specs.Text.{covered_by};
+ghost use Rattle.textwrap.specs.Text.{covered_by, LeavesOffBlanks};
 ghost use Rattle.textwrap.specs.declared.LineEnding.TheVariants.{LF};
 
 use std::alloc::{AllocError, Global};
@@ -19,10 +19,12 @@ pub fn path_lines<'p>(
     path: &'p str,
     width: usize,
 ) -> Result<Vec<CowStr<'p>>, WrapError>
-    // Together with what is left off at their ends, the lines are the path: nothing is lost.
+    // Together with what is left off at their ends, which is blanks, the lines are the path: nothing
+    // is lost.
     ensures whole { IfOk result (λ lines. (groups : List (List LineParts))
         × (map line_view lines.items ≡ map line_from (flat_map (λ parts. parts) groups))
-        × (map covered_by groups ≡ paragraphs_of LF path.now)) }
+        × (map covered_by groups ≡ paragraphs_of LF path.now)
+        × All LeavesOffBlanks (flat_map (λ parts. parts) groups)) }
 {
     let line_cuts = LineCuts::new(alloc, cuts_after_slashes);
     let options = Options::new(width)

@@ -1,9 +1,14 @@
 use crate::checking::{is_filled, line_count};
-use crate::gallery::{Picture, hung_rows};
+use crate::comments::{common_mark, rewrapped};
+use crate::gallery::{Picture, few_rows, hung_rows};
 use crate::help::help_entry;
 use crate::lists::listed_lines;
-use crate::mail::{quote, sent_lines};
+use crate::mail::{filled_anew, quote, quoted_as_it_is, sent_lines};
+use crate::notes::fill_note;
 use crate::paths::path_lines;
+use crate::scripts::script;
+use crate::sentences::sentence_lines;
+use crate::tables::barred_rows;
 use std::borrow::CowStr;
 use std::test::Fail;
 use textwrap::Options;
@@ -77,6 +82,8 @@ fn pictures_fill_rows(rt: HostRuntime) -> Result<(), Fail> {
     for row in &rows {
         assert_eq!(rt; row.len(), 2);
     }
+    let rows = few_rows(rt.alloc(), &pictures, 150)?;
+    assert_eq!(rt; rows.len(), 2);
     Ok(())
 }
 
@@ -113,5 +120,74 @@ fn words_are_listed(rt: HostRuntime) -> Result<(), Fail> {
         let texts = lines.iter().map(|line| line.as_str());
         assert!(rt; texts.eq(expected.iter().copied()), "{lines:?}");
     }
+    Ok(())
+}
+
+#[test]
+fn mail_is_quoted_as_it_is(rt: HostRuntime) -> Result<(), Fail> {
+    let quoted = quoted_as_it_is(rt.alloc(), "Hi\n\nyou\n")?;
+    assert_eq!(rt; quoted.as_str(), "> Hi\n>\n> you\n");
+    Ok(())
+}
+
+#[test]
+fn a_broken_paragraph_is_filled_anew(rt: HostRuntime) -> Result<(), Fail> {
+    let filled = filled_anew(rt.alloc(), "foo\nbar baz", 7)?;
+    assert_eq!(rt; filled.as_str(), "foo bar\nbaz");
+    Ok(())
+}
+
+#[test]
+fn comments_keep_their_marks(rt: HostRuntime) -> Result<(), Fail> {
+    let comment = "/// A short\n/// line of\n/// text";
+    let rewrapped = rewrapped(rt.alloc(), comment, 16)?;
+    assert_eq!(rt; rewrapped.as_str(), "/// A short line\n/// of text");
+    assert_eq!(rt;
+        common_mark(rt.alloc(), "/* A\n * short\n * comment")?,
+        " * "
+    );
+    Ok(())
+}
+
+#[test]
+fn a_note_is_filled_in_place(rt: HostRuntime) -> Result<(), Fail> {
+    let mut note = String::from_str(rt.alloc(), "milk and bread")?;
+    fill_note(rt.alloc(), &mut note, 9)?;
+    assert_eq!(rt; note.as_str(), "milk and\nbread");
+    Ok(())
+}
+
+#[test]
+fn a_script_loses_its_margin(rt: HostRuntime) -> Result<(), Fail> {
+    let script = script(rt.alloc(), "    if x:\n      y\n")?;
+    assert_eq!(rt; script.as_str(), "if x:\n  y\n");
+    Ok(())
+}
+
+#[test]
+fn sentences_are_cut_after_full_stops(rt: HostRuntime) -> Result<(), Fail> {
+    let rows: &[(&str, usize, &[&str])] = &[
+        ("はい。いいえ。さあ。", 10, &["はい。", "いいえ。", "さあ。"]),
+        ("はい。いいえ。さあ。", 14, &["はい。いいえ。", "さあ。"]),
+        ("はい。", 4, &["はい", "。"]),
+        ("a。b。c", 3, &["a。", "b。", "c"]),
+    ];
+    for &(text, width, lines) in rows {
+        let given = sentence_lines(rt.alloc(), text, width)?;
+        assert!(rt; are_borrowed(&given, lines), "{given:?}");
+    }
+    Ok(())
+}
+
+#[test]
+fn rows_stand_between_bars(rt: HostRuntime) -> Result<(), Fail> {
+    let rows = barred_rows(rt.alloc(), "one two three four five", 2, 17)?;
+    let texts = rows.iter().map(|row| row.as_str());
+    let expected = [
+        "| one   | four  |",
+        "| two   | five  |",
+        "| three |       |",
+    ];
+    assert!(rt; texts.eq(expected.iter().copied()), "{rows:?}");
     Ok(())
 }

@@ -1,5 +1,6 @@
 -- Blanks, and those at the end of a text.
-use Rattle.std.specs.Prelude.{ℕ, ◌-◌, Bool, ◌==◌, List, length, take, drop}
+use Rattle.std.specs.Prelude.{◌≡◌, ℕ, ◌-◌, ◌<◌, ◌≤◌, Bool, true, ◌==◌, List, length, take}
+use Rattle.std.specs.Prelude.{drop, slice_index}
 use Rattle.std.specs.List.{suffix_len}
 
 abbrev pub blank : ℕ
@@ -17,3 +18,8 @@ without_final_blanks bytes = take (trimmed_len bytes) bytes
 
 abbrev pub final_blanks : List ℕ → List ℕ
 final_blanks bytes = drop (trimmed_len bytes) bytes
+
+-- blanks stand from one place on up to another
+abbrev pub BlanksBetween : List ℕ → ℕ → ℕ → Type 0
+BlanksBetween text from to =
+    (k : ℕ) → from ≤ k → k < to → is_blank (slice_index text k) ≡ true

@@ -4,6 +4,9 @@ pub mod Cuts
 pub mod Escapes
 pub mod Laws
 pub mod LineEnds
+pub mod PieceCuts
+pub mod Pieces
+pub mod PiecesLeft
 pub mod Units
 pub mod WordOffsets
 pub mod WordSeparators

@@ -135,6 +135,10 @@ IsNarrow bytes = All (λ c. columns c ≤ length (encode_utf8 c)) (chars bytes)
 abbrev pub column_characters : List ℕ → List ℕ
 column_characters bytes = filter (λ c. nat_lt 0 (columns c)) (visible (chars bytes))
 
--- a printable character of ASCII, which takes one column
-abbrev pub is_printable : ℕ → Bool
-is_printable = is_in_range 0x20 0x7E
+-- a printable character of ASCII, which takes one byte and one column
+abbrev pub IsPrintableByte : ℕ → Type 0
+IsPrintableByte c = (32 ≤ c) × (c < 127)
+
+-- a text of such characters alone
+abbrev pub IsPrintable : List ℕ → Type 0
+IsPrintable text = All IsPrintableByte text

@@ -50,10 +50,6 @@ pub data Splitter : Type 0 where
   Whole : Splitter
   AtHyphens : Splitter
 
--- the one that splits words after hyphens, where that is asked, and else the one that does not
-abbrev pub splitter_of : Bool → Splitter
-splitter_of hyphens = if hyphens then AtHyphens else Whole
-
 abbrev pub points_of : Splitter → List ℕ → List ℕ
 points_of Whole text = []
 points_of AtHyphens text = hyphen_points text

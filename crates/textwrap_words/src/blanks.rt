@@ -1,8 +1,8 @@
 //! The blanks at the end of a text, such as the two of `"bar  "`. A blank is U+0020 and nothing
 //! else.
-ghost use Rattle.std.specs.Prelude.{◌≡◌, ◌<◌, ◌≤◌, length, slice_index};
+ghost use Rattle.std.specs.Prelude.{◌≡◌, ◌≢◌, ◌<◌, ◌≤◌, length, slice_index};
 ghost use Rattle.textwrap_words.specs.Blanks.{blank, trimmed_len, without_final_blanks};
-ghost use Rattle.textwrap_words.specs.Blanks.{final_blanks};
+ghost use Rattle.textwrap_words.specs.Blanks.{final_blanks, BlanksBetween};
 
 /// Splits a text before its final blanks, of which there may be none: `"bar  "` into `"bar"` and
 /// two blanks. The call always succeeds.
@@ -22,6 +22,22 @@ pub fn trimmed_len(bytes: &[u8]) -> usize
     let mut end = bytes.len();
     while end > 0 && bytes[end - 1] == b' ' {
         end -= 1;
+    }
+    end
+}
+
+/// Where the blanks end that stand from a place on: 5 in `"bar  baz"` from 3 on. The call always
+/// succeeds.
+pub fn blanks_end(text: &[u8], start: usize) -> usize
+    requires { start ≤ length text.now }
+    ensures after { start ≤ result }
+    ensures within { result ≤ length text.now }
+    ensures blanks { BlanksBetween text.now start result }
+    ensures stops { result < length text.now → slice_index text.now result ≢ blank }
+{
+    let mut end = start;
+    while end < text.len() && text[end] == b' ' {
+        end += 1;
     }
     end
 }

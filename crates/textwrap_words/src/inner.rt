@@ -2,9 +2,10 @@
 ghost use Rattle.std.specs.Prelude.{◌≡◌};
 ghost use Rattle.textwrap_words.specs.Words.{words_of};
 
+pub use crate::pieces::{BuiltInSplitter, Piece, Pieces, next_piece};
+pub use crate::printable::is_printable;
 use crate::word_separators::Words;
-pub use crate::word_splitters::hyphens::is_hyphen_point;
-pub use crate::word_splitters::pieces::{inner_piece, push_measured};
+pub use crate::word_splitters::pieces::push_measured;
 use std::alloc::Allocator;
 
 /// The words of a line that is cut at its blanks, one after the other, as

@@ -7,6 +7,8 @@ pub mod blanks;
 pub mod escapes;
 pub mod inner;
 pub mod laws;
+mod pieces;
+mod printable;
 pub mod word_separators;
 pub mod word_splitters;
 pub mod words;

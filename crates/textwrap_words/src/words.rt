@@ -1,12 +1,12 @@
 //! The columns of a text, fragments and words: what the original has in its module `core`. The text
 //! `foo bar` has 7 columns, and its word `foo` is a fragment of width 3, with a blank after it.
 ghost use Rattle.std.specs.Prelude.{◌≡◌, ◌≢◌, ℕ, ◌*◌, ◌≤◌, length, All, IfOk, string_bytes};
-ghost use Rattle.std.specs.List.{list_all};
-ghost use Rattle.textwrap_words.specs.Units.{columns, text_width, is_printable, escape, stripped};
+ghost use Rattle.textwrap_words.specs.Units.{columns, text_width, escape, stripped};
 ghost use Rattle.textwrap_words.specs.Words.{word_view, sizes_of, word_of};
 
 use crate::blanks::split_final_blanks;
 use crate::escapes::State;
+use crate::printable::is_printable;
 pub use breaking::{BreakApart, break_words};
 use std::alloc::{AllocError, Allocator};
 pub use textwrap_base::Fragment;
@@ -25,7 +25,7 @@ pub fn display_width(text: &str) -> usize
     ensures width { result ≡ text_width text.now }
     ensures bound { result ≤ 2 * length text.now }
 {
-    if is_plain(text.as_bytes()) {
+    if is_printable(text.as_bytes()) {
         return text.len();
     }
     let mut state = State::Text;
@@ -64,20 +64,8 @@ pub fn strip_ansi_escape_sequences<A: Allocator + Copy>(
     Ok(plain)
 }
 
-/// Whether each byte is a printable ASCII character, which takes one column.
-fn is_plain(bytes: &[u8]) -> bool
-    ensures { result ≡ list_all is_printable bytes.now }
-{
-    for byte in bytes {
-        if *byte < b' ' || *byte > b'~' {
-            return false;
-        }
-    }
-    true
-}
-
 /// The columns of a character alone, 0 for a control character.
-fn columns(ch: char) -> usize
+pub(crate) fn columns(ch: char) -> usize
     ensures { result ≡ columns ch }
 {
     ch.width().unwrap_or(0)

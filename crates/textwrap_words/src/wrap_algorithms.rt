@@ -4,7 +4,7 @@ ghost use Rattle.std.specs.Prelude.{◌≡◌, map, IfOk, OnOk, IsSomeAnd};
 ghost use Rattle.std.specs.Option.{ForSome};
 ghost use Rattle.textwrap_base.specs.Penalties.{default_penalties};
 ghost use Rattle.textwrap_base.specs.Cost.{total_width};
-ghost use Rattle.textwrap_base.specs.Errors.{Fits64Bits, Overflowed};
+ghost use Rattle.textwrap_base.specs.Errors.{Fits64Bits, Overflowed, Passes128Bits};
 
 use crate::words::Word;
 use at_ends::wrap_at_ends;
@@ -65,6 +65,9 @@ impl WrapAlgorithm {
             OverflowsBy algorithm (λ word. sizes_of (word_view word)) line_widths.now words.now) }
         ensures ok_only { OnOk result (ForSome (algorithm_view self.now) (λ algorithm.
             ¬ OverflowsBy algorithm (λ word. sizes_of (word_view word)) line_widths.now words.now)) }
+        ensures too_wide { (penalties : _) → self.now ≡ WrapAlgorithm.OptimalFit penalties
+            → Passes128Bits (total_width (λ word. sizes_of (word_view word)) words.now)
+            → Overflowed result }
         ensures no_overflow { Fits64Bits (total_width (λ word. sizes_of (word_view word)) words.now)
             → ¬ Overflowed result }
     {

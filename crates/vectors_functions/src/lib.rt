@@ -2,7 +2,9 @@
 //! of `vectors_texts` and `vectors_words` share.
 #![tactic(auto)]
 
-ghost use Rattle.std.specs.Prelude.{◌≡◌, ◌≤◌, ◌==◌, [], ◌∷◌, length, IfOk, OnOk, All, codes, false, if◌then◌else◌};
+ghost use Rattle.std.specs.Prelude.{◌≡◌, ℕ, ◌+◌, ◌<◌, ◌≤◌, ◌==◌, [], ◌∷◌, length, map, IfOk, OnOk};
+ghost use Rattle.std.specs.Prelude.{All, codes, false, IsTrue, if◌then◌else◌, Contains, IsCharBoundary};
+ghost use Rattle.std.specs.List.{range_with_len};
 ghost use Rattle.std.specs.List.Sorted.{IsNonDecreasing};
 ghost use Rattle.std.specs.Str.{bytes_eq};
 ghost use Rattle.textwrap.specs.Cuts.{AreCuts, AreInnerCuts};
@@ -104,6 +106,47 @@ pub fn refuse_word(alloc: Global, word: &str) -> Result<Vec<usize>, AllocError>
     refuse_line(alloc, word)
 }
 
+/// Cuts a line before each of its characters but the first.
+pub fn cut_characters(alloc: Global, line: &str) -> Result<Vec<usize>, AllocError>
+    ensures all { IfOk result (λ cuts. (place : ℕ) → 0 < place → place < length line.now
+        → IsCharBoundary line.now place → Contains cuts.items place) }
+    ensures inner { IfOk result (λ cuts. AreInnerCuts line.now cuts.items) }
+{
+    let mut cuts = Vec::new(alloc);
+    for place in 1..line.len() {
+        if line.is_char_boundary(place) {
+            cuts.push(place)?;
+        }
+    }
+    Ok(cuts)
+}
+
+/// Splits a word before each of its characters but the first.
+pub fn split_characters(alloc: Global, word: &str) -> Result<Vec<usize>, AllocError>
+    ensures all { IfOk result (λ points. (place : ℕ) → 0 < place → place < length word.now
+        → IsCharBoundary word.now place → Contains points.items place) }
+    ensures cuts { IfOk result (λ points. AreCuts word.now points.items) }
+{
+    cut_characters(alloc, word)
+}
+
+/// Ends a line after each word.
+pub fn end_each(
+    alloc: Global,
+    words: &[Word<'_>],
+    _line_widths: &[usize],
+) -> Result<Vec<usize>, AllocError>
+    ensures ends { IfOk result (λ ends. ends.items
+        ≡ map (λ before. before + 1) (range_with_len 0 (length words.now))) }
+    ensures are { IfOk result (λ ends. AreEnds words.now ends.items) }
+{
+    let mut ends = Vec::new(alloc);
+    for before in 0..words.len() {
+        ends.push(before + 1)?;
+    }
+    Ok(ends)
+}
+
 /// Ends lines of six words after the first, the third and the last of them.
 pub fn end_all(
     alloc: Global,
@@ -168,7 +211,9 @@ pub fn refuse_words(
 }
 
 /// Whether the lines have these texts, each line a part of the text that was wrapped.
-pub fn are_borrowed(lines: &[CowStr<'_>], expected: &[&str]) -> bool {
+pub fn are_borrowed(lines: &[CowStr<'_>], expected: &[&str]) -> bool
+    ensures count { IsTrue result → length lines.now ≡ length expected.now }
+{
     for (line, expected) in lines.iter().zip(expected) {
         if !matches!(line, CowStr::Borrowed(_)) || line.as_str() != *expected {
             return false;

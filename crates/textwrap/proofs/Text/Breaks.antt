@@ -1,9 +1,9 @@
 -- The places of the line feeds: those of one part after the other, and that they are in the text.
 use Rattle.textwrap_base.proofs.Common.{◌≡◌, ℕ, ◌+◌, List, [], ◌∷◌, ◌++◌, length, refl, sym, ap}
 use Rattle.textwrap_base.proofs.Common.{◌∙◌, arith, append_assoc, append-nil, length-append, Bor}
-use Rattle.textwrap_base.proofs.Common.{Option, None, Some, length_push, IsGreedy, ◌-◌, ◌<◌, ◌≤◌}
-use Rattle.textwrap_base.proofs.Common.{All, All-nil, All-cons, All-append}
-use Rattle.textwrap_words.proofs.Common.{WordText, sizes_of, tiled, words_of, blank}
+use Rattle.textwrap_base.proofs.Common.{Option, None, Some, length_push, IsGreedy, ◌<◌, ◌≤◌}
+use Rattle.textwrap_base.proofs.Common.{All, All-nil, All-cons, All-append, rules}
+use Rattle.textwrap_words.proofs.Common.{WordText, sizes_of, tiled, words_of}
 use Rattle.textwrap_lines.proofs.Common.{paragraphs_of, line_feed}
 use Rattle.textwrap.proofs.Common.{AreDividedAt, breaks_of, breaks_from}
 use Rattle.textwrap_base.proofs.Lists.Parts.{flat}
@@ -11,7 +11,7 @@ use Rattle.textwrap_lines.specs.declared.line_ending.LineEnding.TheVariants.{LF}
 use Rattle.textwrap_lines.proofs.Text.Endings.{join_with-cons, parts_past-some}
 use Rattle.textwrap_lines.proofs.Text.EndingTexts.{join-paragraphs_of}
 use Rattle.textwrap_lines.proofs.Text.Lines.{paragraphs_left, bytes_left}
-use Rattle.textwrap_lines.proofs.Paragraph.LinesApart.{IsBroken-greedy, shortened, AreLinesApart}
+use Rattle.textwrap_lines.proofs.Paragraph.LinesApart.{IsBroken-greedy, AreLinesApart}
 use Rattle.textwrap.proofs.Text.JoinedLines.{feed_joined}
 use Rattle.textwrap_words.proofs.Word.Tiling.{tiled-append}
 
@@ -33,16 +33,11 @@ pub HasBreaks-more : (width : ℕ) (text breaks more : List ℕ) (start : ℕ) (
     → HasBreaks width text more (start + (length part + 1)) after
 HasBreaks-more width text breaks more start part left after lines so_far left_is greedy more_is =
     let tiles = (IsBroken-greedy (width ∷ []) part lines greedy).tiles in
-    let past : start + length (tiled (flat lines)) + 1 ≡ start + (length part + 1) =
-    omega (arith, ap length tiles) in
+    let past : start + length (tiled (flat lines)) + 1 ≡ start + (length part + 1) = search rules in
     record {
       more = λ divisions divided.
           let (all, are, is) = so_far.more (lines ∷ divisions)
-          (rw left_is (greedy, divided)) in (
-            all,
-            are,
-            rw (more_is, append_assoc, ← past) is,
-          );
+          (rw left_is (greedy, divided)) in search (rules, arith, append_assoc);
     }
 
 pub HasBreaks-end : (width : ℕ) (text breaks : List ℕ) (start : ℕ)
@@ -79,33 +74,24 @@ places-part start limit (line ∷ []) apart room = All-nil (λ place. place < li
 places-part start limit (line ∷ next ∷ lines) (words, ending, apart) room =
     let whole = ap length (tiled-append line (flat (next ∷ lines))) in
     let len = length-append (tiled line) (tiled (flat (next ∷ lines))) in
-    let some = ap length ending ∙ length_push (shortened (tiled line)) blank in
-    All-cons (λ place. place < limit) (start + length (tiled line) - 1)
-    (breaks_of (start + length (tiled line)) (next ∷ lines))
-    (omega (arith, room, whole, len, some))
-    (places-part (start + length (tiled line)) limit (next ∷ lines) apart
-    (omega (arith, room, whole, len)))
+    let rest = places-part (start + length (tiled line)) limit (next ∷ lines) apart
+    (omega (arith, room, whole, len)) in
+    search (rules, arith, length_push, All-cons)
 
 pub places-within : (width start limit : ℕ) (parts : List (List ℕ))
     (divisions : List (List (List WordText))) → AreDividedAt width parts divisions
     → start + length (feed_joined parts) ≤ limit
     → All (λ place. place < limit) (breaks_from start divisions)
-places-within width start limit [] divisions none room =
-    rw none (All-nil (λ place. place < limit))
+places-within width start limit [] divisions none room = search (rules, All-nil)
 places-within width start limit (part ∷ parts) [] divided room = absurd divided
 places-within width start limit (part ∷ []) (lines ∷ divisions) (greedy, divided) room =
-    let broken = IsBroken-greedy (width ∷ []) part lines greedy in
-    let past = start + length (tiled (flat lines)) + 1 in
-    All-append (λ place. place < limit) (breaks_of start lines) (breaks_from past divisions)
-    (places-part start limit lines broken.apart (omega (arith, room, ap length broken.tiles)))
-    (rw divided (All-nil (λ place. place < limit)))
+    search (rules, IsBroken-greedy, flat, All-append, places-part, All-nil)
 places-within width start limit (part ∷ next ∷ parts) (lines ∷ divisions) (greedy, divided) room =
     let broken = IsBroken-greedy (width ∷ []) part lines greedy in
     let past = start + length (tiled (flat lines)) + 1 in
     let len = length-append (part ++ line_feed ∷ []) (feed_joined (next ∷ parts)) in
     let one = length_push part line_feed in
     All-append (λ place. place < limit) (breaks_of start lines) (breaks_from past divisions)
-    (places-part start limit lines broken.apart
-    (omega (arith, room, ap length broken.tiles, len, one)))
+    (search (rules, places-part))
     (places-within width past limit (next ∷ parts) divisions divided
     (omega (arith, room, ap length broken.tiles, len, one)))

@@ -3,8 +3,7 @@ use Rattle.textwrap_base.proofs.Common.{◌≡◌, ℕ, zero, suc, ◌+◌, ◌-
 use Rattle.textwrap_base.proofs.Common.{◌∷◌, ◌++◌, length, get_or, map, refl, sym, ap, ◌∙◌, arith}
 use Rattle.textwrap_base.proofs.Common.{append_assoc, append-nil, inl, inr, range_with_len, repeat}
 use Rattle.textwrap_base.proofs.Common.{CowStr, get_or-map, get_or_past, length-map, map-append}
-use Rattle.textwrap_base.proofs.Common.{flat_map-append, map-range_with_len_more}
-use Rattle.textwrap_words.proofs.Common.{text_width}
+use Rattle.textwrap_base.proofs.Common.{flat_map-append, map-range_with_len_more, rules}
 use Rattle.textwrap_lines.proofs.Common.{join_with, line_view, line_bytes}
 use Rattle.textwrap.proofs.Common.{Layout, blanks, cell, padded, gapped, cells, row_text}
 use Rattle.std.specs.Cow.{cow_str_bytes}
@@ -35,8 +34,7 @@ gapped-more layout lines step first later before row is =
     (simp (is, flat_map-append, append_assoc, append-nil))
 
 padded-nil : (width : ℕ) → padded width [] ≡ blanks width
-padded-nil width =
-    let all : width - text_width [] ≡ width = omega (arith, text_width-nil) in ap blanks all
+padded-nil width = search (rules, text_width-nil)
 
 -- the cells after the last line
 gapped-missing : (layout : Layout) (lines : List (List ℕ)) (step first c count : ℕ)
@@ -46,22 +44,18 @@ gapped-missing : (layout : Layout) (lines : List (List ℕ)) (step first c count
 gapped-missing layout lines step first c zero past = refl
 gapped-missing layout lines step first c (suc count) past =
     let later : length lines ≤ first + (c + 1) * step = omega arith in
-    ap (λ l. (layout.middle ++ padded layout.column_width l)
-    ++ gapped layout (map (cell lines step first) (range_with_len (c + 1) count)))
-    (get_or_past lines (first + c * step) [] past)
-    ∙ ap (λ l. (layout.middle ++ l)
-    ++ gapped layout (map (cell lines step first) (range_with_len (c + 1) count)))
-    (padded-nil layout.column_width)
-    ∙ ap (λ l. (layout.middle ++ blanks layout.column_width) ++ l)
-    (gapped-missing layout lines step first (c + 1) count later)
+    rw (
+      get_or_past lines (first + c * step) [] past,
+      padded-nil layout.column_width,
+      gapped-missing layout lines step first (c + 1) count later,
+    )
 
 -- joined cells are the first, and the others after the middle gap each
 pub join-gapped : (layout : Layout) (x : List ℕ) (xs : List (List ℕ))
     → join_with layout.middle (map (padded layout.column_width) (x ∷ xs))
     ≡ padded layout.column_width x ++ gapped layout xs
 join-gapped layout x [] = sym (append-nil (padded layout.column_width x))
-join-gapped layout x (y ∷ ys) =
-    simp (append_assoc, join-gapped layout y ys)
+join-gapped layout x (y ∷ ys) = search (rules, append_assoc, join-gapped layout y ys)
 
 -- the later cells: those of lines, and a run of those without
 pub gapped-all : (layout : Layout) (lines : List (List ℕ)) (step first later count : ℕ)
@@ -69,21 +63,9 @@ pub gapped-all : (layout : Layout) (lines : List (List ℕ)) (step first later c
     → gapped layout (map (cell lines step first) (range_with_len 1 later))
     ++ repeat count (layout.middle ++ blanks layout.column_width)
     ≡ gapped layout (map (cell lines step first) (range_with_len 1 (later + count)))
-gapped-all layout lines step first later count (inl none) =
-    let same : later + count ≡ later = omega (arith, none) in
-    ap (λ n. gapped layout (map (cell lines step first) (range_with_len 1 later))
-    ++ repeat n (layout.middle ++ blanks layout.column_width)) none
-    ∙ append-nil (gapped layout (map (cell lines step first) (range_with_len 1 later)))
-    ∙ ap (λ n. gapped layout (map (cell lines step first) (range_with_len 1 n))) (sym same)
+gapped-all layout lines step first later count (inl none) = search (rules, append-nil)
 gapped-all layout lines step first later count (inr past) =
-    let here : later + 1 ≡ 1 + later = omega arith in
-    let from : length lines ≤ first + (1 + later) * step = omega arith in
-    simp (
-      range-split,
-      map-append,
-      flat_map-append,
-      gapped-missing layout lines step first (1 + later) count from,
-    )
+    search (rules, range-split, map-append, flat_map-append, gapped-missing)
 
 -- ---- rows
 
@@ -97,8 +79,7 @@ pub row_text-parts : (layout : Layout) (lines : List (List ℕ)) (step first lat
     ++ blanks layout.spare_width) ++ layout.right
     ≡ row_text layout (cells lines step layout.columns first)
 row_text-parts layout lines step first later count all columns =
-    rw (columns, join-gapped, ← gapped-all layout lines step first later count all)
-    (simp append_assoc)
+    search (rules, join-gapped, gapped-all, append_assoc)
 
 -- the same where the run fills the columns up
 pub row_text-written : (layout : Layout) (lines : List (List ℕ)) (step first later : ℕ)
@@ -109,9 +90,5 @@ pub row_text-written : (layout : Layout) (lines : List (List ℕ)) (step first l
     ++ repeat (layout.columns - 1 - later) (layout.middle ++ blanks layout.column_width))
     ++ blanks layout.spare_width) ++ layout.right
     ≡ row_text layout (cells lines step layout.columns first)
-row_text-written layout lines step first later (inl full) within =
-    row_text-parts layout lines step first later (layout.columns - 1 - later)
-    (inl (omega arith)) (omega arith)
-row_text-written layout lines step first later (inr past) within =
-    row_text-parts layout lines step first later (layout.columns - 1 - later)
-    (inr past) (omega arith)
+row_text-written layout lines step first later (inl full) within = search (rules, row_text-parts)
+row_text-written layout lines step first later (inr past) within = search (rules, row_text-parts)

@@ -1,39 +1,26 @@
 -- A text without line feeds is cut at blanks where it is filled with whole words.
-use Rattle.textwrap_base.proofs.Common.{◌≡◌, ◌≢◌, ℕ, ◌<◌, Bool, true, false, MatchBool, List, []}
-use Rattle.textwrap_base.proofs.Common.{◌∷◌, All, length, map, refl, sym, ap, ◌∙◌, subst}
-use Rattle.textwrap_base.proofs.Common.{arith, append-nil, All-head, All-drop, IsDivision, Sizes}
+use Rattle.textwrap_base.proofs.Common.{◌≡◌, ◌≢◌, ℕ, Bool, true, false, MatchBool, List, []}
+use Rattle.textwrap_base.proofs.Common.{◌∷◌, ◌++◌, All, refl, sym, ap, ◌∙◌, subst}
+use Rattle.textwrap_base.proofs.Common.{arith, append-nil, All-head, All-drop, IsDivision}
+use Rattle.textwrap_base.proofs.Common.{Sizes, All-nil}
 use Rattle.textwrap_words.proofs.Common.{without_final_blanks, WordText, sizes_of, tiled, word_of}
-use Rattle.textwrap_words.proofs.Common.{words_of, AreWordsOf, Algorithm, Greedy, LeastCost}
-use Rattle.textwrap_words.proofs.Common.{IsDividedBy, Whole}
+use Rattle.textwrap_words.proofs.Common.{words_of, Algorithm, Greedy, LeastCost}
+use Rattle.textwrap_words.proofs.Common.{IsDividedBy, Whole, chunks}
 use Rattle.textwrap_lines.proofs.Common.{line_feed, ending_bytes, paragraphs_of, LineParts}
-use Rattle.textwrap_lines.proofs.Common.{line_bytes, line_from, parts_from, is_whole, widths_of}
-use Rattle.textwrap_lines.proofs.Common.{DividesAs, AreParagraphParts, AreGroups}
-use Rattle.textwrap.proofs.Common.{broken_lines, unbroken_at, IsFilledUnbroken}
-use Rattle.textwrap_base.proofs.Division.Map.{IsDivision-whole, IsDividedBy-some}
+use Rattle.textwrap_lines.proofs.Common.{line_bytes, is_whole}
+use Rattle.textwrap_lines.proofs.Common.{widths_of, DividesAs, AreParagraphParts, AreGroups}
+use Rattle.textwrap_lines.proofs.Common.{Settings}
+use Rattle.textwrap.proofs.Common.{IsFilledWhole, KeepsWords}
 use Rattle.textwrap_base.proofs.Lists.Parts.{flat}
 use Rattle.textwrap_words.proofs.Word.Tiling.{tiled-words_of}
 use Rattle.textwrap_words.proofs.Word.Words.{words_unique}
 use Rattle.textwrap_lines.specs.declared.line_ending.LineEnding.TheVariants.{LF}
-use Rattle.textwrap_lines.proofs.Paragraph.WholeLine.{line_from-whole}
-use Rattle.textwrap_lines.proofs.Paragraph.LinesApart.{apart_from}
+use Rattle.textwrap_lines.proofs.Paragraph.WholeLine.{line_from-whole, whole_unindented}
 use Rattle.textwrap_lines.proofs.Paragraph.Pieces.{ArePieces-is}
+use Rattle.textwrap_lines.proofs.PrintableTexts.Bridge.{split-whole}
 use Rattle.textwrap_lines.proofs.Text.Endings.{parts_past-none}
-use Rattle.textwrap.proofs.Text.JoinedLines.{blank_joined, feed_joined, tiled-broken}
-use Rattle.textwrap.proofs.Text.JoinedLines.{all_broken-some}
-use Rattle.textwrap.proofs.Text.InPlaceParts.{lines_from-broken, trimmed_line}
-use Rattle.textwrap.proofs.Text.InPlaceLines.{pieces_of-unbroken}
-
--- the old text is these parts with a blank between each two, and the new one is the same parts
--- without the blanks at their ends, with a line feed between each two
-pub record IsCutAtBlanks (text filled : List ℕ) : Type 0 where
-  pub parts : List (List ℕ)
-  pub some : 0 < length parts
-  pub text_is : text ≡ blank_joined parts
-  pub filled_is : filled ≡ feed_joined (map without_final_blanks parts)
-
-abbrev Divides : ℕ → Algorithm → Bool → List ℕ → List (List WordText) → Type 0
-Divides width algorithm =
-    DividesAs Whole algorithm (unbroken_at width)
+use Rattle.textwrap.proofs.Text.JoinedLines.{feed_joined}
+use Rattle.textwrap.proofs.Text.WholeLines.{IsCutAtBlanks, whole_words, bytes_of, filled_of, cut-words}
 
 division-by : {X : Type 0} (algorithm : Algorithm) (sizes : X → Sizes) (widths : List ℕ)
     (xs : List X) (lines : List (List X)) → IsDividedBy algorithm sizes widths xs lines
@@ -41,78 +28,91 @@ division-by : {X : Type 0} (algorithm : Algorithm) (sizes : X → Sizes) (widths
 division-by Greedy sizes widths xs lines divided = divided.admissible.division
 division-by (LeastCost penalties) sizes widths xs lines divided = divided.by_table.division
 
-bytes-trimmed : (parts : List (List ℕ))
-    → map line_bytes (map trimmed_line parts) ≡ map without_final_blanks parts
-bytes-trimmed [] = refl
-bytes-trimmed (part ∷ parts) =
-    ap (λ ls. without_final_blanks part ∷ ls) (bytes-trimmed parts)
+module _ (initial subsequent : List ℕ) (even : Bool) (width : ℕ) where
+  abbrev settings : Settings
+  settings = whole_words initial subsequent even width
 
--- the bytes of lines with these parts, with a line feed between each two
-abbrev joined_lines : List LineParts → List ℕ
-joined_lines parts = feed_joined (map line_bytes (map line_from parts))
+  module _ (algorithm : Algorithm) (text : List ℕ) where
+    abbrev Divides : Bool → List ℕ → List (List WordText) → Type 0
+    Divides = DividesAs Whole algorithm settings
 
-module _ (width : ℕ) (algorithm : Algorithm) (text : List ℕ) where
-  cut-division : (division : List (List WordText)) → Divides width algorithm false text division
-      → IsCutAtBlanks text (joined_lines (parts_from (unbroken_at width) false division))
-  cut-division division (pieces, are, divided) =
-      let words : pieces ≡ words_of text =
-      ArePieces-is (unbroken_at width) Whole text pieces are
-      ∙ pieces_of-unbroken width text in
-      let lines = division-by algorithm sizes_of (widths_of (unbroken_at width) false) pieces
-      division divided in
-      let some = IsDividedBy-some sizes_of algorithm (widths_of (unbroken_at width) false) pieces
-      division divided in
-      let tile : tiled pieces ≡ text = ap tiled words ∙ tiled-words_of text in
-      let of_text : AreWordsOf (tiled pieces) pieces =
-      rw tile ((words_unique text pieces).1 words) in
-      let apart = apart_from pieces division lines of_text in
-      record {
-        parts = broken_lines division;
-        some = all_broken-some division some;
-        text_is = sym tile ∙ ap tiled (sym (IsDivision-whole pieces division lines))
-            ∙ tiled-broken division some apart;
-        filled_is = ap (λ ls. feed_joined (map line_bytes ls))
-            (lines_from-broken width false division apart)
-            ∙ ap feed_joined (bytes-trimmed (broken_lines division));
-      }
+    -- what holds of a whole paragraph without its final blanks, if there is no initial indent, and
+    -- of the words of the text, divided, holds of the filled text
+    filled-cases : (Holds : List ℕ → Type 0)
+        → (initial ≡ [] → Holds (without_final_blanks text))
+        → ((division : List (List WordText)) → IsDivision (words_of text) division
+        → Holds (filled_of initial subsequent even width division))
+        → (filled : List ℕ) → All (λ c. c ≢ line_feed) text
+        → IsFilledWhole settings algorithm text filled → Holds filled
+    filled-cases Holds whole divided filled none (lines, are, is) =
+        rw (is, are.given) (by_groups are.groups (rw one_paragraph at are.defined))
+      where
+        -- a text without line feeds is one paragraph
+        one_paragraph : paragraphs_of LF text ≡ text ∷ []
+        one_paragraph =
+            parts_past-none (ending_bytes LF) text
+            (λ k within others is. All-head (λ c. c ≢ line_feed) line_feed others
+            (subst (All (λ c. c ≢ line_feed)) is (All-drop (λ c. c ≢ line_feed) k text none)) refl)
 
-  cut-laid_out : (division : List (List WordText)) (whole : Bool)
-      → is_whole (unbroken_at width) false text ≡ whole
-      → MatchBool whole (division ≡ (word_of text ∷ []) ∷ [])
-      (Divides width algorithm false text division)
-      → IsCutAtBlanks text (joined_lines (parts_from (unbroken_at width) false division))
-  cut-laid_out division true whole is = record {
-    parts = text ∷ [];
-    some = omega arith;
-    text_is = refl;
-    filled_is = rw is (ap line_bytes (line_from-whole (unbroken_at width) false text whole));
-  }
-  cut-laid_out division false whole divided = cut-division division divided
+        by_case : (division : List (List WordText)) (b : Bool)
+            → is_whole settings false text ≡ b
+            → MatchBool b (division ≡ (word_of text ∷ []) ∷ []) (Divides false text division)
+            → Holds (filled_of initial subsequent even width division)
+        by_case division true is_one is =
+            subst (λ d. Holds (filled_of initial subsequent even width d)) (sym is)
+            (subst Holds (sym (ap line_bytes (line_from-whole settings false text is_one)))
+            (whole (whole_unindented settings false text is_one)))
+        by_case division false longer (pieces, are, lines) =
+            divided division
+            (subst (λ ws. IsDivision ws division)
+            (ArePieces-is settings Whole text pieces are ∙ split-whole (chunks text))
+            (division-by algorithm sizes_of (widths_of settings false) pieces division lines))
 
-  cut-parts : (parts : List LineParts)
-      → AreParagraphParts (unbroken_at width) (Divides width algorithm) false text parts
-      → IsCutAtBlanks text (joined_lines parts)
-  cut-parts parts (division, laid_out, is) =
-      rw is (cut-laid_out division (is_whole (unbroken_at width) false text) refl laid_out)
+        by_groups : (groups : List (List LineParts))
+            → AreGroups (AreParagraphParts settings Divides) false (text ∷ []) groups
+            → Holds (feed_joined (bytes_of (flat groups)))
+        by_groups [] are = absurd are
+        by_groups (parts ∷ groups) ((division, laid_out, is), none) =
+            rw (none, append-nil, is)
+            (by_case division (is_whole settings false text) refl laid_out)
 
-  cut-groups : (groups : List (List LineParts))
-      → AreGroups (AreParagraphParts (unbroken_at width) (Divides width algorithm)) false
-      (text ∷ []) groups
-      → IsCutAtBlanks text (joined_lines (flat groups))
-  cut-groups [] are = absurd are
-  cut-groups (parts ∷ groups) (are, none) =
-      rw (none, append-nil) (cut-parts parts are)
+    cut-computed : (filled : List ℕ) → text ≢ [] → All (λ c. c ≢ line_feed) text
+        → IsFilledWhole settings algorithm text filled
+        → IsCutAtBlanks initial subsequent text filled
+    cut-computed filled some =
+        filled-cases (IsCutAtBlanks initial subsequent text)
+        (λ none. record {
+          parts = text ∷ [];
+          some = omega arith;
+          text_is = refl;
+          filled_is = ap (λ i. i ++ without_final_blanks text) (sym none);
+        })
+        (λ division divided. subst (λ t. IsCutAtBlanks initial subsequent t (filled_of initial subsequent even width division))
+        (tiled-words_of text)
+        (cut-words initial subsequent even width (words_of text) division divided
+        (rw (tiled-words_of text) ((words_unique text (words_of text)).1 refl))
+        (λ none. some (sym (tiled-words_of text) ∙ ap tiled none))))
+        filled
 
--- a text without line feeds is one paragraph
-one_paragraph : (text : List ℕ) → All (λ c. c ≢ line_feed) text → paragraphs_of LF text ≡ text ∷ []
-one_paragraph text none =
-    parts_past-none (ending_bytes LF) text
-    (λ k within others is. All-head (λ c. c ≢ line_feed) line_feed others
-    (subst (All (λ c. c ≢ line_feed)) is (All-drop (λ c. c ≢ line_feed) k text none)) refl)
+-- such settings are known from four of their fields
+settings-are : (s : Settings) → KeepsWords s
+    → s ≡ whole_words s.initial_indent s.subsequent_indent s.even_paragraphs s.width
+settings-are s keeps = rw (keeps.unbroken, keeps.trimmed, keeps.feeds)
 
-pub cut-filled : (width : ℕ) (algorithm : Algorithm) (text filled : List ℕ)
-    → All (λ c. c ≢ line_feed) text → IsFilledUnbroken width algorithm text filled
-    → IsCutAtBlanks text filled
-cut-filled width algorithm text filled none (lines, are, is) =
-    rw (is, are.given) (cut-groups width algorithm text are.groups
-    (rw (one_paragraph text none) at are.defined))
+module _ (s : Settings) (algorithm : Algorithm) (filled : List ℕ) (keeps : KeepsWords s) where
+  pub cut-filled : (text : List ℕ) → text ≢ [] → All (λ c. c ≢ line_feed) text
+      → IsFilledWhole s algorithm text filled
+      → IsCutAtBlanks s.initial_indent s.subsequent_indent text filled
+  cut-filled text some none given =
+      cut-computed s.initial_indent s.subsequent_indent s.even_paragraphs s.width algorithm text
+      filled some none
+      (subst (λ s. IsFilledWhole s algorithm text filled) (settings-are s keeps) given)
+
+  -- no indent stands on an empty line
+  pub empty-filled : IsFilledWhole s algorithm [] filled → filled ≡ []
+  empty-filled given =
+      filled-cases s.initial_indent s.subsequent_indent s.even_paragraphs s.width algorithm []
+      (λ filled. filled ≡ []) (λ none. refl)
+      (λ division none. ap (filled_of s.initial_indent s.subsequent_indent s.even_paragraphs s.width)
+      none) filled (All-nil (λ c. c ≢ line_feed))
+      (subst (λ s. IsFilledWhole s algorithm [] filled) (settings-are s keeps) given)

@@ -1,7 +1,7 @@
 -- The line feeds in their places.
 use Rattle.textwrap_base.proofs.Common.{◌≡◌, ℕ, ◌+◌, ◌-◌, ◌<◌, List, [], ◌∷◌, ◌++◌, All, length}
 use Rattle.textwrap_base.proofs.Common.{refl, sym, ap, ◌∙◌, arith, append_assoc, append-nil}
-use Rattle.textwrap_base.proofs.Common.{length-append, flat_map, length_push}
+use Rattle.textwrap_base.proofs.Common.{length-append, flat_map, length_push, rules}
 use Rattle.textwrap_words.proofs.Common.{blank, WordText, tiled}
 use Rattle.textwrap_lines.proofs.Common.{ending_bytes, paragraphs_of, line_feed}
 use Rattle.textwrap.proofs.Common.{broken_lines, AreDividedAt, breaks_of, breaks_from}
@@ -25,8 +25,7 @@ feeds-part : (start : ℕ) (before : List ℕ) (lines : List (List WordText)) (a
     → with_line_feeds (breaks_of start lines ++ places) (before ++ (tiled (flat lines) ++ after))
     ≡ with_line_feeds places (before ++ (feed_joined (broken_lines lines) ++ after))
 feeds-part start before [] after places some apart len = absurd (omega arith)
-feeds-part start before (line ∷ []) after places some apart len =
-    ap (λ ws. with_line_feeds places (before ++ (tiled ws ++ after))) (append-nil line)
+feeds-part start before (line ∷ []) after places some apart len = search (rules, append-nil)
 feeds-part start before (line ∷ next ∷ lines) after places some (words, ending, apart) len =
     let text = shortened (tiled line) in
     let rest = tiled (flat (next ∷ lines)) in
@@ -38,19 +37,14 @@ feeds-part start before (line ∷ next ∷ lines) after places some (words, endi
     let place : length (before ++ text) ≡ end - 1 =
     omega (arith, len, shorter, length-append before text) in
     let past : length ((before ++ text) ++ line_feed ∷ []) ≡ end =
-    omega (arith, len, shorter, length-append before text, length_push (before ++ text) line_feed)
-    in
+    search (rules, arith, length-append, length_push) in
     let old : before ++ (tiled (flat (line ∷ next ∷ lines)) ++ after) ≡ (before ++ text)
-    ++ blank ∷ (rest ++ after) =
-    ap (λ l. before ++ (l ++ after)) (tiled-append line (flat (next ∷ lines))
-    ∙ ap (λ l. l ++ rest) ending) ∙ simp append_assoc in
+    ++ blank ∷ (rest ++ after) = search (rules, tiled-append, flat, append_assoc) in
     let new : ((before ++ text) ++ line_feed ∷ []) ++ (joined ++ after) ≡ before
     ++ (feed_joined (broken_lines (line ∷ next ∷ lines)) ++ after) =
-    rw (join_with-cons (line_feed ∷ []) text (broken_lines (next ∷ lines))
-    (broken_lines-some next lines)) (simp append_assoc) in
+    search (rules, arith, join_with-cons, broken_lines-some, append_assoc) in
     ap (λ l. with_line_feeds others (set l (end - 1) line_feed)) old
-    ∙ ap (with_line_feeds others) (set_at (before ++ text) blank (rest ++ after) line_feed (end - 1)
-    place ∙ sym (append_assoc (before ++ text) (line_feed ∷ []) (rest ++ after)))
+    ∙ ap (with_line_feeds others) (search (rules, set_at, append_assoc))
     ∙ feeds-part end ((before ++ text) ++ line_feed ∷ []) (next ∷ lines) after places (omega arith)
     apart past
     ∙ ap (with_line_feeds places) new
@@ -73,25 +67,13 @@ feeds-parts width start before (part ∷ next ∷ parts) (lines ∷ divisions) s
     let past = start + length (tiled (flat lines)) + 1 in
     let row = feed_joined (broken_lines lines) in
     let rest = feed_joined (next ∷ parts) in
-    let place : length (before ++ (row ++ line_feed ∷ [])) ≡ past = omega (
-      arith,
-      len,
-      length-append before (row ++ line_feed ∷ []),
-      length_push row line_feed,
-      length-joined blank line_feed (broken_lines lines),
-      ap length (tiled-broken lines broken.some broken.apart),
-    ) in
+    let place : length (before ++ (row ++ line_feed ∷ [])) ≡ past =
+    search (rules, length-append, length_push, length-joined, tiled-broken) in
     let first = feeds-part start before lines (line_feed ∷ rest) (breaks_from past divisions)
     broken.some broken.apart len in
     let later = feeds-parts width past (before ++ (row ++ line_feed ∷ [])) (next ∷ parts) divisions
     (omega arith) divided place in
-    rw (
-      ← broken.tiles,
-      join-append (line_feed ∷ []) (broken_lines lines)
-          (flat_map broken_lines divisions) (all_broken-some lines broken.some)
-          (divisions-some width next parts divisions divided),
-    )
-    (simp append_assoc (first ∙ simp append_assoc at later))
+    search (rules, join-append, all_broken-some, divisions-some, append_assoc)
 
 -- the line feeds in their places fill the text
 pub feeds-filled : (width : ℕ) (text : List ℕ) (divisions : List (List (List WordText)))
@@ -119,6 +101,4 @@ pub filled-by_feeds : (width : ℕ) (text searched bytes breaks places new : Lis
     → searched ≡ text → bytes ≡ text → places ≡ breaks → new ≡ with_line_feeds places bytes
     → IsFilledInPlace width text new
 filled-by_feeds width text searched bytes breaks places new divisions divided breaks_are same whole
-    places_are new_is =
-    rw (new_is, whole, places_are, breaks_are)
-    (feeds-filled width text divisions (rw same at divided))
+    places_are new_is = search (rules, feeds-filled)

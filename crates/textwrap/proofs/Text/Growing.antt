@@ -1,18 +1,18 @@
 -- Lemmas on filling a part in place word by word: what is known of the line so far, and of the
 -- offsets so far.
-use Rattle.textwrap_base.proofs.Common.{◌≡◌, ◌≢◌, ℕ, ◌+◌, ◌-◌, ◌<◌, ◌≤◌, List, [], ◌∷◌, ◌++◌}
-use Rattle.textwrap_base.proofs.Common.{length, refl, sym, ap, ◌∙◌, subst, arith, append_assoc}
-use Rattle.textwrap_base.proofs.Common.{append-nil, length-append, All-tail, closed_width}
-use Rattle.textwrap_base.proofs.Common.{open_width, Fits, IsGreedy}
+use Rattle.textwrap_base.proofs.Common.{◌≡◌, ℕ, ◌+◌, ◌-◌, ◌<◌, ◌≤◌, List, [], ◌∷◌, ◌++◌, length}
+use Rattle.textwrap_base.proofs.Common.{sym, ap, subst, arith, append_assoc, append-nil}
+use Rattle.textwrap_base.proofs.Common.{length-append, All-tail, closed_width, Fits, IsGreedy}
+use Rattle.textwrap_base.proofs.Common.{rules}
 use Rattle.textwrap_words.proofs.Common.{WordText, sizes_of, tile_of, tiled, words_of}
 use Rattle.textwrap.proofs.Common.{FitsOneLine, breaks_of}
 use Rattle.textwrap_base.proofs.Division.Widths.{open_width-append}
 use Rattle.textwrap_words.proofs.Word.Tiling.{tiled-push}
 use Rattle.textwrap_base.proofs.Division.SameWidths.{line_width-one}
-use Rattle.textwrap_base.proofs.Division.Grown.{grown, grown-full, grown-room, grown-begins}
-use Rattle.textwrap_base.proofs.Division.Grown.{prefix-closes}
+use Rattle.textwrap_base.proofs.Division.Grown.{grown, grown-full, grown-begins, prefix-closes}
 use Rattle.textwrap_base.proofs.Division.GrownLines.{grown-greedy}
 use Rattle.textwrap.proofs.Text.LineSoFar.{HasLine, line_some, closes, first, IsPlain, passed}
+use Rattle.std.proofs.lemmas.Grind.{common_steps}
 
 -- ---- the line so far, from the offset `begin` of the text, and the words that are left
 
@@ -29,10 +29,7 @@ module _ {width start : ℕ} {part old breaks : List ℕ} {begin end taken : ℕ
       let full : width < closed_width sizes_of (line ++ x ∷ []) = omega (arith, closes has, over) in
       let (others, rest, is) = grown-begins sizes_of width width left (x ∷ []) in
       let next = grown sizes_of width width left (x ∷ []) in
-      let after : breaks_of begin (line ∷ next) ≡ (end - 1) ∷ breaks_of end next =
-      ap (λ ls. breaks_of begin (line ∷ ls)) is
-      ∙ ap (λ n. (n - 1) ∷ breaks_of n ((x ∷ others) ∷ rest)) (sym has.end_is)
-      ∙ ap (λ ls. (end - 1) ∷ breaks_of end ls) (sym is) in
+      let after : breaks_of begin (line ∷ next) ≡ (end - 1) ∷ breaks_of end next = cc in
       record {
         after = omega (arith, from_is, has.after, has.end_is);
         end_is = omega (arith, from_is, len_is, ap length (append-nil (tile_of x)));
@@ -40,13 +37,7 @@ module _ {width start : ℕ} {part old breaks : List ℕ} {begin end taken : ℕ
         some = λ any. omega (arith, from_is, len_is, (first has).some);
         plain = All-tail IsPlain x left has.plain;
         room = passed has len len_is;
-        places = rw (
-          from_is,
-          pushed_is,
-          append_assoc,
-          ← after,
-          ← grown-full sizes_of width width x left line some full,
-        ) has.places;
+        places = search (rules, append_assoc, grown-full);
         whole = λ fits. absurd (omega (
           arith,
           full,
@@ -61,50 +52,24 @@ module _ {width start : ℕ} {part old breaks : List ℕ} {begin end taken : ℕ
       → more ≡ taken + (x.width + length x.whitespace) → kept ≡ breaks
       → HasLine width start part old kept from (end + len) more left (line ++ x ∷ [])
   HasLine-join from len more kept within from_is len_is more_is kept_is =
-      let room : 0 < length line → closed_width sizes_of (line ++ x ∷ []) ≤ width =
-      λ some. omega (
+      grind (
         arith,
+        common_steps,
         closes has,
-        within (has.some
-            (λ none. omega (arith, ap length none))),
-      ) in
-      record {
-        after = omega (arith, from_is, has.after);
-        end_is = omega (
-          arith,
-          from_is,
-          has.end_is,
-          len_is,
-          ap length (tiled-push line x),
-          length-append (tiled line) (tile_of x),
-        );
-        taken_is = omega (arith, more_is, has.taken_is, open_width-append sizes_of line (x ∷ []));
-        some = λ any. omega (arith, from_is, len_is, (first has).some, has.end_is);
-        plain = All-tail IsPlain x left has.plain;
-        room = passed has len len_is;
-        places = rw (from_is, kept_is, ← grown-room sizes_of width width x left line room)
-            has.places;
-        whole = λ fits. append_assoc line (x ∷ []) left ∙ has.whole fits;
-      }
+        tiled-push line x,
+        length-append (tiled line) (tile_of x),
+        open_width-append sizes_of line (x ∷ []),
+        All-tail IsPlain x left has.plain,
+        passed has len len_is,
+      )
 
   -- a line without bytes has no columns
   pub HasLine-none : end ≤ begin → taken ≡ 0
-  HasLine-none none =
-      omega (arith, has.taken_is, no_width line (λ some. omega (arith, has.some some)))
-    where
-      no_width : (ws : List WordText) → (ws ≢ [] → ⊥) → open_width sizes_of ws ≡ 0
-      no_width [] none = refl
-      no_width (w ∷ ws) none = absurd (none (λ e. absurd (omega (arith, ap length e))))
+  HasLine-none none = search rules
 
   -- the word is within the part
   pub HasLine-within : length x.whitespace ≤ length part
-  HasLine-within = omega (
-    arith,
-    has.after,
-    has.end_is,
-    passed has (length (tile_of x)) refl,
-    length-append x.word x.whitespace,
-  )
+  HasLine-within = search (rules, passed, length-append)
 
   -- where all words fit one line, this one does
   pub HasLine-fits : FitsOneLine width part → begin < end → taken + x.width ≤ width
@@ -113,8 +78,7 @@ module _ {width start : ℕ} {part old breaks : List ℕ} {begin end taken : ℕ
         arith,
         closes has,
         prefix-closes sizes_of width line x left
-            (subst (λ ws. Fits sizes_of width ws) (sym (has.whole fits)) fits)
-            (line_some line (omega (arith, began, has.end_is))),
+            (search (rules, arith)) (line_some line (omega (arith, began, has.end_is))),
       )
 
 pub HasLine-end : {width start : ℕ} {part old breaks : List ℕ} {begin end taken : ℕ}
@@ -127,7 +91,5 @@ HasLine-end {width} {start} {part} {old} {breaks} {begin} {end} {taken} {left} {
   grown sizes_of width width (words_of part) [],
   grown-greedy sizes_of width (width ∷ []) (λ n. line_width-one width (n + 1)) width
       (line_width-one width 0) (words_of part),
-  sym (append-nil breaks)
-      ∙ ap (λ ws. breaks ++ breaks_of begin (grown sizes_of width width ws line)) (sym none)
-      ∙ has.places,
+  search (rules, arith, append-nil),
 )

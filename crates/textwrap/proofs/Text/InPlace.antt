@@ -2,9 +2,9 @@
 use Rattle.textwrap_base.proofs.Common.{◌≡◌, ℕ, zero, suc, ◌<◌, ◌⊎◌, inl, inr, List, [], ◌∷◌, ◌++◌}
 use Rattle.textwrap_base.proofs.Common.{length, refl, sym, ap, ◌∙◌, subst, arith, append_assoc}
 use Rattle.textwrap_base.proofs.Common.{append-nil, flat_map, IsUtf8-append, IsUtf8-from_ascii}
-use Rattle.textwrap_base.proofs.Common.{IsUtf8, IsAscii, IsGreedy}
+use Rattle.textwrap_base.proofs.Common.{IsUtf8, IsAscii, IsGreedy, rules}
 use Rattle.textwrap_words.proofs.Common.{blank, WordText, sizes_of, words_of}
-use Rattle.textwrap_lines.proofs.Common.{ending_bytes, paragraphs_of, line_feed}
+use Rattle.textwrap_lines.proofs.Common.{line_feed}
 use Rattle.textwrap.proofs.Common.{broken_lines, AreDividedAt, IsFilledInPlace}
 use Rattle.textwrap_lines.specs.declared.line_ending.LineEnding.TheVariants.{LF}
 use Rattle.textwrap_base.proofs.Utf8.{ascii_seam}
@@ -31,8 +31,7 @@ changes-none (c ∷ text) = (inl refl, changes-none text)
 
 changes-append : (old new others more : List ℕ) → Changes old new → Changes others more
     → Changes (old ++ others) (new ++ more)
-changes-append [] new others more none after =
-    subst (λ l. Changes others (l ++ more)) (sym none) after
+changes-append [] new others more none after = search rules
 changes-append (c ∷ old) [] others more before after = absurd before
 changes-append (c ∷ old) (d ∷ new) others more before after =
     (before.0, changes-append old new others more before.1 after)
@@ -41,11 +40,7 @@ changes-joined : (texts : List (List ℕ)) → Changes (blank_joined texts) (fee
 changes-joined [] = refl
 changes-joined (text ∷ []) = changes-none text
 changes-joined (text ∷ next ∷ texts) =
-    changes-append (text ++ blank ∷ []) (text ++ line_feed ∷ []) (blank_joined (next ∷ texts))
-    (feed_joined (next ∷ texts))
-    (changes-append text text (blank ∷ []) (line_feed ∷ []) (changes-none text)
-    (inr (refl, refl), refl))
-    (changes-joined (next ∷ texts))
+    grind (arith, changes-joined (next ∷ texts), changes-append, changes-none)
 
 changes-part : (width : ℕ) (part : List ℕ) (lines : List (List WordText))
     → IsGreedy sizes_of (width ∷ []) (words_of part) lines
@@ -63,16 +58,13 @@ changes-parts width (part ∷ []) (lines ∷ divisions) some (greedy, none) =
     rw (none, append-nil) (changes-part width part lines greedy)
 changes-parts width (part ∷ next ∷ parts) (lines ∷ divisions) some (greedy, divided) =
     let rest = flat_map broken_lines divisions in
+    let later = changes-parts width (next ∷ parts) divisions (omega arith) divided in
     subst (Changes (feed_joined (part ∷ next ∷ parts)))
     (append_assoc (feed_joined (broken_lines lines)) (line_feed ∷ []) (feed_joined rest)
     ∙ sym (join-append (line_feed ∷ []) (broken_lines lines) rest
     (all_broken-some lines (IsBroken-greedy (width ∷ []) part lines greedy).some)
     (divisions-some width next parts divisions divided)))
-    (changes-append (part ++ line_feed ∷ []) (feed_joined (broken_lines lines) ++ line_feed ∷ [])
-    (feed_joined (next ∷ parts)) (feed_joined rest)
-    (changes-append part (feed_joined (broken_lines lines)) (line_feed ∷ []) (line_feed ∷ [])
-    (changes-part width part lines greedy) (changes-none (line_feed ∷ [])))
-    (changes-parts width (next ∷ parts) divisions (omega arith) divided))
+    (search (rules, changes-append, changes-part, changes-none))
 
 changes-len : (old new : List ℕ) → Changes old new → length new ≡ length old
 changes-len [] new none = ap length none
@@ -96,8 +88,7 @@ changes-utf8 before (c ∷ old) (d ∷ new) changes utf8 =
       | inl same ↦
           subst IsUtf8 (append_assoc before (d ∷ []) new)
           (changes-utf8 (before ++ d ∷ []) old new changes.1
-          (subst IsUtf8 (sym (append_assoc before (d ∷ []) old))
-          (subst (λ b. IsUtf8 (before ++ b ∷ old)) (sym same) utf8)))
+          (search (rules, append_assoc)))
       | inr change ↦
           let seam = ascii_seam before old c utf8 (omega (arith, change.0)) in
           let ascii : IsUtf8 (d ∷ []) = IsUtf8-from_ascii (d ∷ []) (one_ascii d
@@ -122,8 +113,7 @@ pub filled-keeps : (width : ℕ) (text filled : List ℕ) → IsFilledInPlace wi
     → KeepsText text filled
 filled-keeps width text filled (divisions, divided, is) =
     let changes : Changes text filled = rw (is, ← join-paragraphs_of LF text)
-    (changes-parts width (paragraphs_of LF text) divisions
-    (parts_past-some (ending_bytes LF) 0 text) divided) in
+    (search (rules, changes-parts, parts_past-some)) in
     record {
       len = changes-len text filled changes;
       only_blanks = changes-each text filled changes;

@@ -1,13 +1,12 @@
 -- The lines of a text that is filled in place are the lines of the wrapped text.
-use Rattle.textwrap_base.proofs.Common.{◌≡◌, ℕ, ◌-◌, ◌<◌, ◌≤◌, Bool, true, false, ◌||◌, nat_lt}
-use Rattle.textwrap_base.proofs.Common.{◌==◌, List, [], ◌∷◌, All, length, map, refl, sym, ap}
-use Rattle.textwrap_base.proofs.Common.{◌∙◌, arith, flat_map, IsUtf8, and_parts, ltb-true}
-use Rattle.textwrap_base.proofs.Common.{map-append, All-head, All-tail, All-map, line_width}
-use Rattle.textwrap_base.proofs.Common.{closed_width, IsGreedy}
-use Rattle.textwrap_words.proofs.Common.{text_width, IsNarrow, WordText, sizes_of, word_of}
-use Rattle.textwrap_words.proofs.Common.{words_of, chunks, Greedy, Whole}
-use Rattle.textwrap_lines.proofs.Common.{paragraphs_of, LineParts, line_from, indent_of, is_whole}
-use Rattle.textwrap_lines.proofs.Common.{parts_of, parts_from, pieces_of, widths_of, DividesAs}
+use Rattle.textwrap_base.proofs.Common.{◌≡◌, ℕ, ◌<◌, ◌≤◌, Bool, true, false, ◌||◌, nat_lt, List, []}
+use Rattle.textwrap_base.proofs.Common.{◌∷◌, All, length, map, refl, arith, flat_map, IsUtf8}
+use Rattle.textwrap_base.proofs.Common.{and_parts, ltb-true, map-append, All-head, All-tail}
+use Rattle.textwrap_base.proofs.Common.{All-map, line_width, closed_width, IsGreedy, rules}
+use Rattle.textwrap_words.proofs.Common.{IsNarrow, WordText, sizes_of, word_of, words_of, chunks}
+use Rattle.textwrap_words.proofs.Common.{Greedy, Whole}
+use Rattle.textwrap_lines.proofs.Common.{paragraphs_of, LineParts, line_from, is_whole, parts_of}
+use Rattle.textwrap_lines.proofs.Common.{parts_from, pieces_of, widths_of, DividesAs}
 use Rattle.textwrap_lines.proofs.Common.{AreParagraphParts, AreGroups, AreTextLines}
 use Rattle.textwrap.proofs.Common.{broken_lines, AreDividedAt, IsFilledInPlace, unbroken_at}
 use Rattle.textwrap_base.proofs.Cost.OneLine.{IsDividedBy-one_line}
@@ -32,9 +31,7 @@ use Rattle.textwrap.proofs.Text.InPlaceParagraphs.{filled-paragraphs}
 
 widths_of-unbroken : (width : ℕ) (is_later : Bool)
     → widths_of (unbroken_at width) is_later ≡ width ∷ width ∷ []
-widths_of-unbroken width is_later =
-    let left : width - text_width [] ≡ width = omega (arith, text_width-nil) in
-    ap (λ w. w ∷ w ∷ []) left
+widths_of-unbroken width is_later = search (rules, text_width-nil)
 
 -- ---- whole words are pieces
 
@@ -56,14 +53,11 @@ module _ (width : ℕ) (is_later : Bool) (part : List ℕ) (lines : List (List W
   -- a part with fewer bytes than the width has columns is one line
   one_line : is_whole (unbroken_at width) is_later part ≡ true → lines ≡ words_of part ∷ []
   one_line whole =
-      let shorter : length part < width = ltb-true (length part) width
-      (and_parts (length (indent_of (unbroken_at width) is_later) == 0)
-      (nat_lt (length part) width) whole).1 in
+      let shorter : length part < width = search (rules, ltb-true, and_parts, nat_lt) in
       let closed : closed_width sizes_of (words_of part) ≤ length part =
       rw (pieces_of-unbroken width part)
       at (closed-pieces_of (unbroken_at width) Whole part utf8 narrow) in
-      let none : All (λ w. (sizes_of w).penalty ≡ 0) (words_of part) =
-      All-map (λ w. (sizes_of w).penalty ≡ 0) word_of (chunks part) (λ k d lt. refl) in
+      let none : All (λ w. (sizes_of w).penalty ≡ 0) (words_of part) = search (rules, All-map) in
       let room : closed_width sizes_of (words_of part) ≤ line_width (width ∷ []) 0 =
       omega (arith, shorter, closed) in
       greedy_unique sizes_of (width ∷ []) (words_of part) lines (words_of part ∷ []) greedy
@@ -74,9 +68,7 @@ module _ (width : ℕ) (is_later : Bool) (part : List ℕ) (lines : List (List W
     words_of part,
     rw (pieces_of-unbroken width part) at (ArePieces-computed (unbroken_at width) Whole part),
     rw (widths_of-unbroken width is_later)
-        (IsGreedy-same sizes_of (width ∷ []) (width ∷ width ∷ [])
-        (λ number. line_width-one width number ∙ sym (line_width-two width number))
-        (words_of part) lines greedy),
+        (search (rules, IsGreedy-same, line_width-one, line_width-two)),
   )
 
   -- the lines of the part, by their parts
@@ -89,13 +81,11 @@ module _ (width : ℕ) (is_later : Bool) (part : List ℕ) (lines : List (List W
   has_lines true whole = record {
     parts = parts_of (unbroken_at width) is_later (word_of part ∷ []) ∷ [];
     are = AreParagraphParts-whole (unbroken_at width) (Divides width) is_later part whole;
-    lines_are = rw (one_line whole, tiled-words_of part)
-        (ap (λ l. l ∷ []) (line_from-whole (unbroken_at width) is_later part whole));
+    lines_are = search (rules, one_line, tiled-words_of, line_from-whole);
   }
   has_lines false longer = record {
     parts = parts_from (unbroken_at width) is_later lines;
-    are = AreParagraphParts-divided (unbroken_at width) (Divides width) is_later part
-        (parts_from (unbroken_at width) is_later lines) longer (lines, divides, refl);
+    are = search (rules, AreParagraphParts-divided, divides);
     lines_are = lines_from-broken width is_later lines
         (IsBroken-greedy (width ∷ []) part lines greedy).apart;
   }
@@ -111,11 +101,7 @@ groups_of : (width : ℕ) (is_later : Bool) (parts : List (List ℕ))
     (divisions : List (List (List WordText))) → All IsUtf8 parts → All IsNarrow parts
     → AreDividedAt width parts divisions
     → HasGroupsOf width is_later parts (flat_map broken_lines divisions)
-groups_of width is_later [] divisions utf8 narrow none = record {
-  groups = [];
-  are = refl;
-  lines_are = ap (λ ds. map trimmed_line (flat_map broken_lines ds)) (sym none);
-}
+groups_of width is_later [] divisions utf8 narrow none = search (rules, trimmed_line)
 groups_of width is_later (part ∷ parts) [] utf8 narrow divided = absurd divided
 groups_of width is_later (part ∷ parts) (lines ∷ divisions) utf8 narrow (greedy, divided) =
     let first = has_lines width is_later part lines (All-head IsUtf8 part parts utf8)
@@ -138,9 +124,4 @@ filled-wrapped width text filled utf8 narrow (divisions, divided, is) =
     let all = paragraphs_of-utf8 LF text utf8 in
     let found = groups_of width false parts divisions all
     (paragraphs_of-narrow LF text utf8 narrow) divided in
-    record {
-      groups = found.groups;
-      defined = found.are;
-      given = ap (map trimmed_line) (filled-paragraphs width text filled divisions divided is)
-          ∙ sym found.lines_are;
-    }
+    search (rules, trimmed_line, filled-paragraphs)

@@ -1,8 +1,8 @@
 -- There is one text filled in place, and it has its lines between its line feeds.
 use Rattle.textwrap_base.proofs.Common.{◌≡◌, ◌≢◌, ℕ, ◌<◌, List, [], ◌∷◌, ◌++◌, All, length, refl}
-use Rattle.textwrap_base.proofs.Common.{sym, ap, ◌∙◌, subst, arith, append_assoc, flat_map, All-nil}
-use Rattle.textwrap_base.proofs.Common.{All-cons, All-head, All-tail, All-append}
-use Rattle.textwrap_words.proofs.Common.{blank, WordText, sizes_of, words_of}
+use Rattle.textwrap_base.proofs.Common.{sym, ◌∙◌, subst, arith, append_assoc, flat_map, All-nil}
+use Rattle.textwrap_base.proofs.Common.{All-cons, All-head, All-tail, All-append, rules}
+use Rattle.textwrap_words.proofs.Common.{blank, WordText}
 use Rattle.textwrap_lines.proofs.Common.{ending_bytes, paragraphs_of, join_with}
 use Rattle.textwrap.proofs.Common.{broken_lines, AreDividedAt, IsFilledInPlace}
 use Rattle.textwrap_base.proofs.Division.Unique.{greedy_unique}
@@ -19,20 +19,15 @@ divisions_one width [] divisions others none other = none ∙ sym other
 divisions_one width (part ∷ parts) [] others divided other = absurd divided
 divisions_one width (part ∷ parts) (lines ∷ divisions) [] divided other = absurd other
 divisions_one width (part ∷ parts) (lines ∷ divisions) (more ∷ others) divided other =
-    ap (λ ls. ls ∷ divisions)
-    (greedy_unique sizes_of (width ∷ []) (words_of part) lines more divided.0 other.0)
-    ∙ ap (λ ds. more ∷ ds) (divisions_one width parts divisions others divided.1 other.1)
+    search (rules, greedy_unique, divisions_one width parts divisions others divided.1 other.1)
 
 pub filled_one : (width : ℕ) (text filled other : List ℕ) → IsFilledInPlace width text filled
     → IsFilledInPlace width text other → filled ≡ other
 filled_one width text filled other (divisions, divided, is) (others, others_divided, other_is) =
-    is ∙ ap (λ ds. feed_joined (flat_map broken_lines ds))
-    (divisions_one width (paragraphs_of LF text) divisions others divided others_divided)
-    ∙ sym other_is
+    search (rules, feed_joined, divisions_one)
 
 Lacks-left : (ending text more : List ℕ) → Lacks ending (text ++ more) → Lacks ending text
-Lacks-left ending text more lacks before after is =
-    lacks before (after ++ more) (rw is (simp append_assoc))
+Lacks-left ending text more lacks before after is = search (rules, append_assoc)
 
 Lacks-right : (ending text more : List ℕ) → Lacks ending (text ++ more) → Lacks ending more
 Lacks-right ending text more lacks before after is =
@@ -41,8 +36,7 @@ Lacks-right ending text more lacks before after is =
 lacks-joined : (ending separator : List ℕ) (texts : List (List ℕ))
     → Lacks ending (join_with separator texts) → All (Lacks ending) texts
 lacks-joined ending separator [] lacks = All-nil (Lacks ending)
-lacks-joined ending separator (text ∷ []) lacks =
-    All-cons (Lacks ending) text [] lacks (All-nil (Lacks ending))
+lacks-joined ending separator (text ∷ []) lacks = search (rules, All-cons, All-nil)
 lacks-joined ending separator (text ∷ next ∷ texts) lacks =
     let rest = join_with separator (next ∷ texts) in
     All-cons (Lacks ending) text (next ∷ texts)
@@ -53,8 +47,7 @@ lacks-joined ending separator (text ∷ next ∷ texts) lacks =
 lacks-lines : (ending : List ℕ) (width : ℕ) (parts : List (List ℕ))
     (divisions : List (List (List WordText))) → AreDividedAt width parts divisions
     → All (Lacks ending) parts → All (Lacks ending) (flat_map broken_lines divisions)
-lacks-lines ending width [] divisions none all =
-    subst (λ ds. All (Lacks ending) (flat_map broken_lines ds)) (sym none) (All-nil (Lacks ending))
+lacks-lines ending width [] divisions none all = search (rules, All-nil)
 lacks-lines ending width (part ∷ parts) [] divided all = absurd divided
 lacks-lines ending width (part ∷ parts) (lines ∷ divisions) (greedy, divided) all =
     All-append (Lacks ending) (broken_lines lines) (flat_map broken_lines divisions)
@@ -67,9 +60,7 @@ lines-some : (width : ℕ) (parts : List (List ℕ)) (divisions : List (List (Li
     → 0 < length parts → AreDividedAt width parts divisions
     → flat_map broken_lines divisions ≢ []
 lines-some width [] divisions some divided none = absurd (omega arith)
-lines-some width (part ∷ parts) divisions some divided none =
-    let any = divisions-some width part parts divisions divided in
-    absurd (omega (arith, any, ap length none))
+lines-some width (part ∷ parts) divisions some divided none = search (rules, divisions-some)
 
 pub filled-paragraphs : (width : ℕ) (text filled : List ℕ) (divisions : List (List (List WordText)))
     → AreDividedAt width (paragraphs_of LF text) divisions
@@ -77,8 +68,7 @@ pub filled-paragraphs : (width : ℕ) (text filled : List ℕ) (divisions : List
     → paragraphs_of LF filled ≡ flat_map broken_lines divisions
 filled-paragraphs width text filled divisions divided is =
     sym ((paragraphs_one LF filled (flat_map broken_lines divisions)).0 (record {
-      some = lines-some width (paragraphs_of LF text) divisions
-          (parts_past-some (ending_bytes LF) 0 text) divided;
+      some = search (rules, lines-some, parts_past-some);
       joined = sym is;
       lacking = lacks-lines (ending_bytes LF) width (paragraphs_of LF text) divisions divided
           ((paragraphs_one LF text (paragraphs_of LF text)).1 refl).lacking;

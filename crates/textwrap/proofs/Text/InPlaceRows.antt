@@ -1,6 +1,6 @@
 -- Worked rows on texts that are filled in place.
-use Rattle.textwrap_base.proofs.Common.{◌≡◌, ◌≢◌, List, [], ◌∷◌, take, drop, get_or, codes, refl}
-use Rattle.textwrap_base.proofs.Common.{ap, arith, flat_map, All-nil, All-cons, Fits}
+use Rattle.textwrap_base.proofs.Common.{◌≡◌, ◌≢◌, List, [], ◌∷◌, take, drop, codes, refl}
+use Rattle.textwrap_base.proofs.Common.{arith, flat_map, All-nil, All-cons, Fits, rules}
 use Rattle.textwrap_words.proofs.Common.{WordText, sizes_of, words_of}
 use Rattle.textwrap_lines.proofs.Common.{join_with}
 use Rattle.textwrap.proofs.Common.{broken_lines, IsFilledInPlace, with_line_feeds, breaks_of}
@@ -50,16 +50,7 @@ single_fits width w k two within = absurd (omega (arith, two, within))
 filled-empty : IsFilledInPlace 0 [] []
 filled-empty = (
   (([] ∷ []) ∷ []),
-  (
-    record {
-      admissible = record {
-        division = refl;
-        fit = (λ k two within. absurd (omega (arith, two, within)), tt);
-      };
-      full = tt;
-    },
-    refl,
-  ),
+  search (rules, arith),
   refl,
 )
 
@@ -94,5 +85,4 @@ not_filled-first_blank : IsFilledInPlace 10 (codes "Hello   World!") (codes "Hel
 not_filled-first_blank filled =
     let same = filled_one 10 (codes "Hello   World!") (codes "Hello\n  World!")
     (codes "Hello  \nWorld!") filled filled-two_words in
-    let byte : 10 ≡ 32 = ap (λ l. get_or l 5 0) same in
-    omega (arith, byte)
+    search (rules, arith)

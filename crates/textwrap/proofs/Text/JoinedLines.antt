@@ -1,7 +1,7 @@
 -- The lines of a part in a row, joined by blanks and by line feeds.
 use Rattle.textwrap_base.proofs.Common.{◌≡◌, ℕ, ◌<◌, List, [], ◌∷◌, ◌++◌, length, refl, sym, ap}
 use Rattle.textwrap_base.proofs.Common.{◌∙◌, arith, append_assoc, append-nil, length-append}
-use Rattle.textwrap_base.proofs.Common.{flat_map}
+use Rattle.textwrap_base.proofs.Common.{flat_map, rules}
 use Rattle.textwrap_words.proofs.Common.{blank, WordText, tiled}
 use Rattle.textwrap_lines.proofs.Common.{join_with, line_feed}
 use Rattle.textwrap.proofs.Common.{broken_lines, AreDividedAt}
@@ -10,6 +10,7 @@ use Rattle.textwrap_words.proofs.Word.Tiling.{tiled-append}
 use Rattle.textwrap_lines.proofs.Text.Endings.{join_with-cons}
 use Rattle.textwrap_lines.proofs.Paragraph.LinesApart.{shortened, AreLinesApart, IsBroken}
 use Rattle.textwrap_lines.proofs.Paragraph.LinesApart.{IsBroken-greedy}
+use Rattle.std.proofs.lemmas.Grind.{common_steps}
 
 abbrev pub blank_joined : List (List ℕ) → List ℕ
 blank_joined texts = join_with (blank ∷ []) texts
@@ -32,8 +33,7 @@ tiled-broken (line ∷ next ∷ lines) some (words, ending, apart) =
     ∙ ap (λ l. l ++ tiled (flat (next ∷ lines))) ending
     ∙ ap (λ l. (shortened (tiled line) ++ blank ∷ []) ++ l)
     (tiled-broken (next ∷ lines) (omega arith) apart)
-    ∙ sym (join_with-cons (blank ∷ []) (shortened (tiled line)) (broken_lines (next ∷ lines))
-    (broken_lines-some next lines))
+    ∙ sym (search (rules, join_with-cons, shortened, broken_lines-some))
 
 pub join-broken : (part : List ℕ) (lines : List (List WordText)) → IsBroken part lines
     → part ≡ blank_joined (broken_lines lines)
@@ -43,8 +43,7 @@ pub join-append : (separator : List ℕ) (xs ys : List (List ℕ)) → 0 < lengt
     → join_with separator (xs ++ ys)
     ≡ join_with separator xs ++ (separator ++ join_with separator ys)
 join-append separator [] ys some more = absurd (omega arith)
-join-append separator (x ∷ []) ys some more =
-    join_with-cons separator x ys more ∙ append_assoc x separator (join_with separator ys)
+join-append separator (x ∷ []) ys some more = search (rules, join_with-cons, append_assoc)
 join-append separator (x ∷ y ∷ xs) ys some more =
     rw (join-append separator (y ∷ xs) ys (omega arith) more) (simp append_assoc)
 
@@ -65,5 +64,4 @@ pub divisions-some : (width : ℕ) (part : List ℕ) (parts : List (List ℕ))
     → 0 < length (flat_map broken_lines divisions)
 divisions-some width part parts [] divided = absurd divided
 divisions-some width part parts (lines ∷ divisions) (greedy, divided) =
-    let some = all_broken-some lines (IsBroken-greedy (width ∷ []) part lines greedy).some in
-    omega (arith, some, length-append (broken_lines lines) (flat_map broken_lines divisions))
+    search (rules, common_steps, all_broken-some, IsBroken-greedy, length-append)

@@ -1,9 +1,9 @@
 -- Lemmas on the layout of a text, as its lines show it one after another.
 use Rattle.textwrap_base.proofs.Common.{◌≡◌, ℕ, ◌+◌, ◌<◌, max, List, [], ◌∷◌, ◌++◌, length, drop}
-use Rattle.textwrap_base.proofs.Common.{map, get_or, refl, sym, ap, ◌∙◌, arith, Option, Some, None}
-use Rattle.textwrap_base.proofs.Common.{unwrap_or, fold, IsAscii, lines, YieldsList-turn}
-use Rattle.textwrap_base.proofs.Common.{YieldsList-end, YieldsList-from_lines, drop_more}
-use Rattle.textwrap_base.proofs.Common.{get_or_default, Bor}
+use Rattle.textwrap_base.proofs.Common.{map, get_or, refl, ◌∙◌, Option, Some, None, unwrap_or, fold}
+use Rattle.textwrap_base.proofs.Common.{IsAscii, lines, YieldsList-turn, YieldsList-end}
+use Rattle.textwrap_base.proofs.Common.{YieldsList-from_lines, drop_more, get_or_default, Bor}
+use Rattle.textwrap_base.proofs.Common.{rules}
 use Rattle.textwrap_words.proofs.Common.{text_width}
 use Rattle.textwrap_lines.proofs.Common.{Settings}
 use Rattle.textwrap.proofs.Common.{line_prefix, common_prefix}
@@ -12,6 +12,7 @@ use Rattle.std.specs.Str.Iter.{lines_rest, lines_steps}
 use Rattle.textwrap_words.proofs.Word.Measured.{text_width-nil}
 use Rattle.textwrap_lines.specs.Options.{settings_at}
 use Rattle.textwrap.proofs.Text.Prefixes.{line_prefix-ascii, common_start-ascii}
+use Rattle.std.proofs.lemmas.Grind.{common_steps}
 
 -- the lines after the first
 abbrev pub later_lines : List ℕ → List (List ℕ)
@@ -26,15 +27,13 @@ pub width-first : (texts : List (List ℕ))
     → fold max (text_width (get_or texts 0 [])) (map text_width (drop 1 texts))
     ≡ fold max 0 (map text_width texts)
 width-first [] = text_width-nil
-width-first (text ∷ texts) = let same : text_width text ≡ max 0 (text_width text) = omega arith in
-    ap (λ w. fold max w (map text_width texts)) same
+width-first (text ∷ texts) = search rules
 
 pub first_line : (s u : _) (text : List ℕ) (found : Option (Bor (List ℕ))) (none : Bor (List ℕ))
     → lines_rest s ≡ text → lines_steps s found u → none.now ≡ []
     → (unwrap_or found none).now ≡ get_or (lines text) 0 []
 first_line s u text None none rest steps empty =
-    let all = YieldsList-end (YieldsList-from_lines {s = s} text rest) [] s refl None u refl steps in
-    empty ∙ ap (λ ls. get_or ls 0 []) all.0
+    search (rules, common_steps, YieldsList-end, YieldsList-from_lines)
 first_line s u text (Some line) none rest steps empty =
     let turn = YieldsList-turn (YieldsList-from_lines {s = s} text rest) [] s refl (Some line) u line
     refl steps in
@@ -59,16 +58,13 @@ pub common-more : (common : Option (Bor (List ℕ))) (new : List ℕ) (texts : L
     → new ≡ common_prefix (texts_in common ++ line_prefix text ∷ [])
     → common_prefix (texts_in common ++ map line_prefix (drop n texts))
     ≡ common_prefix (new ∷ map line_prefix (drop (n + 1) texts))
-common-more common new texts n text within is narrows =
-    rw (drop_more texts n text within, ← is, narrows)
-    (sym (narrowed common (line_prefix text) (map line_prefix (drop (n + 1) texts))))
+common-more common new texts n text within is narrows = search (rules, drop_more, narrowed)
 
 pub narrowed-ascii : (common : Option (Bor (List ℕ))) (text : List ℕ)
     → IfSome common (λ c. IsAscii c.now)
     → IsAscii (common_prefix (texts_in common ++ line_prefix text ∷ []))
 narrowed-ascii None text ascii = line_prefix-ascii text
-narrowed-ascii (Some common) text ascii =
-    common_start-ascii common.now (line_prefix text) ascii
+narrowed-ascii (Some common) text ascii = search (rules, common_start-ascii)
 
 -- ---- no more lines
 
@@ -86,5 +82,4 @@ pub settings-with : (width found : ℕ) (initial subsequent first later : List �
     → width ≡ found → initial ≡ first → subsequent ≡ later
     → with_indents initial subsequent (settings_at width)
     ≡ with_indents first later (settings_at found)
-settings-with width found initial subsequent first later wide begins goes_on =
-    rw (wide, begins, goes_on)
+settings-with width found initial subsequent first later wide begins goes_on = cc

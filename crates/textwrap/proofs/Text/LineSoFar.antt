@@ -1,8 +1,8 @@
 -- The line so far of a part that is filled in place.
 use Rattle.textwrap_base.proofs.Common.{◌≡◌, ◌≢◌, ℕ, ◌+◌, ◌<◌, ◌≤◌, List, [], ◌∷◌, ◌++◌, All}
-use Rattle.textwrap_base.proofs.Common.{length, map, refl, sym, ap, ◌∙◌, subst, arith, append-nil}
+use Rattle.textwrap_base.proofs.Common.{length, map, arith, append-nil}
 use Rattle.textwrap_base.proofs.Common.{length-append, All-nil, All-cons, All-head, All-tail}
-use Rattle.textwrap_base.proofs.Common.{closed_width, open_width}
+use Rattle.textwrap_base.proofs.Common.{closed_width, open_width, rules}
 use Rattle.textwrap_words.proofs.Common.{WordText, sizes_of, tile_of, tiled, word_of, words_of}
 use Rattle.textwrap.proofs.Common.{FitsOneLine, breaks_of}
 use Rattle.textwrap_base.proofs.Division.Widths.{closed_width-push}
@@ -12,6 +12,7 @@ use Rattle.textwrap_words.proofs.Word.Tiling.{tiled-append, tiled-words_of}
 use Rattle.textwrap_words.proofs.Word.Words.{words_unique}
 use Rattle.textwrap_lines.proofs.Paragraph.LeftOff.{tiled-word_of}
 use Rattle.textwrap_base.proofs.Division.Grown.{grown}
+use Rattle.std.proofs.lemmas.Grind.{common_steps}
 
 pub record IsPlain (word : WordText) : Type 0 where
   pub penalty : HasNoPenalty word
@@ -22,18 +23,11 @@ plain-chunks : (parts : List (List ℕ)) → All (λ part. part ≢ []) parts
 plain-chunks [] some = All-nil IsPlain
 plain-chunks (part ∷ parts) some =
     All-cons IsPlain (word_of part) (map word_of parts)
-    (record {
-      penalty = refl;
-      some = subst (λ l. 0 < length l)
-          (sym (tiled-word_of part) ∙ append-nil (tile_of (word_of part)))
-          (some_from_nonempty part (All-head (λ p. p ≢ []) part parts some));
-    })
+    (grind (arith, common_steps, tiled-word_of, append-nil, some_from_nonempty, All-head))
     (plain-chunks parts (All-tail (λ p. p ≢ []) part parts some))
 
 plain-words : (part : List ℕ) → All IsPlain (words_of part)
-plain-words part =
-    let (parts, are, is) = (words_unique part (words_of part)).1 refl in
-    subst (All IsPlain) (sym is) (plain-chunks parts are.nonempty)
+plain-words part = search (rules, arith, words_unique part (words_of part), plain-chunks)
 
 pub record HasLine (width start : ℕ) (part old breaks : List ℕ) (begin end taken : ℕ)
     (left line : List WordText) : Type 0 where
@@ -49,16 +43,7 @@ pub record HasLine (width start : ℕ) (part old breaks : List ℕ) (begin end t
 
 pub HasLine-begin : (width start : ℕ) (part old : List ℕ) (left : List WordText)
     → left ≡ words_of part → HasLine width start part old old start start 0 left []
-HasLine-begin width start part old left is = record {
-  after = omega arith;
-  end_is = omega arith;
-  taken_is = refl;
-  some = λ none. absurd (none refl);
-  plain = subst (All IsPlain) (sym is) (plain-words part);
-  room = omega (arith, ap length (ap tiled is ∙ tiled-words_of part));
-  places = ap (λ ws. old ++ breaks_of start (grown sizes_of width width ws [])) is;
-  whole = λ fits. is;
-}
+HasLine-begin width start part old left is = search (rules, plain-words, tiled-words_of, grown)
 
 pub line_some : (ws : List WordText) → 0 < length (tiled ws) → 0 < length ws
 line_some [] some = some
@@ -71,21 +56,8 @@ module _ {width start : ℕ} {part old breaks : List ℕ} {begin end taken : ℕ
   first = All-head IsPlain x left has.plain
 
   pub closes : closed_width sizes_of (line ++ x ∷ []) ≡ taken + x.width
-  closes = omega (
-    arith,
-    closed_width-push sizes_of line x,
-    has.taken_is,
-    ap length first.penalty,
-  )
+  closes = search (rules, closed_width-push)
 
   pub passed : (len : ℕ) → len ≡ length (tile_of x)
       → end + len + length (tiled left) ≡ start + length part
-  passed len is =
-      omega (
-        arith,
-        is,
-        has.room,
-        ap length (tiled-append (x ∷ []) left),
-        length-append (tile_of x) (tiled left),
-        ap length (append-nil (tile_of x)),
-      )
+  passed len is = search (rules, tiled-append, length-append, append-nil)

@@ -1,11 +1,10 @@
 -- Lemmas on margins: a text has one, and its lines begin with it.
-use Rattle.textwrap_base.proofs.Common.{◌≡◌, ◌↔◌, inl, inr, ℕ, suc, ◌+◌, Bool, true, false, cond}
-use Rattle.textwrap_base.proofs.Common.{Option, None, Some, List, [], ◌∷◌, length, take, drop, All}
-use Rattle.textwrap_base.proofs.Common.{refl, sym, ap, ◌∙◌, subst, arith, StartsWith, list_all}
-use Rattle.textwrap_base.proofs.Common.{prefix_len, Bor, option_map, unwrap_or, lines}
-use Rattle.textwrap_base.proofs.Common.{starts_with_length, starts_with_of_eq, starts_with_trans}
-use Rattle.textwrap_base.proofs.Common.{false≢true, take_all, chars-nil, length-prefix_len, All-nil}
-use Rattle.textwrap_base.proofs.Common.{All-cons, All-weaker}
+use Rattle.textwrap_base.proofs.Common.{◌≡◌, ◌↔◌, inl, inr, ℕ, ◌+◌, Bool, true, false, cond, Option}
+use Rattle.textwrap_base.proofs.Common.{None, Some, List, [], ◌∷◌, drop, All, refl, ap, ◌∙◌, arith}
+use Rattle.textwrap_base.proofs.Common.{StartsWith, list_all, prefix_len, Bor, option_map}
+use Rattle.textwrap_base.proofs.Common.{unwrap_or, lines, starts_with_length, starts_with_of_eq}
+use Rattle.textwrap_base.proofs.Common.{starts_with_trans, false≢true, chars-nil}
+use Rattle.textwrap_base.proofs.Common.{length-prefix_len, All-nil, All-cons, All-weaker, rules}
 use Rattle.textwrap.proofs.Common.{is_blank_line, leading_whitespace, margin_of}
 use Rattle.std.specs.Char.{is_whitespace}
 use Rattle.std.specs.Str.{chars}
@@ -13,6 +12,7 @@ use Rattle.textwrap.specs.Indentation.{AreComparable, IsMargin, IsMarginOfLines,
 use Rattle.textwrap.specs.Indentation.{margin_of_lines, lines_from_first}
 use Rattle.textwrap_base.proofs.Whitespace.{white-front, white-leading}
 use Rattle.textwrap.proofs.Text.Narrowed.{narrowed_by, by-front, by-comparable, by-longest}
+use Rattle.std.proofs.lemmas.Grind.{common_steps}
 
 -- ---- the margin of a text
 
@@ -21,29 +21,17 @@ is_margin : (first : List ℕ) (later : List (List ℕ))
 is_margin first later =
     let start = leading_whitespace first in
     let margin = narrowed_by start later in
-    record {
-      begins = by-front start later;
-      comparable = by-comparable start margin later (starts_with_of_eq margin margin refl);
-      longest = λ other starts all.
-          starts_with_length margin other (by-longest start other later starts all);
-    }
+    search (rules, by-front, by-comparable, starts_with_of_eq, starts_with_length, by-longest)
 
 margin_one : (first : List ℕ) (later : List (List ℕ)) (margin : List ℕ)
     → IsMargin first later margin → margin ≡ narrowed_by (leading_whitespace first) later
-margin_one first later margin is =
-    let start = leading_whitespace first in
-    let own = is_margin first later in
-    sym (by-longest start margin later is.begins is.comparable)
-    ∙ take_all (length margin) (narrowed_by start later)
-    (is.longest (narrowed_by start later) own.begins own.comparable)
+margin_one first later margin is = search (rules, arith, is_margin first later, by-longest)
 
 margins_of_lines : (ls : List (List ℕ)) (margin : List ℕ)
     → IsMarginOfLines ls margin ↔ (margin ≡ margin_of_lines ls)
 margins_of_lines [] margin = (λ is. is, λ is. is)
-margins_of_lines (first ∷ later) margin = (
-  margin_one first later margin,
-  λ is. subst (IsMargin first later) (sym is) (is_margin first later),
-)
+margins_of_lines (first ∷ later) margin =
+    grind (arith, common_steps, margin_one first later margin, is_margin first later)
 
 pub margins_one : (text margin : List ℕ) → IsMarginOf text margin ↔ (margin ≡ margin_of text)
 margins_one text margin = margins_of_lines (lines_from_first text) margin
@@ -54,8 +42,7 @@ begins-later : (margin : List ℕ) (line : List ℕ) → list_all is_whitespace 
     → AreComparable margin (chars line) → is_blank_line line ≡ false
     → StartsWith (chars line) margin
 begins-later margin line white (inr starts) full = starts
-begins-later margin line white (inl starts) full =
-    absurd (false≢true (sym full ∙ white-front margin (chars line) white starts))
+begins-later margin line white (inl starts) full = search (rules, false≢true, white-front)
 
 begins-first : (line : List ℕ) (ls : List (List ℕ))
     → All (λ l. is_blank_line l ≡ false
@@ -64,8 +51,7 @@ begins-first line ls =
     let start = leading_whitespace line in
     let margin = narrowed_by start ls in
     let front = by-front start ls in
-    let leads : StartsWith (chars line) start =
-    ap (λ n. take n (chars line)) (length-prefix_len is_whitespace (chars line)) in
+    let leads : StartsWith (chars line) start = search (rules, length-prefix_len) in
     All-cons (λ l. is_blank_line l ≡ false → StartsWith (chars l) margin) line ls
     (λ full. starts_with_trans (chars line) start margin leads front)
     (All-weaker (λ l. AreComparable margin (chars l))
@@ -77,19 +63,13 @@ from-first : (line : List ℕ) (ls : List (List ℕ)) (n : ℕ) (b : Bool) → i
     → All (λ l. is_blank_line l ≡ false → StartsWith (chars l) (margin_of_lines (drop n ls))) ls
     → All (λ l. is_blank_line l ≡ false
     → StartsWith (chars l) (margin_of_lines (drop (cond b (1 + n) 0) (line ∷ ls)))) (line ∷ ls)
-from-first line ls n true blank all =
-    let more : 1 + n ≡ suc n = omega arith in
-    rw more
-    (All-cons (λ l. is_blank_line l ≡ false
-    → StartsWith (chars l) (margin_of_lines (drop n ls))) line ls
-    (λ full. absurd (false≢true (sym full ∙ blank))) all)
+from-first line ls n true blank all = search (rules, All-cons, false≢true)
 from-first line ls n false full all = begins-first line ls
 
 lines-begin : (ls : List (List ℕ)) → All (λ line. is_blank_line line ≡ false
     → StartsWith (chars line) (margin_of_lines (drop (prefix_len is_blank_line ls) ls))) ls
 lines-begin [] = All-nil (λ line. is_blank_line line ≡ false → StartsWith (chars line) [])
-lines-begin (line ∷ ls) =
-    from-first line ls (prefix_len is_blank_line ls) (is_blank_line line) refl (lines-begin ls)
+lines-begin (line ∷ ls) = search (rules, from-first, lines-begin ls)
 
 pub lines_begin_with_margin : (text : List ℕ) → All (λ line. is_blank_line line ≡ false
     → StartsWith (chars line) (margin_of text)) (lines text)
@@ -103,15 +83,11 @@ margin_after (Some margin) ls = narrowed_by margin ls
 
 pub margin_after-blank : (line : List ℕ) (ls : List (List ℕ)) → is_blank_line line ≡ true
     → margin_after None (line ∷ ls) ≡ margin_after None ls
-margin_after-blank line ls blank =
-    let n = prefix_len is_blank_line ls in
-    let more : 1 + n ≡ suc n = omega arith in
-    rw (blank, more)
+margin_after-blank line ls blank = search rules
 
 pub margin_after-first : (line : List ℕ) (ls : List (List ℕ)) → is_blank_line line ≡ false
     → margin_after None (line ∷ ls) ≡ margin_after (Some (leading_whitespace line)) ls
-margin_after-first line ls full =
-    ap (λ b. margin_of_lines (drop (cond b (1 + prefix_len is_blank_line ls) 0) (line ∷ ls))) full
+margin_after-first line ls full = cc
 
 pub margin_after-end : (margin : Option (Bor (List ℕ))) (empty : Bor (List ℕ)) → empty.now ≡ []
     → chars (unwrap_or margin empty).now ≡ margin_after (option_map (λ m. chars m.now) margin) []

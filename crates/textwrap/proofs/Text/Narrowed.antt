@@ -1,8 +1,7 @@
 -- A margin and one line, and the later lines.
-use Rattle.textwrap_base.proofs.Common.{◌≡◌, inl, inr, ℕ, ◌==◌, Bool, true, false, cond, List, []}
-use Rattle.textwrap_base.proofs.Common.{◌∷◌, All, refl, sym, ◌∙◌, StartsWith, fold}
-use Rattle.textwrap_base.proofs.Common.{starts_with_of_eq, starts_with_trans, eqb-true, All-nil}
-use Rattle.textwrap_base.proofs.Common.{All-cons, All-head, All-tail}
+use Rattle.textwrap_base.proofs.Common.{◌≡◌, inl, inr, ℕ, ◌==◌, List, [], ◌∷◌, All, refl, sym}
+use Rattle.textwrap_base.proofs.Common.{StartsWith, fold, starts_with_of_eq, starts_with_trans}
+use Rattle.textwrap_base.proofs.Common.{All-nil, All-cons, All-head, All-tail, rules}
 use Rattle.textwrap.proofs.Common.{narrowed}
 use Rattle.std.specs.Str.{chars}
 use Rattle.textwrap.specs.Indentation.{AreComparable}
@@ -12,16 +11,7 @@ use Rattle.textwrap_base.proofs.Lists.Prefixes.{nothing-starts, longest-step}
 narrowed-front : (margin line : List ℕ) → StartsWith margin (narrowed margin line)
 narrowed-front [] line = refl
 narrowed-front (c ∷ margin) [] = starts_with_of_eq (c ∷ margin) (c ∷ margin) refl
-narrowed-front (c ∷ margin) (d ∷ line) =
-    elim (c == d) as (λ b. StartsWith (c ∷ margin) (cond b (c ∷ narrowed margin line) [])) [
-      | true ↦ starts-cons c c margin (narrowed margin line) refl (narrowed-front margin line)
-      | false ↦ refl
-    ]
-
-comparable-cons : (c d : ℕ) (xs ys : List ℕ) → c ≡ d → AreComparable xs ys
-    → AreComparable (c ∷ xs) (d ∷ ys)
-comparable-cons c d xs ys same (inl is) = inl (starts-cons c d xs ys same is)
-comparable-cons c d xs ys same (inr is) = inr (starts-cons d c ys xs (sym same) is)
+narrowed-front (c ∷ margin) (d ∷ line) = search (rules, starts-cons, narrowed-front margin line)
 
 comparable-head : (c d : ℕ) (xs ys : List ℕ) → AreComparable (c ∷ xs) (d ∷ ys) → c ≡ d
 comparable-head c d xs ys (inl is) = starts-head c d xs ys is
@@ -32,15 +22,6 @@ comparable-tail : (c d : ℕ) (xs ys : List ℕ) → AreComparable (c ∷ xs) (d
 comparable-tail c d xs ys (inl is) = inl (starts-tail c d xs ys is)
 comparable-tail c d xs ys (inr is) = inr (starts-tail d c ys xs is)
 
-comparable-step : (c d e : ℕ) (rest line other : List ℕ) (b : Bool) → (c == d) ≡ b
-    → (StartsWith rest other → AreComparable other line)
-    → StartsWith (cond b (c ∷ rest) []) (e ∷ other) → AreComparable (e ∷ other) (d ∷ line)
-comparable-step c d e rest line other true is more starts =
-    comparable-cons e d other line (sym (starts-head c e rest other starts) ∙ eqb-true c d is)
-    (more (starts-tail c e rest other starts))
-comparable-step c d e rest line other false is more starts =
-    absurd (nothing-starts e other starts)
-
 -- what a narrowed margin begins with is comparable with the line
 narrowed-comparable : (margin line other : List ℕ) → StartsWith (narrowed margin line) other
     → AreComparable other line
@@ -48,8 +29,7 @@ narrowed-comparable margin line [] starts = inr refl
 narrowed-comparable [] line (e ∷ other) starts = absurd (nothing-starts e other starts)
 narrowed-comparable (c ∷ margin) [] (e ∷ other) starts = inl refl
 narrowed-comparable (c ∷ margin) (d ∷ line) (e ∷ other) starts =
-    comparable-step c d e (narrowed margin line) line other (c == d) refl
-    (narrowed-comparable margin line other) starts
+    search (rules, narrowed-comparable margin line other)
 
 -- and what the margin begins with and is comparable with the line, the narrowed margin begins with
 narrowed-longest : (margin line other : List ℕ) → StartsWith margin other
@@ -91,6 +71,5 @@ pub by-longest : (margin other : List ℕ) (later : List (List ℕ)) → StartsW
 by-longest margin other [] starts all = starts
 by-longest margin other (line ∷ later) starts all =
     by-longest (narrowed margin (chars line)) other later
-    (narrowed-longest margin (chars line) other starts
-    (All-head (λ l. AreComparable other (chars l)) line later all))
+    (search (rules, narrowed-longest, All-head))
     (All-tail (λ l. AreComparable other (chars l)) line later all)

@@ -1,7 +1,7 @@
 -- The parts of plain lines between blanks.
 use Rattle.textwrap_base.proofs.Common.{◌≡◌, ◌≢◌, ℕ, List, [], ◌∷◌, ◌++◌, All, get_or, drop, refl}
-use Rattle.textwrap_base.proofs.Common.{sym, ap, ◌∙◌, subst, append_assoc, All-nil, All-cons}
-use Rattle.textwrap_base.proofs.Common.{All-head, All-tail, All-weaker}
+use Rattle.textwrap_base.proofs.Common.{sym, ap, ◌∙◌, subst, append_assoc, All-nil, All-cons, arith}
+use Rattle.textwrap_base.proofs.Common.{All-head, All-tail, All-weaker, rules}
 use Rattle.textwrap_words.proofs.Common.{blank}
 use Rattle.textwrap.proofs.Common.{IsPlainByte, IsPlainWord, IsPlainLine}
 use Rattle.textwrap_base.proofs.Lists.Parts.{all-right}
@@ -18,8 +18,7 @@ meets : (word rest before after : List ℕ) → All (λ c. c ≢ blank) word
 meets [] rest [] after none same = Here refl (ap (drop 1) same)
 meets [] rest (b ∷ before) after none same =
     Later before (ap (λ c. c ∷ before) (sym (ap (λ l. get_or l 0 0) same))) (ap (drop 1) same)
-meets (c ∷ word) rest [] after none same =
-    absurd (All-head (λ d. d ≢ blank) c word none (ap (λ l. get_or l 0 0) same))
+meets (c ∷ word) rest [] after none same = search (rules, All-head)
 meets (c ∷ word) rest (b ∷ before) after none same =
     let first : c ≡ b = ap (λ l. get_or l 0 0) same in
     elim (meets word rest before after (All-tail (λ d. d ≢ blank) c word none)
@@ -43,8 +42,7 @@ onto_line word line plain (next ∷ words, some, all, is) = (
   word ∷ next ∷ words,
   λ none. cc,
   All-cons IsPlainWord word (next ∷ words) plain all,
-  ap (λ l. word ++ blank ∷ l) is
-      ∙ sym (append_assoc word (blank ∷ []) (blank_joined (next ∷ words))),
+  search (rules, arith, append_assoc),
 )
 
 -- plain words are cut at a blank
@@ -54,8 +52,7 @@ cut_words : (word : List ℕ) (words : List (List ℕ)) (before after : List ℕ
 cut_words word [] before after plain is =
     absurd (All-head (λ c. c ≢ blank) blank after
     (all-right (λ c. c ≢ blank) before (blank ∷ after)
-    (subst (All (λ c. c ≢ blank)) is
-    (no_blank word (All-head IsPlainWord word [] plain)))) refl)
+    (search (rules, no_blank, All-head))) refl)
 cut_words word (next ∷ words) before after plain is =
     let first = All-head IsPlainWord word (next ∷ words) plain in
     let others = All-tail IsPlainWord word (next ∷ words) plain in
@@ -76,8 +73,7 @@ cut_words word (next ∷ words) before after plain is =
 cut_line : (line before after : List ℕ) → IsPlainLine line → line ≡ before ++ blank ∷ after
     → IsPlainLine before × IsPlainLine after
 cut_line line before after ([], some, plain, is) at = absurd (some refl)
-cut_line line before after (word ∷ words, some, plain, is) at =
-    cut_words word words before after plain (sym is ∙ at)
+cut_line line before after (word ∷ words, some, plain, is) at = search (rules, cut_words)
 
 pub plain_parts : (parts : List (List ℕ)) → IsPlainLine (blank_joined parts)
     → All IsPlainLine parts

@@ -1,34 +1,25 @@
 -- Lemmas on the characters of the indent of a line, and on what two texts have in common.
-use Rattle.textwrap_base.proofs.Common.{◌≡◌, ℕ, suc, ◌+◌, ◌<◌, Bool, true, false, cond, nat_eq}
-use Rattle.textwrap_base.proofs.Common.{List, [], ◌∷◌, take, drop, refl, arith, sym, subst}
-use Rattle.textwrap_base.proofs.Common.{StartsWith, starts_with_of_append, nat_tests}
-use Rattle.textwrap_base.proofs.Common.{IsUtf8, IsAscii, IsCharBoundary, prefix_len}
-use Rattle.textwrap_base.proofs.Common.{common_prefix_len, IsUtf8-from_ascii}
-use Rattle.textwrap_base.proofs.Common.{IsCharBoundary-from_take, take-append-drop}
+use Rattle.textwrap_base.proofs.Common.{◌≡◌, ℕ, ◌+◌, Bool, true, false, cond, nat_eq, List, [], ◌∷◌}
+use Rattle.textwrap_base.proofs.Common.{take, arith, StartsWith, IsUtf8, IsAscii, IsCharBoundary}
+use Rattle.textwrap_base.proofs.Common.{prefix_len, common_prefix_len, IsUtf8-from_ascii}
+use Rattle.textwrap_base.proofs.Common.{IsCharBoundary-from_take, rules}
 use Rattle.textwrap.proofs.Common.{is_prefix_character, line_prefix, common_start}
 use Rattle.std.proofs.lemmas.Str.{IsAscii-take}
 use Rattle.std.proofs.lemmas.Str.Ascii.{IsAscii-cons}
 use Rattle.std.proofs.lemmas.List.Sums.{prefix_len-le-length}
+use Rattle.std.proofs.lemmas.Grind.{common_steps}
 
 -- ---- a line's own prefix
-
-prefix_character-below : (c : ℕ) → is_prefix_character c ≡ true → c < 128
-prefix_character-below c is = grind (arith, nat_tests)
 
 ascii-cut : (c : ℕ) (cs : List ℕ) (b : Bool) → is_prefix_character c ≡ b
     → IsAscii (take (prefix_len is_prefix_character cs) cs)
     → IsAscii (take (cond b (1 + prefix_len is_prefix_character cs) 0) (c ∷ cs))
-ascii-cut c cs true is ascii =
-    let front = prefix_len is_prefix_character cs in
-    let one : suc front ≡ 1 + front = omega arith in
-    subst (λ n. IsAscii (take n (c ∷ cs))) one
-    (IsAscii-cons c (take front cs) (prefix_character-below c is) ascii)
+ascii-cut c cs true is ascii = search (rules, IsAscii-cons)
 ascii-cut c cs false is ascii = λ i. omega arith
 
 pub line_prefix-ascii : (line : List ℕ) → IsAscii (line_prefix line)
 line_prefix-ascii [] = λ i. omega arith
-line_prefix-ascii (c ∷ cs) =
-    ascii-cut c cs (is_prefix_character c) refl (line_prefix-ascii cs)
+line_prefix-ascii (c ∷ cs) = search (rules, ascii-cut, line_prefix-ascii cs)
 
 pub line_prefix-boundary : (line : List ℕ) → IsUtf8 line
     → IsCharBoundary line (prefix_len is_prefix_character line)
@@ -45,6 +36,4 @@ common_start-ascii xs ys ascii = IsAscii-take xs (common_prefix_len nat_eq xs ys
 -- ---- what a text begins with
 
 pub line_prefix-begins : (line : List ℕ) → StartsWith line (line_prefix line)
-line_prefix-begins line =
-    let n = prefix_len is_prefix_character line in
-    starts_with_of_append line (take n line) (drop n line) (sym (take-append-drop n line))
+line_prefix-begins line = grind (arith, common_steps)

@@ -1,73 +1,114 @@
 -- Plain texts, unfilled and filled again.
-use Rattle.textwrap_base.proofs.Common.{◌≡◌, ◌≢◌, ◌↔◌, ℕ, Bool, false, List, [], ◌++◌, All, sym, ap}
-use Rattle.textwrap_base.proofs.Common.{◌∙◌, subst, append-nil}
-use Rattle.textwrap_words.proofs.Common.{WordText, Algorithm}
-use Rattle.textwrap_lines.proofs.Common.{IsFilled, line_feed, Settings}
-use Rattle.textwrap.proofs.Common.{IsFilledUnbroken, unfilled_initial, unfilled_subsequent}
-use Rattle.textwrap.proofs.Common.{keeps_ending, joined_text, IsPlain, blanked}
+use Rattle.textwrap_base.proofs.Common.{◌≡◌, ◌≢◌, ◌↔◌, ℕ, Bool, true, false, List, [], ◌∷◌}
+use Rattle.textwrap_base.proofs.Common.{◌++◌, All, refl, sym, ap, ◌∙◌, subst, arith}
+use Rattle.textwrap_base.proofs.Common.{append-nil, rules, map-id, lines, All-nil}
+use Rattle.textwrap_words.proofs.Common.{WordText, Algorithm, Splitter}
+use Rattle.textwrap_lines.proofs.Common.{IsFilled, line_feed, Settings, DividesAs}
+use Rattle.textwrap.proofs.Common.{IsFilledWhole, unfilled_initial, unfilled_subsequent}
+use Rattle.textwrap.proofs.Common.{keeps_ending, joined_text, IsPlain, IsPlainLine, blanked}
+use Rattle.textwrap.proofs.Common.{IsIndent, KeepsWords, is_prefix_character}
 use Rattle.textwrap.specs.Laws.{IsUnindented}
 use Rattle.textwrap.specs.Refilling.{added_ending, with_indents_of, IsRefilled}
+use Rattle.textwrap.proofs.Text.JoinedLines.{blank_joined, feed_joined}
 use Rattle.textwrap.proofs.Text.PlainFilled.{filled-plain}
 use Rattle.textwrap.proofs.Text.PlainLines.{blanked-joined}
-use Rattle.textwrap.proofs.Text.PlainIndents.{initial-plain, subsequent-plain, joined-plain}
-use Rattle.textwrap.proofs.Text.PlainIndents.{keeps-plain}
+use Rattle.textwrap.proofs.Text.PlainIndents.{indented_rows, initial-found, subsequent-found}
+use Rattle.textwrap.proofs.Text.PlainIndents.{joined-again, keeps-none, lines-are}
 
--- ---- a plain text, refilled
+-- ---- what unfilling finds
 
--- what is so of an unfilled plain text
-pub record IsUnfilledPlain (text : List ℕ) : Type 0 where
-  pub initial : unfilled_initial text ≡ []
-  pub subsequent : unfilled_subsequent text ≡ []
-  pub joined : joined_text text ≡ blanked text
+-- the indents that it finds, and the joined text
+pub record IsUnfilledAs (initial subsequent joined text : List ℕ) : Type 0 where
+  pub initial_is : unfilled_initial text ≡ initial
+  pub subsequent_is : unfilled_subsequent text ≡ subsequent
+  pub joined_is : joined_text text ≡ joined
   pub keeps : keeps_ending text ≡ false
 
-pub unfilled-plain : (text : List ℕ) → IsPlain text → IsUnfilledPlain text
-unfilled-plain text (parts, plain, is) =
-    subst IsUnfilledPlain (sym is)
-    (record {
-      initial = initial-plain parts plain;
-      subsequent = subsequent-plain parts plain;
-      joined = joined-plain parts plain ∙ sym (blanked-joined parts plain);
-      keeps = keeps-plain parts plain;
-    })
+-- text under indents, where there are two lines
+pub unfilled-indented : (initial subsequent line next : List ℕ) (others : List (List ℕ))
+    → IsIndent initial → IsIndent subsequent → All IsPlainLine (line ∷ next ∷ others)
+    → IsUnfilledAs initial subsequent (blank_joined (line ∷ next ∷ others))
+    (feed_joined (indented_rows initial subsequent (line ∷ next ∷ others)))
+unfilled-indented initial subsequent line next others first later plain =
+    search (rules, arith, initial-found, subsequent-found, joined-again, keeps-none)
+
+no_indent : IsIndent []
+no_indent = All-nil (λ c. is_prefix_character c ≡ true)
+
+unindented_rows : (lines : List (List ℕ)) → indented_rows [] [] lines ≡ lines
+unindented_rows [] = refl
+unindented_rows (line ∷ lines) = ap (λ ls. line ∷ ls) (map-id lines)
+
+-- text without indents
+unfilled-lines : (lines : List (List ℕ)) → All IsPlainLine lines
+    → IsUnfilledAs [] [] (blank_joined lines) (feed_joined (indented_rows [] [] lines))
+unfilled-lines [] plain =
+    record { initial_is = refl; subsequent_is = refl; joined_is = refl; keeps = refl }
+unfilled-lines (line ∷ []) plain =
+    search (rules, arith, initial-found, no_indent, lines-are, joined-again, keeps-none)
+unfilled-lines (line ∷ next ∷ others) plain =
+    unfilled-indented [] [] line next others no_indent no_indent plain
+
+pub unfilled-plain : (text : List ℕ) → IsPlain text → IsUnfilledAs [] [] (blanked text) text
+unfilled-plain text (lines, plain, is) =
+    subst (λ t. IsUnfilledAs [] [] (blanked t) t)
+    (ap feed_joined (unindented_rows lines) ∙ sym is)
+    (subst (λ j. IsUnfilledAs [] [] j (feed_joined (indented_rows [] [] lines)))
+    (sym (rw (unindented_rows, blanked-joined))) (unfilled-lines lines plain))
+
+-- ---- the text, refilled
 
 module _ (Divides : Settings → Bool → List ℕ → List (List WordText) → Type 0) where
-  abbrev pub FilledBy : Settings → List ℕ → List ℕ → Type 0
+  abbrev FilledBy : Settings → List ℕ → List ℕ → Type 0
   FilledBy settings = IsFilled settings (Divides settings)
+
+  -- it is the joined text, filled under the indents that are found
+  pub refilled-as_joined : (settings indented : Settings) (initial subsequent joined text : List ℕ)
+      → IsUnfilledAs initial subsequent joined text
+      → record settings { initial_indent = initial; subsequent_indent = subsequent } ≡ indented
+      → (refilled : List ℕ) → IsRefilled settings Divides text refilled
+      ↔ FilledBy indented joined refilled
+  refilled-as_joined settings indented initial subsequent joined text found is refilled =
+      let same : with_indents_of text settings ≡ indented =
+      rw (found.initial_is, found.subsequent_is) is in
+      let nothing : (filled : List ℕ)
+      → filled ++ added_ending (keeps_ending text) settings.line_ending ≡ filled =
+      λ filled. ap (λ b. filled ++ added_ending b settings.line_ending) found.keeps
+      ∙ append-nil filled in (
+        λ (filled, is, with_ending).
+            subst (FilledBy indented joined) (sym (with_ending ∙ nothing filled))
+            (search (rules, arith)),
+        λ is. (
+          refilled,
+          search (rules, arith),
+          sym (nothing refilled),
+        ),
+      )
 
   pub refilled-filled : (settings : Settings) (text refilled : List ℕ) → IsUnindented settings
       → IsPlain text → IsRefilled settings Divides text refilled
       ↔ FilledBy settings (blanked text) refilled
   refilled-filled settings text refilled unindented plain =
-      let of_text = unfilled-plain text plain in
-      let same : with_indents_of text settings ≡ settings =
-      rw (
-        of_text.initial ∙ sym unindented.initial,
-        of_text.subsequent ∙ sym unindented.subsequent,
-      ) in
-      let nothing : (filled : List ℕ)
-      → filled ++ added_ending (keeps_ending text) settings.line_ending ≡ filled =
-      λ filled. ap (λ b. filled ++ added_ending b settings.line_ending) of_text.keeps
-      ∙ append-nil filled in (
-        λ (filled, is, with_ending).
-            subst (FilledBy settings (blanked text)) (sym (with_ending ∙ nothing filled))
-            (subst (λ t. FilledBy settings t filled) of_text.joined
-            (subst (λ s. FilledBy s (joined_text text) filled) same is)),
-        λ is. (
-          refilled,
-          subst (λ s. FilledBy s (joined_text text) refilled) (sym same)
-              (subst (λ t. FilledBy settings t refilled) (sym of_text.joined) is),
-          sym (nothing refilled),
-        ),
-      )
+      refilled-as_joined settings settings [] [] (blanked text) text (unfilled-plain text plain)
+      (rw (unindented.initial, unindented.subsequent)) refilled
 
-  pub refilled-twice : (width : ℕ) (first : Algorithm) (settings : Settings)
-      (text filled refilled : List ℕ) → IsUnindented settings → IsPlain text
-      → All (λ c. c ≢ line_feed) text → IsFilledUnbroken width first text filled
-      → IsRefilled settings Divides filled refilled
-      ↔ FilledBy settings text refilled
-  refilled-twice width first settings text filled refilled unindented plain none given =
-      let cut = filled-plain width first text filled plain none given in
-      subst (λ t. IsRefilled settings Divides filled refilled
-      ↔ FilledBy settings t refilled) cut.1
-      (refilled-filled settings filled refilled unindented cut.0)
+-- ---- a text that was filled, refilled
+
+pub filled-is_plain : (settings : Settings) (algorithm : Algorithm) (text filled : List ℕ)
+    → KeepsWords settings → IsUnindented settings → IsPlain text → All (λ c. c ≢ line_feed) text
+    → IsFilledWhole settings algorithm text filled → IsPlain filled × (blanked filled ≡ text)
+filled-is_plain settings algorithm text filled keeps unindented plain none given =
+    let cut = filled-plain settings algorithm text filled keeps none given plain in
+    let is : filled ≡ feed_joined cut.parts = search (rules, arith, unindented_rows) in
+    search (rules, arith, blanked-joined)
+
+pub refilled-twice : (first second : Settings) (one other : Algorithm) (splitter : Splitter)
+    (text filled refilled : List ℕ) → KeepsWords first → IsUnindented first
+    → IsUnindented second → IsPlain text → All (λ c. c ≢ line_feed) text
+    → IsFilledWhole first one text filled
+    → IsRefilled second (DividesAs splitter other) filled refilled
+    ↔ IsFilled second (DividesAs splitter other second) text refilled
+refilled-twice first second one other splitter text filled refilled keeps unindented second_is plain
+    none given =
+    let cut = filled-is_plain first one text filled keeps unindented plain none given in
+    rw cut.1 at (refilled-filled (DividesAs splitter other) second filled refilled second_is cut.0)

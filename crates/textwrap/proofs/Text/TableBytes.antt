@@ -1,7 +1,7 @@
 -- How many bytes the rows of a table take.
-use Rattle.textwrap_base.proofs.Common.{◌≡◌, ℕ, ◌+◌, ◌-◌, ◌*◌, ◌<◌, ◌≤◌, ◌⊎◌, inl, List, []}
-use Rattle.textwrap_base.proofs.Common.{length, map, refl, arith, length-append}
-use Rattle.textwrap_base.proofs.Common.{range_with_len, ◌^◌, map-append, flat_map-append}
+use Rattle.textwrap_base.proofs.Common.{◌≡◌, ℕ, ◌+◌, ◌-◌, ◌*◌, ◌<◌, ◌≤◌, ◌⊎◌, List, [], length, map}
+use Rattle.textwrap_base.proofs.Common.{refl, arith, length-append, range_with_len, ◌^◌, map-append}
+use Rattle.textwrap_base.proofs.Common.{flat_map-append, rules}
 use Rattle.textwrap.proofs.Common.{Layout, cell, cells, padded, row_text, gapped}
 use Rattle.textwrap.proofs.Text.Cells.{gapped-more, row_text-written}
 use Rattle.std.proofs.lemmas.List.{length-replicate}
@@ -39,8 +39,7 @@ pub length-gapped-within : (layout : Layout) (lines : List (List ℕ)) (step fir
     ≤ length (gapped layout (map (cell lines step first) (range_with_len 1 more)))
 length-gapped-within layout lines step first later more within =
     let whole : more ≡ later + (more - later) = omega (arith, within) in
-    rw (whole, range-split 1 later (more - later))
-    (simp (map-append, flat_map-append, length-append) (omega arith))
+    search (rules, range-split, map-append, flat_map-append, length-append)
 
 -- so where some bytes of theirs have no number, nor have all
 pub gapped-past : (layout : Layout) (lines : List (List ℕ)) (step first later len part : ℕ)
@@ -51,14 +50,12 @@ pub gapped-past : (layout : Layout) (lines : List (List ℕ)) (step first later 
     → ¬ (part < 2 ^ 64)
     → 2 ^ 64
     ≤ length (gapped layout (map (cell lines step first) (range_with_len 1 (layout.columns - 1))))
-gapped-past layout lines step first later len part len_is room within past = omega (
-  arith,
-  past,
-  len_is,
-  within,
-  length-gapped-more layout lines step first later,
-  length-gapped-within layout lines step first (later + 1) (layout.columns - 1) room,
-)
+gapped-past layout lines step first later len part len_is room within past =
+    omega (
+      arith,
+      length-gapped-more layout lines step first later,
+      length-gapped-within layout lines step first (later + 1) (layout.columns - 1) room,
+    )
 
 -- and all later cells are in the row
 pub length-gapped-row : (layout : Layout) (lines : List (List ℕ)) (step first : ℕ)
@@ -66,7 +63,4 @@ pub length-gapped-row : (layout : Layout) (lines : List (List ℕ)) (step first 
     → length (gapped layout (map (cell lines step first) (range_with_len 1 (layout.columns - 1))))
     + length (padded layout.column_width (cell lines step first 0))
     ≤ length (row_text layout (cells lines step layout.columns first))
-length-gapped-row layout lines step first some = omega (
-  arith,
-  length-row_text layout lines step first (layout.columns - 1) (inl (omega arith)) (omega arith),
-)
+length-gapped-row layout lines step first some = search (rules, length-row_text)

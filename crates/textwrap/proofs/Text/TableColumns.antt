@@ -1,8 +1,8 @@
 -- The cells of a table, one column after another.
-use Rattle.textwrap_base.proofs.Common.{◌≡◌, ℕ, zero, suc, ◌+◌, ◌-◌, ◌*◌, ◌<◌, ◌≤◌, List, [], ◌∷◌}
-use Rattle.textwrap_base.proofs.Common.{◌++◌, length, get_or, map, refl, sym, ap, ◌∙◌, arith}
-use Rattle.textwrap_base.proofs.Common.{flat_map, range_with_len, map-append, get_or_past}
-use Rattle.textwrap.proofs.Common.{cell, cells}
+use Rattle.textwrap_base.proofs.Common.{◌≡◌, ℕ, zero, suc, ◌+◌, ◌-◌, ◌*◌, ◌<◌, ◌≤◌, List, [], ◌++◌}
+use Rattle.textwrap_base.proofs.Common.{length, get_or, map, refl, sym, ap, ◌∙◌, arith, flat_map}
+use Rattle.textwrap_base.proofs.Common.{range_with_len, map-append, get_or_past, rules}
+use Rattle.textwrap.proofs.Common.{cells}
 use Rattle.std.proofs.Common.{replicate}
 use Rattle.std.proofs.lemmas.Grind.{div_ceil_times}
 use Rattle.std.proofs.lemmas.List.FromFn.{get_or-map-range_with_len, fill_by_all}
@@ -16,9 +16,7 @@ lines_at lines from count = map (λ i. get_or lines i []) (range_with_len from c
 module _ (lines : List (List ℕ)) where
   past-empty : (from count : ℕ) → length lines ≤ from → lines_at lines from count ≡ replicate count []
   past-empty from zero past = refl
-  past-empty from (suc count) past =
-      ap (λ x. x ∷ lines_at lines (from + 1) count) (get_or_past lines from [] past)
-      ∙ ap (λ l. [] ∷ l) (past-empty (from + 1) count (omega arith))
+  past-empty from (suc count) past = simp (get_or_past, past-empty (from + 1) count (omega arith))
 
   -- the places of one column follow one another
   column-at : (columns c : ℕ) → c < columns → (r count : ℕ)
@@ -27,23 +25,13 @@ module _ (lines : List (List ℕ)) where
       ≡ lines_at lines (c * row_count lines columns + r) count
   column-at columns c within r zero = refl
   column-at columns c within r (suc count) =
-      let rows = row_count lines columns in
-      let here : r + c * rows ≡ c * rows + r = omega arith in
-      let next : c * rows + (r + 1) ≡ c * rows + r + 1 = omega arith in
-      rw (
-        get_or-map-range_with_len (cell lines rows r) 0 columns c c [] within (omega arith),
-        here,
-        column-at columns c within (r + 1) count,
-        next,
-      )
+      search (rules, get_or-map-range_with_len, column-at columns c within (r + 1) count)
 
   -- and those of the columns do
   columns-at : (columns c count : ℕ) → c + count ≤ columns
       → flat_map (column_cells lines columns) (range_with_len c count)
       ≡ lines_at lines (c * row_count lines columns) (count * row_count lines columns)
-  columns-at columns c zero within =
-      let none : 0 * row_count lines columns ≡ 0 = omega arith in
-      ap (λ n. lines_at lines (c * row_count lines columns) n) (sym none)
+  columns-at columns c zero within = search rules
   columns-at columns c (suc count) within =
       let rows = row_count lines columns in
       let start : c * rows + 0 ≡ c * rows = omega arith in

@@ -1,15 +1,15 @@
 -- The rows of a table are even.
-use Rattle.textwrap_base.proofs.Common.{◌≡◌, ℕ, zero, suc, ◌+◌, ◌-◌, ◌*◌, ◌≤◌, true, List, [], ◌∷◌}
-use Rattle.textwrap_base.proofs.Common.{◌++◌, get_or, map, refl, ap, ◌∙◌, arith, append_assoc}
-use Rattle.textwrap_base.proofs.Common.{append-nil, All, sum_by, flat_map, range_with_len, list_all}
-use Rattle.textwrap_base.proofs.Common.{flat_map-append, All-head, All-tail, sum_by-cons}
-use Rattle.textwrap_base.proofs.Common.{sum_by-append}
-use Rattle.textwrap_words.proofs.Common.{text_width, is_printable}
+use Rattle.textwrap_base.proofs.Common.{◌≡◌, ℕ, zero, suc, ◌+◌, ◌-◌, ◌*◌, ◌≤◌, List, [], ◌∷◌, ◌++◌}
+use Rattle.textwrap_base.proofs.Common.{get_or, map, refl, arith, append_assoc, append-nil, All}
+use Rattle.textwrap_base.proofs.Common.{sum_by, flat_map, range_with_len, flat_map-append, All-head}
+use Rattle.textwrap_base.proofs.Common.{All-tail, sum_by-cons, sum_by-append, rules}
+use Rattle.textwrap_words.proofs.Common.{text_width}
 use Rattle.textwrap_lines.proofs.Common.{join_with}
 use Rattle.textwrap.proofs.Common.{Layout, layout_of, inner_width, blanks, cell, cells, padded}
 use Rattle.textwrap.proofs.Common.{row_text}
 use Rattle.std.proofs.lemmas.List.{length-replicate}
-use Rattle.textwrap_words.proofs.Units.Widths.{text_width-plain}
+use Rattle.std.proofs.lemmas.List.Elements.{All-replicate}
+use Rattle.textwrap_words.proofs.Units.Widths.{printable-width}
 use Rattle.textwrap_words.proofs.Word.Measured.{text_width-nil}
 use Rattle.textwrap.specs.Columns.{row_count, cell_parts, row_parts}
 
@@ -19,24 +19,18 @@ cell_parts-joined : (layout : Layout) (row : List (List ℕ))
     → flat_map (λ part. part) (cell_parts layout row)
     ≡ join_with layout.middle (map (padded layout.column_width) row)
 cell_parts-joined layout [] = refl
-cell_parts-joined layout (text ∷ []) =
-    ap (λ l. text ++ l) (append-nil (blanks (layout.column_width - text_width text)))
+cell_parts-joined layout (text ∷ []) = search (rules, append-nil)
 cell_parts-joined layout (text ∷ next ∷ texts) =
     simp (append_assoc, cell_parts-joined layout (next ∷ texts))
 
 pub row_parts-joined : (layout : Layout) (row : List (List ℕ))
     → flat_map (λ part. part) (row_parts layout row) ≡ row_text layout row
-row_parts-joined layout row =
-    simp (flat_map-append, append_assoc, append-nil, cell_parts-joined layout row)
+row_parts-joined layout row = simp (append_assoc, append-nil, flat_map-append, cell_parts-joined)
 
 -- ---- their widths
 
-blanks-printable : (n : ℕ) → list_all is_printable (blanks n) ≡ true
-blanks-printable zero = refl
-blanks-printable (suc n) = blanks-printable n
-
 blanks-width : (n : ℕ) → text_width (blanks n) ≡ n
-blanks-width n = text_width-plain (blanks n) (blanks-printable n) ∙ length-replicate n 32
+blanks-width n = search (rules, arith, printable-width, All-replicate, length-replicate)
 
 cell-fits : (width : ℕ) (lines : List (List ℕ)) → All (λ line. text_width line ≤ width) lines
     → (i : ℕ) → text_width (get_or lines i []) ≤ width
@@ -51,21 +45,9 @@ module _ (layout : Layout) (lines : List (List ℕ)) (rows r : ℕ)
       → sum_by text_width (cell_parts layout (map (cell lines rows r)
       (range_with_len c (suc others))))
       ≡ suc others * layout.column_width + others * text_width layout.middle
-  cell_parts-width c zero =
-      simp blanks-width (omega (arith, fits (r + c * rows)))
+  cell_parts-width c zero = search (rules, blanks-width)
   cell_parts-width c (suc others) =
-      let text = cell lines rows r c in
-      let padding = blanks (layout.column_width - text_width text) in
-      let rest = cell_parts layout (map (cell lines rows r) (range_with_len (c + 1) (suc others))) in
-      omega (
-        arith,
-        fits (r + c * rows),
-        blanks-width (layout.column_width - text_width text),
-        sum_by-cons text_width text (padding ∷ layout.middle ∷ rest),
-        sum_by-cons text_width padding (layout.middle ∷ rest),
-        sum_by-cons text_width layout.middle rest,
-        cell_parts-width (c + 1) others,
-      )
+      search (rules, blanks-width, sum_by-cons, cell_parts-width (c + 1) others)
 
 pub rows_even : (width columns : ℕ) (left middle right : List ℕ) (lines : List (List ℕ)) (r : ℕ)
     → let inner : ℕ = inner_width width columns left middle right in
@@ -77,27 +59,18 @@ pub rows_even : (width columns : ℕ) (left middle right : List ℕ) (lines : Li
     → (sum_by text_width (row_parts layout row) ≡ gaps + inner) × (gaps + inner ≡ width)
 rows_even width zero left middle right lines r some room fits = absurd (omega arith)
 rows_even width (suc others) left middle right lines r some room fits =
-    let inner = inner_width width (suc others) left middle right in
     let layout = layout_of width (suc others) left middle right in
     let rows = row_count lines (suc others) in
     let row = cells lines rows (suc others) r in
     let spare = blanks layout.spare_width in
-    let less : suc others - 1 ≡ others = omega arith in
-    let gaps : (suc others - 1) * text_width middle ≡ others * text_width middle =
-    ap (λ n. n * text_width middle) less in
-    let wide : 1 ≤ layout.column_width = omega arith in
-    let room_left : 1 ≤ inner = omega (arith, room, wide) in (
-      omega (
-        arith,
-        gaps,
-        room,
-        sum_by-cons text_width left (cell_parts layout row ++ (spare ∷ right ∷ [])),
-        sum_by-append text_width (cell_parts layout row) (spare ∷ right ∷ []),
-        sum_by-cons text_width spare (right ∷ []),
-        sum_by-cons text_width right [],
-        blanks-width layout.spare_width,
-        cell_parts-width layout lines rows r (cell-fits layout.column_width lines fits)
-            0 others,
-      ),
-      omega (arith, room_left),
+    search (
+      rules,
+      arith,
+      sum_by-cons text_width left (cell_parts layout row ++ (spare ∷ right ∷ [])),
+      sum_by-append text_width (cell_parts layout row) (spare ∷ right ∷ []),
+      sum_by-cons text_width spare (right ∷ []),
+      sum_by-cons text_width right [],
+      blanks-width layout.spare_width,
+      cell_parts-width layout lines rows r (cell-fits layout.column_width lines fits) 0 others,
+      cell-fits layout.column_width lines fits,
     )

@@ -1,18 +1,17 @@
 -- Lemmas on what unfilling gives: lines begin with their indents, are joined, and show their
 -- ending.
 use Rattle.textwrap_base.proofs.Common.{◌≡◌, ℕ, Bool, true, false, cond, List, [], ◌∷◌, ◌++◌}
-use Rattle.textwrap_base.proofs.Common.{length, drop, map, filter, All, refl, sym, ap}
-use Rattle.textwrap_base.proofs.Common.{arith, get_or, append_assoc, append-nil, Option, Some, None}
-use Rattle.textwrap_base.proofs.Common.{◌==◌, ◌&&◌, nat_eq, unwrap_or, StartsWith, flat_map}
-use Rattle.textwrap_base.proofs.Common.{slice_split, ends_with, lines, starts_with_trans, nat_tests}
-use Rattle.textwrap_base.proofs.Common.{nil_from_length, All-nil, All-cons, All-head, All-tail}
+use Rattle.textwrap_base.proofs.Common.{length, drop, map, filter, All, refl, sym, arith, get_or}
+use Rattle.textwrap_base.proofs.Common.{append_assoc, append-nil, Option, Some, None, ◌==◌, nat_eq}
+use Rattle.textwrap_base.proofs.Common.{StartsWith, flat_map, slice_split, ends_with, lines}
+use Rattle.textwrap_base.proofs.Common.{starts_with_trans, nat_tests, nil_from_length, All-nil}
+use Rattle.textwrap_base.proofs.Common.{All-cons, All-head, All-tail, rules}
 use Rattle.textwrap_words.proofs.Common.{blank}
 use Rattle.textwrap_lines.proofs.Common.{ending_bytes, join_with}
 use Rattle.textwrap.proofs.Common.{EndedLine, ended_lines_of, nonempty_lines, line_prefix}
 use Rattle.textwrap.proofs.Common.{common_prefix, unfilled_initial, unfilled_subsequent}
 use Rattle.textwrap.proofs.Common.{joined_text, detected_among, detected_ending, keeps_ending}
-use Rattle.std.specs.Prelude.{is_some}
-use Rattle.std.specs.Str.Lines.{lines_of_parts, strip_carriage_return}
+use Rattle.std.specs.Str.Lines.{lines_of_parts}
 use Rattle.std.proofs.lemmas.List.Elements.{All-filter}
 use Rattle.textwrap_lines.specs.declared.line_ending.LineEnding.{LineEnding}
 use Rattle.textwrap_lines.specs.declared.line_ending.LineEnding.TheVariants.{CRLF, LF}
@@ -33,8 +32,7 @@ texts_of-last part false = refl
 texts_of-parts : (parts : List (List ℕ)) → texts_of (ended_lines_of parts) ≡ lines_of_parts parts
 texts_of-parts [] = refl
 texts_of-parts (part ∷ []) = texts_of-last part (length part == 0)
-texts_of-parts (part ∷ next ∷ parts) =
-    ap (λ ls. strip_carriage_return part ∷ ls) (texts_of-parts (next ∷ parts))
+texts_of-parts (part ∷ next ∷ parts) = simp (texts_of-parts (next ∷ parts))
 
 pub texts_of-ended_lines : (text : List ℕ) → texts_of (ended_lines text) ≡ lines text
 texts_of-ended_lines text = texts_of-parts (slice_split (λ b. b == 10) text)
@@ -47,8 +45,7 @@ begins-each : (indent : List ℕ) (es : List EndedLine)
 begins-each indent [] all = All-nil (λ e. StartsWith e.line indent)
 begins-each indent (e ∷ es) all =
     All-cons (λ l. StartsWith l.line indent) e es
-    (starts_with_trans e.line (line_prefix e.line) indent (line_prefix-begins e.line)
-    (All-head (λ t. StartsWith t indent) (line_prefix e.line) (map line_prefix (texts_of es)) all))
+    (search (rules, starts_with_trans, line_prefix-begins, All-head))
     (begins-each indent es
     (All-tail (λ t. StartsWith t indent) (line_prefix e.line) (map line_prefix (texts_of es)) all))
 
@@ -64,11 +61,7 @@ begin-cut first es true some e rest is =
     let subsequent = common_prefix (map line_prefix (texts_of es)) in
     let each = All-filter has_text (λ l. StartsWith l.line subsequent) es
     (begins-each subsequent es (common_prefix-begins (map line_prefix (texts_of es)))) in
-    let same : first ≡ e = cc in
-    let others : filter has_text es ≡ rest = cc in (
-      rw (← same) (line_prefix-begins first.line),
-      rw others at each,
-    )
+    search (rules, line_prefix-begins)
 begin-cut first es false none e rest is =
     let subsequent = common_prefix (map line_prefix (texts_of es)) in
     let each = All-filter has_text (λ l. StartsWith l.line subsequent) es
@@ -88,8 +81,7 @@ pub lines-begin : (text : List ℕ) (e : EndedLine) (rest : List EndedLine)
     → nonempty_lines text ≡ e ∷ rest
     → StartsWith e.line (unfilled_initial text)
     × All (λ l. StartsWith l.line (unfilled_subsequent text)) rest
-lines-begin text =
-    rw (texts_of-ended_lines text) at (begin-lines (ended_lines text))
+lines-begin text = search (rules, texts_of-ended_lines, begin-lines)
 
 -- ---- joined lines
 
@@ -100,16 +92,13 @@ added_lines n es = flat_map (λ e. blank ∷ drop n e.line) es
 join-added : (first : List ℕ) (n : ℕ) (es : List EndedLine)
     → join_with (blank ∷ []) (first ∷ map (drop n) (texts_of es)) ≡ first ++ added_lines n es
 join-added first n [] = sym (append-nil first)
-join-added first n (e ∷ es) =
-    simp (append_assoc, join-added (drop n e.line) n es)
+join-added first n (e ∷ es) = search (rules, append_assoc, join-added (drop n e.line) n es)
 
 pub joined_text-some : (text initial subsequent : List ℕ) (e : EndedLine) (rest : List EndedLine)
     → initial ≡ unfilled_initial text → subsequent ≡ unfilled_subsequent text
     → nonempty_lines text ≡ e ∷ rest
     → drop (length initial) e.line ++ added_lines (length subsequent) rest ≡ joined_text text
-joined_text-some text initial subsequent e rest first later some =
-    rw (first, later, some) (sym (join-added (drop (length (unfilled_initial text)) e.line)
-    (length (unfilled_subsequent text)) rest))
+joined_text-some text initial subsequent e rest first later some = search (rules, join-added)
 
 -- ---- the detected ending
 
@@ -130,5 +119,4 @@ detected_among-two (Some LF) (Some LF) others = refl
 pub keeps_ending-some : (text : List ℕ) (ending : LineEnding)
     → detected_ending text ≡ Some ending
     → keeps_ending text ≡ ends_with nat_eq text (ending_bytes ending)
-keeps_ending-some text ending is =
-    ap (λ d. is_some d && ends_with nat_eq text (ending_bytes (unwrap_or d LF))) is
+keeps_ending-some text ending is = search (rules, nat_eq)

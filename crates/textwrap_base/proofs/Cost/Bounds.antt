@@ -1,11 +1,10 @@
 -- What one line costs at most, where its numbers keep to a limit.
-use Rattle.textwrap_base.proofs.Common.{◌≡◌, ℕ, ◌+◌, ◌-◌, ◌*◌, ◌≤◌, Bool, eqb, ◌&&◌, if◌then◌else◌}
-use Rattle.textwrap_base.proofs.Common.{List, [], ◌∷◌, length, take, map, All, max, arith, subst}
-use Rattle.textwrap_base.proofs.Common.{All-nil, All-cons, All-head, All-tail, All-map, Sizes}
-use Rattle.textwrap_base.proofs.Common.{closed_width, PricedSizes, fit_cost, last_break_penalty}
-use Rattle.textwrap_base.proofs.Common.{line_cost, total_width, measured, AreAtMost}
+use Rattle.textwrap_base.proofs.Common.{◌≡◌, ℕ, ◌+◌, ◌*◌, ◌≤◌, Bool, List, [], ◌∷◌, take, map, All}
+use Rattle.textwrap_base.proofs.Common.{max, arith, subst, get_or-map, length-map, All-head}
+use Rattle.textwrap_base.proofs.Common.{All-tail, All-map, Sizes, closed_width, PricedSizes}
+use Rattle.textwrap_base.proofs.Common.{fit_cost, last_break_penalty, line_cost, total_width}
+use Rattle.textwrap_base.proofs.Common.{measured, AreAtMost, rules}
 use Rattle.textwrap_base.proofs.Cost.SizesAlone.{total_width-cons}
-use Rattle.std.proofs.Common.{ltb}
 use Rattle.std.proofs.lemmas.List.Sums.{sum_by-take-le}
 use Rattle.std.proofs.Math.Nat.{mul-le-mul}
 use Rattle.textwrap_base.specs.declared.minima.line_costs.Measure.{Measure}
@@ -30,29 +29,15 @@ module _ (limit : ℕ) where
       → 1 ≤ t → t ≤ limit → closed ≤ limit
       → fit_cost p t closed is_last is_single ≤ limit * limit
   fit_cost-le p t closed is_last is_single h some k l =
-      let past : closed - t ≤ limit = omega arith in
-      let left : t - closed ≤ limit = omega arith in
-      let over = mul-le-mul past h.overflow in
-      let gap = mul-le-mul left left in
-      let one : 1 ≤ limit = omega arith in
-      let short = mul-le-mul one h.short_last_line in
-      let is_short = is_single && ltb (closed * p.short_last_line_fraction) t in
-      if_le (ltb t closed) ((closed - t) * p.overflow_penalty) _ (limit * limit) over
-      (if_le is_last (if is_short then p.short_last_line_penalty else 0)
-      ((t - closed) * (t - closed)) (limit * limit)
-      (if_le is_short p.short_last_line_penalty 0 (limit * limit) (omega (arith, short))
-      (omega arith)) gap)
+      grind (arith, mul-le-mul, if_le)
 
   -- break penalties keep to the limit where those of the measures do
   break_penalties-map : {X : Type 0} (priced : X → PricedSizes) (xs : List X)
       → All (λ (p : PricedSizes). p.break_penalty ≤ limit) (map priced xs)
       → All (λ x. (priced x).break_penalty ≤ limit) xs
-  break_penalties-map priced [] all = All-nil (λ x. (priced x).break_penalty ≤ limit)
-  break_penalties-map priced (x ∷ xs) all =
-      let kept : PricedSizes → Type 0 = λ p. p.break_penalty ≤ limit in
-      All-cons (λ x. (priced x).break_penalty ≤ limit) x xs
-      (All-head kept (priced x) (map priced xs) all)
-      (break_penalties-map priced xs (All-tail kept (priced x) (map priced xs) all))
+  break_penalties-map priced xs all = λ k d l.
+      rw (get_or-map priced xs k d (priced d) l) at
+      (all k (priced d) (omega (arith, length-map xs priced)))
 
   pub break_penalties-measured : {X : Type 0} (priced : X → PricedSizes) (measures : List Measure)
       (xs : List X) → map measured measures ≡ map priced xs
@@ -77,7 +62,4 @@ module _ (limit : ℕ) where
         → line_cost priced p width is_last line ≤ limit * limit + 2 * limit
     line_cost-le p width is_last [] h breaks k l = omega arith
     line_cost-le p width is_last (x ∷ line) h breaks k l =
-        let fit = fit_cost-le p (max width 1) (closed_width (λ y. (priced y).sizes) (x ∷ line))
-        is_last (eqb (length (x ∷ line)) 1) h (omega arith) k l in
-        let end = last_break_penalty-le (x ∷ line) breaks in
-        let each = h.nline in omega (arith, fit, end, each)
+        search (rules, fit_cost-le, last_break_penalty-le)

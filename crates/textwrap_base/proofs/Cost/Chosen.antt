@@ -1,13 +1,12 @@
 -- The table gives the chosen division, if all lines but the first have one width.
-use Rattle.textwrap_base.proofs.Common.{◌≡◌, ℕ, ◌<◌, ◌≤◌, ◌≢◌, inr, List, [], ◌∷◌, length, map}
-use Rattle.textwrap_base.proofs.Common.{take, All, refl, sym, ◌∙◌, arith, take_all, IsDivision}
+use Rattle.textwrap_base.proofs.Common.{◌≡◌, ℕ, ◌<◌, ◌≤◌, ◌≢◌, List, [], ◌∷◌, length}
+use Rattle.textwrap_base.proofs.Common.{take, All, sym, ◌∙◌, arith, take_all, IsDivision}
 use Rattle.textwrap_base.proofs.Common.{PricedSizes, division_cost, AreNoLater, AreEqualFromSecond}
 use Rattle.textwrap_base.proofs.Common.{entry_at, line_costs, fragments_table, IsByTable}
 use Rattle.textwrap_base.specs.Cost.{IsChosen}
-use Rattle.textwrap_base.specs.declared.minima.table.Entry.{Entry}
 use Rattle.textwrap_base.specs.declared.penalties.Penalties.{Penalties}
 use Rattle.textwrap_base.proofs.Cost.Lines.{starts_back, joined, division_joined}
-use Rattle.textwrap_base.proofs.Cost.Starts.{table-is_table, table_least, table_followed}
+use Rattle.textwrap_base.proofs.Cost.Starts.{table_starts, table_least, table_followed}
 use Rattle.textwrap_base.proofs.Cost.Starts.{table_earliest, AreStarts, FollowBack}
 use Rattle.textwrap_base.proofs.Cost.Begun.{begin_cost, line_costs-steady, begin_starts}
 use Rattle.textwrap_base.proofs.Cost.Begun.{begin_follow}
@@ -16,12 +15,7 @@ use Rattle.textwrap_base.proofs.Cost.Begun.{begin_follow}
 
 chosen-empty : {X : Type 0} (priced : X → PricedSizes) (penalties : Penalties) (widths : List ℕ)
     (lines : List (List X)) → lines ≡ [] ∷ [] → IsChosen priced penalties widths [] lines
-chosen-empty {X = X} priced penalties widths lines e = record {
-  division = e;
-  least = λ others o. rw (e, o) (omega arith);
-  earliest = λ others o same. let r : AreNoLater (starts_back {X = X} ([] ∷ []))
-      (starts_back {X = X} ([] ∷ [])) = inr (refl, tt) in rw (e, o) r;
-}
+chosen-empty {X = X} priced penalties widths lines e = grind arith
 
 -- a division of all fragments, as one of the prefix of all
 pub whole : {X : Type 0} (xs : List X) (lines : List (List X)) → 0 < length xs → IsDivision xs lines
@@ -44,36 +38,27 @@ module _ {X : Type 0} (priced : X → PricedSizes) (penalties : Penalties) (widt
   pub begin-least : (others : List (List X)) (j : ℕ) → j ≤ length xs → AreEqualFromSecond widths
       → joined others ≡ take j xs → All (λ line. line ≢ []) others → cost_at j ≤ cost_of others
   begin-least others j l equal tiles some =
-      let cost = begin_cost priced penalties widths xs others j l tiles in
-      let least = table_least (line_costs priced penalties widths xs) (length xs)
-      (fragments_table priced penalties widths xs)
-      (table-is_table (line_costs priced penalties widths xs) (length xs))
-      (line_costs-steady priced penalties widths xs equal)
-      (starts_back others) j l (begin_starts priced penalties widths xs others j l tiles some) in
-      omega (arith, cost, least)
+      let cost = begin_cost xs others j l tiles priced penalties widths in
+      grind (arith, table_least, line_costs-steady, begin_starts)
 
   module _ (lines : List (List X)) (p : 0 < length xs) (equal : AreEqualFromSecond widths)
       (by : IsByTable priced penalties widths xs lines) where
     begins : AreStarts (starts_back lines) (length xs)
     begins =
         let (tiles, some) = whole xs lines p by.division in
-        begin_starts priced penalties widths xs lines (length xs) (omega arith) tiles some
+        begin_starts xs lines (length xs) (omega arith) tiles some
 
     follows : FollowBack (starts_back lines)
-        (map (λ (x : Entry). x.start) (fragments_table priced penalties widths xs)) (length xs)
+        (table_starts (line_costs priced penalties widths xs) (length xs)) (length xs)
     follows =
-        begin_follow priced penalties widths xs lines (length xs)
-        (map (λ (x : Entry). x.start) (fragments_table priced penalties widths xs))
-        (omega arith) (whole xs lines p by.division).0 by.starts
+        begin_follow xs lines (length xs) (omega arith) (whole xs lines p by.division).0 _ by.starts
 
     -- the division by the table costs what its last entry says
     by_table-cost : cost_of lines ≡ cost_at (length xs)
     by_table-cost =
-        sym (begin_cost priced penalties widths xs lines (length xs) (omega arith)
-        (whole xs lines p by.division).0)
+        sym (begin_cost xs lines (length xs) (omega arith) (whole xs lines p by.division).0 priced
+        penalties widths)
         ∙ table_followed (line_costs priced penalties widths xs) (length xs)
-        (fragments_table priced penalties widths xs)
-        (table-is_table (line_costs priced penalties widths xs) (length xs))
         (line_costs-steady priced penalties widths xs equal)
         (starts_back lines) (length xs) (omega arith) begins follows
 
@@ -82,12 +67,10 @@ module _ {X : Type 0} (priced : X → PricedSizes) (penalties : Penalties) (widt
     chosen-earliest others o same =
         let (tiles, some) = whole xs others p o in
         table_earliest (line_costs priced penalties widths xs) (length xs)
-        (fragments_table priced penalties widths xs)
-        (table-is_table (line_costs priced penalties widths xs) (length xs))
         (line_costs-steady priced penalties widths xs equal)
         (starts_back lines) (starts_back others) (length xs) (omega arith) begins follows
-        (begin_starts priced penalties widths xs others (length xs) (omega arith) tiles some)
-        (begin_cost priced penalties widths xs others (length xs) (omega arith) tiles ∙ same
+        (begin_starts xs others (length xs) (omega arith) tiles some)
+        (begin_cost xs others (length xs) (omega arith) tiles priced penalties widths ∙ same
         ∙ by_table-cost)
 
 pub by_table-chosen : {X : Type 0} (priced : X → PricedSizes) (penalties : Penalties)

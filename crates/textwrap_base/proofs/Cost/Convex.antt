@@ -1,9 +1,9 @@
 -- Line costs are convex where closed widths never fall. What a line costs beside its gap comes from
 -- its end alone. The gap depends on what its end closes at, less what stands before its start; the
 -- first never falls along the ends, nor the second along the starts, and the gap's cost is convex.
-use Rattle.textwrap_base.proofs.Common.{◌≡◌, ℕ, zero, suc, ◌+◌, ◌-◌, ◌<◌, ◌≤◌, false, eqb, max}
-use Rattle.textwrap_base.proofs.Common.{List, [], ◌∷◌, length, get_or, take, slice_range, arith}
-use Rattle.textwrap_base.proofs.Common.{nat_tests, Sizes, line_width, closed_width, open_width}
+use Rattle.textwrap_base.proofs.Common.{◌≡◌, ℕ, zero, suc, ◌+◌, ◌-◌, ◌<◌, ◌≤◌, max, List, [], ◌∷◌}
+use Rattle.textwrap_base.proofs.Common.{length, get_or, take, slice_range, arith, nat_tests}
+use Rattle.textwrap_base.proofs.Common.{add-zero, Sizes, line_width, closed_width, open_width}
 use Rattle.textwrap_base.proofs.Common.{PricedSizes, NeverFalls, line_costs, fragment_costs}
 use Rattle.textwrap_base.specs.Queue.{AreConvex}
 use Rattle.textwrap_base.specs.declared.penalties.Penalties.{Penalties}
@@ -18,23 +18,17 @@ closed_width-prefix : {X : Type 0} (sizes : X → Sizes) (xs : List X) (i j : �
     → open_width sizes (take i xs) + closed_width sizes (slice_range xs i j)
     ≡ closed_width sizes (take j xs)
 closed_width-prefix sizes xs i j d h l =
-    let same : j - 1 + 1 ≡ j = omega arith in
     let from_start : j - 0 ≡ j = omega arith in
-    let whole = rw (same, from_start) at
-    (closed_width-slice sizes xs 0 (j - 1) d (omega arith) (omega arith)) in
-    let part = rw same at (closed_width-slice sizes xs i (j - 1) d (omega arith) (omega arith)) in
-    omega (arith, whole, part)
+    let whole = rw from_start at (closed_width-slice sizes xs 0 j d (omega arith) l) in
+    omega (arith, whole, closed_width-slice sizes xs i j d h l)
 
 closed_width-rises : {X : Type 0} (sizes : X → Sizes) (xs : List X) → NeverFalls sizes xs
     → (j more : ℕ) → 0 < j → j + more ≤ length xs
     → closed_width sizes (take j xs) ≤ closed_width sizes (take (j + more) xs)
 closed_width-rises sizes xs rising j zero some l =
-    let same : j + 0 ≡ j = omega arith in rw same (omega arith)
+    rw add-zero (omega arith)
 closed_width-rises sizes xs rising j (suc more) some l =
-    let same : j + suc more ≡ j + more + 1 = omega arith in
-    let before = closed_width-rises sizes xs rising j more some (omega arith) in
-    let last = rising (j + more) (omega arith) (omega arith) in
-    rw same (omega (arith, before, last))
+    grind (arith, closed_width-rises sizes xs rising j more some (omega arith))
 
 module _ {X : Type 0} (priced : X → PricedSizes) (penalties : Penalties) (widths : List ℕ)
     (xs : List X) where
@@ -48,14 +42,7 @@ module _ {X : Type 0} (priced : X → PricedSizes) (penalties : Penalties) (widt
       (closed_width sizes (take j xs) - open_width sizes (take i xs)) +
       (priced (get_or xs (j - 1) d)).break_penalty
   line_costs-inner i j number d h l =
-      let same : j - 1 + 1 ≡ j = omega arith in
-      let not_last : eqb j (length xs) ≡ false = grind (arith, nat_tests) in
-      let closed : closed_width sizes (slice_range xs i j)
-      ≡ closed_width sizes (take j xs) - open_width sizes (take i xs) =
-      omega (arith, closed_width-prefix sizes xs i j d h (omega arith)) in
-      let cost = rw same at (line_cost-slice priced penalties (line_width widths number) false xs i
-      (j - 1) d (omega arith) (omega arith)) in
-      rw (not_last, ← closed) cost
+      grind (arith, nat_tests, closed_width-prefix, line_cost-slice)
 
   line_costs-convex : X → NeverFalls sizes xs
       → AreConvex (fragment_costs priced penalties widths xs)

@@ -1,8 +1,7 @@
 -- The lines of given starts.
-use Rattle.textwrap_base.proofs.Common.{◌≡◌, ℕ, suc, ◌+◌, ◌≤◌, ◌≢◌, eqb, List, [], ◌∷◌, ◌++◌}
-use Rattle.textwrap_base.proofs.Common.{length, take, All, slice_range, refl, sym, ◌∙◌, ap, arith}
-use Rattle.textwrap_base.proofs.Common.{append_assoc, All-cons, line_width, PricedSizes, line_cost}
-use Rattle.textwrap_base.proofs.Common.{line_costs}
+use Rattle.textwrap_base.proofs.Common.{◌≡◌, ℕ, ◌+◌, ◌≤◌, ◌≢◌, List, [], ◌∷◌, ◌++◌, length, take}
+use Rattle.textwrap_base.proofs.Common.{All, slice_range, refl, sym, ◌∙◌, ap, arith, append_assoc}
+use Rattle.textwrap_base.proofs.Common.{All-cons, PricedSizes, line_costs}
 use Rattle.textwrap_base.proofs.Cost.Lines.{joined}
 use Rattle.textwrap_base.specs.Cost.{lines_cost}
 use Rattle.textwrap_base.specs.declared.penalties.Penalties.{Penalties}
@@ -38,19 +37,8 @@ pub cost_after_starts : {X : Type 0} (priced : X → PricedSizes) (penalties : P
     → lines_cost priced penalties widths (length xs) 0 0 (lines_after starts xs j after)
     ≡ starts_cost starts (line_costs priced penalties widths xs) j + lines_cost priced penalties
     widths (length xs) (length starts) j after
-cost_after_starts priced penalties widths [] xs j after l h =
-    ap (λ k. lines_cost priced penalties widths (length xs) 0 k after) (sym h)
-    ∙ (let e : lines_cost priced penalties widths (length xs) 0 j after
-    ≡ 0 + lines_cost priced penalties widths (length xs) 0 j after = omega arith in e)
+cost_after_starts priced penalties widths [] xs j after l h = rw h (omega arith)
 cost_after_starts priced penalties widths (i ∷ rest) xs j after l (h, hs) =
-    let len = length-slice xs i j l in
-    let end : i + length (slice_range xs i j) ≡ j = omega arith in
-    let first = ap (λ k. line_cost priced penalties (line_width widths (length rest))
-    (eqb k (length xs)) (slice_range xs i j)) end in
-    let more = ap (λ k. lines_cost priced penalties widths (length xs) (length rest + 1) k after)
-    end in
-    let number = ap (λ m. lines_cost priced penalties widths (length xs) m j after)
-    (let q : length rest + 1 ≡ suc (length rest) = omega arith in q) in
-    let before = cost_after_starts priced penalties widths rest xs i (slice_range xs i j ∷ after)
+    let again = cost_after_starts priced penalties widths rest xs i (slice_range xs i j ∷ after)
     (omega arith) hs in
-    before ∙ (omega (arith, first, more, number))
+    grind (arith, length-slice)

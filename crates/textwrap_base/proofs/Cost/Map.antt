@@ -1,11 +1,10 @@
 -- The optimal division of fragments is one of what a function makes of them.
-use Rattle.textwrap_base.proofs.Common.{◌≡◌, ℕ, ◌+◌, List, [], ◌∷◌, length, get_or, map, sym, ap}
-use Rattle.textwrap_base.proofs.Common.{◌∙◌, subst, length-map, IsDivision, PricedSizes, line_costs}
-use Rattle.textwrap_base.proofs.Common.{fragments_table, FollowStarts, IsByTable}
+use Rattle.textwrap_base.proofs.Common.{◌≡◌, ℕ, ◌+◌, List, [], ◌∷◌, length, map, sym, ap, ◌∙◌}
+use Rattle.textwrap_base.proofs.Common.{length-map, IsDivision, PricedSizes, line_costs}
+use Rattle.textwrap_base.proofs.Common.{fragments_table, FollowStarts, arith}
 use Rattle.std.proofs.lemmas.Simd.{map-map}
 use Rattle.textwrap_base.specs.Table.{table}
 use Rattle.textwrap_base.specs.OptimalFit.{IsByOptimalFit}
-use Rattle.textwrap_base.specs.declared.minima.table.Entry.{Entry}
 use Rattle.textwrap_base.specs.declared.penalties.Penalties.{Penalties}
 use Rattle.textwrap_base.proofs.Cost.SizesAlone.{line_costs-map}
 use Rattle.textwrap_base.proofs.Cost.Chosen.{by_table-chosen}
@@ -25,28 +24,12 @@ module _ {X Y : Type 0} (f : X → Y) (priced : Y → PricedSizes) where
       → FollowStarts starts at lines → FollowStarts starts at (map (map f) lines)
   FollowStarts-map starts at [] follow = tt
   FollowStarts-map starts at (line ∷ lines) (here, follow) =
-      let len = ap (λ n. at + n) (length-map line f) in (
-        ap (λ n. get_or starts n 0) len
-            ∙ here,
-        subst (λ n. FollowStarts starts n (map (map f) lines)) (sym len)
-            (FollowStarts-map starts (at + length line) lines follow),
-      )
+      rw (length-map line f)
+      (here, FollowStarts-map starts (at + length line) lines follow)
 
   pub IsByOptimalFit-map : (penalties : Penalties) (widths : List ℕ) (xs : List X)
       (lines : List (List X)) → IsDivision (map f xs) (map (map f) lines)
       → IsByOptimalFit (λ x. priced (f x)) penalties widths xs lines
       → IsByOptimalFit priced penalties widths (map f xs) (map (map f) lines)
   IsByOptimalFit-map penalties widths xs lines division optimal =
-      let starts = subst (λ (entries : List Entry). FollowStarts
-      (map (λ (entry : Entry). entry.start) entries) 0 (map (map f) lines))
-      (fragments_table-map penalties widths xs)
-      (FollowStarts-map (map (λ (entry : Entry). entry.start)
-      (fragments_table (λ x. priced (f x)) penalties widths xs)) 0 lines
-      optimal.by_table.starts) in
-      let by_table : IsByTable priced penalties widths (map f xs) (map (map f) lines) =
-      record { division = division; starts = starts } in
-      record {
-        by_table = by_table;
-        chosen = λ equal. by_table-chosen priced penalties widths
-            (map f xs) (map (map f) lines) equal by_table;
-      }
+      grind (arith, fragments_table-map, FollowStarts-map, by_table-chosen)

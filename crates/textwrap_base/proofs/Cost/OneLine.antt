@@ -1,17 +1,15 @@
 -- Fragments without penalties, for which the first line has room, are one line at the least cost.
-use Rattle.textwrap_base.proofs.Common.{◌≡◌, ℕ, zero, suc, ◌-◌, ◌<◌, ◌≤◌, Bool, true, eqb, List, []}
-use Rattle.textwrap_base.proofs.Common.{◌∷◌, length, get_or, map, drop, All, slice_range, refl, ap}
-use Rattle.textwrap_base.proofs.Common.{◌∙◌, zero-add, arith, eq-eqb, nat_tests, take_all}
+use Rattle.textwrap_base.proofs.Common.{◌≡◌, ℕ, ◌<◌, ◌≤◌, Bool, true, List, [], ◌∷◌, length, get_or}
+use Rattle.textwrap_base.proofs.Common.{All, refl, zero-add, arith, eq-eqb, nat_tests, take_all}
 use Rattle.textwrap_base.proofs.Common.{length-take-le, length-drop, All-head, All-tail, Sizes}
 use Rattle.textwrap_base.proofs.Common.{PricedSizes, priced_at, last_break_penalty, line_cost}
-use Rattle.textwrap_base.proofs.Common.{line_width, closed_width, entry_at, first_entry, entry_from}
-use Rattle.textwrap_base.proofs.Common.{line_costs, fragments_table, IsLeastBelow, IsByTable}
+use Rattle.textwrap_base.proofs.Common.{line_width, closed_width, entry_at, line_costs}
+use Rattle.textwrap_base.proofs.Common.{fragments_table, IsByTable}
 use Rattle.textwrap_base.proofs.Division.OneLine.{division_one, greedy_one}
 use Rattle.textwrap_base.specs.Algorithms.{Algorithm, Greedy, LeastCost, IsDividedBy}
-use Rattle.textwrap_base.specs.declared.minima.table.Entry.{Entry}
 use Rattle.textwrap_base.specs.declared.penalties.Penalties.{Penalties}
 use Rattle.textwrap_base.proofs.Cost.Chosen.{by_table-chosen}
-use Rattle.textwrap_base.proofs.Cost.Starts.{table-is_table, start-at}
+use Rattle.textwrap_base.proofs.Cost.Starts.{table-is_table, table_starts, start-at}
 
 module _ {X : Type 0} (priced : X → PricedSizes) (penalties : Penalties) where
   line_cost-some : (width : ℕ) (is_last : Bool) (line : List X) → 0 < length line
@@ -35,60 +33,22 @@ module _ {X : Type 0} (priced : X → PricedSizes) (penalties : Penalties) (widt
 
   cost_from_start : 1 < length xs → costs 0 (length xs) 0 ≡ penalties.nline_penalty
   cost_from_start two =
-      ap (λ b. line_cost priced penalties (line_width widths 0) b (slice_range xs 0 (length xs)))
-      (eq-eqb (length xs) (length xs) refl)
-      ∙ ap (line_cost priced penalties (line_width widths 0) true)
-      (take_all (length xs - 0) xs (omega arith))
-      ∙ line_cost-one priced penalties (line_width widths 0) xs two none room
+      grind (arith, eq-eqb, take_all, line_cost-one)
 
   cost_from : (i number : ℕ) → i < length xs → penalties.nline_penalty ≤ costs i (length xs) number
   cost_from i number within =
-      line_cost-some priced penalties (line_width widths number) (eqb (length xs) (length xs))
-      (slice_range xs i (length xs))
-      (let len = length-take-le (length xs - i) (drop i xs) (omega (arith, length-drop i xs)) in
-      omega (arith, len))
+      grind (arith, line_cost-some, length-take-le, length-drop)
 
-  start_first : (e : Entry) → IsLeastBelow costs (fragments_table priced penalties widths xs)
-      (length xs) (length xs) e
-      → (entry_at (fragments_table priced penalties widths xs) 0) ≡ first_entry → (start : ℕ)
-      → e.start ≡ start → start ≡ 0
-  start_first e least first zero is = refl
-  start_first e least first (suc i) is =
+  -- the table's last line starts first: a later start would have to be cheaper
+  last_start : get_or (table_starts costs (length xs)) (length xs) 0 ≡ 0
+  last_start =
       let entries = fragments_table priced penalties widths xs in
-      let below = least.below in
-      let dearer = least.first 0 (omega (arith, is)) in
-      let front = ap (λ f. (entry_from costs 0 f (length xs)).cost) first in
-      let whole = cost_from_start (omega (arith, is, below)) in
-      let own = ap (λ f. f.cost) least.from_start in
-      let some = cost_from e.start (entry_at entries e.start).line_number below in
-      absurd (omega (arith, dearer, front, whole, own, some))
-
-  last_start : get_or (map (λ (e : Entry). e.start) (fragments_table priced penalties widths xs))
-      (length xs) 0 ≡ 0
-  last_start = start-at costs (length xs) (fragments_table priced penalties widths xs)
-      (table-is_table costs (length xs)) (length xs) (omega arith) ∙ start_by (length xs) refl
-    where
-      start_by : (n : ℕ) → length xs ≡ n
-          → (entry_at (fragments_table priced penalties widths xs) (length xs)).start ≡ 0
-      start_by zero is =
-          ap (λ n. (entry_at (fragments_table priced penalties widths xs) n).start) is
-          ∙ ap (λ e. e.start) (table-is_table costs (length xs)).first
-      start_by (suc n) is =
-          let table = table-is_table costs (length xs) in
-          start_first (entry_at (fragments_table priced penalties widths xs) (length xs))
-          (table.later (length xs) (omega (arith, is)) (omega arith)) table.first _ refl
+      let table = table-is_table costs (length xs) in
+      grind (arith, start-at, cost_from_start, cost_from)
 
   by_table_one : IsByTable priced penalties widths xs (xs ∷ [])
   by_table_one =
-      record {
-        division = division_one xs;
-        starts = (
-          ap (λ n. get_or
-              (map (λ (e : Entry). e.start) (fragments_table priced penalties widths xs)) n 0)
-              (zero-add (length xs)) ∙ last_start,
-          tt,
-        );
-      }
+      search (division_one, zero-add, last_start)
 
 last-none : {X : Type 0} (penalties : Penalties) (sizes : X → Sizes) (xs : List X)
     → All (λ x. (sizes x).penalty ≡ 0) xs
@@ -105,10 +65,4 @@ pub IsDividedBy-one_line : {X : Type 0} (algorithm : Algorithm) (sizes : X → S
     → IsDividedBy algorithm sizes widths xs (xs ∷ [])
 IsDividedBy-one_line Greedy sizes widths xs none room = greedy_one sizes widths xs none room
 IsDividedBy-one_line {X = X} (LeastCost penalties) sizes widths xs none room =
-    let priced : X → PricedSizes = λ x. priced_at penalties (sizes x) in
-    let by = by_table_one priced penalties widths xs (last-none penalties sizes xs none) room in
-    record {
-      by_table = by;
-      chosen = λ equal. by_table-chosen priced penalties widths xs
-          (xs ∷ []) equal by;
-    }
+    search (by_table_one, last-none, by_table-chosen)

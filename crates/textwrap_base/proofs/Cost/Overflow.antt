@@ -1,11 +1,10 @@
 -- Where the table of fragments overflows, and where it does not.
 use Rattle.textwrap_base.proofs.Common.{◌≡◌, ℕ, zero, suc, ◌-◌, ◌^◌, ◌<◌, ◌≤◌, eqb, List, length}
-use Rattle.textwrap_base.proofs.Common.{get_or, take, min, All, ap, arith, Result, Ok, Err}
+use Rattle.textwrap_base.proofs.Common.{get_or, take, min, All, arith, Result, Ok, Err}
 use Rattle.textwrap_base.proofs.Common.{IsErrAnd, All-take, Sizes, line_width, PricedSizes}
 use Rattle.textwrap_base.proofs.Common.{total_width, Overflowed, AreAtMost, entry_at, line_costs}
 use Rattle.textwrap_base.proofs.Common.{fragments_table}
 use Rattle.textwrap_base.specs.Table.{table}
-use Rattle.textwrap_base.specs.declared.minima.table.Entry.{Entry}
 use Rattle.textwrap_base.specs.declared.errors.WrapError.{WrapError}
 use Rattle.textwrap_base.specs.declared.errors.WrapError.TheVariants.{Memory, Overflow}
 use Rattle.textwrap_base.specs.declared.penalties.Penalties.{Penalties}
@@ -17,19 +16,14 @@ use Rattle.textwrap_base.proofs.Cost.Bounds.{closed_width-le, line_cost-le, tota
 pub one_line : (cost : ℕ → ℕ → ℕ → ℕ) (n j : ℕ) → j < n
     → (entry_at (table cost n) (suc j)).cost ≤ cost 0 (suc j) 0
 one_line cost n j l =
-    let h = table-least cost n j l in
-    let least = h.least 0 (omega arith) in
-    let first = entry-table_first cost j in
-    let least' = rw first at least in omega (arith, least')
+    grind (arith, table-least, entry-table_first)
 
 -- where all widths together keep to 64 bits, each entry keeps to 128
 pub table-fits : {X : Type 0} (priced : X → PricedSizes) (p : Penalties) (widths : List ℕ)
     (xs : List X) → AreAtMost (2 ^ 64 - 1) p → All (λ x. (priced x).break_penalty ≤ 2 ^ 64 - 1) xs
     → ((i : ℕ) → get_or widths i 0 < 2 ^ 64) → total_width (λ x. (priced x).sizes) xs < 2 ^ 64
     → (j : ℕ) → j ≤ length xs → (entry_at (fragments_table priced p widths xs) j).cost < 2 ^ 128
-table-fits priced p widths xs h breaks k l zero b = let e =
-    ap (λ (x : Entry). x.cost) (entry-table_first (line_costs priced p widths xs) (length xs)) in
-    omega (arith, e)
+table-fits priced p widths xs h breaks k l zero b = grind (arith, entry-table_first)
 table-fits {X = X} priced p widths xs h breaks k l (suc j) b =
     let sizes : X → Sizes = λ x. (priced x).sizes in
     let one = one_line (line_costs priced p widths xs) (length xs) j b in

@@ -1,9 +1,9 @@
 -- Divisions by the starts of their lines, the last line first: the table follows the chosen one
 -- back.
-use Rattle.textwrap_base.proofs.Common.{◌≡◌, ℕ, zero, suc, ◌+◌, ◌<◌, ◌≤◌, ◌⊎◌, ◌≢◌, inl, inr, List}
-use Rattle.textwrap_base.proofs.Common.{[], ◌∷◌, length, get_or, map, refl, sym, ◌∙◌, ap, subst}
+use Rattle.textwrap_base.proofs.Common.{◌≡◌, ℕ, zero, suc, ◌+◌, ◌<◌, ◌≤◌, inl, inr, List}
+use Rattle.textwrap_base.proofs.Common.{[], ◌∷◌, length, get_or, map, refl, sym, ◌∙◌, subst}
 use Rattle.textwrap_base.proofs.Common.{arith, ⊤, get_or-map, cases_eq, AreNoLater, first_entry}
-use Rattle.textwrap_base.proofs.Common.{entry_from, entry_at, IsLeastBelow}
+use Rattle.textwrap_base.proofs.Common.{entry_at, IsLeastBelow}
 use Rattle.textwrap_base.specs.Table.{table, IsTable}
 use Rattle.textwrap_base.specs.declared.minima.table.Entry.{Entry}
 use Rattle.textwrap_base.proofs.Cost.Table.{length-table, entry-table_first}
@@ -33,13 +33,7 @@ IsSteady cost = (i j l m : ℕ) → 1 ≤ l → 1 ≤ m → cost i j l ≡ cost 
 least_entries : (cost : ℕ → ℕ → ℕ → ℕ) (entries others : List Entry) (end m : ℕ) (e : Entry)
     → ((i : ℕ) → i < m → entry_at entries i ≡ entry_at others i)
     → IsLeastBelow cost entries end m e → IsLeastBelow cost others end m e
-least_entries cost entries others end m e same h = record {
-  below = h.below;
-  from_start = h.from_start ∙ ap (λ (x : Entry). entry_from cost e.start x end)
-      (same e.start h.below);
-  least = λ i l. rw (← same i l) (h.least i l);
-  first = λ i l. let k : i < m = (let b = h.below in omega arith) in rw (← same i k) (h.first i l);
-}
+least_entries cost entries others end m e same h = grind arith
 
 pub table-is_table : (cost : ℕ → ℕ → ℕ → ℕ) (n : ℕ) → IsTable cost n (table cost n)
 table-is_table cost n = record {
@@ -56,54 +50,51 @@ table-is_table cost n = record {
         (λ i k. sym (entry-table_longer cost n j i (omega arith) (omega arith)))
         (table-least cost n j l)
 
-pub start-at : (cost : ℕ → ℕ → ℕ → ℕ) (n : ℕ) (entries : List Entry) → IsTable cost n entries
-    → (j : ℕ) → j ≤ n → get_or (map (λ (x : Entry). x.start) entries) j 0 ≡
-    (entry_at entries j).start
-start-at cost n entries is j l = let len = is.len in
-    get_or-map (λ (x : Entry). x.start) entries j first_entry 0 (omega arith)
+abbrev pub table_starts : (ℕ → ℕ → ℕ → ℕ) → ℕ → List ℕ
+table_starts cost n = map (λ (x : Entry). x.start) (table cost n)
+
+pub start-at : (cost : ℕ → ℕ → ℕ → ℕ) (n j : ℕ) → j ≤ n
+    → get_or (table_starts cost n) j 0 ≡ (entry_at (table cost n) j).start
+start-at cost n j l = get_or-map (λ (x : Entry). x.start) (table cost n) j first_entry 0
+    (omega (arith, length-table cost n))
 
 -- ---- what it follows
 
-module _ (cost : ℕ → ℕ → ℕ → ℕ) (n : ℕ) (entries : List Entry) (is : IsTable cost n entries)
-    (steady : IsSteady cost) where
+module _ (cost : ℕ → ℕ → ℕ → ℕ) (n : ℕ) (steady : IsSteady cost) where
+  abbrev entries : List Entry
+  entries = table cost n
+
+  is : IsTable cost n entries
+  is = table-is_table cost n
+
   -- a line costs the same after each division of the fragments before it
   cost_after : (rest : List ℕ) (i j : ℕ) → i ≤ n → AreStarts rest i
       → cost i j (length rest) ≡ cost i j (entry_at entries i).line_number
   cost_after [] i j l h = rw (h, is.first) refl
   cost_after (k ∷ rest) i j l (h, hs) =
-      let later = is.later i (omega arith) l in
-      let e = ap (λ (x : Entry). x.line_number) later.from_start in
-      steady i j (length (k ∷ rest)) (entry_at entries i).line_number (omega arith) (omega arith)
+      grind (arith, is)
 
   pub table_least : (starts : List ℕ) (j : ℕ) → j ≤ n → AreStarts starts j
       → (entry_at entries j).cost ≤ starts_cost starts cost j
   table_least [] j l h = rw (h, is.first) (omega arith)
   table_least (i ∷ rest) j l (h, hs) =
-      let later = is.later j (omega arith) l in
-      let least = later.least i h in
-      let after = cost_after rest i j (omega arith) hs in
-      let before = table_least rest i (omega arith) hs in omega (arith, least, after, before)
+      grind (arith, is, cost_after, table_least rest i (omega arith) hs)
 
   pub table_followed : (starts : List ℕ) (j : ℕ) → j ≤ n → AreStarts starts j
-      → FollowBack starts (map (λ (x : Entry). x.start) entries) j
+      → FollowBack starts (table_starts cost n) j
       → starts_cost starts cost j ≡ (entry_at entries j).cost
   table_followed [] j l h f = rw (h, is.first) refl
   table_followed (i ∷ rest) j l (h, hs) (f, fs) =
-      let later = is.later j (omega arith) l in
-      let start = sym (start-at cost n entries is j l) ∙ f in
-      let e = ap (λ (x : Entry). x.cost) later.from_start in
-      let e' = e ∙ ap (λ s. (entry_from cost s (entry_at entries s) j).cost) start in
-      let after = cost_after rest i j (omega arith) hs in
-      let before = table_followed rest i (omega arith) hs fs in omega (arith, e', after, before)
+      grind (arith, is, start-at, cost_after, table_followed rest i (omega arith) hs fs)
 
   pub table_earliest : (starts others : List ℕ) (j : ℕ) → j ≤ n → AreStarts starts j
-      → FollowBack starts (map (λ (x : Entry). x.start) entries) j → AreStarts others j
+      → FollowBack starts (table_starts cost n) j → AreStarts others j
       → starts_cost others cost j ≡ (entry_at entries j).cost → AreNoLater starts others
   table_earliest [] others j l h f o e = tt
   table_earliest (s ∷ rest) [] j l (h, hs) f o e = absurd (omega arith)
   table_earliest (s ∷ rest) (i ∷ others) j l (h, hs) (f, fs) (o, os) e =
       let later = is.later j (omega arith) l in
-      let start = sym (start-at cost n entries is j l) ∙ f in
+      let start = sym (start-at cost n j l) ∙ f in
       let after = cost_after others i j (omega arith) os in
       let before = table_least others i (omega arith) os in
       let no_less : i < s → ⊥ = λ k. let dearer = later.first i (omega (arith, start, k)) in
@@ -111,17 +102,18 @@ module _ (cost : ℕ → ℕ → ℕ → ℕ) (n : ℕ) (entries : List Entry) (
       let least = later.least i o in
       let same : starts_cost others cost i ≡ (entry_at entries i).cost =
       omega (arith, least, after, before, e) in
-      by_start s i (cases_eq s i) no_less (λ q. table_earliest rest others s (omega arith) hs fs
-      (subst (λ k. AreStarts others k) (sym q) os) (rw q same))
-    where
-      by_start : (s i : ℕ) → (s ≡ i) ⊎ (s ≢ i) → (i < s → ⊥) → (s ≡ i → AreNoLater rest others)
-          → (s < i) ⊎ ((s ≡ i) × AreNoLater rest others)
-      by_start s i (inl q) no_less next = inr (q, next q)
-      by_start s i (inr ne) no_less next = inl (omega arith)
+      elim (cases_eq s i) [
+        | inl q ↦ inr (
+          q,
+          table_earliest rest others s (omega arith) hs fs
+              (subst (λ k. AreStarts others k) (sym q) os) (rw q same),
+        )
+        | inr ne ↦ inl (omega arith)
+      ]
 
   -- the starts that the table gives for each end
-  starts_upto : (bound j : ℕ) → j ≤ bound → j ≤ n → (starts : List ℕ) × AreStarts starts j
-      × FollowBack starts (map (λ (x : Entry). x.start) entries) j
+  starts_upto : (bound j : ℕ) → j ≤ bound → j ≤ n
+      → (starts : List ℕ) × AreStarts starts j × FollowBack starts (table_starts cost n) j
   starts_upto bound zero b l = ([], refl, tt)
   starts_upto zero (suc j) b l = absurd (omega arith)
   starts_upto (suc bound) (suc j) b l =
@@ -131,9 +123,9 @@ module _ (cost : ℕ → ℕ → ℕ → ℕ) (n : ℕ) (entries : List Entry) (
       (omega arith) in (
         (entry_at entries (suc j)).start ∷ rest,
         (below, h),
-        (start-at cost n entries is (suc j) l, f),
+        (start-at cost n (suc j) l, f),
       )
 
-  pub starts_to : (j : ℕ) → j ≤ n → (starts : List ℕ) × AreStarts starts j
-      × FollowBack starts (map (λ (x : Entry). x.start) entries) j
+  pub starts_to : (j : ℕ) → j ≤ n
+      → (starts : List ℕ) × AreStarts starts j × FollowBack starts (table_starts cost n) j
   starts_to j l = starts_upto j j (omega arith) l

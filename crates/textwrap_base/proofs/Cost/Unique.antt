@@ -1,8 +1,7 @@
 -- Only one division is the chosen one, and only one follows the table.
-use Rattle.textwrap_base.proofs.Common.{◌≡◌, ℕ, ◌+◌, inl, inr, List, [], ◌∷◌, length, get_or, take}
-use Rattle.textwrap_base.proofs.Common.{drop, map, reverse, refl, sym, ◌∙◌, ap, subst, arith}
-use Rattle.textwrap_base.proofs.Common.{append-nil, take_at, drop_at, PricedSizes, AreNoLater}
-use Rattle.textwrap_base.proofs.Common.{fragments_table, IsByTable}
+use Rattle.textwrap_base.proofs.Common.{◌≡◌, ℕ, ◌+◌, inl, inr, List, [], ◌∷◌, length, get_or, drop}
+use Rattle.textwrap_base.proofs.Common.{map, reverse, refl, sym, ◌∙◌, ap, subst, arith, append-nil}
+use Rattle.textwrap_base.proofs.Common.{PricedSizes, AreNoLater, fragments_table, IsByTable}
 use Rattle.std.proofs.lemmas.List.{reverse-reverse}
 use Rattle.textwrap_base.specs.Cost.{starts_from, IsChosen}
 use Rattle.textwrap_base.specs.declared.penalties.Penalties.{Penalties}
@@ -10,6 +9,7 @@ use Rattle.textwrap_base.specs.declared.minima.table.Entry.{Entry}
 use Rattle.textwrap_base.proofs.Cost.Begun.{begin_starts, begin_follow}
 use Rattle.textwrap_base.proofs.Cost.Chosen.{whole}
 use Rattle.textwrap_base.proofs.Cost.Lines.{starts_back, joined}
+use Rattle.textwrap_base.proofs.Lists.Parts.{same_parts}
 use Rattle.textwrap_base.proofs.Cost.Starts.{AreStarts, FollowBack}
 
 starts_same : (starts others : List ℕ) → AreNoLater starts others → AreNoLater others starts
@@ -30,24 +30,17 @@ lines_same [] [] at s j = refl
 lines_same [] (o ∷ others) at s j = cc
 lines_same (l ∷ lines) [] at s j = cc
 lines_same (l ∷ []) (o ∷ []) at s j = ap (λ x. x ∷ []) (sym (append-nil l) ∙ j ∙ append-nil o)
-lines_same (l ∷ []) (o ∷ p ∷ others) at s j = let t = ap (λ (x : List ℕ). length (drop 1 x)) s in
-    absurd (omega (arith, t))
-lines_same (l ∷ m ∷ lines) (o ∷ []) at s j = let t = ap (λ (x : List ℕ). length (drop 1 x)) s in
-    absurd (omega (arith, t))
+lines_same (l ∷ []) (o ∷ p ∷ others) at s j = cc
+lines_same (l ∷ m ∷ lines) (o ∷ []) at s j = cc
 lines_same (l ∷ m ∷ lines) (o ∷ p ∷ others) at s j =
     let t : starts_from (at + length l) (m ∷ lines) ≡ starts_from (at + length o) (p ∷ others) =
     ap (λ (x : List ℕ). drop 1 x) s in
     let n = ap (λ (x : List ℕ). get_or x 0 0) t in
     let len : length l ≡ length o = omega (arith, n) in
-    let first : l ≡ o = sym (take_at l (joined (m ∷ lines)) (length l) refl)
-    ∙ ap (take (length l)) j ∙ take_at o (joined (p ∷ others)) (length l) (sym len) in
-    let rest : joined (m ∷ lines) ≡ joined (p ∷ others) =
-    sym (drop_at l (joined (m ∷ lines)) (length l) refl) ∙ ap (drop (length l)) j
-    ∙ drop_at o (joined (p ∷ others)) (length l) (sym len) in
+    let parts = same_parts l o (joined (m ∷ lines)) (joined (p ∷ others)) j len in
     let next = lines_same (m ∷ lines) (p ∷ others) (at + length l)
-    (t ∙ ap (λ k. starts_from k (p ∷ others))
-    (let e : at + length o ≡ at + length l = omega arith in e)) rest in
-    ap (λ x. x ∷ (m ∷ lines)) first ∙ ap (λ x. o ∷ x) next
+    (t ∙ ap (λ k. starts_from (at + k) (p ∷ others)) (sym len)) parts.1 in
+    ap (λ x. x ∷ (m ∷ lines)) parts.0 ∙ ap (λ x. o ∷ x) next
 
 -- so do the starts from the last line back
 lines_back_same : {X : Type 0} (lines others : List (List X)) → starts_back lines ≡ starts_back others
@@ -62,11 +55,7 @@ pub chosen_one : {X : Type 0} (priced : X → PricedSizes) (penalties : Penaltie
     → lines ≡ others
 chosen_one priced penalties widths [] lines others h k = h.division ∙ sym k.division
 chosen_one priced penalties widths (x ∷ xs) lines others h k =
-    let p = h.least others k.division in
-    let q = k.least lines h.division in
-    let back = starts_same (starts_back lines) (starts_back others)
-    (h.earliest others k.division (omega arith)) (k.earliest lines h.division (omega arith)) in
-    lines_back_same lines others back (h.division.0 ∙ sym k.division.0)
+    grind (arith, starts_same, lines_back_same)
 
 -- ---- only one division follows the table
 
@@ -94,8 +83,8 @@ by_table_one priced penalties widths (x ∷ xs) lines others h k =
     let (other_tiles, other_some) = whole all others (omega arith) k.division in
     lines_back_same lines others
     (follow_one (starts_back lines) (starts_back others) follow n
-    (begin_starts priced penalties widths all lines n (omega arith) tiles some)
-    (begin_starts priced penalties widths all others n (omega arith) other_tiles other_some)
-    (begin_follow priced penalties widths all lines n follow (omega arith) tiles h.starts)
-    (begin_follow priced penalties widths all others n follow (omega arith) other_tiles k.starts))
+    (begin_starts all lines n (omega arith) tiles some)
+    (begin_starts all others n (omega arith) other_tiles other_some)
+    (begin_follow all lines n (omega arith) tiles follow h.starts)
+    (begin_follow all others n (omega arith) other_tiles follow k.starts))
     (h.division.0 ∙ sym k.division.0)

@@ -1,7 +1,7 @@
 -- No division whose lines all fit has fewer lines than the greedy one.
 use Rattle.textwrap_base.proofs.Common.{◌≡◌, ◌≢◌, ℕ, ◌+◌, ◌≤◌, List, [], ◌∷◌, ◌++◌, length, drop}
 use Rattle.textwrap_base.proofs.Common.{All, refl, sym, ap, ◌∙◌, arith, length-append, append_assoc}
-use Rattle.textwrap_base.proofs.Common.{drop_at, All-head, All-tail, Sizes, line_width, AllFit}
+use Rattle.textwrap_base.proofs.Common.{drop_at, All-head, All-tail, Sizes, AllFit}
 use Rattle.textwrap_base.proofs.Common.{AllFull, IsGreedy}
 use Rattle.std.proofs.lemmas.List.{drop-append-le}
 use Rattle.textwrap_base.specs.Division.{IsAdmissible}
@@ -30,16 +30,13 @@ module _ {X : Type 0} (sizes : X → Sizes) (widths : List ℕ) where
       let whole : other ++ flat others ≡ (before ++ line) ++ flat (next ∷ lines) =
       same ∙ sym (append_assoc before line (flat (next ∷ lines))) in
       let within : length other ≤ length (before ++ line) =
-      full_line_ends_last sizes (line_width widths number) before line next (flat lines) other
-      (flat others) whole (All-head (λ l. l ≢ []) line (next ∷ lines) some)
-      (All-head (λ l. l ≢ []) next lines later) full.0 fit.0 in
+      search (full_line_ends_last, All-head) in
       let left : flat others ≡ drop (length other) (before ++ line) ++ flat (next ∷ lines) =
       sym (drop_at other (flat others) (length other) refl) ∙ ap (drop (length other)) whole
       ∙ drop-append-le (length other) (before ++ line) (flat (next ∷ lines)) within in
-      let rest : length (next ∷ lines) ≤ length others =
-      fewest_from (number + 1) (drop (length other) (before ++ line)) (next ∷ lines) others
-      left later full.1 fit.1 in
-      omega (arith, rest)
+      let again = fewest_from (number + 1) (drop (length other) (before ++ line)) (next ∷ lines)
+      others left later full.1 fit.1 in
+      grind arith
 
   pub greedy_fewest : (xs : List X) (lines others : List (List X))
       → IsGreedy sizes widths xs lines → IsAdmissible sizes widths xs others

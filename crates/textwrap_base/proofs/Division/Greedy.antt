@@ -1,11 +1,11 @@
 -- Lemmas on lines that fit, and on greedy divisions.
 use Rattle.textwrap_base.proofs.Common.{◌≡◌, ◌≢◌, ℕ, suc, ◌+◌, ◌<◌, ◌≤◌, List, [], ◌∷◌, ◌++◌}
-use Rattle.textwrap_base.proofs.Common.{length, get_or, take, drop, refl, sym, ap, ◌∙◌, subst}
-use Rattle.textwrap_base.proofs.Common.{arith, ⊎_elim, add-zero, length-drop, length-append}
+use Rattle.textwrap_base.proofs.Common.{length, get_or, take, drop, refl, sym, ap, ◌∙◌}
+use Rattle.textwrap_base.proofs.Common.{arith, inl, inr, add-zero, length-drop, length-append}
 use Rattle.textwrap_base.proofs.Common.{take-append-drop, append_assoc, All, flat_map}
 use Rattle.textwrap_base.proofs.Common.{take-append-add, take_all, take_more, take-append-le}
 use Rattle.textwrap_base.proofs.Common.{length_push, length-take-le, nil_from_length, get_or-drop}
-use Rattle.textwrap_base.proofs.Common.{All-nil, All-cons, All-head, cases_lt, Sizes, line_width}
+use Rattle.textwrap_base.proofs.Common.{All-nil, All-head, cases_lt, Sizes, line_width}
 use Rattle.textwrap_base.proofs.Common.{closed_width, Fits, AllFit, AllFull, IsGreedy}
 use Rattle.textwrap_base.proofs.Lists.Parts.{some_from_nonempty}
 use Rattle.textwrap_base.proofs.Division.Widths.{take_one_more}
@@ -15,28 +15,14 @@ module _ {X : Type 0} (sizes : X → Sizes) where
   pub Fits-push : (width : ℕ) (xs : List X) (x : X) → Fits sizes width xs
       → (0 < length xs → closed_width sizes (xs ++ x ∷ []) ≤ width)
       → Fits sizes width (xs ++ x ∷ [])
-  Fits-push width xs x fits more k two within =
-      let len : length (xs ++ x ∷ []) ≡ length xs + 1 = length_push xs x in
-      ⊎_elim
-      (λ (before : k < length xs + 1).
-      let inside : k ≤ length xs = omega arith in
-      subst (λ line. closed_width sizes line ≤ width) (sym (take-append-le k xs (x ∷ []) inside))
-      (fits k two inside))
-      (λ (whole : length xs + 1 ≤ k).
-      let all : length (xs ++ x ∷ []) ≤ k = omega arith in
-      subst (λ line. closed_width sizes line ≤ width) (sym (take_all k (xs ++ x ∷ []) all))
-      (more (omega arith)))
-      (cases_lt k (length xs + 1))
+  Fits-push width xs x fits more k two within = grind (arith, take-append-le, length_push, take_all)
 
   pub Fits-take : (width : ℕ) (xs : List X) (i : ℕ) (x : X) → i < length xs → x ≡ get_or xs i x
       → Fits sizes width (take i xs)
       → (0 < i → closed_width sizes (take (i + 1) xs) ≤ width) → Fits sizes width (take (i + 1) xs)
   Fits-take width xs i x within is fits more =
       let one_more = take_one_more sizes xs i x within is in
-      let len : length (take i xs) ≡ i = length-take-le i xs (omega arith) in
-      subst (Fits sizes width) (sym one_more)
-      (Fits-push width (take i xs) x fits
-      (λ some. subst (λ line. closed_width sizes line ≤ width) one_more (more (omega arith))))
+      grind (arith, length-take-le, Fits-push)
 
   -- the end of a line closes within the whole
   pub closed_width-end : (before line : List X)
@@ -56,20 +42,19 @@ module _ {X : Type 0} (sizes : X → Sizes) where
   full_line_ends_last width before line [] rest other others same some more full fits =
       absurd (more refl)
   full_line_ends_last width before line (x ∷ next) rest other others same some more full fits =
-      ⊎_elim
-      (λ (past : length (before ++ line) < length other).
-      let n : ℕ = length (before ++ line) + 1 in
-      let two : 2 ≤ n = omega (arith, length-append before line, some_from_nonempty line some) in
-      let front : before ++ (line ++ x ∷ []) ≡ take n other =
-      sym (append_assoc before line (x ∷ []))
-      ∙ sym (take-append-add (before ++ line) ((x ∷ next) ++ rest) 1)
-      ∙ ap (take n) (sym same) ∙ take-append-le n other others (omega arith) in
-      let within : closed_width sizes (before ++ (line ++ x ∷ [])) ≤ width =
-      subst (λ l. closed_width sizes l ≤ width) (sym front) (fits n two (omega arith)) in
-      let end = closed_width-end before (line ++ x ∷ []) in
-      absurd (omega (arith, within, end, full)))
-      (λ (within : length other ≤ length (before ++ line)). within)
-      (cases_lt (length (before ++ line)) (length other))
+      elim (cases_lt (length (before ++ line)) (length other)) [
+        | inl past ↦
+            let n : ℕ = length (before ++ line) + 1 in
+            let two : 2 ≤ n = omega (arith, length-append before line, some_from_nonempty line some)
+            in
+            let front : take n other ≡ before ++ (line ++ x ∷ []) =
+            sym (take-append-le n other others (omega arith)) ∙ ap (take n) same
+            ∙ take-append-add (before ++ line) ((x ∷ next) ++ rest) 1
+            ∙ append_assoc before line (x ∷ []) in
+            let within = rw front at (fits n two (omega arith)) in
+            absurd (omega (arith, within, closed_width-end before (line ++ x ∷ []), full))
+        | inr within ↦ within
+      ]
 
 -- a greedy division of the fragments that are left, from a line's number on; none are left by no
 -- lines
@@ -84,12 +69,7 @@ module _ {X : Type 0} (sizes : X → Sizes) (widths : List ℕ) where
   pub IsGreedyFrom-nil : (number : ℕ) (xs : List X) → length xs ≡ 0
       → IsGreedyFrom sizes widths number xs []
   IsGreedyFrom-nil number xs empty =
-      record {
-        whole = sym (nil_from_length xs empty);
-        nonempty = All-nil (λ line. line ≢ []);
-        fit = tt;
-        full = tt;
-      }
+      grind (arith, nil_from_length, All-nil)
 
   full-cons : (number : ℕ) (xs : List X) (n : ℕ)
       → (n < length xs → line_width widths number < closed_width sizes (take (n + 1) xs))
@@ -105,9 +85,7 @@ module _ {X : Type 0} (sizes : X → Sizes) (widths : List ℕ) where
       let within : n < length xs = omega (arith, length-drop n xs) in
       let at : get_or xs n x ≡ x = ap (λ m. get_or xs m x) (sym (add-zero n))
       ∙ sym (get_or-drop n xs 0 x) ∙ ap (λ l. get_or l 0 x) (sym whole) in
-      let next : take (n + 1) xs ≡ take n xs ++ x ∷ [] = take_more xs n x within
-      ∙ ap (λ y. take n xs ++ y ∷ []) at in
-      (subst (λ l. line_width widths number < closed_width sizes l) next (full within), tail)
+      (rw (take_more xs n x within, at) at (full within), tail)
 
   pub IsGreedyFrom-cons : (number : ℕ) (xs : List X) (n : ℕ) → 0 < n → n ≤ length xs
       → Fits sizes (line_width widths number) (take n xs)
@@ -115,19 +93,11 @@ module _ {X : Type 0} (sizes : X → Sizes) (widths : List ℕ) where
       → (tail : List (List X))
       → IsGreedyFrom sizes widths (number + 1) (drop n xs) tail
       → IsGreedyFrom sizes widths number xs (take n xs ∷ tail)
-  IsGreedyFrom-cons number xs n some within fits full tail rest = record {
-    whole = ap (λ l. take n xs ++ l) rest.whole ∙ take-append-drop n xs;
-    nonempty = All-cons (λ line. line ≢ []) (take n xs) tail
-        (λ e. absurd (omega (arith, ap length e, length-take-le n xs within))) rest.nonempty;
-    fit = (fits, rest.fit);
-    full = full-cons number xs n full tail rest.whole rest.nonempty rest.full;
-  }
+  IsGreedyFrom-cons number xs n some within fits full tail rest =
+      grind (arith, take-append-drop, full-cons)
 
   pub IsGreedy-from : (xs : List X) (lines : List (List X)) → 0 < length xs
       → IsGreedyFrom sizes widths 0 xs lines → IsGreedy sizes widths xs lines
   IsGreedy-from [] lines some greedy = absurd (omega arith)
   IsGreedy-from (x ∷ xs) lines some greedy =
-      record {
-        admissible = record { division = (greedy.whole, greedy.nonempty); fit = greedy.fit };
-        full = greedy.full;
-      }
+      grind arith

@@ -4,7 +4,7 @@ use Rattle.textwrap_base.proofs.Common.{◌≡◌, ℕ, ◌+◌, ◌<◌, ◌≤
 use Rattle.textwrap_base.proofs.Common.{if◌then◌else◌, List, [], ◌∷◌, ◌++◌, length, take, refl, sym}
 use Rattle.textwrap_base.proofs.Common.{ap, ◌∙◌, subst, arith, append_assoc, append-nil, and_from}
 use Rattle.textwrap_base.proofs.Common.{and_right, lt-ltb, le-ltb, cond_both, length_push, take_at}
-use Rattle.textwrap_base.proofs.Common.{Sizes, closed_width, Fits}
+use Rattle.textwrap_base.proofs.Common.{Sizes, closed_width, Fits, length-append}
 use Rattle.std.proofs.lemmas.Bool.{cond-true, cond-false}
 
 module _ {X : Type 0} (sizes : X → Sizes) where
@@ -28,11 +28,7 @@ module _ {X : Type 0} (sizes : X → Sizes) where
       subst (λ l. closed_width sizes l ≤ width)
       (ap (take (length line + 1)) (sym (append_assoc line (x ∷ []) xs))
       ∙ take_at (line ++ x ∷ []) xs (length line + 1) len)
-      (fits (length line + 1) (omega (arith, some)) (omega (arith, some_more line x xs)))
-    where
-      some_more : (line : List X) (x : X) (xs : List X) → length line + 1 ≤ length (line ++ x ∷ xs)
-      some_more [] x xs = omega arith
-      some_more (y ∷ line) x xs = omega (arith, some_more line x xs)
+      (fits (length line + 1) (omega (arith, some)) (omega (arith, length-append line (x ∷ xs))))
 
 module _ {X : Type 0} (sizes : X → Sizes) (later : ℕ) where
   -- the lines of the fragments that are left, after those on a line so far: that line has a width
@@ -47,18 +43,13 @@ module _ {X : Type 0} (sizes : X → Sizes) (later : ℕ) where
       → width < closed_width sizes (line ++ x ∷ [])
       → grown width (x ∷ xs) line ≡ line ∷ grown later xs (x ∷ [])
   grown-full width x xs line some over =
-      cond-true (is_full sizes width line x) (line ∷ grown later xs (x ∷ []))
-      (grown width xs (line ++ x ∷ []))
-      (and_from _ _ (lt-ltb 0 (length line) some)
-      (lt-ltb width (closed_width sizes (line ++ x ∷ [])) over))
+      search (cond-true, and_from, lt-ltb)
 
   pub grown-room : (width : ℕ) (x : X) (xs line : List X)
       → (0 < length line → closed_width sizes (line ++ x ∷ []) ≤ width)
       → grown width (x ∷ xs) line ≡ grown width xs (line ++ x ∷ [])
   grown-room width x xs line room =
-      cond-false (is_full sizes width line x) (line ∷ grown later xs (x ∷ []))
-      (grown width xs (line ++ x ∷ []))
-      (not_full sizes width x line room)
+      search (cond-false, not_full)
 
   abbrev Begins : List X → List (List X) → Type 0
   Begins line lines = (more : List X) × (rest : List (List X)) × (lines ≡ (line ++ more) ∷ rest)
@@ -71,6 +62,4 @@ module _ {X : Type 0} (sizes : X → Sizes) (later : ℕ) where
       cond_both (is_full sizes width line x) (line ∷ next) (grown width xs (line ++ x ∷ []))
       (Begins line)
       (λ full. ([], next, ap (λ l. l ∷ next) (sym (append-nil line))))
-      (λ room.
-      let (more, rest, is) = grown-begins width xs (line ++ x ∷ []) in
-      (x ∷ more, rest, is ∙ ap (λ l. l ∷ rest) (append_assoc line (x ∷ []) more)))
+      (grind (arith, append_assoc, grown-begins width xs (line ++ x ∷ [])))

@@ -1,8 +1,8 @@
 -- A division of fragments is one of what a function makes of them.
-use Rattle.textwrap_base.proofs.Common.{◌≡◌, ◌≢◌, ℕ, ◌+◌, ◌<◌, ◌≤◌, List, [], ◌∷◌, ◌++◌, take, map}
-use Rattle.textwrap_base.proofs.Common.{All, refl, sym, ap, ◌∙◌, subst, arith, length, flat_map}
-use Rattle.textwrap_base.proofs.Common.{map-append, length-map, take-map, All-nil, All-cons}
-use Rattle.textwrap_base.proofs.Common.{All-head, All-tail, Sizes, line_width, closed_width}
+use Rattle.textwrap_base.proofs.Common.{◌≡◌, ◌≢◌, ℕ, ◌+◌, ◌<◌, List, [], ◌∷◌, ◌++◌, take, map}
+use Rattle.textwrap_base.proofs.Common.{All, refl, sym, ap, ◌∙◌, arith, length, flat_map}
+use Rattle.textwrap_base.proofs.Common.{map-append, length-map, take-map}
+use Rattle.textwrap_base.proofs.Common.{All-map, get_or, Sizes, line_width, closed_width}
 use Rattle.textwrap_base.proofs.Common.{IsDivision, Fits, AllFit, AllFull, IsGreedy, priced_at}
 use Rattle.textwrap_base.specs.Algorithms.{Algorithm, Greedy, LeastCost, IsDividedBy}
 use Rattle.textwrap_base.proofs.Division.Widths.{closed_width-map}
@@ -12,9 +12,8 @@ module _ {X Y : Type 0} (f : X → Y) (sizes : Y → Sizes) where
   Fits-map : (width : ℕ) (line : List X) → Fits (λ x. sizes (f x)) width line
       → Fits sizes width (map f line)
   Fits-map width line fits k two within =
-      subst (λ n. n ≤ width) (sym (ap (closed_width sizes) (take-map f k line)
-      ∙ closed_width-map f sizes (take k line)))
-      (fits k two (subst (λ n. k ≤ n) (length-map line f) within))
+      rw (take-map f k line, closed_width-map f sizes (take k line))
+      (fits k two (omega (arith, length-map line f)))
 
   AllFit-map : (widths : List ℕ) (number : ℕ) (lines : List (List X))
       → AllFit (λ x. sizes (f x)) widths number lines
@@ -27,22 +26,19 @@ module _ {X Y : Type 0} (f : X → Y) (sizes : Y → Sizes) where
       → width < closed_width (λ x. sizes (f x)) (line ++ take 1 next)
       → width < closed_width sizes (map f line ++ take 1 (map f next))
   full-map width line next full =
-      subst (λ n. width < n)
-      (sym (ap (λ l. closed_width sizes (map f line ++ l)) (take-map f 1 next)
-      ∙ ap (closed_width sizes) (sym (map-append f line (take 1 next)))
-      ∙ closed_width-map f sizes (line ++ take 1 next)))
-      full
+      rw (
+        take-map f 1 next,
+        ← map-append f line (take 1 next),
+        closed_width-map f sizes (line ++ take 1 next),
+      ) full
 
   AllFull-map : (widths : List ℕ) (number : ℕ) (lines : List (List X))
       → AllFull (λ x. sizes (f x)) widths number lines
       → AllFull sizes widths number (map (map f) lines)
   AllFull-map widths number [] full = tt
   AllFull-map widths number (line ∷ []) full = tt
-  AllFull-map widths number (line ∷ next ∷ lines) full = (
-    full-map (line_width widths number) line next full.0,
-    AllFull-map widths (number + 1)
-        (next ∷ lines) full.1,
-  )
+  AllFull-map widths number (line ∷ next ∷ lines) full =
+      search (full-map, AllFull-map widths (number + 1) (next ∷ lines) full.1)
 
   join-map : (lines : List (List X))
       → flat_map (λ line. line) (map (map f) lines) ≡ map f (flat_map (λ line. line) lines)
@@ -56,11 +52,8 @@ module _ {X Y : Type 0} (f : X → Y) (sizes : Y → Sizes) where
 
   all_nonempty-map : (lines : List (List X)) → All (λ line. line ≢ []) lines
       → All (λ line. line ≢ []) (map (map f) lines)
-  all_nonempty-map [] all = All-nil (λ line. line ≢ [])
-  all_nonempty-map (line ∷ lines) all =
-      All-cons (λ line. line ≢ []) (map f line) (map (map f) lines)
-      (nonempty-map line (All-head (λ line. line ≢ []) line lines all))
-      (all_nonempty-map lines (All-tail (λ line. line ≢ []) line lines all))
+  all_nonempty-map lines all = All-map (λ line. line ≢ []) (map f) lines
+      (λ k d l. nonempty-map (get_or lines k d) (all k d l))
 
   pub IsDivision-map : (xs : List X) (lines : List (List X)) → IsDivision xs lines
       → IsDivision (map f xs) (map (map f) lines)
@@ -71,14 +64,7 @@ module _ {X Y : Type 0} (f : X → Y) (sizes : Y → Sizes) where
   pub IsGreedy-map : (widths : List ℕ) (xs : List X) (lines : List (List X))
       → IsGreedy (λ x. sizes (f x)) widths xs lines
       → IsGreedy sizes widths (map f xs) (map (map f) lines)
-  IsGreedy-map widths xs lines greedy = record {
-    admissible =
-        record {
-          division = IsDivision-map xs lines greedy.admissible.division;
-          fit = AllFit-map widths 0 lines greedy.admissible.fit;
-        };
-    full = AllFull-map widths 0 lines greedy.full;
-  }
+  IsGreedy-map widths xs lines greedy = search (IsDivision-map, AllFit-map, AllFull-map)
 
   pub IsDividedBy-map : (algorithm : Algorithm) (widths : List ℕ) (xs : List X)
       (lines : List (List X)) → IsDividedBy algorithm (λ x. sizes (f x)) widths xs lines

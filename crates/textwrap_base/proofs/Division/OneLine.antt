@@ -1,16 +1,11 @@
 -- Fragments without penalties, for which the first line has room, are one line by first fit.
-use Rattle.textwrap_base.proofs.Common.{◌≡◌, ◌≢◌, ℕ, zero, suc, ◌≤◌, List, [], ◌∷◌, length, take}
-use Rattle.textwrap_base.proofs.Common.{All, refl, ap, arith, append-nil, All-nil, All-cons}
-use Rattle.textwrap_base.proofs.Common.{All-head, All-tail, Sizes, line_width, closed_width}
-use Rattle.textwrap_base.proofs.Common.{IsDivision, IsGreedy}
+use Rattle.textwrap_base.proofs.Common.{◌≡◌, ℕ, zero, suc, ◌≤◌, List, [], ◌∷◌, take, All, refl}
+use Rattle.textwrap_base.proofs.Common.{arith, append-nil, All-nil, All-cons, All-head, All-tail}
+use Rattle.textwrap_base.proofs.Common.{Sizes, line_width, closed_width, IsDivision, IsGreedy}
 
 pub division_one : {X : Type 0} (xs : List X) → IsDivision xs (xs ∷ [])
 division_one [] = refl
-division_one (x ∷ xs) = (
-  append-nil (x ∷ xs),
-  All-cons (λ line. line ≢ []) (x ∷ xs) []
-      (λ none. absurd (omega (arith, ap length none))) (All-nil (λ line. line ≢ [])),
-)
+division_one (x ∷ xs) = grind (arith, append-nil, All-cons, All-nil)
 
 -- ---- first fit
 
@@ -33,15 +28,4 @@ module _ {X : Type 0} (sizes : X → Sizes) where
 
   pub greedy_one : (widths : List ℕ) (xs : List X) → All HasNone xs
       → closed_width sizes xs ≤ line_width widths 0 → IsGreedy sizes widths xs (xs ∷ [])
-  greedy_one widths xs none room = record {
-    admissible =
-        record {
-          division = division_one xs;
-          fit = (
-            λ k two within. let part = closed-take xs k none in
-                omega (arith, part, room),
-            tt,
-          );
-        };
-    full = tt;
-  }
+  greedy_one widths xs none room = grind (arith, division_one, closed-take)

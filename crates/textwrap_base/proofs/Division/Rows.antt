@@ -2,7 +2,8 @@
 use Rattle.textwrap_base.proofs.Common.{◌≡◌, ◌≢◌, ℕ, ◌<◌, ◌≤◌, List, [], ◌∷◌, refl, arith, All-head}
 use Rattle.textwrap_base.proofs.Common.{Sizes, default_penalties, priced_at, division_cost}
 use Rattle.textwrap_base.proofs.Common.{line_width, closed_width, IsDivision, IsGreedy}
-use Rattle.textwrap_base.proofs.Division.GreedyTest.{IsGreedy-from_test}
+use Rattle.textwrap_base.proofs.Division.GrownLines.{grown-greedy, greedy_at}
+use Rattle.textwrap_base.proofs.Division.SameWidths.{line_width-later}
 
 -- ---- the width of a line
 
@@ -69,35 +70,31 @@ IsGreedy-not_room_left : IsGreedy itself (10 ∷ []) (sized 5 0 0 ∷ sized 5 0 
 IsGreedy-not_room_left greedy = let full : 10 < 10 = greedy.full.0 in omega arith
 
 IsGreedy-none : (widths : List ℕ) → IsGreedy itself widths [] ([] ∷ [])
-IsGreedy-none widths =
-    record {
-      admissible = record {
-        division = refl;
-        fit = (λ k two none. absurd (omega arith), tt);
-      };
-      full = tt;
-    }
+IsGreedy-none widths = record {
+  admissible = record { division = refl; fit = (λ k two none. absurd (omega arith), tt) };
+  full = tt;
+}
 
 IsGreedy-before_penalty : IsGreedy itself (10 ∷ []) (sized 5 0 0 ∷ sized 5 0 5 ∷ sized 0 0 0 ∷ [])
     ((sized 5 0 0 ∷ []) ∷ (sized 5 0 5 ∷ sized 0 0 0 ∷ []) ∷ [])
-IsGreedy-before_penalty = IsGreedy-from_test _ _ _ refl refl
+IsGreedy-before_penalty = greedy_at itself 10 _
 
 IsGreedy-exact_fit : IsGreedy itself (11 ∷ []) (sized 5 1 0 ∷ sized 5 9 0 ∷ [])
     ((sized 5 1 0 ∷ sized 5 9 0 ∷ []) ∷ [])
-IsGreedy-exact_fit = IsGreedy-from_test _ _ _ refl refl
+IsGreedy-exact_fit = greedy_at itself 11 _
 
 IsGreedy-two_widths : IsGreedy itself (5 ∷ 11 ∷ [])
     (sized 5 1 0 ∷ sized 5 1 0 ∷ sized 5 1 0 ∷ sized 5 1 0 ∷ [])
     ((sized 5 1 0 ∷ []) ∷ (sized 5 1 0 ∷ sized 5 1 0 ∷ []) ∷ (sized 5 1 0 ∷ []) ∷ [])
-IsGreedy-two_widths = IsGreedy-from_test _ _ _ refl refl
+IsGreedy-two_widths = grown-greedy itself 11 (5 ∷ 11 ∷ []) (λ number. line_width-later 5 11 number) 5 refl _
 
 IsGreedy-wide_fragment : IsGreedy itself (10 ∷ []) (sized 12 1 3 ∷ sized 1 0 0 ∷ [])
     ((sized 12 1 3 ∷ []) ∷ (sized 1 0 0 ∷ []) ∷ [])
-IsGreedy-wide_fragment = IsGreedy-from_test _ _ _ refl refl
+IsGreedy-wide_fragment = greedy_at itself 10 _
 
 IsGreedy-no_widths : IsGreedy itself [] (sized 0 0 0 ∷ sized 0 0 0 ∷ sized 1 0 0 ∷ [])
     ((sized 0 0 0 ∷ sized 0 0 0 ∷ []) ∷ (sized 1 0 0 ∷ []) ∷ [])
-IsGreedy-no_widths = IsGreedy-from_test _ _ _ refl refl
+IsGreedy-no_widths = grown-greedy itself 0 [] (λ number. refl) 0 refl _
 
 -- the largest number of 64 bits
 abbrev largest : Sizes
@@ -105,7 +102,7 @@ largest = sized 0xFFFF_FFFF_FFFF_FFFF 0xFFFF_FFFF_FFFF_FFFF 0xFFFF_FFFF_FFFF_FFF
 
 IsGreedy-largest : IsGreedy itself (0xFFFF_FFFF_FFFF_FFFF ∷ []) (largest ∷ largest ∷ [])
     ((largest ∷ []) ∷ (largest ∷ []) ∷ [])
-IsGreedy-largest = IsGreedy-from_test _ _ _ refl refl
+IsGreedy-largest = greedy_at itself _ _
 
 -- ---- what lines cost
 

@@ -2,6 +2,7 @@
 use Rattle.textwrap_base.proofs.Common.{◌≡◌, ◌≢◌, ℕ, ◌+◌, ◌<◌, ◌≤◌, List, [], ◌∷◌, length, refl}
 use Rattle.textwrap_base.proofs.Common.{sym, ap, ◌∙◌, subst, arith, length-append, flat_map}
 use Rattle.textwrap_base.proofs.Common.{All-head, All-tail, Sizes, line_width, AllFull, IsGreedy}
+use Rattle.textwrap_base.proofs.Common.{rules}
 use Rattle.textwrap_base.proofs.Lists.Parts.{flat, same_parts, some_from_nonempty}
 use Rattle.textwrap_base.proofs.Division.Greedy.{IsGreedyFrom, full_line_ends_last}
 
@@ -26,12 +27,7 @@ module _ {X : Type 0} (sizes : X → Sizes) (widths : List ℕ) where
       → IsGreedyFrom sizes widths number xs (line ∷ lines)
       → IsGreedyFrom sizes widths number xs (other ∷ others) → length line < length other → ⊥
   not_shorter number xs line other [] others first second short =
-      omega (
-        arith,
-        ap length (first.whole ∙ sym second.whole),
-        length-append line [],
-        length-append other (flat_map (λ l. l) others),
-      )
+      search (rules, length-append)
   not_shorter number xs line other (next ∷ lines) others first second short =
       let later = All-tail (λ l. l ≢ []) line (next ∷ lines) first.nonempty in
       let within : length other ≤ length line =
@@ -44,12 +40,7 @@ module _ {X : Type 0} (sizes : X → Sizes) (widths : List ℕ) where
   some_fragments : (number : ℕ) (xs line : List X) (lines : List (List X))
       → IsGreedyFrom sizes widths number xs (line ∷ lines) → 0 < length xs
   some_fragments number xs line lines greedy =
-      omega (
-        arith,
-        some_from_nonempty line (All-head (λ l. l ≢ []) line lines greedy.nonempty),
-        length-append line (flat_map (λ l. l) lines),
-        ap length greedy.whole,
-      )
+      grind (arith, some_from_nonempty, All-head, length-append)
 
   same_lines : (first second : List (List X)) (number : ℕ) (xs : List X)
       → IsGreedyFrom sizes widths number xs first → IsGreedyFrom sizes widths number xs second
@@ -60,29 +51,21 @@ module _ {X : Type 0} (sizes : X → Sizes) (widths : List ℕ) where
   same_lines (line ∷ lines) [] number xs one other =
       absurd (omega (arith, some_fragments number xs line lines one, ap length other.whole))
   same_lines (line ∷ lines) (other ∷ others) number xs first second =
-      let not_less : length line < length other
-      → ⊥ = not_shorter number xs line other lines others first second in
-      let not_more : length other < length line
-      → ⊥ = not_shorter number xs other line others lines second first in
-      let parts : (line ≡ other) × (flat_map (λ l. l) lines ≡ flat_map (λ l. l) others) =
-      same_parts line other (flat_map (λ l. l) lines) (flat_map (λ l. l) others)
-      (first.whole ∙ sym second.whole) (omega arith) in
-      let rest : IsGreedyFrom sizes widths (number + 1) (flat_map (λ l. l) lines) others =
-      subst (λ ys. IsGreedyFrom sizes widths (number + 1) ys others) (sym parts.1)
-      (IsGreedyFrom-tail number xs other others second) in
-      let tails : lines ≡ others = same_lines lines others (number + 1) (flat_map (λ l. l) lines)
-      (IsGreedyFrom-tail number xs line lines first) rest in
+      let not_less = not_shorter number xs line other lines others first second in
+      let not_more = not_shorter number xs other line others lines second first in
+      let len : length line ≡ length other = grind (arith, not_less, not_more) in
+      let parts = same_parts line other (flat lines) (flat others)
+      (first.whole ∙ sym second.whole) len in
+      let tails = same_lines lines others (number + 1) (flat lines)
+      (IsGreedyFrom-tail number xs line lines first)
+      (subst (λ ys. IsGreedyFrom sizes widths (number + 1) ys others) (sym parts.1)
+      (IsGreedyFrom-tail number xs other others second)) in
       cc
 
   from_IsGreedy : (x : X) (xs : List X) (lines : List (List X))
       → IsGreedy sizes widths (x ∷ xs) lines → IsGreedyFrom sizes widths 0 (x ∷ xs) lines
   from_IsGreedy x xs lines greedy =
-      record {
-        whole = greedy.admissible.division.0;
-        nonempty = greedy.admissible.division.1;
-        fit = greedy.admissible.fit;
-        full = greedy.full;
-      }
+      grind arith
 
   pub greedy_unique : (xs : List X) (first second : List (List X)) → IsGreedy sizes widths xs first
       → IsGreedy sizes widths xs second → first ≡ second

@@ -46,10 +46,7 @@ module _ {X : Type 0} (sizes : X → Sizes) where
       → closed_width sizes (take (j + 1) xs) + (sizes x).penalty ≡ closed_width sizes (take j xs) +
       ((sizes x).whitespace + (sizes y).width + (sizes y).penalty)
   closed_width-next xs j x y some within before last =
-      let same : j - 1 + 1 ≡ j = omega arith in
-      let closed = rw same at (closed_width-take xs (j - 1) x (omega arith) before) in
-      let opened = rw same at (open_width-take xs (j - 1) x (omega arith) before) in
-      omega (arith, closed, opened, closed_width-take xs j y within last)
+      grind (arith, closed_width-take, open_width-take)
 
 pub closed_width-map : {X Y : Type 0} (f : X → Y) (sizes : Y → Sizes) (xs : List X)
     → closed_width sizes (map f xs) ≡ closed_width (λ x. sizes (f x)) xs

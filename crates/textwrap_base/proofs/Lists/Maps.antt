@@ -18,8 +18,7 @@ use Rattle.std.proofs.lemmas.Iterator.Consumers.{YieldsList-from_copied}
 pub map-push-append : {X Y : Type 0} (f : X → Y) (xs ys : List X) (x : X) (y : Y) (rest : List Y)
     → ys ≡ xs ++ x ∷ [] → f x ≡ y → map f ys ++ rest ≡ map f xs ++ (y ∷ rest)
 map-push-append f xs ys x y rest pushed is =
-    ap (λ l. map f l ++ rest) pushed ∙ ap (λ l. l ++ rest) (map-append f xs (x ∷ []))
-    ∙ append_assoc (map f xs) (f x ∷ []) rest ∙ ap (λ z. map f xs ++ (z ∷ rest)) is
+    rw (pushed, map-append f xs (x ∷ []), append_assoc (map f xs) (f x ∷ []) rest, is) refl
 
 pub reverse_map_push : {X Y : Type 0} (f : X → Y) (xs : List X) (x : X)
     → reverse (map f (xs ++ x ∷ [])) ≡ f x ∷ reverse (map f xs)
@@ -46,18 +45,14 @@ pub dropped-map : (prefix : List ℕ) (parts : List (List ℕ))
     → map (drop (length prefix)) (map (λ part. prefix ++ part) parts) ≡ parts
 dropped-map prefix [] = refl
 dropped-map prefix (part ∷ parts) =
-    ap (λ p. p ∷ map (drop (length prefix)) (map (λ q. prefix ++ q) parts))
-    (drop_at prefix part (length prefix) refl)
-    ∙ ap (λ ps. part ∷ ps) (dropped-map prefix parts)
+    rw (drop_at prefix part (length prefix) refl, dropped-map prefix parts) refl
 
 -- one part more
 pub indented-more : (f : List ℕ → List ℕ) (parts : List (List ℕ)) (n : ℕ) (part : List ℕ)
     (text : List ℕ) → n < length parts → part ≡ get_or parts n part
     → text ≡ flat_map f (take n parts) → text ++ f part ≡ flat_map f (take (n + 1) parts)
 indented-more f parts n part text within is so_far =
-    ap (λ l. l ++ f part) so_far ∙ flat_map_more f [] (take n parts) part
-    ∙ ap (λ p. flat_map f (take n parts ++ p ∷ [])) is
-    ∙ ap (flat_map f) (sym (take_more parts n part within))
+    rw (so_far, take_more parts n part within, ← is) (flat_map_more f [] (take n parts) part)
 
 pub given-copied : {A : Type 0} (it : Copied (Iter A)) (items xs : List A)
     → iter_rest (copied_source it) ≡ items → Drains (copied_steps iter_steps) it xs → xs ≡ items
@@ -71,7 +66,4 @@ pub join-push : (xs : List (List ℕ)) (y : List ℕ) → 0 < length xs
 join-push [] y some = absurd (omega arith)
 join-push (x ∷ []) y some = append_assoc x (10 ∷ []) y
 join-push (x ∷ z ∷ xs) y some =
-    let rest = join_with_byte 10 (z ∷ xs) in
-    ap (λ l. l ++ y) (append_assoc x (10 ∷ rest) (10 ∷ []))
-    ∙ append_assoc x (10 ∷ (rest ++ 10 ∷ [])) y
-    ∙ ap (λ l. x ++ (10 ∷ l)) (join-push (z ∷ xs) y (omega arith))
+    search (append_assoc, join-push (z ∷ xs) y (omega arith))

@@ -29,21 +29,11 @@ some_from_nonempty (x ∷ xs) some = omega arith
 pub cons-some : (c : ℕ) (cs : List ℕ) → c ∷ cs ≢ []
 cons-some c cs none = omega (arith, ap length none)
 
--- a part in the middle of a list
-pub slice_middle : {X : Type 0} (front line rest : List X) (at end : ℕ) → length front ≡ at
-    → at + length line ≡ end → slice_range (front ++ (line ++ rest)) at end ≡ line
-slice_middle front line rest at end e k =
-    let len : length line ≡ end - at = omega arith in
-    rw (drop_at front (line ++ rest) at e) (take_at line rest (end - at) len)
-
 pub slice_push : {X : Type 0} (xs : List X) (i k : ℕ) (d : X) → i ≤ k → k < length xs
     → slice_range xs i (k + 1) ≡ slice_range xs i k ++ get_or xs k d ∷ []
 slice_push xs i k d h l =
-    let e : k + 1 - i ≡ k - i + 1 = omega arith in
     let at : i + (k - i) ≡ k = omega arith in
-    let within : k - i < length (drop i xs) = rw length-drop (omega arith) in
-    rw e (take_more (drop i xs) (k - i) d within ∙ ap (λ y. take (k - i) (drop i xs) ++ y ∷ [])
-    (get_or-drop i xs (k - i) d ∙ ap (λ n. get_or xs n d) at))
+    grind (arith, length-drop, take_more, get_or-drop)
 
 -- the first j are the first i and what lies between
 pub take_slice : {X : Type 0} (xs : List X) (i j : ℕ) → i ≤ j
@@ -78,12 +68,7 @@ last-push front c = let place : length front ≡ length (front ++ c ∷ []) - 1 
 
 pub last_but_one-push : (front : List ℕ) (b c : ℕ) → last_but_one ((front ++ b ∷ []) ++ c ∷ []) ≡ b
 last_but_one-push front b c =
-    let len : length ((front ++ b ∷ []) ++ c ∷ []) ≡ length front + 2 =
-    omega (arith, length_push (front ++ b ∷ []) c, length_push front b) in
-    let place : length front ≡ length ((front ++ b ∷ []) ++ c ∷ []) - 2 = omega (arith, len) in
-    let within : length ((front ++ b ∷ []) ++ c ∷ []) - 2 < length (front ++ b ∷ []) =
-    omega (arith, len, length_push front b) in
-    get_or_append_left (front ++ b ∷ []) (c ∷ []) 0 _ within ∙ get_or_push front b 0 _ place
+    grind (arith, length_push, get_or_append_left, get_or_push)
 
 -- elements with which a list begins
 abbrev pub Begins : {X : Type 0} → List X → List X → Type 0
@@ -107,6 +92,11 @@ pub onto_front-onto_first : {X : Type 0} (before : List X) (x : X) (parts : List
 onto_front-onto_first before x [] = refl
 onto_front-onto_first before x (part ∷ parts) =
     ap (λ p. p ∷ parts) (sym (append_assoc before (x ∷ []) part))
+
+pub onto_front-nil : {X : Type 0} (parts : List (List X)) → 0 < length parts
+    → onto_front [] parts ≡ parts
+onto_front-nil [] some = absurd (omega arith)
+onto_front-nil (part ∷ parts) some = refl
 
 pub onto_first-some : (c : ℕ) (parts : List (List ℕ)) → 0 < length (onto_first c parts)
 onto_first-some c [] = omega arith

@@ -14,11 +14,7 @@ starts-parts xs first next starts =
     let rest = drop (length (first ++ next)) xs in
     let whole : xs ≡ first ++ (next ++ rest) =
     sym (take-append-drop (length (first ++ next)) xs) ∙ ap (λ l. l ++ rest) starts
-    ∙ append_assoc first next rest in (
-      starts_with_of_append xs first (next ++ rest) whole,
-      starts_with_of_append (drop (length first) xs) next rest
-          (ap (drop (length first)) whole ∙ drop_at first (next ++ rest) (length first) refl),
-    )
+    ∙ append_assoc first next rest in grind (arith, starts_with_of_append, drop_at)
 
 pub starts-head : (x y : ℕ) (xs ys : List ℕ) → StartsWith (x ∷ xs) (y ∷ ys) → x ≡ y
 starts-head x y xs ys is = ap (λ l. get_or l 0 0) is
@@ -63,15 +59,8 @@ drop-ending [] c cs some = absurd (omega arith)
 drop-ending (e ∷ es) c cs some = let same : suc (length es) - 1 ≡ length es = omega arith in
     ap (λ n. drop n cs) (sym same)
 
-zip-cut : (x y : ℕ) (xs ys : List ℕ) (b : Bool)
-    → prefix_len (λ p. nat_eq p.0 p.1) (zip xs ys) ≡ common_prefix_len nat_eq xs ys
-    → cond b (1 + prefix_len (λ p. nat_eq p.0 p.1) (zip xs ys)) 0
-    ≡ cond b (1 + common_prefix_len nat_eq xs ys) 0
-zip-cut x y xs ys true same = ap (λ n. 1 + n) same
-zip-cut x y xs ys false same = refl
-
 pub zip-common : (xs ys : List ℕ)
     → prefix_len (λ p. nat_eq p.0 p.1) (zip xs ys) ≡ common_prefix_len nat_eq xs ys
 zip-common [] ys = refl
 zip-common (x ∷ xs) [] = refl
-zip-common (x ∷ xs) (y ∷ ys) = zip-cut x y xs ys (nat_eq x y) (zip-common xs ys)
+zip-common (x ∷ xs) (y ∷ ys) = ap (λ n. cond (nat_eq x y) (1 + n) 0) (zip-common xs ys)

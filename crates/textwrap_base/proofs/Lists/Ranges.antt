@@ -14,10 +14,7 @@ range-more a n =
 range-next : (point : ℕ) → 1 ≤ point
     → range_with_len 1 (point + 1 - 1) ≡ range_with_len 1 (point - 1) ++ point ∷ []
 range-next point start =
-    let n : point + 1 - 1 ≡ (point - 1) + 1 = omega arith in
-    let at : 1 + (point - 1) ≡ point = omega arith in
-    ap (range_with_len 1) n ∙ range-more 1 (point - 1)
-    ∙ ap (λ k. range_with_len 1 (point - 1) ++ k ∷ []) at
+    grind (arith, range-more)
 
 filter-one : (test : ℕ → Bool) (point : ℕ) (items : List ℕ) (b : Bool) → b ≡ test point
     → items ++ filter test (point ∷ []) ≡ cond b (items ++ point ∷ []) items
@@ -30,29 +27,19 @@ pub points-more : (test : ℕ → Bool) (point : ℕ) (items more : List ℕ) (b
     → b ≡ test point → more ≡ cond b (items ++ point ∷ []) items
     → more ≡ filter test (range_with_len 1 (point + 1 - 1))
 points-more test point items more b start so_far passes is =
-    is ∙ sym (filter-one test point items b passes) ∙ ap (λ l. l ++ filter test (point ∷ [])) so_far
-    ∙ sym (ap (filter test) (range-next point start)
-    ∙ filter-append test (range_with_len 1 (point - 1)) (point ∷ []))
+    grind (arith, filter-one, range-next, filter-append)
 
 pub range-in_order : (a n : ℕ) → IsNonDecreasing (range_with_len a n)
-range-in_order a n = λ i j d le lt.
-    let bound : j < n = omega (arith, length-range_with_len a n) in
-    omega (arith, get_or-range_with_len a n i d (omega arith), get_or-range_with_len a n j d bound)
+range-in_order a n = grind (arith, length-range_with_len, get_or-range_with_len)
 
 pub range-within : (a n : ℕ) → All (λ p. (a ≤ p) × (p < a + n)) (range_with_len a n)
-range-within a n = λ k d lt.
-    let bound : k < n = omega (arith, length-range_with_len a n) in
-    let at = get_or-range_with_len a n k d bound in
-    (omega (arith, at), omega (arith, at))
+range-within a n = grind (arith, length-range_with_len, get_or-range_with_len)
 
 pub range-split : (a n m : ℕ) → range_with_len a (n + m) ≡ range_with_len a n ++ range_with_len (a + n) m
 range-split a zero m =
     let none : zero + m ≡ m = omega arith in
-    let here : a + zero ≡ a = omega arith in
-    ap (range_with_len a) none ∙ ap (λ k. range_with_len k m) (sym here)
+    let here : a + zero ≡ a = omega arith in rw (none, here) refl
 range-split a (suc n) m =
     let more : suc n + m ≡ suc (n + m) = omega arith in
     let on : (a + 1) + n ≡ a + suc n = omega arith in
-    ap (range_with_len a) more
-    ∙ ap (λ l. a ∷ l) (range-split (a + 1) n m ∙ ap (λ k. range_with_len (a + 1) n
-    ++ range_with_len k m) on)
+    rw (more, ← on) (ap (λ l. a ∷ l) (range-split (a + 1) n m))

@@ -1,25 +1,18 @@
 -- A list, repeated.
-use Rattle.textwrap_base.proofs.Common.{◌≡◌, ℕ, zero, suc, ◌+◌, ◌*◌, List, ◌++◌, length, sym, ap}
-use Rattle.textwrap_base.proofs.Common.{◌∙◌, arith, append_assoc, append-nil, length-append, repeat}
+use Rattle.textwrap_base.proofs.Common.{refl, ◌≡◌, ℕ, zero, suc, ◌+◌, ◌*◌, List, ◌++◌, length, sym}
+use Rattle.textwrap_base.proofs.Common.{arith, append_assoc, append-nil, length-append, repeat}
 
 pub repeat_more : (n : ℕ) (xs : List ℕ) → repeat n xs ++ xs ≡ repeat (n + 1) xs
 repeat_more zero xs = sym (append-nil xs)
 repeat_more (suc n) xs =
-    let more : suc (n + 1) ≡ suc n + 1 = omega arith in
-    append_assoc xs (repeat n xs) xs ∙ ap (λ l. xs ++ l) (repeat_more n xs)
-    ∙ ap (λ k. repeat k xs) more
+    grind (arith, append_assoc, repeat_more n xs)
 
 -- one more text after what stands before a run of it
 pub run_more : (before after xs : List ℕ) (n : ℕ) → after ≡ before ++ repeat n xs
     → after ++ xs ≡ before ++ repeat (n + 1) xs
 run_more before after xs n is =
-    ap (λ l. l ++ xs) is ∙ append_assoc before (repeat n xs) xs
-    ∙ ap (λ l. before ++ l) (repeat_more n xs)
+    rw (is, append_assoc before (repeat n xs) xs, repeat_more n xs) refl
 
 pub length-repeat : (n : ℕ) (xs : List ℕ) → length (repeat n xs) ≡ n * length xs
 length-repeat zero xs = omega arith
-length-repeat (suc n) xs = omega (
-  arith,
-  length-append xs (repeat n xs),
-  length-repeat n xs,
-)
+length-repeat (suc n) xs = omega (arith, length-append xs (repeat n xs), length-repeat n xs)

@@ -1,7 +1,7 @@
 -- Lists of numbers that increase, and what they contain.
 use Rattle.textwrap_base.proofs.Common.{◌≡◌, ◌⊎◌, ℕ, zero, suc, ◌+◌, ◌<◌, ◌≤◌, true, false, List}
-use Rattle.textwrap_base.proofs.Common.{[], ◌∷◌, length, get_or, refl, sym, ap, ◌∙◌, arith, inl}
-use Rattle.textwrap_base.proofs.Common.{inr, ◌==◌, All, Result, Ok, Err, add-one, list_any}
+use Rattle.textwrap_base.proofs.Common.{[], ◌∷◌, length, get_or, refl, sym, arith, inl}
+use Rattle.textwrap_base.proofs.Common.{inr, ◌==◌, All, Result, Ok, Err, list_any}
 use Rattle.textwrap_base.proofs.Common.{Contains, cases_lt, eqb-true, eq-eqb, ne_eqb, false≢true}
 use Rattle.textwrap_base.proofs.Common.{cases_eq, get_or_default, All-from_get_or}
 use Rattle.std.specs.List.Sorted.{IsStrictlyIncreasing}
@@ -22,11 +22,7 @@ increasing-le xs up i zero le within = let first : i ≡ 0 = omega arith in rw f
 increasing-le xs up i (suc j) le within =
     elim (cases_eq i (suc j)) [
       | inl same ↦ rw same (omega arith)
-      | inr other ↦ let step : get_or xs j 0 < get_or xs (suc j) 0 =
-          rw add-one at (up j (omega arith)) in
-          let before : get_or xs i 0 ≤ get_or xs j 0 =
-          increasing-le xs up i j (omega (arith, other)) (omega arith) in
-          omega (arith, step, before)
+      | inr other ↦ grind (arith, increasing-le xs up i j (omega (arith, other)) (omega arith))
     ]
 
 pub increasing-rising : (xs : List ℕ) → IsStrictlyIncreasing xs → IsRising xs
@@ -35,11 +31,6 @@ increasing-rising xs up = λ i j lt within.
 
 rising-tail : (x : ℕ) (xs : List ℕ) → IsRising (x ∷ xs) → IsRising xs
 rising-tail x xs rising = λ i j lt within. rising (suc i) (suc j) (omega arith) (omega arith)
-
-pub rising-cons : (x : ℕ) (xs : List ℕ) → All (λ y. x < y) xs → IsRising xs → IsRising (x ∷ xs)
-rising-cons x xs above rising i zero lt within = absurd (omega arith)
-rising-cons x xs above rising zero (suc j) lt within = above j 0 (omega arith)
-rising-cons x xs above rising (suc i) (suc j) lt within = rising i j (omega arith) (omega arith)
 
 pub contains-nil : (y : ℕ) → Contains [] y → ⊥
 contains-nil y h = omega (arith, h.1)
@@ -73,6 +64,14 @@ rising-below x y xs rising h =
     let far : x < get_or xs h.0 0 = rising 0 (suc h.0) (omega arith) (omega (arith, h.1)) in
     omega (arith, far, get_or_default xs h.0 0 y h.1, h.2)
 
+members-tail : (x y : ℕ) (xs ys : List ℕ) → IsRising (x ∷ xs) → x ≡ y
+    → ((z : ℕ) → Contains (x ∷ xs) z → Contains (y ∷ ys) z) → (z : ℕ) → Contains xs z → Contains ys z
+members-tail x y xs ys rising first to z h =
+    elim (contains-cases y z ys (to z (contains-later x z xs h))) [
+      | inl e ↦ absurd (omega (arith, rising-below x z xs rising h, e, first))
+      | inr later ↦ later
+    ]
+
 -- increasing numbers that are the same are in the same order
 pub same-members : (xs ys : List ℕ) → IsRising xs → IsRising ys
     → ((z : ℕ) → Contains xs z → Contains ys z) → ((z : ℕ) → Contains ys z → Contains xs z)
@@ -91,16 +90,9 @@ same-members (x ∷ xs) (y ∷ ys) rx ry to from =
             (omega (arith, rising-below y x ys ry later, rising-below x y xs rx past))
       ]
     ] in
-    let rest : xs ≡ ys = same-members xs ys (rising-tail x xs rx) (rising-tail y ys ry)
-    (λ z h. elim (contains-cases y z ys (to z (contains-later x z xs h))) [
-      | inl e ↦ absurd (omega (arith, rising-below x z xs rx h, e, first))
-      | inr later ↦ later
-    ])
-    (λ z h. elim (contains-cases x z xs (from z (contains-later y z ys h))) [
-      | inl e ↦ absurd (omega (arith, rising-below y z ys ry h, e, first))
-      | inr later ↦ later
-    ]) in
-    ap (λ z. z ∷ xs) first ∙ ap (λ zs. y ∷ zs) rest
+    let rest = same-members xs ys (rising-tail x xs rx) (rising-tail y ys ry)
+    (members-tail x y xs ys rx first to) (members-tail y x ys xs ry (sym first) from) in
+    cc
 
 -- what a search among increasing numbers answers
 pub among-is : (xs : List ℕ) (x : ℕ) (r : Result ℕ ℕ)
@@ -111,9 +103,4 @@ pub among-is : (xs : List ℕ) (x : ℕ) (r : Result ℕ ℕ)
 among-is xs x (Ok i) h = sym (list_any_at (λ y. y == x) xs i 0 h.0 (eq-eqb (get_or xs i 0) x h.1))
 among-is xs x (Err i) h =
     sym (list_any_none (λ y. y == x) xs (All-from_get_or (λ y. (y == x) ≡ false) xs 0
-    (λ k within. elim (cases_lt k i) [
-      | inl before ↦ let less : get_or xs k 0 < x = h.1 k before in
-          ne_eqb (get_or xs k 0) x (λ e. omega (arith, less, e))
-      | inr past ↦ let more : x < get_or xs k 0 = h.2 k past within in
-          ne_eqb (get_or xs k 0) x (λ e. omega (arith, more, e))
-    ])))
+    (grind (arith, cases_lt, ne_eqb))))

@@ -1,6 +1,6 @@
 -- What the first fragments cost, by the start of their last line, where the costs suit a queue.
-use Rattle.textwrap_base.proofs.Common.{◌≡◌, ℕ, zero, suc, ◌+◌, ◌^◌, ◌<◌, ◌≤◌, ◌⊎◌, inl, inr, min}
-use Rattle.textwrap_base.proofs.Common.{List, [], ◌∷◌, ◌++◌, length, get_or, map, refl, sym, ap}
+use Rattle.textwrap_base.proofs.Common.{◌≡◌, ℕ, zero, suc, ◌+◌, ◌^◌, ◌<◌, ◌≤◌, min}
+use Rattle.textwrap_base.proofs.Common.{List, [], ◌∷◌, ◌++◌, length, get_or, map, sym, ap}
 use Rattle.textwrap_base.proofs.Common.{◌∙◌, arith, cases_lt, length-map, get_or-map, length_push}
 use Rattle.textwrap_base.proofs.Common.{get_or_push, get_or_append_left, Costs, SuitQueue}
 use Rattle.textwrap_base.proofs.Common.{least_entry, cost_from, first_entry, minimum_of}
@@ -31,12 +31,10 @@ module _ (costs : Costs) (suits : SuitQueue costs) where
   pub cost_from-later : (start end : ℕ) → 0 < start → start < end → end ≤ costs.ends
       → cost_from costs start end ≡ (least_entry costs start).cost + costs.cost start end 1
   cost_from-later start end some ordered l =
-      ap (λ k. (least_entry costs start).cost + k)
-      (suits.numbers start end (least_entry costs start).line_number some ordered l
-      (later_number costs start some (omega arith)))
+      grind (arith, later_number)
 
   -- one line is a division of each prefix
-  small_entry : (end : ℕ) → end ≤ costs.ends → (least_entry costs end).cost ≤ 2 ^ 125
+  pub small_entry : (end : ℕ) → end ≤ costs.ends → (least_entry costs end).cost ≤ 2 ^ 125
   small_entry zero l = rw (least_entry-first costs) (omega arith)
   small_entry (suc end) l =
       let later = (table-is_table costs.cost costs.ends).later (suc end) (omega arith) l in
@@ -50,31 +48,14 @@ module _ (costs : Costs) (suits : SuitQueue costs) where
   pub cost_from-fits : (start end : ℕ) → start < end → end ≤ costs.ends
       → cost_from costs start end < 2 ^ 128
   cost_from-fits start end ordered l =
-      omega (
-        arith,
-        small_entry start (omega arith),
-        suits.small start end (least_entry costs start).line_number ordered l,
-      )
+      grind (arith, small_entry)
 
   -- what the code asks for: the number 0 at start 0, and else 1
   pub cost_from-asked : (minima : List Minimum) (start end : ℕ) (d : Minimum)
       → AreMinima costs minima → start < length minima → start < end → end ≤ costs.ends
       → (get_or minima start d).cost + costs.cost start end (min start 1) ≡ cost_from costs start end
-  cost_from-asked minima start end d are known ordered l = asked_by (cases_lt 0 start)
-    where
-      before : (get_or minima start d).cost ≡ (least_entry costs start).cost
-      before = ap (λ (m : Minimum). m.cost) (are.each start d known)
-
-      asked_by : (0 < start) ⊎ (start ≤ 0)
-          → (get_or minima start d).cost + costs.cost start end (min start 1)
-          ≡ cost_from costs start end
-      asked_by (inl some) =
-          let one : min start 1 ≡ 1 = omega arith in
-          rw (before, one) (sym (cost_from-later start end some ordered l))
-      asked_by (inr none) =
-          let is : start ≡ 0 = omega arith in
-          let number : min start 1 ≡ (least_entry costs start).line_number =
-          rw (is, least_entry-first costs) (omega arith) in rw (before, number) refl
+  cost_from-asked minima start end d are known ordered l =
+      grind (arith, cases_lt, cost_from-later, least_entry-first)
 
   -- a later start that gives a smaller cost at one end gives one at each later end
   pub cheaper_later : (a b c d : ℕ) → 0 < a → a < b → b < c → c < d → d < costs.ends
@@ -93,26 +74,17 @@ module _ (costs : Costs) (suits : SuitQueue costs) where
 
 pub AreMinima-one : (costs : Costs) (minima : List Minimum)
     → minima ≡ record { start = 0; cost = 0 } ∷ [] → AreMinima costs minima
-AreMinima-one costs minima is = rw is (record {
-  some = omega arith;
-  each = λ k d l. let e : k ≡ 0 = omega arith in rw (e, least_entry-first costs) refl;
-})
+AreMinima-one costs minima is = rw is (grind (arith, least_entry-first))
 
 pub AreMinima-push : (costs : Costs) (minima more : List Minimum) (m : Minimum)
     → AreMinima costs minima → m ≡ minimum_of (least_entry costs (length minima))
     → more ≡ minima ++ m ∷ [] → AreMinima costs more
-AreMinima-push costs minima more m are is pushed = rw pushed (record {
-  some = omega (arith, length_push minima m);
-  each = λ k d l. each_by k d l (cases_lt k (length minima));
-})
-  where
-    each_by : (k : ℕ) (d : Minimum) → k < length (minima ++ m ∷ [])
-        → (k < length minima) ⊎ (length minima ≤ k)
-        → get_or (minima ++ m ∷ []) k d ≡ minimum_of (least_entry costs k)
-    each_by k d l (inl old) = get_or_append_left minima (m ∷ []) d k old ∙ are.each k d old
-    each_by k d l (inr new) =
-        let e : length minima ≡ k = omega (arith, length_push minima m) in
-        get_or_push minima m d k e ∙ is ∙ ap (λ j. minimum_of (least_entry costs j)) e
+AreMinima-push costs minima more m are is pushed = rw pushed (grind (
+  arith,
+  length_push,
+  get_or_append_left,
+  get_or_push,
+))
 
 -- all of them are the table's
 pub AreMinima-all : (costs : Costs) (minima : List Minimum) → AreMinima costs minima

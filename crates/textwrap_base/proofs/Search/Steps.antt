@@ -1,29 +1,17 @@
 -- How many steps a search takes.
-use Rattle.textwrap_base.proofs.Common.{◌≡◌, ℕ, ◌+◌, ◌*◌, ◌-◌, ◌/◌, ◌<◌, ◌≤◌, ◌⊎◌, inl, inr, arith}
+use Rattle.textwrap_base.proofs.Common.{◌≡◌, ℕ, ◌+◌, ◌*◌, ◌-◌, ◌/◌, ◌<◌, ◌≤◌, arith}
 use Rattle.textwrap_base.proofs.Common.{cases_lt, binary_digits}
 use Rattle.std.proofs.Math.Nat.{mul-le-mul_right}
 use Rattle.textwrap_base.proofs.Search.Digits.{digits_mono, digits_half}
-
--- in the second half, the number of ends to come has a digit less than that of all
-fewer_digits : (n m : ℕ) → m < n → (m + 1 ≤ (n + 1) / 2) ⊎ ((n + 1) / 2 < m + 1)
-    → 2 * binary_digits (n - (m + 1)) + 2 * (m + 1 - (n + 1) / 2)
-    ≤ 2 * binary_digits n + 2 * (m - (n + 1) / 2)
-fewer_digits n m l (inl first) = omega (arith, digits_mono (n - (m + 1)) n (omega arith))
-fewer_digits n m l (inr second) =
-    omega (arith, digits_half (n - (m + 1)) n (omega arith) (omega arith))
 
 module _ (n m old before after had has : ℕ) (l : m < n)
     (bound : before + had + 2 * (m - (n + 1) / 2) + (10 + 2 * binary_digits n)
     ≤ old + m * (10 + 2 * binary_digits n))
     (step : after + has ≤ before + had + 10 + 2 * binary_digits (n - (m + 1))) where
+  -- in the second half, the number of ends to come has a digit less than that of all
   fewer : 2 * binary_digits (n - (m + 1)) + 2 * (m + 1 - (n + 1) / 2)
       ≤ 2 * binary_digits n + 2 * (m - (n + 1) / 2)
-  fewer = fewer_digits n m l (first_or (cases_lt ((n + 1) / 2) (m + 1)))
-    where
-      first_or : ((n + 1) / 2 < m + 1) ⊎ (m + 1 ≤ (n + 1) / 2)
-          → (m + 1 ≤ (n + 1) / 2) ⊎ ((n + 1) / 2 < m + 1)
-      first_or (inl second) = inr second
-      first_or (inr first) = inl first
+  fewer = grind (arith, cases_lt, digits_half, digits_mono)
 
   -- one end more, where each stretch has paid for its own drop
   pub steps_more : (more : ℕ) → more ≡ m + 1
@@ -33,6 +21,4 @@ module _ (n m old before after had has : ℕ) (l : m < n)
 
   pub steps_within : after ≤ old + n * (10 + 2 * binary_digits n)
   steps_within =
-      let product : m * (10 + 2 * binary_digits n) ≤ n * (10 + 2 * binary_digits n) =
-      let less : m ≤ n = omega arith in mul-le-mul_right (10 + 2 * binary_digits n) less in
-      omega (arith, fewer)
+      grind (arith, mul-le-mul_right, fewer)

@@ -2,7 +2,7 @@
 use Rattle.textwrap_words.specs.declared.wrap_algorithms.WrapAlgorithm as algorithms
 use Rattle.textwrap_words.specs.declared.word_separators.WordSeparator as separators
 use Rattle.textwrap_words.specs.declared.word_splitters.WordSplitter as splitters
-use Rattle.textwrap_base.proofs.Common.{◌≡◌, ℕ, List, ap, ◌∙◌, subst, Some}
+use Rattle.textwrap_base.proofs.Common.{◌≡◌, ℕ, List, ap, ◌∙◌, Some, rules, arith}
 use Rattle.textwrap_words.proofs.Common.{Algorithm, Greedy, LeastCost, MayDivide, algorithm_view}
 use Rattle.textwrap_words.proofs.Common.{MaySeparate, Splitter, Whole, AtHyphens, MaySplit}
 use Rattle.textwrap_words.proofs.Common.{splitter_view, AreWordsOf, ArePoints, IsDividedBy}
@@ -10,6 +10,9 @@ use Rattle.textwrap_words.proofs.Common.{sizes_of}
 use Rattle.textwrap_lines.proofs.Common.{Settings, settings_view, IsFilled, AreTextLines}
 use Rattle.textwrap_lines.proofs.Common.{IsDividedInto, DividesAs, DividesBy, Line, HasParts}
 use Rattle.textwrap_lines.proofs.Common.{Options}
+use Rattle.textwrap_lines.specs.Paragraph.{DividesUnder}
+use Rattle.textwrap_lines.specs.Places.{ArePlacedLines}
+use Rattle.textwrap_lines.specs.declared.places.Place.{Place}
 
 points-as : {C : Type 0} {c : _} (splitter : splitters.WordSplitter C c) (s : Splitter)
     → splitter_view splitter ≡ Some s → MaySplit splitter ≡ ArePoints s
@@ -44,24 +47,26 @@ module _ {E C : Type 0} {e : _} {c : _} (settings : Settings) where
 
 module _ {E C : Type 0} {e : _} {c : _} (options : Options E C e c) (settings : Settings)
     (splitter : Splitter) (algorithm : Algorithm)
-    (parts : HasParts options settings splitter algorithm) (text : List ℕ) where
-  pub divides : DividesBy options ≡ DividesAs splitter algorithm settings
-  divides = divided-as (settings_view options) options.word_separator options.word_splitter
-      options.wrap_algorithm splitter algorithm parts.separator parts.splitter_is
-      parts.algorithm_is ∙ ap (DividesAs splitter algorithm) parts.settings_are
+    (parts : HasParts options settings splitter algorithm) where
+  -- under any settings
+  pub divides-under : (s : Settings) → DividesUnder options s ≡ DividesAs splitter algorithm s
+  divides-under s = search (rules, arith, divided-as)
 
-  pub lines-as : (lines : List Line)
+  pub divides : DividesBy options ≡ DividesAs splitter algorithm settings
+  divides =
+      divides-under (settings_view options) ∙ ap (DividesAs splitter algorithm) parts.settings_are
+
+  pub lines-as : (text : List ℕ) (lines : List Line)
       → AreTextLines (settings_view options) (DividesBy options) text lines
       → AreTextLines settings (DividesAs splitter algorithm settings) text lines
-  lines-as lines are =
-      subst (λ s. AreTextLines s (DividesAs splitter algorithm settings) text lines)
-      parts.settings_are
-      (subst (λ Divides. AreTextLines (settings_view options) Divides text lines) divides are)
+  lines-as text lines are = grind (arith, divides)
 
-  pub filled-as : (filled : List ℕ)
+  pub filled-as : (text filled : List ℕ)
       → IsFilled (settings_view options) (DividesBy options) text filled
       → IsFilled settings (DividesAs splitter algorithm settings) text filled
-  filled-as filled is =
-      subst (λ s. IsFilled s (DividesAs splitter algorithm settings) text filled)
-      parts.settings_are
-      (subst (λ Divides. IsFilled (settings_view options) Divides text filled) divides is)
+  filled-as text filled is = grind (arith, divides)
+
+  pub placed-as : (text : List ℕ) (lines : List Line) (places : List Place)
+      → ArePlacedLines (settings_view options) (DividesBy options) text lines places
+      → ArePlacedLines settings (DividesAs splitter algorithm settings) text lines places
+  placed-as text lines places are = grind (arith, divides)

@@ -1,9 +1,10 @@
 -- What the words of a line cover, and where a text that they tile may be cut.
 use Rattle.textwrap_base.proofs.Common.{◌≡◌, ℕ, ◌+◌, ◌≤◌, List, [], ◌∷◌, ◌++◌, length, take, drop}
-use Rattle.textwrap_base.proofs.Common.{map, refl, sym, ap, ◌∙◌, subst, arith, append_assoc}
-use Rattle.textwrap_base.proofs.Common.{append-nil, length-append, take-append-drop, StartsWith}
-use Rattle.textwrap_base.proofs.Common.{IsUtf8, IsCharBoundary, IsUtf8-append, IsUtf8-drop}
+use Rattle.textwrap_base.proofs.Common.{map, refl, sym, ap, ◌∙◌, subst, append_assoc, append-nil}
+use Rattle.textwrap_base.proofs.Common.{length-append, take-append-drop, StartsWith, IsUtf8, arith}
+use Rattle.textwrap_base.proofs.Common.{IsCharBoundary, IsUtf8-append, IsUtf8-drop}
 use Rattle.textwrap_base.proofs.Common.{IsCharBoundary-from_take, map-append, take_at, drop_at}
+use Rattle.textwrap_base.proofs.Common.{rules}
 use Rattle.textwrap_words.proofs.Common.{WordText, word_view, tile_of, tiled}
 use Rattle.textwrap_lines.proofs.Common.{covered, Word}
 use Rattle.std.proofs.lemmas.Str.{IsCharBoundary-from_rest}
@@ -12,8 +13,7 @@ use Rattle.textwrap_words.proofs.Word.Tiling.{tiled-push}
 pub covered-push : (ws : List WordText) (w : WordText) → covered (ws ++ w ∷ []) ≡ tiled ws ++ w.word
 covered-push [] w = refl
 covered-push (v ∷ []) w = ap (λ l. l ++ w.word) (sym (append-nil (tile_of v)))
-covered-push (v ∷ u ∷ ws) w = ap (λ l. tile_of v ++ l) (covered-push (u ∷ ws) w)
-    ∙ sym (append_assoc (tile_of v) (tiled (u ∷ ws)) w.word)
+covered-push (v ∷ u ∷ ws) w = search (rules, append_assoc, covered-push (u ∷ ws) w)
 
 -- a text that begins with words, cut before the last one's whitespace
 pub record CutsBeforeWhitespace (text : List ℕ) (words front : List Word)
@@ -36,22 +36,8 @@ cuts_before_whitespace text words front last is starts =
     let tiles : tiled (map word_view words) ≡ before ++ (last.word.now ++ last.whitespace.now) =
     ap tiled views ∙ tiled-push (map word_view front) (word_view last) in
     let whole : text ≡ (before ++ last.word.now) ++ (last.whitespace.now ++ after) =
-    sym (take-append-drop (length (tiled (map word_view words))) text)
-    ∙ ap (λ l. l ++ after) (starts ∙ tiles
-    ∙ sym (append_assoc before last.word.now last.whitespace.now))
-    ∙ append_assoc (before ++ last.word.now) last.whitespace.now after in
-    let len : length (before ++ last.word.now) ≡ length before + length last.word.now =
-    length-append before last.word.now in
-    record {
-      line = ap (take (length before + length last.word.now)) whole
-          ∙ take_at (before ++ last.word.now) (last.whitespace.now ++ after)
-          (length before + length last.word.now) len;
-      rest = ap (drop (length before + length last.word.now)) whole
-          ∙ drop_at (before ++ last.word.now) (last.whitespace.now ++ after)
-          (length before + length last.word.now) len;
-      within = omega (arith, len, ap length whole, length-append {A = ℕ});
-      covers = ap covered views ∙ covered-push (map word_view front) (word_view last);
-    }
+    search (rules, arith, take-append-drop, append_assoc) in
+    search (rules, length-append, take_at, drop_at, covered-push)
 
 module _ (text : List ℕ) (words front : List Word) (last : Word)
     (cut : CutsBeforeWhitespace text words front last) (utf8 : IsUtf8 text)
@@ -71,22 +57,12 @@ module _ (text : List ℕ) (words front : List Word) (last : Word)
   IsCharBoundary-past_whitespace rest whitespace is same whitespace_utf8 =
       let after = drop (length (tiled (map word_view words))) text in
       let seam : rest ≡ whitespace ++ after = is ∙ cut.rest ∙ ap (λ l. l ++ after) (sym same) in
-      let rest_utf8 : IsUtf8 rest =
-      subst IsUtf8 (sym is) (IsUtf8-drop text
-      (length (tiled (map word_view front)) + length last.word.now) utf8 IsCharBoundary-cut)
-      in
-      IsCharBoundary-from_take rest (length whitespace) rest_utf8
-      (omega (arith, ap length seam, length-append whitespace after))
-      (subst IsUtf8 (sym (ap (take (length whitespace)) seam
-      ∙ take_at whitespace after (length whitespace) refl)) whitespace_utf8)
+      let rest_utf8 : IsUtf8 rest = search (rules, arith, IsUtf8-drop, IsCharBoundary-cut) in
+      search (rules, IsCharBoundary-from_take, length-append, take_at)
 
   -- the text may be cut after the whitespace too
   pub IsCharBoundary-whole : (whitespace : List ℕ) → whitespace ≡ last.whitespace.now
       → IsUtf8 whitespace → IsCharBoundary text
       (length (tiled (map word_view front)) + length last.word.now + length whitespace)
   IsCharBoundary-whole whitespace same whitespace_utf8 =
-      IsCharBoundary-from_rest text (length (tiled (map word_view front)) + length last.word.now)
-      (length whitespace) cut.within
-      (IsCharBoundary-past_whitespace
-      (drop (length (tiled (map word_view front)) + length last.word.now) text) whitespace refl
-      same whitespace_utf8)
+      search (rules, IsCharBoundary-from_rest, IsCharBoundary-past_whitespace)

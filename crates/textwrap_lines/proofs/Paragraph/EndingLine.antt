@@ -1,6 +1,6 @@
 -- The line of pieces of which the last is known.
-use Rattle.textwrap_base.proofs.Common.{◌≡◌, ℕ, Bool, cond, List, [], ◌∷◌, ◌++◌, map, refl, sym, ap}
-use Rattle.textwrap_base.proofs.Common.{◌∙◌, map-append}
+use Rattle.textwrap_base.proofs.Common.{◌≡◌, ℕ, Bool, cond, List, [], ◌∷◌, ◌++◌, map, refl}
+use Rattle.textwrap_base.proofs.Common.{map-append, rules}
 use Rattle.textwrap_words.proofs.Common.{WordText, word_view, tiled}
 use Rattle.textwrap_lines.proofs.Common.{Settings, LineParts, assembled_line, line_from, covered}
 use Rattle.textwrap_lines.proofs.Common.{keeps_whitespace, indent_of, parts_of, Word}
@@ -16,18 +16,14 @@ parts_of-push : (settings : Settings) (is_later : Bool) (ws : List WordText) (la
     → parts_of settings is_later (ws ++ last ∷ []) ≡ parts_ending settings is_later
     (ws ++ last ∷ []) last
 parts_of-push settings is_later [] last = refl
-parts_of-push settings is_later (w ∷ ws) last =
-    ap (parts_ending settings is_later (w ∷ (ws ++ last ∷ []))) (last_piece-append w ws last [])
+parts_of-push settings is_later (w ∷ ws) last = search (rules, last_piece-append)
 
 ending_line : (settings : Settings) (is_later : Bool) (line : List WordText) (last : WordText)
     (indent slice : List ℕ) (keeps : Bool) → indent ≡ indent_of settings is_later
     → keeps ≡ keeps_whitespace settings last
     → slice ≡ cond keeps (tiled line) (covered line)
     → assembled_line indent slice last.penalty ≡ line_from (parts_ending settings is_later line last)
-ending_line settings is_later line last indent slice keeps indent_is keeps_is slice_is =
-    ap (λ i. assembled_line i slice last.penalty) indent_is
-    ∙ ap (λ s. assembled_line (indent_of settings is_later) s last.penalty)
-    (slice_is ∙ ap (λ b. cond b (tiled line) (covered line)) keeps_is)
+ending_line settings is_later line last indent slice keeps indent_is keeps_is slice_is = cc
 
 -- a line made of the slice that its pieces cover
 pub line_from-parts_of : (settings : Settings) (is_later : Bool) (pieces front : List Word)
@@ -39,15 +35,4 @@ pub line_from-parts_of : (settings : Settings) (is_later : Bool) (pieces front :
     → assembled_line indent slice last.penalty.now
     ≡ line_from (parts_of settings is_later (map word_view pieces))
 line_from-parts_of settings is_later pieces front last indent slice keeps is indent_is keeps_is
-    slice_is =
-    let line = map word_view (front ++ last ∷ []) in
-    let views : line ≡ map word_view front ++ word_view last ∷ [] =
-    map-append word_view front (last ∷ []) in
-    let ending : parts_of settings is_later line ≡ parts_ending settings is_later line
-    (word_view last) =
-    ap (parts_of settings is_later) views ∙ parts_of-push settings is_later (map word_view front)
-    (word_view last) ∙ ap (λ l. parts_ending settings is_later l (word_view last))
-    (sym views) in
-    ending_line settings is_later line (word_view last) indent slice keeps indent_is keeps_is
-    slice_is ∙ ap line_from (sym ending)
-    ∙ ap (λ ps. line_from (parts_of settings is_later (map word_view ps))) (sym is)
+    slice_is = search (rules, map-append, parts_of-push, ending_line)

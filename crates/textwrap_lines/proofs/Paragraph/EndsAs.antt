@@ -2,20 +2,13 @@
 use Rattle.textwrap_base.proofs.Common.{◌≡◌, ◌≢◌, ℕ, ◌<◌, List, [], ◌∷◌, ◌++◌, All, length, refl}
 use Rattle.textwrap_base.proofs.Common.{ap, ◌∙◌, arith, append-nil, length-append, flat_map}
 use Rattle.textwrap_base.proofs.Common.{slice_range, ltb-true, All-head, All-tail, All-weaker}
-use Rattle.textwrap_base.proofs.Common.{cond_both}
-use Rattle.textwrap_words.proofs.Common.{piece, WordText, broken_pieces, broken_texts, broken_word}
-use Rattle.textwrap_words.proofs.Common.{pieces_with, Splitter, cut_penalty, points_of, split_from}
-use Rattle.textwrap_words.proofs.Common.{split_word}
-use Rattle.textwrap_lines.proofs.Common.{last_piece}
-use Rattle.std.proofs.Common.{ltb}
+use Rattle.textwrap_base.proofs.Common.{rules}
+use Rattle.textwrap_words.proofs.Common.{piece, WordText, broken_word}
+use Rattle.textwrap_words.proofs.Common.{pieces_with, Splitter, split_from, split_word}
+use Rattle.textwrap_lines.proofs.Common.{last_space, last_piece}
 use Rattle.textwrap_words.proofs.Word.PieceTexts.{broken_texts-some}
 use Rattle.textwrap_words.proofs.Word.Measured.{IsMeasured}
 use Rattle.textwrap_lines.proofs.Paragraph.GivenPieces.{wide-some}
-
--- the whitespace of the last of these words
-abbrev pub last_space : List WordText → List ℕ
-last_space [] = []
-last_space (w ∷ ws) = (last_piece w ws).whitespace
 
 pub last_piece-append : (w : WordText) (ws : List WordText) (v : WordText) (vs : List WordText)
     → last_piece w (ws ++ v ∷ vs) ≡ last_piece v vs
@@ -35,14 +28,12 @@ pub record EndsAs (f : WordText → List WordText) (w : WordText) : Type 0 where
 
 flat_map-some : (f : WordText → List WordText) (w : WordText) (ws : List WordText) → EndsAs f w
     → 0 < length (flat_map f (w ∷ ws))
-flat_map-some f w ws ends = let len = length-append (f w) (flat_map f ws) in
-    omega (arith, ends.some, len)
+flat_map-some f w ws ends = search (rules, length-append)
 
 pub flat_map-space : (f : WordText → List WordText) (ws : List WordText) → All (EndsAs f) ws
     → last_space (flat_map f ws) ≡ last_space ws
 flat_map-space f [] all = refl
-flat_map-space f (w ∷ []) all = ap last_space (append-nil (f w))
-    ∙ (All-head (EndsAs f) w [] all).space
+flat_map-space f (w ∷ []) all = search (rules, append-nil, All-head)
 flat_map-space f (w ∷ v ∷ ws) all =
     let rest = All-tail (EndsAs f) w (v ∷ ws) all in
     last_space-append (f w) (flat_map f (v ∷ ws))
@@ -57,15 +48,10 @@ split_from-space : (w : WordText) (start : ℕ) (points : List ℕ)
     → last_space (split_from w start points) ≡ w.whitespace
 split_from-space w start [] = refl
 split_from-space w start (point ∷ points) =
-    last_space-append (piece (slice_range w.word start point) [] (cut_penalty w.word point) ∷ [])
-    (split_from w point points) (split_from-some w point points)
-    ∙ split_from-space w point points
+    search (rules, last_space-append, slice_range, split_from-some, split_from-space w point points)
 
 pub split_word-ends : (splitter : Splitter) (w : WordText) → EndsAs (split_word splitter) w
-split_word-ends splitter w = record {
-  some = split_from-some w 0 (points_of splitter w.word);
-  space = split_from-space w 0 (points_of splitter w.word);
-}
+split_word-ends splitter w = search (rules, split_from-some, split_from-space)
 
 pieces_with-some : (whitespace penalty : List ℕ) (texts : List (List ℕ)) → texts ≢ []
     → 0 < length (pieces_with whitespace penalty texts)
@@ -86,14 +72,7 @@ pieces_with-space whitespace penalty (text ∷ next ∷ texts) some =
 broken_word-ends : (limit : ℕ) (w : WordText) → IsMeasured w
     → (0 < length (broken_word limit w)) × (last_space (broken_word limit w) ≡ w.whitespace)
 broken_word-ends limit w measured =
-    cond_both (ltb limit w.width) (broken_pieces limit w) (w ∷ [])
-    (λ ps. (0 < length ps) × (last_space ps ≡ w.whitespace))
-    (λ wide.
-    let some = broken_texts-some limit w.word measured.utf8
-    (wide-some limit w measured (ltb-true limit w.width wide)) in (
-      pieces_with-some w.whitespace w.penalty (broken_texts limit w.word) some,
-      pieces_with-space w.whitespace w.penalty (broken_texts limit w.word) some,
-    )) (λ _. (omega arith, refl))
+    grind (arith, broken_texts-some, wide-some, ltb-true, pieces_with-some, pieces_with-space)
 
 pub broken_words-ends : (limit : ℕ) (words : List WordText) → All IsMeasured words
     → All (EndsAs (broken_word limit)) words

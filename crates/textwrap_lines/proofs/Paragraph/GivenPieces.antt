@@ -1,10 +1,8 @@
 -- The pieces of words at any points where they may be cut, and what lines of them cover.
-use Rattle.textwrap_base.proofs.Common.{subst, ◌≡◌, ◌≢◌, ℕ, ◌<◌, Bool, true, false, cond, ◌==◌}
-use Rattle.textwrap_base.proofs.Common.{List, [], ◌∷◌, ◌++◌, All, length, take, refl, sym, ap, ◌∙◌}
-use Rattle.textwrap_base.proofs.Common.{arith, IsUtf8, All-nil, All-cons, All-append, All-weaker}
-use Rattle.textwrap_base.proofs.Common.{IsUtf8-nil}
-use Rattle.textwrap_words.proofs.Common.{WordText, tiled, broken_words, text_width, AreCuts}
-use Rattle.textwrap_words.proofs.Common.{ends_in_hyphen}
+use Rattle.textwrap_base.proofs.Common.{subst, ◌≡◌, ◌≢◌, ℕ, ◌<◌, Bool, true, false, cond, List, []}
+use Rattle.textwrap_base.proofs.Common.{◌∷◌, ◌++◌, All, take, refl, sym, ap, ◌∙◌, IsUtf8, All-nil}
+use Rattle.textwrap_base.proofs.Common.{All-cons, All-append, All-weaker, arith, IsUtf8-nil, rules}
+use Rattle.textwrap_words.proofs.Common.{WordText, tiled, broken_words, AreCuts, ends_in_hyphen}
 use Rattle.textwrap_lines.proofs.Common.{Settings, empty_word, front_pieces, ArePieces, later_width}
 use Rattle.textwrap_lines.proofs.Common.{widths_of, IsDividedInto}
 use Rattle.textwrap_base.proofs.Lists.Parts.{Begins, flat, all-left}
@@ -19,8 +17,7 @@ use Rattle.textwrap_words.proofs.Word.SplitPieces.{AreSplitWords, split-measured
 use Rattle.textwrap_words.proofs.Word.SplitPieces.{AreSplit-no_penalty}
 
 pub wide-some : (limit : ℕ) (w : WordText) → IsMeasured w → limit < w.width → w.word ≢ []
-wide-some limit w measured wide none = let nothing : w.width ≡ 0 = measured.width
-    ∙ ap text_width none ∙ text_width-nil in omega arith
+wide-some limit w measured wide none = search (rules, text_width-nil)
 
 tiled-front : (b : Bool) → tiled (cond b [] (empty_word ∷ [])) ≡ []
 tiled-front true = refl
@@ -28,12 +25,7 @@ tiled-front false = refl
 
 front-measured : (b : Bool) → All IsMeasured (cond b [] (empty_word ∷ []))
 front-measured true = All-nil IsMeasured
-front-measured false = All-cons IsMeasured empty_word []
-    (record {
-      utf8 = IsUtf8-nil;
-      width = sym text_width-nil;
-      ending = record { blanks = no_blanks; none = λ _. refl };
-    }) (All-nil IsMeasured)
+front-measured false = search (rules, All-cons, IsUtf8-nil, text_width-nil, no_blanks, All-nil)
 
 front-no_penalty : (b : Bool) → All HasNoPenalty (cond b [] (empty_word ∷ []))
 front-no_penalty true = All-nil HasNoPenalty
@@ -52,8 +44,7 @@ module _ (settings : Settings) (Words : List ℕ → List WordText → Type 0)
       let measured = split-measured Words Points texts cuts paragraph split utf8 are in
       tiled-broken_words limit split
       (All-weaker IsMeasured (λ w. IsUtf8 w.word) (λ w m. m.utf8) split measured)
-      (All-weaker IsMeasured (λ w. limit < w.width → w.word ≢ [])
-      (λ w m. wide-some limit w m) split measured)
+      (search (rules, wide-some))
       ∙ split-tile Words Points texts cuts paragraph split utf8 are
 
   pub pieces-tile : (paragraph : List ℕ) (pieces : List WordText) → IsUtf8 paragraph
@@ -63,10 +54,7 @@ module _ (settings : Settings) (Words : List ℕ → List WordText → Type 0)
       let broken = broken_words (later_width settings) split in
       ap tiled is ∙ (elim settings.break_words as (λ b. tiled
       (cond b (front_pieces settings ++ broken) split) ≡ paragraph) [
-        | true ↦
-            tiled-append (front_pieces settings) broken
-            ∙ ap (λ l. l ++ tiled broken) (tiled-front (length settings.initial_indent == 0))
-            ∙ broken-tile paragraph split utf8 are
+        | true ↦ search (rules, arith, tiled-append, tiled-front, broken-tile)
         | false ↦ split-tile Words Points texts cuts paragraph split utf8 are
       ])
 
@@ -77,9 +65,7 @@ module _ (settings : Settings) (Words : List ℕ → List WordText → Type 0)
       let measured = split-measured Words Points texts cuts paragraph split utf8 (words, words_are, split_are) in
       subst (All IsMeasured) (sym is) (elim settings.break_words as (λ b. All IsMeasured
       (cond b (front_pieces settings ++ broken) split)) [
-        | true ↦ All-append IsMeasured (front_pieces settings) broken
-            (front-measured (length settings.initial_indent == 0))
-            (broken_words-measured (later_width settings) split measured)
+        | true ↦ search (rules, arith, All-append, front-measured, broken_words-measured)
         | false ↦ measured
       ])
 
@@ -90,11 +76,7 @@ module _ (settings : Settings) (Words : List ℕ → List WordText → Type 0)
         → IsUtf8 paragraph → IsDividedInto settings Words Points Lines is_later paragraph division
         → Begins paragraph (tiled (flat division))
     divided-begin is_later paragraph division utf8 (pieces, are, divided) =
-        let (rest, is) = begins (widths_of settings is_later) pieces division divided in (
-          tiled rest,
-          sym (tiled-append (flat division) rest) ∙ ap tiled is
-              ∙ pieces-tile paragraph pieces utf8 are,
-        )
+        search (rules, arith, tiled-append, pieces-tile paragraph pieces utf8 are)
 
     pub divided-blanks : (is_later : Bool) (paragraph : List ℕ) (division : List (List WordText))
         → IsUtf8 paragraph → IsDividedInto settings Words Points Lines is_later paragraph division
@@ -111,20 +93,9 @@ module _ (settings : Settings) (Words : List ℕ → List WordText → Type 0)
     pub pieces-no_penalty : (paragraph : List ℕ) (pieces : List WordText) → IsUtf8 paragraph
         → ArePieces settings Words Points paragraph pieces → All HasNoPenalty pieces
     pieces-no_penalty paragraph pieces utf8 (words, split, words_are, split_are, is) =
-        let broken = broken_words (later_width settings) split in
-        let none = AreSplit-no_penalty Points hyphens words split
-        (texts paragraph words utf8 words_are).plain split_are in
-        subst (All HasNoPenalty) (sym is) (elim settings.break_words as (λ b. All HasNoPenalty
-        (cond b (front_pieces settings ++ broken) split)) [
-          | true ↦ All-append HasNoPenalty (front_pieces settings) broken
-              (front-no_penalty (length settings.initial_indent == 0))
-              (broken_words-no_penalty (later_width settings) split none)
-          | false ↦ none
-        ])
+        grind (arith, AreSplit-no_penalty, All-append, front-no_penalty, broken_words-no_penalty)
 
     pub pieces-bounded : (paragraph : List ℕ) (pieces : List WordText) → IsUtf8 paragraph
         → ArePieces settings Words Points paragraph pieces → All IsBounded pieces
     pieces-bounded paragraph pieces utf8 are =
-        let measured = pieces-measured paragraph pieces utf8 are in
-        let none = pieces-no_penalty paragraph pieces utf8 are in
-        λ k d lt. IsBounded-measured _ (measured k d lt) (none k d lt)
+        search (rules, arith, pieces-measured, pieces-no_penalty, IsBounded-measured)

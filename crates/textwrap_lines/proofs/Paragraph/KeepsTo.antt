@@ -1,18 +1,18 @@
 -- What the lines of a paragraph keep to.
 use Rattle.textwrap_base.proofs.Common.{◌≡◌, ℕ, take, ◌<◌, ◌≤◌, Bool, true, false, MatchBool, List}
 use Rattle.textwrap_base.proofs.Common.{[], ◌∷◌, All, length, map, refl, sym, ap, ◌∙◌, subst, arith}
-use Rattle.textwrap_base.proofs.Common.{IsUtf8, length-map, All-nil, All-cons, closed_width}
+use Rattle.textwrap_base.proofs.Common.{IsUtf8, length-map, All-nil, All-cons, closed_width, rules}
 use Rattle.textwrap_words.proofs.Common.{IsNarrow, WordText, sizes_of, word_of, Greedy, IsDividedBy}
 use Rattle.textwrap_words.proofs.Common.{ends_in_hyphen, AreCuts}
 use Rattle.textwrap_lines.proofs.Common.{LineParts, parts_from, is_whole, widths_of, IsDividedInto}
 use Rattle.textwrap_lines.proofs.Common.{AreIndented, AreParagraphParts, OnlyCharactersPass}
-use Rattle.textwrap_lines.proofs.Common.{KeepsToWidth, Settings, KeepToWidths}
+use Rattle.textwrap_lines.proofs.Common.{KeepsToWidth, Settings, KeepToWidths, first_width}
 use Rattle.textwrap_lines.proofs.Paragraph.Kept.{parts_from-pieces, parts_from-indented}
 use Rattle.textwrap_lines.proofs.Paragraph.Kept.{HasNoHyphen, parts_from-no_hyphen}
 use Rattle.textwrap_lines.proofs.Paragraph.Kept.{whole_line-within}
 use Rattle.textwrap_base.proofs.Lists.Parts.{flat, all-left, Begins}
 use Rattle.textwrap_words.proofs.Word.Measured.{HasNoPenalty}
-use Rattle.textwrap_lines.proofs.Paragraph.EvenLines.{division-even, whole-even}
+use Rattle.textwrap_lines.proofs.Paragraph.EvenLines.{division-even, whole-even, own_width}
 use Rattle.textwrap_lines.proofs.Paragraph.LongLines.{long_lines}
 use Rattle.textwrap_words.proofs.Word.Pieces.{AreTexts}
 use Rattle.textwrap_lines.proofs.Paragraph.GivenPieces.{pieces-no_penalty}
@@ -33,19 +33,14 @@ module _ (settings : Settings) (Words : List ℕ → List WordText → Type 0)
       → IsUtf8 paragraph → AreParts is_later paragraph parts → 0 < length parts
   paragraph-some divided-some is_later paragraph parts utf8 (division, laid_out, is) =
       let lines : length parts ≡ length division =
-      sym (length-map parts (λ p. p.pieces)) ∙ ap (λ ps. length (map (λ p. p.pieces) ps)) is
-      ∙ ap length (parts_from-pieces settings is_later division) in
-      let some = laid_out-cases (λ d. 0 < length d) paragraph _ division (omega arith)
-      (λ (pieces, are, divided). divided-some (widths_of settings is_later) pieces division divided)
-      (is_whole settings is_later paragraph) laid_out in
-      omega (arith, lines, some)
+      cc (length-map parts (λ p. p.pieces), is, parts_from-pieces settings is_later division) in
+      search (rules, laid_out-cases)
 
   pub paragraph-indented : (is_later : Bool) (paragraph : List ℕ) (parts : List LineParts)
       → IsUtf8 paragraph → AreParts is_later paragraph parts
       → AreIndented settings is_later parts
   paragraph-indented is_later paragraph parts utf8 (division, laid_out, is) =
-      subst (AreIndented settings is_later) (sym is)
-      (parts_from-indented settings is_later division)
+      search (rules, parts_from-indented)
 
   module _ (texts : (line : List ℕ) (words : List WordText) → IsUtf8 line → Words line words
       → AreTexts line words)
@@ -91,10 +86,7 @@ module _ (settings : Settings) (Words : List ℕ → List WordText → Type 0)
             (OnlyCharactersPass (widths_of settings is_later) 0 division)
         by_case true whole one = λ narrow.
             subst (All (λ line. closed_width sizes_of line ≤ settings.width)) (sym one)
-            (All-cons (λ line. closed_width sizes_of line ≤ settings.width)
-            (word_of paragraph ∷ []) []
-            (whole_line-within settings is_later paragraph utf8 whole narrow)
-            (All-nil (λ line. closed_width sizes_of line ≤ settings.width)))
+            (search (rules, arith, All-cons, whole_line-within, All-nil))
         by_case false whole (pieces, are, divided) =
             long_lines settings Words Points texts cuts hyphens is_later paragraph division utf8
             breaks (pieces, are, greedy (widths_of settings is_later) pieces division divided)
@@ -108,10 +100,11 @@ module _ (settings : Settings) (Words : List ℕ → List WordText → Type 0)
         → All (λ p. ends_in_hyphen (take p text) ≡ true) points)
         → ((widths : List ℕ) (pieces : List WordText) (division : List (List WordText))
         → Lines widths pieces division → IsDividedBy Greedy sizes_of widths pieces division)
-        → settings.break_words ≡ true → settings.even_paragraphs ≡ true → (is_later : Bool)
-        (paragraph : List ℕ) (parts : List LineParts) → IsUtf8 paragraph
+        → settings.break_words ≡ true → (is_later : Bool)
+        → first_width settings is_later ≡ own_width settings is_later
+        → (paragraph : List ℕ) (parts : List LineParts) → IsUtf8 paragraph
         → AreParts is_later paragraph parts → EvenIfNarrow is_later paragraph parts
-    paragraph-even hyphens greedy breaks even is_later paragraph parts utf8
+    paragraph-even hyphens greedy breaks is_later own paragraph parts utf8
         (division, laid_out, is) narrow =
         subst (All (KeepsToWidth settings.width)) (sym is)
         (by_case (is_whole settings is_later paragraph) refl laid_out)
@@ -122,9 +115,8 @@ module _ (settings : Settings) (Words : List ℕ → List WordText → Type 0)
             → All (KeepsToWidth settings.width) (parts_from settings is_later division)
         by_case true whole one =
             subst (λ lines. All (KeepsToWidth settings.width) (parts_from settings is_later lines))
-            (sym one) (whole-even settings is_later paragraph whole
-            (whole_line-within settings is_later paragraph utf8 whole narrow))
+            (sym one) (search (rules, arith, whole-even, whole_line-within))
         by_case false whole (pieces, are, divided) =
-            division-even settings even is_later division
+            division-even settings is_later own division
             (long_lines settings Words Points texts cuts hyphens is_later paragraph division utf8
             breaks (pieces, are, greedy (widths_of settings is_later) pieces division divided))

@@ -1,7 +1,7 @@
 -- What the lines of a division keep to: indents, pieces, hyphens.
 use Rattle.textwrap_base.proofs.Common.{◌≡◌, ℕ, ◌≤◌, Bool, true, ◌==◌, nat_lt, List, [], ◌∷◌, All}
-use Rattle.textwrap_base.proofs.Common.{length, map, refl, sym, ap, ◌∙◌, subst, arith, IsUtf8}
-use Rattle.textwrap_base.proofs.Common.{and_parts, ltb-true, All-nil, All-cons, closed_width}
+use Rattle.textwrap_base.proofs.Common.{length, map, refl, sym, subst, arith, IsUtf8, and_parts}
+use Rattle.textwrap_base.proofs.Common.{ltb-true, All-nil, All-cons, closed_width, rules}
 use Rattle.textwrap_words.proofs.Common.{IsNarrow, WordText, sizes_of, word_of}
 use Rattle.textwrap_lines.proofs.Common.{LineParts, indent_of, parts_of, parts_from, is_whole}
 use Rattle.textwrap_lines.proofs.Common.{AreIndented, Settings}
@@ -35,9 +35,7 @@ pub parts_from-pieces : (settings : Settings) (is_later : Bool) (division : List
     → map (λ p. p.pieces) (parts_from settings is_later division) ≡ division
 parts_from-pieces settings is_later [] = refl
 parts_from-pieces settings is_later (line ∷ lines) =
-    ap (λ ws. ws ∷ map (λ p. p.pieces) (parts_from settings true lines))
-    (parts_of-pieces settings is_later line)
-    ∙ ap (λ ls. line ∷ ls) (parts_from-pieces settings true lines)
+    simp (parts_of-pieces, parts_from-pieces settings true lines)
 
 abbrev pub HasNoHyphen : LineParts → Type 0
 HasNoHyphen p = p.penalty ≡ []
@@ -64,16 +62,11 @@ whole_line-within settings is_later paragraph utf8 whole narrow =
     (nat_lt (length paragraph) settings.width) whole in
     let shorter = ltb-true (length paragraph) settings.width tests.1 in
     let line = word_of paragraph ∷ [] in
-    let measured : All IsMeasured line = All-cons IsMeasured (word_of paragraph) []
-    (record {
-      utf8 = without_final_blanks-utf8 paragraph utf8;
-      width = refl;
-      ending = word_of-blanks paragraph;
-    }) (All-nil IsMeasured) in
+    let measured : All IsMeasured line =
+    search (rules, All-cons, without_final_blanks-utf8, word_of-blanks, All-nil) in
     let none : All HasNoPenalty line =
     All-cons HasNoPenalty (word_of paragraph) [] refl (All-nil HasNoPenalty) in
     let within : closed_width sizes_of line ≤ length paragraph =
-    subst (λ bytes. closed_width sizes_of line ≤ length bytes) (tiled-word_of paragraph)
-    (closed_width-narrow line (narrow_words line measured none
-    (subst IsNarrow (sym (tiled-word_of paragraph)) narrow))) in
+    rw (tiled-word_of paragraph) at (closed_width-narrow line
+    (narrow_words line measured none (subst IsNarrow (sym (tiled-word_of paragraph)) narrow))) in
     omega (arith, within, shorter)

@@ -1,17 +1,14 @@
 -- Lemmas on the blanks at the end of a paragraph: they are the whitespace of its last piece.
-use Rattle.textwrap_base.proofs.Common.{◌≡◌, ℕ, true, false, cond, ◌==◌, List, [], ◌∷◌, ◌++◌}
-use Rattle.textwrap_base.proofs.Common.{length, take, refl, sym, ap, ◌∙◌, arith, length-append}
-use Rattle.textwrap_base.proofs.Common.{length-drop, IsUtf8, take_at}
-use Rattle.textwrap_words.proofs.Common.{WordText, tiled, words_of, broken_word, broken_words}
-use Rattle.textwrap_words.proofs.Common.{trimmed_len, without_final_blanks, final_blanks, Splitter}
-use Rattle.textwrap_words.proofs.Common.{split_word}
-use Rattle.textwrap_lines.proofs.Common.{Settings, covered, empty_word, front_pieces, later_width}
-use Rattle.textwrap_lines.proofs.Common.{pieces_of}
+use Rattle.textwrap_base.proofs.Common.{arith, ◌≡◌, ℕ, List, [], ◌∷◌, ◌++◌, refl, sym, ap, ◌∙◌}
+use Rattle.textwrap_base.proofs.Common.{length-append, length-drop, IsUtf8, take_at, rules}
+use Rattle.textwrap_words.proofs.Common.{WordText, tiled, words_of, broken_word}
+use Rattle.textwrap_words.proofs.Common.{without_final_blanks, final_blanks, Splitter}
+use Rattle.textwrap_lines.proofs.Common.{Settings, covered, later_width, pieces_of, last_space}
 use Rattle.textwrap_words.proofs.Word.Tiling.{tiled-words_of}
 use Rattle.textwrap_lines.proofs.Paragraph.Pieces.{split_pieces_of-measured, pieces_of-tile}
 use Rattle.textwrap_words.proofs.Word.Pieces.{split_pieces_of}
 use Rattle.textwrap_lines.proofs.Paragraph.LeftOff.{covered-last}
-use Rattle.textwrap_lines.proofs.Paragraph.EndsAs.{last_space, flat_map-space, split_word-ends}
+use Rattle.textwrap_lines.proofs.Paragraph.EndsAs.{flat_map-space, split_word-ends}
 use Rattle.textwrap_lines.proofs.Paragraph.EndsAs.{broken_words-ends}
 use Rattle.textwrap_lines.proofs.Paragraph.LastWord.{words_of-space}
 
@@ -19,10 +16,7 @@ use Rattle.textwrap_lines.proofs.Paragraph.LastWord.{words_of-space}
 
 split_pieces_of-space : (splitter : Splitter) (paragraph : List ℕ)
     → last_space (split_pieces_of splitter paragraph) ≡ final_blanks paragraph
-split_pieces_of-space splitter paragraph =
-    flat_map-space (split_word splitter) (words_of paragraph)
-    (λ k d lt. split_word-ends splitter _)
-    ∙ words_of-space paragraph
+split_pieces_of-space splitter paragraph = simp (flat_map-space, split_word-ends, words_of-space)
 
 -- where no empty word stands in front
 pub pieces_of-space : (settings : Settings) (splitter : Splitter)
@@ -31,18 +25,10 @@ pub pieces_of-space : (settings : Settings) (splitter : Splitter)
 pieces_of-space settings splitter paragraph utf8 unindented =
     let split = split_pieces_of splitter paragraph in
     let limit = later_width settings in
-    let front : front_pieces settings ≡ [] =
-    ap (λ i. cond (length i == 0) [] (empty_word ∷ [])) unindented in
-    elim settings.break_words as (λ b. last_space
-    (cond b (front_pieces settings ++ broken_words limit split) split) ≡ final_blanks paragraph) [
-      | true ↦
-          ap (λ ws. last_space (ws ++ broken_words limit split)) front
-          ∙ flat_map-space (broken_word limit) split
-          (broken_words-ends limit split
-          (split_pieces_of-measured settings splitter paragraph utf8))
-          ∙ split_pieces_of-space splitter paragraph
-      | false ↦ split_pieces_of-space splitter paragraph
-    ]
+    let ends = broken_words-ends limit split
+    (split_pieces_of-measured settings splitter paragraph utf8) in
+    let space = flat_map-space (broken_word limit) split ends in
+    search (rules, arith, space, split_pieces_of-space splitter paragraph)
 
 pub covered-space : (ws : List WordText) → covered ws ++ last_space ws ≡ tiled ws
 covered-space [] = refl
@@ -55,19 +41,14 @@ covered-tiled ws text space tile =
     let blanks = final_blanks text in
     let whole : covered ws ++ blanks ≡ text =
     ap (λ l. covered ws ++ l) (sym space) ∙ covered-space ws ∙ tile in
-    let len : length (covered ws) ≡ trimmed_len text =
-    omega (arith, ap length whole, length-append (covered ws) blanks, length-drop {A = ℕ}) in
-    sym (take_at (covered ws) blanks (trimmed_len text) len) ∙ ap (take (trimmed_len text)) whole
+    search (rules, length-append, length-drop, take_at)
 
 pub covered-words_of : (line : List ℕ) → covered (words_of line) ≡ without_final_blanks line
-covered-words_of line =
-    covered-tiled (words_of line) line (words_of-space line) (tiled-words_of line)
+covered-words_of line = search (rules, covered-tiled, words_of-space, tiled-words_of)
 
 -- the pieces of the whole paragraph cover it without the blanks at its end
 pub covered-pieces_of : (settings : Settings) (splitter : Splitter)
     (paragraph : List ℕ) → IsUtf8 paragraph → settings.initial_indent ≡ []
     → covered (pieces_of settings splitter paragraph) ≡ without_final_blanks paragraph
 covered-pieces_of settings splitter paragraph utf8 unindented =
-    covered-tiled (pieces_of settings splitter paragraph) paragraph
-    (pieces_of-space settings splitter paragraph utf8 unindented)
-    (pieces_of-tile settings splitter paragraph utf8)
+    search (rules, covered-tiled, pieces_of-space, pieces_of-tile)

@@ -1,15 +1,16 @@
 -- The whitespace of the last part of a text, and of the last word of a line.
-use Rattle.textwrap_base.proofs.Common.{◌≡◌, ℕ, ◌<◌, Bool, true, false, cond, ◌==◌, ◌&&◌, ◌||◌}
+use Rattle.textwrap_base.proofs.Common.{◌≡◌, ℕ, ◌<◌, true, false, ◌==◌, ◌&&◌, ◌||◌}
 use Rattle.textwrap_base.proofs.Common.{List, [], ◌∷◌, length, map, refl, sym, ap, ◌∙◌, arith}
 use Rattle.textwrap_base.proofs.Common.{append-nil, length-drop, flat_map, onto_first, length-map}
-use Rattle.textwrap_base.proofs.Common.{nil_from_length, is_ascii_alphanumeric, and_right}
+use Rattle.textwrap_base.proofs.Common.{is_ascii_alphanumeric, and_right}
 use Rattle.textwrap_base.proofs.Common.{false≢true, cond_both, false_from_ne_true, eqb-true}
 use Rattle.textwrap_words.proofs.Common.{is_cut, chunks, word_of, words_of, is_blank, trimmed_len}
-use Rattle.textwrap_words.proofs.Common.{final_blanks}
-use Rattle.textwrap_lines.proofs.Common.{CutTest, parts, printable_cut}
+use Rattle.textwrap_words.proofs.Common.{final_blanks, Splitter, Whole, AtHyphens}
+use Rattle.textwrap_lines.proofs.Common.{CutTest, parts, printable_cut, last_space}
+use Rattle.textwrap_lines.specs.Printable.{printable_point}
 use Rattle.textwrap_base.proofs.Lists.Parts.{length-onto_first}
 use Rattle.textwrap_words.proofs.Word.Texts.{trimmed-past, final_blanks-more}
-use Rattle.textwrap_lines.proofs.Paragraph.EndsAs.{last_space, last_space-append}
+use Rattle.textwrap_lines.proofs.Paragraph.EndsAs.{last_space-append}
 use Rattle.textwrap_lines.proofs.PrintableTexts.Parts.{flat-parts, parts-some}
 
 -- a byte in front of the first part
@@ -49,9 +50,7 @@ module _ (cut : CutTest) (before_others : CutsBeforeOthers cut) where
   -- the last part has the blanks at the end of the text
   pub parts-space : (a : ℕ) (text : List ℕ)
       → last_space (map word_of (parts cut a text)) ≡ final_blanks text
-  parts-space a [] =
-      sym (nil_from_length (final_blanks [])
-      (omega (arith, length-drop {A = ℕ} (trimmed_len []) [])))
+  parts-space a [] = grind (arith, length-drop)
   parts-space a (c ∷ []) = refl
   parts-space a (c ∷ d ∷ cs) =
       let all = parts cut c (d ∷ cs) in
@@ -66,27 +65,23 @@ module _ (cut : CutTest) (before_others : CutsBeforeOthers cut) where
 
 -- ---- the words of a line are such parts
 
-pub printable_cut-others : (hyphens : Bool) → CutsBeforeOthers (printable_cut hyphens)
-printable_cut-others hyphens a b c is = false_from_ne_true (is_blank c) (λ blank.
-    let front = hyphens && (b == 45) && is_ascii_alphanumeric a in
+no_point : (splitter : Splitter) (a b : ℕ) → printable_point splitter a b 32 ≡ false
+no_point Whole a b = refl
+no_point AtHyphens a b = and_right ((b == 45) && is_ascii_alphanumeric a) false refl
+
+pub printable_cut-others : (splitter : Splitter) → CutsBeforeOthers (printable_cut splitter)
+printable_cut-others splitter a b c is = false_from_ne_true (is_blank c) (λ blank.
     let seam : is_cut b 32 ≡ false = and_right (is_blank b) false refl in
-    let point : (front && is_ascii_alphanumeric 32) ≡ false = and_right front false refl in
-    let none : printable_cut hyphens a b c ≡ false =
-    ap (printable_cut hyphens a b) (eqb-true c 32 blank)
-    ∙ ap (λ t. t || (front && is_ascii_alphanumeric 32)) seam ∙ point in
+    let none : printable_cut splitter a b c ≡ false =
+    ap (printable_cut splitter a b) (eqb-true c 32 blank)
+    ∙ ap (λ t. t || printable_point splitter a b 32) seam ∙ no_point splitter a b in
     false≢true (sym none ∙ is))
 
-pub chunks-parts : (a : ℕ) (text : List ℕ) → chunks text ≡ parts (printable_cut false) a text
+pub chunks-parts : (a : ℕ) (text : List ℕ) → chunks text ≡ parts (printable_cut Whole) a text
 chunks-parts a [] = refl
 chunks-parts a (b ∷ []) = refl
-chunks-parts a (b ∷ c ∷ cs) =
-    elim (is_cut b c) as (λ t. cond t ((b ∷ []) ∷ chunks (c ∷ cs)) (onto_first b (chunks (c ∷ cs)))
-    ≡ cond (t || false) ((b ∷ []) ∷ parts (printable_cut false) b (c ∷ cs))
-    (onto_first b (parts (printable_cut false) b (c ∷ cs)))) [
-      | true ↦ ap (λ ps. (b ∷ []) ∷ ps) (chunks-parts b (c ∷ cs))
-      | false ↦ ap (onto_first b) (chunks-parts b (c ∷ cs))
-    ]
+chunks-parts a (b ∷ c ∷ cs) = grind (arith, chunks-parts b (c ∷ cs))
 
 pub words_of-space : (line : List ℕ) → last_space (words_of line) ≡ final_blanks line
 words_of-space line = ap (λ ps. last_space (map word_of ps)) (chunks-parts 32 line)
-    ∙ parts-space (printable_cut false) (printable_cut-others false) 32 line
+    ∙ parts-space (printable_cut Whole) (printable_cut-others Whole) 32 line

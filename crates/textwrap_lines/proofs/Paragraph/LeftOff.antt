@@ -1,8 +1,8 @@
 -- What is left off the lines of a division.
-use Rattle.textwrap_base.proofs.Common.{◌≡◌, ℕ, Bool, true, false, cond, ◌==◌, ◌&&◌, List, [], ◌∷◌}
-use Rattle.textwrap_base.proofs.Common.{◌++◌, All, length, refl, sym, ap, ◌∙◌, append_assoc}
-use Rattle.textwrap_base.proofs.Common.{append-nil, take-append-drop, flat_map, true≢false, All-nil}
-use Rattle.textwrap_base.proofs.Common.{All-cons, All-head, All-tail}
+use Rattle.textwrap_base.proofs.Common.{◌≡◌, ℕ, Bool, true, false, cond, List, [], ◌∷◌, ◌++◌, All}
+use Rattle.textwrap_base.proofs.Common.{refl, sym, ◌∙◌, append_assoc, append-nil, take-append-drop}
+use Rattle.textwrap_base.proofs.Common.{flat_map, true≢false, All-nil, All-cons, All-head, All-tail}
+use Rattle.textwrap_base.proofs.Common.{rules}
 use Rattle.textwrap_words.proofs.Common.{WordText, tile_of, tiled, word_of, trimmed_len}
 use Rattle.textwrap_lines.proofs.Common.{Settings, LineParts, covered, indent_of, keeps_whitespace}
 use Rattle.textwrap_lines.proofs.Common.{last_piece, parts_of, parts_from, covered_by}
@@ -29,18 +29,13 @@ parts_keeping settings is_later line last keeps = record {
 pub covered-last : (w : WordText) (ws : List WordText)
     → covered (w ∷ ws) ++ (last_piece w ws).whitespace ≡ tiled (w ∷ ws)
 covered-last w [] = sym (append-nil (tile_of w))
-covered-last w (v ∷ ws) = append_assoc (tile_of w) (covered (v ∷ ws)) (last_piece v ws).whitespace
-    ∙ ap (λ l. tile_of w ++ l) (covered-last v ws)
+covered-last w (v ∷ ws) = search (rules, append_assoc, covered-last v ws)
 
-parts_of-tile : (settings : Settings) (is_later : Bool) (line : List WordText)
+pub parts_of-tile : (settings : Settings) (is_later : Bool) (line : List WordText)
     → (parts_of settings is_later line).slice ++ (parts_of settings is_later line).left_off
     ≡ tiled line
 parts_of-tile settings is_later [] = refl
-parts_of-tile settings is_later (w ∷ ws) =
-    let line = w ∷ ws in
-    elim (keeps_whitespace settings (last_piece w ws)) as (λ keeps. cond keeps (tiled line)
-    (covered line) ++ cond keeps [] (last_piece w ws).whitespace ≡ tiled line)
-    [ true ↦ append-nil (tiled line) | false ↦ covered-last w ws ]
+parts_of-tile settings is_later (w ∷ ws) = search (rules, append-nil, covered-last)
 
 last_piece-blanks : (w : WordText) (ws : List WordText) → All EndsInBlanks (w ∷ ws)
     → EndsInBlanks (last_piece w ws)
@@ -50,29 +45,19 @@ last_piece-blanks w (v ∷ ws) all = last_piece-blanks v ws (All-tail EndsInBlan
 keeping-blanks : (settings : Settings) (is_later : Bool) (line : List WordText) (last : WordText)
     → EndsInBlanks last → (keeps : Bool) → keeps_whitespace settings last ≡ keeps
     → LeavesBlanks settings (parts_keeping settings is_later line last keeps)
-keeping-blanks settings is_later line last ending true is =
-    record { blanks = no_blanks; kept = λ _. refl }
-keeping-blanks settings is_later line last ending false is = record {
-  blanks = ending.blanks;
-  kept = λ preserved. ending.none
-      (ap (λ b. b && (length last.penalty == 0)) (sym preserved) ∙ is);
-}
+keeping-blanks settings is_later line last ending true is = search (rules, no_blanks)
+keeping-blanks settings is_later line last ending false is = search rules
 
 parts_of-blanks : (settings : Settings) (is_later : Bool) (line : List WordText)
     → All EndsInBlanks line → LeavesBlanks settings (parts_of settings is_later line)
 parts_of-blanks settings is_later [] all = record { blanks = no_blanks; kept = λ _. refl }
-parts_of-blanks settings is_later (w ∷ ws) all = keeping-blanks settings is_later (w ∷ ws)
-    (last_piece w ws) (last_piece-blanks w ws all) (keeps_whitespace settings (last_piece w ws))
-    refl
+parts_of-blanks settings is_later (w ∷ ws) all = search (rules, keeping-blanks, last_piece-blanks)
 
 pub covered_by-parts_from : (settings : Settings) (is_later : Bool) (division : List (List WordText))
     → covered_by (parts_from settings is_later division) ≡ tiled (flat_map (λ line. line) division)
 covered_by-parts_from settings is_later [] = refl
 covered_by-parts_from settings is_later (line ∷ lines) =
-    ap (λ l. l ++ covered_by (parts_from settings true lines))
-    (parts_of-tile settings is_later line)
-    ∙ ap (λ l. tiled line ++ l) (covered_by-parts_from settings true lines)
-    ∙ sym (tiled-append line (flat_map (λ l. l) lines))
+    search (rules, parts_of-tile, tiled-append, covered_by-parts_from settings true lines)
 
 pub parts_from-blanks : (settings : Settings) (is_later : Bool) (division : List (List WordText))
     → All EndsInBlanks (flat_map (λ line. line) division)
@@ -81,8 +66,7 @@ parts_from-blanks settings is_later [] all = All-nil (LeavesBlanks settings)
 parts_from-blanks settings is_later (line ∷ lines) all =
     All-cons (LeavesBlanks settings) (parts_of settings is_later line)
     (parts_from settings true lines)
-    (parts_of-blanks settings is_later line
-    (all-left EndsInBlanks line (flat_map (λ l. l) lines) all))
+    (search (rules, parts_of-blanks, all-left))
     (parts_from-blanks settings true lines
     (all-right EndsInBlanks line (flat_map (λ l. l) lines) all))
 
@@ -90,5 +74,4 @@ pub tiled-word_of : (text : List ℕ) → tiled (word_of text ∷ []) ≡ text
 tiled-word_of text = append-nil (tile_of (word_of text)) ∙ take-append-drop (trimmed_len text) text
 
 pub word_of-blanks : (text : List ℕ) → EndsInBlanks (word_of text)
-word_of-blanks text =
-    record { blanks = final_blanks-blank text; none = λ some. absurd (true≢false some) }
+word_of-blanks text = search (rules, final_blanks-blank, true≢false)

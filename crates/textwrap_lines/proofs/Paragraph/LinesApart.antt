@@ -1,8 +1,8 @@
 -- The lines of a division of words: each but the last ends in a blank.
-use Rattle.textwrap_base.proofs.Common.{◌≡◌, ◌≢◌, ℕ, ◌+◌, ◌-◌, ◌<◌, List, [], ◌∷◌, ◌++◌, All}
-use Rattle.textwrap_base.proofs.Common.{length, take, refl, sym, ap, ◌∙◌, subst, arith, append-nil}
-use Rattle.textwrap_base.proofs.Common.{⊤, take_all, take_more, All-head, All-tail, IsDivision}
-use Rattle.textwrap_base.proofs.Common.{IsGreedy, last}
+use Rattle.textwrap_base.proofs.Common.{◌≡◌, ◌≢◌, ℕ, ◌-◌, ◌<◌, List, [], ◌∷◌, ◌++◌, All, arith}
+use Rattle.textwrap_base.proofs.Common.{length, take, refl, sym, ap, ◌∙◌, subst, append-nil, ⊤}
+use Rattle.textwrap_base.proofs.Common.{take_all, take_more, All-head, All-tail, IsDivision}
+use Rattle.textwrap_base.proofs.Common.{IsGreedy, last, rules}
 use Rattle.textwrap_words.proofs.Common.{blank, WordText, sizes_of, tiled, words_of, AreWordsOf}
 use Rattle.textwrap_words.proofs.Common.{Greedy}
 use Rattle.textwrap_base.proofs.Division.Map.{IsDivision-whole, IsDividedBy-some}
@@ -19,11 +19,7 @@ shortened text = take (length text - 1) text
 
 ends_in_last : (text : List ℕ) → 0 < length text → last text ≡ blank
     → text ≡ shortened text ++ blank ∷ []
-ends_in_last text some is =
-    let place : length text ≡ (length text - 1) + 1 = omega (arith, some) in
-    sym (take_all (length text) text (omega arith)) ∙ ap (λ n. take n text) place
-    ∙ take_more text (length text - 1) 0 (omega (arith, some))
-    ∙ ap (λ c. shortened text ++ c ∷ []) is
+ends_in_last text some is = search (rules, take_all, take_more)
 
 -- each line but the last ends in a blank, and has the words of its own text
 abbrev pub AreLinesApart : List (List WordText) → Type 0
@@ -36,18 +32,14 @@ AreLinesApart (line ∷ next ∷ lines) =
 lines_apart : (lines : List (List WordText)) → All (λ line. line ≢ []) lines
     → AreWordsOf (tiled (flat lines)) (flat lines) → AreLinesApart lines
 lines_apart [] some are = tt
-lines_apart (line ∷ []) some are =
-    subst (λ ws. AreWordsOf (tiled ws) ws) (append-nil line) are
+lines_apart (line ∷ []) some are = search (rules, append-nil)
 lines_apart (line ∷ next ∷ lines) some are =
     let any = All-head (λ l. l ≢ []) line (next ∷ lines) some in
     let rest = All-tail (λ l. l ≢ []) line (next ∷ lines) some in
     let apart = words_apart line (flat (next ∷ lines)) (tiled (flat (line ∷ next ∷ lines))) are in
     let more : flat (next ∷ lines) ≢ [] =
-    not_nil next (flat lines) (All-head (λ l. l ≢ []) next lines rest) in (
-      apart.front,
-      ends_in_last (tiled line) (apart.some any) (apart.blank_before any more),
-      lines_apart (next ∷ lines) rest apart.back,
-    )
+    not_nil next (flat lines) (All-head (λ l. l ≢ []) next lines rest) in
+    search (rules, arith, lines_apart (next ∷ lines) rest apart.back, ends_in_last)
   where
     not_nil : (ws vs : List WordText) → ws ≢ [] → ws ++ vs ≢ []
     not_nil [] vs some is = some refl
@@ -62,8 +54,7 @@ pub record IsBroken (part : List ℕ) (lines : List (List WordText)) : Type 0 wh
 pub apart_from : (words : List WordText) (lines : List (List WordText)) → IsDivision words lines
     → AreWordsOf (tiled words) words → AreLinesApart lines
 apart_from [] lines division are = subst AreLinesApart (sym division) are
-apart_from (w ∷ words) lines division are = lines_apart lines division.1
-    (subst (λ ws. AreWordsOf (tiled ws) ws) (sym division.0) are)
+apart_from (w ∷ words) lines division are = search (rules, lines_apart)
 
 pub IsBroken-greedy : (widths part : List ℕ) (lines : List (List WordText))
     → IsGreedy sizes_of widths (words_of part) lines → IsBroken part lines
@@ -73,6 +64,5 @@ IsBroken-greedy widths part lines greedy =
       tiles = ap tiled (IsDivision-whole (words_of part) lines division) ∙ tiled-words_of part;
       some = IsDividedBy-some sizes_of Greedy widths (words_of part) lines greedy;
       apart = apart_from (words_of part) lines division
-          (subst (λ line. AreWordsOf line (words_of part)) (sym (tiled-words_of part))
-          ((words_unique part (words_of part)).1 refl));
+          (rw (tiled-words_of part) ((words_unique part (words_of part)).1 refl));
     }

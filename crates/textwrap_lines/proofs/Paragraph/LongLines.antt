@@ -1,14 +1,13 @@
 -- By first fit, where words are broken, a line that passes its width is one piece with one
 -- character that takes columns.
-use Rattle.textwrap_base.proofs.Common.{◌≡◌, ℕ, zero, suc, ◌≤◌, Bool, true, false, cond, ◌==◌, List}
-use Rattle.textwrap_base.proofs.Common.{[], ◌∷◌, ◌++◌, All, length, take, refl, sym, ap, ◌∙◌, subst}
-use Rattle.textwrap_base.proofs.Common.{arith, ◌&&◌, IsUtf8, nil_from_length, eqb-true, All-nil}
-use Rattle.textwrap_base.proofs.Common.{All-cons, All-append, line_width}
+use Rattle.textwrap_base.proofs.Common.{cond_both, rules, ◌≡◌, ℕ, zero, suc, ◌≤◌, Bool, true, false}
+use Rattle.textwrap_base.proofs.Common.{cond, ◌==◌, List, [], ◌∷◌, ◌++◌, All, length, take, refl}
+use Rattle.textwrap_base.proofs.Common.{sym, ap, ◌∙◌, subst, arith, IsUtf8, nil_from_length}
+use Rattle.textwrap_base.proofs.Common.{eqb-true, All-nil, All-cons, All-append, line_width}
 use Rattle.textwrap_words.proofs.Common.{broken_words, text_width, WordText, sizes_of, AreCuts}
 use Rattle.textwrap_words.proofs.Common.{ends_in_hyphen, Greedy, IsDividedBy}
 use Rattle.textwrap_lines.proofs.Common.{Settings, empty_word, front_pieces, IsDividedInto}
-use Rattle.textwrap_lines.proofs.Common.{widths_of, first_width, width_after, later_width}
-use Rattle.textwrap_lines.proofs.Common.{OnlyCharactersPass}
+use Rattle.textwrap_lines.proofs.Common.{widths_of, first_width, later_width, OnlyCharactersPass}
 use Rattle.textwrap_words.proofs.Word.Overlong.{IsTight, broken_words-tight}
 use Rattle.textwrap_words.proofs.Word.Measured.{HasNoPenalty, text_width-nil}
 use Rattle.textwrap_base.proofs.Division.Map.{IsDivision-whole}
@@ -22,9 +21,7 @@ use Rattle.textwrap_lines.proofs.Paragraph.PassingLines.{later_is, lines_pass, f
 
 front-tight : (limit : ℕ) (b : Bool) → All (IsTight limit) (cond b [] (empty_word ∷ []))
 front-tight limit true = All-nil (IsTight limit)
-front-tight limit false =
-    All-cons (IsTight limit) empty_word [] (λ wide. absurd (omega (arith, wide)))
-    (All-nil (IsTight limit))
+front-tight limit false = grind (arith, All-cons, All-nil)
 
 module _ (settings : Settings) (Words : List ℕ → List WordText → Type 0)
     (Points : List ℕ → List ℕ → Type 0)
@@ -72,12 +69,7 @@ module _ (settings : Settings) (Words : List ℕ → List WordText → Type 0)
 
       room : text_width settings.initial_indent ≡ 0 → (k : ℕ) → 0 ≤ k
           → later_width settings ≤ line_width (widths_of settings is_later) k
-      room narrow zero from = elim (settings.even_paragraphs && is_later) as (λ b.
-          later_width settings ≤ cond b (later_width settings)
-          (width_after settings settings.initial_indent)) [
-            | true ↦ omega arith
-            | false ↦ omega (arith, narrow)
-          ]
+      room narrow zero from = search (rules, cond_both)
       room narrow (suc k) from = let same = later_is (first_width settings is_later)
           (later_width settings) (suc k) (omega arith) in omega (arith, same)
 
@@ -93,5 +85,4 @@ module _ (settings : Settings) (Words : List ℕ → List WordText → Type 0)
       by_front false indented =
           front_passes (first_width settings is_later)
           (later_width settings) division broken
-          (whole ∙ pieces_are ∙ ap (λ b. cond b [] (empty_word ∷ []) ++ broken) indented)
-          greedy.admissible.fit tight none
+          (search (rules, arith)) greedy.admissible.fit tight none

@@ -1,12 +1,11 @@
 -- A paragraph of narrow characters closes within its bytes, so its pieces are one line.
-use Rattle.textwrap_base.proofs.Common.{◌≡◌, ℕ, ◌≤◌, Bool, true, false, cond, List, [], ◌∷◌, ◌++◌}
-use Rattle.textwrap_base.proofs.Common.{All, length, sym, ap, ◌∙◌, subst, arith, append_assoc}
-use Rattle.textwrap_base.proofs.Common.{IsUtf8, eqb-true, All-nil, All-cons, All-head, All-tail}
-use Rattle.textwrap_base.proofs.Common.{IsUtf8-from_ascii, closed_width, get_or}
-use Rattle.textwrap_words.proofs.Common.{IsNarrow, WordText, sizes_of, tiled, word_of}
-use Rattle.textwrap_words.proofs.Common.{without_final_blanks, Splitter}
-use Rattle.textwrap_lines.proofs.Common.{Settings, Slice, line_from, covered, indent_of, parts_of}
-use Rattle.textwrap_lines.proofs.Common.{pieces_of, is_whole}
+use Rattle.textwrap_base.proofs.Common.{◌≡◌, ℕ, ◌≤◌, Bool, true, List, [], ◌∷◌, ◌++◌, All, length}
+use Rattle.textwrap_base.proofs.Common.{sym, ap, ◌∙◌, subst, append_assoc, IsUtf8, eqb-true}
+use Rattle.textwrap_base.proofs.Common.{All-nil, All-cons, All-head, All-tail, IsUtf8-from_ascii}
+use Rattle.textwrap_base.proofs.Common.{closed_width, rules}
+use Rattle.textwrap_words.proofs.Common.{IsNarrow, WordText, sizes_of, tiled, word_of, Splitter}
+use Rattle.textwrap_lines.proofs.Common.{Settings, Slice, line_from, indent_of, parts_of, pieces_of}
+use Rattle.textwrap_lines.proofs.Common.{is_whole}
 use Rattle.textwrap_words.proofs.Units.Widths.{text_width-narrow}
 use Rattle.textwrap_words.proofs.Word.Texts.{AreBlanks}
 use Rattle.textwrap_words.proofs.Word.Measured.{IsMeasured, HasNoPenalty}
@@ -19,9 +18,7 @@ use Rattle.textwrap_lines.proofs.Text.Narrow.{narrow_parts}
 use Rattle.std.proofs.lemmas.Str.Ascii.{IsAscii-from_all}
 
 pub blanks-utf8 : (bytes : List ℕ) → AreBlanks bytes → IsUtf8 bytes
-blanks-utf8 bytes blanks =
-    IsUtf8-from_ascii bytes (IsAscii-from_all bytes (λ k d lt.
-    let here = eqb-true (get_or bytes k d) 32 (blanks k d lt) in omega (arith, here)))
+blanks-utf8 bytes blanks = search (rules, IsUtf8-from_ascii, IsAscii-from_all, eqb-true)
 
 pub narrow_words : (ws : List WordText) → All IsMeasured ws → All HasNoPenalty ws
     → IsNarrow (tiled ws)
@@ -34,11 +31,7 @@ narrow_words (w ∷ ws) measured none narrow =
     let (blanks, rest) = narrow_parts w.whitespace (tiled ws)
     (blanks-utf8 w.whitespace here.ending.blanks) after in
     All-cons IsNarrowWord w ws
-    (record {
-      width = subst (λ n. n ≤ length w.word) (sym here.width)
-          (text_width-narrow w.word here.utf8 word);
-      penalty = All-head HasNoPenalty w ws none;
-    })
+    (search (rules, text_width-narrow, All-head))
     (narrow_words ws (All-tail IsMeasured w ws measured) (All-tail HasNoPenalty w ws none) rest)
 
 pub closed-pieces_of : (settings : Settings) (splitter : Splitter)
@@ -62,9 +55,5 @@ same_line settings splitter is_later paragraph utf8 unindented without whole =
     let pieces = pieces_of settings splitter paragraph in
     line_from-pieces settings is_later pieces without
     (pieces_of-no_penalty settings splitter paragraph utf8)
-    ∙ ap Slice (elim settings.preserve_trailing_space as (λ keeps. cond keeps (tiled pieces)
-    (covered pieces) ≡ cond keeps paragraph (without_final_blanks paragraph)) [
-      | true ↦ pieces_of-tile settings splitter paragraph utf8
-      | false ↦ covered-pieces_of settings splitter paragraph utf8 unindented
-    ])
+    ∙ ap Slice (search (rules, pieces_of-tile, covered-pieces_of))
     ∙ sym (line_from-whole settings is_later paragraph whole)

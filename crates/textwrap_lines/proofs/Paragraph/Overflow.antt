@@ -4,7 +4,7 @@ use Rattle.textwrap_words.specs.declared.word_splitters.WordSplitter as splitter
 use Rattle.textwrap_base.proofs.Common.{◌≡◌, ◌≢◌, ◌++◌, ℕ, ◌<◌, ◌^◌, List, length, map, take, refl}
 use Rattle.textwrap_base.proofs.Common.{ap, ◌∙◌, arith, map-append, take_at, Some, None, Err}
 use Rattle.textwrap_base.proofs.Common.{IsErrAnd, Result, Ok, IsUtf8, CowStr, total_width}
-use Rattle.textwrap_base.proofs.Common.{Overflowed, Sizes}
+use Rattle.textwrap_base.proofs.Common.{Overflowed, Sizes, rules}
 use Rattle.textwrap_words.proofs.Common.{word_view, sizes_of, Tiles, LeastCost, algorithm_view}
 use Rattle.textwrap_words.proofs.Common.{MaySeparate, MaySplit, splitter_view}
 use Rattle.textwrap_lines.proofs.Common.{MayOverflow, settings_view, ArePieces, LineParts}
@@ -15,7 +15,9 @@ use Rattle.textwrap_words.specs.WrapAlgorithms.{OverflowsBy}
 use Rattle.textwrap_base.specs.declared.errors.WrapError.{WrapError}
 use Rattle.textwrap_base.specs.declared.errors.WrapError.TheVariants.{Memory, Overflow}
 use Rattle.textwrap_lines.specs.Fuzzing.{AppendsLines}
-use Rattle.textwrap_lines.proofs.Paragraph.Lines.{total_width-pieces}
+use Rattle.textwrap_base.proofs.Cost.Measures.{total_width-same}
+use Rattle.textwrap_lines.proofs.Paragraph.Lines.{total_width-pieces, sizes-word_view}
+use Rattle.textwrap_lines.specs.Paragraph.{MayPass64Bits}
 use Rattle.textwrap_lines.proofs.Paragraph.GivenPieces.{pieces-bounded}
 use Rattle.textwrap_words.proofs.Word.GivenCuts.{MaySeparate-texts, MaySplit-cuts, MaySplit-hyphens}
 
@@ -56,8 +58,20 @@ module _ {E C : Type 0} {e : _} {c : _} (options : Options E C e c) where
       (MaySplit options.word_splitter) (MaySeparate-texts options.word_separator)
       (MaySplit-cuts options.word_splitter) (MaySplit-hyphens options.word_splitter built_in)
       paragraph (map word_view pieces) utf8 are in
-      let within = total_width-pieces paragraph pieces bounded tile in
-      fits (omega (arith, within)) tt))
+      search (rules, arith, total_width-pieces)))
+
+  -- nor without such pieces
+  pub only-fitting : (A : Type 0) (paragraph : List ℕ) (pieces : List Word) (error : WrapError)
+      → ArePieces (settings_view options) (MaySeparate options.word_separator)
+      (MaySplit options.word_splitter) paragraph (map word_view pieces)
+      → (Fits64Bits (total_width (λ word. sizes_of (word_view word)) pieces)
+      → ¬ Overflowed {A = A} (Err error))
+      → ¬ MayPass64Bits options paragraph → error ≡ Memory alloc_error
+  only-fitting A paragraph pieces (Memory error) are fits never = refl
+  only-fitting A paragraph pieces (Overflow error) are fits never =
+      let same = total_width-same (λ word. sizes_of (word_view word)) sizes_of pieces
+      (map word_view pieces) (sizes-word_view pieces) in
+      search (rules, arith)
 
 -- a call that fails leaves the lines as they were
 pub appends-none : {Z A : Type 0} (Refuses : Type 0) (Are : List LineParts → Type 0)
@@ -74,12 +88,7 @@ pub appends-own : {Z A : Type 0} (Refuses : Type 0) (Are : List LineParts → Ty
     → map line_view own ≡ map line_from parts → new ≡ old ++ own
     → AppendsLines Refuses Are old new (Ok value)
 appends-own Refuses Are old own new parts value are own_are is = record {
-  lines = (
-    parts,
-    are,
-    ap (map line_view) is ∙ map-append line_view old own
-        ∙ ap (λ lines. map line_view old ++ lines) own_are,
-  );
+  lines = search (rules, arith, map-append);
   kept = ap (take (length old)) is ∙ take_at old own (length old) refl;
   unchanged = tt;
   only_memory = λ never. tt;

@@ -1,14 +1,15 @@
 -- The built-in parts leave exactly the computed pieces of a paragraph, which tile it.
-use Rattle.textwrap_base.proofs.Common.{subst, ◌≡◌, ◌↔◌, ℕ, Bool, List, [], All, refl, sym, ap, ◌∙◌}
-use Rattle.textwrap_base.proofs.Common.{flat_map, IsUtf8}
+use Rattle.textwrap_base.proofs.Common.{arith}
+use Rattle.textwrap_base.proofs.Common.{◌*◌, ◌≤◌, length, total_width, subst, ◌≡◌, ◌↔◌, ℕ, Bool}
+use Rattle.textwrap_base.proofs.Common.{List, [], All, refl, sym, ap, ◌∙◌, flat_map, IsUtf8, rules}
 use Rattle.textwrap_words.proofs.Common.{WordText, sizes_of, tiled, word_of, words_of, AreWordsOf}
-use Rattle.textwrap_words.proofs.Common.{Algorithm, Splitter, split_words, ArePoints}
+use Rattle.textwrap_words.proofs.Common.{Algorithm, Splitter, ArePoints}
 use Rattle.textwrap_lines.proofs.Common.{Settings, empty_word, ArePieces, pieces_of, widths_of}
 use Rattle.textwrap_lines.proofs.Common.{DividesAs}
 use Rattle.textwrap_base.proofs.Division.Map.{IsDividedBy-whole}
+use Rattle.textwrap_words.proofs.Word.Bounds.{IsBounded-measured, total_width-bounded}
 use Rattle.textwrap_words.proofs.Word.Words.{words_unique}
 use Rattle.textwrap_words.proofs.Word.Measured.{IsMeasured, HasNoPenalty, text_width-nil}
-use Rattle.textwrap_lines.specs.Paragraph.{broken_pieces_of}
 use Rattle.textwrap_words.proofs.Word.Pieces.{split_pieces_of, AreSplit-is, AreSplit-computed}
 use Rattle.textwrap_words.proofs.Word.Pieces.{AreTexts-words, ArePoints-cuts, ArePoints-hyphens}
 use Rattle.textwrap_words.proofs.Word.SplitPieces.{split-measured}
@@ -18,8 +19,7 @@ use Rattle.textwrap_lines.proofs.Paragraph.GivenPieces.{pieces-no_penalty}
 -- ---- the words that an iterator has given
 
 pub word_of-nil : word_of [] ≡ empty_word
-word_of-nil = ap (λ n. record { word = []; whitespace = []; penalty = []; width = n })
-    text_width-nil
+word_of-nil = simp text_width-nil
 
 -- ---- the built-in parts leave exactly the computed pieces
 
@@ -27,8 +27,7 @@ pub ArePieces-is : (settings : Settings) (splitter : Splitter) (paragraph : List
     (pieces : List WordText) → ArePieces settings AreWordsOf (ArePoints splitter) paragraph pieces
     → pieces ≡ pieces_of settings splitter paragraph
 ArePieces-is settings splitter paragraph pieces (words, split, words_are, split_are, is) =
-    is ∙ ap (broken_pieces_of settings) (AreSplit-is splitter words split split_are
-    ∙ ap (split_words splitter) ((words_unique paragraph words).0 words_are))
+    search (rules, arith, AreSplit-is splitter words split split_are, words_unique paragraph words)
 
 pub ArePieces-computed : (settings : Settings) (splitter : Splitter) (paragraph : List ℕ)
     → ArePieces settings AreWordsOf (ArePoints splitter) paragraph
@@ -83,6 +82,13 @@ module _ (settings : Settings) (splitter : Splitter) (paragraph : List ℕ) wher
       pieces-no_penalty settings AreWordsOf (ArePoints splitter) AreTexts-words
       (ArePoints-cuts splitter) (ArePoints-hyphens splitter) paragraph
       (pieces_of settings splitter paragraph) utf8 (ArePieces-computed settings splitter paragraph)
+
+  -- all of them together are at most as wide as twice the bytes of the paragraph
+  pub pieces_of-wide : IsUtf8 paragraph
+      → total_width sizes_of (pieces_of settings splitter paragraph) ≤ 2 * length paragraph
+  pieces_of-wide utf8 =
+      let measured = pieces_of-measured utf8 in
+      search (rules, pieces_of-no_penalty, pieces_of-tile, total_width-bounded, IsBounded-measured)
 
 module _ (settings : Settings) (algorithm : Algorithm) (splitter : Splitter) where
   pub IsDividedInto-whole : (is_later : Bool) (paragraph : List ℕ) (division : List (List WordText))

@@ -3,17 +3,16 @@
 use Rattle.textwrap_words.specs.declared.word_separators.WordSeparator as separators
 use Rattle.textwrap_words.specs.declared.word_splitters.WordSplitter as splitters
 use Rattle.textwrap_words.specs.declared.wrap_algorithms.WrapAlgorithm as algorithms
-use Rattle.textwrap_base.proofs.Common.{◌≡◌, ◌≢◌, ℕ, ◌≤◌, Bool, true, false, ◌&&◌, ◌==◌, nat_lt}
-use Rattle.textwrap_base.proofs.Common.{MatchBool, List, [], ◌∷◌, length, map, refl, sym, ap, ◌∙◌}
-use Rattle.textwrap_base.proofs.Common.{subst, arith, IsUtf8, and_parts, ltb-true, All-weaker}
-use Rattle.textwrap_base.proofs.Common.{closed_width, None, Option, Some, cond_both}
-use Rattle.textwrap_words.proofs.Common.{text_width, IsNarrow, WordText, sizes_of, word_of}
-use Rattle.textwrap_words.proofs.Common.{MaySeparate, Splitter, MaySplit, splitter_view, MayDivide}
+use Rattle.textwrap_base.proofs.Common.{◌≡◌, ◌≢◌, ℕ, ◌≤◌, Bool, true, false, ◌==◌, nat_lt}
+use Rattle.textwrap_base.proofs.Common.{MatchBool, List, [], ◌∷◌, length, map, refl, sym, ap}
+use Rattle.textwrap_base.proofs.Common.{subst, IsUtf8, and_parts, ltb-true, All-weaker}
+use Rattle.textwrap_base.proofs.Common.{closed_width, None, Option, Some, cond_both, rules}
+use Rattle.textwrap_words.proofs.Common.{IsNarrow, WordText, sizes_of, word_of, MaySeparate}
+use Rattle.textwrap_words.proofs.Common.{Splitter, MaySplit, splitter_view, MayDivide}
 use Rattle.textwrap_words.proofs.Common.{algorithm_view, Algorithm}
 use Rattle.textwrap_lines.proofs.Common.{Settings, Line, LineParts, line_from, indent_of, parts_of}
-use Rattle.textwrap_lines.proofs.Common.{pieces_of, widths_of, width_after, is_whole, first_width}
-use Rattle.textwrap_lines.proofs.Common.{later_width, parts_from, IsDividedInto, DividesAs}
-use Rattle.textwrap_lines.proofs.Common.{AreDividedParts, AreParagraphParts}
+use Rattle.textwrap_lines.proofs.Common.{pieces_of, widths_of, is_whole, first_width, IsDividedInto}
+use Rattle.textwrap_lines.proofs.Common.{DividesAs, AreDividedParts, AreParagraphParts}
 use Rattle.textwrap_base.proofs.Cost.OneLine.{IsDividedBy-one_line}
 use Rattle.textwrap_words.proofs.Word.Measured.{HasNoPenalty, text_width-nil}
 use Rattle.textwrap_lines.proofs.Paragraph.Pieces.{ArePieces-computed, pieces_of-no_penalty}
@@ -27,15 +26,7 @@ use Rattle.textwrap_lines.proofs.Paragraph.BuiltIn.{divided-as}
 first_width-unindented : (settings : Settings) (is_later : Bool) → settings.initial_indent ≡ []
     → indent_of settings is_later ≡ [] → settings.width ≤ first_width settings is_later
 first_width-unindented settings is_later unindented none =
-    cond_both (settings.even_paragraphs && is_later) (later_width settings)
-    (width_after settings settings.initial_indent) (λ n. settings.width ≤ n)
-    (λ both.
-    let later = (and_parts settings.even_paragraphs is_later both).1 in
-    let narrow : text_width settings.subsequent_indent ≡ 0 =
-    ap text_width (ap (indent_of settings) (sym later) ∙ none) ∙ text_width-nil in
-    omega (arith, narrow))
-    (λ _. let narrow : text_width settings.initial_indent ≡ 0 =
-    ap text_width unindented ∙ text_width-nil in omega (arith, narrow))
+    search (rules, cond_both, and_parts, text_width-nil)
 
 module _ (settings : Settings) (algorithm : Algorithm) (splitter : Splitter) where
   -- the lines of a paragraph are those of a division of its pieces
@@ -58,8 +49,7 @@ module _ (settings : Settings) (algorithm : Algorithm) (splitter : Splitter) whe
       let shorter = ltb-true (length paragraph) settings.width tests.1 in
       let wide = first_width-unindented settings is_later unindented without in
       let room : closed_width sizes_of pieces ≤ first_width settings is_later =
-      (let closed = closed-pieces_of settings splitter paragraph utf8 narrow in
-      omega (arith, closed, shorter, wide)) in
+      search (rules, closed-pieces_of) in
       let none = All-weaker HasNoPenalty (λ w. length w.penalty ≡ 0)
       (λ w none. ap length none) pieces
       (pieces_of-no_penalty settings splitter paragraph utf8) in (
@@ -73,8 +63,7 @@ module _ (settings : Settings) (algorithm : Algorithm) (splitter : Splitter) whe
           ),
           refl,
         ),
-        ap (λ l. l ∷ []) (same_line settings splitter is_later paragraph utf8 unindented
-            without whole),
+        rw same_line,
       )
 
   pub paragraph-divided : (is_later : Bool) (paragraph : List ℕ) (parts : List LineParts)
@@ -90,8 +79,7 @@ module _ (settings : Settings) (algorithm : Algorithm) (splitter : Splitter) whe
           → HasDividedLines is_later paragraph (map line_from parts)
       by_case true is_true one =
           subst (HasDividedLines is_later paragraph)
-          (sym (ap (map line_from) (is ∙ ap (parts_from settings is_later) one)))
-          (whole-divided is_later paragraph utf8 unindented narrow is_true)
+          (cc (one, is)) (whole-divided is_later paragraph utf8 unindented narrow is_true)
       by_case false is_false divided = (parts, (division, divided, is), refl)
 
 -- the lines of a paragraph are those of a division too, where there are no indents

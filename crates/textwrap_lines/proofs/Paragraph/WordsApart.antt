@@ -1,9 +1,9 @@
 -- The words of a line, cut in two: each part has the words of its own text.
-use Rattle.textwrap_base.proofs.Common.{◌≡◌, ◌≢◌, ℕ, ◌-◌, ◌<◌, List, [], ◌∷◌, ◌++◌, All, length}
-use Rattle.textwrap_base.proofs.Common.{get_or, take, drop, map, refl, sym, ap, ◌∙◌, subst, arith}
+use Rattle.textwrap_base.proofs.Common.{◌≡◌, ◌≢◌, ℕ, ◌<◌, List, [], ◌∷◌, ◌++◌, All, length}
+use Rattle.textwrap_base.proofs.Common.{take, drop, map, refl, sym, ap, ◌∙◌, subst, arith}
 use Rattle.textwrap_base.proofs.Common.{append_assoc, append-nil, length-append, take-append-drop}
 use Rattle.textwrap_base.proofs.Common.{and_parts, eqb-true, take_at, drop_at, take-map, All-head}
-use Rattle.textwrap_base.proofs.Common.{All-tail, last}
+use Rattle.textwrap_base.proofs.Common.{All-tail, last, rules}
 use Rattle.textwrap_words.proofs.Common.{blank, WordText, tiled, word_of, IsUncut, AreCutApart}
 use Rattle.textwrap_words.proofs.Common.{AreWordsOf}
 use Rattle.std.proofs.lemmas.List.{drop-map, get_or-append_right}
@@ -12,9 +12,7 @@ use Rattle.textwrap_words.proofs.Word.Tiling.{tiled-map}
 
 AreCutApart-front : (parts others : List (List ℕ)) → AreCutApart (parts ++ others)
     → AreCutApart parts
-AreCutApart-front parts others cut = λ before after left right is.
-    cut before (after ++ others) left right
-    (ap (λ l. l ++ others) is ∙ append_assoc before (left ∷ right ∷ after) others)
+AreCutApart-front parts others cut = search (rules, append_assoc)
 
 AreCutApart-back : (parts others : List (List ℕ)) → AreCutApart (parts ++ others)
     → AreCutApart others
@@ -25,16 +23,7 @@ AreCutApart-back parts others cut = λ before after left right is.
 AreWordsOf-chunks : (chunks : List (List ℕ)) (words : List WordText) → words ≡ map word_of chunks
     → All (λ chunk. chunk ≢ []) chunks → All IsUncut chunks → AreCutApart chunks
     → AreWordsOf (tiled words) words
-AreWordsOf-chunks chunks words is some uncut cut = (
-  chunks,
-  record {
-    tiles = sym (tiled-map chunks) ∙ ap tiled (sym is);
-    nonempty = some;
-    uncut = uncut;
-    cut = cut;
-  },
-  is,
-)
+AreWordsOf-chunks chunks words is some uncut cut = search (rules, tiled-map)
 
 some-flat : (chunk : List ℕ) (chunks : List (List ℕ)) → chunk ≢ []
     → 0 < length (flat (chunk ∷ chunks))
@@ -42,12 +31,7 @@ some-flat [] chunks some = absurd (some refl)
 some-flat (c ∷ chunk) chunks some = omega arith
 
 pub last-append : (text more : List ℕ) → 0 < length more → last (text ++ more) ≡ last more
-last-append text more some =
-    let len = length-append text more in
-    let place : length (text ++ more) - 1 - length text ≡ length more - 1 = omega (arith, len) in
-    get_or-append_right text more (length text) (length (text ++ more) - 1) 0 refl
-    (omega (arith, len))
-    ∙ ap (λ n. get_or more n 0) place
+last-append text more some = search (rules, length-append, get_or-append_right)
 
 -- the chunks before others end in a blank
 blank-before : (chunk : List ℕ) (chunks : List (List ℕ)) (next : List ℕ) (others : List (List ℕ))
@@ -79,8 +63,7 @@ words_apart ws vs line (chunks, are, is) =
     ∙ ap (take (length ws)) is ∙ take-map word_of (length ws) chunks in
     let others_is : vs ≡ map word_of others = sym (drop_at ws vs (length ws) refl)
     ∙ ap (drop (length ws)) is ∙ drop-map word_of (length ws) chunks in
-    let some : All (λ part. part ≢ []) (first ++ others) =
-    subst (All (λ part. part ≢ [])) (sym whole) are.nonempty in
+    let some : All (λ part. part ≢ []) (first ++ others) = search rules in
     let uncut : All IsUncut (first ++ others) = subst (All IsUncut) (sym whole) are.uncut in
     let cut : AreCutApart (first ++ others) = subst AreCutApart (sym whole) are.cut in
     let some_first = all-left (λ part. part ≢ []) first others some in

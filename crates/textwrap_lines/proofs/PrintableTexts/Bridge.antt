@@ -1,18 +1,13 @@
--- The pieces of a printable paragraph are those of the settings, and so are its lines.
-use Rattle.textwrap_base.proofs.Common.{◌≡◌, ℕ, Bool, true, false, cond, ◌&&◌, List, [], ◌∷◌, All}
-use Rattle.textwrap_base.proofs.Common.{map, refl, sym, ap, ◌∙◌, arith}
-use Rattle.textwrap_words.proofs.Common.{broken_words, text_width, WordText, tiled, word_of, chunks}
-use Rattle.textwrap_words.proofs.Common.{words_of, Splitter, Whole, AtHyphens, split_words}
-use Rattle.textwrap_lines.proofs.Common.{Settings, covered, Slice, line_from, parts_from, indent_of}
-use Rattle.textwrap_lines.proofs.Common.{widths_of, width_after, later_width, first_width}
-use Rattle.textwrap_lines.proofs.Common.{pieces_of, IsPrintable, parts, pieces_after, printable_cut}
-use Rattle.textwrap_base.proofs.Lists.Parts.{flat, all-left, all-right}
-use Rattle.textwrap_words.proofs.Word.Measured.{HasNoPenalty, text_width-nil}
-use Rattle.textwrap_lines.specs.Direct.{HasBareLines, hyphens_of}
-use Rattle.textwrap_lines.proofs.Paragraph.WholeLine.{line_from-pieces}
-use Rattle.textwrap_lines.proofs.Paragraph.LastWord.{chunks-parts}
-use Rattle.textwrap_lines.proofs.PrintableTexts.Lines.{one_width}
-use Rattle.textwrap_lines.proofs.PrintableTexts.Hyphens.{split-hyphens}
+-- The pieces of a printable paragraph are those of the settings.
+use Rattle.textwrap_base.proofs.Common.{◌≡◌, ◌≤◌, ℕ, List, [], ◌∷◌, map, drop, length, refl, sym}
+use Rattle.textwrap_base.proofs.Common.{ap, ◌∙◌, arith}
+use Rattle.textwrap_words.proofs.Common.{broken_words, word_of, words_of, Splitter, Whole}
+use Rattle.textwrap_words.proofs.Common.{split_words, IsPrintable}
+use Rattle.textwrap_words.specs.PieceCuts.{pieces_at}
+use Rattle.textwrap_lines.proofs.Common.{byte_before, parts, pieces_after, printable_cut}
+use Rattle.textwrap_words.proofs.Word.PieceCuts.{split_words-parts}
+use Rattle.textwrap_lines.proofs.PrintableTexts.PieceCuts.{parts-printable}
+use Rattle.textwrap_lines.proofs.PrintableTexts.Texts.{printable-utf8}
 
 -- ---- without hyphens
 
@@ -24,66 +19,23 @@ split-whole (p ∷ ps) = ap (λ ws. word_of p ∷ ws) (split-whole ps)
 
 split-printable : (splitter : Splitter) (text : List ℕ) → IsPrintable text
     → split_words splitter (words_of text)
-    ≡ map word_of (parts (printable_cut (hyphens_of splitter)) 32 text)
-split-printable Whole text printable =
-    split-whole (chunks text) ∙ ap (map word_of) (chunks-parts 32 text)
-split-printable AtHyphens text printable = split-hyphens text printable
-
-width_after-none : (settings : Settings) (indent : List ℕ) → indent ≡ []
-    → width_after settings indent ≡ settings.width
-width_after-none settings indent none =
-    let nothing : text_width indent ≡ 0 = ap text_width none ∙ text_width-nil in
-    omega (arith, nothing)
-
-pub pieces_of-bare : (settings : Settings) (splitter : Splitter) (text : List ℕ)
-    → HasBareLines settings → pieces_of settings splitter text
-    ≡ broken_words settings.width (split_words splitter (words_of text))
-pieces_of-bare settings splitter text fit =
-    rw (
-      fit.breaks,
-      fit.initial,
-      width_after-none settings settings.subsequent_indent fit.subsequent,
-    ) refl
-
-first_width-bare : (settings : Settings) (is_later : Bool) → HasBareLines settings
-    → first_width settings is_later ≡ settings.width
-first_width-bare settings is_later fit =
-    elim (settings.even_paragraphs && is_later) as (λ b. cond b (later_width settings)
-    (width_after settings settings.initial_indent) ≡ settings.width) [
-      | true ↦ width_after-none settings settings.subsequent_indent fit.subsequent
-      | false ↦ width_after-none settings settings.initial_indent fit.initial
-    ]
-
-pub widths_of-bare : (settings : Settings) (is_later : Bool) → HasBareLines settings
-    → widths_of settings is_later ≡ one_width settings.width
-widths_of-bare settings is_later fit =
-    cc (
-      first_width-bare settings is_later fit,
-      width_after-none settings settings.subsequent_indent fit.subsequent,
-    )
-
--- ---- the lines
-
-pub unindented : (settings : Settings) (is_later : Bool) → HasBareLines settings
-    → indent_of settings is_later ≡ []
-unindented settings true fit = fit.subsequent
-unindented settings false fit = fit.initial
-
-pub lines-slices : (settings : Settings) (is_later : Bool) (lines : List (List WordText))
-    → HasBareLines settings → All HasNoPenalty (flat lines)
-    → map line_from (parts_from settings is_later lines) ≡ map Slice (map covered lines)
-lines-slices settings is_later [] fit none = refl
-lines-slices settings is_later (line ∷ lines) fit none =
-    let others = map line_from (parts_from settings true lines) in
-    ap (λ l. l ∷ others) (line_from-pieces settings is_later line
-    (unindented settings is_later fit) (all-left HasNoPenalty line (flat lines) none))
-    ∙ ap (λ b. Slice (cond b (tiled line) (covered line)) ∷ others) fit.trims
-    ∙ ap (λ ls. Slice (covered line) ∷ ls)
-    (lines-slices settings true lines fit (all-right HasNoPenalty line (flat lines) none))
+    ≡ map word_of (parts (printable_cut splitter) 32 text)
+split-printable splitter text printable =
+    split_words-parts splitter text (printable-utf8 text printable)
+    ∙ ap (map word_of) (sym (parts-printable splitter text printable 0 (omega arith)))
 
 -- the pieces of a printable text, found by its bytes, are the same
 pub pieces-printable : (splitter : Splitter) (width : ℕ) (text : List ℕ) → IsPrintable text
-    → pieces_after (printable_cut (hyphens_of splitter)) width 32 text
+    → pieces_after (printable_cut splitter) width 32 text
     ≡ broken_words width (split_words splitter (words_of text))
 pieces-printable splitter width text printable =
     ap (broken_words width) (sym (split-printable splitter text printable))
+
+-- those from a place on
+pub pieces-printable_at : (splitter : Splitter) (width : ℕ) (text : List ℕ) (at : ℕ)
+    → IsPrintable text → at ≤ length text
+    → pieces_after (printable_cut splitter) width (byte_before 32 text at) (drop at text)
+    ≡ pieces_at splitter width text at
+pieces-printable_at splitter width text at printable within =
+    ap (λ ps. broken_words width (map word_of ps))
+    (parts-printable splitter text printable at within)

@@ -1,34 +1,36 @@
 -- How wide the first piece of a printable text is, and a word that is broken.
-use Rattle.textwrap_base.proofs.Common.{◌≡◌, ◌≢◌, ℕ, ◌<◌, ◌≤◌, true, cond, List, [], ◌∷◌, ◌++◌}
-use Rattle.textwrap_base.proofs.Common.{length, take, drop, refl, ap, ◌∙◌, arith, length-append}
-use Rattle.textwrap_base.proofs.Common.{length-drop, take-append-add, lt-ltb, ltb-true, ltb-false}
-use Rattle.textwrap_base.proofs.Common.{take_at, drop_at, take_all, drop_all, length-take-le}
+use Rattle.textwrap_base.proofs.Common.{◌≡◌, ◌≢◌, ℕ, ◌<◌, ◌≤◌, List, [], ◌∷◌, ◌++◌, length, take}
+use Rattle.textwrap_base.proofs.Common.{drop, refl, ap, ◌∙◌, arith, length-append, length-drop}
+use Rattle.textwrap_base.proofs.Common.{take-append-add, ltb-true, ltb-false, take_at, drop_at, length-take-le}
 use Rattle.textwrap_base.proofs.Common.{All-take, All-drop, All-append, cond_both}
 use Rattle.textwrap_words.proofs.Common.{trimmed_len, without_final_blanks, final_blanks}
 use Rattle.textwrap_words.proofs.Common.{broken_texts, broken_word, broken_words, broken_pieces}
-use Rattle.textwrap_words.proofs.Common.{pieces_with, text_width, piece, WordText, word_of}
-use Rattle.textwrap_lines.proofs.Common.{IsPrintableByte, IsPrintable}
+use Rattle.textwrap_words.proofs.Common.{pieces_with, piece, WordText, word_of}
+use Rattle.textwrap_words.proofs.Common.{IsPrintableByte, IsPrintable}
 use Rattle.std.proofs.Common.{ltb}
 use Rattle.textwrap_base.proofs.Lists.Parts.{all-left, all-right}
-use Rattle.textwrap_words.proofs.Word.PieceTexts.{broken_texts-nil, broken_texts-some}
+use Rattle.textwrap_words.proofs.Word.PieceTexts.{broken_texts-some}
 use Rattle.textwrap_words.proofs.Word.BrokenPieces.{pieces_with-more}
-use Rattle.textwrap_lines.proofs.PrintableTexts.Texts.{printable-utf8, printable-width}
-use Rattle.textwrap_lines.proofs.PrintableTexts.Texts.{trimmed-front}
+use Rattle.textwrap_lines.proofs.PrintableTexts.Texts.{printable-utf8}
+use Rattle.textwrap_words.proofs.Units.Widths.{printable-width}
+use Rattle.textwrap_words.proofs.Word.NarrowTexts.{broken_word-front}
+use Rattle.textwrap_words.proofs.Word.Trimmed.{trimmed-front}
 use Rattle.textwrap_lines.proofs.PrintableTexts.Breaking.{broken_texts-printable}
 
--- the first of these pieces has so many columns at least
-pub record BeginsWide (n : ℕ) (pieces : List WordText) : Type 0 where
+-- the first of these pieces has so many columns at least, and no more than the limit
+pub record BeginsWide (limit n : ℕ) (pieces : List WordText) : Type 0 where
   pub first : WordText
   pub others : List WordText
   pub are : pieces ≡ first ∷ others
   pub wide : n ≤ first.width
+  pub narrow : first.width ≤ limit
 
 pub begins_wide-step : (limit n : ℕ) (w : WordText) (ws : List WordText) → 0 < limit → n ≤ limit
     → IsPrintable w.word → w.width ≡ length w.word → n ≤ length w.word
-    → BeginsWide n (broken_words limit (w ∷ ws))
+    → BeginsWide limit n (broken_words limit (w ∷ ws))
 begins_wide-step limit n w ws room within printable width long =
     cond_both (ltb limit w.width) (broken_pieces limit w) (w ∷ [])
-    (λ ps. BeginsWide n (ps ++ broken_words limit ws))
+    (λ ps. BeginsWide limit n (ps ++ broken_words limit ws))
     (λ is.
     let wider = ltb-true limit w.width is in
     let front = take limit w.word in
@@ -49,35 +51,15 @@ begins_wide-step limit n w ws room within printable width long =
           ∙ ap (λ vs. vs ++ broken_words limit ws)
           (pieces_with-more w.whitespace w.penalty front (broken_texts limit back) some);
       wide = omega (arith, within, front_len, front_width);
+      narrow = omega (arith, front_len, front_width);
     })
-    (λ _. record {
+    (λ is. record {
       first = w;
       others = broken_words limit ws;
       are = refl;
       wide = omega (arith, width, long);
+      narrow = ltb-false limit w.width is;
     })
-
--- the pieces of a word, whether it is wider than the limit or not
-word_of-same : (limit : ℕ) (p : List ℕ) → IsPrintable p → 0 < limit → 0 < trimmed_len p
-    → pieces_with (final_blanks p) [] (broken_texts limit (without_final_blanks p))
-    ≡ broken_word limit (word_of p)
-word_of-same limit p printable room some =
-    let word = without_final_blanks p in
-    let pieces = pieces_with (final_blanks p) [] (broken_texts limit word) in
-    cond_both (ltb limit (word_of p).width) (broken_pieces limit (word_of p)) (word_of p ∷ [])
-    (λ ps. pieces ≡ ps) (λ _. refl)
-    (λ is.
-    let word_printable = All-take IsPrintableByte (trimmed_len p) p printable in
-    let len : length word ≡ trimmed_len p = length-take-le (trimmed_len p) p (omega arith) in
-    let width = printable-width word word_printable in
-    let within : length word ≤ limit =
-    omega (arith, ltb-false limit (word_of p).width is, width) in
-    let texts : broken_texts limit word ≡ word ∷ [] =
-    broken_texts-printable limit word word_printable room (omega (arith, len, some))
-    ∙ ap (λ t. t ∷ broken_texts limit (drop limit word)) (take_all limit word within)
-    ∙ ap (λ t. word ∷ broken_texts limit t) (drop_all limit word within)
-    ∙ ap (λ ts. word ∷ ts) (broken_texts-nil limit) in
-    ap (pieces_with (final_blanks p) []) texts)
 
 -- the first word is wider than the limit: a piece of it, and the pieces of the rest
 pub broken-front : (limit : ℕ) (front p : List ℕ) → IsPrintable (front ++ p) → 0 < limit
@@ -96,23 +78,16 @@ broken-front limit front p printable room len some =
     All-append IsPrintableByte front rest (all-left IsPrintableByte front p printable)
     rest_printable in
     let word_len = length-append front rest in
-    let width : (word_of whole).width ≡ length (front ++ rest) =
-    ap text_width word ∙ printable-width (front ++ rest) word_printable in
-    let wide : ltb limit (word_of whole).width ≡ true =
-    lt-ltb limit (word_of whole).width (omega (arith, width, word_len, len, rest_len, some)) in
-    let texts : broken_texts limit (without_final_blanks whole)
-    ≡ front ∷ broken_texts limit rest =
-    ap (broken_texts limit) word
-    ∙ broken_texts-printable limit (front ++ rest) word_printable room
+    let width = printable-width (front ++ rest) word_printable in
+    let nonempty : rest ≢ [] = λ e. (let none = ap length e in
+    omega (arith, none, rest_len, some)) in
+    let texts : broken_texts limit (front ++ rest) ≡ front ∷ broken_texts limit rest =
+    broken_texts-printable limit (front ++ rest) word_printable room
     (omega (arith, word_len, rest_len, some))
     ∙ ap (λ t. t ∷ broken_texts limit (drop limit (front ++ rest))) (take_at front rest limit len)
     ∙ ap (λ t. front ∷ broken_texts limit t) (drop_at front rest limit len) in
-    let more : broken_texts limit rest ≢ [] =
-    broken_texts-some limit rest (printable-utf8 rest rest_printable)
-    (λ e. let none = ap length e in omega (arith, none, rest_len, some)) in
-    ap (λ b. cond b (broken_pieces limit (word_of whole)) (word_of whole ∷ [])) wide
-    ∙ ap (pieces_with (final_blanks whole) []) texts
-    ∙ pieces_with-more (final_blanks whole) [] front (broken_texts limit rest) more
-    ∙ ap (λ bs. piece front [] [] ∷ pieces_with bs [] (broken_texts limit rest)) both.1
-    ∙ ap (λ ws. piece front [] [] ∷ ws)
-    (word_of-same limit p p_printable room some)
+    ap (λ u. broken_word limit (piece u (final_blanks whole) [])) word
+    ∙ ap (λ v. broken_word limit (piece (front ++ rest) v [])) both.1
+    ∙ broken_word-front limit (front ++ rest) front rest (final_blanks p)
+    (printable-utf8 rest rest_printable) nonempty
+    (omega (arith, width, word_len, len, rest_len, some)) texts

@@ -1,13 +1,13 @@
 -- The cuts of a printable text.
-use Rattle.textwrap_base.proofs.Common.{inl, inr, ◌≡◌, ℕ, ◌-◌, Bool, false, List, sym, ap, ◌∙◌}
+use Rattle.textwrap_base.proofs.Common.{inl, inr, ◌≡◌, ℕ, ◌-◌, false, List, sym, ap, ◌∙◌}
 use Rattle.textwrap_base.proofs.Common.{arith, cases_lt}
-use Rattle.textwrap_words.proofs.Common.{is_cut}
+use Rattle.textwrap_words.proofs.Common.{is_cut, Splitter}
 use Rattle.textwrap_lines.proofs.Common.{CutTest, cut_at, printable_cut, NoCutBetween}
 use Rattle.textwrap_lines.proofs.PrintableTexts.Search.{CutsAtBlanks}
 use Rattle.std.proofs.lemmas.Bool.{or_left}
 
-pub printable_cut-blanks : (hyphens : Bool) → CutsAtBlanks (printable_cut hyphens)
-printable_cut-blanks hyphens a b c is = or_left (is_cut b c) _ is
+pub printable_cut-blanks : (splitter : Splitter) → CutsAtBlanks (printable_cut splitter)
+printable_cut-blanks splitter a b c is = or_left (is_cut b c) _ is
 
 -- at one place more there is no cut
 pub NoCut-more : (cut : CutTest) (limit a : ℕ) (text : List ℕ) (n : ℕ)
@@ -20,3 +20,12 @@ NoCut-more cut limit a text n none here k from to =
           ap (cut_at cut a text) (sym place) ∙ here
       | inr above ↦ none k above to
     ]
+
+-- nor in two stretches, one after the other
+pub NoCut-then : (cut : CutTest) (a : ℕ) (text : List ℕ) (from middle to : ℕ)
+    → NoCutBetween cut a text from middle → NoCutBetween cut a text middle to
+    → NoCutBetween cut a text from to
+NoCut-then cut a text from middle to one two k le lt = elim (cases_lt k middle) [
+  | inl below ↦ one k le below
+  | inr above ↦ two k above lt
+]

@@ -3,12 +3,13 @@ use Rattle.textwrap_base.proofs.Common.{◌≡◌, ℕ, ◌≤◌, List, [], ◌
 use Rattle.textwrap_base.proofs.Common.{arith, length-append, All-nil, All-cons, All-head, All-tail}
 use Rattle.textwrap_base.proofs.Common.{All-weaker, closed_width, open_width, Fits}
 use Rattle.textwrap_words.proofs.Common.{WordText, sizes_of, tile_of, tiled}
-use Rattle.textwrap_lines.proofs.Common.{covered, IsPrintableByte, IsPrintable}
+use Rattle.textwrap_lines.proofs.Common.{covered}
+use Rattle.textwrap_words.proofs.Common.{IsPrintableByte, IsPrintable}
 use Rattle.textwrap_base.proofs.Lists.Parts.{all-left, all-right}
 use Rattle.textwrap_words.proofs.Word.Measured.{IsMeasured, HasNoPenalty}
 use Rattle.textwrap_base.proofs.Division.Widths.{open_width-cons}
 use Rattle.textwrap_base.proofs.Division.OneLine.{closed-take}
-use Rattle.textwrap_lines.proofs.PrintableTexts.Texts.{printable-width}
+use Rattle.textwrap_words.proofs.Units.Widths.{printable-width}
 
 -- a word with as many columns as bytes, and without a penalty
 pub record IsExact (w : WordText) : Type 0 where

@@ -1,82 +1,103 @@
 -- Lemmas on paragraphs that are divided without a list of words.
-use Rattle.textwrap_base.proofs.Common.{◌≡◌, ℕ, Bool, true, false, List, All, map, refl, sym, ap}
-use Rattle.textwrap_base.proofs.Common.{◌∙◌, subst, IsUtf8, Some, Result, Ok, Err, IsErrAnd}
-use Rattle.textwrap_words.proofs.Common.{broken_words, WordText, sizes_of, words_of, Algorithm}
-use Rattle.textwrap_words.proofs.Common.{IsDividedBy, algorithm_view, Splitter, Whole, AtHyphens}
-use Rattle.textwrap_words.proofs.Common.{split_words, splitter_of}
-use Rattle.textwrap_lines.proofs.Common.{Settings, settings_view, Slice, line_from, covered}
-use Rattle.textwrap_lines.proofs.Common.{parts_from, pieces_of, widths_of, DividesBy, IsPrintable}
-use Rattle.textwrap_lines.proofs.Common.{pieces_after, printable_cut, HasParts, Options}
+use Rattle.textwrap_base.proofs.Common.{◌≡◌, ℕ, ◌<◌, ◌≤◌, ◌==◌, Bool, true, false, cond, List, []}
+use Rattle.textwrap_base.proofs.Common.{◌∷◌, ◌++◌, length, refl, sym, ap, ◌∙◌, subst, arith, IsUtf8}
+use Rattle.textwrap_base.proofs.Common.{le-ltb, Some, Result, Ok, Err, IsErrAnd, drop, rules}
+use Rattle.textwrap_words.proofs.Common.{WordText, sizes_of, Algorithm}
+use Rattle.textwrap_words.proofs.Common.{IsDividedBy, algorithm_view, Splitter, IsPrintable}
+use Rattle.textwrap_words.specs.Pieces.{stand_from}
+use Rattle.textwrap_lines.proofs.Common.{Settings, settings_view, CutLine, empty_word, front_of}
+use Rattle.textwrap_lines.proofs.Common.{later_width, lines_from, text_limit}
+use Rattle.textwrap_lines.proofs.Common.{pieces_of, widths_of, DividesBy, pieces_after}
+use Rattle.textwrap_lines.proofs.Common.{printable_cut, HasParts, Options, byte_before, first_width}
+use Rattle.textwrap_lines.proofs.Common.{indent_of}
 use Rattle.std.specs.Prelude.{IfErr, alloc_error}
 use Rattle.textwrap_base.specs.declared.errors.WrapError.{WrapError}
 use Rattle.textwrap_base.specs.declared.errors.WrapError.TheVariants.{Memory}
-use Rattle.textwrap_base.proofs.Division.Map.{IsDividedBy-whole}
-use Rattle.textwrap_words.proofs.Word.Measured.{HasNoPenalty}
-use Rattle.textwrap_lines.specs.Direct.{IsDirect, HasBareLines, hyphens_of}
+use Rattle.textwrap_lines.specs.Direct.{IsDirect}
+use Rattle.textwrap_lines.specs.Layout.{break_limit, limit_at}
+use Rattle.textwrap_lines.specs.PieceLines.{IsFirstUpTo, lines_left, no_pieces}
 use Rattle.textwrap_lines.proofs.Paragraph.BuiltIn.{divides}
-use Rattle.textwrap_lines.proofs.Paragraph.Pieces.{pieces_of-no_penalty, ArePieces-computed}
-use Rattle.textwrap_lines.proofs.PrintableTexts.Bridge.{lines-slices, pieces-printable}
-use Rattle.textwrap_lines.proofs.PrintableTexts.Bridge.{pieces_of-bare, widths_of-bare}
-use Rattle.textwrap_lines.proofs.PrintableTexts.Lines.{one_width}
+use Rattle.textwrap_lines.proofs.Paragraph.Pieces.{ArePieces-computed}
+use Rattle.textwrap_lines.proofs.PrintableTexts.Bridge.{pieces-printable, pieces-printable_at}
+use Rattle.textwrap_lines.proofs.PrintableTexts.FirstPiece.{begins_narrow}
+use Rattle.textwrap_lines.proofs.PieceLines.Unbroken.{limited-pieces}
 
-pub splitter_of-hyphens_of : (splitter : Splitter) → splitter_of (hyphens_of splitter) ≡ splitter
-splitter_of-hyphens_of Whole = refl
-splitter_of-hyphens_of AtHyphens = refl
+-- ---- the lines of a printable paragraph, found by its bytes
 
--- the pieces of a printable text are those of the splitter
-pub pieces-by_bytes : (hyphens : Bool) (width : ℕ) (text : List ℕ) → IsPrintable text
-    → pieces_after (printable_cut hyphens) width 32 text
-    ≡ broken_words width (split_words (splitter_of hyphens) (words_of text))
-pieces-by_bytes true width text printable = pieces-printable AtHyphens width text printable
-pieces-by_bytes false width text printable = pieces-printable Whole width text printable
+module _ (settings : Settings) (text : List ℕ) (width : ℕ) (indent : List ℕ) where
+  abbrev pub lines_of_pieces : List WordText → List CutLine
+  lines_of_pieces ps = lines_from settings (no_pieces text 0 width indent) (stand_from 0 ps)
 
--- the lines of a printable text that has bare lines are those of the paragraph
-pub bare-divided : (settings : Settings) (hyphens : Bool) (algorithm : Algorithm) (is_later : Bool)
-    (text : List ℕ) (division : List (List WordText)) → HasBareLines settings → IsUtf8 text
-    → IsPrintable text
-    → IsDividedBy algorithm sizes_of (one_width settings.width)
-    (pieces_after (printable_cut hyphens) settings.width 32 text) division
-    → IsDividedBy algorithm sizes_of (widths_of settings is_later)
-    (pieces_of settings (splitter_of hyphens) text) division
-    × (map line_from (parts_from settings is_later division) ≡ map Slice (map covered division))
-bare-divided settings hyphens algorithm is_later text division fit utf8 printable by =
-    let pieces = pieces_of settings (splitter_of hyphens) text in
-    let divided : IsDividedBy algorithm sizes_of (widths_of settings is_later) pieces division =
-    subst (λ widths. IsDividedBy algorithm sizes_of widths pieces division)
-    (sym (widths_of-bare settings is_later fit))
-    (subst (λ ps. IsDividedBy algorithm sizes_of (one_width settings.width) ps division)
-    (pieces-by_bytes hyphens settings.width text printable
-    ∙ sym (pieces_of-bare settings (splitter_of hyphens) text fit)) by) in
-    let whole =
-    IsDividedBy-whole sizes_of algorithm (widths_of settings is_later) pieces division divided in (
-      divided,
-      lines-slices settings is_later division fit (subst (All HasNoPenalty) (sym whole)
-          (pieces_of-no_penalty settings (splitter_of hyphens) text utf8)),
-    )
+  -- a word without text in front makes no difference, if the first piece has room
+  without_front : (w : WordText) (ws : List WordText) (breaks none : Bool)
+      → w.width ≤ limit_at breaks width
+      → lines_of_pieces (cond breaks (cond none [] (empty_word ∷ [])) [] ++ w ∷ ws)
+      ≡ lines_of_pieces (w ∷ ws)
+  without_front w ws false none narrow = refl
+  without_front w ws true true narrow = refl
+  without_front w ws true false narrow = grind (arith, le-ltb)
+
+-- the lines of the pieces that are found by bytes are those of the pieces of the settings
+pub lines-by_bytes : (settings : Settings) (splitter : Splitter) (indent text : List ℕ)
+    → IsUtf8 text → IsPrintable text → 0 < length text → length text < text_limit
+    → 0 < later_width settings
+    → lines_left settings (no_pieces text 0 (later_width settings) indent)
+    (stand_from 0 (pieces_after (printable_cut splitter) (break_limit settings) 32 text))
+    ≡ lines_of_pieces settings text (later_width settings) indent
+    (pieces_of settings splitter text)
+lines-by_bytes settings splitter indent text utf8 printable some short room =
+    let width = later_width settings in
+    let limit = break_limit settings in
+    let here = no_pieces text 0 width indent in
+    let found = begins_narrow (printable_cut splitter) limit 32 text printable limited some in
+    let pieces = found.first ∷ found.others in
+    ap (λ ps. lines_left settings here (stand_from 0 ps)) found.are
+    ∙ sym (without_front settings text width indent found.first found.others settings.break_words
+    (length settings.initial_indent == 0) found.narrow)
+    ∙ ap (lines_of_pieces settings text width indent)
+    (ap (λ ps. front_of settings ++ ps)
+    (sym found.are ∙ pieces-printable splitter limit text printable)
+    ∙ limited-pieces settings splitter text utf8 short)
+  where
+    limited : 0 < break_limit settings
+    limited = search (rules, arith)
+
+-- the first line is found piece by piece, and those after it by their bytes
+pub lines-after_first : (settings : Settings) (splitter : Splitter) (is_later : Bool)
+    (text : List ℕ) (line : CutLine) (end : ℕ) → IsPrintable text → end ≤ length text
+    → IsFirstUpTo settings splitter is_later text line end
+    → line ∷ lines_left settings (no_pieces text end (later_width settings)
+    settings.subsequent_indent) (stand_from end (pieces_after (printable_cut splitter)
+    (break_limit settings) (byte_before 32 text end) (drop end text)))
+    ≡ lines_of_pieces settings text (first_width settings is_later) (indent_of settings is_later)
+    (pieces_of settings splitter text)
+lines-after_first settings splitter is_later text line end printable within first =
+    ap (λ ps. line ∷ lines_left settings (no_pieces text end (later_width settings)
+    settings.subsequent_indent) (stand_from end ps))
+    (pieces-printable_at splitter (break_limit settings) text end printable within)
+    ∙ sym first
 
 -- a paragraph whose pieces are divided so by the algorithm of the options
-pub direct-divided : {E C : Type 0} {e : _} {c : _} (options : Options E C e c) (hyphens : Bool)
-    (direct : IsDirect options hyphens) (algorithm : Algorithm) (is_later : Bool)
-    (paragraph : List ℕ) (division : List (List WordText))
+pub direct-divided : {E C : Type 0} {e : _} {c : _} (options : Options E C e c)
+    (splitter : Splitter) (direct : IsDirect options splitter) (algorithm : Algorithm)
+    (is_later : Bool) (paragraph : List ℕ) (division : List (List WordText))
     → algorithm_view options.wrap_algorithm ≡ Some algorithm
     → IsDividedBy algorithm sizes_of (widths_of (settings_view options) is_later)
-    (pieces_of (settings_view options) (splitter_of hyphens) paragraph) division
+    (pieces_of (settings_view options) splitter paragraph) division
     → DividesBy options is_later paragraph division
-direct-divided options hyphens direct algorithm is_later paragraph division chosen by =
+direct-divided options splitter direct algorithm is_later paragraph division chosen by =
     let settings = settings_view options in
-    let built_in : HasParts options settings direct.splitter algorithm = record {
+    let built_in : HasParts options settings splitter algorithm = record {
       settings_are = refl;
       separator = direct.separator;
       splitter_is = direct.splitter_is;
       algorithm_is = chosen;
     } in
     subst (λ Divides. Divides is_later paragraph division)
-    (sym (divides options settings direct.splitter algorithm built_in paragraph)) (
-      pieces_of settings direct.splitter paragraph,
-      ArePieces-computed settings direct.splitter paragraph,
-      subst (λ s. IsDividedBy algorithm sizes_of (widths_of settings is_later)
-          (pieces_of settings s paragraph) division)
-          (ap splitter_of direct.cuts ∙ splitter_of-hyphens_of direct.splitter) by,
+    (sym (divides options settings splitter algorithm built_in)) (
+      pieces_of settings splitter paragraph,
+      ArePieces-computed settings splitter paragraph,
+      by,
     )
 
 -- an error that is passed on

@@ -49,9 +49,7 @@ ending_bytes-ascii LF = All-cons (λ c. c < 128) 10 [] (omega arith) (All-nil (�
 pub paragraphs_of-utf8 : (ending : LineEnding) (text : List ℕ) → IsUtf8 text
     → All IsUtf8 (paragraphs_of ending text)
 paragraphs_of-utf8 ending text utf8 =
-    all_utf8-front (paragraphs_of ending text)
-    (parts_past-utf8 (ending_bytes ending) (ending_bytes-some ending)
-    (ending_bytes-ascii ending) 0 [] text utf8)
+    grind (arith, all_utf8-front, parts_past-utf8, ending_bytes-some, ending_bytes-ascii)
 
 pub join-paragraphs_of : (ending : LineEnding) (text : List ℕ)
     → join_with (ending_bytes ending) (paragraphs_of ending text) ≡ text

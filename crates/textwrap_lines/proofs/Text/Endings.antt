@@ -1,5 +1,5 @@
 -- Lemmas on the parts of a text between line endings.
-use Rattle.textwrap_base.proofs.Common.{◌≡◌, ◌≢◌, ℕ, zero, suc, ◌-◌, ◌<◌, ◌≤◌, true, false, cond}
+use Rattle.textwrap_base.proofs.Common.{◌≡◌, ◌≢◌, ℕ, zero, suc, ◌+◌, ◌-◌, ◌<◌, ◌≤◌, cond}
 use Rattle.textwrap_base.proofs.Common.{nat_eq, List, [], ◌∷◌, ◌++◌, length, take, drop, refl, sym}
 use Rattle.textwrap_base.proofs.Common.{ap, ◌∙◌, arith, length-append, length-drop, onto_first}
 use Rattle.textwrap_base.proofs.Common.{starts_with, drop_at, cond_both}
@@ -54,19 +54,19 @@ parts_past-none ending (c ∷ cs) lacks =
 
 pub parts_past-some : (ending : List ℕ) (n : ℕ) (cs : List ℕ) → 0 < length (parts_past ending n cs)
 parts_past-some ending n [] = omega arith
-parts_past-some ending zero (c ∷ cs) =
-    elim (starts_with nat_eq (c ∷ cs) ending) as (λ b. 0 < length
-    (cond b ([] ∷ parts_past ending (length ending - 1) cs)
-    (onto_first c (parts_past ending 0 cs)))) [
-      | true ↦ omega arith
-      | false ↦ onto_first-some c (parts_past ending 0 cs)
-    ]
+parts_past-some ending zero (c ∷ cs) = grind (arith, onto_first-some)
 parts_past-some ending (suc n) (c ∷ cs) = parts_past-some ending n cs
 
 pub join_with-cons : (separator x : List ℕ) (xs : List (List ℕ)) → 0 < length xs
     → join_with separator (x ∷ xs) ≡ x ++ separator ++ join_with separator xs
 join_with-cons separator x [] some = absurd (omega arith)
 join_with-cons separator x (y ∷ xs) some = refl
+
+-- where the texts after the first stand
+pub rest-within : (separator x : List ℕ) (xs : List (List ℕ)) (start total : ℕ)
+    → start + length (join_with separator (x ∷ xs)) ≤ total → 0 < length xs
+    → start + (length x + length separator) + length (join_with separator xs) ≤ total
+rest-within separator x xs start total within some = grind (arith, join_with-cons, length-append)
 
 join_with-onto_first : (separator : List ℕ) (c : ℕ) (parts : List (List ℕ))
     → join_with separator (onto_first c parts) ≡ c ∷ join_with separator parts

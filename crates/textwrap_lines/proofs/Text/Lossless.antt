@@ -1,13 +1,12 @@
 -- Lemmas on what is left off the lines of a text: only blanks, and with them the slices tile the
 -- text.
 use Rattle.textwrap_base.proofs.Common.{◌≡◌, ℕ, Bool, false, ◌||◌, nat_lt, List, [], ◌∷◌, All}
-use Rattle.textwrap_base.proofs.Common.{length, map, sym, ap, ◌∙◌, subst, StartsWith, IsUtf8}
+use Rattle.textwrap_base.proofs.Common.{length, map, sym, ap, ◌∙◌, subst, StartsWith, IsUtf8, rules}
 use Rattle.textwrap_base.proofs.Common.{starts_with_of_eq, All-nil, All-cons, All-head, All-tail}
-use Rattle.textwrap_base.proofs.Common.{All-weaker}
+use Rattle.textwrap_base.proofs.Common.{All-weaker, arith}
 use Rattle.textwrap_words.proofs.Common.{WordText, tiled, word_of}
 use Rattle.textwrap_lines.proofs.Common.{Settings, paragraphs_of, LineParts, is_whole}
 use Rattle.textwrap_lines.proofs.Common.{AreParagraphParts, AreGroups, covered_by}
-use Rattle.textwrap_words.proofs.Word.Texts.{AreBlanks}
 use Rattle.textwrap_words.proofs.Word.Measured.{EndsInBlanks}
 use Rattle.textwrap_lines.specs.Text.{LosesOnlyBlanks}
 use Rattle.textwrap_lines.proofs.Text.EndingTexts.{paragraphs_of-utf8}
@@ -60,15 +59,10 @@ module _ (settings : Settings) (Divides : Bool → List ℕ → List (List WordT
       let all = paragraphs_of-utf8 settings.line_ending text utf8 in
       let parts = flat groups in
       let leaves = groups-all (LeavesBlanks settings) false paragraphs groups
-      (groups-map IsUtf8 (AreParagraphParts settings Divides)
-      (λ is_later paragraph parts. All (LeavesBlanks settings) parts) parts-blanks false paragraphs
-      groups all defined) in
+      (search (rules, arith, groups-map, parts-blanks)) in
       record {
-        begin = groups-map IsUtf8 (AreParagraphParts settings Divides)
-            (λ is_later paragraph parts. StartsWith paragraph (covered_by parts)) parts-begin false
-            paragraphs groups all defined;
-        blanks = All-weaker (LeavesBlanks settings) (λ p. AreBlanks p.left_off)
-            (λ p leaves. leaves.blanks) parts leaves;
+        begin = search (rules, arith, groups-map, parts-begin);
+        blanks = search (rules, arith, All-weaker);
         kept = λ preserved. All-weaker (LeavesBlanks settings) (λ p. p.left_off ≡ [])
             (λ p left. left.kept preserved) parts leaves;
       }
@@ -82,10 +76,7 @@ module _ (settings : Settings) (Divides : Bool → List ℕ → List (List WordT
   parts-tile : (is_later : Bool) (paragraph : List ℕ) (parts : List LineParts) → IsUtf8 paragraph
       → AreParagraphParts settings Divides is_later paragraph parts → covered_by parts ≡ paragraph
   parts-tile is_later paragraph parts utf8 (division, laid_out, is) =
-      ap covered_by is ∙ covered_by-parts_from settings is_later division
-      ∙ laid_out-cases (λ d. tiled (flat d) ≡ paragraph) paragraph _ division
-      (tiled-word_of paragraph) (tiles is_later paragraph division utf8)
-      (is_whole settings is_later paragraph) laid_out
+      grind (arith, covered_by-parts_from, laid_out-cases, tiled-word_of)
 
   pub groups-tile : (is_later : Bool) (paragraphs : List (List ℕ)) (groups : List (List LineParts))
       → All IsUtf8 paragraphs
@@ -95,9 +86,7 @@ module _ (settings : Settings) (Divides : Bool → List ℕ → List (List WordT
   groups-tile is_later (paragraph ∷ paragraphs) [] utf8 defined = absurd defined
   groups-tile is_later (paragraph ∷ paragraphs) (parts ∷ groups) utf8 defined =
       ap (λ p. p ∷ map covered_by groups)
-      (parts-tile is_later paragraph parts (All-head IsUtf8 paragraph paragraphs utf8)
-      defined.0)
-      ∙ ap (λ ps. paragraph ∷ ps)
+      (search (rules, arith, parts-tile, All-head)) ∙ ap (λ ps. paragraph ∷ ps)
       (groups-tile (is_later ||
       nat_lt 0 (length parts)) paragraphs groups (All-tail IsUtf8 paragraph paragraphs utf8)
       defined.1)

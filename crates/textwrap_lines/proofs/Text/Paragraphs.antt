@@ -1,9 +1,9 @@
 -- A text has its paragraphs in exactly one way.
 use Rattle.textwrap_base.proofs.Common.{◌≡◌, ◌≢◌, ◌↔◌, ℕ, zero, suc, ◌-◌, ◌<◌, false, nat_eq, List}
 use Rattle.textwrap_base.proofs.Common.{[], ◌∷◌, ◌++◌, length, take, drop, get_or, All, refl, sym}
-use Rattle.textwrap_base.proofs.Common.{ap, ◌∙◌, subst, arith, append_assoc, append-nil}
+use Rattle.textwrap_base.proofs.Common.{ap, ◌∙◌, arith, append_assoc, append-nil, rules}
 use Rattle.textwrap_base.proofs.Common.{take-append-drop, length-append, length-drop, onto_first}
-use Rattle.textwrap_base.proofs.Common.{starts_with, false≢true, take_at, drop_at, All-nil}
+use Rattle.textwrap_base.proofs.Common.{starts_with, take_at, drop_at, All-nil}
 use Rattle.textwrap_base.proofs.Common.{All-cons, All-head, All-tail, cond_both}
 use Rattle.textwrap_lines.proofs.Common.{ending_bytes, paragraphs_of, parts_past, join_with}
 use Rattle.textwrap_lines.proofs.Common.{LineEnding}
@@ -25,21 +25,14 @@ lacks-nil ending some before after is =
 begins : (ending part : List ℕ) (parts : List (List ℕ)) (text : List ℕ)
     → join_with ending (part ∷ parts) ≡ text → (more : List ℕ) × (text ≡ part ++ more)
 begins ending part [] text is = ([], sym is ∙ sym (append-nil part))
-begins ending part (next ∷ parts) text is = (
-  ending ++ join_with ending (next ∷ parts),
-  sym is
-      ∙ append_assoc part ending (join_with ending (next ∷ parts)),
-)
+begins ending part (next ∷ parts) text is = grind (arith, append_assoc)
 
 -- a byte in front of a text that has no ending, where none begins
 lacks-cons : (ending : List ℕ) (c : ℕ) (part more : List ℕ)
     → starts_with nat_eq (c ∷ (part ++ more)) ending ≡ false → Lacks ending part
     → Lacks ending (c ∷ part)
 lacks-cons ending c part more not_here lacks [] after is =
-    let whole : c ∷ (part ++ more) ≡ ending ++ (after ++ more) = ap (λ l. l ++ more) is
-    ∙ append_assoc ending after more in
-    absurd (false≢true (sym not_here ∙ starts_with-true ending (c ∷ (part ++ more))
-    (after ++ more) whole))
+    search (rules, arith, append_assoc ending after more, starts_with-true)
 lacks-cons ending c part more not_here lacks (b ∷ before) after is =
     lacks before after (ap (drop 1) is)
 
@@ -51,8 +44,7 @@ lacks-onto_first ending some c cs [] not_here any is all = absurd (omega arith)
 lacks-onto_first ending some c cs (part ∷ parts) not_here any is all =
     let (more, whole) = begins ending part parts cs is in
     All-cons (Lacks ending) (c ∷ part) parts
-    (lacks-cons ending c part more (ap (λ l. starts_with nat_eq (c ∷ l) ending) (sym whole)
-    ∙ not_here) (All-head (Lacks ending) part parts all))
+    (lacks-cons ending c part more (cc (whole, not_here)) (All-head (Lacks ending) part parts all))
     (All-tail (Lacks ending) part parts all)
 
 parts_past-lacks : (ending : List ℕ) → 0 < length ending → (n : ℕ) (cs : List ℕ)
@@ -76,16 +68,10 @@ no_straddle : (ending : LineEnding) (text front tail rest others : List ℕ)
     → Lacks (ending_bytes ending) text → text ≡ front ++ tail → 0 < length tail
     → tail ++ (ending_bytes ending ++ rest) ≢ ending_bytes ending ++ others
 no_straddle ending text front [] rest others lacks is some here = absurd (omega arith)
-no_straddle LF text front (c ∷ tail) rest others lacks is some here =
-    let line_feed : c ≡ 10 = ap (λ l. get_or l 0 0) here in
-    lacks front tail (is ∙ ap (λ b. front ++ (b ∷ tail)) line_feed)
+no_straddle LF text front (c ∷ tail) rest others lacks is some here = grind arith
 no_straddle CRLF text front (c ∷ []) rest others lacks is some here = let second : 13 ≡ 10 =
     ap (λ l. get_or l 1 0) here in absurd (omega (arith, second))
-no_straddle CRLF text front (c ∷ d ∷ tail) rest others lacks is some here =
-    let return : c ≡ 13 = ap (λ l. get_or l 0 0) here in
-    let line_feed : d ≡ 10 = ap (λ l. get_or l 1 0) here in
-    lacks front tail (is ∙ ap (λ b. front ++ (b ∷ d ∷ tail)) return
-    ∙ ap (λ b. front ++ (13 ∷ b ∷ tail)) line_feed)
+no_straddle CRLF text front (c ∷ d ∷ tail) rest others lacks is some here = grind arith
 
 parts_one : (ending : LineEnding) (parts : List (List ℕ)) → parts ≢ []
     → All (Lacks (ending_bytes ending)) parts
@@ -116,14 +102,13 @@ parts_one ending (part ∷ next ∷ parts) some all =
 
 pub paragraphs_one : (ending : LineEnding) (text : List ℕ) (paragraphs : List (List ℕ))
     → AreParagraphs ending text paragraphs ↔ (paragraphs ≡ paragraphs_of ending text)
-paragraphs_one ending text paragraphs = (
-  λ are. sym (parts_one ending paragraphs are.some are.lacking)
-      ∙ ap (parts_past (ending_bytes ending) 0) are.joined,
-  λ is. record {
-    some = λ none. let len = parts_past-some (ending_bytes ending) 0 text in
-        absurd (omega (arith, len, ap length (sym is ∙ none)));
-    joined = ap (join_with (ending_bytes ending)) is ∙ join-paragraphs_of ending text;
-    lacking = subst (All (Lacks (ending_bytes ending))) (sym is)
-        (parts_past-lacks (ending_bytes ending) (ending_bytes-some ending) 0 text);
-  },
-)
+paragraphs_one ending text paragraphs =
+    search (
+      rules,
+      arith,
+      parts_one,
+      parts_past-some (ending_bytes ending) 0 text,
+      join-paragraphs_of ending text,
+      parts_past-lacks (ending_bytes ending) (ending_bytes-some ending) 0 text,
+      ending_bytes-some ending,
+    )

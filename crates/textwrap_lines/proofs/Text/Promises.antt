@@ -1,11 +1,11 @@
 -- What the lines of a text keep to, by what those of its paragraphs do.
-use Rattle.textwrap_base.proofs.Common.{◌≡◌, ◌≢◌, ℕ, take, ◌<◌, Bool, true, false, List, All}
+use Rattle.textwrap_base.proofs.Common.{◌≡◌, ◌≢◌, ℕ, take, ◌<◌, Bool, true, false, List, All, rules}
 use Rattle.textwrap_base.proofs.Common.{length, sym, ap, ◌∙◌, arith, StartsWith, Option, Some, None}
 use Rattle.textwrap_base.proofs.Common.{IsUtf8, starts_with_of_append, length-map}
 use Rattle.textwrap_words.proofs.Common.{IsNarrow, WordText, sizes_of, tiled, Algorithm, Greedy}
 use Rattle.textwrap_words.proofs.Common.{IsDividedBy, Splitter, ends_in_hyphen, AreCuts}
 use Rattle.textwrap_lines.proofs.Common.{paragraphs_of, ending_bytes, Line, line_from, widths_of}
-use Rattle.textwrap_lines.proofs.Common.{AreIndented, KeepsToWidth, Settings, AreTextLines}
+use Rattle.textwrap_lines.proofs.Common.{KeepsToWidth, Settings, AreTextLines}
 use Rattle.textwrap_lines.proofs.Common.{KeepToWidths, IsWrapped, LinesKeepToWidth}
 use Rattle.textwrap_base.proofs.Lists.Parts.{flat, Begins}
 use Rattle.textwrap_words.proofs.Word.Pieces.{AreTexts}
@@ -19,6 +19,7 @@ use Rattle.textwrap_lines.proofs.Paragraph.KeepsTo.{Divides, AreParts, paragraph
 use Rattle.textwrap_lines.proofs.Paragraph.KeepsTo.{paragraph-indented, paragraph-no_hyphen}
 use Rattle.textwrap_lines.proofs.Paragraph.KeepsTo.{paragraph-keeps, EvenIfNarrow, paragraph-even}
 use Rattle.textwrap_lines.proofs.Paragraph.Kept.{HasNoHyphen}
+use Rattle.textwrap_lines.proofs.Paragraph.EvenLines.{first_width-own}
 
 -- ---- the lines of a paragraph, and of a text
 
@@ -70,28 +71,19 @@ module _ (settings : Settings) (Words : List ℕ → List WordText → Type 0)
           some = λ built_in.
               let some = groups-some settings paragraphs are.groups
               (parts_past-some (ending_bytes settings.line_ending) 0 text)
-              (groups-map IsUtf8 (AreParts settings Words Points Lines) (λ is_later paragraph parts. 0 < length parts)
-              (paragraph-some settings Words Points Lines (divided-some built_in))
-              false paragraphs are.groups all are.defined) in
+              (search (rules, arith, groups-map, paragraph-some)) in
               omega (arith, some, ap length are.given, length-map (flat are.groups) line_from);
-          loses = LosesOnlyBlanks-from settings (Divides settings Words Points Lines) divided-starts
-              (divided-blanks settings Words Points texts cuts Lines begins)
-              text are.groups utf8 are.defined;
+          loses = search (rules, arith, LosesOnlyBlanks-from, divided-starts, divided-blanks);
           tile = λ built_in. groups-tile settings (Divides settings Words Points Lines) (divided-tile (whole built_in)) false
               paragraphs are.groups all are.defined;
           adds = record {
             indents = groups-indented settings false paragraphs are.groups
-                (groups-map IsUtf8 (AreParts settings Words Points Lines)
-                (λ is_later paragraph parts. AreIndented settings is_later parts)
-                (paragraph-indented settings Words Points Lines) false paragraphs are.groups all are.defined);
+                (search (rules, arith, groups-map, paragraph-indented));
             no_hyphen = λ built_in. groups-all HasNoHyphen false paragraphs are.groups
-                (groups-map IsUtf8 (AreParts settings Words Points Lines) (λ is_later paragraph parts. All HasNoHyphen parts)
-                (paragraph-no_hyphen settings Words Points Lines texts cuts begins (hyphens built_in)) false paragraphs are.groups all
-                are.defined);
+                (search (rules, arith, groups-map, paragraph-no_hyphen));
           };
           keeps = λ first built_in breaks. groups-map IsUtf8 (AreParts settings Words Points Lines) (KeepToWidths settings)
-              (paragraph-keeps settings Words Points Lines texts cuts begins (hyphens built_in) (greedy first) breaks) false paragraphs are.groups
-              all are.defined;
+              (search (rules, arith, paragraph-keeps)) false paragraphs are.groups all are.defined;
         }
 
     -- where the splitter is built in and lines are divided by first fit
@@ -112,6 +104,7 @@ module _ (settings : Settings) (Words : List ℕ → List WordText → Type 0)
               (λ is_later paragraph parts narrow keeps. keeps narrow) false paragraphs are.groups
               (paragraphs_of-narrow ending text utf8 narrow)
               (groups-map IsUtf8 (AreParts settings Words Points Lines) (EvenIfNarrow settings Words Points Lines texts cuts begins)
-              (paragraph-even settings Words Points Lines texts cuts begins hyphens greedy breaks even) false paragraphs are.groups
+              (λ is_later. paragraph-even settings Words Points Lines texts cuts begins hyphens greedy
+              breaks is_later (first_width-own settings even is_later)) false paragraphs are.groups
               (paragraphs_of-utf8 ending text utf8) are.defined)),
         )

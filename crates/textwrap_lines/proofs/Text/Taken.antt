@@ -1,52 +1,123 @@
 -- The lines of a text that a sink took, one paragraph after another.
-use Rattle.textwrap_base.proofs.Common.{◌≡◌, ℕ, Bool, nat_lt, List, [], ◌∷◌, ◌++◌, length, map}
-use Rattle.textwrap_base.proofs.Common.{refl, ◌∙◌, subst}
+use Rattle.textwrap_base.proofs.Common.{◌≡◌, ℕ, ◌+◌, ◌<◌, ◌≤◌, ◌||◌, nat_lt, Bool, false, List, []}
+use Rattle.textwrap_base.proofs.Common.{◌∷◌, ◌++◌, length, map, refl, sym, ap, ◌∙◌, arith}
+use Rattle.textwrap_base.proofs.Common.{append_assoc, append-nil, flat_map}
+use Rattle.textwrap_base.proofs.Common.{length-append, length-map, map-append}
 use Rattle.textwrap_words.proofs.Common.{WordText}
-use Rattle.textwrap_lines.proofs.Common.{paragraphs_of, Took, Settings, Line, LineParts, line_from}
-use Rattle.textwrap_lines.proofs.Common.{AreParagraphParts, AreTextLines, LineSink}
-use Rattle.textwrap_lines.specs.LineSinks.{Holds, kind_of}
-use Rattle.textwrap_lines.proofs.Text.Lines.{HasGroups, HasGroups-start, HasGroups-more}
-use Rattle.textwrap_lines.proofs.Text.Lines.{HasGroups-end}
+use Rattle.textwrap_lines.proofs.Common.{AreCutLines, AreGroups, AreParagraphParts, CutLine}
+use Rattle.textwrap_lines.proofs.Common.{cut_lines, ending_bytes, further, join_with, lines_of}
+use Rattle.textwrap_lines.proofs.Common.{line_from, LineParts, LineSink, paragraphs_of, Settings}
+use Rattle.textwrap_lines.proofs.Common.{text_cuts, Took}
+use Rattle.textwrap_base.proofs.Numbers.{is_later-or}
+use Rattle.textwrap_lines.specs.LineSinks.{Holds, IsAt, kind_of}
+use Rattle.textwrap_lines.proofs.Text.Cuts.{further-cut_lines, lines_of-cut_lines}
+use Rattle.textwrap_lines.proofs.Text.EndingTexts.{join-paragraphs_of}
+use Rattle.textwrap_lines.proofs.Text.Endings.{rest-within}
+use Rattle.textwrap_lines.proofs.Text.Lines.{groups-push}
 
 module _ (settings : Settings) (Divides : Bool → List ℕ → List (List WordText) → Type 0)
     {Z : Type 0} where
-  -- the lines that were taken are those of the paragraphs so far
-  pub record HasTaken (text : List ℕ) (old now : LineSink Z) (left : List (List ℕ)) : Type 0 where
-    pub lines : List Line
-    pub groups : HasGroups settings Divides text lines left
+  -- the lines of the paragraphs so far were taken, where those that are left begin at `start`: with
+  -- right lines of these they are the lines of the text
+  pub record HasParagraphs (text : List ℕ) (old now : LineSink Z) (left : List (List ℕ))
+      (start : ℕ) : Type 0 where
+    pub done : List (List ℕ)
+    pub paragraphs : paragraphs_of settings.line_ending text ≡ done ++ left
+    pub lines : List CutLine
+    pub groups : List (List LineParts)
+    pub given : lines_of lines ≡ map line_from (flat_map (λ parts. parts) groups)
+    pub more : (others : List (List LineParts))
+        → AreGroups (AreParagraphParts settings Divides) (nat_lt 0 (length lines)) left others
+        → AreGroups (AreParagraphParts settings Divides) false
+        (paragraphs_of settings.line_ending text) (groups ++ others)
+    pub cuts : (others : List (List LineParts))
+        → text_cuts (length (ending_bytes settings.line_ending)) 0
+        (paragraphs_of settings.line_ending text) (groups ++ others)
+        ≡ lines ++ text_cuts (length (ending_bytes settings.line_ending)) start left others
     pub held : Holds now lines
     pub kind : kind_of now ≡ kind_of old
+    pub within : 0 < length left
+        → start + length (join_with (ending_bytes settings.line_ending) left) ≤ length text
 
-  pub HasTaken-start : (text : List ℕ) (sink : LineSink Z) → Holds sink []
-      → HasTaken text sink sink (paragraphs_of settings.line_ending text)
-  HasTaken-start text sink none = record {
-    lines = [];
-    groups = HasGroups-start settings Divides text [] refl;
-    held = none;
-    kind = refl;
-  }
-
-  pub HasTaken-more : (text : List ℕ) (old now next : LineSink Z) (left after : List (List ℕ))
-      (paragraph : List ℕ) (is_later : Bool) → HasTaken text old now left → left ≡ paragraph ∷ after
-      → ((held : List Line) → Holds now held → is_later ≡ nat_lt 0 (length held))
-      → (parts : List LineParts)
-      × AreParagraphParts settings Divides is_later paragraph parts
-      × Took now next (map line_from parts)
-      → HasTaken text old next after
-  HasTaken-more text old now next left after paragraph is_later so_far left_is is_out
-      (parts, are, took) = record {
-        lines = so_far.lines ++ map line_from parts;
-        groups = HasGroups-more settings Divides text so_far.lines _ left after paragraph parts
-            so_far.groups left_is
-            (subst (λ b. AreParagraphParts settings Divides b paragraph parts)
-            (is_out so_far.lines so_far.held) are)
-            refl;
-        held = took.held so_far.lines so_far.held;
-        kind = took.kind ∙ so_far.kind;
+  pub HasParagraphs-start : (text : List ℕ) (sink : LineSink Z) → Holds sink []
+      → HasParagraphs text sink sink (paragraphs_of settings.line_ending text) 0
+  HasParagraphs-start text sink none =
+      let whole = ap length (join-paragraphs_of settings.line_ending text) in
+      record {
+        done = [];
+        paragraphs = refl;
+        lines = [];
+        groups = [];
+        given = refl;
+        more = λ others are. are;
+        cuts = λ others. refl;
+        held = none;
+        kind = refl;
+        within = λ some. omega (arith, whole);
       }
 
-  pub HasTaken-end : (text : List ℕ) (old now : LineSink Z) → HasTaken text old now []
-      → (taken : List Line) × AreTextLines settings Divides text taken × Holds now taken
+  pub HasParagraphs-more : (text : List ℕ) (old now begun then : LineSink Z)
+      (after : List (List ℕ)) (start next : ℕ) (paragraph : List ℕ) (is_later : Bool)
+      → HasParagraphs text old now (paragraph ∷ after) start
+      → next ≡ start + (length paragraph + length (ending_bytes settings.line_ending))
+      → ((held : List CutLine) → Holds now held → Holds begun held)
+      → kind_of begun ≡ kind_of now → IsAt begun start
+      → ((held : List CutLine) → Holds begun held → is_later ≡ nat_lt 0 (length held))
+      → (parts : List LineParts) × AreParagraphParts settings Divides is_later paragraph parts
+      × Took begun then (cut_lines 0 parts)
+      → HasParagraphs text old then after next
+  HasParagraphs-more text old now begun then after start next paragraph is_later so_far next_is
+      begins kind is_at is_out (parts, are, took) =
+      let here = cut_lines start parts in
+      let held = begins so_far.lines so_far.held in
+      let from_start : start + 0 ≡ start = omega arith in
+      let cuts : map (further start) (cut_lines 0 parts) ≡ here =
+      further-cut_lines start 0 parts ∙ ap (λ n. cut_lines n parts) from_start in
+      let count = length-append so_far.lines here in
+      let own : length here ≡ length parts =
+      sym (length-map here (λ (cut : CutLine). cut.line))
+      ∙ ap length (lines_of-cut_lines start parts) ∙ length-map parts line_from in
+      let later : nat_lt 0 (length (so_far.lines ++ here))
+      ≡ nat_lt 0 (length so_far.lines) || nat_lt 0 (length parts) =
+      is_later-or (length (so_far.lines ++ here)) (length so_far.lines) (length parts)
+      (omega (arith, count, own)) in
+      let ends : start + length paragraph + length (ending_bytes settings.line_ending) ≡ next =
+      omega (arith, next_is) in
+      record {
+        done = so_far.done ++ paragraph ∷ [];
+        paragraphs = so_far.paragraphs ∙ sym (append_assoc so_far.done (paragraph ∷ []) after);
+        lines = so_far.lines ++ here;
+        groups = so_far.groups ++ parts ∷ [];
+        given = map-append (λ (cut : CutLine). cut.line) so_far.lines here
+            ∙ ap (λ ls. ls ++ lines_of here) so_far.given
+            ∙ ap (λ ls. map line_from (flat_map (λ ps. ps) so_far.groups) ++ ls)
+            (lines_of-cut_lines start parts)
+            ∙ sym (groups-push so_far.groups parts);
+        more = λ others rest. rw append_assoc (so_far.more (parts ∷ others)
+            (rw (is_out so_far.lines held) at are, rw later at rest));
+        cuts = λ others. simp (append_assoc, so_far.cuts (parts ∷ others), ends);
+        held = rw cuts at (took.held so_far.lines start is_at held);
+        kind = took.kind ∙ kind ∙ so_far.kind;
+        within = λ some.
+            let rest = rest-within (ending_bytes settings.line_ending) paragraph after start
+            (length text) (so_far.within (omega arith)) some in
+            omega (arith, rest, next_is);
+      }
+
+  pub HasParagraphs-end : (text : List ℕ) (old now : LineSink Z) (start : ℕ)
+      → HasParagraphs text old now [] start
+      → (taken : List CutLine) × AreCutLines settings Divides text taken × Holds now taken
       × (kind_of now ≡ kind_of old)
-  HasTaken-end text old now all =
-      (all.lines, HasGroups-end settings Divides text all.lines all.groups, all.held, all.kind)
+  HasParagraphs-end text old now start all = (
+    all.lines,
+    record {
+      are = record {
+        groups = all.groups;
+        defined = rw append-nil at (all.more [] refl);
+        given = all.given;
+      };
+      cuts_are = sym (simp append-nil at (all.cuts []));
+    },
+    all.held,
+    all.kind,
+  )

@@ -1,17 +1,15 @@
 -- Lemmas on the lines of a text: the definitions leave one list of lines, and one filled text.
 use Rattle.textwrap_base.proofs.Common.{◌≡◌, ℕ, Bool, true, false, MatchBool, ◌||◌, nat_lt, List}
-use Rattle.textwrap_base.proofs.Common.{[], ◌∷◌, length, map, sym, ap, ◌∙◌, subst, Sizes}
-use Rattle.textwrap_base.proofs.Common.{AreEqualFromSecond, priced_at, flat_map}
+use Rattle.textwrap_base.proofs.Common.{[], ◌∷◌, length, sym, ap, ◌∙◌, Sizes, rules}
+use Rattle.textwrap_base.proofs.Common.{AreEqualFromSecond, priced_at, arith}
 use Rattle.textwrap_words.proofs.Common.{Algorithm, Greedy, LeastCost, IsDividedBy, WordText}
-use Rattle.textwrap_words.proofs.Common.{sizes_of, word_of, Splitter}
-use Rattle.textwrap_lines.proofs.Common.{Settings, ending_bytes, join_with, paragraphs_of, Line}
-use Rattle.textwrap_lines.proofs.Common.{LineParts, line_from, line_bytes, parts_from, widths_of}
-use Rattle.textwrap_lines.proofs.Common.{is_whole, DividesAs, AreDividedParts, AreParagraphParts}
-use Rattle.textwrap_lines.proofs.Common.{AreGroups, AreTextLines, IsFilled}
+use Rattle.textwrap_words.proofs.Common.{word_of, Splitter}
+use Rattle.textwrap_lines.proofs.Common.{Settings, Line, LineParts, DividesAs, AreDividedParts}
+use Rattle.textwrap_lines.proofs.Common.{AreParagraphParts, AreGroups, AreTextLines, IsFilled}
 use Rattle.textwrap_base.proofs.Division.Unique.{greedy_unique}
 use Rattle.textwrap_base.proofs.Cost.Unique.{chosen_one}
 use Rattle.textwrap_lines.proofs.Paragraph.Pieces.{ArePieces-is}
-use Rattle.textwrap_lines.proofs.Standing.Costs.{two-equal}
+use Rattle.textwrap_lines.proofs.PlacedPieces.Costs.{two-equal}
 
 divided_one : {X : Type 0} (algorithm : Algorithm) (sizes : X → Sizes) (widths : List ℕ)
     (xs : List X) (lines others : List (List X)) → AreEqualFromSecond widths
@@ -31,10 +29,7 @@ division_one settings algorithm splitter is_later paragraph division other (piec
     (others, others_are, others_divided) =
     let same = ArePieces-is settings splitter paragraph others others_are
     ∙ sym (ArePieces-is settings splitter paragraph pieces are) in
-    divided_one algorithm sizes_of (widths_of settings is_later) pieces division other
-    (two-equal _ _) divided (subst
-    (λ ws. IsDividedBy algorithm sizes_of (widths_of settings is_later) ws other) same
-    others_divided)
+    search (rules, arith, divided_one, two-equal)
 
 -- where a paragraph has one division
 module _ (settings : Settings) (Divides : Bool → List ℕ → List (List WordText) → Type 0)
@@ -45,9 +40,7 @@ module _ (settings : Settings) (Divides : Bool → List ℕ → List (List WordT
       → AreDividedParts settings Divides is_later paragraph parts
       → AreDividedParts settings Divides is_later paragraph others → parts ≡ others
   divided_parts_one is_later paragraph parts others (division, divided, is)
-      (other, other_divided, other_is) =
-      is ∙ ap (parts_from settings is_later)
-      (one is_later paragraph division other divided other_divided) ∙ sym other_is
+      (other, other_divided, other_is) = grind arith
 
   laid_out_one : (is_later : Bool) (paragraph : List ℕ) (division other : List (List WordText))
       (whole : Bool)
@@ -63,11 +56,7 @@ module _ (settings : Settings) (Divides : Bool → List ℕ → List (List WordT
       → AreParagraphParts settings Divides is_later paragraph parts
       → AreParagraphParts settings Divides is_later paragraph others → parts ≡ others
   paragraph_one is_later paragraph parts others (division, laid_out, is)
-      (other, other_laid_out, other_is) =
-      is ∙ ap (parts_from settings is_later)
-      (laid_out_one is_later paragraph division other
-      (is_whole settings is_later paragraph) laid_out
-      other_laid_out) ∙ sym other_is
+      (other, other_laid_out, other_is) = grind (arith, laid_out_one)
 
   groups_one : (is_later : Bool) (paragraphs : List (List ℕ))
       (groups others : List (List LineParts))
@@ -82,22 +71,16 @@ module _ (settings : Settings) (Divides : Bool → List ℕ → List (List WordT
       groups_one
       (is_later ||
       nat_lt 0 (length parts)) paragraphs groups others is.1
-      (subst (λ ps. AreGroups (AreParagraphParts settings Divides)
-      (is_later ||
-      nat_lt 0 (length ps)) paragraphs others) (sym same) other.1) in
+      (rw same other.1) in
       ap (λ ps. ps ∷ groups) same ∙ ap (λ gs. more ∷ gs) rest
 
   pub text_one : (text : List ℕ) (lines others : List Line)
       → AreTextLines settings Divides text lines → AreTextLines settings Divides text others
       → lines ≡ others
-  text_one text lines others is other =
-      is.given ∙ ap (λ groups. map line_from (flat_map (λ parts. parts) groups))
-      (groups_one false (paragraphs_of settings.line_ending text) is.groups other.groups
-      is.defined other.defined) ∙ sym other.given
+  text_one text lines others is other = grind (arith, groups_one)
 
   pub filled_one : (text filled other_filled : List ℕ) → IsFilled settings Divides text filled
       → IsFilled settings Divides text other_filled → filled ≡ other_filled
   filled_one text filled other_filled (lines, defined, joined)
       (others, others_defined, others_joined) =
-      joined ∙ ap (λ ls. join_with (ending_bytes settings.line_ending) (map line_bytes ls))
-      (text_one text lines others defined others_defined) ∙ sym others_joined
+      search (rules, arith, text_one text lines others defined others_defined)

@@ -1,6 +1,6 @@
 -- What `wrap` promises, by the options.
-use Rattle.textwrap_base.proofs.Common.{◌≡◌, ◌≢◌, ℕ, append-nil, true, List, [], refl, ap, ◌∙◌}
-use Rattle.textwrap_base.proofs.Common.{subst, Some, None, IsUtf8}
+use Rattle.textwrap_base.proofs.Common.{◌≡◌, ◌≢◌, ℕ, append-nil, true, List, [], refl, ap}
+use Rattle.textwrap_base.proofs.Common.{subst, Some, None, IsUtf8, rules, arith}
 use Rattle.textwrap_words.proofs.Common.{IsNarrow, AreWordsOf, sizes_of, Algorithm, Greedy}
 use Rattle.textwrap_words.proofs.Common.{LeastCost, IsDividedBy, MayDivide, algorithm_view}
 use Rattle.textwrap_words.proofs.Common.{MaySeparate, Splitter, ArePoints, MaySplit, splitter_view}
@@ -9,7 +9,6 @@ use Rattle.textwrap_lines.proofs.Common.{AreTextLines, IsWrapped, LinesKeepToWid
 use Rattle.textwrap_lines.proofs.Text.Promises.{IsWrapped-by, LinesKeepToWidth-by}
 use Rattle.textwrap_words.specs.declared.wrap_algorithms.WrapAlgorithm.TheVariants.{FirstFit}
 use Rattle.textwrap_base.proofs.Division.Map.{IsDividedBy-some, IsDividedBy-whole}
-use Rattle.textwrap_base.proofs.Lists.Parts.{flat}
 use Rattle.textwrap_words.proofs.Word.Pieces.{AreTexts-words, ArePoints-cuts, ArePoints-hyphens}
 use Rattle.textwrap_words.proofs.Word.GivenCuts.{MaySeparate-texts, MaySplit-cuts, MaySplit-hyphens}
 use Rattle.textwrap_words.proofs.Word.Divisions.{MayDivide-begins, MayDivide-whole, MayDivide-some}
@@ -30,14 +29,28 @@ IsWrapped-from settings algorithm splitter text lines utf8 are =
     AreTexts-words (ArePoints-cuts splitter)
     (λ widths pieces division divided. (
       [],
-      append-nil (flat division)
-          ∙ IsDividedBy-whole sizes_of algorithm widths pieces division divided,
+      search (rules, arith, append-nil, IsDividedBy-whole),
     ))
     (Some splitter) (Some algorithm) (λ _. ArePoints-hyphens splitter)
     (λ _. IsDividedBy-whole sizes_of algorithm) (λ _. IsDividedBy-some sizes_of algorithm)
     (λ first widths pieces division divided.
     subst (λ a. IsDividedBy a sizes_of widths pieces division) (greedy-is algorithm first) divided)
     text lines utf8 are
+
+pub LinesKeepToWidth-from : (settings : Settings) (splitter : Splitter) (text : List ℕ)
+    (lines : List Line) → IsUtf8 text → settings.even_paragraphs ≡ true
+    → settings.break_words ≡ true → IsNarrow text
+    → AreTextLines settings (DividesAs splitter Greedy settings) text lines
+    → LinesKeepToWidth settings (DividesAs splitter Greedy settings) text lines
+LinesKeepToWidth-from settings splitter text lines utf8 even breaks narrow are =
+    LinesKeepToWidth-by settings AreWordsOf (ArePoints splitter) (IsDividedBy Greedy sizes_of)
+    AreTexts-words (ArePoints-cuts splitter)
+    (λ widths pieces division divided. (
+      [],
+      search (rules, arith, append-nil, IsDividedBy-whole),
+    ))
+    (ArePoints-hyphens splitter) (λ widths pieces division divided. divided)
+    text lines utf8 even breaks narrow are
 
 module _ {E C : Type 0} {e : _} {c : _} (options : Options E C e c) where
   pub IsWrapped-options : (text : List ℕ) (lines : List Line) → IsUtf8 text

@@ -23,21 +23,22 @@ fn least_cost(minima: &[Minimum]) -> Option<u128> {
     Some(minima.last()?.cost)
 }
 
+const VERSES: &[(usize, &[usize], u128, bool)] = &[
+    (0, &[2, 1], 2000, true),
+    (24, &[2, 1], 2024, true),
+    (25, &[1, 2], 2025, true),
+    (30, &[1, 2], 2025, true),
+    (LIMIT, &[1, 2], 2025, true),
+    (LIMIT + 1, &[1, 2], 2025, false),
+    (usize::MAX, &[1, 2], 2025, false),
+];
+
 /// The second of three cards stays at the end of a row until that costs as much as the other
 /// division; at a tie the last row begins earlier. A break penalty above 2^62 is no queue case.
 #[test]
 fn a_dear_break_keeps_two_cards_together(rt: HostRuntime) -> Result<(), Fail> {
     let penalties = Penalties::new();
-    let rows: &[(usize, &[usize], u128, bool)] = &[
-        (0, &[2, 1], 2000, true),
-        (24, &[2, 1], 2024, true),
-        (25, &[1, 2], 2025, true),
-        (30, &[1, 2], 2025, true),
-        (LIMIT, &[1, 2], 2025, true),
-        (LIMIT + 1, &[1, 2], 2025, false),
-        (usize::MAX, &[1, 2], 2025, false),
-    ];
-    for &(keep, lens, cost, is_case) in rows {
+    for &(keep, lens, cost, is_case) in VERSES {
         let cards = [card(4, 0), card(4, keep), card(4, 0)];
         let lines = wrap_optimal_fit(rt.alloc(), &cards, &[9], &penalties)?;
         assert!(rt; have_lens(&lines, lens), "{keep}: {lines:?}");

@@ -65,6 +65,15 @@ const STRICT: Penalties = Penalties {
     hyphen_penalty: 25,
 };
 
+/// The largest penalty on columns past the width, and no other.
+const COLUMNS_ALONE: Penalties = Penalties {
+    nline_penalty: 0,
+    overflow_penalty: MAX,
+    short_last_line_fraction: 0,
+    short_last_line_penalty: 0,
+    hyphen_penalty: 0,
+};
+
 /// The largest penalties.
 const STRICTEST: Penalties = Penalties {
     nline_penalty: MAX,
@@ -84,57 +93,58 @@ pub(super) fn have_lens<T>(lines: &[&[T]], lens: &[usize]) -> bool {
     lines.len() == lens.len()
 }
 
+const FIRST_FITS: &[(&[Block], &[usize], &[usize])] = &[
+    (&[], &[10], &[0]),
+    (&[], &[], &[0]),
+    // All three close within the width, but the first two do not.
+    (
+        &[Block(5, 0, 0), Block(5, 0, 5), Block(0, 0, 0)],
+        &[10],
+        &[1, 2],
+    ),
+    (
+        &[Block(MAX, MAX, MAX), Block(MAX, MAX, MAX)],
+        &[MAX],
+        &[1, 1],
+    ),
+    (FIVES, &[10], &[2, 2]),
+    (FIVES, &[5, 10, 5], &[1, 2, 1]),
+    (FIVES, &[10, 5], &[2, 1, 1]),
+    (FIVES, &[], &[1, 1, 1, 1]),
+    // At 0 and 1, only fragments that add nothing stand beside another.
+    (&[Block(0, 0, 0), Block(0, 0, 0)], &[0], &[2]),
+    (&[Block(1, 0, 0), Block(1, 0, 0)], &[0], &[1, 1]),
+    (&[Block(1, 0, 0), Block(1, 0, 0)], &[1], &[1, 1]),
+    (&[Block(1, 0, 0), Block(0, 0, 0)], &[1], &[2]),
+    (&[Block(0, 1, 0), Block(0, 0, 0)], &[0], &[1, 1]),
+    (&[Block(0, 1, 0), Block(0, 0, 0)], &[1], &[2]),
+    (&[Block(0, 0, 1), Block(0, 0, 1)], &[0], &[1, 1]),
+    (&[Block(0, 0, 1), Block(0, 0, 1)], &[1], &[2]),
+    // A sum that is the greatest width fits it, and one above it does not come back to 0.
+    (&[Block(MAX - 1, 0, 0), Block(1, 0, 0)], &[MAX], &[2]),
+    (&[Block(MAX - 1, 0, 0), Block(1, 0, 0)], &[MAX - 1], &[1, 1]),
+    (&[Block(MAX - 1, 1, 0), Block(0, 0, 0)], &[MAX], &[2]),
+    (&[Block(MAX - 1, 1, 0), Block(0, 0, 0)], &[MAX - 1], &[1, 1]),
+    (&[Block(MAX, 0, 0), Block(0, 0, 0)], &[MAX], &[2]),
+    (&[Block(MAX, 0, 0), Block(1, 0, 0)], &[MAX], &[1, 1]),
+    (&[Block(MAX, 0, 0), Block(0, 0, 1)], &[MAX], &[1, 1]),
+    (&[Block(0, 0, MAX), Block(0, 0, MAX)], &[MAX], &[2]),
+    (&[Block(0, 0, MAX), Block(0, 0, MAX)], &[MAX - 1], &[1, 1]),
+    (
+        &[Block(0, MAX, 0), Block(0, MAX, 0), Block(0, MAX, 0)],
+        &[MAX],
+        &[2, 1],
+    ),
+    (&[Block(MAX, MAX, MAX), Block(MAX, MAX, MAX)], &[], &[1, 1]),
+    (FIVES, &[0, MAX], &[1, 3]),
+    (FIVES, &[MAX, 0], &[4]),
+];
+
 /// A line takes fragments while they fit, and its first in any case; the last line width serves all
 /// later lines, and without any width it is 0.
 #[test]
 fn each_line_takes_what_fits(rt: HostRuntime) -> Result<(), Fail> {
-    let rows: &[(&[Block], &[usize], &[usize])] = &[
-        (&[], &[10], &[0]),
-        (&[], &[], &[0]),
-        // All three close within the width, but the first two do not.
-        (
-            &[Block(5, 0, 0), Block(5, 0, 5), Block(0, 0, 0)],
-            &[10],
-            &[1, 2],
-        ),
-        (
-            &[Block(MAX, MAX, MAX), Block(MAX, MAX, MAX)],
-            &[MAX],
-            &[1, 1],
-        ),
-        (FIVES, &[10], &[2, 2]),
-        (FIVES, &[5, 10, 5], &[1, 2, 1]),
-        (FIVES, &[10, 5], &[2, 1, 1]),
-        (FIVES, &[], &[1, 1, 1, 1]),
-        // At 0 and 1, only fragments that add nothing stand beside another.
-        (&[Block(0, 0, 0), Block(0, 0, 0)], &[0], &[2]),
-        (&[Block(1, 0, 0), Block(1, 0, 0)], &[0], &[1, 1]),
-        (&[Block(1, 0, 0), Block(1, 0, 0)], &[1], &[1, 1]),
-        (&[Block(1, 0, 0), Block(0, 0, 0)], &[1], &[2]),
-        (&[Block(0, 1, 0), Block(0, 0, 0)], &[0], &[1, 1]),
-        (&[Block(0, 1, 0), Block(0, 0, 0)], &[1], &[2]),
-        (&[Block(0, 0, 1), Block(0, 0, 1)], &[0], &[1, 1]),
-        (&[Block(0, 0, 1), Block(0, 0, 1)], &[1], &[2]),
-        // A sum that is the greatest width fits it, and one above it does not come back to 0.
-        (&[Block(MAX - 1, 0, 0), Block(1, 0, 0)], &[MAX], &[2]),
-        (&[Block(MAX - 1, 0, 0), Block(1, 0, 0)], &[MAX - 1], &[1, 1]),
-        (&[Block(MAX - 1, 1, 0), Block(0, 0, 0)], &[MAX], &[2]),
-        (&[Block(MAX - 1, 1, 0), Block(0, 0, 0)], &[MAX - 1], &[1, 1]),
-        (&[Block(MAX, 0, 0), Block(0, 0, 0)], &[MAX], &[2]),
-        (&[Block(MAX, 0, 0), Block(1, 0, 0)], &[MAX], &[1, 1]),
-        (&[Block(MAX, 0, 0), Block(0, 0, 1)], &[MAX], &[1, 1]),
-        (&[Block(0, 0, MAX), Block(0, 0, MAX)], &[MAX], &[2]),
-        (&[Block(0, 0, MAX), Block(0, 0, MAX)], &[MAX - 1], &[1, 1]),
-        (
-            &[Block(0, MAX, 0), Block(0, MAX, 0), Block(0, MAX, 0)],
-            &[MAX],
-            &[2, 1],
-        ),
-        (&[Block(MAX, MAX, MAX), Block(MAX, MAX, MAX)], &[], &[1, 1]),
-        (FIVES, &[0, MAX], &[1, 3]),
-        (FIVES, &[MAX, 0], &[4]),
-    ];
-    for &(blocks, line_widths, lens) in rows {
+    for &(blocks, line_widths, lens) in FIRST_FITS {
         let lines = wrap_first_fit(rt.alloc(), blocks, line_widths)?;
         assert!(rt; have_lens(&lines, lens), "{blocks:?} {line_widths:?}");
     }
@@ -152,46 +162,47 @@ fn words_are_divided(rt: HostRuntime) -> Result<(), Fail> {
     Ok(())
 }
 
+const OPTIMAL_FITS: &[(&[Block], &[usize], &[usize])] = &[
+    (&[], &[], &[0]),
+    (&[Block(10, 0, 0)], &[10], &[1]),
+    (&[Block(3, 1, 0), Block(50, 0, 0)], &[54], &[2]),
+    // 3500 against 4500, and 6000 against 4401.
+    (&[Block(3, 1, 0), Block(50, 0, 0)], &[53], &[2]),
+    (&[Block(3, 1, 0), Block(50, 0, 0)], &[52], &[1, 1]),
+    (FALLING, &[10], &[1, 3, 1]),
+    // Line widths that differ after the second.
+    (
+        &[Block(5, 0, 0), Block(5, 0, 0), Block(20, 0, 0)],
+        &[10, 5, 100],
+        &[2, 1],
+    ),
+    // A width of 0 is taken for one of 1.
+    (&[Block(0, 0, 0), Block(0, 0, 0)], &[0], &[2]),
+    (&[Block(0, 1, 0), Block(0, 0, 0)], &[0], &[2]),
+    (&[Block(0, 0, 1), Block(0, 0, 1)], &[0], &[2]),
+    (&[Block(1, 0, 0), Block(1, 0, 0)], &[0], &[1, 1]),
+    (&[Block(1, 0, 0), Block(1, 0, 0)], &[1], &[1, 1]),
+    // Sums, products and squares at the end of 64 bits and past it.
+    (&[Block(MAX - 1, 0, 0), Block(1, 0, 0)], &[MAX], &[2]),
+    (&[Block(MAX - 1, 0, 0), Block(1, 0, 0)], &[MAX - 1], &[1, 1]),
+    (&[Block(MAX, 0, 0), Block(0, 0, 0)], &[MAX - 1], &[2]),
+    (&[Block(MAX, 0, 0), Block(0, 0, 1)], &[MAX], &[1, 1]),
+    (&[Block(0, 0, MAX), Block(0, 0, MAX)], &[MAX - 1], &[2]),
+    (
+        &[Block(0, MAX, 0), Block(0, MAX, 0), Block(0, MAX, 0)],
+        &[MAX - 1],
+        &[2, 1],
+    ),
+    (&[Block(MAX, MAX, MAX), Block(MAX, MAX, MAX)], &[], &[1, 1]),
+    (FIVES, &[0, MAX], &[1, 3]),
+    (FIVES, &[MAX, 0], &[4]),
+];
+
 /// Each line costs 1000, a gap before a later line its square, and a column past the width 2500;
 /// the sum decides, and a line may be wider than it should where that is cheaper.
 #[test]
 fn fragments_are_divided_at_least_cost(rt: HostRuntime) -> Result<(), Fail> {
-    let rows: &[(&[Block], &[usize], &[usize])] = &[
-        (&[], &[], &[0]),
-        (&[Block(10, 0, 0)], &[10], &[1]),
-        (&[Block(3, 1, 0), Block(50, 0, 0)], &[54], &[2]),
-        // 3500 against 4500, and 6000 against 4401.
-        (&[Block(3, 1, 0), Block(50, 0, 0)], &[53], &[2]),
-        (&[Block(3, 1, 0), Block(50, 0, 0)], &[52], &[1, 1]),
-        (FALLING, &[10], &[1, 3, 1]),
-        // Line widths that differ after the second.
-        (
-            &[Block(5, 0, 0), Block(5, 0, 0), Block(20, 0, 0)],
-            &[10, 5, 100],
-            &[2, 1],
-        ),
-        // A width of 0 is taken for one of 1.
-        (&[Block(0, 0, 0), Block(0, 0, 0)], &[0], &[2]),
-        (&[Block(0, 1, 0), Block(0, 0, 0)], &[0], &[2]),
-        (&[Block(0, 0, 1), Block(0, 0, 1)], &[0], &[2]),
-        (&[Block(1, 0, 0), Block(1, 0, 0)], &[0], &[1, 1]),
-        (&[Block(1, 0, 0), Block(1, 0, 0)], &[1], &[1, 1]),
-        // Sums, products and squares at the end of 64 bits and past it.
-        (&[Block(MAX - 1, 0, 0), Block(1, 0, 0)], &[MAX], &[2]),
-        (&[Block(MAX - 1, 0, 0), Block(1, 0, 0)], &[MAX - 1], &[1, 1]),
-        (&[Block(MAX, 0, 0), Block(0, 0, 0)], &[MAX - 1], &[2]),
-        (&[Block(MAX, 0, 0), Block(0, 0, 1)], &[MAX], &[1, 1]),
-        (&[Block(0, 0, MAX), Block(0, 0, MAX)], &[MAX - 1], &[2]),
-        (
-            &[Block(0, MAX, 0), Block(0, MAX, 0), Block(0, MAX, 0)],
-            &[MAX - 1],
-            &[2, 1],
-        ),
-        (&[Block(MAX, MAX, MAX), Block(MAX, MAX, MAX)], &[], &[1, 1]),
-        (FIVES, &[0, MAX], &[1, 3]),
-        (FIVES, &[MAX, 0], &[4]),
-    ];
-    for &(blocks, line_widths, lens) in rows {
+    for &(blocks, line_widths, lens) in OPTIMAL_FITS {
         let lines = wrap_optimal_fit(rt.alloc(), blocks, line_widths, &Penalties::new())?;
         assert!(rt; have_lens(&lines, lens), "{blocks:?} {line_widths:?}");
     }
@@ -203,21 +214,24 @@ fn is_refused<T>(lines: &Result<T, WrapError>) -> bool {
     matches!(lines, Err(WrapError::Overflow(_)))
 }
 
+const REFUSED_COSTS: &[(&[Block], usize, Penalties, bool, u128)] = &[
+    (&[WIDEST], 0, STRICT, true, 1),
+    (&[WIDEST, WIDEST], 0, STRICT, false, 3),
+    (&[Block(MAX, 0, MAX), Block(0, 0, 0)], 0, STRICT, false, 1),
+    // Each costs nearly 2^126, so that five of them are too much.
+    (&[Block(1 << 62, 0, 0); 5], 0, COLUMNS_ALONE, false, 15),
+    // The first costs 2^128 - 1, and one column more is too much.
+    (&[Block(MAX, 0, 1)], 1, STRICTEST, true, 1),
+    (&[Block(MAX, 0, 2)], 1, STRICTEST, false, 1),
+    (&[Block(MAX, 0, MAX)], MAX, STRICTEST, true, 1),
+    (&[Block(MAX, 0, MAX)], MAX - 1, STRICTEST, false, 1),
+];
+
 /// A least cost that does not fit 128 bits is refused, also that of a prefix; the line costs asked
 /// for until then are counted.
 #[test]
 fn costs_past_128_bits_are_refused(rt: HostRuntime) {
-    let rows: &[(&[Block], usize, Penalties, bool, u128)] = &[
-        (&[WIDEST], 0, STRICT, true, 1),
-        (&[WIDEST, WIDEST], 0, STRICT, false, 3),
-        (&[Block(MAX, 0, MAX), Block(0, 0, 0)], 0, STRICT, false, 1),
-        // The first costs 2^128 - 1, and one column more is too much.
-        (&[Block(MAX, 0, 1)], 1, STRICTEST, true, 1),
-        (&[Block(MAX, 0, 2)], 1, STRICTEST, false, 1),
-        (&[Block(MAX, 0, MAX)], MAX, STRICTEST, true, 1),
-        (&[Block(MAX, 0, MAX)], MAX - 1, STRICTEST, false, 1),
-    ];
-    for &(blocks, width, penalties, fits, count) in rows {
+    for &(blocks, width, penalties, fits, count) in REFUSED_COSTS {
         let mut steps = Steps::new();
         let lines = wrap_optimal_fit_counted(rt.alloc(), blocks, &[width], &penalties, &mut steps);
         assert!(rt; lines.is_ok() == fits, "{blocks:?}");

@@ -22,36 +22,37 @@ pub(super) fn are_minima(minima: &[Minimum], expected: &[(usize, u128)]) -> bool
     minima.len() == expected.len()
 }
 
+const TABLES: &[(&[Block], &[usize], usize, &[(usize, u128)], u128)] = &[
+    (&[Block(10, 0, 0)], &[10], 4, &[(0, 0), (0, 1000)], 1),
+    (&[Block(10, 0, 0)], &[10], 0, &[(0, 0), (0, 1025)], 1),
+    (
+        FALLING,
+        &[10],
+        4,
+        &[
+            (0, 0),
+            (0, 1000),
+            (1, 2025),
+            (2, 3050),
+            (1, 2000),
+            (4, 3000),
+        ],
+        15,
+    ),
+    (
+        &[Block(5, 0, 0), Block(5, 0, 0), Block(20, 0, 0)],
+        &[10, 5, 100],
+        4,
+        &[(0, 0), (0, 1025), (0, 1000), (2, 39500)],
+        6,
+    ),
+];
+
 /// Entry j of the table is the least cost of the first j fragments, and the earliest start of a
 /// last line that reaches it. A table of n fragments asks for n(n + 1)/2 line costs.
 #[test]
 fn tables_have_the_least_costs_and_the_earliest_starts(rt: HostRuntime) -> Result<(), Fail> {
-    let rows: &[(&[Block], &[usize], usize, &[(usize, u128)], u128)] = &[
-        (&[Block(10, 0, 0)], &[10], 4, &[(0, 0), (0, 1000)], 1),
-        (&[Block(10, 0, 0)], &[10], 0, &[(0, 0), (0, 1025)], 1),
-        (
-            FALLING,
-            &[10],
-            4,
-            &[
-                (0, 0),
-                (0, 1000),
-                (1, 2025),
-                (2, 3050),
-                (1, 2000),
-                (4, 3000),
-            ],
-            15,
-        ),
-        (
-            &[Block(5, 0, 0), Block(5, 0, 0), Block(20, 0, 0)],
-            &[10, 5, 100],
-            4,
-            &[(0, 0), (0, 1025), (0, 1000), (2, 39500)],
-            6,
-        ),
-    ];
-    for &(blocks, line_widths, fraction, expected, count) in rows {
+    for &(blocks, line_widths, fraction, expected, count) in TABLES {
         let penalties = Penalties {
             short_last_line_fraction: fraction,
             ..Penalties::new()
@@ -64,59 +65,59 @@ fn tables_have_the_least_costs_and_the_earliest_starts(rt: HostRuntime) -> Resul
     Ok(())
 }
 
+const CANDIDATES: &[(usize, usize, usize, u128, u128)] = &[
+    (0, 1, 0, 0, 1000),
+    (0, 2, 0, 0, 13500),
+    (1, 2, 1, 1000, 2025),
+    (0, 3, 0, 0, 38525),
+    (1, 3, 1, 1000, 14525),
+    (2, 3, 2, 2025, 3050),
+    (0, 4, 0, 0, 26000),
+    (1, 4, 1, 1000, 2000),
+    (2, 4, 2, 2025, 3050),
+    (3, 4, 3, 3050, 4150),
+    (3, 5, 3, 3050, 4050),
+    (4, 5, 2, 2000, 3000),
+];
+
 /// A candidate is what stands before a line and the cost of the line, and each that is asked for
 /// counts.
 #[test]
 fn a_source_counts_what_it_is_asked(rt: HostRuntime) -> Result<(), Fail> {
     let penalties = Penalties::new();
     let mut costs = LineCosts::new(rt.alloc(), FALLING, &[10], &penalties)?;
-    assert_eq!(rt; costs.ends(), 5);
     assert_eq!(rt; costs.steps(), 0);
-    let candidates: &[(usize, usize, usize, u128, u128)] = &[
-        (0, 1, 0, 0, 1000),
-        (0, 2, 0, 0, 13500),
-        (1, 2, 1, 1000, 2025),
-        (0, 3, 0, 0, 38525),
-        (1, 3, 1, 1000, 14525),
-        (2, 3, 2, 2025, 3050),
-        (0, 4, 0, 0, 26000),
-        (1, 4, 1, 1000, 2000),
-        (2, 4, 2, 2025, 3050),
-        (3, 4, 3, 3050, 4150),
-        (3, 5, 3, 3050, 4050),
-        (4, 5, 2, 2000, 3000),
-    ];
-    for &(start, end, line_number, before, cost) in candidates {
-        if start < end && end <= costs.ends() {
-            let candidate = costs.candidate(start, end, line_number, before);
-            assert_eq!(rt; candidate, Some(cost), "{start} to {end}");
-        }
+    for &(start, end, line_number, before, cost) in CANDIDATES {
+        assert!(rt; start < end && end <= costs.ends());
+        let candidate = costs.candidate(start, end, line_number, before);
+        assert_eq!(rt; candidate, Some(cost), "{start} to {end}");
     }
     assert_eq!(rt; costs.steps(), 12);
-    if costs.ends() == 5 {
-        assert_eq!(rt; costs.candidate(1, 3, 1, u128::MAX), None);
-    }
+    assert!(rt; costs.ends() == 5);
+    assert_eq!(rt; costs.candidate(1, 3, 1, u128::MAX), None);
     assert_eq!(rt; costs.steps(), 13);
     Ok(())
 }
 
+const COUNTS: &[(u128, u128, u128, u128)] = &[
+    (0, 0, 0, 3),
+    (0, 1, 1, 4),
+    (1, 0, 1, 4),
+    (0, u128::MAX, u128::MAX, u128::MAX),
+    (1, u128::MAX - 1, u128::MAX, u128::MAX),
+    (1, u128::MAX, u128::MAX, u128::MAX),
+    (u128::MAX - 4, 0, u128::MAX - 4, u128::MAX - 1),
+    (u128::MAX - 1, 0, u128::MAX - 1, u128::MAX),
+    (u128::MAX - 1, 1, u128::MAX, u128::MAX),
+    (u128::MAX - 1, 2, u128::MAX, u128::MAX),
+    (u128::MAX, 0, u128::MAX, u128::MAX),
+    (u128::MAX, u128::MAX, u128::MAX, u128::MAX),
+];
+
 /// A count that reaches the largest number stays there, also where a table goes on with it.
 #[test]
 fn a_count_stays_at_its_end(rt: HostRuntime) -> Result<(), Fail> {
-    for &(count, more, expected, after_table) in &[
-        (0, 0, 0, 3),
-        (0, 1, 1, 4),
-        (1, 0, 1, 4),
-        (0, u128::MAX, u128::MAX, u128::MAX),
-        (1, u128::MAX - 1, u128::MAX, u128::MAX),
-        (1, u128::MAX, u128::MAX, u128::MAX),
-        (u128::MAX - 4, 0, u128::MAX - 4, u128::MAX - 1),
-        (u128::MAX - 1, 0, u128::MAX - 1, u128::MAX),
-        (u128::MAX - 1, 1, u128::MAX, u128::MAX),
-        (u128::MAX - 1, 2, u128::MAX, u128::MAX),
-        (u128::MAX, 0, u128::MAX, u128::MAX),
-        (u128::MAX, u128::MAX, u128::MAX, u128::MAX),
-    ] {
+    for &(count, more, expected, after_table) in COUNTS {
         let mut steps = Steps::new();
         steps.add(count);
         steps.add(more);
@@ -132,41 +133,42 @@ fn a_count_stays_at_its_end(rt: HostRuntime) -> Result<(), Fail> {
 /// The greatest number of a queue case.
 pub(super) const LIMIT: usize = 1 << 62;
 
+const CASES_BY_WIDTHS: &[(&[Block], &[usize], bool)] = &[
+    (&[], &[], true),
+    (&[Block(5, 0, 0), Block(5, 0, 0)], &[10, 20], true),
+    (&[Block(5, 0, 0), Block(5, 0, 0)], &[10, 20, 20], true),
+    (&[Block(5, 0, 0), Block(5, 0, 0)], &[10, 20, 30], false),
+    (&[Block(5, 0, 0), Block(5, 0, 0)], &[20, 10, 10, 20], false),
+    // Two of them close at 5, and the first alone at 10.
+    (&[Block(5, 0, 5), Block(0, 0, 0)], &[10], false),
+    // Here both close at 10 too.
+    (&[Block(5, 0, 5), Block(5, 0, 0)], &[10], true),
+    (&[Block(5, 5, 5), Block(0, 0, 0)], &[10], true),
+    (&[Block(5, 0, 5), Block(0, 0, 5)], &[10], true),
+    (FALLING, &[10], false),
+    (&[Block(1, 0, 0)], &[LIMIT], true),
+    (&[Block(1, 0, 0)], &[LIMIT + 1], false),
+    (&[Block(1, 0, 0)], &[10, LIMIT + 1], false),
+    (&[Block(LIMIT - 2, 0, 0), Block(0, 1, 1)], &[10], true),
+    (&[Block(LIMIT - 2, 0, 0), Block(1, 1, 1)], &[10], false),
+    (&[Block(0, usize::MAX, 0)], &[10], false),
+    // The least widths, and the greatest: a sum of them does not come back to 0.
+    (&[Block(0, 0, 0)], &[0], true),
+    (&[Block(1, 1, 1), Block(0, 0, 0)], &[1], true),
+    (&[Block(1, 0, 0)], &[usize::MAX - 1], false),
+    (&[Block(1, 0, 0)], &[usize::MAX], false),
+    (&[Block(1, 0, 0)], &[10, usize::MAX], false),
+    (&[], &[usize::MAX], false),
+    (&[Block(usize::MAX - 1, 0, 0)], &[10], false),
+    (&[Block(usize::MAX, 1, 0)], &[10], false),
+    (&[Block(0, 0, usize::MAX), Block(1, 0, 0)], &[10], false),
+];
+
 /// In a queue case all line widths from the second on are the same, closed widths never fall, and
 /// neither a line width nor the sum of all widths passes 2^62.
 #[test]
 fn queue_cases_are_told_by_their_widths(rt: HostRuntime) {
-    let rows: &[(&[Block], &[usize], bool)] = &[
-        (&[], &[], true),
-        (&[Block(5, 0, 0), Block(5, 0, 0)], &[10, 20], true),
-        (&[Block(5, 0, 0), Block(5, 0, 0)], &[10, 20, 20], true),
-        (&[Block(5, 0, 0), Block(5, 0, 0)], &[10, 20, 30], false),
-        (&[Block(5, 0, 0), Block(5, 0, 0)], &[20, 10, 10, 20], false),
-        // Two of them close at 5, and the first alone at 10.
-        (&[Block(5, 0, 5), Block(0, 0, 0)], &[10], false),
-        // Here both close at 10 too.
-        (&[Block(5, 0, 5), Block(5, 0, 0)], &[10], true),
-        (&[Block(5, 5, 5), Block(0, 0, 0)], &[10], true),
-        (&[Block(5, 0, 5), Block(0, 0, 5)], &[10], true),
-        (FALLING, &[10], false),
-        (&[Block(1, 0, 0)], &[LIMIT], true),
-        (&[Block(1, 0, 0)], &[LIMIT + 1], false),
-        (&[Block(1, 0, 0)], &[10, LIMIT + 1], false),
-        (&[Block(LIMIT - 2, 0, 0), Block(0, 1, 1)], &[10], true),
-        (&[Block(LIMIT - 2, 0, 0), Block(1, 1, 1)], &[10], false),
-        (&[Block(0, usize::MAX, 0)], &[10], false),
-        // The least widths, and the greatest: a sum of them does not come back to 0.
-        (&[Block(0, 0, 0)], &[0], true),
-        (&[Block(1, 1, 1), Block(0, 0, 0)], &[1], true),
-        (&[Block(1, 0, 0)], &[usize::MAX - 1], false),
-        (&[Block(1, 0, 0)], &[usize::MAX], false),
-        (&[Block(1, 0, 0)], &[10, usize::MAX], false),
-        (&[], &[usize::MAX], false),
-        (&[Block(usize::MAX - 1, 0, 0)], &[10], false),
-        (&[Block(usize::MAX, 1, 0)], &[10], false),
-        (&[Block(0, 0, usize::MAX), Block(1, 0, 0)], &[10], false),
-    ];
-    for &(blocks, line_widths, expected) in rows {
+    for &(blocks, line_widths, expected) in CASES_BY_WIDTHS {
         let is_case = is_queue_case(blocks, line_widths, &Penalties::new());
         assert_eq!(rt; is_case, expected, "{blocks:?} {line_widths:?}");
     }
@@ -183,22 +185,23 @@ pub(super) fn penalties_of(numbers: [usize; 5]) -> Penalties {
     }
 }
 
+const CASES_BY_PENALTIES: &[([usize; 5], bool)] = &[
+    ([0, 0, 0, 0, 0], true),
+    ([1, 1, 1, 1, 1], true),
+    ([LIMIT, LIMIT, LIMIT, LIMIT, LIMIT], true),
+    ([LIMIT + 1, 2500, 4, 25, 25], false),
+    ([1000, LIMIT + 1, 4, 25, 25], false),
+    ([1000, 2500, LIMIT + 1, 25, 25], false),
+    ([1000, 2500, 4, LIMIT + 1, 25], false),
+    ([1000, 2500, 4, 25, LIMIT + 1], false),
+    ([usize::MAX, 2500, 4, 25, 25], false),
+    ([1000, 2500, 4, 25, usize::MAX - 1], false),
+];
+
 /// Each penalty of a queue case may be 2^62, and none may be more.
 #[test]
 fn queue_cases_are_told_by_their_penalties(rt: HostRuntime) {
-    let rows: &[([usize; 5], bool)] = &[
-        ([0, 0, 0, 0, 0], true),
-        ([1, 1, 1, 1, 1], true),
-        ([LIMIT, LIMIT, LIMIT, LIMIT, LIMIT], true),
-        ([LIMIT + 1, 2500, 4, 25, 25], false),
-        ([1000, LIMIT + 1, 4, 25, 25], false),
-        ([1000, 2500, LIMIT + 1, 25, 25], false),
-        ([1000, 2500, 4, LIMIT + 1, 25], false),
-        ([1000, 2500, 4, 25, LIMIT + 1], false),
-        ([usize::MAX, 2500, 4, 25, 25], false),
-        ([1000, 2500, 4, 25, usize::MAX - 1], false),
-    ];
-    for &(numbers, expected) in rows {
+    for &(numbers, expected) in CASES_BY_PENALTIES {
         let penalties = penalties_of(numbers);
         let is_case = is_queue_case(&[Block(1, 0, 0)], &[10], &penalties);
         assert_eq!(rt; is_case, expected, "{penalties:?}");
@@ -254,21 +257,22 @@ pub(super) fn all_penalties(each: usize) -> Penalties {
     penalties_of([each; 5])
 }
 
+const MASKS: &[([usize; 3], usize)] = &[
+    ([7, 1, 1], 1),
+    ([15, 0, 1], 1),
+    ([0, 0, 0], 3),
+    ([0, 0, 0], 0),
+    ([3, 1, 0], 0),
+];
+
 /// In the queue case the search gives the list of the table, ties included, whatever the first line
 /// width.
 #[test]
 fn the_search_agrees_with_the_table(rt: HostRuntime) -> Result<(), Fail> {
     let penalties = [Penalties::new(), all_penalties(0), all_penalties(LIMIT)];
     let widths: &[&[usize]] = &[&[80], &[20], &[5, 20], &[20, 5], &[0, 9], &[], &[7, 7, 7]];
-    let masks: &[([usize; 3], usize)] = &[
-        ([7, 1, 1], 1),
-        ([15, 0, 1], 1),
-        ([0, 0, 0], 3),
-        ([0, 0, 0], 0),
-        ([3, 1, 0], 0),
-    ];
     for count in [0, 1, 2, 3, 4, 40] {
-        for &(masks, raised) in masks {
+        for &(masks, raised) in MASKS {
             let blocks = drawn_blocks(rt.alloc(), 7, count, masks, raised)?;
             for &line_widths in widths {
                 for penalties in &penalties {
@@ -313,39 +317,89 @@ fn a_refused_search_finds_nothing_else(rt: HostRuntime) -> Result<(), Fail> {
     Ok(())
 }
 
+/// The line costs that were asked for when each of the allocations was refused. The first are made
+/// before any is asked for.
+const STEPS_OF_TABLE: [u128; 8] = [0, 0, 0, 0, 0, 10, 36, 45];
+
+const STEPS_OF_QUEUE: [u128; 6] = [0, 0, 0, 0, 0, 1];
+
+/// Where memory runs out, the line costs that were asked for until then have been counted.
+#[test]
+fn steps_are_counted_until_memory_runs_out(rt: HostRuntime) {
+    let heap = Heap::new(rt.alloc(), 0);
+    let blocks = [Block(3, 1, 0); 9];
+    let penalties = Penalties::new();
+    for (allowed, expected) in STEPS_OF_TABLE.into_iter().enumerate() {
+        heap.allow(allowed);
+        let mut steps = Steps::new();
+        let refused = table_minima(&heap, &blocks, &[7, 3, 7], &penalties, &mut steps);
+        assert!(rt; refused.is_err(), "{allowed}");
+        assert_eq!(rt; steps.count(), expected, "{allowed}");
+    }
+    assert!(rt; is_queue_case(&blocks, &[7], &penalties));
+    for (allowed, expected) in STEPS_OF_QUEUE.into_iter().enumerate() {
+        heap.allow(allowed);
+        let mut steps = Steps::new();
+        let refused = queue_minima(&heap, &blocks, &[7], &penalties, &mut steps);
+        assert!(rt; refused.is_err(), "{allowed}");
+        assert_eq!(rt; steps.count(), expected, "{allowed}");
+    }
+}
+
+/// What the table finds on lines of 80, and its steps.
+fn by_table(alloc: Global, blocks: &[Block]) -> Result<(Vec<Minimum>, u128), WrapError> {
+    let mut steps = Steps::new();
+    let minima = table_minima(alloc, blocks, &[80], &Penalties::new(), &mut steps)?;
+    Ok((minima, steps.count()))
+}
+
+/// What `queue_minima` finds on lines of 80, and its steps.
+fn by_queue(
+    rt: &(impl Abort + AllocGlobal),
+    blocks: &[Block],
+) -> Result<(Vec<Minimum>, u128), WrapError> {
+    let penalties = Penalties::new();
+    assert!(rt; is_queue_case(blocks, &[80], &penalties));
+    let mut steps = Steps::new();
+    let minima = queue_minima(rt.alloc(), blocks, &[80], &penalties, &mut steps)?;
+    Ok((minima, steps.count()))
+}
+
+/// The steps of a division into lines of 80.
+fn steps_of_division(alloc: Global, blocks: &[Block]) -> Result<u128, WrapError> {
+    let mut steps = Steps::new();
+    wrap_optimal_fit_counted(alloc, blocks, &[80], &Penalties::new(), &mut steps)?;
+    Ok(steps.count())
+}
+
 /// Of 1000 fragments the search asks for at most 30,000 line costs, where the table asks for
 /// 500,500. That all three calls by the search count the same shows that none searches uncounted.
 #[test]
 fn the_search_asks_for_few_line_costs(rt: HostRuntime) -> Result<(), Fail> {
     let blocks = vec![in rt.alloc(); Block(3, 1, 0); 1000]?;
-    let penalties = Penalties::new();
-    let mut asked = Steps::new();
-    let table = table_minima(rt.alloc(), &blocks, &[80], &penalties, &mut asked)?;
-    assert_eq!(rt; asked.count(), 500_500);
-    let (minima, steps) = searched(&rt, rt.alloc(), &blocks, &[80], &penalties)?;
+    let (table, asked) = by_table(rt.alloc(), &blocks)?;
+    assert_eq!(rt; asked, 500_500);
+    let (minima, steps) = searched(&rt, rt.alloc(), &blocks, &[80], &Penalties::new())?;
     assert!(rt; minima.as_slice() == table.as_slice());
     assert!(rt; (1000..=30_000).contains(&steps), "{steps}");
-    assert!(rt; is_queue_case(&blocks, &[80], &penalties));
-    let mut searched = Steps::new();
-    let again = queue_minima(rt.alloc(), &blocks, &[80], &penalties, &mut searched)?;
+    let (again, counted) = by_queue(&rt, &blocks)?;
     assert!(rt; again.as_slice() == table.as_slice());
-    assert_eq!(rt; searched.count(), steps);
-    let mut counted = Steps::new();
-    wrap_optimal_fit_counted(rt.alloc(), &blocks, &[80], &penalties, &mut counted)?;
-    assert_eq!(rt; counted.count(), steps);
+    assert_eq!(rt; counted, steps);
+    assert_eq!(rt; steps_of_division(rt.alloc(), &blocks)?, steps);
     Ok(())
 }
+
+const STEPS: &[(&[Block], u128, u128)] = &[
+    (FALLING, 15, 15),
+    (&[], 0, 0),
+    (&[Block(3, 1, 0)], 1, 12),
+];
 
 /// Outside the queue case the table is asked: 15 line costs of five fragments. No fragments need
 /// none, and one needs at most 12.
 #[test]
 fn steps_are_those_of_the_case(rt: HostRuntime) -> Result<(), Fail> {
-    let rows: &[(&[Block], u128, u128)] = &[
-        (FALLING, 15, 15),
-        (&[], 0, 0),
-        (&[Block(3, 1, 0)], 1, 12),
-    ];
-    for &(blocks, least, most) in rows {
+    for &(blocks, least, most) in STEPS {
         let mut steps = Steps::new();
         wrap_optimal_fit_counted(rt.alloc(), blocks, &[10], &Penalties::new(), &mut steps)?;
         let count = steps.count();

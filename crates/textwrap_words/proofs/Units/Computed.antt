@@ -1,20 +1,17 @@
 -- The units of a text are units.
-use Rattle.textwrap_base.proofs.Common.{◌≡◌, inl, inr, ⊎_elim, ℕ, zero, suc, ◌<◌, ◌≤◌, Bool, true}
+use Rattle.textwrap_base.proofs.Common.{◌≡◌, inl, ⊎_elim, ℕ, zero, suc, ◌<◌, Bool, true}
 use Rattle.textwrap_base.proofs.Common.{false, cond, ◌==◌, List, [], ◌∷◌, length, take, refl, ap}
-use Rattle.textwrap_base.proofs.Common.{◌∙◌, arith, cases_lt, eqb-true, eqb-false, length-take-le}
+use Rattle.textwrap_base.proofs.Common.{◌∙◌, arith, eqb-true, eqb-false, length-take-le}
 use Rattle.textwrap_base.proofs.Common.{take-take, take_all}
 use Rattle.textwrap_words.proofs.Common.{TextUnit, Visible, Sequence, escape, ends, escape_len}
 use Rattle.textwrap_words.proofs.Common.{taken_at, units_past, units}
 use Rattle.textwrap_words.proofs.Units.Sequences.{StopsAt, escape-stops}
 use Rattle.textwrap_words.proofs.Units.Parts.{units-tile, units_past-end}
-use Rattle.textwrap_words.specs.Units.{IsWhole, IsOpen, AreUnits, IsInUnits}
+use Rattle.textwrap_words.specs.Units.{IsWhole, AreUnits, IsInUnits}
 
 AreUnits-cons : (u : TextUnit) (us : List TextUnit) → IsWhole u → AreUnits us → AreUnits (u ∷ us)
 AreUnits-cons u [] whole rest = inl whole
 AreUnits-cons u (v ∷ us) whole rest = (whole, rest)
-
-AreUnits-open : (u : TextUnit) (us : List TextUnit) → IsOpen u → us ≡ [] → AreUnits (u ∷ us)
-AreUnits-open u us open_last none = rw none (inr open_last)
 
 sequence-units : (cs : List ℕ) (n : ℕ) → StopsAt ends cs n → AreUnits (units_past n cs)
     → AreUnits (Sequence (escape ∷ take n cs) ∷ units_past n cs)
@@ -25,13 +22,7 @@ sequence-units cs n stops rest =
     ⊎_elim
     (λ (passed : ends (take n cs) ≡ true). AreUnits-cons (Sequence (escape ∷ take n cs))
     (units_past n cs) (take n cs, refl, passed, λ k below. before k (omega arith)) rest)
-    (λ (all : (n ≡ length cs) × (ends (take n cs) ≡ false)).
-    let upto : (k : ℕ) → k ≤ length (take n cs) → ends (take k (take n cs)) ≡ false =
-    λ k most. ⊎_elim (before k)
-    (λ (past : n ≤ k). ap ends (take_all k (take n cs) (omega arith)) ∙ all.1)
-    (cases_lt k n) in
-    AreUnits-open (Sequence (escape ∷ take n cs)) (units_past n cs) (take n cs, refl, upto)
-    (ap (λ m. units_past m cs) all.0 ∙ units_past-end (length cs) cs (omega arith)))
+    (grind (arith, take_all, units_past-end))
     stops.stop
 
 AreUnits-at : (c : ℕ) (cs : List ℕ) (b : Bool) → (c == escape) ≡ b

@@ -1,13 +1,12 @@
 -- Lemmas on the units of a text and of its parts.
 use Rattle.textwrap_base.proofs.Common.{inl, inr, ◌≡◌, ◌≢◌, ℕ, zero, suc, ◌+◌, ◌<◌, ◌≤◌, Bool, true}
 use Rattle.textwrap_base.proofs.Common.{false, cond, eqb, List, [], ◌∷◌, ◌++◌, refl, sym, ap, ◌∙◌}
-use Rattle.textwrap_base.proofs.Common.{subst, zero-add, arith, length, take, drop, flat_map}
+use Rattle.textwrap_base.proofs.Common.{zero-add, arith, length, take, drop, flat_map}
 use Rattle.textwrap_base.proofs.Common.{sum_by, cases_Bool, cases_lt, append-nil, take-append-drop}
 use Rattle.textwrap_base.proofs.Common.{drop_all, take_at, length-take-le, sum_by-cons}
-use Rattle.textwrap_words.proofs.Common.{TextUnit, Visible, Sequence, characters, is_control_start}
-use Rattle.textwrap_words.proofs.Common.{is_control_end, is_command_start, is_command_end, columns}
-use Rattle.textwrap_words.proofs.Common.{command_len, escape_len, unit_at, taken_at, units_past}
-use Rattle.textwrap_words.proofs.Common.{units, visible_of, unit_width, units_width}
+use Rattle.textwrap_words.proofs.Common.{TextUnit, Visible, Sequence, characters, is_control_end}
+use Rattle.textwrap_words.proofs.Common.{is_command_end, columns, command_len, escape_len, taken_at}
+use Rattle.textwrap_words.proofs.Common.{units_past, units, visible_of, unit_width, units_width}
 use Rattle.textwrap_base.proofs.Lists.Parts.{nil_after}
 use Rattle.textwrap_words.specs.Units.{control_len}
 
@@ -16,10 +15,7 @@ use Rattle.textwrap_words.specs.Units.{control_len}
 pub units_past-tile : (n : ℕ) (cs : List ℕ) → flat_map characters (units_past n cs) ≡ drop n cs
 units_past-tile n [] = sym (drop_all n [] (omega arith))
 units_past-tile zero (c ∷ cs) =
-    elim (cases_Bool (eqb c 27)) [
-      | inl t ↦ rw (t, units_past-tile (escape_len cs) cs, take-append-drop (escape_len cs) cs) refl
-      | inr f ↦ rw f (ap (λ ds. c ∷ ds) (units_past-tile 0 cs))
-    ]
+    grind (arith, take-append-drop, units_past-tile (escape_len cs) cs, units_past-tile 0 cs)
 units_past-tile (suc n) (c ∷ cs) = units_past-tile n cs
 
 pub units-tile : (cs : List ℕ) → flat_map characters (units cs) ≡ cs
@@ -46,13 +42,7 @@ command-again before (c ∷ cs) ds more = elim (cases_Bool (is_command_end befor
 escape-again : (cs ds : List ℕ) → escape_len cs < length cs
     → escape_len (take (escape_len cs) cs ++ ds) ≡ escape_len cs
 escape-again [] ds more = absurd (omega arith)
-escape-again (c ∷ cs) ds more = elim (cases_Bool (is_control_start c)) [
-  | inl t ↦ rw (t, t) (ap suc (control-again cs ds (omega (arith, rw t at more))))
-  | inr f ↦ elim (cases_Bool (is_command_start c)) [
-    | inl t ↦ rw (f, t, f, t) (ap suc (command-again c cs ds (omega (arith, rw (f, t) at more))))
-    | inr g ↦ rw (f, g, f, g) refl
-  ]
-]
+escape-again (c ∷ cs) ds more = grind (arith, cases_Bool, control-again, command-again)
 
 pub units_past-end : (n : ℕ) (cs : List ℕ) → length cs ≤ n → units_past n cs ≡ []
 units_past-end n [] short = refl
@@ -63,11 +53,7 @@ units_past-end (suc n) (c ∷ cs) short = units_past-end n cs (omega arith)
 more-left : (n : ℕ) (cs : List ℕ) (xs ys : List TextUnit) → units_past n cs ≡ xs ++ ys → ys ≢ []
     → n < length cs
 more-left n cs xs ys e more =
-    elim (cases_lt n (length cs)) [
-      | inl lt ↦ lt
-      | inr le ↦ absurd
-          (more (nil_after xs ys (sym (units_past-end n cs le) ∙ e)))
-    ]
+    grind (arith, cases_lt, nil_after, units_past-end)
 
 part-unit : (c : ℕ) (cs : List ℕ) (xs ys : List TextUnit) (b : Bool) → eqb c 27 ≡ b
     → units_past (cond b (escape_len cs) 0) cs ≡ xs ++ ys → ys ≢ []
@@ -77,11 +63,7 @@ part-unit : (c : ℕ) (cs : List ℕ) (xs ys : List TextUnit) (b : Bool) → eqb
     ++ flat_map characters xs) ≡ cond b (Sequence (c ∷ take (escape_len cs) cs))
     (Visible c) ∷ xs
 part-unit c cs xs ys true is e more rest =
-    let short = more-left (escape_len cs) cs xs ys e more in
-    let again = escape-again cs (flat_map characters xs) short in
-    let same = take_at (take (escape_len cs) cs) (flat_map characters xs) (escape_len cs)
-    (length-take-le (escape_len cs) cs (omega arith)) in
-    rw (is, again, same, rest) refl
+    grind (arith, more-left, escape-again, take_at, length-take-le)
 part-unit c cs xs ys false is e more rest = rw (is, rest) refl
 
 units_past-part : (n : ℕ) (cs : List ℕ) (xs ys : List TextUnit) → units_past n cs ≡ xs ++ ys
@@ -90,11 +72,8 @@ units_past-part n [] [] ys e more = absurd (more (sym e))
 units_past-part n [] (x ∷ xs) ys e more = cc
 units_past-part zero (c ∷ cs) [] ys e more = refl
 units_past-part zero (c ∷ cs) (x ∷ xs) ys e more =
-    let head : unit_at c cs ≡ x = cc in
     let tail : units_past (taken_at c cs) cs ≡ xs ++ ys = cc in
-    subst (λ u. units_past 0 (characters u ++ flat_map characters xs) ≡ u ∷ xs) head
-    (part-unit c cs xs ys (eqb c 27) refl tail more
-    (units_past-part (taken_at c cs) cs xs ys tail more))
+    grind (arith, part-unit, units_past-part (taken_at c cs) cs xs ys tail more)
 units_past-part (suc n) (c ∷ cs) xs ys e more = units_past-part n cs xs ys e more
 
 -- the characters of a part of the units have that part as their units

@@ -1,8 +1,8 @@
 -- How far an escape sequence goes.
-use Rattle.textwrap_base.proofs.Common.{◌≡◌, ◌⊎◌, inl, inr, ⊎_elim, ℕ, zero, suc, ◌<◌, ◌≤◌, Bool}
-use Rattle.textwrap_base.proofs.Common.{true, false, cond, List, [], ◌∷◌, ◌++◌, length, take, refl}
-use Rattle.textwrap_base.proofs.Common.{sym, ap, ◌∙◌, arith, cases_Bool, nat_tests, append-nil}
-use Rattle.textwrap_base.proofs.Common.{append_assoc, last}
+use Rattle.textwrap_base.proofs.Common.{◌≡◌, ◌⊎◌, inl, inr, ℕ, zero, suc, ◌<◌, ◌≤◌, Bool, true}
+use Rattle.textwrap_base.proofs.Common.{false, cond, List, [], ◌∷◌, ◌++◌, length, take, refl, ap}
+use Rattle.textwrap_base.proofs.Common.{◌∙◌, arith, cases_Bool, nat_tests, append-nil, append_assoc}
+use Rattle.textwrap_base.proofs.Common.{last, sym}
 use Rattle.textwrap_words.proofs.Common.{is_control_start, is_control_end, is_command_start}
 use Rattle.textwrap_words.proofs.Common.{is_command_end, ends, command_len, escape_len}
 use Rattle.textwrap_base.proofs.Lists.Parts.{last_but_one, last-push, last_but_one-push}
@@ -17,13 +17,7 @@ pub record StopsAt (passes : List ℕ → Bool) (cs : List ℕ) (n : ℕ) : Type
 StopsAt-cons : (whole tail : List ℕ → Bool) (c : ℕ) (cs : List ℕ) (n : ℕ) → whole [] ≡ false
     → ((l : List ℕ) → whole (c ∷ l) ≡ tail l) → StopsAt tail cs n → StopsAt whole (c ∷ cs) (suc n)
 StopsAt-cons whole tail c cs n none along stops =
-    record {
-      within = omega (arith, stops.within);
-      before = before;
-      stop = ⊎_elim (λ (passed : tail (take n cs) ≡ true). inl (along (take n cs) ∙ passed))
-          (λ (all : (n ≡ length cs) × (tail (take n cs) ≡ false)).
-          inr (ap suc all.0, along (take n cs) ∙ all.1)) stops.stop;
-    }
+    grind arith
   where
     before : (k : ℕ) → k < suc n → whole (take k (c ∷ cs)) ≡ false
     before zero below = none
@@ -31,11 +25,7 @@ StopsAt-cons whole tail c cs n none along stops =
 
 -- of no characters none passes, so that all of them are taken
 StopsAt-nil : (passes : List ℕ → Bool) → passes [] ≡ false → StopsAt passes [] 0
-StopsAt-nil passes none = record {
-  within = omega arith;
-  before = λ k below. absurd (omega arith);
-  stop = inr (refl, none);
-}
+StopsAt-nil passes none = grind arith
 
 module _ (passes : List ℕ → Bool) (test : ℕ → ℕ → Bool) (len : ℕ → List ℕ → ℕ)
     (len-nil : (b : ℕ) → len b [] ≡ 0)
@@ -89,13 +79,7 @@ escape-cons c cs false true is_control is_command =
     (command_len c cs) refl (λ l. rw (is_control, is_command))
     (command-stops c is_command cs))
 escape-cons c cs false false is_control is_command =
-    rw (is_control, is_command)
-    (StopsAt-cons ends (λ l. true) c cs 0 refl (λ l. rw (is_control, is_command))
-    (record {
-      within = omega arith;
-      before = λ k below. absurd (omega arith);
-      stop = inl refl;
-    }))
+    grind (arith, StopsAt-cons)
 
 pub escape-stops : (cs : List ℕ) → StopsAt ends cs (escape_len cs)
 escape-stops [] = StopsAt-nil ends refl

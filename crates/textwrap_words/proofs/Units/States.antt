@@ -1,13 +1,13 @@
 -- What the states of the reader show and take of a text.
-use Rattle.textwrap_base.proofs.Common.{inl, inr, ◌≡◌, ◌≢◌, ℕ, suc, Bool, false, not, cond, eqb}
-use Rattle.textwrap_base.proofs.Common.{List, [], ◌∷◌, refl, sym, ap, ◌∙◌, length, flat_map}
-use Rattle.textwrap_base.proofs.Common.{cases_Bool, eqb-true}
+use Rattle.textwrap_base.proofs.Common.{inl, inr, ◌≡◌, ◌≢◌, ℕ, suc, Bool, true, false, not, cond}
+use Rattle.textwrap_base.proofs.Common.{eqb, List, [], ◌∷◌, refl, sym, ap, ◌∙◌, length, flat_map}
+use Rattle.textwrap_base.proofs.Common.{cases_Bool, eqb-true, arith}
 use Rattle.textwrap_words.proofs.Common.{TextUnit, is_control_start, is_control_end}
 use Rattle.textwrap_words.proofs.Common.{is_command_start, is_command_end, command_len, unit_at}
 use Rattle.textwrap_words.proofs.Common.{units_past, visible_of, taken_in, visible_in}
 use Rattle.textwrap_words.specs.declared.escapes.State.{State}
 use Rattle.textwrap_words.specs.declared.escapes.State.TheVariants.{Text, Escape, Control, Command}
-use Rattle.textwrap_base.proofs.Numbers.{same-flag, same-rest}
+use Rattle.textwrap_base.proofs.Numbers.{same-flag}
 
 -- a state after a character, and whether that character is visible
 abbrev pub next_of : State → ℕ → State
@@ -24,13 +24,7 @@ shows _ c = false
 pub taken-step : (s : State) (c : ℕ) (cs : List ℕ) → s ≢ Text
     → taken_in s (c ∷ cs) ≡ suc (taken_in (next_of s c) cs)
 taken-step Text c cs inside = absurd (inside refl)
-taken-step Escape c cs inside = elim (cases_Bool (is_control_start c)) [
-  | inl t ↦ rw t refl
-  | inr f ↦ elim (cases_Bool (is_command_start c)) [
-    | inl t ↦ rw (f, t) refl
-    | inr g ↦ rw (f, g) refl
-  ]
-]
+taken-step Escape c cs inside = grind (arith, cases_Bool)
 taken-step Control c cs inside =
     elim (cases_Bool (is_control_end c)) [ inl t ↦ rw t refl | inr f ↦ rw f refl ]
 taken-step (Command last) c cs inside =
@@ -70,10 +64,7 @@ plain_of-taken : (s : State) (cs : List ℕ) → taken_in s cs ≡ taken_in (pla
 plain_of-taken Text cs = refl
 plain_of-taken Escape cs = refl
 plain_of-taken Control cs = refl
-plain_of-taken (Command last) cs = elim (cases_Bool (eqb last 27)) [
-  | inl t ↦ rw t (ap (λ b. command_len b cs) (eqb-true last 27 t))
-  | inr f ↦ rw f (command_len-start last cs f)
-]
+plain_of-taken (Command last) cs = grind (arith, cases_Bool, eqb-true, command_len-start)
 
 state_showing-is : (s : State) → state_showing (length (visible_in s (48 ∷ 97 ∷ 97 ∷ [])))
     (length (visible_in s (92 ∷ 97 ∷ []))) ≡ plain_of s
@@ -100,20 +91,17 @@ abbrev pub IsStep : State → ℕ → State → Bool → Type 0
 IsStep s c next flag = (cs : List ℕ) → visible_in s (c ∷ cs) ≡ cond flag (c ∷ visible_in next cs)
     (visible_in next cs)
 
+pub shown-step : (c : ℕ) → eqb c 27 ≡ false → IsStep Text c Text true
+shown-step c plain cs = rw plain refl
+
 -- what a step shows of every text determines the flag, and what the state that it gives takes of
 -- every text
 pub step-is : (s next : State) (flag : Bool) (c : ℕ) → IsStep s c next flag
     → (flag ≡ shows s c) × ((cs : List ℕ) → taken_in next cs ≡ taken_in (next_of s c) cs)
 step-is s next flag c h =
     let flag_is : flag ≡ shows s c =
-    same-flag flag (shows s c) c (sym (h []) ∙ visible-step s c []) in (
-      flag_is,
-      same-taken next (next_of s c) (λ cs.
-          same-rest flag c (visible_in next cs) (visible_in (next_of s c) cs)
-          (sym (h cs) ∙ visible-step s c cs
-          ∙ ap (λ b. cond b (c ∷ visible_in (next_of s c) cs) (visible_in (next_of s c) cs))
-          (sym flag_is))),
-    )
+    same-flag flag (shows s c) c (sym (h []) ∙ visible-step s c []) in
+    grind (arith, same-taken, visible-step)
 
 -- the units that begin in the characters to come
 abbrev pub units_in : State → List ℕ → List TextUnit

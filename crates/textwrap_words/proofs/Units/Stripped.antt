@@ -1,9 +1,9 @@
 -- Lemmas on the text of the visible characters.
 use Rattle.textwrap_base.proofs.Common.{◌≤◌, length-append, ◌≡◌, ◌≢◌, ℕ, zero, suc, ◌+◌, ◌<◌, Bool}
-use Rattle.textwrap_base.proofs.Common.{cond, eqb, List, [], ◌∷◌, ◌++◌, length, get_or, drop, sym}
-use Rattle.textwrap_base.proofs.Common.{ap, ◌∙◌, arith, All, append-nil, append_assoc, inl, inr}
-use Rattle.textwrap_base.proofs.Common.{flat_map, encode_utf8_all, cases_Bool, eqb-false, All-nil}
-use Rattle.textwrap_base.proofs.Common.{All-cons, All-head, All-tail, All-append, All-from_get_or}
+use Rattle.textwrap_base.proofs.Common.{cond, List, [], ◌∷◌, ◌++◌, length, get_or, drop, sym}
+use Rattle.textwrap_base.proofs.Common.{ap, ◌∙◌, arith, All, append-nil, append_assoc}
+use Rattle.textwrap_base.proofs.Common.{flat_map, encode_utf8_all, cases_Bool, All-nil}
+use Rattle.textwrap_base.proofs.Common.{All-head, All-tail, All-append, All-from_get_or}
 use Rattle.textwrap_words.proofs.Common.{escape, escape_len, units_past, visible_of, stripped}
 use Rattle.textwrap_words.proofs.Common.{taken_in, visible_in}
 use Rattle.std.specs.Str.{chars}
@@ -29,11 +29,7 @@ text_in-step state after is_visible text cs n c here step =
     at_drop_more (text_in state) cs n c here.0
     ∙ ap (λ x. text_in state (x ∷ rest)) (sym here.1)
     ∙ ap encode_utf8_all (step rest) in
-    elim (cases_Bool is_visible) [
-      | inl t ↦ rw t (append_assoc text (encode c) (text_in after rest)
-          ∙ ap (λ ds. text ++ ds) (sym (rw t at shown)))
-      | inr f ↦ rw f (ap (λ ds. text ++ ds) (sym (rw f at shown)))
-    ]
+    grind (arith, cases_Bool, append_assoc)
 
 -- ---- no escape character is left
 
@@ -54,11 +50,7 @@ encodes-plain (c ∷ cs) plain =
 visible-plain : (n : ℕ) (cs : List ℕ) → All (λ c. c ≢ escape)
     (flat_map visible_of (units_past n cs))
 visible-plain n [] = All-nil (λ c. c ≢ escape)
-visible-plain zero (c ∷ cs) = elim (cases_Bool (eqb c 27)) [
-  | inl t ↦ rw t (visible-plain (escape_len cs) cs)
-  | inr f ↦ rw f (All-cons (λ d. d ≢ escape) c (flat_map visible_of (units_past 0 cs))
-      (eqb-false c 27 f) (visible-plain 0 cs))
-]
+visible-plain zero (c ∷ cs) = grind (arith, visible-plain (escape_len cs) cs, visible-plain 0 cs)
 visible-plain (suc n) (c ∷ cs) = visible-plain n cs
 
 pub stripped-plain : (bytes : List ℕ) → All (λ b. b ≢ escape) (stripped bytes)
@@ -72,10 +64,8 @@ visible-short : (n : ℕ) (cs : List ℕ)
     → length (encode_utf8_all (flat_map visible_of (units_past n cs)))
     ≤ length (encode_utf8_all cs)
 visible-short n [] = omega arith
-visible-short zero (c ∷ cs) = elim (cases_Bool (eqb c 27)) [
-  | inl t ↦ rw t (omega (arith, visible-short (escape_len cs) cs, length-append {A = ℕ}))
-  | inr f ↦ rw f (omega (arith, visible-short 0 cs, length-append {A = ℕ}))
-]
+visible-short zero (c ∷ cs) =
+    grind (arith, length-append, visible-short (escape_len cs) cs, visible-short 0 cs)
 visible-short (suc n) (c ∷ cs) =
     omega (arith, visible-short n cs, length-append {A = ℕ})
 

@@ -1,6 +1,6 @@
 -- A text is in units in exactly one way.
 use Rattle.textwrap_base.proofs.Common.{◌≡◌, ◌≢◌, ◌↔◌, ◌⊎◌, inl, inr, append-nil, ℕ, ◌<◌, true}
-use Rattle.textwrap_base.proofs.Common.{false, List, [], ◌∷◌, ◌++◌, length, get_or, take, drop}
+use Rattle.textwrap_base.proofs.Common.{false, List, [], ◌∷◌, ◌++◌, length, take, drop}
 use Rattle.textwrap_base.proofs.Common.{refl, sym, ap, ◌∙◌, subst, arith, length-append, flat_map}
 use Rattle.textwrap_base.proofs.Common.{true≢false, take_at, take-append-le}
 use Rattle.textwrap_words.proofs.Common.{TextUnit, Visible, Sequence, characters, escape, ends}
@@ -23,9 +23,7 @@ Begins-from : (cs : List ℕ) (us : List TextUnit) → AreUnits (Sequence cs ∷
 Begins-from cs [] (inl whole) =
     record { body = whole.0; shape = whole.1; before = whole.3; stop = inl whole.2; rest = tt }
 Begins-from cs [] (inr open_last) =
-    let before : (k : ℕ) → k < length open_last.0 → ends (take k open_last.0) ≡ false =
-    λ k below. open_last.2 k (omega arith) in
-    record { body = open_last.0; shape = open_last.1; before = before; stop = inr refl; rest = tt }
+    grind arith
 Begins-from cs (v ∷ us) (whole, rest) =
     record { body = whole.0; shape = whole.1; before = whole.3; stop = inl whole.2; rest = rest }
 
@@ -58,10 +56,7 @@ same_sequence xs ys us vs first second same =
     second.before first.stop in
     let not_more = not_shorter second.body first.body (flat_map characters us) vs (sym bodies)
     first.before second.stop in
-    let parts : (first.body ≡ second.body) × (flat_map characters us ≡ flat_map characters vs) =
-    same_parts first.body second.body (flat_map characters us)
-    (flat_map characters vs) bodies (omega arith) in
-    (first.shape ∙ ap (λ l. escape ∷ l) parts.0 ∙ sym second.shape, parts.1)
+    grind (arith, same_parts)
 
 some_characters : (u : TextUnit) (us : List TextUnit) → AreUnits (u ∷ us)
     → 0 < length (flat_map characters (u ∷ us))
@@ -74,9 +69,7 @@ not_visible : (c : ℕ) (cs : List ℕ) (us vs : List TextUnit) → AreUnits (Vi
     → AreUnits (Sequence cs ∷ vs) → flat_map characters (Visible c ∷ us) ≡ flat_map characters
     (Sequence cs ∷ vs) → ⊥
 not_visible c cs us vs visible sequence same =
-    let begins : Begins cs vs = Begins-from cs vs sequence in
-    (AreUnits-visible c us visible).0
-    (ap (λ l. get_or l 0 0) (same ∙ ap (λ l. l ++ flat_map characters vs) begins.shape))
+    grind (arith, Begins-from, AreUnits-visible)
 
 units_same : (us vs : List TextUnit) → AreUnits us → AreUnits vs
     → flat_map characters us ≡ flat_map characters vs → us ≡ vs
@@ -86,9 +79,8 @@ units_same [] (v ∷ vs) ours theirs same =
 units_same (u ∷ us) [] ours theirs same =
     absurd (omega (arith, some_characters u us ours, ap length same))
 units_same (Visible c ∷ us) (Visible d ∷ vs) ours theirs same =
-    let tails : us ≡ vs = units_same us vs (AreUnits-visible c us ours).1
-    (AreUnits-visible d vs theirs).1 (ap (drop 1) same) in
-    let heads : c ≡ d = ap (λ l. get_or l 0 0) same in
+    let again = units_same us vs (AreUnits-visible c us ours).1 (AreUnits-visible d vs theirs).1
+    (ap (drop 1) same) in
     cc
 units_same (Visible c ∷ us) (Sequence ds ∷ vs) ours theirs same =
     absurd (not_visible c ds us vs ours theirs same)

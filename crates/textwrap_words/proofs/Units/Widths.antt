@@ -1,13 +1,13 @@
 -- Lemmas on the units of a text and their columns.
 use Rattle.textwrap_base.proofs.Common.{inl, inr, cases_Bool, ◌≡◌, ℕ, zero, suc, ◌+◌, ◌*◌, ◌<◌, ◌≤◌}
-use Rattle.textwrap_base.proofs.Common.{Bool, true, false, cond, eqb, List, [], ◌∷◌, length, get_or}
-use Rattle.textwrap_base.proofs.Common.{take, drop, sym, ap, zero-add, ◌∙◌, arith, length-append}
-use Rattle.textwrap_base.proofs.Common.{All, refl, flat_map, sum_by, list_all, IsUtf8, IsAscii}
-use Rattle.textwrap_base.proofs.Common.{and_parts, nat_tests, All-head, All-tail, sum_by-cons}
+use Rattle.textwrap_base.proofs.Common.{Bool, false, cond, eqb, List, [], ◌∷◌, length, get_or}
+use Rattle.textwrap_base.proofs.Common.{drop, sym, ap, zero-add, ◌∙◌, arith, length-append}
+use Rattle.textwrap_base.proofs.Common.{All, refl, flat_map, map, sum_by, IsUtf8, IsAscii}
+use Rattle.textwrap_base.proofs.Common.{cases_lt, get_or_past, nat_tests, All-head, All-tail, sum_by-cons}
 use Rattle.textwrap_base.proofs.Common.{sum_by-append, length-encode, encodes-chars, chars-IsAscii}
-use Rattle.textwrap_words.proofs.Common.{Visible, Sequence, escape_len, unit_at, taken_at}
+use Rattle.textwrap_words.proofs.Common.{Visible, unit_at, taken_at}
 use Rattle.textwrap_words.proofs.Common.{units_past, visible_of, columns, text_width, IsNarrow}
-use Rattle.textwrap_words.proofs.Common.{is_printable, visible_in}
+use Rattle.textwrap_words.proofs.Common.{units, IsPrintable, IsPrintableByte, visible_in}
 use Rattle.std.specs.Str.{chars}
 use lib.Utf8.{encode, encodes}
 use Rattle.std.proofs.lemmas.List.{at_drop_more}
@@ -43,9 +43,7 @@ columns-le c = rw length-encode
     (grind (arith, nat_tests, columns-ascii c, width_or_zero-le false c))
 
 unit_at-le : (c : ℕ) (cs : List ℕ) → sum_by columns (visible_of (unit_at c cs)) ≤ columns c
-unit_at-le c cs = elim (eqb c 27) as (λ b. sum_by columns
-    (visible_of (cond b (Sequence (c ∷ take (escape_len cs) cs)) (Visible c))) ≤ columns c)
-    [ true ↦ omega arith | false ↦ omega arith ]
+unit_at-le c cs = grind arith
 
 -- the visible characters from place n on have no more columns than all of them
 visible-le : (n : ℕ) (cs : List ℕ)
@@ -83,33 +81,32 @@ text_width-narrow bytes utf8 narrow =
 
 -- ---- a text of printable ASCII characters: each takes one byte and one column
 
-pub printable-columns : (c : ℕ) → is_printable c ≡ true → columns c ≡ 1
+pub columns-printable : (c : ℕ) → IsPrintableByte c → columns c ≡ 1
 unfolding char_width
-printable-columns c printable = grind (arith, nat_tests)
+columns-printable c (low, high) = grind (arith, nat_tests, low, high)
 
-printable-no_escape : (c : ℕ) → is_printable c ≡ true → eqb c 27 ≡ false
-printable-no_escape c printable = grind (arith, nat_tests)
+pub printable-no_escape : (c : ℕ) → IsPrintableByte c → eqb c 27 ≡ false
+printable-no_escape c (low, high) = grind (arith, nat_tests, low)
 
-printable-ascii : (c : ℕ) → is_printable c ≡ true → c < 128
-printable-ascii c printable = grind (arith, nat_tests)
+pub printable-ascii : (text : List ℕ) → IsPrintable text → IsAscii text
+printable-ascii text printable i =
+    grind (arith, cases_lt, get_or_past)
 
-plain-columns : (cs : List ℕ) → list_all is_printable cs ≡ true
-    → sum_by columns (flat_map visible_of (units_past 0 cs)) ≡ length cs
-plain-columns [] plain = refl
-plain-columns (c ∷ cs) plain =
-    let parts = and_parts (is_printable c) (list_all is_printable cs) plain in
-    rw (printable-no_escape c parts.0)
-    (simp sum_by-cons (omega (arith, printable-columns c parts.0, plain-columns cs parts.1)))
+pub units-printable : (cs : List ℕ) → IsPrintable cs → units cs ≡ map Visible cs
+units-printable [] printable = refl
+units-printable (c ∷ cs) printable =
+    rw (printable-no_escape c (All-head IsPrintableByte c cs printable))
+    (ap (λ us. Visible c ∷ us) (units-printable cs (All-tail IsPrintableByte c cs printable)))
 
-plain-ascii : (bytes : List ℕ) → list_all is_printable bytes ≡ true → IsAscii bytes
-plain-ascii [] plain i = omega arith
-plain-ascii (c ∷ cs) plain zero =
-    printable-ascii c (and_parts (is_printable c) (list_all is_printable cs) plain).0
-plain-ascii (c ∷ cs) plain (suc i) =
-    plain-ascii cs (and_parts (is_printable c) (list_all is_printable cs) plain).1 i
+columns-all_printable : (cs : List ℕ) → IsPrintable cs
+    → sum_by columns (flat_map visible_of (map Visible cs)) ≡ length cs
+columns-all_printable [] printable = refl
+columns-all_printable (c ∷ cs) printable =
+    let one = columns-printable c (All-head IsPrintableByte c cs printable) in
+    let rest = columns-all_printable cs (All-tail IsPrintableByte c cs printable) in
+    simp sum_by-cons (omega (arith, one, rest))
 
-pub text_width-plain : (bytes : List ℕ) → list_all is_printable bytes ≡ true
-    → text_width bytes ≡ length bytes
-text_width-plain bytes plain =
-    ap (λ cs. sum_by columns (flat_map visible_of (units_past 0 cs)))
-    (chars-IsAscii bytes (plain-ascii bytes plain)) ∙ plain-columns bytes plain
+pub printable-width : (text : List ℕ) → IsPrintable text → text_width text ≡ length text
+printable-width text printable =
+    rw (chars-IsAscii text (printable-ascii text printable)) (rw (units-printable text printable)
+    (columns-all_printable text printable))

@@ -1,7 +1,7 @@
 -- All widths of words together keep to twice the bytes that they tile, where they have no
 -- penalties, and a line of narrow ones to their bytes.
-use Rattle.textwrap_base.proofs.Common.{ℕ, ◌≡◌, ◌*◌, ◌≤◌, List, [], ◌∷◌, All, length, sym, ap}
-use Rattle.textwrap_base.proofs.Common.{subst, arith, length-append, All-head, All-tail}
+use Rattle.textwrap_base.proofs.Common.{ℕ, ◌≡◌, ◌*◌, ◌≤◌, List, [], ◌∷◌, All, length, ap}
+use Rattle.textwrap_base.proofs.Common.{arith, length-append, All-head, All-tail}
 use Rattle.textwrap_base.proofs.Common.{total_width, closed_width}
 use Rattle.textwrap_words.proofs.Common.{WordText, sizes_of, tiled}
 use Rattle.textwrap_base.proofs.Cost.SizesAlone.{total_width-cons}
@@ -16,11 +16,7 @@ pub record IsBounded (w : WordText) : Type 0 where
 
 pub IsBounded-measured : (w : WordText) → IsMeasured w → HasNoPenalty w → IsBounded w
 IsBounded-measured w measured none =
-    record {
-      width = subst (λ n. n ≤ 2 * length w.word) (sym measured.width)
-          (text_width-le w.word measured.utf8);
-      penalty = none;
-    }
+    grind (arith, text_width-le)
 
 pub total_width-bounded : (words : List WordText) → All IsBounded words
     → total_width sizes_of words ≤ 2 * length (tiled words)
@@ -41,10 +37,7 @@ pub closed_width-narrow : (words : List WordText) → All IsNarrowWord words
     → closed_width sizes_of words ≤ length (tiled words)
 closed_width-narrow [] all = omega arith
 closed_width-narrow (w ∷ []) all =
-    let here = All-head IsNarrowWord w [] all in
-    let none : length w.penalty ≡ 0 = ap length here.penalty in
-    omega (arith, here.width, length-append {A = ℕ})
+    grind (arith, All-head, length-append)
 closed_width-narrow (w ∷ v ∷ words) all =
-    let here = All-head IsNarrowWord w (v ∷ words) all in
-    let rest = closed_width-narrow (v ∷ words) (All-tail IsNarrowWord w (v ∷ words) all) in
-    omega (arith, here.width, length-append {A = ℕ})
+    let again = closed_width-narrow (v ∷ words) (All-tail IsNarrowWord w (v ∷ words) all) in
+    grind (arith, All-head, length-append)

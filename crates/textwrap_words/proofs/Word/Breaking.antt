@@ -1,6 +1,6 @@
 -- Lemmas on the parts into which units are broken, one after another.
 use Rattle.textwrap_base.proofs.Common.{inl, inr, ◌≡◌, ℕ, ◌+◌, ◌<◌, ◌≤◌, true, false, cond, List}
-use Rattle.textwrap_base.proofs.Common.{[], ◌∷◌, ◌++◌, refl, sym, ap, subst, zero-add, arith, ⊤}
+use Rattle.textwrap_base.proofs.Common.{[], ◌∷◌, ◌++◌, refl, ap, subst, zero-add, arith, ⊤}
 use Rattle.textwrap_base.proofs.Common.{onto_first, cases_Bool, nat_tests, sum_by-cons}
 use Rattle.textwrap_words.proofs.Common.{TextUnit, Visible, Sequence, columns, unit_width}
 use Rattle.textwrap_words.proofs.Common.{units_width, IsKept, AllPartsFull, is_due, broken_units}
@@ -34,19 +34,13 @@ pub parts_after-is : (limit width : ℕ) (us : List TextUnit)
     (left_units limit width us)
 parts_after-is limit width [] = refl
 parts_after-is limit width (u ∷ us) =
-    elim (cases_Bool (is_due limit width u)) [
-      | inl t ↦ rw t (ap (λ parts. [] ∷ parts) (sym (broken_units-cons limit u us)))
-      | inr f ↦ rw f (ap (onto_first u) (parts_after-is limit (width + unit_width u) us))
-    ]
+    grind (arith, cases_Bool, broken_units-cons, parts_after-is limit (width + unit_width u) us)
 
 pub taken-left : (limit width : ℕ) (us : List TextUnit)
     → taken_units limit width us ++ left_units limit width us ≡ us
 taken-left limit width [] = refl
 taken-left limit width (u ∷ us) =
-    elim (cases_Bool (is_due limit width u)) [
-      | inl t ↦ rw t refl
-      | inr f ↦ rw f (ap (λ vs. u ∷ vs) (taken-left limit (width + unit_width u) us))
-    ]
+    grind (arith, cases_Bool, taken-left limit (width + unit_width u) us)
 
 -- ---- a part that goes on from some columns
 

@@ -21,12 +21,7 @@ record AreBrokenAfter (limit width : ℕ) (us first : List TextUnit)
   others : AreBroken limit (flat parts) parts
 
 nothing-broken : (limit : ℕ) → AreBroken limit [] []
-nothing-broken limit = record {
-  tiles = refl;
-  nonempty = All-nil (λ part. part ≢ []);
-  kept = All-nil (IsKept limit);
-  full = tt;
-}
+nothing-broken limit = grind (arith, All-nil)
 
 after-on : (limit width : ℕ) (u : TextUnit) (us first : List TextUnit)
     (parts : List (List TextUnit)) → is_due limit width u ≡ false
@@ -54,10 +49,7 @@ from-first : (limit : ℕ) (u : TextUnit) (us first : List TextUnit) (parts : Li
     → AreBrokenAfter limit (unit_width u) us first parts
     → AreBroken limit (u ∷ us) ((u ∷ first) ∷ parts)
 from-first limit u us first parts h =
-    let kept_part : IsKeptAfter limit 0 (u ∷ first) = (
-      is_due-first limit u,
-      subst (λ n. IsKeptAfter limit n first) (sym (zero-add (unit_width u))) h.kept_first,
-    ) in
+    let kept_part : IsKeptAfter limit 0 (u ∷ first) = search (is_due-first, zero-add) in
     let full_part = subst (λ n. IsFullAfter limit n parts)
     (sym (sum_by-cons unit_width u first)) h.full_first in
     record {
@@ -73,14 +65,7 @@ after-cut : (limit width : ℕ) (u : TextUnit) (us first : List TextUnit)
     → AreBrokenAfter limit (unit_width u) us first parts
     → AreBrokenAfter limit width (u ∷ us) [] ((u ∷ first) ∷ parts)
 after-cut limit width u us first parts due h =
-    let broken = from-first limit u us first parts h in
-    record {
-      tiles = broken.tiles;
-      kept_first = tt;
-      full_first = subst (λ n. IsFullAfter limit n ((u ∷ first) ∷ parts)) (sym (add-zero width))
-          (due-parts limit width u first parts due);
-      others = subst (λ vs. AreBroken limit vs ((u ∷ first) ∷ parts)) (sym broken.tiles) broken;
-    }
+    search (from-first, add-zero, due-parts)
 
 first-next : (limit : ℕ) (u : TextUnit) (us : List TextUnit)
     → (u ∷ taken_units limit (unit_width u) us) ∷ broken_units limit

@@ -1,7 +1,7 @@
 -- No parts but the computed ones have the properties.
-use Rattle.textwrap_base.proofs.Common.{◌≡◌, ◌≢◌, ℕ, ◌+◌, List, [], ◌∷◌, ◌++◌, refl, sym, ap, ◌∙◌}
-use Rattle.textwrap_base.proofs.Common.{zero-add, add-zero, arith, All, onto_first, All-head}
-use Rattle.textwrap_base.proofs.Common.{All-tail, sum_by-cons}
+use Rattle.textwrap_base.proofs.Common.{◌≡◌, ◌≢◌, ℕ, ◌+◌, List, [], ◌∷◌, ◌++◌, refl, ap, zero-add}
+use Rattle.textwrap_base.proofs.Common.{add-zero, arith, All, onto_first, All-head, All-tail}
+use Rattle.textwrap_base.proofs.Common.{sum_by-cons, sym, ◌∙◌}
 use Rattle.textwrap_words.proofs.Common.{TextUnit, Visible, columns, unit_width, units_width}
 use Rattle.textwrap_words.proofs.Common.{IsKept, AllPartsFull, broken_units}
 use Rattle.textwrap_words.proofs.Word.Breaking.{IsKeptAfter, IsFullAfter, IsKept-after}

@@ -1,11 +1,10 @@
 -- The pieces of a word as words: they tile it.
-use Rattle.textwrap_base.proofs.Common.{inl, inr, ◌≡◌, ◌≢◌, ℕ, ◌<◌, List, [], ◌∷◌, ◌++◌, refl, sym}
-use Rattle.textwrap_base.proofs.Common.{ap, ◌∙◌, length, take, drop, All, IsUtf8, flat_map}
-use Rattle.textwrap_base.proofs.Common.{cases_Bool, ltb-true, nil_from_length, append-nil}
-use Rattle.textwrap_base.proofs.Common.{append_assoc, flat_map-append, All-head, All-tail}
+use Rattle.textwrap_base.proofs.Common.{◌≡◌, ◌≢◌, ℕ, ◌<◌, List, [], ◌∷◌, ◌++◌, refl, sym, ap, ◌∙◌}
+use Rattle.textwrap_base.proofs.Common.{length, take, drop, All, IsUtf8, flat_map}
+use Rattle.textwrap_base.proofs.Common.{nil_from_length, append-nil, append_assoc}
+use Rattle.textwrap_base.proofs.Common.{flat_map-append, All-head, All-tail, arith}
 use Rattle.textwrap_words.proofs.Common.{text_width, WordText, tile_of, tiled, piece, pieces_with}
 use Rattle.textwrap_words.proofs.Common.{broken_texts, broken_pieces, broken_word, broken_words}
-use Rattle.std.proofs.Common.{ltb}
 use Rattle.textwrap_words.proofs.Word.PieceTexts.{broken_texts-nil, broken_texts-some}
 use Rattle.textwrap_words.proofs.Word.PieceTexts.{broken_texts-tile}
 
@@ -32,9 +31,7 @@ pub turn-last : (limit : ℕ) (whitespace penalty text front back : List ℕ) (l
     ≡ record { word = front; whitespace = whitespace; penalty = penalty; width = width } ∷
     pieces_with whitespace penalty (broken_texts limit back)
 turn-last limit whitespace penalty text front back len width first wide front_is back_is none =
-    let ended : broken_texts limit back ≡ [] = ap (broken_texts limit) (nil_from_length back none)
-    ∙ broken_texts-nil limit in
-    rw (first, ← back_is, ended, wide, front_is) refl
+    cc (nil_from_length back none, broken_texts-nil limit)
 
 pub turn-more : (limit : ℕ) (whitespace penalty text front back : List ℕ) (len width : ℕ)
     → broken_texts limit text ≡ take len text ∷ broken_texts limit (drop len text)
@@ -44,9 +41,7 @@ pub turn-more : (limit : ℕ) (whitespace penalty text front back : List ℕ) (l
     ≡ record { word = front; whitespace = []; penalty = []; width = width } ∷ pieces_with
     whitespace penalty (broken_texts limit back)
 turn-more limit whitespace penalty text front back len width first wide front_is back_is some utf8 =
-    rw (wide, front_is, back_is) (ap (pieces_with whitespace penalty) first
-    ∙ pieces_with-more whitespace penalty (take len text) (broken_texts limit (drop len text))
-    (broken_texts-some limit (drop len text) utf8 (λ e. some (ap length (back_is ∙ e)))))
+    rw (wide, front_is, back_is) (grind (arith, pieces_with-more, broken_texts-some))
 
 pub pieces_with-texts : (whitespace penalty : List ℕ) (texts : List (List ℕ))
     → flat_map (λ w. w.word) (pieces_with whitespace penalty texts) ≡ flat_map (λ text. text) texts
@@ -69,16 +64,11 @@ tiled-pieces_with whitespace penalty (text ∷ next ∷ texts) some =
 pub tiled-broken_pieces : (limit : ℕ) (w : WordText) → IsUtf8 w.word → w.word ≢ []
     → tiled (broken_pieces limit w) ≡ tile_of w
 tiled-broken_pieces limit w utf8 some =
-    tiled-pieces_with w.whitespace w.penalty (broken_texts limit w.word)
-    (broken_texts-some limit w.word utf8 some)
-    ∙ ap (λ t. t ++ w.whitespace) (broken_texts-tile limit w.word utf8)
+    search (tiled-pieces_with, broken_texts-some, broken_texts-tile)
 
 tiled-broken_word : (limit : ℕ) (w : WordText) → IsUtf8 w.word → (limit < w.width → w.word ≢ [])
     → tiled (broken_word limit w) ≡ tile_of w
-tiled-broken_word limit w utf8 some = elim (cases_Bool (ltb limit w.width)) [
-  | inl wide ↦ rw wide (tiled-broken_pieces limit w utf8 (some (ltb-true limit w.width wide)))
-  | inr fits ↦ rw fits (append-nil (tile_of w))
-]
+tiled-broken_word limit w utf8 some = grind (arith, tiled-broken_pieces, append-nil)
 
 pub tiled-broken_words : (limit : ℕ) (words : List WordText) → All (λ w. IsUtf8 w.word) words
     → All (λ w. limit < w.width → w.word ≢ []) words

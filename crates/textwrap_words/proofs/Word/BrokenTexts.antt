@@ -1,13 +1,12 @@
 -- Lemmas on the pieces of broken words: they are text, measured, and keep the word's blanks and
 -- penalty at its end.
 use Rattle.textwrap_base.proofs.Common.{ℕ, ⊤, Bool, true, false, cond, List, [], ◌∷◌, All, map}
-use Rattle.textwrap_base.proofs.Common.{refl, sym, ap, ◌∙◌, subst, encode_utf8_all, flat_map}
-use Rattle.textwrap_base.proofs.Common.{IsUtf8, flat_map-append, All-nil, All-cons, All-head}
-use Rattle.textwrap_base.proofs.Common.{All-tail}
-use Rattle.textwrap_words.proofs.Common.{piece, WordText, pieces_with, units_text, broken_units}
+use Rattle.textwrap_base.proofs.Common.{refl, ap, subst, encode_utf8_all, flat_map, IsUtf8}
+use Rattle.textwrap_base.proofs.Common.{flat_map-append, All-nil, All-cons, All-head, All-tail}
+use Rattle.textwrap_base.proofs.Common.{arith}
+use Rattle.textwrap_words.proofs.Common.{piece, WordText, pieces_with, units_text}
 use Rattle.textwrap_words.proofs.Common.{broken_texts, broken_pieces, broken_word, broken_words}
-use Rattle.textwrap_words.proofs.Common.{TextUnit, characters, units}
-use Rattle.std.specs.Prelude.{chars}
+use Rattle.textwrap_words.proofs.Common.{TextUnit, characters}
 use Rattle.textwrap_words.proofs.Word.BreakingExists.{AreBroken-exists}
 use Rattle.textwrap_words.proofs.Word.PieceTexts.{units_text-chars}
 use Rattle.textwrap_words.proofs.Word.Measured.{IsMeasured, EndsInBlanks, HasNoPenalty, no_blanks}
@@ -29,10 +28,7 @@ texts-utf8 (part ∷ parts) u =
 pub broken_texts-utf8 : (limit : ℕ) (text : List ℕ) → IsUtf8 text
     → All IsUtf8 (broken_texts limit text)
 broken_texts-utf8 limit text utf8 =
-    let us = units (chars text) in
-    texts-utf8 (broken_units limit us)
-    (subst IsUtf8 (sym (ap units_text (AreBroken-exists limit us).tiles
-    ∙ units_text-chars text utf8)) utf8)
+    grind (arith, texts-utf8, AreBroken-exists, units_text-chars)
 
 -- ---- the pieces as words
 
@@ -45,21 +41,16 @@ pieces_with-all P Q whitespace penalty inner final [] all = All-nil P
 pieces_with-all P Q whitespace penalty inner final (text ∷ []) all =
     All-cons P (piece text whitespace penalty) [] (final text (All-head Q text [] all)) (All-nil P)
 pieces_with-all P Q whitespace penalty inner final (text ∷ next ∷ texts) all =
-    All-cons P (piece text [] []) (pieces_with whitespace penalty (next ∷ texts))
-    (inner text (All-head Q text (next ∷ texts) all))
-    (pieces_with-all P Q whitespace penalty inner final (next ∷ texts)
-    (All-tail Q text (next ∷ texts) all))
+    let again = pieces_with-all P Q whitespace penalty inner final (next ∷ texts)
+    (All-tail Q text (next ∷ texts) all) in
+    search (All-cons, All-head)
 
 broken_word-measured : (limit : ℕ) (w : WordText) → IsMeasured w → (b : Bool)
     → All IsMeasured (cond b (broken_pieces limit w) (w ∷ []))
 broken_word-measured limit w measured true =
     let of_text : (whitespace penalty text : List ℕ) → EndsInBlanks (piece [] whitespace penalty)
     → IsUtf8 text → IsMeasured (piece text whitespace penalty) =
-    λ whitespace penalty text ending utf8. record {
-      utf8 = utf8;
-      width = refl;
-      ending = record { blanks = ending.blanks; none = ending.none };
-    } in
+    grind arith in
     pieces_with-all IsMeasured IsUtf8 w.whitespace w.penalty
     (λ text. of_text [] [] text (record { blanks = no_blanks; none = λ _. refl }))
     (λ text. of_text w.whitespace w.penalty text

@@ -1,10 +1,11 @@
 -- Lemmas on what an algorithm may divide, also one of a caller: its lines are the first elements in
 -- order, and along a view they are those of what the view gives.
-use Rattle.textwrap_base.proofs.Common.{◌≡◌, ◌≢◌, ℕ, suc, ◌-◌, ◌≤◌, ◌<◌, List, [], ◌∷◌, ◌++◌}
+use Rattle.textwrap_base.proofs.Common.{◌≡◌, ◌≢◌, ℕ, suc, ◌-◌, ◌≤◌, ◌<◌, List, [], ◌∷◌}
 use Rattle.textwrap_base.proofs.Common.{length, map, drop, get_or, refl, sym, ap, ◌∙◌, subst, arith}
-use Rattle.textwrap_base.proofs.Common.{append_assoc, append-nil, All, Some, None, Ok, slice_range}
+use Rattle.textwrap_base.proofs.Common.{append_assoc, append-nil, Some, None, Ok, slice_range}
 use Rattle.textwrap_base.proofs.Common.{IsNonDecreasing, map-id, take-map, length-map, drop_split}
-use Rattle.textwrap_words.proofs.Common.{WordText, word_view, sizes_of, Greedy, LeastCost}
+use Rattle.textwrap_base.proofs.Common.{◌++◌}
+use Rattle.textwrap_words.proofs.Common.{WordText, sizes_of, Greedy, LeastCost}
 use Rattle.textwrap_words.proofs.Common.{IsDividedBy, MayDivide, algorithm_view}
 use Rattle.std.proofs.lemmas.List.{drop-map}
 use Rattle.textwrap_words.specs.LineEnds.{AreEnds, lines_from}
@@ -44,13 +45,7 @@ pub MayEnd-ends : {F X : Type 0} {f : _} (given : LineEnds F f) (view : X → Wo
     (widths ends : List ℕ) → MayEnd given (map view xs) widths ends → AreEnds xs ends
 MayEnd-ends given view xs widths ends (alloc, asked, lent, answer, words, same, is, met) =
     let are = given.answers alloc asked lent (Ok answer) met answer refl in
-    let len : length asked.now ≡ length xs =
-    sym (length-map asked.now word_view) ∙ ap length words ∙ length-map xs view in
-    record {
-      in_order = subst IsNonDecreasing is are.in_order;
-      within = subst (All (λ end. end ≤ length xs)) is
-          (subst (λ n. All (λ end. end ≤ n) answer.items) len are.within);
-    }
+    grind (arith, length-map)
 
 module _ {F : Type 0} {f : _} where
   pub MayDivide-map : {X : Type 0} (algorithm : WrapAlgorithm F f) (view : X → WordText)
@@ -81,16 +76,8 @@ module _ {F : Type 0} {f : _} where
   pub MayDivide-begins : {X : Type 0} (algorithm : WrapAlgorithm F f) (view : X → WordText)
       (widths : List ℕ) (xs : List X) (lines : List (List X))
       → MayDivide algorithm view widths xs lines → Begins xs (flat lines)
-  MayDivide-begins FirstFit view widths xs lines divided = (
-    [],
-    append-nil (flat lines) ∙ IsDividedBy-whole (λ x. sizes_of (view x)) Greedy widths xs
-        lines divided,
-  )
-  MayDivide-begins (OptimalFit penalties) view widths xs lines divided = (
-    [],
-    append-nil (flat lines) ∙ IsDividedBy-whole (λ x. sizes_of (view x)) (LeastCost penalties)
-        widths xs lines divided,
-  )
+  MayDivide-begins FirstFit view widths xs lines divided = grind (arith, append-nil)
+  MayDivide-begins (OptimalFit penalties) view widths xs lines divided = grind (arith, append-nil)
   MayDivide-begins (Custom given) view widths xs lines (ends, may, is) =
       subst (λ ls. Begins xs (flat ls)) (sym is)
       (lines_from-begin xs 0 ends (MayEnd-ends given view xs widths ends may).in_order

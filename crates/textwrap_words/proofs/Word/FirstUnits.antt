@@ -1,6 +1,6 @@
 -- The units of the first part, one after another.
-use Rattle.textwrap_base.proofs.Common.{inl, inr, cases_Bool, ◌≡◌, ◌≢◌, ℕ, ◌+◌, Bool, true, false}
-use Rattle.textwrap_base.proofs.Common.{not, cond, eqb, List, [], ◌∷◌, refl, sym, ap, ◌∙◌, subst}
+use Rattle.textwrap_base.proofs.Common.{cases_Bool, ◌≡◌, ◌≢◌, ℕ, ◌+◌, Bool, true, false}
+use Rattle.textwrap_base.proofs.Common.{cond, eqb, List, [], ◌∷◌, refl, sym, subst}
 use Rattle.textwrap_base.proofs.Common.{zero-add, add-zero, arith, not-true, sum_by-cons}
 use Rattle.textwrap_words.proofs.Common.{TextUnit, Visible, columns, unit_at, units, unit_width}
 use Rattle.textwrap_words.proofs.Common.{units_width, is_due}
@@ -32,37 +32,34 @@ text-unit : (limit width c : ℕ) (cs : List ℕ)
     → (is_due limit width (unit_at c cs) ≡ false)
     × (unit_width (unit_at c cs) ≡ added (shows Text c) c)
 text-unit limit width c cs room =
-    elim (cases_Bool (eqb c 27)) [
-      | inl t ↦ rw t (refl, refl)
-      | inr f ↦ rw f (room (ap not f), refl)
-    ]
+    grind (arith, cases_Bool)
 
 -- what comes in the state after a character, with what that character adds
-record GoesOn (limit width : ℕ) (us : List TextUnit) (more : ℕ) (vs : List TextUnit) : Type 0 where
+record TakesUnit (limit width : ℕ) (us : List TextUnit) (more : ℕ) (vs : List TextUnit) : Type 0 where
   leaves : left_units limit width us ≡ left_units limit (width + more) vs
   wide : units_width (taken_units limit width us) ≡ more + units_width
       (taken_units limit (width + more) vs)
 
 goes-unit : (limit width : ℕ) (u : TextUnit) (us : List TextUnit) → is_due limit width u ≡ false
-    → GoesOn limit width (u ∷ us) (unit_width u) us
+    → TakesUnit limit width (u ∷ us) (unit_width u) us
 goes-unit limit width u us on = record {
   leaves = rw on refl;
   wide = rw on (sum_by-cons unit_width u (taken_units limit (width + unit_width u) us));
 }
 
-goes-nowhere : (limit width : ℕ) (us : List TextUnit) → GoesOn limit width us 0 us
+goes-nowhere : (limit width : ℕ) (us : List TextUnit) → TakesUnit limit width us 0 us
 goes-nowhere limit width us =
     record { leaves = rw (add-zero width) refl; wide = rw (add-zero width, zero-add) refl }
 
 goes-inside : (limit width : ℕ) (s : State) (c : ℕ) (cs : List ℕ) → s ≢ Text
-    → GoesOn limit width (units_in s (c ∷ cs)) 0 (units_in (next_of s c) cs)
+    → TakesUnit limit width (units_in s (c ∷ cs)) 0 (units_in (next_of s c) cs)
 goes-inside limit width s c cs inside =
-    subst (λ us. GoesOn limit width us 0 (units_in (next_of s c) cs))
+    subst (λ us. TakesUnit limit width us 0 (units_in (next_of s c) cs))
     (sym (units_in-inside s c cs inside)) (goes-nowhere limit width (units_in (next_of s c) cs))
 
 goes-on : (limit width : ℕ) (s : State) (c : ℕ) (cs : List ℕ)
     → (shows s c ≡ true → is_due limit width (Visible c) ≡ false)
-    → GoesOn limit width (units_in s (c ∷ cs)) (added (shows s c) c) (units_in (next_of s c) cs)
+    → TakesUnit limit width (units_in s (c ∷ cs)) (added (shows s c) c) (units_in (next_of s c) cs)
 goes-on limit width Text c cs room =
     let both = text-unit limit width c cs room in
     let on = goes-unit limit width (unit_at c cs) (units_in (next_of Text c) cs) both.0 in
@@ -77,9 +74,7 @@ pub IsInFirst-step : (limit : ℕ) (cs : List ℕ) (s : State) (width c : ℕ) (
     → IsInFirst limit cs next (width + added flag c) rest
 IsInFirst-step limit cs s width c rest next flag h step room =
     let is = step-is s next flag c step in
-    let on : GoesOn limit width (units_in s (c ∷ rest)) (added flag c) (units_in next rest) =
-    rw (is.0, is.1 rest) (goes-on limit width s c rest (λ e. room (is.0 ∙ e))) in
-    record { leaves = h.leaves ∙ on.leaves; wide = omega (arith, h.wide, on.wide) }
+    grind (arith, goes-on)
 
 -- where the first piece ends and the reader goes no further
 pub record EndsHere (limit : ℕ) (cs : List ℕ) (width : ℕ) (us : List TextUnit) : Type 0 where
@@ -91,9 +86,7 @@ pub IsInFirst-cut : (limit : ℕ) (cs : List ℕ) (s : State) (width c : ℕ) (r
     → is_due limit width (Visible c) ≡ true → EndsHere limit cs width (units (c ∷ rest))
 IsInFirst-cut limit cs Text width c rest next h step due =
     let plain = not-true (eqb c 27) (sym (step-is Text next true c step).0) in
-    let due_unit : is_due limit width (unit_at c rest) ≡ true = rw plain due in
-    let wide = rw due_unit at h.wide in
-    record { leaves = rw due_unit at h.leaves; wide = omega (arith, wide) }
+    grind arith
 IsInFirst-cut limit cs Escape width c rest next h step due = let e =
     (step-is Escape next true c step).0 in cc
 IsInFirst-cut limit cs Control width c rest next h step due = let e =

@@ -1,7 +1,7 @@
 -- The cuts that a walk along a line finds are those at the offsets.
 use Rattle.textwrap_base.proofs.Common.{◌≡◌, ℕ, ◌+◌, true, List, [], ◌∷◌, ◌++◌, length, refl, ap}
-use Rattle.textwrap_base.proofs.Common.{◌∙◌, subst, arith, inl, inr, length-append, flat_map}
-use Rattle.textwrap_base.proofs.Common.{Contains, encode_utf8_all, cases_Bool, encodes-append}
+use Rattle.textwrap_base.proofs.Common.{◌∙◌, arith, inl, inr, length-append, flat_map, Contains}
+use Rattle.textwrap_base.proofs.Common.{encode_utf8_all, cases_Bool, encodes-append, subst}
 use Rattle.textwrap_words.proofs.Common.{units_text, TextUnit, Visible, Sequence, characters}
 use Rattle.textwrap_words.proofs.Common.{shown_len, VisibleEnd, ends_from, is_cut_after, cuts_among}
 use lib.Utf8.{encode}
@@ -93,11 +93,7 @@ pub found-contains : (offsets : List ℕ) (total : ℕ) (before after : List Tex
     → Contains (cuts_among offsets total (ends_from at shown ((before ++ Visible c ∷ []) ++ after)))
     (at + length (units_text (before ++ Visible c ∷ [])))
 found-contains offsets total [] after c at shown passes =
-    let len = length (encode c) in
-    rw (rw (one-text c) at passes)
-    (contains-here (at + len) (at + length (encode_utf8_all (c ∷ [])))
-    (cuts_among offsets total (ends_from (at + len) (shown + len) after))
-    (omega (arith, one-text c)))
+    grind (arith, one-text, contains-here)
 found-contains offsets total (Visible d ∷ before) after c at shown passes =
     let len = length (encode d) in
     let front = before ++ Visible c ∷ [] in
@@ -114,9 +110,5 @@ found-contains offsets total (Visible d ∷ before) after c at shown passes =
     (ap (is_cut_after offsets total c) further ∙ passes)))
 found-contains offsets total (Sequence cs ∷ before) after c at shown passes =
     let len = length (encode_utf8_all cs) in
-    let front = before ++ Visible c ∷ [] in
-    let place : (at + len) + length (units_text front)
-    ≡ at + length (units_text (Sequence cs ∷ front)) =
-    rw (encodes-append cs (flat_map characters front)) (omega (arith, length-append {A = ℕ})) in
-    subst (Contains (cuts_among offsets total (ends_from (at + len) shown (front ++ after)))) place
-    (found-contains offsets total before after c (at + len) shown passes)
+    let again = found-contains offsets total before after c (at + len) shown passes in
+    grind (arith, encodes-append, length-append)

@@ -4,7 +4,7 @@ use Rattle.textwrap_base.proofs.Common.{division_cost, IsGreedy, default_penalti
 use Rattle.textwrap_words.proofs.Common.{sizes_of, words_of}
 use Rattle.std.specs.Str.{chars}
 use Rattle.unicode_width.specs.Width.{char_width}
-use Rattle.textwrap_base.proofs.Division.GreedyTest.{IsGreedy-from_test}
+use Rattle.textwrap_base.proofs.Division.GrownLines.{greedy_at}
 
 -- a line of a text, by its words
 IsGreedy-words : IsGreedy sizes_of (10 ∷ [])
@@ -12,7 +12,7 @@ IsGreedy-words : IsGreedy sizes_of (10 ∷ [])
     (words_of (codes "To be, or ") ∷ words_of (codes "not to be: ") ∷ words_of
     (codes "that is ") ∷ words_of (codes "the ") ∷ words_of (codes "question") ∷ [])
 unfolding chars char_width
-IsGreedy-words = IsGreedy-from_test _ _ _ refl refl
+IsGreedy-words = greedy_at sizes_of 10 _
 
 abbrev words_at : List ℕ → List ℕ → List (List ℕ) → ℕ
 words_at widths text lines =

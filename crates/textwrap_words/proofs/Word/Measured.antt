@@ -1,12 +1,10 @@
 -- The words of a line are text, are measured, and end in blanks.
 use Rattle.textwrap_base.proofs.Common.{◌≡◌, ℕ, true, false, ◌==◌, List, [], ◌∷◌, All, All-append}
-use Rattle.textwrap_base.proofs.Common.{All-head, All-tail, flat_map, length, refl, sym, map, ap}
-use Rattle.textwrap_base.proofs.Common.{sum_by, IsUtf8, false≢true, All-nil, All-map, All-weaker}
-use Rattle.textwrap_base.proofs.Common.{chars-nil}
-use Rattle.textwrap_words.proofs.Common.{columns, text_width, WordText, word_of, chunks, words_of}
-use Rattle.textwrap_words.proofs.Common.{is_blank}
+use Rattle.textwrap_base.proofs.Common.{All-head, All-tail, flat_map, length, map, ap, sum_by}
+use Rattle.textwrap_base.proofs.Common.{IsUtf8, All-nil, All-map, All-weaker, chars-nil, arith}
+use Rattle.textwrap_words.proofs.Common.{columns, text_width, WordText, word_of, is_blank}
 use Rattle.textwrap_words.proofs.Word.Texts.{AreBlanks, without_final_blanks-utf8}
-use Rattle.textwrap_words.proofs.Word.Texts.{final_blanks-blank, chunks-utf8}
+use Rattle.textwrap_words.proofs.Word.Texts.{final_blanks-blank}
 use Rattle.textwrap_words.specs.Units.{visible}
 
 -- blanks stand after the word, and none where it has a penalty
@@ -21,23 +19,12 @@ pub record IsMeasured (w : WordText) : Type 0 where
   pub ending : EndsInBlanks w
 
 pub word_of-measured : (bytes : List ℕ) → IsUtf8 bytes → IsMeasured (word_of bytes)
-word_of-measured bytes utf8 = record {
-  utf8 = without_final_blanks-utf8 bytes utf8;
-  width = refl;
-  ending = record {
-    blanks = final_blanks-blank bytes;
-    none = λ some.
-        absurd (false≢true (sym some));
-  };
-}
+word_of-measured bytes utf8 = grind (arith, without_final_blanks-utf8, final_blanks-blank)
 
 pub words-measured : (parts : List (List ℕ)) → All IsUtf8 parts → All IsMeasured (map word_of parts)
 words-measured parts utf8 =
     All-map IsMeasured word_of parts
     (All-weaker IsUtf8 (λ part. IsMeasured (word_of part)) word_of-measured parts utf8)
-
-pub words_of-measured : (line : List ℕ) → IsUtf8 line → All IsMeasured (words_of line)
-words_of-measured line utf8 = words-measured (chunks line) (chunks-utf8 line utf8)
 
 pub text_width-nil : text_width [] ≡ 0
 text_width-nil = ap (λ cs. sum_by columns (visible cs)) chars-nil

@@ -1,10 +1,10 @@
 -- A line may be cut at the offsets of its visible text.
-use Rattle.textwrap_base.proofs.Common.{◌≡◌, ℕ, ◌+◌, ◌<◌, ◌≤◌, List, [], ◌∷◌, ◌++◌, length, sym, ap}
-use Rattle.textwrap_base.proofs.Common.{◌∙◌, subst, arith, length-append, All, flat_map, Contains}
+use Rattle.textwrap_base.proofs.Common.{◌≡◌, ℕ, ◌<◌, ◌≤◌, List, [], ◌∷◌, ◌++◌, length, sym, ap, ◌∙◌}
+use Rattle.textwrap_base.proofs.Common.{subst, arith, length-append, All, flat_map, Contains}
 use Rattle.textwrap_base.proofs.Common.{encode_utf8_all, IsUtf8, IsCharBoundary, flat_map-append}
-use Rattle.textwrap_base.proofs.Common.{All-weaker, encodes-append, encodes-chars}
+use Rattle.textwrap_base.proofs.Common.{All-weaker, encodes-append, encodes-chars, rules}
 use Rattle.textwrap_words.proofs.Common.{units_text, TextUnit, Visible, Sequence, characters}
-use Rattle.textwrap_words.proofs.Common.{visible_of, stripped, shown_len, cuts_at, AreCuts}
+use Rattle.textwrap_words.proofs.Common.{shown_len, cuts_at, AreCuts}
 use Rattle.textwrap_words.proofs.Word.OffsetCuts.{cut-found, cuts_at-cuts}
 use Rattle.std.specs.Str.{chars}
 use Rattle.std.proofs.lemmas.List.Elements.{All-contains_itself}
@@ -31,20 +31,16 @@ cut-inside offsets line cut utf8 h =
     ∙ flat_map-append characters front h.after in
     let whole : line ≡ encode_utf8_all (flat_map characters front ++ flat_map characters h.after) =
     sym (encodes-chars line utf8) ∙ ap encode_utf8_all chars_are in
-    let seam : line ≡ units_text front ++ units_text h.after =
-    whole ∙ encodes-append (flat_map characters front) (flat_map characters h.after) in
     let back : IsUtf8 (units_text h.after) =
     utf8-back (flat_map characters front) (flat_map characters h.after)
     (subst IsUtf8 whole utf8) in
-    let shown : length (stripped line) ≡ shown_len front + shown_len h.after =
-    ap (λ us. length (encode_utf8_all (flat_map visible_of us))) h.divided
-    ∙ ap (λ cs. length (encode_utf8_all cs)) (flat_map-append visible_of front h.after)
-    ∙ ap length (encodes-append (flat_map visible_of front) (flat_map visible_of h.after))
-    ∙ length-append (encode_utf8_all (flat_map visible_of front))
-    (encode_utf8_all (flat_map visible_of h.after)) in (
-      omega (arith, h.inside, h.place, shown-short h.after, ap length seam, length-append {A = ℕ}),
-      subst (IsCharBoundary line) (sym h.place)
-          (IsCharBoundary-at_seam line (units_text front) (units_text h.after) seam back),
+    search (
+      rules,
+      flat_map-append,
+      encodes-append,
+      length-append,
+      shown-short,
+      IsCharBoundary-at_seam,
     )
 
 pub cuts_at-AreCuts : (offsets line : List ℕ) → IsUtf8 line → AreCuts line (cuts_at offsets line)

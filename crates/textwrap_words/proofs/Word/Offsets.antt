@@ -62,10 +62,7 @@ IsFinding-step offsets line at rest s shown cuts c after next flag h e step at' 
           ∙ ap (λ bs. drop (length (encode c)) bs) (h.place ∙ e)
           ∙ drop_at (encode c) after (length (encode c)) refl;
       within = IsFinding-room offsets line at rest s shown cuts c after h e;
-      behind = elim (cases_Bool flag) [
-        | inl t ↦ rw t (omega (arith, h.behind))
-        | inr f ↦ rw f (omega (arith, h.behind))
-      ];
+      behind = grind (arith, cases_Bool);
       found = elim (cases_Bool flag) [
         | inl t ↦ rw t (cuts-more offsets total (end_of at shown c)
             (ends_in next (at + length (encode c)) (shown + length (encode c)) (chars after))
@@ -78,7 +75,4 @@ pub IsFinding-end : (offsets line : List ℕ) (at : ℕ) (rest : List ℕ) (s : 
     (cuts : List ℕ) → IsFinding offsets line at rest s shown cuts → length rest ≡ 0
     → cuts ≡ cuts_at offsets line
 IsFinding-end offsets line at rest s shown cuts h none =
-    let ended : chars rest ≡ [] = ap chars (nil_from_length rest none) ∙ chars-nil in
-    sym (append-nil cuts)
-    ∙ ap (λ cs. cuts ++ cuts_among offsets (length (stripped line)) (ends_in s at shown cs))
-    (sym ended) ∙ h.found
+    cc (nil_from_length rest none, chars-nil, append-nil cuts)

@@ -49,9 +49,7 @@ module _ (limit : ℕ) where
       parts-tight [] kept utf8 own = All-nil IsTightText
       parts-tight (part ∷ parts) kept utf8 own =
           All-cons IsTightText (units_text part) (map units_text parts)
-          (part-tight part (All-head (IsKept limit) part parts kept)
-          (All-head IsUtf8 (units_text part) (map units_text parts) utf8)
-          (All-head IsOwn part parts own))
+          (search (part-tight, All-head))
           (parts-tight parts (All-tail (IsKept limit) part parts kept)
           (All-tail IsUtf8 (units_text part) (map units_text parts) utf8)
           (All-tail IsOwn part parts own))

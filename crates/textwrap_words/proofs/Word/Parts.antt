@@ -2,7 +2,7 @@
 use Rattle.textwrap_base.proofs.Common.{inl, inr, ◌≡◌, ℕ, suc, ◌<◌, ◌≤◌, List, [], ◌∷◌, ◌++◌, All}
 use Rattle.textwrap_base.proofs.Common.{map, length, get_or, drop, sym, ap, ◌∙◌, arith, append-nil}
 use Rattle.textwrap_base.proofs.Common.{◌==◌, slice_range, IsNonDecreasing, IsUtf8, IsCharBoundary}
-use Rattle.textwrap_base.proofs.Common.{cases_Bool, eqb-true, nil_from_length, drop_split, All-nil}
+use Rattle.textwrap_base.proofs.Common.{cases_Bool, nil_from_length, drop_split, All-nil}
 use Rattle.textwrap_base.proofs.Common.{All-cons, All-head, All-tail, IsUtf8-drop, IsUtf8-between}
 use Rattle.textwrap_base.proofs.Common.{IsCharBoundary-start}
 use Rattle.textwrap_words.proofs.Common.{tiled, word_of, AreCuts, AreInnerCuts, parts_between}
@@ -29,10 +29,7 @@ parts_from-tile start (cut ∷ cuts) line in_order before =
 pub parts_between-tile : (cuts line : List ℕ) → IsNonDecreasing cuts
     → tiled (map word_of (parts_between cuts line)) ≡ line
 parts_between-tile cuts line in_order =
-    tiled-map (parts_between cuts line) ∙ elim (cases_Bool (length line == 0)) [
-      | inl none ↦ rw none (sym (nil_from_length line (eqb-true (length line) 0 none)))
-      | inr some ↦ rw some (parts_from-tile 0 cuts line in_order (λ k lt. omega arith))
-    ]
+    grind (arith, tiled-map, nil_from_length, parts_from-tile)
 
 -- ---- the parts are texts
 

@@ -3,7 +3,7 @@ use Rattle.textwrap_base.proofs.Common.{◌≡◌, ◌≢◌, ℕ, ◌≤◌, Li
 use Rattle.textwrap_base.proofs.Common.{length, take, drop, map, IsUtf8, IsCharBoundary}
 use Rattle.textwrap_base.proofs.Common.{encode_utf8_all, flat_map, sum_by, take-append-drop}
 use Rattle.textwrap_base.proofs.Common.{flat_map-append, chars-nil, chars-append, encodes-append}
-use Rattle.textwrap_base.proofs.Common.{encodes-chars, IsUtf8-take}
+use Rattle.textwrap_base.proofs.Common.{encodes-chars, IsUtf8-take, arith}
 use Rattle.textwrap_words.proofs.Common.{TextUnit, characters, columns, units, visible_of}
 use Rattle.textwrap_words.proofs.Common.{text_width, units_text, broken_units, broken_texts}
 use Rattle.textwrap_words.proofs.Word.FirstUnits.{EndsHere}
@@ -30,9 +30,7 @@ units_text-chars text utf8 = ap encode_utf8_all (units-tile (chars text)) ∙ en
 pub broken_texts-tile : (limit : ℕ) (text : List ℕ) → IsUtf8 text
     → flat_map (λ t. t) (broken_texts limit text) ≡ text
 broken_texts-tile limit text utf8 =
-    texts-flat (broken_units limit (units (chars text)))
-    ∙ ap units_text (AreBroken-exists limit (units (chars text))).tiles
-    ∙ units_text-chars text utf8
+    grind (arith, texts-flat, AreBroken-exists, units_text-chars)
 
 pub broken_texts-nil : (limit : ℕ) → broken_texts limit [] ≡ []
 broken_texts-nil limit = ap (λ cs. map units_text (broken_units limit (units cs))) chars-nil
@@ -49,7 +47,7 @@ broken-first limit [] vs some e = absurd (some refl)
 broken-first limit (u ∷ us) vs some e = parts_after-is limit 0 (u ∷ us)
     ∙ ap (λ ws. taken_units limit 0 (u ∷ us) ∷ broken_units limit ws) e
 
-units-some : (text : List ℕ) → IsUtf8 text → text ≢ [] → units (chars text) ≢ []
+pub units-some : (text : List ℕ) → IsUtf8 text → text ≢ [] → units (chars text) ≢ []
 units-some text utf8 some e = some (sym (units_text-chars text utf8) ∙ ap units_text e)
 
 -- the first piece that a reader found is the first of the pieces

@@ -3,8 +3,8 @@ use Rattle.textwrap_base.proofs.Common.{map, subst, ◌≡◌, ℕ, suc, ◌<◌
 use Rattle.textwrap_base.proofs.Common.{◌∷◌, ◌++◌, All, length, get_or, take, drop, refl, sym, ap}
 use Rattle.textwrap_base.proofs.Common.{◌∙◌, arith, slice_range, IsNonDecreasing, IsUtf8}
 use Rattle.textwrap_base.proofs.Common.{IsCharBoundary, and_parts, All-nil, All-cons, All-head}
-use Rattle.textwrap_base.proofs.Common.{All-tail, All-map, IsUtf8-drop, IsUtf8-between}
-use Rattle.textwrap_words.proofs.Common.{is_blank, AreCuts, Splitter, Whole, AtHyphens, hyphen}
+use Rattle.textwrap_base.proofs.Common.{All-tail, All-map, IsUtf8-drop, IsUtf8-between, rules}
+use Rattle.textwrap_words.proofs.Common.{AreCuts, Splitter, Whole, AtHyphens, hyphen}
 use Rattle.textwrap_words.proofs.Common.{ends_in_hyphen, is_hyphen_point, cut_penalty, points_of}
 use Rattle.textwrap_words.proofs.Common.{split_from, split_pieces, split_word, split_words}
 use Rattle.textwrap_words.proofs.Common.{ArePoints, AreSplit, piece, WordText, tiled, word_of}
@@ -32,13 +32,7 @@ AreSplit-is splitter (w ∷ words) pieces (points, rest, points_are, rest_are, i
 pub AreSplit-computed : (splitter : Splitter) (words : List WordText)
     → AreSplit (ArePoints splitter) words (split_words splitter words)
 AreSplit-computed splitter [] = refl
-AreSplit-computed splitter (w ∷ words) = (
-  points_of splitter w.word,
-  split_words splitter words,
-  refl,
-  AreSplit-computed splitter words,
-  refl,
-)
+AreSplit-computed splitter (w ∷ words) = grind (arith, AreSplit-computed splitter words)
 
 -- ---- words and their pieces are texts
 
@@ -53,24 +47,13 @@ pub split_from-measured : (w : WordText) (start : ℕ) (points : List ℕ) → I
     → ((k : ℕ) → k < length points → start ≤ get_or points k 0)
     → All IsMeasured (split_from w start points)
 split_from-measured w start [] measured at in_order cuts before =
-    All-cons IsMeasured (piece (drop start w.word) w.whitespace w.penalty) []
-    (record {
-      utf8 = IsUtf8-drop w.word start measured.utf8 at;
-      width = refl;
-      ending = record { blanks = measured.ending.blanks; none = measured.ending.none };
-    })
-    (All-nil IsMeasured)
+    search (All-cons, IsUtf8-drop, All-nil)
 split_from-measured w start (point ∷ points) measured at in_order cuts before =
     let later : IsNonDecreasing points = λ i j d le lt. in_order (suc i) (suc j) d (omega arith)
     (omega arith) in
     let next : IsCharBoundary w.word point = All-head (IsCharBoundary w.word) point points cuts in
     let first : IsMeasured (piece (slice_range w.word start point) [] (cut_penalty w.word point)) =
-    record {
-      utf8 = IsUtf8-between w.word start point measured.utf8
-          (before 0 (omega arith)) at next;
-      width = refl;
-      ending = record { blanks = All-nil (λ c. is_blank c ≡ true); none = λ _. refl };
-    } in
+    search (rules, IsUtf8-between, All-nil) in
     All-cons IsMeasured (piece (slice_range w.word start point) [] (cut_penalty w.word point))
     (split_from w point points) first
     (split_from-measured w point points measured next later
@@ -110,11 +93,7 @@ split_pieces_of-no_penalty splitter paragraph =
 -- the parts of a line, each taken as a word
 pub AreTexts-parts : (line : List ℕ) (parts : List (List ℕ)) → tiled (map word_of parts) ≡ line
     → All IsUtf8 parts → AreTexts line (map word_of parts)
-AreTexts-parts line parts tile utf8 = record {
-  tile = tile;
-  measured = words-measured parts utf8;
-  plain = All-map HasNoPenalty word_of parts (λ k d lt. refl);
-}
+AreTexts-parts line parts tile utf8 = search (words-measured, All-map)
 
 pub AreTexts-words : (line : List ℕ) (words : List WordText) → IsUtf8 line → AreWordsOf line words
     → AreTexts line words

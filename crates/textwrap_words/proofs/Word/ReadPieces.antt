@@ -3,7 +3,7 @@ use Rattle.textwrap_base.proofs.Common.{◌≡◌, ◌≢◌, ℕ, ◌+◌, ◌*
 use Rattle.textwrap_base.proofs.Common.{◌++◌, refl, sym, ap, ◌∙◌, subst, arith, length, drop}
 use Rattle.textwrap_base.proofs.Common.{IsUtf8, nil_from_length, length-append, length-drop}
 use Rattle.textwrap_base.proofs.Common.{drop-drop, drop_at, drop_all, chars-nil, IsUtf8-nil}
-use Rattle.textwrap_base.proofs.Common.{IsUtf8-past_char, chars_past_char}
+use Rattle.textwrap_base.proofs.Common.{IsUtf8-past_char, chars_past_char, rules}
 use Rattle.textwrap_words.proofs.Common.{Visible, units, is_due}
 use Rattle.textwrap_words.proofs.Word.FirstUnits.{IsInFirst, IsInFirst-start, added, IsInFirst-step}
 use Rattle.textwrap_words.proofs.Word.FirstUnits.{IsInFirst-cut, EndsHere, IsInFirst-end}
@@ -25,14 +25,7 @@ pub record IsReading (limit : ℕ) (text : List ℕ) (at : ℕ) (rest : List ℕ
 pub IsReading-start : (limit : ℕ) (text : List ℕ) (at : ℕ) (rest : List ℕ) → IsUtf8 text → at ≡ 0
     → rest ≡ text → IsReading limit text at rest Text 0
 IsReading-start limit text at rest utf8 zero_at whole =
-    rw (zero_at, whole)
-    (record {
-      utf8 = utf8;
-      place = refl;
-      within = omega arith;
-      bound = omega arith;
-      inside = IsInFirst-start limit (chars text);
-    })
+    grind (arith, IsInFirst-start)
 
 pub IsReading-room : (limit : ℕ) (text : List ℕ) (at : ℕ) (rest : List ℕ) (state : State)
     (width c : ℕ) (after : List ℕ) → IsReading limit text at rest state width
@@ -40,7 +33,7 @@ pub IsReading-room : (limit : ℕ) (text : List ℕ) (at : ℕ) (rest : List ℕ
 IsReading-room limit text at rest state width c after h e =
     omega (arith, h.within, ap length (h.place ∙ e), length-drop {A = ℕ}, length-append {A = ℕ})
 
-added-le : (flag : Bool) (c : ℕ) → added flag c ≤ 2 * length (encode_utf8 c)
+pub added-le : (flag : Bool) (c : ℕ) → added flag c ≤ 2 * length (encode_utf8 c)
 added-le true c = columns-le c
 added-le false c = omega arith
 
@@ -58,9 +51,7 @@ IsReading-step limit text at rest s width c after next flag h e step room at' wi
           ∙ drop_at (encode_utf8 c) after (length (encode_utf8 c)) refl;
       within = IsReading-room limit text at rest s width c after h e;
       bound = omega (arith, h.bound, added-le flag c);
-      inside = IsInFirst-step limit (chars text) s width c (chars after) next flag
-          (subst (IsInFirst limit (chars text) s width)
-          (chars_past_char rest after c h.utf8 e) h.inside) step room;
+      inside = search (rules, IsInFirst-step, chars_past_char);
     })
 
 pub IsReading-cut : (limit : ℕ) (text : List ℕ) (at : ℕ) (rest : List ℕ) (s : State) (width c : ℕ)

@@ -1,9 +1,9 @@
 -- The pieces of words that are split at any points where they may be cut.
-use Rattle.textwrap_base.proofs.Common.{subst, ◌≡◌, ℕ, true, List, [], ◌∷◌, ◌++◌, All, take, sym}
-use Rattle.textwrap_base.proofs.Common.{ap, ◌∙◌, arith, IsUtf8, flat_map-append, All-nil, All-head}
-use Rattle.textwrap_base.proofs.Common.{All-tail, All-append, IsCharBoundary-start}
-use Rattle.textwrap_words.proofs.Common.{AreCuts, ends_in_hyphen, split_pieces, AreSplit, WordText}
-use Rattle.textwrap_words.proofs.Common.{tile_of, tiled}
+use Rattle.textwrap_base.proofs.Common.{subst, ◌≡◌, ℕ, true, List, [], ◌∷◌, All, take, sym, ap, ◌∙◌}
+use Rattle.textwrap_base.proofs.Common.{arith, IsUtf8, flat_map-append, All-nil, All-head, All-tail}
+use Rattle.textwrap_base.proofs.Common.{All-append, IsCharBoundary-start}
+use Rattle.textwrap_words.proofs.Common.{AreCuts, ends_in_hyphen, AreSplit, WordText, tiled}
+use Rattle.textwrap_words.proofs.Common.{split_pieces}
 use Rattle.textwrap_words.proofs.Word.Pieces.{split_from-measured, AreTexts, split_from-no_penalty}
 use Rattle.textwrap_words.proofs.Word.SplitTiling.{tiled-split_pieces}
 use Rattle.textwrap_words.proofs.Word.Measured.{IsMeasured, HasNoPenalty}
@@ -28,12 +28,8 @@ module _ (Words : List ℕ → List WordText → Type 0) (Points : List ℕ → 
       → AreSplit Points words pieces → tiled pieces ≡ tiled words
   AreSplit-tile [] pieces all are = ap tiled are
   AreSplit-tile (w ∷ words) pieces all (points, rest, points_are, rest_are, is) =
-      let measured = All-head IsMeasured w words all in
-      ap tiled is ∙ flat_map-append tile_of (split_pieces points w) rest
-      ∙ ap (λ l. l ++ tiled rest)
-      (tiled-split_pieces points w (cuts w.word points measured.utf8 points_are))
-      ∙ ap (λ l. tile_of w ++ l)
-      (AreSplit-tile words rest (All-tail IsMeasured w words all) rest_are)
+      let again = AreSplit-tile words rest (All-tail IsMeasured w words all) rest_are in
+      grind (arith, All-head, flat_map-append, tiled-split_pieces)
 
   -- the split words of a paragraph
   abbrev pub AreSplitWords : List ℕ → List WordText → Type 0

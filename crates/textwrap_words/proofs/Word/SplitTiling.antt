@@ -40,19 +40,6 @@ tiled-split_words splitter (w ∷ words) utf8 =
 pub AreSplit-push : (Points : List ℕ → List ℕ → Type 0) (words pieces : List WordText)
     (w : WordText) (points : List ℕ) → AreSplit Points words pieces → Points w.word points
     → AreSplit Points (words ++ w ∷ []) (pieces ++ split_pieces points w)
-AreSplit-push Points [] pieces w points are here = (
-  points,
-  [],
-  here,
-  refl,
-  ap (λ l. l ++ split_pieces points w) are
-      ∙ sym (append-nil (split_pieces points w)),
-)
-AreSplit-push Points (v ∷ words) pieces w points (given, rest, given_are, rest_are, is) here = (
-  given,
-  rest ++ split_pieces points w,
-  given_are,
-  AreSplit-push Points words rest w points rest_are here,
-  ap (λ l. l ++ split_pieces points w) is
-      ∙ append_assoc (split_pieces given v) rest (split_pieces points w),
-)
+AreSplit-push Points [] pieces w points are here = grind (arith, append-nil)
+AreSplit-push Points (v ∷ words) pieces w points (given, rest, given_are, rest_are, is) here =
+    grind (arith, append_assoc, AreSplit-push Points words rest w points rest_are here)

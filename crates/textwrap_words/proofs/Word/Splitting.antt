@@ -2,12 +2,11 @@
 use Rattle.textwrap_base.proofs.Common.{◌≡◌, ℕ, ◌+◌, ◌-◌, ◌<◌, ◌≤◌, true, false, List, [], ◌∷◌}
 use Rattle.textwrap_base.proofs.Common.{◌++◌, refl, sym, ap, ◌∙◌, subst, arith, length, take, drop}
 use Rattle.textwrap_base.proofs.Common.{get_or, ◌==◌, ◌||◌, reverse, filter, All, IsUtf8}
-use Rattle.textwrap_base.proofs.Common.{IsCharBoundary, list_any, and_parts, eqb-true, false≢true}
+use Rattle.textwrap_base.proofs.Common.{IsCharBoundary, list_any, and_parts, false≢true}
 use Rattle.textwrap_base.proofs.Common.{reverse-append, append-nil, take-append-drop, length-take}
 use Rattle.textwrap_base.proofs.Common.{take_at, drop_at, get_or-take, nil_from_length, All-head}
-use Rattle.textwrap_base.proofs.Common.{All-nil, IsUtf8-take, IsUtf8-drop}
-use Rattle.textwrap_base.proofs.Common.{IsCharBoundary-after_ascii, chars-append, chars-nil}
-use Rattle.textwrap_base.proofs.Common.{chars_past_char}
+use Rattle.textwrap_base.proofs.Common.{IsUtf8-take, IsUtf8-drop, IsCharBoundary-after_ascii}
+use Rattle.textwrap_base.proofs.Common.{chars-append, chars-nil, chars_past_char}
 use Rattle.textwrap_words.proofs.Common.{is_hyphen_point, hyphen, ends_in_hyphen, hyphen_points}
 use Rattle.textwrap_words.proofs.Common.{points_of, Splitter, Whole, AtHyphens, AreCuts}
 use Rattle.std.specs.Prelude.{chars}
@@ -35,13 +34,10 @@ ends-some text rest c utf8 e =
     let back : IsUtf8 (encode c) =
     subst IsUtf8 (ap (drop (length rest)) e ∙ drop_at rest (encode c) (length rest) refl)
     (IsUtf8-drop text (length rest) utf8 cut) in
-    let one : chars (encode c) ≡ c ∷ [] =
-    chars_past_char (encode c) [] c back (sym (append-nil (encode c)))
-    ∙ ap (λ cs. c ∷ cs) chars-nil in
-    ap (λ t. begins_alphanumeric (reverse (chars t))) e
-    ∙ ap (λ cs. begins_alphanumeric (reverse cs)) (chars-append rest (encode c) front
-    ∙ ap (λ cs. chars rest ++ cs) one)
-    ∙ ap begins_alphanumeric (reverse-append (chars rest) (c ∷ []))
+    let first = chars_past_char (encode c) [] c back (sym (append-nil (encode c))) in
+    let second = chars-append rest (encode c) front in
+    let third = reverse-append (chars rest) (c ∷ []) in
+    cc chars-nil
 
 -- ---- the points
 
@@ -49,20 +45,18 @@ ends-some text rest c utf8 e =
 pub after-hyphen_byte : (text : List ℕ) (point : ℕ) → IsUtf8 text → 0 < point → point < length text
     → get_or text (point - 1) 0 ≡ 45 → IsCharBoundary text point
 after-hyphen_byte text point utf8 start inside here =
-    let next : point - 1 + 1 ≡ point = omega arith in
-    subst (IsCharBoundary text) next
-    (IsCharBoundary-after_ascii text (point - 1) utf8 (omega arith) (omega (arith, here)))
+    grind (arith, IsCharBoundary-after_ascii)
+
+pub hyphen-before : (text : List ℕ) (point : ℕ) → 1 ≤ point → point ≤ length text
+    → is_hyphen_point text point ≡ true → get_or text (point - 1) 0 ≡ 45
+hyphen-before text point start within is =
+    grind (arith, and_parts, length-take, get_or-take)
 
 pub after-hyphen : (text : List ℕ) (point : ℕ) → IsUtf8 text → 1 ≤ point → point < length text
     → is_hyphen_point text point ≡ true → IsCharBoundary text point
 after-hyphen text point utf8 start inside is =
-    let hyphenated = and_parts _ _ (and_parts _ _ is).0 in
-    let ends : get_or (take point text) (length (take point text) - 1) 0 ≡ 45 =
-    eqb-true _ 45 hyphenated.0 in
-    let len : length (take point text) - 1 ≡ point - 1 = omega (arith, length-take point text) in
     after-hyphen_byte text point utf8 (omega arith) inside
-    (sym (get_or-take point text (point - 1) 0 (omega arith))
-    ∙ ap (λ n. get_or (take point text) n 0) (sym len) ∙ ends)
+    (hyphen-before text point start (omega arith) is)
 
 -- a text without hyphens has no points
 any-ends : (text : List ℕ) → ends_in_hyphen text ≡ true → list_any (λ c. c == hyphen) text ≡ true
@@ -108,10 +102,5 @@ hyphen_points-cuts text utf8 =
 pub points_of-cuts : (splitter : Splitter) (text : List ℕ) → IsUtf8 text
     → AreCuts text (points_of splitter text)
 points_of-cuts Whole text utf8 =
-    record {
-      in_order = λ i j d le lt. absurd (omega arith);
-      in_range = All-nil
-          (λ p. p < length text);
-      between = All-nil (IsCharBoundary text);
-    }
+    omega arith
 points_of-cuts AtHyphens text utf8 = hyphen_points-cuts text utf8

@@ -1,8 +1,8 @@
 -- The chunks of a line are UTF-8; the blanks at the end of a text.
-use Rattle.textwrap_base.proofs.Common.{inl, inr, ◌≡◌, ℕ, zero, suc, ◌+◌, ◌-◌, ◌<◌, ◌≤◌, Bool, true}
+use Rattle.textwrap_base.proofs.Common.{inl, inr, ◌≡◌, ℕ, zero, suc, ◌-◌, ◌<◌, ◌≤◌, Bool, true}
 use Rattle.textwrap_base.proofs.Common.{false, not, cond, List, [], ◌∷◌, ◌++◌, All, length, get_or}
 use Rattle.textwrap_base.proofs.Common.{drop, refl, sym, ap, ◌∙◌, subst, arith, append_assoc}
-use Rattle.textwrap_base.proofs.Common.{append-nil, length-drop, reverse, onto_first, suffix_len}
+use Rattle.textwrap_base.proofs.Common.{append-nil, length-drop, onto_first, suffix_len}
 use Rattle.textwrap_base.proofs.Common.{IsUtf8, IsCharBoundary, and_parts, cases_lt, eqb-true}
 use Rattle.textwrap_base.proofs.Common.{false≢true, get_or-drop, All-nil, All-cons, IsUtf8-take}
 use Rattle.textwrap_words.proofs.Common.{is_cut, chunks, is_blank, trimmed_len}
@@ -58,9 +58,7 @@ trimmed-blank : (bytes : List ℕ) (k d : ℕ) → trimmed_len bytes ≤ k → k
 trimmed-blank bytes k d from within =
     let j = length bytes - 1 - k in
     let back : length bytes - 1 - j ≡ k = omega arith in
-    let passes = prefix_len_passes is_blank (reverse bytes) j d (omega arith) in
-    ap is_blank (sym (get_or-reverse bytes j d (omega arith) ∙ ap (λ n. get_or bytes n d) back))
-    ∙ passes
+    grind (arith, prefix_len_passes, get_or-reverse)
 
 -- and the byte before them is no blank
 pub trimmed-other : (bytes : List ℕ) → 0 < trimmed_len bytes
@@ -69,18 +67,13 @@ trimmed-other bytes some =
     let j = suffix_len is_blank bytes in
     let len = length-reverse bytes in
     let back : length bytes - 1 - j ≡ trimmed_len bytes - 1 = omega arith in
-    let stops = prefix_len_stops is_blank (reverse bytes) 0 (omega (arith, len)) in
-    ap is_blank (sym (get_or-reverse bytes j 0 (omega arith) ∙ ap (λ n. get_or bytes n 0) back))
-    ∙ stops
+    grind (arith, prefix_len_stops, get_or-reverse)
 
 -- they begin after each byte that is no blank
 pub trimmed-past : (bytes : List ℕ) (i : ℕ) → i < length bytes → is_blank (get_or bytes i 0) ≡ false
     → i < trimmed_len bytes
 trimmed-past bytes i within other =
-    elim (cases_lt i (trimmed_len bytes)) [
-      | inl past ↦ past
-      | inr before ↦ absurd (false≢true (sym other ∙ trimmed-blank bytes i 0 before within))
-    ]
+    grind (arith, cases_lt, false≢true, trimmed-blank)
 
 -- a byte in front of a text that is not all blanks changes nothing at its end
 pub final_blanks-more : (c : ℕ) (bytes : List ℕ) → 0 < trimmed_len bytes
@@ -100,10 +93,7 @@ final_blanks-more c bytes some =
     after (suc k) from within = trimmed-blank bytes k 0 (omega arith) (omega arith)
 
 pub final_blanks-blank : (bytes : List ℕ) → AreBlanks (final_blanks bytes)
-final_blanks-blank bytes = λ k d within.
-    ap is_blank (get_or-drop (trimmed_len bytes) bytes k d)
-    ∙ trimmed-blank bytes (trimmed_len bytes + k) d (omega arith)
-    (omega (arith, length-drop (trimmed_len bytes) bytes))
+final_blanks-blank bytes = grind (arith, get_or-drop, trimmed-blank, length-drop)
 
 pub without_final_blanks-utf8 : (bytes : List ℕ) → IsUtf8 bytes
     → IsUtf8 (without_final_blanks bytes)

@@ -1,5 +1,5 @@
 -- Lemmas on the words of a line, and on texts that words tile.
-use Rattle.textwrap_base.proofs.Common.{inl, inr, cases_Bool, ◌≡◌, ℕ, zero, suc, ◌+◌, ◌<◌, ◌≤◌}
+use Rattle.textwrap_base.proofs.Common.{cases_Bool, ◌≡◌, ℕ, zero, suc, ◌+◌, ◌<◌, ◌≤◌}
 use Rattle.textwrap_base.proofs.Common.{true, false, cond, List, [], ◌∷◌, ◌++◌, length, get_or}
 use Rattle.textwrap_base.proofs.Common.{take, drop, map, refl, ap, ◌∙◌, arith, add-one}
 use Rattle.textwrap_base.proofs.Common.{take-append-drop, length-append, append-nil, onto_first}
@@ -15,10 +15,7 @@ pub join-chunks : (line : List ℕ) → flat (chunks line) ≡ line
 join-chunks [] = refl
 join-chunks (c ∷ []) = refl
 join-chunks (c ∷ d ∷ cs) =
-    elim (cases_Bool (is_cut c d)) [
-      | inl t ↦ rw t (ap (λ l. c ∷ l) (join-chunks (d ∷ cs)))
-      | inr f ↦ rw f (flat-onto_first c (chunks (d ∷ cs)) ∙ ap (λ l. c ∷ l) (join-chunks (d ∷ cs)))
-    ]
+    grind (arith, cases_Bool, flat-onto_first, join-chunks (d ∷ cs))
 
 -- the first chunk ends at the first cut
 pub chunks_first : (line : List ℕ) (n : ℕ) → 0 < n → n ≤ length line

@@ -1,7 +1,7 @@
 -- Where the visible characters of a line end.
 use Rattle.textwrap_base.proofs.Common.{inl, inr, cases_Bool, ◌≡◌, ◌≢◌, ℕ, ◌+◌, Bool, cond, eqb}
-use Rattle.textwrap_base.proofs.Common.{List, ◌∷◌, length, take, refl, sym, ap, ◌∙◌, add-zero}
-use Rattle.textwrap_base.proofs.Common.{encode_utf8_all}
+use Rattle.textwrap_base.proofs.Common.{List, ◌∷◌, length, take, refl, ap, add-zero}
+use Rattle.textwrap_base.proofs.Common.{encode_utf8_all, arith}
 use Rattle.textwrap_words.proofs.Common.{taken_in, escape_len, units_past, VisibleEnd, ends_from}
 use lib.Utf8.{encode}
 use Rattle.textwrap_words.specs.declared.escapes.State.{State}
@@ -38,10 +38,7 @@ ends-text at shown c cs =
 ends-inside : (s : State) (at shown c : ℕ) (cs : List ℕ) → s ≢ Text
     → ends_in s at shown (c ∷ cs) ≡ ends_in (next_of s c) (at + length (encode c)) shown cs
 ends-inside s at shown c cs inside =
-    let more = taken_in (next_of s c) cs in
-    ap (λ n. ends_from (at + length (encode_utf8_all (take n (c ∷ cs)))) shown
-    (units_past n (c ∷ cs))) (taken-step s c cs inside)
-    ∙ ap (λ n. ends_from n shown (units_past more cs)) (past-one at c (take more cs))
+    search (taken-step, past-one)
 
 ends-plain : (s : State) (at shown c : ℕ) (cs : List ℕ)
     → ends_in s at shown (c ∷ cs) ≡ ends_past (shows s c) (next_of s c) at shown c cs
@@ -55,11 +52,4 @@ pub ends-step : (s : State) (at shown c : ℕ) (cs : List ℕ) (next : State) (f
     → ends_in s at shown (c ∷ cs) ≡ ends_past flag next at shown c cs
 ends-step s at shown c cs next flag step =
     let known = step-is s next flag c step in
-    let taken : taken_in (next_of s c) cs ≡ taken_in next cs = sym (known.1 cs) in
-    ends-plain s at shown c cs
-    ∙ ap (λ b. ends_past b (next_of s c) at shown c cs) (sym known.0)
-    ∙ ap (λ n. cond flag (end_of at shown c
-    ∷ ends_from ((at + length (encode c)) + length (encode_utf8_all (take n cs)))
-    (shown + length (encode c)) (units_past n cs))
-    (ends_from ((at + length (encode c)) + length (encode_utf8_all (take n cs))) shown
-    (units_past n cs))) taken
+    grind (arith, ends-plain)

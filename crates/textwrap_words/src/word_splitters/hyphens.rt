@@ -25,7 +25,7 @@ pub(super) fn hyphen_points<A: Allocator>(alloc: A, word: &str) -> Result<Vec<us
 }
 
 /// Whether a hyphen between alphanumeric characters ends at the offset, which is inside the word.
-pub fn is_hyphen_point(word: &str, point: usize) -> bool
+pub(crate) fn is_hyphen_point(word: &str, point: usize) -> bool
     requires after_start { 0 < point }
     requires before_end { point < length word.now }
     ensures point { result ≡ is_hyphen_point word.now point }

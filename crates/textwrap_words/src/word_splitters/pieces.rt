@@ -58,7 +58,7 @@ pub(super) fn push_split<'a, A: Allocator>(
 }
 
 /// The piece of a text from one offset to another, at which it is cut.
-pub fn inner_piece(text: &str, start: usize, point: usize) -> Word<'_>
+fn inner_piece(text: &str, start: usize, point: usize) -> Word<'_>
     requires order { start ≤ point }
     requires from_cut { 0 < start → IsCharBoundary text.now start }
     requires to_cut { IsCharBoundary text.now point }

@@ -130,6 +130,17 @@ struct Flushed {
     is_flushed: bool,
 }
 
+impl Flushed {
+    /// A writer that was not flushed yet.
+    fn new(alloc: Global) -> Flushed {
+        Flushed {
+            taken: Vec::new(alloc),
+            flushes: 0,
+            is_flushed: false,
+        }
+    }
+}
+
 impl Write for Flushed {
     fn write(&mut self, bytes: &[u8]) -> io::Result<usize> {
         let count = bytes.len().min(5);
@@ -145,98 +156,97 @@ impl Write for Flushed {
     }
 }
 
+/// Asserts that an input is read whole and filled to this.
+fn assert_filled(
+    rt: &(impl Abort + AllocGlobal),
+    input: &str,
+    width: usize,
+    algorithm: Algorithm,
+    output: &str,
+) {
+    let mut reader = input.as_bytes();
+    let mut writer = Vec::new(rt.alloc());
+    let done = run(rt.alloc(), &mut reader, &mut writer, width, algorithm);
+    assert_eq!(rt; done, Ok(()), "{input:?}");
+    assert!(rt; reader.is_empty(), "{input:?}");
+    assert!(rt; writer.as_slice() == output.as_bytes(), "{input:?}");
+}
+
+const FIRST: Algorithm = Algorithm::FirstFit;
+
+const OPTIMAL: Algorithm = Algorithm::OptimalFit;
+
+/// An input, a width and an algorithm, and the output.
+const FILLED_INPUTS: &[(&str, usize, Algorithm, &str)] = &[
+    ("", 10, FIRST, ""),
+    ("", 10, OPTIMAL, ""),
+    (
+        "To be, or not to be: that is the question",
+        10,
+        FIRST,
+        "To be, or\nnot to be:\nthat is\nthe\nquestion",
+    ),
+    (
+        "To be, or not to be: that is the question\n",
+        10,
+        FIRST,
+        "To be, or\nnot to be:\nthat is\nthe\nquestion\n",
+    ),
+    (
+        "To be, or not to be: that is the question",
+        10,
+        OPTIMAL,
+        "To be,\nor not to\nbe: that\nis the\nquestion",
+    ),
+    (
+        "To be, or not to be: that is the question\n",
+        10,
+        OPTIMAL,
+        "To be,\nor not to\nbe: that\nis the\nquestion\n",
+    ),
+    // Words are split and broken.
+    ("foo-bar", 5, OPTIMAL, "foo-\nbar"),
+    ("abcdefgh\nijkl", 5, FIRST, "abcde\nfgh\nijkl"),
+    ("foo  bar ", usize::MAX, FIRST, "foo  bar"),
+    ("foo  bar ", usize::MAX, OPTIMAL, "foo  bar"),
+];
+
 #[test]
-fn the_input_is_filled(rt: HostRuntime) -> Result<(), Fail> {
-    let hamlet = "To be, or not to be: that is the question";
-    let with_line_feed = "To be, or not to be: that is the question\n";
-    let first = Algorithm::FirstFit;
-    let optimal = Algorithm::OptimalFit;
-    for (input, algorithm, output) in [
-        ("", first, ""),
-        ("", optimal, ""),
-        (
-            hamlet,
-            first,
-            "To be, or\nnot to be:\nthat is\nthe\nquestion",
-        ),
-        (
-            with_line_feed,
-            first,
-            "To be, or\nnot to be:\nthat is\nthe\nquestion\n",
-        ),
-        (
-            hamlet,
-            optimal,
-            "To be,\nor not to\nbe: that\nis the\nquestion",
-        ),
-        (
-            with_line_feed,
-            optimal,
-            "To be,\nor not to\nbe: that\nis the\nquestion\n",
-        ),
-    ] {
-        let mut reader = input.as_bytes();
-        let mut writer = Vec::new(rt.alloc());
-        let done = run(rt.alloc(), &mut reader, &mut writer, 10, algorithm);
-        assert_eq!(rt; done, Ok(()), "{input:?}");
-        assert_eq!(rt; writer.as_slice(), output.as_bytes(), "{input:?}");
-        assert!(rt; reader.is_empty(), "{input:?}");
+fn the_input_is_filled(rt: HostRuntime) {
+    for &(input, width, algorithm, output) in FILLED_INPUTS {
+        assert_filled(&rt, input, width, algorithm, output);
     }
-    Ok(())
 }
 
 #[test]
 fn a_long_input_is_filled_whole(rt: HostRuntime) -> Result<(), Fail> {
-    let mut input = Vec::new(rt.alloc());
-    let mut output = Vec::new(rt.alloc());
-    for _ in 0..17000 {
-        input.extend_from_slice(b"foo bar baz\n")?;
-        output.extend_from_slice(b"foo bar\nbaz\n")?;
-    }
-    let first = Algorithm::FirstFit;
-    let mut writer = Vec::new(rt.alloc());
-    let done = run(rt.alloc(), &mut input.as_slice(), &mut writer, 10, first);
+    let input = "foo bar baz\n".repeat(rt.alloc(), 30000)?;
+    let output = "foo bar\nbaz\n".repeat(rt.alloc(), 30000)?;
+    let mut writer = Flushed::new(rt.alloc());
+    let done = run(rt.alloc(), &mut input.as_bytes(), &mut writer, 10, FIRST);
     assert_eq!(rt; done, Ok(()));
-    assert!(rt; writer == output);
+    assert!(rt; writer.taken.as_slice() == output.as_bytes());
+    assert_eq!(rt; writer.flushes, 1);
+    assert!(rt; writer.is_flushed);
     Ok(())
 }
 
 #[test]
 fn the_end_is_read_once_and_the_output_flushed_once(rt: HostRuntime) {
     let mut reader = Terminal { reads: 0 };
-    let mut writer = Flushed {
-        taken: Vec::new(rt.alloc()),
-        flushes: 0,
-        is_flushed: false,
-    };
-    let first = Algorithm::FirstFit;
-    let done = run(rt.alloc(), &mut reader, &mut writer, 2, first);
+    let mut writer = Flushed::new(rt.alloc());
+    let done = run(rt.alloc(), &mut reader, &mut writer, 2, FIRST);
     assert_eq!(rt; done, Ok(()));
     assert_eq!(rt; reader.reads, 2);
     assert_eq!(rt; writer.taken.as_slice(), b"fo\no".as_slice());
     assert_eq!(rt; writer.flushes, 1);
     assert!(rt; writer.is_flushed);
     let input = b"foo bar baz";
-    let done = run(rt.alloc(), &mut input.as_slice(), &mut writer, 10, first);
+    let done = run(rt.alloc(), &mut input.as_slice(), &mut writer, 10, FIRST);
     assert_eq!(rt; done, Ok(()));
     assert_eq!(rt; writer.taken.as_slice(), b"fo\nofoo bar\nbaz".as_slice());
     assert_eq!(rt; writer.flushes, 2);
     assert!(rt; writer.is_flushed);
-}
-
-#[test]
-fn words_are_split_and_broken(rt: HostRuntime) -> Result<(), Fail> {
-    for (input, algorithm, output) in [
-        ("foo-bar", Algorithm::OptimalFit, "foo-\nbar"),
-        ("abcdefgh\nijkl", Algorithm::FirstFit, "abcde\nfgh\nijkl"),
-    ] {
-        let mut reader = input.as_bytes();
-        let mut writer = Vec::new(rt.alloc());
-        let done = run(rt.alloc(), &mut reader, &mut writer, 5, algorithm);
-        assert_eq!(rt; done, Ok(()), "{input:?}");
-        assert_eq!(rt; writer.as_slice(), output.as_bytes(), "{input:?}");
-    }
-    Ok(())
 }
 
 /// A text, and the lines of it at 10 columns by first fit.
@@ -256,8 +266,7 @@ fn a_text_comes_and_goes_in_pieces(rt: HostRuntime) {
             "あ".as_bytes(),
         ),
     ] {
-        let first = Algorithm::FirstFit;
-        let done = run(rt.alloc(), &mut reader, &mut writer, 10, first);
+        let done = run(rt.alloc(), &mut reader, &mut writer, 10, FIRST);
         assert_eq!(rt; done, Ok(()));
         assert_eq!(rt; writer.taken.as_slice(), output);
     }
@@ -279,8 +288,7 @@ fn a_bad_input_writes_nothing(rt: HostRuntime) {
         let mut reader = Feed::new(bytes, 5);
         reader.fault = fault;
         let mut writer = Sink::new(rt.alloc(), 5);
-        let first = Algorithm::FirstFit;
-        let done = run(rt.alloc(), &mut reader, &mut writer, 10, first);
+        let done = run(rt.alloc(), &mut reader, &mut writer, 10, FIRST);
         assert_eq!(rt; done, Err(error), "{bytes:?}");
         assert!(rt; writer.taken.is_empty(), "{bytes:?}");
     }
@@ -290,21 +298,12 @@ fn a_bad_input_writes_nothing(rt: HostRuntime) {
 /// a flush that fails.
 #[test]
 fn a_write_or_flush_that_fails_leaves_a_prefix(rt: HostRuntime) {
-    for (room, fault) in [
-        (0, SinkFault::TakesNothing),
-        (0, SinkFault::Fails(ErrorKind::BrokenPipe)),
-        (0, SinkFault::Fails(ErrorKind::Interrupted)),
-        (4, SinkFault::Fails(ErrorKind::BrokenPipe)),
-        (4, SinkFault::TakesNothing),
-        (FILLED.len() - 1, SinkFault::Fails(ErrorKind::Interrupted)),
-        (FILLED.len(), SinkFault::FlushFails),
-    ] {
+    for &(input, room, fault) in FAULTY_WRITERS {
         let mut writer = Sink::new(rt.alloc(), 5);
         writer.room = room;
         writer.fault = Some(fault);
-        let mut reader = Feed::new(HAMLET, 50);
-        let first = Algorithm::FirstFit;
-        let done = run(rt.alloc(), &mut reader, &mut writer, 10, first);
+        let mut reader = Feed::new(input, 50);
+        let done = run(rt.alloc(), &mut reader, &mut writer, 10, FIRST);
         assert_eq!(rt; done, Err(RunError::Write), "{room} {fault:?}");
         assert_eq!(rt;
             writer.taken.as_slice(),
@@ -313,6 +312,22 @@ fn a_write_or_flush_that_fails_leaves_a_prefix(rt: HostRuntime) {
         );
     }
 }
+
+/// An input, how much of its filled text is written before the fault, and the fault.
+const FAULTY_WRITERS: &[(&[u8], usize, SinkFault)] = &[
+    (HAMLET, 0, SinkFault::TakesNothing),
+    (HAMLET, 0, SinkFault::Fails(ErrorKind::BrokenPipe)),
+    (HAMLET, 0, SinkFault::Fails(ErrorKind::Interrupted)),
+    (HAMLET, 4, SinkFault::Fails(ErrorKind::BrokenPipe)),
+    (HAMLET, 4, SinkFault::TakesNothing),
+    (
+        HAMLET,
+        FILLED.len() - 1,
+        SinkFault::Fails(ErrorKind::Interrupted),
+    ),
+    (HAMLET, FILLED.len(), SinkFault::FlushFails),
+    (b"", 0, SinkFault::FlushFails),
+];
 
 /// Runs with no allocation allowed, then with one more each time, until none is refused, and returns
 /// how many runs were. Asserts that these wrote nothing.

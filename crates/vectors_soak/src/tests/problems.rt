@@ -39,36 +39,54 @@ fn minima_to(alloc: Global, problem: &Problem, cost: u128) -> Result<Vec<Minimum
     Ok(minima)
 }
 
+/// What is found of lines of so many fragments, and of a table that ends with this cost.
+fn finding_on(
+    alloc: Global,
+    sizes: &[(usize, usize)],
+    width: usize,
+    lens: &[usize],
+    cost: u128,
+) -> Result<Finding, WrapError> {
+    let problem = problem_of(alloc, sizes, width, 2500)?;
+    let found = LeastCosts {
+        minima: Some(minima_to(alloc, &problem, cost)?),
+        lines: Some(lines_by(alloc, &problem.blocks, lens)?),
+    };
+    Ok(least_cost::check(alloc, &problem, &found)?)
+}
+
+const DIVISIONS: &[(&[(usize, usize)], usize, &[usize], bool, u128)] = &[
+    (HAMLET, 10, &[2, 3, 2, 2, 1], true, 5037),
+    (HAMLET, 10, &[2, 3, 2, 2, 1], false, 5036),
+    // This one costs 5037 too, and the next 5059.
+    (HAMLET, 10, &[3, 2, 2, 2, 1], false, 5037),
+    (HAMLET, 10, &[3, 3, 2, 1, 1], false, 5037),
+    (HAMLET, 10, &[2, 3, 2, 2], false, 5037),
+    (PAIR, 53, &[2], true, 3500),
+    (PAIR, 53, &[1, 1], false, 3500),
+    (PAIR, 52, &[1, 1], true, 4401),
+    (PAIR, 52, &[1, 1], false, 4402),
+    (PAIR, 52, &[2], false, 4401),
+    (&[], 10, &[0], true, 0),
+    (&[], 10, &[], false, 0),
+];
+
 /// Of all divisions only one is right: the cheapest, and of several that cost the same the one whose
-/// last line starts earliest, then the line before it, and so on. There is none where the cost of a
-/// prefix passes 128 bits.
+/// last line starts earliest, then the line before it, and so on.
 #[test]
 fn other_divisions_are_noticed(rt: HostRuntime) -> Result<(), Fail> {
     let alloc = rt.alloc();
-    let rows: &[(&[(usize, usize)], usize, &[usize], bool, u128)] = &[
-        (HAMLET, 10, &[2, 3, 2, 2, 1], true, 5037),
-        (HAMLET, 10, &[2, 3, 2, 2, 1], false, 5036),
-        // This one costs 5037 too, and the next 5059.
-        (HAMLET, 10, &[3, 2, 2, 2, 1], false, 5037),
-        (HAMLET, 10, &[3, 3, 2, 1, 1], false, 5037),
-        (HAMLET, 10, &[2, 3, 2, 2], false, 5037),
-        (PAIR, 53, &[2], true, 3500),
-        (PAIR, 53, &[1, 1], false, 3500),
-        (PAIR, 52, &[1, 1], true, 4401),
-        (PAIR, 52, &[1, 1], false, 4402),
-        (PAIR, 52, &[2], false, 4401),
-        (&[], 10, &[0], true, 0),
-        (&[], 10, &[], false, 0),
-    ];
-    for &(sizes, width, lens, is_right, cost) in rows {
-        let problem = problem_of(alloc, sizes, width, 2500)?;
-        let found = LeastCosts {
-            minima: Some(minima_to(alloc, &problem, cost)?),
-            lines: Some(lines_by(alloc, &problem.blocks, lens)?),
-        };
-        let finding = least_cost::check(alloc, &problem, &found)?;
+    for &(sizes, width, lens, is_right, cost) in DIVISIONS {
+        let finding = finding_on(alloc, sizes, width, lens, cost)?;
         assert_eq!(rt; finding, Finding::of(is_right), "{lens:?} at {width}");
     }
+    Ok(())
+}
+
+/// There is no division where the cost of a prefix passes 128 bits.
+#[test]
+fn divisions_past_128_bits_are_noticed(rt: HostRuntime) -> Result<(), Fail> {
+    let alloc = rt.alloc();
     let problem = problem_of(alloc, WIDEST, 0, usize::MAX)?;
     for (has_minima, has_lines) in [(false, false), (false, true), (true, false), (true, true)] {
         let found = LeastCosts {

@@ -5,6 +5,7 @@ use soak_checks::program::execute;
 use std::alloc::{AllocError, Global};
 use std::io;
 use std::io::{ErrorKind, Write};
+use std::process::Abort;
 use std::test::Fail;
 
 /// The library, but for the round of one seed, where calls overflow or memory runs out.
@@ -58,52 +59,75 @@ fn begins(written: &[u8], head: &str) -> bool {
     written.starts_with(head.as_bytes()) && written.ends_with(b"\n")
 }
 
+const KEPT: &str = "rounds=3 lossless=3 fitting=";
+
+const BROKEN: &str = "broken promise: lossless\nseed of the round: 7\ntext: ";
+
+/// After the greatest seed comes 0.
+const BROKEN_AT_0: &str = "broken promise: lossless\nseed of the round: 0\ntext: ";
+
+const NO_MEMORY: &str = "textwrap_soak: out of memory\n";
+
+const USAGE: &str = "usage: textwrap_soak SEED ROUNDS\n";
+
+/// The words, the seed that fails and whether by memory, how the output and the messages begin, and
+/// the status.
+const RUNS: &[(&[&str], u64, bool, &str, &str, u8)] = &[
+    (&["5", "3"], 4, false, KEPT, "", 0),
+    (&["5", "3"], 7, false, "", BROKEN, 1),
+    (&["5", "3"], 8, false, KEPT, "", 0),
+    (&["18446744073709551615", "2"], 0, false, "", BROKEN_AT_0, 1),
+    (&["5", "3"], 6, true, "", NO_MEMORY, 1),
+    (&[], 5, false, "", USAGE, 2),
+    (&["5"], 5, false, "", USAGE, 2),
+    (&["5", "x"], 5, false, "", USAGE, 2),
+    (&["x", "3"], 5, false, "", USAGE, 2),
+    (&["5", "3", "1"], 5, false, "", USAGE, 2),
+];
+
+/// Asserts that the words give this output and these messages, which may go on, and this status.
+fn assert_executed(
+    rt: &(impl Abort + AllocGlobal),
+    library: Faulty,
+    words: &[&str],
+    output: &str,
+    messages: &str,
+    status: u8,
+) -> Result<(), AllocError> {
+    let arguments = strings(rt.alloc(), words)?;
+    let mut written = Vec::new(rt.alloc());
+    let mut said = Vec::new(rt.alloc());
+    let ended = execute(rt.alloc(), &arguments, &library, &mut written, &mut said);
+    assert_eq!(rt; ended, status, "{words:?}");
+    assert!(rt; begins(&written, output), "{words:?}");
+    assert!(rt; begins(&said, messages), "{words:?}");
+    Ok(())
+}
+
 /// The status is 0 where all promises are kept, 1 where one is broken or memory runs out, and 2
 /// where the words ask for nothing. The round that failed is named.
 #[test]
 fn words_and_answers_give_output_messages_and_status(rt: HostRuntime) -> Result<(), Fail> {
-    let kept = "rounds=3 lossless=3 fitting=";
-    let seventh = "broken promise: lossless\nseed of the round: 7\ntext: ";
-    let wrapped = "broken promise: lossless\nseed of the round: 0\ntext: ";
-    let no_memory = "textwrap_soak: out of memory\n";
-    let usage = "usage: textwrap_soak SEED ROUNDS\n";
-    let rows: &[(&[&str], u64, bool, &str, &str, u8)] = &[
-        (&["5", "3"], 4, false, kept, "", 0),
-        (&["5", "3"], 7, false, "", seventh, 1),
-        (&["5", "3"], 8, false, kept, "", 0),
-        (&["18446744073709551615", "2"], 0, false, "", wrapped, 1),
-        (&["5", "3"], 6, true, "", no_memory, 1),
-        (&[], 5, false, "", usage, 2),
-        (&["5"], 5, false, "", usage, 2),
-        (&["5", "x"], 5, false, "", usage, 2),
-        (&["x", "3"], 5, false, "", usage, 2),
-        (&["5", "3", "1"], 5, false, "", usage, 2),
-    ];
-    for &(words, seed, is_out_of_memory, output, messages, status) in rows {
-        let arguments = strings(rt.alloc(), words)?;
+    for &(words, seed, is_out_of_memory, output, messages, status) in RUNS {
         let library = Faulty {
             seed,
             is_out_of_memory,
         };
-        let mut written = Vec::new(rt.alloc());
-        let mut said = Vec::new(rt.alloc());
-        let ended = execute(rt.alloc(), &arguments, &library, &mut written, &mut said);
-        assert_eq!(rt; ended, status, "{words:?}");
-        assert!(rt; begins(&written, output), "{words:?}");
-        assert!(rt; begins(&said, messages), "{words:?}");
+        assert_executed(&rt, library, words, output, messages, status)?;
     }
+    Ok(())
+}
+
+/// What cannot be written is told by the status.
+#[test]
+fn closed_writers_are_told_by_the_status(rt: HostRuntime) -> Result<(), Fail> {
     let arguments = strings(rt.alloc(), &["5", "3"])?;
     let mut said = Vec::new(rt.alloc());
     let ended = execute(rt.alloc(), &arguments, &Textwrap, &mut Closed, &mut said);
     assert_eq!(rt; ended, 1);
     assert!(rt; said.as_slice() == b"textwrap_soak: cannot write output\n".as_slice());
-    let ended = execute(
-        rt.alloc(),
-        &[],
-        &Textwrap,
-        &mut Vec::new(rt.alloc()),
-        &mut Closed,
-    );
+    let mut written = Vec::new(rt.alloc());
+    let ended = execute(rt.alloc(), &[], &Textwrap, &mut written, &mut Closed);
     assert_eq!(rt; ended, 2);
     Ok(())
 }

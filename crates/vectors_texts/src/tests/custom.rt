@@ -119,8 +119,8 @@ fn assert_refused(rt: &(impl Abort + AllocGlobal), text: &str, options: &Options
     assert!(rt; matches!(lines, Err(WrapError::Memory(_))), "{text:?}");
 }
 
-/// Asserts that with these options `baz` is refused, alone and after another paragraph, and leaves
-/// a list of lines as it was.
+/// Asserts that with these options `baz` is refused, alone, after another paragraph, and where a
+/// list of lines is lent.
 fn assert_refuses_baz(
     rt: &(impl Abort + AllocGlobal),
     options: Options<'_>,
@@ -128,9 +128,17 @@ fn assert_refuses_baz(
     assert_borrowed(rt, "foo\nbar", Options::from(&options), &["foo", "bar"])?;
     assert_refused(rt, "baz", &options);
     assert_refused(rt, "foo\nbaz", &options);
+    assert_keeps_lines(rt, &options)
+}
+
+/// Asserts that with these options `baz` is refused, and leaves a list of lines as it was.
+fn assert_keeps_lines(
+    rt: &(impl Abort + AllocGlobal),
+    options: &Options<'_>,
+) -> Result<(), WrapError> {
     let mut lines = Vec::new(rt.alloc());
     lines.push(CowStr::Borrowed("x"))?;
-    let refused = wrap_single_line_slow_path(rt.alloc(), "baz", &options, &mut lines);
+    let refused = wrap_single_line_slow_path(rt.alloc(), "baz", options, &mut lines);
     assert!(rt; matches!(refused, Err(WrapError::Memory(_))));
     assert!(rt; are_borrowed(&lines, &["x"]), "{lines:?}");
     Ok(())

@@ -1,9 +1,11 @@
 //! Paragraphs after the first line of a text, where they are to keep to the width.
+use super::columns::assert_rows;
 use super::{assert_text, by_first_fit, with_indents};
 use std::borrow::CowStr;
 use std::test::Fail;
 use textwrap::fuzzing::{wrap_single_line, wrap_single_line_slow_path};
-use textwrap::{LineEnding, Options, WrapAlgorithm, fill, wrap_columns};
+use textwrap::{LineEnding, Options, WrapAlgorithm, fill};
+use vectors_functions::are_borrowed;
 
 /// A text, a width, the two indents, and the filled text without the option and with it.
 type Row<'a> = (&'a str, usize, &'a str, &'a str, &'a str, &'a str);
@@ -68,11 +70,15 @@ fn later_paragraphs_keep_to_the_width(rt: HostRuntime) -> Result<(), Fail> {
 #[test]
 fn columns_keep_to_the_width(rt: HostRuntime) -> Result<(), Fail> {
     let options = with_indents(7, "", "    ").even_paragraphs(true);
-    let rows = wrap_columns(rt.alloc(), "aaa\nbbb ccc", 1, options, "", "", "")?;
-    assert_eq!(rt; rows.len(), 3);
-    assert_eq!(rt; rows[0].as_str(), "aaa    ");
-    assert_eq!(rt; rows[1].as_str(), "    bbb");
-    assert_eq!(rt; rows[2].as_str(), "    ccc");
+    let gaps = ["", "", ""];
+    assert_rows(
+        &rt,
+        "aaa\nbbb ccc",
+        1,
+        options,
+        gaps,
+        "aaa    \n    bbb\n    ccc",
+    )?;
     Ok(())
 }
 
@@ -98,8 +104,6 @@ fn a_list_with_a_line_makes_a_paragraph_a_later_one(rt: HostRuntime) -> Result<(
     lines.push(CowStr::Borrowed("x"))?;
     wrap_single_line_slow_path(rt.alloc(), "foobar ba", &options, &mut lines)?;
     wrap_single_line(rt.alloc(), "foobar bar", &options, &mut lines)?;
-    assert_eq!(rt; lines.len(), 3);
-    assert_eq!(rt; lines[1].as_str(), "foobar ba");
-    assert_eq!(rt; lines[2].as_str(), "foobar bar");
+    assert!(rt; are_borrowed(&lines, &["x", "foobar ba", "foobar bar"]));
     Ok(())
 }

@@ -1,5 +1,5 @@
 //! The text of `fill`.
-use super::{by_first_fit, with_endings, with_indents};
+use super::{assert_text, by_first_fit, with_endings, with_indents};
 use std::alloc::{AllocError, Global};
 use std::borrow::CowStr;
 use std::process::Abort;
@@ -16,29 +16,31 @@ fn assert_filled(
     expected: &str,
 ) -> Result<(), WrapError> {
     let filled = fill(rt.alloc(), text, options)?;
-    assert_eq!(rt; filled.as_str(), expected, "{text:?}");
+    assert_text(rt, text, &filled, expected);
     Ok(())
 }
+
+const FILLED_BY_FIRST_FIT: &[(&str, usize, &str)] = &[
+    ("", 10, ""),
+    ("foo bar baz", 10, "foo bar\nbaz"),
+    (
+        "To be, or not to be: that is the question\n",
+        10,
+        "To be, or\nnot to be:\nthat is\nthe\nquestion\n",
+    ),
+    ("test\n\na\n\n", 80, "test\n\na\n\n"),
+    ("  \n \n  \n ", 80, "\n\n\n"),
+    ("1 3 5 7\n1 3 5 7", 5, "1 3 5\n7\n1 3 5\n7"),
+    ("aa bb cc dd", 5, "aa bb\ncc dd"),
+    ("aa bb cc dd", 8, "aa bb cc\ndd"),
+    // An escape sequence of two characters before a third, all in one word.
+    ("\x1b!Ͽ", 10, "\x1b!Ͽ"),
+];
 
 /// The lines of first fit, joined by line feeds.
 #[test]
 fn lines_of_first_fit_are_joined(rt: HostRuntime) -> Result<(), Fail> {
-    for &(text, width, expected) in &[
-        ("", 10, ""),
-        ("foo bar baz", 10, "foo bar\nbaz"),
-        (
-            "To be, or not to be: that is the question\n",
-            10,
-            "To be, or\nnot to be:\nthat is\nthe\nquestion\n",
-        ),
-        ("test\n\na\n\n", 80, "test\n\na\n\n"),
-        ("  \n \n  \n ", 80, "\n\n\n"),
-        ("1 3 5 7\n1 3 5 7", 5, "1 3 5\n7\n1 3 5\n7"),
-        ("aa bb cc dd", 5, "aa bb\ncc dd"),
-        ("aa bb cc dd", 8, "aa bb cc\ndd"),
-        // An escape sequence of two characters before a third, all in one word.
-        ("\x1b!Ͽ", 10, "\x1b!Ͽ"),
-    ] {
+    for &(text, width, expected) in FILLED_BY_FIRST_FIT {
         assert_filled(&rt, text, by_first_fit(width), expected)?;
     }
     Ok(())
@@ -156,40 +158,42 @@ fn joined(alloc: Global, lines: &[CowStr<'_>], between: &str) -> Result<String, 
     Ok(joined)
 }
 
+const TEXTS: &[&str] = &[
+    "",
+    " ",
+    "To be, or not to be: that is the question",
+    "a well-known 9-to-5 job, x--y -z z- \"a-b\" -a-b-c- 1-2-3",
+    "  blanks  before   and    between     and after      ",
+    "averyveryveryverylongword-and-another-of-them and-more",
+    "plain\n\nnaïve café-crème\r\nplain-text again\n",
+    "a\ttab, \x1b[31mred\x1b[0m-green, a delete \x7f-\x7f and ~ alone",
+    "안녕 하세요-안녕하세요 abc",
+    "  안녕   하세요  안녕하세요안녕하세요-a-안    ",
+    "é a-é-b é-안 1-é ١-٢ -é- é-- --é é-\u{301}a",
+    // Combining marks, also where a line is full, and without a character before them.
+    "e\u{301}e\u{301}e\u{301} \u{301} \u{301}\u{301} aa     \u{301} b",
+    "안\u{301}안\u{301}  \u{301}   안\u{301}",
+    // Escape sequences in words, across them, at cuts, and without an end.
+    "\x1b[31mlong-coloured-words\x1b[0m and\x1b[1m \x1b[0mmore é",
+    "\x1b]8;;a b-c\x1b\\li nk-a-b\x1b]8;;\x07 é",
+    "aa\x1b[1;\x1b[2m-bb안\x1b!-\x1b안 안\x1b[3",
+    "\x1b[1m \x1b[2m  \x1b[3m-\x1b[4m",
+    "é\tb\t\tc \t d\u{a0}e",
+    "é\r\n안녕하 세요\n\n \n안\r\r\n  a안-b  \n",
+];
+
 /// Asserts that the texts have the lines of the lists, by each ending, in a list and in one text.
 fn assert_same_lines(
     rt: &(impl Abort + AllocGlobal),
     options: &Options<'_>,
 ) -> Result<(), WrapError> {
-    for &text in &[
-        "",
-        " ",
-        "To be, or not to be: that is the question",
-        "a well-known 9-to-5 job, x--y -z z- \"a-b\" -a-b-c- 1-2-3",
-        "  blanks  before   and    between     and after      ",
-        "averyveryveryverylongword-and-another-of-them and-more",
-        "plain\n\nnaïve café-crème\r\nplain-text again\n",
-        "a\ttab, \x1b[31mred\x1b[0m-green, a delete \x7f-\x7f and ~ alone",
-        "안녕 하세요-안녕하세요 abc",
-        "  안녕   하세요  안녕하세요안녕하세요-a-안    ",
-        "é a-é-b é-안 1-é ١-٢ -é- é-- --é é-\u{301}a",
-        // Combining marks, also where a line is full, and without a character before them.
-        "e\u{301}e\u{301}e\u{301} \u{301} \u{301}\u{301} aa     \u{301} b",
-        "안\u{301}안\u{301}  \u{301}   안\u{301}",
-        // Escape sequences in words, across them, at cuts, and without an end.
-        "\x1b[31mlong-coloured-words\x1b[0m and\x1b[1m \x1b[0mmore é",
-        "\x1b]8;;a b-c\x1b\\li nk-a-b\x1b]8;;\x07 é",
-        "aa\x1b[1;\x1b[2m-bb안\x1b!-\x1b안 안\x1b[3",
-        "\x1b[1m \x1b[2m  \x1b[3m-\x1b[4m",
-        "é\tb\t\tc \t d\u{a0}e",
-        "é\r\n안녕하 세요\n\n \n안\r\r\n  a안-b  \n",
-    ] {
+    for &text in TEXTS {
         for ending in [LineEnding::LF, LineEnding::CRLF] {
             let options = Options::from(options).line_ending(ending);
             let listed = listed_lines(rt.alloc(), text, &options)?;
             let lines = wrap(rt.alloc(), text, Options::from(&options))?;
             let texts = joined(rt.alloc(), &listed, "|")?;
-            assert_eq!(rt; joined(rt.alloc(), &lines, "|")?, texts, "{text:?}");
+            assert_text(rt, text, &joined(rt.alloc(), &lines, "|")?, &texts);
             let filled = joined(rt.alloc(), &listed, ending.as_str())?;
             assert_filled(rt, text, options, &filled)?;
         }
@@ -197,58 +201,64 @@ fn assert_same_lines(
     Ok(())
 }
 
+const FILLED_AT_LEAST_COST: &[(&str, usize, &str)] = &[
+    ("foo bar baz", 10, "foo bar\nbaz"),
+    (
+        "To be, or not to be: that is the question\n",
+        10,
+        "To be,\nor not to\nbe: that\nis the\nquestion\n",
+    ),
+    ("test\n\na\n\n", 80, "test\n\na\n\n"),
+    ("  \n \n  \n ", 80, "\n\n\n"),
+    ("ab\ncdefghijkl", 5, "ab\ncdefg\nhijkl"),
+    ("foo  ", 10, "foo"),
+    ("\x1b!Ͽ", 10, "\x1b!Ͽ"),
+];
+
 /// The lines of least cost, joined by line feeds.
 #[test]
 fn lines_of_least_cost_are_joined(rt: HostRuntime) -> Result<(), Fail> {
-    for &(text, width, expected) in &[
-        ("foo bar baz", 10, "foo bar\nbaz"),
-        (
-            "To be, or not to be: that is the question\n",
-            10,
-            "To be,\nor not to\nbe: that\nis the\nquestion\n",
-        ),
-        ("test\n\na\n\n", 80, "test\n\na\n\n"),
-        ("  \n \n  \n ", 80, "\n\n\n"),
-        ("ab\ncdefghijkl", 5, "ab\ncdefg\nhijkl"),
-        ("foo  ", 10, "foo"),
-        ("\x1b!Ͽ", 10, "\x1b!Ͽ"),
-    ] {
+    for &(text, width, expected) in FILLED_AT_LEAST_COST {
         assert_filled(&rt, text, Options::new(width), expected)?;
     }
     Ok(())
 }
 
+const FILLED_WITH_ENDINGS: &[(&str, usize, LineEnding, bool, &str)] = &[
+    (
+        "foo bar\r\nfoobar",
+        4,
+        LineEnding::CRLF,
+        false,
+        "foo\r\nbar\r\nfoob\r\nar",
+    ),
+    ("foo  ", 10, LineEnding::LF, true, "foo  "),
+];
+
 /// Lines are joined by the chosen ending, and blanks are kept if that is on.
 #[test]
 fn endings_and_blanks_are_as_chosen(rt: HostRuntime) -> Result<(), Fail> {
-    for &(text, width, ending, preserve, expected) in &[
-        (
-            "foo bar\r\nfoobar",
-            4,
-            LineEnding::CRLF,
-            false,
-            "foo\r\nbar\r\nfoob\r\nar",
-        ),
-        ("foo  ", 10, LineEnding::LF, true, "foo  "),
-    ] {
+    for &(text, width, ending, preserve, expected) in FILLED_WITH_ENDINGS {
         assert_filled(&rt, text, with_endings(width, ending, preserve), expected)?;
     }
     Ok(())
 }
 
+const FILLED_WITH_INDENTS: &[(&str, usize, &str, &str, &str)] = &[
+    (
+        "foo\u{a0}bar\u{2011}baz",
+        5,
+        "",
+        "",
+        "foo\u{a0}bar\u{2011}baz",
+    ),
+    ("foo bar baz", 10, "* ", "  ", "* foo bar\n  baz"),
+];
+
 /// A word stays whole where words are not broken, and lines have their indents.
 #[test]
 fn long_words_stay_whole_and_lines_are_indented(rt: HostRuntime) -> Result<(), Fail> {
-    for &(text, width, initial, subsequent, expected) in &[
-        (
-            "foo\u{a0}bar\u{2011}baz",
-            5,
-            "",
-            "",
-            "foo\u{a0}bar\u{2011}baz",
-        ),
-        ("foo bar baz", 10, "* ", "  ", "* foo bar\n  baz"),
-    ] {
+    for &(text, width, initial, subsequent, expected) in FILLED_WITH_INDENTS {
         let options = with_indents(width, initial, subsequent).break_words(false);
         assert_filled(&rt, text, options, expected)?;
     }

@@ -45,17 +45,19 @@ fn lines_of_slow_path<'p>(
     Ok(lines)
 }
 
+const SHORT_PARAGRAPHS: &[(&str, usize, &str, bool, &str)] = &[
+    ("", 1, "", false, ""),
+    ("  ", 3, "", false, ""),
+    ("  foo-bar  ", 12, "", false, "  foo-bar"),
+    ("foo  ", 6, "", true, "foo  "),
+    ("안녕 하세요", 20, "", false, "안녕 하세요"),
+    ("foobar", 7, "12345", false, "foobar"),
+];
+
 /// Without an initial indent, a paragraph that is short has the same line either way.
 #[test]
 fn the_shortcut_gives_the_lines_of_the_slow_path(rt: HostRuntime) -> Result<(), Fail> {
-    for &(paragraph, width, indent, preserve, line) in &[
-        ("", 1, "", false, ""),
-        ("  ", 3, "", false, ""),
-        ("  foo-bar  ", 12, "", false, "  foo-bar"),
-        ("foo  ", 6, "", true, "foo  "),
-        ("안녕 하세요", 20, "", false, "안녕 하세요"),
-        ("foobar", 7, "12345", false, "foobar"),
-    ] {
+    for &(paragraph, width, indent, preserve, line) in SHORT_PARAGRAPHS {
         let options = with_indents(width, "", indent).preserve_trailing_space(preserve);
         let short = lines_of_shortcut(rt.alloc(), paragraph, &options)?;
         assert!(rt; are_borrowed(&short, &[line]), "{paragraph:?}");
@@ -65,14 +67,16 @@ fn the_shortcut_gives_the_lines_of_the_slow_path(rt: HostRuntime) -> Result<(), 
     Ok(())
 }
 
+const FILLED: &[(&str, usize, bool, &str)] = &[
+    ("ab\ncdefghijkl", 5, false, "ab\ncdefg\nhijkl"),
+    ("foo bar  ", 10, false, "foo bar"),
+    ("foo  ", 10, true, "foo  "),
+];
+
 /// Filling by the slow path gives what `fill` gives.
 #[test]
 fn the_slow_path_fills_alike(rt: HostRuntime) -> Result<(), Fail> {
-    for &(text, width, preserve, expected) in &[
-        ("ab\ncdefghijkl", 5, false, "ab\ncdefg\nhijkl"),
-        ("foo bar  ", 10, false, "foo bar"),
-        ("foo  ", 10, true, "foo  "),
-    ] {
+    for &(text, width, preserve, expected) in FILLED {
         let options = with_endings(width, LineEnding::LF, preserve);
         let filled = fill_slow_path(rt.alloc(), text, options)?;
         assert_text(&rt, text, filled.as_str(), expected);

@@ -59,81 +59,83 @@ pub(super) fn assert_borrowed(
     Ok(())
 }
 
+const WRAPPED_AT_LEAST_COST: &[(&str, usize, &[&str])] = &[
+    (
+        "To be, or not to be: that is the question",
+        10,
+        &["To be, or", "not to be:", "that is", "the", "question"],
+    ),
+    (
+        "To be, or not to be, that is the question.",
+        10,
+        &["To be, or", "not to be,", "that is", "the", "question."],
+    ),
+    ("foo     bar     baz  ", 5, &["foo", "bar", "baz"]),
+    ("Foo   bar baz", 8, &["Foo", "bar baz"]),
+    ("  foo bar", 8, &["  foo", "bar"]),
+    ("  foo bar", 4, &["", "foo", "bar"]),
+    (" foobar baz", 6, &["", "foobar", "baz"]),
+    ("foo bar", usize::MAX, &["foo bar"]),
+    ("", 10, &[""]),
+    ("", 0, &[""]),
+    ("a\n\nb", 10, &["a", "", "b"]),
+    ("test\n\na\n\n", 80, &["test", "", "a", "", ""]),
+    ("  \n \n  \n ", 80, &["", "", "", ""]),
+    ("1 3 5 7\n1 3 5 7", 5, &["1 3 5", "7", "1 3 5", "7"]),
+];
+
 /// A line takes words while they fit; a paragraph with fewer bytes than the width has columns is
 /// one line. Blanks at the ends of lines are left off.
 #[test]
 fn paragraphs_have_the_lines_of_first_fit(rt: HostRuntime) -> Result<(), Fail> {
-    let rows: &[(&str, usize, &[&str])] = &[
-        (
-            "To be, or not to be: that is the question",
-            10,
-            &["To be, or", "not to be:", "that is", "the", "question"],
-        ),
-        (
-            "To be, or not to be, that is the question.",
-            10,
-            &["To be, or", "not to be,", "that is", "the", "question."],
-        ),
-        ("foo     bar     baz  ", 5, &["foo", "bar", "baz"]),
-        ("Foo   bar baz", 8, &["Foo", "bar baz"]),
-        ("  foo bar", 8, &["  foo", "bar"]),
-        ("  foo bar", 4, &["", "foo", "bar"]),
-        (" foobar baz", 6, &["", "foobar", "baz"]),
-        ("foo bar", usize::MAX, &["foo bar"]),
-        ("", 10, &[""]),
-        ("", 0, &[""]),
-        ("a\n\nb", 10, &["a", "", "b"]),
-        ("test\n\na\n\n", 80, &["test", "", "a", "", ""]),
-        ("  \n \n  \n ", 80, &["", "", "", ""]),
-        ("1 3 5 7\n1 3 5 7", 5, &["1 3 5", "7", "1 3 5", "7"]),
-    ];
-    for &(text, width, lines) in rows {
+    for &(text, width, lines) in WRAPPED_AT_LEAST_COST {
         assert_borrowed(&rt, text, by_first_fit(width), lines)?;
     }
     Ok(())
 }
 
+const WRAPPED_BY_FIRST_FIT: &[(&str, usize, &[&str])] = &[
+    (
+        "textwrap: a small library for wrapping text.",
+        18,
+        &["textwrap: a", "small library for", "wrapping text."],
+    ),
+    (
+        "textwrap: an efficient and powerful library for wrapping text.",
+        28,
+        &[
+            "textwrap: an efficient",
+            "and powerful library for",
+            "wrapping text.",
+        ],
+    ),
+    (
+        "To be, or not to be: that is the question",
+        10,
+        &["To be,", "or not to", "be: that", "is the", "question"],
+    ),
+    (
+        "This is a demo of the short last line penalty.",
+        37,
+        &["This is a demo of the short last", "line penalty."],
+    ),
+    ("", 0, &[""]),
+    ("", 10, &[""]),
+    ("foo     bar     baz  ", 5, &["foo", "bar", "baz"]),
+    ("Foo   bar baz", 8, &["Foo", "bar baz"]),
+    ("  foo bar", 8, &["  foo", "bar"]),
+    ("  foo bar", 4, &["", "foo", "bar"]),
+    (" foobar baz", 6, &["", "foobar", "baz"]),
+    ("foo bar", usize::MAX, &["foo bar"]),
+    ("test\n\na\n\n", 80, &["test", "", "a", "", ""]),
+    ("  \n \n  \n ", 80, &["", "", "", ""]),
+];
+
 /// The lines are those whose costs have the least sum, and among equal sums those whose last lines
 /// start earliest.
 #[test]
 fn paragraphs_have_the_lines_of_least_cost(rt: HostRuntime) -> Result<(), Fail> {
-    let rows: &[(&str, usize, &[&str])] = &[
-        (
-            "textwrap: a small library for wrapping text.",
-            18,
-            &["textwrap: a", "small library for", "wrapping text."],
-        ),
-        (
-            "textwrap: an efficient and powerful library for wrapping text.",
-            28,
-            &[
-                "textwrap: an efficient",
-                "and powerful library for",
-                "wrapping text.",
-            ],
-        ),
-        (
-            "To be, or not to be: that is the question",
-            10,
-            &["To be,", "or not to", "be: that", "is the", "question"],
-        ),
-        (
-            "This is a demo of the short last line penalty.",
-            37,
-            &["This is a demo of the short last", "line penalty."],
-        ),
-        ("", 0, &[""]),
-        ("", 10, &[""]),
-        ("foo     bar     baz  ", 5, &["foo", "bar", "baz"]),
-        ("Foo   bar baz", 8, &["Foo", "bar baz"]),
-        ("  foo bar", 8, &["  foo", "bar"]),
-        ("  foo bar", 4, &["", "foo", "bar"]),
-        (" foobar baz", 6, &["", "foobar", "baz"]),
-        ("foo bar", usize::MAX, &["foo bar"]),
-        ("test\n\na\n\n", 80, &["test", "", "a", "", ""]),
-        ("  \n \n  \n ", 80, &["", "", "", ""]),
-    ];
-    for &(text, width, lines) in rows {
+    for &(text, width, lines) in WRAPPED_BY_FIRST_FIT {
         assert_borrowed(&rt, text, Options::new(width), lines)?;
     }
     let penalties = Penalties {
@@ -149,43 +151,44 @@ fn paragraphs_have_the_lines_of_least_cost(rt: HostRuntime) -> Result<(), Fail> 
     Ok(())
 }
 
+const WRAPPED_WORDS: &[(&str, usize, bool, &[&str])] = &[
+    ("wrapping text", 9, true, &["wrapping", "text"]),
+    ("foo-bar", 5, true, &["foo-", "bar"]),
+    ("foo-bar baz", 5, true, &["foo-", "bar", "baz"]),
+    ("foo-bar-baz", 9, true, &["foo-bar-", "baz"]),
+    ("testx y", 4, true, &["test", "x y"]),
+    ("Ｈｅｌｌｏ", 5, true, &["Ｈｅ", "ｌｌ", "ｏ"]),
+    ("안녕하세요", 8, true, &["안녕하세", "요"]),
+    ("foobar", 0, true, &["f", "o", "o", "b", "a", "r"]),
+    ("small  large   tiny", 3, false, &["small", "large", "tiny"]),
+    (
+        "The --foo-bar flag.",
+        5,
+        false,
+        &["The", "--foo-", "bar", "flag."],
+    ),
+    (
+        "This is a little example.",
+        4,
+        true,
+        &["This", "is a", "litt", "le", "exam", "ple."],
+    ),
+    // A blank cuts an escape sequence in two: what follows it is measured by itself.
+    ("\x1b[1 2ma", 2, true, &["\x1b[1", "2m", "a"]),
+    ("\x1b]0;t abc", 3, true, &["\x1b]0;t", "abc"]),
+    // A sequence that is cut short is a word without columns, and wants a blank before it.
+    ("abc \x1b[31", 4, true, &["abc \x1b[31"]),
+    ("abc \x1b[31", 3, true, &["abc", "\x1b[31"]),
+    // A width of 0 is taken for one of 1 at the least cost, and a blank fills that.
+    ("\u{301} \u{301}", 0, true, &["\u{301} \u{301}"]),
+    ("foo bar", 0, false, &["foo", "bar"]),
+];
+
 /// Words are split after hyphens, and broken if that is on; no line with room for a piece is wider
 /// than the width by more than the costs allow.
 #[test]
 fn words_are_split_and_broken(rt: HostRuntime) -> Result<(), Fail> {
-    let rows: &[(&str, usize, bool, &[&str])] = &[
-        ("wrapping text", 9, true, &["wrapping", "text"]),
-        ("foo-bar", 5, true, &["foo-", "bar"]),
-        ("foo-bar baz", 5, true, &["foo-", "bar", "baz"]),
-        ("foo-bar-baz", 9, true, &["foo-bar-", "baz"]),
-        ("testx y", 4, true, &["test", "x y"]),
-        ("Ｈｅｌｌｏ", 5, true, &["Ｈｅ", "ｌｌ", "ｏ"]),
-        ("안녕하세요", 8, true, &["안녕하세", "요"]),
-        ("foobar", 0, true, &["f", "o", "o", "b", "a", "r"]),
-        ("small  large   tiny", 3, false, &["small", "large", "tiny"]),
-        (
-            "The --foo-bar flag.",
-            5,
-            false,
-            &["The", "--foo-", "bar", "flag."],
-        ),
-        (
-            "This is a little example.",
-            4,
-            true,
-            &["This", "is a", "litt", "le", "exam", "ple."],
-        ),
-        // A blank cuts an escape sequence in two: what follows it is measured by itself.
-        ("\x1b[1 2ma", 2, true, &["\x1b[1", "2m", "a"]),
-        ("\x1b]0;t abc", 3, true, &["\x1b]0;t", "abc"]),
-        // A sequence that is cut short is a word without columns, and wants a blank before it.
-        ("abc \x1b[31", 4, true, &["abc \x1b[31"]),
-        ("abc \x1b[31", 3, true, &["abc", "\x1b[31"]),
-        // A width of 0 is taken for one of 1 at the least cost, and a blank fills that.
-        ("\u{301} \u{301}", 0, true, &["\u{301} \u{301}"]),
-        ("foo bar", 0, false, &["foo", "bar"]),
-    ];
-    for &(text, width, break_words, lines) in rows {
+    for &(text, width, break_words, lines) in WRAPPED_WORDS {
         assert_borrowed(
             &rt,
             text,
@@ -196,75 +199,76 @@ fn words_are_split_and_broken(rt: HostRuntime) -> Result<(), Fail> {
     Ok(())
 }
 
+const WRAPPED_WITH_INDENTS: &[(&str, usize, &str, &str, Lines<'_>)] = &[
+    ("", 10, "!!!", "", &[(Owned, "!!!")]),
+    (
+        "foobarbaz",
+        5,
+        "-->",
+        "",
+        &[(Owned, "-->"), (Borrowed, "fooba"), (Borrowed, "rbaz")],
+    ),
+    (
+        "foobarbaz",
+        5,
+        "* ",
+        "  ",
+        &[(Owned, "* foo"), (Owned, "  bar"), (Owned, "  baz")],
+    ),
+    (
+        "This is a little example.",
+        12,
+        "* ",
+        "  ",
+        &[
+            (Owned, "* This is"),
+            (Owned, "  a little"),
+            (Owned, "  example."),
+        ],
+    ),
+    (
+        "x x x x x x x x x x x x x",
+        10,
+        "👉👉",
+        "",
+        &[
+            (Owned, "👉👉x x x"),
+            (Borrowed, "x x x x x"),
+            (Borrowed, "x x x x x"),
+        ],
+    ),
+    (
+        "Wrapping text all day long.",
+        15,
+        "",
+        "....",
+        &[
+            (Borrowed, "Wrapping text"),
+            (Owned, "....all day"),
+            (Owned, "....long."),
+        ],
+    ),
+    (
+        "a\n\nb",
+        10,
+        "",
+        "> ",
+        &[(Borrowed, "a"), (Borrowed, ""), (Owned, "> b")],
+    ),
+    (
+        "aaa\nbbb ccc",
+        7,
+        "",
+        "    ",
+        &[(Borrowed, "aaa"), (Owned, "    bbb ccc")],
+    ),
+];
+
 /// The first line has the initial indent, and each later one with pieces the subsequent one; a line
 /// to which nothing was added is borrowed.
 #[test]
 fn lines_are_indented(rt: HostRuntime) -> Result<(), Fail> {
-    let rows: &[(&str, usize, &str, &str, Lines<'_>)] = &[
-        ("", 10, "!!!", "", &[(Owned, "!!!")]),
-        (
-            "foobarbaz",
-            5,
-            "-->",
-            "",
-            &[(Owned, "-->"), (Borrowed, "fooba"), (Borrowed, "rbaz")],
-        ),
-        (
-            "foobarbaz",
-            5,
-            "* ",
-            "  ",
-            &[(Owned, "* foo"), (Owned, "  bar"), (Owned, "  baz")],
-        ),
-        (
-            "This is a little example.",
-            12,
-            "* ",
-            "  ",
-            &[
-                (Owned, "* This is"),
-                (Owned, "  a little"),
-                (Owned, "  example."),
-            ],
-        ),
-        (
-            "x x x x x x x x x x x x x",
-            10,
-            "👉👉",
-            "",
-            &[
-                (Owned, "👉👉x x x"),
-                (Borrowed, "x x x x x"),
-                (Borrowed, "x x x x x"),
-            ],
-        ),
-        (
-            "Wrapping text all day long.",
-            15,
-            "",
-            "....",
-            &[
-                (Borrowed, "Wrapping text"),
-                (Owned, "....all day"),
-                (Owned, "....long."),
-            ],
-        ),
-        (
-            "a\n\nb",
-            10,
-            "",
-            "> ",
-            &[(Borrowed, "a"), (Borrowed, ""), (Owned, "> b")],
-        ),
-        (
-            "aaa\nbbb ccc",
-            7,
-            "",
-            "    ",
-            &[(Borrowed, "aaa"), (Owned, "    bbb ccc")],
-        ),
-    ];
-    for &(text, width, initial, subsequent, lines) in rows {
+    for &(text, width, initial, subsequent, lines) in WRAPPED_WITH_INDENTS {
         let options = with_indents(width, initial, subsequent);
         assert_wrapped(&rt, text, options, lines)?;
     }
@@ -283,22 +287,23 @@ fn an_initial_indent_is_not_repeated(rt: HostRuntime) -> Result<(), Fail> {
     Ok(())
 }
 
+const WRAPPED_WITH_BLANKS: &[(&str, usize, LineEnding, &[&str])] = &[
+    ("foo bar baz", 10, LineEnding::LF, &["foo bar ", "baz"]),
+    (
+        "foo     bar     baz  ",
+        5,
+        LineEnding::LF,
+        &["foo     ", "bar     ", "baz  "],
+    ),
+    ("foo  ", 10, LineEnding::LF, &["foo  "]),
+    ("a\r\nb\nc", 10, LineEnding::CRLF, &["a", "b\nc"]),
+    ("a\r\r\nb", 10, LineEnding::CRLF, &["a\r", "b"]),
+];
+
 /// Blanks are kept if that is on, and paragraphs end at the chosen ending alone.
 #[test]
 fn blanks_and_endings_are_as_chosen(rt: HostRuntime) -> Result<(), Fail> {
-    let rows: &[(&str, usize, LineEnding, &[&str])] = &[
-        ("foo bar baz", 10, LineEnding::LF, &["foo bar ", "baz"]),
-        (
-            "foo     bar     baz  ",
-            5,
-            LineEnding::LF,
-            &["foo     ", "bar     ", "baz  "],
-        ),
-        ("foo  ", 10, LineEnding::LF, &["foo  "]),
-        ("a\r\nb\nc", 10, LineEnding::CRLF, &["a", "b\nc"]),
-        ("a\r\r\nb", 10, LineEnding::CRLF, &["a\r", "b"]),
-    ];
-    for &(text, width, ending, lines) in rows {
+    for &(text, width, ending, lines) in WRAPPED_WITH_BLANKS {
         assert_borrowed(&rt, text, with_endings(width, ending, true), lines)?;
     }
     Ok(())

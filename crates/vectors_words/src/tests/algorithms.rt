@@ -126,6 +126,14 @@ fn widths_as_ends(
     Ok(ends)
 }
 
+const LINES_AT_ENDS: &[(&[usize], &[usize])] = &[
+    (&[1, 3, 6], &[1, 2, 3]),
+    (&[2, 2], &[2, 0]),
+    (&[], &[]),
+    (&[0, 6], &[0, 6]),
+    (&[4, 3, 7, 5], &[4, 1]),
+];
+
 /// A function of the caller gets the words and the line widths, and its lines lie between its ends;
 /// where it refuses, so does the call.
 #[test]
@@ -139,14 +147,7 @@ fn lines_lie_between_the_ends_of_the_caller(rt: HostRuntime) -> Result<(), Fail>
         Word::from("six"),
     ];
     let algorithm = WrapAlgorithm::Custom(LineEnds::new(rt.alloc(), widths_as_ends));
-    let rows: &[(&[usize], &[usize])] = &[
-        (&[1, 3, 6], &[1, 2, 3]),
-        (&[2, 2], &[2, 0]),
-        (&[], &[]),
-        (&[0, 6], &[0, 6]),
-        (&[4, 3, 7, 5], &[4, 1]),
-    ];
-    for &(line_widths, lens) in rows {
+    for &(line_widths, lens) in LINES_AT_ENDS {
         assert_divided(&rt, algorithm, &words, line_widths, lens)?;
     }
     let refused = algorithm.wrap(rt.alloc(), &words[..1], &[1]);

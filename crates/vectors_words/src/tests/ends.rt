@@ -1,4 +1,5 @@
 //! Texts at the widths at the ends of their type.
+use super::assert_text;
 use std::alloc::Global;
 use std::borrow::CowStr;
 use std::process::Abort;
@@ -45,6 +46,29 @@ fn lines_by_paragraphs<'t>(
     Ok(lines)
 }
 
+/// Asserts that a text is filled to this in one way.
+fn assert_filled(
+    rt: &(impl Abort + AllocGlobal),
+    text: &str,
+    options: &Options<'_>,
+    slowly: bool,
+    expected: &str,
+) -> Result<(), WrapError> {
+    let options = Options::from(options);
+    let filled = if slowly {
+        fill_slow_path(rt.alloc(), text, options)?
+    } else {
+        fill(rt.alloc(), text, options)?
+    };
+    assert_text(rt, text, &filled, expected);
+    Ok(())
+}
+
+/// Asserts that a text has the lines of this filled text.
+fn assert_lines(rt: &impl Abort, text: &str, lines: &[CowStr<'_>], filled: &str) {
+    assert!(rt; are_lines_of(lines, filled), "{text:?} has {lines:?}");
+}
+
 /// Asserts that each call that wraps or fills gives this filled text, or its lines.
 pub(super) fn assert_laid_out(
     rt: &(impl Abort + AllocGlobal),
@@ -52,128 +76,123 @@ pub(super) fn assert_laid_out(
     options: &Options<'_>,
     expected: &str,
 ) -> Result<(), WrapError> {
-    let filled = fill(rt.alloc(), text, Options::from(options))?;
-    assert_eq!(rt; filled.as_str(), expected, "{text:?}");
-    let filled = fill_slow_path(rt.alloc(), text, Options::from(options))?;
-    assert_eq!(rt; filled.as_str(), expected, "{text:?} by way of its lines");
     let lines = wrap(rt.alloc(), text, Options::from(options))?;
-    assert!(rt; are_lines_of(&lines, expected), "{text:?} has {lines:?}");
-    for divides_all in [false, true] {
-        let lines = lines_by_paragraphs(rt.alloc(), text, options, divides_all)?;
-        assert!(rt;
-            are_lines_of(&lines, expected),
-            "{text:?} has {lines:?} by paragraphs"
-        );
+    assert_lines(rt, text, &lines, expected);
+    for slowly in [false, true] {
+        assert_filled(rt, text, options, slowly, expected)?;
+        let lines = lines_by_paragraphs(rt.alloc(), text, options, slowly)?;
+        assert_lines(rt, text, &lines, expected);
     }
     Ok(())
 }
+
+const FILLED_AT_ENDS: &[FilledAtEnds<'_>] = &[
+    ("", "", "", [""; 4], [""; 4]),
+    ("", "!", "", ["!"; 4], ["!"; 4]),
+    (
+        "foo-bar",
+        "",
+        "",
+        [
+            "f\no\no\n-\nb\na\nr",
+            "f\no\no\n-\nb\na\nr",
+            "foo-bar",
+            "foo-bar",
+        ],
+        [
+            "f\no\no\n-\nb\na\nr",
+            "f\no\no\n-\nb\na\nr",
+            "foo-bar",
+            "foo-bar",
+        ],
+    ),
+    (
+        " a ",
+        "",
+        "",
+        ["\na", "\na", " a", " a"],
+        ["\na", "\na", " a", " a"],
+    ),
+    // The indent takes more than the width, or two columns of the greatest ones. First fit
+    // leaves it alone on its line.
+    (
+        "a b",
+        "  ",
+        "",
+        ["  a\nb", "  a\nb", "  a b", "  a b"],
+        ["  \na\nb", "  \na\nb", "  a b", "  a b"],
+    ),
+    (
+        "foo bar",
+        "* ",
+        "- ",
+        [
+            "* f\n- o\n- o\n- b\n- a\n- r",
+            "* f\n- o\n- o\n- b\n- a\n- r",
+            "* foo bar",
+            "* foo bar",
+        ],
+        [
+            "* \n- f\n- o\n- o\n- b\n- a\n- r",
+            "* \n- f\n- o\n- o\n- b\n- a\n- r",
+            "* foo bar",
+            "* foo bar",
+        ],
+    ),
+    (
+        "a\n\nb c",
+        "",
+        "> ",
+        ["a\n\n> b\n> c", "a\n\n> b\n> c", "a\n\n> b c", "a\n\n> b c"],
+        ["a\n\n> b\n> c", "a\n\n> b\n> c", "a\n\n> b c", "a\n\n> b c"],
+    ),
+    // Characters without columns begin a piece where the character before them fills the line.
+    (
+        "a\u{301}b",
+        "",
+        "",
+        ["a\n\u{301}b", "a\u{301}\nb", "a\u{301}b", "a\u{301}b"],
+        ["a\n\u{301}b", "a\u{301}\nb", "a\u{301}b", "a\u{301}b"],
+    ),
+    (
+        "あ\u{301}",
+        "",
+        "",
+        ["あ\u{301}"; 4],
+        ["あ\n\u{301}", "あ\n\u{301}", "あ\u{301}", "あ\u{301}"],
+    ),
+    (
+        "\u{301}\u{301}\u{301}",
+        "",
+        "",
+        ["\u{301}\u{301}\u{301}"; 4],
+        ["\u{301}\u{301}\u{301}"; 4],
+    ),
+    // Indents of escape sequences have no columns.
+    (
+        "ab c",
+        "\x1b[1m",
+        "\x1b[0m",
+        [
+            "\x1b[1ma\n\x1b[0mb\n\x1b[0mc",
+            "\x1b[1ma\n\x1b[0mb\n\x1b[0mc",
+            "\x1b[1mab c",
+            "\x1b[1mab c",
+        ],
+        [
+            "\x1b[1m\n\x1b[0ma\n\x1b[0mb\n\x1b[0mc",
+            "\x1b[1ma\n\x1b[0mb\n\x1b[0mc",
+            "\x1b[1mab c",
+            "\x1b[1mab c",
+        ],
+    ),
+];
 
 /// At a width of 0 or 1 no line has room for two characters with columns, and at the greatest widths
 /// a paragraph is one line. Optimal fit takes a width of 0 for one of 1.
 #[test]
 fn texts_are_filled_at_the_ends_of_widths(rt: HostRuntime) -> Result<(), Fail> {
-    let rows: &[FilledAtEnds<'_>] = &[
-        ("", "", "", [""; 4], [""; 4]),
-        ("", "!", "", ["!"; 4], ["!"; 4]),
-        (
-            "foo-bar",
-            "",
-            "",
-            [
-                "f\no\no\n-\nb\na\nr",
-                "f\no\no\n-\nb\na\nr",
-                "foo-bar",
-                "foo-bar",
-            ],
-            [
-                "f\no\no\n-\nb\na\nr",
-                "f\no\no\n-\nb\na\nr",
-                "foo-bar",
-                "foo-bar",
-            ],
-        ),
-        (
-            " a ",
-            "",
-            "",
-            ["\na", "\na", " a", " a"],
-            ["\na", "\na", " a", " a"],
-        ),
-        // The indent takes more than the width, or two columns of the greatest ones. First fit
-        // leaves it alone on its line.
-        (
-            "a b",
-            "  ",
-            "",
-            ["  a\nb", "  a\nb", "  a b", "  a b"],
-            ["  \na\nb", "  \na\nb", "  a b", "  a b"],
-        ),
-        (
-            "foo bar",
-            "* ",
-            "- ",
-            [
-                "* f\n- o\n- o\n- b\n- a\n- r",
-                "* f\n- o\n- o\n- b\n- a\n- r",
-                "* foo bar",
-                "* foo bar",
-            ],
-            [
-                "* \n- f\n- o\n- o\n- b\n- a\n- r",
-                "* \n- f\n- o\n- o\n- b\n- a\n- r",
-                "* foo bar",
-                "* foo bar",
-            ],
-        ),
-        (
-            "a\n\nb c",
-            "",
-            "> ",
-            ["a\n\n> b\n> c", "a\n\n> b\n> c", "a\n\n> b c", "a\n\n> b c"],
-            ["a\n\n> b\n> c", "a\n\n> b\n> c", "a\n\n> b c", "a\n\n> b c"],
-        ),
-        // Characters without columns begin a piece where the character before them fills the line.
-        (
-            "a\u{301}b",
-            "",
-            "",
-            ["a\n\u{301}b", "a\u{301}\nb", "a\u{301}b", "a\u{301}b"],
-            ["a\n\u{301}b", "a\u{301}\nb", "a\u{301}b", "a\u{301}b"],
-        ),
-        (
-            "あ\u{301}",
-            "",
-            "",
-            ["あ\u{301}"; 4],
-            ["あ\n\u{301}", "あ\n\u{301}", "あ\u{301}", "あ\u{301}"],
-        ),
-        (
-            "\u{301}\u{301}\u{301}",
-            "",
-            "",
-            ["\u{301}\u{301}\u{301}"; 4],
-            ["\u{301}\u{301}\u{301}"; 4],
-        ),
-        // Indents of escape sequences have no columns.
-        (
-            "ab c",
-            "\x1b[1m",
-            "\x1b[0m",
-            [
-                "\x1b[1ma\n\x1b[0mb\n\x1b[0mc",
-                "\x1b[1ma\n\x1b[0mb\n\x1b[0mc",
-                "\x1b[1mab c",
-                "\x1b[1mab c",
-            ],
-            [
-                "\x1b[1m\n\x1b[0ma\n\x1b[0mb\n\x1b[0mc",
-                "\x1b[1ma\n\x1b[0mb\n\x1b[0mc",
-                "\x1b[1mab c",
-                "\x1b[1mab c",
-            ],
-        ),
-    ];
-    for &(text, initial, subsequent, least, first) in rows {
+    for &(text, initial, subsequent, least, first) in FILLED_AT_ENDS {
         for (i, width) in END_WIDTHS.iter().enumerate() {
             let options = Options::new(*width)
                 .initial_indent(initial)
@@ -186,63 +205,69 @@ fn texts_are_filled_at_the_ends_of_widths(rt: HostRuntime) -> Result<(), Fail> {
     Ok(())
 }
 
+const FILLED_IN_PLACE: &[(&str, &str, &str)] = &[
+    ("foo bar", "foo\nbar", "foo bar"),
+    (" foo-bar baz ", "\nfoo-bar\nbaz ", " foo-bar baz "),
+    ("a\n b  c", "a\n\nb \nc", "a\n b  c"),
+    ("あ い", "あ\nい", "あ い"),
+    (
+        "\x1b[1ma\x1b[0m b",
+        "\x1b[1ma\x1b[0m\nb",
+        "\x1b[1ma\x1b[0m b",
+    ),
+];
+
 /// At a width of 0 or 1 each word has a line of its own in place, and at the greatest widths nothing
 /// changes.
 #[test]
 fn texts_are_filled_in_place_at_the_ends_of_widths(rt: HostRuntime) -> Result<(), Fail> {
-    for &(text, narrow, wide) in &[
-        ("foo bar", "foo\nbar", "foo bar"),
-        (" foo-bar baz ", "\nfoo-bar\nbaz ", " foo-bar baz "),
-        ("a\n b  c", "a\n\nb \nc", "a\n b  c"),
-        ("あ い", "あ\nい", "あ い"),
-        (
-            "\x1b[1ma\x1b[0m b",
-            "\x1b[1ma\x1b[0m\nb",
-            "\x1b[1ma\x1b[0m b",
-        ),
-    ] {
+    for &(text, narrow, wide) in FILLED_IN_PLACE {
         for width in END_WIDTHS {
             let expected = if width <= 1 { narrow } else { wide };
             let mut filled = String::from_str(rt.alloc(), text)?;
             fill_inplace(rt.alloc(), &mut filled, width)?;
-            assert_eq!(rt; filled.as_str(), expected, "{text:?} at {width}");
+            assert_text(&rt, text, &filled, expected);
         }
     }
     Ok(())
 }
 
+/// Asserts that a text is refilled to this.
+fn assert_refilled(
+    rt: &(impl Abort + AllocGlobal),
+    text: &str,
+    options: &Options<'_>,
+    expected: &str,
+) -> Result<(), WrapError> {
+    let refilled = refill(rt.alloc(), text, Options::from(options))?;
+    assert_text(rt, text, &refilled, expected);
+    Ok(())
+}
+
+const REFILLED_AT_ENDS: &[(&str, &str, &str, &str)] = &[
+    (
+        "foo\nbar\n",
+        "f\no\no\nb\na\nr\n",
+        "f\no\no\nb\na\nr\n",
+        "foo bar\n",
+    ),
+    ("a\r\nb", "a\nb", "a\nb", "a b"),
+    ("-", "-", "-", "-"),
+    ("- a\n- b", "- a\n- b", "- \n- a\n- b", "- a b"),
+    ("\n  a\n  b", "\n  a\n  b", "\n  a\n  b", "  a b"),
+];
+
 /// A text that is refilled keeps its indents and its ending at each width. Where the indent leaves
 /// no room, optimal fit puts a character beside it, and first fit does not.
 #[test]
 fn texts_are_refilled_at_the_ends_of_widths(rt: HostRuntime) -> Result<(), Fail> {
-    for &(text, least, first, wide) in &[
-        (
-            "foo\nbar\n",
-            "f\no\no\nb\na\nr\n",
-            "f\no\no\nb\na\nr\n",
-            "foo bar\n",
-        ),
-        ("a\r\nb", "a\nb", "a\nb", "a b"),
-        ("-", "-", "-", "-"),
-        ("- a\n- b", "- a\n- b", "- \n- a\n- b", "- a b"),
-        ("\n  a\n  b", "\n  a\n  b", "\n  a\n  b", "  a b"),
-    ] {
+    for &(text, least, first, wide) in REFILLED_AT_ENDS {
         for width in END_WIDTHS {
-            let is_narrow = width <= 1;
-            let refilled = refill(rt.alloc(), text, Options::new(width))?;
-            let expected = if is_narrow { least } else { wide };
-            assert_eq!(rt; refilled.as_str(), expected, "{text:?} at {width}");
-            let refilled = refill(
-                rt.alloc(),
-                text,
-                Options::new(width).wrap_algorithm(WrapAlgorithm::FirstFit),
-            )?;
-            let expected = if is_narrow { first } else { wide };
-            assert_eq!(rt;
-                refilled.as_str(),
-                expected,
-                "{text:?} at {width}, by first fit"
-            );
+            let is_wide = width > 1;
+            let options = Options::new(width);
+            assert_refilled(&rt, text, &options, if is_wide { wide } else { least })?;
+            let options = options.wrap_algorithm(WrapAlgorithm::FirstFit);
+            assert_refilled(&rt, text, &options, if is_wide { wide } else { first })?;
         }
     }
     Ok(())

@@ -75,36 +75,49 @@ impl Call for OnWords {
         let hyphens = WordSplitter::HyphenSplitter;
         Ok(match self {
             OnWords::Strip => {
-                let plain = strip_ansi_escape_sequences(heap, "To be, \x1b[1mor not to be")?;
-                format!(in alloc; "{plain:?}")?
+                String::from_str(alloc, &strip_ansi_escape_sequences(heap, ESCAPES)?)?
             }
             OnWords::Break => texts_of(alloc, &break_words(heap, words, 1)?)?,
-            OnWords::FindAtCuts => {
-                let separator = WordSeparator::Custom(LineCuts::new(alloc, cut_everywhere));
-                let mut found = Vec::new(alloc);
-                for word in separator.find_words(heap, "abcde")? {
-                    found.push(word)?;
-                }
-                texts_of(alloc, &found)?
-            }
-            OnWords::FindAtOffsets => {
-                let visible = strip_ansi_escape_sequences(alloc, "abcdef")?;
-                let offsets = [1, 2, 3, 4, 5];
-                assert!(rt; are_offsets(visible.as_str(), &offsets));
-                texts_of(alloc, &find_words_at(heap, "abcdef", &offsets)?)?
-            }
-            OnWords::Hyphens => {
-                let points = hyphens.split_points(heap, "a-b-c-d-e-f")?;
-                format!(in alloc; "{points:?}")?
-            }
-            OnWords::Points => {
-                let points = at_points.split_points(heap, "foobar")?;
-                format!(in alloc; "{points:?}")?
-            }
+            OnWords::FindAtCuts => words_at_cuts(alloc, heap)?,
+            OnWords::FindAtOffsets => words_at_offsets(rt, heap)?,
+            OnWords::Hyphens => points_of(alloc, heap, hyphens, "a-b-c-d-e-f")?,
+            OnWords::Points => points_of(alloc, heap, at_points, "foobar")?,
             OnWords::Split => texts_of(alloc, &split_words(heap, words, &hyphens)?)?,
             OnWords::SplitAtPoints => texts_of(alloc, &split_words(heap, words, &at_points)?)?,
         })
     }
+}
+
+/// A text with an escape sequence.
+const ESCAPES: &str = "To be, \x1b[1mor not to be";
+
+/// The words of a line that a function of the caller cuts everywhere.
+fn words_at_cuts(alloc: Global, heap: &Heap) -> Result<String, WrapError> {
+    let separator = WordSeparator::Custom(LineCuts::new(alloc, cut_everywhere));
+    let mut found = Vec::new(alloc);
+    for word in separator.find_words(heap, "abcde")? {
+        found.push(word)?;
+    }
+    Ok(texts_of(alloc, &found)?)
+}
+
+/// The words of a line that is cut at all its offsets.
+fn words_at_offsets<R: Abort + AllocGlobal>(rt: &R, heap: &Heap) -> Result<String, WrapError> {
+    let visible = strip_ansi_escape_sequences(rt.alloc(), "abcdef")?;
+    let offsets = [1, 2, 3, 4, 5];
+    assert!(rt; are_offsets(&visible, &offsets));
+    Ok(texts_of(rt.alloc(), &find_words_at(heap, "abcdef", &offsets)?)?)
+}
+
+/// Where a word may be split.
+fn points_of(
+    alloc: Global,
+    heap: &Heap,
+    splitter: WordSplitter,
+    word: &str,
+) -> Result<String, WrapError> {
+    let points = splitter.split_points(heap, word)?;
+    Ok(format!(in alloc; "{points:?}")?)
 }
 
 /// The texts of the words, with a bar after each.
@@ -117,19 +130,21 @@ fn texts_of(alloc: Global, words: &[Word<'_>]) -> Result<String, AllocError> {
     Ok(texts)
 }
 
+const ON_WORDS: &[(OnWords, usize, &str)] = &[
+    (OnWords::Strip, 3, "To be, or not to be"),
+    (OnWords::Break, 3, "a|-|b|-|c|f|o|o|b|a|r|"),
+    (OnWords::FindAtCuts, 2, "a|b|c|d|e|"),
+    (OnWords::FindAtOffsets, 4, "a|b|c|d|e|f|"),
+    (OnWords::Hyphens, 2, "[2, 4, 6, 8, 10]"),
+    (OnWords::Points, 1, "[3]"),
+    (OnWords::Split, 2, "a-|b-|c|foobar|"),
+    (OnWords::SplitAtPoints, 2, "a-b-c|foo|bar|"),
+];
+
 /// What finds, splits and breaks words is out of memory wherever one of its lists cannot grow.
 #[test]
 fn refused_words_are_no_other_words(rt: HostRuntime) -> Result<(), Fail> {
-    for &(call, refusals, expected) in &[
-        (OnWords::Strip, 3, "\"To be, or not to be\""),
-        (OnWords::Break, 3, "a|-|b|-|c|f|o|o|b|a|r|"),
-        (OnWords::FindAtCuts, 2, "a|b|c|d|e|"),
-        (OnWords::FindAtOffsets, 4, "a|b|c|d|e|f|"),
-        (OnWords::Hyphens, 2, "[2, 4, 6, 8, 10]"),
-        (OnWords::Points, 1, "[3]"),
-        (OnWords::Split, 2, "a-|b-|c|foobar|"),
-        (OnWords::SplitAtPoints, 2, "a-b-c|foo|bar|"),
-    ] {
+    for &(call, refusals, expected) in ON_WORDS {
         assert_refused(&rt, call, refusals, expected)?;
     }
     Ok(())
@@ -192,17 +207,19 @@ fn divided(alloc: Global, heap: &Heap, algorithm: WrapAlgorithm) -> Result<Strin
     Ok(lens_of(alloc, &algorithm.wrap(heap, &words, &[3])?)?)
 }
 
+const ON_LINES: &[(OnLines, usize, &str)] = &[
+    (OnLines::FirstFit, 2, "2|2|2|2|1|"),
+    (OnLines::OptimalFitByQueue, 8, "2|2|2|2|1|"),
+    (OnLines::OptimalFitByTable, 10, "2|1|2|2|2|"),
+    (OnLines::ByFirstFit, 2, "1|1|1|1|1|1|"),
+    (OnLines::ByOptimalFit, 7, "1|1|1|1|1|1|"),
+    (OnLines::ByEnds, 1, "1|2|3|"),
+];
+
 /// What divides is out of memory wherever one of its lists cannot grow.
 #[test]
 fn a_refused_division_is_no_other_division(rt: HostRuntime) -> Result<(), Fail> {
-    for &(call, refusals, expected) in &[
-        (OnLines::FirstFit, 2, "2|2|2|2|1|"),
-        (OnLines::OptimalFitByQueue, 8, "2|2|2|2|1|"),
-        (OnLines::OptimalFitByTable, 10, "2|1|2|2|2|"),
-        (OnLines::ByFirstFit, 2, "1|1|1|1|1|1|"),
-        (OnLines::ByOptimalFit, 7, "1|1|1|1|1|1|"),
-        (OnLines::ByEnds, 1, "1|2|3|"),
-    ] {
+    for &(call, refusals, expected) in ON_LINES {
         assert_refused(&rt, call, refusals, expected)?;
     }
     Ok(())
@@ -249,14 +266,16 @@ fn starts_of(alloc: Global, minima: &[Minimum]) -> Result<String, AllocError> {
     Ok(starts)
 }
 
+const ON_COSTS: &[(OnCosts, usize, &str)] = &[
+    (OnCosts::New, 4, "9"),
+    (OnCosts::Table, 8, "0|0|0|2|3|3|4|5|6|7|"),
+    (OnCosts::Queue, 6, "0|0|0|1|2|3|4|5|6|8|"),
+];
+
 /// What finds least costs is out of memory wherever one of its lists cannot grow.
 #[test]
 fn refused_costs_are_no_other_costs(rt: HostRuntime) -> Result<(), Fail> {
-    for &(call, refusals, expected) in &[
-        (OnCosts::New, 4, "9"),
-        (OnCosts::Table, 8, "0|0|0|2|3|3|4|5|6|7|"),
-        (OnCosts::Queue, 6, "0|0|0|1|2|3|4|5|6|8|"),
-    ] {
+    for &(call, refusals, expected) in ON_COSTS {
         assert_refused(&rt, call, refusals, expected)?;
     }
     Ok(())
@@ -269,6 +288,8 @@ enum OnText {
     /// The same without indents, which allocates nothing but the list of lines.
     WrapDirectly,
     WrapByOptimalFit,
+    /// The same at points of a caller, the one way that could overflow.
+    WrapAtPoints,
     WrapShort,
     /// To a list that holds a line.
     Append { slowly: bool },
@@ -296,6 +317,11 @@ impl Call for OnText {
                 joined(alloc, &wrap(heap, "foo bar\né foo\nfoobarbaz", options)?)?
             }
             OnText::WrapByOptimalFit => joined(alloc, &wrap(heap, TEXT, options)?)?,
+            OnText::WrapAtPoints => {
+                let points = WordCuts::new(alloc, split_in_middle);
+                let options = options.width(7).word_splitter(WordSplitter::Custom(points));
+                joined(alloc, &wrap(heap, "one foobar\nfo-bar foobar", options)?)?
+            }
             OnText::WrapShort => joined(alloc, &wrap(heap, "foo", Options::new(10))?)?,
             OnText::Append { slowly } => appended(rt, heap, slowly)?,
         })
@@ -341,26 +367,59 @@ fn appended<R: Abort + AllocGlobal>(
     Ok(texts)
 }
 
+const ON_TEXTS: &[(OnText, usize, &str)] = &[
+    (
+        OnText::WrapByFirstFit,
+        16,
+        "* To be,|  or not|  to be:|  that is|  the|  question|  Hamlet|",
+    ),
+    (OnText::WrapDirectly, 2, "foo|bar|é foo|fooba|rbaz|"),
+    (
+        OnText::WrapByOptimalFit,
+        27,
+        "* To be,|  or not|  to be:|  that|  is the|  question|  Hamlet|",
+    ),
+    (
+        OnText::WrapAtPoints,
+        35,
+        "* one|  foo-|  bar|  fo-|  bar|  foo-|  bar|",
+    ),
+    (OnText::WrapShort, 1, "foo|"),
+    (OnText::Append { slowly: false }, 22, APPENDED),
+    (OnText::Append { slowly: true }, 29, APPENDED),
+];
+
 /// What gives lines is out of memory wherever one of its lists or texts cannot grow.
 #[test]
 fn refused_lines_are_no_other_lines(rt: HostRuntime) -> Result<(), Fail> {
-    for &(call, refusals, expected) in &[
-        (
-            OnText::WrapByFirstFit,
-            16,
-            "* To be,|  or not|  to be:|  that is|  the|  question|  Hamlet|",
-        ),
-        (OnText::WrapDirectly, 2, "foo|bar|é foo|fooba|rbaz|"),
-        (
-            OnText::WrapByOptimalFit,
-            27,
-            "* To be,|  or not|  to be:|  that|  is the|  question|  Hamlet|",
-        ),
-        (OnText::WrapShort, 1, "foo|"),
-        (OnText::Append { slowly: false }, 22, APPENDED),
-        (OnText::Append { slowly: true }, 29, APPENDED),
-    ] {
+    for &(call, refusals, expected) in ON_TEXTS {
         assert_refused(&rt, call, refusals, expected)?;
+    }
+    Ok(())
+}
+
+/// Appended lines lie in the allocator that is passed, and the list stays in its own: it can grow no
+/// more where that refuses.
+#[test]
+fn a_lent_list_keeps_its_allocator(rt: HostRuntime) -> Result<(), Fail> {
+    let options = Options::new(10)
+        .initial_indent("* ")
+        .subsequent_indent("  ");
+    for slowly in [false, true] {
+        let of_lines = Heap::new(rt.alloc(), 100);
+        let of_list = Heap::new(rt.alloc(), 1);
+        let mut lines = Vec::new(&of_list);
+        if slowly {
+            wrap_single_line_slow_path(&of_lines, TEXT, &options, &mut lines)?;
+        } else {
+            wrap_single_line(&of_lines, TEXT, &options, &mut lines)?;
+        }
+        assert_eq!(rt; of_list.left(), 0);
+        assert!(rt; of_lines.left() < 100_usize.saturating_sub(lines.len()));
+        for _ in 0..lines.capacity().saturating_sub(lines.len()) {
+            lines.push(CowStr::Borrowed("x"))?;
+        }
+        assert!(rt; lines.push(CowStr::Borrowed("x")).is_err());
     }
     Ok(())
 }
@@ -402,20 +461,22 @@ impl Call for OnFilling {
     }
 }
 
+const ON_FILLING: &[(OnFilling, usize, &str)] = &[
+    (OnFilling::Fill, 13, FILLED),
+    (OnFilling::Short, 1, "foo"),
+    (OnFilling::Directly, 2, "foo\nbar\né foo\nfooba\nrbaz"),
+    (
+        OnFilling::DirectlyByLeastCost,
+        14,
+        "foo\nbar\né foo\nfooba\nrbaz",
+    ),
+    (OnFilling::Slowly, 41, FILLED),
+];
+
 /// What fills is out of memory wherever one of its lists or texts cannot grow.
 #[test]
 fn a_refused_text_is_no_other_text(rt: HostRuntime) -> Result<(), Fail> {
-    for &(call, refusals, expected) in &[
-        (OnFilling::Fill, 13, FILLED),
-        (OnFilling::Short, 1, "foo"),
-        (OnFilling::Directly, 2, "foo\nbar\né foo\nfooba\nrbaz"),
-        (
-            OnFilling::DirectlyByLeastCost,
-            15,
-            "foo\nbar\né foo\nfooba\nrbaz",
-        ),
-        (OnFilling::Slowly, 31, FILLED),
-    ] {
+    for &(call, refusals, expected) in ON_FILLING {
         assert_refused(&rt, call, refusals, expected)?;
     }
     Ok(())
@@ -438,41 +499,48 @@ impl Call for OnLayout {
             .initial_indent("* ")
             .subsequent_indent("  ");
         Ok(match self {
-            OnLayout::Indent => String::from_str(alloc, &indent(heap, "foo\n\nbar\n", "    ")?)?,
-            OnLayout::Dedent => String::from_str(
-                alloc,
-                &dedent(heap, "  foo\n    bar\n\n   baz\n")?,
-            )?,
-            OnLayout::Unfill => String::from_str(alloc, &unfill(heap, "* foo\n  bar\n  baz\n")?.0)?,
-            OnLayout::Refill => String::from_str(alloc, &refill(heap, "* foo\n  bar\n", options)?)?,
-            OnLayout::Columns => {
-                let rows = wrap_columns(heap, TEXT, 2, Options::new(24), "|", "|", "|")?;
-                let mut texts = String::new(alloc);
-                for row in &rows {
-                    texts.push_str(row)?;
-                    texts.push('\n')?;
-                }
-                texts
-            }
+            OnLayout::Indent => copied(alloc, &indent(heap, "foo\n\nbar\n", "    ")?)?,
+            OnLayout::Dedent => copied(alloc, &dedent(heap, "  foo\n    bar\n\n   baz\n")?)?,
+            OnLayout::Unfill => copied(alloc, &unfill(heap, "* foo\n  bar\n  baz\n")?.0)?,
+            OnLayout::Refill => copied(alloc, &refill(heap, "* foo\n  bar\n", options)?)?,
+            OnLayout::Columns => rows_of(alloc, heap)?,
         })
     }
 }
+
+/// The text, which lies in another heap.
+fn copied(alloc: Global, text: &str) -> Result<String, AllocError> {
+    String::from_str(alloc, text)
+}
+
+/// The rows of the text in two columns.
+fn rows_of(alloc: Global, heap: &Heap) -> Result<String, WrapError> {
+    let rows = wrap_columns(heap, TEXT, 2, Options::new(24), "|", "|", "|")?;
+    let mut texts = String::new(alloc);
+    for row in &rows {
+        texts.push_str(row)?;
+        texts.push('\n')?;
+    }
+    Ok(texts)
+}
+
+const ON_LAYOUT: &[(OnLayout, usize, &str)] = &[
+    (OnLayout::Indent, 2, "    foo\n\n    bar\n"),
+    (OnLayout::Dedent, 1, "foo\n  bar\n\n baz\n"),
+    (OnLayout::Unfill, 1, "foo bar baz\n"),
+    (OnLayout::Refill, 7, "* foo bar\n"),
+    (
+        OnLayout::Columns,
+        13,
+        "|To be,    |is the     |\n|or not to |question   |\n|be: that  |Hamlet     |\n",
+    ),
+];
 
 /// What indents, refills or makes columns is out of memory wherever one of its lists or texts
 /// cannot grow.
 #[test]
 fn a_refused_layout_is_no_other_layout(rt: HostRuntime) -> Result<(), Fail> {
-    for &(call, refusals, expected) in &[
-        (OnLayout::Indent, 3, "    foo\n\n    bar\n"),
-        (OnLayout::Dedent, 2, "foo\n  bar\n\n baz\n"),
-        (OnLayout::Unfill, 2, "foo bar baz\n"),
-        (OnLayout::Refill, 7, "* foo bar\n"),
-        (
-            OnLayout::Columns,
-            13,
-            "|To be,    |is the     |\n|or not to |question   |\n|be: that  |Hamlet     |\n",
-        ),
-    ] {
+    for &(call, refusals, expected) in ON_LAYOUT {
         assert_refused(&rt, call, refusals, expected)?;
     }
     Ok(())

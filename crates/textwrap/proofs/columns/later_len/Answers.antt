@@ -1,5 +1,5 @@
 use Rattle.textwrap.proofs.columns.later_len.Goals as goal
-use Rattle.textwrap_base.proofs.Common.{◌≡◌, ◌+◌, ◌∙◌, arith, map, sym, length}
+use Rattle.textwrap_base.proofs.Common.{◌≡◌, ◌+◌, ◌∙◌, arith, map, sym, length, rules}
 use Rattle.textwrap_lines.proofs.Common.{line_view, line_bytes}
 use Rattle.textwrap.proofs.Common.{layout_view, padded, cell}
 use Rattle.textwrap.proofs.Text.Cells.{cell_is}
@@ -23,20 +23,8 @@ loop-later-preserved g c =
     let layout = layout_view c.args.table.now in
     let lines = map line_bytes (map line_view c.args.lines.now) in
     let so_far = c.loop-later.invariant in
-    let bytes = padded_bytes g (goal.at.loop-later-preserved g c).After-as_str in (
-      omega (
-        arith,
-        so_far.0,
-        c.in_ok-cell_len.ensures,
-        c.in_ok-checked_add.ensures,
-        c.in_ok-len.ensures,
-        bytes,
-        length-gapped-more layout lines c.args.step c.args.first c.loop-later.later,
-      ),
-      omega (arith, so_far.1),
-      omega arith,
-      omega (arith, c.loop-later-test.true),
-    )
+    let bytes = padded_bytes g (goal.at.loop-later-preserved g c).After-as_str in
+    search (rules, arith, length-gapped-more)
 
 pub returns-in_err-cell_len-clause-none : goal.returns-in_err-cell_len-clause-none
 returns-in_err-cell_len-clause-none g c =
@@ -66,10 +54,4 @@ returns-in_err-len-clause-none g c =
     IfNone-always c.from_residual-in_err-len.result _
     (gapped-past layout lines c.args.step c.args.first c.loop-later.later c.loop-later.len _ so_far.0
     (omega (arith, c.loop-later-test.true))
-    (omega (
-      arith,
-      bytes,
-      c.in_ok-cell_len.ensures,
-      c.in_ok-checked_add.ensures,
-    ))
-    c.in_err-len.ensures)
+    (search (rules, arith)) c.in_err-len.ensures)

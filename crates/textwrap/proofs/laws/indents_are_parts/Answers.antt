@@ -2,6 +2,7 @@ use Rattle.textwrap.proofs.laws.indents_are_parts.Goals as goal
 use Rattle.textwrap.proofs.Text.EndedParts.{ended_parts_one}
 use Rattle.textwrap.proofs.Text.Indentation.{ended_parts-indented, indented-whole, indents-removed}
 use Rattle.textwrap.proofs.Text.Indentation.{text-removed}
+use Rattle.textwrap.proofs.Text.IndentsBack.{indents-back}
 
 pub returns : goal.returns
 returns c = record {
@@ -10,4 +11,5 @@ returns c = record {
   whole = indented-whole;
   come_off = λ prefix text free whole.
       (indents-removed prefix text free whole, text-removed prefix text free whole);
+  come_back = λ prefix text utf8. indents-back prefix utf8 text;
 }

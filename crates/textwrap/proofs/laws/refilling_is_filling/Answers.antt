@@ -1,13 +1,11 @@
 use Rattle.textwrap.proofs.laws.refilling_is_filling.Goals as goal
 use Rattle.textwrap_lines.proofs.Common.{DividesAs}
-use Rattle.textwrap.proofs.Text.PlainFilled.{filled-plain}
-use Rattle.textwrap.proofs.Text.Refilling.{refilled-filled, refilled-twice}
+use Rattle.textwrap.proofs.Text.Refilling.{refilled-filled, filled-is_plain, refilled-twice}
 
 pub returns : goal.returns
 returns c = record {
   refilled = λ settings splitter algorithm.
       refilled-filled (DividesAs splitter algorithm) settings;
-  plain = filled-plain;
-  twice = λ width first second settings splitter.
-      refilled-twice (DividesAs splitter second) width first settings;
+  plain = filled-is_plain;
+  twice = refilled-twice;
 }

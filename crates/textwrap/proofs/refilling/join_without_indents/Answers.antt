@@ -6,8 +6,8 @@ use Rattle.textwrap.proofs.Common.{detected_among}
 use Rattle.textwrap.specs.Refilling.{ended_line_view}
 use Rattle.textwrap.proofs.Text.Unfilling.{lines-begin, joined_text-some, detected_among-two}
 
-pub without_indent-requires : goal.without_indent-requires
-without_indent-requires g c =
+pub without_indent-first-requires : goal.without_indent-first-requires
+without_indent-first-requires g c =
     subst (StartsWith c.in-Some.first.now) (sym c.requires.initial)
     (lines-begin c.args.text.now (ended_line_view (c.in-Some.first, c.in-Some.ending))
     c.next.new.self c.in-Some.ensures.steps).0
@@ -18,10 +18,10 @@ loop-line-init g c =
     let first = ended_line_view (c.in-Some.first, c.in-Some.ending) in
     let steps = c.in-Some.ensures.steps in
     let left = c.into_iter-line-iterator.ensures.into_iter_gives in
-    let piece = c.without_indent.result.now in
+    let piece = c.without_indent-first.result.now in
     let pushed : string_bytes c.push_str.new.self ≡ drop (length c.args.initial_indent.now)
     c.in-Some.first.now = c.in_ok-push_str.ensures.bytes
-    ∙ ap (λ l. l ++ piece) c.new-joined.ensures.bytes ∙ c.without_indent.ensures in
+    ∙ ap (λ l. l ++ piece) c.in_ok-joined.ensures.bytes ∙ c.without_indent-first.ensures in
     record {
       joined = rw (pushed, left) (joined_text-some text c.args.initial_indent.now
           c.args.subsequent_indent.now first c.next.new.self c.requires.initial
@@ -32,8 +32,8 @@ loop-line-init g c =
           ∙ ap (λ es. detected_among (map (λ e. e.ending) es)) (sym steps);
     }
 
-pub without_indent-requires-in-loop-line : goal.without_indent-requires-in-loop-line
-without_indent-requires-in-loop-line g c =
+pub without_indent-requires : goal.without_indent-requires
+without_indent-requires g c =
     let line = ended_line_view (c.in-Some-2.line, c.in-Some-2.ending) in
     All-head (λ e. StartsWith e.line c.args.subsequent_indent.now) line
     c.next-in-loop-line.new.self
@@ -49,7 +49,7 @@ loop-line-preserved g c =
     let piece = drop n c.in-Some-2.line.now in
     let pushed : string_bytes c.push_str-in-loop-line-2.new.self ≡ before ++ blank ∷ piece =
     c.in_ok-push_str-3.ensures.bytes
-    ∙ rw (c.in_ok-push_str-2.ensures.bytes, c.without_indent-in-loop-line.ensures, append_assoc) in
+    ∙ rw (c.in_ok-push_str-2.ensures.bytes, c.without_indent.ensures, append_assoc) in
     record {
       joined = rw (pushed, append_assoc) (rw steps at c.loop-line.invariant.joined);
       begins = All-tail (λ e. StartsWith e.line c.args.subsequent_indent.now) line left

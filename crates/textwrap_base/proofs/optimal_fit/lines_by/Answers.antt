@@ -1,14 +1,10 @@
 use Rattle.textwrap_base.proofs.optimal_fit.lines_by.Goals as goal
-use Rattle.textwrap_base.proofs.Common.{arith, Bor, sym, ◌∙◌, ap, subst, ◌≡◌, ◌≢◌, [], All, List}
-use Rattle.textwrap_base.proofs.Common.{reverse, map, length, drop, FollowStarts, IsDivision}
+use Rattle.textwrap_base.proofs.Common.{arith, Bor, sym, ◌∙◌, ap, ◌≡◌, List}
+use Rattle.textwrap_base.proofs.Common.{reverse, map, length, drop}
 use Rattle.textwrap_base.specs.declared.minima.Minimum.{Minimum}
 use Rattle.textwrap_base.proofs.Cost.Lines.{joined, joined_division, lines_more}
 use Rattle.textwrap_base.proofs.Lists.Maps.{reverse_map_push, reverse-map}
 use Rattle.textwrap_base.proofs.Numbers.{some_from_test}
-
-pub line_start-start-requires-clause-before : goal.line_start-start-requires-clause-before
-line_start-start-requires-clause-before g c = c.requires.later c.loop-end.end (omega arith)
-    (omega arith)
 
 pub loop-end-preserved : goal.loop-end-preserved
 loop-end-preserved g c =
@@ -24,11 +20,8 @@ loop-end-preserved g c =
     record {
       within = omega arith;
       tiles = ap joined shape ∙ more.0;
-      nonempty = subst (λ (lines : List (List g.row.T.Denot)). All (λ line. line ≢ []) lines)
-          (sym shape) more.1;
-      follow = subst (λ (lines : List (List g.row.T.Denot)). FollowStarts
-          (map (λ (m : Minimum). m.start) c.args.minima.now) c.line_start-start.result lines)
-          (sym shape) more.2;
+      nonempty = rw shape more.1;
+      follow = rw shape more.2;
     }
 
 pub returns-clause-division : goal.returns-clause-division
@@ -39,7 +32,7 @@ returns-clause-division g c =
     let some = some_from_test (length c.args.fragments.now) (sym c.is_empty.ensures
     ∙ c.if-is_empty.false) in
     let tiles = c.loop-end.invariant.tiles ∙ ap (λ n. drop n c.args.fragments.now) start in
-    subst (λ (lines : List (List g.row.T.Denot)). IsDivision c.args.fragments.now lines) (sym shape)
+    rw shape
     (joined_division c.args.fragments.now
     (reverse (map (λ line. line.now) c.loop-end.lines.items)) some tiles
     c.loop-end.invariant.nonempty)
@@ -49,8 +42,4 @@ returns-clause-follow g c =
     let shape = ap (map (λ (line : Bor (List g.row.T.Denot)). line.now)) c.reverse.ensures.items
     ∙ reverse-map (λ (line : Bor (List g.row.T.Denot)). line.now) c.loop-end.lines.items in
     let start : c.loop-end.end ≡ 0 = omega arith in
-    subst (λ (lines : List (List g.row.T.Denot)). FollowStarts
-    (map (λ (m : Minimum). m.start) c.args.minima.now) 0 lines) (sym shape)
-    (subst (λ n. FollowStarts (map (λ (m : Minimum). m.start) c.args.minima.now) n
-    (reverse (map (λ line. line.now) c.loop-end.lines.items))) start
-    c.loop-end.invariant.follow)
+    rw shape (rw start at c.loop-end.invariant.follow)

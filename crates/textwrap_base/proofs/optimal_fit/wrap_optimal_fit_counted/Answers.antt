@@ -1,7 +1,7 @@
 use Rattle.textwrap_base.proofs.optimal_fit.wrap_optimal_fit_counted.Goals as goal
-use Rattle.textwrap_base.proofs.Common.{Vec, Bor, List, map, ◌∙◌, length, priced_by, line_costs}
+use Rattle.textwrap_base.proofs.Common.{Vec, Bor, List, map, ◌∙◌}
 use Rattle.textwrap_base.specs.declared.minima.Minimum.{Minimum}
-use Rattle.textwrap_base.proofs.Cost.Results.{optimal-returned, optimal-refused}
+use Rattle.textwrap_base.proofs.Cost.Results.{optimal-returned, optimal-refused, results-same}
 use Rattle.textwrap_base.proofs.Cost.Reported.{starts_reported, length_reported, first_reported}
 use Rattle.textwrap_base.proofs.Cost.Reported.{later_reported}
 
@@ -36,13 +36,7 @@ returns-in_err-minima-clause-fit g c =
     c.from_residual.ensures.1 c.in_err-minima.ensures.overflow_only c.in_err-minima.ensures.too_wide
     c.in_err-minima.ensures.no_overflow
 
-pub returns-clause-steps : goal.returns-clause-steps
-returns-clause-steps g c =
-    λ table. let found = c.in_ok-minima.ensures.steps table in record {
-      ok = found.ok;
-      exact = found.exact;
-      most = found.most;
-      least = found.least;
-      too_wide = found.too_wide;
-      overflow = λ fits overflowed. absurd overflowed;
-    }
+pub returns-clause-same : goal.returns-clause-same
+returns-clause-same g c =
+    results-same _ _ _ _ (λ (lines : Vec (Bor (List g.row.T.Denot)) g.row.A.Denot).
+    map (λ (line : Bor (List g.row.T.Denot)). line.now) lines.items) _ (returns-clause-fit g c)

@@ -1,20 +1,20 @@
 use Rattle.textwrap_lines.proofs.cheapest.cheapest_lines.Goals as goal
-use Rattle.textwrap_base.proofs.Common.{[], ◌∷◌, length, map, ◌∙◌, subst, line_costs, FollowStarts}
-use Rattle.textwrap_lines.proofs.Common.{span_priced}
-use Rattle.textwrap_base.proofs.Cost.Reported.{starts_reported, length_reported, later_reported}
+use Rattle.textwrap_base.proofs.Common.{map, ◌∙◌, subst, FollowStarts}
+use Rattle.textwrap_base.proofs.Cost.Reported.{starts_reported, length_reported, first_reported}
+use Rattle.textwrap_base.proofs.Cost.Reported.{later_reported}
 use Rattle.textwrap_base.proofs.Numbers.{both}
 
 pub lines_by-requires-clause-len : goal.lines_by-requires-clause-len
 lines_by-requires-clause-len g c =
-    length_reported (line_costs span_priced c.args.penalties.now (c.args.line_widths.0 ∷ c.args.line_widths.1 ∷ [])
-    c.args.spans.now) (length c.args.spans.now) c.deref.result.now
-    (c.deref.ensures.value ∙ c.in_ok-minima.ensures.minima)
+    length_reported _ _ _ (c.deref.ensures.value ∙ c.in_ok-minima.ensures.minima)
+
+pub lines_by-requires-clause-first : goal.lines_by-requires-clause-first
+lines_by-requires-clause-first g c =
+    first_reported _ _ _ (c.deref.ensures.value ∙ c.in_ok-minima.ensures.minima)
 
 pub lines_by-requires-clause-later : goal.lines_by-requires-clause-later
 lines_by-requires-clause-later g c =
-    later_reported (line_costs span_priced c.args.penalties.now (c.args.line_widths.0 ∷ c.args.line_widths.1 ∷ [])
-    c.args.spans.now) (length c.args.spans.now) c.deref.result.now
-    (c.deref.ensures.value ∙ c.in_ok-minima.ensures.minima)
+    later_reported _ _ _ (c.deref.ensures.value ∙ c.in_ok-minima.ensures.minima)
 
 pub returns : goal.returns
 returns g c =
@@ -22,7 +22,5 @@ returns g c =
     (λ lines division follow. record {
       division = division;
       starts = subst (λ starts. FollowStarts starts 0 (map (λ line. line.now) lines.items))
-          (starts_reported (line_costs span_priced c.args.penalties.now (c.args.line_widths.0 ∷ c.args.line_widths.1 ∷ [])
-          c.args.spans.now) (length c.args.spans.now) c.deref.result.now
-          (c.deref.ensures.value ∙ c.in_ok-minima.ensures.minima)) follow;
+          (starts_reported _ _ _ (c.deref.ensures.value ∙ c.in_ok-minima.ensures.minima)) follow;
     }) c.lines_by.ensures.division c.lines_by.ensures.follow

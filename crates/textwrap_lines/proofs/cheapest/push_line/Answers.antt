@@ -1,18 +1,18 @@
 use Rattle.textwrap_lines.proofs.cheapest.push_line.Goals as goal
 use Rattle.textwrap_base.proofs.Common.{◌≡◌, [], ◌∷◌, cond, slice_range, refl, ap, ◌∙◌, subst}
 use Rattle.textwrap_base.proofs.Common.{arith, on_ok_weaker}
-use Rattle.textwrap_lines.proofs.Common.{Took, settings_view, assembled_line, indent_of}
+use Rattle.textwrap_lines.proofs.Common.{Took, settings_view, assembled_line, cut_line, indent_of}
 use Rattle.textwrap_lines.proofs.cheapest.push_line.Goals.{then-options, else-options}
 
-pub range-requires-clause-start_le_end : goal.range-requires-clause-start_le_end
-range-requires-clause-start_le_end g c =
+pub range-slice-requires-clause-start_le_end : goal.range-slice-requires-clause-start_le_end
+range-slice-requires-clause-start_le_end g c =
     elim c.if-options.branch [
       | then-options w ↦ omega (arith, w.end-is, c.requires.some, c.requires.order)
       | else-options w ↦ omega (arith, w.end-is, c.requires.some)
     ]
 
-pub range-requires-clause-end_boundary : goal.range-requires-clause-end_boundary
-range-requires-clause-end_boundary g c =
+pub range-slice-requires-clause-end_boundary : goal.range-slice-requires-clause-end_boundary
+range-slice-requires-clause-end_boundary g c =
     elim c.if-options.branch [
       | then-options w ↦ rw w.end-is c.requires.end
       | else-options w ↦ rw w.end-is c.requires.word
@@ -28,8 +28,8 @@ returns g c =
       | else-options w ↦ rw (w.end-is, w.if-options.false) refl
     ] in
     on_ok_weaker c.push_line.result (λ took.
-    subst (λ l. Took c.args.lines.now c.push_line.new.self (l ∷ []))
-    (ap (λ i. assembled_line i c.range.result.now []) c.next_indent.ensures
+    subst (λ l. Took c.args.lines.now c.push_line.new.self (cut_line c.args.start l ∷ []))
+    (ap (λ i. assembled_line i c.range-slice.result.now []) c.next_indent.ensures
     ∙ ap (λ t. assembled_line (indent_of (settings_view c.args.options.now) c.args.is_later) t [])
-    (c.range.ensures.value ∙ ap (slice_range c.args.paragraph.now c.args.start) end)) took)
+    (c.range-slice.ensures.value ∙ ap (slice_range c.args.paragraph.now c.args.start) end)) took)
     c.push_line.ensures

@@ -1,14 +1,14 @@
 use Rattle.textwrap_lines.proofs.cheapest.push_lines.Given as goal
 use Rattle.textwrap_base.proofs.Common.{drop, map}
 use Rattle.textwrap_lines.proofs.Common.{settings_view, HaveTexts, span_lines}
-use Rattle.textwrap_lines.proofs.Standing.Lines.{HasLinesBut}
+use Rattle.textwrap_lines.proofs.Text.Sinks.{HasTaken}
 
 -- the lines so far were taken, and the others are found in the rest of the text
 abbrev pub invariant-loop-line : goal.invariant-loop-line
 invariant-loop-line g l = record {
-  taken : HasLinesBut (settings_view l.options) l.paragraph
-      (span_lines (settings_view l.options) l.paragraph l.is_later 0
-      (map (λ line. line.now) l.division)) l.initial.lines l.lines l.has_line l.start
-      (map (λ line. line.now) (drop l.line-index l.division));
+  taken : HasTaken (span_lines (settings_view l.options) l.paragraph l.is_later 0
+      (map (λ line. line.now) l.division)) l.initial.lines l.lines
+      (span_lines (settings_view l.options) l.paragraph l.has_line l.start
+      (map (λ line. line.now) (drop l.line-index l.division)));
   texts : HaveTexts l.paragraph l.start (map (λ line. line.now) (drop l.line-index l.division));
 }

@@ -1,18 +1,18 @@
 use Rattle.textwrap_lines.proofs.filling.fill.Goals as goal
 use Rattle.textwrap_base.proofs.Common.{◌∙◌}
+use Rattle.textwrap_lines.proofs.Common.{lines_of}
 use Rattle.textwrap_lines.proofs.Paragraph.BuiltIn.{filled-as}
-use Rattle.textwrap_lines.proofs.Text.Sinks.{kind-joined}
 
 pub into_text-requires : goal.into_text-requires
 into_text-requires g c =
     let (taken, are, holds, kind) = c.in_ok-push_text.ensures.lines in
-    kind-joined c.args.options.line_ending (kind ∙ c.joined-lines.ensures.kind)
+    (c.args.options.line_ending, kind ∙ c.joined-lines.ensures.kind)
 
 pub returns-clause-filled : goal.returns-clause-filled
 returns-clause-filled g c =
     let (taken, are, holds, kind) = c.in_ok-push_text.ensures.lines in (
-      taken,
-      are,
+      lines_of taken,
+      are.are,
       c.into_text.ensures taken c.args.options.line_ending holds
           (kind ∙ c.joined-lines.ensures.kind),
     )

@@ -47,8 +47,8 @@ returns-clause-pieces g c =
     let all = given-copied more.0 c.in_ok-split.split.items more.1 given more.3 in
     let pieces = broken_words (later_width settings) split in
     let broken : map word_view c.in_ok-broken.broken.items ≡ pieces =
-    more.4 ∙ ap (λ ws. broken_words c.line_widths-width.result.1 (map word_view ws)) all
-    ∙ ap (λ n. broken_words n split) c.line_widths-width.ensures.later in
+    more.4 ∙ ap (λ ws. broken_words c.later_width-width.result (map word_view ws)) all
+    ∙ ap (λ n. broken_words n split) c.later_width-width.ensures in
     let whole : map word_view c.if-not-is_empty.broken.items ≡ front_pieces settings ++ pieces =
     elim c.if-not-is_empty.branch [
       | then-not-is_empty+in_ok-insert w ↦

@@ -2,13 +2,13 @@ use Rattle.textwrap_lines.proofs.wrapping.push_divided.Goals as goal
 use Rattle.textwrap_base.proofs.Common.{List, Vec, Bor, ◌≡◌, ◌++◌, map, ap, ◌∙◌, sym, subst, arith}
 use Rattle.textwrap_base.proofs.Common.{StartsWith, flat_map, starts_with_of_append, map-append}
 use Rattle.textwrap_words.proofs.Common.{word_view, tiled, Tiles, MaySeparate, MaySplit}
-use Rattle.textwrap_lines.proofs.Common.{Took, settings_view, ArePieces, line_from, parts_from}
+use Rattle.textwrap_lines.proofs.Common.{Took, cut_lines, settings_view, ArePieces, parts_from}
 use Rattle.textwrap_lines.proofs.Common.{widths_of, Word}
 use Rattle.textwrap_words.proofs.Word.Divisions.{MayDivide-begins}
 use Rattle.textwrap_base.proofs.Lists.Parts.{flat}
 use Rattle.textwrap_words.proofs.Word.Tiling.{tiled-append}
 use Rattle.textwrap_lines.proofs.Paragraph.Lines.{tiled-lines, AreDividedParts-from}
-use Rattle.textwrap_lines.proofs.Paragraph.Overflow.{only-memory}
+use Rattle.textwrap_lines.proofs.Paragraph.Overflow.{only-memory, only-fitting}
 use Rattle.textwrap_lines.proofs.Text.Directly.{passed-on}
 
 pub push_lines-requires : goal.push_lines-requires
@@ -44,6 +44,18 @@ returns-in_err-division-clause-only_memory g c = λ never.
     (subst (λ ws. Tiles ws c.args.paragraph.now) texts c.in_ok-pieces.ensures.tiles)
     c.in_err-division.ensures.overflow_only c.in_err-division.ensures.no_overflow never)
 
+pub returns-in_err-division-clause-no_overflow : goal.returns-in_err-division-clause-no_overflow
+returns-in_err-division-clause-no_overflow g c = λ never.
+    let options = c.args.options.now in
+    passed-on c.from_residual-in_err-division.result c.in_err-division.field-0.0
+    c.from_residual-in_err-division.ensures.1
+    (only-fitting options (Vec (Bor (List Word)) g.row.A.Denot) c.args.paragraph.now
+    c.deref.result.now c.in_err-division.field-0.0
+    (subst (ArePieces (settings_view options) (MaySeparate options.word_separator)
+    (MaySplit options.word_splitter) c.args.paragraph.now)
+    (sym (ap (map word_view) c.deref.ensures.value)) c.in_ok-pieces.ensures.pieces)
+    c.in_err-division.ensures.no_overflow never)
+
 pub returns-clause-taken : goal.returns-clause-taken
 returns-clause-taken g c =
     let options = c.args.options.now in
@@ -57,7 +69,7 @@ returns-clause-taken g c =
     c.in_ok-division.ensures.divided in (
       division,
       divides,
-      subst (λ parts. Took c.args.lines.now c.push_lines.new.lines (map line_from parts))
+      subst (λ parts. Took c.args.lines.now c.push_lines.new.lines (cut_lines 0 parts))
           (ap (λ ls. parts_from settings c.args.is_later (map (λ line. map word_view line.now) ls))
           c.deref-2.ensures.value ∙ is) c.in_ok-push_lines.ensures,
     )

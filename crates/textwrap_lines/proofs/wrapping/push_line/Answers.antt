@@ -1,7 +1,7 @@
 use Rattle.textwrap_lines.proofs.wrapping.push_line.Goals as goal
 use Rattle.textwrap_base.proofs.Common.{◌≡◌, ◌&&◌, ◌==◌, length, [], ◌∷◌, ◌∙◌, ap, sym, subst}
 use Rattle.textwrap_words.proofs.Common.{word_view}
-use Rattle.textwrap_lines.proofs.Common.{Took, settings_view, keeps_whitespace}
+use Rattle.textwrap_lines.proofs.Common.{Took, cut_line, settings_view, keeps_whitespace}
 use Rattle.textwrap_lines.proofs.Paragraph.EndingLine.{line_from-parts_of}
 use Rattle.textwrap_lines.proofs.wrapping.push_line.Goals.{then-options, else-options}
 
@@ -15,9 +15,9 @@ returns-clause-line g c =
       | else-options w ↦ w.keeps_whitespace-is ∙ w.if-options.false
           ∙ sym (ap (λ b. b && (length c.in-Some.last.now.penalty.now == 0)) w.if-options.false)
     ] in
-    subst (λ line. Took c.args.lines.now c.push_line.new.self (line ∷ []))
+    subst (λ line. Took c.args.lines.now c.push_line-2.new.self (cut_line c.args.start line ∷ []))
     (line_from-parts_of (settings_view c.args.options.now) c.args.is_later c.args.pieces.now
     c.in-Some.front.now c.in-Some.last.now c.next_indent-indent.result.now
     c.cut_line.result.0.now c.if-options.keeps_whitespace
     c.in-Some.ensures.cases.0 c.next_indent-indent.ensures keeps c.cut_line.ensures.slice)
-    c.in_ok-push_line.ensures
+    c.in_ok-push_line-2.ensures

@@ -1,35 +1,75 @@
 use Rattle.textwrap_lines.proofs.wrapping.push_lines.Goals as goal
-use Rattle.textwrap_base.proofs.Common.{◌+◌, true, cond, drop, subst, sym, map, rules, ap, arith}
-use Rattle.textwrap_base.proofs.Common.{refl, StartsWith, flat_map, lt-ltb, drop_more}
-use Rattle.textwrap_words.proofs.Common.{word_view, tiled}
-use Rattle.textwrap_lines.proofs.Common.{settings_view}
+use Rattle.textwrap_base.proofs.Common.{◌≡◌, ℕ, ◌+◌, ◌-◌, ◌≤◌, List, Bor, drop, length, map, rules, subst, sym}
+use Rattle.textwrap_base.proofs.Common.{ap, arith, ◌∙◌, StartsWith, flat_map, drop_all, drop_more}
+use Rattle.textwrap_base.proofs.Common.{length-drop, length-take}
+use Rattle.textwrap_words.proofs.Common.{word_view, tiled, WordText}
+use Rattle.textwrap_lines.proofs.Common.{cut_lines, parts_from, settings_view, Word}
 use Rattle.textwrap_base.proofs.Lists.Prefixes.{starts-parts}
-use Rattle.textwrap_lines.proofs.Text.Sinks.{Took-none, Took-line}
+use Rattle.textwrap_lines.proofs.Text.Cuts.{cut_lines-next}
+use Rattle.textwrap_lines.proofs.Text.Sinks.{HasTaken, HasTaken-end, HasTaken-next, HasTaken-start}
 
 pub loop-pieces-init : goal.loop-pieces-init
-loop-pieces-init g c = (c.utf8.paragraph, c.requires, refl, Took-none c.args.lines.now)
+loop-pieces-init g c =
+    let none : length c.args.paragraph.now - length c.args.paragraph.now ≡ 0 = omega arith in
+    let all = parts_from (settings_view c.args.options.now) c.args.is_later
+    (map (λ line. map word_view line.now) c.args.division.now) in (
+      c.utf8.paragraph,
+      c.requires,
+      omega arith,
+      subst (λ n. HasTaken (cut_lines 0 all) c.args.lines.now c.args.lines.now (cut_lines n all))
+          (sym none) (HasTaken-start (cut_lines 0 all) c.args.lines.now),
+    )
 
-pub push_line-requires : goal.push_line-requires
-push_line-requires g c =
+pub push_line-requires-clause-begins : goal.push_line-requires-clause-begins
+push_line-requires-clause-begins g c =
     (starts-parts c.loop-pieces.rest.now _ _ (subst (StartsWith c.loop-pieces.rest.now)
     (ap (flat_map (λ line. tiled (map word_view line.now)))
     (drop_more c.args.division.now c.loop-pieces.pieces-index _ c.loop-pieces-test.true))
     c.loop-pieces.invariant.1)).0
 
+-- where the next line begins, after those of the paragraph that stand before it
+next-start : (paragraph rest after here : List ℕ) → StartsWith rest here
+    → length rest ≤ length paragraph → after ≡ drop (length here) rest
+    → (length after ≤ length paragraph)
+    × (length paragraph - length after ≡ length paragraph - length rest + length here)
+next-start paragraph rest after here begins within is =
+    let len = ap length is ∙ length-drop (length here) rest in
+    let taken = sym (length-take (length here) rest) ∙ ap length begins in
+    (omega (arith, len, within), omega (arith, len, within, taken))
+
 pub loop-pieces-preserved : goal.loop-pieces-preserved
-loop-pieces-preserved g c = (
-  search rules,
-  subst (λ after. StartsWith after (flat_map (λ line. tiled (map word_view line.now))
-      (drop (c.loop-pieces.pieces-index + 1) c.args.division.now)))
-      (sym c.in_ok-rest.ensures.rest)
-      (starts-parts c.loop-pieces.rest.now _ _ (subst (StartsWith c.loop-pieces.rest.now)
-      (ap (flat_map (λ line. tiled (map word_view line.now)))
-      (drop_more c.args.division.now c.loop-pieces.pieces-index _ c.loop-pieces-test.true))
-      c.loop-pieces.invariant.1)).1,
-  sym (ap (λ b. cond b true c.args.is_later)
-      (lt-ltb 0 (c.loop-pieces.pieces-index + 1) (omega arith))),
-  Took-line (λ line. map word_view line.now) (settings_view c.args.options.now) c.args.is_later
-      c.loop-pieces.has_line c.args.division.now c.loop-pieces.pieces-index _ c.args.lines.now
-      c.loop-pieces.lines c.push_line.new.lines c.loop-pieces-test.true c.loop-pieces.invariant.2
-      c.loop-pieces.invariant.3 c.in_ok-rest.ensures.line,
-)
+loop-pieces-preserved g c =
+    let words : Bor (List Word) → List WordText = λ line. map word_view line.now in
+    let settings = settings_view c.args.options.now in
+    let rest = c.loop-pieces.rest.now in
+    let after = c.in_ok-rest.rest.now in
+    let at = length c.args.paragraph.now - length rest in
+    let all = cut_lines 0 (parts_from settings c.args.is_later (map words c.args.division.now)) in
+    let left = drop (c.loop-pieces.pieces-index + 1) c.args.division.now in
+    let is = drop_more c.args.division.now c.loop-pieces.pieces-index _ c.loop-pieces-test.true in
+    let begins = starts-parts rest _ _ (subst (StartsWith rest)
+    (ap (flat_map (λ line. tiled (words line))) is) c.loop-pieces.invariant.1) in
+    let (within, next) = next-start c.args.paragraph.now rest after _ begins.0
+    c.loop-pieces.invariant.2 c.in_ok-rest.ensures.rest in (
+      search rules,
+      subst (λ text. StartsWith text (flat_map (λ line. tiled (words line)) left))
+          (sym c.in_ok-rest.ensures.rest) begins.1,
+      within,
+      HasTaken-next all c.args.lines.now c.loop-pieces.lines c.push_line.new.lines _ _
+          (subst (HasTaken all c.args.lines.now c.loop-pieces.lines)
+          (ap (λ lines. cut_lines at (parts_from settings c.loop-pieces.has_line (map words lines)))
+          is ∙ cut_lines-next settings c.loop-pieces.has_line at _ _ (map words left) next)
+          c.loop-pieces.invariant.3) c.in_ok-rest.ensures.line,
+    )
+
+pub returns : goal.returns
+returns g c =
+    let words : Bor (List Word) → List WordText = λ line. map word_view line.now in
+    let settings = settings_view c.args.options.now in
+    let at = length c.args.paragraph.now - length c.loop-pieces.rest.now in
+    let all = cut_lines 0 (parts_from settings c.args.is_later (map words c.args.division.now)) in
+    HasTaken-end all c.args.lines.now c.loop-pieces.lines
+    (subst (λ left. HasTaken all c.args.lines.now c.loop-pieces.lines
+    (cut_lines at (parts_from settings c.loop-pieces.has_line (map words left))))
+    (drop_all c.loop-pieces.pieces-index c.args.division.now (omega arith))
+    c.loop-pieces.invariant.3)

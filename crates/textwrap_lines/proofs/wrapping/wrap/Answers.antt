@@ -1,7 +1,10 @@
 use Rattle.textwrap_lines.proofs.wrapping.wrap.Goals as goal
 use Rattle.textwrap_base.proofs.Common.{map, sym, subst, ◌∙◌}
 use Rattle.textwrap_lines.proofs.Common.{settings_view, line_view, DividesBy, AreTextLines}
+use Rattle.textwrap_words.proofs.Common.{Greedy}
 use Rattle.textwrap_lines.proofs.Text.Wrapped.{IsWrapped-options, LinesKeepToWidth-options}
+use Rattle.textwrap_lines.proofs.Text.Wrapped.{LinesKeepToWidth-from}
+use Rattle.textwrap_lines.proofs.Text.Printed.{ArePrintedWithin-from}
 use Rattle.textwrap_lines.proofs.Paragraph.BuiltIn.{lines-as}
 
 pub into_list-requires : goal.into_list-requires
@@ -16,7 +19,7 @@ returns-clause-lines g c =
     let (taken, are, holds, kind) = c.in_ok-push_text.ensures.lines in
     IsWrapped-options options c.args.text.now lines c.utf8.text
     (subst (AreTextLines (settings_view options) (DividesBy options) c.args.text.now)
-    (sym (c.into_list.ensures taken holds)) are)
+    (sym (c.into_list.ensures taken holds)) are.are)
 
 pub returns-clause-even : goal.returns-clause-even
 returns-clause-even g c = λ even first built_in breaks narrow.
@@ -28,3 +31,15 @@ pub returns-clause-built_in : goal.returns-clause-built_in
 returns-clause-built_in g c = λ settings splitter algorithm parts.
     lines-as c.args.options settings splitter algorithm parts c.args.text.now
     (map line_view c.into_list.result.items) (returns-clause-lines g c).are
+
+pub returns-clause-built_in_even : goal.returns-clause-built_in_even
+returns-clause-built_in_even g c = λ settings splitter parts even breaks narrow.
+    LinesKeepToWidth-from settings splitter c.args.text.now
+    (map line_view c.into_list.result.items) c.utf8.text even breaks narrow
+    (returns-clause-built_in g c settings splitter Greedy parts)
+
+pub returns-clause-printed : goal.returns-clause-printed
+returns-clause-printed g c = λ settings splitter parts can.
+    ArePrintedWithin-from settings splitter c.args.text.now
+    (map line_view c.into_list.result.items) c.utf8.text can
+    (returns-clause-built_in g c settings splitter Greedy parts)

@@ -2,10 +2,11 @@ use Rattle.textwrap_lines.proofs.wrapping.wrap_single_line.Goals as goal
 use Rattle.textwrap_base.proofs.Common.{Bool, List, not, nat_lt, length, [], ◌++◌, map, ap, sym}
 use Rattle.textwrap_base.proofs.Common.{◌∙◌, subst, arith}
 use Rattle.textwrap_lines.proofs.Common.{MayOverflow, settings_view, AreParagraphParts, DividesBy}
-use Rattle.textwrap_lines.proofs.Common.{LineParts, line_from, line_view}
+use Rattle.textwrap_lines.proofs.Common.{LineParts, cut_lines, line_view}
 use Rattle.textwrap_base.proofs.Numbers.{not_empty}
 use Rattle.textwrap_lines.proofs.Paragraph.Overflow.{appends-none, appends-own}
 use Rattle.textwrap_lines.proofs.Paragraph.Shortcut.{paragraph-divided-by}
+use Rattle.textwrap_lines.proofs.Text.Cuts.{lines_of-cut_lines, lines_of-more}
 
 pub returns-in_err-push_paragraph-clause-appended :
     goal.returns-in_err-push_paragraph-clause-appended
@@ -28,7 +29,9 @@ returns-clause-appended g c =
     appends-own (MayOverflow options) (Are (nat_lt 0 (length start))) start
     c.into_list-found.result.items c.append.new.self.items parts c.in_ok-append.field-0
     (subst (λ b. Are b parts) is_out are)
-    (c.into_list-found.ensures (map line_from parts) (took.held [] c.listed-found.ensures.held))
+    (c.into_list-found.ensures _ (took.held [] 0 (c.listed-found.ensures.place 0)
+    c.listed-found.ensures.held) ∙ lines_of-more [] 0 (cut_lines 0 parts)
+    ∙ lines_of-cut_lines 0 parts)
     c.in_ok-append.ensures.items
 
 pub returns-clause-as_slow_path : goal.returns-clause-as_slow_path

@@ -2,12 +2,13 @@ use Rattle.textwrap_lines.proofs.wrapping.wrap_single_line_slow_path.Goals as go
 use Rattle.textwrap_base.proofs.Common.{not, nat_lt, length, List, [], ◌++◌, map, ap, refl, ◌∙◌}
 use Rattle.textwrap_base.proofs.Common.{subst, arith}
 use Rattle.textwrap_words.proofs.Common.{algorithm_view, WordText, MaySeparate, MaySplit}
-use Rattle.textwrap_lines.proofs.Common.{Took, MayOverflow, settings_view, AreDividedParts}
+use Rattle.textwrap_lines.proofs.Common.{Took, cut_lines, MayOverflow, settings_view, AreDividedParts}
 use Rattle.textwrap_lines.proofs.Common.{DividesBy, line_from, line_view, parts_from, widths_of}
 use Rattle.textwrap_words.proofs.Word.Divisions.{MayDivide-greedy}
 use Rattle.textwrap_lines.proofs.Paragraph.LongLines.{long_lines}
 use Rattle.textwrap_base.proofs.Numbers.{not_empty}
 use Rattle.textwrap_lines.proofs.Paragraph.Overflow.{appends-none, appends-own}
+use Rattle.textwrap_lines.proofs.Text.Cuts.{lines_of-cut_lines, lines_of-more}
 use Rattle.textwrap_words.proofs.Word.GivenCuts.{MaySeparate-texts, MaySplit-cuts, MaySplit-hyphens}
 
 pub returns-in_err-push_divided-clause-appended : goal.returns-in_err-push_divided-clause-appended
@@ -29,14 +30,16 @@ returns-clause-appended g c =
     let (division, divides, took) = subst (λ b. (division : List (List WordText))
     × DividesBy options b c.args.line.now division
     × Took c.listed-found.result c.push_divided.new.lines
-    (map line_from (parts_from settings b division)))
+    (cut_lines 0 (parts_from settings b division)))
     is_out c.in_ok-push_divided.ensures.taken in
     let parts = parts_from settings is_later division in
     appends-own (MayOverflow options)
     (AreDividedParts settings (DividesBy options) is_later c.args.line.now) start
     c.into_list-found.result.items c.append.new.self.items parts c.in_ok-append.field-0
     (division, divides, refl)
-    (c.into_list-found.ensures (map line_from parts) (took.held [] c.listed-found.ensures.held))
+    (c.into_list-found.ensures _ (took.held [] 0 (c.listed-found.ensures.place 0)
+    c.listed-found.ensures.held) ∙ lines_of-more [] 0 (cut_lines 0 parts)
+    ∙ lines_of-cut_lines 0 parts)
     c.in_ok-append.ensures.items
 
 pub returns-clause-overlong : goal.returns-clause-overlong

@@ -1,11 +1,11 @@
 use Rattle.textwrap_words.proofs.words.display_width.Goals as goal
-use Rattle.textwrap_base.proofs.Common.{◌≡◌, true, length, cond, sym, ◌∙◌, arith}
+use Rattle.textwrap_base.proofs.Common.{◌≡◌, length, cond, sym, subst, ◌∙◌, arith}
 use Rattle.textwrap_base.proofs.Common.{YieldsList-from_chars, YieldsList-turn, YieldsList-end}
-use Rattle.textwrap_base.proofs.Common.{at_drop_all, length_push, list_all}
-use Rattle.textwrap_words.proofs.Common.{columns, is_printable}
+use Rattle.textwrap_base.proofs.Common.{at_drop_all, length_push}
+use Rattle.textwrap_words.proofs.Common.{columns, IsPrintable}
 use Rattle.std.specs.Str.{chars}
 use Rattle.textwrap_words.proofs.Units.Widths.{text_width-le, columns_in, columns_in-step}
-use Rattle.textwrap_words.proofs.Units.Widths.{text_width-plain}
+use Rattle.textwrap_words.proofs.Units.Widths.{printable-width}
 use Rattle.textwrap_words.proofs.words.display_width.Goals.{then-is_visible, else-is_visible}
 
 pub overflow_add-width : goal.overflow_add-width
@@ -47,7 +47,7 @@ returns c =
     let wide = text_width-le c.args.text.now c.utf8.text in
     grind arith
 
-pub returns-then-is_plain-clause-width : goal.returns-then-is_plain-clause-width
-returns-then-is_plain-clause-width c =
-    let plain : list_all is_printable c.args.text.now ≡ true = cc in
-    sym (text_width-plain c.args.text.now plain)
+pub returns-then-is_printable-clause-width : goal.returns-then-is_printable-clause-width
+returns-then-is_printable-clause-width c =
+    sym (printable-width c.args.text.now
+    (subst IsPrintable c.as_bytes.ensures.value (c.is_printable.ensures.0 c.if-is_printable.true)))

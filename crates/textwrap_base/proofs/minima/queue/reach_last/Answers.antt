@@ -2,7 +2,7 @@ use Rattle.textwrap_base.proofs.minima.queue.reach_last.Goals as goal
 use Rattle.textwrap_base.proofs.Common.{◌≡◌, ◌+◌, ◌*◌, ◌-◌, ◌≤◌, vec_len, ap, sym, ◌∙◌, arith}
 use Rattle.textwrap_base.proofs.Common.{Costs, binary_digits}
 use Rattle.textwrap_base.proofs.Search.Steps.{steps_more, steps_within}
-use Rattle.textwrap_base.proofs.Search.Pushed.{HasEnd-drop, AreStretches-drop}
+use Rattle.textwrap_base.proofs.Search.Pushed.{AreStretches-drop}
 
 pub next_stretch-current-requires-clause-rising : goal.next_stretch-current-requires-clause-rising
 next_stretch-current-requires-clause-rising g c =
@@ -13,16 +13,6 @@ advance-requires-clause-stretches g c =
     let dropped = c.drop_passed-current in
     let i = c.loop-stretches.invariant in
     rw (i.same, dropped.ensures.left) (AreStretches-drop _ _ _ _ i.stretches)
-
-pub advance-requires-clause-current : goal.advance-requires-clause-current
-advance-requires-clause-current g c =
-    let dropped = c.drop_passed-current in
-    let count = c.next_stretch-current.result - dropped.result in
-    let here : c.next_stretch-current.result - count ≡ dropped.result =
-    omega (arith, dropped.ensures.within) in
-    let has = HasEnd-drop _ count _ _ (omega arith)
-    (rw c.deref-in-loop-stretches.ensures.value at c.next_stretch-current.ensures) in
-    rw (dropped.ensures.left, ← c.len-in-loop-stretches.ensures) (rw here at has)
 
 pub loop-stretches-preserved : goal.loop-stretches-preserved
 loop-stretches-preserved g c =

@@ -33,9 +33,9 @@ price-cost-requires-clause-ordered g c =
     let n = vec_len c.loop-stretches.stretches in
     let old = c.args.stretches.now.items in
     let i = c.loop-stretches.invariant in
-    let last : c.index-last.result.now ≡ stretch_at old (n - 1) =
-    stretch_at-read c.loop-stretches.stretches.items n (c.len-in-loop-stretches.result - 1) (n - 1)
-    c.index-last.result.now c.index-last.ensures (omega arith) (omega arith) (omega arith) (omega arith)
+    let last = stretch_at-read c.loop-stretches.stretches.items
+    (c.len-in-loop-stretches.result - 1) (n - 1) c.index-last.result.now c.index-last.ensures
+    (omega arith) (omega arith)
     ∙ stretch_at-left c.loop-stretches.stretches.items old n (n - 1) i.left (omega arith) in
     rw last (begins_after old (length c.args.minima.now - 1) c.args.current (n - 1)
     c.requires.stretches.rising c.requires.current (omega arith) (omega arith))
@@ -47,10 +47,9 @@ returns-then-cost-last-clause-unbeaten g c = λ after.
     let old = c.args.stretches.now.items in
     let start = length c.args.minima.now - 1 in
     let i = c.loop-stretches.invariant in
-    let last : c.index-last.result.now ≡ stretch_at c.loop-stretches.stretches.items (n - 1) =
-    stretch_at-read c.loop-stretches.stretches.items n (c.len-in-loop-stretches.result - 1) (n - 1)
-    c.index-last.result.now c.index-last.ensures (omega arith) (omega arith) (omega arith) (omega arith)
-    in
+    let last = stretch_at-read c.loop-stretches.stretches.items
+    (c.len-in-loop-stretches.result - 1) (n - 1) c.index-last.result.now c.index-last.ensures
+    (omega arith) (omega arith) in
     let left = stretch_at-left c.loop-stretches.stretches.items old n (n - 1) i.left (omega arith) in
     let priced : IsPriced costs (length c.args.minima.now - 2) c.index-last.result.now =
     rw (last, left) (c.requires.stretches.priced (n - 1) (omega arith)) in
@@ -72,10 +71,9 @@ loop-stretches-preserved g c =
     let left : less ≡ take (n - 1) q = c.pop.ensures.rest in
     let fewer : vec_len c.pop.new.self + 1 ≡ n =
     omega (arith, ap length left, length-take (n - 1) q) in
-    let read : c.index-last.result.now ≡ stretch_at q (n - 1) =
-    stretch_at-read q n (c.len-in-loop-stretches.result - 1) (n - 1)
-    c.index-last.result.now c.index-last.ensures (omega arith) (omega arith) (omega arith) (omega arith)
-    in
+    let read = stretch_at-read c.loop-stretches.stretches.items
+    (c.len-in-loop-stretches.result - 1) (n - 1) c.index-last.result.now c.index-last.ensures
+    (omega arith) (omega arith) in
     let from = ap (λ (s : Stretch). s.from) read in
     let last = stretch_at-left q old n (n - 1) i.left (omega arith) in
     let priced : IsPriced costs m c.index-last.result.now =

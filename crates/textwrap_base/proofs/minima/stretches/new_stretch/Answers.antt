@@ -2,7 +2,7 @@ use Rattle.textwrap_base.proofs.minima.stretches.new_stretch.Goals as goal
 use Rattle.textwrap_base.proofs.Common.{◌≡◌, ◌+◌, ◌-◌, ◌<◌, ◌≤◌, length, vec_len, arith, max}
 use Rattle.textwrap_base.proofs.Common.{cost_from, IsBestFrom, stretch_at, HaveBest}
 use Rattle.textwrap_base.proofs.Search.Digits.{digits_mono}
-use Rattle.textwrap_base.proofs.Search.Stretches.{stretch_at-read, stretch_at-left, taken_over}
+use Rattle.textwrap_base.proofs.Search.Stretches.{stretch_at-read, taken_over}
 
 taken : (g : _) (c : goal.After-take_over g)
     → HaveBest (g.C.CostSource.costs c.args.costs.now) (length c.args.minima.now - 1)
@@ -16,9 +16,8 @@ taken g c =
     let start = length c.args.minima.now - 1 in
     let from = c.take_over.result.from in
     let d = c.drop_beaten-won.ensures in
-    let read : c.index-rival.result.now ≡ stretch_at q (n - 1) =
-    stretch_at-read q n (c.len.result - 1) (n - 1) c.index-rival.result.now c.index-rival.ensures
-    (omega arith) (omega arith) (omega arith) (omega arith) in
+    let read = stretch_at-read q (c.len.result - 1) (n - 1) c.index-rival.result.now
+    c.index-rival.ensures (omega arith) (omega arith) in
     let low : c.max-low.result ≡ max (start + 1) ((stretch_at q (n - 1)).from + 1) =
     rw (← read) (omega arith) in
     let between : c.max-low.result < from
@@ -31,18 +30,6 @@ taken g c =
     c.drop_beaten-won.result.from (omega arith) d.best c.max-low.result from low
     (omega arith) (omega arith) (omega arith) d.wins (λ l. d.unbeaten (omega arith)) between cheaper
 
-pub take_over-requires-clause-rival : goal.take_over-requires-clause-rival
-take_over-requires-clause-rival g c =
-    let q = c.drop_beaten-won.new.stretches.items in
-    let n = vec_len c.drop_beaten-won.new.stretches in
-    let d = c.drop_beaten-won.ensures in
-    let read : c.index-rival.result.now ≡ stretch_at q (n - 1) =
-    stretch_at-read q n (c.len.result - 1) (n - 1) c.index-rival.result.now c.index-rival.ensures
-    (omega arith) (omega arith) (omega arith) (omega arith) in
-    let left = stretch_at-left q c.args.stretches.now.items n (n - 1) d.left (omega arith) in
-    let priced = c.requires.stretches.priced (n - 1) (omega arith) in
-    rw (read, left) (omega (arith, priced.within))
-
 pub returns-clause-best : goal.returns-clause-best
 returns-clause-best g c = (taken g c).0
 
@@ -50,10 +37,10 @@ pub returns-clause-wins : goal.returns-clause-wins
 returns-clause-wins g c = (taken g c).1
 
 pub returns-clause-steps : goal.returns-clause-steps
-returns-clause-steps g c =
-    let costs = g.C.CostSource.costs c.args.costs.now in
-    let d = c.drop_beaten-won.ensures in
-    let t = c.take_over.ensures in
-    let mono = digits_mono (c.drop_beaten-won.result.from - c.max-low.result)
-    (costs.ends - length c.args.minima.now) (omega arith) in
-    omega (arith, d.steps, t.steps, mono)
+returns-clause-steps g c = omega (
+  arith,
+  c.drop_beaten-won.ensures.steps,
+  c.take_over.ensures.steps,
+  digits_mono (c.drop_beaten-won.result.from - c.max-low.result)
+      ((g.C.CostSource.costs c.args.costs.now).ends - length c.args.minima.now) (omega arith),
+)

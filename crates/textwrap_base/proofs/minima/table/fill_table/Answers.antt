@@ -1,12 +1,9 @@
 use Rattle.textwrap_base.proofs.minima.table.fill_table.Goals as goal
-use Rattle.textwrap_base.proofs.Common.{◌≡◌, ◌+◌, ◌<◌, ◌^◌, arith, rules, refl, sym, ◌∙◌, subst}
-use Rattle.textwrap_base.proofs.Common.{table_steps}
+use Rattle.textwrap_base.proofs.Common.{◌≡◌, [], ◌∷◌, ◌++◌, ap, ◌+◌, arith, rules, refl, ◌∙◌}
 use Rattle.textwrap_base.specs.Table.{table}
 use Rattle.textwrap_base.proofs.Cost.Table.{length-table}
-use Rattle.textwrap_base.proofs.Cost.LeastEntries.{table_next, table_past, table_fits, table_pushed}
-use Rattle.textwrap_base.proofs.Cost.LeastEntries.{numbers_of, entry-table_longer}
-use Rattle.textwrap_base.specs.declared.minima.table.Entry.{Entry}
-use Rattle.textwrap_base.proofs.Cost.Steps.{table_steps_more, table_steps_mono, counted_more}
+use Rattle.textwrap_base.proofs.Cost.LeastEntries.{table_next, table_past, table_fits}
+use Rattle.textwrap_base.proofs.Cost.LeastEntries.{number-table, entry-table_longer}
 use Rattle.textwrap_base.proofs.Cost.Steps.{counted_next}
 
 pub loop-last-init : goal.loop-last-init
@@ -24,8 +21,10 @@ cheapest-requires-clause-len g c = rw (c.deref.ensures.value, c.loop-last.invari
 
 pub cheapest-requires-clause-numbers : goal.cheapest-requires-clause-numbers
 cheapest-requires-clause-numbers g c =
-    numbers_of (g.C.CostSource.costs c.args.costs.now).cost c.loop-last.last c.deref.result.now
-    (c.deref.ensures.value ∙ c.loop-last.invariant.entries)
+    let cost = (g.C.CostSource.costs c.args.costs.now).cost in
+    let last = c.loop-last.last in
+    rw (c.deref.ensures.value, c.loop-last.invariant.entries)
+    (λ k l. number-table cost last k (omega (arith, length-table cost last)))
 
 pub returns-in_default-clause-overflow : goal.returns-in_default-clause-overflow
 returns-in_default-clause-overflow g c =
@@ -34,41 +33,16 @@ returns-in_default-clause-overflow g c =
     let last = c.loop-last.last in
     let best = rw (c.deref.ensures.value, c.loop-last.invariant.entries, c.loop-last.invariant.same)
     at c.in_default.ensures.best in
-    let past = table_past cost last n (omega arith) best in
     λ _. (
       last + 1,
       record {
         within = omega arith;
-        past = past;
-        before = λ k less.
-            let same = entry-table_longer cost n last k (omega (arith, less)) (omega arith) in
-            let fits = c.loop-last.invariant.fits k (omega (arith, less)) in
-            subst (λ (e : Entry). e.cost < 2 ^ 128) (sym same) fits;
+        past = table_past cost last n (omega arith) best;
+        before = λ k less. rw (entry-table_longer cost n last k (omega (arith, less)) (omega arith))
+            (c.loop-last.invariant.fits k (omega (arith, less)));
       },
-      counted_next (g.C.CostSource.steps c.args.costs.now)
-          (g.C.CostSource.steps c.loop-last.costs) (g.C.CostSource.steps c.cheapest.new.costs)
-          last c.loop-last.invariant.steps c.cheapest.ensures.steps,
+      counted_next _ _ _ last c.loop-last.invariant.steps c.cheapest.ensures.steps,
     )
-
-pub returns-in_default-clause-steps_most : goal.returns-in_default-clause-steps_most
-returns-in_default-clause-steps_most g c =
-    let mono = table_steps_mono (c.loop-last.last + 1) (g.C.CostSource.costs c.args.costs.now).ends
-    (omega arith) in
-    let more = table_steps_more c.loop-last.last in
-    rw (c.cheapest.ensures.steps, c.loop-last.invariant.steps)
-    (counted_more (g.C.CostSource.steps c.args.costs.now) (table_steps c.loop-last.last)
-    (c.loop-last.last + 1) (table_steps (g.C.CostSource.costs c.args.costs.now).ends)
-    (omega arith))
-
-pub returns-in_err-push-2-clause-steps_most : goal.returns-in_err-push-2-clause-steps_most
-returns-in_err-push-2-clause-steps_most g c =
-    let mono = table_steps_mono (c.loop-last.last + 1) (g.C.CostSource.costs c.args.costs.now).ends
-    (omega arith) in
-    let more = table_steps_more c.loop-last.last in
-    rw (c.cheapest.ensures.steps, c.loop-last.invariant.steps)
-    (counted_more (g.C.CostSource.steps c.args.costs.now) (table_steps c.loop-last.last)
-    (c.loop-last.last + 1) (table_steps (g.C.CostSource.costs c.args.costs.now).ends)
-    (omega arith))
 
 pub loop-last-preserved : goal.loop-last-preserved
 loop-last-preserved g c =
@@ -77,13 +51,11 @@ loop-last-preserved g c =
     let more = table_next (g.C.CostSource.costs c.args.costs.now).cost c.loop-last.last
     c.in-Some.entry best.0 in
     record {
-      entries = table_pushed (g.C.CostSource.costs c.args.costs.now).cost c.loop-last.last
-          c.loop-last.entries.items c.push-in-loop-last.new.self.items c.in-Some.entry
-          c.loop-last.invariant.entries c.in_ok-push-2.ensures.items more;
+      entries = c.in_ok-push-2.ensures.items
+          ∙ ap (λ entries. entries ++ c.in-Some.entry ∷ []) c.loop-last.invariant.entries ∙ more;
       fits = table_fits (g.C.CostSource.costs c.args.costs.now).cost c.loop-last.last
           c.in-Some.entry more best.1 c.loop-last.invariant.fits;
       same = c.cheapest.ensures.same ∙ c.loop-last.invariant.same;
-      steps = counted_next (g.C.CostSource.steps c.args.costs.now)
-          (g.C.CostSource.steps c.loop-last.costs) (g.C.CostSource.steps c.cheapest.new.costs)
-          c.loop-last.last c.loop-last.invariant.steps c.cheapest.ensures.steps;
+      steps = counted_next _ _ _ c.loop-last.last c.loop-last.invariant.steps
+          c.cheapest.ensures.steps;
     }

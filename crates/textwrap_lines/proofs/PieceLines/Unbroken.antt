@@ -1,0 +1,39 @@
+-- Words that stay whole are broken past a limit that none reaches.
+use Rattle.textwrap_base.proofs.Common.{◌≡◌, ℕ, ◌*◌, ◌<◌, ◌≤◌, cond}
+use Rattle.textwrap_base.proofs.Common.{List, [], ◌∷◌, ◌++◌, All, length, refl, ap, ◌∙◌, arith}
+use Rattle.textwrap_base.proofs.Common.{length-append, IsUtf8, le-ltb, All-head, All-tail}
+use Rattle.textwrap_words.proofs.Common.{broken_words, broken_pieces, WordText, tile_of, tiled}
+use Rattle.textwrap_words.proofs.Common.{words_of, Splitter, split_words}
+use Rattle.textwrap_lines.proofs.Common.{front_of, Settings, pieces_of, text_limit}
+use Rattle.textwrap_words.proofs.Word.Bounds.{IsBounded, IsBounded-measured}
+use Rattle.textwrap_lines.specs.Layout.{break_limit}
+use Rattle.textwrap_lines.proofs.Paragraph.Pieces.{pieces_of-tile, split_pieces_of-measured}
+use Rattle.textwrap_words.proofs.Word.Pieces.{split_pieces_of-no_penalty}
+
+unbroken : (limit : ℕ) (ws : List WordText) → All IsBounded ws → 2 * length (tiled ws) ≤ limit
+    → broken_words limit ws ≡ ws
+unbroken limit [] bounded within = refl
+unbroken limit (w ∷ ws) bounded within =
+    let here = All-head IsBounded w ws bounded in
+    let len = length-append (tile_of w) (tiled ws) in
+    let word = length-append w.word w.whitespace in
+    ap (λ b. cond b (broken_pieces limit w) (w ∷ []) ++ broken_words limit ws)
+    (le-ltb limit w.width (omega (arith, here.width, within, len, word)))
+    ∙ ap (λ l. w ∷ l) (unbroken limit ws (All-tail IsBounded w ws bounded)
+    (omega (arith, within, len)))
+
+-- whether words are broken or not, these are the pieces
+pub limited-pieces : (settings : Settings) (splitter : Splitter) (paragraph : List ℕ)
+    → IsUtf8 paragraph → length paragraph < text_limit
+    → front_of settings
+    ++ broken_words (break_limit settings) (split_words splitter (words_of paragraph))
+    ≡ pieces_of settings splitter paragraph
+limited-pieces settings splitter paragraph utf8 short =
+    grind (
+      arith,
+      split_pieces_of-measured,
+      split_pieces_of-no_penalty,
+      IsBounded-measured,
+      pieces_of-tile,
+      unbroken,
+    )

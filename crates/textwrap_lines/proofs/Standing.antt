@@ -1,7 +1,0 @@
-pub mod Cheapest
-pub mod Costs
-pub mod LineEnds
-pub mod Lines
-pub mod Lists
-pub mod Stand
-pub mod Words

@@ -1,0 +1,145 @@
+-- Lines as they are printed: a line is as wide as its indent, its pieces and the blanks between them
+-- together, if no sequence goes on after one of these.
+use Rattle.textwrap_base.proofs.Common.{◌≡◌, ◌≢◌, ℕ, ◌⊎◌, inl, inr, Bool, true, false}
+use Rattle.textwrap_base.proofs.Common.{MatchBool, List, [], ◌∷◌, All, get_or, refl}
+use Rattle.textwrap_base.proofs.Common.{sym, subst, arith, append-nil, rules}
+use Rattle.textwrap_base.proofs.Common.{IsUtf8}
+use Rattle.textwrap_base.proofs.Common.{All-nil, All-cons}
+use Rattle.textwrap_base.proofs.Common.{All-head}
+use Rattle.textwrap_base.proofs.Division.Map.{IsDividedBy-whole}
+use Rattle.textwrap_base.proofs.Lists.Parts.{flat}
+use Rattle.textwrap_words.proofs.Common.{IsNarrow, WordText, sizes_of, tiled, word_of}
+use Rattle.textwrap_words.proofs.Common.{Greedy, Splitter, AreWordsOf, ArePoints}
+use Rattle.textwrap_words.proofs.Common.{IsDividedBy}
+use Rattle.textwrap_words.specs.Units.{escape}
+use Rattle.textwrap_words.proofs.Word.Measured.{IsMeasured, HasNoPenalty, word_of-measured}
+use Rattle.textwrap_words.proofs.Word.Pieces.{AreTexts-words, ArePoints-cuts, ArePoints-hyphens}
+use Rattle.textwrap_lines.proofs.Common.{Settings, LineParts, Line}
+use Rattle.textwrap_lines.proofs.Common.{is_whole, first_width}
+use Rattle.textwrap_lines.proofs.Common.{DividesAs, AreParagraphParts}
+use Rattle.textwrap_lines.proofs.Common.{AreGroups, AreTextLines, paragraphs_of, KeepsToWidth}
+use Rattle.textwrap_lines.proofs.Common.{HasNoEscape, CutsNoSequence}
+use Rattle.textwrap_lines.proofs.Common.{IsPrintedWithin, CanKeepToWidth, ArePrintedWithin}
+use Rattle.textwrap_lines.proofs.Paragraph.EvenLines.{own_width, first_width-own, first_width-first}
+use Rattle.textwrap_lines.proofs.Paragraph.KeepsTo.{paragraph-even}
+use Rattle.textwrap_lines.proofs.Paragraph.LeftOff.{tiled-word_of}
+use Rattle.textwrap_lines.proofs.Paragraph.Pieces.{IsDividedInto-whole, pieces_of-measured}
+use Rattle.textwrap_lines.proofs.Paragraph.Pieces.{pieces_of-no_penalty, pieces_of-tile}
+use Rattle.textwrap_lines.proofs.Paragraph.WholeLine.{laid_out-cases}
+use Rattle.textwrap_lines.proofs.Text.EndingTexts.{paragraphs_of-utf8}
+use Rattle.textwrap_lines.proofs.Text.Groups.{groups-all, groups-map}
+use Rattle.textwrap_lines.proofs.Text.Narrow.{paragraphs_of-each, paragraphs_of-narrow}
+use Rattle.textwrap_lines.proofs.Text.PrintedLines.{PrintsAsMeasured, lines-printed, words-whole, lines-whole}
+
+-- ---- the lines of a text, by first fit and a built-in splitter
+
+-- the pieces of a paragraph
+record AreItsPieces (paragraph : List ℕ) (pieces : List WordText) : Type 0 where
+  measured : All IsMeasured pieces
+  none : All HasNoPenalty pieces
+  tile : tiled pieces ≡ paragraph
+
+module _ (settings : Settings) (splitter : Splitter) where
+  abbrev Divides : Bool → List ℕ → List (List WordText) → Type 0
+  Divides = DividesAs splitter Greedy settings
+
+  abbrev AreParts : Bool → List ℕ → List LineParts → Type 0
+  AreParts = AreParagraphParts settings Divides
+
+  division-pieces : (is_later : Bool) (paragraph : List ℕ) (division : List (List WordText))
+      → IsUtf8 paragraph
+      → MatchBool (is_whole settings is_later paragraph) (division ≡ (word_of paragraph ∷ []) ∷ [])
+      (Divides is_later paragraph division)
+      → AreItsPieces paragraph (flat division)
+  division-pieces is_later paragraph division utf8 laid_out =
+      laid_out-cases (λ d. AreItsPieces paragraph (flat d)) paragraph _ division
+      (record {
+        measured = All-cons IsMeasured (word_of paragraph) [] (word_of-measured paragraph utf8)
+            (All-nil IsMeasured);
+        none = All-cons HasNoPenalty (word_of paragraph) [] refl (All-nil HasNoPenalty);
+        tile = tiled-word_of paragraph;
+      })
+      (λ divided. subst (AreItsPieces paragraph)
+      (sym (IsDividedInto-whole settings Greedy splitter is_later paragraph division divided))
+      (record {
+        measured = pieces_of-measured settings splitter paragraph utf8;
+        none = pieces_of-no_penalty settings splitter paragraph utf8;
+        tile = pieces_of-tile settings splitter paragraph utf8;
+      }))
+      (is_whole settings is_later paragraph) laid_out
+
+  paragraph-whole : HasNoEscape settings.initial_indent → HasNoEscape settings.subsequent_indent
+      → (is_later : Bool) (paragraph : List ℕ) (parts : List LineParts)
+      → IsUtf8 paragraph × HasNoEscape paragraph → AreParts is_later paragraph parts
+      → All CutsNoSequence parts
+  paragraph-whole initial subsequent is_later paragraph parts (utf8, none) (division, laid_out, is) =
+      let pieces = division-pieces is_later paragraph division utf8 laid_out in
+      subst (All CutsNoSequence) (sym is)
+      (lines-whole settings initial subsequent is_later division
+      (words-whole (flat division) pieces.measured (subst HasNoEscape (sym pieces.tile) none)))
+
+  abbrev Within : LineParts → Type 0
+  Within p = CutsNoSequence p → IsPrintedWithin settings.width p
+
+  within : (p : LineParts) → KeepsToWidth settings.width p → PrintsAsMeasured p → Within p
+  within p keeps printed cuts = grind arith
+
+  module _ (text : List ℕ) (can : CanKeepToWidth settings text) where
+    paragraph-within : (is_later : Bool)
+        → first_width settings is_later ≡ own_width settings is_later
+        → (paragraph : List ℕ) (parts : List LineParts) → IsUtf8 paragraph × IsNarrow paragraph
+        → AreParts is_later paragraph parts → All Within parts
+    paragraph-within is_later own paragraph parts (utf8, narrow) (division, laid_out, is) =
+        let pieces = division-pieces is_later paragraph division utf8 laid_out in
+        let printed = subst (All PrintsAsMeasured) (sym is)
+        (search (rules, arith, lines-printed)) in
+        let keeps = paragraph-even settings AreWordsOf (ArePoints splitter)
+        (IsDividedBy Greedy sizes_of) AreTexts-words (ArePoints-cuts splitter)
+        (λ widths pieces division divided. (
+          [],
+          search (rules, arith, append-nil, IsDividedBy-whole),
+        ))
+        (ArePoints-hyphens splitter) (λ widths pieces division divided. divided) can.breaks
+        is_later own paragraph parts utf8 (division, laid_out, is) narrow in
+        λ k d lt. within (get_or parts k d) (keeps k d lt) (printed k d lt)
+
+    -- one paragraph, or even ones
+    groups-within : (paragraphs : List (List ℕ)) (groups : List (List LineParts))
+        → All (λ p. IsUtf8 p × IsNarrow p) paragraphs
+        → (settings.even_paragraphs ≡ true) ⊎ (paragraphs ≡ text ∷ [])
+        → AreGroups AreParts false paragraphs groups → All Within (flat groups)
+    groups-within paragraphs groups all even are = elim even [
+      | inl even ↦ groups-all Within false paragraphs groups
+          (search (rules, arith, groups-map, paragraph-within, first_width-own))
+      | inr one ↦ one_group groups (subst (All (λ p. IsUtf8 p × IsNarrow p)) one all)
+          (subst (λ ps. AreGroups AreParts false ps groups) one are)
+    ]
+      where
+        one_group : (groups : List (List LineParts))
+            → All (λ p. IsUtf8 p × IsNarrow p) (text ∷ [])
+            → AreGroups AreParts false (text ∷ []) groups → All Within (flat groups)
+        one_group [] all are = absurd are
+        one_group (parts ∷ groups) all (here, none) =
+            rw (none, append-nil) (paragraph-within false (first_width-first settings) text parts
+            (All-head (λ p. IsUtf8 p × IsNarrow p) text [] all) here)
+
+pub ArePrintedWithin-from : (settings : Settings) (splitter : Splitter) (text : List ℕ)
+    (lines : List Line) → IsUtf8 text → CanKeepToWidth settings text
+    → AreTextLines settings (DividesAs splitter Greedy settings) text lines
+    → ArePrintedWithin settings (DividesAs splitter Greedy settings) text lines
+ArePrintedWithin-from settings splitter text lines utf8 can are =
+    let ending = settings.line_ending in
+    let paragraphs = paragraphs_of ending text in
+    let all = paragraphs_of-utf8 ending text utf8 in
+    let narrow = paragraphs_of-narrow ending text utf8 can.narrow in
+    record {
+      are = are;
+      within = search (rules, arith, groups-within);
+      whole = λ none initial subsequent.
+          let plain = paragraphs_of-each (λ c. c ≢ escape) ending text utf8 none in
+          groups-all CutsNoSequence false paragraphs are.groups
+          (groups-map (λ p. IsUtf8 p × HasNoEscape p) (AreParts settings splitter)
+          (λ is_later paragraph parts. All CutsNoSequence parts)
+          (paragraph-whole settings splitter initial subsequent) false paragraphs are.groups
+          (λ k d lt. (all k d lt, plain k d lt)) are.defined);
+    }

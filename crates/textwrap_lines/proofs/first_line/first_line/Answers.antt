@@ -1,0 +1,21 @@
+use Rattle.textwrap_lines.proofs.first_line.first_line.Goals as goal
+use Rattle.textwrap_base.proofs.Common.{sym, ap, ◌∙◌, subst, arith}
+use Rattle.textwrap_words.proofs.Common.{as_splitter}
+use Rattle.textwrap_lines.proofs.Common.{first_width, settings_view}
+use Rattle.textwrap_lines.specs.PieceLines.{first_so_far}
+use Rattle.textwrap_lines.proofs.PieceLines.First.{HoldsFirst, goes_on-start}
+
+pub loop-line-init : goal.loop-line-init
+loop-line-init g c =
+    let settings = settings_view c.args.options.now in
+    let splitter = as_splitter c.args.splitter in
+    let text = c.args.paragraph.now in
+    let front = c.has_front.result in
+    subst (HoldsFirst settings splitter text c.args.is_later)
+    (sym (c.first-line.ensures
+    ∙ ap (λ n. first_so_far text n c.next_indent-indent.result.now front)
+    c.line_widths-first_width.ensures.first
+    ∙ ap (λ i. first_so_far text (first_width settings c.args.is_later) i front)
+    c.next_indent-indent.ensures))
+    (goes_on-start settings splitter text c.args.is_later front c.utf8.paragraph (omega arith)
+    c.has_front.ensures)

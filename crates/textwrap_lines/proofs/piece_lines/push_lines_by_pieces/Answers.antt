@@ -1,0 +1,120 @@
+use Rattle.textwrap_lines.proofs.piece_lines.push_lines_by_pieces.Goals as goal
+use Rattle.textwrap_base.proofs.Common.{◌≡◌, [], ◌∷◌, cond, ap, ◌∙◌, sym, subst, on_ok_weaker}
+use Rattle.textwrap_base.proofs.Common.{IsCharBoundary-start}
+use Rattle.textwrap_words.proofs.Common.{as_splitter}
+use Rattle.textwrap_words.specs.Pieces.{stand_from}
+use Rattle.textwrap_words.specs.PiecesLeft.{standing_left}
+use Rattle.textwrap_lines.proofs.Common.{Took, settings_view, later_width, first_width, indent_of}
+use Rattle.textwrap_lines.proofs.Common.{pieces_of, line_so_far, lines_from, LineSoFar, line_of}
+use Rattle.textwrap_lines.proofs.Common.{with_piece}
+use Rattle.textwrap_lines.specs.PieceLines.{no_pieces}
+use Rattle.textwrap_lines.proofs.Paragraph.Pieces.{pieces_of-no_penalty, pieces_of-tile}
+use Rattle.textwrap_lines.proofs.Text.Sinks.{HasTaken, HasTaken-end, HasTaken-next, HasTaken-start}
+use Rattle.textwrap_lines.proofs.PieceLines.Coming.{AllCome, pieces-come}
+use Rattle.textwrap_lines.proofs.PieceLines.Joined.{lines-greedy}
+use Rattle.textwrap_lines.proofs.piece_lines.push_lines_by_pieces.Goals.{else-is_past}
+use Rattle.textwrap_lines.proofs.piece_lines.push_lines_by_pieces.Goals.{then-is_past+in_ok-push_to}
+
+pub at-line-requires : goal.at-line-requires
+at-line-requires g c = IsCharBoundary-start c.args.paragraph.now c.utf8.paragraph
+
+pub loop-piece-init : goal.loop-piece-init
+loop-piece-init g c =
+    let settings = settings_view c.args.options.now in
+    let splitter = as_splitter c.args.splitter in
+    let paragraph = c.args.paragraph.now in
+    let left = standing_left c.into_iter-piece-iterator.result in
+    let left_is : left ≡ stand_from 0 (pieces_of settings splitter paragraph) =
+    ap standing_left c.into_iter-piece-iterator.ensures.into_iter_gives
+    ∙ c.paragraph_pieces-piece-items.ensures in
+    record {
+      taken = HasTaken-start _ c.args.lines.now;
+      come = subst (λ (line : LineSoFar). AllCome line.text line.end left)
+          (sym c.at-line.ensures)
+          (subst (AllCome paragraph 0) (sym left_is)
+          (pieces-come settings splitter paragraph c.utf8.paragraph));
+    }
+
+pub loop-piece-preserved : goal.loop-piece-preserved
+loop-piece-preserved g c =
+    let settings = settings_view c.args.options.now in
+    let keeps = settings.preserve_trailing_space in
+    let all = lines_from settings (line_so_far c.at-line.result)
+    (standing_left c.into_iter-piece-iterator.result) in
+    let before = c.args.lines.now in
+    let now = c.loop-piece.lines in
+    let here = line_so_far c.loop-piece.line in
+    let piece = c.in-Some.piece in
+    let left = standing_left c.next.new.self in
+    let next = with_piece (no_pieces here.text here.end (later_width settings)
+    settings.subsequent_indent) piece in
+    let more = with_piece here piece in
+    let come = (subst (AllCome here.text here.end) c.in-Some.ensures.steps
+    c.loop-piece.invariant.come).1 in
+    let taken = subst (λ ps. HasTaken all before now (lines_from settings here ps))
+    c.in-Some.ensures.steps c.loop-piece.invariant.taken in
+    elim c.if-is_past.branch [
+      | then-is_past+in_ok-push_to w ↦
+          let is : line_so_far c.take.new.self ≡ next =
+          c.take.ensures ∙ ap (λ l. with_piece (line_so_far l) piece) w.line-is
+          ∙ ap (λ l. with_piece l piece) w.at-line-then-is_past.ensures
+          ∙ ap (λ n. with_piece (no_pieces here.text here.end n settings.subsequent_indent) piece)
+          c.line_widths-first_width.ensures.later in
+          let full = subst (λ b. HasTaken all before now (cond b
+          (line_of keeps here ∷ lines_from settings next left) (lines_from settings more left)))
+          (sym c.is_past.ensures ∙ w.if-is_past.true) taken in
+          rw (w.lines-is) (record {
+            taken = subst (λ l. HasTaken all before w.push_to.new.lines (lines_from settings l left))
+                (sym is) (HasTaken-next all before now w.push_to.new.lines (line_of keeps here)
+                (lines_from settings next left) full w.in_ok-push_to.ensures);
+            come = subst (λ (line : LineSoFar). AllCome line.text line.end left) (sym is) come;
+          })
+      | else-is_past w ↦
+          let is : line_so_far c.take.new.self ≡ more =
+          c.take.ensures ∙ ap (λ l. with_piece (line_so_far l) piece) w.line-is in
+          let room = subst (λ b. HasTaken all before now (cond b
+          (line_of keeps here ∷ lines_from settings next left) (lines_from settings more left)))
+          (sym c.is_past.ensures ∙ w.if-is_past.false) taken in
+          rw (w.lines-is) (record {
+            taken = subst (λ l. HasTaken all before now (lines_from settings l left)) (sym is) room;
+            come = subst (λ (line : LineSoFar). AllCome line.text line.end left) (sym is) come;
+          })
+    ]
+
+pub returns : goal.returns
+returns g c =
+    let settings = settings_view c.args.options.now in
+    let is_later = c.args.is_later in
+    let splitter = as_splitter c.args.splitter in
+    let paragraph = c.args.paragraph.now in
+    let pieces = pieces_of settings splitter paragraph in
+    let left = standing_left c.into_iter-piece-iterator.result in
+    let first = c.at-line.result in
+    let all = lines_from settings (line_so_far first) left in
+    let now = c.loop-piece.lines in
+    let last = line_of settings.preserve_trailing_space (line_so_far c.loop-piece.line) in
+    let (division, greedy, found) = lines-greedy settings paragraph is_later pieces
+    (pieces_of-tile settings splitter paragraph c.utf8.paragraph)
+    (pieces_of-no_penalty settings splitter paragraph c.utf8.paragraph) in
+    let left_is : left ≡ stand_from 0 pieces =
+    ap standing_left c.into_iter-piece-iterator.ensures.into_iter_gives
+    ∙ c.paragraph_pieces-piece-items.ensures in
+    let first_is : line_so_far first
+    ≡ no_pieces paragraph 0 (first_width settings is_later) (indent_of settings is_later) =
+    c.at-line.ensures
+    ∙ ap (λ n. no_pieces paragraph 0 n c.next_indent.result.now)
+    c.line_widths-first_width.ensures.first
+    ∙ ap (no_pieces paragraph 0 (first_width settings is_later)) c.next_indent.ensures in
+    let taken = subst (λ ps. HasTaken all c.args.lines.now now
+    (lines_from settings (line_so_far c.loop-piece.line) ps)) c.in-None.ensures.steps.0
+    c.loop-piece.invariant.taken in
+    on_ok_weaker c.push_to-2.result (λ end. (
+      division,
+      greedy,
+      subst (Took c.args.lines.now c.push_to-2.new.lines)
+          (ap (λ l. lines_from settings l left) first_is
+          ∙ ap (lines_from settings (no_pieces paragraph 0 (first_width settings is_later)
+          (indent_of settings is_later))) left_is ∙ found)
+          (HasTaken-end all c.args.lines.now c.push_to-2.new.lines
+          (HasTaken-next all c.args.lines.now now c.push_to-2.new.lines last [] taken end)),
+    )) c.push_to-2.ensures

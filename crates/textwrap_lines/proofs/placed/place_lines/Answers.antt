@@ -1,0 +1,23 @@
+use Rattle.textwrap_lines.proofs.placed.place_lines.Goals as goal
+use Rattle.textwrap_base.proofs.Common.{ap, ◌∙◌}
+use Rattle.textwrap_lines.proofs.Common.{lines_of, places_of}
+use Rattle.textwrap_lines.proofs.Paragraph.BuiltIn.{placed-as}
+
+pub into_placed-requires : goal.into_placed-requires
+into_placed-requires g c =
+    let (taken, are, holds, kind) = c.in_ok-push_text.ensures.lines in
+    kind ∙ c.placed-lines.ensures.kind
+
+pub returns-clause-lines : goal.returns-clause-lines
+returns-clause-lines g c =
+    let (taken, are, holds, kind) = c.in_ok-push_text.ensures.lines in
+    let (places, built) = c.into_placed.ensures taken holds in (
+      lines_of taken,
+      record { are = are.are; places_are = places ∙ ap (places_of 0) are.cuts_are },
+      built,
+    )
+
+pub returns-clause-built_in : goal.returns-clause-built_in
+returns-clause-built_in g c = λ settings splitter algorithm parts.
+    let (lines, are, built) = returns-clause-lines g c in
+    (lines, placed-as c.args.options.now settings splitter algorithm parts c.args.text.now lines _ are, built)

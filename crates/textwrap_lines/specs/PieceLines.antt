@@ -1,0 +1,124 @@
+-- Lines by first fit that are found piece by piece, by where the pieces stand.
+use Rattle.std.specs.Prelude.{◌≡◌, ℕ, ◌+◌, ◌-◌, ◌*◌, ◌≤◌, Bool, true, false, ◌&&◌, nat_lt, List, [], ◌∷◌}
+use Rattle.std.specs.Prelude.{if◌then◌else◌, slice_range, IsCharBoundary}
+use Rattle.textwrap_words.specs.PieceCuts.{pieces_at}
+use Rattle.textwrap_words.specs.Pieces.{stand_from}
+use Rattle.textwrap_words.specs.WordSplitters.{Splitter}
+use Rattle.textwrap_words.specs.declared.pieces.Piece.{Piece}
+use Rattle.textwrap_lines.specs.Layout.{break_limit}
+use Rattle.textwrap_lines.specs.Options.{Settings}
+use Rattle.textwrap_lines.specs.Paragraph.{assembled_line, first_width, indent_of, later_width}
+use Rattle.textwrap_lines.specs.Paragraph.{pieces_of}
+use Rattle.textwrap_lines.specs.Places.{CutLine, cut_line}
+use Rattle.textwrap_lines.specs.declared.piece_lines.OpenLine.{OpenLine}
+
+-- ---- the line that takes the next piece
+
+-- the text that it stands in, its width and indent, where it begins, where its pieces end without
+-- the whitespace of the last and with it, the columns of all that, and whether it has a piece
+pub record LineSoFar : Type 0 where
+  pub text : List ℕ
+  pub width : ℕ
+  pub indent : List ℕ
+  pub start : ℕ
+  pub word_end : ℕ
+  pub end : ℕ
+  pub columns : ℕ
+  pub begun : Bool
+
+abbrev pub no_pieces : List ℕ → ℕ → ℕ → List ℕ → LineSoFar
+no_pieces text start width indent = record {
+  text = text;
+  width = width;
+  indent = indent;
+  start = start;
+  word_end = start;
+  end = start;
+  columns = 0;
+  begun = false;
+}
+
+-- a line at the beginning of a text, of a piece without text if that is asked, and else without
+-- pieces
+abbrev pub first_so_far : List ℕ → ℕ → List ℕ → Bool → LineSoFar
+first_so_far text width indent has_front = record {
+  text = text;
+  width = width;
+  indent = indent;
+  start = 0;
+  word_end = 0;
+  end = 0;
+  columns = 0;
+  begun = has_front;
+}
+
+abbrev pub with_piece : LineSoFar → Piece → LineSoFar
+with_piece line piece = record {
+  text = line.text;
+  width = line.width;
+  indent = line.indent;
+  start = line.start;
+  word_end = piece.word_end;
+  end = piece.end;
+  columns = line.columns + (piece.width + (piece.end - piece.word_end));
+  begun = true;
+}
+
+abbrev pub line_so_far : OpenLine → LineSoFar
+line_so_far line = record {
+  text = line.text.now;
+  width = line.width;
+  indent = line.indent.now;
+  start = line.start;
+  word_end = line.word_end;
+  end = line.end;
+  columns = line.columns;
+  begun = line.begun;
+}
+
+-- a piece stands after the place, characters end where its word and its whitespace do, and its
+-- columns are at most twice its bytes
+pub record ComesAt (text : List ℕ) (at : ℕ) (piece : Piece) : Type 0 where
+  pub from : at ≤ piece.word_end
+  pub order : piece.word_end ≤ piece.end
+  pub word_ends : IsCharBoundary text piece.word_end
+  pub ends : IsCharBoundary text piece.end
+  pub width : piece.width + 2 * at ≤ 2 * piece.word_end
+
+-- ---- the lines
+
+-- a line without pieces is empty
+abbrev pub line_of : Bool → LineSoFar → CutLine
+line_of keeps_blanks line =
+    cut_line line.start (assembled_line (if line.begun then line.indent else [])
+    (slice_range line.text line.start (if keeps_blanks then line.end else line.word_end)) [])
+
+-- the line has a piece, and no room for one more
+abbrev pub is_past : LineSoFar → Piece → Bool
+is_past line piece = line.begun && nat_lt line.width (line.columns + piece.width)
+
+module _ (settings : Settings) where
+  -- the lines, where these pieces follow those on the line
+  abbrev pub lines_from : LineSoFar → List Piece → List CutLine
+  lines_from line [] = line_of settings.preserve_trailing_space line ∷ []
+  lines_from line (p ∷ ps) =
+      if is_past line p
+      then line_of settings.preserve_trailing_space line
+      ∷ lines_from (with_piece (no_pieces line.text line.end (later_width settings)
+      settings.subsequent_indent) p) ps
+      else lines_from (with_piece line p) ps
+
+  -- the lines of these pieces, which follow those on the line: none where none is left
+  abbrev pub lines_left : LineSoFar → List Piece → List CutLine
+  lines_left line [] = []
+  lines_left line (p ∷ ps) = lines_from line (p ∷ ps)
+
+  -- of the lines of a paragraph this is the first, and it goes up to a place: the others are those
+  -- of the pieces from there on
+  abbrev pub IsFirstUpTo : Splitter → Bool → List ℕ → CutLine → ℕ → Type 0
+  IsFirstUpTo splitter is_later text line end =
+      lines_from (no_pieces text 0 (first_width settings is_later) (indent_of settings is_later))
+      (stand_from 0 (pieces_of settings splitter text))
+      ≡ line
+      ∷ lines_left (no_pieces text end (later_width settings) settings.subsequent_indent)
+      (stand_from end (pieces_at splitter (break_limit settings) text end))

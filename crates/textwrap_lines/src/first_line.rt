@@ -1,0 +1,64 @@
+//! The first line of a paragraph by first fit, found piece by piece, and where it ends. The pieces
+//! after it do not depend on it, so the other lines can be found in another way.
+ghost use Rattle.std.specs.Prelude.{◌≡◌, List, [], ◌∷◌, IsCharBoundary, IfOk};
+ghost use Rattle.textwrap_words.specs.Pieces.{as_splitter};
+ghost use Rattle.textwrap_lines.specs.LineSinks.{Took};
+ghost use Rattle.textwrap_lines.specs.Options.{settings_view};
+ghost use Rattle.textwrap_lines.specs.Places.{CutLine};
+ghost use Rattle.textwrap_lines.specs.PieceLines.{IsFirstUpTo, line_of, line_so_far};
+
+use crate::layout::{break_limit, has_front, line_widths, next_indent};
+use crate::line_sinks::LineSink;
+use crate::options::Options;
+use crate::piece_lines::OpenLine;
+use std::alloc::{AllocError, Allocator};
+use textwrap_words::inner::{BuiltInSplitter, next_piece};
+
+/// Pushes the first line of a paragraph by first fit, with words split by the splitter, and returns
+/// where it ends. `is_later` says that a line stands before it.
+///
+/// # Errors
+/// [`AllocError`] where memory runs out.
+pub(crate) fn push_first_line<'t, A: Allocator + Copy>(
+    alloc: A,
+    paragraph: &'t str,
+    options: &Options<'_>,
+    is_later: bool,
+    splitter: BuiltInSplitter,
+    lines: &mut LineSink<'t, A>,
+) -> Result<usize, AllocError>
+    ensures boundary { IfOk result (λ end. IsCharBoundary paragraph.now end) }
+    ensures first { IfOk result (λ end. (line : CutLine) × Took lines.old lines.new (line ∷ [])
+        × IsFirstUpTo (settings_view options.now) (as_splitter splitter) is_later paragraph.now
+        line end) }
+{
+    let line = first_line(paragraph, options, is_later, splitter);
+    line.push_to(alloc, options.preserve_trailing_space, lines)?;
+    Ok(line.end)
+}
+
+/// The first line of a paragraph, with all pieces that have room on it.
+fn first_line<'t, 'a>(
+    paragraph: &'t str,
+    options: &Options<'a>,
+    is_later: bool,
+    splitter: BuiltInSplitter,
+) -> OpenLine<'t, 'a>
+    ensures text { result.text.now ≡ paragraph.now }
+    ensures first { IsFirstUpTo (settings_view options.now) (as_splitter splitter) is_later
+        paragraph.now (line_of (settings_view options.now).preserve_trailing_space
+        (line_so_far result)) result.end }
+{
+    let (first_width, _) = line_widths(options, is_later);
+    let limit = break_limit(options);
+    let indent = next_indent(options, is_later);
+    let mut line = OpenLine::first(paragraph, first_width, indent, has_front(options));
+    while line.end < paragraph.len() {
+        let piece = next_piece(paragraph, line.end, limit, splitter);
+        if line.is_past(&piece) {
+            return line;
+        }
+        line.take(&piece);
+    }
+    line
+}

@@ -1,0 +1,2 @@
+//! What the crates above need beside the public calls, which `textwrap` does not pass on.
+pub use crate::options::DEFAULTS;

@@ -1,0 +1,165 @@
+//! Lines by first fit that are found piece by piece: of the line that takes the next piece, a few
+//! numbers are kept, and no list of words.
+ghost use Rattle.std.specs.Prelude.{◌≡◌, ℕ, ◌*◌, ◌^◌, ◌+◌, ◌<◌, ◌≤◌, List, [], ◌∷◌, length};
+ghost use Rattle.std.specs.Prelude.{IsCharBoundary, OnOk};
+ghost use Rattle.textwrap_base.specs.Division.{IsGreedy};
+ghost use Rattle.textwrap_words.specs.Pieces.{as_splitter};
+ghost use Rattle.textwrap_words.specs.Words.{WordText, sizes_of};
+ghost use Rattle.textwrap_lines.specs.LineSinks.{Took};
+ghost use Rattle.textwrap_lines.specs.Options.{settings_view};
+ghost use Rattle.textwrap_lines.specs.Paragraph.{parts_from, pieces_of, text_limit};
+ghost use Rattle.textwrap_lines.specs.Paragraph.{widths_of};
+ghost use Rattle.textwrap_lines.specs.Places.{cut_lines};
+
+use crate::layout::{line_widths, next_indent, paragraph_pieces};
+use crate::line_sinks::LineSink;
+use crate::options::Options;
+use std::alloc::{AllocError, Allocator};
+use textwrap_words::inner::{BuiltInSplitter, Piece};
+
+/// The line that takes the next piece.
+#[derive(Clone, Copy)]
+pub(crate) struct OpenLine<'t, 'a> {
+    /// The paragraph that it stands in.
+    text: &'t str,
+    width: usize,
+    indent: &'a str,
+    /// Where it begins.
+    start: usize,
+    /// Where its pieces end, without the whitespace of the last.
+    word_end: usize,
+    /// Where they end with it.
+    pub(crate) end: usize,
+    /// The columns of the pieces and of all their whitespace.
+    columns: usize,
+    /// Whether the line has a piece.
+    begun: bool,
+    ghost limit: { length text.now < text_limit },
+    ghost starts: { IsCharBoundary text.now start },
+    ghost word_ends: { IsCharBoundary text.now word_end },
+    ghost ends: { IsCharBoundary text.now end },
+    ghost some: { start ≤ word_end },
+    ghost order: { word_end ≤ end },
+    ghost bounded: { columns ≤ 2 * end },
+}
+
+/// Pushes the lines of a paragraph by first fit, with words split by the splitter. `is_later` says
+/// that a line stands before it.
+///
+/// # Errors
+/// [`AllocError`] where memory runs out.
+pub(crate) fn push_lines_by_pieces<'t, A: Allocator + Copy>(
+    alloc: A,
+    paragraph: &'t str,
+    options: &Options<'_>,
+    is_later: bool,
+    splitter: BuiltInSplitter,
+    lines: &mut LineSink<'t, A>,
+) -> Result<(), AllocError>
+    ensures { OnOk result ((division : List (List WordText))
+        × IsGreedy sizes_of (widths_of (settings_view options.now) is_later)
+        (pieces_of (settings_view options.now) (as_splitter splitter) paragraph.now) division
+        × Took lines.old lines.new (cut_lines 0
+        (parts_from (settings_view options.now) is_later division))) }
+{
+    let (first_width, later_width) = line_widths(options, is_later);
+    let mut line = OpenLine::at(paragraph, 0, first_width, next_indent(options, is_later));
+    for piece in paragraph_pieces(paragraph, options, splitter) {
+        if line.is_past(&piece) {
+            line.push_to(alloc, options.preserve_trailing_space, lines)?;
+            line = OpenLine::at(line.text, line.end, later_width, options.subsequent_indent);
+        }
+        line.take(&piece);
+    }
+    line.push_to(alloc, options.preserve_trailing_space, lines)
+}
+
+impl<'t, 'a> OpenLine<'t, 'a> {
+    ghost use Rattle.textwrap_lines.specs.PieceLines.{first_so_far, is_past, line_of, line_so_far};
+    ghost use Rattle.textwrap_lines.specs.PieceLines.{no_pieces, with_piece, ComesAt};
+
+    /// A line without pieces, from a place in a text on.
+    fn at(text: &'t str, start: usize, width: usize, indent: &'a str) -> OpenLine<'t, 'a>
+        requires { IsCharBoundary text.now start }
+        ensures { line_so_far result ≡ no_pieces text.now start width indent.now }
+    {
+        OpenLine {
+            text,
+            width,
+            indent,
+            start,
+            word_end: start,
+            end: start,
+            columns: 0,
+            begun: false,
+        }
+    }
+
+    /// A line at the beginning of a text, of a piece without text if `has_front` says so.
+    pub(crate) fn first(
+        text: &'t str,
+        width: usize,
+        indent: &'a str,
+        has_front: bool,
+    ) -> OpenLine<'t, 'a>
+        ensures { line_so_far result ≡ first_so_far text.now width indent.now has_front }
+    {
+        OpenLine {
+            text,
+            width,
+            indent,
+            start: 0,
+            word_end: 0,
+            end: 0,
+            columns: 0,
+            begun: has_front,
+        }
+    }
+
+    /// Whether the line has a piece already, and no room for this one.
+    pub(crate) fn is_past(&self, piece: &Piece) -> bool
+        requires { ComesAt self.now.text.now self.now.end piece.now }
+        ensures { result ≡ is_past (line_so_far self.now) piece.now }
+    {
+        self.begun && self.columns + piece.width > self.width
+    }
+
+    /// Takes one more piece.
+    pub(crate) fn take(&mut self, piece: &Piece)
+        requires { ComesAt self.old.text.now self.old.end piece.now }
+        ensures { line_so_far self.new ≡ with_piece (line_so_far self.old) piece.now }
+    {
+        *self = OpenLine {
+            text: self.text,
+            width: self.width,
+            indent: self.indent,
+            start: self.start,
+            word_end: piece.word_end,
+            end: piece.end,
+            columns: self.columns + (piece.width + (piece.end - piece.word_end)),
+            begun: true,
+        };
+    }
+
+    /// Pushes the line. A line without pieces is empty.
+    ///
+    /// # Errors
+    /// [`AllocError`] where memory runs out.
+    pub(crate) fn push_to<A: Allocator + Copy>(
+        &self,
+        alloc: A,
+        keeps_blanks: bool,
+        lines: &mut LineSink<'t, A>,
+    ) -> Result<(), AllocError>
+        ensures { OnOk result (Took lines.old lines.new
+            (line_of keeps_blanks (line_so_far self.now) ∷ [])) }
+    {
+        let indent = if self.begun { self.indent } else { "" };
+        let end = if keeps_blanks {
+            self.end
+        } else {
+            self.word_end
+        };
+        lines.push_line(alloc, indent, self.start, &self.text[self.start..end], "")
+    }
+}

@@ -1,0 +1,11 @@
+use Rattle.std.proofs.Common.{drop, map, ap, sym, ◌∙◌}
+use Rattle.std.specs.Str.Lines.{lines}
+use Rattle.textwrap.specs.Refilling.{line_prefix}
+use Rattle.textwrap_uses.proofs.comments.common_mark.Goals as goal
+
+pub returns : goal.returns
+returns c = record {
+  common = λ prefix is. ap (λ settings. settings.subsequent_indent) c.in_ok-_text.ensures.settings
+      ∙ sym ((c.common_prefixes_are_unique.ensures
+      (map line_prefix (drop 1 (lines c.args.comment.now))) prefix).0 is);
+}

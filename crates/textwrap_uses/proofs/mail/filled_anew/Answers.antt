@@ -1,0 +1,12 @@
+use Rattle.std.proofs.Common.{refl, string_bytes}
+use Rattle.textwrap.specs.Options.{settings_at, default_algorithm}
+use Rattle.textwrap.specs.WordSplitters.{AtHyphens}
+use Rattle.textwrap_uses.proofs.mail.filled_anew.Goals as goal
+
+pub returns-clause-filled : goal.returns-clause-filled
+returns-clause-filled c = λ plain.
+    (c.refilling_is_filling.ensures.refilled (settings_at c.args.width) AtHyphens
+    default_algorithm c.args.paragraph.now (string_bytes c.in_ok-filled.filled)
+    (record { initial = refl; subsequent = refl }) plain).0
+    (c.in_ok-filled.ensures.built_in (settings_at c.args.width) AtHyphens default_algorithm
+    c.new.ensures)

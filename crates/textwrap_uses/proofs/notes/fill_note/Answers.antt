@@ -1,0 +1,12 @@
+use Rattle.std.proofs.Common.{string_bytes}
+use Rattle.std.proofs.lemmas.Result.{on_ok_weaker}
+use Rattle.std.proofs.lemmas.Str.{IsUtf8-string_bytes}
+use Rattle.textwrap_uses.proofs.notes.fill_note.Goals as goal
+
+pub returns-clause-wrapped : goal.returns-clause-wrapped
+returns-clause-wrapped c =
+    let note = c.args.note.now in
+    on_ok_weaker c.fill_inplace.result (λ filled narrow.
+    c.filled_in_place_is_wrapped.ensures.wrapped c.args.width (string_bytes note)
+    (string_bytes c.fill_inplace.new.text) (IsUtf8-string_bytes note) narrow filled)
+    c.fill_inplace.ensures.filled

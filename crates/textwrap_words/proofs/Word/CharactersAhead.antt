@@ -1,0 +1,124 @@
+-- A character that begins at a place of a text: where other characters end, and its bytes.
+use Rattle.textwrap_base.proofs.Common.{inl, inr, ◌≡◌, ◌≢◌, ℕ, ◌+◌, ◌-◌, ◌<◌, ◌≤◌, false, not, ◌&&◌}
+use Rattle.textwrap_base.proofs.Common.{◌||◌, List, [], ◌∷◌, ◌++◌, length, drop, get_or, refl, sym}
+use Rattle.textwrap_base.proofs.Common.{ap, ◌∙◌, arith, slice_range, cases_lt, cases_Bool, eqb-true}
+use Rattle.textwrap_base.proofs.Common.{length-append, drop_split, get_or-take, get_or-drop, IsUtf8}
+use Rattle.textwrap_base.proofs.Common.{IsCharBoundary, IsUtf8-between, IsUtf8-drop, chars-append}
+use Rattle.textwrap_base.proofs.Common.{chars_past_char, encodes-chars, encode_utf8_all}
+use Rattle.textwrap_base.proofs.Common.{length-drop, IsCharBoundary-after_ascii}
+use Rattle.textwrap_words.proofs.Common.{is_blank, Splitter}
+use Rattle.std.specs.Prelude.{chars, encode_utf8}
+use Rattle.std.proofs.lemmas.Str.{encode_ascii, IsCharBoundary-before_ascii}
+use Rattle.textwrap_words.specs.PieceCuts.{is_point, is_piece_cut}
+use Rattle.textwrap_base.proofs.Characters.{one-byte, some-bytes}
+use Rattle.textwrap_base.proofs.Lists.Parts.{length-slice}
+use Rattle.textwrap_words.proofs.Word.Splitting.{after-hyphen_byte}
+use Rattle.textwrap_words.proofs.Word.PieceBoundaries.{point-hyphen}
+
+module _ (text : List ℕ) (place c : ℕ) (after : List ℕ)
+    (is : drop place text ≡ encode_utf8 c ++ after) where
+  pub ends-within : place + length (encode_utf8 c) ≤ length text
+  ends-within = omega (
+    arith,
+    length-drop place text,
+    ap length is,
+    length-append (encode_utf8 c) after,
+    some-bytes c,
+  )
+
+  pub starts-within : place < length text
+  starts-within = omega (arith, ends-within, some-bytes c)
+
+  pub ascii-here : c < 128 → get_or text place 0 ≡ c
+  ascii-here low =
+      let at : place ≡ place + 0 = omega arith in
+      ap (λ k. get_or text k 0) at ∙ sym (get_or-drop place text 0 0)
+      ∙ ap (λ l. get_or l 0 0) is ∙ ap (λ bs. get_or (bs ++ after) 0 0) (encode_ascii c low)
+
+module _ (text : List ℕ) (utf8 : IsUtf8 text) (place c : ℕ) (after : List ℕ)
+    (here : IsCharBoundary text place) (is : drop place text ≡ encode_utf8 c ++ after) where
+  -- up to wherever a later character ends, it is the first
+  pub first-character : (v : ℕ) → place < v → IsCharBoundary text v
+      → (ds : List ℕ) × (chars (slice_range text place v) ≡ c ∷ ds)
+  first-character v later cut =
+      let slice = slice_range text place v in
+      let own = IsUtf8-between text place v utf8 (omega (arith, later)) here cut in
+      let len = length-slice text place v cut.0 in
+      by (chars slice) (chars (drop v text)) (sym (chars_past_char (drop place text) after c
+      (IsUtf8-drop text place utf8 here) is)
+      ∙ ap chars (drop_split text place v (omega (arith, later)))
+      ∙ chars-append slice (drop v text) own)
+      (λ none. absurd (omega (
+        arith,
+        later,
+        len,
+        ap length (sym (encodes-chars slice own)
+            ∙ ap encode_utf8_all none),
+      )))
+    where
+      by : (cs rest : List ℕ) → c ∷ chars after ≡ cs ++ rest → (cs ≡ [] → ⊥)
+          → (ds : List ℕ) × (cs ≡ c ∷ ds)
+      by [] rest both some = absurd (some refl)
+      by (d ∷ ds) rest both some = (ds, ap (λ x. x ∷ ds) (sym (ap (λ l. get_or l 0 0) both)))
+
+  -- the bytes of a part that begins with it
+  pub first-bytes : (v : ℕ) → place < v → IsCharBoundary text v
+      → (rest : List ℕ) × (slice_range text place v ≡ encode_utf8 c ++ rest)
+  first-bytes v later cut =
+      let first = first-character v later cut in (
+        encode_utf8_all first.0,
+        sym (encodes-chars (slice_range text place v) (IsUtf8-between text place v utf8
+            (omega (arith, later)) here cut)) ∙ ap encode_utf8_all first.1,
+      )
+
+  pub character-within : (v : ℕ) → place < v → IsCharBoundary text v
+      → place + length (encode_utf8 c) ≤ v
+  character-within v later cut =
+      let first = first-bytes v later cut in
+      omega (
+        arith,
+        later,
+        length-slice text place v cut.0,
+        ap length first.1,
+        length-append (encode_utf8 c) first.0,
+      )
+
+  -- a byte of ASCII in it is the whole character
+  ascii-byte : (k b : ℕ) → place ≤ k → k < place + length (encode_utf8 c) → k < length text
+      → get_or text k 0 ≡ b → b < 128 → (k ≡ place) × (c ≡ b)
+  ascii-byte k b from below inside byte ascii = elim (cases_lt place k) [
+    | inl past ↦
+        grind (arith, character-within, IsCharBoundary-before_ascii)
+    | inr none ↦
+        let same : k ≡ place = omega (arith, none, from) in
+        let v = place + 1 in
+        let cut = IsCharBoundary-after_ascii text place utf8 (omega (arith, same, inside))
+        (omega (arith, ap (λ n. get_or text n 0) (sym same) ∙ byte, ascii)) in
+        grind (arith, first-character, length-slice, get_or-take, get_or-drop, one-byte)
+  ]
+
+  module _ (other : c ≢ 32) where
+    pub plain-bytes : (k : ℕ) → place ≤ k → k < place + length (encode_utf8 c) → k < length text
+        → is_blank (get_or text k 0) ≡ false
+    plain-bytes k from below inside = grind (arith, cases_Bool, ascii-byte, eqb-true)
+
+    -- no piece ends in it, nor after it, unless the splitter has a point there
+    pub uncut-bytes : (splitter : Splitter) (k : ℕ) → place < k
+        → k ≤ place + length (encode_utf8 c) → k < length text
+        → (k ≡ place + length (encode_utf8 c) → c ≡ 45 → is_point splitter text k ≡ false)
+        → is_piece_cut splitter text k ≡ false
+    uncut-bytes splitter k past most inside point =
+        let here = get_or text k 0 in
+        let plain = plain-bytes (k - 1) (omega (arith, past)) (omega (arith, past, most))
+        (omega (arith, inside)) in
+        let none : is_point splitter text k ≡ false = elim (cases_Bool (is_point splitter text k)) [
+          | inr none ↦ none
+          | inl is ↦
+              let byte = point-hyphen splitter text k (omega (arith, past)) inside is in
+              let first = ascii-byte (k - 1) 45 (omega (arith, past)) (omega (arith, past, most))
+              (omega (arith, inside)) byte (omega arith) in
+              let end = character-within k past (after-hyphen_byte text k utf8 (omega (arith, past))
+              inside byte) in
+              point (omega (arith, end, most)) first.1
+        ] in
+        ap (λ t. (t && not (is_blank here)) || is_point splitter text k) plain ∙ none

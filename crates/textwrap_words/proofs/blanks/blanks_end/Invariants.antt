@@ -1,0 +1,10 @@
+use Rattle.textwrap_words.proofs.blanks.blanks_end.Given as goal
+use Rattle.textwrap_base.proofs.Common.{length, ◌-◌, ◌≤◌}
+use Rattle.textwrap_words.proofs.Common.{BlanksBetween}
+
+abbrev pub invariant-loop-end : goal.invariant-loop-end
+invariant-loop-end l =
+    (l.start ≤ l.end) × (l.end ≤ length l.text) × BlanksBetween l.text l.start l.end
+
+abbrev pub decreases-loop-end : goal.decreases-loop-end
+decreases-loop-end l = length l.text - l.end

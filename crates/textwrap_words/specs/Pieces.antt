@@ -1,0 +1,54 @@
+-- Pieces by where they stand in a text, and how the first of them is found.
+use Rattle.std.specs.Prelude.{◌≡◌, ◌≢◌, ℕ, ◌+◌, ◌<◌, ◌≤◌, false, List, [], ◌∷◌}
+use Rattle.std.specs.Prelude.{length, slice_index, slice_range, IsCharBoundary}
+use Rattle.textwrap_words.specs.Blanks.{blank, is_blank, BlanksBetween}
+use Rattle.textwrap_words.specs.PieceCuts.{pieces_at}
+use Rattle.textwrap_words.specs.Units.{IsPrintableByte}
+use Rattle.textwrap_words.specs.WordSplitters.{hyphen, Splitter, Whole, AtHyphens}
+use Rattle.textwrap_words.specs.Words.{WordText}
+use Rattle.textwrap_words.specs.declared.pieces.BuiltInSplitter.{BuiltInSplitter}
+use Rattle.textwrap_words.specs.declared.pieces.BuiltInSplitter.TheVariants.{NoHyphenation, HyphenSplitter}
+use Rattle.textwrap_words.specs.declared.pieces.Piece.{Piece}
+
+-- the splitter of the definitions
+abbrev pub as_splitter : BuiltInSplitter → Splitter
+as_splitter NoHyphenation = Whole
+as_splitter HyphenSplitter = AtHyphens
+
+-- where words stand, one after another, of which the first begins at the place
+abbrev pub stand_from : ℕ → List WordText → List Piece
+stand_from at [] = []
+stand_from at (w ∷ ws) =
+    record {
+      word_end = at + length w.word;
+      end = at + length w.word + length w.whitespace;
+      width = w.width;
+    }
+    ∷ stand_from (at + length w.word + length w.whitespace) ws
+
+-- a word without text, as a piece before the others
+abbrev pub empty_front : List WordText
+empty_front = record { word = []; whitespace = []; penalty = []; width = 0 } ∷ []
+
+-- printable ASCII, and neither a blank nor a hyphen
+pub record IsLetter (byte : ℕ) : Type 0 where
+  pub printable : IsPrintableByte byte
+  pub not_blank : byte ≢ blank
+  pub not_hyphen : byte ≢ hyphen
+
+-- the first piece from the one place on has the word up to the other, of so many columns, and all
+-- blanks after that
+pub record IsFirstWord (splitter : Splitter) (limit : ℕ) (text : List ℕ)
+    (at word_end width : ℕ) : Type 0 where
+  pub from : at ≤ word_end
+  pub boundary : IsCharBoundary text word_end
+  pub first : (end : ℕ) → word_end ≤ end → end ≤ length text → BlanksBetween text word_end end
+      → (end < length text → is_blank (slice_index text end) ≡ false)
+      → pieces_at splitter limit text at
+      ≡ record {
+        word = slice_range text at word_end;
+        whitespace = slice_range text word_end end;
+        penalty = [];
+        width = width;
+      }
+      ∷ pieces_at splitter limit text end

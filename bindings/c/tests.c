@@ -95,7 +95,7 @@ static void columns_are_counted(void) {
     CHECK(textwrap_display_width(bytes("Caf\xe9"), 4, &columns) == TEXTWRAP_NOT_UTF8 && columns == 4);
 }
 
-static void room_that_is_too_small_is_told(void) {
+static void room_that_is_too_small_is_reported(void) {
     textwrap_options o = textwrap_options_new(10);
     uint8_t room[11];
     size_t len = 0;
@@ -170,7 +170,7 @@ int main(void) {
     each_option_has_its_effect();
     options_without_a_meaning_are_refused();
     columns_are_counted();
-    room_that_is_too_small_is_told();
+    room_that_is_too_small_is_reported();
     lines_are_places();
     rows_are_written();
     filled_texts_are_unfilled_and_refilled();

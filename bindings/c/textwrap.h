@@ -27,8 +27,8 @@ enum textwrap_status {
     TEXTWRAP_DONE = 0,            /* the answer is written */
     TEXTWRAP_NOT_UTF8 = 1,        /* a text that was given is not UTF-8 */
     TEXTWRAP_OUT_OF_MEMORY = 2,   /* memory ran out */
-    TEXTWRAP_TOO_SMALL = 3,       /* the room is too small, and what suffices is told */
-    TEXTWRAP_UNKNOWN_OPTIONS = 4, /* another version, or a number that means nothing */
+    TEXTWRAP_TOO_SMALL = 3,       /* the room is too small, and what suffices is reported */
+    TEXTWRAP_UNKNOWN_OPTIONS = 4, /* another version, a number that means nothing, or no columns */
 };
 
 /* A text. */
@@ -58,8 +58,8 @@ typedef struct {
     size_t nline_penalty;            /* for each line */
     size_t overflow_penalty;         /* for each column past the width */
     size_t short_last_line_fraction; /* a last word narrower than width / this is short */
-    size_t short_last_line_penalty;  /* for a short last line of one word */
-    size_t hyphen_penalty;           /* for a line that ends in an added hyphen */
+    size_t short_last_line_penalty;  /* for a short last line of one piece */
+    size_t hyphen_penalty;           /* for a line that ends in an added hyphen; no splitter here adds any */
     size_t reserved_sizes[4];        /* 0 */
 } textwrap_options;
 
@@ -95,13 +95,14 @@ uint32_t textwrap_fill(const uint8_t *text, size_t text_len, const textwrap_opti
 typedef struct {
     size_t offset;   /* the bytes before it, in the text or in the room */
     size_t len;      /* its bytes */
-    size_t is_built; /* 1 where it stands in the room, and 0 where it is a part of the text */
+    size_t is_built; /* 1: the offset is into the room; 0: it is into the text */
 } textwrap_line;
 
-/* Writes where the lines of the text stand, and how many they are. A part of the text is told at the
+/* Writes where the lines of the text stand, and how many they are. A part of the text is reported at the
  * place that it was cut from, so an empty line at its own paragraph. Lines with an indent are
  * written to the room, one after another, and `len` is that of all of them; without indents no room
- * is needed. TOO_SMALL tells both `count` and `len`. */
+ * is needed. TOO_SMALL tells both `count` and `len`: a first call may lend no lines and no room
+ * (pointers that are not null, and lengths 0), and a second one what the first has told. */
 uint32_t textwrap_wrap(const uint8_t *text, size_t text_len, const textwrap_options *options,
                        textwrap_line *lines, size_t lines_len, size_t *count, uint8_t *room,
                        size_t room_len, size_t *len);
@@ -145,7 +146,8 @@ uint32_t textwrap_indent(const uint8_t *text, size_t text_len, const uint8_t *pr
 uint32_t textwrap_dedent(const uint8_t *text, size_t text_len, uint8_t *room, size_t room_len,
                          size_t *len);
 
-/* Fills a text in its own place: blanks of it become line feeds. */
+/* Fills a text in its own place: blanks of it become line feeds. It does so by first fit, keeps words
+ * whole, and takes each line of the text for a paragraph. DONE, NOT_UTF8 or OUT_OF_MEMORY. */
 uint32_t textwrap_fill_inplace(uint8_t *text, size_t text_len, size_t width);
 
 #ifdef __cplusplus

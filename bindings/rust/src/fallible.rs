@@ -143,7 +143,7 @@ pub fn unfill(text: &str) -> Result<(String, Options<'_>), OutOfMemory> {
 }
 
 /// Lines, as a call tells where they stand, and the room that those of their own are written to.
-fn told(
+fn reported(
     guess: usize,
     mut call: impl FnMut(&mut [sys::Line], &mut usize, &mut [u8], &mut usize) -> u32,
 ) -> Result<(Vec<sys::Line>, Vec<u8>), OutOfMemory> {
@@ -172,7 +172,7 @@ pub fn wrap<'t, 'a>(
 ) -> Result<Vec<Cow<'t, str>>, OutOfMemory> {
     let options = width_or_options.into().to_sys();
     let guess = text.len() / 16 + 4;
-    let (lines, room) = told(guess, |lines, count, room, len| {
+    let (lines, room) = reported(guess, |lines, count, room, len| {
         // SAFETY: as in `fill`.
         unsafe {
             let (at, lines_len) = (lines.as_mut_ptr(), lines.len());
@@ -213,7 +213,7 @@ pub fn wrap_columns<'a>(
         middle: middle_gap.into(),
         right: right_gap.into(),
     };
-    let (rows, room) = told(0, |rows, count, room, len| {
+    let (rows, room) = reported(0, |rows, count, room, len| {
         // SAFETY: as in `fill`.
         unsafe {
             let (at, rows_len) = (rows.as_mut_ptr(), rows.len());

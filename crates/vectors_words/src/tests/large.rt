@@ -1,7 +1,7 @@
 //! One large row for each call on words and lines that allocates. A body that gave up on what is
 //! longer than the rows of the other tables would pass those.
 use super::words::are_offsets;
-use std::alloc::Global;
+use std::alloc::{AllocError, Global};
 use std::process::Abort;
 use std::test::Fail;
 use textwrap::word_separators::{LineCuts, find_words_at};
@@ -61,7 +61,7 @@ fn words_at<'t>(
     alloc: Global,
     line: &'t str,
     offsets: &[usize],
-) -> Result<Vec<Word<'t>>, WrapError> {
+) -> Result<Vec<Word<'t>>, AllocError> {
     let visible = strip_ansi_escape_sequences(alloc, line)?;
     if !are_offsets(&visible, offsets) {
         return Ok(Vec::new(alloc));

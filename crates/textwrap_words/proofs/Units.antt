@@ -1,4 +1,5 @@
 pub mod Computed
+pub mod Measuring
 pub mod Parts
 pub mod Rows
 pub mod Sequences

@@ -1,16 +1,15 @@
 -- Lemmas on the units of a text and their columns.
 use Rattle.textwrap_base.proofs.Common.{inl, inr, cases_Bool, ◌≡◌, ℕ, zero, suc, ◌+◌, ◌*◌, ◌<◌, ◌≤◌}
-use Rattle.textwrap_base.proofs.Common.{Bool, false, cond, eqb, List, [], ◌∷◌, length, get_or}
-use Rattle.textwrap_base.proofs.Common.{drop, sym, ap, zero-add, ◌∙◌, arith, length-append}
+use Rattle.textwrap_base.proofs.Common.{Bool, false, cond, eqb, List, [], ◌∷◌, length}
+use Rattle.textwrap_base.proofs.Common.{sym, ap, zero-add, ◌∙◌, arith, length-append}
 use Rattle.textwrap_base.proofs.Common.{All, refl, flat_map, map, sum_by, IsUtf8, IsAscii}
 use Rattle.textwrap_base.proofs.Common.{cases_lt, get_or_past, nat_tests, All-head, All-tail, sum_by-cons}
-use Rattle.textwrap_base.proofs.Common.{sum_by-append, length-encode, encodes-chars, chars-IsAscii}
+use Rattle.textwrap_base.proofs.Common.{chars-nil, nil_from_length, sum_by-append, length-encode, encodes-chars, chars-IsAscii}
 use Rattle.textwrap_words.proofs.Common.{Visible, unit_at, taken_at}
 use Rattle.textwrap_words.proofs.Common.{units_past, visible_of, columns, text_width, IsNarrow}
 use Rattle.textwrap_words.proofs.Common.{units, IsPrintable, IsPrintableByte, visible_in}
 use Rattle.std.specs.Str.{chars}
 use lib.Utf8.{encode, encodes}
-use Rattle.std.proofs.lemmas.List.{at_drop_more}
 use Rattle.unicode_width.specs.Width.{char_width}
 use Rattle.unicode_width.proofs.Rules.{width_or_zero-le}
 use Rattle.textwrap_words.specs.declared.escapes.State.{State}
@@ -20,19 +19,22 @@ use Rattle.textwrap_words.proofs.Units.States.{IsStep}
 abbrev pub columns_in : State → List ℕ → ℕ
 columns_in state cs = sum_by columns (visible_in state cs)
 
--- one step over the character at place n
-pub columns_in-step : (state after : State) (is_visible : Bool) (cs : List ℕ) (n c : ℕ)
-    → (n < length cs) × (c ≡ get_or cs n c) → IsStep state c after is_visible
-    → columns_in state (drop n cs) ≡ cond is_visible (columns c) 0 + columns_in after
-    (drop (n + 1) cs)
-columns_in-step state after is_visible cs n c here step =
-    let rest = drop (n + 1) cs in
-    at_drop_more (columns_in state) cs n c here.0
-    ∙ ap (λ x. columns_in state (x ∷ rest)) (sym here.1) ∙ ap (sum_by columns) (step rest)
+-- one step over a character
+pub columns_in-step : (state after : State) (is_visible : Bool) (c : ℕ) (cs : List ℕ)
+    → IsStep state c after is_visible
+    → columns_in state (c ∷ cs) ≡ cond is_visible (columns c) 0 + columns_in after cs
+columns_in-step state after is_visible c cs step =
+    ap (sum_by columns) (step cs)
     ∙ elim (cases_Bool is_visible) [
-      | inl t ↦ rw t (sum_by-cons columns c (visible_in after rest))
-      | inr f ↦ rw f (sym (zero-add (columns_in after rest)))
+      | inl t ↦ rw t (sum_by-cons columns c (visible_in after cs))
+      | inr f ↦ rw f (sym (zero-add (columns_in after cs)))
     ]
+
+-- nothing has no columns
+pub columns_in-empty : (state : State) (text : List ℕ) → length text ≡ 0
+    → columns_in state (chars text) ≡ 0
+columns_in-empty state text none =
+    ap (λ bs. columns_in state (chars bs)) (nil_from_length text none) ∙ ap (columns_in state) chars-nil
 
 columns-ascii : (c : ℕ) → c < 128 → columns c ≤ 1
 unfolding char_width

@@ -5,7 +5,7 @@ use Rattle.textwrap_base.proofs.Common.{ap, ◌∙◌, arith, slice_range, cases
 use Rattle.textwrap_base.proofs.Common.{length-append, drop_split, get_or-take, get_or-drop, IsUtf8}
 use Rattle.textwrap_base.proofs.Common.{IsCharBoundary, IsUtf8-between, IsUtf8-drop, chars-append}
 use Rattle.textwrap_base.proofs.Common.{chars_past_char, encodes-chars, encode_utf8_all}
-use Rattle.textwrap_base.proofs.Common.{length-drop, IsCharBoundary-after_ascii}
+use Rattle.textwrap_base.proofs.Common.{length-drop, IsCharBoundary-after_ascii, drop_at, drop-drop}
 use Rattle.textwrap_words.proofs.Common.{is_blank, Splitter}
 use Rattle.std.specs.Prelude.{chars, encode_utf8}
 use Rattle.std.proofs.lemmas.Str.{encode_ascii, IsCharBoundary-before_ascii}
@@ -28,6 +28,11 @@ module _ (text : List ℕ) (place c : ℕ) (after : List ℕ)
 
   pub starts-within : place < length text
   starts-within = omega (arith, ends-within, some-bytes c)
+
+  pub left-after : drop (place + length (encode_utf8 c)) text ≡ after
+  left-after =
+      let len = length (encode_utf8 c) in
+      sym (drop-drop len place text) ∙ ap (drop len) is ∙ drop_at (encode_utf8 c) after len refl
 
   pub ascii-here : c < 128 → get_or text place 0 ≡ c
   ascii-here low =

@@ -1,11 +1,11 @@
 -- The reader of the first piece from a place on that finds the end of its word in the same pass: what
 -- it has seen of the word, whatever characters follow.
 use Rattle.textwrap_base.proofs.Common.{inl, inr, ◌≡◌, ◌≢◌, ℕ, ◌+◌, ◌*◌, ◌-◌, ◌<◌, ◌≤◌, Bool, true}
-use Rattle.textwrap_base.proofs.Common.{false, List, [], ◌∷◌, ◌++◌, length, drop, get_or, refl, sym}
+use Rattle.textwrap_base.proofs.Common.{false, List, [], ◌∷◌, ◌++◌, length, drop, get_or, sym}
 use Rattle.textwrap_base.proofs.Common.{ap, ◌∙◌, subst, arith, slice_range, cases_lt, append_assoc}
 use Rattle.textwrap_base.proofs.Common.{append-nil, IsUtf8, IsCharBoundary, IsUtf8-between}
 use Rattle.textwrap_base.proofs.Common.{IsUtf8-drop, IsUtf8-past_char, chars-append}
-use Rattle.textwrap_base.proofs.Common.{chars_past_char, chars-nil, take_at, drop_at, drop-drop}
+use Rattle.textwrap_base.proofs.Common.{chars_past_char, chars-nil, take_at}
 use Rattle.textwrap_words.proofs.Common.{is_blank, Visible, is_due, Splitter}
 use Rattle.std.specs.Prelude.{chars, encode_utf8}
 use Rattle.std.proofs.lemmas.Str.{IsCharBoundary-from_drop}
@@ -15,7 +15,8 @@ use Rattle.textwrap_words.specs.declared.escapes.State.TheVariants.{Text}
 use Rattle.textwrap_base.proofs.Lists.Parts.{length-slice}
 use Rattle.textwrap_base.proofs.Lists.Slices.{slices_joined, slice_after, slice-nil}
 use Rattle.textwrap_words.proofs.Units.States.{IsStep}
-use Rattle.textwrap_words.proofs.Word.CharactersAhead.{ends-within, plain-bytes, starts-within}
+use Rattle.textwrap_words.proofs.Word.CharactersAhead.{ends-within, left-after, plain-bytes}
+use Rattle.textwrap_words.proofs.Word.CharactersAhead.{starts-within}
 use Rattle.textwrap_words.proofs.Word.CharactersAhead.{uncut-bytes}
 use Rattle.textwrap_words.proofs.Word.FirstUnits.{IsInFirst, IsInFirst-start, added, IsInFirst-step}
 use Rattle.textwrap_words.proofs.Word.ReadPieces.{IsReading, added-le}
@@ -53,8 +54,7 @@ module _ (splitter : Splitter) (limit : ℕ) (text : List ℕ) (utf8 : IsUtf8 te
       let rest = IsUtf8-drop text place utf8 h.boundary in
       let within : end ≤ length text = ends-within text place c after is in
       let cut = IsCharBoundary-from_drop text end within
-      (subst IsUtf8 (sym (sym (drop-drop len place text) ∙ ap (drop len) is
-      ∙ drop_at (encode_utf8 c) after len refl))
+      (subst IsUtf8 (sym (left-after text place c after is))
       (IsUtf8-past_char (drop place text) after c rest is)) in
       let front = slice_range text at place in
       let part : slice_range text place end ≡ encode_utf8 c =

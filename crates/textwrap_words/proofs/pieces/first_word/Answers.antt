@@ -1,6 +1,6 @@
 use Rattle.textwrap_words.proofs.pieces.first_word.Goals as goal
 use Rattle.textwrap_base.proofs.Common.{◌≡◌, ◌+◌, false, length, drop, get_or, sym, ap, subst, ◌++◌}
-use Rattle.textwrap_base.proofs.Common.{◌∙◌, arith, char_indices_offset, true, true≢false, refl, and_parts, drop-drop, drop_at, lt-ltb}
+use Rattle.textwrap_base.proofs.Common.{◌∙◌, arith, char_indices_offset, true, true≢false, and_parts, lt-ltb}
 use Rattle.textwrap_base.proofs.Common.{length-drop, ◌&&◌, nat_lt}
 use Rattle.std.specs.Prelude.{encode_utf8}
 use Rattle.std.specs.Str.Iter.{char_indices_rest}
@@ -13,7 +13,7 @@ use Rattle.textwrap_words.proofs.Units.States.{IsStep}
 use Rattle.textwrap_words.proofs.Units.Widths.{columns-le}
 use Rattle.textwrap_words.proofs.Word.Breaking.{due-true, due-false}
 use Rattle.textwrap_base.proofs.Characters.{some-bytes}
-use Rattle.textwrap_words.proofs.Word.CharactersAhead.{ascii-here, ends-within, starts-within}
+use Rattle.textwrap_words.proofs.Word.CharactersAhead.{ascii-here, ends-within, left-after, starts-within}
 use Rattle.textwrap_words.proofs.Word.CharactersAhead.{uncut-bytes}
 use Rattle.textwrap_words.proofs.Word.FirstUnits.{added}
 use Rattle.textwrap_words.proofs.Word.ScannedCuts.{scanned-cut}
@@ -189,9 +189,7 @@ loop-after-preserved c =
     let end = start + char_indices_offset c.next.new.self in
     let same : place + length (encode_utf8 ch) ≡ end = omega (arith, s.2) in
     let rest : drop end text ≡ char_indices_rest c.next.new.self =
-    ap (λ k. drop k text) (sym same) ∙ sym (drop-drop (length (encode_utf8 ch)) place text)
-    ∙ ap (drop (length (encode_utf8 ch))) is
-    ∙ drop_at (encode_utf8 ch) (char_indices_rest c.next.new.self) (length (encode_utf8 ch)) refl in (
+    ap (λ k. drop k text) (sym same) ∙ left-after text place ch _ is in (
       subst (λ k. IsScanned splitter c.args.limit text c.args.at k c.step-next.result.0
           c.if-is_visible.width) same (past at.Joined-is_visible is),
       λ _ more.

@@ -1,10 +1,13 @@
 use Rattle.textwrap_words.proofs.words.display_width.Given as goal
-use Rattle.textwrap_base.proofs.Common.{◌≡◌, ◌+◌, length, drop}
+use Rattle.textwrap_base.proofs.Common.{◌≡◌, ◌+◌, length, shadow, Utf8}
 use Rattle.textwrap_words.proofs.Common.{text_width}
-use Rattle.std.specs.Str.{chars}
-use Rattle.textwrap_words.proofs.Units.Widths.{columns_in}
 
--- the columns so far, and those of the characters to come, are the whole
-abbrev pub invariant-loop-ch : goal.invariant-loop-ch
-invariant-loop-ch l = l.width + columns_in l.state (drop (length l.yielded) (chars l.text))
-    ≡ text_width l.text
+-- the columns so far, and those of what is left, are the whole
+abbrev pub invariant-loop-rest : goal.invariant-loop-rest
+invariant-loop-rest l = record {
+  columns : text_width l.text ≡ l.width + text_width l.rest;
+  utf8 : shadow (Utf8 l.rest);
+}
+
+abbrev pub decreases-loop-rest : goal.decreases-loop-rest
+decreases-loop-rest l = length l.rest

@@ -1,0 +1,46 @@
+use Rattle.textwrap_words.proofs.words.visible_columns.Goals as goal
+use Rattle.textwrap_base.proofs.Common.{◌≡◌, ◌≢◌, ◌+◌, sym, ap, subst, ◌∙◌, arith, get_or, ne_eqb, true}
+use Rattle.textwrap_base.proofs.Common.{char_indices_offset}
+use Rattle.std.specs.Str.Iter.{char_indices_rest}
+use Rattle.textwrap_words.proofs.Units.Measuring.{IsMeasured, measured-le, measured-start, measured-step}
+use Rattle.textwrap_words.proofs.Word.CharactersAhead.{ascii-here}
+use Rattle.textwrap_words.proofs.Units.States.{shown-step}
+use Rattle.textwrap_words.specs.declared.escapes.State.TheVariants.{Text}
+use Rattle.textwrap_words.proofs.words.visible_columns.Goals.{else-at-gt0-via-then-at-gt0+else-ch-eq27, else-at-gt0-via-else-at-gt0, After-columns-width}
+
+pub loop-at-init : goal.loop-at-init
+loop-at-init c =
+    let items = c.char_indices-at-items.ensures in
+    let same = c.into_iter-at-iterator.ensures.into_iter_gives in
+    measured-start c.args.text.now c.utf8.text _ _ (ap char_indices_offset same ∙ items.offset)
+    (ap char_indices_rest same ∙ items.rest)
+
+other : (c : After-columns-width) → c.in-Some.ch ≢ 27
+other c is = elim c.else-at-gt0.branch [
+  | else-at-gt0-via-else-at-gt0 w ↦
+      let s = c.in-Some.ensures.steps in
+      let text = c.args.text.now in
+      let place = char_indices_offset c.loop-at.at-iterator in
+      let start : place ≡ 0 = omega (arith, s.0, w.if-at-gt0.false) in
+      let byte = ascii-here text place c.in-Some.ch _ (c.loop-at.invariant.left ∙ s.1)
+      (omega (arith, is)) in
+      c.requires.visible (ap (λ k. get_or text k 0) (sym start) ∙ byte ∙ is)
+  | else-at-gt0-via-then-at-gt0+else-ch-eq27 w ↦ w.if-ch-eq27.false.1 is
+]
+
+past : (c : After-columns-width)
+    → IsMeasured c.args.text.now (char_indices_offset c.next.new.self)
+    (char_indices_rest c.next.new.self) Text (c.loop-at.width + c.columns-width.result)
+past c =
+    let s = c.in-Some.ensures.steps in
+    subst (IsMeasured c.args.text.now _ _ Text)
+    (ap (λ n. c.loop-at.width + n) (sym c.columns-width.ensures))
+    (measured-step c.args.text.now c.utf8.text _ _ c.in-Some.ch _ _ Text Text c.loop-at.width true
+    c.loop-at.invariant s.1 (omega (arith, s.2))
+    (shown-step c.in-Some.ch (ne_eqb c.in-Some.ch 27 (other c))))
+
+pub overflow_add-width : goal.overflow_add-width
+overflow_add-width c = omega (arith, measured-le c.args.text.now c.utf8.text _ _ _ _ (past c))
+
+pub loop-at-preserved : goal.loop-at-preserved
+loop-at-preserved c = past c

@@ -1,49 +1,177 @@
-/* How long a fill of standard input and one of a line of 40 bytes take in one process: the least of
- * many runs, by both algorithms at 80 and at 20 columns. */
+/* How long a call takes in one process: the least processor time of many runs, in nanoseconds a byte
+ * of the text on standard input.
+ *
+ * bench CALL WIDTH first|optimal */
 #define _POSIX_C_SOURCE 199309L
 #include <stdio.h>
 #include <stdlib.h>
+#include <string.h>
 #include <time.h>
 
 #include "textwrap.h"
 
-enum { MOST = 1 << 24 };
+enum { MOST = 1 << 27, RUNS = 25, ROOM = 2 };
+
+/* What a call works on. */
+typedef struct {
+    uint8_t *text;
+    size_t text_len;
+    textwrap_options options;
+    uint8_t *room;
+    size_t room_len;
+    textwrap_line *lines;
+    size_t lines_len;
+} work;
+
+static const uint8_t bullet[] = "* ", blanks[] = "  ";
+
+static textwrap_text text_of(const uint8_t *at) {
+    return (textwrap_text){at, strlen((const char *)at)};
+}
+
+static uint32_t display_width(work *w) {
+    size_t columns;
+    return textwrap_display_width(w->text, w->text_len, &columns);
+}
+
+static uint32_t fill(work *w) {
+    size_t len;
+    return textwrap_fill(w->text, w->text_len, &w->options, w->room, w->room_len, &len);
+}
+
+static uint32_t fill_indented(work *w) {
+    w->options.initial_indent = text_of(bullet);
+    w->options.subsequent_indent = text_of(blanks);
+    return fill(w);
+}
+
+static uint32_t fill_even(work *w) {
+    w->options.even_paragraphs = 1;
+    return fill_indented(w);
+}
+
+static uint32_t fill_preserving(work *w) {
+    w->options.preserve_trailing_space = 1;
+    return fill(w);
+}
+
+static uint32_t fill_unbroken(work *w) {
+    w->options.break_words = 0;
+    return fill(w);
+}
+
+static uint32_t wrap(work *w) {
+    size_t count, len;
+    return textwrap_wrap(w->text, w->text_len, &w->options, w->lines, w->lines_len, &count, w->room,
+                         w->room_len, &len);
+}
+
+static uint32_t wrap_indented(work *w) {
+    w->options.initial_indent = text_of(bullet);
+    w->options.subsequent_indent = text_of(blanks);
+    return wrap(w);
+}
+
+static uint32_t wrap_columns(work *w) {
+    const uint8_t bar[] = "|";
+    textwrap_gaps gaps = {text_of(bar), text_of(bar), text_of(bar)};
+    size_t count, len;
+    return textwrap_wrap_columns(w->text, w->text_len, 2, &w->options, &gaps, w->lines, w->lines_len,
+                                 &count, w->room, w->room_len, &len);
+}
+
+static uint32_t refill(work *w) {
+    size_t len;
+    return textwrap_refill(w->text, w->text_len, &w->options, w->room, w->room_len, &len);
+}
+
+static uint32_t unfill(work *w) {
+    size_t len;
+    textwrap_layout layout;
+    return textwrap_unfill(w->text, w->text_len, w->room, w->room_len, &len, &layout);
+}
+
+static uint32_t indent(work *w) {
+    size_t len;
+    return textwrap_indent(w->text, w->text_len, blanks, 2, w->room, w->room_len, &len);
+}
+
+static uint32_t dedent(work *w) {
+    size_t len;
+    return textwrap_dedent(w->text, w->text_len, w->room, w->room_len, &len);
+}
+
+static uint32_t fill_inplace(work *w) {
+    memcpy(w->room, w->text, w->text_len);
+    return textwrap_fill_inplace(w->room, w->text_len, w->options.width);
+}
+
+typedef struct {
+    const char *name;
+    uint32_t (*call)(work *);
+} named_call;
+
+static const named_call calls[] = {
+    {"display_width", display_width},
+    {"fill", fill},
+    {"fill_indented", fill_indented},
+    {"fill_even", fill_even},
+    {"fill_preserving", fill_preserving},
+    {"fill_unbroken", fill_unbroken},
+    {"wrap", wrap},
+    {"wrap_indented", wrap_indented},
+    {"wrap_columns", wrap_columns},
+    {"refill", refill},
+    {"unfill", unfill},
+    {"indent", indent},
+    {"dedent", dedent},
+    {"fill_inplace", fill_inplace},
+};
 
 static double seconds(void) {
     struct timespec now;
-    clock_gettime(CLOCK_MONOTONIC, &now);
+    clock_gettime(CLOCK_PROCESS_CPUTIME_ID, &now);
     return (double)now.tv_sec + (double)now.tv_nsec * 1e-9;
 }
 
-/* The least time of a call among so many runs of `repeats` calls each. */
-static double least(const uint8_t *text, size_t text_len, const textwrap_options *options,
-                    uint8_t *room, size_t room_len, int runs, int repeats) {
+static uint32_t (*call_of(const char *name))(work *) {
+    for (size_t i = 0; i < sizeof calls / sizeof *calls; i++)
+        if (strcmp(calls[i].name, name) == 0) return calls[i].call;
+    return NULL;
+}
+
+/* The least time of a call among the runs, -1 if one fails. Short texts are done many times a run. */
+static double least_time(uint32_t (*call)(work *), work *w) {
     double least = 1e9;
-    for (int run = 0; run < runs; run++) {
-        size_t len = 0;
+    size_t repeats = 1 + 100000 / (w->text_len + 1);
+    for (int run = 0; run < RUNS; run++) {
         double start = seconds();
-        for (int i = 0; i < repeats; i++)
-            if (textwrap_fill(text, text_len, options, room, room_len, &len) != TEXTWRAP_DONE)
-                exit(1);
-        double time = (seconds() - start) / repeats;
+        for (size_t i = 0; i < repeats; i++)
+            if (call(w) != TEXTWRAP_DONE) return -1;
+        double time = (seconds() - start) / (double)repeats;
         if (time < least) least = time;
     }
     return least;
 }
 
-int main(void) {
-    uint8_t *text = malloc(MOST), *room = malloc(2 * (size_t)MOST);
-    if (text == NULL || room == NULL) return 1;
-    size_t len = fread(text, 1, MOST, stdin);
-    const uint8_t line[] = "A line of forty bytes, for the small end";
-    for (int i = 0; i < 4; i++) {
-        textwrap_options options = textwrap_options_new(i % 2 == 0 ? 80 : 20);
-        options.optimal_fit = i / 2;
-        double whole = least(text, len, &options, room, 2 * (size_t)MOST, 15, 1);
-        double small = least(line, sizeof line - 1, &options, room, 64, 15, 10000);
-        printf("%s at %zu columns: %zu bytes in %.3f ms, 40 bytes in %.0f ns\n",
-               options.optimal_fit ? "optimal fit" : "first fit", options.width, len, whole * 1e3,
-               small * 1e9);
+int main(int argc, char **argv) {
+    uint32_t (*call)(work *) = argc == 4 ? call_of(argv[1]) : NULL;
+    if (call == NULL) {
+        fputs("usage: bench CALL WIDTH first|optimal\n", stderr);
+        return 2;
     }
+    work w = {.text = malloc(MOST)};
+    if (w.text == NULL) return 1;
+    w.text_len = fread(w.text, 1, MOST, stdin);
+    w.room_len = 4096 + 8 * w.text_len;
+    w.lines_len = w.text_len + 1;
+    w.room = malloc(w.room_len);
+    w.lines = malloc(w.lines_len * sizeof *w.lines);
+    if (w.room == NULL || w.lines == NULL) return 1;
+    w.options = textwrap_options_new(strtoul(argv[2], NULL, 10));
+    w.options.optimal_fit = strcmp(argv[3], "optimal") == 0;
+    double time = least_time(call, &w);
+    if (time < 0) return 1;
+    printf("%.2f\n", time * 1e9 / (double)w.text_len);
     return 0;
 }

@@ -29,50 +29,50 @@ static textwrap_text text_of(const uint8_t *at) {
     return (textwrap_text){at, strlen((const char *)at)};
 }
 
-static uint32_t display_width(work *w) {
+static textwrap_status display_width(work *w) {
     size_t columns;
     return textwrap_display_width(w->text, w->text_len, &columns);
 }
 
-static uint32_t fill(work *w) {
+static textwrap_status fill(work *w) {
     size_t len;
     return textwrap_fill(w->text, w->text_len, &w->options, w->room, w->room_len, &len);
 }
 
-static uint32_t fill_indented(work *w) {
+static textwrap_status fill_indented(work *w) {
     w->options.initial_indent = text_of(bullet);
     w->options.subsequent_indent = text_of(blanks);
     return fill(w);
 }
 
-static uint32_t fill_even(work *w) {
+static textwrap_status fill_even(work *w) {
     w->options.even_paragraphs = 1;
     return fill_indented(w);
 }
 
-static uint32_t fill_preserving(work *w) {
+static textwrap_status fill_preserving(work *w) {
     w->options.preserve_trailing_space = 1;
     return fill(w);
 }
 
-static uint32_t fill_unbroken(work *w) {
+static textwrap_status fill_unbroken(work *w) {
     w->options.break_words = 0;
     return fill(w);
 }
 
-static uint32_t wrap(work *w) {
+static textwrap_status wrap(work *w) {
     size_t count, len;
     return textwrap_wrap(w->text, w->text_len, &w->options, w->lines, w->lines_len, &count, w->room,
                          w->room_len, &len);
 }
 
-static uint32_t wrap_indented(work *w) {
+static textwrap_status wrap_indented(work *w) {
     w->options.initial_indent = text_of(bullet);
     w->options.subsequent_indent = text_of(blanks);
     return wrap(w);
 }
 
-static uint32_t wrap_columns(work *w) {
+static textwrap_status wrap_columns(work *w) {
     const uint8_t bar[] = "|";
     textwrap_gaps gaps = {text_of(bar), text_of(bar), text_of(bar)};
     size_t count, len;
@@ -80,35 +80,35 @@ static uint32_t wrap_columns(work *w) {
                                  &count, w->room, w->room_len, &len);
 }
 
-static uint32_t refill(work *w) {
+static textwrap_status refill(work *w) {
     size_t len;
     return textwrap_refill(w->text, w->text_len, &w->options, w->room, w->room_len, &len);
 }
 
-static uint32_t unfill(work *w) {
+static textwrap_status unfill(work *w) {
     size_t len;
     textwrap_layout layout;
     return textwrap_unfill(w->text, w->text_len, w->room, w->room_len, &len, &layout);
 }
 
-static uint32_t indent(work *w) {
+static textwrap_status indent(work *w) {
     size_t len;
     return textwrap_indent(w->text, w->text_len, blanks, 2, w->room, w->room_len, &len);
 }
 
-static uint32_t dedent(work *w) {
+static textwrap_status dedent(work *w) {
     size_t len;
     return textwrap_dedent(w->text, w->text_len, w->room, w->room_len, &len);
 }
 
-static uint32_t fill_inplace(work *w) {
+static textwrap_status fill_inplace(work *w) {
     memcpy(w->room, w->text, w->text_len);
     return textwrap_fill_inplace(w->room, w->text_len, w->options.width);
 }
 
 typedef struct {
     const char *name;
-    uint32_t (*call)(work *);
+    textwrap_status (*call)(work *);
 } named_call;
 
 static const named_call calls[] = {
@@ -134,14 +134,14 @@ static double seconds(void) {
     return (double)now.tv_sec + (double)now.tv_nsec * 1e-9;
 }
 
-static uint32_t (*call_of(const char *name))(work *) {
+static textwrap_status (*call_of(const char *name))(work *) {
     for (size_t i = 0; i < sizeof calls / sizeof *calls; i++)
         if (strcmp(calls[i].name, name) == 0) return calls[i].call;
     return NULL;
 }
 
 /* The least time of a call among the runs, -1 if one fails. Short texts are done many times a run. */
-static double least_time(uint32_t (*call)(work *), work *w) {
+static double least_time(textwrap_status (*call)(work *), work *w) {
     double least = 1e9;
     size_t repeats = 1 + 100000 / (w->text_len + 1);
     for (int run = 0; run < RUNS; run++) {
@@ -155,7 +155,7 @@ static double least_time(uint32_t (*call)(work *), work *w) {
 }
 
 int main(int argc, char **argv) {
-    uint32_t (*call)(work *) = argc == 4 ? call_of(argv[1]) : NULL;
+    textwrap_status (*call)(work *) = argc == 4 ? call_of(argv[1]) : NULL;
     if (call == NULL) {
         fputs("usage: bench CALL WIDTH first|optimal\n", stderr);
         return 2;

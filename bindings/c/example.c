@@ -26,7 +26,7 @@ int main(void) {
     textwrap_options options = textwrap_options_new(40);
     size_t room_len = text_len + text_len / 8 + 64;
     uint8_t *room = malloc(room_len);
-    uint32_t status = TEXTWRAP_OUT_OF_MEMORY;
+    textwrap_status status = TEXTWRAP_OUT_OF_MEMORY;
     while (room != NULL) {
         status = textwrap_fill(text, text_len, &options, room, room_len, &len);
         if (status != TEXTWRAP_TOO_SMALL) break;

@@ -65,23 +65,23 @@ static textwrap_options options_of(uint32_t optimal_fit, int indents) {
     return options;
 }
 
-static uint32_t filled(struct lent *lent, uint32_t optimal_fit, int indents) {
+static textwrap_status filled(struct lent *lent, uint32_t optimal_fit, int indents) {
     textwrap_options o = options_of(optimal_fit, indents);
     return textwrap_fill(bytes(TEXT), strlen(TEXT), &o, lent->room, 256, &lent->len);
 }
 
-static uint32_t by_first_fit(struct lent *lent) { return filled(lent, 0, 0); }
-static uint32_t by_first_fit_indented(struct lent *lent) { return filled(lent, 0, 1); }
-static uint32_t by_optimal_fit(struct lent *lent) { return filled(lent, 1, 0); }
-static uint32_t by_optimal_fit_indented(struct lent *lent) { return filled(lent, 1, 1); }
+static textwrap_status by_first_fit(struct lent *lent) { return filled(lent, 0, 0); }
+static textwrap_status by_first_fit_indented(struct lent *lent) { return filled(lent, 0, 1); }
+static textwrap_status by_optimal_fit(struct lent *lent) { return filled(lent, 1, 0); }
+static textwrap_status by_optimal_fit_indented(struct lent *lent) { return filled(lent, 1, 1); }
 
-static uint32_t wrapped(struct lent *lent) {
+static textwrap_status wrapped(struct lent *lent) {
     textwrap_options o = options_of(1, 1);
     return textwrap_wrap(bytes(TEXT), strlen(TEXT), &o, lent->lines, 16, &lent->count, lent->room,
                          256, &lent->len);
 }
 
-static uint32_t in_columns(struct lent *lent) {
+static textwrap_status in_columns(struct lent *lent) {
     textwrap_options o = options_of(1, 0);
     textwrap_text gap = {bytes("|"), 1};
     textwrap_gaps gaps = {gap, gap, gap};
@@ -90,32 +90,32 @@ static uint32_t in_columns(struct lent *lent) {
                                  &lent->count, lent->room, 256, &lent->len);
 }
 
-static uint32_t refilled(struct lent *lent) {
+static textwrap_status refilled(struct lent *lent) {
     textwrap_options o = options_of(1, 0);
     return textwrap_refill(bytes("* foo\n  bar\n"), 12, &o, lent->room, 256, &lent->len);
 }
 
-static uint32_t unfilled(struct lent *lent) {
+static textwrap_status unfilled(struct lent *lent) {
     return textwrap_unfill(bytes("* foo\n  bar\n"), 12, lent->room, 256, &lent->len, &lent->layout);
 }
 
-static uint32_t indented(struct lent *lent) {
+static textwrap_status indented(struct lent *lent) {
     return textwrap_indent(bytes("a\nb\n"), 4, bytes("> "), 2, lent->room, 256, &lent->len);
 }
 
-static uint32_t dedented(struct lent *lent) {
+static textwrap_status dedented(struct lent *lent) {
     return textwrap_dedent(bytes("  a\n  b\n"), 8, lent->room, 256, &lent->len);
 }
 
-static uint32_t in_place(struct lent *lent) { return textwrap_fill_inplace(lent->text, 8, 5); }
+static textwrap_status in_place(struct lent *lent) { return textwrap_fill_inplace(lent->text, 8, 5); }
 
-static uint32_t measured(struct lent *lent) {
+static textwrap_status measured(struct lent *lent) {
     return textwrap_display_width(bytes(TEXT), strlen(TEXT), &lent->len);
 }
 
 static const struct {
     const char *name;
-    uint32_t (*call)(struct lent *);
+    textwrap_status (*call)(struct lent *);
 } CALLS[] = {
     {"fill by first fit", by_first_fit},
     {"fill by first fit, with an indent", by_first_fit_indented},
@@ -133,7 +133,7 @@ static const struct {
 
 /* How many allocations a call makes, or -1 at a fault: one is refused, then the one after it, until
  * the call meets no refusal. */
-static long refusals_of(uint32_t (*call)(struct lent *)) {
+static long refusals_of(textwrap_status (*call)(struct lent *)) {
     for (long refusals = 0; refusals < 1000; refusals++) {
         struct lent lent, old;
         memset(&lent, 7, sizeof lent);
@@ -142,7 +142,7 @@ static long refusals_of(uint32_t (*call)(struct lent *)) {
         left = refusals;
         refused = false;
         live = 0;
-        uint32_t status = call(&lent);
+        textwrap_status status = call(&lent);
         if (live != 0) return -1;
         if (!refused) return status == TEXTWRAP_DONE ? refusals : -1;
         if (status != TEXTWRAP_OUT_OF_MEMORY || memcmp(&lent, &old, sizeof lent) != 0) return -1;

@@ -26,7 +26,7 @@ static textwrap_text text_of(const char *text) {
 static int is_filled(textwrap_options options, const char *text, const char *filled) {
     uint8_t room[256];
     size_t len = 0;
-    uint32_t status =
+    textwrap_status status =
         textwrap_fill(bytes(text), strlen(text), &options, room, sizeof room, &len);
     return status == TEXTWRAP_DONE && len == strlen(filled) && memcmp(room, filled, len) == 0;
 }
@@ -166,7 +166,15 @@ static void texts_are_indented_dedented_and_filled_in_place(void) {
     CHECK(memcmp(text, "foo \nbar", 8) == 0);
 }
 
+static void statuses_have_words(void) {
+    for (int status = TEXTWRAP_DONE; status <= TEXTWRAP_UNKNOWN_OPTIONS; status++)
+        for (int other = TEXTWRAP_DONE; other <= TEXTWRAP_UNKNOWN_OPTIONS + 1; other++)
+            CHECK((strcmp(textwrap_status_text((textwrap_status)status),
+                          textwrap_status_text((textwrap_status)other)) == 0) == (status == other));
+}
+
 int main(void) {
+    statuses_have_words();
     each_option_has_its_effect();
     options_without_a_meaning_are_refused();
     columns_are_counted();

@@ -4,32 +4,59 @@
  * tests beside it use each declaration once.
  *
  * A text is a pointer and a length in bytes, in UTF-8. A pointer is never null, also where the length
- * is 0. What a call gives is written into room that the caller lends and owns; the library keeps no
- * pointer and leaves nothing allocated behind. Room that is lent overlaps nothing else that is handed
- * to the same call. A call that does not return TEXTWRAP_DONE leaves the room as it was; where that
- * is too small, TEXTWRAP_TOO_SMALL tells the length that suffices, for a second call.
+ * is 0, and is aligned as its type asks. What a call gives is written into room that the caller hands
+ * in and owns; the library keeps no pointer and leaves nothing allocated behind. The room may be
+ * uninitialised. It overlaps nothing else that is handed to the same call, and `count` and `len` are
+ * two places. A call that does not return TEXTWRAP_DONE leaves the room as it was. If that is too
+ * small, TEXTWRAP_TOO_SMALL reports the length that suffices, for a second call.
  *
- * The library allocates by three functions, rattle_alloc, rattle_realloc and rattle_dealloc; heap.c
- * has them over malloc.
+ * The library has no state, so calls may run on several threads at once, if the heap's functions may.
+ * It allocates by three of them, rattle_alloc, rattle_realloc and rattle_dealloc. heap.c has them over
+ * malloc, and says what each returns.
  */
 #ifndef TEXTWRAP_H
 #define TEXTWRAP_H
 
 #include <stddef.h>
 #include <stdint.h>
+#include <string.h>
 
 #ifdef __cplusplus
 extern "C" {
 #endif
 
 /* What a call returns. */
-enum textwrap_status {
+typedef enum {
     TEXTWRAP_DONE = 0,            /* the answer is written */
     TEXTWRAP_NOT_UTF8 = 1,        /* a text that was given is not UTF-8 */
     TEXTWRAP_OUT_OF_MEMORY = 2,   /* memory ran out */
     TEXTWRAP_TOO_SMALL = 3,       /* the room is too small, and what suffices is reported */
     TEXTWRAP_UNKNOWN_OPTIONS = 4, /* another version, a number that means nothing, or no columns */
-};
+} textwrap_status;
+
+/* A status in words, as for a message: "out of memory". */
+static inline const char *textwrap_status_text(textwrap_status status) {
+    switch (status) {
+    case TEXTWRAP_DONE:
+        return "done";
+    case TEXTWRAP_NOT_UTF8:
+        return "the text is not UTF-8";
+    case TEXTWRAP_OUT_OF_MEMORY:
+        return "out of memory";
+    case TEXTWRAP_TOO_SMALL:
+        return "the room is too small";
+    case TEXTWRAP_UNKNOWN_OPTIONS:
+        return "the options are unknown";
+    }
+    return "an unknown status";
+}
+
+/* A status that is not looked at is an error overlooked. */
+#if defined(__GNUC__)
+#define TEXTWRAP_CHECKED __attribute__((warn_unused_result))
+#else
+#define TEXTWRAP_CHECKED
+#endif
 
 /* A text. */
 typedef struct {
@@ -66,7 +93,8 @@ typedef struct {
 /* The library's defaults at a width: lines of the least cost, without indents. */
 static inline textwrap_options textwrap_options_new(size_t width) {
     static const uint8_t none[1] = {0};
-    textwrap_options options = {0};
+    textwrap_options options;
+    memset(&options, 0, sizeof options);
     options.version = TEXTWRAP_VERSION;
     options.optimal_fit = 1;
     options.split_at_hyphens = 1;
@@ -84,12 +112,14 @@ static inline textwrap_options textwrap_options_new(size_t width) {
 
 /* Writes the columns that a text takes in a terminal, without its escape sequences: 4 for "Café".
  * Allocates nothing. DONE or NOT_UTF8. */
-uint32_t textwrap_display_width(const uint8_t *text, size_t text_len, size_t *columns);
+TEXTWRAP_CHECKED
+textwrap_status textwrap_display_width(const uint8_t *text, size_t text_len, size_t *columns);
 
 /* Writes the filled text to the front of the room, and its length. At 10 columns "foo bar baz" is
  * "foo bar\nbaz". */
-uint32_t textwrap_fill(const uint8_t *text, size_t text_len, const textwrap_options *options,
-                       uint8_t *room, size_t room_len, size_t *len);
+TEXTWRAP_CHECKED
+textwrap_status textwrap_fill(const uint8_t *text, size_t text_len, const textwrap_options *options,
+                              uint8_t *room, size_t room_len, size_t *len);
 
 /* Where a line stands. */
 typedef struct {
@@ -98,14 +128,15 @@ typedef struct {
     size_t is_built; /* 1: the offset is into the room; 0: it is into the text */
 } textwrap_line;
 
-/* Writes where the lines of the text stand, and how many they are. A part of the text is reported at the
- * place that it was cut from, so an empty line at its own paragraph. Lines with an indent are
+/* Writes where the lines of the text stand, and how many they are. A part of the text is reported at
+ * the place that it was cut from, so an empty line at its own paragraph. Lines with an indent are
  * written to the room, one after another, and `len` is that of all of them; without indents no room
- * is needed. TOO_SMALL tells both `count` and `len`: a first call may lend no lines and no room
- * (pointers that are not null, and lengths 0), and a second one what the first has told. */
-uint32_t textwrap_wrap(const uint8_t *text, size_t text_len, const textwrap_options *options,
-                       textwrap_line *lines, size_t lines_len, size_t *count, uint8_t *room,
-                       size_t room_len, size_t *len);
+ * is needed. TOO_SMALL reports both `count` and `len`: a first call may bring no lines and no room
+ * (pointers that are not null, and lengths 0), and a second one what the first has reported. */
+TEXTWRAP_CHECKED
+textwrap_status textwrap_wrap(const uint8_t *text, size_t text_len, const textwrap_options *options,
+                              textwrap_line *lines, size_t lines_len, size_t *count, uint8_t *room,
+                              size_t room_len, size_t *len);
 
 /* What stands around the cells of a row. */
 typedef struct {
@@ -116,14 +147,17 @@ typedef struct {
 
 /* Wraps the text into so many columns beside one another, at least 1, and writes the rows to the
  * room and where they stand, as textwrap_wrap does. The width of the options is that of a row. */
-uint32_t textwrap_wrap_columns(const uint8_t *text, size_t text_len, size_t columns,
-                               const textwrap_options *options, const textwrap_gaps *gaps,
-                               textwrap_line *rows, size_t rows_len, size_t *count,
-                               uint8_t *room, size_t room_len, size_t *len);
+TEXTWRAP_CHECKED
+textwrap_status textwrap_wrap_columns(const uint8_t *text, size_t text_len, size_t columns,
+                                      const textwrap_options *options, const textwrap_gaps *gaps,
+                                      textwrap_line *rows, size_t rows_len, size_t *count,
+                                      uint8_t *room, size_t room_len, size_t *len);
 
 /* Fills a filled text again, with the indents that it has; those of the options are not used. */
-uint32_t textwrap_refill(const uint8_t *text, size_t text_len, const textwrap_options *options,
-                         uint8_t *room, size_t room_len, size_t *len);
+TEXTWRAP_CHECKED
+textwrap_status textwrap_refill(const uint8_t *text, size_t text_len,
+                                const textwrap_options *options, uint8_t *room, size_t room_len,
+                                size_t *len);
 
 /* How a text seems to have been filled. */
 typedef struct {
@@ -135,20 +169,24 @@ typedef struct {
 
 /* Joins the lines of a filled text. The room gets the joined text, and after it the initial indent
  * and the subsequent one; `len` is that of all three. */
-uint32_t textwrap_unfill(const uint8_t *text, size_t text_len, uint8_t *room, size_t room_len,
-                         size_t *len, textwrap_layout *layout);
+TEXTWRAP_CHECKED
+textwrap_status textwrap_unfill(const uint8_t *text, size_t text_len, uint8_t *room,
+                                size_t room_len, size_t *len, textwrap_layout *layout);
 
 /* Writes the text with a prefix before each line. */
-uint32_t textwrap_indent(const uint8_t *text, size_t text_len, const uint8_t *prefix,
-                         size_t prefix_len, uint8_t *room, size_t room_len, size_t *len);
+TEXTWRAP_CHECKED
+textwrap_status textwrap_indent(const uint8_t *text, size_t text_len, const uint8_t *prefix,
+                                size_t prefix_len, uint8_t *room, size_t room_len, size_t *len);
 
 /* Writes the text without the whitespace that all its lines begin with. */
-uint32_t textwrap_dedent(const uint8_t *text, size_t text_len, uint8_t *room, size_t room_len,
-                         size_t *len);
+TEXTWRAP_CHECKED
+textwrap_status textwrap_dedent(const uint8_t *text, size_t text_len, uint8_t *room,
+                                size_t room_len, size_t *len);
 
 /* Fills a text in its own place: blanks of it become line feeds. It does so by first fit, keeps words
  * whole, and takes each line of the text for a paragraph. DONE, NOT_UTF8 or OUT_OF_MEMORY. */
-uint32_t textwrap_fill_inplace(uint8_t *text, size_t text_len, size_t width);
+TEXTWRAP_CHECKED
+textwrap_status textwrap_fill_inplace(uint8_t *text, size_t text_len, size_t width);
 
 #ifdef __cplusplus
 }

@@ -1,7 +1,7 @@
 -- Numbers, tests of them, and results that hold them.
 use Rattle.textwrap_base.proofs.Common.{◌≡◌, ℕ, ◌<◌, eqb, false, arith, ◌+◌, ◌≤◌, Bool, true}
 use Rattle.textwrap_base.proofs.Common.{if◌then◌else◌, ◌^◌, not, ◌==◌, nat_lt, ◌||◌, suc, refl, ◌⊎◌}
-use Rattle.textwrap_base.proofs.Common.{inl, inr, min, ◌∙◌, cond, List, [], ◌∷◌, rules}
+use Rattle.textwrap_base.proofs.Common.{inl, inr, min, ◌∙◌, cond, [], ◌∷◌, rules}
 use Rattle.textwrap_base.proofs.Common.{eqb-false, cases_lt, nat_tests, ⊎_elim, Option, None, Some}
 use Rattle.textwrap_base.proofs.Common.{SomeIff, Result, Ok, Err}
 use Rattle.std.proofs.Common.{IsSome}

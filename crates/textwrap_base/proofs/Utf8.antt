@@ -8,7 +8,6 @@ use Rattle.textwrap_base.proofs.Common.{IsUtf8-drop, IsCharBoundary-from_take, c
 use Rattle.textwrap_base.proofs.Common.{All-head, All-tail, StartsWith, starts_with_length}
 use Rattle.std.proofs.Common.{ltb}
 use Rattle.std.proofs.lemmas.List.{get_or-append-add, get_or_at}
-use Rattle.std.proofs.lemmas.Str.{IsCharBoundary-before_ascii}
 use lib.Utf8.{encode}
 
 pub one-text : (c : ℕ) → length (encode_utf8_all (c ∷ [])) ≡ length (encode c)

@@ -121,8 +121,6 @@ pub fn strip_ansi_escape_sequences<A: Allocator + Copy>(
 }
 
 /// The columns of a character alone, 0 for a control character.
-// Each loop over characters calls it once a character.
-#[inline(always)]
 pub(crate) fn columns(ch: char) -> usize
     ensures { result ≡ columns ch }
 {

@@ -3,7 +3,7 @@ use Rattle.textwrap_base.proofs.Common.{◌≡◌, ℕ, ◌<◌, ◌≤◌, Bool
 use Rattle.textwrap_base.proofs.Common.{All, refl, zero-add, arith, eq-eqb, nat_tests, take_all}
 use Rattle.textwrap_base.proofs.Common.{length-take-le, length-drop, All-head, All-tail, Sizes}
 use Rattle.textwrap_base.proofs.Common.{PricedSizes, priced_at, last_break_penalty, line_cost}
-use Rattle.textwrap_base.proofs.Common.{line_width, closed_width, entry_at, line_costs}
+use Rattle.textwrap_base.proofs.Common.{line_width, closed_width, line_costs}
 use Rattle.textwrap_base.proofs.Common.{fragments_table, IsByTable}
 use Rattle.textwrap_base.proofs.Division.OneLine.{division_one, greedy_one}
 use Rattle.textwrap_base.specs.Algorithms.{Algorithm, Greedy, LeastCost, IsDividedBy}

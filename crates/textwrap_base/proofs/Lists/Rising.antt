@@ -1,7 +1,7 @@
 -- Lists of numbers that increase, and what they contain.
 use Rattle.textwrap_base.proofs.Common.{◌≡◌, ◌⊎◌, ℕ, zero, suc, ◌+◌, ◌<◌, ◌≤◌, true, false, List}
 use Rattle.textwrap_base.proofs.Common.{[], ◌∷◌, length, get_or, refl, sym, arith, inl}
-use Rattle.textwrap_base.proofs.Common.{inr, ◌==◌, All, Result, Ok, Err, list_any}
+use Rattle.textwrap_base.proofs.Common.{inr, ◌==◌, Result, Ok, Err, list_any}
 use Rattle.textwrap_base.proofs.Common.{Contains, cases_lt, eqb-true, eq-eqb, ne_eqb, false≢true}
 use Rattle.textwrap_base.proofs.Common.{cases_eq, get_or_default, All-from_get_or}
 use Rattle.std.specs.List.Sorted.{IsStrictlyIncreasing}

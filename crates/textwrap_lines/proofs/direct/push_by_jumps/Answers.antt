@@ -1,8 +1,7 @@
 use Rattle.textwrap_lines.proofs.direct.push_by_jumps.Goals as goal
-use Rattle.textwrap_base.proofs.Common.{◌≡◌, ◌<◌, [], ◌∷◌, length, sym, ap, ◌∙◌, subst, arith}
+use Rattle.textwrap_base.proofs.Common.{◌≡◌, [], ◌∷◌, sym, ap, ◌∙◌, subst, arith}
 use Rattle.textwrap_base.proofs.Common.{on_ok_weaker}
-use Rattle.textwrap_base.proofs.Numbers.{some_from_test}
-use Rattle.textwrap_words.proofs.Common.{as_splitter, IsPrintable}
+use Rattle.textwrap_words.proofs.Common.{as_splitter}
 use Rattle.textwrap_lines.proofs.Common.{Took, settings_view, indent_of, first_width, later_width}
 use Rattle.textwrap_lines.proofs.Common.{pieces_of}
 use Rattle.textwrap_lines.proofs.Paragraph.Pieces.{pieces_of-no_penalty, pieces_of-tile}

@@ -20,7 +20,8 @@ typedef struct {
     uint8_t *room;
     size_t room_len;
     textwrap_line *lines;
-    size_t lines_len;
+    textwrap_piece *pieces;
+    size_t lines_len; /* of the lines, and of the pieces */
 } work;
 
 static const uint8_t bullet[] = "* ", blanks[] = "  ";
@@ -106,6 +107,22 @@ static textwrap_status fill_inplace(work *w) {
     return textwrap_fill_inplace(w->room, w->text_len, w->options.width);
 }
 
+static textwrap_status pieces(work *w) {
+    size_t count;
+    return textwrap_pieces(w->text, w->text_len, &w->options, w->pieces, w->lines_len, &count);
+}
+
+static textwrap_status find_words(work *w) {
+    w->options.split_at_hyphens = 0;
+    w->options.break_words = 0;
+    return pieces(w);
+}
+
+static textwrap_status split_words(work *w) {
+    w->options.break_words = 0;
+    return pieces(w);
+}
+
 typedef struct {
     const char *name;
     textwrap_status (*call)(work *);
@@ -126,6 +143,9 @@ static const named_call calls[] = {
     {"indent", indent},
     {"dedent", dedent},
     {"fill_inplace", fill_inplace},
+    {"find_words", find_words},
+    {"split_words", split_words},
+    {"break_words", pieces},
 };
 
 static double seconds(void) {
@@ -167,7 +187,8 @@ int main(int argc, char **argv) {
     w.lines_len = w.text_len + 1;
     w.room = malloc(w.room_len);
     w.lines = malloc(w.lines_len * sizeof *w.lines);
-    if (w.room == NULL || w.lines == NULL) return 1;
+    w.pieces = malloc(w.lines_len * sizeof *w.pieces);
+    if (w.room == NULL || w.lines == NULL || w.pieces == NULL) return 1;
     w.options = textwrap_options_new(strtoul(argv[2], NULL, 10));
     w.options.optimal_fit = strcmp(argv[3], "optimal") == 0;
     double time = least_time(call, &w);

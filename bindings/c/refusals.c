@@ -51,6 +51,8 @@ struct lent {
     textwrap_line lines[16];
     textwrap_layout layout;
     uint8_t text[9];
+    textwrap_piece pieces[16];
+    size_t places[16];
     size_t len, count;
 };
 
@@ -113,6 +115,37 @@ static textwrap_status measured(struct lent *lent) {
     return textwrap_display_width(bytes(TEXT), strlen(TEXT), &lent->len);
 }
 
+static const textwrap_fragment FRAGMENTS[3] = {{4, 1, 0, 0}, {4, 1, 0, 30}, {4, 1, 0, 0}};
+static const size_t NINE = 9;
+
+static textwrap_status greedily(struct lent *lent) {
+    return textwrap_wrap_first_fit(FRAGMENTS, 3, &NINE, 1, lent->places, 16, &lent->count);
+}
+
+static textwrap_status at_least_cost(struct lent *lent) {
+    textwrap_penalties penalties = textwrap_penalties_new();
+    return textwrap_wrap_optimal_fit(FRAGMENTS, 3, &NINE, 1, &penalties, lent->places, 16,
+                                     &lent->count);
+}
+
+static textwrap_status in_pieces(struct lent *lent) {
+    textwrap_options o = options_of(0, 1);
+    return textwrap_pieces(bytes(TEXT), strlen(TEXT), &o, lent->pieces, 16, &lent->count);
+}
+
+static textwrap_status cut_at_offsets(struct lent *lent) {
+    const size_t offsets[2] = {2, 3};
+    return textwrap_find_words_at(bytes("foo bar"), 7, offsets, 2, lent->pieces, 16, &lent->count);
+}
+
+static textwrap_status split(struct lent *lent) {
+    return textwrap_split_points(bytes("can-be-split"), 12, lent->places, 16, &lent->count);
+}
+
+static textwrap_status broken(struct lent *lent) {
+    return textwrap_break_apart(bytes("foobar"), 6, 2, lent->pieces, 16, &lent->count);
+}
+
 static const struct {
     const char *name;
     textwrap_status (*call)(struct lent *);
@@ -129,6 +162,12 @@ static const struct {
     {"dedent", dedented},
     {"fill_inplace", in_place},
     {"display_width", measured},
+    {"wrap_first_fit", greedily},
+    {"wrap_optimal_fit", at_least_cost},
+    {"pieces", in_pieces},
+    {"find_words_at", cut_at_offsets},
+    {"split_points", split},
+    {"break_apart", broken},
 };
 
 /* How many allocations a call makes, or -1 at a fault: one is refused, then the one after it, until

@@ -166,14 +166,110 @@ static void texts_are_indented_dedented_and_filled_in_place(void) {
     CHECK(memcmp(text, "foo \nbar", 8) == 0);
 }
 
+static void fragments_are_divided(void) {
+    const textwrap_fragment four[4] = {{5, 0, 0, 0}, {5, 0, 0, 0}, {5, 0, 0, 0}, {5, 0, 0, 0}};
+    const size_t widths[2] = {10, 5};
+    size_t ends[4] = {9, 9, 9, 9}, count = 7;
+    CHECK(textwrap_wrap_first_fit(four, 4, widths, 2, ends, 4, &count) == TEXTWRAP_DONE);
+    CHECK(count == 3 && ends[0] == 2 && ends[1] == 3 && ends[2] == 4 && ends[3] == 9);
+    CHECK(textwrap_wrap_first_fit(four, 4, widths, 2, ends, 2, &count) == TEXTWRAP_TOO_SMALL);
+    CHECK(count == 3 && ends[0] == 2);
+    CHECK(textwrap_wrap_first_fit(four, 0, widths, 2, ends, 4, &count) == TEXTWRAP_DONE);
+    CHECK(count == 1 && ends[0] == 0);
+    /* To end a line costs 30 after the second of the last three, and nothing after the others. */
+    const textwrap_fragment cards[3] = {{4, 1, 0, 0}, {4, 1, 0, 30}, {4, 1, 0, 0}};
+    const size_t nine = 9;
+    textwrap_penalties penalties = textwrap_penalties_new();
+    CHECK(textwrap_wrap_optimal_fit(cards, 3, &nine, 1, &penalties, ends, 4, &count)
+          == TEXTWRAP_DONE);
+    CHECK(count == 2 && ends[0] == 1 && ends[1] == 3);
+    const textwrap_fragment wide[2] = {{SIZE_MAX, 0, 0, 0}, {SIZE_MAX, 0, 0, 0}};
+    const size_t none = 0;
+    penalties.overflow_penalty = SIZE_MAX;
+    CHECK(textwrap_wrap_optimal_fit(wide, 2, &none, 1, &penalties, ends, 4, &count)
+          == TEXTWRAP_OVERFLOW);
+    CHECK(count == 2 && ends[0] == 1);
+    penalties = textwrap_penalties_new();
+    penalties.nline_penalty = 0;
+    CHECK(textwrap_wrap_optimal_fit(cards, 2, &nine, 1, &penalties, ends, 4, &count)
+          == TEXTWRAP_DONE);
+    CHECK(count == 1 && ends[0] == 2);
+    const textwrap_fragment two[2] = {{4, 1, 0, 0}, {1, 0, 0, 0}};
+    const size_t five = 5;
+    penalties = textwrap_penalties_new();
+    penalties.nline_penalty = 0;
+    penalties.overflow_penalty = 20;
+    CHECK(textwrap_wrap_optimal_fit(two, 2, &five, 1, &penalties, ends, 4, &count) == TEXTWRAP_DONE);
+    CHECK(count == 1 && ends[0] == 2);
+    penalties.short_last_line_penalty = 0;
+    CHECK(textwrap_wrap_optimal_fit(two, 2, &five, 1, &penalties, ends, 4, &count) == TEXTWRAP_DONE);
+    CHECK(count == 2 && ends[0] == 1);
+    penalties.short_last_line_penalty = 25;
+    penalties.short_last_line_fraction = 5;
+    CHECK(textwrap_wrap_optimal_fit(two, 2, &five, 1, &penalties, ends, 4, &count) == TEXTWRAP_DONE);
+    CHECK(count == 2 && ends[0] == 1);
+}
+
+static int stands(textwrap_piece piece, size_t offset, size_t len, size_t whitespace_len,
+                  size_t width) {
+    return piece.offset == offset && piece.len == len && piece.whitespace_len == whitespace_len
+           && piece.penalty_len == 0 && piece.width == width;
+}
+
+static void pieces_are_places(void) {
+    textwrap_options o = textwrap_options_new(4);
+    textwrap_piece pieces[4];
+    size_t count = 0;
+    CHECK(textwrap_pieces(bytes("foo  ba-r"), 9, &o, pieces, 4, &count) == TEXTWRAP_DONE);
+    CHECK(count == 3 && stands(pieces[0], 0, 3, 2, 3) && stands(pieces[1], 5, 3, 0, 3)
+          && stands(pieces[2], 8, 1, 0, 1));
+    o.split_at_hyphens = 0;
+    CHECK(textwrap_pieces(bytes("foo  ba-r"), 9, &o, pieces, 4, &count) == TEXTWRAP_DONE);
+    CHECK(count == 2 && stands(pieces[1], 5, 4, 0, 4));
+    o.initial_indent = text_of("> ");
+    CHECK(textwrap_pieces(bytes("\xe4\xbd\xa0\xe5\xa5\xbd."), 7, &o, pieces, 4, &count)
+          == TEXTWRAP_DONE);
+    CHECK(count == 3 && stands(pieces[0], 0, 0, 0, 0) && stands(pieces[1], 0, 6, 0, 4)
+          && stands(pieces[2], 6, 1, 0, 1));
+    CHECK(textwrap_pieces(bytes("foo bar"), 7, &o, pieces, 2, &count) == TEXTWRAP_TOO_SMALL);
+    CHECK(count == 3 && stands(pieces[2], 6, 1, 0, 1));
+    o.version = 0;
+    CHECK(textwrap_pieces(bytes("foo"), 3, &o, pieces, 4, &count) == TEXTWRAP_UNKNOWN_OPTIONS);
+}
+
+static void words_are_cut_split_and_broken(void) {
+    textwrap_piece words[4];
+    size_t points[3], count = 0;
+    const size_t offsets[3] = {4, 8, 11};
+    CHECK(textwrap_find_words_at(bytes("foo-bar baz"), 11, offsets, 3, words, 4, &count)
+          == TEXTWRAP_DONE);
+    CHECK(count == 2 && stands(words[0], 0, 7, 1, 7) && stands(words[1], 8, 3, 0, 3));
+    CHECK(textwrap_find_words_at(bytes("foo-bar"), 7, offsets, 3, words, 4, &count)
+          == TEXTWRAP_WRONG_PLACES);
+    const size_t falling[2] = {4, 3}, inside[1] = {1};
+    CHECK(textwrap_find_words_at(bytes("foo bar"), 7, falling, 2, words, 4, &count)
+          == TEXTWRAP_WRONG_PLACES);
+    CHECK(textwrap_find_words_at(bytes("\xc3\xa9"), 2, inside, 1, words, 4, &count)
+          == TEXTWRAP_WRONG_PLACES);
+    CHECK(count == 2);
+    CHECK(textwrap_split_points(bytes("can-be-split"), 12, points, 3, &count) == TEXTWRAP_DONE);
+    CHECK(count == 2 && points[0] == 4 && points[1] == 7);
+    CHECK(textwrap_split_points(bytes("--foo"), 5, points, 3, &count) == TEXTWRAP_DONE && count == 0);
+    CHECK(textwrap_break_apart(bytes("Hello!"), 6, 3, words, 4, &count) == TEXTWRAP_DONE);
+    CHECK(count == 2 && stands(words[0], 0, 3, 0, 3) && stands(words[1], 3, 3, 0, 3));
+    CHECK(textwrap_break_apart(bytes(""), 0, 3, words, 4, &count) == TEXTWRAP_DONE && count == 0);
+    CHECK(textwrap_break_apart(bytes("a\xff"), 2, 3, words, 4, &count) == TEXTWRAP_NOT_UTF8);
+}
+
 static void statuses_have_words(void) {
-    for (int status = TEXTWRAP_DONE; status <= TEXTWRAP_UNKNOWN_OPTIONS; status++)
-        for (int other = TEXTWRAP_DONE; other <= TEXTWRAP_UNKNOWN_OPTIONS + 1; other++)
+    for (int status = TEXTWRAP_DONE; status <= TEXTWRAP_WRONG_PLACES; status++)
+        for (int other = TEXTWRAP_DONE; other <= TEXTWRAP_WRONG_PLACES + 1; other++)
             CHECK((strcmp(textwrap_status_text((textwrap_status)status),
                           textwrap_status_text((textwrap_status)other)) == 0) == (status == other));
 }
 
 int main(void) {
+    CHECK(textwrap_library_version() == TEXTWRAP_LIBRARY_VERSION);
     statuses_have_words();
     each_option_has_its_effect();
     options_without_a_meaning_are_refused();
@@ -183,6 +279,9 @@ int main(void) {
     rows_are_written();
     filled_texts_are_unfilled_and_refilled();
     texts_are_indented_dedented_and_filled_in_place();
+    fragments_are_divided();
+    pieces_are_places();
+    words_are_cut_split_and_broken();
     if (failures == 0) printf("C: ok\n");
     return failures != 0;
 }

@@ -25,6 +25,12 @@
 extern "C" {
 #endif
 
+/* The version of the library that this header is of: 10,000 times its first number, 100 times its
+ * second, and its third. textwrap_library_version returns that of the library that was linked. Within
+ * a first number, a later library serves a program that was built for an earlier one. */
+#define TEXTWRAP_LIBRARY_VERSION 10100u
+uint32_t textwrap_library_version(void);
+
 /* What a call returns. */
 typedef enum {
     TEXTWRAP_DONE = 0,            /* the answer is written */
@@ -32,6 +38,8 @@ typedef enum {
     TEXTWRAP_OUT_OF_MEMORY = 2,   /* memory ran out */
     TEXTWRAP_TOO_SMALL = 3,       /* the room is too small, and what suffices is reported */
     TEXTWRAP_UNKNOWN_OPTIONS = 4, /* another version, a number that means nothing, or no columns */
+    TEXTWRAP_OVERFLOW = 5,        /* a sum of widths or a cost needs more than 128 bits */
+    TEXTWRAP_WRONG_PLACES = 6,    /* offsets that do not increase, or are no places to cut at */
 } textwrap_status;
 
 /* A status in words, as for a message: "out of memory". */
@@ -47,6 +55,10 @@ static inline const char *textwrap_status_text(textwrap_status status) {
         return "the room is too small";
     case TEXTWRAP_UNKNOWN_OPTIONS:
         return "the options are unknown";
+    case TEXTWRAP_OVERFLOW:
+        return "a number needs more than 128 bits";
+    case TEXTWRAP_WRONG_PLACES:
+        return "an offset is no place to cut at";
     }
     return "an unknown status";
 }
@@ -187,6 +199,90 @@ textwrap_status textwrap_dedent(const uint8_t *text, size_t text_len, uint8_t *r
  * whole, and takes each line of the text for a paragraph. DONE, NOT_UTF8 or OUT_OF_MEMORY. */
 TEXTWRAP_CHECKED
 textwrap_status textwrap_fill_inplace(uint8_t *text, size_t text_len, size_t width);
+
+/* ---- Fragments of the caller's own, and the two algorithms */
+
+/* An item that is placed on a line and never cut, in one unit of the caller's choice. */
+typedef struct {
+    size_t width;            /* what it takes */
+    size_t whitespace_width; /* what the space after it takes, where another follows on the line */
+    size_t penalty_width;    /* what it takes more at the end of a line, as a hyphen does */
+    size_t break_penalty;    /* what a line costs more that ends with it, by least cost */
+} textwrap_fragment;
+
+/* What lines of the least cost are measured by. */
+typedef struct {
+    size_t nline_penalty;            /* for each line */
+    size_t overflow_penalty;         /* for each unit past the width */
+    size_t short_last_line_fraction; /* a last fragment narrower than width / this is short */
+    size_t short_last_line_penalty;  /* for a short last line of one fragment */
+} textwrap_penalties;
+
+/* The library's default penalties. */
+static inline textwrap_penalties textwrap_penalties_new(void) {
+    textwrap_penalties penalties;
+    penalties.nline_penalty = 1000;
+    penalties.overflow_penalty = 2500;
+    penalties.short_last_line_fraction = 4;
+    penalties.short_last_line_penalty = 25;
+    return penalties;
+}
+
+/* Divides fragments into lines by first fit, and writes where each line ends: how many fragments
+ * stand before its end. Line l, counted from 0, may be line_widths[l] wide; the last width serves all
+ * later lines, and without any it is 0. No fragments are one empty line. DONE, OUT_OF_MEMORY or
+ * TOO_SMALL. */
+TEXTWRAP_CHECKED
+textwrap_status textwrap_wrap_first_fit(const textwrap_fragment *fragments, size_t fragments_len,
+                                        const size_t *line_widths, size_t line_widths_len,
+                                        size_t *ends, size_t ends_len, size_t *count);
+
+/* The same by least cost. OVERFLOW if all widths together, or the least cost of some first fragments,
+ * need more than 128 bits. */
+TEXTWRAP_CHECKED
+textwrap_status textwrap_wrap_optimal_fit(const textwrap_fragment *fragments, size_t fragments_len,
+                                          const size_t *line_widths, size_t line_widths_len,
+                                          const textwrap_penalties *penalties, size_t *ends,
+                                          size_t ends_len, size_t *count);
+
+/* ---- Words and pieces, by where they stand */
+
+/* Where a word stands, or a part of one. */
+typedef struct {
+    size_t offset;         /* the bytes before it */
+    size_t len;            /* its bytes, without the blanks after it */
+    size_t whitespace_len; /* the blanks after it */
+    size_t penalty_len;    /* 1: a line that ends with it shows a hyphen more; else 0 */
+    size_t width;          /* its columns */
+} textwrap_piece;
+
+/* Writes the pieces that textwrap_wrap divides a paragraph into lines of: its words, between blanks,
+ * split and broken as the options say. With words neither split nor broken these are its words. If
+ * words are broken and there is an initial indent, an empty piece stands before them. A paragraph has
+ * no line ending; one in it is taken for a character. */
+TEXTWRAP_CHECKED
+textwrap_status textwrap_pieces(const uint8_t *paragraph, size_t paragraph_len,
+                                const textwrap_options *options, textwrap_piece *pieces,
+                                size_t pieces_len, size_t *count);
+
+/* Writes the words of a line that may be broken at these offsets, as a line segmenter gives them. They
+ * count the bytes of the line without its escape sequences, increase, and are character boundaries of
+ * that text; else WRONG_PLACES. The line is not cut at its ends, nor directly after a hyphen. */
+TEXTWRAP_CHECKED
+textwrap_status textwrap_find_words_at(const uint8_t *line, size_t line_len, const size_t *offsets,
+                                       size_t offsets_len, textwrap_piece *words, size_t words_len,
+                                       size_t *count);
+
+/* Writes the offsets at which a word may be split: after each hyphen between letters or digits. */
+TEXTWRAP_CHECKED
+textwrap_status textwrap_split_points(const uint8_t *word, size_t word_len, size_t *points,
+                                      size_t points_len, size_t *count);
+
+/* Writes the pieces of a word that is broken into pieces of so many columns at most. A piece that has
+ * a single character with columns may be wider. */
+TEXTWRAP_CHECKED
+textwrap_status textwrap_break_apart(const uint8_t *word, size_t word_len, size_t line_width,
+                                     textwrap_piece *pieces, size_t pieces_len, size_t *count);
 
 #ifdef __cplusplus
 }

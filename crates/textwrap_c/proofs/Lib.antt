@@ -1,5 +1,6 @@
 pub mod GroupLemmas
 pub mod LineLemmas
+pub mod PieceLemmas
 pub mod PlaceLemmas
 pub mod RoomLemmas
 pub mod RowLemmas

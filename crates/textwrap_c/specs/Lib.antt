@@ -1,5 +1,7 @@
 pub mod Columns
+pub mod Fragments
 pub mod Options
+pub mod Pieces
 pub mod Refilling
 pub mod Room
 pub mod Status

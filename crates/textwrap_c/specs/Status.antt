@@ -15,3 +15,9 @@ too_small = 3
 
 abbrev pub unknown_options : ℕ
 unknown_options = 4
+
+abbrev pub overflow : ℕ
+overflow = 5
+
+abbrev pub wrong_places : ℕ
+wrong_places = 6

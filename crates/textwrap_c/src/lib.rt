@@ -7,13 +7,16 @@
 
 pub mod columns;
 pub mod filling;
+pub mod fragments;
 pub mod indentation;
 pub mod options;
+pub mod pieces;
 pub mod refilling;
 mod reported;
 mod room;
 pub mod status;
 #[cfg(test)]
 mod tests;
+pub mod version;
 pub mod widths;
 pub mod wrapping;

@@ -3,6 +3,7 @@ ghost use Rattle.std.specs.Prelude.{◌≡◌, ◌⊎◌, ◌↔◌, true, Some,
 ghost use Rattle.textwrap.specs.WrapAlgorithms.{algorithm_view};
 ghost use Rattle.textwrap.specs.WordSplitters.{splitter_view};
 ghost use Rattle.textwrap.specs.Options.{HasParts};
+ghost use Rattle.textwrap_words.specs.Pieces.{as_splitter};
 ghost use Rattle.textwrap_c.specs.Options.{settings_of, splitter_of, algorithm_of, AreKnown};
 ghost use Rattle.textwrap_c.specs.Options.{AreTexts};
 ghost use Rattle.textwrap_c.specs.Status.{not_utf8, unknown_options};
@@ -12,6 +13,7 @@ use std::str;
 use textwrap::wrap_algorithms::Penalties;
 use textwrap::{LineEnding, Options, WordSplitter, WrapAlgorithm};
 use textwrap_lines::inner::DEFAULTS;
+use textwrap_words::inner::BuiltInSplitter;
 
 /// The version of [`TextwrapOptions`].
 pub const VERSION: u32 = 1;
@@ -133,9 +135,19 @@ fn read_algorithm(given: &TextwrapOptions<'_>) -> WrapAlgorithm
 fn read_splitter(given: &TextwrapOptions<'_>) -> WordSplitter
     ensures { splitter_view result ≡ Some (splitter_of given.now) }
 {
+    match read_built_in_splitter(given) {
+        BuiltInSplitter::NoHyphenation => WordSplitter::NoHyphenation,
+        BuiltInSplitter::HyphenSplitter => WordSplitter::HyphenSplitter,
+    }
+}
+
+/// The same, as one of the splitters of the library.
+pub(crate) fn read_built_in_splitter(given: &TextwrapOptions<'_>) -> BuiltInSplitter
+    ensures { as_splitter result ≡ splitter_of given.now }
+{
     if given.split_at_hyphens == 0 {
-        WordSplitter::NoHyphenation
+        BuiltInSplitter::NoHyphenation
     } else {
-        WordSplitter::HyphenSplitter
+        BuiltInSplitter::HyphenSplitter
     }
 }

@@ -15,3 +15,9 @@ pub const TOO_SMALL: u32 = 3;
 /// The options are of another version, or one of their numbers means nothing, or there are to be no
 /// columns.
 pub const UNKNOWN_OPTIONS: u32 = 4;
+
+/// A number needs more than 128 bits: the sum of all widths, or the cost of some first fragments.
+pub const OVERFLOW: u32 = 5;
+
+/// Offsets that were given do not increase, or are no places to cut at.
+pub const WRONG_PLACES: u32 = 6;

@@ -9,7 +9,9 @@ use crate::widths::textwrap_display_width;
 use crate::wrapping::{TextwrapLine, textwrap_wrap};
 use std::alloc::Global;
 
+mod fragments;
 mod large;
+mod pieces;
 
 /// The library's defaults at 10 columns.
 const DEFAULTS: TextwrapOptions<'_> = TextwrapOptions {

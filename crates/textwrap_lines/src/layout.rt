@@ -63,8 +63,8 @@ pub(crate) fn break_limit(options: &Options<'_>) -> usize
     later_width(options)
 }
 
-/// The pieces of a paragraph by built-in parts.
-pub(crate) fn paragraph_pieces<'t>(
+/// The pieces of a paragraph by built-in parts, one after another: those that its lines are made of.
+pub fn paragraph_pieces<'t>(
     paragraph: &'t str,
     options: &Options<'_>,
     splitter: BuiltInSplitter,

@@ -13,13 +13,13 @@ use std::process::Abort;
 use std::test::Fail;
 
 /// A line of the text.
-const LINE: &str = "foo bar baz\n";
+pub(super) const LINE: &str = "foo bar baz\n";
 
 /// How many lines it has. An empty one comes after them.
-const LINES: usize = 87_382;
+pub(super) const LINES: usize = 87_382;
 
 /// How long it is, in bytes: 1 MiB and 8.
-const LEN: usize = LINES * LINE.len();
+pub(super) const LEN: usize = LINES * LINE.len();
 
 /// An export that writes into room.
 #[derive(Clone, Copy, Debug)]

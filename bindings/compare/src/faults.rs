@@ -1,0 +1,318 @@
+//! Planted faults: answers that are wrong in one way, each of which the comparison has to notice.
+//!
+//! `hyphen_penalty` alone has no fault here: no built-in splitter adds a hyphen, so it changes
+//! nothing.
+use crate::answer::{Answer, Ending, Line, Place, Unfilled};
+use crate::calls::{self, Call};
+use crate::causes::{Cause, Mends};
+use crate::drawn::{Algorithm, Drawn, Penalties};
+use crate::judge::{judge, Verdict};
+use crate::original::Original;
+use std::collections::BTreeSet;
+use textwrap_proved as proved;
+
+/// A fault of one call.
+pub struct Fault {
+    /// What is wrong.
+    pub name: &'static str,
+    /// The call that answers so.
+    pub call: &'static Call,
+    /// What the call answers with the fault in it.
+    pub answer: fn(&Drawn) -> Answer,
+}
+
+/// A fault that the name says.
+const fn fault(name: &'static str, call: &'static Call, answer: fn(&Drawn) -> Answer) -> Fault {
+    Fault { name, call, answer }
+}
+
+/// The faults, by call.
+pub const FAULTS: &[Fault] = &[
+    fault("a cut escape sequence counts", &calls::DISPLAY_WIDTH, |drawn| {
+        let cut = usize::from(drawn.text.ends_with('\u{1b}'));
+        number(&calls::DISPLAY_WIDTH, drawn, |columns| columns + cut)
+    }),
+    fault("an ideographic blank has one column", &calls::DISPLAY_WIDTH, |drawn| {
+        let narrowed = drawn.text.replace('\u{3000}', " ");
+        calls::DISPLAY_WIDTH.proved_answer(&Drawn { text: narrowed, ..drawn.clone() })
+    }),
+    fault("CRLF is joined by LF", &calls::FILL, |drawn| {
+        text(&calls::FILL, drawn, |text| {
+            if drawn.crlf { text.replace("\r\n", "\n") } else { text }
+        })
+    }),
+    fault("blanks at line ends are dropped", &calls::FILL, |drawn| {
+        calls::FILL.proved_answer(&Drawn { preserve_trailing_space: false, ..drawn.clone() })
+    }),
+    fault("final blanks go as in the original", &calls::FILL, |drawn| {
+        by_the_original(&calls::FILL, drawn, Cause::FinalBlanks)
+    }),
+    fault("a blank without a break is dropped at the end", &calls::FILL, |drawn| {
+        text(&calls::FILL, drawn, |text| text.trim_end_matches('\u{a0}').into())
+    }),
+    fault("words are always broken", &calls::FILL, |drawn| {
+        calls::FILL.proved_answer(&Drawn { break_words: true, ..drawn.clone() })
+    }),
+    fault("words are always split", &calls::FILL, |drawn| {
+        calls::FILL.proved_answer(&Drawn { split_at_hyphens: true, ..drawn.clone() })
+    }),
+    fault("first fit in place of the least cost", &calls::FILL, |drawn| {
+        calls::FILL.proved_answer(&Drawn { algorithm: Algorithm::FirstFit, ..drawn.clone() })
+    }),
+    fault("nline_penalty is ignored", &calls::FILL, |drawn| {
+        let usual = Penalties::new().nline_penalty;
+        by_penalties(drawn, |own| Penalties { nline_penalty: usual, ..own })
+    }),
+    fault("overflow_penalty is ignored", &calls::FILL, |drawn| {
+        let usual = Penalties::new().overflow_penalty;
+        by_penalties(drawn, |own| Penalties { overflow_penalty: usual, ..own })
+    }),
+    fault("short_last_line_fraction is ignored", &calls::FILL, |drawn| {
+        let usual = Penalties::new().short_last_line_fraction;
+        by_penalties(drawn, |own| Penalties { short_last_line_fraction: usual, ..own })
+    }),
+    fault("short_last_line_penalty is ignored", &calls::FILL, |drawn| {
+        let usual = Penalties::new().short_last_line_penalty;
+        by_penalties(drawn, |own| Penalties { short_last_line_penalty: usual, ..own })
+    }),
+    fault("costs are rounded as in the original", &calls::FILL, |drawn| {
+        by_the_original(&calls::FILL, drawn, Cause::RoundedCosts)
+    }),
+    fault("words of two paragraphs share a line", &calls::FILL, |drawn| {
+        let joined = drawn.text.replace(drawn.line_ending(), " ");
+        calls::FILL.proved_answer(&Drawn { text: joined, ..drawn.clone() })
+    }),
+    fault("the default penalty of a short last line is 0", &calls::FILL_AT_WIDTH, |drawn| {
+        let usual = drawn.with_default_options();
+        by_penalties(&usual, |usual| Penalties { short_last_line_penalty: 0, ..usual })
+    }),
+    fault("words are not broken by default", &calls::FILL_AT_WIDTH, |drawn| {
+        let usual = drawn.with_default_options();
+        calls::FILL.proved_answer(&Drawn { break_words: false, ..usual })
+    }),
+    fault("ties are broken the other way", &calls::WRAP, with_latest_ties),
+    fault("ties are settled as in the original", &calls::WRAP, |drawn| {
+        by_the_original(&calls::WRAP, drawn, Cause::Tie)
+    }),
+    fault("each line is owned", &calls::WRAP, |drawn| {
+        lines(drawn, |line| Line { place: Place::Owned, ..line })
+    }),
+    fault("an indented line is borrowed", &calls::WRAP, |drawn| {
+        lines(drawn, |line| match line.place {
+            Place::Owned => Line { place: Place::BorrowedAt(0), ..line },
+            _ => line,
+        })
+    }),
+    fault("a place is off by one", &calls::WRAP, |drawn| {
+        lines(drawn, |line| match line.place {
+            Place::BorrowedAt(at) if at > 0 => Line { place: Place::BorrowedAt(at - 1), ..line },
+            _ => line,
+        })
+    }),
+    fault("an empty line lies at the front", &calls::WRAP, |drawn| {
+        lines(drawn, |line| match line.place {
+            Place::BorrowedAt(_) if line.text.is_empty() => {
+                Line { place: Place::BorrowedAt(0), ..line }
+            }
+            _ => line,
+        })
+    }),
+    fault("even paragraphs are forgotten", &calls::WRAP, |drawn| {
+        calls::WRAP.proved_answer(&Drawn { even_paragraphs: false, ..drawn.clone() })
+    }),
+    fault("paragraphs are always even", &calls::WRAP, |drawn| {
+        calls::WRAP.proved_answer(&Drawn { even_paragraphs: true, ..drawn.clone() })
+    }),
+    fault("the indents are exchanged", &calls::WRAP, |drawn| {
+        calls::WRAP.proved_answer(&Drawn {
+            initial_indent: drawn.subsequent_indent.clone(),
+            subsequent_indent: drawn.initial_indent.clone(),
+            ..drawn.clone()
+        })
+    }),
+    fault("a line is lost", &calls::WRAP, |drawn| {
+        match calls::WRAP.proved_answer(drawn) {
+            Answer::Lines(lines) => Answer::Lines(lines[..lines.len().max(2) - 1].to_vec()),
+            other => other,
+        }
+    }),
+    fault("rows are reversed", &calls::WRAP_COLUMNS, |drawn| {
+        match calls::WRAP_COLUMNS.proved_answer(drawn) {
+            Answer::Rows(rows) => Answer::Rows(rows.into_iter().rev().collect()),
+            other => other,
+        }
+    }),
+    fault("the last column is not padded", &calls::WRAP_COLUMNS, |drawn| {
+        rows(drawn, |row| {
+            let right = &drawn.gaps.right;
+            row.strip_suffix(right.as_str())
+                .map_or_else(|| row.clone(), |row| [row.trim_end_matches(' '), right].concat())
+        })
+    }),
+    fault("the last column is padded as in the original", &calls::WRAP_COLUMNS, |drawn| {
+        by_the_original(&calls::WRAP_COLUMNS, drawn, Cause::LastColumn)
+    }),
+    fault("wide lines panic as in the original", &calls::WRAP_COLUMNS, |drawn| {
+        by_the_original(&calls::WRAP_COLUMNS, drawn, Cause::WideLines)
+    }),
+    fault("no columns are no rows", &calls::WRAP_COLUMNS, |drawn| {
+        match calls::WRAP_COLUMNS.proved_answer(drawn) {
+            Answer::Panic => Answer::Rows(Vec::new()),
+            other => other,
+        }
+    }),
+    fault("a row that fits no memory is cut", &calls::WRAP_COLUMNS, |drawn| {
+        match calls::WRAP_COLUMNS.proved_answer(drawn) {
+            Answer::OutOfMemory => Answer::Rows(vec![drawn.text.clone()]),
+            other => other,
+        }
+    }),
+    fault("the middle gap stands behind too", &calls::WRAP_COLUMNS, |drawn| {
+        rows(drawn, |row| row + &drawn.gaps.middle)
+    }),
+    fault("refilling forgets the final ending", &calls::REFILL, |drawn| {
+        text(&calls::REFILL, drawn, |text| {
+            text.strip_suffix(drawn.line_ending()).map(String::from).unwrap_or(text)
+        })
+    }),
+    fault("refilling keeps the indents of the options", &calls::REFILL, refilled_with_own_indents),
+    fault("unfilling forgets CRLF", &calls::UNFILL, |drawn| {
+        unfilled(drawn, |unfilled| unfilled.ending = Ending::Lf)
+    }),
+    fault("unfilling takes bytes for columns", &calls::UNFILL, |drawn| {
+        unfilled(drawn, |unfilled| {
+            unfilled.width = drawn.text.lines().map(str::len).max().unwrap_or(0);
+        })
+    }),
+    fault("unfilling forgets the subsequent indent", &calls::UNFILL, |drawn| {
+        unfilled(drawn, |unfilled| unfilled.subsequent_indent.clear())
+    }),
+    fault("blank lines get the whole prefix", &calls::INDENT, |drawn| {
+        let lines = drawn.text.split_inclusive('\n').map(|line| drawn.prefix.clone() + line);
+        Answer::Text(lines.collect())
+    }),
+    fault("only ASCII has whitespace", &calls::INDENT, |drawn| {
+        let lines = drawn.text.split_inclusive('\n').map(|line| {
+            let is_blank = line.chars().all(|ch| ch.is_ascii() && ch.is_whitespace());
+            let prefix = if is_blank { drawn.prefix.trim_end() } else { &drawn.prefix };
+            [prefix, line].concat()
+        });
+        Answer::Text(lines.collect())
+    }),
+    fault("dedenting keeps carriage returns", &calls::DEDENT, |drawn| {
+        text(&calls::DEDENT, drawn, |text| {
+            if drawn.text.contains("\r\n") { text.replace('\n', "\r\n") } else { text }
+        })
+    }),
+    fault("dedenting keeps blank lines as they are", &calls::DEDENT, |drawn| {
+        text(&calls::DEDENT, drawn, |text| {
+            let kept = text.split('\n').zip(drawn.text.split('\n')).map(|(line, old)| {
+                if old.trim().is_empty() { old } else { line }
+            });
+            kept.collect::<Vec<_>>().join("\n")
+        })
+    }),
+    fault("the first of several blanks becomes the line feed", &calls::FILL_INPLACE, |drawn| {
+        text(&calls::FILL_INPLACE, drawn, |filled| first_blank_broken(drawn, filled))
+    }),
+    fault("filling in place is one column short", &calls::FILL_INPLACE, |drawn| {
+        let width = drawn.width.saturating_sub(1);
+        calls::FILL_INPLACE.proved_answer(&Drawn { width, ..drawn.clone() })
+    }),
+];
+
+/// The number that the call answers, changed.
+fn number(call: &Call, drawn: &Drawn, change: impl Fn(usize) -> usize) -> Answer {
+    match call.proved_answer(drawn) {
+        Answer::Number(number) => Answer::Number(change(number)),
+        other => other,
+    }
+}
+
+/// The text that the call answers, changed.
+fn text(call: &Call, drawn: &Drawn, change: impl Fn(String) -> String) -> Answer {
+    match call.proved_answer(drawn) {
+        Answer::Text(text) => Answer::Text(change(text)),
+        other => other,
+    }
+}
+
+/// The lines of `wrap`, each changed.
+fn lines(drawn: &Drawn, change: impl Fn(Line) -> Line) -> Answer {
+    match calls::WRAP.proved_answer(drawn) {
+        Answer::Lines(lines) => Answer::Lines(lines.into_iter().map(change).collect()),
+        other => other,
+    }
+}
+
+/// The rows of `wrap_columns`, each changed.
+fn rows(drawn: &Drawn, change: impl Fn(String) -> String) -> Answer {
+    match calls::WRAP_COLUMNS.proved_answer(drawn) {
+        Answer::Rows(rows) => Answer::Rows(rows.into_iter().map(change).collect()),
+        other => other,
+    }
+}
+
+/// What `unfill` answers, changed.
+fn unfilled(drawn: &Drawn, change: impl Fn(&mut Unfilled)) -> Answer {
+    let mut answer = calls::UNFILL.proved_answer(drawn);
+    if let Answer::Unfilled(unfilled) = &mut answer {
+        change(unfilled);
+    }
+    answer
+}
+
+/// `fill` by other penalties.
+fn by_penalties(drawn: &Drawn, change: impl Fn(Penalties) -> Penalties) -> Answer {
+    let algorithm = match drawn.algorithm {
+        Algorithm::FirstFit => Algorithm::FirstFit,
+        Algorithm::OptimalFit(own) => Algorithm::OptimalFit(change(own)),
+    };
+    calls::FILL.proved_answer(&Drawn { algorithm, ..drawn.clone() })
+}
+
+/// What the original answers, where it differs for this cause alone.
+fn by_the_original(call: &Call, drawn: &Drawn, cause: Cause) -> Answer {
+    let honest = call.proved_answer(drawn);
+    match judge(call, drawn, &honest) {
+        Verdict::Explained(causes) if causes == BTreeSet::from([cause]) => {
+            call.original_answer(drawn, Mends::default())
+        }
+        _ => honest,
+    }
+}
+
+/// `refill` with the indents of the options, in place of those of the text.
+fn refilled_with_own_indents(drawn: &Drawn) -> Answer {
+    let (joined, layout) = proved::unfill(&drawn.text);
+    let ending = match layout.line_ending {
+        proved::LineEnding::LF => "\n",
+        proved::LineEnding::CRLF => "\r\n",
+    };
+    let stripped = joined.strip_suffix(ending);
+    let filled = proved::fill(stripped.unwrap_or(&joined), drawn.proved_options());
+    Answer::Text(if stripped.is_some() { filled + drawn.line_ending() } else { filled })
+}
+
+/// `wrap`, but of lines that cost the same those are taken that the rule for ties would name last.
+fn with_latest_ties(drawn: &Drawn) -> Answer {
+    let honest = calls::WRAP.proved_answer(drawn);
+    let by_original = || Original::new(drawn, Mends::of(calls::WRAP.mends));
+    if Answer::of(|| by_original().wrap()) == honest {
+        Answer::of(|| by_original().with_latest_ties().wrap())
+    } else {
+        honest
+    }
+}
+
+/// The text filled in place with each new line feed where the first of the blanks before it stood.
+fn first_blank_broken(drawn: &Drawn, filled: String) -> String {
+    let mut bytes = filled.into_bytes();
+    for (at, old) in drawn.text.bytes().enumerate() {
+        if old == b' ' && bytes[at] == b'\n' {
+            let blanks = bytes[..at].iter().rev().take_while(|&&byte| byte == b' ').count();
+            bytes.swap(at, at - blanks);
+        }
+    }
+    String::from_utf8(bytes).expect("only blanks and line feeds were exchanged")
+}

@@ -146,6 +146,20 @@ static textwrap_status broken(struct lent *lent) {
     return textwrap_break_apart(bytes("foobar"), 6, 2, lent->pieces, 16, &lent->count);
 }
 
+static const size_t CUT = 4, POINT = 2, ENDS[2] = {1, 3};
+
+static textwrap_status in_pieces_at_cuts(struct lent *lent) {
+    textwrap_options o = options_of(0, 1);
+    return textwrap_pieces_at(bytes("foo bar"), 7, &CUT, 1, &POINT, 1, &o, lent->pieces, 16,
+                              &lent->count);
+}
+
+static textwrap_status in_lines_at_ends(struct lent *lent) {
+    textwrap_options o = options_of(0, 0);
+    return textwrap_lines_at(bytes("foo bar"), 7, &CUT, 1, &POINT, 1, ENDS, 2, &o, 0, lent->lines, 16,
+                             &lent->count, lent->room, 256, &lent->len);
+}
+
 static const struct {
     const char *name;
     textwrap_status (*call)(struct lent *);
@@ -168,6 +182,8 @@ static const struct {
     {"find_words_at", cut_at_offsets},
     {"split_points", split},
     {"break_apart", broken},
+    {"pieces_at", in_pieces_at_cuts},
+    {"lines_at", in_lines_at_ends},
 };
 
 /* How many allocations a call makes, or -1 at a fault: one is refused, then the one after it, until

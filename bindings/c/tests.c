@@ -261,6 +261,62 @@ static void words_are_cut_split_and_broken(void) {
     CHECK(textwrap_break_apart(bytes("a\xff"), 2, 3, words, 4, &count) == TEXTWRAP_NOT_UTF8);
 }
 
+static void a_paragraph_is_laid_out_in_steps(void) {
+    textwrap_options o = textwrap_options_new(80);
+    textwrap_piece pieces[4];
+    textwrap_line lines[3];
+    size_t count = 0, len = 7;
+    uint8_t room[4] = "...";
+    const size_t cuts[1] = {4}, points[2] = {2, 4}, ends[2] = {1, 3}, wrong[1] = {7};
+    CHECK(textwrap_pieces_at(bytes("foo bar"), 7, cuts, 1, points, 2, &o, pieces, 4, &count)
+          == TEXTWRAP_DONE);
+    CHECK(count == 3 && pieces[0].len == 2 && pieces[0].penalty_len == 1);
+    CHECK(stands(pieces[1], 2, 1, 1, 1) && stands(pieces[2], 4, 3, 0, 3));
+    CHECK(textwrap_lines_at(bytes("foo bar"), 7, cuts, 1, points, 2, ends, 2, &o, 0, lines, 3, &count,
+                            room, 4, &len) == TEXTWRAP_DONE);
+    CHECK(count == 2 && len == 3 && memcmp(room, "fo-", 3) == 0);
+    CHECK(lines[0].is_built == 1 && lines[0].len == 3);
+    CHECK(lines[1].is_built == 0 && lines[1].offset == 2 && lines[1].len == 5);
+    CHECK(textwrap_pieces_at(bytes("foo bar"), 7, wrong, 1, points, 2, &o, pieces, 4, &count)
+          == TEXTWRAP_WRONG_PLACES);
+    CHECK(textwrap_lines_at(bytes("foo bar"), 7, cuts, 1, points, 2, wrong, 1, &o, 0, lines, 3, &count,
+                            room, 4, &len) == TEXTWRAP_WRONG_PLACES);
+    CHECK(count == 2 && len == 3);
+}
+
+static void bounds_are_enough(void) {
+    textwrap_options o = textwrap_options_new(1);
+    o.optimal_fit = 0;
+    o.initial_indent = text_of("**");
+    o.subsequent_indent = text_of(">");
+    uint8_t room[8];
+    size_t len = 0, count = 0;
+    CHECK(textwrap_fill_bound(2, &o) == 8);
+    CHECK(textwrap_fill(bytes("ab"), 2, &o, room, 8, &len) == TEXTWRAP_DONE);
+    CHECK(len == 8 && memcmp(room, "**\n>a\n>b", 8) == 0);
+    textwrap_line lines[3];
+    CHECK(textwrap_wrap_lines_bound(2) == 3);
+    CHECK(textwrap_wrap_room_bound(2, &o) == 6);
+    CHECK(textwrap_wrap(bytes("ab"), 2, &o, lines, 3, &count, room, 6, &len) == TEXTWRAP_DONE);
+    CHECK(count == 3 && len == 6);
+    CHECK(textwrap_indent_bound(2, 1) == 4);
+    CHECK(textwrap_indent(bytes("\n\n"), 2, bytes("#"), 1, room, 4, &len) == TEXTWRAP_DONE);
+    CHECK(len == 4 && memcmp(room, "#\n#\n", 4) == 0);
+    CHECK(textwrap_dedent_bound(5) == 5);
+    CHECK(textwrap_dedent(bytes("a\n b\n"), 5, room, 5, &len) == TEXTWRAP_DONE && len == 5);
+    textwrap_gaps gaps = {text_of(""), text_of(""), text_of("")};
+    o = textwrap_options_new(2);
+    CHECK(textwrap_wrap_columns_rows_bound(3, 2) == 2);
+    CHECK(textwrap_wrap_columns_room_bound(3, 2, &o, &gaps) == 7);
+    CHECK(textwrap_wrap_columns(bytes("\n\n\n"), 3, 2, &o, &gaps, lines, 2, &count, room, 7, &len)
+          == TEXTWRAP_DONE);
+    CHECK(count == 2 && len == 4);
+    textwrap_layout layout;
+    CHECK(textwrap_unfill_bound(4) == 8);
+    CHECK(textwrap_unfill(bytes("\n > "), 4, room, 8, &len, &layout) == TEXTWRAP_DONE);
+    CHECK(len == 6 && memcmp(room, " >  > ", 6) == 0);
+}
+
 static void statuses_have_words(void) {
     for (int status = TEXTWRAP_DONE; status <= TEXTWRAP_WRONG_PLACES; status++)
         for (int other = TEXTWRAP_DONE; other <= TEXTWRAP_WRONG_PLACES + 1; other++)
@@ -282,6 +338,8 @@ int main(void) {
     fragments_are_divided();
     pieces_are_places();
     words_are_cut_split_and_broken();
+    a_paragraph_is_laid_out_in_steps();
+    bounds_are_enough();
     if (failures == 0) printf("C: ok\n");
     return failures != 0;
 }

@@ -284,6 +284,68 @@ TEXTWRAP_CHECKED
 textwrap_status textwrap_break_apart(const uint8_t *word, size_t word_len, size_t line_width,
                                      textwrap_piece *pieces, size_t pieces_len, size_t *count);
 
+/* ---- A paragraph in steps, for a caller who finds words, points or lines in another way */
+
+/* Writes the pieces of a paragraph that is cut into words at these offsets, whose words may be split at
+ * these points, and are broken as the options say. Both are offsets of the paragraph, increase, and are
+ * character boundaries inside it; else WRONG_PLACES. A point outside the text of a word is not used.
+ * A piece before a point shows a hyphen at the end of a line, if it does not end in one. */
+TEXTWRAP_CHECKED
+textwrap_status textwrap_pieces_at(const uint8_t *paragraph, size_t paragraph_len,
+                                   const size_t *cuts, size_t cuts_len, const size_t *points,
+                                   size_t points_len, const textwrap_options *options,
+                                   textwrap_piece *pieces, size_t pieces_len, size_t *count);
+
+/* Writes the lines of these pieces, as textwrap_wrap does: each ends before so many of the pieces.
+ * `is_later` is 1 if a line stands before them, and else 0. The ends do not decrease, and are no more
+ * than the pieces; else WRONG_PLACES. Pieces after the last end are in no line. */
+TEXTWRAP_CHECKED
+textwrap_status textwrap_lines_at(const uint8_t *paragraph, size_t paragraph_len, const size_t *cuts,
+                                  size_t cuts_len, const size_t *points, size_t points_len,
+                                  const size_t *ends, size_t ends_len,
+                                  const textwrap_options *options, size_t is_later,
+                                  textwrap_line *lines, size_t lines_len, size_t *count,
+                                  uint8_t *room, size_t room_len, size_t *len);
+
+/* ---- Room that is enough, by the length of a text alone: for a caller who would rather allocate once
+ * than call twice. A bound that a size_t cannot hold is SIZE_MAX. */
+
+/* How many bytes textwrap_fill writes at most for a text of so many bytes, by these options: each byte
+ * on a line of its own, after a line ending and the subsequent indent, and the initial indent. */
+TEXTWRAP_CHECKED
+size_t textwrap_fill_bound(size_t text_len, const textwrap_options *options);
+
+/* How many lines textwrap_wrap reports at most: one more than the text has bytes. */
+TEXTWRAP_CHECKED
+size_t textwrap_wrap_lines_bound(size_t text_len);
+
+/* How many bytes textwrap_wrap writes at most to the room, for lines with an indent: without indents
+ * none. */
+TEXTWRAP_CHECKED
+size_t textwrap_wrap_room_bound(size_t text_len, const textwrap_options *options);
+
+/* How many rows textwrap_wrap_columns writes at most: text_len / columns + 1, and 0 without columns. */
+TEXTWRAP_CHECKED
+size_t textwrap_wrap_columns_rows_bound(size_t text_len, size_t columns);
+
+/* How many bytes it writes at most to the room, by these options and gaps. */
+TEXTWRAP_CHECKED
+size_t textwrap_wrap_columns_room_bound(size_t text_len, size_t columns,
+                                        const textwrap_options *options,
+                                        const textwrap_gaps *gaps);
+
+/* How many bytes textwrap_indent writes at most. */
+TEXTWRAP_CHECKED
+size_t textwrap_indent_bound(size_t text_len, size_t prefix_len);
+
+/* How many bytes textwrap_dedent writes at most: no more than the text has. */
+TEXTWRAP_CHECKED
+size_t textwrap_dedent_bound(size_t text_len);
+
+/* How many bytes textwrap_unfill writes at most, the indents among them: twice as many. */
+TEXTWRAP_CHECKED
+size_t textwrap_unfill_bound(size_t text_len);
+
 #ifdef __cplusplus
 }
 #endif

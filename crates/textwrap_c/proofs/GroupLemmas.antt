@@ -33,7 +33,7 @@ line-cut text others false slice left_off built rest from at after goes more =
     (tt, more from (omega (arith, after)))
 
 -- the lines of a paragraph in front of others
-paragraph-cut : (text : List ℕ) (others : List CutLine) (parts : List LineParts) (rest : List ℕ)
+pub paragraph-cut : (text : List ℕ) (others : List CutLine) (parts : List LineParts) (rest : List ℕ)
     (from at : ℕ) → from ≤ at → HasRest text at (covered_by parts ++ rest)
     → ((next : ℕ) → next ≤ at + length (covered_by parts) → AreCut text next others)
     → AreCut text from (cut_lines at parts ++ others)

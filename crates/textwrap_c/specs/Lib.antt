@@ -1,3 +1,4 @@
+pub mod Bounds
 pub mod Columns
 pub mod Fragments
 pub mod Options
@@ -5,5 +6,6 @@ pub mod Pieces
 pub mod Refilling
 pub mod Room
 pub mod Status
+pub mod Steps
 pub mod Reported
 pub mod Wrapping

@@ -5,6 +5,7 @@
 //! allocated is left behind. A call that does not answer `DONE` leaves the room as it was.
 #![tactic(auto)]
 
+pub mod bounds;
 pub mod columns;
 pub mod filling;
 pub mod fragments;
@@ -15,6 +16,7 @@ pub mod refilling;
 mod reported;
 mod room;
 pub mod status;
+pub mod steps;
 #[cfg(test)]
 mod tests;
 pub mod version;

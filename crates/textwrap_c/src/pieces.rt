@@ -241,7 +241,7 @@ fn listed(alloc: Global, pieces: BreakApart<'_>) -> Result<Vec<Word<'_>>, AllocE
 }
 
 /// Where the words stand that are a text, one after another.
-fn place_words(
+pub(crate) fn place_words(
     alloc: Global,
     text: &str,
     words: &[Word<'_>],

@@ -9,9 +9,11 @@ use crate::widths::textwrap_display_width;
 use crate::wrapping::{TextwrapLine, textwrap_wrap};
 use std::alloc::Global;
 
+mod bounds;
 mod fragments;
 mod large;
 mod pieces;
+mod steps;
 
 /// The library's defaults at 10 columns.
 const DEFAULTS: TextwrapOptions<'_> = TextwrapOptions {

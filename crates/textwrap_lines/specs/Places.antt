@@ -4,7 +4,7 @@ use Rattle.std.specs.List.{flat_map}
 use Rattle.textwrap_words.specs.Words.{WordText}
 use Rattle.textwrap_lines.specs.LineEnding.{ending_bytes, paragraphs_of}
 use Rattle.textwrap_lines.specs.Options.{Settings}
-use Rattle.textwrap_lines.specs.Paragraph.{Line, Slice, Built, LineParts, line_from}
+use Rattle.textwrap_lines.specs.Paragraph.{Line, Slice, Built, LineParts, line_from, parts_from}
 use Rattle.textwrap_lines.specs.Text.{AreTextLines}
 use Rattle.textwrap_lines.specs.declared.places.Place.{Place}
 
@@ -31,6 +31,11 @@ abbrev pub cut_lines : ℕ → List LineParts → List CutLine
 cut_lines at [] = []
 cut_lines at (p ∷ parts) =
     cut_line at (line_from p) ∷ cut_lines (at + length (p.slice ++ p.left_off)) parts
+
+-- the lines of a paragraph's pieces that are divided so, where `is_later` says that a line stands
+-- before them
+abbrev pub division_cuts : Settings → Bool → List (List WordText) → List CutLine
+division_cuts settings is_later division = cut_lines 0 (parts_from settings is_later division)
 
 -- the lines of paragraphs that stand one after another, the first from `start` on, with an ending
 -- of so many bytes between each two
@@ -68,6 +73,10 @@ abbrev pub places_of : ℕ → List CutLine → List Place
 places_of used [] = []
 places_of used (cut ∷ cuts) =
     place_of cut.at used cut.line ∷ places_of (used + length (built_bytes cut.line)) cuts
+
+-- the lines stand at these places, and these are the texts of their own among them
+abbrev pub ArePlacesOf : List CutLine → List Place → List ℕ → Type 0
+ArePlacesOf cuts places built = (places ≡ places_of 0 cuts) × (built ≡ built_text (lines_of cuts))
 
 -- these are the lines of the text; a slice stands at the place that it was cut from, and any other
 -- after those before it

@@ -164,7 +164,10 @@ impl<A: Allocator> JoinedLines<A> {
             (indent.now ++ slice.now ++ penalty.now)) }
     {
         if self.begun {
-            self.text.push_str(self.line_ending.as_str())?;
+            match self.line_ending {
+                LineEnding::LF => self.text.push('\n')?,
+                LineEnding::CRLF => self.text.push_str("\r\n")?,
+            }
         }
         self.begun = true;
         // Most lines are the slice alone.

@@ -1,18 +1,22 @@
 //! The lines of a text by where they stand, for the calls from C. The crate `textwrap` does not
 //! re-export this module.
-ghost use Rattle.std.specs.Prelude.{◌≡◌, List, alloc_error, IfOk, IfErr};
+ghost use Rattle.std.specs.Prelude.{◌≡◌, List, alloc_error, map, IfOk, IfErr};
+ghost use Rattle.std.specs.Io.{StartsWith};
+ghost use Rattle.std.specs.List.{flat_map};
 ghost use Rattle.textwrap_lines.specs.Options.{Settings, settings_view, HasParts, MayOverflow};
 ghost use Rattle.textwrap_lines.specs.Paragraph.{DividesAs, DividesBy, Line};
-ghost use Rattle.textwrap_lines.specs.Places.{ArePlacedLines, built_text};
+ghost use Rattle.textwrap_lines.specs.Places.{ArePlacedLines, ArePlacesOf, built_text, division_cuts};
 ghost use Rattle.textwrap_lines.specs.Text.{SomeMayPass64Bits};
 ghost use Rattle.textwrap_words.specs.WordSplitters.{Splitter};
+ghost use Rattle.textwrap_words.specs.Words.{tiled, word_view};
 ghost use Rattle.textwrap_words.specs.WrapAlgorithms.{Algorithm};
 
 use crate::line_sinks::LineSink;
 use crate::options::Options;
 pub use crate::places::{Place, PlacedLines};
-use crate::wrapping::{Way, push_text};
-use std::alloc::Allocator;
+use crate::wrapping::{Way, push_lines, push_text};
+use std::alloc::{AllocError, Allocator};
+use textwrap_words::words::Word;
 use textwrap_words::wrap_algorithms::WrapError;
 
 /// The lines that [`wrap`](crate::wrap) returns, by where they stand. At 5 columns and with the
@@ -41,5 +45,29 @@ pub fn place_lines<A: Allocator + Copy>(
 {
     let mut lines = LineSink::placed(alloc);
     push_text(alloc, text, options, Way::Shortest, &mut lines)?;
+    Ok(lines.into_placed())
+}
+
+/// The line of each list of pieces, by where it stands in the paragraph. Together the pieces tile the
+/// paragraph, or its beginning. `is_later` says that a line stands before them.
+///
+/// # Errors
+/// [`AllocError`] where memory runs out.
+pub fn place_division<A: Allocator + Copy>(
+    alloc: A,
+    paragraph: &str,
+    division: &[&[Word<'_>]],
+    options: &Options<'_>,
+    is_later: bool,
+) -> Result<PlacedLines<A>, AllocError>
+    requires { StartsWith paragraph.now
+        (flat_map (λ line. tiled (map word_view line.now)) division.now) }
+    ensures { IfOk result (λ placed. ArePlacesOf (division_cuts (settings_view options.now) is_later
+        (map (λ line. map word_view line.now) division.now)) placed.places.items
+        placed.built.items) }
+{
+    let mut lines = LineSink::placed(alloc);
+    lines.begin_paragraph(0);
+    push_lines(alloc, paragraph, division, options, is_later, &mut lines)?;
     Ok(lines.into_placed())
 }

@@ -20,7 +20,7 @@ ghost use Rattle.textwrap_lines.specs.LineSinks.{Holds, Took, kind_of};
 ghost use Rattle.textwrap_lines.specs.Options.{Settings, settings_view, HasBuiltInParts};
 ghost use Rattle.textwrap_lines.specs.Options.{HasParts, MayOverflow};
 ghost use Rattle.textwrap_lines.specs.Paragraph.{text_limit, LineParts, line_view};
-ghost use Rattle.textwrap_lines.specs.Paragraph.{covered};
+ghost use Rattle.textwrap_lines.specs.Paragraph.{broken_pieces_of, covered};
 ghost use Rattle.textwrap_lines.specs.Paragraph.{ArePieces, widths_of, width_after, indent_of};
 ghost use Rattle.textwrap_lines.specs.Paragraph.{is_whole, parts_of, parts_from, Adds, DividesBy};
 ghost use Rattle.textwrap_lines.specs.Paragraph.{AreDividedParts, AreParagraphParts};
@@ -218,9 +218,16 @@ pub fn split_paragraph(text: &str, line_ending: LineEnding) -> (&str, Option<&st
         ≡ result.0.now ∷ paragraphs_of line_ending after.now) }
     ensures shorter { IfSome result.1 (λ after. length after.now < length text.now) }
 {
-    match text.split_once(line_ending.as_str()) {
-        Some((paragraph, after)) => (paragraph, Some(after)),
-        None => (text, None),
+    // A line feed alone is one byte, which is found sooner than a text.
+    match line_ending {
+        LineEnding::LF => match text.split_once('\n') {
+            Some((paragraph, after)) => (paragraph, Some(after)),
+            None => (text, None),
+        },
+        LineEnding::CRLF => match text.split_once("\r\n") {
+            Some((paragraph, after)) => (paragraph, Some(after)),
+            None => (text, None),
+        },
     }
 }
 
@@ -333,6 +340,23 @@ fn find_pieces<'t, A: Allocator + Copy>(
     ensures tiles { IfOk result (λ pieces. Tiles (map word_view pieces.items) paragraph.now) }
 {
     let split = find_split_words(alloc, paragraph, options)?;
+    let pieces = break_pieces(alloc, split, options)?;
+    Ok(pieces)
+}
+
+/// The pieces that split words are broken into, where the options ask for that. Where words are
+/// broken and there is an initial indent, an empty piece stands in front.
+///
+/// # Errors
+/// [`AllocError`] where memory runs out.
+pub fn break_pieces<'t, A: Allocator + Copy>(
+    alloc: A,
+    split: Vec<Word<'t>, A>,
+    options: &Options<'_>,
+) -> Result<Vec<Word<'t>, A>, AllocError>
+    ensures { IfOk result (λ pieces. map word_view pieces.items
+        ≡ broken_pieces_of (settings_view options.now) (map word_view split.entry.items)) }
+{
     if !options.break_words {
         return Ok(split);
     }
@@ -384,7 +408,7 @@ fn divide<'a, 'w, A: Allocator + Copy>(
 }
 
 /// Pushes the line of each list of pieces. Together they tile the paragraph, or its beginning.
-fn push_lines<'t, A: Allocator + Copy>(
+pub(crate) fn push_lines<'t, A: Allocator + Copy>(
     alloc: A,
     paragraph: &'t str,
     division: &[&[Word<'_>]],

@@ -9,7 +9,7 @@ pub use words::Words;
 
 mod line_cuts;
 mod offsets;
-mod words;
+pub(crate) mod words;
 
 /// Where a line is cut into words: by `AsciiSpace` the line `"foo bar"` into `"foo "` and `"bar"`.
 #[derive(Clone, Copy, Debug)]

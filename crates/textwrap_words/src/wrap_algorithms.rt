@@ -14,7 +14,7 @@ pub use textwrap_base::{
     OverflowError, Penalties, WrapError, wrap_first_fit, wrap_optimal_fit, wrap_optimal_fit_counted,
 };
 
-mod at_ends;
+pub(crate) mod at_ends;
 mod line_ends;
 
 /// How fragments are divided into lines. At 10 columns `To be, or not to be: that is the question`

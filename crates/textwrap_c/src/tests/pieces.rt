@@ -11,7 +11,7 @@ use std::process::Abort;
 use std::test::Fail;
 
 /// A piece that stands nowhere.
-const NOWHERE: TextwrapPiece = TextwrapPiece {
+pub(super) const NOWHERE: TextwrapPiece = TextwrapPiece {
     offset: 99,
     len: 99,
     whitespace_len: 99,

@@ -2,7 +2,11 @@
 use Rattle.textwrap_base.proofs.Common.{◌≡◌, ◌≢◌, ℕ, zero, suc, ◌+◌, ◌-◌, ◌<◌, ◌≤◌, cond}
 use Rattle.textwrap_base.proofs.Common.{nat_eq, List, [], ◌∷◌, ◌++◌, length, take, drop, refl, sym}
 use Rattle.textwrap_base.proofs.Common.{ap, ◌∙◌, arith, length-append, length-drop, onto_first}
-use Rattle.textwrap_base.proofs.Common.{starts_with, drop_at, cond_both}
+use Rattle.textwrap_base.proofs.Common.{starts_with, drop_at, cond_both, ◌==◌, Bool, false, get_or}
+use Rattle.textwrap_base.proofs.Common.{add-zero, get_or-drop, drop_more, eqb-true, eqb-false}
+use Rattle.std.proofs.lemmas.List.Sums.{fails_before_first, passes_at_first}
+use Rattle.std.specs.List.{after_first, before_first, position_or_len}
+use Rattle.textwrap_lines.specs.LineEnding.{line_feed}
 use Rattle.textwrap_lines.proofs.Common.{ending_bytes, parts_past, join_with, LineEnding}
 use Rattle.textwrap_lines.specs.declared.line_ending.LineEnding.TheVariants.{CRLF, LF}
 use Rattle.textwrap_base.proofs.Lists.Parts.{onto_first-some}
@@ -49,6 +53,38 @@ parts_past-none ending (c ∷ cs) lacks =
     (onto_first c (parts_past ending 0 cs)))
     (starts_with-false ending (c ∷ cs) (lacks 0 (omega arith)))
     ∙ ap (onto_first c) (parts_past-none ending cs (λ k within. lacks (suc k) (omega arith)))
+
+-- ---- at a line feed
+
+abbrev pub is_feed : ℕ → Bool
+is_feed b = b == line_feed
+
+module _ (s : List ℕ) where
+  no_feed_at : (k : ℕ) → is_feed (get_or s k 0) ≡ false → (others : List ℕ)
+      → drop k s ≢ line_feed ∷ others
+  no_feed_at k other others here =
+      eqb-false (get_or s k 0) line_feed other (ap (λ n. get_or s n 0) (sym (add-zero k))
+      ∙ sym (get_or-drop k s 0 0) ∙ ap (λ l. get_or l 0 0) here)
+
+  -- the first part goes up to the first line feed
+  pub parts_past-feed : position_or_len is_feed s < length s
+      → parts_past (ending_bytes LF) 0 s
+      ≡ before_first is_feed s ∷ parts_past (ending_bytes LF) 0 (after_first is_feed s)
+  parts_past-feed some =
+      let i = position_or_len is_feed s in
+      let here : drop i s ≡ line_feed ∷ after_first is_feed s = drop_more s i 0 some
+      ∙ ap (λ c. c ∷ drop (i + 1) s)
+      (eqb-true (get_or s i 0) line_feed (passes_at_first is_feed s 0 some)) in
+      parts_past-first (ending_bytes LF) s (after_first is_feed s) i (omega arith)
+      (λ k before. no_feed_at k (fails_before_first is_feed s k 0 before)) (omega (arith, some)) here
+
+  -- without one there is one part
+  pub parts_past-no_feed : position_or_len is_feed s ≡ length s
+      → parts_past (ending_bytes LF) 0 s ≡ s ∷ []
+  parts_past-no_feed none =
+      parts_past-none (ending_bytes LF) s (λ k within others here.
+      no_feed_at k (fails_before_first is_feed s k 0
+      (omega (arith, none, ap length here, length-drop k s))) others here)
 
 -- ---- the parts, joined by the ending, are the text
 

@@ -63,7 +63,7 @@ impl<'a, A: Allocator> Words<'a, A> {
 }
 
 /// The parts of a line between these cuts, each as a word.
-pub(super) fn words_between<'a, A: Allocator>(
+pub fn words_between<'a, A: Allocator>(
     alloc: A,
     line: &'a str,
     cuts: &[usize],

@@ -34,7 +34,7 @@ pub fn push_measured<'a, A: Allocator + Copy>(
 }
 
 /// Adds the pieces of a word that is split at these points.
-pub(super) fn push_split<'a, A: Allocator>(
+pub fn push_split<'a, A: Allocator>(
     pieces: &mut Vec<Word<'a>, A>,
     word: Word<'a>,
     points: &[usize],

@@ -28,8 +28,8 @@ pub(super) fn wrap_at_ends<'a, 'b, A: Allocator>(
     Ok(lines)
 }
 
-/// The lines between the ends.
-fn lines_between<'b, A: Allocator, X>(
+/// The lines between the ends. Elements after the last end are in no line.
+pub fn lines_between<'b, A: Allocator, X>(
     alloc: A,
     xs: &'b [X],
     ends: &[usize],

@@ -1,74 +1,14 @@
 use Rattle.textwrap_lines.proofs.wrapping.find_pieces.Goals as goal
-use Rattle.textwrap_base.proofs.Common.{◌≡◌, [], ◌∷◌, ◌++◌, cond, map, sym, ap, ◌∙◌}
-use Rattle.textwrap_words.proofs.Common.{broken_words, word_view, MaySeparate, MaySplit}
-use Rattle.textwrap_lines.proofs.Common.{settings_view, empty_word, front_pieces, later_width, Word}
-use Rattle.std.proofs.Common.{Iter}
-use Rattle.std.specs.Iterator.Adapters.{copied_source}
-use Rattle.std.specs.Slice.Iter.{iter_rest}
-use Rattle.std.specs.declared.iter.Copied.{Copied}
-use Rattle.textwrap_base.proofs.Lists.Maps.{given-copied}
-use Rattle.textwrap_lines.proofs.Paragraph.Pieces.{word_of-nil}
+use Rattle.textwrap_base.proofs.Common.{map}
+use Rattle.textwrap_words.proofs.Common.{word_view, MaySeparate, MaySplit}
+use Rattle.textwrap_lines.proofs.Common.{settings_view}
 use Rattle.textwrap_lines.proofs.Paragraph.GivenPieces.{pieces-tile}
 use Rattle.textwrap_words.proofs.Word.GivenCuts.{MaySeparate-texts, MaySplit-cuts}
-use Rattle.textwrap_lines.proofs.wrapping.find_pieces.Goals.{then-not-is_empty+in_ok-insert}
-use Rattle.textwrap_lines.proofs.wrapping.find_pieces.Goals.{else-not-is_empty}
-
-pub returns-then-not-options-clause-pieces : goal.returns-then-not-options-clause-pieces
-returns-then-not-options-clause-pieces g c =
-    let settings = settings_view c.args.options.now in
-    let split = map word_view c.in_ok-split.split.items in
-    let (words, words_are, split_are) = c.in_ok-split.ensures in (
-      words,
-      split,
-      words_are,
-      split_are,
-      ap (λ b. cond b (front_pieces settings ++ broken_words (later_width settings) split) split)
-          (sym c.if-not-options.true),
-    )
-
-pub returns-then-not-options-clause-tiles : goal.returns-then-not-options-clause-tiles
-returns-then-not-options-clause-tiles g c =
-    let options = c.args.options.now in
-    pieces-tile (settings_view options) (MaySeparate options.word_separator)
-    (MaySplit options.word_splitter) (MaySeparate-texts options.word_separator)
-    (MaySplit-cuts options.word_splitter) c.args.paragraph.now
-    (map word_view c.in_ok-split.split.items) c.utf8.paragraph
-    (returns-then-not-options-clause-pieces g c)
 
 pub returns-clause-pieces : goal.returns-clause-pieces
 returns-clause-pieces g c =
-    let settings = settings_view c.args.options.now in
-    let split = map word_view c.in_ok-split.split.items in
     let (words, words_are, split_are) = c.in_ok-split.ensures in
-    let more = c.in_ok-broken.ensures.pieces in
-    let given : iter_rest (copied_source more.0) ≡ c.in_ok-split.split.items =
-    ap (λ (it : Copied (Iter Word)). iter_rest (copied_source it)) more.2
-    ∙ ap iter_rest c.copied.ensures.source ∙ c.iter.ensures.rest ∙ c.deref.ensures.value in
-    let all = given-copied more.0 c.in_ok-split.split.items more.1 given more.3 in
-    let pieces = broken_words (later_width settings) split in
-    let broken : map word_view c.in_ok-broken.broken.items ≡ pieces =
-    more.4 ∙ ap (λ ws. broken_words c.later_width-width.result (map word_view ws)) all
-    ∙ ap (λ n. broken_words n split) c.later_width-width.ensures in
-    let whole : map word_view c.if-not-is_empty.broken.items ≡ front_pieces settings ++ pieces =
-    elim c.if-not-is_empty.branch [
-      | then-not-is_empty+in_ok-insert w ↦
-          ap (map word_view) (ap (λ v. v.items) w.broken-is ∙ w.in_ok-insert.ensures.items)
-          ∙ ap (λ x. x ∷ map word_view c.in_ok-broken.broken.items)
-          (w.from.ensures ∙ word_of-nil) ∙ ap (λ ws. empty_word ∷ ws) broken
-          ∙ ap (λ b. cond b [] (empty_word ∷ []) ++ pieces) (sym w.if-not-is_empty.true
-          ∙ c.is_empty.ensures)
-      | else-not-is_empty w ↦
-          ap (map word_view) (ap (λ v. v.items) w.broken-is) ∙ broken
-          ∙ ap (λ b. cond b [] (empty_word ∷ []) ++ pieces) (sym w.if-not-is_empty.false
-          ∙ c.is_empty.ensures)
-    ] in (
-      words,
-      split,
-      words_are,
-      split_are,
-      whole ∙ ap (λ b. cond b (front_pieces settings ++ pieces) split)
-          (sym c.if-not-options.false),
-    )
+    (words, map word_view c.in_ok-split.split.items, words_are, split_are, c.in_ok-pieces.ensures)
 
 pub returns-clause-tiles : goal.returns-clause-tiles
 returns-clause-tiles g c =
@@ -76,5 +16,4 @@ returns-clause-tiles g c =
     pieces-tile (settings_view options) (MaySeparate options.word_separator)
     (MaySplit options.word_splitter) (MaySeparate-texts options.word_separator)
     (MaySplit-cuts options.word_splitter) c.args.paragraph.now
-    (map word_view c.if-not-is_empty.broken.items) c.utf8.paragraph
-    (returns-clause-pieces g c)
+    (map word_view c.in_ok-pieces.pieces.items) c.utf8.paragraph (returns-clause-pieces g c)

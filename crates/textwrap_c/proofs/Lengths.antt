@@ -1,0 +1,15 @@
+pub mod Bytes
+pub mod Columns
+pub mod Dedented
+pub mod Filled
+pub mod Indented
+pub mod Joined
+pub mod Limit
+pub mod Lines
+pub mod Paragraphs
+pub mod Pieces
+pub mod Room
+pub mod Rows
+pub mod Sums
+pub mod TextLines
+pub mod Unfilled

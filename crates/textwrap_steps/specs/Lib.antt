@@ -1,0 +1,2 @@
+pub mod Offsets
+pub mod Steps

@@ -284,6 +284,124 @@ static void a_paragraph_is_laid_out_in_steps(void) {
     CHECK(count == 2 && len == 3);
 }
 
+/* Cuts after each comma. */
+static size_t cut_after_commas(void *context, const uint8_t *paragraph, size_t len, size_t *cuts) {
+    size_t count = 0;
+    for (size_t i = 0; i + 1 < len; i++)
+        if (paragraph[i] == ',') cuts[count++] = i + 1;
+    ++*(int *)context;
+    return count;
+}
+
+/* Splits where the context says. */
+static size_t split_at_context(void *context, const uint8_t *word, size_t len, size_t *points) {
+    (void)word;
+    points[0] = *(size_t *)context;
+    return points[0] < len;
+}
+
+/* A line for each piece. */
+static size_t each_alone(void *context, const textwrap_piece *pieces, size_t pieces_len,
+                         const size_t line_widths[2], size_t *ends) {
+    (void)context;
+    (void)pieces;
+    (void)line_widths;
+    for (size_t i = 0; i < pieces_len; i++) ends[i] = i + 1;
+    return pieces_len;
+}
+
+/* One line that ends after more pieces than there are. */
+static size_t past_the_end(void *context, const textwrap_piece *pieces, size_t pieces_len,
+                           const size_t line_widths[2], size_t *ends) {
+    each_alone(context, pieces, pieces_len, line_widths, ends);
+    ends[0] = pieces_len + 1;
+    return 1;
+}
+
+/* Whether the text, filled by these functions, has these lines. */
+static int is_wrapped_by(textwrap_options options, textwrap_functions functions, const char *text,
+                         const char *joined) {
+    textwrap_line lines[32];
+    uint8_t room[256];
+    char all[512] = "";
+    size_t count = 0, len = 0, used = 0;
+    if (textwrap_wrap_by(bytes(text), strlen(text), &options, &functions, lines, 32, &count, room, 256,
+                         &len) != TEXTWRAP_DONE)
+        return 0;
+    for (size_t i = 0; i < count; i++) {
+        const uint8_t *line = (lines[i].is_built ? room : bytes(text)) + lines[i].offset;
+        memcpy(all + used, line, lines[i].len);
+        used += lines[i].len;
+        all[used++] = '|';
+    }
+    return used == strlen(joined) && memcmp(all, joined, used) == 0;
+}
+
+/* Whether textwrap_wrap_by without functions does what textwrap_wrap does. */
+static int is_wrapped_alike(textwrap_options options, const char *text) {
+    const textwrap_functions none = {NULL, NULL, NULL, NULL};
+    textwrap_line lines[64], others[64];
+    uint8_t room[512], other_room[512];
+    size_t count = 0, len = 0, other_count = 0, other_len = 0;
+    textwrap_status status = textwrap_wrap(bytes(text), strlen(text), &options, lines, 64, &count, room,
+                                           512, &len);
+    textwrap_status other = textwrap_wrap_by(bytes(text), strlen(text), &options, &none, others, 64,
+                                             &other_count, other_room, 512, &other_len);
+    if (status != TEXTWRAP_DONE || other != TEXTWRAP_DONE) return 0;
+    if (count != other_count || len != other_len || memcmp(room, other_room, len) != 0) return 0;
+    for (size_t i = 0; i < count; i++)
+        if (lines[i].offset != others[i].offset || lines[i].len != others[i].len
+            || lines[i].is_built != others[i].is_built)
+            return 0;
+    return 1;
+}
+
+static void texts_are_wrapped_alike_without_functions(void) {
+    static const char *const texts[] = {
+        "", "\n", "foo", "foo bar baz", "  foo  ", HAMLET, "a-b-c d-e\n\nfoobarbaz qux  \n",
+        "\xe4\xbd\xa0\xe5\xa5\xbd \xe4\xb8\x96\xe7\x95\x8c\r\nfoo", "\x1b[31mred\x1b[0m foo bar",
+    };
+    for (unsigned bits = 0; bits < 256; bits++)
+        for (size_t width = 0; width < 12; width += 1 + width / 4)
+            for (size_t i = 0; i < sizeof texts / sizeof *texts; i++) {
+                textwrap_options o = textwrap_options_new(width);
+                o.optimal_fit = bits & 1;
+                o.split_at_hyphens = bits >> 1 & 1;
+                o.break_words = bits >> 2 & 1;
+                o.preserve_trailing_space = bits >> 3 & 1;
+                o.even_paragraphs = bits >> 4 & 1;
+                o.crlf = bits >> 5 & 1;
+                if (bits >> 6 & 1) o.initial_indent = text_of("* ");
+                if (bits >> 7 & 1) o.subsequent_indent = text_of("    ");
+                CHECK(is_wrapped_alike(o, texts[i]));
+            }
+}
+
+static void functions_of_the_caller_take_part(void) {
+    int calls = 0;
+    size_t two = 2;
+    textwrap_functions commas = {&calls, cut_after_commas, NULL, NULL};
+    CHECK(is_wrapped_by(textwrap_options_new(4), commas, "a,b,c,d\na,b,c", "a,b,|c,d|a,b,|c|"));
+    CHECK(calls == 2);
+    textwrap_functions pairs = {&two, NULL, split_at_context, NULL};
+    CHECK(is_wrapped_by(textwrap_options_new(3), pairs, "foobar", "fo-|oba|r|"));
+    textwrap_functions alone = {NULL, NULL, NULL, each_alone};
+    CHECK(is_wrapped_by(textwrap_options_new(5), alone, "a b-c d", "a|b-|c|d|"));
+    const textwrap_functions wrong = {NULL, NULL, NULL, past_the_end};
+    textwrap_options o = textwrap_options_new(3);
+    textwrap_line lines[4];
+    size_t count = 7, len = 7;
+    uint8_t room[4];
+    CHECK(textwrap_wrap_by(bytes("a b c"), 5, &o, &wrong, lines, 4, &count, room, 4, &len)
+          == TEXTWRAP_WRONG_PLACES);
+    CHECK(textwrap_wrap_by(bytes("a\xff"), 2, &o, &alone, lines, 4, &count, room, 4, &len)
+          == TEXTWRAP_NOT_UTF8);
+    CHECK(count == 7 && len == 7);
+    CHECK(textwrap_wrap_by(bytes("a b c"), 5, &o, &alone, lines, 2, &count, room, 4, &len)
+          == TEXTWRAP_TOO_SMALL);
+    CHECK(count == 3 && len == 0);
+}
+
 static void bounds_are_enough(void) {
     textwrap_options o = textwrap_options_new(1);
     o.optimal_fit = 0;
@@ -339,6 +457,8 @@ int main(void) {
     pieces_are_places();
     words_are_cut_split_and_broken();
     a_paragraph_is_laid_out_in_steps();
+    texts_are_wrapped_alike_without_functions();
+    functions_of_the_caller_take_part();
     bounds_are_enough();
     if (failures == 0) printf("C: ok\n");
     return failures != 0;

@@ -228,6 +228,16 @@ static inline textwrap_penalties textwrap_penalties_new(void) {
     return penalties;
 }
 
+/* Those of the options. */
+static inline textwrap_penalties textwrap_penalties_of(const textwrap_options *options) {
+    textwrap_penalties penalties;
+    penalties.nline_penalty = options->nline_penalty;
+    penalties.overflow_penalty = options->overflow_penalty;
+    penalties.short_last_line_fraction = options->short_last_line_fraction;
+    penalties.short_last_line_penalty = options->short_last_line_penalty;
+    return penalties;
+}
+
 /* Divides fragments into lines by first fit, and writes where each line ends: how many fragments
  * stand before its end. Line l, counted from 0, may be line_widths[l] wide; the last width serves all
  * later lines, and without any it is 0. No fragments are one empty line. DONE, OUT_OF_MEMORY or
@@ -297,8 +307,8 @@ textwrap_status textwrap_pieces_at(const uint8_t *paragraph, size_t paragraph_le
                                    textwrap_piece *pieces, size_t pieces_len, size_t *count);
 
 /* Writes the lines of these pieces, as textwrap_wrap does: each ends before so many of the pieces.
- * `is_later` is 1 if a line stands before them, and else 0. The ends do not decrease, and are no more
- * than the pieces; else WRONG_PLACES. Pieces after the last end are in no line. */
+ * `is_later` is 1 if a line stands before them, and else 0; another number is UNKNOWN_OPTIONS. The ends
+ * do not decrease, and are no more than the pieces; else WRONG_PLACES. Pieces after the last end are in no line. */
 TEXTWRAP_CHECKED
 textwrap_status textwrap_lines_at(const uint8_t *paragraph, size_t paragraph_len, const size_t *cuts,
                                   size_t cuts_len, const size_t *points, size_t points_len,
@@ -306,6 +316,29 @@ textwrap_status textwrap_lines_at(const uint8_t *paragraph, size_t paragraph_len
                                   const textwrap_options *options, size_t is_later,
                                   textwrap_line *lines, size_t lines_len, size_t *count,
                                   uint8_t *room, size_t room_len, size_t *len);
+
+/* Functions of the caller, each called with the context. NULL stands for the part that the options
+ * name. They write offsets in bytes, and return how many. */
+typedef struct {
+    void *context;
+    /* Where a paragraph is cut into words, in its order; no more than it has bytes. */
+    size_t (*cut)(void *context, const uint8_t *paragraph, size_t paragraph_len, size_t *cuts);
+    /* Where a word may be split, inside it and in its order; no more than it has bytes. */
+    size_t (*split)(void *context, const uint8_t *word, size_t word_len, size_t *points);
+    /* Before how many of the pieces each line ends, where the first line and the others may be so
+     * wide; no more than there are pieces, and one. */
+    size_t (*divide)(void *context, const textwrap_piece *pieces, size_t pieces_len,
+                     const size_t line_widths[2], size_t *ends);
+} textwrap_functions;
+
+/* textwrap_wrap by functions of the caller. It is written in C over the calls above (custom.c), and so
+ * tested, not proved; it allocates by malloc. WRONG_PLACES if a function writes what these refuse. */
+TEXTWRAP_CHECKED
+textwrap_status textwrap_wrap_by(const uint8_t *text, size_t text_len,
+                                 const textwrap_options *options,
+                                 const textwrap_functions *functions, textwrap_line *lines,
+                                 size_t lines_len, size_t *count, uint8_t *room, size_t room_len,
+                                 size_t *len);
 
 /* ---- Room that is enough, by the length of a text alone: for a caller who would rather allocate once
  * than call twice. A bound that a size_t cannot hold is SIZE_MAX. */

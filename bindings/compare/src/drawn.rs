@@ -17,7 +17,13 @@ const WIDEST_ROW: usize = 120;
 pub type Penalties = proved::wrap_algorithms::Penalties;
 
 /// How words are divided into lines.
-pub type Algorithm = proved::WrapAlgorithm;
+#[derive(Clone, Copy, Debug)]
+pub enum Algorithm {
+    /// By first fit.
+    FirstFit,
+    /// By the least cost.
+    OptimalFit(Penalties),
+}
 
 /// What stands around the cells of a row.
 #[derive(Clone, Debug)]
@@ -99,22 +105,23 @@ impl Drawn {
 
     /// The options of the proved library.
     pub fn proved_options(&self) -> proved::Options<'_> {
-        use proved::{LineEnding, WordSplitter};
-        proved::Options {
-            width: self.width,
-            line_ending: if self.crlf { LineEnding::CRLF } else { LineEnding::LF },
-            initial_indent: &self.initial_indent,
-            subsequent_indent: &self.subsequent_indent,
-            break_words: self.break_words,
-            wrap_algorithm: self.algorithm,
-            word_splitter: if self.split_at_hyphens {
+        use proved::{LineEnding, WordSplitter, WrapAlgorithm};
+        proved::Options::new(self.width)
+            .line_ending(if self.crlf { LineEnding::CRLF } else { LineEnding::LF })
+            .initial_indent(&self.initial_indent)
+            .subsequent_indent(&self.subsequent_indent)
+            .break_words(self.break_words)
+            .wrap_algorithm(match self.algorithm {
+                Algorithm::FirstFit => WrapAlgorithm::FirstFit,
+                Algorithm::OptimalFit(penalties) => WrapAlgorithm::OptimalFit(penalties),
+            })
+            .word_splitter(if self.split_at_hyphens {
                 WordSplitter::HyphenSplitter
             } else {
                 WordSplitter::NoHyphenation
-            },
-            preserve_trailing_space: self.preserve_trailing_space,
-            even_paragraphs: self.even_paragraphs,
-        }
+            })
+            .preserve_trailing_space(self.preserve_trailing_space)
+            .even_paragraphs(self.even_paragraphs)
     }
 
     /// The same for the original, as far as it has them.

@@ -1,7 +1,7 @@
 //! The heap of the library, over that of the C library. No alignment that it asks for is above that
 //! of `malloc`.
-use std::ffi::c_void;
-use std::ptr;
+use core::ffi::c_void;
+use core::ptr;
 
 extern "C" {
     fn malloc(size: usize) -> *mut c_void;

@@ -1,80 +1,321 @@
-//! Word wrapping and paragraph filling by a proved library, linked as libtextwrap_c.a.
+//! Word wrapping and paragraph filling by a proved library.
 //!
-//! Names and types are those of the crate `textwrap`, as far as they go: words stand between blanks,
-//! and no function of the caller is called. Where memory runs out, a call ends the program as the
-//! standard library does; its twin in [`fallible`] returns [`OutOfMemory`].
+//! The calls are those of the crate `textwrap` 0.16.4, by the same names and with the same types, so a
+//! program that uses it changes one line of its `Cargo.toml`:
+//!
+//! ```toml
+//! textwrap = { package = "textwrap_proved", path = "bindings/rust" }
+//! ```
+//!
+//! Behind them stands a library written in Rattle, which is linked as an archive. Its contracts, which
+//! are proved, state the exact result of each call. What is written in Rust here is the way there and
+//! back, and what functions of the caller take part in.
+//!
+//! # Wrapping Text
+//!
+//! [`wrap()`] returns the lines of a text, and [`fill()`] joins them:
 //!
 //! ```
-//! use textwrap_proved::{fill, Options};
+//! use textwrap_proved::{fill, wrap};
 //!
-//! let options = Options::new(12).initial_indent("* ").subsequent_indent("  ");
-//! assert_eq!(fill("This is a little example.", options), "* This is\n  a little\n  example.");
+//! let text = "textwrap: a small library for wrapping text.";
+//! assert_eq!(wrap(text, 18), ["textwrap: a", "small library for", "wrapping text."]);
+//! assert_eq!(fill(text, 18), "textwrap: a\nsmall library for\nwrapping text.");
 //! ```
-use std::alloc::{handle_alloc_error, Layout};
-use std::borrow::Cow;
+//!
+//! [`Options`] say how: with which indents, by which algorithm, where words begin and where they may be
+//! split. Functions of the caller may take the place of the last three. [`refill()`] and [`unfill()`]
+//! take texts that are filled already, [`wrap_columns()`] lays a text out in columns, and
+//! [`fill_inplace()`] fills a `String` in its own place.
+//!
+//! ## Displayed Width vs Byte Size
+//!
+//! A width counts columns of a terminal, not bytes: `é` takes one column and two bytes, `好` two
+//! columns and three bytes. [`display_width`](core::display_width()) says what a text takes. Offsets,
+//! such as the points of a [`WordSplitter`], count bytes.
+//!
+//! # Indentation and Dedentation
+//!
+//! [`indent()`] puts a prefix before each line, and [`dedent()`] takes away the whitespace that all
+//! lines begin with:
+//!
+//! ```
+//! use textwrap_proved::{dedent, indent};
+//!
+//! assert_eq!(indent("foo\nbar\n", "* "), "* foo\n* bar\n");
+//! assert_eq!(dedent("    foo\n      bar\n"), "foo\n  bar\n");
+//! ```
+//!
+//! # Differences from `textwrap`
+//!
+//! - [`WordSeparator::new`] cuts at blanks, as the original does without its feature
+//!   `unicode-linebreak`. Whoever has a line segmenter gives its offsets to
+//!   [`find_words_at`](word_separators::find_words_at).
+//! - There is no hyphenation by patterns. A [`WordSplitter::Custom`] may give its points.
+//! - There is no `termwidth`, and no `Options::with_termwidth`.
+//! - Widths of a [`Fragment`](core::Fragment) have to be whole numbers from 0 to `usize::MAX`.
+//! - What a `Custom` function gives is checked, and a wrong answer panics with a message that says
+//!   what is wrong.
+//! - Of divisions that cost the same, the one whose lines start earliest is taken.
+//! - [`Options::even_paragraphs`] and the module [`fallible`] are new.
+//!
+//! `docs/DIFFERENCES.md` of the repository has all of them, with those of the library itself.
+//!
+//! # Cargo Features
+//!
+//! The features `std`, `smawk` and `unicode-width` change nothing: they are there so that a line of
+//! `Cargo.toml` that names them stays as it is. The crate needs `alloc`, and the heap of the C library.
+//!
+//! # Memory
+//!
+//! If memory runs out, a call ends the program as the standard library does. Its twin in [`fallible`]
+//! returns [`OutOfMemory`] in place of that.
+#![no_std]
+#![deny(missing_docs)]
+#![deny(missing_debug_implementations)]
+#![deny(unsafe_op_in_unsafe_fn)]
 
+extern crate alloc;
+
+use crate::room::or_abort;
+use alloc::borrow::Cow;
+use alloc::string::String;
+use alloc::vec::Vec;
+
+mod columns;
 pub mod core;
+mod custom;
 pub mod fallible;
+mod guess;
+// An archive that is installed for C has its heap in it.
+#[cfg(not(library_has_heap))]
 mod heap;
+mod line_ending;
 mod options;
+mod room;
 mod sys;
+pub mod word_separators;
+pub mod word_splitters;
 pub mod wrap_algorithms;
 
-pub use fallible::OutOfMemory;
-pub use options::{LineEnding, Options, WordSplitter};
-pub use wrap_algorithms::WrapAlgorithm;
+pub use crate::line_ending::LineEnding;
+pub use crate::options::Options;
+pub use crate::room::OutOfMemory;
+pub use crate::word_separators::WordSeparator;
+pub use crate::word_splitters::WordSplitter;
+pub use crate::wrap_algorithms::WrapAlgorithm;
 
-fn or_abort<T>(result: Result<T, OutOfMemory>) -> T {
-    result.unwrap_or_else(|_| handle_alloc_error(Layout::new::<u8>()))
-}
-
-/// The text with its lines filled to the width.
-pub fn fill<'a>(text: &str, width_or_options: impl Into<Options<'a>>) -> String {
+/// The text with its lines filled to a width.
+///
+/// It is the lines of [`wrap()`], joined by [`Options::line_ending`].
+///
+/// # Panics
+///
+/// If a function of the caller, in the options, gives what it must not.
+///
+/// # Examples
+///
+/// ```
+/// use textwrap_proved::{fill, Options};
+///
+/// let text = "Memory safety without garbage collection.";
+/// assert_eq!(fill(text, 15), "Memory safety\nwithout garbage\ncollection.");
+///
+/// let options = Options::new(15).initial_indent("- ").subsequent_indent("  ");
+/// assert_eq!(fill(text, &options), "- Memory safety\n  without\n  garbage\n  collection.");
+/// ```
+pub fn fill<'a, Opt>(text: &str, width_or_options: Opt) -> String
+where
+    Opt: Into<Options<'a>>,
+{
     or_abort(fallible::fill(text, width_or_options))
 }
 
-/// The lines of the text. One with an indent is a text of its own.
-pub fn wrap<'t, 'a>(text: &'t str, width_or_options: impl Into<Options<'a>>) -> Vec<Cow<'t, str>> {
+/// The lines of the text at a width in columns, or by options.
+///
+/// Each paragraph of the text is divided by itself; [`Options::line_ending`] says what stands between
+/// them. A line without an indent and without an added hyphen borrows from the text, and any other is a
+/// `String`.
+///
+/// # Optimal-Fit Wrapping
+///
+/// By default, the lines are those of the least cost, whose gaps are even. First fit takes the words
+/// that fit, line by line, and is faster. See [`WrapAlgorithm`].
+///
+/// ```
+/// use textwrap_proved::{wrap, Options, WrapAlgorithm};
+///
+/// let text = "To be, or not to be: that is the question";
+/// assert_eq!(wrap(text, 10), ["To be,", "or not to", "be: that", "is the", "question"]);
+/// let first_fit = Options::new(10).wrap_algorithm(WrapAlgorithm::FirstFit);
+/// assert_eq!(wrap(text, first_fit), ["To be, or", "not to be:", "that is", "the", "question"]);
+/// ```
+///
+/// # Panics
+///
+/// If a function of the caller, in the options, gives what it must not.
+///
+/// # Examples
+///
+/// ```
+/// use std::borrow::Cow::{Borrowed, Owned};
+/// use textwrap_proved::{wrap, Options};
+///
+/// let options = Options::new(15).subsequent_indent("....");
+/// let lines = wrap("Wrapping text all day long.", &options);
+/// assert_eq!(lines, ["Wrapping text", "....all day", "....long."]);
+/// assert!(matches!(lines[..], [Borrowed(_), Owned(_), Owned(_)]));
+/// ```
+///
+/// ## Leading and Trailing Whitespace
+///
+/// Blanks between words are kept within a line, and left off at its end. Blanks that a paragraph begins
+/// with are a word without text, which the next word follows if it fits:
+///
+/// ```
+/// use textwrap_proved::wrap;
+///
+/// assert_eq!(wrap("Foo   bar baz", 10), ["Foo   bar", "baz"]);
+/// assert_eq!(wrap("Foo   bar baz", 8), ["Foo", "bar baz"]);
+/// assert_eq!(wrap("  foo bar", 8), ["  foo", "bar"]);
+/// assert_eq!(wrap("  foo bar", 4), ["", "foo", "bar"]);
+/// ```
+pub fn wrap<'a, Opt>(text: &str, width_or_options: Opt) -> Vec<Cow<'_, str>>
+where
+    Opt: Into<Options<'a>>,
+{
     or_abort(fallible::wrap(text, width_or_options))
 }
 
-/// The text in so many columns beside one another, row by row.
+/// The text in columns beside one another, row by row. The width is that of a row, with its gaps.
+///
+/// The lines go down the first column, then down the second, and so on. The columns are equally wide,
+/// at least 1, and blanks that are left over stand before the right gap.
 ///
 /// # Panics
-/// Without any columns.
-pub fn wrap_columns<'a>(
+///
+/// Without any columns, or if a function of the caller, in the options, gives what it must not.
+///
+/// # Examples
+///
+/// ```
+/// use textwrap_proved::wrap_columns;
+///
+/// let rows = wrap_columns("In how many columns does this text stand?", 3, 31, "| ", " | ", " |");
+/// assert_eq!(rows, [
+///     "| In how  | does    | stand?  |",
+///     "| many    | this    |         |",
+///     "| columns | text    |         |",
+/// ]);
+/// ```
+pub fn wrap_columns<'a, Opt>(
     text: &str,
     columns: usize,
-    total_width_or_options: impl Into<Options<'a>>,
+    total_width_or_options: Opt,
     left_gap: &str,
     middle_gap: &str,
     right_gap: &str,
-) -> Vec<String> {
+) -> Vec<String>
+where
+    Opt: Into<Options<'a>>,
+{
     let options = total_width_or_options;
     or_abort(fallible::wrap_columns(text, columns, options, left_gap, middle_gap, right_gap))
 }
 
-/// A filled text, filled again with the indents that it has.
-pub fn refill<'a>(filled_text: &str, new_width_or_options: impl Into<Options<'a>>) -> String {
+/// A filled text, filled again with the indents that it has, and at its end the line ending that it
+/// has there. The indents of the options are not used.
+///
+/// # Panics
+///
+/// If a function of the caller, in the options, gives what it must not.
+///
+/// # Examples
+///
+/// ```
+/// use textwrap_proved::refill;
+///
+/// let mail = "> Memory\n> safety without garbage\n> collection.\n";
+/// assert_eq!(refill(mail, 20), "> Memory safety\n> without garbage\n> collection.\n");
+/// assert_eq!(refill("- This is my\n  list item.\n", 20), "- This is my list\n  item.\n");
+/// ```
+pub fn refill<'a, Opt>(filled_text: &str, new_width_or_options: Opt) -> String
+where
+    Opt: Into<Options<'a>>,
+{
     or_abort(fallible::refill(filled_text, new_width_or_options))
 }
 
-/// The joined lines of a filled text, and how it was filled.
+/// The joined lines of a filled text, and how it seems to have been filled.
+///
+/// The options have the columns of the widest line, the indents and the line ending. An indent is what
+/// a line begins with of blanks and `-`, `+`, `*`, `>`, `#` and `/`, and the subsequent indent is what
+/// all lines but the first begin with. The text is taken for one paragraph.
+///
+/// # Examples
+///
+/// ```
+/// use textwrap_proved::{unfill, LineEnding};
+///
+/// let (text, options) = unfill("* This is an\n  example of\n  a list item.\n");
+/// assert_eq!(text, "This is an example of a list item.\n");
+/// assert_eq!((options.initial_indent, options.subsequent_indent), ("* ", "  "));
+/// assert_eq!((options.width, options.line_ending), (14, LineEnding::LF));
+/// ```
 pub fn unfill(text: &str) -> (String, Options<'_>) {
     or_abort(fallible::unfill(text))
 }
 
-/// The text with a prefix before each line.
+/// The text with a prefix before each line. A blank line gets the prefix without the whitespace at its
+/// end.
+///
+/// # Examples
+///
+/// ```
+/// use textwrap_proved::indent;
+///
+/// assert_eq!(indent("foo = 123\n\nprint(foo)\n", "# "), "# foo = 123\n#\n# print(foo)\n");
+/// ```
 pub fn indent(s: &str, prefix: &str) -> String {
     or_abort(fallible::indent(s, prefix))
 }
 
 /// The text without the whitespace that all its lines begin with.
+///
+/// # Examples
+///
+/// ```
+/// use textwrap_proved::dedent;
+///
+/// assert_eq!(dedent("    1st line\n      2nd line\n    3rd line\n"),
+///            "1st line\n  2nd line\n3rd line\n");
+/// ```
 pub fn dedent(s: &str) -> String {
     or_abort(fallible::dedent(s))
 }
 
-/// Fills a text in its own place: blanks of it become line feeds.
+/// Fills a text in its own place, at a width in columns: blanks of it become line feeds, and all else
+/// stays.
+///
+/// It does so by first fit, keeps words whole, and takes each line of the text for a paragraph. So it
+/// does what [`fill()`] does by these options, except that further blanks before a line feed stay:
+///
+/// ```
+/// # use textwrap_proved::{Options, WordSplitter, WrapAlgorithm};
+/// # let width = 80;
+/// Options::new(width)
+///     .break_words(false)
+///     .wrap_algorithm(WrapAlgorithm::FirstFit)
+///     .word_splitter(WordSplitter::NoHyphenation);
+/// ```
+///
+/// # Examples
+///
+/// ```
+/// let mut text = String::from("Hello   World!");
+/// textwrap_proved::fill_inplace(&mut text, 10);
+/// assert_eq!(text, "Hello  \nWorld!");
+/// ```
 pub fn fill_inplace(text: &mut String, width: usize) {
     or_abort(fallible::fill_inplace(text, width))
 }

@@ -1,50 +1,65 @@
-//! The options, by the names that the original gives them.
+//! How a text is wrapped.
 use crate::sys;
-use crate::wrap_algorithms::{Penalties, WrapAlgorithm};
+use crate::wrap_algorithms::Penalties;
+use crate::{LineEnding, WordSeparator, WordSplitter, WrapAlgorithm};
 
-/// What ends a paragraph, and joins the lines.
-#[derive(Clone, Copy, Debug, PartialEq, Eq)]
-pub enum LineEnding {
-    /// A carriage return and a line feed.
-    CRLF,
-    /// A line feed.
-    LF,
-}
-
-/// Where words may be split.
-#[derive(Clone, Copy, Debug, PartialEq, Eq)]
-pub enum WordSplitter {
-    /// Nowhere.
-    NoHyphenation,
-    /// After each hyphen that stands between letters or digits.
-    HyphenSplitter,
-}
-
-/// How a text is wrapped. `Options::new` has the defaults, and a builder changes one field.
-#[derive(Clone, Copy, Debug)]
+/// How a text is wrapped. [`Options::new`] has the defaults, and each field has a method of its name
+/// that changes it.
+///
+/// Where options are asked for, a width or a reference to options will do too.
+///
+/// # Examples
+///
+/// ```
+/// use textwrap_proved::{fill, Options};
+///
+/// let options = Options::new(12).initial_indent("* ").subsequent_indent("  ");
+/// assert_eq!(fill("This is a little example.", &options), "* This is\n  a little\n  example.");
+/// assert_eq!(fill("This is a little example.", 12), "This is\na little\nexample.");
+/// ```
+#[derive(Clone, Debug)]
+#[non_exhaustive]
 pub struct Options<'a> {
-    /// The columns of a line.
+    /// The columns of a line, with its indent.
     pub width: usize,
-    /// What ends a paragraph, and joins the lines.
+    /// What ends a paragraph, and joins the lines of a filled text.
     pub line_ending: LineEnding,
     /// What is printed before the first line.
     pub initial_indent: &'a str,
     /// What is printed before each later line.
     pub subsequent_indent: &'a str,
-    /// Whether words that are too wide for a line are broken.
+    /// Whether words that are too wide for a line are broken. Otherwise they stand out.
     pub break_words: bool,
     /// How words are divided into lines.
     pub wrap_algorithm: WrapAlgorithm,
+    /// Where a paragraph is cut into words.
+    pub word_separator: WordSeparator,
     /// Where words may be split.
     pub word_splitter: WordSplitter,
     /// Whether blanks at line ends are kept.
     pub preserve_trailing_space: bool,
-    /// Whether the first lines of later paragraphs are divided for the width of the other lines.
+    /// Whether the first line of a later paragraph is divided for the width that its own indent
+    /// leaves. Otherwise it is divided for what the initial indent leaves, as in the original, which
+    /// has no such field; such a line may be too wide.
     pub even_paragraphs: bool,
 }
 
 impl<'a> Options<'a> {
-    /// The defaults at a width: lines of the least cost, without indents.
+    /// The defaults at a width in columns.
+    ///
+    /// ```
+    /// use textwrap_proved::{LineEnding, Options, WordSeparator, WordSplitter, WrapAlgorithm};
+    ///
+    /// let options = Options::new(80);
+    /// assert_eq!(options.width, 80);
+    /// assert_eq!(options.line_ending, LineEnding::LF);
+    /// assert_eq!((options.initial_indent, options.subsequent_indent), ("", ""));
+    /// assert!(options.break_words);
+    /// assert_eq!(options.wrap_algorithm, WrapAlgorithm::new_optimal_fit());
+    /// assert_eq!(options.word_separator, WordSeparator::AsciiSpace);
+    /// assert_eq!(options.word_splitter, WordSplitter::HyphenSplitter);
+    /// assert!(!options.preserve_trailing_space && !options.even_paragraphs);
+    /// ```
     pub const fn new(width: usize) -> Self {
         Options {
             width,
@@ -53,62 +68,137 @@ impl<'a> Options<'a> {
             subsequent_indent: "",
             break_words: true,
             wrap_algorithm: WrapAlgorithm::new(),
+            word_separator: WordSeparator::new(),
             word_splitter: WordSplitter::HyphenSplitter,
             preserve_trailing_space: false,
             even_paragraphs: false,
         }
     }
 
-    /// With this width.
+    /// Sets [`width`](#structfield.width), in columns.
     pub const fn width(self, width: usize) -> Self {
         Options { width, ..self }
     }
 
-    /// With this line ending.
+    /// Sets [`line_ending`](#structfield.line_ending).
+    ///
+    /// ```
+    /// use textwrap_proved::{refill, LineEnding, Options};
+    ///
+    /// let options = Options::new(10).line_ending(LineEnding::CRLF);
+    /// assert_eq!(refill("foo bar\nbaz", options), "foo bar\r\nbaz");
+    /// ```
     pub const fn line_ending(self, line_ending: LineEnding) -> Self {
         Options { line_ending, ..self }
     }
 
-    /// With this initial indent.
+    /// Sets [`initial_indent`](#structfield.initial_indent).
+    ///
+    /// ```
+    /// use textwrap_proved::{wrap, Options};
+    ///
+    /// let options = Options::new(16).initial_indent("    ");
+    /// assert_eq!(wrap("This is a little example.", options), ["    This is a", "little example."]);
+    /// ```
     pub const fn initial_indent(self, initial_indent: &'a str) -> Self {
         Options { initial_indent, ..self }
     }
 
-    /// With this subsequent indent.
+    /// Sets [`subsequent_indent`](#structfield.subsequent_indent).
+    ///
+    /// ```
+    /// use textwrap_proved::{wrap, Options};
+    ///
+    /// let options = Options::new(12).initial_indent("* ").subsequent_indent("  ");
+    /// let lines = wrap("This is a little example.", options);
+    /// assert_eq!(lines, ["* This is", "  a little", "  example."]);
+    /// ```
     pub const fn subsequent_indent(self, subsequent_indent: &'a str) -> Self {
         Options { subsequent_indent, ..self }
     }
 
-    /// With words broken, or left whole.
+    /// Sets [`break_words`](#structfield.break_words).
+    ///
+    /// ```
+    /// use textwrap_proved::{wrap, Options};
+    ///
+    /// assert_eq!(wrap("a little", Options::new(4)), ["a", "litt", "le"]);
+    /// assert_eq!(wrap("a little", Options::new(4).break_words(false)), ["a", "little"]);
+    /// ```
     pub const fn break_words(self, break_words: bool) -> Self {
         Options { break_words, ..self }
     }
 
-    /// With this algorithm.
+    /// Sets [`word_separator`](#structfield.word_separator).
+    pub const fn word_separator(self, word_separator: WordSeparator) -> Self {
+        Options { word_separator, ..self }
+    }
+
+    /// Sets [`wrap_algorithm`](#structfield.wrap_algorithm).
+    ///
+    /// ```
+    /// use textwrap_proved::{wrap, Options, WrapAlgorithm};
+    ///
+    /// let text = "To be, or not to be: that is the question";
+    /// let first_fit = Options::new(10).wrap_algorithm(WrapAlgorithm::FirstFit);
+    /// assert_eq!(wrap(text, first_fit), ["To be, or", "not to be:", "that is", "the", "question"]);
+    /// assert_eq!(wrap(text, 10), ["To be,", "or not to", "be: that", "is the", "question"]);
+    /// ```
     pub const fn wrap_algorithm(self, wrap_algorithm: WrapAlgorithm) -> Self {
         Options { wrap_algorithm, ..self }
     }
 
-    /// With this splitter.
+    /// Sets [`word_splitter`](#structfield.word_splitter).
+    ///
+    /// ```
+    /// use textwrap_proved::{wrap, Options, WordSplitter};
+    ///
+    /// assert_eq!(wrap("foo-bar-baz", Options::new(5)), ["foo-", "bar-", "baz"]);
+    /// let whole = Options::new(5).word_splitter(WordSplitter::NoHyphenation);
+    /// assert_eq!(wrap("foo-bar-baz", &whole), ["foo-b", "ar-ba", "z"]);
+    /// assert_eq!(wrap("foo-bar-baz", whole.break_words(false)), ["foo-bar-baz"]);
+    /// ```
     pub const fn word_splitter(self, word_splitter: WordSplitter) -> Self {
         Options { word_splitter, ..self }
     }
 
-    /// With blanks at line ends kept, or left off.
+    /// Sets [`preserve_trailing_space`](#structfield.preserve_trailing_space).
+    ///
+    /// ```
+    /// use textwrap_proved::{wrap, Options};
+    ///
+    /// let options = Options::new(5).preserve_trailing_space(true);
+    /// assert_eq!(wrap("foo  bar", options), ["foo  ", "bar"]);
+    /// ```
     pub const fn preserve_trailing_space(self, preserve_trailing_space: bool) -> Self {
         Options { preserve_trailing_space, ..self }
     }
 
-    /// With even paragraphs, or without.
+    /// Sets [`even_paragraphs`](#structfield.even_paragraphs).
+    ///
+    /// ```
+    /// use textwrap_proved::{wrap, Options};
+    ///
+    /// let options = Options::new(7).subsequent_indent("    ");
+    /// assert_eq!(wrap("aaa\nbbb ccc", &options), ["aaa", "    bbb ccc"]);
+    /// assert_eq!(wrap("aaa\nbbb ccc", options.even_paragraphs(true)), ["aaa", "    bbb", "    ccc"]);
+    /// ```
     pub const fn even_paragraphs(self, even_paragraphs: bool) -> Self {
         Options { even_paragraphs, ..self }
     }
 
-    /// The same as C has them. They lend the indents.
-    pub(crate) fn to_sys(self) -> sys::Options {
+    /// Whether a function of the caller takes part.
+    pub(crate) fn has_function(&self) -> bool {
+        matches!(self.wrap_algorithm, WrapAlgorithm::Custom(_))
+            || matches!(self.word_separator, WordSeparator::Custom(_))
+            || matches!(self.word_splitter, WordSplitter::Custom(_))
+    }
+
+    /// The same as C has them, without the functions of the caller. They lend the indents.
+    pub(crate) fn to_sys(&self) -> sys::Options {
         let (optimal_fit, penalties) = match self.wrap_algorithm {
-            WrapAlgorithm::FirstFit => (0, Penalties::new()),
             WrapAlgorithm::OptimalFit(penalties) => (1, penalties),
+            WrapAlgorithm::FirstFit | WrapAlgorithm::Custom(_) => (0, Penalties::new()),
         };
         sys::Options {
             version: sys::VERSION,
@@ -140,6 +230,6 @@ impl From<usize> for Options<'_> {
 
 impl<'a> From<&Options<'a>> for Options<'a> {
     fn from(options: &Options<'a>) -> Self {
-        *options
+        options.clone()
     }
 }

@@ -1,9 +1,11 @@
-//! The exports of libtextwrap_c.a, as `bindings/c/textwrap.h` has them. Nothing compares the two but
-//! the tests of each.
+//! The exports of the library, as `bindings/c/textwrap.h` has them. Nothing compares the two but the
+//! tests of each.
 
 pub const DONE: u32 = 0;
 pub const OUT_OF_MEMORY: u32 = 2;
 pub const TOO_SMALL: u32 = 3;
+pub const OVERFLOW: u32 = 5;
+pub const WRONG_PLACES: u32 = 6;
 pub const VERSION: u32 = 1;
 
 #[repr(C)]
@@ -41,7 +43,7 @@ pub struct Options {
 }
 
 #[repr(C)]
-#[derive(Clone, Copy, Default)]
+#[derive(Clone, Copy)]
 pub struct Line {
     pub offset: usize,
     pub len: usize,
@@ -62,6 +64,32 @@ pub struct Layout {
     pub crlf: usize,
     pub initial_indent_len: usize,
     pub subsequent_indent_len: usize,
+}
+
+#[repr(C)]
+pub struct Fragment {
+    pub width: usize,
+    pub whitespace_width: usize,
+    pub penalty_width: usize,
+    pub break_penalty: usize,
+}
+
+#[repr(C)]
+pub struct Penalties {
+    pub nline_penalty: usize,
+    pub overflow_penalty: usize,
+    pub short_last_line_fraction: usize,
+    pub short_last_line_penalty: usize,
+}
+
+#[repr(C)]
+#[derive(Clone, Copy)]
+pub struct Piece {
+    pub offset: usize,
+    pub len: usize,
+    pub whitespace_len: usize,
+    pub penalty_len: usize,
+    pub width: usize,
 }
 
 extern "C" {
@@ -139,4 +167,93 @@ extern "C" {
     ) -> u32;
 
     pub fn textwrap_fill_inplace(text: *mut u8, text_len: usize, width: usize) -> u32;
+
+    pub fn textwrap_wrap_first_fit(
+        fragments: *const Fragment,
+        fragments_len: usize,
+        line_widths: *const usize,
+        line_widths_len: usize,
+        ends: *mut usize,
+        ends_len: usize,
+        count: *mut usize,
+    ) -> u32;
+
+    pub fn textwrap_wrap_optimal_fit(
+        fragments: *const Fragment,
+        fragments_len: usize,
+        line_widths: *const usize,
+        line_widths_len: usize,
+        penalties: *const Penalties,
+        ends: *mut usize,
+        ends_len: usize,
+        count: *mut usize,
+    ) -> u32;
+
+    pub fn textwrap_pieces(
+        paragraph: *const u8,
+        paragraph_len: usize,
+        options: *const Options,
+        pieces: *mut Piece,
+        pieces_len: usize,
+        count: *mut usize,
+    ) -> u32;
+
+    pub fn textwrap_find_words_at(
+        line: *const u8,
+        line_len: usize,
+        offsets: *const usize,
+        offsets_len: usize,
+        words: *mut Piece,
+        words_len: usize,
+        count: *mut usize,
+    ) -> u32;
+
+    pub fn textwrap_split_points(
+        word: *const u8,
+        word_len: usize,
+        points: *mut usize,
+        points_len: usize,
+        count: *mut usize,
+    ) -> u32;
+
+    pub fn textwrap_break_apart(
+        word: *const u8,
+        word_len: usize,
+        line_width: usize,
+        pieces: *mut Piece,
+        pieces_len: usize,
+        count: *mut usize,
+    ) -> u32;
+
+    pub fn textwrap_pieces_at(
+        paragraph: *const u8,
+        paragraph_len: usize,
+        cuts: *const usize,
+        cuts_len: usize,
+        points: *const usize,
+        points_len: usize,
+        options: *const Options,
+        pieces: *mut Piece,
+        pieces_len: usize,
+        count: *mut usize,
+    ) -> u32;
+
+    pub fn textwrap_lines_at(
+        paragraph: *const u8,
+        paragraph_len: usize,
+        cuts: *const usize,
+        cuts_len: usize,
+        points: *const usize,
+        points_len: usize,
+        ends: *const usize,
+        ends_len: usize,
+        options: *const Options,
+        is_later: usize,
+        lines: *mut Line,
+        lines_len: usize,
+        count: *mut usize,
+        room: *mut u8,
+        room_len: usize,
+        len: *mut usize,
+    ) -> u32;
 }

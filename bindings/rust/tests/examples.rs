@@ -39,7 +39,7 @@ fn each_option_has_its_effect() {
     let crlf = Options::new(5).line_ending(LineEnding::CRLF);
     assert_eq!(fill("foo bar\r\nbaz", crlf), "foo\r\nbar\r\nbaz");
     let indented = Options::new(9).initial_indent("* ").subsequent_indent("    ");
-    assert_eq!(fill("foo bar\nbaz qu", indented), "* foo bar\n    baz qu");
+    assert_eq!(fill("foo bar\nbaz qu", &indented), "* foo bar\n    baz qu");
     let even = indented.even_paragraphs(true);
     assert_eq!(fill("foo bar\nbaz qu", even), "* foo bar\n    baz\n    qu");
 }

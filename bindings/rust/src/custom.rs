@@ -1,0 +1,241 @@
+//! Wrapping in which functions of the caller take part, paragraph by paragraph.
+//!
+//! The functions give the words, the points or the lines. What they give is checked here, and the
+//! library makes the pieces and the lines of it.
+use crate::core::{display_width, Word};
+use crate::fallible::{push, push_line, unfill};
+use crate::room::{listed, room_for, LineText, OutOfMemory, Reported};
+use crate::{guess, sys};
+use crate::{Options, WordSeparator, WrapAlgorithm};
+use alloc::borrow::Cow;
+use alloc::string::String;
+use alloc::vec::Vec;
+
+/// The filled text.
+pub(crate) fn filled(text: &str, options: &Options<'_>) -> Result<String, OutOfMemory> {
+    let mut filled = String::new();
+    filled.try_reserve(text.len()).map_err(|_| OutOfMemory)?;
+    let mut is_first = true;
+    each_line(text, options, |line| {
+        if !is_first {
+            push(&mut filled, options.line_ending.as_str())?;
+        }
+        is_first = false;
+        push(&mut filled, line.as_str())
+    })?;
+    Ok(filled)
+}
+
+/// The lines of the text.
+pub(crate) fn wrapped<'t>(
+    text: &'t str,
+    options: &Options<'_>,
+) -> Result<Vec<Cow<'t, str>>, OutOfMemory> {
+    let mut lines = Vec::new();
+    each_line(text, options, |line| push_line(&mut lines, line))?;
+    Ok(lines)
+}
+
+/// The filled text, filled again with the indents that it has.
+pub(crate) fn refilled(filled_text: &str, options: &Options<'_>) -> Result<String, OutOfMemory> {
+    let (text, found) = unfill(filled_text)?;
+    let joined = text.strip_suffix(found.line_ending.as_str());
+    let Options { initial_indent, subsequent_indent, .. } = found;
+    let options = Options { initial_indent, subsequent_indent, ..options.clone() };
+    let mut refilled = filled(joined.unwrap_or(&text), &options)?;
+    if joined.is_some() {
+        push(&mut refilled, options.line_ending.as_str())?;
+    }
+    Ok(refilled)
+}
+
+/// Hands each line of the text on, in order.
+fn each_line<'t>(
+    text: &'t str,
+    options: &Options<'_>,
+    mut hand_on: impl FnMut(LineText<'t, '_>) -> Result<(), OutOfMemory>,
+) -> Result<(), OutOfMemory> {
+    let with = With::new(options);
+    // Whether a line stands before, of this paragraph or of another.
+    let mut is_later = false;
+    for paragraph in text.split(options.line_ending.as_str()) {
+        let indent = if is_later { options.subsequent_indent } else { options.initial_indent };
+        if indent.is_empty() && paragraph.len() < options.width {
+            let blanks_off = paragraph.trim_end_matches(' ');
+            let kept = if options.preserve_trailing_space { paragraph } else { blanks_off };
+            hand_on(LineText::Borrowed(kept))?;
+            is_later = true;
+            continue;
+        }
+        let lines = with.lines_of(paragraph, is_later)?;
+        for line in lines.lines(paragraph) {
+            hand_on(line)?;
+            is_later = true;
+        }
+    }
+    Ok(())
+}
+
+/// The options, and what is the same for each paragraph.
+struct With<'o> {
+    options: &'o Options<'o>,
+    with: sys::Options,
+    first_width: usize,
+    later_width: usize,
+}
+
+/// Where a paragraph is cut into words, and where these are split: offsets of the paragraph.
+struct Places {
+    cuts: Vec<usize>,
+    points: Vec<usize>,
+}
+
+impl<'o> With<'o> {
+    fn new(options: &'o Options<'_>) -> Self {
+        let beside = |indent: &str| options.width.saturating_sub(display_width(indent));
+        With {
+            options,
+            with: options.to_sys(),
+            first_width: beside(options.initial_indent),
+            later_width: beside(options.subsequent_indent),
+        }
+    }
+
+    /// The lines of a paragraph that is divided.
+    fn lines_of(&self, paragraph: &str, is_later: bool) -> Result<Reported, OutOfMemory> {
+        let places = self.places_in(paragraph)?;
+        let pieces = self.pieces_at(paragraph, &places)?;
+        let is_even = self.options.even_paragraphs && is_later;
+        let first_width = if is_even { self.later_width } else { self.first_width };
+        let ends = self.ends_of(paragraph, &pieces, &[first_width, self.later_width])?;
+        let has_hyphens = pieces.iter().any(|piece| piece.penalty_len > 0);
+        let bytes = guess::built(paragraph, self.options, ends.len(), has_hyphens);
+        let Places { cuts, points } = places;
+        // SAFETY: texts and lists with their lengths, the options, and room with its lengths; the call
+        // writes what it reports.
+        unsafe {
+            Reported::by(ends.len(), bytes, |r| {
+                sys::textwrap_lines_at(
+                    paragraph.as_ptr(), paragraph.len(), cuts.as_ptr(), cuts.len(),
+                    points.as_ptr(), points.len(), ends.as_ptr(), ends.len(), &self.with,
+                    is_later.into(), r.lines, r.lines_len, &mut r.count, r.room, r.room_len,
+                    &mut r.len,
+                )
+            })
+        }
+    }
+
+    /// Where the words of a paragraph stand, and their points.
+    fn places_in(&self, paragraph: &str) -> Result<Places, OutOfMemory> {
+        let Options { word_separator, word_splitter, .. } = self.options;
+        let is_custom = matches!(word_separator, WordSeparator::Custom(_));
+        let (mut cuts, mut points) = (Vec::new(), Vec::new());
+        let mut start = 0;
+        for word in word_separator.words_of(paragraph)? {
+            let end = start + word.word.len() + word.whitespace.len();
+            if is_custom {
+                assert_stands_at(&word, start, paragraph);
+            }
+            if start == end {
+                continue;
+            }
+            let inside = word_splitter.points_inside(word.word)?;
+            cuts.try_reserve(1).map_err(|_| OutOfMemory)?;
+            points.try_reserve(inside.len()).map_err(|_| OutOfMemory)?;
+            if start > 0 {
+                cuts.push(start);
+            }
+            points.extend(inside.iter().map(|point| start + point));
+            start = end;
+        }
+        assert!(
+            start == paragraph.len(),
+            "the words of a WordSeparator::Custom have to tile the line; the rest {:?} of \
+             {paragraph:?} is in no word",
+            &paragraph[start..]
+        );
+        Ok(Places { cuts, points })
+    }
+
+    /// The pieces that a paragraph is divided into lines of.
+    fn pieces_at(&self, paragraph: &str, at: &Places) -> Result<Vec<sys::Piece>, OutOfMemory> {
+        let Places { cuts, points } = at;
+        let broken = if self.options.break_words {
+            (paragraph.len() / self.later_width.max(1)).saturating_mul(2)
+        } else {
+            0
+        };
+        // The first word, and the empty one before it.
+        let guess = (cuts.len() + points.len() + 2).saturating_add(broken);
+        // SAFETY: as in `lines_of`.
+        let pieces = unsafe {
+            listed(guess, |pieces, pieces_len, count| {
+                sys::textwrap_pieces_at(
+                    paragraph.as_ptr(), paragraph.len(), cuts.as_ptr(), cuts.len(),
+                    points.as_ptr(), points.len(), &self.with, pieces, pieces_len, count,
+                )
+            })
+        };
+        Ok(pieces?)
+    }
+
+    /// Where the lines end: how many pieces stand before each end.
+    fn ends_of(
+        &self,
+        paragraph: &str,
+        pieces: &[sys::Piece],
+        line_widths: &[usize; 2],
+    ) -> Result<Vec<usize>, OutOfMemory> {
+        let algorithm = self.options.wrap_algorithm;
+        if let WrapAlgorithm::Custom(function) = algorithm {
+            let mut words = room_for(pieces.len())?;
+            words.extend(pieces.iter().map(|piece| Word::at(paragraph, piece)));
+            return ends_between(&words, &function(&words, line_widths));
+        }
+        let mut fragments = room_for(pieces.len())?;
+        fragments.extend(pieces.iter().map(|piece| sys::Fragment {
+            width: piece.width,
+            whitespace_width: piece.whitespace_len,
+            penalty_width: piece.penalty_len,
+            break_penalty: algorithm.break_penalty(piece.penalty_len > 0),
+        }));
+        algorithm.ends_of(&fragments, line_widths)
+    }
+}
+
+/// Panics unless a word is what `Word::from` makes of the part of the line at this place.
+fn assert_stands_at(word: &Word<'_>, start: usize, line: &str) {
+    let Word { word: text, whitespace, penalty, .. } = *word;
+    let rest = line.get(start..).and_then(|rest| rest.strip_prefix(text));
+    assert!(
+        rest.is_some_and(|rest| rest.starts_with(whitespace)),
+        "the words of a WordSeparator::Custom have to tile the line; {text:?} and {whitespace:?} do \
+         not stand at byte {start} of {line:?}"
+    );
+    assert!(
+        !text.ends_with(' ') && whitespace.trim_end_matches(' ').is_empty() && penalty.is_empty(),
+        "the words of a WordSeparator::Custom have to be as Word::from makes them, with the blanks \
+         at their end for whitespace and without a penalty; {word:?} is not"
+    );
+}
+
+/// Where lines of words end that a function of the caller gave.
+fn ends_between<'a>(
+    words: &[Word<'a>],
+    lines: &[&[Word<'a>]],
+) -> Result<Vec<usize>, OutOfMemory> {
+    let mut ends = room_for(lines.len())?;
+    let mut end = 0;
+    for line in lines {
+        let start = end;
+        end += line.len();
+        assert!(
+            words.get(start..end) == Some(line),
+            "the lines of a WrapAlgorithm::Custom have to be the words in order; {line:?} does not \
+             begin with word {start} of {}",
+            words.len()
+        );
+        ends.push(end);
+    }
+    Ok(ends)
+}

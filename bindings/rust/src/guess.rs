@@ -1,0 +1,60 @@
+//! How much room an answer mostly needs, so that one call suffices. Where a guess is too small, the
+//! call says how much it is, and is made again.
+use crate::options::Options;
+
+/// How many lines the line feeds of a text make.
+fn lines_of(text: &str) -> usize {
+    text.bytes().filter(|&byte| byte == b'\n').count() + 1
+}
+
+/// The lines of a wrapped text, as if each was filled half.
+pub(crate) fn wrapped_lines(text: &str, options: &Options<'_>) -> usize {
+    let columns = options.width.saturating_sub(options.subsequent_indent.len());
+    let filled_half = (text.len() / (columns / 2).max(1)).min(text.len());
+    lines_of(text).saturating_add(filled_half)
+}
+
+/// The bytes of so many lines of a text with their indents and their endings, and a hyphen for each.
+fn lines_bytes(text: &str, options: &Options<'_>, lines: usize) -> usize {
+    let Options { initial_indent, subsequent_indent, line_ending, .. } = options;
+    let around = subsequent_indent.len() + line_ending.as_str().len();
+    lines
+        .saturating_mul(around)
+        .saturating_add(text.len())
+        .saturating_add(initial_indent.len())
+}
+
+/// The bytes of a filled text.
+pub(crate) fn filled(text: &str, options: &Options<'_>) -> usize {
+    lines_bytes(text, options, wrapped_lines(text, options))
+}
+
+/// The bytes of so many lines that are texts of their own, because they have an indent or, if the
+/// words have hyphens added, may have one of these.
+pub(crate) fn built(text: &str, options: &Options<'_>, lines: usize, has_hyphens: bool) -> usize {
+    let Options { initial_indent, subsequent_indent, .. } = options;
+    if initial_indent.is_empty() && subsequent_indent.is_empty() && !has_hyphens {
+        return 0;
+    }
+    lines_bytes(text, options, lines)
+}
+
+/// The bytes of a filled text that is filled again. Its indents are not known, and may be shown more
+/// often.
+pub(crate) fn refilled(text: &str, options: &Options<'_>) -> usize {
+    let without_indents = options.clone().initial_indent("").subsequent_indent("");
+    text.len() / 4 + filled(text, &without_indents)
+}
+
+/// The bytes of a text with a prefix before each line. There are hardly ever more.
+pub(crate) fn indented(text: &str, prefix: &str) -> usize {
+    lines_of(text).saturating_mul(prefix.len()).saturating_add(text.len())
+}
+
+/// The rows of a text in columns, and their bytes without what surrounds the cells.
+pub(crate) fn rows(text: &str, options: &Options<'_>, columns: usize) -> (usize, usize) {
+    let cell = options.clone().width(options.width / columns);
+    let rows = wrapped_lines(text, &cell) / columns + 1;
+    let bytes = lines_bytes(text, options, rows).saturating_add(rows.saturating_mul(options.width));
+    (rows, bytes)
+}

@@ -1,0 +1,187 @@
+//! Where a line is cut into words.
+//!
+//! [`WordSeparator`] says it. A caller with a line segmenter, such as one by the line breaks of
+//! Unicode, makes words of its offsets by [`find_words_at`].
+use crate::core::Word;
+use crate::options::Options;
+use crate::room::{listed, or_abort, OutOfMemory, Refusal};
+use crate::sys;
+use crate::word_splitters::WordSplitter;
+use alloc::boxed::Box;
+use alloc::vec::Vec;
+use core::error::Error;
+use core::fmt;
+
+/// Where a line is cut into words.
+///
+/// The words do not change the text: one after another, each with its whitespace, they are the line.
+///
+/// # Examples
+///
+/// ```
+/// use textwrap_proved::core::Word;
+/// use textwrap_proved::WordSeparator::AsciiSpace;
+///
+/// let words: Vec<Word> = AsciiSpace.find_words("Hello   World!").collect();
+/// assert_eq!(words, [Word::from("Hello   "), Word::from("World!")]);
+/// ```
+#[derive(Clone, Copy, Debug)]
+#[non_exhaustive]
+pub enum WordSeparator {
+    /// Between a blank (U+0020) and a character that is no blank.
+    ///
+    /// ```
+    /// use textwrap_proved::core::Word;
+    /// use textwrap_proved::WordSeparator::AsciiSpace;
+    ///
+    /// let words: Vec<Word> = AsciiSpace.find_words("  foo\tbar baz").collect();
+    /// assert_eq!(words, [Word::from("  "), Word::from("foo\tbar "), Word::from("baz")]);
+    /// ```
+    AsciiSpace,
+
+    /// Where a function says, which returns the words of a line.
+    ///
+    /// `wrap` and `fill` panic unless the words tile the line: one after another they are the line,
+    /// and each is what [`Word::from`] makes of its part of it. Words without text and without
+    /// whitespace are left out, and the field `width` is not looked at.
+    ///
+    /// ```
+    /// use textwrap_proved::core::Word;
+    /// use textwrap_proved::{wrap, Options, WordSeparator};
+    ///
+    /// fn after_commas(line: &str) -> Box<dyn Iterator<Item = Word<'_>> + '_> {
+    ///     Box::new(line.split_inclusive(',').map(Word::from))
+    /// }
+    ///
+    /// let options = Options::new(12).word_separator(WordSeparator::Custom(after_commas));
+    /// assert_eq!(wrap("a b,c d e,f g h,i", options), ["a b,c d e,", "f g h,i"]);
+    /// ```
+    Custom(fn(line: &str) -> Box<dyn Iterator<Item = Word<'_>> + '_>),
+}
+
+/// A `Custom` equals no value, not even itself, since functions cannot be compared.
+///
+/// ```
+/// use textwrap_proved::core::Word;
+/// use textwrap_proved::WordSeparator;
+///
+/// assert_eq!(WordSeparator::new(), WordSeparator::AsciiSpace);
+///
+/// fn whole(line: &str) -> Box<dyn Iterator<Item = Word<'_>> + '_> {
+///     Box::new(std::iter::once(Word::from(line)))
+/// }
+/// assert_ne!(WordSeparator::Custom(whole), WordSeparator::Custom(whole));
+/// ```
+impl PartialEq for WordSeparator {
+    fn eq(&self, other: &Self) -> bool {
+        matches!((self, other), (WordSeparator::AsciiSpace, WordSeparator::AsciiSpace))
+    }
+}
+
+impl WordSeparator {
+    /// The default, which is [`AsciiSpace`](WordSeparator::AsciiSpace). It is what the original has
+    /// without its feature `unicode-linebreak`, which is not there.
+    pub const fn new() -> Self {
+        WordSeparator::AsciiSpace
+    }
+
+    /// The words of a line. A line ending in it is taken for a character.
+    ///
+    /// See [`WordSeparator`] for an example.
+    pub fn find_words<'a>(&self, line: &'a str) -> Box<dyn Iterator<Item = Word<'a>> + 'a> {
+        or_abort(self.words_of(line))
+    }
+
+    /// The same, with running out of memory as an error.
+    pub(crate) fn words_of<'a>(
+        &self,
+        line: &'a str,
+    ) -> Result<Box<dyn Iterator<Item = Word<'a>> + 'a>, OutOfMemory> {
+        match self {
+            WordSeparator::AsciiSpace => {
+                let places = words_between_blanks(line)?;
+                Ok(Box::new(places.into_iter().map(move |place| Word::at(line, &place))))
+            }
+            WordSeparator::Custom(function) => Ok(function(line)),
+        }
+    }
+}
+
+impl Default for WordSeparator {
+    fn default() -> Self {
+        WordSeparator::new()
+    }
+}
+
+/// Where the words between blanks stand: they are the pieces if words are neither split nor broken,
+/// and there is no indent.
+fn words_between_blanks(line: &str) -> Result<Vec<sys::Piece>, OutOfMemory> {
+    let options = Options::new(0)
+        .break_words(false)
+        .word_splitter(WordSplitter::NoHyphenation)
+        .to_sys();
+    let at_blanks = line.as_bytes().windows(2).filter(|two| two[0] == b' ' && two[1] != b' ');
+    let count_of_words = at_blanks.count() + 1;
+    // SAFETY: a text with its length, the options, and room with its length; the call writes what it
+    // reports.
+    let places = unsafe {
+        listed(count_of_words, |places, places_len, count| {
+            sys::textwrap_pieces(
+                line.as_ptr(), line.len(), &options, places, places_len, count,
+            )
+        })
+    };
+    Ok(places?)
+}
+
+/// Offsets that do not increase, or are no character boundaries of the line.
+#[derive(Clone, Copy, Debug, PartialEq, Eq)]
+pub struct WrongPlaces;
+
+impl fmt::Display for WrongPlaces {
+    fn fmt(&self, f: &mut fmt::Formatter<'_>) -> fmt::Result {
+        f.write_str("the offsets do not increase, or are no character boundaries of the line")
+    }
+}
+
+impl Error for WrongPlaces {}
+
+/// The words of a line that may be broken at these offsets, as a line segmenter gives them.
+///
+/// The offsets count the bytes of the line without its escape sequences, increase, and are character
+/// boundaries of that text. The line is not cut at its ends, nor right after a hyphen `-` or a soft
+/// hyphen (U+00AD): there a [`WordSplitter`] decides. The words tile the line, so a
+/// [`WordSeparator::Custom`] may return them. The original has no such call.
+///
+/// # Errors
+///
+/// [`WrongPlaces`] if the offsets are no such offsets.
+///
+/// # Examples
+///
+/// ```
+/// use textwrap_proved::core::Word;
+/// use textwrap_proved::word_separators::{find_words_at, WrongPlaces};
+///
+/// let words = find_words_at("foo-bar 你好", &[4, 8, 11]).unwrap();
+/// assert_eq!(words, [Word::from("foo-bar "), Word::from("你"), Word::from("好")]);
+/// assert_eq!(find_words_at("你好", &[1]), Err(WrongPlaces));
+/// ```
+pub fn find_words_at<'a>(line: &'a str, offsets: &[usize]) -> Result<Vec<Word<'a>>, WrongPlaces> {
+    // SAFETY: a text and offsets with their lengths, and room with its length; the call writes what
+    // it reports.
+    let places = unsafe {
+        listed(offsets.len() + 1, |places, places_len, count| {
+            sys::textwrap_find_words_at(
+                line.as_ptr(), line.len(), offsets.as_ptr(), offsets.len(), places, places_len, count,
+            )
+        })
+    };
+    match places {
+        Err(Refusal::WrongPlaces) => Err(WrongPlaces),
+        places => {
+            let places: Vec<sys::Piece> = or_abort(places.map_err(OutOfMemory::from));
+            Ok(places.iter().map(|place| Word::at(line, place)).collect())
+        }
+    }
+}

@@ -1,0 +1,178 @@
+//! Where words may be split.
+//!
+//! A piece of a word that ends a line ends in a hyphen: one that the word has there, or one that is
+//! added. [`WordSplitter`] says where words may be split, and [`split_words`] splits them.
+use crate::core::{display_width, Word};
+use crate::room::{listed, or_abort, OutOfMemory};
+use crate::sys;
+use alloc::vec::Vec;
+use core::iter;
+
+/// Where words may be split.
+#[derive(Clone, Debug)]
+#[non_exhaustive]
+pub enum WordSplitter {
+    /// Nowhere.
+    ///
+    /// ```
+    /// use textwrap_proved::{wrap, Options, WordSplitter};
+    ///
+    /// let options = Options::new(8).word_splitter(WordSplitter::NoHyphenation);
+    /// assert_eq!(wrap("foo bar-baz", options), ["foo", "bar-baz"]);
+    /// ```
+    NoHyphenation,
+
+    /// After each hyphen between two letters or digits, so not in `--foo`.
+    ///
+    /// ```
+    /// use textwrap_proved::WordSplitter;
+    ///
+    /// assert_eq!(WordSplitter::HyphenSplitter.split_points("--foo-bar"), [6]);
+    /// ```
+    HyphenSplitter,
+
+    /// Where a function says, which returns offsets in bytes.
+    ///
+    /// The offsets must not decrease, and have to be character boundaries of the word; if they are
+    /// not, `wrap`, `fill` and [`split_words`] panic. Repeated ones, 0 and the length of the word are
+    /// left out. A hyphen is added where a line ends at a point without one.
+    ///
+    /// ```
+    /// use textwrap_proved::{wrap, Options, WordSplitter};
+    ///
+    /// fn in_the_middle(word: &str) -> Vec<usize> {
+    ///     vec![word.len() / 2]
+    /// }
+    ///
+    /// let options = Options::new(6).word_splitter(WordSplitter::Custom(in_the_middle));
+    /// assert_eq!(wrap("foo foobar", options), ["foo", "foobar"]);
+    /// let options = Options::new(5).word_splitter(WordSplitter::Custom(in_the_middle));
+    /// assert_eq!(wrap("foobar", options), ["foo-", "bar"]);
+    /// ```
+    Custom(fn(word: &str) -> Vec<usize>),
+}
+
+/// A `Custom` equals no value, not even itself, since functions cannot be compared.
+impl PartialEq for WordSplitter {
+    fn eq(&self, other: &Self) -> bool {
+        matches!(
+            (self, other),
+            (WordSplitter::NoHyphenation, WordSplitter::NoHyphenation)
+                | (WordSplitter::HyphenSplitter, WordSplitter::HyphenSplitter)
+        )
+    }
+}
+
+impl WordSplitter {
+    /// The offsets, in bytes, at which a word may be split. Those of a function of the caller are
+    /// returned as they are.
+    ///
+    /// # Examples
+    ///
+    /// ```
+    /// use textwrap_proved::WordSplitter;
+    ///
+    /// assert_eq!(WordSplitter::NoHyphenation.split_points("can-be-split"), []);
+    /// assert_eq!(WordSplitter::HyphenSplitter.split_points("can-be-split"), [4, 7]);
+    /// let middle = WordSplitter::Custom(|word| vec![word.len() / 2]);
+    /// assert_eq!(middle.split_points("middle"), [3]);
+    /// ```
+    pub fn split_points(&self, word: &str) -> Vec<usize> {
+        or_abort(self.points_of(word))
+    }
+
+    /// The same, with running out of memory as an error.
+    fn points_of(&self, word: &str) -> Result<Vec<usize>, OutOfMemory> {
+        match self {
+            WordSplitter::NoHyphenation => Ok(Vec::new()),
+            WordSplitter::HyphenSplitter => points_at_hyphens(word),
+            WordSplitter::Custom(function) => Ok(function(word)),
+        }
+    }
+
+    /// The offsets that cut something off, in order.
+    ///
+    /// # Panics
+    /// If a function of the caller gives wrong ones.
+    pub(crate) fn points_inside(&self, word: &str) -> Result<Vec<usize>, OutOfMemory> {
+        let mut points = self.points_of(word)?;
+        if let WordSplitter::Custom(_) = self {
+            for (i, &point) in points.iter().enumerate() {
+                let before = if i > 0 { points[i - 1] } else { 0 };
+                assert!(
+                    before <= point && word.is_char_boundary(point),
+                    "the points of a WordSplitter::Custom must not decrease, and have to be character \
+                     boundaries of the word; {point} of {word:?} is not right"
+                );
+            }
+            points.dedup();
+            points.retain(|&point| 0 < point && point < word.len());
+        }
+        Ok(points)
+    }
+}
+
+/// The offsets after the hyphens between letters or digits. They are no more than the hyphens.
+fn points_at_hyphens(word: &str) -> Result<Vec<usize>, OutOfMemory> {
+    let hyphens = word.bytes().filter(|&byte| byte == b'-').count();
+    if hyphens == 0 {
+        return Ok(Vec::new());
+    }
+    // SAFETY: a text with its length, and room with its length; the call writes what it reports.
+    let points = unsafe {
+        listed(hyphens, |points, points_len, count| {
+            sys::textwrap_split_points(word.as_ptr(), word.len(), points, points_len, count)
+        })
+    };
+    Ok(points?)
+}
+
+/// The words, each of them split at all its points, whatever its width.
+///
+/// The last piece of a word has its whitespace and its penalty. Each other piece has the penalty
+/// `"-"`, unless it ends in a hyphen already.
+///
+/// # Panics
+///
+/// If a [`WordSplitter::Custom`] gives wrong points.
+///
+/// # Examples
+///
+/// ```
+/// use textwrap_proved::core::Word;
+/// use textwrap_proved::word_splitters::split_words;
+/// use textwrap_proved::WordSplitter;
+///
+/// let words = vec![Word::from("foo-bar "), Word::from("baz")];
+/// let pieces: Vec<Word> = split_words(words, &WordSplitter::HyphenSplitter).collect();
+/// assert_eq!(pieces, [Word::from("foo-"), Word::from("bar "), Word::from("baz")]);
+///
+/// let after_3 = WordSplitter::Custom(|_| vec![3]);
+/// let pieces: Vec<Word> = split_words(vec![Word::from("foobar")], &after_3).collect();
+/// assert_eq!(pieces, [Word { penalty: "-", ..Word::from("foo") }, Word::from("bar")]);
+/// ```
+pub fn split_words<'a, I>(
+    words: I,
+    word_splitter: &'a WordSplitter,
+) -> impl Iterator<Item = Word<'a>>
+where
+    I: IntoIterator<Item = Word<'a>>,
+{
+    words
+        .into_iter()
+        .flat_map(|word| pieces_of(word, or_abort(word_splitter.points_inside(word.word))))
+}
+
+/// The pieces of a word between its points, of which each cuts something off.
+fn pieces_of<'a>(word: Word<'a>, points: Vec<usize>) -> impl Iterator<Item = Word<'a>> {
+    let text = word.word;
+    let rest = points.last().map_or(text, |&point| &text[point..]);
+    let mut start = 0;
+    let pieces = points.into_iter().map(move |end| {
+        let piece = &text[start..end];
+        start = end;
+        let penalty = if piece.ends_with('-') { "" } else { "-" };
+        Word { word: piece, whitespace: "", penalty, width: display_width(piece) }
+    });
+    pieces.chain(iter::once(Word { word: rest, width: display_width(rest), ..word }))
+}

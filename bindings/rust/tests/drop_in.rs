@@ -1,0 +1,632 @@
+//! Uses of the original's calls, as its users write them. Only the name of the crate differs.
+use std::borrow::Cow;
+use std::cell::Cell;
+use std::error::Error;
+use textwrap_proved as textwrap;
+
+use textwrap::core::{break_words, display_width, Fragment, Word};
+use textwrap::word_splitters::{split_words, WordSplitter};
+use textwrap::wrap_algorithms::{
+    wrap_first_fit, wrap_optimal_fit, OverflowError, Penalties, WrapAlgorithm,
+};
+use textwrap::{
+    dedent, fill, fill_inplace, indent, refill, unfill, wrap, wrap_columns, LineEnding, Options,
+    WordSeparator,
+};
+
+const HAMLET: &str = "To be, or not to be: that is the question";
+
+// ---- Options
+
+#[test]
+fn options_by_width_by_value_and_by_reference() {
+    assert_eq!(fill("foo bar baz", 7), "foo bar\nbaz");
+    assert_eq!(fill("foo bar baz", Options::new(7)), "foo bar\nbaz");
+    let options = Options::new(7).initial_indent("- ");
+    assert_eq!(fill("foo bar baz", &options), "- foo\nbar baz");
+    assert_eq!(wrap("foo bar baz", &options), ["- foo", "bar baz"]);
+    assert_eq!(wrap("foo bar baz", options), ["- foo", "bar baz"]);
+}
+
+#[test]
+fn options_from_a_width_and_from_a_reference() {
+    let options = Options::from(12);
+    assert_eq!(options.width, 12);
+    let copy = Options::from(&options);
+    assert_eq!(copy.width, 12);
+    let into: Options = 7.into();
+    assert_eq!(into.width, 7);
+}
+
+#[test]
+fn options_in_constants_and_in_a_struct() {
+    static NARROW: Options = Options::new(5);
+    struct Printer<'a> {
+        options: Options<'a>,
+    }
+    impl Printer<'_> {
+        fn print(&self, text: &str) -> String {
+            fill(text, &self.options)
+        }
+    }
+    let prefix = String::from("# ");
+    let printer = Printer { options: Options::new(7).initial_indent(&prefix) };
+    assert_eq!(printer.print("foo bar"), "# foo\nbar");
+    assert_eq!(fill("foo bar", &NARROW), "foo\nbar");
+    let clone = NARROW.clone();
+    assert_eq!(clone.width, 5);
+}
+
+#[test]
+fn options_have_public_fields() {
+    let mut options = Options::new(20);
+    options.width -= 13;
+    options.subsequent_indent = "> ";
+    options.break_words = false;
+    options.preserve_trailing_space = true;
+    options.line_ending = LineEnding::CRLF;
+    options.word_separator = WordSeparator::AsciiSpace;
+    options.word_splitter = WordSplitter::NoHyphenation;
+    options.wrap_algorithm = WrapAlgorithm::FirstFit;
+    assert_eq!(fill("foo bar baz-quux", &options), "foo bar \r\n> baz-quux");
+}
+
+#[test]
+fn options_have_a_builder_for_each_field() {
+    let options = Options::new(80)
+        .width(7)
+        .line_ending(LineEnding::CRLF)
+        .initial_indent("")
+        .subsequent_indent("> ")
+        .break_words(false)
+        .wrap_algorithm(WrapAlgorithm::FirstFit)
+        .word_separator(WordSeparator::AsciiSpace)
+        .word_splitter(WordSplitter::NoHyphenation)
+        .preserve_trailing_space(true);
+    assert_eq!(fill("foo bar baz-quux", &options), "foo bar \r\n> baz-quux");
+}
+
+#[test]
+fn line_endings_are_texts() {
+    const ENDING: &str = LineEnding::CRLF.as_str();
+    assert_eq!((ENDING, LineEnding::LF.as_str()), ("\r\n", "\n"));
+    let crlf = Options::new(5).line_ending(LineEnding::CRLF);
+    assert_eq!(wrap("a\nb\r\nfoo bar", crlf), ["a\nb", "foo", "bar"]);
+}
+
+#[test]
+fn the_types_are_shared_between_threads_and_printed() {
+    fn shared<T: Send + Sync + Clone + std::fmt::Debug>(value: T) -> String {
+        format!("{value:?}")
+    }
+    assert!(shared(Options::new(5)).starts_with("Options { width: 5"));
+    assert_eq!(shared(WordSeparator::new()), "AsciiSpace");
+    assert_eq!(shared(WordSplitter::HyphenSplitter), "HyphenSplitter");
+    assert_eq!(shared(WrapAlgorithm::FirstFit), "FirstFit");
+    assert_eq!(shared(LineEnding::LF), "LF");
+    assert!(shared(WordSplitter::Custom(|_| vec![])).starts_with("Custom("));
+}
+
+// ---- Texts
+
+/// The lines of a text that outlive the options they were wrapped by.
+fn lines_of<'t>(text: &'t str, indent: &str) -> Vec<Cow<'t, str>> {
+    let options = Options::new(9).subsequent_indent(indent);
+    textwrap::wrap(text, &options)
+}
+
+#[test]
+fn lines_borrow_where_they_can() {
+    let text = String::from("foo bar baz");
+    let lines = lines_of(&text, &String::from("> "));
+    let kinds: Vec<&str> = lines
+        .iter()
+        .map(|line| match line {
+            Cow::Borrowed(_) => "borrowed",
+            Cow::Owned(_) => "owned",
+        })
+        .collect();
+    assert_eq!((lines.as_slice(), kinds.as_slice()), (
+        &[Cow::from("foo bar"), Cow::from("> baz")][..],
+        &["borrowed", "owned"][..],
+    ));
+    assert_eq!(lines.join("\n"), "foo bar\n> baz");
+    let owned: Vec<String> = lines.into_iter().map(Cow::into_owned).collect();
+    assert_eq!(owned, vec!["foo bar", "> baz"]);
+}
+
+#[test]
+fn calls_are_functions() {
+    let call: fn(&str, usize) -> String = fill;
+    assert_eq!(call("foo bar", 3), "foo\nbar");
+    let filled: Vec<String> = ["foo bar", "baz"].iter().map(|text| fill(text, 3)).collect();
+    assert_eq!(filled, ["foo\nbar", "baz"]);
+}
+
+#[test]
+fn wrapping_keeps_to_the_original() {
+    assert_eq!(wrap("foo", 10), vec!["foo"]);
+    assert_eq!(wrap("", 10), vec![""]);
+    assert_eq!(wrap("foo bar baz", 0), vec!["f", "o", "o", "b", "a", "r", "b", "a", "z"]);
+    assert_eq!(wrap("foo", usize::MAX), vec!["foo"]);
+    assert_eq!(wrap("foo     bar     baz  ", 5), vec!["foo", "bar", "baz"]);
+    assert_eq!(wrap("Hello, World!", 15), vec!["Hello, World!"]);
+    let whole = Options::new(3).break_words(false);
+    assert_eq!(wrap("small  large   tiny", &whole), vec!["small", "large", "tiny"]);
+    let indented = Options::new(10).initial_indent("!!!");
+    assert_eq!(wrap("", &indented), vec!["!!!"]);
+    let colours = "\u{1b}[31mfoo\u{1b}[0m bar";
+    assert_eq!(wrap(colours, 4), vec!["\u{1b}[31mfoo\u{1b}[0m", "bar"]);
+}
+
+#[test]
+fn filling_keeps_to_the_original() {
+    assert_eq!(fill("foo\nbar", 80), "foo\nbar");
+    assert_eq!(fill("test\n\na\n\n", 80), "test\n\na\n\n");
+    assert_eq!(fill("1 3 5 7\n1 3 5 7", Options::new(7)), "1 3 5 7\n1 3 5 7");
+    let crlf = Options::new(4).line_ending(LineEnding::CRLF);
+    assert_eq!(fill("foo bar\r\nfoobar", crlf), "foo\r\nbar\r\nfoob\r\nar");
+    assert_eq!(fill("foo   ", 80), "foo");
+    let mut text = String::from("Hello   World!");
+    fill_inplace(&mut text, 10);
+    assert_eq!(text, "Hello  \nWorld!");
+}
+
+#[test]
+fn texts_are_unfilled_and_refilled() {
+    let (text, options) = unfill("* foo bar\r\n  baz\r\n");
+    assert_eq!(text, "foo bar baz\r\n");
+    assert_eq!(options.initial_indent, "* ");
+    assert_eq!(options.subsequent_indent, "  ");
+    assert_eq!(options.line_ending, LineEnding::CRLF);
+    assert_eq!(options.width, 9);
+    assert_eq!(refill("> foo\n> bar\n", 20), "> foo bar\n");
+    let crlf = Options::new(5).line_ending(LineEnding::CRLF);
+    assert_eq!(refill("foo bar\n", crlf), "foo\r\nbar\r\n");
+    // What was found is handed on.
+    let (text, options) = unfill("- foo\n  bar");
+    assert_eq!(fill(&text, options.width(8)), "- foo\n  bar");
+}
+
+#[test]
+fn texts_are_indented_and_dedented() {
+    assert_eq!(indent("foo\n\nbar\n", "  "), "  foo\n\n  bar\n");
+    assert_eq!(indent("foo\n\nbar", "// "), "// foo\n//\n// bar");
+    assert_eq!(dedent("    foo\n      bar\n    baz"), "foo\n  bar\nbaz");
+    assert_eq!(indent(&dedent("  a\n  b"), "> "), "> a\n> b");
+}
+
+#[test]
+fn texts_are_laid_out_in_columns() {
+    let rows: Vec<String> = wrap_columns("foo bar baz", 2, 14, "| ", " | ", " |");
+    assert_eq!(rows, vec!["| foo | baz  |", "| bar |      |"]);
+    let options = Options::new(8).wrap_algorithm(WrapAlgorithm::FirstFit);
+    assert_eq!(wrap_columns("a b c d", 2, &options, "", "  ", ""), ["a b  c d"]);
+}
+
+#[test]
+fn columns_of_texts() {
+    assert_eq!(display_width("Café Plain"), 10);
+    assert_eq!(display_width("\u{1b}[31mCafé Rouge\u{1b}[0m"), 10);
+    assert_eq!(display_width("안녕하세요"), 10);
+    assert_eq!(textwrap::core::display_width("😂😍"), 4);
+}
+
+// ---- Words
+
+#[test]
+fn words_have_fields_and_are_texts() {
+    let word = Word::from("foo  ");
+    assert_eq!((word.word, word.whitespace, word.penalty, word.width), ("foo", "  ", "", 3));
+    assert_eq!(&*word, "foo");
+    assert_eq!(word.len(), 3);
+    assert!(word.starts_with('f'));
+    let copy = word;
+    assert_eq!(copy, word);
+    assert_eq!(word, Word { word: "foo", whitespace: "  ", penalty: "", width: 3 });
+    assert_ne!(word, Word { penalty: "-", ..word });
+    let widths = |word: &dyn Fragment| [word.width(), word.whitespace_width(), word.penalty_width()];
+    assert_eq!(widths(&Word { penalty: "-", ..word }), [3.0, 2.0, 1.0]);
+}
+
+#[test]
+fn words_are_broken() {
+    let parts = |text, width| Word::from(text).break_apart(width).collect::<Vec<_>>();
+    assert_eq!(parts("Hello!  ", 3), vec![Word::from("Hel"), Word::from("lo!  ")]);
+    assert_eq!(parts("ab\u{1b}[0mcd", 2), vec![Word::from("ab\u{1b}[0m"), Word::from("cd")]);
+    assert_eq!(parts("   ", 0), vec![]);
+    let blanks = Word { word: "a  ", whitespace: "", penalty: "-", width: 3 };
+    assert_eq!(blanks.break_apart(2).collect::<Vec<_>>(), vec![
+        Word { word: "a ", whitespace: "", penalty: "", width: 2 },
+        Word { word: " ", whitespace: "", penalty: "-", width: 1 },
+    ]);
+    let words = vec![Word::from("ab "), Word::from("cdef ")];
+    let expected = vec![Word::from("ab "), Word::from("cd"), Word::from("ef ")];
+    assert_eq!(break_words(words, 2), expected);
+}
+
+#[test]
+fn words_are_found() {
+    let words = WordSeparator::AsciiSpace.find_words("  foo\tbar  baz").collect::<Vec<_>>();
+    assert_eq!(words, vec![Word::from("  "), Word::from("foo\tbar  "), Word::from("baz")]);
+    assert_eq!(WordSeparator::new().find_words("").count(), 0);
+    fn longest<'a>(line: &'a str, separator: &WordSeparator) -> Option<Word<'a>> {
+        separator.find_words(line).max_by_key(|word| word.width)
+    }
+    assert_eq!(longest("a foo ab", &WordSeparator::AsciiSpace), Some(Word::from("foo ")));
+}
+
+#[test]
+fn words_are_split() {
+    let splitter = WordSplitter::HyphenSplitter;
+    assert_eq!(splitter.split_points("can-be-split"), vec![4, 7]);
+    assert_eq!(WordSplitter::NoHyphenation.split_points("can-be-split"), vec![]);
+    let pieces = split_words(vec![Word::from("foo-bar ")], &splitter).collect::<Vec<_>>();
+    assert_eq!(pieces, vec![Word::from("foo-"), Word::from("bar ")]);
+    let blank = split_words(vec![Word::from("   ")], &splitter).collect::<Vec<_>>();
+    assert_eq!(blank, vec![Word::from("   ")]);
+    let words = WordSeparator::AsciiSpace.find_words("a-b c-d");
+    let texts: Vec<&str> = split_words(words, &splitter).map(|piece| piece.word).collect();
+    assert_eq!(texts, ["a-", "b", "c-", "d"]);
+    // It asks for no more words than it gives.
+    let endless = std::iter::repeat(Word::from("a-b "));
+    assert_eq!(split_words(endless, &splitter).nth(99), Some(Word::from("b ")));
+}
+
+#[test]
+fn splitting_adds_hyphens() {
+    let after_3 = |_: &str| vec![3];
+    let splitter = WordSplitter::Custom(after_3);
+    let pieces = |text| split_words(vec![Word::from(text)], &splitter).collect::<Vec<_>>();
+    let foo = Word { word: "foo", whitespace: "", penalty: "-", width: 3 };
+    assert_eq!(pieces("foobar "), vec![foo, Word::from("bar ")]);
+    assert_eq!(pieces("fo-bar"), vec![Word::from("fo-"), Word::from("bar")]);
+    // The end of a word is no point.
+    assert_eq!(pieces("foo "), vec![Word::from("foo ")]);
+}
+
+#[test]
+fn parts_are_compared() {
+    assert_eq!(WordSplitter::NoHyphenation, WordSplitter::NoHyphenation);
+    assert_ne!(WordSplitter::NoHyphenation, WordSplitter::HyphenSplitter);
+    assert_eq!(WrapAlgorithm::default(), WrapAlgorithm::OptimalFit(Penalties::default()));
+    assert!(matches!(WrapAlgorithm::new(), WrapAlgorithm::OptimalFit(_)));
+    assert!(matches!(WordSeparator::new(), WordSeparator::AsciiSpace));
+    let custom = WrapAlgorithm::Custom(in_pairs);
+    assert_ne!(custom, custom);
+    assert_ne!(WordSeparator::Custom(after_commas), WordSeparator::Custom(after_commas));
+    assert_ne!(WordSplitter::Custom(at_underscores), WordSplitter::Custom(at_underscores));
+}
+
+// ---- Fragments and algorithms
+
+/// An item with a width, one unit after it, and a counter of what it is asked.
+#[derive(Debug, PartialEq)]
+struct Item<'c>(f64, &'c Cell<usize>);
+
+impl Fragment for Item<'_> {
+    fn width(&self) -> f64 {
+        self.1.set(self.1.get() + 1);
+        self.0
+    }
+
+    fn whitespace_width(&self) -> f64 {
+        1.0
+    }
+
+    fn penalty_width(&self) -> f64 {
+        0.0
+    }
+}
+
+#[test]
+fn fragments_are_divided_by_first_fit() {
+    let asked = Cell::new(0);
+    let items = [Item(4.0, &asked), Item(4.0, &asked), Item(4.0, &asked)];
+    let lines: Vec<&[Item]> = wrap_first_fit(&items, &[4.0, 9.0]);
+    assert_eq!(lines, vec![&items[..1], &items[1..]]);
+    assert_eq!(asked.get(), 3, "each is asked once");
+    assert_eq!(wrap_first_fit(&items, &[]).len(), 3);
+    assert_eq!(wrap_first_fit::<Item>(&[], &[9.0]), vec![&[] as &[Item]]);
+}
+
+#[test]
+fn fragments_are_divided_by_least_cost() -> Result<(), Box<dyn Error>> {
+    let asked = Cell::new(0);
+    let items = [Item(4.0, &asked), Item(4.0, &asked), Item(4.0, &asked)];
+    let lines = wrap_optimal_fit(&items, &[9.0], &Penalties::new())?;
+    assert_eq!(lines, vec![&items[..2], &items[2..]]);
+    assert_eq!(asked.get(), 3, "each is asked once");
+    let none = wrap_optimal_fit::<Item>(&[], &[9.0], &Penalties::new())?;
+    assert_eq!(none, vec![&[] as &[Item]]);
+    Ok(())
+}
+
+#[test]
+fn numbers_that_cannot_be_counted_are_an_error() {
+    let asked = Cell::new(0);
+    let divided = |width: f64, line: f64| {
+        wrap_optimal_fit(&[Item(width, &asked)], &[line], &Penalties::new()).map(|lines| lines.len())
+    };
+    for width in [f64::INFINITY, f64::NAN, -1.0, 0.5, 1e155, 18_446_744_073_709_551_616.0] {
+        assert_eq!(divided(width, 9.0), Err(OverflowError));
+        assert_eq!(divided(9.0, width), Err(OverflowError));
+    }
+    assert_eq!(divided(18_446_744_073_709_549_568.0, 9.0), Ok(1));
+    assert_eq!(divided(-0.0, 9.0), Ok(1));
+    let steep = Penalties { overflow_penalty: usize::MAX, ..Penalties::new() };
+    let wide = Item(18_446_744_073_709_549_568.0, &asked);
+    assert_eq!(wrap_optimal_fit(&[wide, Item(18_446_744_073_709_549_568.0, &asked)], &[0.0], &steep),
+        Err(OverflowError));
+    let error: Box<dyn Error> = Box::new(OverflowError);
+    assert!(error.to_string().contains("128 bits"));
+}
+
+#[test]
+#[should_panic(expected = "whole numbers from 0 to usize::MAX, not 0.5")]
+fn first_fit_takes_no_fractions() {
+    wrap_first_fit(&[Item(0.5, &Cell::new(0))], &[9.0]);
+}
+
+#[test]
+#[should_panic(expected = "whole numbers from 0 to usize::MAX, not inf")]
+fn first_fit_takes_no_infinite_lines() {
+    wrap_first_fit(&[Word::from("foo")], &[f64::INFINITY]);
+}
+
+#[test]
+fn penalties_of_the_callers_own() {
+    let mut penalties = Penalties::new();
+    penalties.nline_penalty = 1_000_000;
+    let options = Options::new(10).wrap_algorithm(WrapAlgorithm::OptimalFit(penalties));
+    assert_eq!(fill(HAMLET, &options), HAMLET);
+    // A hyphen that is added costs more, so the word stays whole.
+    let pieces = [Word { penalty: "-", ..Word::from("foo") }, Word::from("bar "), Word::from("x")];
+    let lines = |hyphen_penalty| {
+        let penalties = Penalties { hyphen_penalty, ..Penalties::new() };
+        let lines = wrap_optimal_fit(&pieces, &[5.0], &penalties).unwrap();
+        lines.iter().map(|line| line.len()).collect::<Vec<_>>()
+    };
+    assert_eq!((lines(0), lines(10_000)), (vec![1, 2], vec![2, 1]));
+}
+
+#[test]
+fn algorithms_divide_words() {
+    let words = WordSeparator::AsciiSpace.find_words(HAMLET).collect::<Vec<_>>();
+    let counts = |algorithm: WrapAlgorithm| -> Vec<usize> {
+        algorithm.wrap(&words, &[10]).iter().map(|line| line.len()).collect()
+    };
+    assert_eq!(counts(WrapAlgorithm::FirstFit), [3, 3, 2, 1, 1]);
+    assert_eq!(counts(WrapAlgorithm::new_optimal_fit()), [2, 3, 2, 2, 1]);
+    assert_eq!(counts(WrapAlgorithm::Custom(in_pairs)), [2, 2, 2, 2, 2]);
+    assert_eq!(WrapAlgorithm::FirstFit.wrap(&[], &[10]), [[]]);
+}
+
+// ---- Functions of the caller
+
+fn after_commas(line: &str) -> Box<dyn Iterator<Item = Word<'_>> + '_> {
+    Box::new(line.split_inclusive(',').map(Word::from))
+}
+
+fn at_underscores(word: &str) -> Vec<usize> {
+    word.match_indices('_').map(|(i, _)| i + 1).collect()
+}
+
+fn in_pairs<'a, 'b>(words: &'b [Word<'a>], _: &'b [usize]) -> Vec<&'b [Word<'a>]> {
+    words.chunks(2).collect()
+}
+
+#[test]
+fn a_separator_of_the_callers_own() {
+    let options = Options::new(6).word_separator(WordSeparator::Custom(after_commas));
+    assert_eq!(wrap("a,b c,d,e", &options), ["a,b c,", "d,e"]);
+    assert_eq!(fill("a,b c,d,e\n\nf", &options), "a,b c,\nd,e\n\nf");
+    assert_eq!(wrap("foo-bar,baz", &options), ["foo-", "bar,", "baz"]);
+    assert_eq!(options.word_separator.find_words("a,b").count(), 2);
+    let indented = options.initial_indent("* ").subsequent_indent("  ");
+    assert_eq!(fill("a,b c,d,e", &indented), "* a,\n  b c,\n  d,e");
+}
+
+#[test]
+fn a_splitter_of_the_callers_own() {
+    let options = Options::new(8).word_splitter(WordSplitter::Custom(at_underscores));
+    assert_eq!(options.word_splitter.split_points("a_long_identifier"), [2, 7]);
+    let lines = wrap("an a_long_identifier_", &options);
+    assert_eq!(lines, ["an a_-", "long_-", "identifi", "er_"]);
+    let kinds = [false, false, true, true];
+    assert!(lines.iter().zip(kinds).all(|(line, kind)| matches!(line, Cow::Borrowed(_)) == kind));
+    let by_closure = Options::new(5).word_splitter(WordSplitter::Custom(|word| vec![word.len() / 2]));
+    assert_eq!(fill("foobar x", &by_closure), "foo-\nbar x");
+}
+
+#[test]
+fn an_algorithm_of_the_callers_own() {
+    fn stairs<'a, 'b>(words: &'b [Word<'a>], _: &'b [usize]) -> Vec<&'b [Word<'a>]> {
+        let (mut lines, mut rest) = (Vec::new(), words);
+        for step in 1.. {
+            if step > rest.len() {
+                break;
+            }
+            let (line, later) = rest.split_at(step);
+            lines.push(line);
+            rest = later;
+        }
+        lines
+    }
+    let options = Options::new(10).wrap_algorithm(WrapAlgorithm::Custom(stairs));
+    assert_eq!(
+        wrap("First, second, third, fourth, fifth, sixth", &options),
+        ["First,", "second, third,", "fourth, fifth, sixth"]
+    );
+    // What is in no line is lost.
+    assert_eq!(wrap("First, second, third, fourth", &options), ["First,", "second, third,"]);
+    let by_closure = options.wrap_algorithm(WrapAlgorithm::Custom(|words, _| vec![&[], words]));
+    assert_eq!(wrap("one two three", by_closure.initial_indent("* ")), ["", "one two three"]);
+}
+
+#[test]
+fn an_algorithm_gets_pieces_and_widths() {
+    fn checked<'a, 'b>(words: &'b [Word<'a>], widths: &'b [usize]) -> Vec<&'b [Word<'a>]> {
+        assert_eq!(widths, [6, 7]);
+        let hyphened = Word { penalty: "-", ..Word::from("foo_") };
+        assert_eq!(words, [
+            Word::from(""), hyphened, Word::from("bar "), Word::from("unbreak"), Word::from("able"),
+        ]);
+        WrapAlgorithm::FirstFit.wrap(words, widths)
+    }
+    let options = Options::new(8)
+        .initial_indent("* ")
+        .subsequent_indent(" ")
+        .word_splitter(WordSplitter::Custom(at_underscores))
+        .wrap_algorithm(WrapAlgorithm::Custom(checked));
+    assert_eq!(wrap("foo_bar unbreakable", &options), ["* foo_-", " bar", " unbreak", " able"]);
+}
+
+#[test]
+fn paragraphs_with_functions_of_the_caller() {
+    let options = Options::new(6)
+        .subsequent_indent("> ")
+        .line_ending(LineEnding::CRLF)
+        .preserve_trailing_space(true)
+        .word_separator(WordSeparator::Custom(after_commas));
+    // The first paragraph is kept whole, and the second has no words.
+    assert_eq!(fill("a\n \r\n\r\nb, c, d ", &options), "a\n \r\n\r\n> b, c,\r\n>  d ");
+    let none = Options::new(3).wrap_algorithm(WrapAlgorithm::Custom(|_, _| vec![]));
+    // There is no line yet when the second paragraph begins.
+    assert_eq!(wrap("foo bar\nx", none.initial_indent("")), ["x"]);
+}
+
+#[test]
+fn even_paragraphs_with_functions_of_the_caller() {
+    let first_fit = WrapAlgorithm::FirstFit;
+    let built_in = Options::new(7).subsequent_indent("    ").wrap_algorithm(first_fit);
+    let own = built_in.clone().wrap_algorithm(WrapAlgorithm::Custom(|words, widths| {
+        WrapAlgorithm::FirstFit.wrap(words, widths)
+    }));
+    for options in [built_in, own] {
+        assert_eq!(wrap("aaa\nbbb ccc", &options), ["aaa", "    bbb ccc"]);
+        let even = options.even_paragraphs(true);
+        assert_eq!(wrap("aaa\nbbb ccc", even), ["aaa", "    bbb", "    ccc"]);
+    }
+}
+
+/// Functions that do what the built-in parts do.
+fn as_built_in<'a>(options: &'a Options<'a>) -> Options<'a> {
+    fn at_blanks(line: &str) -> Box<dyn Iterator<Item = Word<'_>> + '_> {
+        WordSeparator::AsciiSpace.find_words(line)
+    }
+    Options::from(options)
+        .word_separator(WordSeparator::Custom(at_blanks))
+        .word_splitter(WordSplitter::Custom(|word| WordSplitter::HyphenSplitter.split_points(word)))
+        .wrap_algorithm(WrapAlgorithm::Custom(|words, widths| {
+            WrapAlgorithm::new().wrap(words, widths)
+        }))
+}
+
+#[test]
+fn functions_may_do_what_the_built_in_parts_do() {
+    let text = "Words,  a hyphen-ated one, 안녕하세요 and\n\n  supercalifragilistic \
+                \u{1b}[1mends\u{1b}[0m  ";
+    for width in 0..60 {
+        let plain = Options::new(width);
+        let crlf = plain.clone().line_ending(LineEnding::CRLF).preserve_trailing_space(true);
+        let indented = plain.clone().initial_indent("* ").subsequent_indent("    ");
+        let unbroken = indented.clone().break_words(false);
+        for options in [plain, crlf, indented, unbroken] {
+            let own = as_built_in(&options);
+            assert_eq!(wrap(text, &own), wrap(text, &options));
+            assert_eq!(fill(text, &own), fill(text, &options));
+            assert_eq!(refill(text, &own), refill(text, &options));
+            assert_eq!(
+                wrap_columns(text, 3, &own, "| ", " ", ""),
+                wrap_columns(text, 3, &options, "| ", " ", "")
+            );
+        }
+    }
+}
+
+#[test]
+fn refilling_and_columns_with_functions_of_the_caller() {
+    let options = Options::new(7).word_splitter(WordSplitter::Custom(|word| vec![word.len() / 2]));
+    assert_eq!(refill("> foobar\n> x y\n", &options), "> foo-\n> bar\n> x y\n");
+    assert_eq!(refill("", &options), "");
+    let options = options.line_ending(LineEnding::CRLF);
+    assert_eq!(refill("foobar foobar\n", &options), "foobar\r\nfoobar\r\n");
+    let rows = wrap_columns("foobar x", 2, options.clone().width(13), "[", "|", "]");
+    assert_eq!(rows, ["[foo- |bar x]"]);
+    assert_eq!(wrap_columns("", 2, options.width(5), "[", "|", "]"), ["[ | ]"]);
+}
+
+#[test]
+#[should_panic(expected = "words of a WordSeparator::Custom have to tile the line")]
+fn a_separator_must_not_skip() {
+    fn skipping(line: &str) -> Box<dyn Iterator<Item = Word<'_>> + '_> {
+        Box::new(line.split(',').map(Word::from))
+    }
+    wrap("foo,bar", Options::new(5).word_separator(WordSeparator::Custom(skipping)));
+}
+
+#[test]
+#[should_panic(expected = "words of a WordSeparator::Custom have to tile the line; the rest \"bar\"")]
+fn a_separator_must_not_stop() {
+    fn stopping(line: &str) -> Box<dyn Iterator<Item = Word<'_>> + '_> {
+        Box::new(std::iter::once(Word::from(&line[..4])))
+    }
+    wrap("foo,bar", Options::new(5).word_separator(WordSeparator::Custom(stopping)));
+}
+
+#[test]
+#[should_panic(expected = "as Word::from makes them")]
+fn a_separator_must_not_give_penalties() {
+    fn hyphened(line: &str) -> Box<dyn Iterator<Item = Word<'_>> + '_> {
+        Box::new(std::iter::once(Word { penalty: "-", ..Word::from(line) }))
+    }
+    wrap("foobar", Options::new(5).word_separator(WordSeparator::Custom(hyphened)));
+}
+
+#[test]
+#[should_panic(expected = "points of a WordSplitter::Custom must not decrease")]
+fn a_splitter_must_not_go_back() {
+    wrap("foobar", Options::new(5).word_splitter(WordSplitter::Custom(|_| vec![3, 2])));
+}
+
+#[test]
+#[should_panic(expected = "character boundaries of the word; 1 of \"é\"")]
+fn a_splitter_must_not_cut_characters() {
+    let splitter = WordSplitter::Custom(|_| vec![1]);
+    split_words(vec![Word::from("é")], &splitter).for_each(drop);
+}
+
+#[test]
+#[should_panic(expected = "lines of a WrapAlgorithm::Custom have to be the words in order")]
+fn an_algorithm_must_not_skip() {
+    let skipping = WrapAlgorithm::Custom(|words, _| vec![&words[1..]]);
+    wrap("foo bar", Options::new(5).wrap_algorithm(skipping));
+}
+
+#[test]
+fn words_at_the_offsets_of_a_segmenter() {
+    use textwrap::word_separators::{find_words_at, WrongPlaces};
+    fn between_wide_characters(line: &str) -> Box<dyn Iterator<Item = Word<'_>> + '_> {
+        let wide = |&(_, ch): &(usize, char)| ch > '\u{1100}';
+        let offsets: Vec<usize> = line.char_indices().filter(wide).map(|(i, _)| i).collect();
+        Box::new(find_words_at(line, &offsets).expect("they increase").into_iter())
+    }
+    let separator = WordSeparator::Custom(between_wide_characters);
+    let options = Options::new(6).word_separator(separator).break_words(false);
+    assert_eq!(wrap("ab 你好吗", &options), ["ab 你", "好吗"]);
+    assert_eq!(find_words_at("foo bar", &[4, 4]), Err(WrongPlaces));
+    assert_eq!(find_words_at("foo bar", &[9]), Err(WrongPlaces));
+    assert_eq!(find_words_at("", &[]), Ok(vec![]));
+}
+
+#[test]
+fn the_twins_with_functions_of_the_caller() {
+    use textwrap::fallible;
+    let options = Options::new(6).word_separator(WordSeparator::Custom(after_commas));
+    assert_eq!(fallible::fill("a,b c,d,e", &options).as_deref(), Ok("a,b c,\nd,e"));
+    assert_eq!(fallible::wrap("a,b c,d,e", &options).unwrap().len(), 2);
+    assert_eq!(fallible::refill("a,b c,\nd,e", &options).as_deref(), Ok("a,b c,\n d,e"));
+    let rows = fallible::wrap_columns("a,b", usize::MAX, &options, "", "|", "");
+    assert_eq!(rows, Err(textwrap::OutOfMemory));
+}

@@ -1,5 +1,5 @@
-//! A text in columns beside one another, where functions of the caller take part. Otherwise the library
-//! makes the rows.
+//! A text in columns beside one another, where functions of the caller take part. Otherwise the
+//! library makes the rows.
 use crate::core::display_width;
 use crate::room::{room_for, OutOfMemory};
 use crate::{custom, sys};

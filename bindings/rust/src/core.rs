@@ -1,7 +1,7 @@
 //! What wrapping is made of: fragments, words and the columns of a text.
 //!
-//! [`wrap()`](crate::wrap()) goes through these steps. A caller who wants something else between them
-//! takes them one by one:
+//! [`wrap()`](crate::wrap()) goes through these steps. A caller who wants something else between
+//! them takes them one by one:
 //!
 //! 1. [`WordSeparator::find_words`](crate::WordSeparator::find_words) finds the words of a line.
 //! 2. [`split_words`](crate::word_splitters::split_words) splits them at hyphens, or where else a
@@ -32,8 +32,9 @@ use core::ops::Deref;
 
 /// The columns that a text takes in a terminal.
 ///
-/// Escape sequences take none, as those for colours and links. Each other character counts by itself:
-/// most count 1, wide ones such as `好` and most emoji 2, and combining accents and control characters
+/// Escape sequences take none, as those for colours and links. Each other character counts by
+/// itself: most count 1, wide ones such as `好` and most emoji 2, and combining accents and control
+/// characters
 /// 0. So an emoji that several characters make up may count more than a terminal shows.
 ///
 /// # Examples
@@ -56,11 +57,11 @@ pub fn display_width(text: &str) -> usize {
 
 /// An item that is placed on a line and never cut.
 ///
-/// The widths are in a unit of the implementor's choice. They are `f64` as in the original, but have
-/// to be whole numbers from 0 to `usize::MAX`; see
+/// The widths are in a unit of the implementor's choice. They are `f64` as in the original, but
+/// have to be whole numbers from 0 to `usize::MAX`; see
 /// [`wrap_first_fit`](crate::wrap_algorithms::wrap_first_fit) and
-/// [`wrap_optimal_fit`](crate::wrap_algorithms::wrap_optimal_fit) for what happens to others. A caller
-/// with fractions counts in a smaller unit.
+/// [`wrap_optimal_fit`](crate::wrap_algorithms::wrap_optimal_fit) for what happens to others. A
+/// caller with fractions counts in a smaller unit.
 ///
 /// # Examples
 ///
@@ -139,8 +140,8 @@ impl<'a> Word<'a> {
     /// The parts of the word, each of so many columns at most. The last one has the whitespace and
     /// the penalty.
     ///
-    /// No escape sequence is cut. A part is wider than `line_width` only if its first character with
-    /// columns is. A word without text has no parts.
+    /// No escape sequence is cut. A part is wider than `line_width` only if its first character
+    /// with columns is. A word without text has no parts.
     ///
     /// # Examples
     ///
@@ -168,7 +169,8 @@ impl<'a> Word<'a> {
     fn broken(&self, line_width: usize) -> Result<Vec<sys::Piece>, OutOfMemory> {
         let word = self.word;
         let guess = (self.width / line_width.max(1)).saturating_add(2).min(word.len());
-        // SAFETY: a text with its length, and room with its length; the call writes what it reports.
+        // SAFETY: a text with its length, and room with its length; the call writes what it
+        // reports.
         let pieces = unsafe {
             listed(guess, |pieces, pieces_len, count| {
                 sys::textwrap_break_apart(
@@ -191,7 +193,8 @@ impl<'a> Word<'a> {
     }
 }
 
-/// The width is the field, and the others are lengths in bytes: blanks and hyphens are as wide as long.
+/// The width is the field, and the others are lengths in bytes: blanks and hyphens are as wide as
+/// long.
 impl Fragment for Word<'_> {
     #[inline]
     fn width(&self) -> f64 {

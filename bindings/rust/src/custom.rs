@@ -111,8 +111,8 @@ impl<'o> With<'o> {
         let has_hyphens = pieces.iter().any(|piece| piece.penalty_len > 0);
         let bytes = guess::built(paragraph, self.options, ends.len(), has_hyphens);
         let Places { cuts, points } = places;
-        // SAFETY: texts and lists with their lengths, the options, and room with its lengths; the call
-        // writes what it reports.
+        // SAFETY: texts and lists with their lengths, the options, and room with its lengths; the
+        // call writes what it reports.
         unsafe {
             Reported::by(ends.len(), bytes, |r| {
                 sys::textwrap_lines_at(
@@ -209,8 +209,8 @@ fn assert_stands_at(word: &Word<'_>, start: usize, line: &str) {
     let rest = line.get(start..).and_then(|rest| rest.strip_prefix(text));
     assert!(
         rest.is_some_and(|rest| rest.starts_with(whitespace)),
-        "the words of a WordSeparator::Custom have to tile the line; {text:?} and {whitespace:?} do \
-         not stand at byte {start} of {line:?}"
+        "the words of a WordSeparator::Custom have to tile the line; {text:?} and {whitespace:?} \
+         do not stand at byte {start} of {line:?}"
     );
     assert!(
         !text.ends_with(' ') && whitespace.trim_end_matches(' ').is_empty() && penalty.is_empty(),

@@ -14,7 +14,8 @@ pub(crate) fn wrapped_lines(text: &str, options: &Options<'_>) -> usize {
     lines_of(text).saturating_add(filled_half)
 }
 
-/// The bytes of so many lines of a text with their indents and their endings, and a hyphen for each.
+/// The bytes of so many lines of a text with their indents and their endings, and a hyphen for
+/// each.
 fn lines_bytes(text: &str, options: &Options<'_>, lines: usize) -> usize {
     let Options { initial_indent, subsequent_indent, line_ending, .. } = options;
     let around = subsequent_indent.len() + line_ending.as_str().len();
@@ -39,8 +40,8 @@ pub(crate) fn built(text: &str, options: &Options<'_>, lines: usize, has_hyphens
     lines_bytes(text, options, lines)
 }
 
-/// The bytes of a filled text that is filled again. Its indents are not known, and may be shown more
-/// often.
+/// The bytes of a filled text that is filled again. Its indents are not known, and may be shown
+/// more often.
 pub(crate) fn refilled(text: &str, options: &Options<'_>) -> usize {
     let without_indents = options.clone().initial_indent("").subsequent_indent("");
     text.len() / 4 + filled(text, &without_indents)

@@ -1,15 +1,15 @@
 //! Word wrapping and paragraph filling by a proved library.
 //!
-//! The calls are those of the crate `textwrap` 0.16.4, by the same names and with the same types, so a
-//! program that uses it changes one line of its `Cargo.toml`:
+//! The calls are those of the crate `textwrap` 0.16.4, by the same names and with the same types,
+//! so a program that uses it changes one line of its `Cargo.toml`:
 //!
 //! ```toml
 //! textwrap = { package = "textwrap_proved", path = "bindings/rust" }
 //! ```
 //!
-//! Behind them stands a library written in Rattle, which is linked as an archive. Its contracts, which
-//! are proved, state the exact result of each call. What is written in Rust here is the way there and
-//! back, and what functions of the caller take part in.
+//! Behind them stands a library written in Rattle, which is linked as an archive. Its contracts,
+//! which are proved, state the exact result of each call. What is written in Rust here is the way
+//! there and back, and what functions of the caller take part in.
 //!
 //! # Wrapping Text
 //!
@@ -23,16 +23,16 @@
 //! assert_eq!(fill(text, 18), "textwrap: a\nsmall library for\nwrapping text.");
 //! ```
 //!
-//! [`Options`] say how: with which indents, by which algorithm, where words begin and where they may be
-//! split. Functions of the caller may take the place of the last three. [`refill()`] and [`unfill()`]
-//! take texts that are filled already, [`wrap_columns()`] lays a text out in columns, and
-//! [`fill_inplace()`] fills a `String` in its own place.
+//! [`Options`] say how: with which indents, by which algorithm, where words begin and where they
+//! may be split. Functions of the caller may take the place of the last three. [`refill()`] and
+//! [`unfill()`] take texts that are filled already, [`wrap_columns()`] lays a text out in columns,
+//! and [`fill_inplace()`] fills a `String` in its own place.
 //!
 //! ## Displayed Width vs Byte Size
 //!
 //! A width counts columns of a terminal, not bytes: `é` takes one column and two bytes, `好` two
-//! columns and three bytes. [`display_width`](core::display_width()) says what a text takes. Offsets,
-//! such as the points of a [`WordSplitter`], count bytes.
+//! columns and three bytes. [`display_width`](core::display_width()) says what a text takes.
+//! Offsets, such as the points of a [`WordSplitter`], count bytes.
 //!
 //! # Indentation and Dedentation
 //!
@@ -64,12 +64,13 @@
 //! # Cargo Features
 //!
 //! The features `std`, `smawk` and `unicode-width` change nothing: they are there so that a line of
-//! `Cargo.toml` that names them stays as it is. The crate needs `alloc`, and the heap of the C library.
+//! `Cargo.toml` that names them stays as it is. The crate needs `alloc`, and the heap of the C
+//! library.
 //!
 //! # Memory
 //!
-//! If memory runs out, a call ends the program as the standard library does. Its twin in [`fallible`]
-//! returns [`OutOfMemory`] in place of that.
+//! If memory runs out, a call ends the program as the standard library does. Its twin in
+//! [`fallible`] returns [`OutOfMemory`] in place of that.
 #![no_std]
 #![deny(missing_docs)]
 #![deny(missing_debug_implementations)]
@@ -133,14 +134,14 @@ where
 
 /// The lines of the text at a width in columns, or by options.
 ///
-/// Each paragraph of the text is divided by itself; [`Options::line_ending`] says what stands between
-/// them. A line without an indent and without an added hyphen borrows from the text, and any other is a
-/// `String`.
+/// Each paragraph of the text is divided by itself; [`Options::line_ending`] says what stands
+/// between them. A line without an indent and without an added hyphen borrows from the text, and
+/// any other is a `String`.
 ///
 /// # Optimal-Fit Wrapping
 ///
-/// By default, the lines are those of the least cost, whose gaps are even. First fit takes the words
-/// that fit, line by line, and is faster. See [`WrapAlgorithm`].
+/// By default, the lines are those of the least cost, whose gaps are even. First fit takes the
+/// words that fit, line by line, and is faster. See [`WrapAlgorithm`].
 ///
 /// ```
 /// use textwrap_proved::{wrap, Options, WrapAlgorithm};
@@ -169,8 +170,8 @@ where
 ///
 /// ## Leading and Trailing Whitespace
 ///
-/// Blanks between words are kept within a line, and left off at its end. Blanks that a paragraph begins
-/// with are a word without text, which the next word follows if it fits:
+/// Blanks between words are kept within a line, and left off at its end. Blanks that a paragraph
+/// begins with are a word without text, which the next word follows if it fits:
 ///
 /// ```
 /// use textwrap_proved::wrap;
@@ -189,8 +190,8 @@ where
 
 /// The text in columns beside one another, row by row. The width is that of a row, with its gaps.
 ///
-/// The lines go down the first column, then down the second, and so on. The columns are equally wide,
-/// at least 1, and blanks that are left over stand before the right gap.
+/// The lines go down the first column, then down the second, and so on. The columns are equally
+/// wide, at least 1, and blanks that are left over stand before the right gap.
 ///
 /// # Panics
 ///
@@ -248,9 +249,9 @@ where
 
 /// The joined lines of a filled text, and how it seems to have been filled.
 ///
-/// The options have the columns of the widest line, the indents and the line ending. An indent is what
-/// a line begins with of blanks and `-`, `+`, `*`, `>`, `#` and `/`, and the subsequent indent is what
-/// all lines but the first begin with. The text is taken for one paragraph.
+/// The options have the columns of the widest line, the indents and the line ending. An indent is
+/// what a line begins with of blanks and `-`, `+`, `*`, `>`, `#` and `/`, and the subsequent indent
+/// is what all lines but the first begin with. The text is taken for one paragraph.
 ///
 /// # Examples
 ///
@@ -266,8 +267,8 @@ pub fn unfill(text: &str) -> (String, Options<'_>) {
     or_abort(fallible::unfill(text))
 }
 
-/// The text with a prefix before each line. A blank line gets the prefix without the whitespace at its
-/// end.
+/// The text with a prefix before each line. A blank line gets the prefix without the whitespace at
+/// its end.
 ///
 /// # Examples
 ///
@@ -294,11 +295,12 @@ pub fn dedent(s: &str) -> String {
     or_abort(fallible::dedent(s))
 }
 
-/// Fills a text in its own place, at a width in columns: blanks of it become line feeds, and all else
-/// stays.
+/// Fills a text in its own place, at a width in columns: blanks of it become line feeds, and all
+/// else stays.
 ///
-/// It does so by first fit, keeps words whole, and takes each line of the text for a paragraph. So it
-/// does what [`fill()`] does by these options, except that further blanks before a line feed stay:
+/// It does so by first fit, keeps words whole, and takes each line of the text for a paragraph. So
+/// it does what [`fill()`] does by these options, except that further blanks before a line feed
+/// stay:
 ///
 /// ```
 /// # use textwrap_proved::{Options, WordSplitter, WrapAlgorithm};

@@ -3,8 +3,8 @@ use crate::sys;
 use crate::wrap_algorithms::Penalties;
 use crate::{LineEnding, WordSeparator, WordSplitter, WrapAlgorithm};
 
-/// How a text is wrapped. [`Options::new`] has the defaults, and each field has a method of its name
-/// that changes it.
+/// How a text is wrapped. [`Options::new`] has the defaults, and each field has a method of its
+/// name that changes it.
 ///
 /// Where options are asked for, a width or a reference to options will do too.
 ///
@@ -39,8 +39,8 @@ pub struct Options<'a> {
     /// Whether blanks at line ends are kept.
     pub preserve_trailing_space: bool,
     /// Whether the first line of a later paragraph is divided for the width that its own indent
-    /// leaves. Otherwise it is divided for what the initial indent leaves, as in the original, which
-    /// has no such field; such a line may be too wide.
+    /// leaves. Otherwise it is divided for what the initial indent leaves, as in the original,
+    /// which has no such field; such a line may be too wide.
     pub even_paragraphs: bool,
 }
 
@@ -98,7 +98,8 @@ impl<'a> Options<'a> {
     /// use textwrap_proved::{wrap, Options};
     ///
     /// let options = Options::new(16).initial_indent("    ");
-    /// assert_eq!(wrap("This is a little example.", options), ["    This is a", "little example."]);
+    /// let lines = wrap("This is a little example.", options);
+    /// assert_eq!(lines, ["    This is a", "little example."]);
     /// ```
     pub const fn initial_indent(self, initial_indent: &'a str) -> Self {
         Options { initial_indent, ..self }
@@ -141,7 +142,8 @@ impl<'a> Options<'a> {
     ///
     /// let text = "To be, or not to be: that is the question";
     /// let first_fit = Options::new(10).wrap_algorithm(WrapAlgorithm::FirstFit);
-    /// assert_eq!(wrap(text, first_fit), ["To be, or", "not to be:", "that is", "the", "question"]);
+    /// let lines = wrap(text, first_fit);
+    /// assert_eq!(lines, ["To be, or", "not to be:", "that is", "the", "question"]);
     /// assert_eq!(wrap(text, 10), ["To be,", "or not to", "be: that", "is the", "question"]);
     /// ```
     pub const fn wrap_algorithm(self, wrap_algorithm: WrapAlgorithm) -> Self {
@@ -181,7 +183,8 @@ impl<'a> Options<'a> {
     ///
     /// let options = Options::new(7).subsequent_indent("    ");
     /// assert_eq!(wrap("aaa\nbbb ccc", &options), ["aaa", "    bbb ccc"]);
-    /// assert_eq!(wrap("aaa\nbbb ccc", options.even_paragraphs(true)), ["aaa", "    bbb", "    ccc"]);
+    /// let even = options.even_paragraphs(true);
+    /// assert_eq!(wrap("aaa\nbbb ccc", even), ["aaa", "    bbb", "    ccc"]);
     /// ```
     pub const fn even_paragraphs(self, even_paragraphs: bool) -> Self {
         Options { even_paragraphs, ..self }

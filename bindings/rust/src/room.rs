@@ -1,7 +1,7 @@
 //! Room that the library writes to, and what it says if it does not.
 //!
-//! The room is not initialised before a call: by the header the library does not read it, and writes
-//! as much to its front as it reports.
+//! The room is not initialised before a call: by the header the library does not read it, and
+//! writes as much to its front as it reports.
 use crate::sys;
 use alloc::alloc::handle_alloc_error;
 use alloc::borrow::Cow;
@@ -157,8 +157,8 @@ pub(crate) struct Reported {
 }
 
 impl Reported {
-    /// The lines that a call reports, with room for so many of them and so many bytes, or if that does
-    /// not suffice, with as much as it asks for.
+    /// The lines that a call reports, with room for so many of them and so many bytes, or if that
+    /// does not suffice, with as much as it asks for.
     ///
     /// # Safety
     /// As for `written`, for the lines and for the bytes.

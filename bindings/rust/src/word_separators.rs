@@ -14,7 +14,8 @@ use core::fmt;
 
 /// Where a line is cut into words.
 ///
-/// The words do not change the text: one after another, each with its whitespace, they are the line.
+/// The words do not change the text: one after another, each with its whitespace, they are the
+/// line.
 ///
 /// # Examples
 ///
@@ -122,8 +123,8 @@ fn words_between_blanks(line: &str) -> Result<Vec<sys::Piece>, OutOfMemory> {
         .to_sys();
     let at_blanks = line.as_bytes().windows(2).filter(|two| two[0] == b' ' && two[1] != b' ');
     let count_of_words = at_blanks.count() + 1;
-    // SAFETY: a text with its length, the options, and room with its length; the call writes what it
-    // reports.
+    // SAFETY: a text with its length, the options, and room with its length; the call writes what
+    // it reports.
     let places = unsafe {
         listed(count_of_words, |places, places_len, count| {
             sys::textwrap_pieces(
@@ -148,9 +149,9 @@ impl Error for WrongPlaces {}
 
 /// The words of a line that may be broken at these offsets, as a line segmenter gives them.
 ///
-/// The offsets count the bytes of the line without its escape sequences, increase, and are character
-/// boundaries of that text. The line is not cut at its ends, nor right after a hyphen `-` or a soft
-/// hyphen (U+00AD): there a [`WordSplitter`] decides. The words tile the line, so a
+/// The offsets count the bytes of the line without its escape sequences, increase, and are
+/// character boundaries of that text. The line is not cut at its ends, nor right after a hyphen `-`
+/// or a soft hyphen (U+00AD): there a [`WordSplitter`] decides. The words tile the line, so a
 /// [`WordSeparator::Custom`] may return them. The original has no such call.
 ///
 /// # Errors

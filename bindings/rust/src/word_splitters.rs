@@ -34,8 +34,8 @@ pub enum WordSplitter {
     /// Where a function says, which returns offsets in bytes.
     ///
     /// The offsets must not decrease, and have to be character boundaries of the word; if they are
-    /// not, `wrap`, `fill` and [`split_words`] panic. Repeated ones, 0 and the length of the word are
-    /// left out. A hyphen is added where a line ends at a point without one.
+    /// not, `wrap`, `fill` and [`split_words`] panic. Repeated ones, 0 and the length of the word
+    /// are left out. A hyphen is added where a line ends at a point without one.
     ///
     /// ```
     /// use textwrap_proved::{wrap, Options, WordSplitter};
@@ -101,8 +101,8 @@ impl WordSplitter {
                 let before = if i > 0 { points[i - 1] } else { 0 };
                 assert!(
                     before <= point && word.is_char_boundary(point),
-                    "the points of a WordSplitter::Custom must not decrease, and have to be character \
-                     boundaries of the word; {point} of {word:?} is not right"
+                    "the points of a WordSplitter::Custom must not decrease, and have to be \
+                     character boundaries of the word; {point} of {word:?} is not right"
                 );
             }
             points.dedup();

@@ -1,8 +1,8 @@
 //! How words, or other fragments, are divided into lines.
 //!
-//! [`wrap_first_fit`] gives each line what fits. So one line may be short because a wide fragment comes
-//! next. [`wrap_optimal_fit`] looks at all lines together, and finds those of the least cost, which
-//! leave the gaps even. First fit is the faster of the two.
+//! [`wrap_first_fit`] gives each line what fits. So one line may be short because a wide fragment
+//! comes next. [`wrap_optimal_fit`] looks at all lines together, and finds those of the least cost,
+//! which leave the gaps even. First fit is the faster of the two.
 use crate::core::{Fragment, Word};
 use crate::room::{listed, or_abort, OutOfMemory, Refusal};
 use crate::sys;
@@ -16,15 +16,16 @@ pub enum WrapAlgorithm {
     /// Each line takes words while they fit, as [`wrap_first_fit`] does.
     FirstFit,
 
-    /// The lines are those of the least cost by these penalties, as [`wrap_optimal_fit`] finds them.
+    /// The lines are those of the least cost by these penalties, as [`wrap_optimal_fit`] finds
+    /// them.
     OptimalFit(Penalties),
 
     /// A function divides the words. It gets them with the widths of the lines in columns, of which
     /// the last serves all later lines, and returns the words of each line.
     ///
-    /// `wrap` and `fill` panic unless the lines, one after another, are the first words in order. The
-    /// words after them are lost. A line without words is empty, and has no indent. If words are broken
-    /// and there is an initial indent, the first word is an empty one.
+    /// `wrap` and `fill` panic unless the lines, one after another, are the first words in order.
+    /// The words after them are lost. A line without words is empty, and has no indent. If words
+    /// are broken and there is an initial indent, the first word is an empty one.
     ///
     /// ```
     /// use textwrap_proved::core::Word;
@@ -74,8 +75,8 @@ impl WrapAlgorithm {
     ///
     /// # Panics
     ///
-    /// By [`OptimalFit`](WrapAlgorithm::OptimalFit) if a cost needs more than 128 bits. Words that a
-    /// text was cut into are never so wide.
+    /// By [`OptimalFit`](WrapAlgorithm::OptimalFit) if a cost needs more than 128 bits. Words that
+    /// a text was cut into are never so wide.
     ///
     /// # Examples
     ///
@@ -129,7 +130,7 @@ impl WrapAlgorithm {
                     ends => Ok(ends?),
                 }
             }
-            WrapAlgorithm::Custom(_) => unreachable!("a function of the caller gives lines, not ends"),
+            WrapAlgorithm::Custom(_) => unreachable!("a function of the caller has no ends"),
         }
     }
 }
@@ -142,19 +143,19 @@ impl Default for WrapAlgorithm {
 
 /// What lines of the least cost are measured by.
 ///
-/// Each line costs [`nline_penalty`](Penalties::nline_penalty). If it is wider than its width, it costs
-/// [`overflow_penalty`](Penalties::overflow_penalty) for each column past it. If it is narrower, and
-/// not the last, it costs the square of the gap. The rest is said at the fields.
+/// Each line costs [`nline_penalty`](Penalties::nline_penalty). If it is wider than its width, it
+/// costs [`overflow_penalty`](Penalties::overflow_penalty) for each column past it. If it is
+/// narrower, and not the last, it costs the square of the gap. The rest is said at the fields.
 ///
-/// The defaults suit text in columns. Whoever measures in a smaller unit, such as pixels, has larger
-/// gaps, and needs larger penalties.
+/// The defaults suit text in columns. Whoever measures in a smaller unit, such as pixels, has
+/// larger gaps, and needs larger penalties.
 #[derive(Clone, Copy, Debug, PartialEq, Eq)]
 pub struct Penalties {
     /// What each line costs, so that there are few of them. The default is 1000.
     pub nline_penalty: usize,
 
-    /// What each column past the width costs. By the default, 2500, one column costs as much as a gap
-    /// of 50. So a line may be too wide by a column if all else leaves a larger gap:
+    /// What each column past the width costs. By the default, 2500, one column costs as much as a
+    /// gap of 50. So a line may be too wide by a column if all else leaves a larger gap:
     ///
     /// ```
     /// use textwrap_proved::core::Word;
@@ -163,13 +164,14 @@ pub struct Penalties {
     /// let long = "x".repeat(50);
     /// let words = [Word::from("foo "), Word::from(&long)];
     /// // Together they take 54 columns.
-    /// let lines = |width: f64| wrap_optimal_fit(&words, &[width], &Penalties::new()).unwrap().len();
+    /// let penalties = Penalties::new();
+    /// let lines = |width: f64| wrap_optimal_fit(&words, &[width], &penalties).unwrap().len();
     /// assert_eq!((lines(54.0), lines(53.0), lines(52.0)), (1, 1, 2));
     /// ```
     pub overflow_penalty: usize,
 
-    /// A last line of one word is short if it takes less than the width divided by this. The default
-    /// is 4.
+    /// A last line of one word is short if it takes less than the width divided by this. The
+    /// default is 4.
     ///
     /// ```
     /// use textwrap_proved::wrap_algorithms::Penalties;
@@ -186,8 +188,8 @@ pub struct Penalties {
     /// What a short last line costs. The default is 25, as much as a gap of 5 columns.
     pub short_last_line_penalty: usize,
 
-    /// What a line costs more that ends in an added hyphen. The default is 25. Only a function of the
-    /// caller that splits words adds hyphens.
+    /// What a line costs more that ends in an added hyphen. The default is 25. Only a function of
+    /// the caller that splits words adds hyphens.
     pub hyphen_penalty: usize,
 }
 
@@ -210,8 +212,8 @@ impl Default for Penalties {
     }
 }
 
-/// [`wrap_optimal_fit`] cannot count: a width is no whole number from 0 to `usize::MAX`, or all widths
-/// together, or a least cost, need more than 128 bits.
+/// [`wrap_optimal_fit`] cannot count: a width is no whole number from 0 to `usize::MAX`, or all
+/// widths together, or a least cost, need more than 128 bits.
 #[derive(Clone, Copy, Debug, PartialEq, Eq)]
 pub struct OverflowError;
 
@@ -226,8 +228,8 @@ impl Error for OverflowError {}
 /// Divides fragments into lines by first fit: each line takes fragments while they fit.
 ///
 /// Line l, counted from 0, may be `line_widths[l]` wide. The last width serves all later lines, and
-/// without any it is 0. A fragment that is wider than its line has it for itself. No fragments are one
-/// empty line.
+/// without any it is 0. A fragment that is wider than its line has it for itself. No fragments are
+/// one empty line.
 ///
 /// # First-Fit Algorithm
 ///
@@ -239,8 +241,10 @@ impl Error for OverflowError {}
 /// use textwrap_proved::WordSeparator;
 ///
 /// fn texts(lines: Vec<&[Word]>) -> Vec<String> {
-///     let joined = |line: &&[Word]| line.iter().map(|word| word.word).collect::<Vec<_>>().join(" ");
-///     lines.iter().map(joined).collect()
+///     let text = |line: &&[Word]| -> String {
+///         line.iter().map(|word| word.word).collect::<Vec<_>>().join(" ")
+///     };
+///     lines.iter().map(text).collect()
 /// }
 ///
 /// let text = "To be, or not to be: that is the question";
@@ -302,19 +306,19 @@ pub fn wrap_first_fit<'a, T: Fragment>(fragments: &'a [T], line_widths: &[f64]) 
 /// # Optimal-Fit Algorithm
 ///
 /// All divisions are looked at together, and the cheapest is taken; [`Penalties`] says what a line
-/// costs. Lines that leave even gaps are cheaper than those that leave one large gap, since a gap costs
-/// its square. A line that ends with a fragment whose penalty is wider than 0 costs
+/// costs. Lines that leave even gaps are cheaper than those that leave one large gap, since a gap
+/// costs its square. A line that ends with a fragment whose penalty is wider than 0 costs
 /// [`hyphen_penalty`](Penalties::hyphen_penalty) more.
 ///
-/// If all line widths from the second on are equal, no other division costs less, and of several that
-/// cost the same the one whose lines start earliest is taken. By other widths it is the division that
-/// the table of all starts gives, which need not be the cheapest.
+/// If all line widths from the second on are equal, no other division costs less, and of several
+/// that cost the same the one whose lines start earliest is taken. By other widths it is the
+/// division that the table of all starts gives, which need not be the cheapest.
 ///
 /// # Errors
 ///
-/// [`OverflowError`] if a width is no whole number from 0 to `usize::MAX`, or if all widths together,
-/// or the least cost of some first fragments, need more than 128 bits. Widths that together do not
-/// pass `u64::MAX` never lead to the latter.
+/// [`OverflowError`] if a width is no whole number from 0 to `usize::MAX`, or if all widths
+/// together, or the least cost of some first fragments, need more than 128 bits. Widths that
+/// together do not pass `u64::MAX` never lead to the latter.
 ///
 /// # Examples
 ///
@@ -392,7 +396,8 @@ fn first_fit_ends(
     fragments: &[sys::Fragment],
     line_widths: &[usize],
 ) -> Result<Vec<usize>, Refusal> {
-    // SAFETY: two lists with their lengths, and room with its length; the call writes what it reports.
+    // SAFETY: two lists with their lengths, and room with its length; the call writes what it
+    // reports.
     unsafe {
         listed(most_lines(fragments), |ends, ends_len, count| {
             sys::textwrap_wrap_first_fit(

@@ -225,8 +225,9 @@ fn words_have_fields_and_are_texts() {
     assert_eq!(copy, word);
     assert_eq!(word, Word { word: "foo", whitespace: "  ", penalty: "", width: 3 });
     assert_ne!(word, Word { penalty: "-", ..word });
-    let widths = |word: &dyn Fragment| [word.width(), word.whitespace_width(), word.penalty_width()];
-    assert_eq!(widths(&Word { penalty: "-", ..word }), [3.0, 2.0, 1.0]);
+    let fragment: &dyn Fragment = &Word { penalty: "-", ..word };
+    assert_eq!((fragment.width(), fragment.whitespace_width()), (3.0, 2.0));
+    assert_eq!(fragment.penalty_width(), 1.0);
 }
 
 #[test]
@@ -346,18 +347,20 @@ fn fragments_are_divided_by_least_cost() -> Result<(), Box<dyn Error>> {
 fn numbers_that_cannot_be_counted_are_an_error() {
     let asked = Cell::new(0);
     let divided = |width: f64, line: f64| {
-        wrap_optimal_fit(&[Item(width, &asked)], &[line], &Penalties::new()).map(|lines| lines.len())
+        let items = [Item(width, &asked)];
+        wrap_optimal_fit(&items, &[line], &Penalties::new()).map(|lines| lines.len())
     };
     for width in [f64::INFINITY, f64::NAN, -1.0, 0.5, 1e155, 18_446_744_073_709_551_616.0] {
         assert_eq!(divided(width, 9.0), Err(OverflowError));
         assert_eq!(divided(9.0, width), Err(OverflowError));
     }
-    assert_eq!(divided(18_446_744_073_709_549_568.0, 9.0), Ok(1));
+    // The greatest below 2^64.
+    let greatest = 18_446_744_073_709_549_568.0;
+    assert_eq!(divided(greatest, 9.0), Ok(1));
     assert_eq!(divided(-0.0, 9.0), Ok(1));
     let steep = Penalties { overflow_penalty: usize::MAX, ..Penalties::new() };
-    let wide = Item(18_446_744_073_709_549_568.0, &asked);
-    assert_eq!(wrap_optimal_fit(&[wide, Item(18_446_744_073_709_549_568.0, &asked)], &[0.0], &steep),
-        Err(OverflowError));
+    let two = [Item(greatest, &asked), Item(greatest, &asked)];
+    assert_eq!(wrap_optimal_fit(&two, &[0.0], &steep), Err(OverflowError));
     let error: Box<dyn Error> = Box::new(OverflowError);
     assert!(error.to_string().contains("128 bits"));
 }
@@ -435,8 +438,21 @@ fn a_splitter_of_the_callers_own() {
     assert_eq!(lines, ["an a_-", "long_-", "identifi", "er_"]);
     let kinds = [false, false, true, true];
     assert!(lines.iter().zip(kinds).all(|(line, kind)| matches!(line, Cow::Borrowed(_)) == kind));
-    let by_closure = Options::new(5).word_splitter(WordSplitter::Custom(|word| vec![word.len() / 2]));
+    let in_the_middle = WordSplitter::Custom(|word| vec![word.len() / 2]);
+    let by_closure = Options::new(5).word_splitter(in_the_middle);
     assert_eq!(fill("foobar x", &by_closure), "foo-\nbar x");
+}
+
+#[test]
+fn hyphens_that_are_added_cost_what_the_penalties_say() {
+    let filled = |hyphen_penalty| {
+        let penalties = Penalties { hyphen_penalty, ..Penalties::new() };
+        let options = Options::new(7)
+            .word_splitter(WordSplitter::Custom(|word| vec![word.len() / 2]))
+            .wrap_algorithm(WrapAlgorithm::OptimalFit(penalties));
+        fill("ab foobar", options)
+    };
+    assert_eq!((filled(24).as_str(), filled(26).as_str()), ("ab foo-\nbar", "ab\nfoobar"));
 }
 
 #[test]
@@ -567,7 +583,7 @@ fn a_separator_must_not_skip() {
 }
 
 #[test]
-#[should_panic(expected = "words of a WordSeparator::Custom have to tile the line; the rest \"bar\"")]
+#[should_panic(expected = "have to tile the line; the rest \"bar\" of \"foo,bar\" is in no word")]
 fn a_separator_must_not_stop() {
     fn stopping(line: &str) -> Box<dyn Iterator<Item = Word<'_>> + '_> {
         Box::new(std::iter::once(Word::from(&line[..4])))
@@ -627,6 +643,8 @@ fn the_twins_with_functions_of_the_caller() {
     assert_eq!(fallible::fill("a,b c,d,e", &options).as_deref(), Ok("a,b c,\nd,e"));
     assert_eq!(fallible::wrap("a,b c,d,e", &options).unwrap().len(), 2);
     assert_eq!(fallible::refill("a,b c,\nd,e", &options).as_deref(), Ok("a,b c,\n d,e"));
-    let rows = fallible::wrap_columns("a,b", usize::MAX, &options, "", "|", "");
-    assert_eq!(rows, Err(textwrap::OutOfMemory));
+    for options in [options, Options::new(6)] {
+        let rows = fallible::wrap_columns("a,b", usize::MAX, &options, "", "|", "");
+        assert_eq!(rows, Err(textwrap::OutOfMemory));
+    }
 }

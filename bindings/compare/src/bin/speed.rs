@@ -1,7 +1,7 @@
 //! How long each call takes here and in the original, in one process.
 //!
-//! What it prints is a table of Markdown: processor time in nanoseconds a call, the least of many runs,
-//! here and in the original, and the ratio of the two. Below 1 the call is faster here.
+//! What it prints is a table of Markdown, by the length of a text of prose: the processor time of a call
+//! here, the least of many runs, and what part of the original's it is. Below 1 the call is faster here.
 use std::hint::black_box;
 use textwrap_proved as proved;
 
@@ -31,17 +31,25 @@ fn now() -> f64 {
     time.seconds as f64 * 1e9 + time.nanoseconds as f64
 }
 
-/// The least time of a call, in nanoseconds.
-fn least_time<T>(len: usize, call: impl Fn() -> T) -> f64 {
+/// The least times of two calls, in nanoseconds. They are measured in turn, so that a machine that is
+/// slow for a while is so for both.
+fn least_times<A, B>(len: usize, ours: impl Fn() -> A, theirs: impl Fn() -> B) -> (f64, f64) {
     let repeats = 1 + BYTES_A_RUN / (len + 1);
-    let run = || {
-        let start = now();
-        for _ in 0..repeats {
-            black_box(call());
-        }
-        (now() - start) / repeats as f64
-    };
-    (0..RUNS).map(|_| run()).fold(f64::INFINITY, f64::min)
+    let mut least = (f64::INFINITY, f64::INFINITY);
+    for _ in 0..RUNS {
+        least.0 = least.0.min(time_of(repeats, &ours));
+        least.1 = least.1.min(time_of(repeats, &theirs));
+    }
+    least
+}
+
+/// The time of a call that is made so many times.
+fn time_of<T>(repeats: usize, call: impl Fn() -> T) -> f64 {
+    let start = now();
+    for _ in 0..repeats {
+        black_box(call());
+    }
+    (now() - start) / repeats as f64
 }
 
 /// Words of prose, so that the text has at least so many bytes: a paragraph ends after a hundred.
@@ -108,10 +116,7 @@ type Measure = fn(&Work) -> (f64, f64);
 
 macro_rules! measure {
     ($work:ident, $ours:expr, $theirs:expr) => {
-        |$work: &Work| {
-            let len = $work.text.len();
-            (least_time(len, || $ours), least_time(len, || $theirs))
-        }
+        |$work: &Work| least_times($work.text.len(), || $ours, || $theirs)
     };
 }
 
@@ -123,10 +128,6 @@ const BY_OPTIONS: &[(&str, Measure)] = &[
         measure!(w, proved::wrap(&w.text, w.ours()).len(), textwrap::wrap(&w.text, w.theirs()).len()),
     ),
     (
-        "refill",
-        measure!(w, proved::refill(&w.text, w.ours()), textwrap::refill(&w.text, w.theirs())),
-    ),
-    (
         "wrap_columns",
         measure!(
             w,
@@ -136,7 +137,7 @@ const BY_OPTIONS: &[(&str, Measure)] = &[
     ),
 ];
 
-/// Calls that do not.
+/// Calls that do not, or mostly do not.
 const BY_TEXT: &[(&str, Measure)] = &[
     (
         "display_width",
@@ -152,6 +153,7 @@ const BY_TEXT: &[(&str, Measure)] = &[
         "unfill",
         measure!(w, proved::unfill(&w.text).0.len(), textwrap::unfill(&w.text).0.len()),
     ),
+    ("refill", measure!(w, proved::refill(&w.text, w.ours()), textwrap::refill(&w.text, w.theirs()))),
     (
         "fill_inplace",
         |w: &Work| {
@@ -161,20 +163,27 @@ const BY_TEXT: &[(&str, Measure)] = &[
                 fill(&mut copy, w.width);
                 copy
             };
-            (
-                least_time(len, || in_place(proved::fill_inplace)),
-                least_time(len, || in_place(textwrap::fill_inplace)),
-            )
+            let theirs = || in_place(textwrap::fill_inplace);
+            least_times(len, || in_place(proved::fill_inplace), theirs)
         },
     ),
 ];
+
+/// A time in nanoseconds, with a unit of its size.
+fn shown(time: f64) -> String {
+    match time {
+        0.0..1e4 => format!("{time:.0} ns"),
+        1e4..1e6 => format!("{:.0} µs", time / 1e3),
+        _ => format!("{:.1} ms", time / 1e6),
+    }
+}
 
 /// Prints a row: the call, and its times at each length of text.
 fn print_row(name: &str, measure: Measure, make: fn(usize) -> String, work: &dyn Fn(String) -> Work) {
     print!("| {name} |");
     for len in [60, 500, 1_000_000] {
         let (ours, theirs) = measure(&work(make(len)));
-        print!(" {ours:.0} / {theirs:.0} = {:.2} |", ours / theirs);
+        print!(" {}, {:.2} |", shown(ours), ours / theirs);
     }
     println!();
 }

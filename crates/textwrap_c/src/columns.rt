@@ -11,8 +11,8 @@ ghost use Rattle.textwrap_c.specs.Wrapping.{WritesLines};
 use crate::options::{TextwrapOptions, read_options};
 use crate::reported::{TextwrapLine, put_lines};
 use crate::status::{NOT_UTF8, OUT_OF_MEMORY, UNKNOWN_OPTIONS};
+use simdutf8::basic::from_utf8;
 use std::alloc::{AllocError, Global};
-use std::str;
 use textwrap::wrap_columns;
 use textwrap_lines::placed::PlacedLines;
 
@@ -59,10 +59,10 @@ pub extern "C" fn textwrap_wrap_columns(
         Err(status) => return status,
     };
     let (Ok(text), Ok(left), Ok(middle), Ok(right)) = (
-        str::from_utf8(text),
-        str::from_utf8(gaps.left),
-        str::from_utf8(gaps.middle),
-        str::from_utf8(gaps.right),
+        from_utf8(text),
+        from_utf8(gaps.left),
+        from_utf8(gaps.middle),
+        from_utf8(gaps.right),
     ) else {
         return NOT_UTF8;
     };

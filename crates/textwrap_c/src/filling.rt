@@ -11,8 +11,8 @@ ghost use Rattle.textwrap_c.specs.Status.{done, not_utf8, out_of_memory, unknown
 use crate::options::{TextwrapOptions, read_options};
 use crate::room::put;
 use crate::status::{DONE, NOT_UTF8, OUT_OF_MEMORY};
+use simdutf8::basic::from_utf8;
 use std::alloc::Global;
-use std::str;
 use textwrap::{fill, fill_inplace};
 
 /// Writes the filled text to the front of the room, and its length to `len`. Where the room is too
@@ -37,7 +37,7 @@ pub extern "C" fn textwrap_fill(
         Ok(options) => options,
         Err(status) => return status,
     };
-    let Ok(text) = str::from_utf8(text) else {
+    let Ok(text) = from_utf8(text) else {
         return NOT_UTF8;
     };
     match fill(alloc, text, options) {
@@ -72,7 +72,7 @@ fn filled_in_place(alloc: Global, text: &[u8], width: usize) -> Result<String, u
     ensures refused { IfErr result (λ status. ((status ≡ not_utf8) × ¬ IsUtf8 text.now)
         ⊎ ((status ≡ out_of_memory) × IsUtf8 text.now)) }
 {
-    let Ok(text) = str::from_utf8(text) else {
+    let Ok(text) = from_utf8(text) else {
         return Err(NOT_UTF8);
     };
     let Ok(mut filled) = String::from_str(alloc, text) else {

@@ -6,8 +6,8 @@ ghost use Rattle.textwrap_c.specs.Status.{not_utf8, too_small};
 
 use crate::room::put;
 use crate::status::{NOT_UTF8, OUT_OF_MEMORY};
+use simdutf8::basic::from_utf8;
 use std::alloc::Global;
-use std::str;
 use textwrap::{dedent, indent};
 
 /// Writes the text with a prefix before each line, as `textwrap_fill` writes a filled one.
@@ -24,7 +24,7 @@ pub extern "C" fn textwrap_indent(
     ensures not_utf8 { result ≡ not_utf8 ↔ ¬ (IsUtf8 text.now × IsUtf8 prefix.now) }
     ensures statuses { result ≤ too_small }
 {
-    let (Ok(text), Ok(prefix)) = (str::from_utf8(text), str::from_utf8(prefix)) else {
+    let (Ok(text), Ok(prefix)) = (from_utf8(text), from_utf8(prefix)) else {
         return NOT_UTF8;
     };
     match indent(alloc, text, prefix) {
@@ -47,7 +47,7 @@ pub extern "C" fn textwrap_dedent(
     ensures not_utf8 { result ≡ not_utf8 ↔ ¬ IsUtf8 text.now }
     ensures statuses { result ≤ too_small }
 {
-    let Ok(text) = str::from_utf8(text) else {
+    let Ok(text) = from_utf8(text) else {
         return NOT_UTF8;
     };
     match dedent(alloc, text) {

@@ -9,7 +9,7 @@ ghost use Rattle.textwrap_c.specs.Options.{AreTexts};
 ghost use Rattle.textwrap_c.specs.Status.{not_utf8, unknown_options};
 
 use crate::status::{NOT_UTF8, UNKNOWN_OPTIONS};
-use std::str;
+use simdutf8::basic::from_utf8;
 use textwrap::wrap_algorithms::Penalties;
 use textwrap::{LineEnding, Options, WordSplitter, WrapAlgorithm};
 use textwrap_lines::inner::DEFAULTS;
@@ -77,8 +77,8 @@ pub(crate) fn read_options<'a>(given: &TextwrapOptions<'a>) -> Result<Options<'a
         return Err(UNKNOWN_OPTIONS);
     }
     let (Ok(initial_indent), Ok(subsequent_indent)) = (
-        str::from_utf8(given.initial_indent),
-        str::from_utf8(given.subsequent_indent),
+        from_utf8(given.initial_indent),
+        from_utf8(given.subsequent_indent),
     ) else {
         return Err(NOT_UTF8);
     };

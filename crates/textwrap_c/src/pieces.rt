@@ -17,8 +17,8 @@ ghost use Rattle.textwrap_words.specs.Words.{piece, word_view, Tiles};
 use crate::options::{TextwrapOptions, read_built_in_splitter, read_options};
 use crate::room::put;
 use crate::status::{NOT_UTF8, OUT_OF_MEMORY, WRONG_PLACES};
+use simdutf8::basic::from_utf8;
 use std::alloc::{AllocError, Global};
-use std::str;
 use textwrap::Options;
 use textwrap::word_separators::find_words_at;
 use textwrap::word_splitters::WordSplitter;
@@ -66,7 +66,7 @@ pub extern "C" fn textwrap_pieces(
         Ok(options) => options,
         Err(status) => return status,
     };
-    let Ok(paragraph) = str::from_utf8(paragraph) else {
+    let Ok(paragraph) = from_utf8(paragraph) else {
         return NOT_UTF8;
     };
     match placed_pieces(alloc, paragraph, &options, splitter) {
@@ -121,7 +121,7 @@ pub extern "C" fn textwrap_find_words_at(
         → AreOffsets (stripped line.now) offsets.now }
     ensures statuses { (result ≤ too_small) ⊎ (result ≡ wrong_places) }
 {
-    let Ok(line) = str::from_utf8(line) else {
+    let Ok(line) = from_utf8(line) else {
         return NOT_UTF8;
     };
     match words_at(alloc, line, offsets) {
@@ -176,7 +176,7 @@ pub extern "C" fn textwrap_split_points(
     ensures not_utf8 { result ≡ not_utf8 ↔ ¬ IsUtf8 word.now }
     ensures statuses { result ≤ too_small }
 {
-    let Ok(word) = str::from_utf8(word) else {
+    let Ok(word) = from_utf8(word) else {
         return NOT_UTF8;
     };
     match WordSplitter::HyphenSplitter.split_points(alloc, word) {
@@ -201,7 +201,7 @@ pub extern "C" fn textwrap_break_apart(
     ensures not_utf8 { result ≡ not_utf8 ↔ ¬ IsUtf8 word.now }
     ensures statuses { result ≤ too_small }
 {
-    let Ok(word) = str::from_utf8(word) else {
+    let Ok(word) = from_utf8(word) else {
         return NOT_UTF8;
     };
     match broken_apart(alloc, word, line_width) {

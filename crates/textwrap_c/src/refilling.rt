@@ -11,8 +11,8 @@ ghost use Rattle.textwrap_c.specs.Status.{done, not_utf8, too_small, unknown_opt
 use crate::options::{TextwrapOptions, read_options};
 use crate::room::put;
 use crate::status::{DONE, NOT_UTF8, OUT_OF_MEMORY};
+use simdutf8::basic::from_utf8;
 use std::alloc::{AllocError, Allocator, Global};
-use std::str;
 use textwrap::{LineEnding, refill, unfill};
 
 /// Fills a filled text again, with the indents that it has, and writes it as `textwrap_fill` does.
@@ -37,7 +37,7 @@ pub extern "C" fn textwrap_refill(
         Ok(options) => options,
         Err(status) => return status,
     };
-    let Ok(text) = str::from_utf8(text) else {
+    let Ok(text) = from_utf8(text) else {
         return NOT_UTF8;
     };
     match refill(alloc, text, options) {
@@ -77,7 +77,7 @@ pub extern "C" fn textwrap_unfill(
     ensures not_utf8 { result ≡ not_utf8 ↔ ¬ IsUtf8 text.now }
     ensures statuses { result ≤ too_small }
 {
-    let Ok(text) = str::from_utf8(text) else {
+    let Ok(text) = from_utf8(text) else {
         return NOT_UTF8;
     };
     match unfilled_parts(alloc, text) {

@@ -17,8 +17,8 @@ use crate::pieces::{TextwrapPiece, place_words};
 use crate::reported::{TextwrapLine, put_lines};
 use crate::room::put;
 use crate::status::{NOT_UTF8, OUT_OF_MEMORY, UNKNOWN_OPTIONS, WRONG_PLACES};
+use simdutf8::basic::from_utf8;
 use std::alloc::Global;
-use std::str;
 use textwrap::Options;
 use textwrap::words::Word;
 use textwrap_lines::placed::PlacedLines;
@@ -53,7 +53,7 @@ pub extern "C" fn textwrap_pieces_at(
         Ok(options) => options,
         Err(status) => return status,
     };
-    let Ok(paragraph) = str::from_utf8(paragraph) else {
+    let Ok(paragraph) = from_utf8(paragraph) else {
         return NOT_UTF8;
     };
     let found = match find_pieces(alloc, paragraph, cuts, points, &options) {
@@ -135,7 +135,7 @@ pub extern "C" fn textwrap_lines_at(
         Ok(options) => options,
         Err(status) => return status,
     };
-    let Ok(paragraph) = str::from_utf8(paragraph) else {
+    let Ok(paragraph) = from_utf8(paragraph) else {
         return NOT_UTF8;
     };
     let is_later = is_later != 0;

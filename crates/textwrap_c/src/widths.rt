@@ -4,7 +4,7 @@ ghost use Rattle.textwrap.specs.Units.{text_width};
 ghost use Rattle.textwrap_c.specs.Status.{done, not_utf8};
 
 use crate::status::{DONE, NOT_UTF8};
-use std::str;
+use simdutf8::basic::from_utf8;
 use textwrap::words::display_width;
 
 /// Writes the columns of a text, which are 4 for `Café`. It answers `DONE` or `NOT_UTF8`.
@@ -15,7 +15,7 @@ pub extern "C" fn textwrap_display_width(text: &[u8], columns: &mut usize) -> u3
     ensures not_utf8 { result ≢ done → result ≡ not_utf8 }
     ensures kept { result ≢ done → columns.new ≡ columns.old }
 {
-    let Ok(text) = str::from_utf8(text) else {
+    let Ok(text) = from_utf8(text) else {
         return NOT_UTF8;
     };
     *columns = display_width(text);

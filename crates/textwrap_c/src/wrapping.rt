@@ -11,8 +11,8 @@ use crate::options::{TextwrapOptions, read_options};
 pub use crate::reported::TextwrapLine;
 use crate::reported::put_lines;
 use crate::status::{NOT_UTF8, OUT_OF_MEMORY};
+use simdutf8::basic::from_utf8;
 use std::alloc::Global;
-use std::str;
 use textwrap_lines::placed::place_lines;
 
 /// Writes where the lines of the text stand, and how many they are to `count`. A line that is a
@@ -42,7 +42,7 @@ pub extern "C" fn textwrap_wrap(
         Ok(options) => options,
         Err(status) => return status,
     };
-    let Ok(text) = str::from_utf8(text) else {
+    let Ok(text) = from_utf8(text) else {
         return NOT_UTF8;
     };
     let Ok(placed) = place_lines(alloc, text, &options) else {

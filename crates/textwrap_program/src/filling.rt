@@ -9,9 +9,9 @@ ghost use Rattle.textwrap_program.specs.Filling.{fault_line, ReadsAll, FillsTo, 
 ghost use Rattle.textwrap_program.specs.Program.{line_feed, TriesLine};
 
 use crate::arguments::Algorithm;
+use simdutf8::basic::from_utf8;
 use std::alloc::Allocator;
 use std::io::{Read, Write};
-use std::str;
 use textwrap_lines::{Options, fill};
 use textwrap_words::wrap_algorithms::{Penalties, WrapAlgorithm, WrapError};
 
@@ -118,7 +118,7 @@ fn fill_input<A: Allocator + Copy>(
     ensures not_read { IfErr result (λ error. error ≢ RunError.Read) }
     ensures not_write { IfErr result (λ error. error ≢ RunError.Write) }
 {
-    let Ok(text) = str::from_utf8(input) else {
+    let Ok(text) = from_utf8(input) else {
         return Err(RunError::NotUtf8);
     };
     let algorithm = match algorithm {

@@ -1,32 +1,8 @@
 -- Lines between ends.
-use Rattle.textwrap_base.proofs.Common.{◌≡◌, ℕ, suc, ◌-◌, ◌<◌, ◌≤◌, List, [], ◌∷◌, ◌++◌, length, map}
-use Rattle.textwrap_base.proofs.Common.{drop, get_or, refl, sym, ap, ◌∙◌, arith, append_assoc}
-use Rattle.textwrap_base.proofs.Common.{slice_range, IsNonDecreasing, take-map, drop_split, All}
-use Rattle.textwrap_base.proofs.Common.{length-map, subst}
-use Rattle.std.proofs.lemmas.List.{drop-map}
+use Rattle.textwrap_base.proofs.Common.{◌≡◌, ℕ, ◌≤◌, List, length, map, arith, All, length-map, subst}
 use Rattle.textwrap_base.proofs.Lists.Parts.{flat, Begins}
-use Rattle.textwrap_words.specs.LineEnds.{AreEnds, lines_between, lines_from}
-
-lines_from-begin : {X : Type 0} (xs : List X) (start : ℕ) (ends : List ℕ) → IsNonDecreasing ends
-    → ((k : ℕ) → k < length ends → start ≤ get_or ends k 0)
-    → Begins (drop start xs) (flat (lines_from xs start ends))
-lines_from-begin xs start [] in_order before = (drop start xs, refl)
-lines_from-begin xs start (end ∷ ends) in_order before =
-    let (rest, is) = lines_from-begin xs end ends
-    (λ i j d le lt. in_order (suc i) (suc j) d (omega arith) (omega arith))
-    (λ k lt. in_order 0 (suc k) 0 (omega arith) (omega arith)) in (
-      rest,
-      append_assoc (slice_range xs start end) (flat (lines_from xs end ends)) rest
-          ∙ ap (λ l. slice_range xs start end ++ l) is
-          ∙ sym (drop_split xs start end (before 0 (omega arith))),
-    )
-
-lines_from-map : {X Y : Type 0} (f : X → Y) (xs : List X) (start : ℕ) (ends : List ℕ)
-    → map (map f) (lines_from xs start ends) ≡ lines_from (map f xs) start ends
-lines_from-map f xs start [] = refl
-lines_from-map f xs start (end ∷ ends) =
-    rw (drop-map f start xs, take-map f (end - start) (drop start xs))
-    (ap (λ ls. map f (slice_range xs start end) ∷ ls) (lines_from-map f xs end ends))
+use Rattle.textwrap_words.proofs.Word.Divisions.{lines_from-begin, lines_from-map}
+use Rattle.textwrap_words.specs.LineEnds.{AreEnds, lines_between}
 
 -- they are the first elements in order
 pub lines_between-begin : {X : Type 0} (xs : List X) (ends : List ℕ) → AreEnds xs ends

@@ -1,5 +1,5 @@
-//! The steps of [`wrap`](https://docs.rs/textwrap) on one paragraph, over data: pieces at cuts and
-//! points, and lines at ends. Offsets count bytes.
+//! The steps of `textwrap::wrap` on one paragraph, over data: pieces at cuts and points, and lines at
+//! ends. Offsets count bytes.
 ghost use Rattle.std.specs.Prelude.{◌≡◌, ◌↔◌, IfOk, map, true};
 ghost use Rattle.textwrap_words.specs.Cuts.{AreCuts, AreInnerCuts, parts_between};
 ghost use Rattle.textwrap_words.specs.LineEnds.{AreEnds, lines_between};

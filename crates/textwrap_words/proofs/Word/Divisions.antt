@@ -18,7 +18,8 @@ use Rattle.textwrap_words.specs.declared.wrap_algorithms.line_ends.LineEnds.{Lin
 use Rattle.textwrap_base.proofs.Division.Map.{IsDividedBy-map, IsDividedBy-whole, IsDividedBy-some}
 use Rattle.textwrap_base.proofs.Lists.Parts.{flat, Begins}
 
-lines_from-begin : {X : Type 0} (xs : List X) (start : ℕ) (ends : List ℕ) → IsNonDecreasing ends
+-- up to an end, the lines are the first elements from a place on
+pub lines_from-begin : {X : Type 0} (xs : List X) (start : ℕ) (ends : List ℕ) → IsNonDecreasing ends
     → ((k : ℕ) → k < length ends → start ≤ get_or ends k 0)
     → Begins (drop start xs) (flat (lines_from xs start ends))
 lines_from-begin xs start [] in_order before = (drop start xs, refl)
@@ -32,7 +33,7 @@ lines_from-begin xs start (end ∷ ends) in_order before =
           ∙ sym (drop_split xs start end (before 0 (omega arith))),
     )
 
-lines_from-map : {X Y : Type 0} (f : X → Y) (xs : List X) (start : ℕ) (ends : List ℕ)
+pub lines_from-map : {X Y : Type 0} (f : X → Y) (xs : List X) (start : ℕ) (ends : List ℕ)
     → map (map f) (lines_from xs start ends) ≡ lines_from (map f xs) start ends
 lines_from-map f xs start [] = refl
 lines_from-map f xs start (end ∷ ends) =

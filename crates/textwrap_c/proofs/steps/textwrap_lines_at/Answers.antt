@@ -15,7 +15,7 @@ returns-in-Ok-find_lines-clause-lines c =
     let built = c.in-Ok-find_lines.placed.built.items in
     let found = c.in-Ok-find_lines.ensures in
     let here = subst (λ text. AreStepLines (settings_view c.in-Ok.options) cuts points ends later
-    text places built) c.in-Ok-from_utf8.ensures.cases.0 (record {
+    text places built) c.in-Ok-from_utf8.ensures.0 (record {
       placed = found.placed;
       tile = found.tiles;
       ends_are = found.steps.ends_are;

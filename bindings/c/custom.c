@@ -268,6 +268,7 @@ textwrap_status textwrap_wrap_by(const uint8_t *text, size_t text_len,
                                  size_t *len) {
     work w;
     memset(&w, 0, sizeof w);
+    if (text_len == 0) text = (const uint8_t *)"";
     w.options = options;
     w.functions = functions;
     textwrap_status status = begin(&w);
@@ -282,7 +283,7 @@ textwrap_status textwrap_wrap_by(const uint8_t *text, size_t text_len,
     }
     if (status == TEXTWRAP_DONE) {
         memcpy(lines, w.lines, w.lines_len * sizeof *lines);
-        memcpy(room, w.built, w.built_len);
+        if (w.built_len > 0) memcpy(room, w.built, w.built_len);
     }
     end(&w);
     return status;

@@ -435,6 +435,50 @@ static void bounds_are_enough(void) {
     CHECK(len == 6 && memcmp(room, " >  > ", 6) == 0);
 }
 
+/* Of arrays of length 0 a null pointer does for each argument of each call. */
+static void a_pointer_to_nothing_may_be_null(void) {
+    textwrap_options o = textwrap_options_new(10);
+    o.initial_indent.at = NULL;
+    o.subsequent_indent.at = NULL;
+    const textwrap_gaps gaps = {{NULL, 0}, {NULL, 0}, {NULL, 0}};
+    const textwrap_penalties penalties = textwrap_penalties_new();
+    const textwrap_functions functions = {NULL, NULL, NULL, NULL};
+    textwrap_layout layout;
+    textwrap_line line[1];
+    uint8_t room[10];
+    size_t count = 9, len = 9, end[1];
+    CHECK(textwrap_display_width(NULL, 0, &count) == TEXTWRAP_DONE && count == 0);
+    CHECK(textwrap_fill(NULL, 0, &o, NULL, 0, &len) == TEXTWRAP_DONE && len == 0);
+    CHECK(textwrap_fill(bytes("foo"), 3, &o, NULL, 0, &len) == TEXTWRAP_TOO_SMALL && len == 3);
+    CHECK(textwrap_fill_bound(3, &o) == 6);
+    CHECK(textwrap_wrap(NULL, 0, &o, line, 1, &count, NULL, 0, &len) == TEXTWRAP_DONE && count == 1);
+    CHECK(textwrap_wrap(NULL, 0, &o, NULL, 0, &count, NULL, 0, &len) == TEXTWRAP_TOO_SMALL);
+    CHECK(textwrap_wrap_room_bound(3, &o) == 0);
+    CHECK(textwrap_wrap_by(NULL, 0, &o, &functions, line, 1, &count, NULL, 0, &len) == TEXTWRAP_DONE);
+    CHECK(count == 1 && line[0].offset == 0 && line[0].len == 0);
+    CHECK(textwrap_wrap_columns(NULL, 0, 1, &o, &gaps, line, 1, &count, room, 10, &len)
+          == TEXTWRAP_DONE);
+    CHECK(count == 1 && len == 10);
+    CHECK(textwrap_wrap_columns(NULL, 0, 1, &o, &gaps, NULL, 0, &count, NULL, 0, &len)
+          == TEXTWRAP_TOO_SMALL);
+    CHECK(textwrap_wrap_columns_room_bound(0, 1, &o, &gaps) == 10);
+    CHECK(textwrap_refill(NULL, 0, &o, NULL, 0, &len) == TEXTWRAP_DONE && len == 0);
+    CHECK(textwrap_unfill(NULL, 0, NULL, 0, &len, &layout) == TEXTWRAP_DONE && len == 0);
+    CHECK(textwrap_indent(NULL, 0, NULL, 0, NULL, 0, &len) == TEXTWRAP_DONE && len == 0);
+    CHECK(textwrap_dedent(NULL, 0, NULL, 0, &len) == TEXTWRAP_DONE && len == 0);
+    CHECK(textwrap_fill_inplace(NULL, 0, 10) == TEXTWRAP_DONE);
+    CHECK(textwrap_wrap_first_fit(NULL, 0, NULL, 0, end, 1, &count) == TEXTWRAP_DONE && count == 1);
+    CHECK(textwrap_wrap_first_fit(NULL, 0, NULL, 0, NULL, 0, &count) == TEXTWRAP_TOO_SMALL);
+    CHECK(textwrap_wrap_optimal_fit(NULL, 0, NULL, 0, &penalties, end, 1, &count) == TEXTWRAP_DONE);
+    CHECK(textwrap_pieces(NULL, 0, &o, NULL, 0, &count) == TEXTWRAP_DONE && count == 0);
+    CHECK(textwrap_find_words_at(NULL, 0, NULL, 0, NULL, 0, &count) == TEXTWRAP_DONE);
+    CHECK(textwrap_split_points(NULL, 0, NULL, 0, &count) == TEXTWRAP_DONE && count == 0);
+    CHECK(textwrap_break_apart(NULL, 0, 1, NULL, 0, &count) == TEXTWRAP_DONE);
+    CHECK(textwrap_pieces_at(NULL, 0, NULL, 0, NULL, 0, &o, NULL, 0, &count) == TEXTWRAP_DONE);
+    CHECK(textwrap_lines_at(NULL, 0, NULL, 0, NULL, 0, NULL, 0, &o, 0, line, 1, &count, NULL, 0, &len)
+          == TEXTWRAP_DONE);
+}
+
 static void statuses_have_words(void) {
     for (int status = TEXTWRAP_DONE; status <= TEXTWRAP_WRONG_PLACES; status++)
         for (int other = TEXTWRAP_DONE; other <= TEXTWRAP_WRONG_PLACES + 1; other++)
@@ -444,6 +488,7 @@ static void statuses_have_words(void) {
 
 int main(void) {
     CHECK(textwrap_library_version() == TEXTWRAP_LIBRARY_VERSION);
+    a_pointer_to_nothing_may_be_null();
     statuses_have_words();
     each_option_has_its_effect();
     options_without_a_meaning_are_refused();

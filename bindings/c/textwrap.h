@@ -3,9 +3,10 @@
  * The library is libtextwrap_c.a, written in Rattle and proved. This header is written by hand; the
  * tests beside it use each declaration once.
  *
- * A text is a pointer and a length in bytes, in UTF-8. A pointer is never null, also where the length
- * is 0, and is aligned as its type asks. What a call gives is written into room that the caller hands
- * in and owns; the library keeps no pointer and leaves nothing allocated behind. The room may be
+ * A text is a pointer and a length in bytes, in UTF-8. A pointer is aligned as its type asks, and is
+ * not null, but for that of an array of length 0. (null.c sees to these. A program that links the bare
+ * archive without it hands in no null pointer.) What a call gives is written into room that the caller
+ * hands in and owns; the library keeps no pointer and leaves nothing allocated behind. The room may be
  * uninitialised. It overlaps nothing else that is handed to the same call, and `count` and `len` are
  * two places. A call that does not return TEXTWRAP_DONE leaves the room as it was. If that is too
  * small, TEXTWRAP_TOO_SMALL reports the length that suffices, for a second call.
@@ -72,7 +73,7 @@ static inline const char *textwrap_status_text(textwrap_status status) {
 
 /* A text. */
 typedef struct {
-    const uint8_t *at; /* never null */
+    const uint8_t *at; /* null only if it has no bytes */
     size_t len;        /* in bytes */
 } textwrap_text;
 
@@ -143,8 +144,8 @@ typedef struct {
 /* Writes where the lines of the text stand, and how many they are. A part of the text is reported at
  * the place that it was cut from, so an empty line at its own paragraph. Lines with an indent are
  * written to the room, one after another, and `len` is that of all of them; without indents no room
- * is needed. TOO_SMALL reports both `count` and `len`: a first call may bring no lines and no room
- * (pointers that are not null, and lengths 0), and a second one what the first has reported. */
+ * is needed. TOO_SMALL reports both `count` and `len`: a first call may bring no lines and no room,
+ * and a second one what the first has reported. */
 TEXTWRAP_CHECKED
 textwrap_status textwrap_wrap(const uint8_t *text, size_t text_len, const textwrap_options *options,
                               textwrap_line *lines, size_t lines_len, size_t *count, uint8_t *room,

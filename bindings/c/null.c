@@ -1,0 +1,188 @@
+/* The calls of textwrap.h that are handed arrays, for a caller whose pointer to nothing is null. Each is
+ * the proved call of the archive, which wants a pointer that is not; the Makefile gives that call the
+ * name that it has here. */
+#include "textwrap.h"
+
+#define PROVED(name) extern __typeof__(textwrap_##name) proved_##name
+PROVED(display_width);
+PROVED(fill);
+PROVED(fill_bound);
+PROVED(fill_inplace);
+PROVED(wrap);
+PROVED(wrap_room_bound);
+PROVED(wrap_columns);
+PROVED(wrap_columns_room_bound);
+PROVED(refill);
+PROVED(unfill);
+PROVED(indent);
+PROVED(dedent);
+PROVED(wrap_first_fit);
+PROVED(wrap_optimal_fit);
+PROVED(pieces);
+PROVED(find_words_at);
+PROVED(split_points);
+PROVED(break_apart);
+PROVED(pieces_at);
+PROVED(lines_at);
+
+/* Where an array of length 0 may lie, whatever it is of. Nothing is read here or written. */
+static union {
+    textwrap_line line;
+    textwrap_piece piece;
+    textwrap_fragment fragment;
+} nothing;
+
+/* The pointer and the length of an array, as the archive wants them. */
+#define ARRAY(at, len) ((len) == 0 ? (void *)&nothing : (at)), (len)
+
+static textwrap_text some_text(textwrap_text text) {
+    if (text.len == 0) text.at = (const uint8_t *)&nothing;
+    return text;
+}
+
+/* The options, with indents that are not null. */
+static textwrap_options some_options(const textwrap_options *options) {
+    textwrap_options some = *options;
+    some.initial_indent = some_text(options->initial_indent);
+    some.subsequent_indent = some_text(options->subsequent_indent);
+    return some;
+}
+
+static textwrap_gaps some_gaps(const textwrap_gaps *gaps) {
+    textwrap_gaps some = {some_text(gaps->left), some_text(gaps->middle), some_text(gaps->right)};
+    return some;
+}
+
+textwrap_status textwrap_display_width(const uint8_t *text, size_t text_len, size_t *columns) {
+    return proved_display_width(ARRAY(text, text_len), columns);
+}
+
+textwrap_status textwrap_fill(const uint8_t *text, size_t text_len, const textwrap_options *options,
+                              uint8_t *room, size_t room_len, size_t *len) {
+    textwrap_options some = some_options(options);
+    return proved_fill(ARRAY(text, text_len), &some, ARRAY(room, room_len), len);
+}
+
+size_t textwrap_fill_bound(size_t text_len, const textwrap_options *options) {
+    textwrap_options some = some_options(options);
+    return proved_fill_bound(text_len, &some);
+}
+
+textwrap_status textwrap_fill_inplace(uint8_t *text, size_t text_len, size_t width) {
+    return proved_fill_inplace(ARRAY(text, text_len), width);
+}
+
+textwrap_status textwrap_wrap(const uint8_t *text, size_t text_len, const textwrap_options *options,
+                              textwrap_line *lines, size_t lines_len, size_t *count, uint8_t *room,
+                              size_t room_len, size_t *len) {
+    textwrap_options some = some_options(options);
+    return proved_wrap(ARRAY(text, text_len), &some, ARRAY(lines, lines_len), count,
+                       ARRAY(room, room_len), len);
+}
+
+size_t textwrap_wrap_room_bound(size_t text_len, const textwrap_options *options) {
+    textwrap_options some = some_options(options);
+    return proved_wrap_room_bound(text_len, &some);
+}
+
+textwrap_status textwrap_wrap_columns(const uint8_t *text, size_t text_len, size_t columns,
+                                      const textwrap_options *options, const textwrap_gaps *gaps,
+                                      textwrap_line *rows, size_t rows_len, size_t *count,
+                                      uint8_t *room, size_t room_len, size_t *len) {
+    textwrap_options some = some_options(options);
+    textwrap_gaps around = some_gaps(gaps);
+    return proved_wrap_columns(ARRAY(text, text_len), columns, &some, &around, ARRAY(rows, rows_len),
+                               count, ARRAY(room, room_len), len);
+}
+
+size_t textwrap_wrap_columns_room_bound(size_t text_len, size_t columns,
+                                        const textwrap_options *options,
+                                        const textwrap_gaps *gaps) {
+    textwrap_options some = some_options(options);
+    textwrap_gaps around = some_gaps(gaps);
+    return proved_wrap_columns_room_bound(text_len, columns, &some, &around);
+}
+
+textwrap_status textwrap_refill(const uint8_t *text, size_t text_len,
+                                const textwrap_options *options, uint8_t *room, size_t room_len,
+                                size_t *len) {
+    textwrap_options some = some_options(options);
+    return proved_refill(ARRAY(text, text_len), &some, ARRAY(room, room_len), len);
+}
+
+textwrap_status textwrap_unfill(const uint8_t *text, size_t text_len, uint8_t *room,
+                                size_t room_len, size_t *len, textwrap_layout *layout) {
+    return proved_unfill(ARRAY(text, text_len), ARRAY(room, room_len), len, layout);
+}
+
+textwrap_status textwrap_indent(const uint8_t *text, size_t text_len, const uint8_t *prefix,
+                                size_t prefix_len, uint8_t *room, size_t room_len, size_t *len) {
+    return proved_indent(ARRAY(text, text_len), ARRAY(prefix, prefix_len), ARRAY(room, room_len),
+                         len);
+}
+
+textwrap_status textwrap_dedent(const uint8_t *text, size_t text_len, uint8_t *room,
+                                size_t room_len, size_t *len) {
+    return proved_dedent(ARRAY(text, text_len), ARRAY(room, room_len), len);
+}
+
+textwrap_status textwrap_wrap_first_fit(const textwrap_fragment *fragments, size_t fragments_len,
+                                        const size_t *line_widths, size_t line_widths_len,
+                                        size_t *ends, size_t ends_len, size_t *count) {
+    return proved_wrap_first_fit(ARRAY(fragments, fragments_len), ARRAY(line_widths, line_widths_len),
+                                 ARRAY(ends, ends_len), count);
+}
+
+textwrap_status textwrap_wrap_optimal_fit(const textwrap_fragment *fragments, size_t fragments_len,
+                                          const size_t *line_widths, size_t line_widths_len,
+                                          const textwrap_penalties *penalties, size_t *ends,
+                                          size_t ends_len, size_t *count) {
+    return proved_wrap_optimal_fit(ARRAY(fragments, fragments_len),
+                                   ARRAY(line_widths, line_widths_len), penalties,
+                                   ARRAY(ends, ends_len), count);
+}
+
+textwrap_status textwrap_pieces(const uint8_t *paragraph, size_t paragraph_len,
+                                const textwrap_options *options, textwrap_piece *pieces,
+                                size_t pieces_len, size_t *count) {
+    textwrap_options some = some_options(options);
+    return proved_pieces(ARRAY(paragraph, paragraph_len), &some, ARRAY(pieces, pieces_len), count);
+}
+
+textwrap_status textwrap_find_words_at(const uint8_t *line, size_t line_len, const size_t *offsets,
+                                       size_t offsets_len, textwrap_piece *words, size_t words_len,
+                                       size_t *count) {
+    return proved_find_words_at(ARRAY(line, line_len), ARRAY(offsets, offsets_len),
+                                ARRAY(words, words_len), count);
+}
+
+textwrap_status textwrap_split_points(const uint8_t *word, size_t word_len, size_t *points,
+                                      size_t points_len, size_t *count) {
+    return proved_split_points(ARRAY(word, word_len), ARRAY(points, points_len), count);
+}
+
+textwrap_status textwrap_break_apart(const uint8_t *word, size_t word_len, size_t line_width,
+                                     textwrap_piece *pieces, size_t pieces_len, size_t *count) {
+    return proved_break_apart(ARRAY(word, word_len), line_width, ARRAY(pieces, pieces_len), count);
+}
+
+textwrap_status textwrap_pieces_at(const uint8_t *paragraph, size_t paragraph_len,
+                                   const size_t *cuts, size_t cuts_len, const size_t *points,
+                                   size_t points_len, const textwrap_options *options,
+                                   textwrap_piece *pieces, size_t pieces_len, size_t *count) {
+    textwrap_options some = some_options(options);
+    return proved_pieces_at(ARRAY(paragraph, paragraph_len), ARRAY(cuts, cuts_len),
+                            ARRAY(points, points_len), &some, ARRAY(pieces, pieces_len), count);
+}
+
+textwrap_status textwrap_lines_at(const uint8_t *paragraph, size_t paragraph_len, const size_t *cuts,
+                                  size_t cuts_len, const size_t *points, size_t points_len,
+                                  const size_t *ends, size_t ends_len,
+                                  const textwrap_options *options, size_t is_later,
+                                  textwrap_line *lines, size_t lines_len, size_t *count,
+                                  uint8_t *room, size_t room_len, size_t *len) {
+    textwrap_options some = some_options(options);
+    return proved_lines_at(ARRAY(paragraph, paragraph_len), ARRAY(cuts, cuts_len),
+                           ARRAY(points, points_len), ARRAY(ends, ends_len), &some, is_later,
+                           ARRAY(lines, lines_len), count, ARRAY(room, room_len), len);
+}

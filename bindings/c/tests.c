@@ -451,6 +451,7 @@ static void a_pointer_to_nothing_may_be_null(void) {
     CHECK(textwrap_fill(NULL, 0, &o, NULL, 0, &len) == TEXTWRAP_DONE && len == 0);
     CHECK(textwrap_fill(bytes("foo"), 3, &o, NULL, 0, &len) == TEXTWRAP_TOO_SMALL && len == 3);
     CHECK(textwrap_fill_bound(3, &o) == 6);
+    CHECK(textwrap_refill_bound(3, &o) == 18);
     CHECK(textwrap_wrap(NULL, 0, &o, line, 1, &count, NULL, 0, &len) == TEXTWRAP_DONE && count == 1);
     CHECK(textwrap_wrap(NULL, 0, &o, NULL, 0, &count, NULL, 0, &len) == TEXTWRAP_TOO_SMALL);
     CHECK(textwrap_wrap_room_bound(3, &o) == 0);

@@ -349,6 +349,11 @@ textwrap_status textwrap_wrap_by(const uint8_t *text, size_t text_len,
 TEXTWRAP_CHECKED
 size_t textwrap_fill_bound(size_t text_len, const textwrap_options *options);
 
+/* How many bytes textwrap_refill writes at most. The indents of a text may be long, so this grows with
+ * the square of its length, and two calls are cheaper for a long text. */
+TEXTWRAP_CHECKED
+size_t textwrap_refill_bound(size_t text_len, const textwrap_options *options);
+
 /* How many lines textwrap_wrap reports at most: one more than the text has bytes. */
 TEXTWRAP_CHECKED
 size_t textwrap_wrap_lines_bound(size_t text_len);

@@ -8,6 +8,7 @@ pub mod Limit
 pub mod Lines
 pub mod Paragraphs
 pub mod Pieces
+pub mod Refilled
 pub mod Room
 pub mod Rows
 pub mod Sums

@@ -4,9 +4,10 @@ ghost use Rattle.std.specs.Prelude.{◌≡◌, ◌≤◌, ◌+◌, ◌-◌, ◌*
 ghost use Rattle.textwrap.specs.Filling.{IsFilled};
 ghost use Rattle.textwrap.specs.Paragraph.{DividesAs};
 ghost use Rattle.textwrap.specs.Indentation.{dedented, indented};
+ghost use Rattle.textwrap.specs.Refilling.{IsRefilled};
 ghost use Rattle.textwrap_c.specs.Bounds.{ForLinesOf, ForTextsOf, HoldsEach, Suffices, capped};
 ghost use Rattle.textwrap_c.specs.Bounds.{ForRowsOf, columns_room_bound, fill_bound, indent_bound};
-ghost use Rattle.textwrap_c.specs.Bounds.{rows_bound, wrap_room_bound};
+ghost use Rattle.textwrap_c.specs.Bounds.{refill_bound, rows_bound, wrap_room_bound};
 ghost use Rattle.textwrap_c.specs.Options.{settings_of, splitter_of, algorithm_of};
 ghost use Rattle.textwrap_c.specs.Refilling.{unfilled_parts};
 ghost use Rattle.textwrap_c.specs.declared.columns.TextwrapGaps.{TextwrapGaps};
@@ -31,6 +32,20 @@ pub extern "C" fn textwrap_fill_bound(text_len: usize, options: &TextwrapOptions
     text_len
         .saturating_mul(line)
         .saturating_add(options.initial_indent.len())
+}
+
+/// How many bytes `textwrap_refill` writes at most for a text of so many bytes: 40 for a text of 5. It
+/// grows with the square of the length, as an indent of the text may be half of it, and stand before
+/// each byte of the other half. So two calls are cheaper for a long text.
+#[unsafe(no_mangle)]
+pub extern "C" fn textwrap_refill_bound(text_len: usize, options: &TextwrapOptions<'_>) -> usize
+    ensures value { result ≡ capped (refill_bound (settings_of options.now) text_len) }
+    ensures enough { ForTextsOf text_len (λ text. HoldsEach (IsRefilled (settings_of options.now)
+        (DividesAs (splitter_of options.now) (algorithm_of options.now)) text) result) }
+{
+    // The ending before each byte, the byte, and one of the initial indent; the rest is the later one.
+    let beside_indent: usize = if options.crlf == 0 { 3 } else { 4 };
+    text_len.saturating_mul(text_len.saturating_add(beside_indent))
 }
 
 /// How many lines `textwrap_wrap` reports at most of a text of so many bytes, under any options: one
@@ -62,7 +77,7 @@ pub extern "C" fn textwrap_wrap_room_bound(text_len: usize, options: &TextwrapOp
 /// 4 of 7 in 2. No columns have no rows.
 #[unsafe(no_mangle)]
 pub extern "C" fn textwrap_wrap_columns_rows_bound(text_len: usize, columns: usize) -> usize
-    ensures value { 1 ≤ columns → result ≡ capped (rows_bound text_len columns) }
+    ensures value { result ≡ capped (rows_bound text_len columns) }
     ensures enough { 1 ≤ columns → (options : TextwrapOptions) (gaps : TextwrapGaps)
         → ForTextsOf text_len (λ text. ForRowsOf options gaps columns text
         (λ rows. Suffices result (length rows))) }
@@ -82,8 +97,7 @@ pub extern "C" fn textwrap_wrap_columns_room_bound(
     options: &TextwrapOptions<'_>,
     gaps: &TextwrapGaps<'_>,
 ) -> usize
-    ensures value { 1 ≤ columns → result ≡ capped (columns_room_bound options.now gaps.now text_len
-        columns) }
+    ensures value { result ≡ capped (columns_room_bound options.now gaps.now text_len columns) }
     ensures enough { 1 ≤ columns → ForTextsOf text_len (λ text. ForRowsOf options.now gaps.now
         columns text (λ rows. Suffices result (length (built_text rows)))) }
 {

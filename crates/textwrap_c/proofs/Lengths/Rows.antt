@@ -1,6 +1,6 @@
 -- How many rows a text in columns has at most, and how long they are together.
 use Rattle.textwrap_base.proofs.Common.{◌≡◌, ℕ, ◌+◌, ◌-◌, ◌*◌, ◌/◌, ◌<◌, ◌≤◌, max, List, [], ◌∷◌}
-use Rattle.textwrap_base.proofs.Common.{length, map, refl, ap, subst, arith, IsUtf8}
+use Rattle.textwrap_base.proofs.Common.{nat_tests, length, map, refl, ap, subst, arith, IsUtf8}
 use Rattle.textwrap_base.proofs.Common.{sum_by-cons, length-append}
 use Rattle.textwrap_base.proofs.Common.{cases_lt, inl, inr, length-map, range_with_len}
 use Rattle.std.specs.Int.{div_ceil}
@@ -24,6 +24,9 @@ use Rattle.textwrap_c.proofs.Lengths.Bytes.{AreBounded, lines-bounded}
 
 -- ---- how many rows there are, and how wide
 
+rows_bound-some : (len columns : ℕ) → 1 ≤ columns → rows_bound len columns ≡ len / columns + 1
+rows_bound-some len columns some = grind (arith, nat_tests)
+
 rows-count : (lines len columns : ℕ) → 1 ≤ columns → lines ≤ len + 1
     → div_ceil lines columns ≤ rows_bound len columns
 rows-count lines len columns some within =
@@ -33,7 +36,7 @@ rows-count lines len columns some within =
     let next : (len / columns + 2) * columns ≡ (len / columns + 1) * columns + columns = omega arith in
     let less : div_ceil lines columns * columns < (len / columns + 2) * columns =
     omega (arith, past, most, swap, next, within) in
-    omega (arith, lt_of_mul-lt-mul_right columns less)
+    omega (arith, lt_of_mul-lt-mul_right columns less, rows_bound-some len columns some)
 
 inner-room : (inner columns : ℕ)
     → columns * column_width inner columns + (inner - columns * column_width inner columns)

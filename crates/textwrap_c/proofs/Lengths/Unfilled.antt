@@ -6,6 +6,7 @@ use Rattle.textwrap_base.proofs.Common.{length-append, lines, last, ends_with, n
 use Rattle.textwrap_base.proofs.Common.{starts_with_length}
 use Rattle.std.specs.Prelude.{is_some, slice_index_or}
 use Rattle.textwrap_base.proofs.Common.{◌&&◌, take, take-append-drop, cases_Bool, inl, inr}
+use Rattle.std.proofs.lemmas.Nat.{mul-le}
 use Rattle.std.proofs.lemmas.Slice.Eq.{bytes_eq-Decides}
 use Rattle.textwrap_lines.proofs.Paragraph.WordsApart.{last-append}
 use Rattle.textwrap_lines.proofs.Text.Endings.{ending_bytes-some}
@@ -45,15 +46,15 @@ ending-length : (ending : LineEnding) → length (ending_bytes ending) ≤ 2
 ending-length LF = omega arith
 ending-length CRLF = omega arith
 
-added-length : (text : List ℕ) (detects : Bool) (ending : LineEnding)
-    → length (added_ending (detects && ends_with nat_eq text (ending_bytes ending)) ending)
-    ≤ 2 * final_feed text
-added-length text false ending = omega arith
-added-length text true ending =
+-- an ending is added only to a text that ends in a line feed
+pub added-length : (text : List ℕ) (detects : Bool) (ending other : LineEnding)
+    → length (added_ending (detects && ends_with nat_eq text (ending_bytes ending)) other)
+    ≤ length (ending_bytes other) * final_feed text
+added-length text false ending other = omega arith
+added-length text true ending other =
     elim (cases_Bool (ends_with nat_eq text (ending_bytes ending))) [
-      | inl ends ↦ rw ends
-          (omega (arith, ends_with-feed text ending ends, ending-length ending))
-      | inr other ↦ rw other (omega arith)
+      | inl ends ↦ rw (ends, ends_with-feed text ending ends) (omega arith)
+      | inr differs ↦ rw differs (omega arith)
     ]
 
 -- ---- its indents
@@ -61,7 +62,7 @@ added-length text true ending =
 prefix-length : (line : List ℕ) → length (line_prefix line) ≤ length line
 prefix-length line = starts_with_length line (line_prefix line) (line_prefix-begins line)
 
-indents-length : (ls : List (List ℕ))
+pub indents-length : (ls : List (List ℕ))
     → length (line_prefix (slice_index_or ls 0 []))
     + length (common_prefix (map line_prefix (drop 1 ls))) ≤ ended_length ls - 1
 indents-length [] = omega arith
@@ -86,11 +87,15 @@ unfilled-length : (text : List ℕ) → length (unfilled_parts text) ≤ 2 * len
 unfilled-length text =
     let initial = unfilled_initial text in
     let subsequent = unfilled_subsequent text in
-    let added = added_ending (keeps_ending text) (unfilled_ending text) in
+    let ending = unfilled_ending text in
+    let added = added_ending (keeps_ending text) ending in
+    let short = mul-le (length (ending_bytes ending)) (final_feed text) 2 (final_feed text)
+    (ending-length ending) (omega arith) in
     omega (
       arith,
       joined-length text,
-      added-length text (is_some (detected_ending text)) (unfilled_ending text),
+      added-length text (is_some (detected_ending text)) ending ending,
+      short,
       indents-length (lines text),
       lines-length text,
       feed-within text,

@@ -1,15 +1,15 @@
 //! The bounds of answers: each is enough, and some answers are as long.
 use super::{DEFAULTS, HAMLET, NOWHERE, at};
 use crate::bounds::{
-    textwrap_dedent_bound, textwrap_fill_bound, textwrap_indent_bound, textwrap_unfill_bound,
-    textwrap_wrap_columns_room_bound, textwrap_wrap_columns_rows_bound, textwrap_wrap_lines_bound,
-    textwrap_wrap_room_bound,
+    textwrap_dedent_bound, textwrap_fill_bound, textwrap_indent_bound, textwrap_refill_bound,
+    textwrap_unfill_bound, textwrap_wrap_columns_room_bound, textwrap_wrap_columns_rows_bound,
+    textwrap_wrap_lines_bound, textwrap_wrap_room_bound,
 };
 use crate::columns::{TextwrapGaps, textwrap_wrap_columns};
 use crate::filling::textwrap_fill;
 use crate::indentation::{textwrap_dedent, textwrap_indent};
 use crate::options::TextwrapOptions;
-use crate::refilling::{TextwrapLayout, textwrap_unfill};
+use crate::refilling::{TextwrapLayout, textwrap_refill, textwrap_unfill};
 use crate::status::DONE;
 use crate::wrapping::textwrap_wrap;
 
@@ -41,6 +41,30 @@ fn a_filled_text_is_no_longer_than_its_bound(rt: HostRuntime) {
         let mut len = 0;
         let status = textwrap_fill(rt.alloc(), text, &options, &mut room[..bound], &mut len);
         assert_eq!(rt; (status, len), (DONE, filled));
+    }
+}
+
+/// Options and a text; how long the refilled text is, and its bound.
+const REFILLED: &[(TextwrapOptions<'_>, &[u8], usize, usize)] = &[
+    (DEFAULTS, b"", 0, 0),
+    (DEFAULTS, b"ab\n", 3, 18),
+    (NARROW, b"a\n>>>>bcd", 19, 108),
+    (
+        TextwrapOptions { crlf: 1, ..NARROW },
+        b"a\n>>>>bcd\n",
+        24,
+        140,
+    ),
+];
+
+#[test]
+fn a_refilled_text_is_no_longer_than_its_bound(rt: HostRuntime) {
+    for &(options, text, refilled, bound) in REFILLED {
+        assert_eq!(rt; textwrap_refill_bound(text.len(), &options), bound);
+        let mut room = [b'.'; 160];
+        let mut len = 0;
+        let status = textwrap_refill(rt.alloc(), text, &options, &mut room[..bound], &mut len);
+        assert_eq!(rt; (status, len), (DONE, refilled));
     }
 }
 

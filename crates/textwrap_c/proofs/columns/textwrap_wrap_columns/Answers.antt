@@ -15,10 +15,10 @@ returns-clause-columns c =
     let are = c.in-Ok-wrap_columns.ensures.built_in (settings_of given) (splitter_of given)
     (algorithm_of given) c.in-Ok.ensures.parts in
     let here = rw (
-      texts.ensures.cases.0,
-      texts.ensures'.cases.0,
-      texts.ensures''.cases.0,
-      texts.ensures'''.cases.0,
+      texts.ensures.0,
+      texts.ensures'.0,
+      texts.ensures''.0,
+      texts.ensures'''.0,
     ) at are in
     WritesLines-reported _ _ lines _ _ _ _ _ _ _ _ _ _ _ (rows, here, refl) shows.built_is shows.shown
     c.put_lines.ensures.statuses c.put_lines.ensures.lines

@@ -1,1 +1,2 @@
+pub mod Hyphens
 pub mod Tables

@@ -1,11 +1,13 @@
 //! Callers of `textwrap`, with contracts that rest on the library's. They show how the library is
-//! called, and that its contracts suffice: none of them names a crate below it.
+//! called, and that its contracts suffice: but for `hyphens`, which stands between its steps, none of
+//! them names a crate below it.
 #![tactic(auto)]
 
 pub mod checking;
 pub mod comments;
 pub mod gallery;
 pub mod help;
+pub mod hyphens;
 pub mod lists;
 pub mod mail;
 pub mod notes;

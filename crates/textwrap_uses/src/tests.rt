@@ -2,6 +2,7 @@ use crate::checking::{is_filled, line_count};
 use crate::comments::{common_mark, rewrapped};
 use crate::gallery::{Picture, few_rows, hung_rows};
 use crate::help::help_entry;
+use crate::hyphens::{Entry, HyphenError, hyphenated_lines};
 use crate::lists::listed_lines;
 use crate::mail::{filled_anew, quote, quoted_as_it_is, sent_lines};
 use crate::notes::fill_note;
@@ -9,9 +10,11 @@ use crate::paths::path_lines;
 use crate::scripts::script;
 use crate::sentences::sentence_lines;
 use crate::tables::barred_rows;
+use std::alloc::Global;
 use std::borrow::CowStr;
 use std::test::Fail;
 use textwrap::Options;
+use textwrap_lines::placed::{Place, PlacedLines};
 
 /// Whether the lines have these texts, each line a part of the text that was wrapped.
 fn are_borrowed(lines: &[CowStr<'_>], expected: &[&str]) -> bool {
@@ -189,5 +192,121 @@ fn rows_stand_between_bars(rt: HostRuntime) -> Result<(), Fail> {
         "| three |       |",
     ];
     assert!(rt; texts.eq(expected.iter().copied()), "{rows:?}");
+    Ok(())
+}
+
+/// Whether a line of the paragraph that stands at this place has this text.
+fn is_line(paragraph: &str, placed: &PlacedLines<Global>, place: &Place, expected: &str) -> bool {
+    let source = if place.is_built {
+        placed.built.as_slice()
+    } else {
+        paragraph.as_bytes()
+    };
+    let Some(rest) = source.get(place.offset..) else {
+        return false;
+    };
+    rest.get(..place.len) == Some(expected.as_bytes())
+}
+
+/// Whether the lines of a paragraph have these texts.
+fn are_lines(paragraph: &str, placed: &PlacedLines<Global>, expected: &[&str]) -> bool {
+    for (place, expected) in placed.places.iter().zip(expected) {
+        if !is_line(paragraph, placed, place, expected) {
+            return false;
+        }
+    }
+    placed.places.len() == expected.len()
+}
+
+#[test]
+fn words_are_hyphenated_by_a_dictionary(rt: HostRuntime) -> Result<(), Fail> {
+    let dictionary = [
+        Entry {
+            word: "typesetting",
+            points: &[4, 7],
+        },
+        Entry {
+            word: "machines",
+            points: &[2],
+        },
+        Entry {
+            word: "größte",
+            points: &[4, 6],
+        },
+        // This entry is not the first with its text, and is not used.
+        Entry {
+            word: "machines",
+            points: &[0],
+        },
+    ];
+    let rows: &[(&str, usize, &[&str])] = &[
+        (
+            "typesetting machines",
+            10,
+            &["typeset-", "ting ma-", "chines"],
+        ),
+        ("typesetting machines", 20, &["typesetting machines"]),
+        (
+            "machines, other words",
+            8,
+            &["machines", ", other", "words"],
+        ),
+        ("größte  größte", 5, &["größ-", "te", "größ-", "te"]),
+        ("größte", 4, &["grö-", "ßte"]),
+        ("  machines ", 6, &["  ma-", "chines"]),
+        ("", 6, &[""]),
+    ];
+    for &(paragraph, width, expected) in rows {
+        let placed = hyphenated_lines(rt.alloc(), paragraph, &dictionary, width)?;
+        assert!(rt; are_lines(paragraph, &placed, expected), "{paragraph:?}");
+    }
+    Ok(())
+}
+
+#[test]
+fn wrong_points_of_a_word_are_refused(rt: HostRuntime) -> Result<(), Fail> {
+    let wrong: &[(&str, &[usize])] = &[
+        ("größte", &[0]),
+        ("größte", &[3]),
+        ("größte", &[4, 2]),
+        ("größte", &[4, 4]),
+        ("größte", &[8]),
+        ("größte", &[10]),
+        ("größte", &[usize::MAX]),
+        ("", &[0]),
+    ];
+    for &(word, points) in wrong {
+        let dictionary = [Entry { word, points }];
+        let refused = hyphenated_lines(rt.alloc(), "  größte words", &dictionary, 6);
+        assert!(rt;
+            matches!(refused, Err(HyphenError::WrongPoints)),
+            "{points:?}"
+        );
+        let placed = hyphenated_lines(rt.alloc(), "words", &dictionary, 6)?;
+        assert!(rt; are_lines("words", &placed, &["words"]), "{points:?}");
+    }
+    Ok(())
+}
+
+#[test]
+fn a_long_paragraph_is_hyphenated(rt: HostRuntime) -> Result<(), Fail> {
+    let dictionary = [
+        Entry {
+            word: "typesetting",
+            points: &[4, 7],
+        },
+        Entry {
+            word: "machines",
+            points: &[2],
+        },
+    ];
+    let mut paragraph = String::new(rt.alloc());
+    let mut expected = Vec::new(rt.alloc());
+    for _ in 0..1000 {
+        paragraph.push_str("typesetting machines ")?;
+        expected.extend_from_slice(&["typeset-", "ting ma-", "chines"])?;
+    }
+    let placed = hyphenated_lines(rt.alloc(), &paragraph, &dictionary, 10)?;
+    assert!(rt; are_lines(&paragraph, &placed, &expected));
     Ok(())
 }

@@ -1,0 +1,12 @@
+use Rattle.textwrap_uses.proofs.hyphens.later_begins.Given as goal
+use Rattle.std.proofs.Common.{◌≡◌, ◌+◌, ◌++◌, length}
+use Rattle.textwrap.specs.Words.{tiled, words_of}
+use Rattle.textwrap_uses.specs.Hyphens.{begins_from, later_begins}
+
+-- where words begin so far, and where those do that are left
+abbrev pub invariant-loop-word : goal.invariant-loop-word
+invariant-loop-word l = record {
+  begins : l.begins.items ++ begins_from l.start l.word-iterator
+      ≡ later_begins (words_of l.paragraph);
+  room : l.start + length (tiled l.word-iterator) ≡ length l.paragraph;
+}

@@ -1,0 +1,8 @@
+use Rattle.textwrap_uses.proofs.hyphens.points_for.Given as goal
+use Rattle.std.proofs.Common.{◌≡◌, drop}
+use Rattle.textwrap_uses.specs.Hyphens.{points_for}
+
+-- the entries that are left give the points
+abbrev pub invariant-loop-entry : goal.invariant-loop-entry
+invariant-loop-entry l =
+    points_for (drop l.entry-index l.dictionary) l.word ≡ points_for l.dictionary l.word

@@ -1,0 +1,13 @@
+use Rattle.textwrap_uses.proofs.hyphens.points_in.Given as goal
+use Rattle.std.proofs.Common.{◌≡◌, ◌+◌, ◌++◌, length}
+use Rattle.textwrap.specs.Words.{tiled, words_of}
+use Rattle.textwrap_uses.specs.Hyphens.{HaveRightPoints, points_in}
+
+-- the points so far, and those of the words that are left
+abbrev pub invariant-loop-word : goal.invariant-loop-word
+invariant-loop-word l = record {
+  points : l.points.items ++ points_in l.dictionary l.start l.word-iterator
+      ≡ points_in l.dictionary 0 (words_of l.paragraph);
+  right : HaveRightPoints l.dictionary l.word-iterator;
+  room : l.start + length (tiled l.word-iterator) ≡ length l.paragraph;
+}

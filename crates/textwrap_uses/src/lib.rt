@@ -8,6 +8,7 @@ pub mod comments;
 pub mod gallery;
 pub mod help;
 pub mod hyphens;
+pub mod languages;
 pub mod lists;
 pub mod mail;
 pub mod notes;

@@ -3,6 +3,7 @@ use crate::comments::{common_mark, rewrapped};
 use crate::gallery::{Picture, few_rows, hung_rows};
 use crate::help::help_entry;
 use crate::hyphens::{Entry, HyphenError, hyphenated_lines};
+use crate::languages::lines_in_any_language;
 use crate::lists::listed_lines;
 use crate::mail::{filled_anew, quote, quoted_as_it_is, sent_lines};
 use crate::notes::fill_note;
@@ -164,6 +165,13 @@ fn a_note_is_filled_in_place(rt: HostRuntime) -> Result<(), Fail> {
 fn a_script_loses_its_margin(rt: HostRuntime) -> Result<(), Fail> {
     let script = script(rt.alloc(), "    if x:\n      y\n")?;
     assert_eq!(rt; script.as_str(), "if x:\n  y\n");
+    Ok(())
+}
+
+#[test]
+fn a_text_in_japanese_ends_its_lines_where_it_may(rt: HostRuntime) -> Result<(), Fail> {
+    let lines = lines_in_any_language(rt.alloc(), "これは「ペン」です。", 8)?;
+    assert!(rt; are_borrowed(&lines, &["これは", "「ペン」", "です。"]));
     Ok(())
 }
 

@@ -1,0 +1,4 @@
+pub mod BeforeLemmas
+pub mod BreakLemmas
+pub mod CutLemmas
+pub mod CuttingLemmas

@@ -1,0 +1,10 @@
+use Rattle.std.proofs.Common.{◌≡◌}
+use Rattle.std.specs.Str.Iter.{char_indices_offset, char_indices_rest}
+use Rattle.textwrap_unicode.proofs.breaks.LineBreaksIterator.next.Given as goal
+use Rattle.textwrap_unicode.proofs.BreakLemmas.{IsReading}
+
+abbrev pub invariant-loop-offset : goal.invariant-loop-offset
+invariant-loop-offset l =
+    IsReading l.rest l.start l.initial.before (char_indices_offset l.offset-iterator)
+    (char_indices_rest l.offset-iterator) l.before
+    × (l.self-inside ≡ l.initial.self-inside)

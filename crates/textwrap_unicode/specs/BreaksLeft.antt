@@ -1,0 +1,39 @@
+-- What the iterator over breaks goes on from.
+use Rattle.std.specs.Prelude.{ℕ, ◌+◌, Bool, true, false, not, ◌&&◌, List, [], ◌∷◌, ◌++◌, length}
+use Rattle.std.specs.Prelude.{encode_utf8, if◌then◌else◌}
+use Rattle.textwrap_unicode.specs.declared.before.Before.{Before}
+use Rattle.textwrap_unicode.specs.declared.breaks.LineBreak.{LineBreak}
+use Rattle.textwrap_unicode.specs.declared.classes.Unit.{Unit}
+use Rattle.textwrap_unicode.specs.Before.{as_letter}
+use Rattle.textwrap_unicode.specs.Breaks.{break_at}
+use Rattle.textwrap_unicode.specs.ClassSets.{is_hebrew, is_mark, is_regional_indicator, is_space}
+use Rattle.textwrap_unicode.specs.ClassSets.{is_zwj, takes_no_mark}
+use Rattle.textwrap_unicode.specs.Classes.{unit_of}
+use Rattle.textwrap_unicode.specs.Rules.{decide}
+
+-- what stands before the place after a unit that stands by itself
+abbrev pub and_letter : Before → Unit → Bool → Before
+and_letter before unit is_joined = record {
+  is_start = false;
+  class = unit.class;
+  past_spaces = if is_space unit.class then before.past_spaces else unit.class;
+  follows_hebrew = is_hebrew before.class;
+  is_half_flag = is_regional_indicator unit.class && not before.is_half_flag;
+  is_wide = unit.is_wide;
+  is_unassigned_pictograph = unit.is_unassigned_pictograph;
+  is_joined = is_joined;
+}
+
+-- what stands before the place after the next unit
+abbrev pub and : Before → Unit → Before
+and before next =
+    if is_mark next.class && not before.is_start && not (takes_no_mark before.class)
+    then record before { is_joined = is_zwj next.class }
+    else and_letter before (as_letter next) (is_zwj next.class)
+
+abbrev pub breaks_after : Before → ℕ → List ℕ → List LineBreak
+breaks_after before at [] =
+    if before.is_start then [] else record { at = at; is_mandatory = true } ∷ []
+breaks_after before at (c ∷ cs) =
+    break_at (decide before (unit_of c)) at
+    ++ breaks_after (and before (unit_of c)) (at + length (encode_utf8 c)) cs

@@ -1,0 +1,21 @@
+-- Where a line is cut into words at the places where it may end.
+use Rattle.std.specs.Prelude.{ℕ, Bool, true, false, List, map}
+use Rattle.textwrap_words.specs.Units.{stripped}
+use Rattle.textwrap_words.specs.WordOffsets.{cuts_at}
+use Rattle.textwrap_unicode.specs.declared.breaks.LineBreak.{LineBreak}
+use Rattle.textwrap_unicode.specs.declared.rules.Verdict.{Verdict}
+use Rattle.textwrap_unicode.specs.declared.rules.Verdict.TheVariants.{Mandatory, Allowed, Prohibited}
+use Rattle.textwrap_unicode.specs.Breaks.{line_breaks}
+
+abbrev pub offsets_of : List LineBreak → List ℕ
+offsets_of breaks = map (λ b. b.at) breaks
+
+-- at the breaks of the line without its escape sequences
+abbrev pub unicode_cuts : List ℕ → List ℕ
+unicode_cuts line = cuts_at (offsets_of (line_breaks (stripped line))) line
+
+-- a line may end there, or must
+abbrev pub may_end : Verdict → Bool
+may_end Mandatory = true
+may_end Allowed = true
+may_end Prohibited = false

@@ -1,0 +1,88 @@
+//! What stands before a place.
+ghost use Rattle.std.specs.Prelude.{◌≡◌};
+ghost use Rattle.textwrap_unicode.specs.Before.{as_letter, before_of, nothing};
+ghost use Rattle.textwrap_unicode.specs.BreaksLeft.{and};
+
+use crate::class_sets::{
+    is_hebrew, is_mark, is_regional_indicator, is_space, is_zwj, takes_no_mark,
+};
+use crate::classes::Unit;
+use unicode::properties::LineBreak;
+
+/// What the rules ask of the text before a place. Marks belong to the character before them.
+#[derive(Clone, Copy, Debug)]
+pub struct Before {
+    /// Whether nothing stands there.
+    pub is_start: bool,
+    /// The class of the last unit.
+    pub class: LineBreak,
+    /// The class of the last unit that is no space.
+    pub past_spaces: LineBreak,
+    /// Whether the last unit but one is a Hebrew letter.
+    pub follows_hebrew: bool,
+    /// Whether an odd number of regional indicators stands there.
+    pub is_half_flag: bool,
+    /// Whether the last unit is wide.
+    pub is_wide: bool,
+    /// Whether the last unit is a pictograph that is not assigned yet.
+    pub is_unassigned_pictograph: bool,
+    /// Whether a ZWJ stands directly there.
+    pub is_joined: bool,
+}
+
+impl Before {
+    /// Nothing.
+    pub fn new() -> Before
+        ensures { result ≡ before_of nothing }
+    {
+        Before {
+            is_start: true,
+            class: LineBreak::Unknown,
+            past_spaces: LineBreak::Unknown,
+            follows_hebrew: false,
+            is_half_flag: false,
+            is_wide: false,
+            is_unassigned_pictograph: false,
+            is_joined: false,
+        }
+    }
+
+    /// The same, and one unit more.
+    pub fn and(self, next: Unit) -> Before
+        ensures { result ≡ and self next }
+    {
+        let is_joined = is_zwj(next.class);
+        if is_mark(next.class) & !self.is_start & !takes_no_mark(self.class) {
+            return Before { is_joined, ..self };
+        }
+        let unit = as_letter(next);
+        Before {
+            is_start: false,
+            class: unit.class,
+            past_spaces: if is_space(unit.class) {
+                self.past_spaces
+            } else {
+                unit.class
+            },
+            follows_hebrew: is_hebrew(self.class),
+            is_half_flag: is_regional_indicator(unit.class) & !self.is_half_flag,
+            is_wide: unit.is_wide,
+            is_unassigned_pictograph: unit.is_unassigned_pictograph,
+            is_joined,
+        }
+    }
+}
+
+/// The unit, as a letter if it is a mark: LB10.
+pub(crate) fn as_letter(unit: Unit) -> Unit
+    ensures { result ≡ as_letter unit }
+{
+    if is_mark(unit.class) {
+        Unit {
+            class: LineBreak::Alphabetic,
+            ..unit
+        }
+    } else {
+        unit
+    }
+}

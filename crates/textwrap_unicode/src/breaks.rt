@@ -1,0 +1,99 @@
+//! The places of a text where a line may or must end, one after the other.
+ghost use Rattle.std.specs.Prelude.{◌≡◌, ◌+◌, ◌<◌, ◌^◌, List, length, chars};
+ghost use Rattle.std.specs.Iterator.{YieldsFirst, item_count};
+ghost use Rattle.textwrap_unicode.specs.Breaks.{line_breaks};
+ghost use Rattle.textwrap_unicode.specs.BreaksLeft.{breaks_after};
+ghost use Rattle.textwrap_unicode.specs.declared.breaks.LineBreak.{LineBreak};
+
+use crate::before::Before;
+use crate::classes::Unit;
+use crate::rules::{Verdict, decide};
+use std::marker::Model;
+
+/// A place of a text where a line may or must end.
+#[derive(Clone, Copy, Debug, PartialEq, Eq)]
+pub struct LineBreak {
+    /// How many bytes of the text come before it.
+    pub at: usize,
+    /// Whether a line must end there: after a line feed or its like, and at the end of the text.
+    pub is_mandatory: bool,
+}
+
+/// The places of a text where a line may or must end, in order. To contracts it is the list of those to
+/// come.
+#[derive(Debug, Drop)]
+pub struct LineBreaks<'t> {
+    /// What is still to be read.
+    rest: &'t str,
+    /// How many bytes of the text come before it.
+    at: usize,
+    /// What the rules ask of these.
+    before: Before,
+}
+
+/// The places of a text where a line may or must end, by the Unicode line breaking algorithm
+/// ([UAX #14](https://www.unicode.org/reports/tr14/)). The last is the end, unless the text is empty.
+/// `"foo bar\nbaz"` has breaks at 4, at 8, where a line must end, and at 11. It allocates nothing.
+pub fn line_breaks(text: &str) -> LineBreaks<'_>
+    ensures { result ≡ line_breaks text.now }
+{
+    LineBreaks {
+        rest: text,
+        at: 0,
+        before: Before::new(),
+    }
+}
+
+impl<'t> Model for LineBreaks<'t> {
+    ghost Value = { List LineBreak };
+
+    ghost view = { λ breaks. breaks_after breaks.before breaks.at (chars breaks.rest.now) };
+
+    ghost invariant = { λ breaks. breaks.at + length breaks.rest.now < 2 ^ 64 };
+}
+
+impl<'t> Iterator for LineBreaks<'t> {
+    type Item = LineBreak;
+
+    ghost next_gives = { YieldsFirst (λ breaks. breaks) };
+
+    ghost remaining = { item_count (λ breaks. breaks) };
+
+    fn next(&mut self) -> Option<LineBreak> {
+        let (rest, start) = (self.rest, self.at);
+        let mut before = self.before;
+        for (offset, c) in rest.char_indices() {
+            let unit = Unit::of(c);
+            let verdict = decide(&before, unit);
+            before = before.and(unit);
+            let is_mandatory = match verdict {
+                Verdict::Prohibited => continue,
+                Verdict::Allowed => false,
+                Verdict::Mandatory => true,
+            };
+            let end = offset + c.len_utf8();
+            *self = LineBreaks {
+                rest: &rest[end..],
+                at: start + end,
+                before,
+            };
+            return Some(LineBreak {
+                at: start + offset,
+                is_mandatory,
+            });
+        }
+        if before.is_start {
+            return None;
+        }
+        let at = start + rest.len();
+        *self = LineBreaks {
+            rest: "",
+            at,
+            before: Before::new(),
+        };
+        Some(LineBreak {
+            at,
+            is_mandatory: true,
+        })
+    }
+}

@@ -1,0 +1,370 @@
+//! The sets of classes that the rules of line breaking speak of.
+ghost use Rattle.std.specs.Prelude.{◌≡◌};
+ghost use Rattle.textwrap_unicode.specs.ClassSets.{is_mark, is_zwj, is_space, is_regional_indicator, takes_no_mark, is_line_end, is_carriage_return, is_line_feed, is_zero_width_space, is_word_joiner, is_glue, breaks_before_glue, is_closing, is_after_text, is_opening, is_quotation, is_nonstarter, breaks_on_both_sides, is_contingent, is_never_first, is_before_text, is_hebrew, is_hyphen, is_symbol, is_inseparable, is_letter, is_number, is_prefix, is_postfix, is_unit, is_ideograph, ends_number, leads_to_number, is_jamo, is_leading_jamo, follows_leading, ends_in_vowel, follows_vowel, ends_in_trailing, is_trailing_jamo, is_infix, is_letter_or_number, is_close_parenthesis, is_emoji_base, is_emoji_modifier};
+
+use unicode::properties::LineBreak;
+
+/// CM or ZWJ.
+pub(crate) fn is_mark(class: LineBreak) -> bool
+    ensures { result ≡ is_mark class }
+{
+    matches!(class, LineBreak::CombiningMark | LineBreak::Zwj)
+}
+
+pub(crate) fn is_zwj(class: LineBreak) -> bool
+    ensures { result ≡ is_zwj class }
+{
+    matches!(class, LineBreak::Zwj)
+}
+
+/// SP.
+pub(crate) fn is_space(class: LineBreak) -> bool
+    ensures { result ≡ is_space class }
+{
+    matches!(class, LineBreak::Space)
+}
+
+/// RI.
+pub(crate) fn is_regional_indicator(class: LineBreak) -> bool
+    ensures { result ≡ is_regional_indicator class }
+{
+    matches!(class, LineBreak::RegionalIndicator)
+}
+
+/// BK, CR, LF, NL, SP or ZW: no mark belongs to it.
+pub(crate) fn takes_no_mark(class: LineBreak) -> bool
+    ensures { result ≡ takes_no_mark class }
+{
+    matches!(
+        class,
+        LineBreak::MandatoryBreak
+            | LineBreak::CarriageReturn
+            | LineBreak::LineFeed
+            | LineBreak::NextLine
+            | LineBreak::Space
+            | LineBreak::ZWSpace
+    )
+}
+
+/// BK, CR, LF or NL: ends a line.
+pub(crate) fn is_line_end(class: LineBreak) -> bool
+    ensures { result ≡ is_line_end class }
+{
+    matches!(
+        class,
+        LineBreak::MandatoryBreak
+            | LineBreak::CarriageReturn
+            | LineBreak::LineFeed
+            | LineBreak::NextLine
+    )
+}
+
+pub(crate) fn is_carriage_return(class: LineBreak) -> bool
+    ensures { result ≡ is_carriage_return class }
+{
+    matches!(class, LineBreak::CarriageReturn)
+}
+
+pub(crate) fn is_line_feed(class: LineBreak) -> bool
+    ensures { result ≡ is_line_feed class }
+{
+    matches!(class, LineBreak::LineFeed)
+}
+
+/// ZW.
+pub(crate) fn is_zero_width_space(class: LineBreak) -> bool
+    ensures { result ≡ is_zero_width_space class }
+{
+    matches!(class, LineBreak::ZWSpace)
+}
+
+/// WJ.
+pub(crate) fn is_word_joiner(class: LineBreak) -> bool
+    ensures { result ≡ is_word_joiner class }
+{
+    matches!(class, LineBreak::WordJoiner)
+}
+
+/// GL.
+pub(crate) fn is_glue(class: LineBreak) -> bool
+    ensures { result ≡ is_glue class }
+{
+    matches!(class, LineBreak::Glue)
+}
+
+/// SP, BA or HY.
+pub(crate) fn breaks_before_glue(class: LineBreak) -> bool
+    ensures { result ≡ breaks_before_glue class }
+{
+    matches!(
+        class,
+        LineBreak::Space | LineBreak::BreakAfter | LineBreak::Hyphen
+    )
+}
+
+/// CL or CP.
+pub(crate) fn is_closing(class: LineBreak) -> bool
+    ensures { result ≡ is_closing class }
+{
+    matches!(
+        class,
+        LineBreak::ClosePunctuation | LineBreak::CloseParenthesis
+    )
+}
+
+/// CL, CP, EX, IS or SY: closes what is before it.
+pub(crate) fn is_after_text(class: LineBreak) -> bool
+    ensures { result ≡ is_after_text class }
+{
+    matches!(
+        class,
+        LineBreak::ClosePunctuation
+            | LineBreak::CloseParenthesis
+            | LineBreak::Exclamation
+            | LineBreak::InfixNumeric
+            | LineBreak::BreakSymbols
+    )
+}
+
+/// OP.
+pub(crate) fn is_opening(class: LineBreak) -> bool
+    ensures { result ≡ is_opening class }
+{
+    matches!(class, LineBreak::OpenPunctuation)
+}
+
+/// QU.
+pub(crate) fn is_quotation(class: LineBreak) -> bool
+    ensures { result ≡ is_quotation class }
+{
+    matches!(class, LineBreak::Quotation)
+}
+
+/// NS.
+pub(crate) fn is_nonstarter(class: LineBreak) -> bool
+    ensures { result ≡ is_nonstarter class }
+{
+    matches!(class, LineBreak::Nonstarter)
+}
+
+/// B2.
+pub(crate) fn breaks_on_both_sides(class: LineBreak) -> bool
+    ensures { result ≡ breaks_on_both_sides class }
+{
+    matches!(class, LineBreak::BreakBoth)
+}
+
+/// CB.
+pub(crate) fn is_contingent(class: LineBreak) -> bool
+    ensures { result ≡ is_contingent class }
+{
+    matches!(class, LineBreak::ContingentBreak)
+}
+
+/// BA, HY or NS.
+pub(crate) fn is_never_first(class: LineBreak) -> bool
+    ensures { result ≡ is_never_first class }
+{
+    matches!(
+        class,
+        LineBreak::BreakAfter | LineBreak::Hyphen | LineBreak::Nonstarter
+    )
+}
+
+/// BB.
+pub(crate) fn is_before_text(class: LineBreak) -> bool
+    ensures { result ≡ is_before_text class }
+{
+    matches!(class, LineBreak::BreakBefore)
+}
+
+/// HL.
+pub(crate) fn is_hebrew(class: LineBreak) -> bool
+    ensures { result ≡ is_hebrew class }
+{
+    matches!(class, LineBreak::HebrewLetter)
+}
+
+/// HY or BA.
+pub(crate) fn is_hyphen(class: LineBreak) -> bool
+    ensures { result ≡ is_hyphen class }
+{
+    matches!(class, LineBreak::Hyphen | LineBreak::BreakAfter)
+}
+
+/// SY.
+pub(crate) fn is_symbol(class: LineBreak) -> bool
+    ensures { result ≡ is_symbol class }
+{
+    matches!(class, LineBreak::BreakSymbols)
+}
+
+/// IN.
+pub(crate) fn is_inseparable(class: LineBreak) -> bool
+    ensures { result ≡ is_inseparable class }
+{
+    matches!(class, LineBreak::Inseparable)
+}
+
+/// AL or HL.
+pub(crate) fn is_letter(class: LineBreak) -> bool
+    ensures { result ≡ is_letter class }
+{
+    matches!(class, LineBreak::Alphabetic | LineBreak::HebrewLetter)
+}
+
+/// NU.
+pub(crate) fn is_number(class: LineBreak) -> bool
+    ensures { result ≡ is_number class }
+{
+    matches!(class, LineBreak::Numeric)
+}
+
+/// PR.
+pub(crate) fn is_prefix(class: LineBreak) -> bool
+    ensures { result ≡ is_prefix class }
+{
+    matches!(class, LineBreak::PrefixNumeric)
+}
+
+/// PO.
+pub(crate) fn is_postfix(class: LineBreak) -> bool
+    ensures { result ≡ is_postfix class }
+{
+    matches!(class, LineBreak::PostfixNumeric)
+}
+
+/// PR or PO: stands before a number or after one.
+pub(crate) fn is_unit(class: LineBreak) -> bool
+    ensures { result ≡ is_unit class }
+{
+    matches!(class, LineBreak::PrefixNumeric | LineBreak::PostfixNumeric)
+}
+
+/// ID, EB or EM.
+pub(crate) fn is_ideograph(class: LineBreak) -> bool
+    ensures { result ≡ is_ideograph class }
+{
+    matches!(
+        class,
+        LineBreak::Ideographic | LineBreak::EBase | LineBreak::EModifier
+    )
+}
+
+/// CL, CP or NU.
+pub(crate) fn ends_number(class: LineBreak) -> bool
+    ensures { result ≡ ends_number class }
+{
+    matches!(
+        class,
+        LineBreak::ClosePunctuation | LineBreak::CloseParenthesis | LineBreak::Numeric
+    )
+}
+
+/// PO, PR, HY, IS, NU or SY.
+pub(crate) fn leads_to_number(class: LineBreak) -> bool
+    ensures { result ≡ leads_to_number class }
+{
+    matches!(
+        class,
+        LineBreak::PostfixNumeric
+            | LineBreak::PrefixNumeric
+            | LineBreak::Hyphen
+            | LineBreak::InfixNumeric
+            | LineBreak::Numeric
+            | LineBreak::BreakSymbols
+    )
+}
+
+/// JL, JV, JT, H2 or H3.
+pub(crate) fn is_jamo(class: LineBreak) -> bool
+    ensures { result ≡ is_jamo class }
+{
+    matches!(
+        class,
+        LineBreak::Jl | LineBreak::Jv | LineBreak::Jt | LineBreak::H2 | LineBreak::H3
+    )
+}
+
+/// JL.
+pub(crate) fn is_leading_jamo(class: LineBreak) -> bool
+    ensures { result ≡ is_leading_jamo class }
+{
+    matches!(class, LineBreak::Jl)
+}
+
+/// JL, JV, H2 or H3.
+pub(crate) fn follows_leading(class: LineBreak) -> bool
+    ensures { result ≡ follows_leading class }
+{
+    matches!(
+        class,
+        LineBreak::Jl | LineBreak::Jv | LineBreak::H2 | LineBreak::H3
+    )
+}
+
+/// JV or H2.
+pub(crate) fn ends_in_vowel(class: LineBreak) -> bool
+    ensures { result ≡ ends_in_vowel class }
+{
+    matches!(class, LineBreak::Jv | LineBreak::H2)
+}
+
+/// JV or JT.
+pub(crate) fn follows_vowel(class: LineBreak) -> bool
+    ensures { result ≡ follows_vowel class }
+{
+    matches!(class, LineBreak::Jv | LineBreak::Jt)
+}
+
+/// JT or H3.
+pub(crate) fn ends_in_trailing(class: LineBreak) -> bool
+    ensures { result ≡ ends_in_trailing class }
+{
+    matches!(class, LineBreak::Jt | LineBreak::H3)
+}
+
+/// JT.
+pub(crate) fn is_trailing_jamo(class: LineBreak) -> bool
+    ensures { result ≡ is_trailing_jamo class }
+{
+    matches!(class, LineBreak::Jt)
+}
+
+/// IS.
+pub(crate) fn is_infix(class: LineBreak) -> bool
+    ensures { result ≡ is_infix class }
+{
+    matches!(class, LineBreak::InfixNumeric)
+}
+
+/// AL, HL or NU.
+pub(crate) fn is_letter_or_number(class: LineBreak) -> bool
+    ensures { result ≡ is_letter_or_number class }
+{
+    matches!(
+        class,
+        LineBreak::Alphabetic | LineBreak::HebrewLetter | LineBreak::Numeric
+    )
+}
+
+/// CP.
+pub(crate) fn is_close_parenthesis(class: LineBreak) -> bool
+    ensures { result ≡ is_close_parenthesis class }
+{
+    matches!(class, LineBreak::CloseParenthesis)
+}
+
+/// EB.
+pub(crate) fn is_emoji_base(class: LineBreak) -> bool
+    ensures { result ≡ is_emoji_base class }
+{
+    matches!(class, LineBreak::EBase)
+}
+
+/// EM.
+pub(crate) fn is_emoji_modifier(class: LineBreak) -> bool
+    ensures { result ≡ is_emoji_modifier class }
+{
+    matches!(class, LineBreak::EModifier)
+}

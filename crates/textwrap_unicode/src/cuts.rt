@@ -1,0 +1,63 @@
+//! The function for `LineCuts` that cuts a line into words where it may end.
+ghost use Rattle.std.specs.Prelude.{◌≡◌, IfOk};
+ghost use Rattle.textwrap_unicode.specs.Cuts.{may_end, unicode_cuts};
+ghost use Rattle.textwrap_words.specs.Cuts.{AreInnerCuts};
+ghost use Rattle.textwrap_words.specs.WordOffsets.{is_any_hyphen};
+
+use crate::before::Before;
+use crate::classes::Unit;
+use crate::rules::{Verdict, decide};
+use std::alloc::{AllocError, Global};
+use textwrap_words::escapes::State;
+
+/// Where a line is cut into words, by the Unicode line breaking algorithm
+/// ([UAX #14](https://www.unicode.org/reports/tr14/)): at the places of
+/// [`line_breaks`](crate::line_breaks) inside its text without escape sequences (ECMA-48), but not
+/// directly after a hyphen `-` or a soft hyphen (U+00AD), which are left to a word splitter. A sequence
+/// at a cut belongs to the word after it. `"foo-bar 日本"` is cut at 8 and 11.
+///
+/// It is the function of a separator:
+/// `WordSeparator::Custom(LineCuts::new(alloc, unicode_cuts))`.
+///
+/// # Errors
+/// [`AllocError`] where memory runs out.
+pub fn unicode_cuts(alloc: Global, line: &str) -> Result<Vec<usize>, AllocError>
+    ensures cuts { IfOk result (λ cuts. cuts.items ≡ unicode_cuts line.now) }
+    ensures inner { IfOk result (λ cuts. AreInnerCuts line.now cuts.items) }
+{
+    let mut cuts = Vec::new(alloc);
+    let mut state = State::Text;
+    let mut before = Before::new();
+    // Where the last visible character ends, and whether it is a hyphen.
+    let mut end = 0;
+    let mut is_hyphen = false;
+    for (at, ch) in line.char_indices() {
+        let (next, is_visible) = state.step(ch);
+        if is_visible {
+            let unit = Unit::of(ch);
+            let is_cut = !is_hyphen & may_end(decide(&before, unit));
+            if is_cut {
+                cuts.push(end)?;
+            }
+            before = before.and(unit);
+            end = at + ch.len_utf8();
+            is_hyphen = is_any_hyphen(ch);
+        }
+        state = next;
+    }
+    Ok(cuts)
+}
+
+/// Whether a line may or must end there.
+fn may_end(verdict: Verdict) -> bool
+    ensures { result ≡ may_end verdict }
+{
+    matches!(verdict, Verdict::Mandatory | Verdict::Allowed)
+}
+
+/// Whether this is a hyphen or a soft hyphen.
+fn is_any_hyphen(ch: char) -> bool
+    ensures { result ≡ is_any_hyphen ch }
+{
+    ch == '-' || ch == '\u{ad}'
+}

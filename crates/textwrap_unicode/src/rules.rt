@@ -1,0 +1,339 @@
+//! The rules of line breaking, LB2 to LB31 of [UAX #14](https://www.unicode.org/reports/tr14/) at Unicode
+//! 15.0, LB25 by pairs. Each function says whether a rule applies between what stands before a place and
+//! the next unit.
+ghost use Rattle.std.specs.Prelude.{◌≡◌};
+ghost use Rattle.textwrap_unicode.specs.Rules.{lb2, lb4, lb6, lb7, lb8, lb8a, lb9, lb11, lb12, lb12a, lb13, lb14, lb15, lb16, lb17, lb18, lb19, lb20, lb21, lb21a, lb21b, lb22, lb23, lb23a, lb24, lb25, lb26, lb27, lb28, lb29, lb30, lb30a, lb30b, is_kept, is_glued, is_held, decide};
+
+use crate::before::{Before, as_letter};
+use crate::class_sets::{
+    breaks_before_glue, breaks_on_both_sides, ends_in_trailing, ends_in_vowel, ends_number,
+    follows_leading, follows_vowel, is_after_text, is_before_text, is_carriage_return,
+    is_close_parenthesis, is_closing, is_contingent, is_emoji_base, is_emoji_modifier, is_glue,
+    is_hebrew, is_hyphen, is_ideograph, is_infix, is_inseparable, is_jamo, is_leading_jamo,
+    is_letter, is_letter_or_number, is_line_end, is_line_feed, is_mark, is_never_first,
+    is_nonstarter, is_number, is_opening, is_postfix, is_prefix, is_quotation,
+    is_regional_indicator, is_space, is_symbol, is_trailing_jamo, is_unit, is_word_joiner,
+    is_zero_width_space, leads_to_number, takes_no_mark,
+};
+use crate::classes::Unit;
+
+/// What the rules say of a place.
+#[derive(Clone, Copy, Debug, PartialEq, Eq)]
+pub enum Verdict {
+    /// A line must end there.
+    Mandatory,
+    /// A line may end there.
+    Allowed,
+    /// No line ends there.
+    Prohibited,
+}
+
+/// LB2: sot ×
+fn lb2(before: &Before, next: Unit) -> bool
+    ensures { result ≡ lb2 before.now next }
+{
+    before.is_start
+}
+
+/// LB4: BK !; LB5: CR × LF, CR !, LF !, NL !
+fn lb4(before: &Before, next: Unit) -> bool
+    ensures { result ≡ lb4 before.now next }
+{
+    is_line_end(before.class) & !(is_carriage_return(before.class) & is_line_feed(next.class))
+}
+
+/// LB5: CR × LF; LB6: × (BK | CR | LF | NL)
+fn lb6(before: &Before, next: Unit) -> bool
+    ensures { result ≡ lb6 before.now next }
+{
+    is_line_end(next.class)
+}
+
+/// LB7: × SP, × ZW
+fn lb7(before: &Before, next: Unit) -> bool
+    ensures { result ≡ lb7 before.now next }
+{
+    is_space(next.class) | is_zero_width_space(next.class)
+}
+
+/// LB8: ZW SP* ÷
+fn lb8(before: &Before, next: Unit) -> bool
+    ensures { result ≡ lb8 before.now next }
+{
+    is_zero_width_space(before.past_spaces)
+}
+
+/// LB8a: ZWJ ×
+fn lb8a(before: &Before, next: Unit) -> bool
+    ensures { result ≡ lb8a before.now next }
+{
+    before.is_joined
+}
+
+/// LB9: X × (CM | ZWJ), where X is no BK, CR, LF, NL, SP or ZW
+fn lb9(before: &Before, next: Unit) -> bool
+    ensures { result ≡ lb9 before.now next }
+{
+    !(takes_no_mark(before.class)) & is_mark(next.class)
+}
+
+/// LB11: × WJ, WJ ×
+fn lb11(before: &Before, next: Unit) -> bool
+    ensures { result ≡ lb11 before.now next }
+{
+    is_word_joiner(next.class) | is_word_joiner(before.class)
+}
+
+/// LB12: GL ×
+fn lb12(before: &Before, next: Unit) -> bool
+    ensures { result ≡ lb12 before.now next }
+{
+    is_glue(before.class)
+}
+
+/// LB12a: [^SP BA HY] × GL
+fn lb12a(before: &Before, next: Unit) -> bool
+    ensures { result ≡ lb12a before.now next }
+{
+    !(breaks_before_glue(before.class)) & is_glue(next.class)
+}
+
+/// LB13: × (CL | CP | EX | IS | SY)
+fn lb13(before: &Before, next: Unit) -> bool
+    ensures { result ≡ lb13 before.now next }
+{
+    is_after_text(next.class)
+}
+
+/// LB14: OP SP* ×
+fn lb14(before: &Before, next: Unit) -> bool
+    ensures { result ≡ lb14 before.now next }
+{
+    is_opening(before.past_spaces)
+}
+
+/// LB15: QU SP* × OP
+fn lb15(before: &Before, next: Unit) -> bool
+    ensures { result ≡ lb15 before.now next }
+{
+    is_quotation(before.past_spaces) & is_opening(next.class)
+}
+
+/// LB16: (CL | CP) SP* × NS
+fn lb16(before: &Before, next: Unit) -> bool
+    ensures { result ≡ lb16 before.now next }
+{
+    is_closing(before.past_spaces) & is_nonstarter(next.class)
+}
+
+/// LB17: B2 SP* × B2
+fn lb17(before: &Before, next: Unit) -> bool
+    ensures { result ≡ lb17 before.now next }
+{
+    breaks_on_both_sides(before.past_spaces) & breaks_on_both_sides(next.class)
+}
+
+/// LB18: SP ÷
+fn lb18(before: &Before, next: Unit) -> bool
+    ensures { result ≡ lb18 before.now next }
+{
+    is_space(before.class)
+}
+
+/// LB19: × QU, QU ×
+fn lb19(before: &Before, next: Unit) -> bool
+    ensures { result ≡ lb19 before.now next }
+{
+    is_quotation(next.class) | is_quotation(before.class)
+}
+
+/// LB20: ÷ CB, CB ÷
+fn lb20(before: &Before, next: Unit) -> bool
+    ensures { result ≡ lb20 before.now next }
+{
+    is_contingent(next.class) | is_contingent(before.class)
+}
+
+/// LB21: × (BA | HY | NS), BB ×
+fn lb21(before: &Before, next: Unit) -> bool
+    ensures { result ≡ lb21 before.now next }
+{
+    is_never_first(next.class) | is_before_text(before.class)
+}
+
+/// LB21a: HL (HY | BA) ×
+fn lb21a(before: &Before, next: Unit) -> bool
+    ensures { result ≡ lb21a before.now next }
+{
+    is_hyphen(before.class) & before.follows_hebrew
+}
+
+/// LB21b: SY × HL
+fn lb21b(before: &Before, next: Unit) -> bool
+    ensures { result ≡ lb21b before.now next }
+{
+    is_symbol(before.class) & is_hebrew(next.class)
+}
+
+/// LB22: × IN
+fn lb22(before: &Before, next: Unit) -> bool
+    ensures { result ≡ lb22 before.now next }
+{
+    is_inseparable(next.class)
+}
+
+/// LB23: (AL | HL) × NU, NU × (AL | HL)
+fn lb23(before: &Before, next: Unit) -> bool
+    ensures { result ≡ lb23 before.now next }
+{
+    (is_letter(before.class) & is_number(next.class))
+        | (is_number(before.class) & is_letter(next.class))
+}
+
+/// LB23a: PR × (ID | EB | EM), (ID | EB | EM) × PO
+fn lb23a(before: &Before, next: Unit) -> bool
+    ensures { result ≡ lb23a before.now next }
+{
+    (is_prefix(before.class) & is_ideograph(next.class))
+        | (is_ideograph(before.class) & is_postfix(next.class))
+}
+
+/// LB24: (PR | PO) × (AL | HL), (AL | HL) × (PR | PO)
+fn lb24(before: &Before, next: Unit) -> bool
+    ensures { result ≡ lb24 before.now next }
+{
+    (is_unit(before.class) & is_letter(next.class))
+        | (is_letter(before.class) & is_unit(next.class))
+}
+
+/// LB25: (CL | CP | NU) × (PO | PR), (PO | PR) × OP, (PO | PR | HY | IS | NU | SY) × NU
+fn lb25(before: &Before, next: Unit) -> bool
+    ensures { result ≡ lb25 before.now next }
+{
+    (ends_number(before.class) & is_unit(next.class))
+        | (is_unit(before.class) & is_opening(next.class))
+        | (leads_to_number(before.class) & is_number(next.class))
+}
+
+/// LB26: JL × (JL | JV | H2 | H3), (JV | H2) × (JV | JT), (JT | H3) × JT
+fn lb26(before: &Before, next: Unit) -> bool
+    ensures { result ≡ lb26 before.now next }
+{
+    (is_leading_jamo(before.class) & follows_leading(next.class))
+        | (ends_in_vowel(before.class) & follows_vowel(next.class))
+        | (ends_in_trailing(before.class) & is_trailing_jamo(next.class))
+}
+
+/// LB27: (JL | JV | JT | H2 | H3) × PO, PR × (JL | JV | JT | H2 | H3)
+fn lb27(before: &Before, next: Unit) -> bool
+    ensures { result ≡ lb27 before.now next }
+{
+    (is_jamo(before.class) & is_postfix(next.class))
+        | (is_prefix(before.class) & is_jamo(next.class))
+}
+
+/// LB28: (AL | HL) × (AL | HL)
+fn lb28(before: &Before, next: Unit) -> bool
+    ensures { result ≡ lb28 before.now next }
+{
+    is_letter(before.class) & is_letter(next.class)
+}
+
+/// LB29: IS × (AL | HL)
+fn lb29(before: &Before, next: Unit) -> bool
+    ensures { result ≡ lb29 before.now next }
+{
+    is_infix(before.class) & is_letter(next.class)
+}
+
+/// LB30: (AL | HL | NU) × OP but a wide one, CP but a wide one × (AL | HL | NU)
+fn lb30(before: &Before, next: Unit) -> bool
+    ensures { result ≡ lb30 before.now next }
+{
+    (is_letter_or_number(before.class) & is_opening(next.class) & !next.is_wide)
+        | (is_close_parenthesis(before.class) & is_letter_or_number(next.class) & !before.is_wide)
+}
+
+/// LB30a: sot (RI RI)* RI × RI, [^RI] (RI RI)* RI × RI
+fn lb30a(before: &Before, next: Unit) -> bool
+    ensures { result ≡ lb30a before.now next }
+{
+    is_regional_indicator(next.class) & before.is_half_flag
+}
+
+/// LB30b: EB × EM, an unassigned pictograph × EM
+fn lb30b(before: &Before, next: Unit) -> bool
+    ensures { result ≡ lb30b before.now next }
+{
+    is_emoji_modifier(next.class) & (is_emoji_base(before.class) | before.is_unassigned_pictograph)
+}
+
+/// LB5 to LB7, which forbid.
+fn is_kept(before: &Before, next: Unit) -> bool
+    ensures { result ≡ is_kept before.now next }
+{
+    lb6(before, next) | lb7(before, next)
+}
+
+/// LB11 to LB17, which forbid.
+fn is_glued(before: &Before, next: Unit) -> bool
+    ensures { result ≡ is_glued before.now next }
+{
+    lb11(before, next)
+        | lb12(before, next)
+        | lb12a(before, next)
+        | lb13(before, next)
+        | lb14(before, next)
+        | lb15(before, next)
+        | lb16(before, next)
+        | lb17(before, next)
+}
+
+/// LB21 to LB30b, which forbid.
+fn is_held(before: &Before, next: Unit) -> bool
+    ensures { result ≡ is_held before.now next }
+{
+    lb21(before, next)
+        | lb21a(before, next)
+        | lb21b(before, next)
+        | lb22(before, next)
+        | lb23(before, next)
+        | lb23a(before, next)
+        | lb24(before, next)
+        | lb25(before, next)
+        | lb26(before, next)
+        | lb27(before, next)
+        | lb28(before, next)
+        | lb29(before, next)
+        | lb30(before, next)
+        | lb30a(before, next)
+        | lb30b(before, next)
+}
+
+/// What the rules say of the place between what stands before it and the next unit.
+pub fn decide(before: &Before, next: Unit) -> Verdict
+    ensures { result ≡ decide before.now next }
+{
+    let letter = as_letter(next);
+    if lb2(before, next) {
+        Verdict::Prohibited
+    } else if lb4(before, next) {
+        Verdict::Mandatory
+    } else if is_kept(before, next) {
+        Verdict::Prohibited
+    } else if lb8(before, next) {
+        Verdict::Allowed
+    } else if lb8a(before, next) | lb9(before, next) | is_glued(before, letter) {
+        Verdict::Prohibited
+    } else if lb18(before, next) {
+        Verdict::Allowed
+    } else if lb19(before, letter) {
+        Verdict::Prohibited
+    } else if lb20(before, letter) {
+        Verdict::Allowed
+    } else if is_held(before, letter) {
+        Verdict::Prohibited
+    } else {
+        Verdict::Allowed
+    }
+}

@@ -1,0 +1,54 @@
+//! Texts of several languages, wrapped at the places of Unicode line breaking.
+use std::alloc::Global;
+use std::test::Fail;
+use textwrap::word_separators::LineCuts;
+use textwrap::{Options, WordSeparator, WrapAlgorithm, WrapError, fill};
+use textwrap_unicode::unicode_cuts;
+
+/// A text filled at a width by first fit, with words cut at its breaks.
+fn filled(alloc: Global, text: &str, width: usize) -> Result<String, WrapError> {
+    let line_cuts = LineCuts::new(alloc, unicode_cuts);
+    let options = Options::new(width)
+        .word_separator(WordSeparator::Custom(line_cuts))
+        .wrap_algorithm(WrapAlgorithm::FirstFit);
+    fill(alloc, text, options)
+}
+
+/// A text, a width, and the text filled.
+const FILLED: &[(&str, usize, &str)] = &[
+    // Chinese and Japanese: between any two characters, but not before a full stop or a small
+    // character, nor after an opening bracket.
+    ("不要担心，你会没事的。", 10, "不要担心，\n你会没事\n的。"),
+    ("これは「ペン」です。", 8, "これは\n「ペン」\nです。"),
+    ("ちょっとまって", 6, "ちょっ\nとまっ\nて"),
+    // Korean: between syllables too.
+    ("한국어는 띄어쓰기를 한다", 10, "한국어는\n띄어쓰기를\n한다"),
+    ("한국어는 띄어쓰기를", 12, "한국어는 띄\n어쓰기를"),
+    // Thai words cannot be told apart without a dictionary: nowhere.
+    ("ภาษาไทย abc", 8, "ภาษาไทย\nabc"),
+    // Hebrew: not after a hyphen.
+    ("אבג\u{2010}דה וז", 6, "אבג\u{2010}דה\nוז"),
+    // Emoji: a family is one, and so are a hand with its colour and the two halves of a flag.
+    ("👨\u{200d}👩\u{200d}👧👍🏽", 7, "👨\u{200d}👩\u{200d}👧\n👍🏽"),
+    ("🇩🇪🇫🇷🇯🇵", 4, "🇩🇪🇫🇷\n🇯🇵"),
+    // Addresses, quotations and prices.
+    ("http://example.com/foo/bar", 12, "http://\nexample.com/\nfoo/bar"),
+    ("foo “bar” baz", 9, "foo “bar”\nbaz"),
+    ("$10.00 or 25% off", 9, "$10.00 or\n25% off"),
+    // A space without a width is a place to break, a space that holds is none.
+    ("foo\u{200b}bar", 4, "foo\u{200b}\nbar"),
+    ("a b\u{a0}c", 3, "a\nb\u{a0}c"),
+    // A soft hyphen is left to the splitter.
+    ("foo\u{ad}bar baz", 8, "foo\u{ad}bar\nbaz"),
+    // A colour that begins at a cut goes to the next line.
+    ("\u{1b}[31m日本\u{1b}[0m語", 4, "\u{1b}[31m日本\n\u{1b}[0m語"),
+];
+
+#[test]
+fn texts_of_many_languages(rt: HostRuntime) -> Result<(), Fail> {
+    for &(text, width, expected) in FILLED {
+        let filled = filled(rt.alloc(), text, width)?;
+        assert_eq!(rt; filled.as_str(), expected);
+    }
+    Ok(())
+}

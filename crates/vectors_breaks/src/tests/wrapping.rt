@@ -32,7 +32,11 @@ const FILLED: &[(&str, usize, &str)] = &[
     ("👨\u{200d}👩\u{200d}👧👍🏽", 7, "👨\u{200d}👩\u{200d}👧\n👍🏽"),
     ("🇩🇪🇫🇷🇯🇵", 4, "🇩🇪🇫🇷\n🇯🇵"),
     // Addresses, quotations and prices.
-    ("http://example.com/foo/bar", 12, "http://\nexample.com/\nfoo/bar"),
+    (
+        "http://example.com/foo/bar",
+        12,
+        "http://\nexample.com/\nfoo/bar",
+    ),
     ("foo “bar” baz", 9, "foo “bar”\nbaz"),
     ("$10.00 or 25% off", 9, "$10.00 or\n25% off"),
     // A space without a width is a place to break, a space that holds is none.

@@ -3,7 +3,7 @@ use std::alloc::Global;
 use std::test::Fail;
 use textwrap::word_separators::LineCuts;
 use textwrap::{Options, WordSeparator, WrapAlgorithm, WrapError, fill};
-use textwrap_unicode::unicode_cuts;
+use textwrap_unicode::{line_breaks, unicode_cuts};
 
 /// A text filled at a width by first fit, with words cut at its breaks.
 fn filled(alloc: Global, text: &str, width: usize) -> Result<String, WrapError> {
@@ -55,4 +55,47 @@ fn texts_of_many_languages(rt: HostRuntime) -> Result<(), Fail> {
         assert_eq!(rt; filled.as_str(), expected);
     }
     Ok(())
+}
+
+/// A line, and where it is cut into words.
+const CUTS: &[(&str, &[usize])] = &[
+    ("", &[]),
+    ("foo-bar 日本", &[8, 11]),
+    ("これは「ペン」です。", &[3, 6, 9, 15, 21, 24]),
+    ("a b\u{a0}c", &[2]),
+    ("foo\u{200b}bar", &[6]),
+    ("ภาษาไทย", &[]),
+    ("\u{1b}[31m日本\u{1b}[0m語", &[8, 11]),
+    ("\u{1b}[0m", &[]),
+    ("foo- \u{ad}bar", &[5]),
+];
+
+#[test]
+fn lines_are_cut_into_words(rt: HostRuntime) -> Result<(), Fail> {
+    for &(line, expected) in CUTS {
+        let cuts = unicode_cuts(rt.alloc(), line)?;
+        assert_eq!(rt; &cuts[..], expected);
+    }
+    Ok(())
+}
+
+#[test]
+fn a_long_line_is_cut_at_each_blank(rt: HostRuntime) -> Result<(), Fail> {
+    let line = "foo ".repeat(rt.alloc(), 50_000)?;
+    let cuts = unicode_cuts(rt.alloc(), &line)?;
+    assert_eq!(rt; cuts.len(), 49_999);
+    assert_eq!(rt; cuts.last(), Some(&199_996));
+    Ok(())
+}
+
+#[test]
+fn a_line_must_end_after_a_line_feed_and_at_the_end(rt: HostRuntime) {
+    let mut breaks = line_breaks("foo bar\nbaz");
+    for expected in [(4, false), (8, true), (11, true)] {
+        let found = breaks.next();
+        assert!(rt; found.is_some_and(|found| (found.at, found.is_mandatory) == expected));
+    }
+    assert!(rt; breaks.next().is_none());
+    assert!(rt; breaks.next().is_none());
+    assert!(rt; line_breaks("").next().is_none());
 }

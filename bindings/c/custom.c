@@ -261,6 +261,15 @@ static void end(work *w) {
     free(w->built);
 }
 
+size_t textwrap_cut_at_breaks(void *context, const uint8_t *paragraph, size_t paragraph_len,
+                              size_t *cuts) {
+    size_t count = 0;
+    (void)context;
+    textwrap_status status =
+        textwrap_unicode_cuts(paragraph, paragraph_len, cuts, paragraph_len, &count);
+    return status == TEXTWRAP_DONE ? count : paragraph_len + 1;
+}
+
 textwrap_status textwrap_wrap_by(const uint8_t *text, size_t text_len,
                                  const textwrap_options *options,
                                  const textwrap_functions *functions, textwrap_line *lines,

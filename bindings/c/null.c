@@ -22,6 +22,7 @@ PROVED(wrap_optimal_fit);
 PROVED(pieces);
 PROVED(find_words_at);
 PROVED(split_points);
+PROVED(unicode_cuts);
 PROVED(break_apart);
 PROVED(pieces_at);
 PROVED(lines_at);
@@ -160,6 +161,11 @@ textwrap_status textwrap_find_words_at(const uint8_t *line, size_t line_len, con
                                        size_t *count) {
     return proved_find_words_at(ARRAY(line, line_len), ARRAY(offsets, offsets_len),
                                 ARRAY(words, words_len), count);
+}
+
+textwrap_status textwrap_unicode_cuts(const uint8_t *line, size_t line_len, size_t *cuts,
+                                      size_t cuts_len, size_t *count) {
+    return proved_unicode_cuts(ARRAY(line, line_len), ARRAY(cuts, cuts_len), count);
 }
 
 textwrap_status textwrap_split_points(const uint8_t *word, size_t word_len, size_t *points,

@@ -142,6 +142,10 @@ static textwrap_status split(struct lent *lent) {
     return textwrap_split_points(bytes("can-be-split"), 12, lent->places, 16, &lent->count);
 }
 
+static textwrap_status cut_at_breaks(struct lent *lent) {
+    return textwrap_unicode_cuts(bytes("foo bar baz"), 11, lent->places, 16, &lent->count);
+}
+
 static textwrap_status broken(struct lent *lent) {
     return textwrap_break_apart(bytes("foobar"), 6, 2, lent->pieces, 16, &lent->count);
 }
@@ -181,6 +185,7 @@ static const struct {
     {"pieces", in_pieces},
     {"find_words_at", cut_at_offsets},
     {"split_points", split},
+    {"unicode_cuts", cut_at_breaks},
     {"break_apart", broken},
     {"pieces_at", in_pieces_at_cuts},
     {"lines_at", in_lines_at_ends},

@@ -377,6 +377,22 @@ static void texts_are_wrapped_alike_without_functions(void) {
             }
 }
 
+static void lines_end_at_unicode_breaks(void) {
+    const textwrap_functions breaks = {NULL, textwrap_cut_at_breaks, NULL, NULL};
+    size_t cuts[4], count = 0;
+    CHECK(textwrap_unicode_cuts(bytes("foo-bar \xe6\x97\xa5\xe6\x9c\xac"), 14, cuts, 4, &count)
+          == TEXTWRAP_DONE);
+    CHECK(count == 2 && cuts[0] == 8 && cuts[1] == 11);
+    textwrap_options o = textwrap_options_new(8);
+    o.optimal_fit = 0;
+    CHECK(is_wrapped_by(o, breaks,
+                        "\xe3\x81\x93\xe3\x82\x8c\xe3\x81\xaf\xe3\x80\x8c\xe3\x83\x9a"
+                        "\xe3\x83\xb3\xe3\x80\x8d\xe3\x81\xa7\xe3\x81\x99\xe3\x80\x82",
+                        "\xe3\x81\x93\xe3\x82\x8c\xe3\x81\xaf|"
+                        "\xe3\x80\x8c\xe3\x83\x9a\xe3\x83\xb3\xe3\x80\x8d|"
+                        "\xe3\x81\xa7\xe3\x81\x99\xe3\x80\x82|"));
+}
+
 static void functions_of_the_caller_take_part(void) {
     int calls = 0;
     size_t two = 2;
@@ -474,6 +490,7 @@ static void a_pointer_to_nothing_may_be_null(void) {
     CHECK(textwrap_pieces(NULL, 0, &o, NULL, 0, &count) == TEXTWRAP_DONE && count == 0);
     CHECK(textwrap_find_words_at(NULL, 0, NULL, 0, NULL, 0, &count) == TEXTWRAP_DONE);
     CHECK(textwrap_split_points(NULL, 0, NULL, 0, &count) == TEXTWRAP_DONE && count == 0);
+    CHECK(textwrap_unicode_cuts(NULL, 0, NULL, 0, &count) == TEXTWRAP_DONE && count == 0);
     CHECK(textwrap_break_apart(NULL, 0, 1, NULL, 0, &count) == TEXTWRAP_DONE);
     CHECK(textwrap_pieces_at(NULL, 0, NULL, 0, NULL, 0, &o, NULL, 0, &count) == TEXTWRAP_DONE);
     CHECK(textwrap_lines_at(NULL, 0, NULL, 0, NULL, 0, NULL, 0, &o, 0, line, 1, &count, NULL, 0, &len)
@@ -504,6 +521,7 @@ int main(void) {
     words_are_cut_split_and_broken();
     a_paragraph_is_laid_out_in_steps();
     texts_are_wrapped_alike_without_functions();
+    lines_end_at_unicode_breaks();
     functions_of_the_caller_take_part();
     bounds_are_enough();
     if (failures == 0) printf("C: ok\n");

@@ -284,6 +284,13 @@ textwrap_status textwrap_find_words_at(const uint8_t *line, size_t line_len, con
                                        size_t offsets_len, textwrap_piece *words, size_t words_len,
                                        size_t *count);
 
+/* Writes where a line is cut into words by the Unicode line breaking algorithm (UAX #14 at Unicode 15.0):
+ * at the places of its text without escape sequences where it may end, but not directly after a hyphen.
+ * They are cuts for textwrap_pieces_at. */
+TEXTWRAP_CHECKED
+textwrap_status textwrap_unicode_cuts(const uint8_t *line, size_t line_len, size_t *cuts,
+                                      size_t cuts_len, size_t *count);
+
 /* Writes the offsets at which a word may be split: after each hyphen between letters or digits. */
 TEXTWRAP_CHECKED
 textwrap_status textwrap_split_points(const uint8_t *word, size_t word_len, size_t *points,
@@ -331,6 +338,11 @@ typedef struct {
     size_t (*divide)(void *context, const textwrap_piece *pieces, size_t pieces_len,
                      const size_t line_widths[2], size_t *ends);
 } textwrap_functions;
+
+/* A function for `cut`, which finds Unicode line breaks by textwrap_unicode_cuts. It needs no context. If
+ * memory runs out, it returns more than there may be, and so textwrap_wrap_by WRONG_PLACES. */
+size_t textwrap_cut_at_breaks(void *context, const uint8_t *paragraph, size_t paragraph_len,
+                              size_t *cuts);
 
 /* textwrap_wrap by functions of the caller. It is written in C over the calls above (custom.c), and so
  * tested, not proved; it allocates by malloc. WRONG_PLACES if a function writes what these refuse. */

@@ -6,6 +6,7 @@
 #![tactic(auto)]
 
 pub mod bounds;
+pub mod breaks;
 pub mod columns;
 pub mod filling;
 pub mod fragments;

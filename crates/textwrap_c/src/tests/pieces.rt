@@ -1,6 +1,7 @@
 //! Words and pieces, by where they stand.
 use super::at;
 use super::large::{LEN, LINE, LINES};
+use crate::breaks::textwrap_unicode_cuts;
 use crate::options::TextwrapOptions;
 use crate::pieces::{
     TextwrapPiece, textwrap_break_apart, textwrap_find_words_at, textwrap_pieces,
@@ -109,6 +110,19 @@ fn words_are_split_after_hyphens_and_broken(rt: HostRuntime) {
     assert_eq!(rt; (status, count), (DONE, 0));
     let status = textwrap_break_apart(rt.alloc(), b"a\xff", 3, &mut pieces, &mut count);
     assert_eq!(rt; (status, count), (NOT_UTF8, 0));
+}
+
+#[test]
+fn lines_are_cut_at_unicode_breaks(rt: HostRuntime) {
+    let line = "foo-bar 日本".as_bytes();
+    let mut cuts = [9; 3];
+    let mut count = 7;
+    let status = textwrap_unicode_cuts(rt.alloc(), line, &mut cuts, &mut count);
+    assert_eq!(rt; (status, count, cuts), (DONE, 2, [8, 11, 9]));
+    let status = textwrap_unicode_cuts(rt.alloc(), line, &mut cuts[..1], &mut count);
+    assert_eq!(rt; (status, count, cuts), (TOO_SMALL, 2, [8, 11, 9]));
+    let status = textwrap_unicode_cuts(rt.alloc(), b"a \xff", &mut cuts, &mut count);
+    assert_eq!(rt; (status, count), (NOT_UTF8, 2));
 }
 
 #[test]

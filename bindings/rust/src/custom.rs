@@ -1,4 +1,5 @@
-//! Wrapping in which functions of the caller take part, paragraph by paragraph.
+//! Wrapping in which functions of the caller take part, or Unicode line breaks, paragraph by
+//! paragraph.
 //!
 //! The functions give the words, the points or the lines. What they give is checked here, and the
 //! library makes the pieces and the lines of it.

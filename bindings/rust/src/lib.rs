@@ -48,8 +48,8 @@
 //!
 //! # Differences from `textwrap`
 //!
-//! - [`WordSeparator::new`] cuts at blanks, as the original does without its feature
-//!   `unicode-linebreak`. Whoever has a line segmenter gives its offsets to
+//! - Unicode line breaks are those of UAX #14 at Unicode 15.0, from which the original departs in
+//!   three places. Whoever has another line segmenter gives its offsets to
 //!   [`find_words_at`](word_separators::find_words_at).
 //! - There is no hyphenation by patterns. A [`WordSplitter::Custom`] may give its points.
 //! - There is no `termwidth`, and no `Options::with_termwidth`.
@@ -63,8 +63,11 @@
 //!
 //! # Cargo Features
 //!
-//! The features `std`, `smawk` and `unicode-width` change nothing: they are there so that a line of
-//! `Cargo.toml` that names them stays as it is. The crate needs `alloc`, and the heap of the C
+//! With `unicode-linebreak`, a default feature, [`WordSeparator::new`] is
+//! [`UnicodeBreakProperties`](WordSeparator::UnicodeBreakProperties), and else
+//! [`AsciiSpace`](WordSeparator::AsciiSpace), as in the original. The features `std`, `smawk` and
+//! `unicode-width` change nothing: they are there so that a line of `Cargo.toml` that names them
+//! stays as it is. The crate needs `alloc`, and the heap of the C
 //! library.
 //!
 //! # Memory

@@ -56,7 +56,7 @@ impl<'a> Options<'a> {
     /// assert_eq!((options.initial_indent, options.subsequent_indent), ("", ""));
     /// assert!(options.break_words);
     /// assert_eq!(options.wrap_algorithm, WrapAlgorithm::new_optimal_fit());
-    /// assert_eq!(options.word_separator, WordSeparator::AsciiSpace);
+    /// assert_eq!(options.word_separator, WordSeparator::new());
     /// assert_eq!(options.word_splitter, WordSplitter::HyphenSplitter);
     /// assert!(!options.preserve_trailing_space && !options.even_paragraphs);
     /// ```
@@ -190,10 +190,11 @@ impl<'a> Options<'a> {
         Options { even_paragraphs, ..self }
     }
 
-    /// Whether a function of the caller takes part.
+    /// Whether a function of the caller takes part, or Unicode line breaks: then a text is wrapped
+    /// paragraph by paragraph.
     pub(crate) fn has_function(&self) -> bool {
         matches!(self.wrap_algorithm, WrapAlgorithm::Custom(_))
-            || matches!(self.word_separator, WordSeparator::Custom(_))
+            || !matches!(self.word_separator, WordSeparator::AsciiSpace)
             || matches!(self.word_splitter, WordSplitter::Custom(_))
     }
 

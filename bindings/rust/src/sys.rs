@@ -208,6 +208,14 @@ extern "C" {
         count: *mut usize,
     ) -> u32;
 
+    pub fn textwrap_unicode_cuts(
+        line: *const u8,
+        line_len: usize,
+        cuts: *mut usize,
+        cuts_len: usize,
+        count: *mut usize,
+    ) -> u32;
+
     pub fn textwrap_split_points(
         word: *const u8,
         word_len: usize,

@@ -1,7 +1,7 @@
 //! Where a line is cut into words.
 //!
-//! [`WordSeparator`] says it. A caller with a line segmenter, such as one by the line breaks of
-//! Unicode, makes words of its offsets by [`find_words_at`].
+//! [`WordSeparator`] says it. A caller with a line segmenter makes words of its offsets by
+//! [`find_words_at`].
 use crate::core::Word;
 use crate::options::Options;
 use crate::room::{listed, or_abort, OutOfMemory, Refusal};
@@ -40,6 +40,20 @@ pub enum WordSeparator {
     /// ```
     AsciiSpace,
 
+    /// Where the Unicode line breaking algorithm
+    /// ([UAX #14](https://www.unicode.org/reports/tr14/)) lets a line end, by its text without
+    /// escape sequences; but not right after a hyphen `-` or a soft hyphen (U+00AD), which is left
+    /// to a [`WordSplitter`]. The rules are those of Unicode 15.0.
+    ///
+    /// ```
+    /// use textwrap_proved::core::Word;
+    /// use textwrap_proved::WordSeparator::UnicodeBreakProperties;
+    ///
+    /// let words: Vec<Word> = UnicodeBreakProperties.find_words("foo-bar 你好！").collect();
+    /// assert_eq!(words, [Word::from("foo-bar "), Word::from("你"), Word::from("好！")]);
+    /// ```
+    UnicodeBreakProperties,
+
     /// Where a function says, which returns the words of a line.
     ///
     /// `wrap` and `fill` panic unless the words tile the line: one after another they are the line,
@@ -66,7 +80,7 @@ pub enum WordSeparator {
 /// use textwrap_proved::core::Word;
 /// use textwrap_proved::WordSeparator;
 ///
-/// assert_eq!(WordSeparator::new(), WordSeparator::AsciiSpace);
+/// assert_ne!(WordSeparator::UnicodeBreakProperties, WordSeparator::AsciiSpace);
 ///
 /// fn whole(line: &str) -> Box<dyn Iterator<Item = Word<'_>> + '_> {
 ///     Box::new(std::iter::once(Word::from(line)))
@@ -75,15 +89,23 @@ pub enum WordSeparator {
 /// ```
 impl PartialEq for WordSeparator {
     fn eq(&self, other: &Self) -> bool {
-        matches!((self, other), (WordSeparator::AsciiSpace, WordSeparator::AsciiSpace))
+        use WordSeparator::{AsciiSpace, UnicodeBreakProperties};
+        matches!(
+            (self, other),
+            (AsciiSpace, AsciiSpace) | (UnicodeBreakProperties, UnicodeBreakProperties)
+        )
     }
 }
 
 impl WordSeparator {
-    /// The default, which is [`AsciiSpace`](WordSeparator::AsciiSpace). It is what the original has
-    /// without its feature `unicode-linebreak`, which is not there.
+    /// The default: [`UnicodeBreakProperties`](WordSeparator::UnicodeBreakProperties), or
+    /// [`AsciiSpace`](WordSeparator::AsciiSpace) without the feature `unicode-linebreak`.
     pub const fn new() -> Self {
-        WordSeparator::AsciiSpace
+        if cfg!(feature = "unicode-linebreak") {
+            WordSeparator::UnicodeBreakProperties
+        } else {
+            WordSeparator::AsciiSpace
+        }
     }
 
     /// The words of a line. A line ending in it is taken for a character.
@@ -102,6 +124,18 @@ impl WordSeparator {
             WordSeparator::AsciiSpace => {
                 let places = words_between_blanks(line)?;
                 Ok(Box::new(places.into_iter().map(move |place| Word::at(line, &place))))
+            }
+            WordSeparator::UnicodeBreakProperties => {
+                let cuts = unicode_cuts(line)?;
+                let ends = cuts.into_iter().chain(Some(line.len()));
+                let mut start = 0;
+                let words = ends.map(move |end| {
+                    let part = &line[start..end];
+                    start = end;
+                    Word::from(part)
+                });
+                // An empty line has no word, and no cut is at its end.
+                Ok(Box::new(words.filter(|_| !line.is_empty())))
             }
             WordSeparator::Custom(function) => Ok(function(line)),
         }
@@ -133,6 +167,19 @@ fn words_between_blanks(line: &str) -> Result<Vec<sys::Piece>, OutOfMemory> {
         })
     };
     Ok(places?)
+}
+
+/// Where a line is cut by its Unicode line breaks: in as many places as it has blanks and characters
+/// outside ASCII, or a few more.
+pub(crate) fn unicode_cuts(line: &str) -> Result<Vec<usize>, OutOfMemory> {
+    let likely = line.bytes().filter(|&byte| byte == b' ' || byte >= 0xC0).count() + 4;
+    // SAFETY: a text with its length, and room with its length; the call writes what it reports.
+    let cuts = unsafe {
+        listed(likely, |cuts, cuts_len, count| {
+            sys::textwrap_unicode_cuts(line.as_ptr(), line.len(), cuts, cuts_len, count)
+        })
+    };
+    Ok(cuts?)
 }
 
 /// Offsets that do not increase, or are no character boundaries of the line.

@@ -100,7 +100,7 @@ fn the_types_are_shared_between_threads_and_printed() {
         format!("{value:?}")
     }
     assert!(shared(Options::new(5)).starts_with("Options { width: 5"));
-    assert_eq!(shared(WordSeparator::new()), "AsciiSpace");
+    assert_eq!(shared(WordSeparator::AsciiSpace), "AsciiSpace");
     assert_eq!(shared(WordSplitter::HyphenSplitter), "HyphenSplitter");
     assert_eq!(shared(WrapAlgorithm::FirstFit), "FirstFit");
     assert_eq!(shared(LineEnding::LF), "LF");
@@ -292,7 +292,8 @@ fn parts_are_compared() {
     assert_ne!(WordSplitter::NoHyphenation, WordSplitter::HyphenSplitter);
     assert_eq!(WrapAlgorithm::default(), WrapAlgorithm::OptimalFit(Penalties::default()));
     assert!(matches!(WrapAlgorithm::new(), WrapAlgorithm::OptimalFit(_)));
-    assert!(matches!(WordSeparator::new(), WordSeparator::AsciiSpace));
+    let is_at_breaks = WordSeparator::new() == WordSeparator::UnicodeBreakProperties;
+    assert_eq!(is_at_breaks, cfg!(feature = "unicode-linebreak"));
     let custom = WrapAlgorithm::Custom(in_pairs);
     assert_ne!(custom, custom);
     assert_ne!(WordSeparator::Custom(after_commas), WordSeparator::Custom(after_commas));
@@ -526,13 +527,31 @@ fn even_paragraphs_with_functions_of_the_caller() {
     }
 }
 
+#[test]
+fn lines_end_where_unicode_lets_them() {
+    let options = Options::new(8)
+        .word_separator(WordSeparator::UnicodeBreakProperties)
+        .wrap_algorithm(WrapAlgorithm::FirstFit);
+    assert_eq!(wrap("これは「ペン」です。", &options), ["これは", "「ペン」", "です。"]);
+    assert_eq!(fill("foo\u{a0}bar b\u{200b}c d", &options), "foo\u{a0}bar\nb\u{200b}c d");
+    let blanks = options.word_separator(WordSeparator::AsciiSpace).break_words(false);
+    assert_eq!(wrap("これは「ペン」です。", blanks), ["これは「ペン」です。"]);
+    let words = WordSeparator::UnicodeBreakProperties.find_words("foo-bar 日本").collect::<Vec<_>>();
+    assert_eq!(words, [Word::from("foo-bar "), Word::from("日"), Word::from("本")]);
+    assert_eq!(WordSeparator::UnicodeBreakProperties.find_words("").count(), 0);
+}
+
 /// Functions that do what the built-in parts do.
 fn as_built_in<'a>(options: &'a Options<'a>) -> Options<'a> {
     fn at_blanks(line: &str) -> Box<dyn Iterator<Item = Word<'_>> + '_> {
         WordSeparator::AsciiSpace.find_words(line)
     }
+    fn at_breaks(line: &str) -> Box<dyn Iterator<Item = Word<'_>> + '_> {
+        WordSeparator::UnicodeBreakProperties.find_words(line)
+    }
+    let is_at_blanks = options.word_separator == WordSeparator::AsciiSpace;
     Options::from(options)
-        .word_separator(WordSeparator::Custom(at_blanks))
+        .word_separator(WordSeparator::Custom(if is_at_blanks { at_blanks } else { at_breaks }))
         .word_splitter(WordSplitter::Custom(|word| WordSplitter::HyphenSplitter.split_points(word)))
         .wrap_algorithm(WrapAlgorithm::Custom(|words, widths| {
             WrapAlgorithm::new().wrap(words, widths)
@@ -548,7 +567,8 @@ fn functions_may_do_what_the_built_in_parts_do() {
         let crlf = plain.clone().line_ending(LineEnding::CRLF).preserve_trailing_space(true);
         let indented = plain.clone().initial_indent("* ").subsequent_indent("    ");
         let unbroken = indented.clone().break_words(false);
-        for options in [plain, crlf, indented, unbroken] {
+        let blanks = unbroken.clone().word_separator(WordSeparator::AsciiSpace);
+        for options in [plain, crlf, indented, unbroken, blanks] {
             let own = as_built_in(&options);
             assert_eq!(wrap(text, &own), wrap(text, &options));
             assert_eq!(fill(text, &own), fill(text, &options));

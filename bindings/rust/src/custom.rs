@@ -6,6 +6,7 @@
 use crate::core::{display_width, Word};
 use crate::fallible::{push, push_line, unfill};
 use crate::room::{listed, room_for, LineText, OutOfMemory, Reported};
+use crate::word_separators::unicode_cuts;
 use crate::{guess, sys};
 use crate::{Options, WordSeparator, WrapAlgorithm};
 use alloc::borrow::Cow;
@@ -129,6 +130,11 @@ impl<'o> With<'o> {
     /// Where the words of a paragraph stand, and their points.
     fn places_in(&self, paragraph: &str) -> Result<Places, OutOfMemory> {
         let Options { word_separator, word_splitter, .. } = self.options;
+        if matches!(word_separator, WordSeparator::UnicodeBreakProperties) {
+            let cuts = unicode_cuts(paragraph)?;
+            let points = self.points_between(&cuts, paragraph)?;
+            return Ok(Places { cuts, points });
+        }
         let is_custom = matches!(word_separator, WordSeparator::Custom(_));
         let (mut cuts, mut points) = (Vec::new(), Vec::new());
         let mut start = 0;
@@ -156,6 +162,20 @@ impl<'o> With<'o> {
             &paragraph[start..]
         );
         Ok(Places { cuts, points })
+    }
+
+    /// The points of the words between cuts.
+    fn points_between(&self, cuts: &[usize], paragraph: &str) -> Result<Vec<usize>, OutOfMemory> {
+        let mut points = Vec::new();
+        let mut start = 0;
+        for &end in cuts.iter().chain(Some(&paragraph.len())) {
+            let word = paragraph[start..end].trim_end_matches(' ');
+            let inside = self.options.word_splitter.points_inside(word)?;
+            points.try_reserve(inside.len()).map_err(|_| OutOfMemory)?;
+            points.extend(inside.iter().map(|point| start + point));
+            start = end;
+        }
+        Ok(points)
     }
 
     /// The pieces that a paragraph is divided into lines of.

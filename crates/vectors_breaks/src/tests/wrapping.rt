@@ -21,11 +21,17 @@ const FILLED: &[(&str, usize, &str)] = &[
     ("不要担心，你会没事的。", 10, "不要担心，\n你会没事\n的。"),
     ("これは「ペン」です。", 8, "これは\n「ペン」\nです。"),
     ("ちょっとまって", 6, "ちょっ\nとまっ\nて"),
+    (
+        "これはペンです。とても「よい」ペンでしたので、三本買いました。",
+        14,
+        "これはペンで\nす。とても「よ\nい」ペンでした\nので、三本買い\nました。",
+    ),
     // Korean: between syllables too.
     ("한국어는 띄어쓰기를 한다", 10, "한국어는\n띄어쓰기를\n한다"),
     ("한국어는 띄어쓰기를", 12, "한국어는 띄\n어쓰기를"),
     // Thai words cannot be told apart without a dictionary: nowhere.
     ("ภาษาไทย abc", 8, "ภาษาไทย\nabc"),
+    ("ภาษาไทยเขียนติดกัน", 14, "ภาษาไทยเขียนติดกั\nน"),
     // Hebrew: not after a hyphen.
     ("אבג\u{2010}דה וז", 6, "אבג\u{2010}דה\nוז"),
     // Emoji: a family is one, and so are a hand with its colour and the two halves of a flag.

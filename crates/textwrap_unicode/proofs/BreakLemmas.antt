@@ -1,12 +1,14 @@
 -- The breaks that the iterator has still to give.
-use Rattle.std.proofs.Common.{◌≡◌, ℕ, ◌+◌, ◌≤◌, Bool, true, false, List, [], ◌∷◌, ◌++◌, length, drop}
+use Rattle.std.proofs.Common.{◌≡◌, ℕ, ◌+◌, ◌≤◌, true, false, List, [], ◌∷◌, ◌++◌, length, drop}
 use Rattle.std.proofs.Common.{refl, sym, ap, ◌∙◌, subst, arith, length-append, if◌then◌else◌}
 use Rattle.std.specs.Str.{chars, IsUtf8, IsCharBoundary}
 use Rattle.std.proofs.lemmas.List.{drop-drop, drop_at, length-drop, nil_from_length}
 use Rattle.std.proofs.lemmas.Str.{chars-nil, chars_past_char, IsCharBoundary-past_char, IsUtf8-past_char}
 use Rattle.std.proofs.lemmas.Str.{length-encode}
 use lib.Utf8.{encode}
+use Rattle.unicode.specs.declared.properties.LineBreak.TheVariants.{Alphabetic}
 use Rattle.textwrap_unicode.specs.declared.before.Before.{Before}
+use Rattle.textwrap_unicode.specs.declared.classes.Unit.{Unit}
 use Rattle.textwrap_unicode.specs.declared.breaks.LineBreak.{LineBreak}
 use Rattle.textwrap_unicode.specs.Before.{Text, before_of, nothing, with_unit}
 use Rattle.textwrap_unicode.specs.Breaks.{break_at, breaks_from}
@@ -114,3 +116,26 @@ module _ (rest : List ℕ) (start : ℕ) (first : Before) (offset : ℕ) (ahead 
       let whole : start + offset ≡ start + length rest =
       omega (arith, h.within, length-drop offset rest, ap length h.place, none) in
       sym (rw (ended, whole) at h.left)
+
+-- ---- letters of a word
+
+-- a letter stands there, and nothing else that a rule asks for
+abbrev pub in_word : Before
+in_word = record {
+  is_start = false;
+  class = Alphabetic;
+  past_spaces = Alphabetic;
+  follows_hebrew = false;
+  is_half_flag = false;
+  is_wide = false;
+  is_unassigned_pictograph = false;
+  is_joined = false;
+}
+
+abbrev pub plain_letter : Unit
+plain_letter = record { class = Alphabetic; is_wide = false; is_unassigned_pictograph = false }
+
+-- a letter more changes nothing
+pub letter-step : (before : Before) (unit : Unit) → before ≡ in_word → unit ≡ plain_letter
+    → (decide before unit ≡ Prohibited) × (and before unit ≡ before)
+letter-step before unit in_word_is letter_is = rw (in_word_is, letter_is) (refl, refl)

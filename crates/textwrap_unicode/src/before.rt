@@ -1,5 +1,6 @@
 //! What stands before a place.
-ghost use Rattle.std.specs.Prelude.{◌≡◌};
+ghost use Rattle.std.specs.Prelude.{◌≡◌, true, false};
+ghost use Rattle.unicode.specs.declared.properties.LineBreak.TheVariants.{Alphabetic};
 ghost use Rattle.textwrap_unicode.specs.Before.{as_letter, before_of, nothing};
 ghost use Rattle.textwrap_unicode.specs.BreaksLeft.{and};
 
@@ -70,6 +71,27 @@ impl Before {
             is_unassigned_pictograph: unit.is_unassigned_pictograph,
             is_joined,
         }
+    }
+
+    /// Whether a letter of a word stands there, and nothing else that a rule asks for: then one more
+    /// letter changes nothing.
+    #[inline]
+    pub(crate) fn is_in_word(&self) -> bool
+        ensures { result ≡ true → self.now ≡ record {
+          is_start = false;
+          class = Alphabetic;
+          past_spaces = Alphabetic;
+          follows_hebrew = false;
+          is_half_flag = false;
+          is_wide = false;
+          is_unassigned_pictograph = false;
+          is_joined = false;
+        } }
+    {
+        matches!(self.class, LineBreak::Alphabetic)
+            & matches!(self.past_spaces, LineBreak::Alphabetic)
+            & !(self.is_start | self.follows_hebrew | self.is_half_flag)
+            & !(self.is_wide | self.is_unassigned_pictograph | self.is_joined)
     }
 }
 

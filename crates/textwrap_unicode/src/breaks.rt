@@ -62,10 +62,16 @@ impl<'t> Iterator for LineBreaks<'t> {
     fn next(&mut self) -> Option<LineBreak> {
         let (rest, start) = (self.rest, self.at);
         let mut before = self.before;
+        let mut is_in_word = before.is_in_word();
         for (offset, c) in rest.char_indices() {
             let unit = Unit::of(c);
+            // No line ends between two letters of a word, and the second changes nothing.
+            if is_in_word && unit.is_plain_letter() {
+                continue;
+            }
             let verdict = decide(&before, unit);
             before = before.and(unit);
+            is_in_word = before.is_in_word();
             let is_mandatory = match verdict {
                 Verdict::Prohibited => continue,
                 Verdict::Allowed => false,

@@ -1,7 +1,11 @@
 //! What the rules of line breaking ask of a character.
-ghost use Rattle.std.specs.Prelude.{◌≡◌};
+ghost use Rattle.std.specs.Prelude.{◌≡◌, ◌&&◌, true, false};
+ghost use Rattle.unicode.specs.Binary.{is_extended_pictographic};
+ghost use Rattle.unicode.specs.GeneralCategory.{general_category};
+ghost use Rattle.unicode.specs.declared.properties.LineBreak.TheVariants.{Alphabetic};
 ghost use Rattle.textwrap_unicode.specs.Classes.{class_of, is_unassigned, is_wide, resolve, resolve_complex, unit_of};
 
+use crate::ascii::CLASSES;
 use unicode::properties::{EastAsianWidth, GeneralCategory, LineBreak, is_extended_pictographic};
 
 /// What the rules ask of a character.
@@ -17,23 +21,63 @@ pub struct Unit {
 
 impl Unit {
     /// What the rules ask of this character.
+    #[inline]
     pub fn of(c: char) -> Unit
         ensures { result ≡ unit_of c }
     {
+        let code = c as usize;
+        // No ASCII character is wide, and none is a pictograph without an assignment.
+        if code < 128 {
+            return Unit {
+                class: CLASSES[code],
+                is_wide: false,
+                is_unassigned_pictograph: false,
+            };
+        }
+        // The block of the common ideographs, which most of a Chinese text is.
+        if 0x4E00 <= code && code <= 0x9FFF {
+            return Unit {
+                class: LineBreak::Ideographic,
+                is_wide: true,
+                is_unassigned_pictograph: false,
+            };
+        }
         Unit {
             class: class_of(c),
             is_wide: is_wide(EastAsianWidth::for_char(c)),
-            is_unassigned_pictograph: is_extended_pictographic(c)
-                && is_unassigned(GeneralCategory::for_char(c)),
+            is_unassigned_pictograph: is_unassigned_pictograph(c),
         }
+    }
+
+    /// Whether the rules ask nothing more of it than that it is a letter.
+    #[inline]
+    pub(crate) fn is_plain_letter(self) -> bool
+        ensures { result ≡ true → self ≡ record { class = Alphabetic; is_wide = false; is_unassigned_pictograph = false } }
+    {
+        matches!(self.class, LineBreak::Alphabetic) & !self.is_wide & !self.is_unassigned_pictograph
     }
 }
 
-/// The class of a character, by LB1.
+/// The class of a character, by LB1. Its category matters for SA alone, so only then is it looked up.
+#[inline]
 fn class_of(c: char) -> LineBreak
     ensures { result ≡ class_of c }
 {
-    resolve(LineBreak::for_char(c), GeneralCategory::for_char(c))
+    match LineBreak::for_char(c) {
+        LineBreak::ComplexContext => resolve_complex(GeneralCategory::for_char(c)),
+        value => resolve(value, GeneralCategory::Unassigned),
+    }
+}
+
+/// Whether it is a pictograph that is not assigned yet. The first such one is past U+1F000, so for most
+/// texts nothing is looked up.
+#[inline]
+fn is_unassigned_pictograph(c: char) -> bool
+    ensures { result ≡ is_extended_pictographic c && is_unassigned (general_category c) }
+{
+    c as u32 >= 0x1F000
+        && is_extended_pictographic(c)
+        && is_unassigned(GeneralCategory::for_char(c))
 }
 
 fn resolve(value: LineBreak, category: GeneralCategory) -> LineBreak

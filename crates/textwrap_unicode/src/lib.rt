@@ -7,6 +7,7 @@
 //! later version; classes that the rules do not know are taken as what their characters were.
 #![tactic(auto)]
 
+mod ascii;
 mod before;
 pub mod breaks;
 mod class_sets;

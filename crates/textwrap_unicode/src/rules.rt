@@ -1,7 +1,8 @@
 //! The rules of line breaking, LB2 to LB31 of [UAX #14](https://www.unicode.org/reports/tr14/) at Unicode
 //! 15.0, LB25 by pairs. Each function says whether a rule applies between what stands before a place and
 //! the next unit.
-ghost use Rattle.std.specs.Prelude.{◌≡◌};
+ghost use Rattle.std.specs.Prelude.{◌≡◌, ◌&&◌, not};
+ghost use Rattle.textwrap_unicode.specs.ClassSets.{is_opening};
 ghost use Rattle.textwrap_unicode.specs.Rules.{lb2, lb4, lb6, lb7, lb8, lb8a, lb9, lb11, lb12, lb12a, lb13, lb14, lb15, lb16, lb17, lb18, lb19, lb20, lb21, lb21a, lb21b, lb22, lb23, lb23a, lb24, lb25, lb26, lb27, lb28, lb29, lb30, lb30a, lb30b, is_kept, is_glued, is_held, decide};
 
 use crate::before::{Before, as_letter};
@@ -16,6 +17,7 @@ use crate::class_sets::{
     is_zero_width_space, leads_to_number, takes_no_mark,
 };
 use crate::classes::Unit;
+use unicode::properties::LineBreak;
 
 /// What the rules say of a place.
 #[derive(Clone, Copy, Debug, PartialEq, Eq)]
@@ -310,8 +312,44 @@ fn is_held(before: &Before, next: Unit) -> bool
         | lb30b(before, next)
 }
 
-/// What the rules say of the place between what stands before it and the next unit.
+/// What the rules say of the place between what stands before it and the next unit. Most places of a text
+/// are of a few kinds, for which it needs few of the rules.
+#[inline]
 pub fn decide(before: &Before, next: Unit) -> Verdict
+    ensures { result ≡ decide before.now next }
+{
+    match next.class {
+        LineBreak::Space if !is_line_end(before.class) => Verdict::Prohibited,
+        LineBreak::Alphabetic | LineBreak::HebrewLetter | LineBreak::Numeric => {
+            match before.class {
+                LineBreak::Alphabetic | LineBreak::HebrewLetter | LineBreak::Numeric
+                    if !is_zero_width_space(before.past_spaces) => { Verdict::Prohibited }
+                LineBreak::Space if is_free(before) => Verdict::Allowed,
+                _ => decide_by_rules(before, next),
+            }
+        }
+        LineBreak::Ideographic | LineBreak::H2 | LineBreak::H3 => match before.class {
+            LineBreak::Space
+            | LineBreak::ClosePunctuation
+            | LineBreak::Ideographic
+            | LineBreak::H2
+            | LineBreak::H3
+                if is_free(before) => { Verdict::Allowed }
+            _ => decide_by_rules(before, next),
+        },
+        _ => decide_by_rules(before, next),
+    }
+}
+
+/// Whether nothing but the class of the last unit can forbid that a line ends there.
+fn is_free(before: &Before) -> bool
+    ensures { result ≡ not before.now.is_start && not before.now.is_joined && not (is_opening before.now.past_spaces) }
+{
+    !before.is_start & !before.is_joined & !is_opening(before.past_spaces)
+}
+
+/// The same, by the rules one after the other.
+fn decide_by_rules(before: &Before, next: Unit) -> Verdict
     ensures { result ≡ decide before.now next }
 {
     let letter = as_letter(next);

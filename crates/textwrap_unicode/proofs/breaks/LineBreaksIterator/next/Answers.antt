@@ -3,7 +3,7 @@ use Rattle.std.specs.Str.{chars}
 use Rattle.std.specs.Str.Iter.{char_indices_offset, char_indices_rest}
 use Rattle.textwrap_unicode.proofs.breaks.LineBreaksIterator.next.Goals as goal
 use Rattle.textwrap_unicode.proofs.BreakLemmas.{reading-start, reading-step, reading-break, reading-end}
-use Rattle.textwrap_unicode.proofs.BreakLemmas.{none-left, reading-boundary}
+use Rattle.textwrap_unicode.proofs.BreakLemmas.{letter-step, none-left, reading-boundary}
 use Rattle.textwrap_unicode.specs.declared.breaks.LineBreak.{LineBreak}
 use Rattle.textwrap_unicode.specs.BreaksLeft.{and, breaks_after}
 use Rattle.textwrap_unicode.specs.Rules.{decide}
@@ -18,6 +18,7 @@ loop-offset-init c = (
       ∙ c.char_indices-offset-items.ensures.rest)
       refl,
   refl,
+  c.is_in_word-is_in_word.ensures,
 )
 
 pub loop-offset-preserved : goal.loop-offset-preserved
@@ -28,6 +29,20 @@ loop-offset-preserved c =
           ∙ c.in-Prohibited.is) s.2
           (c.and-before.ensures ∙ ap (and c.loop-offset.before) c.of-unit.ensures),
       c.loop-offset.invariant.1,
+      c.is_in_word-is_in_word-in-loop-offset.ensures,
+    )
+
+pub loop-offset-preserved-then-is_plain_letter : goal.loop-offset-preserved-then-is_plain_letter
+loop-offset-preserved-then-is_plain_letter c =
+    let (reading, same, in_word) = c.loop-offset.invariant in
+    let s = c.in-Some.ensures.steps in
+    let letter = letter-step c.loop-offset.before c.of-unit.result (in_word c.if-is_in_word.true)
+    (c.is_plain_letter.ensures c.if-is_plain_letter.true) in (
+      reading-step _ _ _ _ _ _ reading c.in-Some.c _ s.1 _ _
+          (ap (decide c.loop-offset.before) (sym c.of-unit.ensures) ∙ letter.0) s.2
+          (sym letter.1 ∙ ap (and c.loop-offset.before) c.of-unit.ensures),
+      same,
+      in_word,
     )
 
 pub range_from-requires : goal.range_from-requires
@@ -56,7 +71,7 @@ returns-in-loop-offset-clause-goes c =
 
 pub returns-then-before-clause-steps : goal.returns-then-before-clause-steps
 returns-then-before-clause-steps c =
-    let (reading, same) = c.loop-offset.invariant in
+    let (reading, same, in_word) = c.loop-offset.invariant in
     let none = rw c.if-before.true
     at (reading-end _ _ _ _ _ _ reading c.in-None.ensures.steps.0) in (
       sym c.self.view_is ∙ none,

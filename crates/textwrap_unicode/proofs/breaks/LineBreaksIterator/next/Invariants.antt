@@ -1,10 +1,11 @@
-use Rattle.std.proofs.Common.{◌≡◌}
+use Rattle.std.proofs.Common.{◌≡◌, true}
 use Rattle.std.specs.Str.Iter.{char_indices_offset, char_indices_rest}
 use Rattle.textwrap_unicode.proofs.breaks.LineBreaksIterator.next.Given as goal
-use Rattle.textwrap_unicode.proofs.BreakLemmas.{IsReading}
+use Rattle.textwrap_unicode.proofs.BreakLemmas.{IsReading, in_word}
 
 abbrev pub invariant-loop-offset : goal.invariant-loop-offset
 invariant-loop-offset l =
     IsReading l.rest l.start l.initial.before (char_indices_offset l.offset-iterator)
     (char_indices_rest l.offset-iterator) l.before
     × (l.self-inside ≡ l.initial.self-inside)
+    × (l.is_in_word ≡ true → l.before ≡ in_word)

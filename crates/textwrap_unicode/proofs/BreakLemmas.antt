@@ -3,7 +3,8 @@ use Rattle.std.proofs.Common.{◌≡◌, ℕ, ◌+◌, ◌≤◌, true, false, L
 use Rattle.std.proofs.Common.{refl, sym, ap, ◌∙◌, subst, arith, length-append, if◌then◌else◌}
 use Rattle.std.specs.Str.{chars, IsUtf8, IsCharBoundary}
 use Rattle.std.proofs.lemmas.List.{drop-drop, drop_at, length-drop, nil_from_length}
-use Rattle.std.proofs.lemmas.Str.{chars-nil, chars_past_char, IsCharBoundary-past_char, IsUtf8-past_char}
+use Rattle.std.proofs.lemmas.Str.{chars-nil, chars_past_char, IsCharBoundary-past_char}
+use Rattle.std.proofs.lemmas.Str.{IsUtf8-past_char}
 use Rattle.std.proofs.lemmas.Str.{length-encode}
 use lib.Utf8.{encode}
 use Rattle.unicode.specs.declared.properties.LineBreak.TheVariants.{Alphabetic}

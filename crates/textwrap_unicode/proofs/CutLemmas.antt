@@ -1,89 +1,33 @@
 -- Where the pass over a line cuts it.
-use Rattle.textwrap_base.proofs.Common.{◌≡◌, ◌≢◌, ℕ, ◌+◌, ◌<◌, ◌≤◌, ◌==◌, ◌&&◌, ◌||◌, Bool, true, false, not}
-use Rattle.textwrap_base.proofs.Common.{if◌then◌else◌, cond, List, [], ◌∷◌, ◌++◌, length, map, flat_map, refl, sym, ap}
-use Rattle.textwrap_base.proofs.Common.{◌∙◌, subst, arith, All, All-nil, All-cons, All-head, All-tail}
-use Rattle.textwrap_base.proofs.Common.{All-weaker, append_assoc, append-nil, encode_utf8_all, IsUtf8}
-use Rattle.textwrap_base.proofs.Common.{IsUtf8-append, encodes-append, length-append, nat_lt, nat_tests, rules}
+use Rattle.textwrap_base.proofs.Common.{◌≡◌, ℕ, ◌+◌, ◌<◌, ◌≤◌, ◌==◌, ◌&&◌, Bool, true, false, not}
+use Rattle.textwrap_base.proofs.Common.{List, [], ◌∷◌, ◌++◌, length, flat_map, refl, sym, ap}
+use Rattle.textwrap_base.proofs.Common.{◌∙◌, subst, arith, All, All-nil, All-cons}
+use Rattle.textwrap_base.proofs.Common.{All-weaker, append_assoc, encode_utf8_all, IsUtf8}
+use Rattle.textwrap_base.proofs.Common.{IsUtf8-append, encodes-append, length-append, nat_lt}
+use Rattle.textwrap_base.proofs.Common.{nat_tests}
 use Rattle.std.specs.List.{list_any}
-use Rattle.std.specs.Str.{chars}
 use Rattle.std.proofs.lemmas.List.Elements.{All-append}
 use Rattle.std.proofs.lemmas.Str.{IsUtf8-nil}
 use lib.Utf8.{encode}
 use Rattle.textwrap_base.proofs.Characters.{utf8-front, utf8-back, some-bytes}
-use Rattle.textwrap_words.proofs.Common.{TextUnit, Visible, Sequence, characters, visible_of, VisibleEnd}
+use Rattle.textwrap_words.proofs.Common.{TextUnit, Visible, Sequence, characters, visible_of}
+use Rattle.textwrap_words.proofs.Common.{VisibleEnd}
 use Rattle.textwrap_words.proofs.Common.{ends_from, is_cut_after, cuts_among}
 use Rattle.textwrap_words.specs.WordOffsets.{is_any_hyphen}
 use Rattle.textwrap_words.proofs.Word.VisibleEnds.{end_of}
 use Rattle.textwrap_unicode.specs.declared.before.Before.{Before}
 use Rattle.textwrap_unicode.specs.declared.breaks.LineBreak.{LineBreak}
 use Rattle.textwrap_unicode.specs.declared.rules.Verdict.{Verdict}
-use Rattle.textwrap_unicode.specs.declared.rules.Verdict.TheVariants.{Mandatory, Allowed, Prohibited}
+use Rattle.textwrap_unicode.specs.declared.rules.Verdict.TheVariants.{Mandatory, Allowed}
+use Rattle.textwrap_unicode.specs.declared.rules.Verdict.TheVariants.{Prohibited}
 use Rattle.textwrap_unicode.specs.Before.{before_of, nothing}
 use Rattle.textwrap_unicode.specs.Breaks.{break_at}
 use Rattle.textwrap_unicode.specs.BreaksLeft.{and, breaks_after}
 use Rattle.textwrap_unicode.specs.Classes.{unit_of}
 use Rattle.textwrap_unicode.specs.Cuts.{may_end, offsets_of}
 use Rattle.textwrap_unicode.specs.Rules.{decide}
-
--- ---- the cuts that are ahead
-
-abbrev pub cut_here : Bool → ℕ → List ℕ
-cut_here b end = if b then end ∷ [] else []
-
--- after a last visible character that ends there, and may be a hyphen
-abbrev pub cuts_ahead : Before → ℕ → Bool → List VisibleEnd → List ℕ
-cuts_ahead before end hyphen [] = []
-cuts_ahead before end hyphen (e ∷ es) =
-    let next = unit_of e.character in
-    cut_here (not hyphen && may_end (decide before next)) end
-    ++ cuts_ahead (and before next) e.end (is_any_hyphen e.character) es
-
--- ---- an offset among those of the breaks
-
-other : (o s : ℕ) → o ≢ s → (o == s) ≡ false
-other o s differ = grind (arith, nat_tests)
-
-any-below : (s : ℕ) (front rest : List ℕ) → All (λ o. o < s) front
-    → list_any (λ o. o == s) (front ++ rest) ≡ list_any (λ o. o == s) rest
-any-below s [] rest below = refl
-any-below s (o ∷ os) rest below =
-    let here = All-head (λ o. o < s) o os below in
-    let differs : o ≢ s = λ e. omega (arith, here, e) in
-    rw (other o s differs) (any-below s os rest (All-tail (λ o. o < s) o os below))
-
-any-above : (s : ℕ) (os : List ℕ) → All (λ o. s < o) os → list_any (λ o. o == s) os ≡ false
-any-above s [] above = refl
-any-above s (o ∷ os) above =
-    let here = All-head (λ o. s < o) o os above in
-    let differs : o ≢ s = λ e. omega (arith, here, e) in
-    rw (other o s differs) (any-above s os (All-tail (λ o. s < o) o os above))
-
-breaks-above : (before : Before) (at : ℕ) (cs : List ℕ)
-    → All (λ o. at ≤ o) (offsets_of (breaks_after before at cs))
-breaks-above before at [] =
-    elim before.is_start as (λ b. All (λ o. at ≤ o)
-    (offsets_of (if b then [] else record { at = at; is_mandatory = true } ∷ []))) [
-      | true ↦ All-nil (λ o. at ≤ o)
-      | false ↦ All-cons (λ o. at ≤ o) at [] (omega arith) (All-nil (λ o. at ≤ o))
-    ]
-breaks-above before at (c ∷ cs) =
-    let next = at + length (encode c) in
-    let rest = breaks_after (and before (unit_of c)) next cs in
-    let later : All (λ o. at ≤ o) (offsets_of rest) =
-    All-weaker (λ o. next ≤ o) (λ o. at ≤ o) (λ o h. omega (arith, h)) (offsets_of rest)
-    (breaks-above (and before (unit_of c)) next cs) in
-    elim (decide before (unit_of c)) as (λ v. All (λ o. at ≤ o) (offsets_of (break_at v at ++ rest))) [
-      | Mandatory ↦ All-cons (λ o. at ≤ o) at (offsets_of rest) (omega arith) later
-      | Allowed ↦ All-cons (λ o. at ≤ o) at (offsets_of rest) (omega arith) later
-      | Prohibited ↦ later
-    ]
-
--- a break stands at a place among all if the rules say so there
-any-here : (v : Verdict) (s : ℕ) (later : List ℕ) → All (λ o. s < o) later
-    → list_any (λ o. o == s) (offsets_of (break_at v s) ++ later) ≡ may_end v
-any-here Mandatory s later above = grind (arith, nat_tests)
-any-here Allowed s later above = grind (arith, nat_tests)
-any-here Prohibited s later above = any-above s later above
+use Rattle.textwrap_unicode.proofs.OffsetsAmong.{any-below, any-here, breaks-above, cut_here}
+use Rattle.textwrap_unicode.proofs.OffsetsAmong.{cuts_ahead}
 
 -- ---- the cuts at the breaks are those ahead
 

@@ -1,24 +1,21 @@
 -- The code that cuts a line at its breaks.
-use Rattle.textwrap_base.proofs.Common.{◌≡◌, ℕ, ◌+◌, ◌<◌, ◌≤◌, ◌&&◌, Bool, true, false, not, cond, inl, inr}
-use Rattle.textwrap_base.proofs.Common.{List, [], ◌∷◌, ◌++◌, length, drop, refl, sym, ap, ◌∙◌, subst, arith}
-use Rattle.textwrap_base.proofs.Common.{All, All-weaker, Contains, IsUtf8, IsUtf8-past_char, cases_Bool}
-use Rattle.textwrap_base.proofs.Common.{append-nil, append_assoc, chars-nil, chars_past_char, drop-drop}
-use Rattle.textwrap_base.proofs.Common.{drop_at, encode_utf8_all, encodes-append, encodes-chars}
-use Rattle.textwrap_base.proofs.Common.{flat_map, flat_map-append, length-append, length-drop}
+use Rattle.textwrap_base.proofs.Common.{◌≡◌, ℕ, ◌+◌, ◌≤◌, ◌&&◌, Bool, false, not, cond, inl, inr}
+use Rattle.textwrap_base.proofs.Common.{List, [], ◌++◌, length, drop, refl, sym, ap, ◌∙◌, subst}
+use Rattle.textwrap_base.proofs.Common.{arith}
+use Rattle.textwrap_base.proofs.Common.{IsUtf8, IsUtf8-past_char, cases_Bool}
+use Rattle.textwrap_base.proofs.Common.{append-nil, append_assoc, chars-nil, chars_past_char}
+use Rattle.textwrap_base.proofs.Common.{drop-drop}
+use Rattle.textwrap_base.proofs.Common.{drop_at, encode_utf8_all, encodes-chars}
+use Rattle.textwrap_base.proofs.Common.{length-append, length-drop}
 use Rattle.textwrap_base.proofs.Common.{nil_from_length}
 use Rattle.std.specs.Str.{chars}
-use Rattle.std.proofs.lemmas.List.Elements.{All-contains_itself}
 use Rattle.std.proofs.lemmas.Str.{chars_from_encodes}
 use lib.Utf8.{encode}
-use Rattle.textwrap_base.proofs.Characters.{some-bytes}
-use Rattle.textwrap_words.proofs.Common.{characters, stripped, units, units_text, Visible, cuts_at}
+use Rattle.textwrap_words.proofs.Common.{stripped, units}
 use Rattle.textwrap_words.proofs.Units.Parts.{units-tile}
 use Rattle.textwrap_words.proofs.Units.States.{IsStep}
-use Rattle.textwrap_words.proofs.Word.OffsetCuts.{cut-found, cuts_at-cuts}
-use Rattle.textwrap_words.proofs.Word.OffsetPlaces.{cuts_at-AreCuts}
-use Rattle.textwrap_words.proofs.Word.VisibleEnds.{end_of, ends_in, ends_past, ends-step}
-use Rattle.textwrap_words.specs.Cuts.{AreInnerCuts}
-use Rattle.textwrap_words.specs.WordOffsets.{IsCutAt, is_any_hyphen}
+use Rattle.textwrap_words.proofs.Word.VisibleEnds.{ends_in, ends_past, ends-step}
+use Rattle.textwrap_words.specs.WordOffsets.{is_any_hyphen}
 use Rattle.textwrap_words.specs.declared.escapes.State.{State}
 use Rattle.textwrap_words.specs.declared.escapes.State.TheVariants.{Text}
 use Rattle.textwrap_unicode.specs.declared.before.Before.{Before}
@@ -29,9 +26,9 @@ use Rattle.textwrap_unicode.specs.Classes.{unit_of}
 use Rattle.textwrap_unicode.specs.Cuts.{may_end, offsets_of, unicode_cuts}
 use Rattle.textwrap_unicode.specs.Rules.{decide}
 use Rattle.textwrap_unicode.proofs.BreakLemmas.{breaks_after-from}
-use Rattle.textwrap_unicode.proofs.CutLemmas.{cut_here, cuts_ahead, start-cuts, visible_among, visible-utf8}
+use Rattle.textwrap_unicode.proofs.CutLemmas.{start-cuts, visible_among, visible-utf8}
+use Rattle.textwrap_unicode.proofs.OffsetsAmong.{cut_here, cuts_ahead}
 
--- the reader at byte `at` of the line, with the bytes `rest` to come
 pub record IsCutting (line : List ℕ) (at : ℕ) (rest : List ℕ) (state : State) (before : Before)
     (end : ℕ) (hyphen : Bool) (cuts : List ℕ) : Type 0 where
   pub utf8 : IsUtf8 rest
@@ -124,35 +121,3 @@ pub IsCutting-end : (line : List ℕ) (at : ℕ) (rest : List ℕ) (s : State) (
 IsCutting-end line at rest s before end hyphen cuts h none =
     let ended : chars rest ≡ [] = ap chars (nil_from_length rest none) ∙ chars-nil in
     sym (append-nil cuts) ∙ (rw ended at h.found)
-
--- ---- the cuts are inside the line
-
--- each is after a character
-cut-late : (offsets line : List ℕ) (cut : ℕ) → IsCutAt offsets line cut → 0 < cut
-cut-late offsets line cut h =
-    let last = Visible h.character ∷ [] in
-    let apart : units_text (h.before ++ last) ≡ units_text h.before ++ units_text last =
-    ap encode_utf8_all (flat_map-append characters h.before last)
-    ∙ encodes-append (flat_map characters h.before) (flat_map characters last) in
-    omega (
-      arith,
-      h.place,
-      ap length apart,
-      length-append (units_text h.before) (units_text last),
-      length-append (encode h.character) [],
-      some-bytes h.character,
-    )
-
-pub cuts_at-AreInnerCuts : (offsets line : List ℕ) → IsUtf8 line
-    → AreInnerCuts line (cuts_at offsets line)
-cuts_at-AreInnerCuts offsets line utf8 =
-    let cuts = cuts_at offsets line in
-    let are = cuts_at-AreCuts offsets line utf8 in
-    record {
-      in_order = (cuts_at-cuts offsets line).in_order;
-      after_start = All-weaker (Contains cuts) (λ cut. 0 < cut)
-          (λ cut h. cut-late offsets line cut (cut-found offsets line cut h)) cuts
-          (All-contains_itself cuts);
-      before_end = are.in_range;
-      between = are.between;
-    }

@@ -2,12 +2,15 @@
 use Rattle.std.proofs.Common.{◌≡◌, ◌⊎◌, inl, inr, Bool, true, false, not, ◌&&◌, ◌||◌, refl}
 use Rattle.std.proofs.Common.{if◌then◌else◌}
 use Rattle.unicode.specs.declared.properties.LineBreak.{LineBreak}
-use Rattle.unicode.specs.declared.properties.LineBreak.TheVariants.{Alphabetic, ClosePunctuation, H2, H3}
-use Rattle.unicode.specs.declared.properties.LineBreak.TheVariants.{HebrewLetter, Ideographic, Numeric, Space}
+use Rattle.unicode.specs.declared.properties.LineBreak.TheVariants.{Alphabetic, ClosePunctuation}
+use Rattle.unicode.specs.declared.properties.LineBreak.TheVariants.{H2, H3}
+use Rattle.unicode.specs.declared.properties.LineBreak.TheVariants.{HebrewLetter, Ideographic}
+use Rattle.unicode.specs.declared.properties.LineBreak.TheVariants.{Numeric, Space}
 use Rattle.textwrap_unicode.specs.declared.before.Before.{Before}
 use Rattle.textwrap_unicode.specs.declared.classes.Unit.{Unit}
 use Rattle.textwrap_unicode.specs.declared.rules.Verdict.TheVariants.{Allowed, Prohibited}
-use Rattle.textwrap_unicode.specs.ClassSets.{breaks_on_both_sides, is_closing, is_opening, is_quotation, is_zero_width_space}
+use Rattle.textwrap_unicode.specs.ClassSets.{breaks_on_both_sides, is_closing, is_opening}
+use Rattle.textwrap_unicode.specs.ClassSets.{is_quotation, is_zero_width_space}
 use Rattle.textwrap_unicode.specs.Rules.{decide}
 
 -- ---- what is left of the rules between known classes

@@ -1,6 +1,17 @@
+pub mod Ahead
 pub mod BeforeLemmas
 pub mod BreakLemmas
+pub mod BreakOrder
 pub mod CharacterLemmas
+pub mod ClassFacts
 pub mod CutLemmas
 pub mod CuttingLemmas
 pub mod DecideLemmas
+pub mod FoundBreaks
+pub mod InnerCuts
+pub mod OffsetsAmong
+pub mod OnePlace
+pub mod OrderLemmas
+pub mod RuleOrder
+pub mod TextBreaks
+pub mod Verdicts

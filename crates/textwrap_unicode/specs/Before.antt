@@ -1,12 +1,13 @@
--- What stands before a place, as the rules see it: combining marks belong to the character before them
--- (LB9), and without one they are letters (LB10).
+-- What stands before a place, as the rules see it: combining marks belong to the character before
+-- them (LB9), and without one they are letters (LB10).
 use Rattle.std.specs.Prelude.{ℕ, Bool, true, false, not, ◌&&◌, List, [], ◌∷◌, map, if◌then◌else◌}
 use Rattle.std.specs.List.{fold}
 use Rattle.unicode.specs.declared.properties.LineBreak.{LineBreak}
 use Rattle.unicode.specs.declared.properties.LineBreak.TheVariants.{Alphabetic, Unknown}
 use Rattle.textwrap_unicode.specs.declared.classes.Unit.{Unit}
 use Rattle.textwrap_unicode.specs.declared.before.Before.{Before}
-use Rattle.textwrap_unicode.specs.ClassSets.{is_hebrew, is_mark, is_regional_indicator, is_space, is_zwj, takes_no_mark}
+use Rattle.textwrap_unicode.specs.ClassSets.{is_hebrew, is_mark, is_regional_indicator, is_space}
+use Rattle.textwrap_unicode.specs.ClassSets.{is_zwj, takes_no_mark}
 use Rattle.textwrap_unicode.specs.Classes.{unit_of}
 
 -- the units before a place, the nearest first, without marks that belong to one; and whether a ZWJ

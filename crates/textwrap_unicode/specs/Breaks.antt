@@ -1,10 +1,12 @@
 -- Where a line of a text may or must end.
-use Rattle.std.specs.Prelude.{◌≡◌, ◌≢◌, ◌⊎◌, ◌↔◌, ◌<◌, ℕ, ◌+◌, Bool, true, false, List, [], ◌∷◌, ◌++◌, length}
+use Rattle.std.specs.Prelude.{◌≡◌, ◌≢◌, ◌⊎◌, ◌↔◌, ◌<◌, ℕ, ◌+◌, Bool, true, false, List, [], ◌∷◌}
+use Rattle.std.specs.Prelude.{◌++◌, length}
 use Rattle.std.specs.Prelude.{chars, encode_utf8, encode_utf8_all, get_or, if◌then◌else◌}
 use Rattle.std.specs.List.{Contains}
 use Rattle.textwrap_unicode.specs.declared.breaks.LineBreak.{LineBreak}
 use Rattle.textwrap_unicode.specs.declared.rules.Verdict.{Verdict}
-use Rattle.textwrap_unicode.specs.declared.rules.Verdict.TheVariants.{Mandatory, Allowed, Prohibited}
+use Rattle.textwrap_unicode.specs.declared.rules.Verdict.TheVariants.{Mandatory, Allowed}
+use Rattle.textwrap_unicode.specs.declared.rules.Verdict.TheVariants.{Prohibited}
 use Rattle.textwrap_unicode.specs.Before.{Text, before_of, is_empty, nothing, text_of, with_unit}
 use Rattle.textwrap_unicode.specs.Classes.{unit_of}
 use Rattle.textwrap_unicode.specs.Rules.{decide}

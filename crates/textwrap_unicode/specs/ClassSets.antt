@@ -1,7 +1,22 @@
 -- The sets of classes that the rules of line breaking speak of.
 use Rattle.std.specs.Prelude.{Bool, true, false}
 use Rattle.unicode.specs.declared.properties.LineBreak.{LineBreak}
-use Rattle.unicode.specs.declared.properties.LineBreak.TheVariants.{Alphabetic, BreakAfter, BreakBefore, BreakBoth, BreakSymbols, CarriageReturn, CloseParenthesis, ClosePunctuation, CombiningMark, ContingentBreak, EBase, EModifier, Exclamation, Glue, H2, H3, HebrewLetter, Hyphen, Ideographic, InfixNumeric, Inseparable, Jl, Jt, Jv, LineFeed, MandatoryBreak, NextLine, Nonstarter, Numeric, OpenPunctuation, PostfixNumeric, PrefixNumeric, Quotation, RegionalIndicator, Space, WordJoiner, ZWSpace, Zwj}
+use Rattle.unicode.specs.declared.properties.LineBreak.TheVariants.{Alphabetic, BreakAfter}
+use Rattle.unicode.specs.declared.properties.LineBreak.TheVariants.{BreakBefore, BreakBoth}
+use Rattle.unicode.specs.declared.properties.LineBreak.TheVariants.{BreakSymbols, CarriageReturn}
+use Rattle.unicode.specs.declared.properties.LineBreak.TheVariants.{CloseParenthesis}
+use Rattle.unicode.specs.declared.properties.LineBreak.TheVariants.{ClosePunctuation, CombiningMark}
+use Rattle.unicode.specs.declared.properties.LineBreak.TheVariants.{ContingentBreak, EBase}
+use Rattle.unicode.specs.declared.properties.LineBreak.TheVariants.{EModifier, Exclamation, Glue}
+use Rattle.unicode.specs.declared.properties.LineBreak.TheVariants.{H2, H3, HebrewLetter, Hyphen}
+use Rattle.unicode.specs.declared.properties.LineBreak.TheVariants.{Ideographic, InfixNumeric}
+use Rattle.unicode.specs.declared.properties.LineBreak.TheVariants.{Inseparable, Jl, Jt, Jv}
+use Rattle.unicode.specs.declared.properties.LineBreak.TheVariants.{LineFeed, MandatoryBreak}
+use Rattle.unicode.specs.declared.properties.LineBreak.TheVariants.{NextLine, Nonstarter, Numeric}
+use Rattle.unicode.specs.declared.properties.LineBreak.TheVariants.{OpenPunctuation, PostfixNumeric}
+use Rattle.unicode.specs.declared.properties.LineBreak.TheVariants.{PrefixNumeric, Quotation}
+use Rattle.unicode.specs.declared.properties.LineBreak.TheVariants.{RegionalIndicator, Space}
+use Rattle.unicode.specs.declared.properties.LineBreak.TheVariants.{WordJoiner, ZWSpace, Zwj}
 
 -- CM or ZWJ
 abbrev pub is_mark : LineBreak → Bool

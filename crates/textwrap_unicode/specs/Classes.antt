@@ -8,9 +8,17 @@ use Rattle.unicode.specs.LineBreak.{line_break}
 use Rattle.unicode.specs.declared.properties.EastAsianWidth.{EastAsianWidth}
 use Rattle.unicode.specs.declared.properties.EastAsianWidth.TheVariants.{Fullwidth, Halfwidth, Wide}
 use Rattle.unicode.specs.declared.properties.GeneralCategory.{GeneralCategory}
-use Rattle.unicode.specs.declared.properties.GeneralCategory.TheVariants.{NonspacingMark, SpacingMark, Unassigned}
+use Rattle.unicode.specs.declared.properties.GeneralCategory.TheVariants.{NonspacingMark}
+use Rattle.unicode.specs.declared.properties.GeneralCategory.TheVariants.{SpacingMark, Unassigned}
 use Rattle.unicode.specs.declared.properties.LineBreak.{LineBreak}
-use Rattle.unicode.specs.declared.properties.LineBreak.TheVariants.{Aksara, AksaraPrebase, AksaraStart, Alphabetic, Ambiguous, BreakAfter, CombiningMark, ComplexContext, ConditionalJapaneseStarter, Nonstarter, Surrogate, UnambiguousHyphen, Unknown, Virama, ViramaFinal}
+use Rattle.unicode.specs.declared.properties.LineBreak.TheVariants.{Aksara, AksaraPrebase}
+use Rattle.unicode.specs.declared.properties.LineBreak.TheVariants.{AksaraStart, Alphabetic}
+use Rattle.unicode.specs.declared.properties.LineBreak.TheVariants.{Ambiguous, BreakAfter}
+use Rattle.unicode.specs.declared.properties.LineBreak.TheVariants.{CombiningMark, ComplexContext}
+use Rattle.unicode.specs.declared.properties.LineBreak.TheVariants.{ConditionalJapaneseStarter}
+use Rattle.unicode.specs.declared.properties.LineBreak.TheVariants.{Nonstarter, Surrogate}
+use Rattle.unicode.specs.declared.properties.LineBreak.TheVariants.{UnambiguousHyphen, Unknown}
+use Rattle.unicode.specs.declared.properties.LineBreak.TheVariants.{Virama, ViramaFinal}
 use Rattle.textwrap_unicode.specs.declared.classes.Unit.{Unit}
 
 -- LB1: SA is taken as CM if it is a mark, and else as AL

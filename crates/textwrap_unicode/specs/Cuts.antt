@@ -4,7 +4,8 @@ use Rattle.textwrap_words.specs.Units.{stripped}
 use Rattle.textwrap_words.specs.WordOffsets.{cuts_at}
 use Rattle.textwrap_unicode.specs.declared.breaks.LineBreak.{LineBreak}
 use Rattle.textwrap_unicode.specs.declared.rules.Verdict.{Verdict}
-use Rattle.textwrap_unicode.specs.declared.rules.Verdict.TheVariants.{Mandatory, Allowed, Prohibited}
+use Rattle.textwrap_unicode.specs.declared.rules.Verdict.TheVariants.{Mandatory, Allowed}
+use Rattle.textwrap_unicode.specs.declared.rules.Verdict.TheVariants.{Prohibited}
 use Rattle.textwrap_unicode.specs.Breaks.{line_breaks}
 
 abbrev pub offsets_of : List LineBreak → List ℕ

@@ -5,3 +5,4 @@ pub mod Rules
 pub mod Breaks
 pub mod BreaksLeft
 pub mod Cuts
+pub mod Laws

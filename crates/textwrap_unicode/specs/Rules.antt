@@ -1,13 +1,27 @@
--- The rules of line breaking, LB2 to LB31 of UAX #14 at Unicode 15.0, LB25 by pairs. The first rule that
--- applies says whether a line may be broken between what stands before a place and the next unit. In the
--- comments × is "may not", ÷ "may", ! "must".
+-- The rules of line breaking, LB2 to LB31 of UAX #14 at Unicode 15.0, LB25 by pairs. The first rule
+-- that applies says whether a line may be broken between what stands before a place and the next
+-- unit. In the comments × is "may not", ÷ "may", ! "must".
 use Rattle.std.specs.Prelude.{◌&&◌, ◌||◌, Bool, not, List, [], ◌∷◌, if◌then◌else◌}
 use Rattle.textwrap_unicode.specs.declared.before.Before.{Before}
 use Rattle.textwrap_unicode.specs.declared.classes.Unit.{Unit}
 use Rattle.textwrap_unicode.specs.declared.rules.Verdict.{Verdict}
-use Rattle.textwrap_unicode.specs.declared.rules.Verdict.TheVariants.{Mandatory, Allowed, Prohibited}
+use Rattle.textwrap_unicode.specs.declared.rules.Verdict.TheVariants.{Mandatory, Allowed}
+use Rattle.textwrap_unicode.specs.declared.rules.Verdict.TheVariants.{Prohibited}
 use Rattle.textwrap_unicode.specs.Before.{as_letter}
-use Rattle.textwrap_unicode.specs.ClassSets.{is_mark, is_space, is_regional_indicator, takes_no_mark, is_line_end, is_carriage_return, is_line_feed, is_zero_width_space, is_word_joiner, is_glue, breaks_before_glue, is_closing, is_after_text, is_opening, is_quotation, is_nonstarter, breaks_on_both_sides, is_contingent, is_never_first, is_before_text, is_hebrew, is_hyphen, is_symbol, is_inseparable, is_letter, is_number, is_prefix, is_postfix, is_unit, is_ideograph, ends_number, leads_to_number, is_jamo, is_leading_jamo, follows_leading, ends_in_vowel, follows_vowel, ends_in_trailing, is_trailing_jamo, is_infix, is_letter_or_number, is_close_parenthesis, is_emoji_base, is_emoji_modifier}
+use Rattle.textwrap_unicode.specs.ClassSets.{is_mark, is_space, is_regional_indicator}
+use Rattle.textwrap_unicode.specs.ClassSets.{takes_no_mark, is_line_end, is_carriage_return}
+use Rattle.textwrap_unicode.specs.ClassSets.{is_line_feed, is_zero_width_space, is_word_joiner}
+use Rattle.textwrap_unicode.specs.ClassSets.{is_glue, breaks_before_glue, is_closing, is_after_text}
+use Rattle.textwrap_unicode.specs.ClassSets.{is_opening, is_quotation, is_nonstarter}
+use Rattle.textwrap_unicode.specs.ClassSets.{breaks_on_both_sides, is_contingent, is_never_first}
+use Rattle.textwrap_unicode.specs.ClassSets.{is_before_text, is_hebrew, is_hyphen, is_symbol}
+use Rattle.textwrap_unicode.specs.ClassSets.{is_inseparable, is_letter, is_number, is_prefix}
+use Rattle.textwrap_unicode.specs.ClassSets.{is_postfix, is_unit, is_ideograph, ends_number}
+use Rattle.textwrap_unicode.specs.ClassSets.{leads_to_number, is_jamo, is_leading_jamo}
+use Rattle.textwrap_unicode.specs.ClassSets.{follows_leading, ends_in_vowel, follows_vowel}
+use Rattle.textwrap_unicode.specs.ClassSets.{ends_in_trailing, is_trailing_jamo, is_infix}
+use Rattle.textwrap_unicode.specs.ClassSets.{is_letter_or_number, is_close_parenthesis}
+use Rattle.textwrap_unicode.specs.ClassSets.{is_emoji_base, is_emoji_modifier}
 
 -- whether it applies between what stands before a place and the next unit
 abbrev pub Rule : Type 0
@@ -19,7 +33,8 @@ lb2 before next = before.is_start
 
 -- LB4: BK !; LB5: CR × LF, CR !, LF !, NL !
 abbrev pub lb4 : Rule
-lb4 before next = is_line_end before.class && not (is_carriage_return before.class && is_line_feed next.class)
+lb4 before next =
+    is_line_end before.class && not (is_carriage_return before.class && is_line_feed next.class)
 
 -- LB5: CR × LF; LB6: × (BK | CR | LF | NL)
 abbrev pub lb6 : Rule
@@ -103,27 +118,41 @@ lb22 before next = is_inseparable next.class
 
 -- LB23: (AL | HL) × NU, NU × (AL | HL)
 abbrev pub lb23 : Rule
-lb23 before next = (is_letter before.class && is_number next.class) || (is_number before.class && is_letter next.class)
+lb23 before next =
+    (is_letter before.class && is_number next.class)
+    || (is_number before.class && is_letter next.class)
 
 -- LB23a: PR × (ID | EB | EM), (ID | EB | EM) × PO
 abbrev pub lb23a : Rule
-lb23a before next = (is_prefix before.class && is_ideograph next.class) || (is_ideograph before.class && is_postfix next.class)
+lb23a before next =
+    (is_prefix before.class && is_ideograph next.class)
+    || (is_ideograph before.class && is_postfix next.class)
 
 -- LB24: (PR | PO) × (AL | HL), (AL | HL) × (PR | PO)
 abbrev pub lb24 : Rule
-lb24 before next = (is_unit before.class && is_letter next.class) || (is_letter before.class && is_unit next.class)
+lb24 before next =
+    (is_unit before.class && is_letter next.class)
+    || (is_letter before.class && is_unit next.class)
 
 -- LB25: (CL | CP | NU) × (PO | PR), (PO | PR) × OP, (PO | PR | HY | IS | NU | SY) × NU
 abbrev pub lb25 : Rule
-lb25 before next = (ends_number before.class && is_unit next.class) || (is_unit before.class && is_opening next.class) || (leads_to_number before.class && is_number next.class)
+lb25 before next =
+    (ends_number before.class && is_unit next.class)
+    || (is_unit before.class && is_opening next.class)
+    || (leads_to_number before.class && is_number next.class)
 
 -- LB26: JL × (JL | JV | H2 | H3), (JV | H2) × (JV | JT), (JT | H3) × JT
 abbrev pub lb26 : Rule
-lb26 before next = (is_leading_jamo before.class && follows_leading next.class) || (ends_in_vowel before.class && follows_vowel next.class) || (ends_in_trailing before.class && is_trailing_jamo next.class)
+lb26 before next =
+    (is_leading_jamo before.class && follows_leading next.class)
+    || (ends_in_vowel before.class && follows_vowel next.class)
+    || (ends_in_trailing before.class && is_trailing_jamo next.class)
 
 -- LB27: (JL | JV | JT | H2 | H3) × PO, PR × (JL | JV | JT | H2 | H3)
 abbrev pub lb27 : Rule
-lb27 before next = (is_jamo before.class && is_postfix next.class) || (is_prefix before.class && is_jamo next.class)
+lb27 before next =
+    (is_jamo before.class && is_postfix next.class)
+    || (is_prefix before.class && is_jamo next.class)
 
 -- LB28: (AL | HL) × (AL | HL)
 abbrev pub lb28 : Rule
@@ -135,7 +164,9 @@ lb29 before next = is_infix before.class && is_letter next.class
 
 -- LB30: (AL | HL | NU) × OP but a wide one, CP but a wide one × (AL | HL | NU)
 abbrev pub lb30 : Rule
-lb30 before next = (is_letter_or_number before.class && is_opening next.class && not next.is_wide) || (is_close_parenthesis before.class && is_letter_or_number next.class && not before.is_wide)
+lb30 before next =
+    (is_letter_or_number before.class && is_opening next.class && not next.is_wide)
+    || (is_close_parenthesis before.class && is_letter_or_number next.class && not before.is_wide)
 
 -- LB30a: sot (RI RI)* RI × RI, [^RI] (RI RI)* RI × RI
 abbrev pub lb30a : Rule
@@ -143,7 +174,8 @@ lb30a before next = is_regional_indicator next.class && before.is_half_flag
 
 -- LB30b: EB × EM, an unassigned pictograph × EM
 abbrev pub lb30b : Rule
-lb30b before next = is_emoji_modifier next.class && (is_emoji_base before.class || before.is_unassigned_pictograph)
+lb30b before next =
+    is_emoji_modifier next.class && (is_emoji_base before.class || before.is_unassigned_pictograph)
 
 -- ---- their order
 

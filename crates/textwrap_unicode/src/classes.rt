@@ -3,7 +3,8 @@ ghost use Rattle.std.specs.Prelude.{◌≡◌, ◌&&◌, true, false};
 ghost use Rattle.unicode.specs.Binary.{is_extended_pictographic};
 ghost use Rattle.unicode.specs.GeneralCategory.{general_category};
 ghost use Rattle.unicode.specs.declared.properties.LineBreak.TheVariants.{Alphabetic};
-ghost use Rattle.textwrap_unicode.specs.Classes.{class_of, is_unassigned, is_wide, resolve, resolve_complex, unit_of};
+ghost use Rattle.textwrap_unicode.specs.Classes.{class_of, is_unassigned, is_wide, resolve};
+ghost use Rattle.textwrap_unicode.specs.Classes.{resolve_complex, unit_of};
 
 use crate::ascii::CLASSES;
 use unicode::properties::{EastAsianWidth, GeneralCategory, LineBreak, is_extended_pictographic};

@@ -1,10 +1,10 @@
 //! Where a line of text may or must end, by the Unicode line breaking algorithm
-//! ([UAX #14](https://www.unicode.org/reports/tr14/)): beside `textwrap`, whose own separator cuts at
-//! blanks.
+//! ([UAX #14](https://www.unicode.org/reports/tr14/)): beside `textwrap`, whose own separator cuts
+//! at blanks.
 //!
 //! The rules are those of Unicode 15.0 in the default form, in which numbers are kept together by
-//! pairs of characters. The classes of characters are those of the toolchain's tables, which are of a
-//! later version; classes that the rules do not know are taken as what their characters were.
+//! pairs of characters. The classes of characters are those of the toolchain's tables, which are of
+//! a later version; classes that the rules do not know are taken as what their characters were.
 #![tactic(auto)]
 
 mod ascii;
@@ -13,6 +13,7 @@ pub mod breaks;
 mod class_sets;
 mod classes;
 pub mod cuts;
+pub mod laws;
 mod rules;
 
 pub use breaks::{LineBreak, LineBreaks, line_breaks};

@@ -1,9 +1,13 @@
-//! The rules of line breaking, LB2 to LB31 of [UAX #14](https://www.unicode.org/reports/tr14/) at Unicode
-//! 15.0, LB25 by pairs. Each function says whether a rule applies between what stands before a place and
-//! the next unit.
+//! The rules of line breaking, LB2 to LB31 of [UAX #14](https://www.unicode.org/reports/tr14/) at
+//! Unicode 15.0, LB25 by pairs. Each function says whether a rule applies between what stands before
+//! a place and the next unit.
 ghost use Rattle.std.specs.Prelude.{◌≡◌, ◌&&◌, not};
 ghost use Rattle.textwrap_unicode.specs.ClassSets.{is_opening};
-ghost use Rattle.textwrap_unicode.specs.Rules.{lb2, lb4, lb6, lb7, lb8, lb8a, lb9, lb11, lb12, lb12a, lb13, lb14, lb15, lb16, lb17, lb18, lb19, lb20, lb21, lb21a, lb21b, lb22, lb23, lb23a, lb24, lb25, lb26, lb27, lb28, lb29, lb30, lb30a, lb30b, is_kept, is_glued, is_held, decide};
+ghost use Rattle.textwrap_unicode.specs.Rules.{lb2, lb4, lb6, lb7, lb8, lb8a, lb9, lb11, lb12};
+ghost use Rattle.textwrap_unicode.specs.Rules.{lb12a, lb13, lb14, lb15, lb16, lb17, lb18, lb19};
+ghost use Rattle.textwrap_unicode.specs.Rules.{lb20, lb21, lb21a, lb21b, lb22, lb23, lb23a, lb24};
+ghost use Rattle.textwrap_unicode.specs.Rules.{lb25, lb26, lb27, lb28, lb29, lb30, lb30a, lb30b};
+ghost use Rattle.textwrap_unicode.specs.Rules.{is_kept, is_glued, is_held, decide};
 
 use crate::before::{Before, as_letter};
 use crate::class_sets::{

@@ -1,7 +1,8 @@
 use Rattle.std.proofs.Common.{rules, sym, ◌∙◌}
 use Rattle.textwrap_unicode.proofs.CharacterLemmas.{early-assigned}
 use Rattle.textwrap_unicode.proofs.classes.is_unassigned_pictograph.Goals as goal
-use Rattle.textwrap_unicode.proofs.classes.is_unassigned_pictograph.Goals.{then-c-ge126976, else-c-ge126976}
+use Rattle.textwrap_unicode.proofs.classes.is_unassigned_pictograph.Goals.{then-c-ge126976}
+use Rattle.textwrap_unicode.proofs.classes.is_unassigned_pictograph.Goals.{else-c-ge126976}
 
 pub returns-else-is_extended_pictographic : goal.returns-else-is_extended_pictographic
 returns-else-is_extended_pictographic c = elim c.if-c-ge126976.branch [

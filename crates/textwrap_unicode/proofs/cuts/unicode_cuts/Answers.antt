@@ -1,4 +1,5 @@
-use Rattle.textwrap_base.proofs.Common.{◌≡◌, append-nil, char_indices_offset, ap, ◌∙◌, sym, subst, refl}
+use Rattle.textwrap_base.proofs.Common.{◌≡◌, append-nil, char_indices_offset, ap, ◌∙◌, sym, subst}
+use Rattle.textwrap_base.proofs.Common.{refl}
 use Rattle.std.specs.Str.Iter.{char_indices_rest}
 use Rattle.textwrap_words.specs.Cuts.{AreInnerCuts}
 use Rattle.textwrap_unicode.specs.Breaks.{line_breaks}
@@ -9,7 +10,7 @@ use Rattle.textwrap_unicode.specs.Rules.{decide}
 use Rattle.textwrap_unicode.proofs.cuts.unicode_cuts.Goals as goal
 use Rattle.textwrap_unicode.proofs.cuts.unicode_cuts.Goals.{then-is_cut+in_ok-push, else-is_cut}
 use Rattle.textwrap_unicode.proofs.CuttingLemmas.{IsCutting-start, IsCutting-step, IsCutting-end}
-use Rattle.textwrap_unicode.proofs.CuttingLemmas.{cuts_at-AreInnerCuts}
+use Rattle.textwrap_unicode.proofs.InnerCuts.{cuts_at-AreInnerCuts}
 use Rattle.textwrap_words.specs.Units.{stripped}
 
 pub loop-at-init : goal.loop-at-init

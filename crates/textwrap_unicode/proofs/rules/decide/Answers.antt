@@ -1,6 +1,8 @@
 use Rattle.std.proofs.Common.{inl, inr, sym}
-use Rattle.textwrap_unicode.proofs.DecideLemmas.{letters-Alphabetic, letters-HebrewLetter, letters-Numeric}
-use Rattle.textwrap_unicode.proofs.DecideLemmas.{ideographs-Ideographic, ideographs-H2, ideographs-H3}
+use Rattle.textwrap_unicode.proofs.DecideLemmas.{letters-Alphabetic, letters-HebrewLetter}
+use Rattle.textwrap_unicode.proofs.DecideLemmas.{letters-Numeric}
+use Rattle.textwrap_unicode.proofs.DecideLemmas.{ideographs-Ideographic, ideographs-H2}
+use Rattle.textwrap_unicode.proofs.DecideLemmas.{ideographs-H3}
 use Rattle.textwrap_unicode.proofs.rules.decide.Goals as goal
 
 pub returns-in-Alphabetic-class : goal.returns-in-Alphabetic-class

@@ -2,7 +2,8 @@ use Rattle.std.proofs.Common.{◌+◌, true, ◌∷◌, length, rules, refl, sym
 use Rattle.std.specs.Str.{chars}
 use Rattle.std.specs.Str.Iter.{char_indices_offset, char_indices_rest}
 use Rattle.textwrap_unicode.proofs.breaks.LineBreaksIterator.next.Goals as goal
-use Rattle.textwrap_unicode.proofs.BreakLemmas.{reading-start, reading-step, reading-break, reading-end}
+use Rattle.textwrap_unicode.proofs.BreakLemmas.{reading-start, reading-step, reading-break}
+use Rattle.textwrap_unicode.proofs.BreakLemmas.{reading-end}
 use Rattle.textwrap_unicode.proofs.BreakLemmas.{letter-step, none-left, reading-boundary}
 use Rattle.textwrap_unicode.specs.declared.breaks.LineBreak.{LineBreak}
 use Rattle.textwrap_unicode.specs.BreaksLeft.{and, breaks_after}

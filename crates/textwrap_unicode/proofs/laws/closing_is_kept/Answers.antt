@@ -1,0 +1,5 @@
+use Rattle.textwrap_unicode.proofs.laws.closing_is_kept.Goals as goal
+use Rattle.textwrap_unicode.proofs.Verdicts.{closing-after}
+
+pub returns : goal.returns
+returns c = closing-after

@@ -1,0 +1,5 @@
+use Rattle.textwrap_unicode.proofs.laws.marks_are_kept.Goals as goal
+use Rattle.textwrap_unicode.proofs.Verdicts.{marked-after}
+
+pub returns : goal.returns
+returns c = marked-after

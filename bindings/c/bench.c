@@ -21,6 +21,7 @@ typedef struct {
     size_t room_len;
     textwrap_line *lines;
     textwrap_piece *pieces;
+    size_t *cuts;
     size_t lines_len; /* of the lines, and of the pieces */
 } work;
 
@@ -123,6 +124,11 @@ static textwrap_status split_words(work *w) {
     return pieces(w);
 }
 
+static textwrap_status unicode_cuts(work *w) {
+    size_t count;
+    return textwrap_unicode_cuts(w->text, w->text_len, w->cuts, w->lines_len, &count);
+}
+
 typedef struct {
     const char *name;
     textwrap_status (*call)(work *);
@@ -146,6 +152,7 @@ static const named_call calls[] = {
     {"find_words", find_words},
     {"split_words", split_words},
     {"break_words", pieces},
+    {"unicode_cuts", unicode_cuts},
 };
 
 static double seconds(void) {
@@ -188,7 +195,8 @@ int main(int argc, char **argv) {
     w.room = malloc(w.room_len);
     w.lines = malloc(w.lines_len * sizeof *w.lines);
     w.pieces = malloc(w.lines_len * sizeof *w.pieces);
-    if (w.room == NULL || w.lines == NULL || w.pieces == NULL) return 1;
+    w.cuts = malloc(w.lines_len * sizeof *w.cuts);
+    if (w.room == NULL || w.lines == NULL || w.pieces == NULL || w.cuts == NULL) return 1;
     w.options = textwrap_options_new(strtoul(argv[2], NULL, 10));
     w.options.optimal_fit = strcmp(argv[3], "optimal") == 0;
     double time = least_time(call, &w);

@@ -256,7 +256,8 @@ textwrap_status textwrap_wrap_optimal_fit(const textwrap_fragment *fragments, si
                                           const textwrap_penalties *penalties, size_t *ends,
                                           size_t ends_len, size_t *count);
 
-/* ---- Words and pieces, by where they stand */
+/* ---- Words and pieces, by where they stand. There is none without a byte, but for one empty piece in
+ * front; so words, cuts and points are no more than the bytes of their text, and pieces one more. */
 
 /* Where a word stands, or a part of one. */
 typedef struct {

@@ -181,10 +181,10 @@ is_postfix PostfixNumeric = true
 is_postfix class = false
 
 -- PR or PO: stands before a number or after one
-abbrev pub is_unit : LineBreak → Bool
-is_unit PrefixNumeric = true
-is_unit PostfixNumeric = true
-is_unit class = false
+abbrev pub is_affix : LineBreak → Bool
+is_affix PrefixNumeric = true
+is_affix PostfixNumeric = true
+is_affix class = false
 
 -- ID, EB or EM
 abbrev pub is_ideograph : LineBreak → Bool

@@ -16,7 +16,7 @@ use Rattle.textwrap_unicode.specs.ClassSets.{is_opening, is_quotation, is_nonsta
 use Rattle.textwrap_unicode.specs.ClassSets.{breaks_on_both_sides, is_contingent, is_never_first}
 use Rattle.textwrap_unicode.specs.ClassSets.{is_before_text, is_hebrew, is_hyphen, is_symbol}
 use Rattle.textwrap_unicode.specs.ClassSets.{is_inseparable, is_letter, is_number, is_prefix}
-use Rattle.textwrap_unicode.specs.ClassSets.{is_postfix, is_unit, is_ideograph, ends_number}
+use Rattle.textwrap_unicode.specs.ClassSets.{is_postfix, is_affix, is_ideograph, ends_number}
 use Rattle.textwrap_unicode.specs.ClassSets.{leads_to_number, is_jamo, is_leading_jamo}
 use Rattle.textwrap_unicode.specs.ClassSets.{follows_leading, ends_in_vowel, follows_vowel}
 use Rattle.textwrap_unicode.specs.ClassSets.{ends_in_trailing, is_trailing_jamo, is_infix}
@@ -131,14 +131,14 @@ lb23a before next =
 -- LB24: (PR | PO) × (AL | HL), (AL | HL) × (PR | PO)
 abbrev pub lb24 : Rule
 lb24 before next =
-    (is_unit before.class && is_letter next.class)
-    || (is_letter before.class && is_unit next.class)
+    (is_affix before.class && is_letter next.class)
+    || (is_letter before.class && is_affix next.class)
 
 -- LB25: (CL | CP | NU) × (PO | PR), (PO | PR) × OP, (PO | PR | HY | IS | NU | SY) × NU
 abbrev pub lb25 : Rule
 lb25 before next =
-    (ends_number before.class && is_unit next.class)
-    || (is_unit before.class && is_opening next.class)
+    (ends_number before.class && is_affix next.class)
+    || (is_affix before.class && is_opening next.class)
     || (leads_to_number before.class && is_number next.class)
 
 -- LB26: JL × (JL | JV | H2 | H3), (JV | H2) × (JV | JT), (JT | H3) × JT

@@ -9,7 +9,7 @@ ghost use Rattle.textwrap_unicode.specs.ClassSets.{is_opening, is_quotation, is_
 ghost use Rattle.textwrap_unicode.specs.ClassSets.{breaks_on_both_sides, is_contingent};
 ghost use Rattle.textwrap_unicode.specs.ClassSets.{is_never_first, is_before_text, is_hebrew};
 ghost use Rattle.textwrap_unicode.specs.ClassSets.{is_hyphen, is_symbol, is_inseparable, is_letter};
-ghost use Rattle.textwrap_unicode.specs.ClassSets.{is_number, is_prefix, is_postfix, is_unit};
+ghost use Rattle.textwrap_unicode.specs.ClassSets.{is_number, is_prefix, is_postfix, is_affix};
 ghost use Rattle.textwrap_unicode.specs.ClassSets.{is_ideograph, ends_number, leads_to_number};
 ghost use Rattle.textwrap_unicode.specs.ClassSets.{is_jamo, is_leading_jamo, follows_leading};
 ghost use Rattle.textwrap_unicode.specs.ClassSets.{ends_in_vowel, follows_vowel, ends_in_trailing};
@@ -74,37 +74,11 @@ pub(crate) fn is_line_end(class: LineBreak) -> bool
     )
 }
 
-pub(crate) fn is_carriage_return(class: LineBreak) -> bool
-    ensures { result ≡ is_carriage_return class }
-{
-    matches!(class, LineBreak::CarriageReturn)
-}
-
-pub(crate) fn is_line_feed(class: LineBreak) -> bool
-    ensures { result ≡ is_line_feed class }
-{
-    matches!(class, LineBreak::LineFeed)
-}
-
 /// ZW.
 pub(crate) fn is_zero_width_space(class: LineBreak) -> bool
     ensures { result ≡ is_zero_width_space class }
 {
     matches!(class, LineBreak::ZWSpace)
-}
-
-/// WJ.
-pub(crate) fn is_word_joiner(class: LineBreak) -> bool
-    ensures { result ≡ is_word_joiner class }
-{
-    matches!(class, LineBreak::WordJoiner)
-}
-
-/// GL.
-pub(crate) fn is_glue(class: LineBreak) -> bool
-    ensures { result ≡ is_glue class }
-{
-    matches!(class, LineBreak::Glue)
 }
 
 /// SP, BA or HY.
@@ -148,34 +122,6 @@ pub(crate) fn is_opening(class: LineBreak) -> bool
     matches!(class, LineBreak::OpenPunctuation)
 }
 
-/// QU.
-pub(crate) fn is_quotation(class: LineBreak) -> bool
-    ensures { result ≡ is_quotation class }
-{
-    matches!(class, LineBreak::Quotation)
-}
-
-/// NS.
-pub(crate) fn is_nonstarter(class: LineBreak) -> bool
-    ensures { result ≡ is_nonstarter class }
-{
-    matches!(class, LineBreak::Nonstarter)
-}
-
-/// B2.
-pub(crate) fn breaks_on_both_sides(class: LineBreak) -> bool
-    ensures { result ≡ breaks_on_both_sides class }
-{
-    matches!(class, LineBreak::BreakBoth)
-}
-
-/// CB.
-pub(crate) fn is_contingent(class: LineBreak) -> bool
-    ensures { result ≡ is_contingent class }
-{
-    matches!(class, LineBreak::ContingentBreak)
-}
-
 /// BA, HY or NS.
 pub(crate) fn is_never_first(class: LineBreak) -> bool
     ensures { result ≡ is_never_first class }
@@ -184,13 +130,6 @@ pub(crate) fn is_never_first(class: LineBreak) -> bool
         class,
         LineBreak::BreakAfter | LineBreak::Hyphen | LineBreak::Nonstarter
     )
-}
-
-/// BB.
-pub(crate) fn is_before_text(class: LineBreak) -> bool
-    ensures { result ≡ is_before_text class }
-{
-    matches!(class, LineBreak::BreakBefore)
 }
 
 /// HL.
@@ -207,20 +146,6 @@ pub(crate) fn is_hyphen(class: LineBreak) -> bool
     matches!(class, LineBreak::Hyphen | LineBreak::BreakAfter)
 }
 
-/// SY.
-pub(crate) fn is_symbol(class: LineBreak) -> bool
-    ensures { result ≡ is_symbol class }
-{
-    matches!(class, LineBreak::BreakSymbols)
-}
-
-/// IN.
-pub(crate) fn is_inseparable(class: LineBreak) -> bool
-    ensures { result ≡ is_inseparable class }
-{
-    matches!(class, LineBreak::Inseparable)
-}
-
 /// AL or HL.
 pub(crate) fn is_letter(class: LineBreak) -> bool
     ensures { result ≡ is_letter class }
@@ -228,30 +153,9 @@ pub(crate) fn is_letter(class: LineBreak) -> bool
     matches!(class, LineBreak::Alphabetic | LineBreak::HebrewLetter)
 }
 
-/// NU.
-pub(crate) fn is_number(class: LineBreak) -> bool
-    ensures { result ≡ is_number class }
-{
-    matches!(class, LineBreak::Numeric)
-}
-
-/// PR.
-pub(crate) fn is_prefix(class: LineBreak) -> bool
-    ensures { result ≡ is_prefix class }
-{
-    matches!(class, LineBreak::PrefixNumeric)
-}
-
-/// PO.
-pub(crate) fn is_postfix(class: LineBreak) -> bool
-    ensures { result ≡ is_postfix class }
-{
-    matches!(class, LineBreak::PostfixNumeric)
-}
-
 /// PR or PO: stands before a number or after one.
-pub(crate) fn is_unit(class: LineBreak) -> bool
-    ensures { result ≡ is_unit class }
+pub(crate) fn is_affix(class: LineBreak) -> bool
+    ensures { result ≡ is_affix class }
 {
     matches!(class, LineBreak::PrefixNumeric | LineBreak::PostfixNumeric)
 }
@@ -301,13 +205,6 @@ pub(crate) fn is_jamo(class: LineBreak) -> bool
     )
 }
 
-/// JL.
-pub(crate) fn is_leading_jamo(class: LineBreak) -> bool
-    ensures { result ≡ is_leading_jamo class }
-{
-    matches!(class, LineBreak::Jl)
-}
-
 /// JL, JV, H2 or H3.
 pub(crate) fn follows_leading(class: LineBreak) -> bool
     ensures { result ≡ follows_leading class }
@@ -339,20 +236,6 @@ pub(crate) fn ends_in_trailing(class: LineBreak) -> bool
     matches!(class, LineBreak::Jt | LineBreak::H3)
 }
 
-/// JT.
-pub(crate) fn is_trailing_jamo(class: LineBreak) -> bool
-    ensures { result ≡ is_trailing_jamo class }
-{
-    matches!(class, LineBreak::Jt)
-}
-
-/// IS.
-pub(crate) fn is_infix(class: LineBreak) -> bool
-    ensures { result ≡ is_infix class }
-{
-    matches!(class, LineBreak::InfixNumeric)
-}
-
 /// AL, HL or NU.
 pub(crate) fn is_letter_or_number(class: LineBreak) -> bool
     ensures { result ≡ is_letter_or_number class }
@@ -361,25 +244,4 @@ pub(crate) fn is_letter_or_number(class: LineBreak) -> bool
         class,
         LineBreak::Alphabetic | LineBreak::HebrewLetter | LineBreak::Numeric
     )
-}
-
-/// CP.
-pub(crate) fn is_close_parenthesis(class: LineBreak) -> bool
-    ensures { result ≡ is_close_parenthesis class }
-{
-    matches!(class, LineBreak::CloseParenthesis)
-}
-
-/// EB.
-pub(crate) fn is_emoji_base(class: LineBreak) -> bool
-    ensures { result ≡ is_emoji_base class }
-{
-    matches!(class, LineBreak::EBase)
-}
-
-/// EM.
-pub(crate) fn is_emoji_modifier(class: LineBreak) -> bool
-    ensures { result ≡ is_emoji_modifier class }
-{
-    matches!(class, LineBreak::EModifier)
 }

@@ -11,14 +11,10 @@ ghost use Rattle.textwrap_unicode.specs.Rules.{is_kept, is_glued, is_held, decid
 
 use crate::before::{Before, as_letter};
 use crate::class_sets::{
-    breaks_before_glue, breaks_on_both_sides, ends_in_trailing, ends_in_vowel, ends_number,
-    follows_leading, follows_vowel, is_after_text, is_before_text, is_carriage_return,
-    is_close_parenthesis, is_closing, is_contingent, is_emoji_base, is_emoji_modifier, is_glue,
-    is_hebrew, is_hyphen, is_ideograph, is_infix, is_inseparable, is_jamo, is_leading_jamo,
-    is_letter, is_letter_or_number, is_line_end, is_line_feed, is_mark, is_never_first,
-    is_nonstarter, is_number, is_opening, is_postfix, is_prefix, is_quotation,
-    is_regional_indicator, is_space, is_symbol, is_trailing_jamo, is_unit, is_word_joiner,
-    is_zero_width_space, leads_to_number, takes_no_mark,
+    breaks_before_glue, ends_in_trailing, ends_in_vowel, ends_number, follows_leading,
+    follows_vowel, is_affix, is_after_text, is_closing, is_hebrew, is_hyphen, is_ideograph,
+    is_jamo, is_letter, is_letter_or_number, is_line_end, is_mark, is_never_first, is_opening,
+    is_regional_indicator, is_space, is_zero_width_space, leads_to_number, takes_no_mark,
 };
 use crate::classes::Unit;
 use unicode::properties::LineBreak;
@@ -45,7 +41,9 @@ fn lb2(before: &Before, next: Unit) -> bool
 fn lb4(before: &Before, next: Unit) -> bool
     ensures { result ≡ lb4 before.now next }
 {
-    is_line_end(before.class) & !(is_carriage_return(before.class) & is_line_feed(next.class))
+    is_line_end(before.class)
+        & !(matches!(before.class, LineBreak::CarriageReturn)
+            & matches!(next.class, LineBreak::LineFeed))
 }
 
 /// LB5: CR × LF; LB6: × (BK | CR | LF | NL)
@@ -87,21 +85,21 @@ fn lb9(before: &Before, next: Unit) -> bool
 fn lb11(before: &Before, next: Unit) -> bool
     ensures { result ≡ lb11 before.now next }
 {
-    is_word_joiner(next.class) | is_word_joiner(before.class)
+    matches!(next.class, LineBreak::WordJoiner) | matches!(before.class, LineBreak::WordJoiner)
 }
 
 /// LB12: GL ×
 fn lb12(before: &Before, next: Unit) -> bool
     ensures { result ≡ lb12 before.now next }
 {
-    is_glue(before.class)
+    matches!(before.class, LineBreak::Glue)
 }
 
 /// LB12a: [^SP BA HY] × GL
 fn lb12a(before: &Before, next: Unit) -> bool
     ensures { result ≡ lb12a before.now next }
 {
-    !(breaks_before_glue(before.class)) & is_glue(next.class)
+    !(breaks_before_glue(before.class)) & matches!(next.class, LineBreak::Glue)
 }
 
 /// LB13: × (CL | CP | EX | IS | SY)
@@ -122,21 +120,21 @@ fn lb14(before: &Before, next: Unit) -> bool
 fn lb15(before: &Before, next: Unit) -> bool
     ensures { result ≡ lb15 before.now next }
 {
-    is_quotation(before.past_spaces) & is_opening(next.class)
+    matches!(before.past_spaces, LineBreak::Quotation) & is_opening(next.class)
 }
 
 /// LB16: (CL | CP) SP* × NS
 fn lb16(before: &Before, next: Unit) -> bool
     ensures { result ≡ lb16 before.now next }
 {
-    is_closing(before.past_spaces) & is_nonstarter(next.class)
+    is_closing(before.past_spaces) & matches!(next.class, LineBreak::Nonstarter)
 }
 
 /// LB17: B2 SP* × B2
 fn lb17(before: &Before, next: Unit) -> bool
     ensures { result ≡ lb17 before.now next }
 {
-    breaks_on_both_sides(before.past_spaces) & breaks_on_both_sides(next.class)
+    matches!(before.past_spaces, LineBreak::BreakBoth) & matches!(next.class, LineBreak::BreakBoth)
 }
 
 /// LB18: SP ÷
@@ -150,21 +148,22 @@ fn lb18(before: &Before, next: Unit) -> bool
 fn lb19(before: &Before, next: Unit) -> bool
     ensures { result ≡ lb19 before.now next }
 {
-    is_quotation(next.class) | is_quotation(before.class)
+    matches!(next.class, LineBreak::Quotation) | matches!(before.class, LineBreak::Quotation)
 }
 
 /// LB20: ÷ CB, CB ÷
 fn lb20(before: &Before, next: Unit) -> bool
     ensures { result ≡ lb20 before.now next }
 {
-    is_contingent(next.class) | is_contingent(before.class)
+    matches!(next.class, LineBreak::ContingentBreak)
+        | matches!(before.class, LineBreak::ContingentBreak)
 }
 
 /// LB21: × (BA | HY | NS), BB ×
 fn lb21(before: &Before, next: Unit) -> bool
     ensures { result ≡ lb21 before.now next }
 {
-    is_never_first(next.class) | is_before_text(before.class)
+    is_never_first(next.class) | matches!(before.class, LineBreak::BreakBefore)
 }
 
 /// LB21a: HL (HY | BA) ×
@@ -178,64 +177,64 @@ fn lb21a(before: &Before, next: Unit) -> bool
 fn lb21b(before: &Before, next: Unit) -> bool
     ensures { result ≡ lb21b before.now next }
 {
-    is_symbol(before.class) & is_hebrew(next.class)
+    matches!(before.class, LineBreak::BreakSymbols) & is_hebrew(next.class)
 }
 
 /// LB22: × IN
 fn lb22(before: &Before, next: Unit) -> bool
     ensures { result ≡ lb22 before.now next }
 {
-    is_inseparable(next.class)
+    matches!(next.class, LineBreak::Inseparable)
 }
 
 /// LB23: (AL | HL) × NU, NU × (AL | HL)
 fn lb23(before: &Before, next: Unit) -> bool
     ensures { result ≡ lb23 before.now next }
 {
-    (is_letter(before.class) & is_number(next.class))
-        | (is_number(before.class) & is_letter(next.class))
+    (is_letter(before.class) & matches!(next.class, LineBreak::Numeric))
+        | (matches!(before.class, LineBreak::Numeric) & is_letter(next.class))
 }
 
 /// LB23a: PR × (ID | EB | EM), (ID | EB | EM) × PO
 fn lb23a(before: &Before, next: Unit) -> bool
     ensures { result ≡ lb23a before.now next }
 {
-    (is_prefix(before.class) & is_ideograph(next.class))
-        | (is_ideograph(before.class) & is_postfix(next.class))
+    (matches!(before.class, LineBreak::PrefixNumeric) & is_ideograph(next.class))
+        | (is_ideograph(before.class) & matches!(next.class, LineBreak::PostfixNumeric))
 }
 
 /// LB24: (PR | PO) × (AL | HL), (AL | HL) × (PR | PO)
 fn lb24(before: &Before, next: Unit) -> bool
     ensures { result ≡ lb24 before.now next }
 {
-    (is_unit(before.class) & is_letter(next.class))
-        | (is_letter(before.class) & is_unit(next.class))
+    (is_affix(before.class) & is_letter(next.class))
+        | (is_letter(before.class) & is_affix(next.class))
 }
 
 /// LB25: (CL | CP | NU) × (PO | PR), (PO | PR) × OP, (PO | PR | HY | IS | NU | SY) × NU
 fn lb25(before: &Before, next: Unit) -> bool
     ensures { result ≡ lb25 before.now next }
 {
-    (ends_number(before.class) & is_unit(next.class))
-        | (is_unit(before.class) & is_opening(next.class))
-        | (leads_to_number(before.class) & is_number(next.class))
+    (ends_number(before.class) & is_affix(next.class))
+        | (is_affix(before.class) & is_opening(next.class))
+        | (leads_to_number(before.class) & matches!(next.class, LineBreak::Numeric))
 }
 
 /// LB26: JL × (JL | JV | H2 | H3), (JV | H2) × (JV | JT), (JT | H3) × JT
 fn lb26(before: &Before, next: Unit) -> bool
     ensures { result ≡ lb26 before.now next }
 {
-    (is_leading_jamo(before.class) & follows_leading(next.class))
+    (matches!(before.class, LineBreak::Jl) & follows_leading(next.class))
         | (ends_in_vowel(before.class) & follows_vowel(next.class))
-        | (ends_in_trailing(before.class) & is_trailing_jamo(next.class))
+        | (ends_in_trailing(before.class) & matches!(next.class, LineBreak::Jt))
 }
 
 /// LB27: (JL | JV | JT | H2 | H3) × PO, PR × (JL | JV | JT | H2 | H3)
 fn lb27(before: &Before, next: Unit) -> bool
     ensures { result ≡ lb27 before.now next }
 {
-    (is_jamo(before.class) & is_postfix(next.class))
-        | (is_prefix(before.class) & is_jamo(next.class))
+    (is_jamo(before.class) & matches!(next.class, LineBreak::PostfixNumeric))
+        | (matches!(before.class, LineBreak::PrefixNumeric) & is_jamo(next.class))
 }
 
 /// LB28: (AL | HL) × (AL | HL)
@@ -249,7 +248,7 @@ fn lb28(before: &Before, next: Unit) -> bool
 fn lb29(before: &Before, next: Unit) -> bool
     ensures { result ≡ lb29 before.now next }
 {
-    is_infix(before.class) & is_letter(next.class)
+    matches!(before.class, LineBreak::InfixNumeric) & is_letter(next.class)
 }
 
 /// LB30: (AL | HL | NU) × OP but a wide one, CP but a wide one × (AL | HL | NU)
@@ -257,7 +256,9 @@ fn lb30(before: &Before, next: Unit) -> bool
     ensures { result ≡ lb30 before.now next }
 {
     (is_letter_or_number(before.class) & is_opening(next.class) & !next.is_wide)
-        | (is_close_parenthesis(before.class) & is_letter_or_number(next.class) & !before.is_wide)
+        | (matches!(before.class, LineBreak::CloseParenthesis)
+            & is_letter_or_number(next.class)
+            & !before.is_wide)
 }
 
 /// LB30a: sot (RI RI)* RI × RI, [^RI] (RI RI)* RI × RI
@@ -271,7 +272,8 @@ fn lb30a(before: &Before, next: Unit) -> bool
 fn lb30b(before: &Before, next: Unit) -> bool
     ensures { result ≡ lb30b before.now next }
 {
-    is_emoji_modifier(next.class) & (is_emoji_base(before.class) | before.is_unassigned_pictograph)
+    matches!(next.class, LineBreak::EModifier)
+        & (matches!(before.class, LineBreak::EBase) | before.is_unassigned_pictograph)
 }
 
 /// LB5 to LB7, which forbid.

@@ -16,7 +16,8 @@ regroup : (m s t : Bool) → (m && s) && t ≡ m && (s && t)
 regroup true s t = refl
 regroup false s t = refl
 
-pub and-is : (text : Text) (next : Unit) → and (before_of text) next ≡ before_of (with_unit text next)
+pub and-is : (text : Text) (next : Unit)
+    → and (before_of text) next ≡ before_of (with_unit text next)
 and-is text next =
     let stands : is_mark next.class && not (is_empty text.units)
     && not (takes_no_mark (first_class text.units)) ≡ is_mark next.class && takes_marks text.units =

@@ -35,14 +35,15 @@ none-left before at start = rw (start, chars-nil) refl
 
 -- ---- the code that finds the next one
 
--- the reader after so many bytes of what was left, with these ahead: the breaks from here on are those
--- that were left
+-- the reader after so many bytes of what was left, with these ahead: the breaks from here on are
+-- those that were left
 pub record IsReading (rest : List ℕ) (start : ℕ) (first : Before) (offset : ℕ) (ahead : List ℕ)
     (before : Before) : Type 0 where
   pub utf8 : IsUtf8 ahead
   pub place : drop offset rest ≡ ahead
   pub within : offset ≤ length rest
-  pub left : breaks_after before (start + offset) (chars ahead) ≡ breaks_after first start (chars rest)
+  pub left : breaks_after before (start + offset) (chars ahead)
+      ≡ breaks_after first start (chars rest)
 
 pub reading-start : (rest : List ℕ) (start : ℕ) (first : Before) (offset : ℕ) (ahead : List ℕ)
     (before : Before) → IsUtf8 rest → offset ≡ 0 → ahead ≡ rest → before ≡ first
@@ -55,7 +56,8 @@ reading-start rest start first offset ahead before utf8 none whole same =
       left = ap (λ n. breaks_after first n (chars rest)) (omega arith);
     })
 
-module _ (rest : List ℕ) (start : ℕ) (first : Before) (offset : ℕ) (ahead : List ℕ) (before : Before)
+module _ (rest : List ℕ) (start : ℕ) (first : Before) (offset : ℕ) (ahead : List ℕ)
+    (before : Before)
     (h : IsReading rest start first offset ahead before) where
   module _ (c : ℕ) (after : List ℕ) (e : ahead ≡ encode c ++ after) where
     abbrev end : ℕ
@@ -92,7 +94,8 @@ module _ (rest : List ℕ) (start : ℕ) (first : Before) (offset : ℕ) (ahead 
     pub reading-step : (offset' : ℕ) (before' : Before) → decide before (unit_of c) ≡ Prohibited
         → offset' ≡ end → before' ≡ and before (unit_of c)
         → IsReading rest start first offset' after before'
-    reading-step offset' before' prohibited offset_is before_is = rw (offset_is, before_is) (record {
+    reading-step offset' before' prohibited offset_is before_is =
+        rw (offset_is, before_is) (record {
       utf8 = IsUtf8-past_char ahead after c h.utf8 e;
       place = after-place;
       within = reading-room;
@@ -111,7 +114,8 @@ module _ (rest : List ℕ) (start : ℕ) (first : Before) (offset : ℕ) (ahead 
   -- nothing is ahead
   pub reading-end : length ahead ≡ 0
       → breaks_after first start (chars rest)
-      ≡ (if before.is_start then [] else record { at = start + length rest; is_mandatory = true } ∷ [])
+      ≡ (if before.is_start then []
+      else record { at = start + length rest; is_mandatory = true } ∷ [])
   reading-end none =
       let ended : chars ahead ≡ [] = ap chars (nil_from_length ahead none) ∙ chars-nil in
       let whole : start + offset ≡ start + length rest =

@@ -32,14 +32,16 @@ abbrev unassigned_at : ℕ → Bool
 unassigned_at c = is_extended_pictographic c && is_unassigned (general_category c)
 
 abbrev class_stepped : Stepped class_of
-class_stepped = zip_stepped resolve line_break general_category line_break_stepped general_category_stepped
+class_stepped =
+    zip_stepped resolve line_break general_category line_break_stepped general_category_stepped
 
 abbrev wide_stepped : Stepped wide_at
 wide_stepped = map_stepped is_wide east_asian_width east_asian_width_stepped
 
 abbrev unassigned_stepped : Stepped unassigned_at
 unassigned_stepped = zip_stepped (λ p category. p && is_unassigned category)
-    is_extended_pictographic general_category is_extended_pictographic_stepped general_category_stepped
+    is_extended_pictographic general_category is_extended_pictographic_stepped
+    general_category_stepped
 
 false-from : (b : Bool) → not b ≡ true → b ≡ false
 false-from true e = sym e
@@ -52,7 +54,8 @@ unfolding ucd_breaks ucd_category
 ascii-class c below =
     line_break_number_injective _ _ (eqb-true _ _
     (Stepped-below class_of class_stepped
-    (λ x v. line_break_number (slice_index_or CLASSES x Ambiguous) == line_break_number v) 128 refl c below))
+    (λ x v. line_break_number (slice_index_or CLASSES x Ambiguous) == line_break_number v) 128 refl
+    c below))
 
 ascii-narrow : (c : ℕ) → c < 128 → wide_at c ≡ false
 unfolding ucd_east_asian
@@ -109,7 +112,8 @@ ideograph-wide c low high =
 pub early-assigned : (c : ℕ) → c < 0x1_F000 → unassigned_at c ≡ false
 unfolding ucd_emoji ucd_category
 early-assigned c below =
-    false-from _ (passes-within (0, 0x1_EFFF) refl unassigned_at unassigned_stepped not (omega arith)
+    false-from _
+    (passes-within (0, 0x1_EFFF) refl unassigned_at unassigned_stepped not (omega arith)
     refl c (omega arith) (omega (arith, below)))
 
 pub ideograph-unit : (c : ℕ) → 0x4E00 ≤ c → c ≤ 0x9FFF → ◌≡◌ {A = Unit} (record {

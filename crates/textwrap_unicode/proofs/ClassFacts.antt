@@ -31,7 +31,8 @@ line_end-takes LineFeed e = cc
 line_end-takes NextLine e = cc
 line_end-takes class e = refl
 
-pub return-takes : (class : LineBreak) → takes_no_mark class ≡ false → is_carriage_return class ≡ false
+pub return-takes : (class : LineBreak) → takes_no_mark class ≡ false
+    → is_carriage_return class ≡ false
 return-takes CarriageReturn e = cc
 return-takes class e = refl
 

@@ -31,7 +31,8 @@ use Rattle.textwrap_unicode.proofs.OffsetsAmong.{cuts_ahead}
 
 -- ---- the cuts at the breaks are those ahead
 
-offsets_of-append : (xs ys : List LineBreak) → offsets_of (xs ++ ys) ≡ offsets_of xs ++ offsets_of ys
+offsets_of-append : (xs ys : List LineBreak)
+    → offsets_of (xs ++ ys) ≡ offsets_of xs ++ offsets_of ys
 offsets_of-append [] ys = refl
 offsets_of-append (x ∷ xs) ys = ap (λ os. x.at ∷ os) (offsets_of-append xs ys)
 

@@ -87,7 +87,8 @@ pub IsCutting-step : (line : List ℕ) (at : ℕ) (rest : List ℕ) (s : State) 
     → before' ≡ cond flag (and before (unit_of c)) before
     → end' ≡ cond flag (at + length (encode c)) end
     → hyphen' ≡ cond flag (is_any_hyphen c) hyphen
-    → cuts' ≡ cond flag (cuts ++ cut_here (not hyphen && may_end (decide before (unit_of c))) end) cuts
+    → cuts' ≡ cond flag (cuts ++ cut_here (not hyphen
+    && may_end (decide before (unit_of c))) end) cuts
     → IsCutting line at' after next before' end' hyphen' cuts'
 IsCutting-step line at rest s before end hyphen cuts c after next flag h e step at' before' end'
     hyphen' cuts' at_is before_is end_is hyphen_is cuts_is =

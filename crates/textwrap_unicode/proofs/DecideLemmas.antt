@@ -16,7 +16,8 @@ use Rattle.textwrap_unicode.specs.Rules.{decide}
 -- ---- what is left of the rules between known classes
 
 all-forbid : (starts joined glued : Bool) → Prohibited
-    ≡ (if starts then Prohibited else if joined then Prohibited else if glued then Prohibited else Prohibited)
+    ≡ (if starts then Prohibited else if joined then Prohibited
+    else if glued then Prohibited else Prohibited)
 all-forbid true joined glued = refl
 all-forbid false true glued = refl
 all-forbid false false true = refl
@@ -36,110 +37,95 @@ none-forbids false false true false = refl
 none-forbids false false false true = refl
 none-forbids false false false false = refl
 
--- LB14 to LB17, before a class of which these rules do not speak
+-- LB15 to LB17, before a class of which these rules do not speak
+abbrev unglued : LineBreak → Bool
+unglued past =
+    (is_quotation past && false) || (is_closing past && false)
+    || (breaks_on_both_sides past && false)
+
+-- the same with LB14
 abbrev glued : LineBreak → Bool
-glued past = is_opening past
-    || (is_quotation past && false) || (is_closing past && false) || (breaks_on_both_sides past && false)
+glued past =
+    is_opening past || (is_quotation past && false) || (is_closing past && false)
+    || (breaks_on_both_sides past && false)
 
 none-after : (past : LineBreak) → Allowed
-    ≡ (if is_zero_width_space past then Allowed
-    else if (is_quotation past && false) || (is_closing past && false) || (breaks_on_both_sides past && false)
-    then Prohibited
-    else Allowed)
+    ≡ (if is_zero_width_space past then Allowed else if unglued past then Prohibited else Allowed)
 none-after past = none-forbids (is_zero_width_space past) (is_quotation past) (is_closing past)
     (breaks_on_both_sides past)
 
 -- nothing but the class of the last unit can forbid that a line ends there
 abbrev pub IsFree : Before → Type 0
-IsFree before = not before.is_start && not before.is_joined && not (is_opening before.past_spaces) ≡ true
+IsFree before =
+    not before.is_start && not before.is_joined && not (is_opening before.past_spaces) ≡ true
 
-both-false : (s j o : Bool) → not s && not j && not o ≡ true → (s ≡ false) × (j ≡ false) × (o ≡ false)
+both-false : (s j o : Bool) → not s && not j && not o ≡ true
+    → (s ≡ false) × (j ≡ false) × (o ≡ false)
 both-false false false false e = (refl, refl, refl)
 both-false false false true e = cc e
 both-false false true o e = cc e
 both-false true j o e = cc e
 
-freed : (before : Before) → IsFree before → (before.is_start ≡ false) × (before.is_joined ≡ false) × (is_opening before.past_spaces ≡ false)
-freed before h = both-false before.is_start before.is_joined (is_opening before.past_spaces) h
-
 -- ---- a letter or a number after another
 
-pub letters-Alphabetic : (before : Before) (next : Unit) → next.class ≡ Alphabetic
-    → (before.class ≡ Alphabetic) ⊎ ((before.class ≡ HebrewLetter) ⊎ (before.class ≡ Numeric))
-    → is_zero_width_space before.past_spaces ≡ false → Prohibited ≡ decide before next
-letters-Alphabetic before next is (inl last) h = rw (is, last, h) (all-forbid before.is_start before.is_joined (glued before.past_spaces))
-letters-Alphabetic before next is (inr (inl last)) h = rw (is, last, h) (all-forbid before.is_start before.is_joined (glued before.past_spaces))
-letters-Alphabetic before next is (inr (inr last)) h = rw (is, last, h) (all-forbid before.is_start before.is_joined (glued before.past_spaces))
+abbrev pub IsInWord : LineBreak → Type 0
+IsInWord class = (class ≡ Alphabetic) ⊎ ((class ≡ HebrewLetter) ⊎ (class ≡ Numeric))
 
-pub letters-HebrewLetter : (before : Before) (next : Unit) → next.class ≡ HebrewLetter
-    → (before.class ≡ Alphabetic) ⊎ ((before.class ≡ HebrewLetter) ⊎ (before.class ≡ Numeric))
+pub letters-stay : (before : Before) (next : Unit) → IsInWord next.class → IsInWord before.class
     → is_zero_width_space before.past_spaces ≡ false → Prohibited ≡ decide before next
-letters-HebrewLetter before next is (inl last) h = rw (is, last, h) (all-forbid before.is_start before.is_joined (glued before.past_spaces))
-letters-HebrewLetter before next is (inr (inl last)) h = rw (is, last, h) (all-forbid before.is_start before.is_joined (glued before.past_spaces))
-letters-HebrewLetter before next is (inr (inr last)) h = rw (is, last, h) (all-forbid before.is_start before.is_joined (glued before.past_spaces))
-
-pub letters-Numeric : (before : Before) (next : Unit) → next.class ≡ Numeric
-    → (before.class ≡ Alphabetic) ⊎ ((before.class ≡ HebrewLetter) ⊎ (before.class ≡ Numeric))
-    → is_zero_width_space before.past_spaces ≡ false → Prohibited ≡ decide before next
-letters-Numeric before next is (inl last) h = rw (is, last, h) (all-forbid before.is_start before.is_joined (glued before.past_spaces))
-letters-Numeric before next is (inr (inl last)) h = rw (is, last, h) (all-forbid before.is_start before.is_joined (glued before.past_spaces))
-letters-Numeric before next is (inr (inr last)) h = rw (is, last, h) (all-forbid before.is_start before.is_joined (glued before.past_spaces))
+letters-stay before next is last h =
+    let kept = all-forbid before.is_start before.is_joined (glued before.past_spaces) in
+    elim is [
+      | inl e ↦ elim last [
+        | inl l ↦ rw (e, l, h) kept
+        | inr (inl l) ↦ rw (e, l, h) kept
+        | inr (inr l) ↦ rw (e, l, h) kept
+      ]
+      | inr (inl e) ↦ elim last [
+        | inl l ↦ rw (e, l, h) kept
+        | inr (inl l) ↦ rw (e, l, h) kept
+        | inr (inr l) ↦ rw (e, l, h) kept
+      ]
+      | inr (inr e) ↦ elim last [
+        | inl l ↦ rw (e, l, h) kept
+        | inr (inl l) ↦ rw (e, l, h) kept
+        | inr (inr l) ↦ rw (e, l, h) kept
+      ]
+    ]
 
 -- ---- an ideograph or a syllable after another, a space or the end of a bracket
 
-pub ideographs-Ideographic : (before : Before) (next : Unit) → next.class ≡ Ideographic
-    → (before.class ≡ Space) ⊎ ((before.class ≡ ClosePunctuation) ⊎ ((before.class ≡ Ideographic) ⊎ ((before.class ≡ H2) ⊎ (before.class ≡ H3))))
-    → IsFree before → Allowed ≡ decide before next
-ideographs-Ideographic before next is (inl last) h =
-    let free = freed before h in
-    rw (is, last, free.0, free.1, free.2) (none-after before.past_spaces)
-ideographs-Ideographic before next is (inr (inl last)) h =
-    let free = freed before h in
-    rw (is, last, free.0, free.1, free.2) (none-after before.past_spaces)
-ideographs-Ideographic before next is (inr (inr (inl last))) h =
-    let free = freed before h in
-    rw (is, last, free.0, free.1, free.2) (none-after before.past_spaces)
-ideographs-Ideographic before next is (inr (inr (inr (inl last)))) h =
-    let free = freed before h in
-    rw (is, last, free.0, free.1, free.2) (none-after before.past_spaces)
-ideographs-Ideographic before next is (inr (inr (inr (inr last)))) h =
-    let free = freed before h in
-    rw (is, last, free.0, free.1, free.2) (none-after before.past_spaces)
+abbrev pub IsApart : LineBreak → Type 0
+IsApart class = (class ≡ Ideographic) ⊎ ((class ≡ H2) ⊎ (class ≡ H3))
 
-pub ideographs-H2 : (before : Before) (next : Unit) → next.class ≡ H2
-    → (before.class ≡ Space) ⊎ ((before.class ≡ ClosePunctuation) ⊎ ((before.class ≡ Ideographic) ⊎ ((before.class ≡ H2) ⊎ (before.class ≡ H3))))
-    → IsFree before → Allowed ≡ decide before next
-ideographs-H2 before next is (inl last) h =
-    let free = freed before h in
-    rw (is, last, free.0, free.1, free.2) (none-after before.past_spaces)
-ideographs-H2 before next is (inr (inl last)) h =
-    let free = freed before h in
-    rw (is, last, free.0, free.1, free.2) (none-after before.past_spaces)
-ideographs-H2 before next is (inr (inr (inl last))) h =
-    let free = freed before h in
-    rw (is, last, free.0, free.1, free.2) (none-after before.past_spaces)
-ideographs-H2 before next is (inr (inr (inr (inl last)))) h =
-    let free = freed before h in
-    rw (is, last, free.0, free.1, free.2) (none-after before.past_spaces)
-ideographs-H2 before next is (inr (inr (inr (inr last)))) h =
-    let free = freed before h in
-    rw (is, last, free.0, free.1, free.2) (none-after before.past_spaces)
+abbrev pub EndsApart : LineBreak → Type 0
+EndsApart class = (class ≡ Space) ⊎ ((class ≡ ClosePunctuation) ⊎ IsApart class)
 
-pub ideographs-H3 : (before : Before) (next : Unit) → next.class ≡ H3
-    → (before.class ≡ Space) ⊎ ((before.class ≡ ClosePunctuation) ⊎ ((before.class ≡ Ideographic) ⊎ ((before.class ≡ H2) ⊎ (before.class ≡ H3))))
-    → IsFree before → Allowed ≡ decide before next
-ideographs-H3 before next is (inl last) h =
-    let free = freed before h in
-    rw (is, last, free.0, free.1, free.2) (none-after before.past_spaces)
-ideographs-H3 before next is (inr (inl last)) h =
-    let free = freed before h in
-    rw (is, last, free.0, free.1, free.2) (none-after before.past_spaces)
-ideographs-H3 before next is (inr (inr (inl last))) h =
-    let free = freed before h in
-    rw (is, last, free.0, free.1, free.2) (none-after before.past_spaces)
-ideographs-H3 before next is (inr (inr (inr (inl last)))) h =
-    let free = freed before h in
-    rw (is, last, free.0, free.1, free.2) (none-after before.past_spaces)
-ideographs-H3 before next is (inr (inr (inr (inr last)))) h =
-    let free = freed before h in
-    rw (is, last, free.0, free.1, free.2) (none-after before.past_spaces)
+pub ideographs-part : (before : Before) (next : Unit) → IsApart next.class
+    → EndsApart before.class → IsFree before → Allowed ≡ decide before next
+ideographs-part before next is last h =
+    let (s, j, o) = both-false before.is_start before.is_joined (is_opening before.past_spaces) h in
+    let free = none-after before.past_spaces in
+    elim is [
+      | inl e ↦ elim last [
+        | inl l ↦ rw (e, l, s, j, o) free
+        | inr (inl l) ↦ rw (e, l, s, j, o) free
+        | inr (inr (inl l)) ↦ rw (e, l, s, j, o) free
+        | inr (inr (inr (inl l))) ↦ rw (e, l, s, j, o) free
+        | inr (inr (inr (inr l))) ↦ rw (e, l, s, j, o) free
+      ]
+      | inr (inl e) ↦ elim last [
+        | inl l ↦ rw (e, l, s, j, o) free
+        | inr (inl l) ↦ rw (e, l, s, j, o) free
+        | inr (inr (inl l)) ↦ rw (e, l, s, j, o) free
+        | inr (inr (inr (inl l))) ↦ rw (e, l, s, j, o) free
+        | inr (inr (inr (inr l))) ↦ rw (e, l, s, j, o) free
+      ]
+      | inr (inr e) ↦ elim last [
+        | inl l ↦ rw (e, l, s, j, o) free
+        | inr (inl l) ↦ rw (e, l, s, j, o) free
+        | inr (inr (inl l)) ↦ rw (e, l, s, j, o) free
+        | inr (inr (inr (inl l))) ↦ rw (e, l, s, j, o) free
+        | inr (inr (inr (inr l))) ↦ rw (e, l, s, j, o) free
+      ]
+    ]

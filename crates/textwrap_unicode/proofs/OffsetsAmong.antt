@@ -66,7 +66,8 @@ breaks-above before at (c ∷ cs) =
     let later : All (λ o. at ≤ o) (offsets_of rest) =
     All-weaker (λ o. next ≤ o) (λ o. at ≤ o) (λ o h. omega (arith, h)) (offsets_of rest)
     (breaks-above (and before (unit_of c)) next cs) in
-    elim (decide before (unit_of c)) as (λ v. All (λ o. at ≤ o) (offsets_of (break_at v at ++ rest))) [
+    elim (decide before (unit_of c)) as (λ v. All (λ o. at ≤ o)
+    (offsets_of (break_at v at ++ rest))) [
       | Mandatory ↦ All-cons (λ o. at ≤ o) at (offsets_of rest) (omega arith) later
       | Allowed ↦ All-cons (λ o. at ≤ o) at (offsets_of rest) (omega arith) later
       | Prohibited ↦ later

@@ -27,8 +27,8 @@ resolve_complex NonspacingMark = CombiningMark
 resolve_complex SpacingMark = CombiningMark
 resolve_complex category = Alphabetic
 
--- LB1: AI, SG and XX are taken as AL, and CJ as NS. The values that came after Unicode 15.0 are taken
--- as what their characters had there: AK, AP and AS as AL, VI and VF as CM, HH as BA
+-- LB1: AI, SG and XX are taken as AL, and CJ as NS. The values that came after Unicode 15.0 are
+-- taken as what their characters had there: AK, AP and AS as AL, VI and VF as CM, HH as BA
 abbrev pub resolve : LineBreak → GeneralCategory → LineBreak
 resolve Ambiguous category = Alphabetic
 resolve Surrogate category = Alphabetic

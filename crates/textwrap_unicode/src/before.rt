@@ -73,8 +73,8 @@ impl Before {
         }
     }
 
-    /// Whether a letter of a word stands there, and nothing else that a rule asks for: then one more
-    /// letter changes nothing.
+    /// Whether a letter of a word stands there, and nothing else that a rule asks for: then one
+    /// more letter changes nothing.
     #[inline]
     pub(crate) fn is_in_word(&self) -> bool
         ensures { result ≡ true → self.now ≡ record {

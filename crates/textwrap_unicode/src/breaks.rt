@@ -19,8 +19,8 @@ pub struct LineBreak {
     pub is_mandatory: bool,
 }
 
-/// The places of a text where a line may or must end, in order. To contracts it is the list of those to
-/// come.
+/// The places of a text where a line may or must end, in order. To contracts it is the list of
+/// those to come.
 #[derive(Debug, Drop)]
 pub struct LineBreaks<'t> {
     /// What is still to be read.
@@ -32,8 +32,9 @@ pub struct LineBreaks<'t> {
 }
 
 /// The places of a text where a line may or must end, by the Unicode line breaking algorithm
-/// ([UAX #14](https://www.unicode.org/reports/tr14/)). The last is the end, unless the text is empty.
-/// `"foo bar\nbaz"` has breaks at 4, at 8, where a line must end, and at 11. It allocates nothing.
+/// ([UAX #14](https://www.unicode.org/reports/tr14/)). The last is the end, unless the text is
+/// empty. `"foo bar\nbaz"` has breaks at 4, at 8, where a line must end, and at 11. It allocates
+/// nothing.
 pub fn line_breaks(text: &str) -> LineBreaks<'_>
     ensures { result ≡ line_breaks text.now }
 {

@@ -53,13 +53,18 @@ impl Unit {
     /// Whether the rules ask nothing more of it than that it is a letter.
     #[inline]
     pub(crate) fn is_plain_letter(self) -> bool
-        ensures { result ≡ true → self ≡ record { class = Alphabetic; is_wide = false; is_unassigned_pictograph = false } }
+        ensures { result ≡ true → self ≡ record {
+          class = Alphabetic;
+          is_wide = false;
+          is_unassigned_pictograph = false;
+        } }
     {
         matches!(self.class, LineBreak::Alphabetic) & !self.is_wide & !self.is_unassigned_pictograph
     }
 }
 
-/// The class of a character, by LB1. Its category matters for SA alone, so only then is it looked up.
+/// The class of a character, by LB1. Its category matters for SA alone, so only then is it looked
+/// up.
 #[inline]
 fn class_of(c: char) -> LineBreak
     ensures { result ≡ class_of c }
@@ -70,8 +75,8 @@ fn class_of(c: char) -> LineBreak
     }
 }
 
-/// Whether it is a pictograph that is not assigned yet. The first such one is past U+1F000, so for most
-/// texts nothing is looked up.
+/// Whether it is a pictograph that is not assigned yet. The first such one is past U+1F000, so for
+/// most texts nothing is looked up.
 #[inline]
 fn is_unassigned_pictograph(c: char) -> bool
     ensures { result ≡ is_extended_pictographic c && is_unassigned (general_category c) }

@@ -13,8 +13,8 @@ use textwrap_words::escapes::State;
 /// Where a line is cut into words, by the Unicode line breaking algorithm
 /// ([UAX #14](https://www.unicode.org/reports/tr14/)): at the places of
 /// [`line_breaks`](crate::line_breaks) inside its text without escape sequences (ECMA-48), but not
-/// directly after a hyphen `-` or a soft hyphen (U+00AD), which are left to a word splitter. A sequence
-/// at a cut belongs to the word after it. `"foo-bar 日本"` is cut at 8 and 11.
+/// directly after a hyphen `-` or a soft hyphen (U+00AD), which are left to a word splitter. A
+/// sequence at a cut belongs to the word after it. `"foo-bar 日本"` is cut at 8 and 11.
 ///
 /// It is the function of a separator:
 /// `WordSeparator::Custom(LineCuts::new(alloc, unicode_cuts))`.

@@ -1,6 +1,6 @@
 //! The rules of line breaking, LB2 to LB31 of [UAX #14](https://www.unicode.org/reports/tr14/) at
-//! Unicode 15.0, LB25 by pairs. Each function says whether a rule applies between what stands before
-//! a place and the next unit.
+//! Unicode 15.0, LB25 by pairs. Each function says whether a rule applies between what stands
+//! before a place and the next unit.
 ghost use Rattle.std.specs.Prelude.{◌≡◌, ◌&&◌, not};
 ghost use Rattle.textwrap_unicode.specs.ClassSets.{is_opening};
 ghost use Rattle.textwrap_unicode.specs.Rules.{lb2, lb4, lb6, lb7, lb8, lb8a, lb9, lb11, lb12};
@@ -318,8 +318,8 @@ fn is_held(before: &Before, next: Unit) -> bool
         | lb30b(before, next)
 }
 
-/// What the rules say of the place between what stands before it and the next unit. Most places of a text
-/// are of a few kinds, for which it needs few of the rules.
+/// What the rules say of the place between what stands before it and the next unit. Most places of a
+/// text are of a few kinds, for which it needs few of the rules.
 #[inline]
 pub fn decide(before: &Before, next: Unit) -> Verdict
     ensures { result ≡ decide before.now next }
@@ -349,7 +349,8 @@ pub fn decide(before: &Before, next: Unit) -> Verdict
 
 /// Whether nothing but the class of the last unit can forbid that a line ends there.
 fn is_free(before: &Before) -> bool
-    ensures { result ≡ not before.now.is_start && not before.now.is_joined && not (is_opening before.now.past_spaces) }
+    ensures { result ≡ not before.now.is_start && not before.now.is_joined
+        && not (is_opening before.now.past_spaces) }
 {
     !before.is_start & !before.is_joined & !is_opening(before.past_spaces)
 }

@@ -25,7 +25,8 @@ pub loop-at-preserved-after-is_cut : goal.loop-at-preserved-after-is_cut
 loop-at-preserved-after-is_cut c =
     let s = c.in-Some.ensures.steps in
     let may : c.may_end.result ≡ may_end (decide c.loop-at.before (unit_of c.in-Some.ch)) =
-    c.may_end.ensures ∙ ap may_end (c.decide.ensures ∙ ap (decide c.loop-at.before) c.of-unit.ensures) in
+    c.may_end.ensures
+    ∙ ap may_end (c.decide.ensures ∙ ap (decide c.loop-at.before) c.of-unit.ensures) in
     IsCutting-step _ _ _ _ _ _ _ _ c.in-Some.ch _ c.step-next.result.0 c.step-next.result.1
     c.loop-at.invariant s.1 c.step-next.ensures _ _ _ _ _ s.2
     (rw c.if-is_visible.true

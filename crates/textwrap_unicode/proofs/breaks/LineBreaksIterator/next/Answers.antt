@@ -55,7 +55,8 @@ range_from-requires c = λ some.
 pub returns-in-loop-offset-clause-steps : goal.returns-in-loop-offset-clause-steps
 returns-in-loop-offset-clause-steps c =
     let s = c.in-Some.ensures.steps in
-    let said = ap (decide c.loop-offset.before) (sym c.of-unit.ensures) ∙ sym c.decide-verdict.ensures in
+    let said = ap (decide c.loop-offset.before) (sym c.of-unit.ensures)
+    ∙ sym c.decide-verdict.ensures in
     let stands = c.and-before.ensures ∙ ap (and c.loop-offset.before) c.of-unit.ensures in
     sym c.self.view_is
     ∙ rw (c.range_from.ensures.value, s.0, c.len_utf8.ensures.len) (elim c.match-verdict.branch [

@@ -96,11 +96,11 @@ module _ (rest : List ℕ) (start : ℕ) (first : Before) (offset : ℕ) (ahead 
         → IsReading rest start first offset' after before'
     reading-step offset' before' prohibited offset_is before_is =
         rw (offset_is, before_is) (record {
-      utf8 = IsUtf8-past_char ahead after c h.utf8 e;
-      place = after-place;
-      within = reading-room;
-      left = rw prohibited at here;
-    })
+          utf8 = IsUtf8-past_char ahead after c h.utf8 e;
+          place = after-place;
+          within = reading-room;
+          left = rw prohibited at here;
+        })
 
     -- a line may or must end there
     pub reading-break : (verdict : Verdict) (place : LineBreak) (before' : Before)

@@ -8,15 +8,16 @@ use Rattle.std.proofs.lemmas.List.{append-nil}
 use Rattle.std.proofs.lemmas.Str.{length-le-encodes}
 use lib.Utf8.{encode}
 use Rattle.textwrap_unicode.specs.declared.breaks.LineBreak.{LineBreak}
+use Rattle.textwrap_unicode.specs.declared.numbers.Numbers.{Numbers}
 use Rattle.textwrap_unicode.specs.declared.rules.Verdict.{Verdict}
 use Rattle.textwrap_unicode.specs.declared.rules.Verdict.TheVariants.{Mandatory, Allowed}
 use Rattle.textwrap_unicode.specs.declared.rules.Verdict.TheVariants.{Prohibited}
 use Rattle.textwrap_unicode.specs.Before.{Text, before_of, is_empty, nothing}
 use Rattle.textwrap_unicode.specs.Before.{with_unit}
-use Rattle.textwrap_unicode.specs.Breaks.{AreBreaks, break_at}
-use Rattle.textwrap_unicode.specs.Breaks.{breaks_from, line_breaks}
+use Rattle.textwrap_unicode.specs.Breaks.{AreBreaksBy, break_at}
+use Rattle.textwrap_unicode.specs.Breaks.{breaks_from, breaks_by}
 use Rattle.textwrap_unicode.specs.Classes.{unit_of}
-use Rattle.textwrap_unicode.specs.Rules.{decide}
+use Rattle.textwrap_unicode.specs.Rules.{decide_by, numbers_rule}
 use Rattle.textwrap_unicode.proofs.OrderLemmas.{IsInOrder, order-nil, order-cons}
 use Rattle.textwrap_unicode.proofs.OrderLemmas.{same-members}
 use Rattle.textwrap_unicode.proofs.TextBreaks.{contains-break}
@@ -47,14 +48,14 @@ from-place at Allowed rest (suc i) none beyond within = beyond i (omega arith)
 from-place at Prohibited rest i none beyond within = beyond i within
 
 -- no break is before the place that they are computed from
-from-there : (text : Text) (at : ℕ) (cs : List ℕ) (i : ℕ) (none : LineBreak)
-    → i < length (breaks_from text at cs) → at ≤ (get_or (breaks_from text at cs) i none).at
-from-there text at [] i none within = from-end at (is_empty text.units) i none within
-from-there text at (c ∷ cs) i none within =
-    from-place at (decide (before_of text) (unit_of c)) _ i none
+from-there : (numbers : Numbers) (text : Text) (at : ℕ) (cs : List ℕ) (i : ℕ) (none : LineBreak)
+    → i < length (breaks_from numbers text at cs) → at ≤ (get_or (breaks_from numbers text at cs) i none).at
+from-there numbers text at [] i none within = from-end at (is_empty text.units) i none within
+from-there numbers text at (c ∷ cs) i none within =
+    from-place at (decide_by (numbers_rule numbers cs) (before_of text) (unit_of c)) _ i none
     (λ j inside. omega (
       arith,
-      from-there (with_unit text (unit_of c)) (at + length (encode c)) cs j none inside,
+      from-there numbers (with_unit text (unit_of c)) (at + length (encode c)) cs j none inside,
     ))
     within
 
@@ -74,30 +75,30 @@ order-place at Mandatory rest beyond order = order-cons offset_of _ rest beyond 
 order-place at Allowed rest beyond order = order-cons offset_of _ rest beyond order
 order-place at Prohibited rest beyond order = order
 
-pub breaks-in-order : (text : Text) (at : ℕ) (cs : List ℕ)
-    → IsInOrder offset_of (breaks_from text at cs)
-breaks-in-order text at [] = order-end at (is_empty text.units)
-breaks-in-order text at (c ∷ cs) =
-    order-place at (decide (before_of text) (unit_of c)) _
+pub breaks-in-order : (numbers : Numbers) (text : Text) (at : ℕ) (cs : List ℕ)
+    → IsInOrder offset_of (breaks_from numbers text at cs)
+breaks-in-order numbers text at [] = order-end at (is_empty text.units)
+breaks-in-order numbers text at (c ∷ cs) =
+    order-place at (decide_by (numbers_rule numbers cs) (before_of text) (unit_of c)) _
     (λ i none within. omega (
       arith,
       encode-some c,
-      from-there (with_unit text (unit_of c)) (at + length (encode c)) cs i none within,
+      from-there numbers (with_unit text (unit_of c)) (at + length (encode c)) cs i none within,
     ))
-    (breaks-in-order (with_unit text (unit_of c)) (at + length (encode c)) cs)
+    (breaks-in-order numbers (with_unit text (unit_of c)) (at + length (encode c)) cs)
 
 -- the breaks of a text are the computed ones, and no others
-pub breaks-unique : (text : List ℕ) (breaks : List LineBreak) → IsUtf8 text
-    → AreBreaks text breaks ↔ (breaks ≡ line_breaks text)
-breaks-unique text breaks utf8 = (
-  λ h. same-members offset_of breaks (line_breaks text) h.in_order computed.in_order
+pub breaks-unique : (numbers : Numbers) (text : List ℕ) (breaks : List LineBreak) → IsUtf8 text
+    → AreBreaksBy numbers text breaks ↔ (breaks ≡ breaks_by numbers text)
+breaks-unique numbers text breaks utf8 = (
+  λ h. same-members offset_of breaks (breaks_by numbers text) h.in_order computed.in_order
       (λ place inside. (computed.all place).1 ((h.all place).0 inside))
       (λ place inside. (h.all place).1 ((computed.all place).0 inside)),
-  λ e. subst (AreBreaks text) (sym e) computed,
+  λ e. subst (AreBreaksBy numbers text) (sym e) computed,
 )
   where
-    computed : AreBreaks text (line_breaks text)
+    computed : AreBreaksBy numbers text (breaks_by numbers text)
     computed = record {
-      in_order = breaks-in-order nothing 0 (chars text);
-      all = contains-break text utf8;
+      in_order = breaks-in-order numbers nothing 0 (chars text);
+      all = contains-break numbers text utf8;
     }

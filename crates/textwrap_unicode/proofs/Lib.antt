@@ -9,9 +9,11 @@ pub mod CuttingLemmas
 pub mod DecideLemmas
 pub mod FoundBreaks
 pub mod InnerCuts
+pub mod NumberLemmas
 pub mod OffsetsAmong
 pub mod OnePlace
 pub mod OrderLemmas
+pub mod ReadPlaces
 pub mod RuleOrder
 pub mod TextBreaks
 pub mod Verdicts

@@ -1,7 +1,7 @@
 -- The cuts that are ahead, and an offset among those of the breaks.
 use Rattle.textwrap_base.proofs.Common.{◌≡◌, ◌≢◌, ℕ, ◌+◌, ◌<◌, ◌≤◌, ◌==◌, ◌&&◌, Bool, true, false}
 use Rattle.textwrap_base.proofs.Common.{not}
-use Rattle.textwrap_base.proofs.Common.{if◌then◌else◌, List, [], ◌∷◌, ◌++◌, length, refl}
+use Rattle.textwrap_base.proofs.Common.{if◌then◌else◌, List, [], ◌∷◌, ◌++◌, length, map, refl}
 use Rattle.textwrap_base.proofs.Common.{arith, All, All-nil, All-cons, All-head, All-tail}
 use Rattle.textwrap_base.proofs.Common.{All-weaker}
 use Rattle.textwrap_base.proofs.Common.{nat_tests}
@@ -10,6 +10,7 @@ use lib.Utf8.{encode}
 use Rattle.textwrap_words.proofs.Common.{VisibleEnd}
 use Rattle.textwrap_words.specs.WordOffsets.{is_any_hyphen}
 use Rattle.textwrap_unicode.specs.declared.before.Before.{Before}
+use Rattle.textwrap_unicode.specs.declared.numbers.Numbers.{Numbers}
 use Rattle.textwrap_unicode.specs.declared.rules.Verdict.{Verdict}
 use Rattle.textwrap_unicode.specs.declared.rules.Verdict.TheVariants.{Mandatory, Allowed}
 use Rattle.textwrap_unicode.specs.declared.rules.Verdict.TheVariants.{Prohibited}
@@ -17,7 +18,7 @@ use Rattle.textwrap_unicode.specs.Breaks.{break_at}
 use Rattle.textwrap_unicode.specs.BreaksLeft.{and, breaks_after}
 use Rattle.textwrap_unicode.specs.Classes.{unit_of}
 use Rattle.textwrap_unicode.specs.Cuts.{may_end, offsets_of}
-use Rattle.textwrap_unicode.specs.Rules.{decide}
+use Rattle.textwrap_unicode.specs.Rules.{decide_by, numbers_rule}
 
 -- ---- the cuts that are ahead
 
@@ -25,12 +26,13 @@ abbrev pub cut_here : Bool → ℕ → List ℕ
 cut_here b end = if b then end ∷ [] else []
 
 -- after a last visible character that ends there, and may be a hyphen
-abbrev pub cuts_ahead : Before → ℕ → Bool → List VisibleEnd → List ℕ
-cuts_ahead before end hyphen [] = []
-cuts_ahead before end hyphen (e ∷ es) =
+abbrev pub cuts_ahead : Numbers → Before → ℕ → Bool → List VisibleEnd → List ℕ
+cuts_ahead numbers before end hyphen [] = []
+cuts_ahead numbers before end hyphen (e ∷ es) =
     let next = unit_of e.character in
-    cut_here (not hyphen && may_end (decide before next)) end
-    ++ cuts_ahead (and before next) e.end (is_any_hyphen e.character) es
+    let back = map (λ later. later.character) es in
+    cut_here (not hyphen && may_end (decide_by (numbers_rule numbers back) before next)) end
+    ++ cuts_ahead numbers (and before next) e.end (is_any_hyphen e.character) es
 
 -- ---- an offset among those of the breaks
 
@@ -52,21 +54,21 @@ any-above s (o ∷ os) above =
     let differs : o ≢ s = λ e. omega (arith, here, e) in
     rw (other o s differs) (any-above s os (All-tail (λ o. s < o) o os above))
 
-pub breaks-above : (before : Before) (at : ℕ) (cs : List ℕ)
-    → All (λ o. at ≤ o) (offsets_of (breaks_after before at cs))
-breaks-above before at [] =
+pub breaks-above : (numbers : Numbers) (before : Before) (at : ℕ) (cs : List ℕ)
+    → All (λ o. at ≤ o) (offsets_of (breaks_after numbers before at cs))
+breaks-above numbers before at [] =
     elim before.is_start as (λ b. All (λ o. at ≤ o)
     (offsets_of (if b then [] else record { at = at; is_mandatory = true } ∷ []))) [
       | true ↦ All-nil (λ o. at ≤ o)
       | false ↦ All-cons (λ o. at ≤ o) at [] (omega arith) (All-nil (λ o. at ≤ o))
     ]
-breaks-above before at (c ∷ cs) =
+breaks-above numbers before at (c ∷ cs) =
     let next = at + length (encode c) in
-    let rest = breaks_after (and before (unit_of c)) next cs in
+    let rest = breaks_after numbers (and before (unit_of c)) next cs in
     let later : All (λ o. at ≤ o) (offsets_of rest) =
     All-weaker (λ o. next ≤ o) (λ o. at ≤ o) (λ o h. omega (arith, h)) (offsets_of rest)
-    (breaks-above (and before (unit_of c)) next cs) in
-    elim (decide before (unit_of c)) as (λ v. All (λ o. at ≤ o)
+    (breaks-above numbers (and before (unit_of c)) next cs) in
+    elim (decide_by (numbers_rule numbers cs) before (unit_of c)) as (λ v. All (λ o. at ≤ o)
     (offsets_of (break_at v at ++ rest))) [
       | Mandatory ↦ All-cons (λ o. at ≤ o) at (offsets_of rest) (omega arith) later
       | Allowed ↦ All-cons (λ o. at ≤ o) at (offsets_of rest) (omega arith) later

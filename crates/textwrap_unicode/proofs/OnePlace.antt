@@ -9,16 +9,17 @@ use Rattle.std.proofs.lemmas.List.{append_cancel_left}
 use Rattle.std.proofs.lemmas.Str.{length-le-encodes}
 use Rattle.std.proofs.lemmas.Str.{encodes_same}
 use lib.Utf8.{encodes}
+use Rattle.textwrap_unicode.specs.declared.numbers.Numbers.{Numbers}
 use Rattle.textwrap_unicode.specs.declared.rules.Verdict.{Verdict}
 use Rattle.textwrap_unicode.specs.declared.rules.Verdict.TheVariants.{Mandatory, Allowed}
-use Rattle.textwrap_unicode.specs.Breaks.{IsPlace, IsEnd}
-use Rattle.textwrap_unicode.specs.Breaks.{line_breaks, verdict_between}
+use Rattle.textwrap_unicode.specs.Breaks.{IsPlaceBy, IsEnd}
+use Rattle.textwrap_unicode.specs.Breaks.{breaks_by, verdict_by}
 use Rattle.textwrap_unicode.proofs.TextBreaks.{contains-break, spelled, before-place}
 
-module _ (text front back : List ℕ) (next : ℕ) (utf8 : IsUtf8 text)
+module _ (numbers : Numbers) (text front back : List ℕ) (next : ℕ) (utf8 : IsUtf8 text)
     (divided : chars text ≡ front ++ next ∷ back) where
-  here-is : (verdict : Verdict) → verdict_between front next ≡ verdict
-      → IsPlace text (length (encodes front)) verdict
+  here-is : (verdict : Verdict) → verdict_by numbers front next back ≡ verdict
+      → IsPlaceBy numbers text (length (encodes front)) verdict
   here-is verdict said = record {
     front = front;
     next = next;
@@ -28,8 +29,8 @@ module _ (text front back : List ℕ) (next : ℕ) (utf8 : IsUtf8 text)
     said = said;
   }
 
-  here-said : (verdict : Verdict) → IsPlace text (length (encodes front)) verdict
-      → verdict_between front next ≡ verdict
+  here-said : (verdict : Verdict) → IsPlaceBy numbers text (length (encodes front)) verdict
+      → verdict_by numbers front next back ≡ verdict
   here-said verdict h =
       let same : h.front ≡ front = encodes_same h.front front
       (sym (before-place text utf8 h.front h.back h.next h.divided)
@@ -38,8 +39,10 @@ module _ (text front back : List ℕ) (next : ℕ) (utf8 : IsUtf8 text)
       let rest : h.next ∷ h.back ≡ next ∷ back = append_cancel_left front _ _
       (ap (λ cs. cs ++ h.next ∷ h.back) (sym same) ∙ sym h.divided ∙ divided) in
       let first : h.next ≡ next = cc in
-      ap (λ n. verdict_between front n) (sym first)
-      ∙ ap (λ cs. verdict_between cs h.next) (sym same)
+      let later : h.back ≡ back = cc in
+      ap (λ n. verdict_by numbers front n back) (sym first)
+      ∙ ap (λ cs. verdict_by numbers front h.next cs) (sym later)
+      ∙ ap (λ cs. verdict_by numbers cs h.next h.back) (sym same)
       ∙ h.said
 
   here-inside : IsEnd text (length (encodes front)) → ⊥
@@ -52,14 +55,14 @@ module _ (text front back : List ℕ) (next : ℕ) (utf8 : IsUtf8 text)
   )
 
   pub here-decides : (is_mandatory : Bool)
-      → Contains (line_breaks text)
+      → Contains (breaks_by numbers text)
       (record { at = length (encodes front); is_mandatory = is_mandatory })
-      ↔ (verdict_between front next ≡ (if is_mandatory then Mandatory else Allowed))
+      ↔ (verdict_by numbers front next back ≡ (if is_mandatory then Mandatory else Allowed))
   here-decides false =
-      let both = contains-break text utf8 _ in
+      let both = contains-break numbers text utf8 _ in
       (λ inside. here-said Allowed (both.0 inside), λ said. both.1 (here-is Allowed said))
   here-decides true =
-      let both = contains-break text utf8 _ in (
+      let both = contains-break numbers text utf8 _ in (
         λ inside. elim (both.0 inside) [
           | inl h ↦ here-said Mandatory h
           | inr h ↦ absurd (here-inside h)

@@ -13,7 +13,7 @@ use Rattle.textwrap_unicode.specs.declared.rules.Verdict.TheVariants.{Prohibited
 use Rattle.textwrap_unicode.specs.Before.{as_letter}
 use Rattle.textwrap_unicode.specs.ClassSets.{is_after_text}
 use Rattle.textwrap_unicode.specs.ClassSets.{is_mark}
-use Rattle.textwrap_unicode.specs.Rules.{Saying, decide, first_said, is_glued, is_kept, lb11, lb12}
+use Rattle.textwrap_unicode.specs.Rules.{Rule, Saying, decide_by, first_said, is_glued, is_kept, lb11, lb12}
 use Rattle.textwrap_unicode.specs.Rules.{lb12a, lb13, lb14, lb15, lb16, lb17, lb4, lb8, lb9, rules}
 use Rattle.textwrap_unicode.proofs.ClassFacts.{if-false, if-true}
 
@@ -54,20 +54,20 @@ tail [] = []
 tail (rule ∷ others) = others
 
 -- the rules after LB2, after LB5, after LB7, after LB8 and after LB9
-abbrev past_start : List Saying
-past_start = tail rules
+abbrev past_start : Rule → List Saying
+past_start numbers = tail (rules numbers)
 
-abbrev past_ends : List Saying
-past_ends = tail past_start
+abbrev past_ends : Rule → List Saying
+past_ends numbers = tail (past_start numbers)
 
-abbrev past_spaces : List Saying
-past_spaces = tail past_ends
+abbrev past_spaces : Rule → List Saying
+past_spaces numbers = tail (past_ends numbers)
 
-abbrev past_zero_width : List Saying
-past_zero_width = tail past_spaces
+abbrev past_zero_width : Rule → List Saying
+past_zero_width numbers = tail (past_spaces numbers)
 
-abbrev past_marks : List Saying
-past_marks = tail (tail past_zero_width)
+abbrev past_marks : Rule → List Saying
+past_marks numbers = tail (tail (past_zero_width numbers))
 
 no : Prohibited ≢ Mandatory
 no = λ e. cc
@@ -75,8 +75,8 @@ no = λ e. cc
 may : Allowed ≢ Mandatory
 may = λ e. cc
 
-rest-never : NeverMust past_ends
-rest-never = (no, (may, (no, (no, (no, (may, (no, (may, (no, tt)))))))))
+rest-never : (numbers : Rule) → NeverMust (past_ends numbers)
+rest-never numbers = (no, (may, (no, (no, (no, (may, (no, (may, (no, tt)))))))))
 
 closing-mark : (class : LineBreak) → is_after_text class ≡ true → is_mark class ≡ false
 closing-mark CombiningMark e = cc
@@ -86,48 +86,48 @@ closing-mark class e = refl
 same-letter : (unit : Unit) → is_mark unit.class ≡ false → as_letter unit ≡ unit
 same-letter unit e = if-false (is_mark unit.class) (record unit { class = Alphabetic }) unit e
 
-module _ (before : Before) (next : Unit) (some : before.is_start ≡ false) where
-  started : decide before next ≡ first_said past_start before next
-  started = if-false before.is_start Prohibited (first_said past_start before next) some
+module _ (numbers : Rule) (before : Before) (next : Unit) (some : before.is_start ≡ false) where
+  started : decide_by numbers before next ≡ first_said (past_start numbers) before next
+  started = if-false before.is_start Prohibited (first_said (past_start numbers) before next) some
 
-  pub decide-must : lb4 before next ≡ true → decide before next ≡ Mandatory
+  pub decide-must : lb4 before next ≡ true → decide_by numbers before next ≡ Mandatory
   decide-must must =
-      started ∙ if-true (lb4 before next) Mandatory (first_said past_ends before next) must
+      started ∙ if-true (lb4 before next) Mandatory (first_said (past_ends numbers) before next) must
 
-  past-must : lb4 before next ≡ false → decide before next ≡ first_said past_ends before next
+  past-must : lb4 before next ≡ false → decide_by numbers before next ≡ first_said (past_ends numbers) before next
   past-must free =
-      started ∙ if-false (lb4 before next) Mandatory (first_said past_ends before next) free
+      started ∙ if-false (lb4 before next) Mandatory (first_said (past_ends numbers) before next) free
 
-  pub must-only : decide before next ≡ Mandatory → lb4 before next ≡ true
+  pub must-only : decide_by numbers before next ≡ Mandatory → lb4 before next ≡ true
   must-only e = by (lb4 before next) refl
     where
       by : (b : Bool) → lb4 before next ≡ b → b ≡ true
       by true is = refl
-      by false is = absurd (never-must past_ends before next rest-never (sym (past-must is) ∙ e))
+      by false is = absurd (never-must (past_ends numbers) before next (rest-never numbers) (sym (past-must is) ∙ e))
 
   pub decide-kept : lb4 before next ≡ false → is_kept before next ≡ true
-      → decide before next ≡ Prohibited
+      → decide_by numbers before next ≡ Prohibited
   decide-kept free kept =
       past-must free
-      ∙ if-true (is_kept before next) Prohibited (first_said past_spaces before next) kept
+      ∙ if-true (is_kept before next) Prohibited (first_said (past_spaces numbers) before next) kept
 
   -- what LB8a says, where neither LB8 nor a rule before it says that a line ends
   past-zero_width : lb4 before next ≡ false → lb8 before next ≡ false
-      → first_said past_zero_width before next ≡ Prohibited
-      → decide before next ≡ Prohibited
+      → first_said (past_zero_width numbers) before next ≡ Prohibited
+      → decide_by numbers before next ≡ Prohibited
   past-zero_width free after rest =
       past-must free
       ∙ prohibited-or (is_kept before next) _
-      (if-false (lb8 before next) Allowed (first_said past_zero_width before next) after
+      (if-false (lb8 before next) Allowed (first_said (past_zero_width numbers) before next) after
       ∙ rest)
 
   pub decide-marked : lb4 before next ≡ false → lb8 before next ≡ false → lb9 before next ≡ true
-      → decide before next ≡ Prohibited
+      → decide_by numbers before next ≡ Prohibited
   decide-marked free after marked =
       past-zero_width free after
       (prohibited-or before.is_joined _
       (if-true (lb9 before next) Prohibited
-      (first_said past_marks before next) marked))
+      (first_said (past_marks numbers) before next) marked))
 
   glued-closing : is_after_text next.class ≡ true → is_glued before next ≡ true
   glued-closing closing =
@@ -139,7 +139,7 @@ module _ (before : Before) (next : Unit) (some : before.is_start ≡ false) wher
       or-left _ (lb17 before next) to_lb16
 
   pub decide-closing : lb4 before next ≡ false → lb8 before next ≡ false
-      → is_after_text next.class ≡ true → decide before next ≡ Prohibited
+      → is_after_text next.class ≡ true → decide_by numbers before next ≡ Prohibited
   decide-closing free after closing =
       past-zero_width free after
       (prohibited-or before.is_joined _

@@ -11,19 +11,20 @@ use Rattle.std.proofs.lemmas.Str.{IsCharBoundary-from_take}
 use Rattle.std.proofs.Math.Seq.{take-append_seam}
 use lib.Utf8.{encodes, scalar, scalars}
 use Rattle.textwrap_unicode.specs.declared.breaks.LineBreak.{LineBreak}
+use Rattle.textwrap_unicode.specs.declared.numbers.Numbers.{Numbers}
 use Rattle.textwrap_unicode.specs.declared.rules.Verdict.{Verdict}
 use Rattle.textwrap_unicode.specs.declared.rules.Verdict.TheVariants.{Mandatory, Allowed}
 use Rattle.textwrap_unicode.specs.declared.rules.Verdict.TheVariants.{Prohibited}
-use Rattle.textwrap_unicode.specs.Breaks.{IsPlace, IsEnd, EndsAt, IsBreak}
-use Rattle.textwrap_unicode.specs.Breaks.{line_breaks, verdict_between}
+use Rattle.textwrap_unicode.specs.Breaks.{IsPlaceBy, IsEnd, EndsBy, IsBreakBy}
+use Rattle.textwrap_unicode.specs.Breaks.{breaks_by, verdict_by}
 use Rattle.textwrap_unicode.proofs.Ahead.{IsAhead}
 use Rattle.textwrap_unicode.proofs.FoundBreaks.{EndsAhead, computed-said, said-computed}
 
 -- ---- the whole text
 
-module _ (text : List ℕ) (utf8 : IsUtf8 text) where
-  place-ahead : (at : ℕ) (verdict : Verdict) → IsPlace text at verdict
-      → IsAhead [] (chars text) at verdict
+module _ (numbers : Numbers) (text : List ℕ) (utf8 : IsUtf8 text) where
+  place-ahead : (at : ℕ) (verdict : Verdict) → IsPlaceBy numbers text at verdict
+      → IsAhead numbers [] (chars text) at verdict
   place-ahead at verdict h = record {
     middle = h.front;
     next = h.next;
@@ -33,8 +34,8 @@ module _ (text : List ℕ) (utf8 : IsUtf8 text) where
     said = h.said;
   }
 
-  ahead-place : (at : ℕ) (verdict : Verdict) → IsAhead [] (chars text) at verdict
-      → IsPlace text at verdict
+  ahead-place : (at : ℕ) (verdict : Verdict) → IsAhead numbers [] (chars text) at verdict
+      → IsPlaceBy numbers text at verdict
   ahead-place at verdict h = record {
     front = h.middle;
     next = h.next;
@@ -47,35 +48,35 @@ module _ (text : List ℕ) (utf8 : IsUtf8 text) where
   no-chars : chars text ≡ [] → text ≡ []
   no-chars none = sym (encodes-chars text utf8) ∙ ap encodes none
 
-  to-ahead : (at : ℕ) (is_mandatory : Bool) → EndsAt text at is_mandatory
-      → EndsAhead [] (chars text) at is_mandatory
+  to-ahead : (at : ℕ) (is_mandatory : Bool) → EndsBy numbers text at is_mandatory
+      → EndsAhead numbers [] (chars text) at is_mandatory
   to-ahead at false h = place-ahead at Allowed h
   to-ahead at true (inl h) = inl (place-ahead at Mandatory h)
   to-ahead at true (inr h) =
       inr (λ none. h.0 (no-chars none), h.1 ∙ ap length (sym (encodes-chars text utf8)))
 
-  from-ahead : (at : ℕ) (is_mandatory : Bool) → EndsAhead [] (chars text) at is_mandatory
-      → EndsAt text at is_mandatory
+  from-ahead : (at : ℕ) (is_mandatory : Bool) → EndsAhead numbers [] (chars text) at is_mandatory
+      → EndsBy numbers text at is_mandatory
   from-ahead at false h = ahead-place at Allowed h
   from-ahead at true (inl h) = inl (ahead-place at Mandatory h)
   from-ahead at true (inr h) =
       inr (λ none. h.0 (ap chars none ∙ chars-nil), h.1 ∙ ap length (encodes-chars text utf8))
 
   -- the computed list has the breaks of the text, and no others
-  pub contains-break : (place : LineBreak) → Contains (line_breaks text) place ↔ IsBreak text place
+  pub contains-break : (place : LineBreak) → Contains (breaks_by numbers text) place ↔ IsBreakBy numbers text place
   contains-break place = (
-    λ h. from-ahead place.at place.is_mandatory (computed-said [] (chars text) place h),
-    λ h. said-computed [] (chars text) place.at place.is_mandatory
+    λ h. from-ahead place.at place.is_mandatory (computed-said numbers [] (chars text) place h),
+    λ h. said-computed numbers [] (chars text) place.at place.is_mandatory
         (to-ahead place.at place.is_mandatory h),
   )
 
 -- ---- where they are
 
 -- the rules let no line end at the start of a text
-some-front : (front : List ℕ) (next : ℕ) → verdict_between front next ≢ Prohibited
-    → 0 < length (encodes front)
-some-front [] next said = absurd (said refl)
-some-front (f ∷ fs) next said = omega (arith, length-le-encodes (f ∷ fs))
+some-front : (numbers : Numbers) (front : List ℕ) (next : ℕ) (back : List ℕ)
+    → verdict_by numbers front next back ≢ Prohibited → 0 < length (encodes front)
+some-front numbers [] next back said = absurd (said refl)
+some-front numbers (f ∷ fs) next back said = omega (arith, length-le-encodes (f ∷ fs))
 
 scalars-front : (xs ys : List ℕ) → scalars (xs ++ ys) ≡ true → scalars xs ≡ true
 scalars-front [] ys h = refl
@@ -96,8 +97,8 @@ module _ (text : List ℕ) (utf8 : IsUtf8 text) (front back : List ℕ) (next : 
   before-place = ap (take (length (encodes front))) spelled
       ∙ take-append_seam (encodes front) (encodes (next ∷ back))
 
-module _ (text : List ℕ) (utf8 : IsUtf8 text) where
-  place-within : (at : ℕ) (verdict : Verdict) → verdict ≢ Prohibited → IsPlace text at verdict
+module _ (numbers : Numbers) (text : List ℕ) (utf8 : IsUtf8 text) where
+  place-within : (at : ℕ) (verdict : Verdict) → verdict ≢ Prohibited → IsPlaceBy numbers text at verdict
       → IsCharBoundary text at × (0 < at) × (at ≤ length text)
   place-within at verdict some h =
       let within : at ≤ length text = omega (
@@ -112,7 +113,7 @@ module _ (text : List ℕ) (utf8 : IsUtf8 text) where
       sym (ap scalars h.divided) ∙ scalars-chars text utf8 in (
         IsCharBoundary-from_take text at utf8 within
             (subst IsUtf8 (sym taken) (h.front, (scalars-front h.front _ whole, refl))),
-        omega (arith, h.offset, some-front h.front h.next (λ none. some (sym h.said ∙ none))),
+        omega (arith, h.offset, some-front numbers h.front h.next h.back (λ none. some (sym h.said ∙ none))),
         within,
       )
 
@@ -123,17 +124,17 @@ module _ (text : List ℕ) (utf8 : IsUtf8 text) where
     omega (arith, h.1),
   )
 
-  break-within : (at : ℕ) (is_mandatory : Bool) → EndsAt text at is_mandatory
+  break-within : (at : ℕ) (is_mandatory : Bool) → EndsBy numbers text at is_mandatory
       → IsCharBoundary text at × (0 < at) × (at ≤ length text)
   break-within at false h = place-within at Allowed (λ e. cc) h
   break-within at true (inl h) = place-within at Mandatory (λ e. cc) h
   break-within at true (inr h) = end-within at h
 
-  pub contains-within : (place : LineBreak) → Contains (line_breaks text) place
+  pub contains-within : (place : LineBreak) → Contains (breaks_by numbers text) place
       → IsCharBoundary text place.at × (0 < place.at) × (place.at ≤ length text)
   contains-within place inside =
-      break-within place.at place.is_mandatory ((contains-break text utf8 place).0 inside)
+      break-within place.at place.is_mandatory ((contains-break numbers text utf8 place).0 inside)
 
   pub contains-end : text ≢ []
-      → Contains (line_breaks text) (record { at = length text; is_mandatory = true })
-  contains-end some = (contains-break text utf8 _).1 (inr (some, refl))
+      → Contains (breaks_by numbers text) (record { at = length text; is_mandatory = true })
+  contains-end some = (contains-break numbers text utf8 _).1 (inr (some, refl))

@@ -9,16 +9,17 @@ use Rattle.unicode.specs.declared.properties.LineBreak.TheVariants.{Alphabetic, 
 use Rattle.unicode.specs.declared.properties.LineBreak.TheVariants.{CombiningMark, LineFeed}
 use Rattle.unicode.specs.declared.properties.LineBreak.TheVariants.{Zwj}
 use Rattle.textwrap_unicode.specs.declared.before.Before.{Before}
+use Rattle.textwrap_unicode.specs.declared.numbers.Numbers.{Numbers}
 use Rattle.textwrap_unicode.specs.declared.rules.Verdict.TheVariants.{Mandatory}
 use Rattle.textwrap_unicode.specs.declared.rules.Verdict.TheVariants.{Prohibited}
 use Rattle.textwrap_unicode.specs.Before.{before_of, class_past_spaces}
 use Rattle.textwrap_unicode.specs.Before.{first_class, is_empty, text_of}
-use Rattle.textwrap_unicode.specs.Breaks.{verdict_between}
+use Rattle.textwrap_unicode.specs.Breaks.{verdict_by}
 use Rattle.textwrap_unicode.specs.Classes.{class_of, unit_of}
 use Rattle.textwrap_unicode.specs.ClassSets.{is_after_text, is_carriage_return, is_line_end}
 use Rattle.textwrap_unicode.specs.ClassSets.{is_mark, is_zero_width_space, takes_no_mark}
 use Rattle.textwrap_unicode.specs.Laws.{ends_line}
-use Rattle.textwrap_unicode.specs.Rules.{lb4}
+use Rattle.textwrap_unicode.specs.Rules.{Rule, lb4, numbers_rule}
 use Rattle.textwrap_unicode.proofs.Ahead.{not-empty, text_of-push}
 use Rattle.textwrap_unicode.proofs.ClassFacts.{kept-class, last-has, line_end-takes, none-past}
 use Rattle.textwrap_unicode.proofs.ClassFacts.{return-takes}
@@ -29,7 +30,10 @@ use Rattle.textwrap_unicode.proofs.RuleOrder.{decide-must, must-only}
 
 -- what the rules ask of the last unit is what they ask of the last character, unless that tells
 -- marks from letters
-module _ (front : List ℕ) (c : ℕ) where
+module _ (numbers : Numbers) (front back : List ℕ) (c : ℕ) where
+  abbrev form : Rule
+  form = numbers_rule numbers back
+
   abbrev after : Before
   after = before_of (text_of (front ++ c ∷ []))
 
@@ -55,32 +59,32 @@ module _ (front : List ℕ) (c : ℕ) where
   after-takes = after-class takes_no_mark refl refl refl (λ class e. e)
 
   pub must-after : (next : ℕ)
-      → (verdict_between (front ++ c ∷ []) next ≡ Mandatory) ↔ (ends_line c next ≡ true)
+      → (verdict_by numbers (front ++ c ∷ []) next back ≡ Mandatory) ↔ (ends_line c next ≡ true)
   must-after next = (
-    λ e. sym (after-ends next) ∙ must-only after (unit_of next) after-started e,
-    λ e. decide-must after (unit_of next) after-started (after-ends next ∙ e),
+    λ e. sym (after-ends next) ∙ must-only form after (unit_of next) after-started e,
+    λ e. decide-must form after (unit_of next) after-started (after-ends next ∙ e),
   )
 
   pub kept-after : (next : ℕ) → ends_line c next ≡ false → takes_no_mark (class_of next) ≡ true
-      → verdict_between (front ++ c ∷ []) next ≡ Prohibited
+      → verdict_by numbers (front ++ c ∷ []) next back ≡ Prohibited
   kept-after next free kept =
-      decide-kept after (unit_of next) after-started (after-ends next ∙ free)
+      decide-kept form after (unit_of next) after-started (after-ends next ∙ free)
       (kept-class (class_of next) kept)
 
   pub closing-after : (next : ℕ) → ends_line c next ≡ false
       → is_zero_width_space (class_past_spaces (text_of (front ++ c ∷ [])).units) ≡ false
-      → is_after_text (class_of next) ≡ true → verdict_between (front ++ c ∷ []) next ≡ Prohibited
+      → is_after_text (class_of next) ≡ true → verdict_by numbers (front ++ c ∷ []) next back ≡ Prohibited
   closing-after next free past closing =
-      decide-closing after (unit_of next) after-started (after-ends next ∙ free) past closing
+      decide-closing form after (unit_of next) after-started (after-ends next ∙ free) past closing
 
   pub marked-after : (next : ℕ) → takes_no_mark (class_of c) ≡ false
       → is_mark (class_of next) ≡ true
-      → verdict_between (front ++ c ∷ []) next ≡ Prohibited
+      → verdict_by numbers (front ++ c ∷ []) next back ≡ Prohibited
   marked-after next takes mark =
       let base : takes_no_mark after.class ≡ false = after-takes ∙ takes in
       let free : ends_line c next ≡ false = and_left (is_line_end (class_of c)) _
       (line_end-takes (class_of c) takes) in
-      decide-marked after (unit_of next) after-started (after-ends next ∙ free)
+      decide-marked form after (unit_of next) after-started (after-ends next ∙ free)
       (none-past (text_of (front ++ c ∷ [])).units base)
       (and_from (not (takes_no_mark after.class)) (is_mark (class_of next)) (ap not base) mark)
 
@@ -100,8 +104,11 @@ feed-ends next = rw feed-class refl
 return-waits : ends_line 0x0D 0x0A ≡ false
 return-waits = rw (return-class, feed-class) refl
 
-pub feeds-end : (front : List ℕ) (next : ℕ) → verdict_between (front ++ 0x0A ∷ []) next ≡ Mandatory
-feeds-end front next = (must-after front 0x0A next).1 (feed-ends next)
+pub feeds-end : (numbers : Numbers) (front back : List ℕ) (next : ℕ)
+    → verdict_by numbers (front ++ 0x0A ∷ []) next back ≡ Mandatory
+feeds-end numbers front back next = (must-after numbers front back 0x0A next).1 (feed-ends next)
 
-pub return-kept : (front : List ℕ) → verdict_between (front ++ 0x0D ∷ []) 0x0A ≡ Prohibited
-return-kept front = kept-after front 0x0D 0x0A return-waits (ap takes_no_mark feed-class)
+pub return-kept : (numbers : Numbers) (front back : List ℕ)
+    → verdict_by numbers (front ++ 0x0D ∷ []) 0x0A back ≡ Prohibited
+return-kept numbers front back =
+    kept-after numbers front back 0x0D 0x0A return-waits (ap takes_no_mark feed-class)

@@ -1,13 +1,15 @@
 -- What stands before a place, as the rules see it: combining marks belong to the character before
 -- them (LB9), and without one they are letters (LB10).
-use Rattle.std.specs.Prelude.{ℕ, Bool, true, false, not, ◌&&◌, List, [], ◌∷◌, map, if◌then◌else◌}
+use Rattle.std.specs.Prelude.{ℕ, Bool, true, false, not, ◌&&◌, ◌||◌, List, [], ◌∷◌, map}
+use Rattle.std.specs.Prelude.{if◌then◌else◌}
 use Rattle.std.specs.List.{fold}
 use Rattle.unicode.specs.declared.properties.LineBreak.{LineBreak}
 use Rattle.unicode.specs.declared.properties.LineBreak.TheVariants.{Alphabetic, Unknown}
 use Rattle.textwrap_unicode.specs.declared.classes.Unit.{Unit}
 use Rattle.textwrap_unicode.specs.declared.before.Before.{Before}
-use Rattle.textwrap_unicode.specs.ClassSets.{is_hebrew, is_mark, is_regional_indicator, is_space}
-use Rattle.textwrap_unicode.specs.ClassSets.{is_zwj, takes_no_mark}
+use Rattle.textwrap_unicode.specs.ClassSets.{is_closing, is_hebrew, is_inside_number, is_mark}
+use Rattle.textwrap_unicode.specs.ClassSets.{is_number, is_regional_indicator, is_space, is_zwj}
+use Rattle.textwrap_unicode.specs.ClassSets.{takes_no_mark}
 use Rattle.textwrap_unicode.specs.Classes.{unit_of}
 
 -- the units before a place, the nearest first, without marks that belong to one; and whether a ZWJ
@@ -71,6 +73,18 @@ abbrev pub first_unassigned : List Unit → Bool
 first_unassigned [] = false
 first_unassigned (unit ∷ units) = unit.is_unassigned_pictograph
 
+-- NU (NU | SY | IS)* stands there
+abbrev pub in_number : List Unit → Bool
+in_number [] = false
+in_number (unit ∷ units) =
+    is_number unit.class || (is_inside_number unit.class && in_number units)
+
+-- NU (NU | SY | IS)* (CL | CP)? stands there
+abbrev pub past_number : List Unit → Bool
+past_number [] = false
+past_number (unit ∷ units) =
+    in_number (unit ∷ units) || (is_closing unit.class && in_number units)
+
 -- what the rules ask of what stands before a place
 abbrev pub before_of : Text → Before
 before_of text = record {
@@ -82,4 +96,6 @@ before_of text = record {
   is_wide = first_wide text.units;
   is_unassigned_pictograph = first_unassigned text.units;
   is_joined = text.is_joined;
+  is_in_number = in_number text.units;
+  is_past_number = past_number text.units;
 }

@@ -1,15 +1,17 @@
 -- What the iterator over breaks goes on from.
-use Rattle.std.specs.Prelude.{ℕ, ◌+◌, Bool, true, false, not, ◌&&◌, List, [], ◌∷◌, ◌++◌, length}
-use Rattle.std.specs.Prelude.{encode_utf8, if◌then◌else◌}
+use Rattle.std.specs.Prelude.{ℕ, ◌+◌, Bool, true, false, not, ◌&&◌, ◌||◌, List, [], ◌∷◌, ◌++◌}
+use Rattle.std.specs.Prelude.{length, encode_utf8, if◌then◌else◌}
 use Rattle.textwrap_unicode.specs.declared.before.Before.{Before}
 use Rattle.textwrap_unicode.specs.declared.breaks.LineBreak.{LineBreak}
 use Rattle.textwrap_unicode.specs.declared.classes.Unit.{Unit}
+use Rattle.textwrap_unicode.specs.declared.numbers.Numbers.{Numbers}
 use Rattle.textwrap_unicode.specs.Before.{as_letter}
 use Rattle.textwrap_unicode.specs.Breaks.{break_at}
-use Rattle.textwrap_unicode.specs.ClassSets.{is_hebrew, is_mark, is_regional_indicator, is_space}
-use Rattle.textwrap_unicode.specs.ClassSets.{is_zwj, takes_no_mark}
+use Rattle.textwrap_unicode.specs.ClassSets.{is_closing, is_hebrew, is_inside_number, is_mark}
+use Rattle.textwrap_unicode.specs.ClassSets.{is_number, is_regional_indicator, is_space, is_zwj}
+use Rattle.textwrap_unicode.specs.ClassSets.{takes_no_mark}
 use Rattle.textwrap_unicode.specs.Classes.{unit_of}
-use Rattle.textwrap_unicode.specs.Rules.{decide}
+use Rattle.textwrap_unicode.specs.Rules.{decide_by, numbers_rule}
 
 -- what stands before the place after a unit that stands by itself
 abbrev pub and_letter : Before → Unit → Bool → Before
@@ -22,6 +24,10 @@ and_letter before unit is_joined = record {
   is_wide = unit.is_wide;
   is_unassigned_pictograph = unit.is_unassigned_pictograph;
   is_joined = is_joined;
+  is_in_number = is_number unit.class || (is_inside_number unit.class && before.is_in_number);
+  is_past_number =
+      (is_number unit.class || (is_inside_number unit.class && before.is_in_number))
+      || (is_closing unit.class && before.is_in_number);
 }
 
 -- what stands before the place after the next unit
@@ -31,9 +37,9 @@ and before next =
     then record before { is_joined = is_zwj next.class }
     else and_letter before (as_letter next) (is_zwj next.class)
 
-abbrev pub breaks_after : Before → ℕ → List ℕ → List LineBreak
-breaks_after before at [] =
+abbrev pub breaks_after : Numbers → Before → ℕ → List ℕ → List LineBreak
+breaks_after numbers before at [] =
     if before.is_start then [] else record { at = at; is_mandatory = true } ∷ []
-breaks_after before at (c ∷ cs) =
-    break_at (decide before (unit_of c)) at
-    ++ breaks_after (and before (unit_of c)) (at + length (encode_utf8 c)) cs
+breaks_after numbers before at (c ∷ cs) =
+    break_at (decide_by (numbers_rule numbers cs) before (unit_of c)) at
+    ++ breaks_after numbers (and before (unit_of c)) (at + length (encode_utf8 c)) cs

@@ -210,6 +210,27 @@ leads_to_number Numeric = true
 leads_to_number BreakSymbols = true
 leads_to_number class = false
 
+-- OP or HY: may stand between PR or PO and a number
+abbrev pub opens_number : LineBreak → Bool
+opens_number OpenPunctuation = true
+opens_number Hyphen = true
+opens_number class = false
+
+-- SY or IS: may stand inside a number
+abbrev pub is_inside_number : LineBreak → Bool
+is_inside_number BreakSymbols = true
+is_inside_number InfixNumeric = true
+is_inside_number class = false
+
+-- NU, SY, IS, CL or CP: may stand inside a number or close it
+abbrev pub goes_on_number : LineBreak → Bool
+goes_on_number Numeric = true
+goes_on_number BreakSymbols = true
+goes_on_number InfixNumeric = true
+goes_on_number ClosePunctuation = true
+goes_on_number CloseParenthesis = true
+goes_on_number class = false
+
 -- JL, JV, JT, H2 or H3
 abbrev pub is_jamo : LineBreak → Bool
 is_jamo Jl = true

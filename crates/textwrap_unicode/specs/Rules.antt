@@ -1,13 +1,16 @@
--- The rules of line breaking, LB2 to LB31 of UAX #14 at Unicode 15.0, LB25 by pairs. The first rule
--- that applies says whether a line may be broken between what stands before a place and the next
--- unit. In the comments × is "may not", ÷ "may", ! "must".
-use Rattle.std.specs.Prelude.{◌&&◌, ◌||◌, Bool, not, List, [], ◌∷◌, if◌then◌else◌}
+-- The rules of line breaking, LB2 to LB31 of UAX #14 at Unicode 15.0, LB25 in two forms. The first
+-- rule that applies says whether a line may be broken between what stands before a place and the
+-- next unit. In the comments × is "may not", ÷ "may", ! "must".
+use Rattle.std.specs.Prelude.{ℕ, ◌&&◌, ◌||◌, Bool, false, not, List, [], ◌∷◌, if◌then◌else◌}
 use Rattle.textwrap_unicode.specs.declared.before.Before.{Before}
 use Rattle.textwrap_unicode.specs.declared.classes.Unit.{Unit}
+use Rattle.textwrap_unicode.specs.declared.numbers.Numbers.{Numbers}
+use Rattle.textwrap_unicode.specs.declared.numbers.Numbers.TheVariants.{ByPairs, ByExpression}
 use Rattle.textwrap_unicode.specs.declared.rules.Verdict.{Verdict}
 use Rattle.textwrap_unicode.specs.declared.rules.Verdict.TheVariants.{Mandatory, Allowed}
 use Rattle.textwrap_unicode.specs.declared.rules.Verdict.TheVariants.{Prohibited}
 use Rattle.textwrap_unicode.specs.Before.{as_letter}
+use Rattle.textwrap_unicode.specs.Classes.{class_of}
 use Rattle.textwrap_unicode.specs.ClassSets.{is_mark, is_space, is_regional_indicator}
 use Rattle.textwrap_unicode.specs.ClassSets.{takes_no_mark, is_line_end, is_carriage_return}
 use Rattle.textwrap_unicode.specs.ClassSets.{is_line_feed, is_zero_width_space, is_word_joiner}
@@ -21,7 +24,8 @@ use Rattle.textwrap_unicode.specs.ClassSets.{leads_to_number, is_jamo, is_leadin
 use Rattle.textwrap_unicode.specs.ClassSets.{follows_leading, ends_in_vowel, follows_vowel}
 use Rattle.textwrap_unicode.specs.ClassSets.{ends_in_trailing, is_trailing_jamo, is_infix}
 use Rattle.textwrap_unicode.specs.ClassSets.{is_letter_or_number, is_close_parenthesis}
-use Rattle.textwrap_unicode.specs.ClassSets.{is_emoji_base, is_emoji_modifier}
+use Rattle.textwrap_unicode.specs.ClassSets.{is_emoji_base, is_emoji_modifier, opens_number}
+use Rattle.textwrap_unicode.specs.ClassSets.{goes_on_number}
 
 -- whether it applies between what stands before a place and the next unit
 abbrev pub Rule : Type 0
@@ -134,12 +138,37 @@ lb24 before next =
     (is_affix before.class && is_letter next.class)
     || (is_letter before.class && is_affix next.class)
 
--- LB25: (CL | CP | NU) × (PO | PR), (PO | PR) × OP, (PO | PR | HY | IS | NU | SY) × NU
+-- LB25 by pairs: (CL | CP | NU) × (PO | PR), (PO | PR) × OP, (PO | PR | HY | IS | NU | SY) × NU
 abbrev pub lb25 : Rule
 lb25 before next =
     (ends_number before.class && is_affix next.class)
     || (is_affix before.class && is_opening next.class)
     || (leads_to_number before.class && is_number next.class)
+
+-- LB25 by the expression of numbers in example 7 of the annex: (PR | PO) × (OP | HY)? NU,
+-- (OP | HY) × NU, NU (NU | SY | IS)* × (NU | SY | IS | CL | CP),
+-- NU (NU | SY | IS)* (CL | CP)? × (PR | PO). The Bool says whether NU stands behind the next unit
+abbrev pub lb25_by_expression : Bool → Rule
+lb25_by_expression number_follows before next =
+    (is_affix before.class && is_number next.class)
+    || ((is_affix before.class && opens_number next.class) && number_follows)
+    || (opens_number before.class && is_number next.class)
+    || (before.is_in_number && goes_on_number next.class)
+    || (before.is_past_number && is_affix next.class)
+
+-- the form by the expression asks whether NU stands there
+abbrev pub asks_behind : Before → Unit → Bool
+asks_behind before next = is_affix before.class && opens_number (as_letter next).class
+
+-- the first of these characters that is no mark is NU
+abbrev pub number_first : List ℕ → Bool
+number_first [] = false
+number_first (c ∷ cs) = if is_mark (class_of c) then number_first cs else is_number (class_of c)
+
+-- LB25, where these characters stand behind the next unit
+abbrev pub numbers_rule : Numbers → List ℕ → Rule
+numbers_rule ByPairs back = lb25
+numbers_rule ByExpression back = lb25_by_expression (number_first back)
 
 -- LB26: JL × (JL | JV | H2 | H3), (JV | H2) × (JV | JT), (JT | H3) × JT
 abbrev pub lb26 : Rule
@@ -197,9 +226,9 @@ is_glued before next =
     || lb16 before next
     || lb17 before next
 
--- LB21 to LB30b, which say ×
-abbrev pub is_held : Rule
-is_held before next =
+-- LB21 to LB30b, which say ×, with a form of LB25
+abbrev pub is_held : Rule → Rule
+is_held numbers before next =
     lb21 before next
     || lb21a before next
     || lb21b before next
@@ -207,7 +236,7 @@ is_held before next =
     || lb23 before next
     || lb23a before next
     || lb24 before next
-    || lb25 before next
+    || numbers before next
     || lb26 before next
     || lb27 before next
     || lb28 before next
@@ -228,9 +257,9 @@ pub record Saying : Type 0 where
 abbrev pub say : Verdict → Rule → Saying
 say verdict rule = record { says = verdict; where_applies = rule }
 
--- in the order of the annex
-abbrev pub rules : List Saying
-rules =
+-- in the order of the annex, with a form of LB25
+abbrev pub rules : Rule → List Saying
+rules numbers =
     say Prohibited lb2
     ∷ say Mandatory lb4
     ∷ say Prohibited is_kept
@@ -241,7 +270,7 @@ rules =
     ∷ say Allowed lb18
     ∷ say Prohibited (for_letters lb19)
     ∷ say Allowed (for_letters lb20)
-    ∷ say Prohibited (for_letters is_held)
+    ∷ say Prohibited (for_letters (is_held numbers))
     ∷ []
 
 -- the first rule that applies decides; LB31: ÷ where none does
@@ -250,5 +279,9 @@ first_said [] before next = Allowed
 first_said (rule ∷ others) before next =
     if rule.where_applies before next then rule.says else first_said others before next
 
+abbrev pub decide_by : Rule → Before → Unit → Verdict
+decide_by numbers = first_said (rules numbers)
+
+-- with numbers by pairs
 abbrev pub decide : Before → Unit → Verdict
-decide = first_said rules
+decide = decide_by lb25

@@ -5,7 +5,8 @@ ghost use Rattle.textwrap_unicode.specs.Before.{as_letter, before_of, nothing};
 ghost use Rattle.textwrap_unicode.specs.BreaksLeft.{and};
 
 use crate::class_sets::{
-    is_hebrew, is_mark, is_regional_indicator, is_space, is_zwj, takes_no_mark,
+    is_closing, is_hebrew, is_inside_number, is_mark, is_number, is_regional_indicator, is_space,
+    is_zwj, takes_no_mark,
 };
 use crate::classes::Unit;
 use unicode::properties::LineBreak;
@@ -29,6 +30,10 @@ pub struct Before {
     pub is_unassigned_pictograph: bool,
     /// Whether a ZWJ stands directly there.
     pub is_joined: bool,
+    /// Whether a number stands there: digits, with signs between and behind (IS and SY).
+    pub is_in_number: bool,
+    /// Whether a number stands there, or one and a closing bracket (CL or CP) behind it.
+    pub is_past_number: bool,
 }
 
 impl Before {
@@ -45,6 +50,8 @@ impl Before {
             is_wide: false,
             is_unassigned_pictograph: false,
             is_joined: false,
+            is_in_number: false,
+            is_past_number: false,
         }
     }
 
@@ -57,6 +64,8 @@ impl Before {
             return Before { is_joined, ..self };
         }
         let unit = as_letter(next);
+        let is_in_number = is_number(unit.class)
+            | (is_inside_number(unit.class) & self.is_in_number);
         Before {
             is_start: false,
             class: unit.class,
@@ -70,6 +79,8 @@ impl Before {
             is_wide: unit.is_wide,
             is_unassigned_pictograph: unit.is_unassigned_pictograph,
             is_joined,
+            is_in_number,
+            is_past_number: is_in_number | (is_closing(unit.class) & self.is_in_number),
         }
     }
 
@@ -86,12 +97,15 @@ impl Before {
           is_wide = false;
           is_unassigned_pictograph = false;
           is_joined = false;
+          is_in_number = false;
+          is_past_number = false;
         } }
     {
         matches!(self.class, LineBreak::Alphabetic)
             & matches!(self.past_spaces, LineBreak::Alphabetic)
             & !(self.is_start | self.follows_hebrew | self.is_half_flag)
             & !(self.is_wide | self.is_unassigned_pictograph | self.is_joined)
+            & !(self.is_in_number | self.is_past_number)
     }
 }
 

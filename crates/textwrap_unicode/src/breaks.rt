@@ -1,13 +1,14 @@
 //! The places of a text where a line may or must end, one after the other.
 ghost use Rattle.std.specs.Prelude.{◌≡◌, ◌+◌, ◌<◌, ◌^◌, List, length, chars};
 ghost use Rattle.std.specs.Iterator.{YieldsFirst, item_count};
-ghost use Rattle.textwrap_unicode.specs.Breaks.{line_breaks};
+ghost use Rattle.textwrap_unicode.specs.Breaks.{breaks_by, line_breaks};
 ghost use Rattle.textwrap_unicode.specs.BreaksLeft.{breaks_after};
 ghost use Rattle.textwrap_unicode.specs.declared.breaks.LineBreak.{LineBreak};
 
 use crate::before::Before;
 use crate::classes::Unit;
-use crate::rules::{Verdict, decide};
+use crate::numbers::{Numbers, decide_in};
+use crate::rules::Verdict;
 use std::marker::Model;
 
 /// A place of a text where a line may or must end.
@@ -29,26 +30,38 @@ pub struct LineBreaks<'t> {
     at: usize,
     /// What the rules ask of these.
     before: Before,
+    /// How numbers are kept together.
+    numbers: Numbers,
 }
 
 /// The places of a text where a line may or must end, by the Unicode line breaking algorithm
 /// ([UAX #14](https://www.unicode.org/reports/tr14/)). The last is the end, unless the text is
-/// empty. `"foo bar\nbaz"` has breaks at 4, at 8, where a line must end, and at 11. It allocates
-/// nothing.
+/// empty. `"foo bar\nbaz"` has breaks at 4, at 8, where a line must end, and at 11. Numbers are kept
+/// together by pairs of characters. It allocates nothing.
 pub fn line_breaks(text: &str) -> LineBreaks<'_>
     ensures { result ≡ line_breaks text.now }
+{
+    line_breaks_by(text, Numbers::ByPairs)
+}
+
+/// The same, with numbers kept together in this way: `"equals .35"` has breaks at 7 and at the end
+/// by pairs, and by the expression one more, at 8.
+pub fn line_breaks_by(text: &str, numbers: Numbers) -> LineBreaks<'_>
+    ensures { result ≡ breaks_by numbers text.now }
 {
     LineBreaks {
         rest: text,
         at: 0,
         before: Before::new(),
+        numbers,
     }
 }
 
 impl<'t> Model for LineBreaks<'t> {
     ghost Value = { List LineBreak };
 
-    ghost view = { λ breaks. breaks_after breaks.before breaks.at (chars breaks.rest.now) };
+    ghost view = { λ breaks. breaks_after breaks.numbers breaks.before breaks.at
+        (chars breaks.rest.now) };
 
     ghost invariant = { λ breaks. breaks.at + length breaks.rest.now < 2 ^ 64 };
 }
@@ -61,7 +74,7 @@ impl<'t> Iterator for LineBreaks<'t> {
     ghost remaining = { item_count (λ breaks. breaks) };
 
     fn next(&mut self) -> Option<LineBreak> {
-        let (rest, start) = (self.rest, self.at);
+        let (rest, start, numbers) = (self.rest, self.at, self.numbers);
         let mut before = self.before;
         let mut is_in_word = before.is_in_word();
         for (offset, c) in rest.char_indices() {
@@ -70,7 +83,8 @@ impl<'t> Iterator for LineBreaks<'t> {
             if is_in_word && unit.is_plain_letter() {
                 continue;
             }
-            let verdict = decide(&before, unit);
+            let end = offset + c.len_utf8();
+            let verdict = decide_in(rest, end, &before, unit, numbers);
             before = before.and(unit);
             is_in_word = before.is_in_word();
             let is_mandatory = match verdict {
@@ -78,11 +92,11 @@ impl<'t> Iterator for LineBreaks<'t> {
                 Verdict::Allowed => false,
                 Verdict::Mandatory => true,
             };
-            let end = offset + c.len_utf8();
             *self = LineBreaks {
                 rest: &rest[end..],
                 at: start + end,
                 before,
+                numbers,
             };
             return Some(LineBreak {
                 at: start + offset,
@@ -97,6 +111,7 @@ impl<'t> Iterator for LineBreaks<'t> {
             rest: "",
             at,
             before: Before::new(),
+            numbers,
         };
         Some(LineBreak {
             at,

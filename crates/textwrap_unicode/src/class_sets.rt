@@ -15,7 +15,8 @@ ghost use Rattle.textwrap_unicode.specs.ClassSets.{is_jamo, is_leading_jamo, fol
 ghost use Rattle.textwrap_unicode.specs.ClassSets.{ends_in_vowel, follows_vowel, ends_in_trailing};
 ghost use Rattle.textwrap_unicode.specs.ClassSets.{is_trailing_jamo, is_infix, is_letter_or_number};
 ghost use Rattle.textwrap_unicode.specs.ClassSets.{is_close_parenthesis, is_emoji_base};
-ghost use Rattle.textwrap_unicode.specs.ClassSets.{is_emoji_modifier};
+ghost use Rattle.textwrap_unicode.specs.ClassSets.{is_emoji_modifier, opens_number};
+ghost use Rattle.textwrap_unicode.specs.ClassSets.{is_inside_number, goes_on_number};
 
 use unicode::properties::LineBreak;
 
@@ -192,6 +193,41 @@ pub(crate) fn leads_to_number(class: LineBreak) -> bool
             | LineBreak::InfixNumeric
             | LineBreak::Numeric
             | LineBreak::BreakSymbols
+    )
+}
+
+/// NU.
+pub(crate) fn is_number(class: LineBreak) -> bool
+    ensures { result ≡ is_number class }
+{
+    matches!(class, LineBreak::Numeric)
+}
+
+/// OP or HY: may stand between PR or PO and a number.
+pub(crate) fn opens_number(class: LineBreak) -> bool
+    ensures { result ≡ opens_number class }
+{
+    matches!(class, LineBreak::OpenPunctuation | LineBreak::Hyphen)
+}
+
+/// SY or IS: may stand inside a number.
+pub(crate) fn is_inside_number(class: LineBreak) -> bool
+    ensures { result ≡ is_inside_number class }
+{
+    matches!(class, LineBreak::BreakSymbols | LineBreak::InfixNumeric)
+}
+
+/// NU, SY, IS, CL or CP: may stand inside a number or close it.
+pub(crate) fn goes_on_number(class: LineBreak) -> bool
+    ensures { result ≡ goes_on_number class }
+{
+    matches!(
+        class,
+        LineBreak::Numeric
+            | LineBreak::BreakSymbols
+            | LineBreak::InfixNumeric
+            | LineBreak::ClosePunctuation
+            | LineBreak::CloseParenthesis
     )
 }
 

@@ -66,7 +66,7 @@ impl Unit {
 /// The class of a character, by LB1. Its category matters for SA alone, so only then is it looked
 /// up.
 #[inline]
-fn class_of(c: char) -> LineBreak
+pub(crate) fn class_of(c: char) -> LineBreak
     ensures { result ≡ class_of c }
 {
     match LineBreak::for_char(c) {

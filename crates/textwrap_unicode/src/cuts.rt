@@ -1,12 +1,14 @@
 //! The function for `LineCuts` that cuts a line into words where it may end.
 ghost use Rattle.std.specs.Prelude.{◌≡◌, IfOk};
-ghost use Rattle.textwrap_unicode.specs.Cuts.{may_end, unicode_cuts};
+ghost use Rattle.textwrap_unicode.specs.Cuts.{cuts_by, may_end, unicode_cuts};
+ghost use Rattle.textwrap_unicode.specs.declared.numbers.Numbers.TheVariants.{ByExpression};
 ghost use Rattle.textwrap_words.specs.Cuts.{AreInnerCuts};
 ghost use Rattle.textwrap_words.specs.WordOffsets.{is_any_hyphen};
 
 use crate::before::Before;
 use crate::classes::Unit;
-use crate::rules::{Verdict, decide};
+use crate::numbers::{Numbers, decide_among_visible};
+use crate::rules::Verdict;
 use std::alloc::{AllocError, Global};
 use textwrap_words::escapes::State;
 
@@ -25,6 +27,25 @@ pub fn unicode_cuts(alloc: Global, line: &str) -> Result<Vec<usize>, AllocError>
     ensures cuts { IfOk result (λ cuts. cuts.items ≡ unicode_cuts line.now) }
     ensures inner { IfOk result (λ cuts. AreInnerCuts line.now cuts.items) }
 {
+    find_cuts(alloc, line, Numbers::ByPairs)
+}
+
+/// The same, with numbers kept together by the expression of numbers: the function of a separator
+/// that cuts at the places of [`line_breaks_by`](crate::line_breaks_by).
+///
+/// # Errors
+/// [`AllocError`] where memory runs out.
+pub fn unicode_cuts_by_expression(alloc: Global, line: &str) -> Result<Vec<usize>, AllocError>
+    ensures cuts { IfOk result (λ cuts. cuts.items ≡ cuts_by ByExpression line.now) }
+    ensures inner { IfOk result (λ cuts. AreInnerCuts line.now cuts.items) }
+{
+    find_cuts(alloc, line, Numbers::ByExpression)
+}
+
+fn find_cuts(alloc: Global, line: &str, numbers: Numbers) -> Result<Vec<usize>, AllocError>
+    ensures cuts { IfOk result (λ cuts. cuts.items ≡ cuts_by numbers line.now) }
+    ensures inner { IfOk result (λ cuts. AreInnerCuts line.now cuts.items) }
+{
     let mut cuts = Vec::new(alloc);
     let mut state = State::Text;
     let mut before = Before::new();
@@ -35,12 +56,14 @@ pub fn unicode_cuts(alloc: Global, line: &str) -> Result<Vec<usize>, AllocError>
         let (next, is_visible) = state.step(ch);
         if is_visible {
             let unit = Unit::of(ch);
-            let is_cut = !is_hyphen & may_end(decide(&before, unit));
+            let next_end = at + ch.len_utf8();
+            let verdict = decide_among_visible(line, next_end, next, &before, unit, numbers);
+            let is_cut = !is_hyphen & may_end(verdict);
             if is_cut {
                 cuts.push(end)?;
             }
             before = before.and(unit);
-            end = at + ch.len_utf8();
+            end = next_end;
             is_hyphen = is_any_hyphen(ch);
         }
         state = next;

@@ -1,5 +1,5 @@
 //! The rules of line breaking, LB2 to LB31 of [UAX #14](https://www.unicode.org/reports/tr14/) at
-//! Unicode 15.0, LB25 by pairs. Each function says whether a rule applies between what stands
+//! Unicode 15.0, LB25 in two forms. Each function says whether a rule applies between what stands
 //! before a place and the next unit.
 ghost use Rattle.std.specs.Prelude.{◌≡◌, ◌&&◌, not};
 ghost use Rattle.textwrap_unicode.specs.ClassSets.{is_opening};
@@ -7,14 +7,16 @@ ghost use Rattle.textwrap_unicode.specs.Rules.{lb2, lb4, lb6, lb7, lb8, lb8a, lb
 ghost use Rattle.textwrap_unicode.specs.Rules.{lb12a, lb13, lb14, lb15, lb16, lb17, lb18, lb19};
 ghost use Rattle.textwrap_unicode.specs.Rules.{lb20, lb21, lb21a, lb21b, lb22, lb23, lb23a, lb24};
 ghost use Rattle.textwrap_unicode.specs.Rules.{lb25, lb26, lb27, lb28, lb29, lb30, lb30a, lb30b};
-ghost use Rattle.textwrap_unicode.specs.Rules.{is_kept, is_glued, is_held, decide};
+ghost use Rattle.textwrap_unicode.specs.Rules.{is_kept, is_glued, is_held, decide, decide_by};
+ghost use Rattle.textwrap_unicode.specs.Rules.{lb25_by_expression, asks_behind};
 
 use crate::before::{Before, as_letter};
 use crate::class_sets::{
     breaks_before_glue, ends_in_trailing, ends_in_vowel, ends_number, follows_leading,
-    follows_vowel, is_affix, is_after_text, is_closing, is_hebrew, is_hyphen, is_ideograph,
-    is_jamo, is_letter, is_letter_or_number, is_line_end, is_mark, is_never_first, is_opening,
-    is_regional_indicator, is_space, is_zero_width_space, leads_to_number, takes_no_mark,
+    follows_vowel, goes_on_number, is_affix, is_after_text, is_closing, is_hebrew, is_hyphen,
+    is_ideograph, is_jamo, is_letter, is_letter_or_number, is_line_end, is_mark, is_never_first,
+    is_opening, is_regional_indicator, is_space, is_zero_width_space, leads_to_number,
+    opens_number, takes_no_mark,
 };
 use crate::classes::Unit;
 use unicode::properties::LineBreak;
@@ -211,13 +213,27 @@ fn lb24(before: &Before, next: Unit) -> bool
         | (is_letter(before.class) & is_affix(next.class))
 }
 
-/// LB25: (CL | CP | NU) × (PO | PR), (PO | PR) × OP, (PO | PR | HY | IS | NU | SY) × NU
+/// LB25 by pairs: (CL | CP | NU) × (PO | PR), (PO | PR) × OP, (PO | PR | HY | IS | NU | SY) × NU
 fn lb25(before: &Before, next: Unit) -> bool
     ensures { result ≡ lb25 before.now next }
 {
     (ends_number(before.class) & is_affix(next.class))
         | (is_affix(before.class) & is_opening(next.class))
         | (leads_to_number(before.class) & matches!(next.class, LineBreak::Numeric))
+}
+
+/// LB25 by the expression of numbers in example 7 of the annex: (PR | PO) × (OP | HY)? NU,
+/// (OP | HY) × NU, NU (NU | SY | IS)* × (NU | SY | IS | CL | CP),
+/// NU (NU | SY | IS)* (CL | CP)? × (PR | PO). It is given whether NU stands behind the next unit.
+fn lb25_by_expression(before: &Before, next: Unit, number_follows: bool) -> bool
+    ensures { result ≡ lb25_by_expression number_follows before.now next }
+{
+    let is_number = matches!(next.class, LineBreak::Numeric);
+    (is_affix(before.class) & is_number)
+        | (is_affix(before.class) & opens_number(next.class) & number_follows)
+        | (opens_number(before.class) & is_number)
+        | (before.is_in_number & goes_on_number(next.class))
+        | (before.is_past_number & is_affix(next.class))
 }
 
 /// LB26: JL × (JL | JV | H2 | H3), (JV | H2) × (JV | JT), (JT | H3) × JT
@@ -297,9 +313,9 @@ fn is_glued(before: &Before, next: Unit) -> bool
         | lb17(before, next)
 }
 
-/// LB21 to LB30b, which forbid.
-fn is_held(before: &Before, next: Unit) -> bool
-    ensures { result ≡ is_held before.now next }
+/// LB21 to LB30b, which forbid, where it is known whether LB25 does.
+fn is_held(before: &Before, next: Unit, keeps_number: bool) -> bool
+    ensures { result ≡ is_held (λ b n. keeps_number) before.now next }
 {
     lb21(before, next)
         | lb21a(before, next)
@@ -308,7 +324,7 @@ fn is_held(before: &Before, next: Unit) -> bool
         | lb23(before, next)
         | lb23a(before, next)
         | lb24(before, next)
-        | lb25(before, next)
+        | keeps_number
         | lb26(before, next)
         | lb27(before, next)
         | lb28(before, next)
@@ -318,8 +334,8 @@ fn is_held(before: &Before, next: Unit) -> bool
         | lb30b(before, next)
 }
 
-/// What the rules say of the place between what stands before it and the next unit. Most places of a
-/// text are of a few kinds, for which it needs few of the rules.
+/// What the rules say of the place between what stands before it and the next unit, with numbers by
+/// pairs. Most places of a text are of a few kinds, for which it needs few of the rules.
 #[inline]
 pub fn decide(before: &Before, next: Unit) -> Verdict
     ensures { result ≡ decide before.now next }
@@ -331,7 +347,7 @@ pub fn decide(before: &Before, next: Unit) -> Verdict
                 LineBreak::Alphabetic | LineBreak::HebrewLetter | LineBreak::Numeric
                     if !is_zero_width_space(before.past_spaces) => { Verdict::Prohibited }
                 LineBreak::Space if is_free(before) => Verdict::Allowed,
-                _ => decide_by_rules(before, next),
+                _ => decide_by_pairs(before, next),
             }
         }
         LineBreak::Ideographic | LineBreak::H2 | LineBreak::H3 => match before.class {
@@ -341,10 +357,37 @@ pub fn decide(before: &Before, next: Unit) -> Verdict
             | LineBreak::H2
             | LineBreak::H3
                 if is_free(before) => { Verdict::Allowed }
-            _ => decide_by_rules(before, next),
+            _ => decide_by_pairs(before, next),
         },
-        _ => decide_by_rules(before, next),
+        _ => decide_by_pairs(before, next),
     }
+}
+
+/// Whether a rule asks for what stands behind the next unit.
+pub fn asks_behind(before: &Before, next: Unit) -> bool
+    ensures { result ≡ asks_behind before.now next }
+{
+    is_affix(before.class) & opens_number(as_letter(next).class)
+}
+
+/// What the rules say with numbers by the expression, given whether NU stands behind the next unit.
+pub fn decide_by_expression(before: &Before, next: Unit, number_follows: bool) -> Verdict
+    ensures { result ≡ decide_by (lb25_by_expression number_follows) before.now next }
+{
+    let letter = as_letter(next);
+    let keeps_number = lb25_by_expression(before, letter, number_follows);
+    if keeps_number == lb25(before, letter) {
+        decide(before, next)
+    } else {
+        decide_by_rules(before, next, keeps_number)
+    }
+}
+
+/// The same, by the rules one after the other.
+fn decide_by_pairs(before: &Before, next: Unit) -> Verdict
+    ensures { result ≡ decide before.now next }
+{
+    decide_by_rules(before, next, lb25(before, as_letter(next)))
 }
 
 /// Whether nothing but the class of the last unit can forbid that a line ends there.
@@ -355,9 +398,9 @@ fn is_free(before: &Before) -> bool
     !before.is_start & !before.is_joined & !is_opening(before.past_spaces)
 }
 
-/// The same, by the rules one after the other.
-fn decide_by_rules(before: &Before, next: Unit) -> Verdict
-    ensures { result ≡ decide before.now next }
+/// What the rules say, one after the other, where it is known whether LB25 forbids.
+fn decide_by_rules(before: &Before, next: Unit, keeps_number: bool) -> Verdict
+    ensures { result ≡ decide_by (λ b n. keeps_number) before.now next }
 {
     let letter = as_letter(next);
     if lb2(before, next) {
@@ -376,7 +419,7 @@ fn decide_by_rules(before: &Before, next: Unit) -> Verdict
         Verdict::Prohibited
     } else if lb20(before, letter) {
         Verdict::Allowed
-    } else if is_held(before, letter) {
+    } else if is_held(before, letter, keeps_number) {
         Verdict::Prohibited
     } else {
         Verdict::Allowed

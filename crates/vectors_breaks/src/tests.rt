@@ -9,7 +9,7 @@ use std::alloc::{AllocError, Global};
 use std::collections::BTreeSet;
 use std::process::Abort;
 use std::test::Fail;
-use textwrap_unicode::{LineBreak, line_breaks};
+use textwrap_unicode::{LineBreak, LineBreaks, Numbers, line_breaks, line_breaks_by};
 
 /// How many distinct cases the official file has. Its 29 further lines repeat some of these.
 const DISTINCT_CASES: usize = 7625;
@@ -62,11 +62,15 @@ fn text_of(alloc: Global, case: &str) -> Result<String, AllocError> {
     case.chars().filter(|c| *c != '÷').collect(alloc)
 }
 
-/// A text with the marks of its breaks. What is behind the last break ends without one.
-fn with_marks(alloc: Global, text: &str) -> Result<String, AllocError> {
+/// A text with the marks of these breaks. What is behind the last break ends without one.
+fn with_marks(
+    alloc: Global,
+    text: &str,
+    breaks: LineBreaks<'_>,
+) -> Result<String, AllocError> {
     let mut marked = String::new(alloc);
     let mut start = 0;
-    for found in line_breaks(text) {
+    for found in breaks {
         let line = text.get(start..found.at).unwrap_or("");
         marked.push_str(line)?;
         marked.push(mark_of(found, line, text))?;
@@ -92,10 +96,22 @@ fn ends_line(c: char) -> bool {
     matches!(c, '\n'..='\r' | '\u{85}' | '\u{2028}' | '\u{2029}')
 }
 
-/// Asserts that the text of a case has the breaks that the case has marks for.
+/// Asserts that the text of a case has the breaks that the case has marks for, by pairs.
 fn assert_breaks(rt: &(impl Abort + AllocGlobal), case: &str) -> Result<(), AllocError> {
     let text = text_of(rt.alloc(), case)?;
-    let found = with_marks(rt.alloc(), &text)?;
+    let found = with_marks(rt.alloc(), &text, line_breaks(&text))?;
+    assert_eq!(rt; found.as_str(), case);
+    Ok(())
+}
+
+/// The same, by the expression of numbers.
+fn assert_breaks_by_expression(
+    rt: &(impl Abort + AllocGlobal),
+    case: &str,
+) -> Result<(), AllocError> {
+    let text = text_of(rt.alloc(), case)?;
+    let breaks = line_breaks_by(&text, Numbers::ByExpression);
+    let found = with_marks(rt.alloc(), &text, breaks)?;
     assert_eq!(rt; found.as_str(), case);
     Ok(())
 }
@@ -140,6 +156,17 @@ fn official_cases_by_pairs(rt: HostRuntime) -> Result<(), Fail> {
     assert_eq!(rt; cases.len(), OFFICIAL_BY_PAIRS);
     for case in &cases {
         assert_breaks(&rt, case)?;
+    }
+    Ok(())
+}
+
+/// All cases have the official breaks by the expression of numbers, which the official file assumes.
+#[test]
+fn official_cases_by_expression(rt: HostRuntime) -> Result<(), Fail> {
+    let cases = official_cases(rt.alloc())?;
+    assert_eq!(rt; cases.len(), DISTINCT_CASES);
+    for case in &cases {
+        assert_breaks_by_expression(&rt, case)?;
     }
     Ok(())
 }

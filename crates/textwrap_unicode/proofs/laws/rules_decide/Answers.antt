@@ -2,5 +2,5 @@ use Rattle.textwrap_unicode.proofs.laws.rules_decide.Goals as goal
 use Rattle.textwrap_unicode.proofs.OnePlace.{here-decides}
 
 pub returns : goal.returns
-returns c = λ text front back next is_mandatory utf8 divided.
-    here-decides text front back next utf8 divided is_mandatory
+returns c = λ numbers text front back next is_mandatory utf8 divided.
+    here-decides numbers text front back next utf8 divided is_mandatory

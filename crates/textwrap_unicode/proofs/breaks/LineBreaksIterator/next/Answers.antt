@@ -4,15 +4,15 @@ use Rattle.std.specs.Str.Iter.{char_indices_offset, char_indices_rest}
 use Rattle.textwrap_unicode.proofs.breaks.LineBreaksIterator.next.Goals as goal
 use Rattle.textwrap_unicode.proofs.BreakLemmas.{reading-start, reading-step, reading-break}
 use Rattle.textwrap_unicode.proofs.BreakLemmas.{reading-end}
-use Rattle.textwrap_unicode.proofs.BreakLemmas.{letter-step, none-left, reading-boundary}
+use Rattle.textwrap_unicode.proofs.BreakLemmas.{letter-step, none-left}
+use Rattle.textwrap_unicode.proofs.ReadPlaces.{read-boundary}
 use Rattle.textwrap_unicode.specs.declared.breaks.LineBreak.{LineBreak}
 use Rattle.textwrap_unicode.specs.BreaksLeft.{and, breaks_after}
-use Rattle.textwrap_unicode.specs.Rules.{decide}
 use Rattle.textwrap_unicode.proofs.breaks.LineBreaksIterator.next.Goals.{in-Allowed, in-Mandatory}
 
 pub loop-offset-init : goal.loop-offset-init
 loop-offset-init c = (
-  reading-start _ _ _ _ _ _ (search rules)
+  reading-start _ _ _ _ _ _ _ (search rules)
       (ap char_indices_offset c.into_iter-offset-iterator.ensures.into_iter_gives
       ∙ c.char_indices-offset-items.ensures.offset)
       (ap char_indices_rest c.into_iter-offset-iterator.ensures.into_iter_gives
@@ -25,8 +25,8 @@ loop-offset-init c = (
 pub loop-offset-preserved : goal.loop-offset-preserved
 loop-offset-preserved c =
     let s = c.in-Some.ensures.steps in (
-      reading-step _ _ _ _ _ _ c.loop-offset.invariant.0 c.in-Some.c _ s.1 _ _
-          (ap (decide c.loop-offset.before) (sym c.of-unit.ensures) ∙ sym c.decide-verdict.ensures
+      reading-step _ _ _ _ _ _ _ c.loop-offset.invariant.0 c.in-Some.c _ s.1 _ _
+          (rw (s.0, c.len_utf8.ensures.len, c.of-unit.ensures) at (sym c.decide_in-verdict.ensures)
           ∙ c.in-Prohibited.is) s.2
           (c.and-before.ensures ∙ ap (and c.loop-offset.before) c.of-unit.ensures),
       c.loop-offset.invariant.1,
@@ -37,32 +37,37 @@ pub loop-offset-preserved-then-is_plain_letter : goal.loop-offset-preserved-then
 loop-offset-preserved-then-is_plain_letter c =
     let (reading, same, in_word) = c.loop-offset.invariant in
     let s = c.in-Some.ensures.steps in
-    let letter = letter-step c.loop-offset.before c.of-unit.result (in_word c.if-is_in_word.true)
-    (c.is_plain_letter.ensures c.if-is_plain_letter.true) in (
-      reading-step _ _ _ _ _ _ reading c.in-Some.c _ s.1 _ _
-          (ap (decide c.loop-offset.before) (sym c.of-unit.ensures) ∙ letter.0) s.2
-          (sym letter.1 ∙ ap (and c.loop-offset.before) c.of-unit.ensures),
+    let plain = sym c.of-unit.ensures ∙ c.is_plain_letter.ensures c.if-is_plain_letter.true in
+    let letter = letter-step c.self.inside.numbers _ c.loop-offset.before _
+    (in_word c.if-is_in_word.true) plain in (
+      reading-step _ _ _ _ _ _ _ reading c.in-Some.c _ s.1 _ _ letter.0 s.2 (sym letter.1),
       same,
       in_word,
     )
+
+pub decide_in-verdict-requires : goal.decide_in-verdict-requires
+decide_in-verdict-requires c =
+    let s = c.in-Some.ensures.steps in
+    rw (s.0, c.len_utf8.ensures.len)
+    (read-boundary _ _ _ c.loop-offset.invariant.0.read c.in-Some.c _ s.1)
 
 pub range_from-requires : goal.range_from-requires
 range_from-requires c = λ some.
     let s = c.in-Some.ensures.steps in
     rw (s.0, c.len_utf8.ensures.len)
-    (reading-boundary _ _ _ _ _ _ c.loop-offset.invariant.0 c.in-Some.c _ s.1)
+    (read-boundary _ _ _ c.loop-offset.invariant.0.read c.in-Some.c _ s.1)
 
 pub returns-in-loop-offset-clause-steps : goal.returns-in-loop-offset-clause-steps
 returns-in-loop-offset-clause-steps c =
     let s = c.in-Some.ensures.steps in
-    let said = ap (decide c.loop-offset.before) (sym c.of-unit.ensures)
-    ∙ sym c.decide-verdict.ensures in
+    let said = rw (s.0, c.len_utf8.ensures.len, c.of-unit.ensures)
+    at (sym c.decide_in-verdict.ensures) in
     let stands = c.and-before.ensures ∙ ap (and c.loop-offset.before) c.of-unit.ensures in
     sym c.self.view_is
     ∙ rw (c.range_from.ensures.value, s.0, c.len_utf8.ensures.len) (elim c.match-verdict.branch [
-      | in-Allowed w ↦ reading-break _ _ _ _ _ _ c.loop-offset.invariant.0 c.in-Some.c _ s.1 _ _ _
+      | in-Allowed w ↦ reading-break _ _ _ _ _ _ _ c.loop-offset.invariant.0 c.in-Some.c _ s.1 _ _ _
           (said ∙ w.in-Allowed.is) (rw w.is_mandatory-is refl) stands
-      | in-Mandatory w ↦ reading-break _ _ _ _ _ _ c.loop-offset.invariant.0 c.in-Some.c _ s.1 _ _ _
+      | in-Mandatory w ↦ reading-break _ _ _ _ _ _ _ c.loop-offset.invariant.0 c.in-Some.c _ s.1 _ _ _
           (said ∙ w.in-Mandatory.is) (rw w.is_mandatory-is refl) stands
     ])
 
@@ -75,19 +80,19 @@ pub returns-then-before-clause-steps : goal.returns-then-before-clause-steps
 returns-then-before-clause-steps c =
     let (reading, same, in_word) = c.loop-offset.invariant in
     let none = rw c.if-before.true
-    at (reading-end _ _ _ _ _ _ reading c.in-None.ensures.steps.0) in (
+    at (reading-end _ _ _ _ _ _ _ reading c.in-None.ensures.steps.0) in (
       sym c.self.view_is ∙ none,
-      ap (λ i. breaks_after i.before i.at (chars i.rest.now)) same ∙ none,
+      ap (λ i. breaks_after i.numbers i.before i.at (chars i.rest.now)) same ∙ none,
     )
 
 pub returns-clause-steps : goal.returns-clause-steps
 returns-clause-steps c =
     let reading = c.loop-offset.invariant.0 in
     let one = rw c.if-before.false
-    at (reading-end _ _ _ _ _ _ reading c.in-None.ensures.steps.0) in
+    at (reading-end _ _ _ _ _ _ _ reading c.in-None.ensures.steps.0) in
     let end = c.self.inside.at + length c.self.inside.rest.now in
     let place : LineBreak = record { at = end; is_mandatory = true } in
-    sym c.self.view_is ∙ one ∙ ap (λ ls. place ∷ ls) (sym (none-left _ end c.new.ensures))
+    sym c.self.view_is ∙ one ∙ ap (λ ls. place ∷ ls) (sym (none-left _ _ end c.new.ensures))
 
 pub returns-clause-goes : goal.returns-clause-goes
 returns-clause-goes c =

@@ -5,7 +5,7 @@ use Rattle.textwrap_unicode.proofs.BreakLemmas.{IsReading, in_word}
 
 abbrev pub invariant-loop-offset : goal.invariant-loop-offset
 invariant-loop-offset l =
-    IsReading l.rest l.start l.initial.before (char_indices_offset l.offset-iterator)
+    IsReading l.numbers l.rest l.start l.initial.before (char_indices_offset l.offset-iterator)
     (char_indices_rest l.offset-iterator) l.before
     × (l.self-inside ≡ l.initial.self-inside)
     × (l.is_in_word ≡ true → l.before ≡ in_word)

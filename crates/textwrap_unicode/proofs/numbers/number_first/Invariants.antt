@@ -1,0 +1,9 @@
+use Rattle.std.proofs.Common.{◌≡◌, drop, length}
+use Rattle.std.specs.Str.{chars}
+use Rattle.textwrap_unicode.specs.Rules.{number_first}
+use Rattle.textwrap_unicode.proofs.numbers.number_first.Given as goal
+
+-- the characters to come give the answer
+abbrev pub invariant-loop-c : goal.invariant-loop-c
+invariant-loop-c l =
+    number_first (drop (length l.yielded) (chars l.text)) ≡ number_first (chars l.text)

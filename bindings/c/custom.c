@@ -1,5 +1,5 @@
-/* textwrap_wrap_by: a text is wrapped by functions of the caller, paragraph by paragraph, in the steps
- * of textwrap.h. */
+/* textwrap_wrap_by and textwrap_fill_by: a text is wrapped by functions of the caller, paragraph by
+ * paragraph, in the steps of textwrap.h. */
 #include <stdlib.h>
 
 #include "textwrap.h"
@@ -270,21 +270,28 @@ size_t textwrap_cut_at_breaks(void *context, const uint8_t *paragraph, size_t pa
     return status == TEXTWRAP_DONE ? count : paragraph_len + 1;
 }
 
+/* Finds the lines of a text. */
+static textwrap_status run(work *w, const uint8_t *text, size_t text_len,
+                           const textwrap_options *options, const textwrap_functions *functions) {
+    memset(w, 0, sizeof *w);
+    w->options = options;
+    w->functions = functions;
+    textwrap_status status = begin(w);
+    /* If the text or the options are refused, this call says so, before any function is called. */
+    if (status == TEXTWRAP_DONE)
+        status = textwrap_pieces(text, text_len, options, w->pieces, 0, &w->pieces_len);
+    if (status == TEXTWRAP_DONE || status == TEXTWRAP_TOO_SMALL) status = wrap_text(w, text, text_len);
+    return status;
+}
+
 textwrap_status textwrap_wrap_by(const uint8_t *text, size_t text_len,
                                  const textwrap_options *options,
                                  const textwrap_functions *functions, textwrap_line *lines,
                                  size_t lines_len, size_t *count, uint8_t *room, size_t room_len,
                                  size_t *len) {
     work w;
-    memset(&w, 0, sizeof w);
     if (text_len == 0) text = (const uint8_t *)"";
-    w.options = options;
-    w.functions = functions;
-    textwrap_status status = begin(&w);
-    /* If the text or the options are refused, this call says so, before any function is called. */
-    if (status == TEXTWRAP_DONE)
-        status = textwrap_pieces(text, text_len, options, w.pieces, 0, &w.pieces_len);
-    if (status == TEXTWRAP_DONE || status == TEXTWRAP_TOO_SMALL) status = wrap_text(&w, text, text_len);
+    textwrap_status status = run(&w, text, text_len, options, functions);
     if (status == TEXTWRAP_DONE) {
         *count = w.lines_len;
         *len = w.built_len;
@@ -294,6 +301,36 @@ textwrap_status textwrap_wrap_by(const uint8_t *text, size_t text_len,
         memcpy(lines, w.lines, w.lines_len * sizeof *lines);
         if (w.built_len > 0) memcpy(room, w.built, w.built_len);
     }
+    end(&w);
+    return status;
+}
+
+/* Joins the lines of a text by the line ending of the options. There is at least one line. */
+static void join_lines(const work *w, const uint8_t *text, uint8_t *room) {
+    for (size_t i = 0; i < w->lines_len; i++) {
+        if (i > 0 && w->options->crlf != 0) *room++ = '\r';
+        if (i > 0) *room++ = '\n';
+        const textwrap_line *line = &w->lines[i];
+        if (line->len == 0) continue;
+        memcpy(room, (line->is_built ? w->built : text) + line->offset, line->len);
+        room += line->len;
+    }
+}
+
+textwrap_status textwrap_fill_by(const uint8_t *text, size_t text_len,
+                                 const textwrap_options *options,
+                                 const textwrap_functions *functions, uint8_t *room,
+                                 size_t room_len, size_t *len) {
+    work w;
+    if (text_len == 0) text = (const uint8_t *)"";
+    textwrap_status status = run(&w, text, text_len, options, functions);
+    if (status == TEXTWRAP_DONE) {
+        size_t ending = options->crlf != 0 ? 2 : 1;
+        *len = (w.lines_len - 1) * ending;
+        for (size_t i = 0; i < w.lines_len; i++) *len += w.lines[i].len;
+        if (room_len < *len) status = TEXTWRAP_TOO_SMALL;
+    }
+    if (status == TEXTWRAP_DONE) join_lines(&w, text, room);
     end(&w);
     return status;
 }

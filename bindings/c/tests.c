@@ -356,6 +356,18 @@ static int is_wrapped_alike(textwrap_options options, const char *text) {
     return 1;
 }
 
+/* Whether textwrap_fill_by without functions does what textwrap_fill does. */
+static int is_filled_alike(textwrap_options options, const char *text) {
+    const textwrap_functions none = {NULL, NULL, NULL, NULL};
+    uint8_t room[512], other_room[512];
+    size_t len = 0, other_len = 0;
+    textwrap_status status = textwrap_fill(bytes(text), strlen(text), &options, room, 512, &len);
+    textwrap_status other = textwrap_fill_by(bytes(text), strlen(text), &options, &none, other_room,
+                                             512, &other_len);
+    return status == TEXTWRAP_DONE && other == TEXTWRAP_DONE && len == other_len
+        && memcmp(room, other_room, len) == 0;
+}
+
 static void texts_are_wrapped_alike_without_functions(void) {
     static const char *const texts[] = {
         "", "\n", "foo", "foo bar baz", "  foo  ", HAMLET, "a-b-c d-e\n\nfoobarbaz qux  \n",
@@ -374,6 +386,7 @@ static void texts_are_wrapped_alike_without_functions(void) {
                 if (bits >> 6 & 1) o.initial_indent = text_of("* ");
                 if (bits >> 7 & 1) o.subsequent_indent = text_of("    ");
                 CHECK(is_wrapped_alike(o, texts[i]));
+                CHECK(is_filled_alike(o, texts[i]));
             }
 }
 
@@ -391,6 +404,18 @@ static void lines_end_at_unicode_breaks(void) {
                         "\xe3\x81\x93\xe3\x82\x8c\xe3\x81\xaf|"
                         "\xe3\x80\x8c\xe3\x83\x9a\xe3\x83\xb3\xe3\x80\x8d|"
                         "\xe3\x81\xa7\xe3\x81\x99\xe3\x80\x82|"));
+    uint8_t room[16];
+    size_t len = 7;
+    o.width = 4;
+    o.crlf = 1;
+    CHECK(textwrap_fill_by(bytes("\xe6\x97\xa5\xe6\x9c\xac\xe3\x80\x82"), 9, &o, &breaks, room, 10, &len)
+          == TEXTWRAP_TOO_SMALL);
+    CHECK(len == 11);
+    CHECK(textwrap_fill_by(bytes("\xe6\x97\xa5\xe6\x9c\xac\xe3\x80\x82"), 9, &o, &breaks, room, 16, &len)
+          == TEXTWRAP_DONE);
+    CHECK(len == 11 && memcmp(room, "\xe6\x97\xa5\r\n\xe6\x9c\xac\xe3\x80\x82", 11) == 0);
+    CHECK(textwrap_fill_by(bytes("a\xff"), 2, &o, &breaks, room, 16, &len) == TEXTWRAP_NOT_UTF8);
+    CHECK(textwrap_fill_by(NULL, 0, &o, &breaks, room, 0, &len) == TEXTWRAP_DONE && len == 0);
 }
 
 static void functions_of_the_caller_take_part(void) {

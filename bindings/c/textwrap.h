@@ -29,7 +29,7 @@ extern "C" {
 /* The version of the library that this header is of: 10,000 times its first number, 100 times its
  * second, and its third. textwrap_library_version returns that of the library that was linked. Within
  * a first number, a later library serves a program that was built for an earlier one. */
-#define TEXTWRAP_LIBRARY_VERSION 10200u
+#define TEXTWRAP_LIBRARY_VERSION 10300u
 uint32_t textwrap_library_version(void);
 
 /* What a call returns. */
@@ -353,6 +353,14 @@ textwrap_status textwrap_wrap_by(const uint8_t *text, size_t text_len,
                                  const textwrap_functions *functions, textwrap_line *lines,
                                  size_t lines_len, size_t *count, uint8_t *room, size_t room_len,
                                  size_t *len);
+
+/* textwrap_fill by functions of the caller, in the same way: with textwrap_cut_at_breaks for `cut` lines
+ * end where Unicode lets them. */
+TEXTWRAP_CHECKED
+textwrap_status textwrap_fill_by(const uint8_t *text, size_t text_len,
+                                 const textwrap_options *options,
+                                 const textwrap_functions *functions, uint8_t *room,
+                                 size_t room_len, size_t *len);
 
 /* ---- Room that is enough, by the length of a text alone: for a caller who would rather allocate once
  * than call twice. A bound that a size_t cannot hold is SIZE_MAX. */

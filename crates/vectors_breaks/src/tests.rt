@@ -63,11 +63,7 @@ fn text_of(alloc: Global, case: &str) -> Result<String, AllocError> {
 }
 
 /// A text with the marks of these breaks. What is behind the last break ends without one.
-fn with_marks(
-    alloc: Global,
-    text: &str,
-    breaks: LineBreaks<'_>,
-) -> Result<String, AllocError> {
+fn with_marks(alloc: Global, text: &str, breaks: LineBreaks<'_>) -> Result<String, AllocError> {
     let mut marked = String::new(alloc);
     let mut start = 0;
     for found in breaks {

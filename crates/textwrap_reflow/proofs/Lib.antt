@@ -1,0 +1,9 @@
+pub mod Common
+pub mod Grouping
+pub mod JoinedText
+pub mod PieceCuts
+pub mod FittingPieces
+pub mod LineLemmas
+pub mod LaidOut
+pub mod Turns
+pub mod Divisions

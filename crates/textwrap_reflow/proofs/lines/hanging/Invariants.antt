@@ -1,0 +1,7 @@
+use Rattle.textwrap_reflow.proofs.lines.hanging.Given as goal
+use Rattle.textwrap_base.proofs.Common.{◌≡◌, length, map, take, string_bytes}
+use Rattle.textwrap_reflow.proofs.Common.{hanging}
+
+-- the characters so far
+abbrev pub invariant-loop-ch : goal.invariant-loop-ch
+invariant-loop-ch g l = string_bytes l.text ≡ hanging (take (length l.yielded) l.prefix)

@@ -1,0 +1,6 @@
+pub mod Lines
+pub mod Prefixes
+pub mod Blocks
+pub mod Pieces
+pub mod Reflow
+pub mod Laws

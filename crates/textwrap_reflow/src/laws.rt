@@ -1,0 +1,24 @@
+//! Laws of the definitions that the contracts cite. Each is the contract of a function that does
+//! nothing, so that a proof may call on it.
+//!
+//! A law has no example: its statement is all there is to it. A call is written
+//! `reflowed_texts_are_unique();`.
+ghost use Rattle.textwrap_reflow.specs.Laws.{FirstFitKeepsToWidth, LeastCostIsLeast};
+ghost use Rattle.textwrap_reflow.specs.Laws.{ReflowedTextsAreUnique};
+
+/// A text becomes one text at the same options: the one that `reflow` returns.
+pub fn reflowed_texts_are_unique()
+    ensures { ReflowedTextsAreUnique }
+{}
+
+/// By first fit, each line of a paragraph that is filled keeps to what its prefix leaves of the
+/// width, or is one piece.
+pub fn first_fit_keeps_to_width()
+    ensures { FirstFitKeepsToWidth }
+{}
+
+/// By least cost, the lines of a paragraph that is filled are the cheapest of all divisions of its
+/// pieces, at the default penalties.
+pub fn least_cost_is_least()
+    ensures { LeastCostIsLeast }
+{}

@@ -1,0 +1,21 @@
+//! Fills the paragraphs of a text again: lists, quotes and comments keep their prefixes, and blank
+//! lines stay between them. Beside `textwrap`, whose `refill` takes one paragraph.
+//!
+//! ```rust
+//! let text = reflow(alloc, "- one\n  two three\n- four\n", &ReflowOptions::new(11))?;
+//! ```
+//!
+//! The text is `"- one two\n  three\n- four\n"`.
+#![tactic(auto)]
+
+pub use options::{Algorithm, ReflowOptions};
+pub use reflowing::reflow;
+
+mod division;
+mod fences;
+mod joining;
+pub mod laws;
+mod lines;
+mod options;
+mod paragraphs;
+mod reflowing;

@@ -1,0 +1,188 @@
+//! Filling the paragraphs of a text again.
+ghost use Rattle.std.specs.Prelude.{◌≡◌, ℕ, ◌++◌, [], List, map, length, IfOk, OnOk, string_bytes};
+ghost use Rattle.std.specs.List.{flat_map};
+ghost use Rattle.textwrap_lines.specs.LineEnding.{ending_bytes};
+ghost use Rattle.textwrap_lines.specs.Paragraph.{covered};
+ghost use Rattle.textwrap_words.specs.Words.{word_view};
+ghost use Rattle.textwrap_reflow.specs.Lines.{ended};
+ghost use Rattle.textwrap_reflow.specs.Pieces.{joined_view, nothing_joined, with_words};
+ghost use Rattle.textwrap_reflow.specs.Prefixes.{hanging, line_words};
+ghost use Rattle.textwrap_reflow.specs.Reflow.{AreAllLines, AreFilledLines, IsReflowed, is_filled};
+ghost use Rattle.textwrap_reflow.specs.Reflow.{paragraph_parts, printed};
+
+use crate::division::divide;
+use crate::joining::JoinedWords;
+use crate::lines::{fence_after, split_line, split_prefix, stands_apart};
+use crate::options::ReflowOptions;
+use crate::paragraphs::{ParagraphLines, read_paragraph};
+use std::alloc::{AllocError, Allocator};
+use textwrap_words::inner::words_between;
+use textwrap_words::words::Word;
+
+/// The text with its paragraphs filled again, at the width of the options.
+///
+/// # Errors
+/// [`AllocError`] where memory runs out.
+pub fn reflow<A: Allocator + Copy>(
+    alloc: A,
+    text: &str,
+    options: &ReflowOptions<'_>,
+) -> Result<String<A>, AllocError>
+    ensures { IfOk result (λ reflowed. IsReflowed options.now text.now (string_bytes reflowed)) }
+{
+    let ending = options.line_ending.as_str();
+    let mut output = String::with_capacity(alloc, text.len() + ending.len())?;
+    let mut fence = None;
+    let mut left = Some(text);
+    while let Some(text) = left {
+        let (line, rest) = split_line(text);
+        let (_, after_prefix) = split_prefix(line);
+        if stands_apart(options.keeps_code, fence, after_prefix) {
+            push_line(&mut output, "", line, ending)?;
+            fence = fence_after(options.keeps_code, fence, after_prefix);
+            left = rest;
+        } else {
+            let paragraph = read_paragraph(alloc, line, rest, options.keeps_code)?;
+            push_paragraph(alloc, &mut output, &paragraph, options)?;
+            left = paragraph.rest;
+        }
+    }
+    output.truncate(output.len().saturating_sub(ending.len()));
+    Ok(output)
+}
+
+/// Adds a line, with what stands before and after it.
+fn push_line<A: Allocator>(
+    output: &mut String<A>,
+    indent: &str,
+    line: &str,
+    ending: &str,
+) -> Result<(), AllocError>
+    ensures { OnOk result (string_bytes output.new
+        ≡ string_bytes output.old ++ (indent.now ++ line.now ++ ending.now)) }
+{
+    output.push_str(indent)?;
+    output.push_str(line)?;
+    output.push_str(ending)
+}
+
+/// Adds the lines of a paragraph, filled or as they are.
+fn push_paragraph<A: Allocator + Copy>(
+    alloc: A,
+    output: &mut String<A>,
+    paragraph: &ParagraphLines<'_, A>,
+    options: &ReflowOptions<'_>,
+) -> Result<(), AllocError>
+    requires { string_bytes paragraph.now.hanging ≡ hanging paragraph.now.prefix.now }
+    ensures { OnOk result ((lines : List (List ℕ)) × AreAllLines options.now
+        (paragraph_parts options.now paragraph.now.prefix.now
+        (map (λ line. line.now) paragraph.now.lines.items)) lines
+        × (string_bytes output.new
+        ≡ string_bytes output.old ++ ended (ending_bytes options.now.line_ending) lines)) }
+{
+    if is_filled(options, paragraph.prefix) {
+        return push_filled(alloc, output, paragraph, options);
+    }
+    push_kept(output, &paragraph.lines, options.line_ending.as_str())
+}
+
+/// Adds lines as they are.
+fn push_kept<A: Allocator>(
+    output: &mut String<A>,
+    lines: &[&str],
+    ending: &str,
+) -> Result<(), AllocError>
+    ensures { OnOk result (string_bytes output.new
+        ≡ string_bytes output.old ++ ended ending.now (map (λ line. line.now) lines.now)) }
+{
+    for line in lines {
+        push_line(output, "", line, ending)?;
+    }
+    Ok(())
+}
+
+/// Whether a paragraph with this first prefix is filled.
+fn is_filled(options: &ReflowOptions<'_>, prefix: &str) -> bool
+    ensures { result ≡ is_filled options.now prefix.now }
+{
+    prefix.starts_with(options.prefix) & !(options.keeps_code & prefix.starts_with("    "))
+}
+
+/// Adds the lines of a paragraph that is filled.
+fn push_filled<A: Allocator + Copy>(
+    alloc: A,
+    output: &mut String<A>,
+    paragraph: &ParagraphLines<'_, A>,
+    options: &ReflowOptions<'_>,
+) -> Result<(), AllocError>
+    requires { string_bytes paragraph.now.hanging ≡ hanging paragraph.now.prefix.now }
+    ensures { OnOk result ((lines : List (List ℕ)) × AreFilledLines options.now
+        paragraph.now.prefix.now
+        (flat_map line_words (map (λ line. line.now) paragraph.now.lines.items)) lines
+        × (string_bytes output.new
+        ≡ string_bytes output.old ++ ended (ending_bytes options.now.line_ending) lines)) }
+{
+    let words = words_of(alloc, &paragraph.lines)?;
+    let pieces = words_between(alloc, words.text.as_str(), &words.cuts)?;
+    let width = options.width.saturating_sub(paragraph.prefix.len());
+    let lines = divide(alloc, options.algorithm, &pieces, width)?;
+    let ending = options.line_ending.as_str();
+    push_division(
+        output,
+        &lines,
+        paragraph.prefix,
+        paragraph.hanging.as_str(),
+        ending,
+    )
+}
+
+/// Adds the lines of a division: the first with one indent, each later one with the other.
+fn push_division<A: Allocator>(
+    output: &mut String<A>,
+    lines: &[&[Word<'_>]],
+    indent: &str,
+    later_indent: &str,
+    ending: &str,
+) -> Result<(), AllocError>
+    ensures { OnOk result (string_bytes output.new
+        ≡ string_bytes output.old ++ ended ending.now (printed indent.now later_indent.now
+        (map (map word_view) (map (λ line. line.now) lines.now)))) }
+{
+    let mut indent = indent;
+    for line in lines {
+        output.push_str(indent)?;
+        push_pieces(output, line)?;
+        output.push_str(ending)?;
+        indent = later_indent;
+    }
+    Ok(())
+}
+
+/// The words of these lines.
+fn words_of<'t, A: Allocator + Copy>(
+    alloc: A,
+    lines: &[&'t str],
+) -> Result<JoinedWords<'t, A>, AllocError>
+    ensures { IfOk result (λ words. joined_view words
+        ≡ with_words nothing_joined (flat_map line_words (map (λ line. line.now) lines.now))) }
+{
+    let mut words = JoinedWords::new(alloc);
+    for line in lines {
+        words.push_line(line)?;
+    }
+    Ok(words)
+}
+
+/// Adds the pieces of a line, without the last one's blank.
+fn push_pieces<A: Allocator>(output: &mut String<A>, line: &[Word<'_>]) -> Result<(), AllocError>
+    ensures { OnOk result (string_bytes output.new
+        ≡ string_bytes output.old ++ covered (map word_view line.now)) }
+{
+    for (i, piece) in line.iter().enumerate() {
+        output.push_str(piece.word)?;
+        if i + 1 < line.len() {
+            output.push_str(piece.whitespace)?;
+        }
+    }
+    Ok(())
+}

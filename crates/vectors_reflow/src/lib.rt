@@ -1,0 +1,5 @@
+//! The tests of `textwrap_reflow`.
+#![tactic(auto)]
+
+#[cfg(test)]
+mod tests;

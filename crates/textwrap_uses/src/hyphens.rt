@@ -12,8 +12,7 @@ ghost use Rattle.textwrap_uses.specs.Hyphens.{points_for, points_in};
 use std::alloc::{AllocError, Global};
 use textwrap::word_separators::Words;
 use textwrap::words::Word;
-use textwrap::wrap_algorithms::wrap_first_fit;
-use textwrap::{Options, WordSeparator};
+use textwrap::{Options, WordSeparator, wrap_algorithms};
 use textwrap_lines::placed::PlacedLines;
 use textwrap_steps::steps::{are_inner_cuts, lines_at, pieces_at};
 
@@ -120,7 +119,7 @@ fn find_lines(
     let points = points_in(alloc, paragraph, dictionary)?;
     let options = Options::new(width);
     let pieces = pieces_at(alloc, paragraph, &cuts, &points, &options)?;
-    let lines = wrap_first_fit(alloc, &pieces, &[width])?;
+    let lines = wrap_algorithms::wrap_first_fit(alloc, &pieces, &[width])?;
     let ends = line_ends(alloc, &pieces, &lines)?;
     let placed = lines_at(alloc, paragraph, &pieces, &ends, &options, false)?;
     Ok(placed)

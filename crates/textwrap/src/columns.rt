@@ -286,7 +286,7 @@ fn push_missing<A: Allocator>(
 }
 
 /// Appends a text, and blanks up to the width of a column.
-fn push_padded<A: Allocator>(
+pub fn push_padded<A: Allocator>(
     row: &mut String<A>,
     text: &str,
     width: usize,
@@ -298,7 +298,7 @@ fn push_padded<A: Allocator>(
 }
 
 /// Appends blanks.
-fn push_blanks<A: Allocator>(row: &mut String<A>, count: usize) -> Result<(), AllocError>
+pub fn push_blanks<A: Allocator>(row: &mut String<A>, count: usize) -> Result<(), AllocError>
     ensures { OnOk result (string_bytes row.new ≡ string_bytes row.old ++ blanks count) }
 {
     for _ in 0..count {

@@ -1,14 +1,15 @@
 -- The division of a paragraph: it is the only one, and what its lines keep to.
-use Rattle.textwrap_base.proofs.Common.{◌≡◌, ◌≢◌, ℕ, ◌+◌, ◌-◌, ◌≤◌, ◌<◌, ◌⊎◌, List, [], ◌∷◌, ◌++◌, All}
-use Rattle.textwrap_base.proofs.Common.{length, map, refl, sym, ap, ◌∙◌, subst, arith, inl, inr, All-nil}
-use Rattle.textwrap_base.proofs.Common.{All-cons, cases_lt, AreEqualFromSecond, priced_at, rules, Sizes}
-use Rattle.textwrap_base.proofs.Common.{line_width, closed_width, AllFit, Fits, take, take_all}
+use Rattle.textwrap_base.proofs.Common.{◌≡◌, ℕ, ◌+◌, ◌≤◌, List, [], ◌∷◌, ◌++◌, All}
+use Rattle.textwrap_base.proofs.Common.{length, sym, ap, ◌∙◌, subst, arith, inl, inr, All-nil}
+use Rattle.textwrap_base.proofs.Common.{All-cons, cases_lt, AreEqualFromSecond, priced_at, Sizes}
+use Rattle.textwrap_base.proofs.Common.{closed_width, AllFit, Fits, take_all}
+use Rattle.textwrap_base.specs.Division.{IsDivision}
 use Rattle.textwrap_base.proofs.Cost.Unique.{chosen_one}
 use Rattle.textwrap_base.proofs.Division.SameWidths.{line_width-one}
 use Rattle.textwrap_base.proofs.Division.Unique.{greedy_unique}
 use Rattle.textwrap_words.proofs.Common.{Algorithm, Greedy, LeastCost, IsDividedBy, sizes_of, WordText}
 use Rattle.textwrap_reflow.specs.Laws.{IsWithin}
-use Rattle.textwrap_reflow.specs.Reflow.{AreAllLines, AreFilledLines, AreLinesOf, Filled, Kept, Part}
+use Rattle.textwrap_reflow.specs.Reflow.{AreAllLines, AreLinesOf, Filled, Kept, Part}
 use Rattle.textwrap_reflow.specs.Reflow.{algorithm_of, printed}
 use Rattle.textwrap_reflow.proofs.Common.{hanging}
 use Rattle.textwrap_reflow.specs.declared.options.ReflowOptions.{ReflowOptions}
@@ -16,6 +17,12 @@ use Rattle.textwrap_reflow.specs.declared.options.ReflowOptions.{ReflowOptions}
 -- one width is the same for all lines
 pub one-width : (width : ℕ) → AreEqualFromSecond (width ∷ [])
 one-width width = λ k later within. absurd (omega arith)
+
+-- either algorithm divides
+pub divided : (algorithm : Algorithm) (width : ℕ) (xs : List WordText) (lines : List (List WordText))
+    → IsDividedBy algorithm sizes_of (width ∷ []) xs lines → IsDivision xs lines
+divided Greedy width xs lines by = by.admissible.division
+divided (LeastCost penalties) width xs lines by = (by.chosen (one-width width)).division
 
 divided_one : {X : Type 0} (algorithm : Algorithm) (sizes : X → Sizes) (width : ℕ) (xs : List X)
     (lines others : List (List X)) → IsDividedBy algorithm sizes (width ∷ []) xs lines

@@ -1,6 +1,6 @@
 -- The widths of the pieces of a text fit 64 bits together.
 use Rattle.textwrap_base.proofs.Common.{◌≡◌, ℕ, ◌*◌, ◌≤◌, List, [], ◌∷◌, All, All-nil, All-cons}
-use Rattle.textwrap_base.proofs.Common.{length, map, refl, sym, ap, ◌∙◌, subst, arith, IsUtf8, rules}
+use Rattle.textwrap_base.proofs.Common.{length, map, sym, subst, IsUtf8}
 use Rattle.textwrap_base.proofs.Common.{total_width, All-head, All-tail}
 use Rattle.textwrap_words.proofs.Common.{WordText, word_view, word_of, sizes_of, Tiles}
 use Rattle.textwrap_lines.proofs.Common.{Word}

@@ -1,7 +1,7 @@
 -- Lines that are taken one after the other into a paragraph make the block that it is.
 use Rattle.textwrap_base.proofs.Common.{◌≡◌, ℕ, Bool, true, false, cond, ◌&&◌, ◌||◌, not, List, []}
-use Rattle.textwrap_base.proofs.Common.{◌∷◌, ◌++◌, map, refl, sym, ap, ◌∙◌, subst, arith, Option}
-use Rattle.textwrap_base.proofs.Common.{Some, None, append_assoc, append-nil, and_parts, cond_both}
+use Rattle.textwrap_base.proofs.Common.{◌∷◌, ◌++◌, refl, ap, ◌∙◌, Option}
+use Rattle.textwrap_base.proofs.Common.{Some, None, append_assoc, and_parts}
 use Rattle.std.proofs.Common.{is_some}
 use Rattle.std.specs.Str.{bytes_eq}
 use Rattle.std.proofs.lemmas.Slice.Eq.{bytes_eq-Decides}
@@ -40,7 +40,7 @@ hanging-again (c ∷ cs) =
     again c false is = ap (λ b. cond b blank c) is
 
 -- what hangs from a line that hangs, hangs from the first
-hangs-on : (first line next : List ℕ) → hangs_from line first ≡ true
+pub hangs-on : (first line next : List ℕ) → hangs_from line first ≡ true
     → hangs_from next line ≡ hangs_from next first
 hangs-on first line next hangs =
     ap (bytes_eq (line_prefix next))

@@ -1,7 +1,7 @@
 -- The text of words that are joined one after the other, and where it may be cut.
-use Rattle.textwrap_base.proofs.Common.{◌≡◌, ℕ, suc, ◌+◌, ◌<◌, ◌==◌, true, false, cond, List, []}
-use Rattle.textwrap_base.proofs.Common.{◌∷◌, ◌++◌, All, length, refl, sym, ap, ◌∙◌, arith}
-use Rattle.textwrap_base.proofs.Common.{append_assoc, append-nil, length-append, flat_map, ne_eqb}
+use Rattle.textwrap_base.proofs.Common.{◌≡◌, ℕ, suc, ◌+◌, ◌<◌, cond, List, []}
+use Rattle.textwrap_base.proofs.Common.{◌∷◌, ◌++◌, length, refl, sym, ap, ◌∙◌, arith}
+use Rattle.textwrap_base.proofs.Common.{append_assoc, append-nil, length-append, ne_eqb}
 use Rattle.textwrap_reflow.proofs.Common.{blank, is_kept_together, Joined, with_word, with_words}
 
 -- later words, each with a blank before it

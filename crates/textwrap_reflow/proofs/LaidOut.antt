@@ -2,6 +2,7 @@
 use Rattle.textwrap_base.proofs.Common.{◌≡◌, ℕ, List, [], ◌∷◌, ◌++◌, refl, sym, ap, ◌∙◌, append_assoc}
 use Rattle.textwrap_base.proofs.Common.{append-nil, map, subst, take, length, ◌-◌, take_at}
 use Rattle.textwrap_base.proofs.Common.{arith, length-append, get_or, ◌<◌, ◌≤◌, add-zero}
+use Rattle.std.proofs.Common.{ap₂}
 use Rattle.std.proofs.lemmas.List.{get_or-append-add}
 use Rattle.textwrap_lines.specs.declared.line_ending.LineEnding.{LineEnding}
 use Rattle.textwrap_lines.specs.declared.line_ending.LineEnding.TheVariants.{CRLF, LF}
@@ -55,6 +56,15 @@ module _ (options : ReflowOptions) where
   pub all-kept : (lines : List (List ℕ)) → AreAllLines options (map Kept lines) lines
   all-kept [] = refl
   all-kept (line ∷ lines) = (line ∷ [], lines, refl, all-kept lines, refl)
+
+-- lines that follow those that stay as they are
+pub kept-front : (options : ReflowOptions) (kept : List (List ℕ)) (parts : List Part) (lines : List (List ℕ))
+    → AreAllLines options (map Kept kept ++ parts) lines
+    → (back : List (List ℕ)) × AreAllLines options parts back × (lines ≡ kept ++ back)
+kept-front options [] parts lines are = (lines, are, refl)
+kept-front options (line ∷ kept) parts lines (front, back, is, rest, all) =
+    let (later, are, whole) = kept-front options kept parts back rest in
+    (later, are, all ∙ ap₂ (λ xs ys. xs ++ ys) is whole)
 
 -- ---- the ending of the last line
 

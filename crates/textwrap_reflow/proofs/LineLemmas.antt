@@ -1,6 +1,6 @@
 -- The first line of a text, and the words of a line, one after the other.
 use Rattle.textwrap_base.proofs.Common.{◌≡◌, ℕ, ◌<◌, Bool, List, [], ◌∷◌, ◌++◌, length, map, refl, sym}
-use Rattle.textwrap_base.proofs.Common.{ap, ◌∙◌, arith, rules, slice_split, not-true, filter, ◌==◌}
+use Rattle.textwrap_base.proofs.Common.{ap, ◌∙◌, arith, rules, slice_split, not-true, filter}
 use Rattle.std.specs.List.{position_or_len, before_first, after_first}
 use Rattle.std.proofs.lemmas.List.Splits.{slice_split_first, slice_split_none}
 use Rattle.std.proofs.lemmas.List.Sums.{prefix_len_passes}
@@ -11,13 +11,11 @@ use Rattle.textwrap_base.proofs.Common.{true, false, cond, cond_both, get_or, ta
 use Rattle.textwrap_base.proofs.Common.{drop_more, map-append, append-nil, ◌+◌, ◌-◌, ◌≤◌, length-map, length-drop}
 use Rattle.textwrap_base.proofs.Common.{All, All-nil, All-cons, All-append, append_assoc, ◌≢◌}
 use Rattle.textwrap_base.proofs.Common.{flat_map}
-use Rattle.textwrap_base.proofs.Lists.Parts.{cons-some}
 use Rattle.textwrap_reflow.proofs.Common.{content, is_blank, line_words}
 use Rattle.textwrap_words.proofs.Common.{word_view, WordText}
 use Rattle.textwrap_lines.proofs.Common.{Word}
 use Rattle.textwrap_lines.specs.Paragraph.{covered}
 use Rattle.textwrap_reflow.proofs.Common.{hanging}
-use Rattle.std.proofs.lemmas.Grind.{common_steps}
 
 module _ (p : ℕ → Bool) where
   pub split-one : (text : List ℕ) → position_or_len p text ≡ length text

@@ -1,5 +1,5 @@
 -- Words that are joined and cut are the pieces.
-use Rattle.textwrap_base.proofs.Common.{◌≡◌, ◌≢◌, ℕ, suc, ◌+◌, ◌-◌, ◌<◌, ◌≤◌, ◌==◌, true, false, cond}
+use Rattle.textwrap_base.proofs.Common.{◌≡◌, ◌≢◌, ℕ, suc, ◌+◌, ◌-◌, ◌<◌, ◌≤◌, true, false, cond}
 use Rattle.textwrap_base.proofs.Common.{List, [], ◌∷◌, ◌++◌, All, length, refl, sym, ap, ◌∙◌, arith}
 use Rattle.textwrap_base.proofs.Common.{append_assoc, append-nil, length-append, drop, take, subst}
 use Rattle.textwrap_base.proofs.Common.{slice_range, drop_at, take_at, All-head, All-tail, ne_eqb}

@@ -3,7 +3,7 @@ use Rattle.textwrap_base.proofs.Common.{◌≡◌, ℕ, Bool, true, false, List,
 use Rattle.textwrap_base.proofs.Common.{◌∙◌, subst, append-nil, flat_map, Option, Some, None, ◌||◌, cond}
 use Rattle.std.proofs.Common.{is_some}
 use Rattle.textwrap.specs.Indentation.{is_blank_line}
-use Rattle.textwrap_reflow.proofs.Common.{after_prefix, Apart, Block, blocks, ended, ending_bytes}
+use Rattle.textwrap_reflow.proofs.Common.{after_prefix, Apart, blocks, ended, ending_bytes}
 use Rattle.textwrap_reflow.proofs.Common.{fence_after, line_prefix, Paragraph, stands_apart}
 use Rattle.textwrap_reflow.proofs.Common.{with_line}
 use Rattle.textwrap_reflow.proofs.LaidOut.{all-one, done-more, HasDone}
@@ -12,7 +12,7 @@ use Rattle.textwrap_reflow.specs.declared.fences.Fence.{Fence}
 use Rattle.textwrap_reflow.specs.declared.options.ReflowOptions.{ReflowOptions}
 
 -- where a line does not stand apart, no fence is open before it and after it
-no_fence : (fence next : Option Fence) (blank : Bool) → is_some fence || is_some next || blank ≡ false
+pub no_fence : (fence next : Option Fence) (blank : Bool) → is_some fence || is_some next || blank ≡ false
     → (fence ≡ None) × (next ≡ None)
 no_fence None None blank is = (refl, refl)
 no_fence None (Some f) blank is = cc

@@ -1,5 +1,5 @@
 -- The pieces of a paragraph: its words, of which some keep together.
-use Rattle.std.specs.Prelude.{◌≡◌, ℕ, ◌+◌, ◌==◌, ◌||◌, Bool, nat_lt, List, [], ◌∷◌, ◌++◌, length}
+use Rattle.std.specs.Prelude.{ℕ, ◌+◌, ◌==◌, ◌||◌, Bool, nat_lt, List, [], ◌∷◌, ◌++◌, length}
 use Rattle.std.specs.Prelude.{if◌then◌else◌, is_some, string_bytes}
 use Rattle.std.specs.List.{fold}
 use Rattle.std.specs.Str.{trim_end, trim_start}

@@ -1,5 +1,5 @@
 -- What a line begins with, and the words that follow.
-use Rattle.std.specs.Prelude.{ℕ, ◌-◌, ◌==◌, ◌||◌, Bool, List, [], ◌∷◌, length, map, take, drop, filter}
+use Rattle.std.specs.Prelude.{ℕ, ◌-◌, ◌==◌, ◌||◌, Bool, List, length, map, take, drop, filter}
 use Rattle.std.specs.Prelude.{nat_lt, if◌then◌else◌}
 use Rattle.std.specs.List.{slice_split, suffix_len}
 use Rattle.textwrap.specs.Refilling.{line_prefix}

@@ -3,12 +3,30 @@
 //!
 //! A law has no example: its statement is all there is to it. A call is written
 //! `reflowed_texts_are_unique();`.
-ghost use Rattle.textwrap_reflow.specs.Laws.{FirstFitKeepsToWidth, LeastCostIsLeast};
-ghost use Rattle.textwrap_reflow.specs.Laws.{ReflowedTextsAreUnique};
+ghost use Rattle.textwrap_reflow.specs.Laws.{EarlierOptionsMakeNoDifference, FirstFitKeepsToWidth};
+ghost use Rattle.textwrap_reflow.specs.Laws.{LeastCostIsLeast, PartsAreKept, ReflowedTextsAreUnique};
+ghost use Rattle.textwrap_reflow.specs.Laws.{ReflowedTextsStay};
 
 /// A text becomes one text at the same options: the one that `reflow` returns.
 pub fn reflowed_texts_are_unique()
     ensures { ReflowedTextsAreUnique }
+{}
+
+/// Nothing is lost or mixed: the new text has the same lines that stay as they are and the same
+/// paragraphs, each with its prefix and its words, in the same order.
+pub fn parts_are_kept()
+    ensures { PartsAreKept }
+{}
+
+/// Reflowing a text that was reflowed at the same options changes nothing.
+pub fn reflowed_texts_stay()
+    ensures { ReflowedTextsStay }
+{}
+
+/// A text that was reflowed at another width, by another algorithm or with another line ending
+/// becomes what it would have become at once.
+pub fn earlier_options_make_no_difference()
+    ensures { EarlierOptionsMakeNoDifference }
 {}
 
 /// By first fit, each line of a paragraph that is filled keeps to what its prefix leaves of the

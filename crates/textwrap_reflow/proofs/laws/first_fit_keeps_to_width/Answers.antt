@@ -1,5 +1,5 @@
 use Rattle.textwrap_reflow.proofs.laws.first_fit_keeps_to_width.Goals as goal
-use Rattle.textwrap_base.proofs.Common.{◌≡◌, ◌-◌, ◌∷◌, [], length, map, subst}
+use Rattle.textwrap_base.proofs.Common.{◌-◌, ◌∷◌, [], length, map, subst}
 use Rattle.textwrap_words.proofs.Common.{IsDividedBy, sizes_of, word_of}
 use Rattle.textwrap_reflow.proofs.Common.{pieces}
 use Rattle.textwrap_reflow.proofs.Divisions.{lines-within}

@@ -1,9 +1,9 @@
 use Rattle.textwrap_reflow.proofs.lines.hanging.Goals as goal
-use Rattle.textwrap_base.proofs.Common.{◌≡◌, ◌<◌, ◌++◌, ◌∷◌, [], length, take, map, ap, sym, ◌∙◌}
+use Rattle.textwrap_base.proofs.Common.{◌≡◌, ◌<◌, ◌++◌, ◌∷◌, [], length, ap, sym, ◌∙◌}
 use Rattle.textwrap_base.proofs.Common.{subst, arith, get_or, string_bytes, YieldsList-turn, length_push}
-use Rattle.textwrap_base.proofs.Common.{YieldsList-from_chars, chars-IsAscii, take_more, map-append}
+use Rattle.textwrap_base.proofs.Common.{YieldsList-from_chars, chars-IsAscii}
 use Rattle.textwrap_base.proofs.Common.{get_or_default}
-use Rattle.textwrap_reflow.proofs.Common.{hanging, hanging_character}
+use Rattle.textwrap_reflow.proofs.Common.{hanging_character}
 use Rattle.textwrap_reflow.proofs.LineLemmas.{hanging-ascii, hanging-more}
 
 pub loop-ch-preserved : goal.loop-ch-preserved

@@ -1,5 +1,5 @@
 use Rattle.textwrap_reflow.proofs.lines.hanging.Given as goal
-use Rattle.textwrap_base.proofs.Common.{◌≡◌, length, map, take, string_bytes}
+use Rattle.textwrap_base.proofs.Common.{◌≡◌, length, take, string_bytes}
 use Rattle.textwrap_reflow.proofs.Common.{hanging}
 
 -- the characters so far

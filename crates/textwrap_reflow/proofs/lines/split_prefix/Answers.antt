@@ -1,5 +1,5 @@
 use Rattle.textwrap_reflow.proofs.lines.split_prefix.Goals as goal
-use Rattle.textwrap_base.proofs.Common.{◌≡◌, rules, take, drop, ap, sym, ◌∙◌, prefix_len, length}
+use Rattle.textwrap_base.proofs.Common.{◌≡◌, rules, take, drop, ap, sym, ◌∙◌, prefix_len}
 use Rattle.textwrap_base.proofs.Common.{length-prefix_len, length-take-le}
 use Rattle.textwrap.specs.Refilling.{is_prefix_character}
 use Rattle.std.proofs.lemmas.Iterator.Adapters.{YieldsList-from_bytes}

@@ -1,9 +1,9 @@
 use Rattle.textwrap_reflow.proofs.paragraphs.read_paragraph.Goals as goal
-use Rattle.textwrap_base.proofs.Common.{◌≡◌, ◌≤◌, ◌++◌, ◌∷◌, [], Some, None, map, ap, sym, ◌∙◌, subst}
-use Rattle.textwrap_base.proofs.Common.{IsAscii, arith, map-append, false}
+use Rattle.textwrap_base.proofs.Common.{◌≡◌, ◌++◌, ◌∷◌, [], None, map, ap, sym, ◌∙◌, subst}
+use Rattle.textwrap_base.proofs.Common.{IsAscii, arith, map-append}
 use Rattle.textwrap.proofs.Text.Prefixes.{line_prefix-ascii}
 use Rattle.textwrap_reflow.proofs.Common.{blocks, bytes_left, lines_left, line_prefix, hanging}
-use Rattle.textwrap_reflow.proofs.Grouping.{goes_on, goes_on-joins, goes_on-stops, joined_to}
+use Rattle.textwrap_reflow.proofs.Grouping.{goes_on, goes_on-joins, joined_to}
 use Rattle.textwrap_reflow.proofs.paragraphs.read_paragraph.Goals.{After-goes_on}
 use Rattle.std.specs.Str.{bytes_eq}
 use Rattle.textwrap_base.proofs.Common.{not, ◌&&◌}

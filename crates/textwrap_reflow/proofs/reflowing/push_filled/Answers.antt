@@ -1,6 +1,6 @@
 use Rattle.textwrap_reflow.proofs.reflowing.push_filled.Goals as goal
 use Rattle.textwrap_base.proofs.Common.{◌≡◌, ◌∷◌, [], ℕ, List, map, ap, sym, ◌∙◌, subst, flat_map}
-use Rattle.textwrap_base.proofs.Common.{on_ok_weaker, arith, length, IsUtf8, refl, ◌-◌}
+use Rattle.textwrap_base.proofs.Common.{on_ok_weaker, arith, IsUtf8, refl}
 use Rattle.textwrap_words.proofs.Common.{IsDividedBy, sizes_of, word_of, word_view}
 use Rattle.textwrap_words.specs.Cuts.{AreCuts, parts_between}
 use Rattle.textwrap_reflow.proofs.Common.{hanging, Joined, joined_view, line_words, nothing_joined}

@@ -1,7 +1,7 @@
 use Rattle.textwrap_reflow.proofs.reflowing.push_paragraph.Goals as goal
-use Rattle.textwrap_base.proofs.Common.{◌≡◌, ◌∷◌, [], cond, map, ap, sym, ◌∙◌, subst, flat_map}
+use Rattle.textwrap_base.proofs.Common.{◌∷◌, [], cond, map, sym, ◌∙◌, subst, flat_map}
 use Rattle.textwrap_base.proofs.Common.{on_ok_weaker}
-use Rattle.textwrap_reflow.proofs.Common.{ended, line_words}
+use Rattle.textwrap_reflow.proofs.Common.{line_words}
 use Rattle.textwrap_reflow.proofs.LaidOut.{all-kept}
 use Rattle.textwrap_reflow.specs.Reflow.{AreAllLines, Filled, Kept}
 

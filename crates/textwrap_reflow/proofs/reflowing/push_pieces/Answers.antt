@@ -1,6 +1,6 @@
 use Rattle.textwrap_reflow.proofs.reflowing.push_pieces.Goals as goal
 use Rattle.textwrap_reflow.proofs.reflowing.push_pieces.Goals.{then-i-line+in_ok-push_str-2, else-i-line}
-use Rattle.textwrap_base.proofs.Common.{◌≡◌, ◌∙◌, ap, sym, subst, string_bytes}
+use Rattle.textwrap_base.proofs.Common.{◌∙◌, ap, string_bytes}
 use Rattle.textwrap_reflow.proofs.LineLemmas.{pieces-last, pieces-next}
 
 pub loop-i-preserved : goal.loop-i-preserved

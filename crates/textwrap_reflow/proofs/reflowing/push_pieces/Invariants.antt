@@ -1,5 +1,5 @@
 use Rattle.textwrap_reflow.proofs.reflowing.push_pieces.Given as goal
-use Rattle.textwrap_base.proofs.Common.{◌≡◌, ◌++◌, map, drop, length, string_bytes}
+use Rattle.textwrap_base.proofs.Common.{◌≡◌, ◌++◌, map, drop, string_bytes}
 use Rattle.textwrap_words.proofs.Common.{word_view}
 use Rattle.textwrap_lines.specs.Paragraph.{covered}
 

@@ -1,7 +1,7 @@
 use Rattle.textwrap_reflow.proofs.reflowing.reflow.Goals as goal
-use Rattle.textwrap_base.proofs.Common.{◌≡◌, ◌∷◌, ◌++◌, [], ℕ, List, map, ap, sym, ◌∙◌, subst, flat_map}
+use Rattle.textwrap_base.proofs.Common.{◌≡◌, ◌∷◌, [], ap, sym, ◌∙◌, subst, flat_map}
 use Rattle.textwrap_base.proofs.Common.{append-nil, take, refl, string_bytes, length, ◌-◌, arith}
-use Rattle.textwrap_reflow.proofs.Common.{blocks, ended, ending_bytes, line_prefix, lines_left}
+use Rattle.textwrap_reflow.proofs.Common.{blocks, ending_bytes, lines_left}
 use Rattle.textwrap_reflow.proofs.Common.{stands_apart}
 use Rattle.textwrap_reflow.proofs.LaidOut.{cut-before, HasDone, joined-lines}
 use Rattle.textwrap_reflow.proofs.Turns.{done-apart, done-paragraph}

@@ -1,5 +1,5 @@
 use Rattle.textwrap_reflow.proofs.joining.JoinedWords.push_line.Goals as goal
-use Rattle.textwrap_base.proofs.Common.{◌≡◌, ◌∷◌, [], None, Some, ap, sym, ◌∙◌, filter, on_ok_weaker}
+use Rattle.textwrap_base.proofs.Common.{None, Some, ap, sym, ◌∙◌, filter, on_ok_weaker}
 use Rattle.textwrap_base.proofs.Common.{slice_split, rules}
 use Rattle.std.proofs.Common.{lit<}
 use Rattle.std.proofs.lemmas.Str.Pattern.{split_once_first}

@@ -29,7 +29,7 @@ row_parts-joined layout row = simp (append_assoc, append-nil, flat_map-append, c
 
 -- ---- their widths
 
-blanks-width : (n : ℕ) → text_width (blanks n) ≡ n
+pub blanks-width : (n : ℕ) → text_width (blanks n) ≡ n
 blanks-width n = search (rules, arith, printable-width, All-replicate, length-replicate)
 
 cell-fits : (width : ℕ) (lines : List (List ℕ)) → All (λ line. text_width line ≤ width) lines

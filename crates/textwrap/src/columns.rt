@@ -16,6 +16,7 @@ use crate::wrap_algorithms::WrapError;
 use std::alloc::{AllocError, Allocator};
 use std::borrow::CowStr;
 use textwrap_lines::{Options, wrap};
+use textwrap_words::blanks::push_blanks;
 
 /// What the rows of a table have in common.
 #[derive(Drop)]
@@ -286,7 +287,7 @@ fn push_missing<A: Allocator>(
 }
 
 /// Appends a text, and blanks up to the width of a column.
-pub fn push_padded<A: Allocator>(
+fn push_padded<A: Allocator>(
     row: &mut String<A>,
     text: &str,
     width: usize,
@@ -295,14 +296,4 @@ pub fn push_padded<A: Allocator>(
 {
     row.push_str(text)?;
     push_blanks(row, width.saturating_sub(display_width(text)))
-}
-
-/// Appends blanks.
-pub fn push_blanks<A: Allocator>(row: &mut String<A>, count: usize) -> Result<(), AllocError>
-    ensures { OnOk result (string_bytes row.new ≡ string_bytes row.old ++ blanks count) }
-{
-    for _ in 0..count {
-        row.push(' ')?;
-    }
-    Ok(())
 }

@@ -1,8 +1,11 @@
-//! The blanks at the end of a text, such as the two of `"bar  "`. A blank is U+0020 and nothing
-//! else.
-ghost use Rattle.std.specs.Prelude.{◌≡◌, ◌≢◌, ◌<◌, ◌≤◌, length, slice_index};
+//! Blanks: those at the end of a text, such as the two of `"bar  "`, and blanks that are added. A blank
+//! is U+0020 and nothing else.
+ghost use Rattle.std.specs.Prelude.{◌≡◌, ◌≢◌, ◌<◌, ◌≤◌, ◌++◌, length, slice_index, replicate};
+ghost use Rattle.std.specs.Prelude.{string_bytes, OnOk};
 ghost use Rattle.textwrap_words.specs.Blanks.{blank, trimmed_len, without_final_blanks};
 ghost use Rattle.textwrap_words.specs.Blanks.{final_blanks, BlanksBetween};
+
+use std::alloc::{AllocError, Allocator};
 
 /// Splits a text before its final blanks, of which there may be none: `"bar  "` into `"bar"` and
 /// two blanks. The call always succeeds.
@@ -40,4 +43,15 @@ pub fn blanks_end(text: &[u8], start: usize) -> usize
         end += 1;
     }
     end
+}
+
+/// Adds so many blanks at the end of a text.
+pub fn push_blanks<A: Allocator>(text: &mut String<A>, count: usize) -> Result<(), AllocError>
+    ensures { OnOk result
+        (string_bytes text.new ≡ string_bytes text.old ++ replicate count blank) }
+{
+    for _ in 0..count {
+        text.push(' ')?;
+    }
+    Ok(())
 }

@@ -24,7 +24,7 @@ pub divided : (algorithm : Algorithm) (width : ℕ) (xs : List WordText) (lines 
 divided Greedy width xs lines by = by.admissible.division
 divided (LeastCost penalties) width xs lines by = (by.chosen (one-width width)).division
 
-divided_one : {X : Type 0} (algorithm : Algorithm) (sizes : X → Sizes) (width : ℕ) (xs : List X)
+pub divided_one : {X : Type 0} (algorithm : Algorithm) (sizes : X → Sizes) (width : ℕ) (xs : List X)
     (lines others : List (List X)) → IsDividedBy algorithm sizes (width ∷ []) xs lines
     → IsDividedBy algorithm sizes (width ∷ []) xs others → lines ≡ others
 divided_one Greedy sizes width xs lines others one other =

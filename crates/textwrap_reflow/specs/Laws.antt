@@ -1,13 +1,21 @@
 -- The statements of the laws, each under a name that a caller can cite.
-use Rattle.std.specs.Prelude.{◌≡◌, ℕ, ◌-◌, ◌≤◌, ◌⊎◌, List, [], ◌∷◌, All, length, map}
-use Rattle.std.specs.Str.{IsUtf8}
+use Rattle.std.specs.Prelude.{◌≡◌, ◌≢◌, ◌↔◌, ℕ, ◌-◌, ◌≤◌, ◌⊎◌, Bool, false, List, [], ◌∷◌, ◌++◌, All}
+use Rattle.std.specs.Prelude.{length, map, if◌then◌else◌, IsUtf8, ⊤}
+use Rattle.std.specs.List.{flat_map}
+use Rattle.textwrap.specs.Laws.{IsIndent}
+use Rattle.textwrap.specs.Refilling.{IsPlainWord, IsRefilled}
 use Rattle.textwrap_base.specs.Cost.{division_cost, priced_at}
 use Rattle.textwrap_base.specs.Division.{closed_width, IsDivision}
 use Rattle.textwrap_base.specs.Penalties.{default_penalties}
+use Rattle.textwrap_words.specs.Blanks.{blank}
 use Rattle.textwrap_words.specs.Words.{WordText, sizes_of, word_of}
-use Rattle.textwrap_reflow.specs.Pieces.{pieces}
+use Rattle.textwrap_words.specs.WordSplitters.{Whole}
+use Rattle.textwrap_lines.specs.LineEnding.{join_with, line_feed}
+use Rattle.textwrap_lines.specs.Options.{Settings, settings_at}
+use Rattle.textwrap_lines.specs.Paragraph.{DividesAs}
+use Rattle.textwrap_reflow.specs.Pieces.{is_kept_together, pieces}
 use Rattle.textwrap_reflow.specs.Prefixes.{hanging}
-use Rattle.textwrap_reflow.specs.Reflow.{AreFilledLines, IsReflowed, printed, text_parts}
+use Rattle.textwrap_reflow.specs.Reflow.{algorithm_of, AreFilledLines, IsReflowed, printed, text_parts}
 use Rattle.textwrap_reflow.specs.declared.options.Algorithm.TheVariants.{FirstFit, LeastCost}
 use Rattle.textwrap_reflow.specs.declared.options.ReflowOptions.{ReflowOptions}
 
@@ -72,3 +80,54 @@ LeastCostIsLeast =
     (division : List (List WordText)) × IsDivision all division
     × (lines ≡ printed prefix (hanging prefix) division)
     × ((others : List (List WordText)) → IsDivision all others → cost division ≤ cost others)
+
+-- ---- one paragraph
+
+-- a line may end between each two words in a row
+abbrev pub AreSeparate : List (List ℕ) → Type 0
+AreSeparate [] = ⊤
+AreSeparate (word ∷ []) = ⊤
+AreSeparate (word ∷ next ∷ words) =
+    (is_kept_together word next ≡ false) × AreSeparate (next ∷ words)
+
+-- the words of a plain line
+abbrev pub ArePlainWords : List (List ℕ) → Type 0
+ArePlainWords words = (words ≢ []) × All IsPlainWord words
+
+-- the first line behind a prefix, each later one behind its hanging form
+abbrev pub prefixed_lines : List ℕ → List (List ℕ) → List (List ℕ)
+prefixed_lines prefix [] = []
+prefixed_lines prefix (line ∷ lines) = (prefix ++ line) ∷ map (λ later. hanging prefix ++ later) lines
+
+-- a line feed, or nothing
+abbrev pub last_feed : Bool → List ℕ
+last_feed is_ended = if is_ended then line_feed ∷ [] else []
+
+-- two lines of plain words or more, behind a prefix, with a blank between each two words and a line
+-- feed between each two lines, and perhaps one more at the end. A line may end between each two words
+-- in a row
+pub record IsOneParagraph (text : List ℕ) : Type 0 where
+  pub prefix : List ℕ
+  pub lines : List (List (List ℕ))
+  pub is_ended : Bool
+  pub is_indent : IsIndent prefix
+  pub more : 2 ≤ length lines
+  pub plain : All ArePlainWords lines
+  pub separate : AreSeparate (flat_map (λ words. words) lines)
+  pub text_is : text
+      ≡ join_with (line_feed ∷ []) (prefixed_lines prefix (map (join_with (blank ∷ [])) lines))
+      ++ last_feed is_ended
+  pub utf8 : IsUtf8 text
+
+-- the settings of a refill that does what these options ask for: words stay whole
+abbrev pub refill_settings : ReflowOptions → Settings
+refill_settings options =
+    record (settings_at options.width) { break_words = false; line_ending = options.line_ending }
+
+-- a text that is one paragraph is reflowed to what it is refilled to
+abbrev pub ReflowedParagraphIsRefilled : Type 0
+ReflowedParagraphIsRefilled =
+    (options : ReflowOptions) (text reflowed : List ℕ) → IsOneParagraph text
+    → options.keeps_code ≡ false → options.prefix.now ≡ [] → IsReflowed options text reflowed
+    ↔ IsRefilled (refill_settings options) (DividesAs Whole (algorithm_of options.algorithm)) text
+    reflowed

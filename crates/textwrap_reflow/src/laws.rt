@@ -5,7 +5,7 @@
 //! `reflowed_texts_are_unique();`.
 ghost use Rattle.textwrap_reflow.specs.Laws.{EarlierOptionsMakeNoDifference, FirstFitKeepsToWidth};
 ghost use Rattle.textwrap_reflow.specs.Laws.{LeastCostIsLeast, PartsAreKept, ReflowedTextsAreUnique};
-ghost use Rattle.textwrap_reflow.specs.Laws.{ReflowedTextsStay};
+ghost use Rattle.textwrap_reflow.specs.Laws.{ReflowedParagraphIsRefilled, ReflowedTextsStay};
 
 /// A text becomes one text at the same options: the one that `reflow` returns.
 pub fn reflowed_texts_are_unique()
@@ -39,4 +39,10 @@ pub fn first_fit_keeps_to_width()
 /// pieces, at the default penalties.
 pub fn least_cost_is_least()
     ensures { LeastCostIsLeast }
+{}
+
+/// A text that is one paragraph of plain lines, between any two words of which a line may end, is
+/// reflowed to what `refill` makes of it, where words stay whole.
+pub fn reflowed_paragraph_is_refilled()
+    ensures { ReflowedParagraphIsRefilled }
 {}

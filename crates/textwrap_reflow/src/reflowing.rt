@@ -21,6 +21,16 @@ use textwrap_words::words::Word;
 
 /// The text with its paragraphs filled again, at the width of the options.
 ///
+/// A line whose text behind its prefix is whitespace alone stands apart, and stays as it is. The
+/// prefix is what a line begins with of blanks and `-`, `+`, `*`, `>`, `#`, `/`. A paragraph is a
+/// line and those after it whose prefix has blanks in the place of the bullets `-`, `+`, `*` of the
+/// first. Its words, which are joined by single blanks and stay whole, are divided into lines behind
+/// the same prefixes; no line begins with a word that could be taken for a prefix. What was reflowed
+/// stays as it is.
+///
+/// By first fit at 16 columns, `"- one two three four\n  five\n- six\n"` becomes
+/// `"- one two three\n  four five\n- six\n"`. The options say which paragraphs stay as they are.
+///
 /// # Errors
 /// [`AllocError`] where memory runs out.
 pub fn reflow<A: Allocator + Copy>(

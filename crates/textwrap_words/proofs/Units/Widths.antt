@@ -36,7 +36,7 @@ pub columns_in-empty : (state : State) (text : List ℕ) → length text ≡ 0
 columns_in-empty state text none =
     ap (λ bs. columns_in state (chars bs)) (nil_from_length text none) ∙ ap (columns_in state) chars-nil
 
-columns-ascii : (c : ℕ) → c < 128 → columns c ≤ 1
+pub columns-ascii : (c : ℕ) → c < 128 → columns c ≤ 1
 unfolding char_width
 columns-ascii c low = grind (arith, nat_tests)
 

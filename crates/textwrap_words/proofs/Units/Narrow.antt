@@ -1,0 +1,47 @@
+-- No character takes more columns than its bytes, so each text is narrow.
+use Rattle.textwrap_base.proofs.Common.{◌≢◌, ℕ, ◌≤◌, false, List, arith, cases_eq, cases_lt}
+use Rattle.textwrap_base.proofs.Common.{get_or, inl, inr, length, length-encode, nat_tests, ne_eqb}
+use Rattle.std.specs.Str.{chars}
+use lib.Utf8.{encode}
+use Rattle.textwrap_words.proofs.Common.{columns, IsNarrow}
+use Rattle.textwrap_words.proofs.Units.Widths.{columns-ascii}
+use Rattle.unicode_width.proofs.Rules.{width_or_zero-le}
+use Rattle.unicode_width.specs.Kind.{kind}
+use Rattle.unicode_width.specs.Width.{alone, char_width, of_kind, single}
+use Rattle.unicode_width.specs.declared.kind.Kind.{Kind}
+use Rattle.unicode_width.specs.declared.kind.Kind.TheVariants as kinds
+
+-- one character alone has three columns
+single-narrow : (c : ℕ) → c ≢ 0x17D8 → (single false c).0 ≤ 2
+single-narrow c other = grind (arith, ne_eqb c 0x17D8 other)
+
+of_kind-narrow : (c : ℕ) (k : Kind) → c ≢ 0x17D8 → (of_kind false c k).0 ≤ 2
+of_kind-narrow c kinds.Zero other = omega arith
+of_kind-narrow c kinds.Narrow other = omega arith
+of_kind-narrow c kinds.Wide other = omega arith
+of_kind-narrow c kinds.Ambiguous other = omega arith
+of_kind-narrow c kinds.Alef other = omega arith
+of_kind-narrow c kinds.KhmerLetter other = omega arith
+of_kind-narrow c kinds.TifinaghConsonant other = omega arith
+of_kind-narrow c kinds.LisuTone other = omega arith
+of_kind-narrow c kinds.RegionalIndicator other = omega arith
+of_kind-narrow c kinds.EmojiModifier other = omega arith
+of_kind-narrow c kinds.Emoji other = omega arith
+of_kind-narrow c kinds.Single other = single-narrow c other
+
+columns-other : (c : ℕ) → c ≢ 0x17D8 → columns c ≤ 2
+unfolding char_width alone
+columns-other c other = grind (arith, of_kind-narrow c (kind c) other)
+
+character-narrow : (c : ℕ) → columns c ≤ length (encode c)
+character-narrow c =
+    elim (cases_lt c 128) [
+      | inl low ↦ rw length-encode (grind (arith, nat_tests, columns-ascii c low))
+      | inr high ↦ elim (cases_eq c 0x17D8) [
+        | inl same ↦ rw length-encode (grind (arith, nat_tests, width_or_zero-le false c, same))
+        | inr other ↦ rw length-encode (grind (arith, nat_tests, columns-other c other, high))
+      ]
+    ]
+
+pub all-narrow : (text : List ℕ) → IsNarrow text
+all-narrow text = λ k d within. character-narrow (get_or (chars text) k d)

@@ -1,0 +1,3 @@
+pub mod WordCounts
+pub mod Widths
+pub mod AsWide

@@ -1,0 +1,29 @@
+use Rattle.textwrap_display.proofs.justifying.split_indent.Goals as goal
+use Rattle.textwrap_display.proofs.justifying.split_indent.Goals.{After-blanks_end}
+use Rattle.textwrap_base.proofs.Common.{◌≡◌, ◌≢◌, ◌<◌, ap, ◌∙◌, take, drop, length, subst, arith}
+use Rattle.textwrap_base.proofs.Common.{slice_index}
+use Rattle.textwrap_words.specs.Blanks.{blank, BlanksBetween}
+use Rattle.textwrap_display.proofs.WordCounts.{indent-boundary, indent-is}
+use Rattle.textwrap_display.specs.Justifying.{indent_len}
+
+blanks : (c : After-blanks_end) → BlanksBetween c.args.line.now 0 c.blanks_end.result
+blanks c = subst (λ t. BlanksBetween t 0 c.blanks_end.result) c.as_bytes.ensures.value c.blanks_end.ensures.blanks
+
+at : (c : After-blanks_end) → c.blanks_end.result ≡ indent_len c.args.line.now
+at c =
+    let n = c.blanks_end.result in
+    indent-is c.args.line.now n (omega (arith, ap length c.as_bytes.ensures.value)) (blanks c)
+    (subst (λ t. n < length t → slice_index t n ≢ blank) c.as_bytes.ensures.value c.blanks_end.ensures.stops)
+
+pub split_at-requires : goal.split_at-requires
+split_at-requires c =
+    indent-boundary c.args.line.now c.blanks_end.result c.utf8.line
+    (omega (arith, ap length c.as_bytes.ensures.value)) (blanks c)
+
+pub returns-clause-indent : goal.returns-clause-indent
+returns-clause-indent c = c.split_at.ensures.front
+    ∙ ap (λ n. take n c.args.line.now) (at (goal.at.returns-clause-indent c).After-blanks_end)
+
+pub returns-clause-rest : goal.returns-clause-rest
+returns-clause-rest c = c.split_at.ensures.back
+    ∙ ap (λ n. drop n c.args.line.now) (at (goal.at.returns-clause-rest c).After-blanks_end)

@@ -1,0 +1,41 @@
+-- A line whose gaps between words are widened up to a width.
+use Rattle.std.specs.Prelude.{ℕ, zero, suc, ◌-◌, ◌/◌, ◌%◌, ◌==◌, ◌||◌, List, [], ◌∷◌, ◌++◌, length, take, drop}
+use Rattle.std.specs.Prelude.{if◌then◌else◌}
+use Rattle.std.specs.List.{prefix_len}
+use Rattle.textwrap.specs.Columns.{blanks}
+use Rattle.textwrap_lines.specs.Paragraph.{Line, Built, Slice}
+use Rattle.textwrap_words.specs.Blanks.{blank, is_blank}
+use Rattle.textwrap_words.specs.Units.{text_width}
+use Rattle.textwrap_words.specs.Words.{WordText, words_of}
+
+-- how many blanks stand before the first word
+abbrev pub indent_len : List ℕ → ℕ
+indent_len line = prefix_len is_blank line
+
+-- the words of the line, each with the blanks after it
+abbrev pub line_words : List ℕ → List WordText
+line_words line = words_of (drop (indent_len line) line)
+
+-- the places between two words
+abbrev pub gaps : List ℕ → ℕ
+gaps line = length (line_words line) - 1
+
+-- words after the first, each after so many blanks more, and the first ones after one more
+abbrev pub widened_later : ℕ → ℕ → List WordText → List ℕ
+widened_later each extra [] = []
+widened_later each zero (w ∷ words) =
+    blanks each ++ (w.word ++ w.whitespace) ++ widened_later each zero words
+widened_later each (suc extra) (w ∷ words) =
+    blanks each ++ (blank ∷ []) ++ (w.word ++ w.whitespace) ++ widened_later each extra words
+
+abbrev pub widened : ℕ → ℕ → List WordText → List ℕ
+widened each extra [] = []
+widened each extra (w ∷ words) = (w.word ++ w.whitespace) ++ widened_later each extra words
+
+-- the spare columns are divided evenly among the gaps, and what is left over goes to the first ones
+abbrev pub justified : ℕ → List ℕ → Line
+justified width line =
+    let spare = width - text_width line in
+    if (spare == 0) || (gaps line == 0) then Slice line
+    else Built (take (indent_len line) line
+    ++ widened (spare / gaps line) (spare % gaps line) (line_words line))

@@ -1,0 +1,3 @@
+pub mod Alignment
+pub mod Justifying
+pub mod Laws

@@ -1,0 +1,86 @@
+//! A line whose gaps between words are widened up to a width.
+ghost use Rattle.std.specs.Prelude.{◌≡◌, ◌-◌, ◌++◌, length, drop, string_bytes, take, IfOk, OnOk};
+ghost use Rattle.textwrap_display.specs.Justifying.{gaps, indent_len, justified, widened};
+ghost use Rattle.textwrap_lines.specs.Paragraph.{line_view};
+ghost use Rattle.textwrap_words.specs.Words.{words_of};
+
+use std::alloc::{AllocError, Allocator};
+use std::borrow::CowStr;
+use textwrap::words::display_width;
+use textwrap_words::blanks::{blanks_end, push_blanks};
+use textwrap_words::inner::words_at_blanks;
+
+/// The line with its gaps between words widened, so that it is as wide as the width, which is in
+/// columns. Each gap gets as many blanks more, and the first ones get one more of what is left over.
+/// Blanks before the first word and after the last are no gaps, and stay.
+///
+/// In 14 columns `"a few words"` is `"a   few  words"`. A line without gaps stays as it is, and so
+/// does one that is as wide or wider; these are not copied.
+///
+/// # Errors
+/// Out of memory, also where the text would be longer than 64 bits can say.
+pub fn justify<'t, A: Allocator>(
+    alloc: A,
+    line: &'t str,
+    width: usize,
+) -> Result<CowStr<'t, A>, AllocError>
+    ensures { IfOk result (λ text. line_view text ≡ justified width line.now) }
+{
+    let (indent, rest) = split_indent(line);
+    let spare = width.saturating_sub(display_width(line));
+    let gaps = count_gaps::<A>(rest);
+    if spare == 0 || gaps == 0 {
+        return Ok(CowStr::Borrowed(line));
+    }
+    // Reserved before a blank is written, so that a text that fits no memory is refused at once.
+    let len = line.len().checked_add(spare).ok_or(AllocError)?;
+    let mut text = String::with_capacity(alloc, len)?;
+    text.push_str(indent)?;
+    push_widened(&mut text, rest, spare / gaps, spare % gaps)?;
+    Ok(CowStr::Owned(text))
+}
+
+/// The blanks before the first word, and what follows them.
+fn split_indent(line: &str) -> (&str, &str)
+    ensures indent { result.0.now ≡ take (indent_len line.now) line.now }
+    ensures rest { result.1.now ≡ drop (indent_len line.now) line.now }
+{
+    line.split_at(blanks_end(line.as_bytes(), 0))
+}
+
+/// How many gaps between words a text has that begins with a word.
+fn count_gaps<A: Allocator>(text: &str) -> usize
+    ensures { result ≡ length (words_of text.now) - 1 }
+{
+    words_at_blanks::<A>(text).count().saturating_sub(1)
+}
+
+/// Adds the words of a text, and blanks before all but the first: `each`, and one more before the
+/// first `extra` of them.
+fn push_widened<A: Allocator>(
+    text: &mut String<A>,
+    line: &str,
+    each: usize,
+    extra: usize,
+) -> Result<(), AllocError>
+    ensures { OnOk result (string_bytes text.new
+        ≡ string_bytes text.old ++ widened each extra (words_of line.now)) }
+{
+    let mut words = words_at_blanks::<A>(line);
+    let Some(first) = words.next() else {
+        return Ok(());
+    };
+    text.push_str(first.word)?;
+    text.push_str(first.whitespace)?;
+    let mut left = extra;
+    for word in words {
+        push_blanks(text, each)?;
+        if left > 0 {
+            text.push(' ')?;
+            left -= 1;
+        }
+        text.push_str(word.word)?;
+        text.push_str(word.whitespace)?;
+    }
+    Ok(())
+}

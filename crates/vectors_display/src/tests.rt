@@ -1,0 +1,2 @@
+//! What lines for display become. Each row has the rule that it shows.
+mod widening;

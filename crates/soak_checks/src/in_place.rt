@@ -28,8 +28,7 @@ impl<'c> InPlace<'c> {
     }
 }
 
-/// Checks the text that filling in place leaves. This is promised where no character takes more
-/// columns than bytes, and none does.
+/// Checks the text that filling in place leaves.
 pub fn check(case: &Case, found: &InPlace<'_>) -> Finding {
     let filled = found.filled.as_str();
     let only_blanks = only_blanks_change(case.text.as_str(), filled);

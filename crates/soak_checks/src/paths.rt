@@ -63,7 +63,6 @@ pub fn check_paragraphs(ways: &Ways<'_>) -> Finding {
 }
 
 /// Checks that without an initial indent the lines are the same where no paragraph is kept whole.
-/// This is promised where no character takes more columns than bytes, and none does.
 pub fn check_shortcut(case: &Case, ways: &Ways<'_>) -> Finding {
     if !case.settings.initial_indent.is_empty() {
         return Finding::PassedOver;

@@ -6,7 +6,7 @@ use Rattle.std.specs.List.{flat_map}
 use Rattle.std.specs.Str.{chars, trim_end}
 use Rattle.std.specs.Str.Lines.{lines}
 use Rattle.textwrap_words.specs.Blanks.{without_final_blanks}
-use Rattle.textwrap_words.specs.Units.{IsNarrow, text_width}
+use Rattle.textwrap_words.specs.Units.{text_width}
 use Rattle.textwrap_words.specs.WrapAlgorithms.{Algorithm, Greedy}
 use Rattle.textwrap_lines.specs.Filling.{IsFilled}
 use Rattle.textwrap_lines.specs.LineEnding.{line_feed, paragraphs_of}
@@ -34,7 +34,7 @@ pub use Rattle.textwrap_lines.specs.Laws.{ForBuiltIn, DividedLinesAreUnique}
 pub use Rattle.textwrap_lines.specs.Laws.{ParagraphLinesAreUnique, TextLinesAreUnique}
 pub use Rattle.textwrap_lines.specs.Laws.{FilledTextIsUnique, TextLinesAreWrapped, PointsAreCuts}
 pub use Rattle.textwrap_lines.specs.Laws.{EvenLinesKeepToWidth, PrintedLinesKeepToWidth}
-pub use Rattle.textwrap_lines.specs.Laws.{SplitPiecesTile, SplitWordsTile}
+pub use Rattle.textwrap_lines.specs.Laws.{SplitPiecesTile, SplitWordsTile, TextsAreNarrow}
 
 -- a text is filled in place in one way at each width
 abbrev pub FilledInPlaceIsUnique : Type 0
@@ -44,12 +44,11 @@ FilledInPlaceIsUnique = (width : ℕ) → IsUnique (IsFilledInPlace width)
 abbrev pub unbroken_at : ℕ → Settings
 unbroken_at width = record (settings_at width) { break_words = false }
 
--- a text of narrow characters that is filled in place has the lines that first fit gives of whole
--- words, but for the blanks that its lines end in
+-- a text that is filled in place has the lines that first fit gives of whole words, but for the
+-- blanks that its lines end in
 abbrev pub FilledInPlaceIsWrapped : Type 0
 FilledInPlaceIsWrapped =
-    (width : ℕ) (text filled : List ℕ) → IsUtf8 text → IsNarrow text
-    → IsFilledInPlace width text filled
+    (width : ℕ) (text filled : List ℕ) → IsUtf8 text → IsFilledInPlace width text filled
     → AreTextLines (unbroken_at width) (DividesAs Whole Greedy (unbroken_at width)) text
     (map (λ line. Slice (without_final_blanks line)) (paragraphs_of LF filled))
 

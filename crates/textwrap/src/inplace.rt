@@ -24,9 +24,7 @@ use textwrap_words::inner::words_at_blanks;
 /// blank is turned into the line feed. All other bytes stay, so the length stays too.
 ///
 /// The new lines, without the blanks at their ends, are those of `wrap` by first fit with words
-/// kept whole, if no character takes more columns than its bytes
-/// (`laws::filled_in_place_is_wrapped`). With the tables of the crate `unicode_width` this holds of
-/// every text: a test tries each character.
+/// kept whole (`laws::filled_in_place_is_wrapped`).
 ///
 /// Memory is needed for the offsets of the blanks that change.
 ///

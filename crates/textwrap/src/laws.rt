@@ -16,13 +16,13 @@ pub use textwrap_lines::laws::{
     broken_pieces_are_unique, broken_pieces_tile, chosen_division_is_unique,
     greedy_division_is_unique, lines_are_unique, paragraphs_are_unique, pieces_are_unique,
     split_pieces_tile, table_division_is_unique, table_has_least_costs, table_overflow_is_overflow,
-    text_lines_are_wrapped, units_are_unique, words_are_unique, words_at_are_unique,
+    text_lines_are_wrapped, texts_are_narrow, units_are_unique, words_are_unique,
+    words_at_are_unique,
 };
 
-/// At each width a text is filled in place in one way. Where no character of it takes more columns
-/// than its bytes, its new lines, each without the blanks at its end, are those that `wrap` gives
-/// of the old text by first fit, with the default settings but words neither split nor broken. All
-/// of these are borrowed.
+/// At each width a text is filled in place in one way. Its new lines, each without the blanks at its
+/// end, are those that `wrap` gives of the old text by first fit, with the default settings but words
+/// neither split nor broken. All of these are borrowed.
 pub fn filled_in_place_is_wrapped()
     ensures unique { FilledInPlaceIsUnique }
     ensures wrapped { FilledInPlaceIsWrapped }

@@ -1,11 +1,11 @@
 pub mod Cuts
 pub mod Directly
+pub mod Each
 pub mod EndingTexts
 pub mod Endings
 pub mod Groups
 pub mod Lines
 pub mod Lossless
-pub mod Narrow
 pub mod Paragraphs
 pub mod Printed
 pub mod PrintedLines

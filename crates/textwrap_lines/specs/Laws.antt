@@ -1,6 +1,5 @@
 -- What the laws say.
 use Rattle.std.specs.Prelude.{◌≡◌, ◌↔◌, ℕ, Bool, true, List, IsUtf8, Some}
-use Rattle.textwrap_words.specs.Units.{IsNarrow}
 use Rattle.textwrap_words.specs.Words.{WordText, AreWordsOf}
 use Rattle.textwrap_words.specs.WrapAlgorithms.{Algorithm, Greedy}
 use Rattle.textwrap_lines.specs.Filling.{IsFilled}
@@ -17,7 +16,7 @@ pub use Rattle.textwrap_words.specs.Laws.{BrokenTextsTile, BrokenPiecesTile, Bro
 pub use Rattle.textwrap_words.specs.Laws.{GreedyDivisionIsUnique, ChosenDivisionIsUnique}
 pub use Rattle.textwrap_words.specs.Laws.{TableDivisionIsUnique, TableOverflowIsOverflow}
 pub use Rattle.textwrap_words.specs.Laws.{TableHasLeastCosts, WordsAtAreUnique, PointsAreCuts}
-pub use Rattle.textwrap_words.specs.Laws.{SplitPiecesTile, SplitWordsTile}
+pub use Rattle.textwrap_words.specs.Laws.{SplitPiecesTile, SplitWordsTile, TextsAreNarrow}
 
 -- a text has its paragraphs in one way, the computed one
 abbrev pub ParagraphsAreUnique : Type 0
@@ -70,12 +69,12 @@ TextLinesAreWrapped =
     AreTextLines settings Divides text lines
     → IsWrapped settings (Some splitter) (Some algorithm) Divides text lines
 
--- where paragraphs are even, words broken, and characters narrow, by first fit the lines keep to
--- the width with their indents, if they can
+-- where paragraphs are even and words broken, by first fit the lines keep to the width with their
+-- indents, if they can
 abbrev pub EvenLinesKeepToWidth : Type 0
 EvenLinesKeepToWidth =
     (settings : Settings) (splitter : Splitter) (text : List ℕ) (lines : List Line) → IsUtf8 text
-    → settings.even_paragraphs ≡ true → settings.break_words ≡ true → IsNarrow text
+    → settings.even_paragraphs ≡ true → settings.break_words ≡ true
     → let Divides : Bool → List ℕ → List (List WordText) → Type 0 =
     DividesAs splitter Greedy settings in
     AreTextLines settings Divides text lines → LinesKeepToWidth settings Divides text lines

@@ -9,7 +9,7 @@ use Rattle.textwrap_words.specs.Breaking.{broken_words}
 use Rattle.textwrap_base.specs.Cost.{total_width}
 use Rattle.textwrap_base.specs.Division.{line_width, closed_width}
 use Rattle.textwrap_base.specs.Errors.{Fits64Bits}
-use Rattle.textwrap_words.specs.Units.{text_width, IsNarrow, column_characters}
+use Rattle.textwrap_words.specs.Units.{text_width, column_characters}
 use Rattle.textwrap_words.specs.Words.{WordText, sizes_of, tiled, word_of, words_of, AreWordsOf}
 use Rattle.textwrap_lines.specs.Options.{Settings, settings_view}
 use Rattle.textwrap_words.specs.WordSeparators.{MaySeparate}
@@ -239,12 +239,12 @@ OnlyCharactersPass widths number (line ∷ lines) =
     × OnlyCharactersPass widths (number + 1) lines
 
 -- no line of a divided paragraph but such a one passes the width that it was divided for; a whole
--- paragraph keeps to the width if no character of it takes more columns than its bytes
+-- paragraph keeps to the width
 abbrev pub KeepToWidths : Settings → Bool → List ℕ → List LineParts → Type 0
 KeepToWidths settings is_later paragraph parts =
     let lines = map (λ p. p.pieces) parts in
     MatchBool (is_whole settings is_later paragraph)
-    (IsNarrow paragraph → All (λ line. closed_width sizes_of line ≤ settings.width) lines)
+    (All (λ line. closed_width sizes_of line ≤ settings.width) lines)
     (OnlyCharactersPass (widths_of settings is_later) 0 lines)
 
 -- a line's indent, its pieces and the blanks between them keep to the width; or its indent alone

@@ -4,7 +4,7 @@ use Rattle.std.specs.Prelude.{◌++◌, ◌≤◌, ◌⊎◌, length, map, All, 
 use Rattle.std.specs.Io.{StartsWith}
 use Rattle.std.specs.List.{flat_map}
 use Rattle.textwrap_words.specs.Blanks.{is_blank}
-use Rattle.textwrap_words.specs.Units.{escape, units, IsWhole, IsNarrow, text_width}
+use Rattle.textwrap_words.specs.Units.{escape, units, IsWhole, text_width}
 use Rattle.textwrap_words.specs.Words.{WordText}
 use Rattle.textwrap_lines.specs.LineEnding.{paragraphs_of}
 use Rattle.textwrap_lines.specs.Options.{Settings, settings_view}
@@ -118,13 +118,12 @@ IsPrintedWithin width p =
     ⊎ IsOneCharacter p.pieces
 
 -- words are broken and line ends trimmed, each line is divided for what its own indent leaves of
--- the width, no character takes more columns than bytes, and indents are texts
+-- the width, and indents are texts
 pub record CanKeepToWidth (settings : Settings) (text : List ℕ) : Type 0 where
   pub breaks : settings.break_words ≡ true
   pub trims : settings.preserve_trailing_space ≡ false
   pub even : (settings.even_paragraphs ≡ true)
       ⊎ (paragraphs_of settings.line_ending text ≡ text ∷ [])
-  pub narrow : IsNarrow text
   pub initial : IsUtf8 settings.initial_indent
   pub subsequent : IsUtf8 settings.subsequent_indent
 

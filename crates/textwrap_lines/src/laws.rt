@@ -12,7 +12,8 @@ ghost use Rattle.textwrap_lines.specs.Laws.{PrintedLinesKeepToWidth};
 pub use textwrap_words::laws::{
     broken_pieces_are_unique, broken_pieces_tile, chosen_division_is_unique,
     greedy_division_is_unique, split_pieces_tile, table_division_is_unique, table_has_least_costs,
-    table_overflow_is_overflow, units_are_unique, words_are_unique, words_at_are_unique,
+    table_overflow_is_overflow, texts_are_narrow, units_are_unique, words_are_unique,
+    words_at_are_unique,
 };
 
 /// A text has its paragraphs in exactly one way: joined by the ending they are the text, and none
@@ -39,10 +40,9 @@ pub fn lines_are_unique()
 
 /// By built-in parts, the lines of a text, and so those that `fill` joins, are at least one, lose only
 /// blanks and add only indents. By first fit, where words are broken, they keep to their widths; where
-/// paragraphs are even and no character takes more columns than bytes, they keep to the width with
-/// their indents, if they can. So they do as they are printed, in the columns that `display_width`
-/// measures, if no blanks are preserved and neither an indent nor a piece cuts an escape sequence; for
-/// this a text of one paragraph need not be even.
+/// paragraphs are even, they keep to the width with their indents, if they can. So they do as they are
+/// printed, in the columns that `display_width` measures, if no blanks are preserved and neither an
+/// indent nor a piece cuts an escape sequence; for this a text of one paragraph need not be even.
 pub fn text_lines_are_wrapped()
     ensures wrapped { TextLinesAreWrapped }
     ensures even { EvenLinesKeepToWidth }

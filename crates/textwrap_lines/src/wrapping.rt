@@ -10,7 +10,6 @@ ghost use Rattle.textwrap_base.specs.Cost.{total_width};
 ghost use Rattle.textwrap_base.specs.Errors.{Fits64Bits, Overflowed};
 ghost use Rattle.textwrap_words.specs.WrapAlgorithms.{Algorithm, algorithm_view, Greedy, LeastCost};
 ghost use Rattle.textwrap_words.specs.WrapAlgorithms.{MayDivide};
-ghost use Rattle.textwrap_words.specs.Units.{IsNarrow};
 ghost use Rattle.textwrap_words.specs.Words.{WordText, word_view, sizes_of, tiled, Tiles};
 ghost use Rattle.textwrap_base.specs.declared.penalties.Penalties.{Penalties};
 ghost use Rattle.textwrap_words.specs.declared.wrap_algorithms.WrapAlgorithm.TheVariants.{FirstFit};
@@ -53,11 +52,11 @@ use textwrap_words::wrap_algorithms::WrapError;
 /// By built-in parts there is always at least one line. Only blanks at line ends are lost, and only
 /// the indents are added; a line with an indent is a text of its own. By first fit, where words are
 /// broken, no line of a divided paragraph passes the width that it was divided for, but one that is
-/// a single piece with one character that takes columns. With [`Options::even_paragraphs`], and if no
-/// character takes more columns than bytes, such a line keeps to the width of the options together
-/// with its indent, but for such a piece, and unless the indent alone passes the width. Blanks
-/// preserved at the end of a line do not count. So does the line as it is printed, if words stand
-/// between blanks, none are preserved and no escape sequence is cut.
+/// a single piece with one character that takes columns. With [`Options::even_paragraphs`] such a line
+/// keeps to the width of the options together with its indent, but for such a piece, and unless the
+/// indent alone passes the width. Blanks preserved at the end of a line do not count. So does the
+/// line as it is printed, if words stand between blanks, none are preserved and no escape sequence
+/// is cut.
 ///
 /// # Errors
 /// [`WrapError::Memory`] where memory runs out, or a function of the caller says so.
@@ -75,11 +74,10 @@ pub fn wrap<'t, A: Allocator + Copy>(
         (splitter_view options.entry.word_splitter) (algorithm_view options.entry.wrap_algorithm)
         (DividesBy options.entry) text.now (map line_view lines.items)) }
     // Where paragraphs are even, lines keep to the width with their indents, if they can: by first
-    // fit, where words are broken, the splitter is built in, and no character takes more columns
-    // than bytes.
+    // fit, where words are broken and the splitter is built in.
     ensures even { options.entry.even_paragraphs ≡ true → options.entry.wrap_algorithm ≡ FirstFit
         → splitter_view options.entry.word_splitter ≢ None → options.entry.break_words ≡ true
-        → IsNarrow text.now → IfOk result (λ lines. LinesKeepToWidth (settings_view options.entry)
+        → IfOk result (λ lines. LinesKeepToWidth (settings_view options.entry)
         (DividesBy options.entry) text.now (map line_view lines.items)) }
     // The same lines, where all parts are built in and can be named.
     ensures built_in { IfOk result (λ lines.
@@ -88,7 +86,7 @@ pub fn wrap<'t, A: Allocator + Copy>(
         (DividesAs splitter algorithm settings) text.now (map line_view lines.items)) }
     ensures built_in_even { IfOk result (λ lines. (settings : Settings) (splitter : Splitter)
         → HasParts options.entry settings splitter Greedy → settings.even_paragraphs ≡ true
-        → settings.break_words ≡ true → IsNarrow text.now → LinesKeepToWidth settings
+        → settings.break_words ≡ true → LinesKeepToWidth settings
         (DividesAs splitter Greedy settings) text.now (map line_view lines.items)) }
     // And so they do in the columns that they are printed in, if no blanks are preserved and neither
     // an indent nor a piece cuts an escape sequence; a text of one paragraph need not be even.
@@ -253,10 +251,9 @@ pub fn wrap_single_line<'t, A: Allocator + Copy>(
     // Overflow needs pieces that are together wider than 64 bits can say.
     ensures no_overflow { ¬ MayPass64Bits options.now line.now
         → IfErr result (λ error. error ≡ WrapError.Memory alloc_error) }
-    // By built-in parts, without an initial indent, and without characters that take more columns
-    // than bytes, these are lines of the slow path.
+    // By built-in parts, without an initial indent, these are lines of the slow path.
     ensures as_slow_path { HasBuiltInParts options.now → options.now.initial_indent.now ≡ []
-        → IsNarrow line.now → OnOk result ((parts : List LineParts)
+        → OnOk result ((parts : List LineParts)
         × AreDividedParts (settings_view options.now) (DividesBy options.now)
         (nat_lt 0 (length lines.old.items)) line.now parts
         × Adds lines.old.items lines.new.items parts) }

@@ -7,7 +7,6 @@ use Rattle.textwrap_base.proofs.Common.{true}
 use Rattle.textwrap_base.proofs.Cost.OneLine.{IsDividedBy-one_line}
 use Rattle.textwrap_base.proofs.Division.SameWidths.{line_width-one}
 use Rattle.textwrap_words.proofs.Common.{chunks, IsDividedBy, sizes_of, Whole, word_of, WordText}
-use Rattle.textwrap_words.proofs.Units.Narrow.{all-narrow}
 use Rattle.textwrap_words.proofs.Word.Measured.{HasNoPenalty}
 use Rattle.textwrap_lines.proofs.Common.{DividesAs, is_whole, pieces_of, Settings, widths_of}
 use Rattle.textwrap_lines.proofs.Paragraph.OneLine.{closed-pieces_of}
@@ -98,7 +97,7 @@ module _ (options : ReflowOptions) (prefix : List ℕ) (words : List (List ℕ))
       (and_parts (length prefix == 0) (nat_lt (length text) options.width) whole).1 in
       let closed : closed_width sizes_of all ≤ length text =
       subst (λ ws. closed_width sizes_of ws ≤ length text) pieces-are
-      (closed-pieces_of settings Whole text are.utf8 (all-narrow text)) in
+      (closed-pieces_of settings Whole text are.utf8) in
       IsDividedBy-one_line (algorithm_of options.algorithm) sizes_of (width ∷ []) all
       (All-weaker HasNoPenalty (λ w. length w.penalty ≡ 0) (λ w none. ap length none) all
       (no_penalties (pieces words)))

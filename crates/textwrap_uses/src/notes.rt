@@ -6,7 +6,6 @@ ghost use Rattle.textwrap.specs.Laws.{unbroken_at};
 ghost use Rattle.textwrap.specs.LineEnding.{paragraphs_of};
 ghost use Rattle.textwrap.specs.Paragraph.{DividesAs, Slice};
 ghost use Rattle.textwrap.specs.Text.{AreTextLines};
-ghost use Rattle.textwrap.specs.Units.{IsNarrow};
 ghost use Rattle.textwrap.specs.WordSplitters.{Whole};
 ghost use Rattle.textwrap.specs.WrapAlgorithms.{Greedy};
 ghost use Rattle.textwrap.specs.declared.LineEnding.TheVariants.{LF};
@@ -19,10 +18,9 @@ use textwrap::laws::filled_in_place_is_wrapped;
 /// `milk and` and `bread`.
 pub fn fill_note(alloc: Global, note: &mut String, width: usize) -> Result<(), AllocError>
     // Without the blanks at their ends, the new lines are those that `wrap` gives of the old note by
-    // first fit, with words kept whole, where no character takes more columns than its bytes.
-    ensures wrapped { OnOk result (IsNarrow (string_bytes note.old)
-        → AreTextLines (unbroken_at width) (DividesAs Whole Greedy (unbroken_at width))
-        (string_bytes note.old)
+    // first fit, with words kept whole.
+    ensures wrapped { OnOk result (AreTextLines (unbroken_at width)
+        (DividesAs Whole Greedy (unbroken_at width)) (string_bytes note.old)
         (map (λ line. Slice (without_final_blanks line))
         (paragraphs_of LF (string_bytes note.new)))) }
     ensures only_blanks { OnlyBlanksChange (string_bytes note.old) (string_bytes note.new) }

@@ -3,7 +3,7 @@ use Rattle.std.specs.Prelude.{◌≡◌, ◌≢◌, ◌↔◌, ℕ, ◌<◌, Lis
 use Rattle.std.specs.List.{flat_map}
 use Rattle.textwrap_words.specs.Breaking.{AreBrokenPieces, broken_pieces, broken_words}
 use Rattle.textwrap_words.specs.Cuts.{AreCuts}
-use Rattle.textwrap_words.specs.Units.{TextUnit, IsInUnits, units}
+use Rattle.textwrap_words.specs.Units.{TextUnit, IsInUnits, IsNarrow, units}
 use Rattle.textwrap_words.specs.WordOffsets.{AreWordsAt, words_at}
 use Rattle.textwrap_words.specs.WordSplitters.{Splitter, points_of, split_pieces, split_words}
 use Rattle.textwrap_words.specs.Words.{WordText, tile_of, tiled, AreWordsOf, words_of}
@@ -14,6 +14,10 @@ pub use Rattle.textwrap_base.specs.Laws.{TableHasLeastCosts}
 -- a text has one list of units, the computed one
 abbrev pub UnitsAreUnique : Type 0
 UnitsAreUnique = (cs : List ℕ) (us : List TextUnit) → IsInUnits cs us ↔ (us ≡ units cs)
+
+-- no character takes more columns than its bytes
+abbrev pub TextsAreNarrow : Type 0
+TextsAreNarrow = (text : List ℕ) → IsNarrow text
 
 -- a line has one list of words, the computed one
 abbrev pub WordsAreUnique : Type 0

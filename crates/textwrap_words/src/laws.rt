@@ -6,7 +6,7 @@
 ghost use Rattle.textwrap_words.specs.Laws.{UnitsAreUnique, WordsAreUnique, WordsAtAreUnique};
 ghost use Rattle.textwrap_words.specs.Laws.{BrokenPiecesAreUnique, BrokenTextsTile};
 ghost use Rattle.textwrap_words.specs.Laws.{BrokenPiecesTile, BrokenWordsTile, PointsAreCuts};
-ghost use Rattle.textwrap_words.specs.Laws.{SplitPiecesTile, SplitWordsTile};
+ghost use Rattle.textwrap_words.specs.Laws.{SplitPiecesTile, SplitWordsTile, TextsAreNarrow};
 
 pub use textwrap_base::laws::{
     chosen_division_is_unique, greedy_division_is_unique, table_division_is_unique,
@@ -17,6 +17,11 @@ pub use textwrap_base::laws::{
 /// without an end. It is what `units` gives.
 pub fn units_are_unique()
     ensures { UnitsAreUnique }
+{}
+
+/// No character takes more columns than its bytes in UTF-8.
+pub fn texts_are_narrow()
+    ensures { TextsAreNarrow }
 {}
 
 /// A line has exactly one list of words: it is cut between a blank and a byte that is none, and

@@ -3,7 +3,7 @@ use Rattle.textwrap_base.proofs.Common.{◌≡◌, ℕ, ◌<◌, ◌≤◌, Bool
 use Rattle.textwrap_base.proofs.Common.{◌∷◌, All, length, map, refl, arith, flat_map, IsUtf8}
 use Rattle.textwrap_base.proofs.Common.{and_parts, ltb-true, map-append, All-head, All-tail}
 use Rattle.textwrap_base.proofs.Common.{All-map, line_width, closed_width, IsGreedy, rules}
-use Rattle.textwrap_words.proofs.Common.{IsNarrow, WordText, sizes_of, word_of, words_of, chunks}
+use Rattle.textwrap_words.proofs.Common.{WordText, sizes_of, word_of, words_of, chunks}
 use Rattle.textwrap_words.proofs.Common.{Greedy, Whole}
 use Rattle.textwrap_lines.proofs.Common.{paragraphs_of, LineParts, line_from, is_whole, parts_of}
 use Rattle.textwrap_lines.proofs.Common.{parts_from, pieces_of, widths_of, DividesAs}
@@ -22,7 +22,6 @@ use Rattle.textwrap_lines.proofs.Paragraph.OneLine.{closed-pieces_of}
 use Rattle.textwrap_lines.proofs.PrintableTexts.Bridge.{split-whole}
 use Rattle.textwrap_lines.proofs.Text.EndingTexts.{paragraphs_of-utf8}
 use Rattle.textwrap_lines.proofs.Paragraph.LinesApart.{IsBroken-greedy}
-use Rattle.textwrap_lines.proofs.Text.Narrow.{paragraphs_of-narrow}
 use Rattle.textwrap_base.proofs.Division.SameWidths.{IsGreedy-same, line_width-one, line_width-two}
 use Rattle.textwrap.proofs.Text.InPlaceParts.{trimmed_line, lines_from-broken}
 use Rattle.textwrap.proofs.Text.InPlaceParagraphs.{filled-paragraphs}
@@ -48,7 +47,7 @@ Divides width =
     DividesAs Whole Greedy (unbroken_at width)
 
 module _ (width : ℕ) (is_later : Bool) (part : List ℕ) (lines : List (List WordText))
-    (utf8 : IsUtf8 part) (narrow : IsNarrow part)
+    (utf8 : IsUtf8 part)
     (greedy : IsGreedy sizes_of (width ∷ []) (words_of part) lines) where
   -- a part with fewer bytes than the width has columns is one line
   one_line : is_whole (unbroken_at width) is_later part ≡ true → lines ≡ words_of part ∷ []
@@ -56,7 +55,7 @@ module _ (width : ℕ) (is_later : Bool) (part : List ℕ) (lines : List (List W
       let shorter : length part < width = search (rules, ltb-true, and_parts, nat_lt) in
       let closed : closed_width sizes_of (words_of part) ≤ length part =
       rw (pieces_of-unbroken width part)
-      at (closed-pieces_of (unbroken_at width) Whole part utf8 narrow) in
+      at (closed-pieces_of (unbroken_at width) Whole part utf8) in
       let none : All (λ w. (sizes_of w).penalty ≡ 0) (words_of part) = search (rules, All-map) in
       let room : closed_width sizes_of (words_of part) ≤ line_width (width ∷ []) 0 =
       omega (arith, shorter, closed) in
@@ -98,30 +97,27 @@ record HasGroupsOf (width : ℕ) (is_later : Bool) (parts lines : List (List ℕ
   lines_are : map line_from (flat groups) ≡ map trimmed_line lines
 
 groups_of : (width : ℕ) (is_later : Bool) (parts : List (List ℕ))
-    (divisions : List (List (List WordText))) → All IsUtf8 parts → All IsNarrow parts
+    (divisions : List (List (List WordText))) → All IsUtf8 parts
     → AreDividedAt width parts divisions
     → HasGroupsOf width is_later parts (flat_map broken_lines divisions)
-groups_of width is_later [] divisions utf8 narrow none = search (rules, trimmed_line)
-groups_of width is_later (part ∷ parts) [] utf8 narrow divided = absurd divided
-groups_of width is_later (part ∷ parts) (lines ∷ divisions) utf8 narrow (greedy, divided) =
+groups_of width is_later [] divisions utf8 none = search (rules, trimmed_line)
+groups_of width is_later (part ∷ parts) [] utf8 divided = absurd divided
+groups_of width is_later (part ∷ parts) (lines ∷ divisions) utf8 (greedy, divided) =
     let first = has_lines width is_later part lines (All-head IsUtf8 part parts utf8)
-    (All-head IsNarrow part parts narrow) greedy
-    (is_whole (unbroken_at width) is_later part) refl in
+    greedy (is_whole (unbroken_at width) is_later part) refl in
     let rest = groups_of width (is_later || nat_lt 0 (length first.parts)) parts divisions
-    (All-tail IsUtf8 part parts utf8) (All-tail IsNarrow part parts narrow) divided in
+    (All-tail IsUtf8 part parts utf8) divided in
     record {
       groups = first.parts ∷ rest.groups;
       are = (first.are, rest.are);
       lines_are = simp (map-append, first.lines_are, rest.lines_are);
     }
 
-pub filled-wrapped : (width : ℕ) (text filled : List ℕ) → IsUtf8 text → IsNarrow text
-    → IsFilledInPlace width text filled
+pub filled-wrapped : (width : ℕ) (text filled : List ℕ) → IsUtf8 text → IsFilledInPlace width text filled
     → AreTextLines (unbroken_at width) (Divides width) text
     (map trimmed_line (paragraphs_of LF filled))
-filled-wrapped width text filled utf8 narrow (divisions, divided, is) =
+filled-wrapped width text filled utf8 (divisions, divided, is) =
     let parts = paragraphs_of LF text in
     let all = paragraphs_of-utf8 LF text utf8 in
-    let found = groups_of width false parts divisions all
-    (paragraphs_of-narrow LF text utf8 narrow) divided in
+    let found = groups_of width false parts divisions all divided in
     search (rules, trimmed_line, filled-paragraphs)

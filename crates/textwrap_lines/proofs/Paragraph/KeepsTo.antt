@@ -2,7 +2,7 @@
 use Rattle.textwrap_base.proofs.Common.{◌≡◌, ℕ, take, ◌<◌, ◌≤◌, Bool, true, false, MatchBool, List}
 use Rattle.textwrap_base.proofs.Common.{[], ◌∷◌, All, length, map, refl, sym, ap, ◌∙◌, subst, arith}
 use Rattle.textwrap_base.proofs.Common.{IsUtf8, length-map, All-nil, All-cons, closed_width, rules}
-use Rattle.textwrap_words.proofs.Common.{IsNarrow, WordText, sizes_of, word_of, Greedy, IsDividedBy}
+use Rattle.textwrap_words.proofs.Common.{WordText, sizes_of, word_of, Greedy, IsDividedBy}
 use Rattle.textwrap_words.proofs.Common.{ends_in_hyphen, AreCuts}
 use Rattle.textwrap_lines.proofs.Common.{LineParts, parts_from, is_whole, widths_of, IsDividedInto}
 use Rattle.textwrap_lines.proofs.Common.{AreIndented, AreParagraphParts, OnlyCharactersPass}
@@ -72,7 +72,7 @@ module _ (settings : Settings) (Words : List ℕ → List WordText → Type 0)
         → AreParts is_later paragraph parts → KeepToWidths settings is_later paragraph parts
     paragraph-keeps hyphens greedy breaks is_later paragraph parts utf8 (division, laid_out, is) =
         subst (λ lines. MatchBool (is_whole settings is_later paragraph)
-        (IsNarrow paragraph → All (λ line. closed_width sizes_of line ≤ settings.width) lines)
+        (All (λ line. closed_width sizes_of line ≤ settings.width) lines)
         (OnlyCharactersPass (widths_of settings is_later) 0 lines))
         (sym (ap (map (λ p. p.pieces)) is ∙ parts_from-pieces settings is_later division))
         (by_case (is_whole settings is_later paragraph) refl laid_out)
@@ -81,10 +81,9 @@ module _ (settings : Settings) (Words : List ℕ → List WordText → Type 0)
             → MatchBool whole (division ≡ (word_of paragraph ∷ []) ∷ [])
             (Divides is_later paragraph division)
             → MatchBool whole
-            (IsNarrow paragraph
-            → All (λ line. closed_width sizes_of line ≤ settings.width) division)
+            (All (λ line. closed_width sizes_of line ≤ settings.width) division)
             (OnlyCharactersPass (widths_of settings is_later) 0 division)
-        by_case true whole one = λ narrow.
+        by_case true whole one =
             subst (All (λ line. closed_width sizes_of line ≤ settings.width)) (sym one)
             (search (rules, arith, All-cons, whole_line-within, All-nil))
         by_case false whole (pieces, are, divided) =
@@ -92,10 +91,6 @@ module _ (settings : Settings) (Words : List ℕ → List WordText → Type 0)
             breaks (pieces, are, greedy (widths_of settings is_later) pieces division divided)
 
     -- where later paragraphs are even
-    abbrev pub EvenIfNarrow : Bool → List ℕ → List LineParts → Type 0
-    EvenIfNarrow is_later paragraph parts =
-        IsNarrow paragraph → All (KeepsToWidth settings.width) parts
-
     pub paragraph-even : ((text points : List ℕ) → Points text points
         → All (λ p. ends_in_hyphen (take p text) ≡ true) points)
         → ((widths : List ℕ) (pieces : List WordText) (division : List (List WordText))
@@ -103,9 +98,9 @@ module _ (settings : Settings) (Words : List ℕ → List WordText → Type 0)
         → settings.break_words ≡ true → (is_later : Bool)
         → first_width settings is_later ≡ own_width settings is_later
         → (paragraph : List ℕ) (parts : List LineParts) → IsUtf8 paragraph
-        → AreParts is_later paragraph parts → EvenIfNarrow is_later paragraph parts
+        → AreParts is_later paragraph parts → All (KeepsToWidth settings.width) parts
     paragraph-even hyphens greedy breaks is_later own paragraph parts utf8
-        (division, laid_out, is) narrow =
+        (division, laid_out, is) =
         subst (All (KeepsToWidth settings.width)) (sym is)
         (by_case (is_whole settings is_later paragraph) refl laid_out)
       where

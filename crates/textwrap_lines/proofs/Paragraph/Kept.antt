@@ -1,8 +1,8 @@
 -- What the lines of a division keep to: indents, pieces, hyphens.
 use Rattle.textwrap_base.proofs.Common.{◌≡◌, ℕ, ◌≤◌, Bool, true, ◌==◌, nat_lt, List, [], ◌∷◌, All}
-use Rattle.textwrap_base.proofs.Common.{length, map, refl, sym, subst, arith, IsUtf8, and_parts}
+use Rattle.textwrap_base.proofs.Common.{length, map, refl, arith, IsUtf8, and_parts}
 use Rattle.textwrap_base.proofs.Common.{ltb-true, All-nil, All-cons, closed_width, rules}
-use Rattle.textwrap_words.proofs.Common.{IsNarrow, WordText, sizes_of, word_of}
+use Rattle.textwrap_words.proofs.Common.{WordText, sizes_of, word_of}
 use Rattle.textwrap_lines.proofs.Common.{LineParts, indent_of, parts_of, parts_from, is_whole}
 use Rattle.textwrap_lines.proofs.Common.{AreIndented, Settings}
 use Rattle.textwrap_base.proofs.Lists.Parts.{flat, all-left, all-right}
@@ -55,9 +55,9 @@ parts_from-no_hyphen settings is_later (line ∷ lines) all =
     (parts_from-no_hyphen settings true lines (all-right HasNoPenalty line (flat lines) all))
 
 pub whole_line-within : (settings : Settings) (is_later : Bool) (paragraph : List ℕ)
-    → IsUtf8 paragraph → is_whole settings is_later paragraph ≡ true → IsNarrow paragraph
+    → IsUtf8 paragraph → is_whole settings is_later paragraph ≡ true
     → closed_width sizes_of (word_of paragraph ∷ []) ≤ settings.width
-whole_line-within settings is_later paragraph utf8 whole narrow =
+whole_line-within settings is_later paragraph utf8 whole =
     let tests = and_parts (length (indent_of settings is_later) == 0)
     (nat_lt (length paragraph) settings.width) whole in
     let shorter = ltb-true (length paragraph) settings.width tests.1 in
@@ -68,5 +68,5 @@ whole_line-within settings is_later paragraph utf8 whole narrow =
     All-cons HasNoPenalty (word_of paragraph) [] refl (All-nil HasNoPenalty) in
     let within : closed_width sizes_of line ≤ length paragraph =
     rw (tiled-word_of paragraph) at (closed_width-narrow line
-    (narrow_words line measured none (subst IsNarrow (sym (tiled-word_of paragraph)) narrow))) in
+    (narrow_words line measured none)) in
     omega (arith, within, shorter)

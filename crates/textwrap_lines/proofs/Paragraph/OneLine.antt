@@ -1,11 +1,12 @@
--- A paragraph of narrow characters closes within its bytes, so its pieces are one line.
-use Rattle.textwrap_base.proofs.Common.{◌≡◌, ℕ, ◌≤◌, Bool, true, List, [], ◌∷◌, ◌++◌, All, length}
-use Rattle.textwrap_base.proofs.Common.{sym, ap, ◌∙◌, subst, append_assoc, IsUtf8, eqb-true}
-use Rattle.textwrap_base.proofs.Common.{All-nil, All-cons, All-head, All-tail, IsUtf8-from_ascii}
+-- A paragraph closes within its bytes, so its pieces are one line.
+use Rattle.textwrap_base.proofs.Common.{◌≡◌, ℕ, ◌≤◌, Bool, true, List, [], ◌∷◌, All, length}
+use Rattle.textwrap_base.proofs.Common.{sym, ap, ◌∙◌, subst, IsUtf8, eqb-true}
+use Rattle.textwrap_base.proofs.Common.{get_or, IsUtf8-from_ascii}
 use Rattle.textwrap_base.proofs.Common.{closed_width, rules}
-use Rattle.textwrap_words.proofs.Common.{IsNarrow, WordText, sizes_of, tiled, word_of, Splitter}
+use Rattle.textwrap_words.proofs.Common.{WordText, sizes_of, word_of, Splitter}
 use Rattle.textwrap_lines.proofs.Common.{Settings, Slice, line_from, indent_of, parts_of, pieces_of}
 use Rattle.textwrap_lines.proofs.Common.{is_whole}
+use Rattle.textwrap_words.proofs.Units.Narrow.{all-narrow}
 use Rattle.textwrap_words.proofs.Units.Widths.{text_width-narrow}
 use Rattle.textwrap_words.proofs.Word.Texts.{AreBlanks}
 use Rattle.textwrap_words.proofs.Word.Measured.{IsMeasured, HasNoPenalty}
@@ -14,35 +15,29 @@ use Rattle.textwrap_lines.proofs.Paragraph.LastBlanks.{covered-pieces_of}
 use Rattle.textwrap_lines.proofs.Paragraph.WholeLine.{line_from-pieces, line_from-whole}
 use Rattle.textwrap_lines.proofs.Paragraph.Pieces.{pieces_of-measured, pieces_of-no_penalty}
 use Rattle.textwrap_lines.proofs.Paragraph.Pieces.{pieces_of-tile}
-use Rattle.textwrap_lines.proofs.Text.Narrow.{narrow_parts}
 use Rattle.std.proofs.lemmas.Str.Ascii.{IsAscii-from_all}
 
 pub blanks-utf8 : (bytes : List ℕ) → AreBlanks bytes → IsUtf8 bytes
 blanks-utf8 bytes blanks = search (rules, IsUtf8-from_ascii, IsAscii-from_all, eqb-true)
 
 pub narrow_words : (ws : List WordText) → All IsMeasured ws → All HasNoPenalty ws
-    → IsNarrow (tiled ws)
     → All IsNarrowWord ws
-narrow_words [] measured none narrow = All-nil IsNarrowWord
-narrow_words (w ∷ ws) measured none narrow =
-    let here = All-head IsMeasured w ws measured in
-    let (word, after) = narrow_parts w.word (w.whitespace ++ tiled ws) here.utf8
-    (subst IsNarrow (append_assoc w.word w.whitespace (tiled ws)) narrow) in
-    let (blanks, rest) = narrow_parts w.whitespace (tiled ws)
-    (blanks-utf8 w.whitespace here.ending.blanks) after in
-    All-cons IsNarrowWord w ws
-    (search (rules, text_width-narrow, All-head))
-    (narrow_words ws (All-tail IsMeasured w ws measured) (All-tail HasNoPenalty w ws none) rest)
+narrow_words ws measured none = λ k d within.
+    let w = get_or ws k d in
+    let here = measured k d within in
+    record {
+      width = rw here.width (text_width-narrow w.word here.utf8 (all-narrow w.word));
+      penalty = none k d within;
+    }
 
 pub closed-pieces_of : (settings : Settings) (splitter : Splitter)
-    (paragraph : List ℕ) → IsUtf8 paragraph → IsNarrow paragraph
+    (paragraph : List ℕ) → IsUtf8 paragraph
     → closed_width sizes_of (pieces_of settings splitter paragraph) ≤ length paragraph
-closed-pieces_of settings splitter paragraph utf8 narrow =
+closed-pieces_of settings splitter paragraph utf8 =
     let pieces = pieces_of settings splitter paragraph in
     let tile = pieces_of-tile settings splitter paragraph utf8 in
     let words = narrow_words pieces (pieces_of-measured settings splitter paragraph utf8)
-    (pieces_of-no_penalty settings splitter paragraph utf8)
-    (subst IsNarrow (sym tile) narrow) in
+    (pieces_of-no_penalty settings splitter paragraph utf8) in
     subst (λ l. closed_width sizes_of pieces ≤ length l) tile (closed_width-narrow pieces words)
 
 pub same_line : (settings : Settings) (splitter : Splitter)

@@ -1,5 +1,5 @@
 -- Lemmas on the shortcut: a paragraph that is a line as a whole is that line too where its pieces
--- are divided, if none of its characters takes more columns than its bytes.
+-- are divided.
 use Rattle.textwrap_words.specs.declared.word_separators.WordSeparator as separators
 use Rattle.textwrap_words.specs.declared.word_splitters.WordSplitter as splitters
 use Rattle.textwrap_words.specs.declared.wrap_algorithms.WrapAlgorithm as algorithms
@@ -7,7 +7,7 @@ use Rattle.textwrap_base.proofs.Common.{◌≡◌, ◌≢◌, ℕ, ◌≤◌, Bo
 use Rattle.textwrap_base.proofs.Common.{MatchBool, List, [], ◌∷◌, length, map, refl, sym, ap}
 use Rattle.textwrap_base.proofs.Common.{subst, IsUtf8, and_parts, ltb-true, All-weaker}
 use Rattle.textwrap_base.proofs.Common.{closed_width, None, Option, Some, cond_both, rules}
-use Rattle.textwrap_words.proofs.Common.{IsNarrow, WordText, sizes_of, word_of, MaySeparate}
+use Rattle.textwrap_words.proofs.Common.{WordText, sizes_of, word_of, MaySeparate}
 use Rattle.textwrap_words.proofs.Common.{Splitter, MaySplit, splitter_view, MayDivide}
 use Rattle.textwrap_words.proofs.Common.{algorithm_view, Algorithm}
 use Rattle.textwrap_lines.proofs.Common.{Settings, Line, LineParts, line_from, indent_of, parts_of}
@@ -37,11 +37,11 @@ module _ (settings : Settings) (algorithm : Algorithm) (splitter : Splitter) whe
       paragraph parts × (map line_from parts ≡ lines)
 
   whole-divided : (is_later : Bool) (paragraph : List ℕ) → IsUtf8 paragraph
-      → settings.initial_indent ≡ [] → IsNarrow paragraph
+      → settings.initial_indent ≡ []
       → is_whole settings is_later paragraph ≡ true
       → HasDividedLines is_later paragraph
       (line_from (parts_of settings is_later (word_of paragraph ∷ [])) ∷ [])
-  whole-divided is_later paragraph utf8 unindented narrow whole =
+  whole-divided is_later paragraph utf8 unindented whole =
       let pieces = pieces_of settings splitter paragraph in
       let tests = and_parts (length (indent_of settings is_later) == 0)
       (nat_lt (length paragraph) settings.width) whole in
@@ -67,10 +67,10 @@ module _ (settings : Settings) (algorithm : Algorithm) (splitter : Splitter) whe
       )
 
   pub paragraph-divided : (is_later : Bool) (paragraph : List ℕ) (parts : List LineParts)
-      → IsUtf8 paragraph → settings.initial_indent ≡ [] → IsNarrow paragraph
+      → IsUtf8 paragraph → settings.initial_indent ≡ []
       → AreParagraphParts settings (DividesAs splitter algorithm settings) is_later paragraph parts
       → HasDividedLines is_later paragraph (map line_from parts)
-  paragraph-divided is_later paragraph parts utf8 unindented narrow (division, laid_out, is) =
+  paragraph-divided is_later paragraph parts utf8 unindented (division, laid_out, is) =
       by_case (is_whole settings is_later paragraph) refl laid_out
     where
       by_case : (whole : Bool) → is_whole settings is_later paragraph ≡ whole
@@ -79,13 +79,13 @@ module _ (settings : Settings) (algorithm : Algorithm) (splitter : Splitter) whe
           → HasDividedLines is_later paragraph (map line_from parts)
       by_case true is_true one =
           subst (HasDividedLines is_later paragraph)
-          (cc (one, is)) (whole-divided is_later paragraph utf8 unindented narrow is_true)
+          (cc (one, is)) (whole-divided is_later paragraph utf8 unindented is_true)
       by_case false is_false divided = (parts, (division, divided, is), refl)
 
 -- the lines of a paragraph are those of a division too, where there are no indents
 abbrev IsDividedToo : Settings → (Bool → List ℕ → List (List WordText) → Type 0) → Type 0
 IsDividedToo settings Divides = (is_later : Bool) (paragraph : List ℕ) (parts : List LineParts)
-    → IsUtf8 paragraph → settings.initial_indent ≡ [] → IsNarrow paragraph
+    → IsUtf8 paragraph → settings.initial_indent ≡ []
     → AreParagraphParts settings Divides is_later paragraph parts
     → (others : List LineParts) × AreDividedParts settings Divides is_later paragraph others
     × (map line_from others ≡ map line_from parts)

@@ -8,7 +8,7 @@ use Rattle.textwrap_base.proofs.Common.{All-nil, All-cons}
 use Rattle.textwrap_base.proofs.Common.{All-head}
 use Rattle.textwrap_base.proofs.Division.Map.{IsDividedBy-whole}
 use Rattle.textwrap_base.proofs.Lists.Parts.{flat}
-use Rattle.textwrap_words.proofs.Common.{IsNarrow, WordText, sizes_of, tiled, word_of}
+use Rattle.textwrap_words.proofs.Common.{WordText, sizes_of, tiled, word_of}
 use Rattle.textwrap_words.proofs.Common.{Greedy, Splitter, AreWordsOf, ArePoints}
 use Rattle.textwrap_words.proofs.Common.{IsDividedBy}
 use Rattle.textwrap_words.specs.Units.{escape}
@@ -28,7 +28,7 @@ use Rattle.textwrap_lines.proofs.Paragraph.Pieces.{pieces_of-no_penalty, pieces_
 use Rattle.textwrap_lines.proofs.Paragraph.WholeLine.{laid_out-cases}
 use Rattle.textwrap_lines.proofs.Text.EndingTexts.{paragraphs_of-utf8}
 use Rattle.textwrap_lines.proofs.Text.Groups.{groups-all, groups-map}
-use Rattle.textwrap_lines.proofs.Text.Narrow.{paragraphs_of-each, paragraphs_of-narrow}
+use Rattle.textwrap_lines.proofs.Text.Each.{paragraphs_of-each}
 use Rattle.textwrap_lines.proofs.Text.PrintedLines.{PrintsAsMeasured, lines-printed, words-whole, lines-whole}
 
 -- ---- the lines of a text, by first fit and a built-in splitter
@@ -87,9 +87,9 @@ module _ (settings : Settings) (splitter : Splitter) where
   module _ (text : List ℕ) (can : CanKeepToWidth settings text) where
     paragraph-within : (is_later : Bool)
         → first_width settings is_later ≡ own_width settings is_later
-        → (paragraph : List ℕ) (parts : List LineParts) → IsUtf8 paragraph × IsNarrow paragraph
+        → (paragraph : List ℕ) (parts : List LineParts) → IsUtf8 paragraph
         → AreParts is_later paragraph parts → All Within parts
-    paragraph-within is_later own paragraph parts (utf8, narrow) (division, laid_out, is) =
+    paragraph-within is_later own paragraph parts utf8 (division, laid_out, is) =
         let pieces = division-pieces is_later paragraph division utf8 laid_out in
         let printed = subst (All PrintsAsMeasured) (sym is)
         (search (rules, arith, lines-printed)) in
@@ -100,28 +100,28 @@ module _ (settings : Settings) (splitter : Splitter) where
           search (rules, arith, append-nil, IsDividedBy-whole),
         ))
         (ArePoints-hyphens splitter) (λ widths pieces division divided. divided) can.breaks
-        is_later own paragraph parts utf8 (division, laid_out, is) narrow in
+        is_later own paragraph parts utf8 (division, laid_out, is) in
         λ k d lt. within (get_or parts k d) (keeps k d lt) (printed k d lt)
 
     -- one paragraph, or even ones
     groups-within : (paragraphs : List (List ℕ)) (groups : List (List LineParts))
-        → All (λ p. IsUtf8 p × IsNarrow p) paragraphs
+        → All IsUtf8 paragraphs
         → (settings.even_paragraphs ≡ true) ⊎ (paragraphs ≡ text ∷ [])
         → AreGroups AreParts false paragraphs groups → All Within (flat groups)
     groups-within paragraphs groups all even are = elim even [
       | inl even ↦ groups-all Within false paragraphs groups
           (search (rules, arith, groups-map, paragraph-within, first_width-own))
-      | inr one ↦ one_group groups (subst (All (λ p. IsUtf8 p × IsNarrow p)) one all)
+      | inr one ↦ one_group groups (subst (All IsUtf8) one all)
           (subst (λ ps. AreGroups AreParts false ps groups) one are)
     ]
       where
         one_group : (groups : List (List LineParts))
-            → All (λ p. IsUtf8 p × IsNarrow p) (text ∷ [])
+            → All IsUtf8 (text ∷ [])
             → AreGroups AreParts false (text ∷ []) groups → All Within (flat groups)
         one_group [] all are = absurd are
         one_group (parts ∷ groups) all (here, none) =
             rw (none, append-nil) (paragraph-within false (first_width-first settings) text parts
-            (All-head (λ p. IsUtf8 p × IsNarrow p) text [] all) here)
+            (All-head IsUtf8 text [] all) here)
 
 pub ArePrintedWithin-from : (settings : Settings) (splitter : Splitter) (text : List ℕ)
     (lines : List Line) → IsUtf8 text → CanKeepToWidth settings text
@@ -131,7 +131,6 @@ ArePrintedWithin-from settings splitter text lines utf8 can are =
     let ending = settings.line_ending in
     let paragraphs = paragraphs_of ending text in
     let all = paragraphs_of-utf8 ending text utf8 in
-    let narrow = paragraphs_of-narrow ending text utf8 can.narrow in
     record {
       are = are;
       within = search (rules, arith, groups-within);

@@ -21,7 +21,7 @@ use Rattle.textwrap_lines.proofs.Common.{assembled_line}
 use Rattle.textwrap_lines.proofs.Common.{HasWholeSequences, HasNoEscape, CutsNoSequence}
 use Rattle.textwrap_lines.proofs.Paragraph.OneLine.{blanks-utf8}
 use Rattle.textwrap_lines.proofs.Paragraph.WholeLine.{assembled-parts, bytes-assembled}
-use Rattle.textwrap_lines.proofs.Text.Narrow.{each_part}
+use Rattle.textwrap_lines.proofs.Text.Each.{each_part}
 use Rattle.textwrap_lines.proofs.Text.WholeSequences.{units-plain, text_width-append}
 
 -- ---- a line

@@ -2,7 +2,7 @@
 use Rattle.textwrap_base.proofs.Common.{◌≡◌, ◌≢◌, ℕ, take, ◌<◌, Bool, true, false, List, All, rules}
 use Rattle.textwrap_base.proofs.Common.{length, sym, ap, ◌∙◌, arith, StartsWith, Option, Some, None}
 use Rattle.textwrap_base.proofs.Common.{IsUtf8, starts_with_of_append, length-map}
-use Rattle.textwrap_words.proofs.Common.{IsNarrow, WordText, sizes_of, tiled, Algorithm, Greedy}
+use Rattle.textwrap_words.proofs.Common.{WordText, sizes_of, tiled, Algorithm, Greedy}
 use Rattle.textwrap_words.proofs.Common.{IsDividedBy, Splitter, ends_in_hyphen, AreCuts}
 use Rattle.textwrap_lines.proofs.Common.{paragraphs_of, ending_bytes, Line, line_from, widths_of}
 use Rattle.textwrap_lines.proofs.Common.{KeepsToWidth, Settings, AreTextLines}
@@ -12,12 +12,11 @@ use Rattle.textwrap_words.proofs.Word.Pieces.{AreTexts}
 use Rattle.textwrap_lines.proofs.Paragraph.GivenPieces.{pieces-tile, divided-begin, divided-blanks}
 use Rattle.textwrap_lines.proofs.Text.EndingTexts.{paragraphs_of-utf8}
 use Rattle.textwrap_lines.proofs.Text.Endings.{parts_past-some}
-use Rattle.textwrap_lines.proofs.Text.Narrow.{paragraphs_of-narrow}
 use Rattle.textwrap_lines.proofs.Text.Lossless.{LosesOnlyBlanks-from, groups-tile}
 use Rattle.textwrap_lines.proofs.Text.Groups.{groups-map, groups-all, groups-some, groups-indented}
 use Rattle.textwrap_lines.proofs.Paragraph.KeepsTo.{Divides, AreParts, paragraph-some}
 use Rattle.textwrap_lines.proofs.Paragraph.KeepsTo.{paragraph-indented, paragraph-no_hyphen}
-use Rattle.textwrap_lines.proofs.Paragraph.KeepsTo.{paragraph-keeps, EvenIfNarrow, paragraph-even}
+use Rattle.textwrap_lines.proofs.Paragraph.KeepsTo.{paragraph-keeps, paragraph-even}
 use Rattle.textwrap_lines.proofs.Paragraph.Kept.{HasNoHyphen}
 use Rattle.textwrap_lines.proofs.Paragraph.EvenLines.{first_width-own}
 
@@ -92,19 +91,16 @@ module _ (settings : Settings) (Words : List ℕ → List WordText → Type 0)
         → ((widths : List ℕ) (pieces : List WordText) (division : List (List WordText))
         → Lines widths pieces division → IsDividedBy Greedy sizes_of widths pieces division)
         → (text : List ℕ) (lines : List Line) → IsUtf8 text
-        → settings.even_paragraphs ≡ true → settings.break_words ≡ true → IsNarrow text
+        → settings.even_paragraphs ≡ true → settings.break_words ≡ true
         → AreTextLines settings (Divides settings Words Points Lines) text lines → LinesKeepToWidth settings (Divides settings Words Points Lines) text lines
-    LinesKeepToWidth-by hyphens greedy text lines utf8 even breaks narrow are =
+    LinesKeepToWidth-by hyphens greedy text lines utf8 even breaks are =
         let ending = settings.line_ending in
         let paragraphs = paragraphs_of ending text in (
           are,
           groups-all (KeepsToWidth settings.width) false paragraphs are.groups
-              (groups-map IsNarrow (EvenIfNarrow settings Words Points Lines texts cuts begins)
+              (groups-map IsUtf8 (AreParts settings Words Points Lines)
               (λ is_later paragraph parts. All (KeepsToWidth settings.width) parts)
-              (λ is_later paragraph parts narrow keeps. keeps narrow) false paragraphs are.groups
-              (paragraphs_of-narrow ending text utf8 narrow)
-              (groups-map IsUtf8 (AreParts settings Words Points Lines) (EvenIfNarrow settings Words Points Lines texts cuts begins)
               (λ is_later. paragraph-even settings Words Points Lines texts cuts begins hyphens greedy
               breaks is_later (first_width-own settings even is_later)) false paragraphs are.groups
-              (paragraphs_of-utf8 ending text utf8) are.defined)),
+              (paragraphs_of-utf8 ending text utf8) are.defined),
         )

@@ -1,7 +1,7 @@
 -- What `wrap` promises, by the options.
 use Rattle.textwrap_base.proofs.Common.{◌≡◌, ◌≢◌, ℕ, append-nil, true, List, [], refl, ap}
 use Rattle.textwrap_base.proofs.Common.{subst, Some, None, IsUtf8, rules, arith}
-use Rattle.textwrap_words.proofs.Common.{IsNarrow, AreWordsOf, sizes_of, Algorithm, Greedy}
+use Rattle.textwrap_words.proofs.Common.{AreWordsOf, sizes_of, Algorithm, Greedy}
 use Rattle.textwrap_words.proofs.Common.{LeastCost, IsDividedBy, MayDivide, algorithm_view}
 use Rattle.textwrap_words.proofs.Common.{MaySeparate, Splitter, ArePoints, MaySplit, splitter_view}
 use Rattle.textwrap_lines.proofs.Common.{DividesAs, DividesBy, Line, Settings, settings_view}
@@ -39,10 +39,10 @@ IsWrapped-from settings algorithm splitter text lines utf8 are =
 
 pub LinesKeepToWidth-from : (settings : Settings) (splitter : Splitter) (text : List ℕ)
     (lines : List Line) → IsUtf8 text → settings.even_paragraphs ≡ true
-    → settings.break_words ≡ true → IsNarrow text
+    → settings.break_words ≡ true
     → AreTextLines settings (DividesAs splitter Greedy settings) text lines
     → LinesKeepToWidth settings (DividesAs splitter Greedy settings) text lines
-LinesKeepToWidth-from settings splitter text lines utf8 even breaks narrow are =
+LinesKeepToWidth-from settings splitter text lines utf8 even breaks are =
     LinesKeepToWidth-by settings AreWordsOf (ArePoints splitter) (IsDividedBy Greedy sizes_of)
     AreTexts-words (ArePoints-cuts splitter)
     (λ widths pieces division divided. (
@@ -50,7 +50,7 @@ LinesKeepToWidth-from settings splitter text lines utf8 even breaks narrow are =
       search (rules, arith, append-nil, IsDividedBy-whole),
     ))
     (ArePoints-hyphens splitter) (λ widths pieces division divided. divided)
-    text lines utf8 even breaks narrow are
+    text lines utf8 even breaks are
 
 module _ {E C : Type 0} {e : _} {c : _} (options : Options E C e c) where
   pub IsWrapped-options : (text : List ℕ) (lines : List Line) → IsUtf8 text
@@ -75,10 +75,10 @@ module _ {E C : Type 0} {e : _} {c : _} (options : Options E C e c) where
 
   pub LinesKeepToWidth-options : (text : List ℕ) (lines : List Line) → IsUtf8 text
       → options.even_paragraphs ≡ true → options.wrap_algorithm ≡ FirstFit
-      → splitter_view options.word_splitter ≢ None → options.break_words ≡ true → IsNarrow text
+      → splitter_view options.word_splitter ≢ None → options.break_words ≡ true
       → AreTextLines (settings_view options) (DividesBy options) text lines
       → LinesKeepToWidth (settings_view options) (DividesBy options) text lines
-  LinesKeepToWidth-options text lines utf8 even first built_in breaks narrow are =
+  LinesKeepToWidth-options text lines utf8 even first built_in breaks are =
       let algorithm = options.wrap_algorithm in
       LinesKeepToWidth-by (settings_view options) (MaySeparate options.word_separator)
       (MaySplit options.word_splitter) (MayDivide algorithm (λ w. w))
@@ -87,4 +87,4 @@ module _ {E C : Type 0} {e : _} {c : _} (options : Options E C e c) where
       (MaySplit-hyphens options.word_splitter built_in)
       (λ widths pieces division. MayDivide-greedy algorithm (λ w. w) widths pieces division
       (ap algorithm_view first))
-      text lines utf8 even breaks narrow are
+      text lines utf8 even breaks are

@@ -270,13 +270,3 @@ fn a_single_character_is_a_text(rt: HostRuntime) -> Result<(), Fail> {
     }
     Ok(())
 }
-
-/// No character takes more columns than it has bytes in UTF-8. It is tried for each of them.
-#[test]
-fn no_character_is_wider_than_its_bytes(rt: HostRuntime) {
-    for ch in '\0'..=char::MAX {
-        let mut bytes = [0; 4];
-        let text = ch.encode_utf8(&mut bytes);
-        assert!(rt; display_width(text) <= text.len(), "{ch:?}");
-    }
-}

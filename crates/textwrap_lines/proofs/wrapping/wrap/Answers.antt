@@ -22,10 +22,10 @@ returns-clause-lines g c =
     (sym (c.into_list.ensures taken holds)) are.are)
 
 pub returns-clause-even : goal.returns-clause-even
-returns-clause-even g c = λ even first built_in breaks narrow.
+returns-clause-even g c = λ even first built_in breaks.
     LinesKeepToWidth-options c.args.options c.args.text.now
     (map line_view c.into_list.result.items)
-    c.utf8.text even first built_in breaks narrow (returns-clause-lines g c).are
+    c.utf8.text even first built_in breaks (returns-clause-lines g c).are
 
 pub returns-clause-built_in : goal.returns-clause-built_in
 returns-clause-built_in g c = λ settings splitter algorithm parts.
@@ -33,9 +33,9 @@ returns-clause-built_in g c = λ settings splitter algorithm parts.
     (map line_view c.into_list.result.items) (returns-clause-lines g c).are
 
 pub returns-clause-built_in_even : goal.returns-clause-built_in_even
-returns-clause-built_in_even g c = λ settings splitter parts even breaks narrow.
+returns-clause-built_in_even g c = λ settings splitter parts even breaks.
     LinesKeepToWidth-from settings splitter c.args.text.now
-    (map line_view c.into_list.result.items) c.utf8.text even breaks narrow
+    (map line_view c.into_list.result.items) c.utf8.text even breaks
     (returns-clause-built_in g c settings splitter Greedy parts)
 
 pub returns-clause-printed : goal.returns-clause-printed

@@ -40,9 +40,9 @@ returns-clause-as_slow_path g c =
     let start = c.args.lines.now.items in
     let appended = returns-clause-appended g c in
     let (parts, defined, added) = appended.lines in
-    λ built_in unindented narrow.
+    λ built_in unindented.
     let divided = paragraph-divided-by (settings_view options) options.word_separator
     options.word_splitter options.wrap_algorithm built_in.separator built_in.splitter
-    built_in.algorithm (nat_lt 0 (length start)) c.args.line.now parts c.utf8.line unindented narrow
+    built_in.algorithm (nat_lt 0 (length start)) c.args.line.now parts c.utf8.line unindented
     defined in
     (divided.0, divided.1, added ∙ ap (λ ls. map line_view start ++ ls) (sym divided.2))

@@ -1,11 +1,9 @@
--- Lemmas on texts of which something holds of each character, as that it takes no more columns than
--- bytes.
-use Rattle.textwrap_base.proofs.Common.{ℕ, List, [], ◌∷◌, ◌++◌, All, length, subst, sym, ◌≤◌, rules}
+-- Lemmas on texts of which something holds of each character, as that it is no ESC.
+use Rattle.textwrap_base.proofs.Common.{ℕ, List, [], ◌∷◌, ◌++◌, All, subst, sym, rules}
 use Rattle.textwrap_base.proofs.Common.{append_assoc, IsUtf8, All-nil, All-cons, All-head, All-tail}
 use Rattle.textwrap_base.proofs.Common.{IsUtf8-from_ascii, chars-append, arith}
-use Rattle.textwrap_words.proofs.Common.{columns, IsNarrow}
 use Rattle.textwrap_lines.proofs.Common.{ending_bytes, paragraphs_of, join_with, LineEnding}
-use Rattle.std.specs.Prelude.{chars, encode_utf8}
+use Rattle.std.specs.Prelude.{chars}
 use Rattle.std.proofs.lemmas.Str.Ascii.{IsAscii-from_all}
 use Rattle.textwrap_base.proofs.Lists.Parts.{all-left, all-right}
 use Rattle.textwrap_lines.proofs.Text.EndingTexts.{ending_bytes-ascii, join-paragraphs_of}
@@ -44,11 +42,3 @@ module _ (Holds : ℕ → Type 0) where
       (paragraphs_of ending text)
       (paragraphs_of-utf8 ending text utf8)
       (subst Each (sym (join-paragraphs_of ending text)) each)
-
-pub narrow_parts : (front rest : List ℕ) → IsUtf8 front → IsNarrow (front ++ rest)
-    → IsNarrow front × IsNarrow rest
-narrow_parts = each_part (λ c. columns c ≤ length (encode_utf8 c))
-
-pub paragraphs_of-narrow : (ending : LineEnding) (text : List ℕ) → IsUtf8 text → IsNarrow text
-    → All IsNarrow (paragraphs_of ending text)
-paragraphs_of-narrow = paragraphs_of-each (λ c. columns c ≤ length (encode_utf8 c))

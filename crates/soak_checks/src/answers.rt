@@ -4,6 +4,7 @@ use crate::in_place::InPlace;
 use crate::least_cost::LeastCosts;
 use crate::paths::Ways;
 use crate::refilling::Refills;
+use crate::reflowing::Reflows;
 use crate::searching::Minima;
 use std::alloc::{AllocError, Global};
 use textwrap::WrapError;
@@ -36,6 +37,8 @@ pub struct Answers<'c> {
     pub in_place: Answer<InPlace<'c>>,
     /// The plain text, filled and refilled.
     pub refills: Answer<Refills>,
+    /// The paragraphs, reflowed.
+    pub reflows: Reflows,
 }
 
 /// A library that can be checked. The tests have some that answer wrongly.
@@ -47,7 +50,7 @@ pub trait Library {
     fn answers<'c>(&self, alloc: Global, case: &'c Case) -> Result<Answers<'c>, AllocError>;
 }
 
-/// The library `textwrap`.
+/// The library `textwrap`, with `textwrap_reflow`.
 #[derive(Clone, Copy)]
 pub struct Textwrap;
 
@@ -59,6 +62,7 @@ impl Library for Textwrap {
             many: unless_overflow(Minima::of_problem(alloc, &case.many))?,
             in_place: unless_overflow(InPlace::of_case(alloc, case))?,
             refills: unless_overflow(Refills::of_case(alloc, case))?,
+            reflows: Reflows::of_case(alloc, case)?,
         })
     }
 }

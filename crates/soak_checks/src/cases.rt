@@ -1,8 +1,9 @@
 //! All that a round checks promises on.
 use crate::blocks::Problem;
+use crate::layouts::Layouts;
 use crate::random::Random;
 use crate::settings::{Settings, random_width};
-use crate::texts::{Alphabet, random_plain_text, random_text};
+use crate::texts::{Alphabet, random_paragraphs, random_plain_text, random_text};
 use std::alloc::{AllocError, Global};
 
 /// What a round checks promises on.
@@ -20,6 +21,10 @@ pub struct Case {
     /// So few fragments that all divisions of them can be tried.
     pub few: Problem,
     pub many: Problem,
+    /// Lines with prefixes, of many paragraphs.
+    pub paragraphs: String,
+    /// How these are reflowed.
+    pub layouts: Layouts,
 }
 
 impl Case {
@@ -36,6 +41,8 @@ impl Case {
             first_width: random_width(&mut random),
             few: Problem::random(alloc, &mut random, 10)?,
             many: Problem::random(alloc, &mut random, 60)?,
+            paragraphs: random_paragraphs(alloc, &mut random, alphabet)?,
+            layouts: Layouts::random(&mut random),
         })
     }
 }

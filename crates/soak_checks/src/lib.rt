@@ -12,6 +12,7 @@ pub mod soak;
 // What a round checks: its numbers, texts, options and fragments, which are a case.
 pub mod blocks;
 pub mod cases;
+pub mod layouts;
 pub mod random;
 pub mod settings;
 pub mod texts;
@@ -28,4 +29,5 @@ pub mod lossless;
 pub mod paths;
 pub mod promises;
 pub mod refilling;
+pub mod reflowing;
 pub mod searching;

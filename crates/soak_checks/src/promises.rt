@@ -2,7 +2,7 @@
 use crate::answers::Answers;
 use crate::cases::Case;
 use crate::findings::Finding;
-use crate::{fitting, in_place, least_cost, lossless, paths, refilling, searching};
+use crate::{fitting, in_place, least_cost, lossless, paths, refilling, reflowing, searching};
 use std::alloc::{AllocError, Global};
 
 /// A promise of the library.
@@ -30,9 +30,15 @@ pub enum Promise {
     Refilled,
     /// Filling and refilling is filling once.
     Twice,
+    /// Reflowing again changes nothing.
+    ReflowedStays,
+    /// Reflowing and reflowing otherwise is reflowing once.
+    ReflowedOnce,
+    /// Reflowing keeps the words, and the lines of whitespace.
+    ReflowedWords,
 }
 
-pub const PROMISES_LEN: usize = 11;
+pub const PROMISES_LEN: usize = 14;
 
 /// All promises and what the program calls them, in the order in which a round checks them.
 pub const PROMISES: [(Promise, &str); PROMISES_LEN] = [
@@ -47,6 +53,9 @@ pub const PROMISES: [(Promise, &str); PROMISES_LEN] = [
     (Promise::InPlace, "in_place"),
     (Promise::Refilled, "refilled"),
     (Promise::Twice, "twice"),
+    (Promise::ReflowedStays, "reflowed_stays"),
+    (Promise::ReflowedOnce, "reflowed_once"),
+    (Promise::ReflowedWords, "reflowed_words"),
 ];
 
 impl Promise {
@@ -86,6 +95,9 @@ impl Promise {
             Promise::InPlace => Ok(in_place::check(case, answers.in_place.as_ref()?)),
             Promise::Refilled => Ok(refilling::check_refilled(refills?)),
             Promise::Twice => refilling::check_twice(alloc, case, refills?),
+            Promise::ReflowedStays => Ok(reflowing::check_stays(&answers.reflows)),
+            Promise::ReflowedOnce => Ok(reflowing::check_once(&answers.reflows)),
+            Promise::ReflowedWords => reflowing::check_words(alloc, case, &answers.reflows),
         })
     }
 }

@@ -79,5 +79,7 @@ fn describe_broken(alloc: Global, name: &str, case: &Case) -> Result<String, All
     write!(report, "\nfirst width: {}", case.first_width)?;
     write!(report, "\nfew fragments: {:?}", case.few)?;
     write!(report, "\nmany fragments: {:?}", case.many)?;
+    write!(report, "\nparagraphs: {:?}", case.paragraphs)?;
+    write!(report, "\nreflowed by: {:?}", case.layouts)?;
     Ok(report)
 }

@@ -78,6 +78,57 @@ const PLAIN_PARTS: &[&str] = &[
     "あ", "é", "\u{301}", "\t", "\x1b[31m", "\x1b[0m", "\x1b[12", "\x1b", ".", "²", "7",
 ];
 
+/// What the first line of a paragraph begins with, and what its later lines do.
+const PREFIXES: &[(&str, &str)] = &[
+    ("", ""),
+    ("", ""),
+    ("> ", "> "),
+    ("> > ", "> > "),
+    ("- ", "  "),
+    ("+ ", "  "),
+    (" * ", "   "),
+    ("> - ", ">   "),
+    ("  ", "  "),
+    ("// ", "// "),
+    ("# ", "# "),
+    ("    ", "    "),
+    ("-   ", "    "),
+    ("    - ", "      "),
+    ("/*", "/ "),
+    (">", ">"),
+    ("-", " "),
+];
+
+const FENCES: &[&str] = &["```", "```rust", "~~~", "~~~~ x"];
+
+const WHITESPACE: &[&str] = &["  ", "\t", " \t ", "\r ", "\u{3000}", "\x0c"];
+
+/// Words that begin like a prefix or a fence.
+const MARKED: &[&str] = &[
+    "-1", "*note*", "#tag", "/path", "-", "+", "*", ">", "--", "```", "```x", "~~~",
+];
+
+/// Words with whitespace in them that is no blank.
+const SPACED: &[&str] = &[
+    "\t",
+    "a\tb",
+    "\tb",
+    "b\t",
+    "\r",
+    "a\rb",
+    "\rb",
+    "b\r",
+    "\u{3000}",
+    "\u{a0}b",
+    "b\u{2028}",
+];
+
+/// What stands between a line and the next prefix. Where it has no line feed, the line goes on.
+const LINE_ENDS: &[&str] = &[
+    "\n", "\n", "\n", "\n", "\r\n", "\r\n", "\n\n", "\r\r\n", " \n", "  \r\n", "\r \n", "\t\n",
+    "\r", " ", "",
+];
+
 /// A text of this alphabet, sometimes empty.
 pub fn random_text(
     alloc: Global,
@@ -138,5 +189,71 @@ fn push_plain_word(random: &mut Random, text: &mut String) -> Result<(), AllocEr
         0 => text.push_str(random.pick(HYPHENS)),
         1 => text.push_str(random.pick(PLAIN_PARTS)),
         _ => Ok(()),
+    }
+}
+
+/// A text of many paragraphs, with words of this alphabet. Sometimes it is empty.
+pub fn random_paragraphs(
+    alloc: Global,
+    random: &mut Random,
+    alphabet: Alphabet,
+) -> Result<String, AllocError> {
+    let mut text = String::new(alloc);
+    let mut prefixes = ("", "");
+    let most = random.pick(&[1, 3, 10, 30]);
+    for _ in 0..random.below(most) {
+        let is_first = random.is_one_in(3);
+        if is_first {
+            prefixes = random.pick(PREFIXES);
+        }
+        let (first, later) = prefixes;
+        let is_repeated = random.is_one_in(4);
+        text.push_str(if is_first || is_repeated {
+            first
+        } else {
+            later
+        })?;
+        push_line(random, alphabet, &mut text)?;
+        text.push_str(random.pick(LINE_ENDS))?;
+    }
+    Ok(text)
+}
+
+/// Adds what stands behind a prefix: a fence, nothing, whitespace or words.
+fn push_line(random: &mut Random, alphabet: Alphabet, text: &mut String) -> Result<(), AllocError> {
+    match random.below(12) {
+        0 => text.push_str(random.pick(FENCES)),
+        1 => Ok(()),
+        2 => text.push_str(random.pick(WHITESPACE)),
+        _ => push_words(random, alphabet, text),
+    }
+}
+
+/// Adds words with blanks between them.
+fn push_words(
+    random: &mut Random,
+    alphabet: Alphabet,
+    text: &mut String,
+) -> Result<(), AllocError> {
+    for word in 0..=random.below(6) {
+        if word > 0 {
+            text.push_str(random.pick(BLANKS))?;
+        }
+        text.push_str(random_word(random, alphabet))?;
+        if random.is_one_in(6) {
+            text.push_str(random_word(random, alphabet))?;
+        }
+    }
+    Ok(())
+}
+
+/// A word, or now and then what looks like the beginning of a line, or has whitespace in it.
+fn random_word(random: &mut Random, alphabet: Alphabet) -> &'static str {
+    match random.below(12) {
+        0 => random.pick(WIDE),
+        1 => random.pick(MARKED),
+        2 => random.pick(SPACED),
+        3 => random.pick(rare_parts(alphabet)),
+        _ => random.pick(WORDS),
     }
 }

@@ -70,7 +70,7 @@ fn parse_request(width: &str, algorithm: Option<Algorithm>) -> Option<FillReques
 }
 
 /// The number of one or more ASCII digits, where it fits. The standard `parse` also takes a sign.
-fn parse_width(word: &str) -> Option<usize>
+pub fn parse_width(word: &str) -> Option<usize>
     ensures { result ≡ width_of word.now }
 {
     if !is_all_digits(word.as_bytes()) {

@@ -65,8 +65,11 @@ pub fn run<A: Allocator + Copy, R: Read, W: Write>(
     write_filled(alloc, &input, writer, width, algorithm)
 }
 
-/// Reads the reader to its end, which is the first read that gives nothing.
-fn read_to_end<A: Allocator, R: Read>(alloc: A, reader: &mut R) -> Result<Vec<u8, A>, RunError>
+/// Reads the reader to its end, which is the first read that gives nothing. No read is tried again.
+///
+/// # Errors
+/// `Read` where a read fails, `Memory` where memory runs out.
+pub fn read_to_end<A: Allocator, R: Read>(alloc: A, reader: &mut R) -> Result<Vec<u8, A>, RunError>
     ensures ok { IfOk result (λ input.
         ReadsAll (R.remaining reader.old) (R.remaining reader.new) input.items) }
     ensures not_not_utf8 { IfErr result (λ error. error ≢ RunError.NotUtf8) }
@@ -139,13 +142,18 @@ pub fn write_line<W: Write>(writer: &mut W, line: &str) -> Result<(), RunError>
         (line.now ++ line_feed ∷ [])) }
     ensures prefix { OnErr result
         (TriesLine (W.contents writer.old) (W.contents writer.new) line.now) }
+    ensures only_write { IfErr result (λ error. error ≡ RunError.Write) }
 {
     write_to_end(writer, line.as_bytes())?;
     write_to_end(writer, b"\n")
 }
 
 /// Writes the bytes and flushes.
-fn write_to_end<W: Write>(writer: &mut W, bytes: &[u8]) -> Result<(), RunError>
+///
+/// # Errors
+/// `Write`, where a write fails or takes nothing, or the flush fails. Some of the bytes may then be
+/// written.
+pub fn write_to_end<W: Write>(writer: &mut W, bytes: &[u8]) -> Result<(), RunError>
     ensures ok { OnOk result (Appends (W.contents writer.old) (W.contents writer.new) bytes.now) }
     ensures prefix { OnErr result
         (WritesPrefix (W.contents writer.old) (W.contents writer.new) bytes.now) }

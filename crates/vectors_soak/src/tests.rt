@@ -1,16 +1,19 @@
 //! That each check accepts right answers and notices wrong ones, and what the program makes of that.
 use soak_checks::blocks::{Block, Problem};
 use soak_checks::cases::Case;
+use soak_checks::layouts::Layouts;
 use soak_checks::settings::{Algorithm, Settings};
 use soak_checks::texts::Alphabet;
 use std::alloc::{AllocError, Global};
 use std::borrow::CowStr;
 use textwrap::wrap_algorithms::Penalties;
+use textwrap_reflow::ReflowOptions;
 
 mod answers;
 mod lines;
 mod problems;
 mod program;
+mod reflowing;
 
 /// Lines of these texts, parts of a text or texts of their own.
 fn lines_of<'t>(
@@ -78,8 +81,16 @@ fn lines_by<'b>(
 /// Two words, the second of which is as wide as some lines.
 const PAIR: &[(usize, usize)] = &[(3, 1), (50, 0)];
 
-/// A case of which every promise says something: a text of two paragraphs, 8 columns, first fit, and
-/// two fragments.
+/// Lines of so many columns by first fit.
+fn by_first_fit(width: usize) -> ReflowOptions<'static> {
+    ReflowOptions {
+        algorithm: textwrap_reflow::Algorithm::FirstFit,
+        ..ReflowOptions::new(width)
+    }
+}
+
+/// A case of which every promise says something: a text of two paragraphs, 8 columns, first fit, two
+/// fragments, and a list before a quote.
 fn small_case(alloc: Global) -> Result<Case, AllocError> {
     Ok(Case {
         seed: 1,
@@ -93,5 +104,10 @@ fn small_case(alloc: Global) -> Result<Case, AllocError> {
         first_width: 3,
         few: problem_of(alloc, PAIR, 53, 2500)?,
         many: problem_of(alloc, PAIR, 53, 2500)?,
+        paragraphs: String::from_str(alloc, "- foo\n  bar baz\n\n> qux -1\n")?,
+        layouts: Layouts {
+            first: by_first_fit(8),
+            other: ReflowOptions::new(12),
+        },
     })
 }

@@ -6,6 +6,7 @@ use soak_checks::findings::Finding;
 use soak_checks::paths::Ways;
 use soak_checks::promises::{PROMISES, PROMISES_LEN};
 use soak_checks::refilling::Refills;
+use soak_checks::reflowing::Reflows;
 use soak_checks::settings::{Algorithm, Settings};
 use soak_checks::soak::{Counts, broken_promise, describe_kept};
 use std::alloc::{AllocError, Global};
@@ -25,6 +26,7 @@ enum Change {
     InPlace(&'static str),
     LinesInPlace(Texts),
     Refill(RefillChange),
+    Reflow(ReflowChange),
     /// All calls that may only run out of memory overflow.
     Overflow,
 }
@@ -62,6 +64,16 @@ enum RefillChange {
     Twice(&'static str),
 }
 
+/// Another text of those that are reflowed.
+#[derive(Clone, Copy, Debug)]
+enum ReflowChange {
+    Reflowed(&'static str),
+    Again(&'static str),
+    Once(&'static str),
+    Twice(&'static str),
+    Filled(&'static str),
+}
+
 impl Change {
     fn put_into<'c>(
         self,
@@ -92,6 +104,7 @@ impl Change {
                     change.put_into(alloc, refills)?;
                 }
             }
+            Change::Reflow(change) => change.put_into(alloc, &mut answers.reflows)?,
             Change::Overflow => {
                 answers.ways = None;
                 answers.many = None;
@@ -159,6 +172,19 @@ impl RefillChange {
     }
 }
 
+impl ReflowChange {
+    fn put_into(self, alloc: Global, reflows: &mut Reflows) -> Result<(), AllocError> {
+        match self {
+            ReflowChange::Reflowed(text) => reflows.reflowed = String::from_str(alloc, text)?,
+            ReflowChange::Again(text) => reflows.again = String::from_str(alloc, text)?,
+            ReflowChange::Once(text) => reflows.once = String::from_str(alloc, text)?,
+            ReflowChange::Twice(text) => reflows.twice = String::from_str(alloc, text)?,
+            ReflowChange::Filled(text) => reflows.filled = String::from_str(alloc, text)?,
+        }
+        Ok(())
+    }
+}
+
 /// The minima of these starts and costs.
 fn minima_of(alloc: Global, pairs: &[(usize, u128)]) -> Result<Vec<Minimum>, AllocError> {
     let mut minima = Vec::new(alloc);
@@ -167,6 +193,12 @@ fn minima_of(alloc: Global, pairs: &[(usize, u128)]) -> Result<Vec<Minimum>, All
     }
     Ok(minima)
 }
+
+/// The paragraphs of the small case in 8 columns.
+const IN_8_COLUMNS: &str = "- foo\n  bar\n  baz\n\n> qux -1\n";
+
+/// Those in 12.
+const IN_12_COLUMNS: &str = "- foo bar\n  baz\n\n> qux -1\n";
 
 /// Changes of the answers on the small case, and the promises that are broken then.
 const ROWS: &[(Change, &str)] = &[
@@ -304,6 +336,36 @@ const ROWS: &[(Change, &str)] = &[
         Change::Refill(RefillChange::Twice("foo baz\nbar qux")),
         "twice",
     ),
+    (Change::Reflow(ReflowChange::Reflowed(IN_8_COLUMNS)), ""),
+    (
+        Change::Reflow(ReflowChange::Reflowed(IN_12_COLUMNS)),
+        "reflowed_stays",
+    ),
+    (
+        Change::Reflow(ReflowChange::Reflowed("- foo\n  bar\n\n> qux -1\n")),
+        "reflowed_stays reflowed_words",
+    ),
+    (Change::Reflow(ReflowChange::Again(IN_8_COLUMNS)), ""),
+    (
+        Change::Reflow(ReflowChange::Again(IN_12_COLUMNS)),
+        "reflowed_stays",
+    ),
+    (Change::Reflow(ReflowChange::Once(IN_12_COLUMNS)), ""),
+    (
+        Change::Reflow(ReflowChange::Once(IN_8_COLUMNS)),
+        "reflowed_once",
+    ),
+    (Change::Reflow(ReflowChange::Twice(IN_12_COLUMNS)), ""),
+    (
+        Change::Reflow(ReflowChange::Twice("- foo bar\n  baz\n> qux -1\n")),
+        "reflowed_once",
+    ),
+    (Change::Reflow(ReflowChange::Filled(IN_8_COLUMNS)), ""),
+    (Change::Reflow(ReflowChange::Filled(IN_12_COLUMNS)), ""),
+    (
+        Change::Reflow(ReflowChange::Filled("- foo\n  bar\n  baz > qux -1\n")),
+        "reflowed_words",
+    ),
     (
         Change::Overflow,
         "lossless fitting searching filled listed paragraphs shortcut in_place refilled twice",
@@ -382,12 +444,13 @@ fn kept_promises_are_counted(rt: HostRuntime) -> Result<(), Fail> {
     let list = list_case(alloc)?;
     let name = broken_by_library(alloc, &list, &mut counts)?;
     assert_eq!(rt; name, Some("refilled"));
-    assert_eq!(rt; counts, [3, 2, 3, 2, 3, 3, 3, 2, 3, 2, 2]);
+    assert_eq!(rt; counts, [3, 2, 3, 2, 3, 3, 3, 2, 3, 2, 2, 2, 2, 2]);
     let line = describe_kept(alloc, 3, &counts)?;
     assert_eq!(rt;
         line.as_str(),
         "rounds=3 lossless=3 fitting=2 least_cost=3 searching=2 filled=3 listed=3 paragraphs=3 \
-         shortcut=2 in_place=3 refilled=2 twice=2"
+         shortcut=2 in_place=3 refilled=2 twice=2 reflowed_stays=2 reflowed_once=2 \
+         reflowed_words=2"
     );
     each_way_is_asked(&rt)
 }

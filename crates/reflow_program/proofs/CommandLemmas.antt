@@ -1,0 +1,57 @@
+-- Lemmas on the command line as a value: what the builders make of it, and what a parse gives.
+use Rattle.std.proofs.Common.{◌≡◌, ap, refl, subst, List, true, Some, Bor}
+use Rattle.std.proofs.Common.{Result}
+use Rattle.clap.specs.Words.{App, FailsBy, HasMatchesOf, Text, fault_of, found_of, is_simple}
+use Rattle.clap.specs.Words.{is_simple_and_free, matches_of, rows_of}
+use Rattle.clap.specs.Simple.{app_of_fields, on_top}
+use Rattle.clap.specs.declared.builder.command.Command.{Command}
+use Rattle.clap.specs.declared.builder.command.Command.TheOpen.{Command-F}
+use Rattle.clap.specs.declared.error.Error.{Error}
+use Rattle.clap.specs.declared.parser.matches.ArgMatches.{ArgMatches}
+use Rattle.reflow_program.specs.Arguments.{reflow_app}
+
+-- a command with a version
+abbrev pub versioned : App → App
+versioned = on_top (λ s. record s { has_version = true })
+
+pub versioned-is : (old new : Command-F Command) (version : Bor Text)
+    → new ≡ record old { version = Some version }
+    → app_of_fields new ≡ versioned (app_of_fields old)
+versioned-is old new version is = ap app_of_fields is
+
+-- what a command is about makes no difference
+pub about-is : (old new : Command-F Command) (about : Bor Text)
+    → new ≡ record old { about = Some about } → app_of_fields new ≡ app_of_fields old
+about-is old new about is = ap app_of_fields is
+
+-- a command whose words do not begin with its name
+abbrev pub nameless : App → App
+nameless = on_top (λ s. record s { no_binary_name = true })
+
+pub nameless-is : (old new : Command-F Command) → new ≡ record old { no_binary_name = true }
+    → app_of_fields new ≡ nameless (app_of_fields old)
+nameless-is old new is = ap app_of_fields is
+
+-- ---- a parse
+
+reflow_is_simple : is_simple reflow_app ≡ true
+reflow_is_simple = refl
+
+reflow_is_free : is_simple_and_free reflow_app ≡ true
+reflow_is_free = refl
+
+pub matches-are : (a : App) (words : List Text) → reflow_app ≡ a → (matches : ArgMatches)
+    → HasMatchesOf a words matches
+    → rows_of (found_of matches) ≡ matches_of reflow_app words
+matches-are a words is matches =
+    subst (λ b. HasMatchesOf b words matches
+    → rows_of (found_of matches) ≡ matches_of reflow_app words) is
+    (λ has. (has reflow_is_simple).0)
+
+pub kinds-are : (a : App) (words : List Text) (result : Result ArgMatches Error) → reflow_app ≡ a
+    → (is_simple_and_free a ≡ true → FailsBy (fault_of a words) result)
+    → FailsBy (fault_of reflow_app words) result
+kinds-are a words result is =
+    subst (λ b. (is_simple_and_free b ≡ true → FailsBy (fault_of b words) result)
+    → FailsBy (fault_of reflow_app words) result) is
+    (λ fails. fails reflow_is_free)

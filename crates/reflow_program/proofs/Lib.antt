@@ -1,0 +1,3 @@
+pub mod CommandLemmas
+pub mod FileLemmas
+pub mod InputLemmas

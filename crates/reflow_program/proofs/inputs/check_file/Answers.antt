@@ -1,0 +1,14 @@
+use Rattle.std.proofs.Common.{subst}
+use Rattle.reflow_program.specs.Inputs.{Checks}
+use Rattle.reflow_program.proofs.inputs.check_file.Goals as goal
+
+pub returns-clause-checked : goal.returns-clause-checked
+returns-clause-checked g c =
+    let left = g.F.Input.Read.remaining c.check_input.new.reader in
+    let old = g.W.Write.contents c.args.writer.now in
+    let new = g.W.Write.contents c.check_input.new.writer in (
+      left,
+      subst
+          (λ unread. Checks c.args.options.now c.args.name.now unread left old new c.check_input.result)
+          c.in-Ok.ensures.input c.check_input.ensures,
+    )

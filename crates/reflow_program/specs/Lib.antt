@@ -1,0 +1,4 @@
+pub mod Arguments
+pub mod Files
+pub mod Inputs
+pub mod Program

@@ -1,0 +1,9 @@
+//! The program `reflow`, over its arguments, its files, a reader and two writers: what it does, but
+//! for fetching these.
+#![tactic(auto)]
+
+pub mod arguments;
+pub mod disk;
+pub mod files;
+pub mod inputs;
+pub mod program;

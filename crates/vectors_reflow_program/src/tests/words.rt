@@ -1,0 +1,272 @@
+//! What the words after the program's name mean, seen by what is done with the standard input.
+use super::fakes::Fault;
+use super::{Start, run};
+use std::test::Fail;
+
+const COUNT: &str = "one two three four\n";
+
+const COUNT_AT_10: &str = "one two\nthree four\n";
+
+const TO_SIX: &str = "one two three four five six\n";
+
+const TO_SIX_AT_20: &str = "one two three four\nfive six\n";
+
+const HAMLET: &str = "To be, or not to be: that is the question";
+
+const HAMLET_BY_FIRST_FIT: &str = "To be, or\nnot to be:\nthat is\nthe\nquestion";
+
+const HAMLET_BY_LEAST_COST: &str = "To be,\nor not to\nbe: that\nis the\nquestion";
+
+/// Eight words of nine letters and one of two, of 82 columns.
+const EIGHTY_TWO: &str = "aaaaaaaaa aaaaaaaaa aaaaaaaaa aaaaaaaaa aaaaaaaaa aaaaaaaaa aaaaaaaaa \
+aaaaaaaaa bb\n";
+
+const EIGHTY_TWO_AT_80: &str = "aaaaaaaaa aaaaaaaaa aaaaaaaaa aaaaaaaaa aaaaaaaaa aaaaaaaaa \
+aaaaaaaaa aaaaaaaaa\nbb\n";
+
+/// Seven words of nine letters and one of ten, of 80 columns.
+const EIGHTY: &str = "aaaaaaaaa aaaaaaaaa aaaaaaaaa aaaaaaaaa aaaaaaaaa aaaaaaaaa aaaaaaaaa \
+aaaaaaaaaa\n";
+
+/// What a row shows, its words, the standard input, and the output.
+const READ_AND_WRITTEN: &[(&str, &[&str], &str, &str)] = &[
+    ("without words the width is 80", &[], EIGHTY, EIGHTY),
+    (
+        "without a width it is 80",
+        &["--first-fit"],
+        EIGHTY_TWO,
+        EIGHTY_TWO_AT_80,
+    ),
+    ("a width", &["-w", "20"], TO_SIX, TO_SIX_AT_20),
+    ("a width in one word", &["-w20"], TO_SIX, TO_SIX_AT_20),
+    ("a width after =", &["-w=20"], TO_SIX, TO_SIX_AT_20),
+    ("a long width", &["--width", "20"], TO_SIX, TO_SIX_AT_20),
+    (
+        "a long width after =",
+        &["--width=20"],
+        TO_SIX,
+        TO_SIX_AT_20,
+    ),
+    (
+        "zeros before a width",
+        &["-w", "0020"],
+        TO_SIX,
+        TO_SIX_AT_20,
+    ),
+    (
+        "the largest width",
+        &["-w", "18446744073709551615"],
+        "one\ntwo\n",
+        "one two\n",
+    ),
+    ("the width 0", &["-w", "0"], "ab c\n", "ab\nc\n"),
+    (
+        "first fit",
+        &["-w", "10", "--first-fit"],
+        HAMLET,
+        HAMLET_BY_FIRST_FIT,
+    ),
+    (
+        "least cost",
+        &["-w", "10", "--least-cost"],
+        HAMLET,
+        HAMLET_BY_LEAST_COST,
+    ),
+    (
+        "least cost is what is meant",
+        &["-w", "10"],
+        HAMLET,
+        HAMLET_BY_LEAST_COST,
+    ),
+    (
+        "least cost counts for more than first fit",
+        &["--least-cost", "-w", "10", "--first-fit"],
+        HAMLET,
+        HAMLET_BY_LEAST_COST,
+    ),
+    (
+        "CR LF",
+        &["-w", "10", "--crlf"],
+        COUNT,
+        "one two\r\nthree four\r\n",
+    ),
+    (
+        "no CR LF",
+        &["-w", "10"],
+        "one two three four\r\n",
+        COUNT_AT_10,
+    ),
+    (
+        "a prefix",
+        &["-w", "12", "--prefix", ">"],
+        "> one two three four\n\n- one two three four\n",
+        "> one two\n> three four\n\n- one two three four\n",
+    ),
+    (
+        "a prefix that begins with a hyphen",
+        &["-w", "12", "--prefix=- "],
+        "> one two three four\n\n- one two three four\n",
+        "> one two three four\n\n- one two\n  three four\n",
+    ),
+    (
+        "a prefix that is a hyphen",
+        &["-w", "12", "--prefix=-"],
+        "> one two three four\n\n- one two three four\n",
+        "> one two three four\n\n- one two\n  three four\n",
+    ),
+    (
+        "a hyphen alone is a value",
+        &["-w", "12", "--prefix", "-"],
+        "> one two three four\n\n- one two three four\n",
+        "> one two three four\n\n- one two\n  three four\n",
+    ),
+    (
+        "no text of a prefix",
+        &["-w", "12", "--prefix="],
+        "> one two three four\n",
+        "> one two\n> three four\n",
+    ),
+    (
+        "code is kept",
+        &["-w", "10", "--keep-code"],
+        "```\none two three four\n```\n\n    one two three\n\none two three four\n",
+        "```\none two three four\n```\n\n    one two three\n\none two\nthree four\n",
+    ),
+    (
+        "code is not kept",
+        &["-w", "10"],
+        "```\none two three four\n```\n",
+        "``` one\ntwo three\nfour ```\n",
+    ),
+    (
+        "an end of the options",
+        &["-w", "10", "--"],
+        COUNT,
+        COUNT_AT_10,
+    ),
+    (
+        "the standard input is printed, since it cannot be replaced",
+        &["-w", "10", "--in-place"],
+        COUNT,
+        COUNT_AT_10,
+    ),
+    ("no input", &["-w", "10"], "", ""),
+];
+
+#[test]
+fn options_lay_out_the_standard_input(rt: HostRuntime) -> Result<(), Fail> {
+    for &(rule, words, input, output) in READ_AND_WRITTEN {
+        let left = run(rt.alloc(), &Start::new(words, input.as_bytes(), &[]))?;
+        assert!(rt; left.output.has(output.as_bytes()), "{rule}");
+        assert!(rt; left.messages.has(b""), "{rule}");
+        let ending = left.ending;
+        assert_eq!(rt; (ending.status, ending.said), (0, true), "{rule}");
+    }
+    Ok(())
+}
+
+const WIDTH: &str = "reflow: the width is not a number of 64 bits\n";
+
+/// What a row shows, its words, how the messages begin, and how they end.
+const REFUSED: &[(&str, &[&str], &str, &str)] = &[
+    ("a width with a letter", &["-w", "1O"], WIDTH, WIDTH),
+    ("no width", &["-w="], WIDTH, WIDTH),
+    ("a width with a sign", &["--width", "+5"], WIDTH, WIDTH),
+    (
+        "a width of 65 bits",
+        &["--width=18446744073709551616"],
+        WIDTH,
+        WIDTH,
+    ),
+    (
+        "a width left out",
+        &["-w"],
+        "error: a value is required for '--width <N>' but none was supplied\n",
+        "try '--help'.\n",
+    ),
+    (
+        "two widths",
+        &["-w", "3", "-w", "4"],
+        "error: the argument '--width <N>' cannot be used multiple times\n",
+        "try '--help'.\n",
+    ),
+    (
+        "an unknown option",
+        &["--bogus"],
+        "error: unexpected argument '--bogus' found\n",
+        "try '--help'.\n",
+    ),
+    (
+        "an unknown short option, before a file",
+        &["-x", "a"],
+        "error: unexpected argument '-x' found\n",
+        "try '--help'.\n",
+    ),
+    (
+        "a value of a flag",
+        &["--check=yes"],
+        "error: unexpected value 'yes' for '--check' found; no more were expected\n",
+        "try '--help'.\n",
+    ),
+    (
+        "a prefix that begins with a hyphen, not after =",
+        &["--prefix", "- "],
+        "error: unexpected argument '- ' found\n",
+        "try '--help'.\n",
+    ),
+];
+
+#[test]
+fn other_words_are_no_request(rt: HostRuntime) -> Result<(), Fail> {
+    for &(rule, words, first, last) in REFUSED {
+        let left = run(rt.alloc(), &Start::new(words, b"one two", &[]))?;
+        assert!(rt; left.messages.spans(first, last), "{rule}");
+        assert!(rt; left.output.has(b""), "{rule}");
+        assert!(rt; left.reader.is_untouched(), "{rule}");
+        let ending = left.ending;
+        assert_eq!(rt; (ending.status, ending.said), (2, true), "{rule}");
+    }
+    Ok(())
+}
+
+/// Words that ask for help or the version, and how the answer begins and ends.
+const SHOWN: &[(&[&str], &str, &str)] = &[
+    (
+        &["--help"],
+        "Fills the paragraphs of a text, each under its own prefix.\n\n\
+Usage: reflow [OPTIONS] [FILE]...\n",
+        "  -h, --help           Print help\n  -V, --version        Print version\n",
+    ),
+    (&["-w", "x", "-h"], "Fills ", "Print version\n"),
+    (
+        &["--check", "a", "--version"],
+        "reflow 1.0\n",
+        "reflow 1.0\n",
+    ),
+    (&["-V"], "reflow 1.0\n", "reflow 1.0\n"),
+];
+
+/// What goes wrong with the output, and the message and the status then.
+const SHOWING_FAULTS: &[(Fault, &[u8], u8)] = &[
+    (Fault::Nothing, b"", 0),
+    (Fault::Write(4), b"reflow: cannot write\n", 2),
+    (Fault::Flush, b"reflow: cannot write\n", 2),
+];
+
+/// The answer goes to the output, and if that fails, a message says so.
+#[test]
+fn help_and_version_are_shown(rt: HostRuntime) -> Result<(), Fail> {
+    for &(words, first, last) in SHOWN {
+        for &(fault, message, status) in SHOWING_FAULTS {
+            let faults = (Fault::Nothing, fault, Fault::Nothing);
+            let start = Start::new(words, b"one two", &[]).with(faults);
+            let left = run(rt.alloc(), &start)?;
+            let is_shown = left.output.spans(first, last);
+            assert!(rt; is_shown || fault != Fault::Nothing, "{first}");
+            assert!(rt; left.messages.has(message), "{first} {fault:?}");
+            assert!(rt; left.reader.is_untouched(), "{first} {fault:?}");
+            assert_eq!(rt; left.ending.status, status, "{first} {fault:?}");
+        }
+    }
+    Ok(())
+}

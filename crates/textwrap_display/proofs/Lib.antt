@@ -1,3 +1,10 @@
 pub mod WordCounts
 pub mod Widths
 pub mod AsWide
+pub mod KeptPlaces
+pub mod KeptReader
+pub mod KeptFound
+pub mod KeptLines
+pub mod KeptChunks
+pub mod KeptWords
+pub mod KeptUnique

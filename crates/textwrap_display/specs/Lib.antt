@@ -1,3 +1,4 @@
 pub mod Alignment
 pub mod Justifying
+pub mod Shortening
 pub mod Laws

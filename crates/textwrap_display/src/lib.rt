@@ -9,7 +9,9 @@
 
 pub use alignment::{Alignment, align};
 pub use justifying::justify;
+pub use shortening::{shorten, shorten_lines};
 
 mod alignment;
 mod justifying;
 pub mod laws;
+mod shortening;

@@ -1,2 +1,3 @@
 //! What lines for display become. Each row has the rule that it shows.
+mod shortening;
 mod widening;

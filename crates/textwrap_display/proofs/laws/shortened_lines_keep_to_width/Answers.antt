@@ -1,0 +1,25 @@
+use Rattle.textwrap_display.proofs.laws.shortened_lines_keep_to_width.Goals as goal
+use Rattle.textwrap_base.proofs.Common.{arith, ap, length-take-le, take, inl, inr, IsUtf8-take}
+use Rattle.textwrap_lines.specs.Paragraph.{line_bytes}
+use Rattle.textwrap_words.proofs.Common.{text_width}
+use Rattle.textwrap_words.proofs.Units.Widths.{columns_in-empty}
+use Rattle.textwrap_words.specs.declared.escapes.State.TheVariants.{Text}
+use Rattle.textwrap_lines.proofs.Text.WholeSequences.{text_width-append}
+use Rattle.textwrap_display.proofs.KeptPlaces.{may_end-boundary}
+
+pub returns : goal.returns
+returns c = λ width placeholder line short utf8 room is whole.
+    let kept = take is.len line in
+    let own = IsUtf8-take line is.len utf8 (may_end-boundary line is.len utf8 is.kept.ends) in
+    let same = ap (λ l. text_width (line_bytes l)) is.is in
+    let both = text_width-append kept placeholder own whole in
+    elim is.kept.room [
+      | inl none ↦ omega (
+        arith,
+        same,
+        both,
+        room,
+        columns_in-empty Text kept (omega (arith, length-take-le is.len line is.kept.within, none)),
+      )
+      | inr has ↦ omega (arith, same, both, has)
+    ]

@@ -1,0 +1,11 @@
+use Rattle.textwrap_display.proofs.shortening.push_whole.Goals as goal
+use Rattle.textwrap_base.proofs.Common.{map}
+use Rattle.textwrap_lines.specs.Paragraph.{line_view}
+use Rattle.textwrap_display.proofs.KeptLines.{views-more}
+
+pub loop-line-preserved : goal.loop-line-preserved
+loop-line-preserved g c =
+    views-more c.args.lines.now c.loop-line.line-index c.line-item.result c.loop-line.short.items
+    c.push.new.self.items (map line_view c.args.short.now.items) c.as_str.result
+    c.loop-line-test.true c.line-item.is c.as_str.ensures.value c.loop-line.invariant
+    c.in_ok-push.ensures.items

@@ -1,0 +1,9 @@
+use Rattle.textwrap_display.proofs.shortening.push_whole.Given as goal
+use Rattle.textwrap_base.proofs.Common.{◌≡◌, ◌++◌, map, take}
+use Rattle.textwrap_lines.specs.Paragraph.{Slice, line_view}
+use Rattle.textwrap_display.specs.Shortening.{texts_of}
+
+-- the lines so far were added
+abbrev pub invariant-loop-line : goal.invariant-loop-line
+invariant-loop-line g l = map line_view l.short.items
+    ≡ map line_view l.fn.short.items ++ map Slice (texts_of (take l.line-index l.lines))

@@ -1,0 +1,30 @@
+use Rattle.textwrap_display.proofs.shortening.shorten_lines.Goals as goal
+use Rattle.textwrap_base.proofs.Common.{◌≡◌, ◌+◌, [], ◌∷◌, ◌++◌, map, arith, take, sym, ap}
+use Rattle.textwrap_base.proofs.Common.{subst, ◌∙◌, string_bytes}
+use Rattle.textwrap_lines.specs.Paragraph.{Built, Slice, line_view}
+use Rattle.textwrap_display.specs.Shortening.{AreShortened, IsShortened, texts_of}
+use Rattle.textwrap_display.proofs.KeptLines.{cut-lines, views-push}
+use Rattle.textwrap_display.proofs.shortening.shorten_lines.Goals.{then-lines-most+in_ok-push_whole}
+use Rattle.textwrap_display.proofs.shortening.shorten_lines.Goals.{else-lines-most+in-Some+in_ok-push_whole-2+in_ok-last+in_ok-push}
+use Rattle.textwrap_display.proofs.shortening.shorten_lines.Goals.{else-lines-most+in_default}
+
+pub returns-clause-cut : goal.returns-clause-cut
+returns-clause-cut g c = λ some fewer. elim c.if-lines-most.branch [
+  | then-lines-most+in_ok-push_whole w ↦ absurd (omega arith)
+  | else-lines-most+in-Some+in_ok-push_whole-2+in_ok-last+in_ok-push w ↦
+      let lines = c.args.lines.now in
+      let last = Built (string_bytes w.in_ok-last.last) in
+      let whole = map Slice (texts_of (take w.in-Some.whole lines)) in
+      let are : map line_view c.if-lines-most.short.items ≡ whole ++ last ∷ [] =
+      ap (λ v. map line_view v.items) w.short-is
+      ∙ views-push w.push_whole-in-Some.new.short.items _ whole w.in_ok-last.last
+      (w.in_ok-push_whole-2.ensures ∙ ap (λ l. map line_view l ++ whole) c.in_ok-short.ensures.items)
+      w.in_ok-push.ensures.items in
+      let number : w.in-Some.whole + 1 ≡ c.args.most = omega (arith, w.in-Some.ensures) in
+      subst (AreShortened c.args.most c.args.width c.args.placeholder.now (texts_of lines)) (sym are)
+      (cut-lines c.args.most c.args.width c.args.placeholder.now lines w.in-Some.whole
+      w.index-lines-whole.result last number (omega (arith, number)) w.index-lines-whole.is
+      (subst (λ l. IsShortened c.args.width c.args.placeholder.now l last) w.deref.ensures.value
+      w.in_ok-last.ensures))
+  | else-lines-most+in_default w ↦ absurd (omega arith)
+]

@@ -1,0 +1,6 @@
+use Rattle.textwrap_display.proofs.shortening.shortened.Goals as goal
+use Rattle.textwrap_display.proofs.KeptPlaces.{may_end-boundary}
+
+pub range-kept-requires-clause-end_boundary : goal.range-kept-requires-clause-end_boundary
+range-kept-requires-clause-end_boundary g c =
+    may_end-boundary c.args.line.now c.kept_len.result c.utf8.line c.kept_len.ensures.ends

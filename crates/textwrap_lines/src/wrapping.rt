@@ -100,8 +100,29 @@ pub fn wrap<'t, A: Allocator + Copy>(
     ensures no_overflow { ¬ SomeMayPass64Bits options.entry text.now
         → IfErr result (λ error. error ≡ WrapError.Memory alloc_error) }
 {
+    let lines = wrap_by(alloc, text, &options)?;
+    Ok(lines)
+}
+
+/// The lines that [`wrap`] returns, by options that stay with the caller: many texts can be wrapped
+/// by them.
+///
+/// # Errors
+/// Those of [`wrap`].
+pub fn wrap_by<'t, A: Allocator + Copy>(
+    alloc: A,
+    text: &'t str,
+    options: &Options<'_>,
+) -> Result<Vec<CowStr<'t, A>, A>, WrapError>
+    ensures lines { IfOk result (λ lines. AreTextLines (settings_view options.now)
+        (DividesBy options.now) text.now (map line_view lines.items)) }
+    ensures only_memory { ¬ MayOverflow options.now
+        → IfErr result (λ error. error ≡ WrapError.Memory alloc_error) }
+    ensures no_overflow { ¬ SomeMayPass64Bits options.now text.now
+        → IfErr result (λ error. error ≡ WrapError.Memory alloc_error) }
+{
     let mut lines = LineSink::listed(alloc);
-    push_text(alloc, text, &options, Way::Shortest, &mut lines)?;
+    push_text(alloc, text, options, Way::Shortest, &mut lines)?;
     Ok(lines.into_list())
 }
 

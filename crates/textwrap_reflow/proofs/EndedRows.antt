@@ -8,6 +8,7 @@ use Rattle.std.specs.Str.Lines.{lines_of_parts, strip_carriage_return}
 use Rattle.textwrap.proofs.Common.{EndedLine, ended_lines_of}
 use Rattle.textwrap.proofs.Text.JoinedLines.{feed_joined}
 use Rattle.textwrap.proofs.Text.PlainLines.{IsRow}
+use Rattle.textwrap.proofs.Text.PlainUnfilled.{kept_return, no_feeds}
 use Rattle.textwrap.specs.Refilling.{has_text, line_before_feed}
 use Rattle.textwrap_lines.specs.LineEnding.{line_feed}
 use Rattle.textwrap_lines.specs.declared.line_ending.LineEnding.TheVariants.{LF}
@@ -15,11 +16,6 @@ use Rattle.textwrap_lines.specs.declared.line_ending.LineEnding.TheVariants.{LF}
 -- the rows with a line feed after each
 abbrev pub feed_ended : List (List ℕ) → List ℕ
 feed_ended rows = feed_joined rows ++ line_feed ∷ []
-
-no_feeds : (row : List ℕ) → IsRow row → All (λ c. (c == 10) ≡ false) row
-no_feeds row is =
-    All-weaker (λ c. c ≢ line_feed) (λ c. (c == 10) ≡ false) (λ c other. ne_eqb c 10 other) row
-    is.no_feed
 
 -- an empty part follows the last line feed
 pub split-ended : (row : List ℕ) (rows : List (List ℕ)) → All IsRow (row ∷ rows)
@@ -36,15 +32,12 @@ split-ended row (next ∷ rows) are =
 
 -- ---- its lines
 
-kept-row : (row : List ℕ) → IsRow row → strip_carriage_return row ≡ row
-kept-row row is = ap (λ b. cond b (take (length row - 1) row) row) (ne_eqb (last row) 13 is.ends.1)
-
 pub lines-parts : (row : List ℕ) (rows : List (List ℕ)) → All IsRow (row ∷ rows)
     → lines_of_parts ((row ∷ rows) ++ [] ∷ []) ≡ row ∷ rows
-lines-parts row [] are = ap (λ r. r ∷ []) (kept-row row (All-head IsRow row [] are))
+lines-parts row [] are = ap (λ r. r ∷ []) (kept_return row (All-head IsRow row [] are))
 lines-parts row (next ∷ rows) are =
     ap (λ r. r ∷ lines_of_parts ((next ∷ rows) ++ [] ∷ []))
-    (kept-row row (All-head IsRow row (next ∷ rows) are))
+    (kept_return row (All-head IsRow row (next ∷ rows) are))
     ∙ ap (λ rs. row ∷ rs) (lines-parts next rows (All-tail IsRow row (next ∷ rows) are))
 
 abbrev pub with_feed : List ℕ → EndedLine

@@ -17,7 +17,8 @@ use Rattle.textwrap_reflow.proofs.Common.{line_prefix, line_words, words_between
 use Rattle.textwrap_reflow.proofs.ContentTexts.{kept_text, kept-whole}
 use Rattle.textwrap_reflow.proofs.LinesOfWords.{joined, IsWordByte, IsWord, EndsWell, IsLine}
 use Rattle.textwrap_reflow.proofs.LinesOfWords.{AreInPrefix}
-use Rattle.textwrap_reflow.proofs.PrefixTexts.{rest-before, prefix-utf8, prefix-feedless}
+use Rattle.textwrap.proofs.Text.PlainIndents.{feedless}
+use Rattle.textwrap_reflow.proofs.PrefixTexts.{rest-before, prefix-utf8}
 
 -- a text that ends neither in a blank nor in a carriage return
 pub record IsContent (text : List ℕ) : Type 0 where
@@ -63,7 +64,7 @@ joined-line indent (word ∷ words) is some are ends =
     let have = joined-content word words are ends in
     record {
       utf8 = IsUtf8-append indent text (prefix-utf8 indent is) have.utf8;
-      bytes = All-append (λ c. c ≢ line_feed) indent text (prefix-feedless indent is) have.bytes;
+      bytes = All-append (λ c. c ≢ line_feed) indent text (feedless indent is) have.bytes;
       ends = λ e. eqb-false (last text) carriage_return (or_parts _ _ have.ends).1
           (sym (last-append indent text have.some) ∙ e);
     }

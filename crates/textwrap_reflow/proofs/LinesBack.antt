@@ -12,7 +12,8 @@ use Rattle.textwrap_reflow.proofs.Common.{line_prefix, line_words, stands_apart}
 use Rattle.textwrap_reflow.proofs.PartedWords.{Begins, ends-later, parted}
 use Rattle.textwrap_reflow.proofs.LinesOfWords.{AreCutInto, AreInPrefix, EndsWell, indented_lines, IsLine}
 use Rattle.textwrap_reflow.proofs.LinesOfWords.{IsWord, joined}
-use Rattle.textwrap_reflow.proofs.PrefixTexts.{prefix-before, rest-before}
+use Rattle.textwrap.proofs.Text.PlainIndents.{prefix-indented}
+use Rattle.textwrap_reflow.proofs.PrefixTexts.{rest-before}
 use Rattle.textwrap_reflow.proofs.WordTexts.{joined-blank, joined-fence, joined-prefix}
 use Rattle.textwrap_reflow.proofs.LineTexts.{joined-line, joined-words}
 use Rattle.textwrap_reflow.proofs.OneWord.{word-begins}
@@ -42,7 +43,7 @@ module _ (k : Bool) where
       let fence_is = fence-same text word (joined-fence word words here) ∙ fence in
       let shown = joined-blank (word ∷ words) are ∙ some in
       record {
-        prefix = prefix-before indent text within none;
+        prefix = prefix-indented indent text within none;
         stays = ap (stands_apart k None) (rest-before indent text within none)
             ∙ ap₂ (λ f b. is_some f || b) fence_is shown;
         line = joined-line indent (word ∷ words) within (λ no. cc) are ends;

@@ -15,7 +15,8 @@ use Rattle.textwrap_reflow.proofs.Common.{line_prefix, line_words, Paragraph, st
 use Rattle.textwrap_reflow.proofs.Grouping.{goes_on}
 use Rattle.textwrap_reflow.proofs.LinesOfWords.{AreInPrefix, IsLine, IsWord, joined}
 use Rattle.textwrap_reflow.proofs.LineTexts.{joined-line, joined-words}
-use Rattle.textwrap_reflow.proofs.PrefixTexts.{hanging-in, prefix-before, rest-before}
+use Rattle.textwrap.proofs.Text.PlainIndents.{prefix-indented}
+use Rattle.textwrap_reflow.proofs.PrefixTexts.{hanging-in, rest-before}
 use Rattle.textwrap_reflow.proofs.ShownLines.{IsShownLine}
 use Rattle.textwrap_reflow.proofs.WordTexts.{joined-prefix}
 use Rattle.textwrap_reflow.specs.Laws.{prefixed_lines}
@@ -31,7 +32,7 @@ begins (word ∷ words) is =
 module _ (indent : List ℕ) (is_indent : AreInPrefix indent) (words : List (List ℕ))
     (is : IsShownLine words) where
   pub prefix-is : line_prefix (indent ++ joined words) ≡ indent
-  prefix-is = prefix-before indent (joined words) is_indent (begins words is)
+  prefix-is = prefix-indented indent (joined words) is_indent (begins words is)
 
   pub stays : stands_apart false None (after_prefix (indent ++ joined words)) ≡ false
   stays = ap is_blank_line (rest-before indent (joined words) is_indent (begins words is)) ∙ is.shown

@@ -6,6 +6,7 @@ use Rattle.textwrap_base.proofs.Common.{drop_at, false_from_ne_true, IsAscii, Is
 use Rattle.textwrap_base.proofs.Common.{◌≢◌, false≢true, prefix_len, IsUtf8-drop, length-prefix_len}
 use Rattle.std.proofs.lemmas.List.Sums.{take_while-cons}
 use Rattle.textwrap.specs.Refilling.{is_prefix_character}
+use Rattle.textwrap.proofs.Text.PlainIndents.{prefix-indented}
 use Rattle.textwrap.proofs.Text.Prefixes.{line_prefix-ascii, line_prefix-boundary}
 use Rattle.textwrap_lines.specs.LineEnding.{line_feed}
 use Rattle.textwrap_reflow.specs.Prefixes.{is_bullet}
@@ -41,11 +42,6 @@ bare-from c cs other =
     take_while-cons is_prefix_character c cs
     ∙ ap (λ b. cond b (c ∷ line_prefix cs) []) other
 
-pub bare-append : (text more : List ℕ) → text ≢ [] → line_prefix text ≡ []
-    → line_prefix (text ++ more) ≡ []
-bare-append [] more some none = absurd (some refl)
-bare-append (c ∷ text) more some none = bare-from c (text ++ more) (bare-first c text none)
-
 pub rest-bare : (line : List ℕ) → line_prefix (after_prefix line) ≡ []
 rest-bare [] = refl
 rest-bare (c ∷ cs) = at (is_prefix_character c) refl (rest-bare cs)
@@ -61,31 +57,18 @@ rest-bare (c ∷ cs) = at (is_prefix_character c) refl (rest-bare cs)
 
 -- ---- such a text behind an indent
 
-pub prefix-before : (indent text : List ℕ) → AreInPrefix indent → line_prefix text ≡ []
-    → line_prefix (indent ++ text) ≡ indent
-prefix-before [] text is none = none
-prefix-before (c ∷ indent) text is none =
-    take_while-cons is_prefix_character c (indent ++ text)
-    ∙ ap (λ b. cond b (c ∷ line_prefix (indent ++ text)) []) (All-head IsIn c indent is)
-    ∙ ap (λ l. c ∷ l) (prefix-before indent text (All-tail IsIn c indent is) none)
-
 pub rest-before : (indent text : List ℕ) → AreInPrefix indent → line_prefix text ≡ []
     → after_prefix (indent ++ text) ≡ text
 rest-before indent text is none =
-    ap (λ l. drop (length l) (indent ++ text)) (prefix-before indent text is none)
+    ap (λ l. drop (length l) (indent ++ text)) (prefix-indented indent text is none)
     ∙ drop_at indent text (length indent) refl
 
 -- ---- the bytes of a prefix, and of what follows it
 
 pub prefix-utf8 : (indent : List ℕ) → AreInPrefix indent → IsUtf8 indent
 prefix-utf8 indent is =
-    IsUtf8-from_ascii indent (subst IsAscii (prefix-before indent [] is refl)
+    IsUtf8-from_ascii indent (subst IsAscii (prefix-indented indent [] is refl)
     (line_prefix-ascii (indent ++ [])))
-
-pub prefix-feedless : (indent : List ℕ) → AreInPrefix indent → All (λ c. c ≢ line_feed) indent
-prefix-feedless indent is =
-    All-weaker IsIn (λ c. c ≢ line_feed)
-    (λ c here feed. false≢true (ap is_prefix_character (sym feed) ∙ here)) indent is
 
 pub rest-utf8 : (line : List ℕ) → IsUtf8 line → IsUtf8 (after_prefix line)
 rest-utf8 line utf8 =

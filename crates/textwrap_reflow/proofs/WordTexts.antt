@@ -16,7 +16,7 @@ use Rattle.textwrap_reflow.specs.declared.fences.Fence.TheVariants.{Backticks, T
 use Rattle.textwrap_reflow.proofs.Common.{blank, is_left_off, line_prefix}
 use Rattle.textwrap_reflow.proofs.JoinedText.{later_text}
 use Rattle.textwrap_reflow.proofs.LinesOfWords.{joined, IsWord}
-use Rattle.textwrap_reflow.proofs.PrefixTexts.{bare-append}
+use Rattle.textwrap.proofs.Text.PlainLines.{prefix-append}
 
 pub joined-is : (word : List ℕ) (words : List (List ℕ))
     → joined (word ∷ words) ≡ word ++ later_text words
@@ -28,7 +28,7 @@ joined-is word (next ∷ words) =
 pub joined-prefix : (word : List ℕ) (words : List (List ℕ)) → IsWord word → line_prefix word ≡ []
     → line_prefix (joined (word ∷ words)) ≡ []
 joined-prefix word words is none =
-    ap line_prefix (joined-is word words) ∙ bare-append word (later_text words) is.some none
+    ap line_prefix (joined-is word words) ∙ prefix-append word (later_text words) is.some none
 
 -- ---- fences
 

@@ -11,8 +11,8 @@ ghost use Rattle.textwrap_words.specs.Words.{words_of};
 
 use crate::blanks::blanks_end;
 use crate::escapes::State;
+use crate::inner::columns;
 use crate::word_splitters::hyphens::is_hyphen_point;
-use crate::words::columns;
 
 /// Where a piece of a text stands. It begins where the one before it ends.
 #[derive(Clone, Copy, Debug)]

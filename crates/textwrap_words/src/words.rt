@@ -2,17 +2,17 @@
 //! `foo bar` has 7 columns, and its word `foo` is a fragment of width 3, with a blank after it.
 ghost use Rattle.std.specs.Prelude.{◌≡◌, ◌≢◌, ℕ, ◌+◌, ◌*◌, ◌<◌, ◌≤◌, length, drop, slice_index};
 ghost use Rattle.std.specs.Prelude.{All, IfOk, IsCharBoundary, string_bytes};
-ghost use Rattle.textwrap_words.specs.Units.{columns, text_width, escape, stripped};
+ghost use Rattle.textwrap_words.specs.Units.{text_width, escape, stripped};
 ghost use Rattle.textwrap_words.specs.Words.{word_view, sizes_of, word_of};
 
 use crate::blanks::split_final_blanks;
 use crate::escapes::State;
+use crate::inner::columns;
 use crate::printable::printable_len;
 pub use breaking::{BreakApart, break_words};
 use std::alloc::{AllocError, Allocator};
 pub use textwrap_base::Fragment;
 use textwrap_base::Penalties;
-use unicode_width::UnicodeWidthChar;
 
 mod breaking;
 
@@ -118,13 +118,6 @@ pub fn strip_ansi_escape_sequences<A: Allocator + Copy>(
         state = next;
     }
     Ok(plain)
-}
-
-/// The columns of a character alone, 0 for a control character.
-pub(crate) fn columns(ch: char) -> usize
-    ensures { result ≡ columns ch }
-{
-    ch.width().unwrap_or(0)
 }
 
 /// A word of a text and what follows it. The texts are borrowed, so a copy needs no memory.

@@ -20,10 +20,10 @@ use Rattle.textwrap.proofs.Text.RowEndings.{keeps-rows}
 
 -- ---- a line and its indent
 
-feedless : (indent : List ℕ) → IsIndent indent → All (λ c. c ≢ line_feed) indent
+pub feedless : (indent : List ℕ) → IsIndent indent → All (λ c. c ≢ line_feed) indent
 feedless indent is = grind (arith, All-weaker)
 
-prefix-indented : (indent line : List ℕ) → IsIndent indent → line_prefix line ≡ []
+pub prefix-indented : (indent line : List ℕ) → IsIndent indent → line_prefix line ≡ []
     → line_prefix (indent ++ line) ≡ indent
 prefix-indented [] line is none = none
 prefix-indented (c ∷ indent) line is none =

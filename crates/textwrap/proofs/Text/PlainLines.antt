@@ -19,7 +19,7 @@ use Rattle.textwrap.proofs.Text.JoinedLines.{blank_joined, feed_joined}
 -- ---- what plain lines begin and end with
 
 -- a text without prefix characters in front, with more behind it
-prefix-append : (text more : List ℕ) → text ≢ [] → line_prefix text ≡ []
+pub prefix-append : (text more : List ℕ) → text ≢ [] → line_prefix text ≡ []
     → line_prefix (text ++ more) ≡ []
 prefix-append [] more some none = absurd (some refl)
 prefix-append (c ∷ text) more some none =

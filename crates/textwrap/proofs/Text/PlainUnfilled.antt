@@ -11,7 +11,7 @@ use Rattle.textwrap.specs.Refilling.{has_text}
 use Rattle.textwrap.proofs.Text.JoinedLines.{feed_joined}
 use Rattle.textwrap.proofs.Text.PlainLines.{IsRow}
 
-no_feeds : (line : List ℕ) → IsRow line → All (λ c. (c == 10) ≡ false) line
+pub no_feeds : (line : List ℕ) → IsRow line → All (λ c. (c == 10) ≡ false) line
 no_feeds line here = grind (arith, All-weaker)
 
 split_feeds : (line : List ℕ) (others : List (List ℕ)) → All IsRow (line ∷ others)
@@ -27,7 +27,7 @@ split_feeds line (next ∷ others) rows =
     ∙ ap (λ ls. line ∷ ls)
     (split_feeds next others (All-tail IsRow line (next ∷ others) rows))
 
-kept_return : (line : List ℕ) → IsRow line → strip_carriage_return line ≡ line
+pub kept_return : (line : List ℕ) → IsRow line → strip_carriage_return line ≡ line
 kept_return line here = ap (λ b. cond b (take (length line - 1) line) line)
     (ne_eqb (last line) 13 here.ends.1)
 

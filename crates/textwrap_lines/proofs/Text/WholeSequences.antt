@@ -24,7 +24,7 @@ whole-append (u ∷ w ∷ us) vs whole are = (
   whole-append (w ∷ us) vs (All-tail IsWhole u (w ∷ us) whole) are,
 )
 
-units-append : (cs ds : List ℕ) → All IsWhole (units cs) → units (cs ++ ds) ≡ units cs ++ units ds
+pub units-append : (cs ds : List ℕ) → All IsWhole (units cs) → units (cs ++ ds) ≡ units cs ++ units ds
 units-append cs ds whole =
     grind (arith, units_unique, flat_map-append, units-tile, whole-append, IsInUnits-units)
 

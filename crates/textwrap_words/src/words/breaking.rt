@@ -6,8 +6,9 @@ ghost use Rattle.textwrap_words.specs.Breaking.{broken_texts, broken_word, broke
 ghost use Rattle.textwrap_words.specs.Units.{text_width};
 ghost use Rattle.textwrap_words.specs.Words.{word_view};
 
-use super::{Word, columns};
+use super::Word;
 use crate::escapes::State;
+use crate::inner::columns;
 use std::alloc::{AllocError, Allocator};
 
 /// An iterator over the pieces of a word, made by `Word::break_apart`. It gives them in order and

@@ -1,45 +1,37 @@
 use Rattle.textwrap_lines.proofs.wrapping.wrap.Goals as goal
-use Rattle.textwrap_base.proofs.Common.{map, sym, subst, ◌∙◌}
-use Rattle.textwrap_lines.proofs.Common.{settings_view, line_view, DividesBy, AreTextLines}
+use Rattle.textwrap_base.proofs.Common.{map}
+use Rattle.textwrap_lines.proofs.Common.{line_view}
 use Rattle.textwrap_words.proofs.Common.{Greedy}
 use Rattle.textwrap_lines.proofs.Text.Wrapped.{IsWrapped-options, LinesKeepToWidth-options}
 use Rattle.textwrap_lines.proofs.Text.Wrapped.{LinesKeepToWidth-from}
 use Rattle.textwrap_lines.proofs.Text.Printed.{ArePrintedWithin-from}
 use Rattle.textwrap_lines.proofs.Paragraph.BuiltIn.{lines-as}
 
-pub into_list-requires : goal.into_list-requires
-into_list-requires g c =
-    let (taken, are, holds, kind) = c.in_ok-push_text.ensures.lines in
-    kind ∙ c.listed-lines.ensures.kind
-
 pub returns-clause-lines : goal.returns-clause-lines
 returns-clause-lines g c =
     let options = c.args.options in
-    let lines = map line_view c.into_list.result.items in
-    let (taken, are, holds, kind) = c.in_ok-push_text.ensures.lines in
-    IsWrapped-options options c.args.text.now lines c.utf8.text
-    (subst (AreTextLines (settings_view options) (DividesBy options) c.args.text.now)
-    (sym (c.into_list.ensures taken holds)) are.are)
+    let lines = map line_view c.in_ok-lines.lines.items in
+    IsWrapped-options options c.args.text.now lines c.utf8.text c.in_ok-lines.ensures.lines
 
 pub returns-clause-even : goal.returns-clause-even
 returns-clause-even g c = λ even first built_in breaks.
     LinesKeepToWidth-options c.args.options c.args.text.now
-    (map line_view c.into_list.result.items)
+    (map line_view c.in_ok-lines.lines.items)
     c.utf8.text even first built_in breaks (returns-clause-lines g c).are
 
 pub returns-clause-built_in : goal.returns-clause-built_in
 returns-clause-built_in g c = λ settings splitter algorithm parts.
     lines-as c.args.options settings splitter algorithm parts c.args.text.now
-    (map line_view c.into_list.result.items) (returns-clause-lines g c).are
+    (map line_view c.in_ok-lines.lines.items) (returns-clause-lines g c).are
 
 pub returns-clause-built_in_even : goal.returns-clause-built_in_even
 returns-clause-built_in_even g c = λ settings splitter parts even breaks.
     LinesKeepToWidth-from settings splitter c.args.text.now
-    (map line_view c.into_list.result.items) c.utf8.text even breaks
+    (map line_view c.in_ok-lines.lines.items) c.utf8.text even breaks
     (returns-clause-built_in g c settings splitter Greedy parts)
 
 pub returns-clause-printed : goal.returns-clause-printed
 returns-clause-printed g c = λ settings splitter parts can.
     ArePrintedWithin-from settings splitter c.args.text.now
-    (map line_view c.into_list.result.items) c.utf8.text can
+    (map line_view c.in_ok-lines.lines.items) c.utf8.text can
     (returns-clause-built_in g c settings splitter Greedy parts)

@@ -12,7 +12,8 @@ use Rattle.textwrap_display.specs.Shortening.{may_end}
 use Rattle.textwrap_display.proofs.KeptChunks.{BlankFollows, first-chunks}
 use Rattle.textwrap_display.proofs.KeptPlaces.{may_end-cases}
 
-trimmed-blanks : (text bs : List ℕ) → AreBlanks bs
+-- blanks at the end of a text are final ones
+pub trimmed-blanks : (text bs : List ℕ) → AreBlanks bs
     → without_final_blanks (text ++ bs) ≡ without_final_blanks text
 trimmed-blanks text [] blanks = ap without_final_blanks (append-nil text)
 trimmed-blanks text (b ∷ bs) blanks =

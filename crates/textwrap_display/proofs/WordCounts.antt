@@ -5,7 +5,14 @@ use Rattle.textwrap_base.proofs.Common.{ap, prefix_len, sym, ◌∙◌, zero, su
 use Rattle.textwrap_base.proofs.Utf8.{IsCharBoundary-after_blank}
 use Rattle.std.proofs.lemmas.Str.{IsCharBoundary-start}
 use Rattle.std.specs.List.{onto_first, slice_index}
-use Rattle.std.proofs.lemmas.List.Sums.{prefix_len_passes, prefix_len_stops, prefix_len-le-length}
+use Rattle.std.proofs.lemmas.List.{get_or-append-add}
+use Rattle.std.proofs.lemmas.List.Folds.{length-prefix_len}
+use Rattle.std.proofs.lemmas.List.Sums.{prefix_len_is, prefix_len_passes, prefix_len_stops}
+use Rattle.std.proofs.lemmas.List.Sums.{prefix_len-drop_all, prefix_len-drop_no}
+use Rattle.std.proofs.lemmas.List.Sums.{prefix_len-le-length}
+use Rattle.textwrap_base.proofs.Common.{◌++◌, drop, get_or-take, get_or_append_left, length-append}
+use Rattle.textwrap_base.proofs.Common.{take}
+use Rattle.textwrap_display.specs.Justifying.{indent_len}
 use Rattle.textwrap_words.specs.Blanks.{blank, BlanksBetween, is_blank}
 use Rattle.textwrap_words.specs.Words.{chunks, is_cut, word_of, words_of}
 
@@ -50,3 +57,33 @@ indent-boundary text (suc n) utf8 within blanks =
     IsCharBoundary-after_blank text (suc n) utf8 (omega arith) within
     (λ inside. ap (λ m. get_or text m 0) here
     ∙ eqb-true (get_or text n 0) blank (blanks n (omega arith) (omega arith)))
+
+-- ---- what follows the blanks before the first word
+
+-- blanks that a line begins with, before a text that begins with none
+pub indent-kept : (line text : List ℕ) → prefix_len is_blank text ≡ 0
+    → indent_len (take (indent_len line) line ++ text) ≡ indent_len line
+indent-kept line text none =
+    let n = indent_len line in
+    let front = take n line in
+    let len : length front ≡ n = length-prefix_len is_blank line in
+    let place : length front + 0 ≡ n = omega (arith, len) in
+    prefix_len_is is_blank (front ++ text) n 0 (omega (arith, length-append front text, len))
+    (λ k below.
+    ap is_blank (get_or_append_left front text 0 k (omega (arith, below, len))
+    ∙ get_or-take n line k 0 below)
+    ∙ prefix_len_passes is_blank line k 0 below)
+    (λ more.
+    ap (λ m. is_blank (get_or (front ++ text) m 0)) (sym place)
+    ∙ ap is_blank (get_or-append-add front text 0 0)
+    ∙ ap (λ m. is_blank (get_or text m 0)) (sym none)
+    ∙ prefix_len_stops is_blank text 0 (omega (arith, more, length-append front text, len, none)))
+
+-- what follows them begins with no blank
+pub after-plain : (line : List ℕ) → prefix_len is_blank (drop (indent_len line) line) ≡ 0
+after-plain line =
+    let n = indent_len line in
+    elim (cases_lt n (length line)) [
+      | inl less ↦ prefix_len-drop_no is_blank line n 0 less (prefix_len_stops is_blank line 0 less)
+      | inr past ↦ prefix_len-drop_all is_blank line n past
+    ]

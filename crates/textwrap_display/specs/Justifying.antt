@@ -1,6 +1,6 @@
 -- A line whose gaps between words are widened up to a width.
-use Rattle.std.specs.Prelude.{ℕ, zero, suc, ◌-◌, ◌/◌, ◌%◌, ◌==◌, ◌||◌, List, [], ◌∷◌, ◌++◌, length, take, drop}
-use Rattle.std.specs.Prelude.{if◌then◌else◌}
+use Rattle.std.specs.Prelude.{ℕ, zero, suc, ◌-◌, ◌/◌, ◌%◌, ◌==◌, ◌||◌, ◌+◌, min, List, []}
+use Rattle.std.specs.Prelude.{◌∷◌, ◌++◌, length, take, drop, if◌then◌else◌}
 use Rattle.std.specs.List.{prefix_len}
 use Rattle.textwrap.specs.Columns.{blanks}
 use Rattle.textwrap_lines.specs.Paragraph.{Line, Built, Slice}
@@ -31,6 +31,15 @@ widened_later each (suc extra) (w ∷ words) =
 abbrev pub widened : ℕ → ℕ → List WordText → List ℕ
 widened each extra [] = []
 widened each extra (w ∷ words) = (w.word ++ w.whitespace) ++ widened_later each extra words
+
+-- the same words, each but the last with so many blanks more after it, and the first ones with one
+-- more than that
+abbrev pub widened_words : ℕ → ℕ → List WordText → List WordText
+widened_words each extra [] = []
+widened_words each extra (w ∷ []) = w ∷ []
+widened_words each extra (w ∷ v ∷ words) =
+    record w { whitespace = w.whitespace ++ blanks (each + min extra 1) }
+    ∷ widened_words each (extra - 1) (v ∷ words)
 
 -- the spare columns are divided evenly among the gaps, and what is left over goes to the first ones
 abbrev pub justified : ℕ → List ℕ → Line

@@ -1,13 +1,20 @@
 -- The statements of the laws, each under a name that a caller can cite.
-use Rattle.std.specs.Prelude.{◌≡◌, ◌≢◌, ℕ, ◌≤◌, List, All, IsUtf8, length, map, take}
+use Rattle.std.specs.Prelude.{◌≡◌, ◌≢◌, ℕ, ◌-◌, ◌/◌, ◌%◌, ◌≤◌, List, [], All, IsUtf8, length, map}
+use Rattle.std.specs.Prelude.{take}
+use Rattle.std.specs.List.{concat, flat_map}
 use Rattle.textwrap_display.specs.Alignment.{aligned}
-use Rattle.textwrap_display.specs.Justifying.{gaps, justified, line_words}
+use Rattle.textwrap_display.specs.Justifying.{gaps, indent_len, justified, line_words}
+use Rattle.textwrap_display.specs.Justifying.{widened_words}
 use Rattle.textwrap_display.specs.Shortening.{IsKept, IsShortened}
 use Rattle.textwrap_display.specs.declared.alignment.Alignment.{Alignment}
 use Rattle.textwrap_lines.specs.Text.{HasWholeSequences}
 use Rattle.textwrap_words.specs.Units.{text_width}
 use Rattle.textwrap_words.specs.Words.{words_of}
-use Rattle.textwrap_lines.specs.Paragraph.{Line, line_bytes}
+use Rattle.textwrap_lines.specs.Paragraph.{Line, Slice, line_bytes}
+use Rattle.textwrap_display.specs.Styled.{EachWithIndent, EndsPlain, IsWholeText, MayCarry}
+use Rattle.textwrap_display.specs.Styled.{styled_lines, styled_text}
+use Rattle.textwrap_display.specs.Indents.{after_indent}
+use Rattle.textwrap_display.specs.Styles.{carried_lines, sequences}
 
 -- a line that is not wider than the width is as wide once it is aligned
 abbrev pub AlignedLinesAreAsWide : Type 0
@@ -23,6 +30,18 @@ JustifiedLinesAreAsWide =
     → IsUtf8 line → All (λ w. HasWholeSequences w.word) (line_words line)
     → gaps line ≢ 0 → text_width line ≤ width
     → text_width (line_bytes (justified width line)) ≡ width
+
+-- a justified line begins with the same blanks and has the same words, in their order; each but the
+-- last has as many blanks more after it, and the first ones have one more than that
+pub record KeepsWords (width : ℕ) (line new : List ℕ) : Type 0 where
+  pub indent : take (indent_len new) new ≡ take (indent_len line) line
+  pub words : map (λ w. w.word) (line_words new) ≡ map (λ w. w.word) (line_words line)
+  pub spaces : let spare = width - text_width line in line_words new
+      ≡ widened_words (spare / gaps line) (spare % gaps line) (line_words line)
+
+abbrev pub JustifiedLinesKeepWords : Type 0
+JustifiedLinesKeepWords =
+    (width : ℕ) (line : List ℕ) → KeepsWords width line (line_bytes (justified width line))
 
 -- ---- shortened lines
 
@@ -50,3 +69,46 @@ abbrev pub KeptWordsAreTheFirst : Type 0
 KeptWordsAreTheFirst =
     (width : ℕ) (placeholder line : List ℕ) (n : ℕ) → IsKept width placeholder line n
     → let kept = word_texts (take n line) in take (length kept) (word_texts line) ≡ kept
+
+-- ---- styles that are carried over the ends of lines
+
+-- each visible character has the link and the styles that it has in the text
+abbrev pub CarriedLinesKeepStyles : Type 0
+CarriedLinesKeepStyles =
+    (indent later : List ℕ) (lines : List (List ℕ)) → EachWithIndent MayCarry indent later lines
+    → map (λ l. styled_text [] (line_bytes l)) (carried_lines indent later [] lines)
+    ≡ styled_lines indent later [] lines
+
+-- lines without indents, each read by itself, show what the text shows that they join to
+abbrev pub CarriedLinesShowTheirText : Type 0
+CarriedLinesShowTheirText =
+    (lines : List (List ℕ)) → All IsWholeText lines
+    → flat_map (λ l. styled_text [] (line_bytes l)) (carried_lines [] [] [] lines)
+    ≡ styled_text [] (concat lines)
+
+-- at the end of each line no style and no link is open
+abbrev pub CarriedLinesEndPlain : Type 0
+CarriedLinesEndPlain =
+    (indent later : List ℕ) (lines : List (List ℕ)) → EachWithIndent MayCarry indent later lines
+    → All (λ l. EndsPlain (line_bytes l)) (carried_lines indent later [] lines)
+
+-- each line is as wide as it was
+abbrev pub CarriedLinesAreAsWide : Type 0
+CarriedLinesAreAsWide =
+    (indent later : List ℕ) (lines : List (List ℕ)) → EachWithIndent MayCarry indent later lines
+    → map (λ l. text_width (line_bytes l)) (carried_lines indent later [] lines)
+    ≡ map text_width lines
+
+-- whole lines may carry styles under whole indents that leave nothing open
+abbrev pub WholeLinesMayCarry : Type 0
+WholeLinesMayCarry =
+    (indent later : List ℕ) (lines : List (List ℕ)) → IsWholeText indent → EndsPlain indent
+    → IsWholeText later → EndsPlain later → All IsWholeText lines
+    → EachWithIndent MayCarry indent later lines
+
+-- lines whose texts have no escape sequence stay as they are
+abbrev pub PlainLinesStay : Type 0
+PlainLinesStay =
+    (indent later : List ℕ) (lines : List (List ℕ))
+    → EachWithIndent (λ i line. sequences (after_indent i line) ≡ []) indent later lines
+    → carried_lines indent later [] lines ≡ map Slice lines

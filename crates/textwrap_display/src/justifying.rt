@@ -1,7 +1,9 @@
 //! A line whose gaps between words are widened up to a width.
-ghost use Rattle.std.specs.Prelude.{◌≡◌, ◌-◌, ◌++◌, length, drop, string_bytes, take, IfOk, OnOk};
-ghost use Rattle.textwrap_display.specs.Justifying.{gaps, indent_len, justified, widened};
-ghost use Rattle.textwrap_lines.specs.Paragraph.{line_view};
+ghost use Rattle.std.specs.Prelude.{◌≡◌, ◌≢◌, ◌-◌, ◌/◌, ◌%◌, ◌++◌, length, drop, string_bytes};
+ghost use Rattle.std.specs.Prelude.{take, IfOk, MatchOption, OnOk};
+ghost use Rattle.textwrap_display.specs.Justifying.{gaps, indent_len, justified, line_words};
+ghost use Rattle.textwrap_display.specs.Justifying.{widened};
+ghost use Rattle.textwrap_lines.specs.Paragraph.{Built, Slice, line_bytes, line_view};
 ghost use Rattle.textwrap_words.specs.Words.{words_of};
 
 use std::alloc::{AllocError, Allocator};
@@ -26,18 +28,67 @@ pub fn justify<'t, A: Allocator>(
 ) -> Result<CowStr<'t, A>, AllocError>
     ensures { IfOk result (λ text. line_view text ≡ justified width line.now) }
 {
-    let (indent, rest) = split_indent(line);
+    let Some((spare, gaps)) = spare_and_gaps::<A>(line, width) else {
+        return Ok(CowStr::Borrowed(line));
+    };
+    let mut text = String::new(alloc);
+    push_spread(&mut text, line, spare, gaps)?;
+    Ok(CowStr::Owned(text))
+}
+
+/// Adds the line to the text, as [`justify`] makes it.
+///
+/// # Errors
+/// Those of [`justify`].
+pub(crate) fn push_justified<A: Allocator>(
+    text: &mut String<A>,
+    line: &str,
+    width: usize,
+) -> Result<(), AllocError>
+    ensures { OnOk result (string_bytes text.new
+        ≡ string_bytes text.old ++ line_bytes (justified width line.now)) }
+{
+    match spare_and_gaps::<A>(line, width) {
+        Some((spare, gaps)) => push_spread(text, line, spare, gaps),
+        None => text.push_str(line),
+    }
+}
+
+/// How many columns the line falls short of the width, and over how many gaps these are spread;
+/// nothing of a line that stays as it is.
+fn spare_and_gaps<A: Allocator>(line: &str, width: usize) -> Option<(usize, usize)>
+    ensures { MatchOption result (justified width line.now ≡ Slice line.now)
+        (λ (spare, gaps). (gaps ≢ 0) × (justified width line.now ≡ Built
+        (take (indent_len line.now) line.now
+        ++ widened (spare / gaps) (spare % gaps) (line_words line.now)))) }
+{
     let spare = width.saturating_sub(display_width(line));
+    let (_indent, rest) = split_indent(line);
     let gaps = count_gaps::<A>(rest);
     if spare == 0 || gaps == 0 {
-        return Ok(CowStr::Borrowed(line));
+        return None;
     }
+    Some((spare, gaps))
+}
+
+/// Adds the line to the text, with so many blanks more in so many gaps.
+fn push_spread<A: Allocator>(
+    text: &mut String<A>,
+    line: &str,
+    spare: usize,
+    gaps: usize,
+) -> Result<(), AllocError>
+    requires { gaps ≢ 0 }
+    ensures { OnOk result (string_bytes text.new ≡ string_bytes text.old
+        ++ (take (indent_len line.now) line.now
+        ++ widened (spare / gaps) (spare % gaps) (line_words line.now))) }
+{
     // Reserved before a blank is written, so that a text that fits no memory is refused at once.
     let len = line.len().checked_add(spare).ok_or(AllocError)?;
-    let mut text = String::with_capacity(alloc, len)?;
+    text.reserve(len)?;
+    let (indent, rest) = split_indent(line);
     text.push_str(indent)?;
-    push_widened(&mut text, rest, spare / gaps, spare % gaps)?;
-    Ok(CowStr::Owned(text))
+    push_widened(text, rest, spare / gaps, spare % gaps)
 }
 
 /// The blanks before the first word, and what follows them.

@@ -3,9 +3,12 @@
 //!
 //! A law has no example: its statement is all there is to it. A call is written
 //! `aligned_lines_are_as_wide();`.
-ghost use Rattle.textwrap_display.specs.Laws.{AlignedLinesAreAsWide, JustifiedLinesAreAsWide};
-ghost use Rattle.textwrap_display.specs.Laws.{KeptBeginningsAreUnique, KeptWordsAreTheFirst};
-ghost use Rattle.textwrap_display.specs.Laws.{ShortenedLinesKeepToWidth};
+ghost use Rattle.textwrap_display.specs.Laws.{AlignedLinesAreAsWide, CarriedLinesAreAsWide};
+ghost use Rattle.textwrap_display.specs.Laws.{CarriedLinesEndPlain, CarriedLinesKeepStyles};
+ghost use Rattle.textwrap_display.specs.Laws.{CarriedLinesShowTheirText, JustifiedLinesAreAsWide};
+ghost use Rattle.textwrap_display.specs.Laws.{JustifiedLinesKeepWords, KeptBeginningsAreUnique};
+ghost use Rattle.textwrap_display.specs.Laws.{KeptWordsAreTheFirst, PlainLinesStay};
+ghost use Rattle.textwrap_display.specs.Laws.{ShortenedLinesKeepToWidth, WholeLinesMayCarry};
 
 /// A line that is not wider than the width is exactly as wide once it is aligned, if its escape
 /// sequences end in it.
@@ -17,6 +20,13 @@ pub fn aligned_lines_are_as_wide()
 /// is justified, if the escape sequences of each word end in it.
 pub fn justified_lines_are_as_wide()
     ensures { JustifiedLinesAreAsWide }
+{}
+
+/// A justified line has the words of the line, in their order, and begins with the same blanks.
+/// Each word but the last has as many blanks more after it, and the first ones have one more than
+/// that.
+pub fn justified_lines_keep_words()
+    ensures { JustifiedLinesKeepWords }
 {}
 
 /// One number of bytes is kept of a line that is cut, so it becomes one line.
@@ -33,4 +43,36 @@ pub fn shortened_lines_keep_to_width()
 /// No word is cut: the words of what is kept are the first words of the line.
 pub fn kept_words_are_the_first()
     ensures { KeptWordsAreTheFirst }
+{}
+
+/// Where styles are carried over the ends of lines, each visible character of a line has the link
+/// and the styles that it has in the text that goes on from line to line.
+pub fn carried_lines_keep_styles()
+    ensures { CarriedLinesKeepStyles }
+{}
+
+/// Without indents these lines, each read by itself, show what the text shows that they join to.
+pub fn carried_lines_show_their_text()
+    ensures { CarriedLinesShowTheirText }
+{}
+
+/// Each of these lines ends with no style and no link open.
+pub fn carried_lines_end_plain()
+    ensures { CarriedLinesEndPlain }
+{}
+
+/// Each of these lines takes as many columns as it did.
+pub fn carried_lines_are_as_wide()
+    ensures { CarriedLinesAreAsWide }
+{}
+
+/// These laws hold of lines whose escape sequences end in them, under indents of which the same is
+/// true and that leave no style and no link open.
+pub fn whole_lines_may_carry()
+    ensures { WholeLinesMayCarry }
+{}
+
+/// Lines whose texts have no escape sequence stay as they are.
+pub fn plain_lines_stay()
+    ensures { PlainLinesStay }
 {}

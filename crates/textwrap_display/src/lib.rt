@@ -1,4 +1,5 @@
-//! Lines for display: aligned, justified and shortened. Beside `textwrap`, on its widths and words.
+//! Lines for display: aligned, justified and shortened, and texts of justified lines. Beside
+//! `textwrap`, on its widths and words.
 //!
 //! ```rust
 //! let line = justify(alloc, "a few words", 14)?;
@@ -8,10 +9,12 @@
 #![tactic(auto)]
 
 pub use alignment::{Alignment, align};
+pub use filling::fill_justified;
 pub use justifying::justify;
 pub use shortening::{shorten, shorten_lines};
 
 mod alignment;
+mod filling;
 mod justifying;
 pub mod laws;
 mod shortening;

@@ -3,13 +3,13 @@ ghost use Rattle.std.specs.Prelude.{◌≡◌, ◌++◌, ◌<◌, ◌≤◌, [],
 ghost use Rattle.textwrap_display.specs.Shortening.{AreShortened, IsKept, IsShortened};
 ghost use Rattle.textwrap_display.specs.Shortening.{texts_of};
 ghost use Rattle.textwrap_lines.specs.Paragraph.{Built, Slice, line_view};
-ghost use Rattle.textwrap_words.specs.Units.{columns, text_width};
+ghost use Rattle.textwrap_words.specs.Units.{text_width};
 
 use std::alloc::{AllocError, Allocator};
 use std::borrow::CowStr;
 use textwrap::words::display_width;
 use textwrap_words::escapes::State;
-use unicode_width::UnicodeWidthChar;
+use textwrap_words::inner::columns;
 
 /// The lines, at most so many. Where some are left out, the last one that is not ends in the
 /// placeholder: it is cut as [`shorten`] cuts a line that is too wide, or stands whole before the
@@ -133,11 +133,4 @@ fn kept_len(line: &str, width: usize, placeholder: &str) -> usize
     } else {
         line.len()
     }
-}
-
-/// The columns of a character alone, 0 for a control character.
-fn columns(ch: char) -> usize
-    ensures { result ≡ columns ch }
-{
-    ch.width().unwrap_or(0)
 }

@@ -1,0 +1,31 @@
+-- The units and the sequences of texts of whole sequences that are put together.
+use Rattle.textwrap_base.proofs.Common.{◌≡◌, inl, List, [], ◌∷◌, ◌++◌, All, All-append, All-head}
+use Rattle.textwrap_base.proofs.Common.{All-tail, ap, arith, chars-append, flat_map}
+use Rattle.textwrap_base.proofs.Common.{flat_map-append, IsUtf8-append, subst, sym, ◌∙◌}
+use Rattle.std.specs.Prelude.{ℕ}
+use Rattle.std.specs.Str.{chars}
+use Rattle.textwrap_words.specs.Units.{AreUnits, IsWhole, TextUnit, units}
+use Rattle.textwrap_words.proofs.Units.Computed.{IsInUnits-units}
+use Rattle.textwrap_words.proofs.Units.Parts.{units-tile}
+use Rattle.textwrap_words.proofs.Units.Unique.{units_unique}
+use Rattle.textwrap_lines.proofs.Text.WholeSequences.{units-append}
+use Rattle.textwrap_display.specs.Styled.{IsWholeText}
+use Rattle.textwrap_display.specs.Styles.{sequence_of, sequences}
+
+pub text_units-append : (xs ys : List ℕ) → IsWholeText xs
+    → units (chars (xs ++ ys)) ≡ units (chars xs) ++ units (chars ys)
+text_units-append xs ys whole =
+    ap units (chars-append xs ys whole.0) ∙ units-append (chars xs) (chars ys) whole.1
+
+pub whole_text-append : (xs ys : List ℕ) → IsWholeText xs → IsWholeText ys → IsWholeText (xs ++ ys)
+whole_text-append xs ys first second = (
+  IsUtf8-append xs ys first.0 second.0,
+  subst (All IsWhole) (sym (text_units-append xs ys first))
+      (All-append IsWhole (units (chars xs)) (units (chars ys)) first.1 second.1),
+)
+
+pub sequences-append : (xs ys : List ℕ) → IsWholeText xs
+    → sequences (xs ++ ys) ≡ sequences xs ++ sequences ys
+sequences-append xs ys whole =
+    ap (flat_map sequence_of) (text_units-append xs ys whole)
+    ∙ flat_map-append sequence_of (units (chars xs)) (units (chars ys))

@@ -1,0 +1,21 @@
+use Rattle.textwrap_display.proofs.filling.push_paragraph.Goals as goal
+use Rattle.textwrap_base.proofs.Common.{◌+◌, ◌++◌, ◌∷◌, [], sym, ap, ◌∙◌, drop, drop_more}
+use Rattle.textwrap_base.proofs.Common.{string_bytes}
+use Rattle.textwrap_lines.proofs.Common.{settings_view}
+use Rattle.textwrap_display.proofs.JustifiedLines.{added, added-step}
+
+pub loop-line-preserved : goal.loop-line-preserved
+loop-line-preserved g c =
+    let settings = settings_view c.args.options.now in
+    let others = c.in-Some.others.now in
+    let last = c.in-Some.last.now in
+    let i = c.loop-line.line-index in
+    let line = c.line-item.result in
+    let front = string_bytes c.loop-line.text in
+    added-step settings c.loop-line.has_line line (drop (i + 1) others) last front _ _ _ _
+    c.in_ok-begin_line.ensures c.in_ok-push_justified_after.ensures c.next_indent-indent.ensures
+    c.as_str.ensures.value
+    ∙ ap (λ ls. front ++ added settings c.loop-line.has_line (ls ++ last ∷ []))
+    (ap (λ l. l ∷ drop (i + 1) others) c.line-item.is
+    ∙ sym (drop_more others i line c.loop-line-test.true))
+    ∙ c.loop-line.invariant

@@ -1,0 +1,57 @@
+-- A text filled with its lines justified.
+use Rattle.std.specs.Prelude.{◌≡◌, ℕ, ◌-◌, Bool, true, false, List, [], ◌∷◌, ◌++◌, length, take}
+use Rattle.std.specs.Prelude.{if◌then◌else◌}
+use Rattle.std.specs.List.{flat_map}
+use Rattle.textwrap_display.specs.Indents.{after_indent}
+use Rattle.textwrap_display.specs.Justifying.{justified}
+use Rattle.textwrap_lines.specs.LineEnding.{ending_bytes, join_with, paragraphs_of}
+use Rattle.textwrap_lines.specs.Options.{Settings}
+use Rattle.textwrap_lines.specs.Paragraph.{Line, LineParts, AreParagraphParts, indent_of}
+use Rattle.textwrap_lines.specs.Paragraph.{line_bytes, line_from}
+use Rattle.textwrap_lines.specs.Text.{AreGroups}
+use Rattle.textwrap_words.specs.Units.{text_width}
+use Rattle.textwrap_words.specs.Words.{WordText}
+
+-- a line, justified after its indent: the gaps of the indent stay
+abbrev pub justified_line : ℕ → LineParts → List ℕ
+justified_line width p =
+    p.indent ++ line_bytes (justified (width - text_width p.indent) (p.slice ++ p.penalty))
+
+-- the lines of a paragraph: all but the last are justified
+abbrev pub justified_lines : ℕ → List LineParts → List (List ℕ)
+justified_lines width [] = []
+justified_lines width (p ∷ []) = line_bytes (line_from p) ∷ []
+justified_lines width (p ∷ q ∷ parts) =
+    justified_line width p ∷ justified_lines width (q ∷ parts)
+
+-- the lines of each paragraph, joined by the line ending
+pub record IsJustifiedText (settings : Settings)
+    (Divides : Bool → List ℕ → List (List WordText) → Type 0) (text filled : List ℕ) : Type 0 where
+  pub groups : List (List LineParts)
+  pub defined : AreGroups (AreParagraphParts settings Divides) false
+      (paragraphs_of settings.line_ending text) groups
+  pub joined : filled ≡ join_with (ending_bytes settings.line_ending)
+      (flat_map (justified_lines settings.width) groups)
+
+-- ---- the same, of lines by their texts
+
+-- the line is justified after the indent, where it begins with that
+abbrev pub justified_after : ℕ → List ℕ → List ℕ → List ℕ
+justified_after width indent line =
+    let text = after_indent indent line in
+    take (length line - length text) line
+    ++ line_bytes (justified (width - text_width indent) text)
+
+-- `is_later` says that a line stands before them
+abbrev pub justified_after_indents : Settings → Bool → List Line → List (List ℕ)
+justified_after_indents settings is_later [] = []
+justified_after_indents settings is_later (line ∷ []) = line_bytes line ∷ []
+justified_after_indents settings is_later (line ∷ next ∷ lines) =
+    justified_after settings.width (indent_of settings is_later) (line_bytes line)
+    ∷ justified_after_indents settings true (next ∷ lines)
+
+-- the lines in a row, each with the ending before it, but not the first where none stands before
+abbrev pub joined_on : List ℕ → Bool → List (List ℕ) → List ℕ
+joined_on ending is_later [] = []
+joined_on ending is_later (line ∷ lines) =
+    (if is_later then ending else []) ++ line ++ joined_on ending true lines

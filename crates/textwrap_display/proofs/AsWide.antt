@@ -1,21 +1,17 @@
--- Lines that are aligned or justified are as wide as was asked.
+-- Lines that are justified are as wide as was asked.
 use Rattle.textwrap_base.proofs.Common.{◌≡◌, ℕ, ◌+◌, ◌-◌, ◌<◌, ◌≤◌, ◌≢◌, true, List}
 use Rattle.textwrap_base.proofs.Common.{◌++◌, All, All-weaker, length, refl, sym, ap}
-use Rattle.textwrap_base.proofs.Common.{◌∙◌, subst, arith, append_assoc}
-use Rattle.textwrap_base.proofs.Common.{IsUtf8, eqb-true}
-use Rattle.textwrap.specs.Columns.{blanks}
+use Rattle.textwrap_base.proofs.Common.{◌∙◌, subst, arith, IsUtf8, eqb-true}
 use Rattle.textwrap_words.specs.Blanks.{is_blank}
 use Rattle.textwrap_words.specs.Units.{text_width}
 use Rattle.textwrap_words.specs.Words.{tiled}
 use Rattle.textwrap_words.proofs.Word.Texts.{AreBlanks}
 use Rattle.textwrap_lines.specs.Text.{HasWholeSequences}
-use Rattle.textwrap_lines.proofs.Text.WholeSequences.{text_width-append}
 use Rattle.textwrap_display.specs.Justifying.{widened}
 use Rattle.textwrap_base.proofs.Common.{take, drop, take-append-drop, ◌/◌, ◌==◌, ◌||◌, cond, Bool, false}
 use Rattle.std.specs.Prelude.{◌%◌}
 use Rattle.textwrap_base.proofs.Utf8.{after_ascii}
 use Rattle.textwrap_words.proofs.Word.Texts.{chunks-utf8}
-use Rattle.textwrap.proofs.Text.TableLaws.{blanks-width}
 use Rattle.textwrap_base.proofs.Common.{ne_eqb, length-take, get_or-take, All-from_get_or}
 use Rattle.std.proofs.lemmas.List.Sums.{prefix_len_passes}
 use Rattle.std.proofs.Math.Nat.{div-add-mod}
@@ -23,50 +19,8 @@ use Rattle.textwrap_lines.specs.Paragraph.{Built, line_bytes, Slice}
 use Rattle.textwrap_words.specs.Words.{chunks}
 use Rattle.textwrap_words.proofs.Word.Measured.{words-measured}
 use Rattle.textwrap_words.proofs.Word.Tiling.{tiled-words_of}
-use Rattle.textwrap_display.proofs.Widths.{blanks-before, more-blanks, widened-width}
-use Rattle.textwrap_display.specs.Alignment.{aligned, blanks_before}
+use Rattle.textwrap_display.proofs.Widths.{blanks-before, widened-width}
 use Rattle.textwrap_display.specs.Justifying.{gaps, indent_len, justified, line_words}
-use Rattle.textwrap_display.specs.declared.alignment.Alignment.{Alignment}
-use Rattle.textwrap_display.specs.declared.alignment.Alignment.TheVariants.{Left, Right, Centre}
-
-before-few : (alignment : Alignment) (spare : ℕ) → blanks_before alignment spare ≤ spare
-before-few Left spare = omega arith
-before-few Right spare = omega arith
-before-few Centre spare = omega arith
-
-built-width : (before after : ℕ) (line : List ℕ) → IsUtf8 line → HasWholeSequences line
-    → text_width (blanks before ++ line ++ blanks after) ≡ before + text_width line + after
-built-width before after line utf8 whole =
-    omega (
-      arith,
-      ap text_width (append_assoc (blanks before) line (blanks after)),
-      more-blanks before (line ++ blanks after),
-      text_width-append line (blanks after) utf8 whole,
-      blanks-width after,
-    )
-
-pub aligned-width : (alignment : Alignment) (width : ℕ) (line : List ℕ) → IsUtf8 line
-    → HasWholeSequences line → text_width line ≤ width
-    → text_width (line_bytes (aligned alignment width line)) ≡ width
-aligned-width alignment width line utf8 whole fits = by (spare == 0) refl
-  where
-    spare : ℕ
-    spare = width - text_width line
-
-    by : (b : Bool) → ((width - text_width line) == 0) ≡ b
-        → text_width (line_bytes (cond b (Slice line)
-        (Built (blanks (blanks_before alignment (width - text_width line)) ++ line
-        ++ blanks ((width - text_width line) - blanks_before alignment (width - text_width line))))))
-        ≡ width
-    by true none = omega (arith, fits, eqb-true (width - text_width line) 0 none)
-    by false some =
-        let s = width - text_width line in
-        omega (
-          arith,
-          fits,
-          before-few alignment s,
-          built-width (blanks_before alignment s) (s - blanks_before alignment s) line utf8 whole,
-        )
 
 or-left : (a b : Bool) → b ≡ false → a || b ≡ true → a ≡ true
 or-left true b other is = refl

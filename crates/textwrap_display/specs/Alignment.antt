@@ -12,10 +12,14 @@ blanks_before Left spare = 0
 blanks_before Right spare = spare
 blanks_before Centre spare = spare / 2
 
+-- a line with so many spare blanks on its two sides
+abbrev pub spread : Alignment → ℕ → List ℕ → List ℕ
+spread alignment spare line =
+    let before = blanks_before alignment spare in
+    blanks before ++ line ++ blanks (spare - before)
+
 -- a line with blanks on its two sides, as many as there are spare columns
 abbrev pub aligned : Alignment → ℕ → List ℕ → Line
 aligned alignment width line =
     let spare = width - text_width line in
-    let before = blanks_before alignment spare in
-    if spare == 0 then Slice line
-    else Built (blanks before ++ line ++ blanks (spare - before))
+    if spare == 0 then Slice line else Built (spread alignment spare line)

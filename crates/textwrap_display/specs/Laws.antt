@@ -1,11 +1,12 @@
 -- The statements of the laws, each under a name that a caller can cite.
-use Rattle.std.specs.Prelude.{◌≡◌, ◌≢◌, ℕ, ◌-◌, ◌/◌, ◌%◌, ◌≤◌, List, [], All, IsUtf8, length, map}
-use Rattle.std.specs.Prelude.{take}
-use Rattle.std.specs.List.{concat, flat_map}
+use Rattle.std.specs.Prelude.{◌≡◌, ◌≢◌, ℕ, ◌+◌, ◌-◌, ◌*◌, ◌/◌, ◌%◌, ◌≤◌, List, [], ◌++◌, All}
+use Rattle.std.specs.Prelude.{IsUtf8, length, map, replicate, sum_by, take}
+use Rattle.std.specs.List.{concat, flat_map, range_with_len, zip}
 use Rattle.textwrap_display.specs.Alignment.{aligned}
 use Rattle.textwrap_display.specs.Justifying.{gaps, indent_len, justified, line_words}
 use Rattle.textwrap_display.specs.Justifying.{widened_words}
 use Rattle.textwrap_display.specs.Shortening.{IsKept, IsShortened}
+use Rattle.textwrap_display.specs.Tables.{cell_line, group_rows, height, RowGaps, Shape}
 use Rattle.textwrap_display.specs.declared.alignment.Alignment.{Alignment}
 use Rattle.textwrap_lines.specs.Text.{HasWholeSequences}
 use Rattle.textwrap_words.specs.Units.{text_width}
@@ -112,3 +113,31 @@ PlainLinesStay =
     (indent later : List ℕ) (lines : List (List ℕ))
     → EachWithIndent (λ i line. sequences (after_indent i line) ≡ []) indent later lines
     → carried_lines indent later [] lines ≡ map Slice lines
+
+-- ---- tables
+
+-- each line of each cell is such a text, and no wider than its column
+abbrev pub KeepToColumns : List Shape → List (List (List ℕ)) → Type 0
+KeepToColumns columns cells =
+    All (λ p. All (λ line. IsWholeText line × (text_width line ≤ p.0.width)) p.1)
+    (zip columns cells)
+
+-- the columns of the gaps and of all columns together
+abbrev pub row_width : RowGaps → List Shape → ℕ
+row_width gaps columns =
+    text_width gaps.left + sum_by (λ column. column.width) columns
+    + (length columns - 1) * text_width gaps.middle + text_width gaps.right
+
+-- each row is exactly as wide
+abbrev pub TableRowsAreEven : Type 0
+TableRowsAreEven =
+    (gaps : RowGaps) (columns : List Shape) (cells : List (List (List ℕ)))
+    → IsWholeText gaps.left → IsWholeText gaps.middle → KeepToColumns columns cells
+    → All (λ row. text_width row ≡ row_width gaps columns) (group_rows gaps columns cells)
+
+-- what the rows show of a cell, one row after another, is its lines, and after them nothing
+abbrev pub TablesShowEachLineOnce : Type 0
+TablesShowEachLineOnce =
+    (cells : List (List (List ℕ)))
+    → All (λ lines. map (cell_line lines) (range_with_len 0 (height cells))
+    ≡ lines ++ replicate (height cells - length lines) []) cells

@@ -4,5 +4,7 @@ pub mod Justifying
 pub mod JustifiedText
 pub mod Shortening
 pub mod Styles
+pub mod OpenStyles
 pub mod Styled
+pub mod Tables
 pub mod Laws

@@ -1,7 +1,9 @@
 //! A line with blanks up to a width.
-ghost use Rattle.std.specs.Prelude.{◌≡◌, IfOk};
-ghost use Rattle.textwrap_display.specs.Alignment.{aligned, blanks_before};
-ghost use Rattle.textwrap_lines.specs.Paragraph.{line_view};
+ghost use Rattle.std.specs.Prelude.{◌≡◌, ◌+◌, ◌-◌, ◌<◌, ◌^◌, ◌++◌, length, string_bytes};
+ghost use Rattle.std.specs.Prelude.{IfOk, OnOk, SomeIff};
+ghost use Rattle.textwrap_display.specs.Alignment.{aligned, blanks_before, spread};
+ghost use Rattle.textwrap_lines.specs.Paragraph.{line_bytes, line_view};
+ghost use Rattle.textwrap_words.specs.Units.{text_width};
 
 use std::alloc::{AllocError, Allocator};
 use std::borrow::CowStr;
@@ -38,14 +40,51 @@ pub fn align<'t, A: Allocator>(
     if spare == 0 {
         return Ok(CowStr::Borrowed(line));
     }
-    let before = blanks_before(alignment, spare);
     // Reserved before a blank is written, so that a text that fits no memory is refused at once.
     let len = line.len().checked_add(spare).ok_or(AllocError)?;
     let mut text = String::with_capacity(alloc, len)?;
-    push_blanks(&mut text, before)?;
-    text.push_str(line)?;
-    push_blanks(&mut text, spare - before)?;
+    push_spread(&mut text, line, spare, alignment)?;
     Ok(CowStr::Owned(text))
+}
+
+/// Adds a line, aligned in a width. It is measured once.
+pub(crate) fn push_aligned<A: Allocator>(
+    text: &mut String<A>,
+    line: &str,
+    width: usize,
+    alignment: Alignment,
+) -> Result<(), AllocError>
+    ensures { OnOk result (string_bytes text.new
+        ≡ string_bytes text.old ++ line_bytes (aligned alignment width line.now)) }
+{
+    let spare = width.saturating_sub(display_width(line));
+    push_spread(text, line, spare, alignment)
+}
+
+/// The bytes of a line that is aligned in a width, or `None` where their number does not fit 64
+/// bits.
+pub(crate) fn aligned_len(line: &str, width: usize) -> Option<usize>
+    ensures { SomeIff result (length line.now + (width - text_width line.now) < 2 ^ 64)
+        (length line.now + (width - text_width line.now)) }
+{
+    let spare = width.saturating_sub(display_width(line));
+    line.len().checked_add(spare)
+}
+
+/// Adds a line with so many spare blanks on its two sides.
+fn push_spread<A: Allocator>(
+    text: &mut String<A>,
+    line: &str,
+    spare: usize,
+    alignment: Alignment,
+) -> Result<(), AllocError>
+    ensures { OnOk result (string_bytes text.new
+        ≡ string_bytes text.old ++ spread alignment spare line.now) }
+{
+    let before = blanks_before(alignment, spare);
+    push_blanks(text, before)?;
+    text.push_str(line)?;
+    push_blanks(text, spare - before)
 }
 
 /// How many of the spare columns stand before the line.

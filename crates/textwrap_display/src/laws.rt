@@ -8,7 +8,8 @@ ghost use Rattle.textwrap_display.specs.Laws.{CarriedLinesEndPlain, CarriedLines
 ghost use Rattle.textwrap_display.specs.Laws.{CarriedLinesShowTheirText, JustifiedLinesAreAsWide};
 ghost use Rattle.textwrap_display.specs.Laws.{JustifiedLinesKeepWords, KeptBeginningsAreUnique};
 ghost use Rattle.textwrap_display.specs.Laws.{KeptWordsAreTheFirst, PlainLinesStay};
-ghost use Rattle.textwrap_display.specs.Laws.{ShortenedLinesKeepToWidth, WholeLinesMayCarry};
+ghost use Rattle.textwrap_display.specs.Laws.{ShortenedLinesKeepToWidth, TableRowsAreEven};
+ghost use Rattle.textwrap_display.specs.Laws.{TablesShowEachLineOnce, WholeLinesMayCarry};
 
 /// A line that is not wider than the width is exactly as wide once it is aligned, if its escape
 /// sequences end in it.
@@ -75,4 +76,17 @@ pub fn whole_lines_may_carry()
 /// Lines whose texts have no escape sequence stay as they are.
 pub fn plain_lines_stay()
     ensures { PlainLinesStay }
+{}
+
+/// Each row of a table is exactly as wide as its gaps and its columns together, if no line is wider
+/// than its column, and the escape sequences of the lines, of the left gap and of the middle one
+/// end in them.
+pub fn table_rows_are_even()
+    ensures { TableRowsAreEven }
+{}
+
+/// What the rows of a group of cells show of one of them, one row after another, is the lines of
+/// the cell, and after these nothing. So no line is lost, and none is shown twice.
+pub fn tables_show_each_line_once()
+    ensures { TablesShowEachLineOnce }
 {}

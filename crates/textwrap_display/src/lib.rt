@@ -1,5 +1,5 @@
-//! Lines for display: aligned, justified and shortened, and texts of justified lines. Beside
-//! `textwrap`, on its widths and words.
+//! Lines for display: aligned, justified, shortened, with their styles, and in the columns of a table.
+//! Beside `textwrap`, on its widths and words.
 //!
 //! ```rust
 //! let line = justify(alloc, "a few words", 14)?;
@@ -12,9 +12,13 @@ pub use alignment::{Alignment, align};
 pub use filling::fill_justified;
 pub use justifying::justify;
 pub use shortening::{shorten, shorten_lines};
+pub use styles::carry_styles;
+pub use tables::{Column, Gaps, table};
 
 mod alignment;
 mod filling;
 mod justifying;
 pub mod laws;
 mod shortening;
+mod styles;
+mod tables;

@@ -10,13 +10,27 @@ use Rattle.textwrap.specs.Columns.{row_count, column_cells, cells_by_column}
 use Rattle.textwrap_base.proofs.Lists.Ranges.{range-split}
 
 -- what stands at these places
-abbrev lines_at : List (List ℕ) → ℕ → ℕ → List (List ℕ)
+abbrev pub lines_at : List (List ℕ) → ℕ → ℕ → List (List ℕ)
 lines_at lines from count = map (λ i. get_or lines i []) (range_with_len from count)
 
 module _ (lines : List (List ℕ)) where
   past-empty : (from count : ℕ) → length lines ≤ from → lines_at lines from count ≡ replicate count []
   past-empty from zero past = refl
   past-empty from (suc count) past = simp (get_or_past, past-empty (from + 1) count (omega arith))
+
+  -- from the first place on they are the lines, and then empty ones
+  pub lines-kept : (empty : ℕ)
+      → lines_at lines 0 (length lines + empty) ≡ lines ++ replicate empty []
+  lines-kept empty =
+      let from : 0 + length lines ≡ length lines = omega arith in
+      rw (
+        range-split 0 (length lines) empty,
+        map-append,
+        past-empty (0 + length lines) empty (omega (arith, from)),
+      )
+      (ap (λ l. l ++ replicate empty [])
+      (sym (fill_by_all (λ i. get_or lines i []) lines (length lines) [] refl
+      (λ k within. refl))))
 
   -- the places of one column follow one another
   column-at : (columns c : ℕ) → c < columns → (r count : ℕ)
@@ -55,18 +69,10 @@ columns_kept lines columns some =
     let empty = columns * rows - length lines in
     let room : length lines ≤ columns * rows = omega (arith, all.0) in
     let whole : length lines + empty ≡ columns * rows = omega (arith, room) in
-    let start : 0 * rows ≡ 0 = omega arith in
-    let from : 0 + length lines ≡ length lines = omega arith in (
+    let start : 0 * rows ≡ 0 = omega arith in (
       empty,
       columns-at lines columns 0 columns (omega arith)
           ∙ ap (λ i. lines_at lines i (columns * rows)) start
           ∙ ap (lines_at lines 0) (sym whole)
-          ∙ rw (
-            range-split 0 (length lines) empty,
-            map-append,
-            past-empty lines (0 + length lines) empty (omega (arith, from)),
-          )
-          (ap (λ l. l ++ replicate empty [])
-          (sym (fill_by_all (λ i. get_or lines i []) lines (length lines) [] refl
-          (λ k within. refl)))),
+          ∙ lines-kept lines empty,
     )

@@ -1,0 +1,59 @@
+-- One line more that sets anew what is open, and ends plain.
+use Rattle.textwrap_base.proofs.Common.{◌≡◌, ℕ, ◌+◌, ◌-◌, ◌<◌, ◌≤◌, Bool, true, false, cond, ◌==◌, List}
+use Rattle.textwrap_base.proofs.Common.{[], ◌∷◌, ◌++◌, length, get_or, take, drop, map, refl, sym, ap}
+use Rattle.textwrap_base.proofs.Common.{◌∙◌, arith, length-drop, drop_more, CowStr, nat_eq}
+use Rattle.textwrap_base.proofs.Common.{starts_with}
+use Rattle.textwrap_base.proofs.Lists.Maps.{map-push-append}
+use Rattle.std.specs.Cow.{cow_str_bytes}
+use Rattle.textwrap_lines.specs.Paragraph.{Line, Built, Slice, line_view}
+use Rattle.textwrap_lines.proofs.Text.Lines.{line_bytes-line_view}
+use Rattle.textwrap_display.specs.Shortening.{texts_of}
+use Rattle.textwrap_display.specs.Indents.{after_indent}
+use Rattle.textwrap_display.specs.Styles.{carried_line, carried_lines, closing, opening}
+use Rattle.textwrap_display.specs.Styles.{sequences}
+
+-- a line with these texts after its indent and at its end
+abbrev with_ends : List ℕ → ℕ → List ℕ → List ℕ → List ℕ → Line
+with_ends line n text start end =
+    cond (length (start ++ end) == 0) (Slice line) (Built (take n line ++ start ++ text ++ end))
+
+module _ (indent line : List ℕ) (n : ℕ)
+    (is : n ≡ cond (starts_with nat_eq line indent) (length indent) 0) where
+  pub text-is : drop n line ≡ after_indent indent line
+  text-is = ap (λ k. drop k line) is ∙ by (starts_with nat_eq line indent)
+    where
+      by : (b : Bool) → drop (cond b (length indent) 0) line ≡ cond b (drop (length indent) line) line
+      by true = refl
+      by false = refl
+
+  pub line-is : (before : List (List ℕ)) (start end : List ℕ) (view : Line) → n ≤ length line
+      → start ≡ opening before → end ≡ closing (before ++ sequences (drop n line))
+      → view ≡ with_ends line n (drop n line) start end → view ≡ carried_line indent before line
+  line-is before start end view within starts ends whole =
+      let rest = drop n line in
+      let len : n ≡ length line - length rest = omega (arith, length-drop n line, within) in
+      whole ∙ ap (λ l. with_ends line n rest l end) starts
+      ∙ ap (with_ends line n rest (opening before)) ends
+      ∙ ap (λ k. with_ends line k rest (opening before) (closing (before ++ sequences rest))) len
+      ∙ ap (λ t. with_ends line (length line - length t) t (opening before)
+      (closing (before ++ sequences t))) text-is
+
+-- one more of the lines
+pub carries-more : {Z : Type 0} (lines : List (CowStr Z)) (n : ℕ) (line added : CowStr Z)
+    (indent later bytes text : List ℕ) (before : List (List ℕ)) (old new : List (CowStr Z))
+    (all : List Line) → n < length lines → line ≡ get_or lines n line
+    → bytes ≡ cow_str_bytes line → text ≡ after_indent indent bytes → new ≡ old ++ added ∷ []
+    → line_view added ≡ carried_line indent before bytes
+    → map line_view old ++ carried_lines indent later before (texts_of (drop n lines)) ≡ all
+    → map line_view new ++ carried_lines later later (before ++ sequences text)
+    (texts_of (drop (n + 1) lines)) ≡ all
+carries-more lines n line added indent later bytes text before old new all within is same after push
+    view whole =
+    let rest = texts_of (drop (n + 1) lines) in
+    let texts : texts_of (drop n lines) ≡ bytes ∷ rest =
+    ap texts_of (drop_more lines n line within ∙ ap (λ x. x ∷ drop (n + 1) lines) (sym is))
+    ∙ ap (λ x. x ∷ rest) (line_bytes-line_view line ∙ sym same) in
+    map-push-append line_view old new added (carried_line indent before bytes) _ push view
+    ∙ ap (λ t. map line_view old ++ carried_line indent before bytes
+    ∷ carried_lines later later (before ++ sequences t) rest) after
+    ∙ ap (λ ts. map line_view old ++ carried_lines indent later before ts) (sym texts) ∙ whole

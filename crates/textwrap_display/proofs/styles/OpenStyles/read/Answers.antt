@@ -1,0 +1,18 @@
+use Rattle.textwrap_display.proofs.styles.OpenStyles.read.Goals as goal
+use Rattle.textwrap_base.proofs.Common.{[], ◌∷◌, ◌++◌, sym, ap, subst, ◌∙◌, append_assoc}
+use Rattle.textwrap_display.specs.OpenStyles.{IsOpenAfter}
+use Rattle.textwrap_display.specs.Styles.{sequences}
+
+pub loop-sequence-preserved : goal.loop-sequence-preserved
+loop-sequence-preserved g c = record {
+  takes = λ before state.
+      let old = c.loop-sequence.invariant.takes before state in
+      let one = c.in-Some.sequence.now ∷ [] in (
+        old.0 ++ one,
+        subst (λ ss. IsOpenAfter ss c.take.new.self) (append_assoc before old.0 one)
+        (c.in_ok-take.ensures (before ++ old.0) old.1),
+        old.2 ∙ ap (λ ss. old.0 ++ ss) c.in-Some.ensures.sequences
+        ∙ sym (append_assoc old.0 one (sequences c.in-Some.rest.now)),
+      );
+  utf8 = c.in-Some.ensures.utf8;
+}

@@ -1,0 +1,40 @@
+use Rattle.textwrap_display.proofs.styles.OpenStyles.take.Goals as goal
+use Rattle.textwrap_base.proofs.Common.{◌≡◌, ◌==◌, ◌||◌, [], ◌∷◌, true, false, cond, sym, ap, ◌∙◌}
+use Rattle.textwrap_base.proofs.Common.{refl}
+use Rattle.std.specs.List.{list_all}
+use Rattle.std.specs.Option.{option_copied, option_to_list}
+use Rattle.textwrap_display.specs.Styles.{has_target}
+use Rattle.textwrap_display.proofs.OpenStates.{after-reset, after-style, after-link, after-other}
+use Rattle.textwrap_display.proofs.OpenSequences.{target-set}
+use Rattle.textwrap_display.proofs.styles.OpenStyles.take.Goals.{then-is_empty, else-is_empty}
+
+pub returns-in_ok-push_str : goal.returns-in_ok-push_str
+returns-in_ok-push_str g c = λ before state.
+    after-style before c.args.sequence.now c.args.self.now _ state (sym c.in-Some.ensures.style)
+    (ap (list_all (λ b. (b == 0x30) || (b == 0x3B))) (sym c.in-Some.ensures.parameters)
+    ∙ sym c.if-take_all_back.ensures) c.in_ok-push_str.ensures.bytes refl
+
+pub returns-after-is_empty : goal.returns-after-is_empty
+returns-after-is_empty g c = λ before state.
+    let s = c.args.sequence.now in
+    let link = c.in-Some-link_target in
+    let set : option_to_list (option_copied c.if-is_empty.self) ≡ cond (has_target s) (s ∷ []) [] =
+    elim c.if-is_empty.branch [
+      | then-is_empty w ↦ ap (λ l. option_to_list (option_copied l)) w.self-is
+          ∙ target-set s link.target.now true link.ensures.target w.if-is_empty.ensures
+      | else-is_empty w ↦ ap (λ l. option_to_list (option_copied l)) w.self-is
+          ∙ target-set s link.target.now false link.ensures.target w.if-is_empty.ensures
+    ] in
+    after-link before s c.args.self.now _ state (sym c.in_default.ensures.style)
+    (sym link.ensures.link) refl set
+
+pub returns-then-take_all_back : goal.returns-then-take_all_back
+returns-then-take_all_back g c = λ before state.
+    after-reset before c.args.sequence.now c.args.self.now _ state (sym c.in-Some.ensures.style)
+    (ap (list_all (λ b. (b == 0x30) || (b == 0x3B))) (sym c.in-Some.ensures.parameters)
+    ∙ sym c.if-take_all_back.ensures) c.clear.ensures.bytes refl
+
+pub returns-in_default-link_target : goal.returns-in_default-link_target
+returns-in_default-link_target g c = λ before state.
+    after-other before c.args.sequence.now c.args.self.now _ state (sym c.in_default.ensures.style)
+    (sym c.in_default-link_target.ensures.link) refl refl

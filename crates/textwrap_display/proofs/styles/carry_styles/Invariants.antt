@@ -1,0 +1,18 @@
+use Rattle.textwrap_display.proofs.styles.carry_styles.Given as goal
+use Rattle.textwrap_base.proofs.Common.{◌≡◌, ℕ, List, [], ◌++◌, drop, map, shadow, Utf8}
+use Rattle.textwrap_lines.specs.Paragraph.{line_view}
+use Rattle.textwrap_display.specs.OpenStyles.{IsOpenAfter}
+use Rattle.textwrap_display.specs.Shortening.{texts_of}
+use Rattle.textwrap_display.specs.Styles.{carried_lines}
+
+-- the lines so far, and those of what is left after some sequences, are all lines
+abbrev pub invariant-loop-line : goal.invariant-loop-line
+invariant-loop-line g l = record {
+  carries : (before : List (List ℕ)) × IsOpenAfter before l.open
+      × (map line_view l.carried.items
+      ++ carried_lines l.indent l.options.subsequent_indent.now before
+      (texts_of (drop l.line-index l.lines))
+      ≡ carried_lines l.options.initial_indent.now l.options.subsequent_indent.now []
+      (texts_of l.lines));
+  utf8 : shadow (Utf8 l.indent);
+}

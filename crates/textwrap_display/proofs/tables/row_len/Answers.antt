@@ -1,0 +1,80 @@
+use Rattle.textwrap_display.proofs.tables.row_len.Goals as goal
+use Rattle.textwrap_display.proofs.tables.row_len.Goals.{After-gap_before}
+use Rattle.textwrap_base.proofs.Common.{◌≡◌, ◌+◌, ◌-◌, ◌≤◌, ap, arith, length, map}
+use Rattle.textwrap_words.specs.Units.{text_width}
+use Rattle.textwrap_display.specs.Tables.{cell_texts, gaps_view, row_text, shape_of}
+use Rattle.textwrap_display.proofs.TableRows.{length-more, length-row, length-within, length_so_far}
+
+-- the bytes with one column more
+more : (g : _) (c : After-gap_before g)
+    → length_so_far (gaps_view c.args.gaps.now) c.args.columns.now (cell_texts c.args.cells.now)
+    c.args.r (c.loop-c.c + 1)
+    ≡ c.loop-c.len + length c.gap_before.result.now
+    + (length c.cell_line-line.result.now
+    + (c.index-columns-c.result.options.width - text_width c.cell_line-line.result.now))
+more g c =
+    omega (
+      arith,
+      c.loop-c.invariant,
+      ap length c.gap_before.ensures,
+      length-more (gaps_view c.args.gaps.now) c.args.columns.now (cell_texts c.args.cells.now)
+          c.args.r c.loop-c.c c.index-columns-c.result c.loop-c-test.true c.index-columns-c.is
+          c.cell_line-line.result.now c.cell_line-line.ensures,
+    )
+
+-- they are among all bytes of the row
+within : (g : _) (c : After-gap_before g)
+    → c.loop-c.len + length c.gap_before.result.now
+    + (length c.cell_line-line.result.now
+    + (c.index-columns-c.result.options.width - text_width c.cell_line-line.result.now))
+    ≤ length (row_text (gaps_view c.args.gaps.now) (map shape_of c.args.columns.now)
+    (cell_texts c.args.cells.now) c.args.r)
+within g c =
+    omega (
+      arith,
+      more g c,
+      length-within (gaps_view c.args.gaps.now) c.args.columns.now (cell_texts c.args.cells.now)
+          c.args.r (c.loop-c.c + 1),
+    )
+
+pub loop-c-preserved : goal.loop-c-preserved
+loop-c-preserved g c = (
+  omega (arith, c.in_ok-len-2.ensures),
+  omega (
+    arith,
+    more g (goal.at.loop-c-preserved g c).After-gap_before,
+    c.in_ok-checked_add.ensures,
+    c.in_ok-aligned_len.ensures,
+    c.in_ok-len-2.ensures,
+  ),
+)
+
+pub returns-in_err-checked_add : goal.returns-in_err-checked_add
+returns-in_err-checked_add g c =
+    let least = within g (goal.at.returns-in_err-checked_add g c).After-gap_before in
+    rw c.from_residual-in_err-checked_add.ensures
+    (λ fits. c.in_err-checked_add.ensures (omega (arith, fits, least)))
+
+pub returns-in_err-aligned_len : goal.returns-in_err-aligned_len
+returns-in_err-aligned_len g c =
+    let least = within g (goal.at.returns-in_err-aligned_len g c).After-gap_before in
+    rw c.from_residual-in_err-aligned_len.ensures
+    (λ fits. c.in_err-aligned_len.ensures (omega (arith, fits, least)))
+
+pub returns-in_err-len-2 : goal.returns-in_err-len-2
+returns-in_err-len-2 g c =
+    let least = within g (goal.at.returns-in_err-len-2 g c).After-gap_before in
+    rw c.from_residual-in_err-len-2.ensures
+    (λ fits. c.in_err-len-2.ensures (omega (
+      arith,
+      fits,
+      least,
+      c.in_ok-checked_add.ensures,
+      c.in_ok-aligned_len.ensures,
+    )))
+
+pub returns : goal.returns
+returns g c =
+    let whole = length-row (gaps_view c.args.gaps.now) c.args.columns.now
+    (cell_texts c.args.cells.now) c.args.r c.loop-c.c c.loop-c-test.false in
+    (omega (arith, c.loop-c.invariant, whole), omega (arith, c.loop-c.invariant, whole))

@@ -1,0 +1,13 @@
+use Rattle.textwrap_display.proofs.tables.table.Given as goal
+use Rattle.textwrap_base.proofs.Common.{◌≡◌, ℕ, List, ◌++◌, length, map, string_bytes}
+use Rattle.std.specs.Slice.Iter.{chunks_rest, chunks_size}
+use Rattle.textwrap_display.specs.Tables.{gaps_view, IsTable, texts_in}
+
+-- with any table of the texts that are left, the rows so far are that of all
+abbrev pub invariant-loop-texts : goal.invariant-loop-texts
+invariant-loop-texts g l =
+    (chunks_size l.texts-iterator ≡ length l.columns)
+    × ((others : List (List ℕ))
+    → IsTable l.columns (gaps_view l.gaps) (texts_in (chunks_rest l.texts-iterator)) others
+    → IsTable l.columns (gaps_view l.gaps) (texts_in l.cells)
+    (map string_bytes l.rows.items ++ others))

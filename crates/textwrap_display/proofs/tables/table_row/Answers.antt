@@ -1,0 +1,24 @@
+use Rattle.textwrap_display.proofs.tables.table_row.Goals as goal
+use Rattle.textwrap_base.proofs.Common.{◌++◌, ap, ◌∙◌, append_assoc}
+use Rattle.textwrap_display.specs.Tables.{cell_texts, gaps_view}
+use Rattle.textwrap_display.proofs.TableRows.{column-more, row-whole}
+
+pub loop-c-preserved : goal.loop-c-preserved
+loop-c-preserved g c =
+    rw (
+      c.in_ok-push_aligned.ensures,
+      c.in_ok-push_str-2.ensures.bytes,
+      c.loop-c.invariant,
+      c.gap_before.ensures,
+      column-more (gaps_view c.args.gaps.now) c.args.columns.now (cell_texts c.args.cells.now)
+          c.args.r c.loop-c.c c.index-columns-c.result c.loop-c-test.true c.index-columns-c.is
+          c.cell_line-line.result.now c.cell_line-line.ensures,
+    )
+    (simp append_assoc)
+
+pub returns : goal.returns
+returns g c =
+    c.in_ok-push_str-3.ensures.bytes
+    ∙ ap (λ text. text ++ c.args.gaps.now.right.now) c.loop-c.invariant
+    ∙ row-whole (gaps_view c.args.gaps.now) c.args.columns.now (cell_texts c.args.cells.now)
+    c.args.r c.loop-c.c c.loop-c-test.false

@@ -1,0 +1,136 @@
+-- Texts in the columns of a table.
+use Rattle.std.specs.Prelude.{◌≡◌, ◌==◌, ℕ, max, List, [], ◌++◌, fold, length, map, replicate}
+use Rattle.std.specs.Prelude.{slice_index_or, Vec, if◌then◌else◌}
+use Rattle.std.specs.Borrow.{Bor}
+use Rattle.std.specs.Fork.{slice_chunk}
+use Rattle.std.specs.List.{AllZip, flat_map, range_with_len, zip}
+use Rattle.std.specs.Slice.Iter.{chunk_count}
+use Rattle.std.specs.declared.borrow.CowStr.{CowStr}
+use Rattle.textwrap_lines.specs.LineEnding.{join_with}
+use Rattle.textwrap_lines.specs.Options.{HasParts, Settings, settings_view}
+use Rattle.textwrap_lines.specs.Paragraph.{DividesAs, DividesBy, Line, line_bytes}
+use Rattle.textwrap_lines.specs.Text.{AreTextLines}
+use Rattle.textwrap_words.specs.WordSplitters.{Splitter}
+use Rattle.textwrap_words.specs.WrapAlgorithms.{Algorithm}
+use Rattle.textwrap_display.specs.Alignment.{aligned}
+use Rattle.textwrap_display.specs.Shortening.{texts_of}
+use Rattle.textwrap_display.specs.declared.alignment.Alignment.{Alignment}
+use Rattle.textwrap_display.specs.declared.tables.Column.{Column}
+use Rattle.textwrap_display.specs.declared.tables.Gaps.{Gaps}
+
+-- ---- the program's values, as those of the logic
+
+-- how wide a column is, and where a line stands in it
+pub record Shape : Type 0 where
+  pub width : ℕ
+  pub alignment : Alignment
+
+abbrev pub shape_of : {E C : Type 0} {e : _} {c : _} → Column E C e c → Shape
+shape_of column = record { width = column.options.width; alignment = column.alignment }
+
+-- what stands around the cells of a row
+pub record RowGaps : Type 0 where
+  pub left : List ℕ
+  pub middle : List ℕ
+  pub right : List ℕ
+
+abbrev pub gaps_view : Gaps → RowGaps
+gaps_view gaps = record {
+  left = gaps.left.now;
+  middle = gaps.middle.now;
+  right = gaps.right.now;
+}
+
+abbrev pub texts_in : List (Bor (List ℕ)) → List (List ℕ)
+texts_in texts = map (λ text. text.now) texts
+
+-- a cell is the texts of its lines
+abbrev pub cell_texts : {Z : Type 0} → List (Vec (CowStr Z) Z) → List (List (List ℕ))
+cell_texts cells = map (λ lines. texts_of lines.items) cells
+
+-- ---- rows
+
+-- the line of a cell in a row, or nothing where the cell has no such line
+abbrev pub cell_line : List (List ℕ) → ℕ → List ℕ
+cell_line lines r = slice_index_or lines r []
+
+-- that line, aligned in its column
+abbrev pub shown : Shape → List (List ℕ) → ℕ → List ℕ
+shown column lines r = line_bytes (aligned column.alignment column.width (cell_line lines r))
+
+-- what each column shows in a row; one that has no cell shows no line
+abbrev pub shown_lines : List Shape → List (List (List ℕ)) → ℕ → List (List ℕ)
+shown_lines columns cells r =
+    map (λ p. shown p.0 p.1 r) (zip columns (cells ++ replicate (length columns) []))
+
+-- the gap before a column is the middle one, but before the first there is none
+abbrev pub gap_before : ℕ → List ℕ → List ℕ
+gap_before at middle = if at == 0 then [] else middle
+
+-- as many rows as the highest cell has lines
+abbrev pub height : List (List (List ℕ)) → ℕ
+height cells = fold (λ most lines. max most (length lines)) 0 cells
+
+module _ (gaps : RowGaps) (columns : List Shape) where
+  abbrev pub row_text : List (List (List ℕ)) → ℕ → List ℕ
+  row_text cells r =
+      gaps.left ++ join_with gaps.middle (shown_lines columns cells r) ++ gaps.right
+
+  abbrev pub group_rows : List (List (List ℕ)) → List (List ℕ)
+  group_rows cells = map (row_text cells) (range_with_len 0 (height cells))
+
+-- ---- a table
+
+-- the texts, so many at a time; the last ones may be fewer
+abbrev pub groups_of : ℕ → List (List ℕ) → List (List (List ℕ))
+groups_of count texts =
+    map (slice_chunk texts count) (range_with_len 0 (chunk_count (length texts) count))
+
+-- where a relation says which lines a column makes of a text
+module _ {X : Type 0} (Makes : X → List ℕ → List Line → Type 0) where
+  abbrev pub IsCell : X × List ℕ → List (List ℕ) → Type 0
+  IsCell p cell = (lines : List Line) × Makes p.0 p.1 lines × (cell ≡ map line_bytes lines)
+
+  -- each text stands in the column of its place
+  abbrev pub AreCells : List X → List (List ℕ) → List (List (List ℕ)) → Type 0
+  AreCells columns texts cells = AllZip IsCell (zip columns texts) cells
+
+  -- as many texts as there are columns give a group of cells, and the rows are those of the groups
+  abbrev pub IsTableBy : (X → Shape) → List X → RowGaps → List (List ℕ) → List (List ℕ) → Type 0
+  IsTableBy shape columns gaps texts rows =
+      (groups : List (List (List (List ℕ))))
+      × AllZip (AreCells columns) (groups_of (length columns) texts) groups
+      × (rows ≡ flat_map (group_rows gaps (map shape columns)) groups)
+
+-- the lines of a text by the options of a column
+abbrev pub ColumnMakes : {E C : Type 0} {e : _} {c : _} → Column E C e c → List ℕ → List Line
+    → Type 0
+ColumnMakes column = AreTextLines (settings_view column.options) (DividesBy column.options)
+
+abbrev pub IsTable : {E C : Type 0} {e : _} {c : _} → List (Column E C e c) → RowGaps
+    → List (List ℕ) → List (List ℕ) → Type 0
+IsTable = IsTableBy ColumnMakes shape_of
+
+-- ---- the same by built-in parts
+
+-- a column whose parts are built in
+pub record ColumnParts : Type 0 where
+  pub settings : Settings
+  pub splitter : Splitter
+  pub algorithm : Algorithm
+  pub alignment : Alignment
+
+abbrev pub PartsMake : ColumnParts → List ℕ → List Line → Type 0
+PartsMake p = AreTextLines p.settings (DividesAs p.splitter p.algorithm p.settings)
+
+abbrev pub shape_of_parts : ColumnParts → Shape
+shape_of_parts p = record { width = p.settings.width; alignment = p.alignment }
+
+abbrev pub IsTableOf : List ColumnParts → RowGaps → List (List ℕ) → List (List ℕ) → Type 0
+IsTableOf = IsTableBy PartsMake shape_of_parts
+
+-- these are the columns' parts
+abbrev pub HaveParts : {E C : Type 0} {e : _} {c : _} → List (Column E C e c) → List ColumnParts
+    → Type 0
+HaveParts = AllZip (λ column p. HasParts column.options p.settings p.splitter p.algorithm
+    × (column.alignment ≡ p.alignment))

@@ -1,0 +1,199 @@
+//! Texts in the columns of a table.
+ghost use Rattle.std.specs.Prelude.{◌≡◌, ◌<◌, ◌^◌, List, [], ◌++◌, All, length, map};
+ghost use Rattle.std.specs.Prelude.{slice_index_or, string_bytes, alloc_error, IfErr, IfOk, OnOk};
+ghost use Rattle.std.specs.Prelude.{SomeIff};
+ghost use Rattle.textwrap_display.specs.Tables.{AreCells, ColumnMakes, ColumnParts, HaveParts};
+ghost use Rattle.textwrap_display.specs.Tables.{IsTable, IsTableOf, cell_line, cell_texts};
+ghost use Rattle.textwrap_display.specs.Tables.{gap_before, gaps_view, group_rows, height};
+ghost use Rattle.textwrap_display.specs.Tables.{row_text, shape_of, texts_in};
+ghost use Rattle.textwrap_lines.specs.Options.{MayOverflow};
+
+use crate::alignment::{Alignment, aligned_len, push_aligned};
+use std::alloc::{AllocError, Allocator};
+use std::borrow::CowStr;
+use textwrap::{Options, WrapError};
+use textwrap_lines::inner::wrap_by;
+
+/// A column of a table.
+#[derive(Debug, Drop)]
+pub struct Column<'o> {
+    /// How its texts are wrapped. Their width is that of the column, in columns of the screen.
+    pub options: Options<'o>,
+    /// Where each line stands in the column.
+    pub alignment: Alignment,
+}
+
+/// What stands around the cells of a row.
+#[derive(Clone, Copy, Debug)]
+pub struct Gaps<'a> {
+    /// What stands before the first column.
+    pub left: &'a str,
+    /// What stands between each two columns.
+    pub middle: &'a str,
+    /// What stands after the last column.
+    pub right: &'a str,
+}
+
+/// The lines of a text.
+type Cell<'t, A> = Vec<CowStr<'t, A>, A>;
+
+/// Wraps texts in the columns of a table, and returns its rows, from the top down.
+///
+/// The cells are texts. As many as there are columns stand beside one another, and the last ones
+/// may be fewer. Each is wrapped by the options of its column. Together they take as many rows as
+/// the highest of them has lines; below its own last line a cell shows nothing. Each line is
+/// aligned in the width of its column, as [`display_width`](textwrap::words::display_width)
+/// measures it, and one that is wider is not cut. The gaps stand before the first column, between
+/// each two, and after the last one. The rows are not joined: no line ending is added. Without
+/// columns there are no rows.
+///
+/// ```rust
+/// let columns = [
+///     Column { options: Options::new(4), alignment: Alignment::Left },
+///     Column { options: Options::new(12), alignment: Alignment::Left },
+/// ];
+/// let gaps = Gaps { left: "", middle: "  ", right: "|" };
+/// let texts = ["-h", "Print this help.", "-q", "Say nothing."];
+/// let rows = table(alloc, &texts, &columns, &gaps)?;
+/// ```
+///
+/// The rows are `"-h    Print this  |"`, `"      help.       |"` and `"-q    Say nothing.|"`.
+///
+/// # Errors
+/// Those of `wrap`. A row that is longer than 64 bits can say is out of memory too, and is refused
+/// before any of it is written.
+pub fn table<A: Allocator + Copy>(
+    alloc: A,
+    cells: &[&str],
+    columns: &[Column<'_>],
+    gaps: &Gaps<'_>,
+) -> Result<Vec<String<A>, A>, WrapError>
+    ensures rows { IfOk result (λ rows.
+        IsTable columns.now (gaps_view gaps.now) (texts_in cells.now)
+        (map string_bytes rows.items)) }
+    // The same rows, where all parts are built in and can be named.
+    ensures built_in { IfOk result (λ rows. (parts : List ColumnParts) → HaveParts columns.now parts
+        → IsTableOf parts (gaps_view gaps.now) (texts_in cells.now) (map string_bytes rows.items)) }
+    ensures only_memory { All (λ column. ¬ MayOverflow column.options) columns.now
+        → IfErr result (λ error. error ≡ WrapError.Memory alloc_error) }
+{
+    let mut rows = Vec::new(alloc);
+    if columns.is_empty() {
+        return Ok(rows);
+    }
+    for texts in cells.chunks(columns.len()) {
+        let group = wrap_cells(alloc, texts, columns)?;
+        push_rows(alloc, &mut rows, &group, columns, gaps)?;
+    }
+    Ok(rows)
+}
+
+/// Wraps each text by the options of its column.
+///
+/// # Errors
+/// Those of `wrap`.
+fn wrap_cells<'t, A: Allocator + Copy>(
+    alloc: A,
+    texts: &[&'t str],
+    columns: &[Column<'_>],
+) -> Result<Vec<Cell<'t, A>, A>, WrapError>
+    ensures cells { IfOk result (λ cells.
+        AreCells ColumnMakes columns.now (texts_in texts.now) (cell_texts cells.items)) }
+    ensures only_memory { All (λ column. ¬ MayOverflow column.options) columns.now
+        → IfErr result (λ error. error ≡ WrapError.Memory alloc_error) }
+{
+    let mut cells = Vec::new(alloc);
+    for (text, column) in texts.iter().zip(columns) {
+        cells.push(wrap_by(alloc, text, &column.options)?)?;
+    }
+    Ok(cells)
+}
+
+/// Adds the rows of a group of cells, as many as the highest cell has lines.
+fn push_rows<A: Allocator + Copy>(
+    alloc: A,
+    rows: &mut Vec<String<A>, A>,
+    cells: &[Cell<'_, A>],
+    columns: &[Column<'_>],
+    gaps: &Gaps<'_>,
+) -> Result<(), AllocError>
+    ensures { OnOk result (map string_bytes rows.new.items ≡ map string_bytes rows.old.items
+        ++ group_rows (gaps_view gaps.now) (map shape_of columns.now) (cell_texts cells.now)) }
+{
+    for r in 0..height(cells) {
+        rows.push(table_row(alloc, cells, r, columns, gaps)?)?;
+    }
+    Ok(())
+}
+
+/// How many lines the highest cell has.
+fn height<A: Allocator>(cells: &[Cell<'_, A>]) -> usize
+    ensures { result ≡ height (cell_texts cells.now) }
+{
+    let mut most = 0;
+    for lines in cells {
+        most = most.max(lines.len());
+    }
+    most
+}
+
+/// The row of the line at `r` of each cell.
+fn table_row<A: Allocator>(
+    alloc: A,
+    cells: &[Cell<'_, A>],
+    r: usize,
+    columns: &[Column<'_>],
+    gaps: &Gaps<'_>,
+) -> Result<String<A>, AllocError>
+    ensures { IfOk result (λ row. string_bytes row
+        ≡ row_text (gaps_view gaps.now) (map shape_of columns.now) (cell_texts cells.now) r) }
+{
+    // Reserved before a cell is written, so that a row that fits no memory is refused at once.
+    let len = row_len(cells, r, columns, gaps).ok_or(AllocError)?;
+    let mut row = String::with_capacity(alloc, len)?;
+    row.push_str(gaps.left)?;
+    for (c, column) in columns.iter().enumerate() {
+        row.push_str(gap_before(c, gaps))?;
+        let line = cell_line(cells, c, r);
+        push_aligned(&mut row, line, column.options.width, column.alignment)?;
+    }
+    row.push_str(gaps.right)?;
+    Ok(row)
+}
+
+/// The bytes of that row, or `None` where their number does not fit 64 bits.
+fn row_len<A: Allocator>(
+    cells: &[Cell<'_, A>],
+    r: usize,
+    columns: &[Column<'_>],
+    gaps: &Gaps<'_>,
+) -> Option<usize>
+    ensures { let row = row_text (gaps_view gaps.now) (map shape_of columns.now)
+        (cell_texts cells.now) r in SomeIff result (length row < 2 ^ 64) (length row) }
+{
+    let mut len = gaps.left.len().checked_add(gaps.right.len())?;
+    for (c, column) in columns.iter().enumerate() {
+        let line = cell_line(cells, c, r);
+        len = len
+            .checked_add(gap_before(c, gaps).len())?
+            .checked_add(aligned_len(line, column.options.width)?)?;
+    }
+    Some(len)
+}
+
+/// What stands between the column at `c` and the one before it, if there is one.
+fn gap_before<'a>(c: usize, gaps: &Gaps<'a>) -> &'a str
+    ensures { result.now ≡ gap_before c gaps.now.middle.now }
+{
+    if c == 0 { "" } else { gaps.middle }
+}
+
+/// The line at `r` of the cell at `c`, or nothing where there is none.
+fn cell_line<'l, A: Allocator>(cells: &'l [Cell<'_, A>], c: usize, r: usize) -> &'l str
+    ensures { result.now ≡ cell_line (slice_index_or (cell_texts cells.now) c []) r }
+{
+    match cells.get(c) {
+        Some(lines) if r < lines.len() => lines[r].as_str(),
+        _ => "",
+    }
+}

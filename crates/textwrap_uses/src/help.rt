@@ -1,10 +1,13 @@
 //! The help texts of a program.
-ghost use Rattle.std.specs.Prelude.{◌≡◌, codes, string_bytes, IfOk, IfErr, alloc_error};
+ghost use Rattle.std.specs.Prelude.{◌≡◌, codes, map, string_bytes, IfOk, IfErr, alloc_error};
 ghost use Rattle.textwrap.specs.Filling.{IsFilledBy};
 ghost use Rattle.textwrap.specs.Options.{settings_at, default_algorithm};
+ghost use Rattle.textwrap_display.specs.Tables.{IsTableOf, texts_in};
+ghost use Rattle.textwrap_uses.specs.Help.{help_columns, help_gaps};
 
 use std::alloc::Global;
 use textwrap::{Options, WrapError, fill};
+use textwrap_display::{Alignment, Column, Gaps, table};
 
 /// The help of a flag: the flag, and beside it the text, filled at the width. Later lines are
 /// indented by eight blanks.
@@ -22,4 +25,39 @@ pub fn help_entry(alloc: Global, flag: &str, text: &str, width: usize) -> Result
         .subsequent_indent("        ");
     let entry = fill(alloc, text, options)?;
     Ok(entry)
+}
+
+/// The help of a program, row by row: flags at the left, in so many columns, and beside each its text,
+/// in what these leave of the width. The entries are a flag, its text, the next flag, and so on.
+///
+/// At 6 and 26 columns, `-h`, `Print this help.`, `-w N` and `Wrap at N columns.` have the rows
+/// `  -h      Print this help.` and `  -w N    Wrap at N`, and one with the text `columns.` alone.
+pub fn help_rows(
+    alloc: Global,
+    entries: &[&str],
+    flag_width: usize,
+    width: usize,
+) -> Result<Vec<String>, WrapError>
+    ensures table { IfOk result (λ rows. IsTableOf (help_columns flag_width width) help_gaps
+        (texts_in entries.now) (map string_bytes rows.items)) }
+    ensures only_memory { IfErr result (λ error. error ≡ WrapError.Memory alloc_error) }
+{
+    let text_width = width.saturating_sub(flag_width.saturating_add(4));
+    let columns = [
+        Column {
+            options: Options::new(flag_width),
+            alignment: Alignment::Left,
+        },
+        Column {
+            options: Options::new(text_width),
+            alignment: Alignment::Left,
+        },
+    ];
+    let gaps = Gaps {
+        left: "  ",
+        middle: "  ",
+        right: "",
+    };
+    let rows = table(alloc, entries, &columns, &gaps)?;
+    Ok(rows)
 }

@@ -1,6 +1,6 @@
 //! Callers of `textwrap`, with contracts that rest on the library's. They show how the library is
 //! called, and that its contracts suffice: but for `hyphens`, which stands between its steps, none of
-//! them names a crate below it.
+//! them names a crate below it. `help` calls `textwrap_display` too.
 #![tactic(auto)]
 
 pub mod checking;

@@ -1,7 +1,7 @@
 use crate::checking::{is_filled, line_count};
 use crate::comments::{common_mark, rewrapped};
 use crate::gallery::{Picture, few_rows, hung_rows};
-use crate::help::help_entry;
+use crate::help::{help_entry, help_rows};
 use crate::hyphens::{Entry, HyphenError, hyphenated_lines};
 use crate::languages::lines_in_any_language;
 use crate::lists::listed_lines;
@@ -31,6 +31,17 @@ fn are_borrowed(lines: &[CowStr<'_>], expected: &[&str]) -> bool {
 fn a_help_entry_has_its_flag_and_its_text(rt: HostRuntime) -> Result<(), Fail> {
     let entry = help_entry(rt.alloc(), "-w      ", "The width of a line.", 20)?;
     assert_eq!(rt; entry.as_str(), "-w      The width of\n        a line.");
+    Ok(())
+}
+
+#[test]
+fn help_has_flags_and_texts(rt: HostRuntime) -> Result<(), Fail> {
+    let entries = ["-h", "Print this help.", "-w N", "Wrap at N columns."];
+    let rows = help_rows(rt.alloc(), &entries, 6, 26)?;
+    assert_eq!(rt; rows.len(), 3);
+    assert_eq!(rt; rows[0].as_str(), "  -h      Print this help.");
+    assert_eq!(rt; rows[1].as_str(), "  -w N    Wrap at N       ");
+    assert_eq!(rt; rows[2].as_str(), "          columns.        ");
     Ok(())
 }
 

@@ -1,7 +1,7 @@
 -- One line more that sets anew what is open, and ends plain.
-use Rattle.textwrap_base.proofs.Common.{◌≡◌, ℕ, ◌+◌, ◌-◌, ◌<◌, ◌≤◌, Bool, true, false, cond, ◌==◌, List}
-use Rattle.textwrap_base.proofs.Common.{[], ◌∷◌, ◌++◌, length, get_or, take, drop, map, refl, sym, ap}
-use Rattle.textwrap_base.proofs.Common.{◌∙◌, arith, length-drop, drop_more, CowStr, nat_eq}
+use Rattle.textwrap_base.proofs.Common.{◌≡◌, ℕ, ◌+◌, ◌-◌, ◌<◌, ◌≤◌, Bool, true, false, cond, ◌==◌}
+use Rattle.textwrap_base.proofs.Common.{List, [], ◌∷◌, ◌++◌, length, get_or, take, drop, map, refl}
+use Rattle.textwrap_base.proofs.Common.{sym, ap, ◌∙◌, arith, length-drop, drop_more, CowStr, nat_eq}
 use Rattle.textwrap_base.proofs.Common.{starts_with}
 use Rattle.textwrap_base.proofs.Lists.Maps.{map-push-append}
 use Rattle.std.specs.Cow.{cow_str_bytes}
@@ -9,12 +9,12 @@ use Rattle.textwrap_lines.specs.Paragraph.{Line, Built, Slice, line_view}
 use Rattle.textwrap_lines.proofs.Text.Lines.{line_bytes-line_view}
 use Rattle.textwrap_display.specs.Shortening.{texts_of}
 use Rattle.textwrap_display.specs.Indents.{after_indent}
-use Rattle.textwrap_display.specs.Styles.{carried_line, carried_lines, closing, opening}
-use Rattle.textwrap_display.specs.Styles.{sequences}
+use Rattle.textwrap_display.specs.Styles.{carried_line, carried_lines, closing}
+use Rattle.textwrap_display.specs.Styles.{opening, sequences}
 
 -- a line with these texts after its indent and at its end
-abbrev with_ends : List ℕ → ℕ → List ℕ → List ℕ → List ℕ → Line
-with_ends line n text start end =
+abbrev enclosed : List ℕ → ℕ → List ℕ → List ℕ → List ℕ → Line
+enclosed line n text start end =
     cond (length (start ++ end) == 0) (Slice line) (Built (take n line ++ start ++ text ++ end))
 
 module _ (indent line : List ℕ) (n : ℕ)
@@ -22,20 +22,21 @@ module _ (indent line : List ℕ) (n : ℕ)
   pub text-is : drop n line ≡ after_indent indent line
   text-is = ap (λ k. drop k line) is ∙ by (starts_with nat_eq line indent)
     where
-      by : (b : Bool) → drop (cond b (length indent) 0) line ≡ cond b (drop (length indent) line) line
+      by : (b : Bool)
+          → drop (cond b (length indent) 0) line ≡ cond b (drop (length indent) line) line
       by true = refl
       by false = refl
 
   pub line-is : (before : List (List ℕ)) (start end : List ℕ) (view : Line) → n ≤ length line
       → start ≡ opening before → end ≡ closing (before ++ sequences (drop n line))
-      → view ≡ with_ends line n (drop n line) start end → view ≡ carried_line indent before line
+      → view ≡ enclosed line n (drop n line) start end → view ≡ carried_line indent before line
   line-is before start end view within starts ends whole =
       let rest = drop n line in
       let len : n ≡ length line - length rest = omega (arith, length-drop n line, within) in
-      whole ∙ ap (λ l. with_ends line n rest l end) starts
-      ∙ ap (with_ends line n rest (opening before)) ends
-      ∙ ap (λ k. with_ends line k rest (opening before) (closing (before ++ sequences rest))) len
-      ∙ ap (λ t. with_ends line (length line - length t) t (opening before)
+      whole ∙ ap (λ l. enclosed line n rest l end) starts
+      ∙ ap (enclosed line n rest (opening before)) ends
+      ∙ ap (λ k. enclosed line k rest (opening before) (closing (before ++ sequences rest))) len
+      ∙ ap (λ t. enclosed line (length line - length t) t (opening before)
       (closing (before ++ sequences t))) text-is
 
 -- one more of the lines

@@ -6,8 +6,9 @@ use Rattle.std.specs.List.{after_last, concat, list_all}
 use Rattle.std.specs.Option.{option_copied, option_to_list}
 use Rattle.std.proofs.lemmas.List.Folds.{concat-append}
 use Rattle.textwrap_display.specs.OpenStyles.{IsOpenAfter}
-use Rattle.textwrap_display.specs.Styles.{closing, has_target, is_link, is_reset, is_style, link_end}
-use Rattle.textwrap_display.specs.Styles.{open_link, open_styles, style_end, style_parameters}
+use Rattle.textwrap_display.specs.Styles.{closing, has_target, is_link, is_reset, is_style}
+use Rattle.textwrap_display.specs.Styles.{link_end, open_link, open_styles, style_end}
+use Rattle.textwrap_display.specs.Styles.{style_parameters}
 use Rattle.textwrap_display.specs.declared.styles.OpenStyles.{OpenStyles}
 use Rattle.textwrap_display.proofs.OpenAfter.{open_link-push}
 use Rattle.textwrap_display.proofs.OpenSequences.{no_styles, styles-push}
@@ -24,11 +25,15 @@ module _ {Z : Type 0} (before : List (List ℕ)) (s : List ℕ) (old new : OpenS
       ≡ cond reset [] (cond style (open_styles before ++ s ∷ []) (open_styles before))
   styles-after reset style resets styles = rw (sym resets, sym styles) (styles-push before s)
 
+  -- the link, by what the sequence does
+  link-after : (link : Bool) → is_link s ≡ link → open_link (before ++ s ∷ [])
+      ≡ cond link (cond (has_target s) (s ∷ []) []) (open_link before)
+  link-after link is = rw (sym is) (open_link-push before s)
+
   same-link : is_link s ≡ false → new.link ≡ old.link
       → option_to_list (option_copied new.link) ≡ open_link (before ++ s ∷ [])
   same-link none same =
-      ap (λ l. option_to_list (option_copied l)) same ∙ state.link
-      ∙ sym (open_link-push before s ∙ ap (λ b. cond b (cond (has_target s) (s ∷ []) []) (open_link before)) none)
+      ap (λ l. option_to_list (option_copied l)) same ∙ state.link ∙ sym (link-after false none)
 
   same-styles : is_style s ≡ false → string_bytes new.styles ≡ string_bytes old.styles
       → string_bytes new.styles ≡ concat (open_styles (before ++ s ∷ []))
@@ -61,8 +66,7 @@ module _ {Z : Type 0} (before : List (List ℕ)) (s : List ℕ) (old new : OpenS
       → IsOpenAfter (before ++ s ∷ []) new
   after-link plain link same set = record {
     styles = same-styles plain same;
-    link = set ∙ sym (open_link-push before s
-        ∙ ap (λ b. cond b (cond (has_target s) (s ∷ []) []) (open_link before)) link);
+    link = set ∙ sym (link-after true link);
   }
 
   pub after-other : is_style s ≡ false → is_link s ≡ false
@@ -75,8 +79,8 @@ module _ {Z : Type 0} (before : List (List ℕ)) (s : List ℕ) (old new : OpenS
 pub closing-is : {Z : Type 0} (before : List (List ℕ)) (state : OpenStyles Z) (plain : Bool)
     (link : Option (Bor (List ℕ))) → IsOpenAfter before state
     → plain ≡ (length (string_bytes state.styles) == 0) → state.link ≡ link
-    → cond plain [] style_end ++ cond (length (option_to_list (option_copied link)) == 0) [] link_end
-    ≡ closing before
+    → cond plain [] style_end
+    ++ cond (length (option_to_list (option_copied link)) == 0) [] link_end ≡ closing before
 closing-is before state plain link after is same =
     let styles : plain ≡ (length (open_styles before) == 0) =
     is ∙ ap (λ l. length l == 0) after.styles ∙ sym (no_styles (after_last is_reset before)) in

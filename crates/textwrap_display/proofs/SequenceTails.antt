@@ -1,7 +1,8 @@
 -- The reader of an escape sequence, after its ESC: where it stands, and what it has still to take.
-use Rattle.textwrap_base.proofs.Common.{◌≡◌, ◌≢◌, ℕ, ◌+◌, Bool, List, [], ◌∷◌, ◌++◌, length, take, refl}
-use Rattle.textwrap_base.proofs.Common.{sym, ap, ◌∙◌, arith, append_assoc, append-nil, length-append}
-use Rattle.textwrap_base.proofs.Common.{take_at, zero-add, IsUtf8, IsUtf8-past_char, encode_utf8_all}
+use Rattle.textwrap_base.proofs.Common.{◌≡◌, ◌≢◌, ℕ, ◌+◌, Bool, List, [], ◌∷◌, ◌++◌, length, take}
+use Rattle.textwrap_base.proofs.Common.{refl, sym, ap, ◌∙◌, arith, append_assoc, append-nil}
+use Rattle.textwrap_base.proofs.Common.{length-append, take_at, zero-add, IsUtf8, IsUtf8-past_char}
+use Rattle.textwrap_base.proofs.Common.{encode_utf8_all}
 use Rattle.textwrap_base.proofs.Common.{encodes-append, encodes-chars, chars_past_char, chars-nil}
 use Rattle.std.proofs.lemmas.List.{nil_from_length}
 use Rattle.std.specs.Prelude.{chars, encode_utf8}

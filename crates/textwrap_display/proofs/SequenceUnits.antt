@@ -49,9 +49,9 @@ no_sequences text utf8 plain =
     ap sequences_in (sym are ∙ sym (append-nil plain.0))
     ∙ sequences_in-plain plain.0 [] plain.2
 
--- what stands before the first ESC and after it, the bytes that the sequence ends at, and those up to
--- there
-module _ (text before after : List ℕ) (utf8 : IsUtf8 text) (whole : text ≡ before ++ 27 ∷ after) where
+-- where the sequence of an ESC ends, by what stands before that and after it
+module _ (text before after : List ℕ) (utf8 : IsUtf8 text)
+    (whole : text ≡ before ++ 27 ∷ after) where
   abbrev pub end_of : ℕ
   end_of = length before + 1 + tail_len after
 
@@ -105,7 +105,8 @@ module _ (text before after : List ℕ) (utf8 : IsUtf8 text) (whole : text ≡ b
       chars_from_encodes rest (drop end_of text) (IsUtf8-drop text end_of utf8 end-boundary)
       (sym left) in
       ap sequences_in characters
-      ∙ sequences_in-plain (chars before) (27 ∷ chars after) (subst (NonePass (λ c. eqb c 27)) are plain.2)
+      ∙ sequences_in-plain (chars before) (27 ∷ chars after)
+      (subst (NonePass (λ c. eqb c 27)) are plain.2)
       ∙ sequences_in-escape (chars after)
       ∙ ap (λ s. s ∷ sequences_in rest) (sym sequence)
       ∙ ap (λ cs. slice_range text (length before) end_of ∷ sequences_in cs) later

@@ -87,7 +87,8 @@ around fields ending rings rung ended size =
     ∙ ap (λ k. take k (fields ++ ending)) len ∙ take_at fields ending (length fields) refl in
     record {
       are = are;
-      is = ap (λ b. (b || ends_with nat_eq whole terminator) && has_semicolon (link_fields whole)) rung
+      is = ap (λ b. (b || ends_with nat_eq whole terminator)
+          && has_semicolon (link_fields whole)) rung
           ∙ ap (λ b. b && has_semicolon (link_fields whole)) ended ∙ ap has_semicolon are;
     }
 
@@ -118,6 +119,8 @@ link-cases sequence rest (Some fields) second whole strips _ =
     let is = whole ∙ ap (λ l. link_start ++ l) (stripped_suffix bell rest fields.now strips) in
     subst (λ l. IsAround l fields.now) (sym is) (around-bell fields.now)
 link-cases sequence rest None (Some fields) whole none strips =
-    let is = whole ∙ ap (λ l. link_start ++ l) (stripped_suffix terminator rest fields.now strips) in
+    let is = whole
+    ∙ ap (λ l. link_start ++ l) (stripped_suffix terminator rest fields.now strips) in
     subst (λ l. IsAround l fields.now) (sym is) (around-terminator fields.now)
-link-cases sequence rest None None whole no_bell none = ap is_link whole ∙ not_link rest no_bell none
+link-cases sequence rest None None whole no_bell none =
+    ap is_link whole ∙ not_link rest no_bell none

@@ -1,13 +1,15 @@
-//! Lines that each stand by themselves: styles and links do not go on over their ends.
-ghost use Rattle.std.specs.Prelude.{◌≡◌, ℕ, ◌-◌, ◌<◌, ◌==◌, ◌||◌, List, [], ◌∷◌, ◌++◌, chars, length};
-ghost use Rattle.std.specs.Prelude.{drop, encode_utf8_all, if◌then◌else◌, is_some, map, nat_eq, take};
-ghost use Rattle.std.specs.Prelude.{string_bytes, IfOk, OnOk, IfSome, IsCharBoundary, IsUtf8, MatchOption};
+//! Styles and links that go on over the ends of lines: each line sets anew what is open where it
+//! begins, and ends plain.
+ghost use Rattle.std.specs.Prelude.{◌≡◌, ℕ, ◌<◌, ◌==◌, ◌||◌, List, [], ◌∷◌, ◌++◌, chars, length};
+ghost use Rattle.std.specs.Prelude.{drop, encode_utf8_all, if◌then◌else◌, is_some, map, nat_eq};
+ghost use Rattle.std.specs.Prelude.{string_bytes, take, IfOk, IfSome, IsCharBoundary, IsUtf8};
+ghost use Rattle.std.specs.Prelude.{MatchOption, OnOk};
 ghost use Rattle.std.specs.Int.{is_in_range};
 ghost use Rattle.std.specs.List.{after_first, list_all, starts_with};
 ghost use Rattle.textwrap_display.specs.OpenStyles.{IsOpenAfter};
 ghost use Rattle.textwrap_display.specs.Shortening.{texts_of};
-ghost use Rattle.textwrap_display.specs.Styles.{carried_lines, closing, is_link, is_style, link_fields};
-ghost use Rattle.textwrap_display.specs.Styles.{opening, sequences, style_parameters};
+ghost use Rattle.textwrap_display.specs.Styles.{carried_lines, closing, is_link, is_style};
+ghost use Rattle.textwrap_display.specs.Styles.{link_fields, opening, sequences, style_parameters};
 ghost use Rattle.textwrap_lines.specs.Paragraph.{Built, Slice, line_view};
 ghost use Rattle.textwrap_words.specs.Units.{escape_len};
 
@@ -20,9 +22,32 @@ use textwrap_words::escapes::State;
 const STYLE_END: &str = "\x1b[0m";
 /// Ends a link.
 const LINK_END: &str = "\x1b]8;;\x1b\\";
-const BOTH_ENDS: &str = "\x1b[0m\x1b]8;;\x1b\\";
+/// Does both.
+const STYLE_AND_LINK_END: &str = "\x1b[0m\x1b]8;;\x1b\\";
 
-/// The lines of one text, each so that it stands by itself.
+/// The lines of one text, each so that it stands by itself: what is open where a line ends is ended
+/// there, and set anew in the next line, after its indent. So lines may stand beside other text, as
+/// in a frame or a table, and each looks as it did in its text.
+///
+/// `"a \x1b[1mb"` and `"c"` become `"a \x1b[1mb\x1b[0m"` and `"\x1b[1mc\x1b[0m"`. A line that
+/// begins and ends plain stays as it is, and is not copied.
+///
+/// - A style is set by ESC `[`, digits, colons and semicolons, and `m` (SGR, ECMA-48). Where there
+///   are none of these, or zeros and semicolons alone, all styles are taken back. All that were set
+///   since are open, also where a later one takes an earlier one back, as `"\x1b[22m"` does bold.
+/// - A link is set by ESC `]8;`, parameters, a semicolon, its target, and BEL or ESC `\` (OSC 8,
+///   the hyperlinks of terminals). A later one takes its place, and one without a target ends it.
+/// - All other sequences are left as they are.
+///
+/// The indents are those of the options, by which `wrap` made the lines; nothing else of the
+/// options is read. A sequence in an indent is left as it is and does not go on, so an indent
+/// should end plain. A line that does not begin with its indent has none.
+///
+/// A sequence that a line end cuts in two is read as `display_width` reads it, in each line by
+/// itself: the part in the first line has no end, and goes on to the end of what is printed of it.
+///
+/// # Errors
+/// Out of memory, also where a line would be longer than 64 bits can say.
 pub fn carry_styles<'l, A: Allocator + Copy>(
     alloc: A,
     lines: &'l [CowStr<'_, A>],
@@ -33,16 +58,17 @@ pub fn carry_styles<'l, A: Allocator + Copy>(
         (texts_of lines.now)) }
 {
     let mut carried = Vec::with_capacity(alloc, lines.len())?;
-    let mut open = OpenStyles::none(alloc);
+    let mut open = OpenStyles::new(alloc);
     let mut opening = String::new(alloc);
     let mut indent = options.initial_indent;
     for line in lines {
         let line = line.as_str();
         let indent_end = indent_len(line, indent);
+        // Written before the line is read, which changes what is open.
         opening.clear();
         open.push_opening(&mut opening)?;
         open.read(&line[indent_end..])?;
-        carried.push(with_ends(alloc, line, indent_end, &opening, open.closing())?)?;
+        carried.push(enclosed(alloc, line, indent_end, &opening, open.closing())?)?;
         indent = options.subsequent_indent;
     }
     Ok(carried)
@@ -50,15 +76,20 @@ pub fn carry_styles<'l, A: Allocator + Copy>(
 
 /// How many bytes of a line are its indent: none where it does not begin with that.
 fn indent_len(line: &str, indent: &str) -> usize
-    ensures len { result ≡ (if starts_with nat_eq line.now indent.now then length indent.now else 0) }
+    ensures len { result
+        ≡ (if starts_with nat_eq line.now indent.now then length indent.now else 0) }
     ensures boundary { IsCharBoundary line.now result }
 {
-    if line.starts_with(indent) { indent.len() } else { 0 }
+    if line.starts_with(indent) {
+        indent.len()
+    } else {
+        0
+    }
 }
 
-/// The line with `opening` after its indent and `closing` at its end. It is not copied where both
-/// are empty.
-fn with_ends<'l, A: Allocator>(
+/// The line with `opening` after its indent and `closing` at its end. Where both are empty it is
+/// not copied.
+fn enclosed<'l, A: Allocator>(
     alloc: A,
     line: &'l str,
     indent_end: usize,
@@ -75,6 +106,7 @@ fn with_ends<'l, A: Allocator>(
     if added == 0 {
         return Ok(CowStr::Borrowed(line));
     }
+    // Reserved at once, so that a text that fits no memory is refused before a byte is copied.
     let len = line.len().checked_add(added).ok_or(AllocError)?;
     let mut text = String::with_capacity(alloc, len)?;
     text.push_str(&line[..indent_end])?;
@@ -87,15 +119,15 @@ fn with_ends<'l, A: Allocator>(
 /// What is open at a place of a text.
 #[derive(Drop)]
 struct OpenStyles<'t, A: Allocator> {
-    /// The sequences that set styles since all were taken back, one after the other.
+    /// The sequences of the styles, one after the other.
     styles: String<A>,
-    /// The sequence that set the link, if one is open.
+    /// The sequence of the link, if there is one.
     link: Option<&'t str>,
 }
 
-impl<'t, A: Allocator + Copy> OpenStyles<'t, A> {
+impl<'t, A: Allocator> OpenStyles<'t, A> {
     /// Nothing is open.
-    fn none(alloc: A) -> Self
+    fn new(alloc: A) -> Self
         ensures { IsOpenAfter [] result }
     {
         OpenStyles {
@@ -104,32 +136,36 @@ impl<'t, A: Allocator + Copy> OpenStyles<'t, A> {
         }
     }
 
-    /// Goes on over a text, or a part of one that cuts no sequence.
+    /// Goes on over a text.
     fn read(&mut self, text: &'t str) -> Result<(), AllocError>
         ensures { (before : List (List ℕ)) → IsOpenAfter before self.old
             → OnOk result (IsOpenAfter (before ++ sequences text.now) self.new) }
     {
         let mut left = text;
         while let Some((sequence, rest)) = next_sequence(left) {
-            self.take(sequence)?;
+            self.read_sequence(sequence)?;
             left = rest;
         }
         Ok(())
     }
 
-    /// Goes on over a sequence.
-    fn take(&mut self, sequence: &'t str) -> Result<(), AllocError>
+    /// Goes on over an escape sequence.
+    fn read_sequence(&mut self, sequence: &'t str) -> Result<(), AllocError>
         ensures { (before : List (List ℕ)) → IsOpenAfter before self.old
             → OnOk result (IsOpenAfter (before ++ sequence.now ∷ []) self.new) }
     {
         if let Some(parameters) = style_parameters(sequence) {
-            if take_all_back(parameters) {
+            if are_zeros(parameters) {
                 self.styles.clear();
             } else {
                 self.styles.push_str(sequence)?;
             }
         } else if let Some(target) = link_target(sequence) {
-            self.link = if target.is_empty() { None } else { Some(sequence) };
+            self.link = if target.is_empty() {
+                None
+            } else {
+                Some(sequence)
+            };
         }
         Ok(())
     }
@@ -154,7 +190,7 @@ impl<'t, A: Allocator + Copy> OpenStyles<'t, A> {
             (true, None) => "",
             (false, None) => STYLE_END,
             (true, Some(_)) => LINK_END,
-            (false, Some(_)) => BOTH_ENDS,
+            (false, Some(_)) => STYLE_AND_LINK_END,
         }
     }
 }
@@ -188,38 +224,45 @@ fn sequence_tail_len(after: &str) -> usize
     after.len()
 }
 
-/// The parameters of a sequence that sets styles.
+/// The parameters of a sequence that sets a style or takes all back: `"1;31"` of `"\x1b[1;31m"`.
 fn style_parameters(sequence: &str) -> Option<&str>
     ensures style { is_some result ≡ is_style sequence.now }
     ensures parameters { IfSome result (λ parameters.
         parameters.now ≡ style_parameters sequence.now) }
 {
     let parameters = sequence.strip_prefix("\x1b[")?.strip_suffix("m")?;
-    if set_styles(parameters) { Some(parameters) } else { None }
+    if are_style_parameters(parameters) {
+        Some(parameters)
+    } else {
+        None
+    }
 }
 
-/// Whether these are parameters of styles.
-fn set_styles(parameters: &str) -> bool
+/// Whether these are digits, colons and semicolons alone.
+fn are_style_parameters(parameters: &str) -> bool
     ensures { result ≡ list_all (is_in_range 0x30 0x3B) parameters.now }
 {
     parameters.bytes().all(|byte| matches!(byte, b'0'..=b';'))
 }
 
-/// Whether these parameters of styles take all styles back.
-fn take_all_back(parameters: &str) -> bool
+/// Whether these are zeros and semicolons alone.
+fn are_zeros(parameters: &str) -> bool
     ensures { result ≡ list_all (λ c. (c == 0x30) || (c == 0x3B)) parameters.now }
 {
     parameters.bytes().all(|byte| matches!(byte, b'0' | b';'))
 }
 
-/// The target of a sequence that sets a link, which is empty where it ends one.
+/// The target of a sequence that sets a link, which is empty where it ends one: `"http://x"` of
+/// `"\x1b]8;id=1;http://x\x07"`.
 fn link_target(sequence: &str) -> Option<&str>
     ensures link { is_some result ≡ is_link sequence.now }
     ensures target { IfSome result (λ target.
         target.now ≡ after_first (λ c. c == 0x3B) (link_fields sequence.now)) }
 {
     let fields = sequence.strip_prefix("\x1b]8;")?;
-    let fields = fields.strip_suffix("\x07").or(fields.strip_suffix("\x1b\\"))?;
+    let fields = fields
+        .strip_suffix("\x07")
+        .or(fields.strip_suffix("\x1b\\"))?;
     let (_, target) = fields.split_once(';')?;
     Some(target)
 }

@@ -24,7 +24,8 @@ const CARRIED: &[(&str, [&str; 2], &[&str], &[&str])] = &[
         &["* \x1b[1ma\x1b[0m", "  \x1b[1mb\x1b[0m", "  \x1b[1mc\x1b[0m"]),
     ("all styles that are open", ["", ""],
         &["\x1b[1ma \x1b[31mb", "c \x1b[4md", "e"],
-        &["\x1b[1ma \x1b[31mb\x1b[0m", "\x1b[1m\x1b[31mc \x1b[4md\x1b[0m", "\x1b[1m\x1b[31m\x1b[4me\x1b[0m"]),
+        &["\x1b[1ma \x1b[31mb\x1b[0m", "\x1b[1m\x1b[31mc \x1b[4md\x1b[0m",
+            "\x1b[1m\x1b[31m\x1b[4me\x1b[0m"]),
     ("none that were taken back", ["", ""],
         &["\x1b[1ma\x1b[0m\x1b[3mb", "c"],
         &["\x1b[1ma\x1b[0m\x1b[3mb\x1b[0m", "\x1b[3mc\x1b[0m"]),
@@ -57,7 +58,8 @@ const CARRIED: &[(&str, [&str; 2], &[&str], &[&str])] = &[
         &["\x1b]8;;http://x\x1b\\a\x1b]8;;\x1b\\", "\x1b]8;;http://x\x1b\\b\x1b]8;;\x1b\\c", "d"]),
     ("a link with parameters, and a semicolon in its target", ["", ""],
         &["\x1b]8;id=1:a=2;x;y\x07a", "b\x1b]8;id=1;\x07c", "d"],
-        &["\x1b]8;id=1:a=2;x;y\x07a\x1b]8;;\x1b\\", "\x1b]8;id=1:a=2;x;y\x07b\x1b]8;id=1;\x07c", "d"]),
+        &["\x1b]8;id=1:a=2;x;y\x07a\x1b]8;;\x1b\\", "\x1b]8;id=1:a=2;x;y\x07b\x1b]8;id=1;\x07c",
+            "d"]),
     ("the last link alone", ["", ""],
         &["\x1b]8;;u\x07a\x1b]8;;v\x07b", "c"],
         &["\x1b]8;;u\x07a\x1b]8;;v\x07b\x1b]8;;\x1b\\", "\x1b]8;;v\x07c\x1b]8;;\x1b\\"]),
@@ -67,11 +69,13 @@ const CARRIED: &[(&str, [&str; 2], &[&str], &[&str])] = &[
             "\x1b]8;;u\x1b\\\x1b[1mb\x1b[0m\x1b]8;;\x1b\\"]),
     ("each ends by itself", ["", ""],
         &["\x1b[1m\x1b]8;;u\x07a", "b\x1b[0mc", "d\x1b]8;;\x07e", "f"],
-        &["\x1b[1m\x1b]8;;u\x07a\x1b[0m\x1b]8;;\x1b\\", "\x1b]8;;u\x07\x1b[1mb\x1b[0mc\x1b]8;;\x1b\\",
-            "\x1b]8;;u\x07d\x1b]8;;\x07e", "f"]),
+        &["\x1b[1m\x1b]8;;u\x07a\x1b[0m\x1b]8;;\x1b\\",
+            "\x1b]8;;u\x07\x1b[1mb\x1b[0mc\x1b]8;;\x1b\\", "\x1b]8;;u\x07d\x1b]8;;\x07e", "f"]),
     ("other sequences are left alone", ["", ""],
-        &["a\x1b[2Jb\x1b[>1m\x1b[?25h\x1b[1 m", "\x1b(B\x1b]0;t\x07\x1b]8;;u", "c\x1b]8;\x07\x1b]8;u\x07"],
-        &["a\x1b[2Jb\x1b[>1m\x1b[?25h\x1b[1 m", "\x1b(B\x1b]0;t\x07\x1b]8;;u", "c\x1b]8;\x07\x1b]8;u\x07"]),
+        &["a\x1b[2Jb\x1b[>1m\x1b[?25h\x1b[1 m", "\x1b(B\x1b]0;t\x07\x1b]8;;u",
+            "c\x1b]8;\x07\x1b]8;u\x07"],
+        &["a\x1b[2Jb\x1b[>1m\x1b[?25h\x1b[1 m", "\x1b(B\x1b]0;t\x07\x1b]8;;u",
+            "c\x1b]8;\x07\x1b]8;u\x07"]),
     ("among styles, too", ["", ""],
         &["\x1b[1ma\x1b[2Jb", "c\x1b[K"],
         &["\x1b[1ma\x1b[2Jb\x1b[0m", "\x1b[1mc\x1b[K\x1b[0m"]),
@@ -128,7 +132,10 @@ fn assert_carried(
     for ((carried, line), expected) in carried.iter().zip(lines).zip(expected) {
         let is_kept = line.as_str() == *expected;
         assert!(rt; carried.as_str() == *expected, "{rule}: {carried:?}");
-        assert!(rt; matches!(carried, CowStr::Borrowed(_)) == is_kept, "{rule}: {carried:?}");
+        assert!(rt;
+            matches!(carried, CowStr::Borrowed(_)) == is_kept,
+            "{rule}: {carried:?}"
+        );
     }
 }
 
@@ -136,7 +143,9 @@ fn assert_carried(
 fn styles_are_carried(rt: HostRuntime) -> Result<(), Fail> {
     for &(rule, [initial, later], texts, expected) in CARRIED {
         let lines = lines(rt.alloc(), texts)?;
-        let options = Options::new(0).initial_indent(initial).subsequent_indent(later);
+        let options = Options::new(0)
+            .initial_indent(initial)
+            .subsequent_indent(later);
         let carried = carry_styles(rt.alloc(), &lines, &options)?;
         assert_carried(&rt, rule, &lines, &carried, expected);
     }
@@ -179,7 +188,10 @@ fn many_lines_are_carried(rt: HostRuntime) -> Result<(), Fail> {
 fn refused_allocations_are_told(rt: HostRuntime) -> Result<(), Fail> {
     for allocations in 0..20 {
         let heap = Heap::new(rt.alloc(), 100);
-        let lines = lines(&heap, &["\x1b[1ma", "b\x1b]8;;u\x07", "c\x1b[m\x1b]8;;\x07", "d"])?;
+        let lines = lines(
+            &heap,
+            &["\x1b[1ma", "b\x1b]8;;u\x07", "c\x1b[m\x1b]8;;\x07", "d"],
+        )?;
         heap.allow(allocations);
         if let Ok(carried) = carry_styles(&heap, &lines, &Options::new(0)) {
             assert_eq!(rt; carried.len(), 4);

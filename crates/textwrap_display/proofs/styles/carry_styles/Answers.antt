@@ -19,17 +19,11 @@ loop-line-preserved g c =
     c.closing.ensures (before ++ sequences text) state
     ∙ ap (λ t. closing (before ++ sequences t)) c.range_from.ensures.value in
     let view = line-is indent line end.result end.ensures.len before c.deref.result.now
-    c.closing.result.now _ end.ensures.boundary.0 starts ends c.in_ok-with_ends.ensures in
-    record {
-      carries = (
-          before ++ sequences text,
-          state,
-          carries-more c.args.lines.now c.loop-line.line-index c.line-item.result
-          c.in_ok-with_ends.field-0 indent c.args.options.now.subsequent_indent.now line text before
-          c.loop-line.carried.items c.push.new.self.items _ c.loop-line-test.true c.line-item.is
-          c.as_str-line.ensures.value
-          (c.range_from.ensures.value ∙ text-is indent line end.result end.ensures.len)
-          c.in_ok-push.ensures.items view so_far.2,
-      );
-      utf8 = search rules;
-    }
+    c.closing.result.now _ end.ensures.boundary.0 starts ends c.in_ok-enclosed.ensures in
+    let carries = carries-more c.args.lines.now c.loop-line.line-index c.line-item.result
+    c.in_ok-enclosed.field-0 indent c.args.options.now.subsequent_indent.now line text before
+    c.loop-line.carried.items c.push.new.self.items _ c.loop-line-test.true c.line-item.is
+    c.as_str-line.ensures.value
+    (c.range_from.ensures.value ∙ text-is indent line end.result end.ensures.len)
+    c.in_ok-push.ensures.items view so_far.2 in
+    record { carries = (before ++ sequences text, state, carries); utf8 = search rules }

@@ -1,8 +1,10 @@
 use Rattle.textwrap_display.proofs.styles.style_parameters.Goals as goal
 use Rattle.textwrap_base.proofs.Common.{◌≡◌, ◌++◌, sym, ap, ◌∙◌, codes}
-use Rattle.textwrap_display.specs.Styles.{is_style}
 use Rattle.textwrap_display.proofs.TextEnds.{stripped_prefix}
 use Rattle.textwrap_display.proofs.TextEnds.{stripped_suffix}
+use Rattle.std.specs.Int.{is_in_range}
+use Rattle.std.specs.List.{list_all}
+use Rattle.textwrap_display.specs.Styles.{is_style}
 use Rattle.textwrap_display.proofs.StyleSequences.{not_style, style-is}
 use Rattle.textwrap_display.proofs.styles.style_parameters.Goals.{In_ok-parameters}
 
@@ -14,21 +16,25 @@ returns-in_err-parameters-clause-style c =
     rw c.from_residual-in_err-parameters.ensures
     (sym (ap is_style whole ∙ not_style rest c.in_err-parameters.ensures.cases))
 
-whole : (c : In_ok-parameters)
-    → c.args.sequence.now ≡ codes "\u{1b}[" ++ (c.in_ok-parameters.parameters.now ++ codes "m")
-whole c =
+style : (c : In_ok-parameters)
+    → list_all (is_in_range 0x30 0x3B) c.in_ok-parameters.parameters.now
+    ≡ is_style c.args.sequence.now
+style c =
     let rest = c.in_ok-strip_prefix.field-0.now in
     let parameters = c.in_ok-parameters.parameters.now in
-    stripped_prefix (codes "\u{1b}[") c.args.sequence.now rest c.in_ok-strip_prefix.ensures.cases
-    ∙ ap (λ l. codes "\u{1b}[" ++ l)
-    (stripped_suffix (codes "m") rest parameters c.in_ok-parameters.ensures.cases)
+    let end = stripped_suffix (codes "m") rest parameters c.in_ok-parameters.ensures.cases in
+    sym (ap is_style (stripped_prefix (codes "\u{1b}[") c.args.sequence.now rest
+    c.in_ok-strip_prefix.ensures.cases ∙ ap (λ l. codes "\u{1b}[" ++ l) end)
+    ∙ style-is parameters)
 
-pub returns-then-set_styles-clause-style : goal.returns-then-set_styles-clause-style
-returns-then-set_styles-clause-style c =
-    c.if-set_styles.ensures ∙ sym (ap is_style (whole (goal.at.returns-then-set_styles-clause-style c).In_ok-parameters)
-    ∙ style-is c.in_ok-parameters.parameters.now)
+pub returns-then-are_style_parameters-clause-style :
+    goal.returns-then-are_style_parameters-clause-style
+returns-then-are_style_parameters-clause-style c =
+    let at = goal.at.returns-then-are_style_parameters-clause-style c in
+    c.if-are_style_parameters.ensures ∙ style at.In_ok-parameters
 
-pub returns-else-set_styles-clause-style : goal.returns-else-set_styles-clause-style
-returns-else-set_styles-clause-style c =
-    c.if-set_styles.ensures ∙ sym (ap is_style (whole (goal.at.returns-else-set_styles-clause-style c).In_ok-parameters)
-    ∙ style-is c.in_ok-parameters.parameters.now)
+pub returns-else-are_style_parameters-clause-style :
+    goal.returns-else-are_style_parameters-clause-style
+returns-else-are_style_parameters-clause-style c =
+    let at = goal.at.returns-else-are_style_parameters-clause-style c in
+    c.if-are_style_parameters.ensures ∙ style at.In_ok-parameters

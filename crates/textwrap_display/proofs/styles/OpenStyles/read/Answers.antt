@@ -9,10 +9,10 @@ loop-sequence-preserved g c = record {
       let old = c.loop-sequence.invariant.takes before state in
       let one = c.in-Some.sequence.now ∷ [] in (
         old.0 ++ one,
-        subst (λ ss. IsOpenAfter ss c.take.new.self) (append_assoc before old.0 one)
-        (c.in_ok-take.ensures (before ++ old.0) old.1),
+        subst (λ ss. IsOpenAfter ss c.read_sequence.new.self) (append_assoc before old.0 one)
+            (c.in_ok-read_sequence.ensures (before ++ old.0) old.1),
         old.2 ∙ ap (λ ss. old.0 ++ ss) c.in-Some.ensures.sequences
-        ∙ sym (append_assoc old.0 one (sequences c.in-Some.rest.now)),
+            ∙ sym (append_assoc old.0 one (sequences c.in-Some.rest.now)),
       );
   utf8 = c.in-Some.ensures.utf8;
 }

@@ -1,4 +1,4 @@
-use Rattle.textwrap_display.proofs.styles.OpenStyles.take.Goals as goal
+use Rattle.textwrap_display.proofs.styles.OpenStyles.read_sequence.Goals as goal
 use Rattle.textwrap_base.proofs.Common.{◌≡◌, ◌==◌, ◌||◌, [], ◌∷◌, true, false, cond, sym, ap, ◌∙◌}
 use Rattle.textwrap_base.proofs.Common.{refl}
 use Rattle.std.specs.List.{list_all}
@@ -6,13 +6,14 @@ use Rattle.std.specs.Option.{option_copied, option_to_list}
 use Rattle.textwrap_display.specs.Styles.{has_target}
 use Rattle.textwrap_display.proofs.OpenStates.{after-reset, after-style, after-link, after-other}
 use Rattle.textwrap_display.proofs.OpenSequences.{target-set}
-use Rattle.textwrap_display.proofs.styles.OpenStyles.take.Goals.{then-is_empty, else-is_empty}
+use Rattle.textwrap_display.proofs.styles.OpenStyles.read_sequence.Goals.{then-is_empty}
+use Rattle.textwrap_display.proofs.styles.OpenStyles.read_sequence.Goals.{else-is_empty}
 
 pub returns-in_ok-push_str : goal.returns-in_ok-push_str
 returns-in_ok-push_str g c = λ before state.
     after-style before c.args.sequence.now c.args.self.now _ state (sym c.in-Some.ensures.style)
     (ap (list_all (λ b. (b == 0x30) || (b == 0x3B))) (sym c.in-Some.ensures.parameters)
-    ∙ sym c.if-take_all_back.ensures) c.in_ok-push_str.ensures.bytes refl
+    ∙ sym c.if-are_zeros.ensures) c.in_ok-push_str.ensures.bytes refl
 
 pub returns-after-is_empty : goal.returns-after-is_empty
 returns-after-is_empty g c = λ before state.
@@ -28,11 +29,11 @@ returns-after-is_empty g c = λ before state.
     after-link before s c.args.self.now _ state (sym c.in_default.ensures.style)
     (sym link.ensures.link) refl set
 
-pub returns-then-take_all_back : goal.returns-then-take_all_back
-returns-then-take_all_back g c = λ before state.
+pub returns-then-are_zeros : goal.returns-then-are_zeros
+returns-then-are_zeros g c = λ before state.
     after-reset before c.args.sequence.now c.args.self.now _ state (sym c.in-Some.ensures.style)
     (ap (list_all (λ b. (b == 0x30) || (b == 0x3B))) (sym c.in-Some.ensures.parameters)
-    ∙ sym c.if-take_all_back.ensures) c.clear.ensures.bytes refl
+    ∙ sym c.if-are_zeros.ensures) c.clear.ensures.bytes refl
 
 pub returns-in_default-link_target : goal.returns-in_default-link_target
 returns-in_default-link_target g c = λ before state.

@@ -5,9 +5,9 @@ use Rattle.std.proofs.KnownBytes.{Keeps-refl}
 use Rattle.std.proofs.Math.Bool.{and-true, and_assoc}
 use Rattle.std.proofs.lemmas.List.{at_drop_more, drop_all}
 use Rattle.textwrap_program.specs.declared.filling.RunError.{RunError}
-use Rattle.textwrap_reflow.specs.declared.options.ReflowOptions.{ReflowOptions}
 use Rattle.reflow_program.specs.Program.{Reports, TreatsFile, TreatsFiles, World, all_well, joined}
 use Rattle.reflow_program.specs.declared.arguments.Mode.{Mode}
+use Rattle.reflow_program.specs.declared.layout.Layout.{Layout}
 use Rattle.reflow_program.specs.declared.program.Ending.{Ending}
 
 -- ---- how a run ends that goes on
@@ -38,39 +38,39 @@ joined-first a =
 abbrev pub texts : List (Bor (List ℕ)) → List (List ℕ)
 texts = map (λ text. text.now)
 
-module _ (options : ReflowOptions) (mode : Mode) where
+module _ (layout : Layout) (mode : Mode) where
   -- what was done so far, and then any right treatment of the files that are left, is a right
   -- treatment of all
   abbrev pub HasTreated : List (List ℕ) → List (List ℕ) → World → World → Ending → Type 0
   HasTreated all left start so_far ending =
-      (end : World) (rest : Ending) → TreatsFiles options mode left so_far end rest
-      → TreatsFiles options mode all start end (joined ending rest)
+      (end : World) (rest : Ending) → TreatsFiles layout mode left so_far end rest
+      → TreatsFiles layout mode all start end (joined ending rest)
 
   -- at first nothing was done
   pub HasTreated-none : (all left : List (List ℕ)) (start : World) (ending : Ending) → left ≡ all
       → ending ≡ all_well → HasTreated all left start start ending
   HasTreated-none all left start ending same well end rest treats =
-      let of_all = subst (λ names. TreatsFiles options mode names start end rest) same treats in
-      subst (TreatsFiles options mode all start end)
+      let of_all = subst (λ names. TreatsFiles layout mode names start end rest) same treats in
+      subst (TreatsFiles layout mode all start end)
       (sym (ap (λ first. joined first rest) well ∙ joined-first rest)) of_all
 
   -- one file more
   HasTreated-one : (all : List (List ℕ)) (name : List ℕ) (left : List (List ℕ))
       (start old mid : World) (ending first : Ending) (result : Result Bool RunError)
       → HasTreated all (name ∷ left) start old ending
-      → TreatsFile options mode name old.files mid.files old.output mid.output result
+      → TreatsFile layout mode name old.files mid.files old.output mid.output result
       → Reports name result old.messages mid.messages first
       → HasTreated all left start mid (joined ending first)
   HasTreated-one all name left start old mid ending first result so_far treats reports end rest
       others =
-      subst (TreatsFiles options mode all start end) (joined-joined ending first rest)
+      subst (TreatsFiles layout mode all start end) (joined-joined ending first rest)
       (so_far end (joined first rest) (mid, result, first, rest, treats, reports, others, refl))
 
   pub HasTreated-next : (all : List (List ℕ)) (names : List (Bor (List ℕ))) (index : ℕ)
       (default : Bor (List ℕ)) (start old mid : World) (ending first next : Ending)
       (result : Result Bool RunError) → index < length names
       → HasTreated all (texts (drop index names)) start old ending
-      → TreatsFile options mode (get_or names index default).now old.files mid.files old.output
+      → TreatsFile layout mode (get_or names index default).now old.files mid.files old.output
       mid.output result
       → Reports (get_or names index default).now result old.messages mid.messages first
       → next ≡ joined ending first
@@ -88,9 +88,9 @@ module _ (options : ReflowOptions) (mode : Mode) where
   pub HasTreated-all : (all : List (List ℕ)) (names : List (Bor (List ℕ))) (index : ℕ)
       (start end : World) (ending : Ending) → length names ≤ index
       → HasTreated all (texts (drop index names)) start end ending
-      → TreatsFiles options mode all start end ending
+      → TreatsFiles layout mode all start end ending
   HasTreated-all all names index start end ending past so_far =
       let none = subst (λ left. HasTreated all (texts left) start end ending)
       (drop_all index names past) so_far in
-      subst (TreatsFiles options mode all start end) (joined-all_well ending)
+      subst (TreatsFiles layout mode all start end) (joined-all_well ending)
       (none end all_well (λ name. refl, Keeps-refl end.output, Keeps-refl end.messages, refl))

@@ -45,8 +45,9 @@ file_rule = record (new_rule (codes "FILE")) { action = Some Append }
 abbrev pub reflow_rules : List Rule
 reflow_rules =
     width_rule ∷ flag_rule (codes "first-fit") ∷ flag_rule (codes "least-cost")
-    ∷ flag_rule (codes "crlf") ∷ prefix_rule ∷ flag_rule (codes "keep-code")
-    ∷ flag_rule (codes "check") ∷ flag_rule (codes "in-place") ∷ file_rule ∷ []
+    ∷ flag_rule (codes "justify") ∷ flag_rule (codes "crlf") ∷ prefix_rule
+    ∷ flag_rule (codes "keep-code") ∷ flag_rule (codes "check") ∷ flag_rule (codes "in-place")
+    ∷ file_rule ∷ []
 
 -- the words are those after the program's name
 abbrev pub reflow_app : App
@@ -92,11 +93,12 @@ files_in rows = unwrap_or (all_of (codes "FILE") rows) []
 
 -- these matches mean this request
 pub record IsRequest (rows : List Row) (request : Request) : Type 0 where
-  pub width : width_in rows ≡ Some request.options.width
-  pub algorithm : request.options.algorithm ≡ algorithm_in rows
-  pub ending : request.options.line_ending ≡ ending_in rows
-  pub code : request.options.keeps_code ≡ flag_in (codes "keep-code") rows
-  pub prefix : request.options.prefix.now ≡ text_in (codes "prefix") rows
+  pub width : width_in rows ≡ Some request.layout.options.width
+  pub algorithm : request.layout.options.algorithm ≡ algorithm_in rows
+  pub justifies : request.layout.justifies ≡ flag_in (codes "justify") rows
+  pub ending : request.layout.options.line_ending ≡ ending_in rows
+  pub code : request.layout.options.keeps_code ≡ flag_in (codes "keep-code") rows
+  pub prefix : request.layout.options.prefix.now ≡ text_in (codes "prefix") rows
   pub mode : request.mode ≡ mode_in rows
   pub files : map (λ file. file.now) request.files.items ≡ files_in rows
 

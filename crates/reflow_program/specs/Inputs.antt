@@ -1,4 +1,4 @@
--- What becomes of one input, where a text is reflowed by some options.
+-- What becomes of one input, where texts are laid out so.
 use Rattle.std.specs.Prelude.{◌≡◌, ◌≢◌, ℕ, Bool, true, false, List, Option, None, Some, Result, Ok, Err}
 use Rattle.std.specs.Prelude.{[], ◌∷◌, ◌++◌, ◌⊎◌, ⊤, string_bytes}
 use Rattle.std.specs.Str.{IsUtf8}
@@ -7,10 +7,10 @@ use Rattle.textwrap_program.specs.Filling.{ReadsAll, WritesPrefix}
 use Rattle.textwrap_program.specs.Program.{TriesLine, line_feed}
 use Rattle.textwrap_program.specs.declared.filling.RunError.{RunError}
 use Rattle.textwrap_program.specs.declared.filling.RunError.TheVariants.{Read, NotUtf8, Memory, Write}
-use Rattle.textwrap_reflow.specs.Reflow.{IsReflowed}
-use Rattle.textwrap_reflow.specs.declared.options.ReflowOptions.{ReflowOptions}
 use Rattle.reflow_program.specs.Files.{Becomes, KnownFiles, SameFiles}
+use Rattle.reflow_program.specs.Layout.{IsLaidOut}
 use Rattle.reflow_program.specs.declared.inputs.Reflowed.{Reflowed}
+use Rattle.reflow_program.specs.declared.layout.Layout.{Layout}
 
 -- the file of this name has these bytes, where those that it had were known; all other files are as
 -- they were
@@ -23,11 +23,11 @@ IsReplaced name bytes old new =
 abbrev pub ReadsNoText : Option (List ℕ) → Option (List ℕ) → Type 0
 ReadsNoText unread left = (input : List ℕ) × ReadsAll unread left input × (¬ IsUtf8 input)
 
-module _ (options : ReflowOptions) where
+module _ (layout : Layout) where
   -- the input was read whole, is a text, and is reflowed to this output
   abbrev pub ReadsText : Option (List ℕ) → Option (List ℕ) → List ℕ → List ℕ → Type 0
   ReadsText unread left input output =
-      ReadsAll unread left input × IsUtf8 input × IsReflowed options input output
+      ReadsAll unread left input × IsUtf8 input × IsLaidOut layout input output
 
   -- what is read, or a fault: never `Write`, and `NotUtf8` exactly if the input is no text
   abbrev pub Reads : {A : Type 0} → Option (List ℕ) → Option (List ℕ)

@@ -6,7 +6,6 @@ use Rattle.std.specs.Io.KnownBytes.{Appends, Keeps}
 use Rattle.clap.specs.Words.{fault_of, kind_of, matches_of}
 use Rattle.clap.specs.declared.error.Error.{Error}
 use Rattle.clap.specs.declared.error.kind.ErrorKind.TheVariants.{DisplayHelp, DisplayVersion}
-use Rattle.textwrap_reflow.specs.declared.options.ReflowOptions.{ReflowOptions}
 use Rattle.textwrap_program.specs.Filling.{WritesPrefix}
 use Rattle.textwrap_program.specs.Program.{line_feed}
 use Rattle.textwrap_program.specs.declared.filling.RunError.{RunError}
@@ -19,6 +18,7 @@ use Rattle.reflow_program.specs.declared.arguments.ArgumentError.TheVariants as 
 use Rattle.reflow_program.specs.declared.arguments.Mode.{Mode}
 use Rattle.reflow_program.specs.declared.arguments.Mode.TheVariants.{Print, Check, InPlace}
 use Rattle.reflow_program.specs.declared.arguments.Request.{Request}
+use Rattle.reflow_program.specs.declared.layout.Layout.{Layout}
 use Rattle.reflow_program.specs.declared.program.Ending.{Ending}
 
 -- what is known of the files, and what two writers hold, where that is known
@@ -77,17 +77,17 @@ joined first rest = record {
   said = first.said && rest.said;
 }
 
--- ---- inputs, where texts are reflowed by some options
+-- ---- inputs, where texts are laid out so
 
 abbrev pub standard_input : List ℕ
 standard_input = codes "standard input"
 
-module _ (options : ReflowOptions) where
+module _ (layout : Layout) where
   -- what is printed of an input; it never counts as one that would change
   abbrev pub PrintsAll : Option (List ℕ) → Option (List ℕ) → Option (List ℕ) → Option (List ℕ)
       → Result Bool RunError → Type 0
   PrintsAll unread left old new result =
-      Prints options unread left old new (result_err result)
+      Prints layout unread left old new (result_err result)
       × IfOk result (λ changes. changes ≡ false)
 
   -- the standard input is printed also where files would be replaced
@@ -96,18 +96,18 @@ module _ (options : ReflowOptions) where
   TreatsInput Print unread left old new result = PrintsAll unread left old new result
   TreatsInput InPlace unread left old new result = PrintsAll unread left old new result
   TreatsInput Check unread left old new result =
-      Checks options standard_input unread left old new result
+      Checks layout standard_input unread left old new result
 
   -- a file is read from its known bytes; only `InPlace` changes it, and then nothing is printed
   abbrev pub TreatsFile : Mode → List ℕ → KnownFiles → KnownFiles
       → Option (List ℕ) → Option (List ℕ) → Result Bool RunError → Type 0
   TreatsFile Print name was is old new result =
-      SameFiles was is × PrintsFile options (was name) old new (result_err result)
+      SameFiles was is × PrintsFile layout (was name) old new (result_err result)
       × IfOk result (λ changes. changes ≡ false)
   TreatsFile Check name was is old new result =
-      SameFiles was is × ChecksFile options name (was name) old new result
+      SameFiles was is × ChecksFile layout name (was name) old new result
   TreatsFile InPlace name was is old new result =
-      Replaces options name was is (result_err result) × Keeps old new
+      Replaces layout name was is (result_err result) × Keeps old new
       × IfOk result (λ changes. changes ≡ false)
 
   -- the files are treated one after another, each with its message
@@ -129,11 +129,11 @@ abbrev pub ServesNames : Request → List (List ℕ) → Option (List ℕ) → O
     → Ending → Type 0
 ServesNames request [] unread left old new ending =
     (result : Result Bool RunError) × SameFiles old.files new.files
-    × TreatsInput request.options request.mode unread left old.output new.output result
+    × TreatsInput request.layout request.mode unread left old.output new.output result
     × Reports standard_input result old.messages new.messages ending
 ServesNames request (name ∷ names) unread left old new ending =
     Keeps unread left
-    × TreatsFiles request.options request.mode (name ∷ names) old new ending
+    × TreatsFiles request.layout request.mode (name ∷ names) old new ending
 
 abbrev pub Serves : Request → Option (List ℕ) → Option (List ℕ) → World → World → Ending → Type 0
 Serves request = ServesNames request (map (λ name. name.now) request.files.items)

@@ -6,6 +6,7 @@ ghost use Rattle.reflow_program.specs.Arguments.{file_rule, files_in, flag_in, f
 ghost use Rattle.reflow_program.specs.Arguments.{prefix_rule, reflow_app, width_in};
 ghost use Rattle.reflow_program.specs.Arguments.{width_rule};
 
+use crate::layout::Layout;
 use clap::{Arg, ArgAction, ArgMatches, Command};
 use std::alloc::{AllocError, Global};
 use textwrap_lines::LineEnding;
@@ -27,7 +28,7 @@ pub enum Mode {
 #[derive(Drop)]
 pub struct Request<'a> {
     /// How texts are laid out.
-    pub options: ReflowOptions<'a>,
+    pub layout: Layout<'a>,
     /// What is done with each input.
     pub mode: Mode,
     /// The names of the files. Without any, the standard input is the one input.
@@ -84,7 +85,7 @@ fn command<'a>(alloc: Global) -> Result<Command<'a>, AllocError>
     ensures { IfOk result (λ command. app_of command ≡ reflow_app) }
 {
     Command::new(alloc, "reflow")
-        .version("1.0")
+        .version("1.5.0")
         .about("Fills the paragraphs of a text, each under its own prefix.")
         .no_binary_name(true)
         .arg(width_argument(alloc))?
@@ -98,6 +99,7 @@ fn command<'a>(alloc: Global) -> Result<Command<'a>, AllocError>
             "least-cost",
             "Choose the least ragged lines (default)",
         ))?
+        .arg(flag(alloc, "justify", "Widen the gaps of lines to the width"))?
         .arg(flag(alloc, "crlf", "End lines with CR LF"))?
         .arg(prefix_argument(alloc))?
         .arg(flag(
@@ -174,10 +176,14 @@ fn request_in<'a>(alloc: Global, matches: &ArgMatches<'a>) -> Result<Request<'a>
         keeps_code: is_set(matches, "keep-code"),
         prefix: text_of(matches, "prefix").unwrap_or(""),
     };
+    let layout = Layout {
+        options,
+        justifies: is_set(matches, "justify"),
+    };
     let mode = mode_of(matches);
     let files = files(alloc, matches)?;
     Ok(Request {
-        options,
+        layout,
         mode,
         files,
     })

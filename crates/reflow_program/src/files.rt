@@ -36,7 +36,7 @@ pub trait Files {
     /// Puts the draft in the place of the file of this name.
     ///
     /// # Errors
-    /// That of the file system. All files stay as they are.
+    /// That of the file system. All files stay as they are. The draft is gone then.
     fn replace(&mut self, name: &str, draft: Self::Draft) -> io::Result<()>
         ensures put { OnOk result (IsPut name.now (Self.Draft.contents draft) (bytes self.old) (bytes self.new)) }
         ensures kept { OnErr result (SameFiles (bytes self.old) (bytes self.new)) };

@@ -1,17 +1,18 @@
-//! What the program does with one input.
+//! What the program does with one input. To reflow it is to lay it out as the [`Layout`] says: its
+//! lines are justified too, if this is asked for.
 ghost use Rattle.std.specs.Prelude.{◌≡◌, ◌≢◌, Err, IfOk, IfErr, OnOk, OnErr, IsUtf8, string_bytes};
 ghost use Rattle.std.specs.Result.{result_err};
-ghost use Rattle.textwrap_reflow.specs.Reflow.{IsReflowed};
 ghost use Rattle.reflow_program.specs.Files.{SameFiles};
 ghost use Rattle.reflow_program.specs.Inputs.{Checks, ChecksFile, IsReplaced, Prints, PrintsFile};
 ghost use Rattle.reflow_program.specs.Inputs.{Reads, Replaces};
+ghost use Rattle.reflow_program.specs.Layout.{IsLaidOut};
 
 use crate::files::Files;
+use crate::layout::{Layout, lay_out};
 use simdutf8::basic::from_utf8;
 use std::alloc::Allocator;
 use std::io::{Read, Write};
 use textwrap_program::filling::{RunError, read_to_end, write_line, write_to_end};
-use textwrap_reflow::{ReflowOptions, reflow};
 
 /// An input, and what it is reflowed to.
 #[derive(Drop)]
@@ -30,13 +31,13 @@ pub struct Reflowed<A: Allocator> {
 pub fn read_reflowed<A: Allocator + Copy, R: Read>(
     alloc: A,
     reader: &mut R,
-    options: &ReflowOptions<'_>,
+    layout: &Layout<'_>,
 ) -> Result<Reflowed<A>, RunError>
-    ensures { Reads options.now
+    ensures { Reads layout.now
         (R.remaining reader.old) (R.remaining reader.new) result }
 {
     let input = read_to_end(alloc, reader)?;
-    let output = reflow_input(alloc, &input, options)?;
+    let output = reflow_input(alloc, &input, layout)?;
     Ok(Reflowed { input, output })
 }
 
@@ -44,11 +45,11 @@ pub fn read_reflowed<A: Allocator + Copy, R: Read>(
 fn reflow_input<A: Allocator + Copy>(
     alloc: A,
     input: &[u8],
-    options: &ReflowOptions<'_>,
+    layout: &Layout<'_>,
 ) -> Result<String<A>, RunError>
     ensures text { result ≢ Err RunError.NotUtf8 → IsUtf8 input.now }
     ensures reflowed { IfOk result (λ output.
-        IsReflowed options.now input.now (string_bytes output)) }
+        IsLaidOut layout.now input.now (string_bytes output)) }
     ensures not_utf8 { result ≡ Err RunError.NotUtf8 → ¬ IsUtf8 input.now }
     ensures not_read { IfErr result (λ error. error ≢ RunError.Read) }
     ensures not_write { IfErr result (λ error. error ≢ RunError.Write) }
@@ -56,7 +57,7 @@ fn reflow_input<A: Allocator + Copy>(
     let Ok(text) = from_utf8(input) else {
         return Err(RunError::NotUtf8);
     };
-    reflow(alloc, text, options).map_err(|_| RunError::Memory)
+    lay_out(alloc, text, layout).map_err(|_| RunError::Memory)
 }
 
 /// Writes what the reader gives, reflowed. The text is written only after all of it is known.
@@ -68,12 +69,12 @@ pub fn print_input<A: Allocator + Copy, R: Read, W: Write>(
     alloc: A,
     reader: &mut R,
     writer: &mut W,
-    options: &ReflowOptions<'_>,
+    layout: &Layout<'_>,
 ) -> Result<(), RunError>
-    ensures { Prints options.now (R.remaining reader.old) (R.remaining reader.new)
+    ensures { Prints layout.now (R.remaining reader.old) (R.remaining reader.new)
         (W.contents writer.old) (W.contents writer.new) (result_err result) }
 {
-    let reflowed = read_reflowed(alloc, reader, options)?;
+    let reflowed = read_reflowed(alloc, reader, layout)?;
     write_to_end(writer, reflowed.output.as_bytes())
 }
 
@@ -88,13 +89,13 @@ pub fn check_input<A: Allocator + Copy, R: Read, W: Write>(
     name: &str,
     reader: &mut R,
     writer: &mut W,
-    options: &ReflowOptions<'_>,
+    layout: &Layout<'_>,
 ) -> Result<bool, RunError>
-    ensures { Checks options.now name.now
+    ensures { Checks layout.now name.now
         (R.remaining reader.old) (R.remaining reader.new)
         (W.contents writer.old) (W.contents writer.new) result }
 {
-    let reflowed = read_reflowed(alloc, reader, options)?;
+    let reflowed = read_reflowed(alloc, reader, layout)?;
     if reflowed.input.as_slice() == reflowed.output.as_bytes() {
         return Ok(false);
     }
@@ -111,16 +112,16 @@ pub fn print_file<A: Allocator + Copy, F: Files, W: Write>(
     name: &str,
     files: &mut F,
     writer: &mut W,
-    options: &ReflowOptions<'_>,
+    layout: &Layout<'_>,
 ) -> Result<(), RunError>
     ensures kept { SameFiles (F.bytes files.old) (F.bytes files.new) }
-    ensures printed { PrintsFile options.now (F.bytes files.old name.now)
+    ensures printed { PrintsFile layout.now (F.bytes files.old name.now)
         (W.contents writer.old) (W.contents writer.new) (result_err result) }
 {
     let Ok(mut reader) = files.open(name) else {
         return Err(RunError::Read);
     };
-    print_input(alloc, &mut reader, writer, options)
+    print_input(alloc, &mut reader, writer, layout)
 }
 
 /// Whether the file of this name would change if it were reflowed, as [`check_input`] does.
@@ -132,16 +133,16 @@ pub fn check_file<A: Allocator + Copy, F: Files, W: Write>(
     name: &str,
     files: &mut F,
     writer: &mut W,
-    options: &ReflowOptions<'_>,
+    layout: &Layout<'_>,
 ) -> Result<bool, RunError>
     ensures kept { SameFiles (F.bytes files.old) (F.bytes files.new) }
-    ensures checked { ChecksFile options.now name.now (F.bytes files.old name.now)
+    ensures checked { ChecksFile layout.now name.now (F.bytes files.old name.now)
         (W.contents writer.old) (W.contents writer.new) result }
 {
     let Ok(mut reader) = files.open(name) else {
         return Err(RunError::Read);
     };
-    check_input(alloc, name, &mut reader, writer, options)
+    check_input(alloc, name, &mut reader, writer, layout)
 }
 
 /// Reflows the file of this name in its place. A file that would not change is left alone. It is
@@ -154,15 +155,15 @@ pub fn replace_file<A: Allocator + Copy, F: Files>(
     alloc: A,
     name: &str,
     files: &mut F,
-    options: &ReflowOptions<'_>,
+    layout: &Layout<'_>,
 ) -> Result<(), RunError>
-    ensures { Replaces options.now name.now
+    ensures { Replaces layout.now name.now
         (F.bytes files.old) (F.bytes files.new) (result_err result) }
 {
     let Ok(mut reader) = files.open(name) else {
         return Err(RunError::Read);
     };
-    let reflowed = read_reflowed(alloc, &mut reader, options)?;
+    let reflowed = read_reflowed(alloc, &mut reader, layout)?;
     if reflowed.input.as_slice() == reflowed.output.as_bytes() {
         return Ok(());
     }

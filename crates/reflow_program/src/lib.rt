@@ -6,4 +6,5 @@ pub mod arguments;
 pub mod disk;
 pub mod files;
 pub mod inputs;
+pub mod layout;
 pub mod program;

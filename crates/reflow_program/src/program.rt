@@ -124,7 +124,7 @@ fn treat_files<F: Files, W: Write, M: Write>(
     output: &mut W,
     messages: &mut M,
 ) -> Ending
-    ensures { TreatsFiles request.now.options request.now.mode
+    ensures { TreatsFiles request.now.layout request.now.mode
         (map (λ name. name.now) request.now.files.items)
         (record {
           files = F.bytes files.old;
@@ -154,14 +154,14 @@ fn treat_input<R: Read, W: Write>(
     reader: &mut R,
     output: &mut W,
 ) -> Result<bool, RunError>
-    ensures { TreatsInput request.now.options request.now.mode
+    ensures { TreatsInput request.now.layout request.now.mode
         (R.remaining reader.old) (R.remaining reader.new)
         (W.contents output.old) (W.contents output.new) result }
 {
     match request.mode {
-        Mode::Check => check_input(alloc, STANDARD_INPUT, reader, output, &request.options),
+        Mode::Check => check_input(alloc, STANDARD_INPUT, reader, output, &request.layout),
         Mode::Print | Mode::InPlace => {
-            print_input(alloc, reader, output, &request.options).map(|()| false)
+            print_input(alloc, reader, output, &request.layout).map(|()| false)
         }
     }
 }
@@ -175,14 +175,14 @@ fn treat_file<F: Files, W: Write>(
     files: &mut F,
     output: &mut W,
 ) -> Result<bool, RunError>
-    ensures { TreatsFile request.now.options request.now.mode name.now
+    ensures { TreatsFile request.now.layout request.now.mode name.now
         (F.bytes files.old) (F.bytes files.new)
         (W.contents output.old) (W.contents output.new) result }
 {
     match request.mode {
-        Mode::Print => print_file(alloc, name, files, output, &request.options).map(|()| false),
-        Mode::Check => check_file(alloc, name, files, output, &request.options),
-        Mode::InPlace => replace_file(alloc, name, files, &request.options).map(|()| false),
+        Mode::Print => print_file(alloc, name, files, output, &request.layout).map(|()| false),
+        Mode::Check => check_file(alloc, name, files, output, &request.layout),
+        Mode::InPlace => replace_file(alloc, name, files, &request.layout).map(|()| false),
     }
 }
 

@@ -1,10 +1,10 @@
 -- Rows with a line feed after each: their lines, and their lines with their endings.
-use Rattle.textwrap_base.proofs.Common.{◌≡◌, ◌≢◌, ℕ, ◌-◌, ◌==◌, [], ◌∷◌, ◌++◌, ◌∙◌, All, All-head}
-use Rattle.textwrap_base.proofs.Common.{All-tail, All-weaker, ap, append_assoc, cond, false, filter}
+use Rattle.textwrap_base.proofs.Common.{◌≡◌, ℕ, ◌==◌, [], ◌∷◌, ◌++◌, ◌∙◌, All, All-head}
+use Rattle.textwrap_base.proofs.Common.{All-tail, ap, append_assoc, cond, filter}
 use Rattle.textwrap_base.proofs.Common.{last, length, List, lt-ltb, map, ne_eqb, refl, slice_split}
-use Rattle.textwrap_base.proofs.Common.{Some, take}
+use Rattle.textwrap_base.proofs.Common.{Some}
 use Rattle.std.proofs.lemmas.List.Splits.{slice_split_at}
-use Rattle.std.specs.Str.Lines.{lines_of_parts, strip_carriage_return}
+use Rattle.std.specs.Str.Lines.{lines_of_parts}
 use Rattle.textwrap.proofs.Common.{EndedLine, ended_lines_of}
 use Rattle.textwrap.proofs.Text.JoinedLines.{feed_joined}
 use Rattle.textwrap.proofs.Text.PlainLines.{IsRow}

@@ -6,9 +6,10 @@ use Rattle.std.proofs.Common.{ap₂}
 use Rattle.std.proofs.lemmas.List.{get_or-append-add}
 use Rattle.textwrap_lines.specs.declared.line_ending.LineEnding.{LineEnding}
 use Rattle.textwrap_lines.specs.declared.line_ending.LineEnding.TheVariants.{CRLF, LF}
-use Rattle.textwrap_base.proofs.Common.{flat_map-append}
-use Rattle.textwrap_reflow.proofs.Common.{ended, ending_bytes, join_with}
-use Rattle.textwrap_reflow.specs.Reflow.{AreAllLines, AreLinesOf, Kept, Part, text_parts}
+use Rattle.textwrap_base.proofs.Common.{flat_map, flat_map-append}
+use Rattle.textwrap_reflow.proofs.Common.{Block, ended, ending_bytes, join_with}
+use Rattle.textwrap_reflow.specs.Reflow.{AreAllLines, AreLinesOf, block_parts, Kept, Part}
+use Rattle.textwrap_reflow.specs.Reflow.{text_parts}
 use Rattle.textwrap_reflow.specs.declared.options.ReflowOptions.{ReflowOptions}
 
 module _ (options : ReflowOptions) where
@@ -48,6 +49,16 @@ module _ (options : ReflowOptions) where
         (sym (append_assoc done.lines lines more))
         (done.whole (lines ++ more) (all-append parts left lines more are others));
   }
+
+  -- so is the next block
+  pub done-block : (text before after : List ℕ) (old new : List Block) (block : Block)
+      (lines : List (List ℕ)) → HasDone text before (flat_map (block_parts options) old)
+      → old ≡ block ∷ new → AreAllLines options (block_parts options block) lines
+      → after ≡ before ++ ended (ending_bytes options.line_ending) lines
+      → HasDone text after (flat_map (block_parts options) new)
+  done-block text before after old new block lines done first =
+      done-more text before after (block_parts options block) (flat_map (block_parts options) new)
+      lines (subst (λ blocks. HasDone text before (flat_map (block_parts options) blocks)) first done)
 
   pub all-one : (part : Part) (lines : List (List ℕ)) → AreLinesOf options part lines
       → AreAllLines options (part ∷ []) lines

@@ -6,6 +6,7 @@ pub mod FittingPieces
 pub mod LineLemmas
 pub mod LaidOut
 pub mod Turns
+pub mod JustifiedBlocks
 pub mod Divisions
 pub mod LinesOfWords
 pub mod CoveredWords

@@ -1,12 +1,17 @@
 -- The lines of a text that stand apart, and its paragraphs.
-use Rattle.std.specs.Prelude.{ℕ, ◌||◌, Bool, true, false, bytes_eq, nat_eq, codes, List, [], ◌∷◌}
-use Rattle.std.specs.Prelude.{if◌then◌else◌, Option, Some, None, is_some}
+use Rattle.std.specs.Prelude.{◌≡◌, ℕ, ◌||◌, Bool, true, false, bytes_eq, nat_eq, codes, List, []}
+use Rattle.std.specs.Prelude.{◌∷◌, if◌then◌else◌, Option, Some, None, is_some, map, string_bytes}
 use Rattle.std.specs.List.{starts_with}
 use Rattle.textwrap.specs.Indentation.{is_blank_line}
 use Rattle.textwrap.specs.Refilling.{line_prefix}
+use Rattle.textwrap_reflow.specs.Lines.{lines_left}
 use Rattle.textwrap_reflow.specs.Prefixes.{after_prefix, hanging}
+use Rattle.textwrap_reflow.specs.declared.blocks.BlockLines.{BlockLines}
+use Rattle.textwrap_reflow.specs.declared.blocks.BlockLines.TheVariants as found
+use Rattle.textwrap_reflow.specs.declared.blocks.BlockReader.{BlockReader}
 use Rattle.textwrap_reflow.specs.declared.fences.Fence.{Fence}
 use Rattle.textwrap_reflow.specs.declared.fences.Fence.TheVariants.{Backticks, Tildes}
+use Rattle.textwrap_reflow.specs.declared.paragraphs.ParagraphLines.{ParagraphLines}
 
 -- the fence that a text begins with
 abbrev pub fence_of : List ℕ → Option Fence
@@ -57,3 +62,28 @@ blocks keeps_code fence (line ∷ lines) =
     let rest = after_prefix line in
     let later = blocks keeps_code (fence_after keeps_code fence rest) lines in
     if stands_apart keeps_code fence rest then Apart line ∷ later else with_line line later
+
+-- ---- blocks that are read one after another
+
+-- the lines and the prefixes of the paragraph of this first line and these later ones
+pub record AreOfParagraph {Z : Type 0} (found : ParagraphLines Z) (first : List ℕ)
+    (later : List (List ℕ)) : Type 0 where
+  pub prefix : found.prefix.now ≡ line_prefix first
+  pub hangs : string_bytes found.hanging ≡ hanging (line_prefix first)
+  pub lines : map (λ line. line.now) found.lines.items ≡ first ∷ later
+
+-- the lines of this block
+abbrev pub AreOfBlock : {Z : Type 0} → BlockLines Z → Block → Type 0
+AreOfBlock (found.Apart line) block = block ≡ Apart line.now
+AreOfBlock (found.Paragraph paragraph) block =
+    (first : List ℕ) × (later : List (List ℕ)) × (block ≡ Paragraph first later)
+    × AreOfParagraph paragraph first later
+
+-- the blocks that are left
+abbrev pub blocks_left : BlockReader → List Block
+blocks_left reader = blocks reader.keeps_code reader.fence (lines_left reader.left)
+
+-- the first of these blocks is taken, if there is one, and these others are left
+abbrev pub TakesBlock : {Z : Type 0} → List Block → Option (BlockLines Z) → List Block → Type 0
+TakesBlock old None new = old ≡ []
+TakesBlock old (Some lines) new = (block : Block) × AreOfBlock lines block × (old ≡ block ∷ new)

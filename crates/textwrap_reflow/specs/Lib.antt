@@ -3,4 +3,5 @@ pub mod Prefixes
 pub mod Blocks
 pub mod Pieces
 pub mod Reflow
+pub mod Justifying
 pub mod Laws

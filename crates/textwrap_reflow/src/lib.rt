@@ -8,14 +8,18 @@
 //! The text is `"- one two\n  three\n- four\n"`.
 #![tactic(auto)]
 
+pub use justifying::justify_paragraphs;
 pub use options::{Algorithm, ReflowOptions};
 pub use reflowing::reflow;
 
+mod blocks;
 mod division;
 mod fences;
 mod joining;
+mod justifying;
 pub mod laws;
 mod lines;
 mod options;
 mod paragraphs;
+mod printing;
 mod reflowing;

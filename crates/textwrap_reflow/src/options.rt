@@ -1,5 +1,6 @@
 //! How a text is laid out again.
 ghost use Rattle.std.specs.Prelude.{◌≡◌, [], false};
+ghost use Rattle.textwrap_reflow.specs.Reflow.{is_filled};
 
 use textwrap_lines::LineEnding;
 
@@ -48,5 +49,12 @@ impl<'a> ReflowOptions<'a> {
             keeps_code: false,
             prefix: "",
         }
+    }
+
+    /// Whether a paragraph is filled, of which the first line has this prefix.
+    pub(crate) fn fills(&self, prefix: &str) -> bool
+        ensures { result ≡ is_filled self.now prefix.now }
+    {
+        prefix.starts_with(self.prefix) & !(self.keeps_code & prefix.starts_with("    "))
     }
 }

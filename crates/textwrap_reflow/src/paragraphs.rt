@@ -1,9 +1,9 @@
 //! Paragraphs: a line, and those that go on with it.
-ghost use Rattle.std.specs.Prelude.{◌≡◌, ℕ, ◌≤◌, ◌∷◌, ◌&&◌, List, map, not, bytes_eq, IfOk};
+ghost use Rattle.std.specs.Prelude.{◌≡◌, ℕ, ◌∷◌, ◌&&◌, List, map, not, bytes_eq, IfOk};
 ghost use Rattle.std.specs.Prelude.{string_bytes};
 ghost use Rattle.textwrap.specs.Refilling.{line_prefix};
 ghost use Rattle.textwrap_reflow.specs.Blocks.{blocks, Paragraph, stands_apart, with_line};
-ghost use Rattle.textwrap_reflow.specs.Lines.{bytes_left, lines_left};
+ghost use Rattle.textwrap_reflow.specs.Lines.{lines_left};
 ghost use Rattle.textwrap_reflow.specs.Prefixes.{after_prefix, hanging};
 
 use crate::lines::{hanging, split_line, split_prefix, stands_apart};
@@ -17,25 +17,23 @@ pub(crate) struct ParagraphLines<'t, A: Allocator> {
     /// What each later line begins with.
     pub hanging: String<A>,
     pub lines: Vec<&'t str, A>,
-    /// The text after it.
-    pub rest: Option<&'t str>,
 }
 
-/// The paragraph that begins with this line, in a text that goes on with the rest.
+/// The paragraph that begins with this line, in a text that goes on with the rest, and what follows
+/// it.
 pub(crate) fn read_paragraph<'t, A: Allocator + Copy>(
     alloc: A,
     first: &'t str,
     rest: Option<&'t str>,
     keeps_code: bool,
-) -> Result<ParagraphLines<'t, A>, AllocError>
-    ensures prefix { IfOk result (λ paragraph. paragraph.prefix.now ≡ line_prefix first.now) }
-    ensures hanging { IfOk result (λ paragraph. string_bytes paragraph.hanging
+) -> Result<(ParagraphLines<'t, A>, Option<&'t str>), AllocError>
+    ensures prefix { IfOk result (λ read. read.0.prefix.now ≡ line_prefix first.now) }
+    ensures hanging { IfOk result (λ read. string_bytes read.0.hanging
         ≡ hanging (line_prefix first.now)) }
-    ensures block { IfOk result (λ paragraph. (later : List (List ℕ))
-        × (map (λ line. line.now) paragraph.lines.items ≡ first.now ∷ later)
+    ensures block { IfOk result (λ read. (later : List (List ℕ))
+        × (map (λ line. line.now) read.0.lines.items ≡ first.now ∷ later)
         × (with_line first.now (blocks keeps_code None (lines_left rest.entry))
-        ≡ Paragraph first.now later ∷ blocks keeps_code None (lines_left paragraph.rest))) }
-    ensures shorter { IfOk result (λ paragraph. bytes_left paragraph.rest ≤ bytes_left rest.entry) }
+        ≡ Paragraph first.now later ∷ blocks keeps_code None (lines_left read.1))) }
 {
     let (prefix, _) = split_prefix(first);
     let hanging = hanging(alloc, prefix)?;
@@ -50,12 +48,12 @@ pub(crate) fn read_paragraph<'t, A: Allocator + Copy>(
         lines.push(line)?;
         rest = after;
     }
-    Ok(ParagraphLines {
+    let paragraph = ParagraphLines {
         prefix,
         hanging,
         lines,
-        rest,
-    })
+    };
+    Ok((paragraph, rest))
 }
 
 /// Whether a line goes on with a paragraph of this hanging prefix.

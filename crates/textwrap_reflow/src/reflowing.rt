@@ -1,20 +1,22 @@
 //! Filling the paragraphs of a text again.
-ghost use Rattle.std.specs.Prelude.{◌≡◌, ℕ, ◌++◌, [], List, map, length, IfOk, OnOk, string_bytes};
+ghost use Rattle.std.specs.Prelude.{◌≡◌, ℕ, ◌++◌, List, map, IfOk, OnOk, string_bytes};
 ghost use Rattle.std.specs.List.{flat_map};
 ghost use Rattle.textwrap_lines.specs.LineEnding.{ending_bytes};
 ghost use Rattle.textwrap_lines.specs.Paragraph.{covered};
 ghost use Rattle.textwrap_words.specs.Words.{word_view};
+ghost use Rattle.textwrap_reflow.specs.Blocks.{AreOfBlock, Block};
 ghost use Rattle.textwrap_reflow.specs.Lines.{ended};
 ghost use Rattle.textwrap_reflow.specs.Pieces.{joined_view, nothing_joined, with_words};
 ghost use Rattle.textwrap_reflow.specs.Prefixes.{hanging, line_words};
-ghost use Rattle.textwrap_reflow.specs.Reflow.{AreAllLines, AreFilledLines, IsReflowed, is_filled};
-ghost use Rattle.textwrap_reflow.specs.Reflow.{paragraph_parts, printed};
+ghost use Rattle.textwrap_reflow.specs.Reflow.{AreAllLines, AreFilledLines, IsReflowed};
+ghost use Rattle.textwrap_reflow.specs.Reflow.{block_parts, printed};
 
+use crate::blocks::{BlockLines, BlockReader};
 use crate::division::divide;
 use crate::joining::JoinedWords;
-use crate::lines::{fence_after, split_line, split_prefix, stands_apart};
 use crate::options::ReflowOptions;
-use crate::paragraphs::{ParagraphLines, read_paragraph};
+use crate::paragraphs::ParagraphLines;
+use crate::printing::{cut_last_ending, push_kept, push_line};
 use std::alloc::{AllocError, Allocator};
 use textwrap_words::inner::words_between;
 use textwrap_words::words::Word;
@@ -42,80 +44,38 @@ pub fn reflow<A: Allocator + Copy>(
 {
     let ending = options.line_ending.as_str();
     let mut output = String::with_capacity(alloc, text.len() + ending.len())?;
-    let mut fence = None;
-    let mut left = Some(text);
-    while let Some(text) = left {
-        let (line, rest) = split_line(text);
-        let (_, after_prefix) = split_prefix(line);
-        if stands_apart(options.keeps_code, fence, after_prefix) {
-            push_line(&mut output, "", line, ending)?;
-            fence = fence_after(options.keeps_code, fence, after_prefix);
-            left = rest;
-        } else {
-            let paragraph = read_paragraph(alloc, line, rest, options.keeps_code)?;
-            push_paragraph(alloc, &mut output, &paragraph, options)?;
-            left = paragraph.rest;
-        }
+    let mut blocks = BlockReader::new(text, options.keeps_code);
+    while let Some(block) = blocks.next(alloc)? {
+        push_block(alloc, &mut output, &block, options)?;
     }
-    output.truncate(output.len().saturating_sub(ending.len()));
+    cut_last_ending(&mut output, options.line_ending);
     Ok(output)
 }
 
-/// Adds a line, with what stands before and after it.
-fn push_line<A: Allocator>(
-    output: &mut String<A>,
-    indent: &str,
-    line: &str,
-    ending: &str,
-) -> Result<(), AllocError>
-    ensures { OnOk result (string_bytes output.new
-        ≡ string_bytes output.old ++ (indent.now ++ line.now ++ ending.now)) }
-{
-    output.push_str(indent)?;
-    output.push_str(line)?;
-    output.push_str(ending)
-}
-
-/// Adds the lines of a paragraph, filled or as they are.
-fn push_paragraph<A: Allocator + Copy>(
+/// Adds the lines of a block. Only those of some paragraphs are filled.
+fn push_block<A: Allocator + Copy>(
     alloc: A,
     output: &mut String<A>,
-    paragraph: &ParagraphLines<'_, A>,
+    block: &BlockLines<'_, A>,
     options: &ReflowOptions<'_>,
 ) -> Result<(), AllocError>
-    requires { string_bytes paragraph.now.hanging ≡ hanging paragraph.now.prefix.now }
-    ensures { OnOk result ((lines : List (List ℕ)) × AreAllLines options.now
-        (paragraph_parts options.now paragraph.now.prefix.now
-        (map (λ line. line.now) paragraph.now.lines.items)) lines
+    requires { (read : Block) × AreOfBlock block.now read }
+    ensures { OnOk result ((read : Block) → AreOfBlock block.now read
+        → (lines : List (List ℕ)) × AreAllLines options.now (block_parts options.now read) lines
         × (string_bytes output.new
         ≡ string_bytes output.old ++ ended (ending_bytes options.now.line_ending) lines)) }
 {
-    if is_filled(options, paragraph.prefix) {
-        return push_filled(alloc, output, paragraph, options);
+    let ending = options.line_ending.as_str();
+    match block {
+        BlockLines::Apart(line) => push_line(output, "", line, ending),
+        BlockLines::Paragraph(paragraph) => {
+            if options.fills(paragraph.prefix) {
+                push_filled(alloc, output, paragraph, options)
+            } else {
+                push_kept(output, &paragraph.lines, ending)
+            }
+        }
     }
-    push_kept(output, &paragraph.lines, options.line_ending.as_str())
-}
-
-/// Adds lines as they are.
-fn push_kept<A: Allocator>(
-    output: &mut String<A>,
-    lines: &[&str],
-    ending: &str,
-) -> Result<(), AllocError>
-    ensures { OnOk result (string_bytes output.new
-        ≡ string_bytes output.old ++ ended ending.now (map (λ line. line.now) lines.now)) }
-{
-    for line in lines {
-        push_line(output, "", line, ending)?;
-    }
-    Ok(())
-}
-
-/// Whether a paragraph with this first prefix is filled.
-fn is_filled(options: &ReflowOptions<'_>, prefix: &str) -> bool
-    ensures { result ≡ is_filled options.now prefix.now }
-{
-    prefix.starts_with(options.prefix) & !(options.keeps_code & prefix.starts_with("    "))
 }
 
 /// Adds the lines of a paragraph that is filled.

@@ -6,6 +6,8 @@ use std::test::Fail;
 use textwrap_lines::LineEnding;
 use textwrap_reflow::{Algorithm, ReflowOptions, reflow};
 
+mod justifying;
+
 /// The rule, the columns, the text, and the text by first fit.
 #[rattlefmt::skip]
 const BY_FIRST_FIT: &[(&str, usize, &str, &str)] = &[

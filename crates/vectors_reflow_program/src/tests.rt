@@ -6,6 +6,7 @@ mod disk;
 mod fakes;
 mod faults;
 mod files;
+mod justifying;
 mod memory;
 mod words;
 

@@ -22,13 +22,15 @@ returns c =
     ∙ ap₂ with_rule app_2 c.flag-2.ensures.rule in
     let app_4 = c.in_ok-arg-4.ensures.shape c.flag-3.ensures.local
     ∙ ap₂ with_rule app_3 c.flag-3.ensures.rule in
-    let app_5 = c.in_ok-arg-5.ensures.shape c.prefix_argument.ensures.local
-    ∙ ap₂ with_rule app_4 c.prefix_argument.ensures.rule in
-    let app_6 = c.in_ok-arg-6.ensures.shape c.flag-4.ensures.local
-    ∙ ap₂ with_rule app_5 c.flag-4.ensures.rule in
+    let app_5 = c.in_ok-arg-5.ensures.shape c.flag-4.ensures.local
+    ∙ ap₂ with_rule app_4 c.flag-4.ensures.rule in
+    let app_6 = c.in_ok-arg-6.ensures.shape c.prefix_argument.ensures.local
+    ∙ ap₂ with_rule app_5 c.prefix_argument.ensures.rule in
     let app_7 = c.in_ok-arg-7.ensures.shape c.flag-5.ensures.local
     ∙ ap₂ with_rule app_6 c.flag-5.ensures.rule in
     let app_8 = c.in_ok-arg-8.ensures.shape c.flag-6.ensures.local
     ∙ ap₂ with_rule app_7 c.flag-6.ensures.rule in
-    IfOk-weaker c.arg-9.result _ _ (λ command adds. adds.shape c.file_argument.ensures.local
-    ∙ ap₂ with_rule app_8 c.file_argument.ensures.rule) c.arg-9.ensures
+    let app_9 = c.in_ok-arg-9.ensures.shape c.flag-7.ensures.local
+    ∙ ap₂ with_rule app_8 c.flag-7.ensures.rule in
+    IfOk-weaker c.arg-10.result _ _ (λ command adds. adds.shape c.file_argument.ensures.local
+    ∙ ap₂ with_rule app_9 c.file_argument.ensures.rule) c.arg-10.ensures

@@ -9,6 +9,6 @@ returns-clause-checked g c =
     let new = g.W.Write.contents c.check_input.new.writer in (
       left,
       subst
-          (λ unread. Checks c.args.options.now c.args.name.now unread left old new c.check_input.result)
+          (λ unread. Checks c.args.layout.now c.args.name.now unread left old new c.check_input.result)
           c.in-Ok.ensures.input c.check_input.ensures,
     )

@@ -5,7 +5,7 @@ use Rattle.reflow_program.proofs.inputs.check_input.Goals as goal
 pub returns-in_err-write_line : goal.returns-in_err-write_line
 returns-in_err-write_line g c =
     let reflowed = c.in_ok-reflowed.reflowed in
-    checks-unwritten c.args.options.now _ _ reflowed.input.items (string_bytes reflowed.output)
+    checks-unwritten c.args.layout.now _ _ reflowed.input.items (string_bytes reflowed.output)
     c.in_ok-reflowed.ensures c.args.name.now _ _ _ _
     (compared-other _ _ _ _ c.as_slice.ensures.value c.as_bytes.ensures.value c.if-eq.ensures)
     c.in_err-write_line.ensures.prefix c.from_residual-in_err-write_line.ensures.1

@@ -10,6 +10,6 @@ returns-clause-printed g c =
     let new = g.W.Write.contents c.print_input.new.writer in (
       left,
       subst
-          (λ unread. Prints c.args.options.now unread left old new (result_err c.print_input.result))
+          (λ unread. Prints c.args.layout.now unread left old new (result_err c.print_input.result))
           c.in-Ok.ensures.input c.print_input.ensures,
     )

@@ -6,6 +6,6 @@ pub returns : goal.returns
 returns g c =
     let reflowed = c.in_ok-reflowed.reflowed in
     let written = c.write_to_end.ensures in
-    prints-written c.args.options.now _ _ reflowed.input.items (string_bytes reflowed.output)
+    prints-written c.args.layout.now _ _ reflowed.input.items (string_bytes reflowed.output)
     c.in_ok-reflowed.ensures _ _ _ c.write_to_end.result c.as_bytes.ensures.value written.ok
     written.prefix written.only_write

@@ -10,7 +10,7 @@ returns-then-eq g c =
       g.F.Input.Read.remaining c.read_reflowed.new.reader,
       reflowed.input.items,
       string_bytes reflowed.output,
-      ReadsText-of c.args.options.now _ _ _ _ _ c.in-Ok.ensures.input c.in_ok-reflowed.ensures,
+      ReadsText-of c.args.layout.now _ _ _ _ _ c.in-Ok.ensures.input c.in_ok-reflowed.ensures,
       inl (
         compared-same _ _ _ _ c.as_slice.ensures.value c.as_bytes.ensures.value c.if-eq.ensures,
         c.open.ensures.kept,
@@ -21,8 +21,8 @@ pub returns : goal.returns
 returns g c =
     let reflowed = c.in_ok-reflowed.reflowed in
     let put = c.put_bytes.ensures in
-    replaces-put c.args.options.now _ _ _ _ _ reflowed.input.items (string_bytes reflowed.output) _
+    replaces-put c.args.layout.now _ _ _ _ _ reflowed.input.items (string_bytes reflowed.output) _
     c.put_bytes.result
-    (ReadsText-of c.args.options.now _ _ _ _ _ c.in-Ok.ensures.input c.in_ok-reflowed.ensures)
+    (ReadsText-of c.args.layout.now _ _ _ _ _ c.in-Ok.ensures.input c.in_ok-reflowed.ensures)
     (compared-other _ _ _ _ c.as_slice.ensures.value c.as_bytes.ensures.value c.if-eq.ensures)
     c.open.ensures.kept c.as_bytes-2.ensures.value put.ok put.kept put.only_write

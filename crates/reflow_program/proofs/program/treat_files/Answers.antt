@@ -5,7 +5,7 @@ use Rattle.reflow_program.proofs.program.treat_files.Goals as goal
 pub loop-name-init : goal.loop-name-init
 loop-name-init g c =
     let request = c.args.request.now in
-    HasTreated-none request.options request.mode (texts request.files.items)
+    HasTreated-none request.layout request.mode (texts request.files.items)
     (texts c.deref-name-items.result.now)
     (record {
       files = g.F.Files.bytes c.args.files.now;
@@ -18,7 +18,7 @@ loop-name-init g c =
 pub loop-name-preserved : goal.loop-name-preserved
 loop-name-preserved g c =
     let request = c.args.request.now in
-    HasTreated-next request.options request.mode (texts request.files.items)
+    HasTreated-next request.layout request.mode (texts request.files.items)
     c.deref-name-items.result.now c.loop-name.name-index _ _ _ _ c.loop-name.ending c.report.result
     c.and-ending.result c.treat_file-treated.result c.loop-name-test.true c.loop-name.invariant
     c.treat_file-treated.ensures c.report.ensures c.and-ending.ensures
@@ -26,6 +26,6 @@ loop-name-preserved g c =
 pub returns : goal.returns
 returns g c =
     let request = c.args.request.now in
-    HasTreated-all request.options request.mode (texts request.files.items)
+    HasTreated-all request.layout request.mode (texts request.files.items)
     c.deref-name-items.result.now c.loop-name.name-index _ _ c.loop-name.ending
     c.loop-name-test.false c.loop-name.invariant

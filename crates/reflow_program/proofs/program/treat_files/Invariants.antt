@@ -4,7 +4,7 @@ use Rattle.reflow_program.proofs.program.treat_files.Given as goal
 
 abbrev pub invariant-loop-name : goal.invariant-loop-name
 invariant-loop-name g l =
-    HasTreated l.request.options l.request.mode (texts l.request.files.items)
+    HasTreated l.request.layout l.request.mode (texts l.request.files.items)
     (texts (drop l.name-index l.name-items))
     (record {
       files = g.F.Files.bytes l.fn.files;

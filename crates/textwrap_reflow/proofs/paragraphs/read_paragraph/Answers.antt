@@ -1,8 +1,8 @@
 use Rattle.textwrap_reflow.proofs.paragraphs.read_paragraph.Goals as goal
 use Rattle.textwrap_base.proofs.Common.{◌≡◌, ◌++◌, ◌∷◌, [], None, map, ap, sym, ◌∙◌, subst}
-use Rattle.textwrap_base.proofs.Common.{IsAscii, arith, map-append}
+use Rattle.textwrap_base.proofs.Common.{IsAscii, map-append}
 use Rattle.textwrap.proofs.Text.Prefixes.{line_prefix-ascii}
-use Rattle.textwrap_reflow.proofs.Common.{blocks, bytes_left, lines_left, line_prefix, hanging}
+use Rattle.textwrap_reflow.proofs.Common.{blocks, lines_left, line_prefix, hanging}
 use Rattle.textwrap_reflow.proofs.Grouping.{goes_on, goes_on-joins, joined_to}
 use Rattle.textwrap_reflow.proofs.paragraphs.read_paragraph.Goals.{After-goes_on}
 use Rattle.std.specs.Str.{bytes_eq}
@@ -26,15 +26,13 @@ pub loop-rest-preserved : goal.loop-rest-preserved
 loop-rest-preserved g c =
     let first = c.args.first.now in
     let line = c.split_line.result.0.now in
-    let (later, are, is) = c.loop-rest.invariant.grouped in
-    record {
-      grouped = (
-        later ++ line ∷ [],
-        ap (map (λ line. line.now)) c.in_ok-push-2.ensures.items
-            ∙ map-append (λ line. line.now) c.loop-rest.lines.items _
-            ∙ ap (λ l. l ++ line ∷ []) are,
-        is ∙ ap (λ l. joined_to first later (blocks c.args.keeps_code None l)) (ap lines_left c.in-Some.is ∙ c.split_line.ensures.lines)
-            ∙ goes_on-joins c.args.keeps_code first line later (lines_left c.split_line.result.1) (sym (goes g (goal.at.loop-rest-preserved g c).After-goes_on) ∙ c.if-not-goes_on.false),
-      );
-      shorter = omega (arith, c.loop-rest.invariant.shorter, c.split_line.ensures.shorter, ap bytes_left c.in-Some.is);
-    }
+    let (later, are, is) = c.loop-rest.invariant in (
+      later ++ line ∷ [],
+      ap (map (λ line. line.now)) c.in_ok-push-2.ensures.items
+          ∙ map-append (λ line. line.now) c.loop-rest.lines.items _
+          ∙ ap (λ l. l ++ line ∷ []) are,
+      is ∙ ap (λ l. joined_to first later (blocks c.args.keeps_code None l))
+          (ap lines_left c.in-Some.is ∙ c.split_line.ensures.lines)
+          ∙ goes_on-joins c.args.keeps_code first line later (lines_left c.split_line.result.1)
+          (sym (goes g (goal.at.loop-rest-preserved g c).After-goes_on) ∙ c.if-not-goes_on.false),
+    )

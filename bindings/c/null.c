@@ -1,6 +1,6 @@
 /* The calls of textwrap.h that are handed arrays, for a caller whose pointer to nothing is null. Each is
  * the proved call of the archive, which wants a pointer that is not; the Makefile gives that call the
- * name that it has here. */
+ * name that it has here. No array is copied, so the texts within one have to have pointers. */
 #include "textwrap.h"
 
 #define PROVED(name) extern __typeof__(textwrap_##name) proved_##name
@@ -17,6 +17,13 @@ PROVED(refill_bound);
 PROVED(unfill);
 PROVED(indent);
 PROVED(dedent);
+PROVED(align);
+PROVED(justify);
+PROVED(fill_justified);
+PROVED(shorten);
+PROVED(shorten_lines);
+PROVED(carry_styles);
+PROVED(table);
 PROVED(wrap_first_fit);
 PROVED(wrap_optimal_fit);
 PROVED(pieces);
@@ -29,9 +36,11 @@ PROVED(lines_at);
 
 /* Where an array of length 0 may lie, whatever it is of. Nothing is read here or written. */
 static union {
+    textwrap_text text;
     textwrap_line line;
     textwrap_piece piece;
     textwrap_fragment fragment;
+    textwrap_column column;
 } nothing;
 
 /* The pointer and the length of an array, as the archive wants them. */
@@ -131,6 +140,58 @@ textwrap_status textwrap_indent(const uint8_t *text, size_t text_len, const uint
 textwrap_status textwrap_dedent(const uint8_t *text, size_t text_len, uint8_t *room,
                                 size_t room_len, size_t *len) {
     return proved_dedent(ARRAY(text, text_len), ARRAY(room, room_len), len);
+}
+
+textwrap_status textwrap_align(const uint8_t *line, size_t line_len, size_t width,
+                               uint32_t alignment, uint8_t *room, size_t room_len, size_t *len) {
+    return proved_align(ARRAY(line, line_len), width, alignment, ARRAY(room, room_len), len);
+}
+
+textwrap_status textwrap_justify(const uint8_t *line, size_t line_len, size_t width, uint8_t *room,
+                                 size_t room_len, size_t *len) {
+    return proved_justify(ARRAY(line, line_len), width, ARRAY(room, room_len), len);
+}
+
+textwrap_status textwrap_fill_justified(const uint8_t *text, size_t text_len,
+                                        const textwrap_options *options, uint8_t *room,
+                                        size_t room_len, size_t *len) {
+    textwrap_options some = some_options(options);
+    return proved_fill_justified(ARRAY(text, text_len), &some, ARRAY(room, room_len), len);
+}
+
+textwrap_status textwrap_shorten(const uint8_t *line, size_t line_len, size_t width,
+                                 const uint8_t *placeholder, size_t placeholder_len, uint8_t *room,
+                                 size_t room_len, size_t *len) {
+    return proved_shorten(ARRAY(line, line_len), width, ARRAY(placeholder, placeholder_len),
+                          ARRAY(room, room_len), len);
+}
+
+textwrap_status textwrap_shorten_lines(const textwrap_text *lines, size_t lines_len, size_t most,
+                                       size_t width, const uint8_t *placeholder,
+                                       size_t placeholder_len, textwrap_line *places,
+                                       size_t places_len, size_t *count, uint8_t *room,
+                                       size_t room_len, size_t *len) {
+    return proved_shorten_lines(ARRAY(lines, lines_len), most, width,
+                                ARRAY(placeholder, placeholder_len), ARRAY(places, places_len),
+                                count, ARRAY(room, room_len), len);
+}
+
+textwrap_status textwrap_carry_styles(const textwrap_text *lines, size_t lines_len,
+                                      const textwrap_options *options, textwrap_line *places,
+                                      size_t places_len, size_t *count, uint8_t *room,
+                                      size_t room_len, size_t *len) {
+    textwrap_options some = some_options(options);
+    return proved_carry_styles(ARRAY(lines, lines_len), &some, ARRAY(places, places_len), count,
+                               ARRAY(room, room_len), len);
+}
+
+textwrap_status textwrap_table(const textwrap_text *cells, size_t cells_len,
+                               const textwrap_column *columns, size_t columns_len,
+                               const textwrap_gaps *gaps, textwrap_line *rows, size_t rows_len,
+                               size_t *count, uint8_t *room, size_t room_len, size_t *len) {
+    textwrap_gaps around = some_gaps(gaps);
+    return proved_table(ARRAY(cells, cells_len), ARRAY(columns, columns_len), &around,
+                        ARRAY(rows, rows_len), count, ARRAY(room, room_len), len);
 }
 
 textwrap_status textwrap_wrap_first_fit(const textwrap_fragment *fragments, size_t fragments_len,

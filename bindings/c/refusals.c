@@ -58,6 +58,10 @@ struct lent {
 
 static const uint8_t *bytes(const char *text) { return (const uint8_t *)text; }
 
+static textwrap_text text_of(const char *text) {
+    return (textwrap_text){bytes(text), strlen(text)};
+}
+
 static const char TEXT[] = "To be, or not to be: that is the question\nfoo \xc3\xa9 bar";
 
 static textwrap_options options_of(uint32_t optimal_fit, int indents) {
@@ -113,6 +117,47 @@ static textwrap_status in_place(struct lent *lent) { return textwrap_fill_inplac
 
 static textwrap_status measured(struct lent *lent) {
     return textwrap_display_width(bytes(TEXT), strlen(TEXT), &lent->len);
+}
+
+static textwrap_status aligned(struct lent *lent) {
+    return textwrap_align(bytes("foo"), 3, 8, TEXTWRAP_CENTRE, lent->room, 256, &lent->len);
+}
+
+static textwrap_status justified(struct lent *lent) {
+    return textwrap_justify(bytes("a few words"), 11, 14, lent->room, 256, &lent->len);
+}
+
+static textwrap_status filled_justified(struct lent *lent) {
+    textwrap_options o = options_of(1, 1);
+    return textwrap_fill_justified(bytes(TEXT), strlen(TEXT), &o, lent->room, 256, &lent->len);
+}
+
+static textwrap_status shortened(struct lent *lent) {
+    return textwrap_shorten(bytes("Hello world"), 11, 10, bytes("..."), 3, lent->room, 256,
+                            &lent->len);
+}
+
+static textwrap_status lines_shortened(struct lent *lent) {
+    const textwrap_text lines[3] = {text_of("one"), text_of("two three"), text_of("four")};
+    return textwrap_shorten_lines(lines, 3, 2, 8, bytes(" .."), 3, lent->lines, 16, &lent->count,
+                                  lent->room, 256, &lent->len);
+}
+
+static textwrap_status styles_carried(struct lent *lent) {
+    textwrap_options o = options_of(1, 0);
+    const textwrap_text lines[2] = {text_of("\x1b]8;;u\x1b\\a \x1b[1mb"), text_of("> c")};
+    o.subsequent_indent = text_of("> ");
+    return textwrap_carry_styles(lines, 2, &o, lent->lines, 16, &lent->count, lent->room, 256,
+                                 &lent->len);
+}
+
+static textwrap_status in_a_table(struct lent *lent) {
+    const textwrap_gaps gaps = {text_of("|"), text_of("|"), text_of("|")};
+    const textwrap_text cells[3] = {text_of(TEXT), text_of("1.50"), text_of("foo")};
+    const textwrap_column columns[2] = {{options_of(0, 1), TEXTWRAP_LEFT, 0},
+                                        {options_of(1, 0), TEXTWRAP_RIGHT, 0}};
+    return textwrap_table(cells, 3, columns, 2, &gaps, lent->lines, 16, &lent->count, lent->room,
+                          256, &lent->len);
 }
 
 static const textwrap_fragment FRAGMENTS[3] = {{4, 1, 0, 0}, {4, 1, 0, 30}, {4, 1, 0, 0}};
@@ -180,6 +225,13 @@ static const struct {
     {"dedent", dedented},
     {"fill_inplace", in_place},
     {"display_width", measured},
+    {"align", aligned},
+    {"justify", justified},
+    {"fill_justified", filled_justified},
+    {"shorten", shortened},
+    {"shorten_lines", lines_shortened},
+    {"carry_styles", styles_carried},
+    {"table", in_a_table},
     {"wrap_first_fit", greedily},
     {"wrap_optimal_fit", at_least_cost},
     {"pieces", in_pieces},

@@ -166,6 +166,267 @@ static void texts_are_indented_dedented_and_filled_in_place(void) {
     CHECK(memcmp(text, "foo \nbar", 8) == 0);
 }
 
+/* Whether these bytes are the text. */
+static int is_text(const uint8_t *at, size_t len, const char *text) {
+    return len == strlen(text) && memcmp(at, text, len) == 0;
+}
+
+/* Whether these lines, which stand in the room one after another, are those of the text. There each
+ * ends in a line feed. */
+static int are_lines(const textwrap_line *lines, size_t count, const uint8_t *room, size_t len,
+                     const char *text) {
+    size_t at = 0;
+    for (size_t i = 0; i < count; i++) {
+        size_t line_len = strcspn(text, "\n");
+        if (text[line_len] != '\n' || lines[i].is_built != 1 || lines[i].offset != at
+            || lines[i].len != line_len || memcmp(room + at, text, line_len) != 0)
+            return 0;
+        at += line_len;
+        text += line_len + 1;
+    }
+    return at == len && *text == '\0';
+}
+
+static void lines_are_aligned(void) {
+    static const char *const aligned[3] = {"ab   ", "   ab", " ab  "};
+    static const char wide[] = "\xe6\x97\xa5 \xe6\x9c\xac";
+    uint8_t room[16] = "...";
+    size_t len = 7;
+    CHECK(textwrap_align(bytes("ab"), 2, 5, 3, room, sizeof room, &len)
+          == TEXTWRAP_UNKNOWN_OPTIONS);
+    CHECK(textwrap_align(bytes("a\xff"), 2, 5, TEXTWRAP_LEFT, room, sizeof room, &len)
+          == TEXTWRAP_NOT_UTF8);
+    CHECK(len == 7 && memcmp(room, "...", 4) == 0);
+    CHECK(textwrap_align(bytes("ab"), 2, 5, TEXTWRAP_LEFT, room, 4, &len) == TEXTWRAP_TOO_SMALL);
+    CHECK(len == 5 && memcmp(room, "...", 4) == 0);
+    for (uint32_t i = 0; i < 3; i++) {
+        CHECK(textwrap_align(bytes("ab"), 2, 5, i, room, 5, &len) == TEXTWRAP_DONE);
+        CHECK(is_text(room, len, aligned[i]));
+    }
+    CHECK(textwrap_align(bytes(wide), 7, 7, TEXTWRAP_CENTRE, room, sizeof room, &len)
+          == TEXTWRAP_DONE);
+    CHECK(is_text(room, len, " \xe6\x97\xa5 \xe6\x9c\xac "));
+    CHECK(textwrap_align(bytes(wide), 7, 4, TEXTWRAP_RIGHT, room, sizeof room, &len)
+          == TEXTWRAP_DONE);
+    CHECK(is_text(room, len, wide));
+}
+
+static void lines_are_justified(void) {
+    uint8_t room[16] = "...";
+    size_t len = 7;
+    CHECK(textwrap_justify(bytes("a \xff"), 3, 9, room, sizeof room, &len) == TEXTWRAP_NOT_UTF8);
+    CHECK(len == 7 && memcmp(room, "...", 4) == 0);
+    CHECK(textwrap_justify(bytes("a few words"), 11, 14, room, 13, &len) == TEXTWRAP_TOO_SMALL);
+    CHECK(len == 14 && memcmp(room, "...", 4) == 0);
+    CHECK(textwrap_justify(bytes("a few words"), 11, 14, room, 14, &len) == TEXTWRAP_DONE);
+    CHECK(is_text(room, len, "a   few  words"));
+    CHECK(textwrap_justify(bytes("  a b c"), 7, 9, room, sizeof room, &len) == TEXTWRAP_DONE);
+    CHECK(is_text(room, len, "  a  b  c"));
+    CHECK(textwrap_justify(bytes("ab"), 2, 5, room, sizeof room, &len) == TEXTWRAP_DONE);
+    CHECK(is_text(room, len, "ab"));
+}
+
+static void texts_are_filled_and_justified(void) {
+    textwrap_options o = textwrap_options_new(12);
+    uint8_t room[64] = "...";
+    size_t len = 7;
+    o.optimal_fit = 0;
+    CHECK(textwrap_fill_justified(bytes("a \xff"), 3, &o, room, sizeof room, &len)
+          == TEXTWRAP_NOT_UTF8);
+    o.version = 2;
+    CHECK(textwrap_fill_justified(bytes("a b"), 3, &o, room, sizeof room, &len)
+          == TEXTWRAP_UNKNOWN_OPTIONS);
+    o.version = TEXTWRAP_VERSION;
+    CHECK(len == 7 && memcmp(room, "...", 4) == 0);
+    CHECK(textwrap_fill_justified(bytes(HAMLET), strlen(HAMLET), &o, room, 46, &len)
+          == TEXTWRAP_TOO_SMALL);
+    CHECK(len == 47 && memcmp(room, "...", 4) == 0);
+    CHECK(textwrap_fill_justified(bytes(HAMLET), strlen(HAMLET), &o, room, 47, &len)
+          == TEXTWRAP_DONE);
+    CHECK(is_text(room, len, "To   be,  or\nnot  to  be:\nthat  is the\nquestion"));
+    /* The blanks of an indent are no gaps, and the last line of each paragraph stays. The first line
+     * of the later paragraph is divided at 8 columns, and justified in the 10 that its indent leaves. */
+    o.initial_indent = text_of("- - ");
+    o.subsequent_indent = text_of("  ");
+    o.crlf = 1;
+    CHECK(textwrap_fill_justified(bytes("foo ba qu\r\na b foobar"), 21, &o, room, sizeof room, &len)
+          == TEXTWRAP_DONE);
+    CHECK(is_text(room, len, "- - foo   ba\r\n  qu\r\n  a        b\r\n  foobar"));
+}
+
+static void lines_are_shortened(void) {
+    uint8_t room[16] = "...";
+    size_t len = 7;
+    CHECK(textwrap_shorten(bytes("a\xff"), 2, 1, bytes(".."), 2, room, sizeof room, &len)
+          == TEXTWRAP_NOT_UTF8);
+    CHECK(textwrap_shorten(bytes("ab"), 2, 1, bytes("\xff"), 1, room, sizeof room, &len)
+          == TEXTWRAP_NOT_UTF8);
+    CHECK(len == 7 && memcmp(room, "...", 4) == 0);
+    CHECK(textwrap_shorten(bytes("Hello world"), 11, 10, bytes("***"), 3, room, 7, &len)
+          == TEXTWRAP_TOO_SMALL);
+    CHECK(len == 8 && memcmp(room, "...", 4) == 0);
+    CHECK(textwrap_shorten(bytes("Hello world"), 11, 10, bytes("***"), 3, room, 8, &len)
+          == TEXTWRAP_DONE);
+    CHECK(is_text(room, len, "Hello***"));
+    CHECK(textwrap_shorten(bytes("Hello world"), 11, 11, bytes("***"), 3, room, sizeof room, &len)
+          == TEXTWRAP_DONE);
+    CHECK(is_text(room, len, "Hello world"));
+    CHECK(textwrap_shorten(bytes("three two"), 9, 1, bytes(".."), 2, room, sizeof room, &len)
+          == TEXTWRAP_DONE);
+    CHECK(is_text(room, len, ".."));
+}
+
+static void lists_of_lines_are_shortened(void) {
+    const textwrap_text lines[3] = {text_of("one"), text_of("two three"), text_of("four")};
+    const textwrap_text wrong[1] = {text_of("a\xff")};
+    textwrap_line places[3];
+    uint8_t room[16] = "...";
+    size_t count = 7, len = 7;
+    CHECK(textwrap_shorten_lines(wrong, 1, 2, 8, bytes(" .."), 3, places, 3, &count, room,
+                                 sizeof room, &len) == TEXTWRAP_NOT_UTF8);
+    CHECK(textwrap_shorten_lines(lines, 3, 2, 8, bytes("\xff"), 1, places, 3, &count, room,
+                                 sizeof room, &len) == TEXTWRAP_NOT_UTF8);
+    CHECK(count == 7 && len == 7);
+    CHECK(textwrap_shorten_lines(lines, 3, 2, 8, bytes(" .."), 3, places, 1, &count, room,
+                                 sizeof room, &len) == TEXTWRAP_TOO_SMALL);
+    CHECK(count == 2 && len == 9);
+    CHECK(textwrap_shorten_lines(lines, 3, 2, 8, bytes(" .."), 3, places, 2, &count, room, 8, &len)
+          == TEXTWRAP_TOO_SMALL);
+    CHECK(count == 2 && len == 9 && memcmp(room, "...", 4) == 0);
+    CHECK(textwrap_shorten_lines(lines, 3, 2, 8, bytes(" .."), 3, places, 2, &count, room, 9, &len)
+          == TEXTWRAP_DONE);
+    CHECK(count == 2 && are_lines(places, count, room, len, "one\ntwo ..\n"));
+    CHECK(textwrap_shorten_lines(lines, 3, 3, 8, bytes(" .."), 3, places, 3, &count, room,
+                                 sizeof room, &len) == TEXTWRAP_DONE);
+    CHECK(count == 3 && are_lines(places, count, room, len, "one\ntwo three\nfour\n"));
+    CHECK(textwrap_shorten_lines(lines, 3, 1, 8, bytes(" .."), 3, places, 3, &count, room,
+                                 sizeof room, &len) == TEXTWRAP_DONE);
+    CHECK(count == 1 && are_lines(places, count, room, len, "one ..\n"));
+    CHECK(textwrap_shorten_lines(lines, 3, 0, 8, bytes(" .."), 3, places, 3, &count, room,
+                                 sizeof room, &len) == TEXTWRAP_DONE);
+    CHECK(count == 0 && len == 0);
+}
+
+/* Whether these two lines become the lines of the text. */
+static int are_carried(textwrap_options options, const char *first, const char *second,
+                       const char *carried) {
+    const textwrap_text lines[2] = {text_of(first), text_of(second)};
+    textwrap_line places[2];
+    uint8_t room[128];
+    size_t count = 0, len = 0;
+    return textwrap_carry_styles(lines, 2, &options, places, 2, &count, room, sizeof room, &len)
+               == TEXTWRAP_DONE
+        && count == 2 && are_lines(places, count, room, len, carried);
+}
+
+static void styles_are_carried(void) {
+    textwrap_options o = textwrap_options_new(10);
+    CHECK(are_carried(o, "a", "b", "a\nb\n"));
+    CHECK(are_carried(o, "a \x1b[1mb", "c", "a \x1b[1mb\x1b[0m\n\x1b[1mc\x1b[0m\n"));
+    CHECK(are_carried(o, "\x1b[1m\x1b[31ma", "b\x1b[m c",
+                      "\x1b[1m\x1b[31ma\x1b[0m\n\x1b[1m\x1b[31mb\x1b[m c\n"));
+    CHECK(are_carried(o, "\x1b[1ma\x1b[0;0m", "b", "\x1b[1ma\x1b[0;0m\nb\n"));
+    CHECK(are_carried(o, "\x1b]8;;u\x1b\\a", "b\x1b]8;;\x1b\\",
+                      "\x1b]8;;u\x1b\\a\x1b]8;;\x1b\\\n\x1b]8;;u\x1b\\b\x1b]8;;\x1b\\\n"));
+    /* The link is set before the styles, and taken back after them. */
+    CHECK(are_carried(o, "\x1b[1m\x1b]8;;u\x1b\\a", "b",
+                      "\x1b[1m\x1b]8;;u\x1b\\a\x1b[0m\x1b]8;;\x1b\\\n"
+                      "\x1b]8;;u\x1b\\\x1b[1mb\x1b[0m\x1b]8;;\x1b\\\n"));
+    o.subsequent_indent = text_of("> ");
+    CHECK(are_carried(o, "\x1b[1ma", "> b", "\x1b[1ma\x1b[0m\n> \x1b[1mb\x1b[0m\n"));
+    CHECK(are_carried(o, "\x1b[1ma", "b", "\x1b[1ma\x1b[0m\n\x1b[1mb\x1b[0m\n"));
+}
+
+static void carrying_styles_is_refused(void) {
+    const textwrap_text lines[2] = {text_of("\x1b[1ma"), text_of("b")};
+    const textwrap_text wrong[1] = {text_of("a\xff")};
+    textwrap_options o = textwrap_options_new(10);
+    textwrap_line places[2];
+    uint8_t room[32] = "...";
+    size_t count = 7, len = 7;
+    CHECK(textwrap_carry_styles(wrong, 1, &o, places, 2, &count, room, sizeof room, &len)
+          == TEXTWRAP_NOT_UTF8);
+    o.version = 2;
+    CHECK(textwrap_carry_styles(lines, 2, &o, places, 2, &count, room, sizeof room, &len)
+          == TEXTWRAP_UNKNOWN_OPTIONS);
+    o.version = TEXTWRAP_VERSION;
+    CHECK(count == 7 && len == 7);
+    CHECK(textwrap_carry_styles(lines, 2, &o, places, 1, &count, room, sizeof room, &len)
+          == TEXTWRAP_TOO_SMALL);
+    CHECK(count == 2 && len == 18);
+    CHECK(textwrap_carry_styles(lines, 2, &o, places, 2, &count, room, 17, &len)
+          == TEXTWRAP_TOO_SMALL);
+    CHECK(count == 2 && len == 18 && memcmp(room, "...", 4) == 0);
+    CHECK(textwrap_carry_styles(lines, 2, &o, places, 2, &count, room, 18, &len) == TEXTWRAP_DONE);
+    CHECK(are_lines(places, count, room, len, "\x1b[1ma\x1b[0m\n\x1b[1mb\x1b[0m\n"));
+}
+
+/* A column with words by first fit. */
+static textwrap_column column_of(size_t width, textwrap_alignment alignment) {
+    textwrap_column column;
+    column.options = textwrap_options_new(width);
+    column.options.optimal_fit = 0;
+    column.alignment = alignment;
+    column.reserved = 0;
+    return column;
+}
+
+static void tables_are_written(void) {
+    const textwrap_text cells[5] = {text_of("one two"), text_of("1.50"), text_of("a"),
+                                    text_of("three"), text_of("12.25")};
+    const textwrap_column columns[3] = {column_of(4, TEXTWRAP_LEFT), column_of(6, TEXTWRAP_RIGHT),
+                                        column_of(4, TEXTWRAP_CENTRE)};
+    const textwrap_gaps gaps = {text_of("[ "), text_of(" | "), text_of(" ]")};
+    textwrap_line rows[4];
+    uint8_t room[128] = "...";
+    size_t count = 7, len = 7;
+    CHECK(textwrap_table(cells, 5, columns, 3, &gaps, rows, 3, &count, room, sizeof room, &len)
+          == TEXTWRAP_TOO_SMALL);
+    CHECK(count == 4 && len == 96);
+    CHECK(textwrap_table(cells, 5, columns, 3, &gaps, rows, 4, &count, room, 95, &len)
+          == TEXTWRAP_TOO_SMALL);
+    CHECK(count == 4 && len == 96 && memcmp(room, "...", 4) == 0);
+    CHECK(textwrap_table(cells, 5, columns, 3, &gaps, rows, 4, &count, room, 96, &len)
+          == TEXTWRAP_DONE);
+    CHECK(count == 4);
+    /* The last row of cells lacks one. */
+    CHECK(are_lines(rows, count, room, len,
+                    "[ one  |   1.50 |  a   ]\n"
+                    "[ two  |        |      ]\n"
+                    "[ thre |  12.25 |      ]\n"
+                    "[ e    |        |      ]\n"));
+    CHECK(textwrap_table(cells, 5, columns, 0, &gaps, rows, 4, &count, room, sizeof room, &len)
+          == TEXTWRAP_DONE);
+    CHECK(count == 0 && len == 0);
+    CHECK(textwrap_table(cells, 0, columns, 3, &gaps, rows, 4, &count, room, sizeof room, &len)
+          == TEXTWRAP_DONE);
+    CHECK(count == 0 && len == 0);
+}
+
+static void wrong_tables_are_refused(void) {
+    const textwrap_text cells[2] = {text_of("a"), text_of("b")};
+    const textwrap_text wrong[2] = {text_of("a"), text_of("\xff")};
+    const textwrap_gaps gaps = {text_of("|"), text_of("|"), text_of("|")};
+    const textwrap_gaps wrong_gaps = {gaps.left, text_of("\xff"), gaps.right};
+    textwrap_column columns[2] = {column_of(4, TEXTWRAP_LEFT), column_of(4, TEXTWRAP_LEFT)};
+    textwrap_line rows[1];
+    uint8_t room[16] = "...";
+    size_t count = 7, len = 7;
+    CHECK(textwrap_table(wrong, 2, columns, 2, &gaps, rows, 1, &count, room, 16, &len)
+          == TEXTWRAP_NOT_UTF8);
+    CHECK(textwrap_table(cells, 2, columns, 2, &wrong_gaps, rows, 1, &count, room, 16, &len)
+          == TEXTWRAP_NOT_UTF8);
+    for (int i = 0; i < 3; i++) {
+        columns[1] = column_of(4, TEXTWRAP_LEFT);
+        if (i == 0) columns[1].alignment = 3;
+        if (i == 1) columns[1].reserved = 1;
+        if (i == 2) columns[1].options.version = 2;
+        CHECK(textwrap_table(cells, 2, columns, 2, &gaps, rows, 1, &count, room, 16, &len)
+              == TEXTWRAP_UNKNOWN_OPTIONS);
+    }
+    CHECK(count == 7 && len == 7 && memcmp(room, "...", 4) == 0);
+}
+
 static void fragments_are_divided(void) {
     const textwrap_fragment four[4] = {{5, 0, 0, 0}, {5, 0, 0, 0}, {5, 0, 0, 0}, {5, 0, 0, 0}};
     const size_t widths[2] = {10, 5};
@@ -509,6 +770,20 @@ static void a_pointer_to_nothing_may_be_null(void) {
     CHECK(textwrap_indent(NULL, 0, NULL, 0, NULL, 0, &len) == TEXTWRAP_DONE && len == 0);
     CHECK(textwrap_dedent(NULL, 0, NULL, 0, &len) == TEXTWRAP_DONE && len == 0);
     CHECK(textwrap_fill_inplace(NULL, 0, 10) == TEXTWRAP_DONE);
+    CHECK(textwrap_align(NULL, 0, 0, TEXTWRAP_LEFT, NULL, 0, &len) == TEXTWRAP_DONE && len == 0);
+    CHECK(textwrap_align(NULL, 0, 3, TEXTWRAP_LEFT, room, 10, &len) == TEXTWRAP_DONE && len == 3);
+    CHECK(textwrap_justify(NULL, 0, 3, NULL, 0, &len) == TEXTWRAP_DONE && len == 0);
+    CHECK(textwrap_fill_justified(NULL, 0, &o, NULL, 0, &len) == TEXTWRAP_DONE && len == 0);
+    CHECK(textwrap_shorten(NULL, 0, 3, NULL, 0, NULL, 0, &len) == TEXTWRAP_DONE && len == 0);
+    CHECK(textwrap_shorten(bytes("foo"), 3, 2, NULL, 0, NULL, 0, &len) == TEXTWRAP_DONE);
+    CHECK(len == 0);
+    CHECK(textwrap_shorten_lines(NULL, 0, 1, 3, NULL, 0, NULL, 0, &count, NULL, 0, &len)
+          == TEXTWRAP_DONE);
+    CHECK(count == 0 && len == 0);
+    CHECK(textwrap_carry_styles(NULL, 0, &o, NULL, 0, &count, NULL, 0, &len) == TEXTWRAP_DONE);
+    CHECK(count == 0 && len == 0);
+    CHECK(textwrap_table(NULL, 0, NULL, 0, &gaps, NULL, 0, &count, NULL, 0, &len) == TEXTWRAP_DONE);
+    CHECK(count == 0 && len == 0);
     CHECK(textwrap_wrap_first_fit(NULL, 0, NULL, 0, end, 1, &count) == TEXTWRAP_DONE && count == 1);
     CHECK(textwrap_wrap_first_fit(NULL, 0, NULL, 0, NULL, 0, &count) == TEXTWRAP_TOO_SMALL);
     CHECK(textwrap_wrap_optimal_fit(NULL, 0, NULL, 0, &penalties, end, 1, &count) == TEXTWRAP_DONE);
@@ -541,6 +816,15 @@ int main(void) {
     rows_are_written();
     filled_texts_are_unfilled_and_refilled();
     texts_are_indented_dedented_and_filled_in_place();
+    lines_are_aligned();
+    lines_are_justified();
+    texts_are_filled_and_justified();
+    lines_are_shortened();
+    lists_of_lines_are_shortened();
+    styles_are_carried();
+    carrying_styles_is_refused();
+    tables_are_written();
+    wrong_tables_are_refused();
     fragments_are_divided();
     pieces_are_places();
     words_are_cut_split_and_broken();

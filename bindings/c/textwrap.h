@@ -4,12 +4,14 @@
  * tests beside it use each declaration once.
  *
  * A text is a pointer and a length in bytes, in UTF-8. A pointer is aligned as its type asks, and is
- * not null, but for that of an array of length 0. (null.c sees to these. A program that links the bare
- * archive without it hands in no null pointer.) What a call gives is written into room that the caller
- * hands in and owns; the library keeps no pointer and leaves nothing allocated behind. The room may be
- * uninitialised. It overlaps nothing else that is handed to the same call, and `count` and `len` are
- * two places. A call that does not return TEXTWRAP_DONE leaves the room as it was. If that is too
- * small, TEXTWRAP_TOO_SMALL reports the length that suffices, for a second call.
+ * not null, but for that of an array of length 0. (null.c sees to these. A program that links the
+ * bare archive without it hands in no null pointer.) Within an array no pointer is null, even that
+ * of a text without a byte: not in a list of texts, and not in the indents of a table's columns.
+ * What a call gives is written into room that the caller hands in and owns; the library keeps no
+ * pointer and leaves nothing allocated behind. The room may be uninitialised. It overlaps nothing
+ * else that is handed to the same call, and `count` and `len` are two places. A call that does not
+ * return TEXTWRAP_DONE leaves the room as it was. If that is too small, TEXTWRAP_TOO_SMALL reports
+ * the length that suffices, for a second call.
  *
  * The library has no state, so calls may run on several threads at once, if the heap's functions may.
  * It allocates by three of them, rattle_alloc, rattle_realloc and rattle_dealloc. heap.c has them over
@@ -29,7 +31,7 @@ extern "C" {
 /* The version of the library that this header is of: 10,000 times its first number, 100 times its
  * second, and its third. textwrap_library_version returns that of the library that was linked. Within
  * a first number, a later library serves a program that was built for an earlier one. */
-#define TEXTWRAP_LIBRARY_VERSION 10400u
+#define TEXTWRAP_LIBRARY_VERSION 10500u
 uint32_t textwrap_library_version(void);
 
 /* What a call returns. */
@@ -73,7 +75,7 @@ static inline const char *textwrap_status_text(textwrap_status status) {
 
 /* A text. */
 typedef struct {
-    const uint8_t *at; /* null only if it has no bytes */
+    const uint8_t *at; /* null only if it has no bytes, and stands in no array */
     size_t len;        /* in bytes */
 } textwrap_text;
 
@@ -200,6 +202,70 @@ textwrap_status textwrap_dedent(const uint8_t *text, size_t text_len, uint8_t *r
  * whole, and takes each line of the text for a paragraph. DONE, NOT_UTF8 or OUT_OF_MEMORY. */
 TEXTWRAP_CHECKED
 textwrap_status textwrap_fill_inplace(uint8_t *text, size_t text_len, size_t width);
+
+/* ---- Lines for display. A list of lines is written to the room one after another, and all are
+ * reported as lines of their own, as the rows of textwrap_wrap_columns are. */
+
+/* Where a line stands in its width. */
+typedef enum {
+    TEXTWRAP_LEFT = 0,
+    TEXTWRAP_RIGHT = 1,
+    TEXTWRAP_CENTRE = 2, /* an odd blank follows the line */
+} textwrap_alignment;
+
+/* Writes the line with blanks up to the width. An alignment that is none is UNKNOWN_OPTIONS. */
+TEXTWRAP_CHECKED
+textwrap_status textwrap_align(const uint8_t *line, size_t line_len, size_t width,
+                               uint32_t alignment, uint8_t *room, size_t room_len, size_t *len);
+
+/* Writes the line with its gaps between words widened up to the width. */
+TEXTWRAP_CHECKED
+textwrap_status textwrap_justify(const uint8_t *line, size_t line_len, size_t width, uint8_t *room,
+                                 size_t room_len, size_t *len);
+
+/* Fills a text, and justifies all lines but the last of each paragraph. */
+TEXTWRAP_CHECKED
+textwrap_status textwrap_fill_justified(const uint8_t *text, size_t text_len,
+                                        const textwrap_options *options, uint8_t *room,
+                                        size_t room_len, size_t *len);
+
+/* Writes a line that is wider than the width cut, so that it ends in the placeholder. */
+TEXTWRAP_CHECKED
+textwrap_status textwrap_shorten(const uint8_t *line, size_t line_len, size_t width,
+                                 const uint8_t *placeholder, size_t placeholder_len, uint8_t *room,
+                                 size_t room_len, size_t *len);
+
+/* Writes so many of the lines at most. If some are left out, the last one ends in the placeholder. */
+TEXTWRAP_CHECKED
+textwrap_status textwrap_shorten_lines(const textwrap_text *lines, size_t lines_len, size_t most,
+                                       size_t width, const uint8_t *placeholder,
+                                       size_t placeholder_len, textwrap_line *places,
+                                       size_t places_len, size_t *count, uint8_t *room,
+                                       size_t room_len, size_t *len);
+
+/* Writes the lines of one text, each with the styles and the link that those before it left open set
+ * anew after its indent, and taken back at its end. The indents are those of the options; nothing else
+ * of them is used. */
+TEXTWRAP_CHECKED
+textwrap_status textwrap_carry_styles(const textwrap_text *lines, size_t lines_len,
+                                      const textwrap_options *options, textwrap_line *places,
+                                      size_t places_len, size_t *count, uint8_t *room,
+                                      size_t room_len, size_t *len);
+
+/* A column of a table: how its texts are wrapped, and where their lines stand in its width. */
+typedef struct {
+    textwrap_options options;
+    uint32_t alignment; /* a textwrap_alignment */
+    uint32_t reserved;  /* 0 */
+} textwrap_column;
+
+/* Writes the rows of a table. The cells are given row after row; those that the last row lacks
+ * have no lines. Without columns there are no rows. */
+TEXTWRAP_CHECKED
+textwrap_status textwrap_table(const textwrap_text *cells, size_t cells_len,
+                               const textwrap_column *columns, size_t columns_len,
+                               const textwrap_gaps *gaps, textwrap_line *rows, size_t rows_len,
+                               size_t *count, uint8_t *room, size_t room_len, size_t *len);
 
 /* ---- Fragments of the caller's own, and the two algorithms */
 

@@ -1,40 +1,13 @@
 //! A text in columns beside one another, where functions of the caller take part. Otherwise the
 //! library makes the rows.
 use crate::core::display_width;
+use crate::custom;
+use crate::display::Gaps;
 use crate::room::{room_for, OutOfMemory};
-use crate::{custom, sys};
 use crate::Options;
 use alloc::string::String;
 use alloc::vec::Vec;
 use core::iter;
-
-/// What stands around the cells of a row.
-pub(crate) struct Gaps<'a> {
-    pub left: &'a str,
-    pub middle: &'a str,
-    pub right: &'a str,
-}
-
-impl Gaps<'_> {
-    pub fn to_sys(&self) -> sys::Gaps {
-        sys::Gaps { left: self.left.into(), middle: self.middle.into(), right: self.right.into() }
-    }
-
-    /// Their bytes in a row.
-    pub fn len(&self, columns: usize) -> usize {
-        self.together(columns, str::len)
-    }
-
-    /// Their columns in a row.
-    fn width(&self, columns: usize) -> usize {
-        self.together(columns, display_width)
-    }
-
-    fn together(&self, columns: usize, measure: impl Fn(&str) -> usize) -> usize {
-        let ends = measure(self.left) + measure(self.right);
-        measure(self.middle).saturating_mul(columns - 1).saturating_add(ends)
-    }
-}
 
 /// The rows.
 pub(crate) fn rows(
@@ -43,14 +16,14 @@ pub(crate) fn rows(
     options: &Options<'_>,
     gaps: &Gaps<'_>,
 ) -> Result<Vec<String>, OutOfMemory> {
-    let inner_width = options.width.saturating_sub(gaps.width(columns));
+    let inner_width = options.width.saturating_sub(gaps.together(columns, display_width));
     let column_width = (inner_width / columns).max(1);
     let left_over = inner_width.saturating_sub(columns.saturating_mul(column_width));
     let lines = custom::wrapped(text, &options.clone().width(column_width))?;
     let count = lines.len().div_ceil(columns);
     let row_len = columns
         .saturating_mul(column_width)
-        .saturating_add(gaps.len(columns))
+        .saturating_add(gaps.together(columns, str::len))
         .saturating_add(left_over);
     let mut rows = room_for(count)?;
     for i in 0..count {

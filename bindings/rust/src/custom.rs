@@ -4,6 +4,7 @@
 //! The functions give the words, the points or the lines. What they give is checked here, and the
 //! library makes the pieces and the lines of it.
 use crate::core::{display_width, Word};
+use crate::display::fallible::justify;
 use crate::fallible::{push, push_line, unfill};
 use crate::room::{listed, room_for, LineText, OutOfMemory, Reported};
 use crate::word_separators::unicode_cuts;
@@ -15,15 +16,38 @@ use alloc::vec::Vec;
 
 /// The filled text.
 pub(crate) fn filled(text: &str, options: &Options<'_>) -> Result<String, OutOfMemory> {
+    joined(text, options, |filled, line, _| push(filled, line))
+}
+
+/// The filled text, with all lines but the last of each paragraph justified after their indents.
+pub(crate) fn justified(text: &str, options: &Options<'_>) -> Result<String, OutOfMemory> {
+    joined(text, options, |filled, line, place| {
+        let indent = indent_of(options, place.is_later);
+        match line.strip_prefix(indent) {
+            Some(rest) if !place.is_last => {
+                let width = options.width.saturating_sub(display_width(indent));
+                push(filled, indent)?;
+                push(filled, &justify(rest, width)?)
+            }
+            // The last line of a paragraph, or one without words, which has no indent.
+            _ => push(filled, line),
+        }
+    })
+}
+
+/// The lines of the text, each of them added in this way, with line endings between them.
+fn joined(
+    text: &str,
+    options: &Options<'_>,
+    mut add: impl FnMut(&mut String, &str, Place) -> Result<(), OutOfMemory>,
+) -> Result<String, OutOfMemory> {
     let mut filled = String::new();
     filled.try_reserve(text.len()).map_err(|_| OutOfMemory)?;
-    let mut is_first = true;
-    each_line(text, options, |line| {
-        if !is_first {
+    each_line(text, options, |line, place| {
+        if place.is_later {
             push(&mut filled, options.line_ending.as_str())?;
         }
-        is_first = false;
-        push(&mut filled, line.as_str())
+        add(&mut filled, line.as_str(), place)
     })?;
     Ok(filled)
 }
@@ -34,7 +58,7 @@ pub(crate) fn wrapped<'t>(
     options: &Options<'_>,
 ) -> Result<Vec<Cow<'t, str>>, OutOfMemory> {
     let mut lines = Vec::new();
-    each_line(text, options, |line| push_line(&mut lines, line))?;
+    each_line(text, options, |line, _| push_line(&mut lines, line))?;
     Ok(lines)
 }
 
@@ -51,27 +75,39 @@ pub(crate) fn refilled(filled_text: &str, options: &Options<'_>) -> Result<Strin
     Ok(refilled)
 }
 
-/// Hands each line of the text on, in order.
+/// Where a line stands.
+struct Place {
+    /// Whether a line stands before it, of its paragraph or of another.
+    is_later: bool,
+    /// Whether it is the last one of its paragraph.
+    is_last: bool,
+}
+
+/// The indent of a line, if it has one.
+fn indent_of<'o>(options: &Options<'o>, is_later: bool) -> &'o str {
+    if is_later { options.subsequent_indent } else { options.initial_indent }
+}
+
+/// Hands each line of the text on, in order, and where it stands.
 fn each_line<'t>(
     text: &'t str,
     options: &Options<'_>,
-    mut hand_on: impl FnMut(LineText<'t, '_>) -> Result<(), OutOfMemory>,
+    mut hand_on: impl FnMut(LineText<'t, '_>, Place) -> Result<(), OutOfMemory>,
 ) -> Result<(), OutOfMemory> {
     let with = With::new(options);
     // Whether a line stands before, of this paragraph or of another.
     let mut is_later = false;
     for paragraph in text.split(options.line_ending.as_str()) {
-        let indent = if is_later { options.subsequent_indent } else { options.initial_indent };
-        if indent.is_empty() && paragraph.len() < options.width {
+        if indent_of(options, is_later).is_empty() && paragraph.len() < options.width {
             let blanks_off = paragraph.trim_end_matches(' ');
             let kept = if options.preserve_trailing_space { paragraph } else { blanks_off };
-            hand_on(LineText::Borrowed(kept))?;
+            hand_on(LineText::Borrowed(kept), Place { is_later, is_last: true })?;
             is_later = true;
             continue;
         }
         let lines = with.lines_of(paragraph, is_later)?;
-        for line in lines.lines(paragraph) {
-            hand_on(line)?;
+        for (i, line) in lines.lines(paragraph).enumerate() {
+            hand_on(line, Place { is_later, is_last: i + 1 == lines.len() })?;
             is_later = true;
         }
     }

@@ -10,7 +10,8 @@
 //! }
 //! assert_eq!(shown("foo bar baz"), Ok(String::from("foo bar\nbaz")));
 //! ```
-use crate::room::{copied, room_for, written, LineText, Reported};
+use crate::display::Gaps;
+use crate::room::{room_for, written, LineText, Reported};
 use crate::{columns, custom, guess, sys};
 use crate::{LineEnding, Options};
 use alloc::borrow::Cow;
@@ -186,14 +187,14 @@ where
 {
     assert!(columns > 0, "there has to be a column");
     let options = total_width_or_options.into();
-    let gaps = columns::Gaps { left: left_gap, middle: middle_gap, right: right_gap };
+    let gaps = Gaps { left: left_gap, middle: middle_gap, right: right_gap };
     if options.has_function() {
         return columns::rows(text, columns, &options, &gaps);
     }
     let with = options.to_sys();
     let around = gaps.to_sys();
     let (rows, bytes) = guess::rows(text, &options, columns);
-    let bytes = bytes.saturating_add(gaps.len(columns).saturating_mul(rows));
+    let bytes = bytes.saturating_add(gaps.together(columns, str::len).saturating_mul(rows));
     // SAFETY: as in `fill`.
     let found = unsafe {
         Reported::by(rows, bytes, |r| {
@@ -204,11 +205,7 @@ where
             )
         })?
     };
-    let mut texts = room_for(found.len())?;
-    for row in found.lines(text) {
-        texts.push(copied(row.as_str())?);
-    }
-    Ok(texts)
+    found.texts()
 }
 
 /// Adds to a text.

@@ -1,5 +1,7 @@
 //! How much room an answer mostly needs, so that one call suffices. Where a guess is too small, the
 //! call says how much it is, and is made again.
+use crate::core::display_width;
+use crate::display::{Column, Gaps};
 use crate::options::Options;
 
 /// How many lines the line feeds of a text make.
@@ -40,6 +42,12 @@ pub(crate) fn built(text: &str, options: &Options<'_>, lines: usize, has_hyphens
     lines_bytes(text, options, lines)
 }
 
+/// The bytes of a filled text with justified lines. The blanks that are added are hardly ever more
+/// than half of its bytes.
+pub(crate) fn justified(text: &str, options: &Options<'_>) -> usize {
+    filled(text, options).saturating_add(text.len() / 2)
+}
+
 /// The bytes of a filled text that is filled again. Its indents are not known, and may be shown
 /// more often.
 pub(crate) fn refilled(text: &str, options: &Options<'_>) -> usize {
@@ -58,4 +66,43 @@ pub(crate) fn rows(text: &str, options: &Options<'_>, columns: usize) -> (usize,
     let rows = wrapped_lines(text, &cell) / columns + 1;
     let bytes = lines_bytes(text, options, rows).saturating_add(rows.saturating_mul(options.width));
     (rows, bytes)
+}
+
+/// The bytes of a line with blanks added up to a width.
+pub(crate) fn widened(line: &str, width: usize) -> usize {
+    width.saturating_sub(display_width(line)).saturating_add(line.len())
+}
+
+/// The bytes of texts together.
+fn bytes_of<S: AsRef<str>>(texts: &[S]) -> usize {
+    texts.iter().map(|text| text.as_ref().len()).fold(0, usize::saturating_add)
+}
+
+/// The bytes of lines of which the last may be cut, and ends in a placeholder. There are no more.
+pub(crate) fn shortened<S: AsRef<str>>(lines: &[S], placeholder: &str) -> usize {
+    bytes_of(lines).saturating_add(placeholder.len())
+}
+
+/// The bytes of lines whose styles are carried on. To set a colour and to take it back takes 23 at
+/// most.
+pub(crate) fn carried<S: AsRef<str>>(lines: &[S]) -> usize {
+    let is_styled = lines.iter().any(|line| line.as_ref().contains('\u{1b}'));
+    let styles = if is_styled { lines.len().saturating_mul(23) } else { 0 };
+    bytes_of(lines).saturating_add(styles)
+}
+
+/// The rows of a table, and their bytes. There is a column.
+pub(crate) fn table<S: AsRef<str>>(
+    cells: &[S],
+    columns: &[Column<'_>],
+    gaps: &Gaps<'_>,
+) -> (usize, usize) {
+    let lines = |(cell, column): (&S, &Column<'_>)| wrapped_lines(cell.as_ref(), &column.options);
+    let heights = cells
+        .chunks(columns.len())
+        .map(|row| row.iter().zip(columns).map(lines).max().unwrap_or(0));
+    let rows = heights.fold(0, usize::saturating_add);
+    let widths = columns.iter().map(|column| column.options.width);
+    let row_len = widths.fold(gaps.together(columns.len(), str::len), usize::saturating_add);
+    (rows, rows.saturating_mul(row_len).saturating_add(bytes_of(cells)))
 }

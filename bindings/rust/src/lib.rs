@@ -46,6 +46,19 @@
 //! assert_eq!(dedent("    foo\n      bar\n"), "foo\n  bar\n");
 //! ```
 //!
+//! # Lines for Display
+//!
+//! The module [`display`] aligns, justifies and shortens lines, carries their styles on from line
+//! to line, and lays texts out in tables:
+//!
+//! ```
+//! use textwrap_proved::display::{align, fill_justified, shorten, Alignment};
+//!
+//! assert_eq!(align("foo", 6, Alignment::Right), "   foo");
+//! assert_eq!(fill_justified("foo bar baz", 10), "foo    bar\nbaz");
+//! assert_eq!(shorten("foo bar baz", 10, " .."), "foo bar ..");
+//! ```
+//!
 //! # Differences from `textwrap`
 //!
 //! - Unicode line breaks are those of UAX #14 at Unicode 15.0, from which the original departs in
@@ -57,7 +70,7 @@
 //! - What a `Custom` function gives is checked, and a wrong answer panics with a message that says
 //!   what is wrong.
 //! - Of divisions that cost the same, the one whose lines start earliest is taken.
-//! - [`Options::even_paragraphs`] and the module [`fallible`] are new.
+//! - [`Options::even_paragraphs`] and the modules [`display`] and [`fallible`] are new.
 //!
 //! `docs/DIFFERENCES.md` of the repository has all of them, with those of the library itself.
 //!
@@ -73,7 +86,7 @@
 //! # Memory
 //!
 //! If memory runs out, a call ends the program as the standard library does. Its twin in
-//! [`fallible`] returns [`OutOfMemory`] in place of that.
+//! [`fallible`], or in [`display::fallible`], returns [`OutOfMemory`] in place of that.
 #![no_std]
 #![deny(missing_docs)]
 #![deny(missing_debug_implementations)]
@@ -89,6 +102,7 @@ use alloc::vec::Vec;
 mod columns;
 pub mod core;
 mod custom;
+pub mod display;
 pub mod fallible;
 mod guess;
 // An archive that is installed for C has its heap in it.
@@ -98,6 +112,7 @@ mod line_ending;
 mod options;
 mod room;
 mod sys;
+mod tables;
 pub mod word_separators;
 pub mod word_splitters;
 pub mod wrap_algorithms;

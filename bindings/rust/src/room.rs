@@ -195,6 +195,15 @@ impl Reported {
         self.places.len()
     }
 
+    /// The lines of a call whose lines are all texts of their own.
+    pub fn texts(&self) -> Result<Vec<String>, OutOfMemory> {
+        let mut texts = room_for(self.len())?;
+        for line in self.lines("") {
+            texts.push(copied(line.as_str())?);
+        }
+        Ok(texts)
+    }
+
     /// The lines of this text.
     pub fn lines<'t, 'r>(&'r self, text: &'t str) -> impl Iterator<Item = LineText<'t, 'r>> {
         self.places.iter().map(move |line| {

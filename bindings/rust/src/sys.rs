@@ -7,6 +7,9 @@ pub const TOO_SMALL: u32 = 3;
 pub const OVERFLOW: u32 = 5;
 pub const WRONG_PLACES: u32 = 6;
 pub const VERSION: u32 = 1;
+pub const LEFT: u32 = 0;
+pub const RIGHT: u32 = 1;
+pub const CENTRE: u32 = 2;
 
 #[repr(C)]
 #[derive(Clone, Copy)]
@@ -55,6 +58,13 @@ pub struct Gaps {
     pub left: Text,
     pub middle: Text,
     pub right: Text,
+}
+
+#[repr(C)]
+pub struct Column {
+    pub options: Options,
+    pub alignment: u32,
+    pub reserved: u32,
 }
 
 #[repr(C)]
@@ -167,6 +177,86 @@ extern "C" {
     ) -> u32;
 
     pub fn textwrap_fill_inplace(text: *mut u8, text_len: usize, width: usize) -> u32;
+
+    pub fn textwrap_align(
+        line: *const u8,
+        line_len: usize,
+        width: usize,
+        alignment: u32,
+        room: *mut u8,
+        room_len: usize,
+        len: *mut usize,
+    ) -> u32;
+
+    pub fn textwrap_justify(
+        line: *const u8,
+        line_len: usize,
+        width: usize,
+        room: *mut u8,
+        room_len: usize,
+        len: *mut usize,
+    ) -> u32;
+
+    pub fn textwrap_fill_justified(
+        text: *const u8,
+        text_len: usize,
+        options: *const Options,
+        room: *mut u8,
+        room_len: usize,
+        len: *mut usize,
+    ) -> u32;
+
+    pub fn textwrap_shorten(
+        line: *const u8,
+        line_len: usize,
+        width: usize,
+        placeholder: *const u8,
+        placeholder_len: usize,
+        room: *mut u8,
+        room_len: usize,
+        len: *mut usize,
+    ) -> u32;
+
+    pub fn textwrap_shorten_lines(
+        lines: *const Text,
+        lines_len: usize,
+        most: usize,
+        width: usize,
+        placeholder: *const u8,
+        placeholder_len: usize,
+        places: *mut Line,
+        places_len: usize,
+        count: *mut usize,
+        room: *mut u8,
+        room_len: usize,
+        len: *mut usize,
+    ) -> u32;
+
+    pub fn textwrap_carry_styles(
+        lines: *const Text,
+        lines_len: usize,
+        options: *const Options,
+        places: *mut Line,
+        places_len: usize,
+        count: *mut usize,
+        room: *mut u8,
+        room_len: usize,
+        len: *mut usize,
+    ) -> u32;
+
+    pub fn textwrap_table(
+        cells: *const Text,
+        cells_len: usize,
+        columns: *const Column,
+        columns_len: usize,
+        gaps: *const Gaps,
+        rows: *mut Line,
+        rows_len: usize,
+        count: *mut usize,
+        room: *mut u8,
+        room_len: usize,
+        len: *mut usize,
+    ) -> u32;
 
     pub fn textwrap_wrap_first_fit(
         fragments: *const Fragment,

@@ -1,8 +1,10 @@
 pub mod GroupLemmas
 pub mod Lengths
 pub mod LineLemmas
+pub mod LineListLemmas
 pub mod PieceLemmas
 pub mod PlaceLemmas
 pub mod RoomLemmas
 pub mod RowLemmas
 pub mod StepLemmas
+pub mod TextLemmas

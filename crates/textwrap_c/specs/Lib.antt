@@ -1,11 +1,13 @@
 pub mod Bounds
 pub mod Columns
+pub mod Display
 pub mod Fragments
 pub mod Options
 pub mod Pieces
 pub mod Refilling
 pub mod Room
 pub mod Status
+pub mod Texts
 pub mod Steps
 pub mod Reported
 pub mod Wrapping

@@ -8,9 +8,11 @@
 pub mod bounds;
 pub mod breaks;
 pub mod columns;
+pub mod display;
 pub mod filling;
 pub mod fragments;
 pub mod indentation;
+pub mod line_lists;
 pub mod options;
 pub mod pieces;
 pub mod refilling;
@@ -20,6 +22,7 @@ pub mod status;
 pub mod steps;
 #[cfg(test)]
 mod tests;
+pub mod texts;
 pub mod version;
 pub mod widths;
 pub mod wrapping;

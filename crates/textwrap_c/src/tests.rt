@@ -10,6 +10,7 @@ use crate::wrapping::{TextwrapLine, textwrap_wrap};
 use std::alloc::Global;
 
 mod bounds;
+mod display;
 mod fragments;
 mod large;
 mod pieces;

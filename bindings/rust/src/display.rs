@@ -1,0 +1,264 @@
+//! Lines for display: aligned, justified and shortened, with styles carried on, and in tables.
+//!
+//! The calls take lines as [`wrap()`](crate::wrap()) returns them, or any others. Widths are in
+//! columns, as [`display_width`](crate::core::display_width()) measures them. The original has no
+//! such calls.
+//!
+//! ```
+//! use textwrap_proved::display::{align, Alignment};
+//! use textwrap_proved::wrap;
+//!
+//! let lines = wrap("textwrap: a small library for wrapping text.", 18);
+//! let centred: Vec<String> =
+//!     lines.iter().map(|line| align(line, 18, Alignment::Centre)).collect();
+//! assert_eq!(centred, ["   textwrap: a    ", "small library for ", "  wrapping text.  "]);
+//! ```
+//!
+//! If memory runs out, a call ends the program, and its twin in [`fallible`] returns
+//! [`OutOfMemory`](crate::OutOfMemory).
+use crate::room::or_abort;
+use crate::sys;
+use crate::Options;
+use alloc::string::String;
+use alloc::vec::Vec;
+
+pub mod fallible;
+
+/// Where a line stands in its width.
+#[derive(Clone, Copy, Debug, PartialEq, Eq)]
+pub enum Alignment {
+    /// At the left: the blanks follow it.
+    Left,
+    /// At the right: the blanks stand before it.
+    Right,
+    /// In the middle. An odd blank follows it.
+    Centre,
+}
+
+impl Alignment {
+    fn to_sys(self) -> u32 {
+        match self {
+            Alignment::Left => sys::LEFT,
+            Alignment::Right => sys::RIGHT,
+            Alignment::Centre => sys::CENTRE,
+        }
+    }
+}
+
+/// A column of a [`table`]: how its texts are wrapped, and where their lines stand in the width of
+/// the options.
+#[derive(Clone, Debug)]
+pub struct Column<'a> {
+    /// How its texts are wrapped.
+    pub options: Options<'a>,
+    /// Where their lines stand.
+    pub alignment: Alignment,
+}
+
+impl Column<'_> {
+    /// The same as C has it, without the functions of the caller. It lends the indents.
+    fn to_sys(&self) -> sys::Column {
+        let Column { options, alignment } = self;
+        sys::Column { options: options.to_sys(), alignment: alignment.to_sys(), reserved: 0 }
+    }
+}
+
+/// What stands around the cells of a row.
+#[derive(Clone, Copy, Debug, Default, PartialEq, Eq)]
+pub struct Gaps<'a> {
+    /// Before the first cell.
+    pub left: &'a str,
+    /// Between each two cells.
+    pub middle: &'a str,
+    /// After the last cell.
+    pub right: &'a str,
+}
+
+impl Gaps<'_> {
+    pub(crate) fn to_sys(self) -> sys::Gaps {
+        sys::Gaps { left: self.left.into(), middle: self.middle.into(), right: self.right.into() }
+    }
+
+    /// What they take together in a row of so many columns, of which there is at least one.
+    pub(crate) fn together(&self, columns: usize, measure: impl Fn(&str) -> usize) -> usize {
+        let ends = measure(self.left) + measure(self.right);
+        measure(self.middle).saturating_mul(columns - 1).saturating_add(ends)
+    }
+}
+
+/// The line with blanks up to a width. A line that is as wide or wider stays as it is.
+///
+/// # Examples
+///
+/// ```
+/// use textwrap_proved::display::{align, Alignment};
+///
+/// assert_eq!(align("foo", 6, Alignment::Left), "foo   ");
+/// assert_eq!(align("foo", 6, Alignment::Right), "   foo");
+/// assert_eq!(align("foo", 6, Alignment::Centre), " foo  ");
+/// assert_eq!(align("你好", 6, Alignment::Right), "  你好");
+/// assert_eq!(align("foobar!", 6, Alignment::Right), "foobar!");
+/// ```
+pub fn align(line: &str, width: usize, alignment: Alignment) -> String {
+    or_abort(fallible::align(line, width, alignment))
+}
+
+/// The line with its gaps between words widened, so that it is as wide as the width.
+///
+/// A gap is the blanks (U+0020) between two words. Each gets as many blanks more, and the first
+/// ones get one more of what is left over. A line without gaps stays as it is, and so does one that
+/// is as wide or wider.
+///
+/// # Examples
+///
+/// ```
+/// use textwrap_proved::display::justify;
+///
+/// assert_eq!(justify("a few words", 14), "a   few  words");
+/// assert_eq!(justify("  a few words", 15), "  a  few  words");
+/// assert_eq!(justify("words", 14), "words");
+/// ```
+pub fn justify(line: &str, width: usize) -> String {
+    or_abort(fallible::justify(line, width))
+}
+
+/// The text, filled as by [`fill()`](crate::fill()), with all lines but the last of each paragraph
+/// justified.
+///
+/// A line is [justified](justify) after its indent, in what that leaves of the width. The indent
+/// stays as it is.
+///
+/// # Panics
+///
+/// If a function of the caller, in the options, gives what it must not.
+///
+/// # Examples
+///
+/// ```
+/// use textwrap_proved::display::fill_justified;
+/// use textwrap_proved::Options;
+///
+/// let text = "Memory safety without garbage collection.";
+/// assert_eq!(fill_justified(text, 15), "Memory   safety\nwithout garbage\ncollection.");
+///
+/// let options = Options::new(18).initial_indent("- ").subsequent_indent("  ");
+/// assert_eq!(
+///     fill_justified(text, &options),
+///     "- Memory    safety\n  without  garbage\n  collection."
+/// );
+/// ```
+pub fn fill_justified<'a, Opt>(text: &str, width_or_options: Opt) -> String
+where
+    Opt: Into<Options<'a>>,
+{
+    or_abort(fallible::fill_justified(text, width_or_options))
+}
+
+/// The line, cut so that it ends in the placeholder where it is wider than the width.
+///
+/// It is cut before a blank that follows no blank, as late as leaves room for the placeholder. If
+/// no place does, the placeholder stands alone, even where it is wider than the width. A line that
+/// is not wider stays as it is.
+///
+/// # Examples
+///
+/// ```
+/// use textwrap_proved::display::shorten;
+///
+/// assert_eq!(shorten("Hello world", 11, " ..."), "Hello world");
+/// assert_eq!(shorten("Hello world", 10, " ..."), "Hello ...");
+/// assert_eq!(shorten("Hello world", 8, " ..."), " ...");
+/// ```
+pub fn shorten(line: &str, width: usize, placeholder: &str) -> String {
+    or_abort(fallible::shorten(line, width, placeholder))
+}
+
+/// The lines, at most so many.
+///
+/// Where some are left out, the last one that is not ends in the placeholder: it is cut as
+/// [`shorten`] cuts a line that is too wide, or stands whole before the placeholder where both have
+/// room. The other lines stay as they are.
+///
+/// # Examples
+///
+/// ```
+/// use textwrap_proved::display::shorten_lines;
+/// use textwrap_proved::wrap;
+///
+/// let lines = wrap("Memory safety without garbage collection.", 15);
+/// assert_eq!(lines, ["Memory safety", "without garbage", "collection."]);
+/// assert_eq!(shorten_lines(&lines, 2, 15, " [..]"), ["Memory safety", "without [..]"]);
+/// assert_eq!(shorten_lines(&lines, 1, 15, ".."), ["Memory safety.."]);
+/// assert_eq!(shorten_lines(&lines, 3, 15, " [..]"), lines);
+/// ```
+pub fn shorten_lines<S>(lines: &[S], most: usize, width: usize, placeholder: &str) -> Vec<String>
+where
+    S: AsRef<str>,
+{
+    or_abort(fallible::shorten_lines(lines, most, width, placeholder))
+}
+
+/// The lines of one text, of which each can be shown by itself in its styles.
+///
+/// What lines before it left open is set anew in each line: first the link, by the sequence OSC 8
+/// that opened it, and then the styles, by the sequences `ESC [ .. m` since the last reset, which
+/// has no number but 0. They stand after the indent that the options name for the line, if it
+/// begins with that; no more of the options is used. What is open at the end of a line is taken
+/// back there. A line that needs neither stays as it is.
+///
+/// # Examples
+///
+/// ```
+/// use textwrap_proved::display::carry_styles;
+/// use textwrap_proved::{wrap, Options};
+///
+/// let options = Options::new(8).subsequent_indent("> ");
+/// let lines = wrap("one \u{1b}[1mtwo three\u{1b}[0m", &options);
+/// assert_eq!(lines, ["one \u{1b}[1mtwo", "> three\u{1b}[0m"]);
+/// assert_eq!(
+///     carry_styles(&lines, &options),
+///     ["one \u{1b}[1mtwo\u{1b}[0m", "> \u{1b}[1mthree\u{1b}[0m"]
+/// );
+/// ```
+pub fn carry_styles<'a, S, Opt>(lines: &[S], width_or_options: Opt) -> Vec<String>
+where
+    S: AsRef<str>,
+    Opt: Into<Options<'a>>,
+{
+    or_abort(fallible::carry_styles(lines, width_or_options))
+}
+
+/// The rows of a table, whose cells are given row after row.
+///
+/// Each cell is wrapped by the options of its column, and its lines are [aligned](align) in the
+/// width of these. A row of cells becomes as many rows of text as its highest cell has lines. The
+/// cells that a last row lacks have no lines. Without columns there are no rows.
+///
+/// # Panics
+///
+/// If a function of the caller, in the options of a column, gives what it must not.
+///
+/// # Examples
+///
+/// ```
+/// use textwrap_proved::display::{table, Alignment, Column, Gaps};
+/// use textwrap_proved::Options;
+///
+/// let cells = ["green apples", "1.20", "pears", "15.00"];
+/// let columns = [
+///     Column { options: Options::new(8), alignment: Alignment::Left },
+///     Column { options: Options::new(5), alignment: Alignment::Right },
+/// ];
+/// let gaps = Gaps { left: "| ", middle: " | ", right: " |" };
+/// assert_eq!(table(&cells, &columns, &gaps), [
+///     "| green    |  1.20 |",
+///     "| apples   |       |",
+///     "| pears    | 15.00 |",
+/// ]);
+/// ```
+pub fn table<S>(cells: &[S], columns: &[Column<'_>], gaps: &Gaps<'_>) -> Vec<String>
+where
+    S: AsRef<str>,
+{
+    or_abort(fallible::table(cells, columns, gaps))
+}

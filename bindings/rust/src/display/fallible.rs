@@ -1,0 +1,181 @@
+//! The calls for display, with running out of memory as an error.
+//!
+//! What a function of the caller allocates, which is a part of the options, is its own affair.
+//!
+//! ```
+//! use textwrap_proved::display::{fallible, Alignment};
+//! use textwrap_proved::OutOfMemory;
+//!
+//! assert_eq!(fallible::align("foo", 5, Alignment::Right), Ok(String::from("  foo")));
+//! assert_eq!(fallible::align("foo", usize::MAX, Alignment::Right), Err(OutOfMemory));
+//! ```
+use super::{Alignment, Column, Gaps};
+use crate::room::{room_for, written, Reported};
+use crate::{custom, guess, sys, tables};
+use crate::Options;
+use alloc::string::String;
+use alloc::vec::Vec;
+
+pub use crate::room::OutOfMemory;
+
+/// [`crate::display::align`].
+///
+/// # Errors
+/// [`OutOfMemory`] if memory runs out.
+pub fn align(line: &str, width: usize, alignment: Alignment) -> Result<String, OutOfMemory> {
+    let alignment = alignment.to_sys();
+    // SAFETY: each pointer is that of a text, of a list or of room with its length, or of a value;
+    // what is written to is borrowed by nothing else, and the call writes what it reports, in UTF-8.
+    unsafe {
+        written(guess::widened(line, width), |room, room_len, len| {
+            let (at, line_len) = (line.as_ptr(), line.len());
+            sys::textwrap_align(at, line_len, width, alignment, room, room_len, len)
+        })
+    }
+}
+
+/// [`crate::display::justify`].
+///
+/// # Errors
+/// [`OutOfMemory`] if memory runs out.
+pub fn justify(line: &str, width: usize) -> Result<String, OutOfMemory> {
+    // SAFETY: as in `align`.
+    unsafe {
+        written(guess::widened(line, width), |room, room_len, len| {
+            sys::textwrap_justify(line.as_ptr(), line.len(), width, room, room_len, len)
+        })
+    }
+}
+
+/// [`crate::display::fill_justified`].
+///
+/// # Errors
+/// [`OutOfMemory`] if memory runs out.
+pub fn fill_justified<'a, Opt>(text: &str, width_or_options: Opt) -> Result<String, OutOfMemory>
+where
+    Opt: Into<Options<'a>>,
+{
+    let options = width_or_options.into();
+    if options.has_function() {
+        return custom::justified(text, &options);
+    }
+    let with = options.to_sys();
+    // SAFETY: as in `align`.
+    unsafe {
+        written(guess::justified(text, &options), |room, room_len, len| {
+            sys::textwrap_fill_justified(text.as_ptr(), text.len(), &with, room, room_len, len)
+        })
+    }
+}
+
+/// [`crate::display::shorten`].
+///
+/// # Errors
+/// [`OutOfMemory`] if memory runs out.
+pub fn shorten(line: &str, width: usize, placeholder: &str) -> Result<String, OutOfMemory> {
+    // SAFETY: as in `align`.
+    unsafe {
+        written(guess::shortened(&[line], placeholder), |room, room_len, len| {
+            sys::textwrap_shorten(
+                line.as_ptr(), line.len(), width, placeholder.as_ptr(), placeholder.len(), room,
+                room_len, len,
+            )
+        })
+    }
+}
+
+/// [`crate::display::shorten_lines`].
+///
+/// # Errors
+/// [`OutOfMemory`] if memory runs out.
+pub fn shorten_lines<S>(
+    lines: &[S],
+    most: usize,
+    width: usize,
+    placeholder: &str,
+) -> Result<Vec<String>, OutOfMemory>
+where
+    S: AsRef<str>,
+{
+    let texts = to_sys(lines)?;
+    let kept = &lines[..most.min(lines.len())];
+    // SAFETY: as in `align`.
+    let found = unsafe {
+        Reported::by(kept.len(), guess::shortened(kept, placeholder), |r| {
+            sys::textwrap_shorten_lines(
+                texts.as_ptr(), texts.len(), most, width, placeholder.as_ptr(), placeholder.len(),
+                r.lines, r.lines_len, &mut r.count, r.room, r.room_len, &mut r.len,
+            )
+        })?
+    };
+    found.texts()
+}
+
+/// [`crate::display::carry_styles`].
+///
+/// # Errors
+/// [`OutOfMemory`] if memory runs out.
+pub fn carry_styles<'a, S, Opt>(
+    lines: &[S],
+    width_or_options: Opt,
+) -> Result<Vec<String>, OutOfMemory>
+where
+    S: AsRef<str>,
+    Opt: Into<Options<'a>>,
+{
+    let texts = to_sys(lines)?;
+    let options = width_or_options.into();
+    let with = options.to_sys();
+    // SAFETY: as in `align`.
+    let found = unsafe {
+        Reported::by(lines.len(), guess::carried(lines), |r| {
+            sys::textwrap_carry_styles(
+                texts.as_ptr(), texts.len(), &with, r.lines, r.lines_len, &mut r.count, r.room,
+                r.room_len, &mut r.len,
+            )
+        })?
+    };
+    found.texts()
+}
+
+/// [`crate::display::table`].
+///
+/// # Errors
+/// [`OutOfMemory`] if memory runs out.
+pub fn table<S>(
+    cells: &[S],
+    columns: &[Column<'_>],
+    gaps: &Gaps<'_>,
+) -> Result<Vec<String>, OutOfMemory>
+where
+    S: AsRef<str>,
+{
+    if columns.is_empty() {
+        return Ok(Vec::new());
+    }
+    if columns.iter().any(|column| column.options.has_function()) {
+        return tables::rows(cells, columns, gaps);
+    }
+    let texts = to_sys(cells)?;
+    let mut with = room_for(columns.len())?;
+    with.extend(columns.iter().map(Column::to_sys));
+    let around = gaps.to_sys();
+    let (rows, bytes) = guess::table(cells, columns, gaps);
+    // SAFETY: as in `align`.
+    let found = unsafe {
+        Reported::by(rows, bytes, |r| {
+            sys::textwrap_table(
+                texts.as_ptr(), texts.len(), with.as_ptr(), with.len(), &around, r.lines,
+                r.lines_len, &mut r.count, r.room, r.room_len, &mut r.len,
+            )
+        })?
+    };
+    found.texts()
+}
+
+/// The texts as C has them.
+fn to_sys<S: AsRef<str>>(texts: &[S]) -> Result<Vec<sys::Text>, OutOfMemory> {
+    let mut list = room_for(texts.len())?;
+    list.extend(texts.iter().map(|text| sys::Text::from(text.as_ref())));
+    Ok(list)
+}

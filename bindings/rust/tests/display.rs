@@ -1,0 +1,343 @@
+//! Lines for display: each call on worked examples, and with functions of the caller.
+use textwrap_proved::core::Word;
+use textwrap_proved::display::{
+    align, carry_styles, fallible, fill_justified, justify, shorten, shorten_lines, table,
+    Alignment, Column, Gaps,
+};
+use textwrap_proved::{
+    wrap, LineEnding, Options, OutOfMemory, WordSeparator, WordSplitter, WrapAlgorithm,
+};
+
+const HAMLET: &str = "To be, or not to be: that is the question";
+const BOLD: &str = "\u{1b}[1m";
+const RED: &str = "\u{1b}[31m";
+const RESET: &str = "\u{1b}[0m";
+const LINK: &str = "\u{1b}]8;;http://example.com\u{1b}\\";
+const LINK_END: &str = "\u{1b}]8;;\u{1b}\\";
+
+fn first_fit<'a>(width: usize) -> Options<'a> {
+    Options::new(width).wrap_algorithm(WrapAlgorithm::FirstFit)
+}
+
+/// By default words end at Unicode line breaks, and else at blanks, where the library does it all.
+fn at_breaks_and_at_blanks<'a>(options: &Options<'a>) -> [Options<'a>; 2] {
+    [WordSeparator::UnicodeBreakProperties, WordSeparator::AsciiSpace]
+        .map(|separator| options.clone().word_separator(separator))
+}
+
+// ---- Lines
+
+#[test]
+fn lines_are_aligned_and_justified() {
+    for (line, width, left, right, centre, justified) in [
+        ("ab", 5, "ab   ", "   ab", " ab  ", "ab"),
+        ("a few words", 12, "a few words ", " a few words", "a few words ", "a  few words"),
+        ("  a b c", 9, "  a b c  ", "    a b c", "   a b c ", "  a  b  c"),
+        ("日 本", 7, "日 本  ", "  日 本", " 日 本 ", "日   本"),
+        ("a b", 3, "a b", "a b", "a b", "a b"),
+        ("a b", 0, "a b", "a b", "a b", "a b"),
+        ("", 3, "   ", "   ", "   ", ""),
+        ("\u{1b}[1ma b", 5, "\u{1b}[1ma b  ", "  \u{1b}[1ma b", " \u{1b}[1ma b ", "\u{1b}[1ma   b"),
+    ] {
+        assert_eq!(align(line, width, Alignment::Left), left);
+        assert_eq!(align(line, width, Alignment::Right), right);
+        assert_eq!(align(line, width, Alignment::Centre), centre);
+        assert_eq!(justify(line, width), justified);
+    }
+    assert_eq!(justify("words", usize::MAX), "words");
+}
+
+#[test]
+fn lines_are_shortened() {
+    for (line, width, placeholder, short) in [
+        ("Hello world", 10, "...", "Hello..."),
+        ("Hello world", 11, "...", "Hello world"),
+        ("Hello  world!", 12, " [...]", "Hello [...]"),
+        ("one two   ", 9, "..", "one two.."),
+        ("three two", 6, "..", ".."),
+        ("three two", 1, "..", ".."),
+        ("three two", 5, "", "three"),
+        ("日本 語", 6, "…", "日本…"),
+        ("", 0, "..", ""),
+    ] {
+        assert_eq!(shorten(line, width, placeholder), short);
+    }
+}
+
+#[test]
+fn lists_of_lines_are_shortened() {
+    let lines = ["one", "two three", "four"];
+    assert_eq!(shorten_lines(&lines, 2, 8, " .."), ["one", "two .."]);
+    assert_eq!(shorten_lines(&lines, 1, 8, " .."), ["one .."]);
+    assert_eq!(shorten_lines(&lines, 1, 5, " .."), [" .."]);
+    assert_eq!(shorten_lines(&lines, 3, 8, " .."), lines);
+    assert_eq!(shorten_lines(&lines, usize::MAX, 0, " .."), lines);
+    assert!(shorten_lines(&lines, 0, 8, " ..").is_empty());
+    assert!(shorten_lines::<&str>(&[], 2, 8, " ..").is_empty());
+    let texts = vec![String::from("foo bar"), String::from("baz")];
+    assert_eq!(shorten_lines(&texts, 1, 7, ".."), ["foo.."]);
+    assert_eq!(shorten_lines(&wrap("foo bar baz", 7), 1, 9, ".."), ["foo bar.."]);
+}
+
+#[test]
+fn styles_are_carried() {
+    let carried = |lines: [String; 2]| carry_styles(&lines, 10);
+    let plain = [String::from("a"), String::from("b")];
+    assert_eq!(carried(plain.clone()), plain);
+    assert_eq!(
+        carried([format!("a {BOLD}b"), "c".into()]),
+        [format!("a {BOLD}b{RESET}"), format!("{BOLD}c{RESET}")]
+    );
+    assert_eq!(
+        carried([format!("{BOLD}{RED}a"), "b\u{1b}[m c".into()]),
+        [format!("{BOLD}{RED}a{RESET}"), format!("{BOLD}{RED}b\u{1b}[m c")]
+    );
+    assert_eq!(
+        carried([format!("{LINK}a"), format!("b{LINK_END} c")]),
+        [format!("{LINK}a{LINK_END}"), format!("{LINK}b{LINK_END} c")]
+    );
+    // The link is set before the styles, and taken back after them.
+    assert_eq!(
+        carried([format!("{BOLD}{LINK}a"), "b".into()]),
+        [format!("{BOLD}{LINK}a{RESET}{LINK_END}"), format!("{LINK}{BOLD}b{RESET}{LINK_END}")]
+    );
+}
+
+#[test]
+fn styles_are_carried_after_indents() {
+    let options = Options::new(7).initial_indent("* ").subsequent_indent("> ");
+    let lines = wrap("\u{1b}[1mfoo bar\nbaz", &options);
+    assert_eq!(lines, ["* \u{1b}[1mfoo", "> bar", "> baz"]);
+    assert_eq!(carry_styles(&lines, &options), [
+        format!("* {BOLD}foo{RESET}"),
+        format!("> {BOLD}bar{RESET}"),
+        format!("> {BOLD}baz{RESET}"),
+    ]);
+    // A line that does not begin with its indent.
+    assert_eq!(carry_styles(&[BOLD, "a"], &options)[1], format!("{BOLD}a{RESET}"));
+    assert!(carry_styles::<&str, _>(&[], 7).is_empty());
+    // More than the room that is made at first.
+    let lines = [RED.repeat(20), "a".repeat(9), String::new()];
+    assert_eq!(carry_styles(&lines, 7)[2], RED.repeat(20) + RESET);
+}
+
+// ---- Texts
+
+#[test]
+fn texts_are_filled_and_justified() {
+    let justified = "To     be,\nor  not to\nbe:   that\nis     the\nquestion";
+    assert_eq!(fill_justified(HAMLET, 10), justified);
+    for options in at_breaks_and_at_blanks(&Options::new(10)) {
+        assert_eq!(fill_justified(HAMLET, &options), justified);
+        // The last line of each paragraph stays, and so does a line without gaps.
+        assert_eq!(fill_justified("a b\n\nfoobars foo bar", &options), "a b\n\nfoobars\nfoo bar");
+        assert_eq!(fill_justified("", &options), "");
+    }
+    for options in at_breaks_and_at_blanks(&first_fit(12)) {
+        let filled = "To   be,  or\nnot  to  be:\nthat  is the\nquestion";
+        assert_eq!(fill_justified(HAMLET, options), filled);
+    }
+}
+
+#[test]
+fn indents_are_not_justified() {
+    let indented = first_fit(12)
+        .initial_indent("- - ")
+        .subsequent_indent("  ")
+        .line_ending(LineEnding::CRLF);
+    let text = "foo ba qu\r\na b foobar";
+    for options in at_breaks_and_at_blanks(&indented) {
+        // The first line of the later paragraph is divided at 8 columns, and justified in the 10
+        // that its indent leaves.
+        let filled = "- - foo   ba\r\n  qu\r\n  a        b\r\n  foobar";
+        assert_eq!(fill_justified(text, &options), filled);
+        let even = options.even_paragraphs(true);
+        assert_eq!(fill_justified(text, &even), "- - foo   ba\r\n  qu\r\n  a b foobar");
+    }
+}
+
+#[test]
+fn blanks_at_line_ends_are_no_gaps() {
+    for options in at_breaks_and_at_blanks(&first_fit(6).preserve_trailing_space(true)) {
+        assert_eq!(fill_justified("a b cdef", options), "a   b \ncdef");
+    }
+}
+
+#[test]
+fn lines_that_end_at_unicode_breaks_are_justified() {
+    let [at_breaks, at_blanks] = at_breaks_and_at_blanks(&first_fit(8));
+    assert_eq!(fill_justified("日 本語これは", at_breaks), "日  本語\nこれは");
+    assert_eq!(fill_justified("日 本語これは", at_blanks), "日\n本語これ\nは");
+}
+
+// ---- Tables
+
+/// Two columns, the first of 4 columns at the left, and the second of 6 at the right.
+fn two_columns<'a>(separator: WordSeparator) -> [Column<'a>; 2] {
+    [(4, Alignment::Left), (6, Alignment::Right)].map(|(width, alignment)| Column {
+        options: first_fit(width).word_separator(separator),
+        alignment,
+    })
+}
+
+const AROUND: Gaps = Gaps { left: "[ ", middle: " | ", right: " ]" };
+
+#[test]
+fn tables_are_laid_out() {
+    for separator in [WordSeparator::UnicodeBreakProperties, WordSeparator::AsciiSpace] {
+        let columns = two_columns(separator);
+        assert_eq!(table(&["one two", "1.50", "three"], &columns, &AROUND), [
+            "[ one  |   1.50 ]",
+            "[ two  |        ]",
+            "[ thre |        ]",
+            "[ e    |        ]",
+        ]);
+        assert_eq!(table(&["日本", "é"], &columns, &Gaps::default()), ["日本     é"]);
+        assert_eq!(table(&["", ""], &columns, &AROUND), ["[      |        ]"]);
+        assert!(table::<&str>(&[], &columns, &AROUND).is_empty());
+        assert!(table(&["a"], &[], &AROUND).is_empty());
+    }
+}
+
+#[test]
+fn columns_have_options_of_their_own() {
+    for separator in [WordSeparator::UnicodeBreakProperties, WordSeparator::AsciiSpace] {
+        let [mut left, mut right] = two_columns(separator);
+        left.alignment = Alignment::Centre;
+        left.options = left.options.initial_indent("*").break_words(false);
+        right.options = right.options.subsequent_indent("> ");
+        let rows = table(&[String::from("ab foobar"), "one two".into()], &[left, right], &AROUND);
+        // A line that is wider than its column is not cut.
+        assert_eq!(rows, ["[ *ab  |    one ]", "[ foobar |  > two ]"]);
+    }
+}
+
+#[test]
+fn one_column_with_breaks_is_enough() {
+    let [at_breaks, _] = two_columns(WordSeparator::UnicodeBreakProperties);
+    let [_, at_blanks] = two_columns(WordSeparator::AsciiSpace);
+    let rows = table(&["a 日本", "ab 日本語"], &[at_breaks, at_blanks], &AROUND);
+    assert_eq!(rows, ["[ a 日 |     ab ]", "[ 本   | 日本語 ]"]);
+}
+
+// ---- Functions of the caller
+
+fn after_commas(line: &str) -> Box<dyn Iterator<Item = Word<'_>> + '_> {
+    Box::new(line.split_inclusive(',').map(Word::from))
+}
+
+#[test]
+fn functions_of_the_caller_take_part() {
+    let by_commas = first_fit(9).word_separator(WordSeparator::Custom(after_commas));
+    assert_eq!(fill_justified("a b,c d e,f", &by_commas), "a      b,\nc d e,f");
+    let in_the_middle = WordSplitter::Custom(|word| vec![word.len() / 2]);
+    let split = first_fit(8).word_splitter(in_the_middle);
+    assert_eq!(fill_justified("an foobar", &split), "an  foo-\nbar");
+    let columns =
+        [by_commas, split].map(|options| Column { options, alignment: Alignment::Right });
+    assert_eq!(table(&["a b,c d e,f", "an foobar"], &columns, &AROUND), [
+        "[      a b, |  an foo- ]",
+        "[   c d e,f |      bar ]",
+    ]);
+}
+
+#[test]
+fn lines_of_an_algorithm_of_the_callers_own() {
+    let lines = WrapAlgorithm::Custom(|words, _| vec![&words[..2], &words[2..2], &words[2..]]);
+    let options = Options::new(9).subsequent_indent("> ").wrap_algorithm(lines);
+    // A line without words has no indent.
+    assert_eq!(fill_justified("one two three", &options), "one   two\n\n> three");
+    let none = Options::new(3).wrap_algorithm(WrapAlgorithm::Custom(|_, _| vec![]));
+    assert_eq!(fill_justified("foo bar\nx", &none), "x");
+    let column = Column { options: none, alignment: Alignment::Left };
+    assert_eq!(table(&["foo bar", "x"], &[column], &AROUND), ["[ x   ]"]);
+}
+
+#[test]
+#[should_panic(expected = "words of a WordSeparator::Custom have to tile the line")]
+fn a_separator_must_not_skip_in_a_table() {
+    fn skipping(line: &str) -> Box<dyn Iterator<Item = Word<'_>> + '_> {
+        Box::new(line.split(',').map(Word::from))
+    }
+    let options = Options::new(5).word_separator(WordSeparator::Custom(skipping));
+    table(&["foo,bar"], &[Column { options, alignment: Alignment::Left }], &AROUND);
+}
+
+#[test]
+#[should_panic(expected = "points of a WordSplitter::Custom must not decrease")]
+fn a_splitter_must_not_go_back_in_a_filled_text() {
+    let going_back = WordSplitter::Custom(|_| vec![3, 2]);
+    fill_justified("foobar", Options::new(5).word_splitter(going_back));
+}
+
+/// Cuts where `AsciiSpace` does. With it the crate does what the library does without.
+fn at_blanks(line: &str) -> Box<dyn Iterator<Item = Word<'_>> + '_> {
+    WordSeparator::AsciiSpace.find_words(line)
+}
+
+#[test]
+fn functions_may_do_what_the_built_in_parts_do() {
+    let text = "Words,  a hyphen-ated one, 안녕하세요 and\n\n  supercalifragilistic \
+                \u{1b}[1mends\u{1b}[0m  \na last one";
+    let cells = [text, "foo bar baz", "", "안녕", text];
+    for width in 0..60 {
+        let plain = Options::new(width).word_separator(WordSeparator::AsciiSpace);
+        let crlf = plain.clone().line_ending(LineEnding::CRLF).preserve_trailing_space(true);
+        let indented = plain.clone().initial_indent("* * ").subsequent_indent("    ");
+        let even = indented.clone().even_paragraphs(true);
+        let unbroken = indented.clone().break_words(false);
+        let greedy = unbroken.clone().wrap_algorithm(WrapAlgorithm::FirstFit);
+        for options in [plain, crlf, indented, even, unbroken, greedy] {
+            let own = options.clone().word_separator(WordSeparator::Custom(at_blanks));
+            assert_eq!(fill_justified(text, &own), fill_justified(text, &options));
+            for alignment in [Alignment::Left, Alignment::Right, Alignment::Centre] {
+                // The last row of cells lacks one.
+                assert_eq!(
+                    table(&cells, &three_columns(&own, &options, alignment), &AROUND),
+                    table(&cells, &three_columns(&options, &options, alignment), &AROUND)
+                );
+            }
+        }
+    }
+}
+
+/// A column of the first options between two of the others.
+fn three_columns<'a>(
+    first: &Options<'a>,
+    others: &Options<'a>,
+    alignment: Alignment,
+) -> [Column<'a>; 3] {
+    [others, first, others].map(|options| Column { options: options.clone(), alignment })
+}
+
+// ---- Memory
+
+#[test]
+fn the_twins_return_the_same() {
+    assert_eq!(fallible::align("a", 3, Alignment::Right).as_deref(), Ok("  a"));
+    assert_eq!(fallible::justify("a b", 5).as_deref(), Ok("a   b"));
+    assert_eq!(fallible::shorten("a b", 2, ".").as_deref(), Ok("a."));
+    assert_eq!(fallible::shorten_lines(&["a", "b"], 1, 2, "."), Ok(vec![String::from("a.")]));
+    assert_eq!(fallible::carry_styles(&["a"], 1), Ok(vec![String::from("a")]));
+    for options in at_breaks_and_at_blanks(&Options::new(5)) {
+        assert_eq!(fallible::fill_justified("a b foo", &options).as_deref(), Ok("a   b\nfoo"));
+        let column = Column { options, alignment: Alignment::Left };
+        let rows = fallible::table(&["a"], &[column], &AROUND);
+        assert_eq!(rows, Ok(vec![String::from("[ a     ]")]));
+    }
+}
+
+#[test]
+fn the_twins_return_that_memory_ran_out() {
+    assert_eq!(fallible::align("a", usize::MAX, Alignment::Centre), Err(OutOfMemory));
+    assert_eq!(fallible::justify("a b", usize::MAX), Err(OutOfMemory));
+    // The words are an empty one before the indent's text, and three.
+    let two_lines = WrapAlgorithm::Custom(|words, _| vec![&words[..3], &words[3..]]);
+    let wide = Options::new(usize::MAX).initial_indent("*");
+    let own = wide.clone().wrap_algorithm(two_lines);
+    assert_eq!(fallible::fill_justified("a b c", own), Err(OutOfMemory));
+    for options in at_breaks_and_at_blanks(&wide) {
+        let column = Column { options, alignment: Alignment::Left };
+        assert_eq!(fallible::table(&["a"], &[column], &AROUND), Err(OutOfMemory));
+    }
+}

@@ -1,5 +1,6 @@
 //! What the library answers on a case.
 use crate::cases::Case;
+use crate::displaying::Displays;
 use crate::in_place::InPlace;
 use crate::least_cost::LeastCosts;
 use crate::paths::Ways;
@@ -39,6 +40,8 @@ pub struct Answers<'c> {
     pub refills: Answer<Refills>,
     /// The paragraphs, reflowed.
     pub reflows: Reflows,
+    /// The text, for display.
+    pub displays: Answer<Displays<'c>>,
 }
 
 /// A library that can be checked. The tests have some that answer wrongly.
@@ -50,7 +53,7 @@ pub trait Library {
     fn answers<'c>(&self, alloc: Global, case: &'c Case) -> Result<Answers<'c>, AllocError>;
 }
 
-/// The library `textwrap`, with `textwrap_reflow`.
+/// The library `textwrap`, with `textwrap_reflow` and `textwrap_display`.
 #[derive(Clone, Copy)]
 pub struct Textwrap;
 
@@ -63,6 +66,7 @@ impl Library for Textwrap {
             in_place: unless_overflow(InPlace::of_case(alloc, case))?,
             refills: unless_overflow(Refills::of_case(alloc, case))?,
             reflows: Reflows::of_case(alloc, case)?,
+            displays: unless_overflow(Displays::of_case(alloc, case))?,
         })
     }
 }

@@ -18,8 +18,10 @@ pub mod settings;
 pub mod texts;
 
 // How it checks them: a module for each promise, or for some that are alike, which asks the library
-// and checks its answers. `divisions` tries all divisions for `least_cost`.
+// and checks its answers. `divisions` tries all divisions for `least_cost`, and `styled` reads escape
+// sequences for `displaying`.
 pub mod answers;
+pub mod displaying;
 pub mod divisions;
 pub mod findings;
 pub mod fitting;
@@ -31,3 +33,4 @@ pub mod promises;
 pub mod refilling;
 pub mod reflowing;
 pub mod searching;
+pub mod styled;

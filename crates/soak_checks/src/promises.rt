@@ -2,7 +2,9 @@
 use crate::answers::Answers;
 use crate::cases::Case;
 use crate::findings::Finding;
-use crate::{fitting, in_place, least_cost, lossless, paths, refilling, reflowing, searching};
+use crate::{
+    displaying, fitting, in_place, least_cost, lossless, paths, refilling, reflowing, searching,
+};
 use std::alloc::{AllocError, Global};
 
 /// A promise of the library.
@@ -36,9 +38,17 @@ pub enum Promise {
     ReflowedOnce,
     /// Reflowing keeps the words, and the lines of whitespace.
     ReflowedWords,
+    /// Carried styles show each line by itself as the text shows it.
+    Carried,
+    /// Justified lines are as wide as the width, and have the same words.
+    Justified,
+    /// The rows of a table have the lines of its cells, and are as wide as its columns.
+    Rows,
+    /// A shortened line is as much of the line as fits.
+    Shortened,
 }
 
-pub const PROMISES_LEN: usize = 14;
+pub const PROMISES_LEN: usize = 18;
 
 /// All promises and what the program calls them, in the order in which a round checks them.
 pub const PROMISES: [(Promise, &str); PROMISES_LEN] = [
@@ -56,6 +66,10 @@ pub const PROMISES: [(Promise, &str); PROMISES_LEN] = [
     (Promise::ReflowedStays, "reflowed_stays"),
     (Promise::ReflowedOnce, "reflowed_once"),
     (Promise::ReflowedWords, "reflowed_words"),
+    (Promise::Carried, "carried"),
+    (Promise::Justified, "justified"),
+    (Promise::Rows, "rows"),
+    (Promise::Shortened, "shortened"),
 ];
 
 impl Promise {
@@ -83,6 +97,7 @@ impl Promise {
     ) -> Option<Result<Finding, AllocError>> {
         let ways = answers.ways.as_ref();
         let refills = answers.refills.as_ref();
+        let displays = answers.displays.as_ref();
         Some(match self {
             Promise::Lossless => lossless::check(alloc, case, &ways?.wrapped),
             Promise::Fitting => fitting::check(alloc, case, &ways?.wrapped),
@@ -98,6 +113,10 @@ impl Promise {
             Promise::ReflowedStays => Ok(reflowing::check_stays(&answers.reflows)),
             Promise::ReflowedOnce => Ok(reflowing::check_once(&answers.reflows)),
             Promise::ReflowedWords => reflowing::check_words(alloc, case, &answers.reflows),
+            Promise::Carried => displaying::check_carried(alloc, case, displays?),
+            Promise::Justified => displaying::check_justified(alloc, case, displays?),
+            Promise::Rows => Ok(displaying::check_rows(case, displays?)),
+            Promise::Shortened => Ok(displaying::check_shortened(case, displays?)),
         })
     }
 }

@@ -22,7 +22,7 @@ impl Refills {
     /// Asks the library.
     pub fn of_case(alloc: Global, case: &Case) -> Result<Self, WrapError> {
         let text = on_one_line(alloc, &case.plain)?;
-        let settings = without_indents(&case.settings);
+        let settings = case.settings.without_indents();
         let unbroken = Settings::unbroken(case.first_width, settings.algorithm);
         let first = fill(alloc, &text, unbroken.options())?;
         Ok(Refills {
@@ -45,15 +45,6 @@ pub fn check_refilled(found: &Refills) -> Finding {
 pub fn check_twice(alloc: Global, case: &Case, found: &Refills) -> Result<Finding, AllocError> {
     let is_text = on_one_line(alloc, &found.first)? == on_one_line(alloc, &case.plain)?;
     Ok(Finding::of(is_text && found.twice == found.once))
-}
-
-/// The settings without indents.
-fn without_indents(settings: &Settings) -> Settings {
-    Settings {
-        initial_indent: "",
-        subsequent_indent: "",
-        ..*settings
-    }
 }
 
 /// The text with a blank in the place of each line feed.

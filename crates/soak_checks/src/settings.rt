@@ -90,6 +90,15 @@ impl Settings {
         }
     }
 
+    /// The settings without indents.
+    pub fn without_indents(&self) -> Self {
+        Settings {
+            initial_indent: "",
+            subsequent_indent: "",
+            ..*self
+        }
+    }
+
     /// The settings as options of the library.
     pub fn options(&self) -> Options<'static>
         ensures settings { library.settings_view result ≡ settings_view self.now }

@@ -56,6 +56,7 @@ const SEQUENCES: &[&str] = &[
     "\x1b!",
     "\x1b]a\x07",
     "\x1b]8;;http://example.com\x1b\\",
+    "\x1b]8;;\x1b\\",
 ];
 
 const CUT_SEQUENCES: &[&str] = &[

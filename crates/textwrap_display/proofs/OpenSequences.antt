@@ -21,15 +21,16 @@ no_styles (s ∷ ss) = by (is_style s) refl (no_styles ss)
   where
     rest : List (List ℕ)
     rest = filter is_style ss
+
     by : (b : Bool) → is_style s ≡ b → (length rest == 0) ≡ (length (concat rest) == 0)
         → (length (cond b (s ∷ rest) rest) == 0) ≡ (length (concat (cond b (s ∷ rest) rest)) == 0)
     by true is same = ne_eqb (length (s ∷ rest)) 0 (λ none. absurd (omega (arith, none)))
         ∙ sym (ne_eqb (length (s ++ concat rest)) 0 (λ none. absurd (omega (
-      arith,
-      none,
-      style-some s is,
-      length-append s (concat rest),
-    ))))
+          arith,
+          none,
+          style-some s is,
+          length-append s (concat rest),
+        ))))
     by false is same = same
 
 -- ---- one sequence more
@@ -51,6 +52,7 @@ target-set s target empty are is = by empty is
   where
     has : has_target s ≡ nat_lt 0 (length target)
     has = ap (λ l. nat_lt 0 (length l)) (sym are)
+
     by : (b : Bool) → b ≡ (length target == 0) → cond b [] (s ∷ []) ≡ cond (has_target s) (s ∷ []) []
     by true none =
         let lacks : nat_lt 0 (length target) ≡ false = grind (arith, nat_tests) in

@@ -1,13 +1,10 @@
 -- The units and the sequences of texts of whole sequences that are put together.
-use Rattle.textwrap_base.proofs.Common.{◌≡◌, inl, List, [], ◌∷◌, ◌++◌, All, All-append, All-head}
-use Rattle.textwrap_base.proofs.Common.{All-tail, ap, arith, chars-append, flat_map}
+use Rattle.textwrap_base.proofs.Common.{◌≡◌, List, ◌++◌, All, All-append}
+use Rattle.textwrap_base.proofs.Common.{ap, chars-append, flat_map}
 use Rattle.textwrap_base.proofs.Common.{flat_map-append, IsUtf8-append, subst, sym, ◌∙◌}
 use Rattle.std.specs.Prelude.{ℕ}
 use Rattle.std.specs.Str.{chars}
-use Rattle.textwrap_words.specs.Units.{AreUnits, IsWhole, TextUnit, units}
-use Rattle.textwrap_words.proofs.Units.Computed.{IsInUnits-units}
-use Rattle.textwrap_words.proofs.Units.Parts.{units-tile}
-use Rattle.textwrap_words.proofs.Units.Unique.{units_unique}
+use Rattle.textwrap_words.specs.Units.{IsWhole, units}
 use Rattle.textwrap_lines.proofs.Text.WholeSequences.{units-append}
 use Rattle.textwrap_display.specs.Styled.{IsWholeText}
 use Rattle.textwrap_display.specs.Styles.{sequence_of, sequences}

@@ -10,6 +10,7 @@ use textwrap::wrap_algorithms::Penalties;
 use textwrap_reflow::ReflowOptions;
 
 mod answers;
+mod displaying;
 mod lines;
 mod problems;
 mod program;

@@ -1,8 +1,6 @@
 //! Lines for display: aligned, justified, shortened, and with their styles.
 use super::{NOWHERE, at};
-use crate::display::{
-    textwrap_align, textwrap_fill_justified, textwrap_justify, textwrap_shorten,
-};
+use crate::display::{textwrap_align, textwrap_fill_justified, textwrap_justify, textwrap_shorten};
 use crate::line_lists::{textwrap_carry_styles, textwrap_shorten_lines};
 use crate::status::{DONE, NOT_UTF8, TOO_SMALL, UNKNOWN_OPTIONS};
 use crate::texts::TextwrapText;
@@ -53,7 +51,9 @@ fn lines_are_left_out_and_styles_carried(rt: HostRuntime) {
     let mut room = [b'.'; 32];
     let mut len = 0;
     let lines = [
-        TextwrapText { bytes: b"\x1b[1mone" },
+        TextwrapText {
+            bytes: b"\x1b[1mone",
+        },
         TextwrapText { bytes: b"two" },
         TextwrapText { bytes: b"three" },
     ];
@@ -70,7 +70,10 @@ fn lines_are_left_out_and_styles_carried(rt: HostRuntime) {
     );
     assert_eq!(rt; (status, count, len), (DONE, 2, 13));
     assert_eq!(rt; &room[..13], b"\x1b[1monetwo...".as_slice());
-    assert_eq!(rt; (places[1].offset, places[1].len, places[1].is_built), (7, 6, 1));
+    assert_eq!(rt;
+        (places[1].offset, places[1].len, places[1].is_built),
+        (7, 6, 1)
+    );
     let status = textwrap_carry_styles(
         rt.alloc(),
         &lines[..2],
@@ -81,5 +84,8 @@ fn lines_are_left_out_and_styles_carried(rt: HostRuntime) {
         &mut len,
     );
     assert_eq!(rt; (status, count, len), (DONE, 2, 22));
-    assert_eq!(rt; &room[..22], b"\x1b[1mone\x1b[0m\x1b[1mtwo\x1b[0m".as_slice());
+    assert_eq!(rt;
+        &room[..22],
+        b"\x1b[1mone\x1b[0m\x1b[1mtwo\x1b[0m".as_slice()
+    );
 }

@@ -58,11 +58,17 @@ fn styles_are_carried_as_in_wrap_ansi(rt: HostRuntime) -> Result<(), Fail> {
         let by_first_fit = Options::new(width).wrap_algorithm(WrapAlgorithm::FirstFit);
         let lines = wrap(rt.alloc(), text, by_first_fit)?;
         let carried = carry_styles(rt.alloc(), &lines, &Options::new(0))?;
-        assert!(rt; carried.len() == here.len() && carried.len() == there.len(), "{carried:?}");
+        assert!(rt;
+            carried.len() == here.len() && carried.len() == there.len(),
+            "{carried:?}"
+        );
         for (line, (here, there)) in carried.iter().zip(here.iter().zip(there)) {
             assert!(rt; line.as_str() == *here, "{line:?}");
             let shown = strip_ansi_escape_sequences(rt.alloc(), line)?;
-            assert!(rt; shown == strip_ansi_escape_sequences(rt.alloc(), there)?, "{line:?}");
+            assert!(rt;
+                shown == strip_ansi_escape_sequences(rt.alloc(), there)?,
+                "{line:?}"
+            );
         }
     }
     Ok(())

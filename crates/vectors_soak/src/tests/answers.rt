@@ -2,6 +2,7 @@
 use super::{lines_by, lines_of, problem_of, small_case};
 use soak_checks::answers::{Answers, Library, Textwrap};
 use soak_checks::cases::Case;
+use soak_checks::displaying::Displays;
 use soak_checks::findings::Finding;
 use soak_checks::paths::Ways;
 use soak_checks::promises::{PROMISES, PROMISES_LEN};
@@ -27,6 +28,7 @@ enum Change {
     LinesInPlace(Texts),
     Refill(RefillChange),
     Reflow(ReflowChange),
+    Display(DisplayChange),
     /// All calls that may only run out of memory overflow.
     Overflow,
 }
@@ -74,6 +76,17 @@ enum ReflowChange {
     Filled(&'static str),
 }
 
+/// Another text of those for display.
+#[derive(Clone, Copy, Debug)]
+enum DisplayChange {
+    Carried(Texts),
+    Filled(&'static str),
+    Justified(&'static str),
+    Beside(Texts),
+    Rows(Texts),
+    Shortened(&'static str),
+}
+
 impl Change {
     fn put_into<'c>(
         self,
@@ -105,11 +118,17 @@ impl Change {
                 }
             }
             Change::Reflow(change) => change.put_into(alloc, &mut answers.reflows)?,
+            Change::Display(change) => {
+                if let Some(displays) = &mut answers.displays {
+                    change.put_into(alloc, displays)?;
+                }
+            }
             Change::Overflow => {
                 answers.ways = None;
                 answers.many = None;
                 answers.in_place = None;
                 answers.refills = None;
+                answers.displays = None;
             }
         }
         Ok(())
@@ -185,6 +204,29 @@ impl ReflowChange {
     }
 }
 
+impl DisplayChange {
+    fn put_into(self, alloc: Global, displays: &mut Displays<'_>) -> Result<(), AllocError> {
+        match self {
+            DisplayChange::Carried(texts) => displays.carried = strings_of(alloc, texts)?,
+            DisplayChange::Filled(text) => displays.filled = String::from_str(alloc, text)?,
+            DisplayChange::Justified(text) => displays.justified = String::from_str(alloc, text)?,
+            DisplayChange::Beside(texts) => displays.beside = lines_of(alloc, texts, false)?,
+            DisplayChange::Rows(texts) => displays.rows = strings_of(alloc, texts)?,
+            DisplayChange::Shortened(text) => displays.shortened = CowStr::Borrowed(text),
+        }
+        Ok(())
+    }
+}
+
+/// These texts as strings.
+fn strings_of(alloc: Global, texts: &[&str]) -> Result<Vec<String>, AllocError> {
+    let mut strings = Vec::new(alloc);
+    for text in texts {
+        strings.push(String::from_str(alloc, text)?)?;
+    }
+    Ok(strings)
+}
+
 /// The minima of these starts and costs.
 fn minima_of(alloc: Global, pairs: &[(usize, u128)]) -> Result<Vec<Minimum>, AllocError> {
     let mut minima = Vec::new(alloc);
@@ -199,6 +241,14 @@ const IN_8_COLUMNS: &str = "- foo\n  bar\n  baz\n\n> qux -1\n";
 
 /// Those in 12.
 const IN_12_COLUMNS: &str = "- foo bar\n  baz\n\n> qux -1\n";
+
+/// The two texts of the small case side by side.
+const ROWS_OF_TEXTS: Texts = &[
+    "| foo  bar | foo |",
+    "| baz      | bar |",
+    "| qux      | baz |",
+    "|          | qux |",
+];
 
 /// Changes of the answers on the small case, and the promises that are broken then.
 const ROWS: &[(Change, &str)] = &[
@@ -367,8 +417,51 @@ const ROWS: &[(Change, &str)] = &[
         "reflowed_words",
     ),
     (
+        Change::Display(DisplayChange::Carried(&["foo  bar", "baz", "qux"])),
+        "",
+    ),
+    (
+        Change::Display(DisplayChange::Carried(&["foo  bar", "quz", "qux"])),
+        "carried",
+    ),
+    (
+        Change::Display(DisplayChange::Carried(&["foo  bar", "baz"])),
+        "carried",
+    ),
+    (
+        Change::Display(DisplayChange::Justified("foo  bar\nbaz\nqux")),
+        "",
+    ),
+    (
+        Change::Display(DisplayChange::Justified("foo   bar\nbaz\nqux")),
+        "justified",
+    ),
+    (
+        Change::Display(DisplayChange::Filled("foo bar\nbaz\nqux")),
+        "",
+    ),
+    (
+        Change::Display(DisplayChange::Filled("foo baz\nbaz\nqux")),
+        "justified",
+    ),
+    (Change::Display(DisplayChange::Rows(ROWS_OF_TEXTS)), ""),
+    (
+        Change::Display(DisplayChange::Rows(&["| foo  bar | foo |"])),
+        "rows",
+    ),
+    (
+        Change::Display(DisplayChange::Beside(&["foo", "bar", "baz"])),
+        "rows",
+    ),
+    (Change::Display(DisplayChange::Shortened("foo ..")), ""),
+    (
+        Change::Display(DisplayChange::Shortened(" ..")),
+        "shortened",
+    ),
+    (
         Change::Overflow,
-        "lossless fitting searching filled listed paragraphs shortcut in_place refilled twice",
+        "lossless fitting searching filled listed paragraphs shortcut in_place refilled twice \
+         carried justified rows shortened",
     ),
 ];
 
@@ -444,13 +537,16 @@ fn kept_promises_are_counted(rt: HostRuntime) -> Result<(), Fail> {
     let list = list_case(alloc)?;
     let name = broken_by_library(alloc, &list, &mut counts)?;
     assert_eq!(rt; name, Some("refilled"));
-    assert_eq!(rt; counts, [3, 2, 3, 2, 3, 3, 3, 2, 3, 2, 2, 2, 2, 2]);
+    assert_eq!(rt;
+        counts,
+        [3, 2, 3, 2, 3, 3, 3, 2, 3, 2, 2, 2, 2, 2, 2, 2, 2, 2]
+    );
     let line = describe_kept(alloc, 3, &counts)?;
     assert_eq!(rt;
         line.as_str(),
         "rounds=3 lossless=3 fitting=2 least_cost=3 searching=2 filled=3 listed=3 paragraphs=3 \
          shortcut=2 in_place=3 refilled=2 twice=2 reflowed_stays=2 reflowed_once=2 \
-         reflowed_words=2"
+         reflowed_words=2 carried=2 justified=2 rows=2 shortened=2"
     );
     each_way_is_asked(&rt)
 }

@@ -13,7 +13,7 @@ returns g c =
     let lines : texts_of c.deref.result.now ≡ bytes_of c.args.lines.now =
     ap texts_of c.deref.ensures.value ∙ c.in_ok-lines.ensures in
     subst (λ rows. IfOk c.place_all.result (λ placed.
-        ArePlacedRows rows placed.places.items placed.built.items))
+    ArePlacedRows rows placed.places.items placed.built.items))
     (ap (map line_bytes) (c.in_ok-carried.ensures
     ∙ ap (carried_lines options.initial_indent.now options.subsequent_indent.now []) lines))
     c.place_all.ensures

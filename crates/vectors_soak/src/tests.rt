@@ -10,7 +10,6 @@ use textwrap::wrap_algorithms::Penalties;
 use textwrap_reflow::ReflowOptions;
 
 mod answers;
-mod displaying;
 mod lines;
 mod problems;
 mod program;

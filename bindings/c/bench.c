@@ -23,6 +23,8 @@ typedef struct {
     textwrap_piece *pieces;
     size_t *cuts;
     size_t lines_len; /* of the lines, and of the pieces */
+    textwrap_text *texts; /* the text, cut at its line feeds */
+    size_t texts_len;
 } work;
 
 static const uint8_t bullet[] = "* ", blanks[] = "  ";
@@ -129,6 +131,55 @@ static textwrap_status unicode_cuts(work *w) {
     return textwrap_unicode_cuts(w->text, w->text_len, w->cuts, w->lines_len, &count);
 }
 
+static textwrap_status align(work *w) {
+    size_t len;
+    return textwrap_align(w->text, w->text_len, w->text_len + w->text_len / 8, TEXTWRAP_RIGHT,
+                          w->room, w->room_len, &len);
+}
+
+static textwrap_status justify(work *w) {
+    size_t len;
+    return textwrap_justify(w->text, w->text_len, w->text_len + w->text_len / 8, w->room,
+                            w->room_len, &len);
+}
+
+static textwrap_status fill_justified(work *w) {
+    size_t len;
+    return textwrap_fill_justified(w->text, w->text_len, &w->options, w->room, w->room_len, &len);
+}
+
+static textwrap_status shorten(work *w) {
+    size_t len;
+    return textwrap_shorten(w->text, w->text_len, w->text_len / 2, bullet, 1, w->room, w->room_len,
+                            &len);
+}
+
+static textwrap_status carry_styles(work *w) {
+    size_t count, len;
+    return textwrap_carry_styles(w->texts, w->texts_len, &w->options, w->lines, w->lines_len, &count,
+                                 w->room, w->room_len, &len);
+}
+
+/* The texts in two columns. */
+static textwrap_status table(work *w) {
+    textwrap_gaps gaps = {text_of(blanks), text_of(blanks), text_of(blanks)};
+    textwrap_column columns[2] = {{w->options, TEXTWRAP_LEFT, 0}, {w->options, TEXTWRAP_RIGHT, 0}};
+    size_t count, len;
+    return textwrap_table(w->texts, w->texts_len, columns, 2, &gaps, w->lines, w->lines_len, &count,
+                          w->room, w->room_len, &len);
+}
+
+/* Cuts the text at its line feeds, and tells how many texts that makes. */
+static size_t texts_of(work *w) {
+    size_t start = 0, count = 0;
+    for (size_t i = 0; i <= w->text_len; i++) {
+        if (i < w->text_len && w->text[i] != '\n') continue;
+        w->texts[count++] = (textwrap_text){w->text + start, i - start};
+        start = i + 1;
+    }
+    return count;
+}
+
 typedef struct {
     const char *name;
     textwrap_status (*call)(work *);
@@ -153,6 +204,12 @@ static const named_call calls[] = {
     {"split_words", split_words},
     {"break_words", pieces},
     {"unicode_cuts", unicode_cuts},
+    {"align", align},
+    {"justify", justify},
+    {"fill_justified", fill_justified},
+    {"shorten", shorten},
+    {"carry_styles", carry_styles},
+    {"table", table},
 };
 
 static double seconds(void) {
@@ -196,7 +253,10 @@ int main(int argc, char **argv) {
     w.lines = malloc(w.lines_len * sizeof *w.lines);
     w.pieces = malloc(w.lines_len * sizeof *w.pieces);
     w.cuts = malloc(w.lines_len * sizeof *w.cuts);
-    if (w.room == NULL || w.lines == NULL || w.pieces == NULL || w.cuts == NULL) return 1;
+    w.texts = malloc(w.lines_len * sizeof *w.texts);
+    if (w.room == NULL || w.lines == NULL || w.pieces == NULL || w.cuts == NULL || w.texts == NULL)
+        return 1;
+    w.texts_len = texts_of(&w);
     w.options = textwrap_options_new(strtoul(argv[2], NULL, 10));
     w.options.optimal_fit = strcmp(argv[3], "optimal") == 0;
     double time = least_time(call, &w);

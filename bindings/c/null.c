@@ -23,6 +23,7 @@ PROVED(fill_justified);
 PROVED(shorten);
 PROVED(shorten_lines);
 PROVED(carry_styles);
+PROVED(table);
 PROVED(wrap_first_fit);
 PROVED(wrap_optimal_fit);
 PROVED(pieces);
@@ -39,6 +40,7 @@ static union {
     textwrap_line line;
     textwrap_piece piece;
     textwrap_fragment fragment;
+    textwrap_column column;
 } nothing;
 
 /* The pointer and the length of an array, as the archive wants them. */
@@ -181,6 +183,15 @@ textwrap_status textwrap_carry_styles(const textwrap_text *lines, size_t lines_l
     textwrap_options some = some_options(options);
     return proved_carry_styles(ARRAY(lines, lines_len), &some, ARRAY(places, places_len), count,
                                ARRAY(room, room_len), len);
+}
+
+textwrap_status textwrap_table(const textwrap_text *cells, size_t cells_len,
+                               const textwrap_column *columns, size_t columns_len,
+                               const textwrap_gaps *gaps, textwrap_line *rows, size_t rows_len,
+                               size_t *count, uint8_t *room, size_t room_len, size_t *len) {
+    textwrap_gaps around = some_gaps(gaps);
+    return proved_table(ARRAY(cells, cells_len), ARRAY(columns, columns_len), &around,
+                        ARRAY(rows, rows_len), count, ARRAY(room, room_len), len);
 }
 
 textwrap_status textwrap_wrap_first_fit(const textwrap_fragment *fragments, size_t fragments_len,

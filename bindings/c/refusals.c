@@ -151,6 +151,15 @@ static textwrap_status styles_carried(struct lent *lent) {
                                  &lent->len);
 }
 
+static textwrap_status in_a_table(struct lent *lent) {
+    const textwrap_gaps gaps = {text_of("|"), text_of("|"), text_of("|")};
+    const textwrap_text cells[3] = {text_of(TEXT), text_of("1.50"), text_of("foo")};
+    const textwrap_column columns[2] = {{options_of(0, 1), TEXTWRAP_LEFT, 0},
+                                        {options_of(1, 0), TEXTWRAP_RIGHT, 0}};
+    return textwrap_table(cells, 3, columns, 2, &gaps, lent->lines, 16, &lent->count, lent->room,
+                          256, &lent->len);
+}
+
 static const textwrap_fragment FRAGMENTS[3] = {{4, 1, 0, 0}, {4, 1, 0, 30}, {4, 1, 0, 0}};
 static const size_t NINE = 9;
 
@@ -222,6 +231,7 @@ static const struct {
     {"shorten", shortened},
     {"shorten_lines", lines_shortened},
     {"carry_styles", styles_carried},
+    {"table", in_a_table},
     {"wrap_first_fit", greedily},
     {"wrap_optimal_fit", at_least_cost},
     {"pieces", in_pieces},

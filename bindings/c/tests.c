@@ -361,6 +361,72 @@ static void carrying_styles_is_refused(void) {
     CHECK(are_lines(places, count, room, len, "\x1b[1ma\x1b[0m\n\x1b[1mb\x1b[0m\n"));
 }
 
+/* A column with words by first fit. */
+static textwrap_column column_of(size_t width, textwrap_alignment alignment) {
+    textwrap_column column;
+    column.options = textwrap_options_new(width);
+    column.options.optimal_fit = 0;
+    column.alignment = alignment;
+    column.reserved = 0;
+    return column;
+}
+
+static void tables_are_written(void) {
+    const textwrap_text cells[5] = {text_of("one two"), text_of("1.50"), text_of("a"),
+                                    text_of("three"), text_of("12.25")};
+    const textwrap_column columns[3] = {column_of(4, TEXTWRAP_LEFT), column_of(6, TEXTWRAP_RIGHT),
+                                        column_of(4, TEXTWRAP_CENTRE)};
+    const textwrap_gaps gaps = {text_of("[ "), text_of(" | "), text_of(" ]")};
+    textwrap_line rows[4];
+    uint8_t room[128] = "...";
+    size_t count = 7, len = 7;
+    CHECK(textwrap_table(cells, 5, columns, 3, &gaps, rows, 3, &count, room, sizeof room, &len)
+          == TEXTWRAP_TOO_SMALL);
+    CHECK(count == 4 && len == 96);
+    CHECK(textwrap_table(cells, 5, columns, 3, &gaps, rows, 4, &count, room, 95, &len)
+          == TEXTWRAP_TOO_SMALL);
+    CHECK(count == 4 && len == 96 && memcmp(room, "...", 4) == 0);
+    CHECK(textwrap_table(cells, 5, columns, 3, &gaps, rows, 4, &count, room, 96, &len)
+          == TEXTWRAP_DONE);
+    CHECK(count == 4);
+    /* The last row of cells lacks one. */
+    CHECK(are_lines(rows, count, room, len,
+                    "[ one  |   1.50 |  a   ]\n"
+                    "[ two  |        |      ]\n"
+                    "[ thre |  12.25 |      ]\n"
+                    "[ e    |        |      ]\n"));
+    CHECK(textwrap_table(cells, 5, columns, 0, &gaps, rows, 4, &count, room, sizeof room, &len)
+          == TEXTWRAP_DONE);
+    CHECK(count == 0 && len == 0);
+    CHECK(textwrap_table(cells, 0, columns, 3, &gaps, rows, 4, &count, room, sizeof room, &len)
+          == TEXTWRAP_DONE);
+    CHECK(count == 0 && len == 0);
+}
+
+static void wrong_tables_are_refused(void) {
+    const textwrap_text cells[2] = {text_of("a"), text_of("b")};
+    const textwrap_text wrong[2] = {text_of("a"), text_of("\xff")};
+    const textwrap_gaps gaps = {text_of("|"), text_of("|"), text_of("|")};
+    const textwrap_gaps wrong_gaps = {gaps.left, text_of("\xff"), gaps.right};
+    textwrap_column columns[2] = {column_of(4, TEXTWRAP_LEFT), column_of(4, TEXTWRAP_LEFT)};
+    textwrap_line rows[1];
+    uint8_t room[16] = "...";
+    size_t count = 7, len = 7;
+    CHECK(textwrap_table(wrong, 2, columns, 2, &gaps, rows, 1, &count, room, 16, &len)
+          == TEXTWRAP_NOT_UTF8);
+    CHECK(textwrap_table(cells, 2, columns, 2, &wrong_gaps, rows, 1, &count, room, 16, &len)
+          == TEXTWRAP_NOT_UTF8);
+    for (int i = 0; i < 3; i++) {
+        columns[1] = column_of(4, TEXTWRAP_LEFT);
+        if (i == 0) columns[1].alignment = 3;
+        if (i == 1) columns[1].reserved = 1;
+        if (i == 2) columns[1].options.version = 2;
+        CHECK(textwrap_table(cells, 2, columns, 2, &gaps, rows, 1, &count, room, 16, &len)
+              == TEXTWRAP_UNKNOWN_OPTIONS);
+    }
+    CHECK(count == 7 && len == 7 && memcmp(room, "...", 4) == 0);
+}
+
 static void fragments_are_divided(void) {
     const textwrap_fragment four[4] = {{5, 0, 0, 0}, {5, 0, 0, 0}, {5, 0, 0, 0}, {5, 0, 0, 0}};
     const size_t widths[2] = {10, 5};
@@ -716,6 +782,7 @@ static void a_pointer_to_nothing_may_be_null(void) {
     CHECK(count == 0 && len == 0);
     CHECK(textwrap_carry_styles(NULL, 0, &o, NULL, 0, &count, NULL, 0, &len) == TEXTWRAP_DONE);
     CHECK(count == 0 && len == 0);
+    CHECK(textwrap_table(NULL, 0, NULL, 0, &gaps, NULL, 0, &count, NULL, 0, &len) == TEXTWRAP_DONE);
     CHECK(count == 0 && len == 0);
     CHECK(textwrap_wrap_first_fit(NULL, 0, NULL, 0, end, 1, &count) == TEXTWRAP_DONE && count == 1);
     CHECK(textwrap_wrap_first_fit(NULL, 0, NULL, 0, NULL, 0, &count) == TEXTWRAP_TOO_SMALL);
@@ -756,6 +823,8 @@ int main(void) {
     lists_of_lines_are_shortened();
     styles_are_carried();
     carrying_styles_is_refused();
+    tables_are_written();
+    wrong_tables_are_refused();
     fragments_are_divided();
     pieces_are_places();
     words_are_cut_split_and_broken();

@@ -252,6 +252,21 @@ textwrap_status textwrap_carry_styles(const textwrap_text *lines, size_t lines_l
                                       size_t places_len, size_t *count, uint8_t *room,
                                       size_t room_len, size_t *len);
 
+/* A column of a table: how its texts are wrapped, and where their lines stand in its width. */
+typedef struct {
+    textwrap_options options;
+    uint32_t alignment; /* a textwrap_alignment */
+    uint32_t reserved;  /* 0 */
+} textwrap_column;
+
+/* Writes the rows of a table. The cells are given row after row; those that the last row lacks
+ * have no lines. Without columns there are no rows. */
+TEXTWRAP_CHECKED
+textwrap_status textwrap_table(const textwrap_text *cells, size_t cells_len,
+                               const textwrap_column *columns, size_t columns_len,
+                               const textwrap_gaps *gaps, textwrap_line *rows, size_t rows_len,
+                               size_t *count, uint8_t *room, size_t room_len, size_t *len);
+
 /* ---- Fragments of the caller's own, and the two algorithms */
 
 /* An item that is placed on a line and never cut, in one unit of the caller's choice. */

@@ -55,6 +55,14 @@ pub struct Column<'a> {
     pub alignment: Alignment,
 }
 
+impl Column<'_> {
+    /// The same as C has it, without the functions of the caller. It lends the indents.
+    fn to_sys(&self) -> sys::Column {
+        let Column { options, alignment } = self;
+        sys::Column { options: options.to_sys(), alignment: alignment.to_sys(), reserved: 0 }
+    }
+}
+
 /// What stands around the cells of a row.
 #[derive(Clone, Copy, Debug, Default, PartialEq, Eq)]
 pub struct Gaps<'a> {

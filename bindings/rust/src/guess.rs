@@ -1,6 +1,7 @@
 //! How much room an answer mostly needs, so that one call suffices. Where a guess is too small, the
 //! call says how much it is, and is made again.
 use crate::core::display_width;
+use crate::display::{Column, Gaps};
 use crate::options::Options;
 
 /// How many lines the line feeds of a text make.
@@ -88,4 +89,20 @@ pub(crate) fn carried<S: AsRef<str>>(lines: &[S]) -> usize {
     let is_styled = lines.iter().any(|line| line.as_ref().contains('\u{1b}'));
     let styles = if is_styled { lines.len().saturating_mul(23) } else { 0 };
     bytes_of(lines).saturating_add(styles)
+}
+
+/// The rows of a table, and their bytes. There is a column.
+pub(crate) fn table<S: AsRef<str>>(
+    cells: &[S],
+    columns: &[Column<'_>],
+    gaps: &Gaps<'_>,
+) -> (usize, usize) {
+    let lines = |(cell, column): (&S, &Column<'_>)| wrapped_lines(cell.as_ref(), &column.options);
+    let heights = cells
+        .chunks(columns.len())
+        .map(|row| row.iter().zip(columns).map(lines).max().unwrap_or(0));
+    let rows = heights.fold(0, usize::saturating_add);
+    let widths = columns.iter().map(|column| column.options.width);
+    let row_len = widths.fold(gaps.together(columns.len(), str::len), usize::saturating_add);
+    (rows, rows.saturating_mul(row_len).saturating_add(bytes_of(cells)))
 }

@@ -61,6 +61,13 @@ pub struct Gaps {
 }
 
 #[repr(C)]
+pub struct Column {
+    pub options: Options,
+    pub alignment: u32,
+    pub reserved: u32,
+}
+
+#[repr(C)]
 #[derive(Default)]
 pub struct Layout {
     pub width: usize,
@@ -231,6 +238,20 @@ extern "C" {
         options: *const Options,
         places: *mut Line,
         places_len: usize,
+        count: *mut usize,
+        room: *mut u8,
+        room_len: usize,
+        len: *mut usize,
+    ) -> u32;
+
+    pub fn textwrap_table(
+        cells: *const Text,
+        cells_len: usize,
+        columns: *const Column,
+        columns_len: usize,
+        gaps: *const Gaps,
+        rows: *mut Line,
+        rows_len: usize,
         count: *mut usize,
         room: *mut u8,
         room_len: usize,

@@ -1,4 +1,4 @@
-//! A table. The library wraps its texts and aligns their lines; the rows are put together here.
+//! A table, where functions of the caller take part. Otherwise the library makes the rows.
 use crate::display::fallible::align;
 use crate::display::{Column, Gaps};
 use crate::fallible::{push, wrap};

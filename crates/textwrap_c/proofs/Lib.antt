@@ -7,4 +7,5 @@ pub mod PlaceLemmas
 pub mod RoomLemmas
 pub mod RowLemmas
 pub mod StepLemmas
+pub mod TableLemmas
 pub mod TextLemmas

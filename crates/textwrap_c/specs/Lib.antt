@@ -9,5 +9,6 @@ pub mod Room
 pub mod Status
 pub mod Texts
 pub mod Steps
+pub mod Tables
 pub mod Reported
 pub mod Wrapping

@@ -76,7 +76,10 @@ pub extern "C" fn textwrap_wrap_columns(
 }
 
 /// The rows, placed as lines of their own.
-fn place_rows(alloc: Global, rows: Vec<String>) -> Result<PlacedLines<Global>, AllocError>
+pub(crate) fn place_rows(
+    alloc: Global,
+    rows: Vec<String>,
+) -> Result<PlacedLines<Global>, AllocError>
     ensures { IfOk result (λ placed. ArePlacedRows (map string_bytes rows.items)
         placed.places.items placed.built.items) }
 {

@@ -20,6 +20,7 @@ mod reported;
 mod room;
 pub mod status;
 pub mod steps;
+pub mod tables;
 #[cfg(test)]
 mod tests;
 pub mod texts;

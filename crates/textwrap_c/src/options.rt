@@ -101,7 +101,7 @@ pub(crate) fn read_options<'a>(given: &TextwrapOptions<'a>) -> Result<Options<'a
 }
 
 /// Whether the version is known, and each number means something.
-fn are_known(given: &TextwrapOptions<'_>) -> bool
+pub(crate) fn are_known(given: &TextwrapOptions<'_>) -> bool
     ensures { result ≡ true ↔ AreKnown given.now }
 {
     given.version == VERSION

@@ -13,8 +13,10 @@ mod bounds;
 mod display;
 mod fragments;
 mod large;
+mod large_lists;
 mod pieces;
 mod steps;
+mod tables;
 
 /// The library's defaults at 10 columns.
 const DEFAULTS: TextwrapOptions<'_> = TextwrapOptions {

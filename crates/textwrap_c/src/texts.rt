@@ -3,6 +3,7 @@ ghost use Rattle.std.specs.Prelude.{◌≡◌, ◌↔◌, true, All, IfOk};
 ghost use Rattle.textwrap_c.specs.Columns.{ArePlacedRows};
 ghost use Rattle.textwrap_c.specs.Texts.{bytes_of, IsText};
 ghost use Rattle.textwrap_display.specs.Shortening.{texts_of};
+ghost use Rattle.textwrap_display.specs.Tables.{texts_in};
 
 use simdutf8::basic::from_utf8;
 use std::alloc::{AllocError, Global};
@@ -45,6 +46,24 @@ pub(crate) fn lines_of<'t>(
         lines.push(CowStr::Borrowed(line))?;
     }
     Ok(lines)
+}
+
+/// The texts as the library has them.
+pub(crate) fn strs_of<'t>(
+    alloc: Global,
+    texts: &[TextwrapText<'t>],
+) -> Result<Vec<&'t str>, AllocError>
+    requires { All IsText texts.now }
+    ensures { IfOk result (λ strs. texts_in strs.items ≡ bytes_of texts.now) }
+{
+    let mut strs = Vec::with_capacity(alloc, texts.len())?;
+    for text in texts {
+        let Ok(bytes) = from_utf8(text.bytes) else {
+            unreachable!();
+        };
+        strs.push(bytes)?;
+    }
+    Ok(strs)
 }
 
 /// The lines, placed as lines of their own.

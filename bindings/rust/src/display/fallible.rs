@@ -153,7 +153,24 @@ where
     if columns.is_empty() {
         return Ok(Vec::new());
     }
-    tables::rows(cells, columns, gaps)
+    if columns.iter().any(|column| column.options.has_function()) {
+        return tables::rows(cells, columns, gaps);
+    }
+    let texts = to_sys(cells)?;
+    let mut with = room_for(columns.len())?;
+    with.extend(columns.iter().map(Column::to_sys));
+    let around = gaps.to_sys();
+    let (rows, bytes) = guess::table(cells, columns, gaps);
+    // SAFETY: as in `align`.
+    let found = unsafe {
+        Reported::by(rows, bytes, |r| {
+            sys::textwrap_table(
+                texts.as_ptr(), texts.len(), with.as_ptr(), with.len(), &around, r.lines,
+                r.lines_len, &mut r.count, r.room, r.room_len, &mut r.len,
+            )
+        })?
+    };
+    found.texts()
 }
 
 /// The texts as C has them.

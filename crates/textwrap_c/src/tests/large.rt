@@ -1,7 +1,9 @@
 //! A text of 1 MiB through each export: first with no room, so that its length is reported, and then with
 //! just so much.
+use super::large_lists::{carried, shortened_lines, table};
 use super::{NOWHERE, at};
 use crate::columns::{TextwrapGaps, textwrap_wrap_columns};
+use crate::display::{textwrap_align, textwrap_fill_justified, textwrap_justify, textwrap_shorten};
 use crate::filling::{textwrap_fill, textwrap_fill_inplace};
 use crate::indentation::{textwrap_dedent, textwrap_indent};
 use crate::refilling::{TextwrapLayout, textwrap_refill, textwrap_unfill};
@@ -18,6 +20,9 @@ pub(super) const LINE: &str = "foo bar baz\n";
 /// How many lines it has. An empty one comes after them.
 pub(super) const LINES: usize = 87_382;
 
+/// Half of them.
+pub(super) const HALF: usize = LINES / 2;
+
 /// How long it is, in bytes: 1 MiB and 8.
 pub(super) const LEN: usize = LINES * LINE.len();
 
@@ -31,6 +36,13 @@ enum Export {
     Dedent,
     Columns,
     Wrap,
+    Align,
+    Justify,
+    FillJustified,
+    Shorten,
+    ShortenLines,
+    CarryStyles,
+    Table,
 }
 
 impl Export {
@@ -45,6 +57,13 @@ impl Export {
             Export::Dedent => textwrap_dedent(alloc, text, room, &mut len),
             Export::Columns => columns(alloc, text, room, &mut len)?,
             Export::Wrap => wrap(alloc, text, room, &mut len)?,
+            Export::Align => textwrap_align(alloc, text, LEN, 1, room, &mut len),
+            Export::Justify => textwrap_justify(alloc, text, LEN, room, &mut len),
+            Export::FillJustified => textwrap_fill_justified(alloc, text, &at(8), room, &mut len),
+            Export::Shorten => textwrap_shorten(alloc, text, 11 * HALF + 7, b"", room, &mut len),
+            Export::ShortenLines => shortened_lines(alloc, room, &mut len)?,
+            Export::CarryStyles => carried(alloc, room, &mut len)?,
+            Export::Table => table(alloc, room, &mut len)?,
         };
         Ok((status, len))
     }
@@ -103,6 +122,23 @@ const INDENTATION: &[(Export, usize)] = &[(Export::Indent, LEN + 2 * LINES), (Ex
 
 const LINES_AND_ROWS: &[(Export, usize)] = &[(Export::Columns, LEN + 12), (Export::Wrap, LEN + 1)];
 
+// The text as one line, in which a line feed takes no columns.
+const WIDENING: &[(Export, usize)] = &[
+    (Export::Align, LEN + LINES),
+    (Export::Justify, LEN + LINES),
+];
+
+const SHORTENING: &[(Export, usize)] = &[
+    (Export::FillJustified, LEN + LINES),
+    (Export::Shorten, HALF * LINE.len() + 7),
+];
+
+const LISTS: &[(Export, usize)] = &[
+    (Export::ShortenLines, 11 * (LINES - 2) + 10),
+    (Export::CarryStyles, 21 * HALF),
+    (Export::Table, 25 * HALF),
+];
+
 /// Asserts that the export tells this length where it has no room, and writes where it has just so
 /// much.
 fn assert_exported(
@@ -145,6 +181,21 @@ fn a_large_text_is_indented_and_dedented(rt: HostRuntime) -> Result<(), Fail> {
 #[test]
 fn a_large_text_has_its_lines_and_rows(rt: HostRuntime) -> Result<(), Fail> {
     assert_all_exported(&rt, LINES_AND_ROWS)
+}
+
+#[test]
+fn a_large_line_is_aligned_and_justified(rt: HostRuntime) -> Result<(), Fail> {
+    assert_all_exported(&rt, WIDENING)
+}
+
+#[test]
+fn a_large_line_is_filled_justified_and_shortened(rt: HostRuntime) -> Result<(), Fail> {
+    assert_all_exported(&rt, SHORTENING)
+}
+
+#[test]
+fn a_large_list_is_shortened_carried_and_laid_out(rt: HostRuntime) -> Result<(), Fail> {
+    assert_all_exported(&rt, LISTS)
 }
 
 #[test]

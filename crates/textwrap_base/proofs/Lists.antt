@@ -1,4 +1,7 @@
+pub mod Ends
+pub mod LastOnes
 pub mod Maps
+pub mod Ordered
 pub mod Parts
 pub mod Prefixes
 pub mod Ranges

@@ -1,5 +1,5 @@
 -- Lines by first fit that are found piece by piece, by where the pieces stand.
-use Rattle.std.specs.Prelude.{◌≡◌, ℕ, ◌+◌, ◌-◌, ◌*◌, ◌≤◌, Bool, true, false, ◌&&◌, nat_lt, List, [], ◌∷◌}
+use Rattle.std.specs.Prelude.{◌≡◌, ℕ, ◌+◌, ◌-◌, ◌≤◌, Bool, true, false, ◌&&◌, nat_lt, List, [], ◌∷◌}
 use Rattle.std.specs.Prelude.{if◌then◌else◌, slice_range, IsCharBoundary}
 use Rattle.textwrap_words.specs.PieceCuts.{pieces_at}
 use Rattle.textwrap_words.specs.Pieces.{stand_from}
@@ -77,13 +77,13 @@ line_so_far line = record {
 }
 
 -- a piece stands after the place, characters end where its word and its whitespace do, and its
--- columns are at most twice its bytes
+-- columns are at most its bytes
 pub record ComesAt (text : List ℕ) (at : ℕ) (piece : Piece) : Type 0 where
   pub from : at ≤ piece.word_end
   pub order : piece.word_end ≤ piece.end
   pub word_ends : IsCharBoundary text piece.word_end
   pub ends : IsCharBoundary text piece.end
-  pub width : piece.width + 2 * at ≤ 2 * piece.word_end
+  pub width : piece.width + at ≤ piece.word_end
 
 -- ---- the lines
 

@@ -28,9 +28,9 @@ use textwrap_words::inner::BuiltInSplitter;
 use textwrap_words::words::Word;
 use textwrap_words::wrap_algorithms::Penalties;
 
-/// The greatest length of a text whose lines are searched for. It has at most twice as many columns,
-/// and a line then costs at most 2^125.
-const LIMIT: usize = 1 << 61;
+/// The greatest length of a text whose lines are searched for. It has at most as many columns, and
+/// a line then costs at most 2^125.
+const LIMIT: usize = 1 << 62;
 
 /// Whether the lines of least cost of a paragraph can be searched for: not in an empty one, and not
 /// where a number is too great. `is_later` says that a line

@@ -42,7 +42,7 @@ fn remaining_width(options: &Options<'_>, indent: &str) -> usize
 }
 
 /// The indent of the next line. `is_later` says that a line stands before it.
-pub(crate) fn next_indent<'a>(options: &Options<'a>, is_later: bool) -> &'a str
+pub fn next_indent<'a>(options: &Options<'a>, is_later: bool) -> &'a str
     ensures { result.now ≡ indent_of (settings_view options.now) is_later }
 {
     if is_later {

@@ -40,7 +40,7 @@ pub(crate) struct OpenLine<'t, 'a> {
     ghost ends: { IsCharBoundary text.now end },
     ghost some: { start ≤ word_end },
     ghost order: { word_end ≤ end },
-    ghost bounded: { columns ≤ 2 * end },
+    ghost bounded: { columns ≤ end },
 }
 
 /// Pushes the lines of a paragraph by first fit, with words split by the splitter. `is_later` says

@@ -1,5 +1,5 @@
 -- Lines between ends.
-use Rattle.textwrap_base.proofs.Common.{◌≡◌, ℕ, ◌≤◌, List, length, map, sym, arith, All, length-map, subst}
+use Rattle.textwrap_base.proofs.Common.{◌≡◌, ℕ, ◌≤◌, List, map, sym, arith, All, length-map, subst}
 use Rattle.textwrap_base.proofs.Lists.Parts.{flat, Begins}
 use Rattle.textwrap_words.proofs.Word.Divisions.{lines_from-begin, lines_from-map}
 use Rattle.textwrap_words.specs.LineEnds.{AreEnds, lines_between}

@@ -18,8 +18,8 @@ use Rattle.textwrap_unicode.specs.Breaks.{AreBreaksBy, break_at}
 use Rattle.textwrap_unicode.specs.Breaks.{breaks_from, breaks_by}
 use Rattle.textwrap_unicode.specs.Classes.{unit_of}
 use Rattle.textwrap_unicode.specs.Rules.{decide_by, numbers_rule}
-use Rattle.textwrap_unicode.proofs.OrderLemmas.{IsInOrder, order-nil, order-cons}
-use Rattle.textwrap_unicode.proofs.OrderLemmas.{same-members}
+use Rattle.textwrap_base.proofs.Lists.Ordered.{IsInOrder, order-nil, order-cons}
+use Rattle.textwrap_base.proofs.Lists.Ordered.{same-members}
 use Rattle.textwrap_unicode.proofs.TextBreaks.{contains-break}
 
 -- ---- their order

@@ -17,8 +17,8 @@ use Rattle.textwrap_unicode.specs.Before.{text_of, with_unit}
 use Rattle.textwrap_unicode.specs.Breaks.{break_at}
 use Rattle.textwrap_unicode.specs.Breaks.{breaks_from, verdict_by}
 use Rattle.textwrap_unicode.specs.Classes.{unit_of}
-use Rattle.textwrap_unicode.proofs.OrderLemmas.{contains-cases}
-use Rattle.textwrap_unicode.proofs.OrderLemmas.{contains-here, contains-nil}
+use Rattle.textwrap_base.proofs.Lists.Ordered.{contains-cases}
+use Rattle.textwrap_base.proofs.Lists.Ordered.{contains-here, contains-nil}
 use Rattle.textwrap_unicode.proofs.Ahead.{IsAhead, ahead-cases, here, later, nothing-ahead}
 use Rattle.textwrap_unicode.proofs.Ahead.{some-units, text_of-push}
 

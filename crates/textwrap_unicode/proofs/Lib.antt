@@ -12,7 +12,6 @@ pub mod InnerCuts
 pub mod NumberLemmas
 pub mod OffsetsAmong
 pub mod OnePlace
-pub mod OrderLemmas
 pub mod ReadPlaces
 pub mod RuleOrder
 pub mod TextBreaks

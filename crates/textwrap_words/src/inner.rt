@@ -6,7 +6,7 @@ ghost use Rattle.textwrap_words.specs.Words.{words_of};
 pub use crate::pieces::{BuiltInSplitter, Piece, Pieces, next_piece};
 pub use crate::printable::is_printable;
 use crate::word_separators::Words;
-pub use crate::word_separators::words::words_between;
+pub use crate::word_separators::words::{first_chunk, words_between};
 pub use crate::word_splitters::pieces::{push_measured, push_split};
 pub use crate::wrap_algorithms::at_ends::lines_between;
 use std::alloc::Allocator;

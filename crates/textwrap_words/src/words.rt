@@ -1,6 +1,6 @@
 //! The columns of a text, fragments and words: what the original has in its module `core`. The text
 //! `foo bar` has 7 columns, and its word `foo` is a fragment of width 3, with a blank after it.
-ghost use Rattle.std.specs.Prelude.{◌≡◌, ◌≢◌, ℕ, ◌+◌, ◌*◌, ◌<◌, ◌≤◌, length, drop, slice_index};
+ghost use Rattle.std.specs.Prelude.{◌≡◌, ◌≢◌, ℕ, ◌+◌, ◌<◌, ◌≤◌, length, drop, slice_index};
 ghost use Rattle.std.specs.Prelude.{All, IfOk, IsCharBoundary, string_bytes};
 ghost use Rattle.textwrap_words.specs.Units.{text_width, escape, stripped};
 ghost use Rattle.textwrap_words.specs.Words.{word_view, sizes_of, word_of};
@@ -24,7 +24,7 @@ mod breaking;
 /// succeeds and needs no memory.
 pub fn display_width(text: &str) -> usize
     ensures width { result ≡ text_width text.now }
-    ensures bound { result ≤ 2 * length text.now }
+    ensures bound { result ≤ length text.now }
 {
     let mut rest = text;
     let mut width = 0;

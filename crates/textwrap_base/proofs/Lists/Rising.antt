@@ -1,9 +1,10 @@
 -- Lists of numbers that increase, and what they contain.
-use Rattle.textwrap_base.proofs.Common.{◌≡◌, ◌⊎◌, ℕ, zero, suc, ◌+◌, ◌<◌, ◌≤◌, true, false, List}
-use Rattle.textwrap_base.proofs.Common.{[], ◌∷◌, length, get_or, refl, sym, arith, inl}
+use Rattle.textwrap_base.proofs.Common.{◌≡◌, ℕ, zero, suc, ◌+◌, ◌<◌, ◌≤◌, true, false, List}
+use Rattle.textwrap_base.proofs.Common.{[], ◌∷◌, length, get_or, sym, arith, inl}
 use Rattle.textwrap_base.proofs.Common.{inr, ◌==◌, Result, Ok, Err, list_any}
 use Rattle.textwrap_base.proofs.Common.{Contains, cases_lt, eqb-true, eq-eqb, ne_eqb, false≢true}
 use Rattle.textwrap_base.proofs.Common.{cases_eq, get_or_default, All-from_get_or}
+use Rattle.textwrap_base.proofs.Lists.Ordered.{IsInOrder, contains-here, contains-later}
 use Rattle.std.specs.List.Sorted.{IsStrictlyIncreasing}
 use Rattle.std.specs.Result.{MatchResult, is_ok}
 use Rattle.std.proofs.lemmas.Bool.{or_cases}
@@ -29,25 +30,15 @@ pub increasing-rising : (xs : List ℕ) → IsStrictlyIncreasing xs → IsRising
 increasing-rising xs up = λ i j lt within.
     omega (arith, up i (omega arith), increasing-le xs up (i + 1) j (omega arith) within)
 
-rising-tail : (x : ℕ) (xs : List ℕ) → IsRising (x ∷ xs) → IsRising xs
-rising-tail x xs rising = λ i j lt within. rising (suc i) (suc j) (omega arith) (omega arith)
-
-pub contains-nil : (y : ℕ) → Contains [] y → ⊥
-contains-nil y h = omega (arith, h.1)
-
-pub contains-here : (x y : ℕ) (xs : List ℕ) → x ≡ y → Contains (x ∷ xs) y
-contains-here x y xs e = (0, omega arith, e)
-
-pub contains-later : (x y : ℕ) (xs : List ℕ) → Contains xs y → Contains (x ∷ xs) y
-contains-later x y xs h = (suc h.0, omega (arith, h.1), h.2)
-
-contains-at : (x y : ℕ) (xs : List ℕ) (k : ℕ) → k < length (x ∷ xs) → get_or (x ∷ xs) k y ≡ y
-    → (x ≡ y) ⊎ Contains xs y
-contains-at x y xs zero within e = inl e
-contains-at x y xs (suc k) within e = inr (k, omega arith, e)
-
-pub contains-cases : (x y : ℕ) (xs : List ℕ) → Contains (x ∷ xs) y → (x ≡ y) ⊎ Contains xs y
-contains-cases x y xs h = contains-at x y xs h.0 h.1 h.2
+-- so they are in the order of themselves
+pub rising-in_order : (xs : List ℕ) → IsRising xs → IsInOrder (λ x. x) xs
+rising-in_order xs rising = λ i j none lt within.
+    omega (
+      arith,
+      rising i j lt within,
+      get_or_default xs i 0 none (omega (arith, lt, within)),
+      get_or_default xs j 0 none within,
+    )
 
 pub contains-any : (x : ℕ) (xs : List ℕ) → Contains xs x → list_any (λ y. y == x) xs ≡ true
 contains-any x xs h = list_any_at (λ y. y == x) xs h.0 x h.1 (eq-eqb (get_or xs h.0 x) x h.2)
@@ -58,41 +49,6 @@ any-contains x (y ∷ ys) any = elim (or_cases (y == x) (list_any (λ z. z == x)
   | inl here ↦ contains-here y x ys (eqb-true y x here)
   | inr later ↦ contains-later y x ys (any-contains x ys later)
 ]
-
-rising-below : (x y : ℕ) (xs : List ℕ) → IsRising (x ∷ xs) → Contains xs y → x < y
-rising-below x y xs rising h =
-    let far : x < get_or xs h.0 0 = rising 0 (suc h.0) (omega arith) (omega (arith, h.1)) in
-    omega (arith, far, get_or_default xs h.0 0 y h.1, h.2)
-
-members-tail : (x y : ℕ) (xs ys : List ℕ) → IsRising (x ∷ xs) → x ≡ y
-    → ((z : ℕ) → Contains (x ∷ xs) z → Contains (y ∷ ys) z) → (z : ℕ) → Contains xs z → Contains ys z
-members-tail x y xs ys rising first to z h =
-    elim (contains-cases y z ys (to z (contains-later x z xs h))) [
-      | inl e ↦ absurd (omega (arith, rising-below x z xs rising h, e, first))
-      | inr later ↦ later
-    ]
-
--- increasing numbers that are the same are in the same order
-pub same-members : (xs ys : List ℕ) → IsRising xs → IsRising ys
-    → ((z : ℕ) → Contains xs z → Contains ys z) → ((z : ℕ) → Contains ys z → Contains xs z)
-    → xs ≡ ys
-same-members [] [] rx ry to from = refl
-same-members [] (y ∷ ys) rx ry to from =
-    absurd (contains-nil y (from y (contains-here y y ys refl)))
-same-members (x ∷ xs) [] rx ry to from =
-    absurd (contains-nil x (to x (contains-here x x xs refl)))
-same-members (x ∷ xs) (y ∷ ys) rx ry to from =
-    let first : x ≡ y = elim (contains-cases y x ys (to x (contains-here x x xs refl))) [
-      | inl e ↦ sym e
-      | inr later ↦ elim (contains-cases x y xs (from y (contains-here y y ys refl))) [
-        | inl e ↦ e
-        | inr past ↦ absurd
-            (omega (arith, rising-below y x ys ry later, rising-below x y xs rx past))
-      ]
-    ] in
-    let rest = same-members xs ys (rising-tail x xs rx) (rising-tail y ys ry)
-    (members-tail x y xs ys rx first to) (members-tail y x ys xs ry (sym first) from) in
-    cc
 
 -- what a search among increasing numbers answers
 pub among-is : (xs : List ℕ) (x : ℕ) (r : Result ℕ ℕ)

@@ -8,7 +8,7 @@ use Rattle.textwrap_lines.proofs.Common.{widths_of, IsDividedInto}
 use Rattle.textwrap_base.proofs.Lists.Parts.{Begins, flat, all-left}
 use Rattle.textwrap_words.proofs.Word.BrokenPieces.{tiled-broken_words}
 use Rattle.textwrap_words.proofs.Word.BrokenTexts.{broken_words-measured, broken_words-no_penalty}
-use Rattle.textwrap_words.proofs.Word.Bounds.{IsBounded, IsBounded-measured}
+use Rattle.textwrap_words.proofs.Word.Bounds.{IsNarrowWord, IsNarrowWord-measured}
 use Rattle.textwrap_words.proofs.Word.Measured.{IsMeasured, EndsInBlanks, HasNoPenalty, no_blanks}
 use Rattle.textwrap_words.proofs.Word.Measured.{text_width-nil}
 use Rattle.textwrap_words.proofs.Word.Tiling.{tiled-append}
@@ -96,6 +96,6 @@ module _ (settings : Settings) (Words : List ℕ → List WordText → Type 0)
         grind (arith, AreSplit-no_penalty, All-append, front-no_penalty, broken_words-no_penalty)
 
     pub pieces-bounded : (paragraph : List ℕ) (pieces : List WordText) → IsUtf8 paragraph
-        → ArePieces settings Words Points paragraph pieces → All IsBounded pieces
+        → ArePieces settings Words Points paragraph pieces → All IsNarrowWord pieces
     pieces-bounded paragraph pieces utf8 are =
-        search (rules, arith, pieces-measured, pieces-no_penalty, IsBounded-measured)
+        search (rules, arith, pieces-measured, pieces-no_penalty, IsNarrowWord-measured)

@@ -1,13 +1,13 @@
 -- The lines of a division, one after another, and the widths of its pieces.
 use Rattle.textwrap_base.proofs.Common.{◌≡◌, ℕ, Bool, ◌≤◌, List, [], ◌∷◌, length, map, refl, ap}
-use Rattle.textwrap_base.proofs.Common.{◌*◌, All, flat_map, map-append, total_width, rules, arith}
+use Rattle.textwrap_base.proofs.Common.{All, flat_map, map-append, total_width, rules, arith}
 use Rattle.textwrap_words.proofs.Common.{WordText, word_view, sizes_of, tiled, Tiles, MayDivide}
 use Rattle.textwrap_lines.proofs.Common.{Settings, parts_from, ArePieces, widths_of, IsDividedInto}
 use Rattle.textwrap_lines.proofs.Common.{AreDividedParts, Word}
 use Rattle.textwrap_words.specs.declared.wrap_algorithms.WrapAlgorithm.{WrapAlgorithm}
 use Rattle.textwrap_words.proofs.Word.Divisions.{MayDivide-map}
 use Rattle.textwrap_base.proofs.Cost.Measures.{total_width-same}
-use Rattle.textwrap_words.proofs.Word.Bounds.{IsBounded, total_width-bounded}
+use Rattle.textwrap_words.proofs.Word.Bounds.{IsNarrowWord, total_width-narrow}
 use Rattle.textwrap_words.proofs.Word.Tiling.{tiled-append}
 use Rattle.std.proofs.lemmas.Grind.{common_steps}
 
@@ -47,9 +47,9 @@ pub sizes-word_view : (words : List Word) → map (λ word. sizes_of (word_view 
 sizes-word_view [] = refl
 sizes-word_view (w ∷ words) = ap (λ l. sizes_of (word_view w) ∷ l) (sizes-word_view words)
 
--- the widths of pieces without penalties are together at most twice the bytes that they tile
+-- the widths of pieces without penalties are together at most the bytes that they tile
 pub total_width-pieces : (paragraph : List ℕ) (words : List Word)
-    → All IsBounded (map word_view words) → Tiles (map word_view words) paragraph
-    → total_width (λ word. sizes_of (word_view word)) words ≤ 2 * length paragraph
+    → All IsNarrowWord (map word_view words) → Tiles (map word_view words) paragraph
+    → total_width (λ word. sizes_of (word_view word)) words ≤ length paragraph
 total_width-pieces paragraph words bounded tiles =
-    search (rules, common_steps, total_width-bounded, total_width-same, sizes-word_view)
+    search (rules, common_steps, total_width-narrow, total_width-same, sizes-word_view)

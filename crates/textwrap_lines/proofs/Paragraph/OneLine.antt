@@ -6,11 +6,9 @@ use Rattle.textwrap_base.proofs.Common.{closed_width, rules}
 use Rattle.textwrap_words.proofs.Common.{WordText, sizes_of, word_of, Splitter}
 use Rattle.textwrap_lines.proofs.Common.{Settings, Slice, line_from, indent_of, parts_of, pieces_of}
 use Rattle.textwrap_lines.proofs.Common.{is_whole}
-use Rattle.textwrap_words.proofs.Units.Narrow.{all-narrow}
-use Rattle.textwrap_words.proofs.Units.Widths.{text_width-narrow}
 use Rattle.textwrap_words.proofs.Word.Texts.{AreBlanks}
 use Rattle.textwrap_words.proofs.Word.Measured.{IsMeasured, HasNoPenalty}
-use Rattle.textwrap_words.proofs.Word.Bounds.{IsNarrowWord, closed_width-narrow}
+use Rattle.textwrap_words.proofs.Word.Bounds.{IsNarrowWord, IsNarrowWord-measured, closed_width-narrow}
 use Rattle.textwrap_lines.proofs.Paragraph.LastBlanks.{covered-pieces_of}
 use Rattle.textwrap_lines.proofs.Paragraph.WholeLine.{line_from-pieces, line_from-whole}
 use Rattle.textwrap_lines.proofs.Paragraph.Pieces.{pieces_of-measured, pieces_of-no_penalty}
@@ -23,12 +21,7 @@ blanks-utf8 bytes blanks = search (rules, IsUtf8-from_ascii, IsAscii-from_all, e
 pub narrow_words : (ws : List WordText) → All IsMeasured ws → All HasNoPenalty ws
     → All IsNarrowWord ws
 narrow_words ws measured none = λ k d within.
-    let w = get_or ws k d in
-    let here = measured k d within in
-    record {
-      width = rw here.width (text_width-narrow w.word here.utf8 (all-narrow w.word));
-      penalty = none k d within;
-    }
+    IsNarrowWord-measured (get_or ws k d) (measured k d within) (none k d within)
 
 pub closed-pieces_of : (settings : Settings) (splitter : Splitter)
     (paragraph : List ℕ) → IsUtf8 paragraph

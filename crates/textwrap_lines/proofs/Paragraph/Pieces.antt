@@ -1,13 +1,13 @@
 -- The built-in parts leave exactly the computed pieces of a paragraph, which tile it.
 use Rattle.textwrap_base.proofs.Common.{arith}
-use Rattle.textwrap_base.proofs.Common.{◌*◌, ◌≤◌, length, total_width, subst, ◌≡◌, ◌↔◌, ℕ, Bool}
+use Rattle.textwrap_base.proofs.Common.{◌≤◌, length, total_width, subst, ◌≡◌, ◌↔◌, ℕ, Bool}
 use Rattle.textwrap_base.proofs.Common.{List, [], All, refl, sym, ap, ◌∙◌, flat_map, IsUtf8, rules}
 use Rattle.textwrap_words.proofs.Common.{WordText, sizes_of, tiled, word_of, words_of, AreWordsOf}
 use Rattle.textwrap_words.proofs.Common.{Algorithm, Splitter, ArePoints}
 use Rattle.textwrap_lines.proofs.Common.{Settings, empty_word, ArePieces, pieces_of, widths_of}
 use Rattle.textwrap_lines.proofs.Common.{DividesAs}
 use Rattle.textwrap_base.proofs.Division.Map.{IsDividedBy-whole}
-use Rattle.textwrap_words.proofs.Word.Bounds.{IsBounded-measured, total_width-bounded}
+use Rattle.textwrap_words.proofs.Word.Bounds.{IsNarrowWord-measured, total_width-narrow}
 use Rattle.textwrap_words.proofs.Word.Words.{words_unique}
 use Rattle.textwrap_words.proofs.Word.Measured.{IsMeasured, HasNoPenalty, text_width-nil}
 use Rattle.textwrap_words.proofs.Word.Pieces.{split_pieces_of, AreSplit-is, AreSplit-computed}
@@ -83,12 +83,12 @@ module _ (settings : Settings) (splitter : Splitter) (paragraph : List ℕ) wher
       (ArePoints-cuts splitter) (ArePoints-hyphens splitter) paragraph
       (pieces_of settings splitter paragraph) utf8 (ArePieces-computed settings splitter paragraph)
 
-  -- all of them together are at most as wide as twice the bytes of the paragraph
+  -- all of them together are at most as wide as the bytes of the paragraph
   pub pieces_of-wide : IsUtf8 paragraph
-      → total_width sizes_of (pieces_of settings splitter paragraph) ≤ 2 * length paragraph
+      → total_width sizes_of (pieces_of settings splitter paragraph) ≤ length paragraph
   pieces_of-wide utf8 =
       let measured = pieces_of-measured utf8 in
-      search (rules, pieces_of-no_penalty, pieces_of-tile, total_width-bounded, IsBounded-measured)
+      search (rules, pieces_of-no_penalty, pieces_of-tile, total_width-narrow, IsNarrowWord-measured)
 
 module _ (settings : Settings) (algorithm : Algorithm) (splitter : Splitter) where
   pub IsDividedInto-whole : (is_later : Bool) (paragraph : List ℕ) (division : List (List WordText))

@@ -5,7 +5,7 @@ use Rattle.textwrap_base.proofs.Common.{IsCharBoundary-start, ⊤}
 use Rattle.textwrap_words.proofs.Common.{WordText, tiled, Splitter}
 use Rattle.textwrap_words.specs.Pieces.{stand_from}
 use Rattle.textwrap_words.specs.declared.pieces.Piece.{Piece}
-use Rattle.textwrap_words.proofs.Units.Widths.{text_width-le}
+use Rattle.textwrap_words.proofs.Units.Narrow.{text_width-le}
 use Rattle.textwrap_words.proofs.Word.Measured.{IsMeasured}
 use Rattle.textwrap_lines.proofs.Common.{Settings, pieces_of}
 use Rattle.textwrap_lines.specs.PieceLines.{ComesAt}

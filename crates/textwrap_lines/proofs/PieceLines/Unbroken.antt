@@ -1,25 +1,25 @@
 -- Words that stay whole are broken past a limit that none reaches.
-use Rattle.textwrap_base.proofs.Common.{◌≡◌, ℕ, ◌*◌, ◌<◌, ◌≤◌, cond}
+use Rattle.textwrap_base.proofs.Common.{◌≡◌, ℕ, ◌<◌, ◌≤◌, cond}
 use Rattle.textwrap_base.proofs.Common.{List, [], ◌∷◌, ◌++◌, All, length, refl, ap, ◌∙◌, arith}
 use Rattle.textwrap_base.proofs.Common.{length-append, IsUtf8, le-ltb, All-head, All-tail}
 use Rattle.textwrap_words.proofs.Common.{broken_words, broken_pieces, WordText, tile_of, tiled}
 use Rattle.textwrap_words.proofs.Common.{words_of, Splitter, split_words}
 use Rattle.textwrap_lines.proofs.Common.{front_of, Settings, pieces_of, text_limit}
-use Rattle.textwrap_words.proofs.Word.Bounds.{IsBounded, IsBounded-measured}
+use Rattle.textwrap_words.proofs.Word.Bounds.{IsNarrowWord, IsNarrowWord-measured}
 use Rattle.textwrap_lines.specs.Layout.{break_limit}
 use Rattle.textwrap_lines.proofs.Paragraph.Pieces.{pieces_of-tile, split_pieces_of-measured}
 use Rattle.textwrap_words.proofs.Word.Pieces.{split_pieces_of-no_penalty}
 
-unbroken : (limit : ℕ) (ws : List WordText) → All IsBounded ws → 2 * length (tiled ws) ≤ limit
+unbroken : (limit : ℕ) (ws : List WordText) → All IsNarrowWord ws → length (tiled ws) ≤ limit
     → broken_words limit ws ≡ ws
 unbroken limit [] bounded within = refl
 unbroken limit (w ∷ ws) bounded within =
-    let here = All-head IsBounded w ws bounded in
+    let here = All-head IsNarrowWord w ws bounded in
     let len = length-append (tile_of w) (tiled ws) in
     let word = length-append w.word w.whitespace in
     ap (λ b. cond b (broken_pieces limit w) (w ∷ []) ++ broken_words limit ws)
     (le-ltb limit w.width (omega (arith, here.width, within, len, word)))
-    ∙ ap (λ l. w ∷ l) (unbroken limit ws (All-tail IsBounded w ws bounded)
+    ∙ ap (λ l. w ∷ l) (unbroken limit ws (All-tail IsNarrowWord w ws bounded)
     (omega (arith, within, len)))
 
 -- whether words are broken or not, these are the pieces
@@ -33,7 +33,7 @@ limited-pieces settings splitter paragraph utf8 short =
       arith,
       split_pieces_of-measured,
       split_pieces_of-no_penalty,
-      IsBounded-measured,
+      IsNarrowWord-measured,
       pieces_of-tile,
       unbroken,
     )

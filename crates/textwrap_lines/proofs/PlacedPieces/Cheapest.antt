@@ -13,7 +13,7 @@ use Rattle.textwrap_base.proofs.Cost.Lines.{division_joined, joined_division}
 use Rattle.textwrap_base.proofs.Cost.Map.{fragments_table-map}
 use Rattle.textwrap_base.proofs.Cost.QueueCase.{SuitQueue-queue_case}
 use Rattle.textwrap_base.proofs.Lists.Parts.{flat}
-use Rattle.textwrap_words.proofs.Word.Bounds.{IsBounded-measured}
+use Rattle.textwrap_words.proofs.Word.Bounds.{IsNarrowWord-measured}
 use Rattle.textwrap_words.proofs.Word.Measured.{HasNoPenalty, IsMeasured}
 use Rattle.textwrap_lines.specs.Cheapest.{SuitSearch}
 use Rattle.textwrap_lines.proofs.Paragraph.Pieces.{pieces_of-measured, pieces_of-no_penalty}
@@ -96,7 +96,7 @@ module _ (settings : Settings) (splitter : Splitter) (is_later : Bool) (text : L
     are_searched suit =
         let widths = widths_of settings is_later in
         let case = spans-case text penalties (first_width settings is_later) (later_width settings)
-        pieces tile (λ k d lt. IsBounded-measured _ (measured k d lt) (none k d lt)) suit in
+        pieces tile (λ k d lt. IsNarrowWord-measured _ (measured k d lt) (none k d lt)) suit in
         record {
           some_spans = omega (arith, ap length are, length-spans 0 0 pieces, tiled-some pieces text tile some);
           measured = subst AreSpans (sym are) (AreSpans-from penalties widths pieces case);

@@ -8,7 +8,7 @@ use Rattle.textwrap_lines.proofs.Common.{span_priced, spans_from, Penalties, Are
 use Rattle.textwrap_base.proofs.Cost.Measures.{sizes-same, total_width-same}
 use Rattle.textwrap_base.proofs.Division.Widths.{open_width-cons}
 use Rattle.textwrap_base.proofs.Division.OneLine.{closed-take}
-use Rattle.textwrap_words.proofs.Word.Bounds.{IsBounded, total_width-bounded}
+use Rattle.textwrap_words.proofs.Word.Bounds.{IsNarrowWord, total_width-narrow}
 use Rattle.textwrap_words.proofs.Word.Measured.{HasNoPenalty}
 use Rattle.textwrap_lines.specs.Cheapest.{SuitSearch}
 use Rattle.textwrap_lines.specs.Spans.{span_sizes}
@@ -53,14 +53,14 @@ two-equal first later (suc (suc k)) from within = absurd (omega (arith, within))
 
 -- the numbers are small enough for the search
 pub spans-case : (text : List ℕ) (penalties : Penalties) (first later : ℕ) (ws : List WordText)
-    → tiled ws ≡ text → All IsBounded ws → SuitSearch (length text) (first ∷ later ∷ []) penalties
+    → tiled ws ≡ text → All IsNarrowWord ws → SuitSearch (length text) (first ∷ later ∷ []) penalties
     → IsQueueCase span_priced penalties (first ∷ later ∷ []) (spans_from 0 0 ws)
 spans-case text penalties first later ws tile bounded suit =
     let spans = spans_from 0 0 ws in
     let total = total_width-same span_sizes sizes_of spans ws
     (sizes-same span_priced (λ w. priced_at penalties (sizes_of w)) spans ws
     (priced-spans penalties 0 0 ws (λ k d lt. (bounded k d lt).penalty))) in
-    let most = total_width-bounded ws bounded in
+    let most = total_width-narrow ws bounded in
     let len = ap length tile in record {
       equal = two-equal first later;
       rising = never_falls spans;

@@ -1,5 +1,5 @@
 -- The reader that measures a text: where it stands, and the columns before that.
-use Rattle.textwrap_base.proofs.Common.{◌≡◌, ℕ, zero, suc, ◌+◌, ◌*◌, ◌<◌, ◌≤◌, Bool, true, List}
+use Rattle.textwrap_base.proofs.Common.{◌≡◌, ℕ, zero, suc, ◌+◌, ◌<◌, ◌≤◌, Bool, true, List}
 use Rattle.textwrap_base.proofs.Common.{◌++◌, length, drop, get_or, sym, ap, ◌∙◌, subst, arith, refl}
 use Rattle.textwrap_base.proofs.Common.{drop_more, IsUtf8, IsCharBoundary}
 use Rattle.textwrap_base.proofs.Common.{IsCharBoundary-start, IsUtf8-drop, IsUtf8-past_char}
@@ -11,7 +11,8 @@ use Rattle.textwrap_words.specs.declared.escapes.State.{State}
 use Rattle.textwrap_words.specs.declared.escapes.State.TheVariants.{Text}
 use Rattle.textwrap_words.proofs.Units.States.{IsStep, shown-step}
 use Rattle.textwrap_words.proofs.Units.Widths.{columns_in, columns_in-step, columns-printable}
-use Rattle.textwrap_words.proofs.Units.Widths.{printable-no_escape, text_width-le}
+use Rattle.textwrap_words.proofs.Units.Narrow.{text_width-le}
+use Rattle.textwrap_words.proofs.Units.Widths.{printable-no_escape}
 use Rattle.textwrap_words.proofs.Word.CharactersAhead.{ends-within, left-after}
 use Rattle.textwrap_words.proofs.Word.FirstUnits.{added}
 
@@ -54,7 +55,7 @@ module _ (text : List ℕ) (utf8 : IsUtf8 text) where
       }
 
   pub measured-le : (place : ℕ) (rest : List ℕ) (state : State) (width : ℕ)
-      → IsMeasured text place rest state width → width ≤ 2 * length text
+      → IsMeasured text place rest state width → width ≤ length text
   measured-le place rest state width h = omega (arith, h.columns, text_width-le text utf8)
 
   -- it goes over printable ASCII

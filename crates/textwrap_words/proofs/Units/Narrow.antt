@@ -1,10 +1,11 @@
--- No character takes more columns than its bytes, so each text is narrow.
-use Rattle.textwrap_base.proofs.Common.{◌≢◌, ℕ, ◌≤◌, false, List, arith, cases_eq, cases_lt}
+-- No character takes more columns than its bytes, so no text does.
+use Rattle.textwrap_base.proofs.Common.{◌≢◌, ℕ, ◌≤◌, false, List, [], ◌∷◌, arith, cases_eq, cases_lt}
 use Rattle.textwrap_base.proofs.Common.{get_or, inl, inr, length, length-encode, nat_tests, ne_eqb}
+use Rattle.textwrap_base.proofs.Common.{length-append, encodes-chars, IsUtf8, sum_by, sum_by-cons}
 use Rattle.std.specs.Str.{chars}
-use lib.Utf8.{encode}
-use Rattle.textwrap_words.proofs.Common.{columns, IsNarrow}
-use Rattle.textwrap_words.proofs.Units.Widths.{columns-ascii}
+use lib.Utf8.{encode, encodes}
+use Rattle.textwrap_words.proofs.Common.{columns, IsNarrow, text_width}
+use Rattle.textwrap_words.proofs.Units.Widths.{columns-ascii, visible-le}
 use Rattle.unicode_width.proofs.Rules.{width_or_zero-le}
 use Rattle.unicode_width.specs.Kind.{kind}
 use Rattle.unicode_width.specs.Width.{alone, char_width, of_kind, single}
@@ -33,8 +34,8 @@ columns-other : (c : ℕ) → c ≢ 0x17D8 → columns c ≤ 2
 unfolding char_width alone
 columns-other c other = grind (arith, of_kind-narrow c (kind c) other)
 
-character-narrow : (c : ℕ) → columns c ≤ length (encode c)
-character-narrow c =
+pub columns-le : (c : ℕ) → columns c ≤ length (encode c)
+columns-le c =
     elim (cases_lt c 128) [
       | inl low ↦ rw length-encode (grind (arith, nat_tests, columns-ascii c low))
       | inr high ↦ elim (cases_eq c 0x17D8) [
@@ -44,4 +45,14 @@ character-narrow c =
     ]
 
 pub all-narrow : (text : List ℕ) → IsNarrow text
-all-narrow text = λ k d within. character-narrow (get_or (chars text) k d)
+all-narrow text = λ k d within. columns-le (get_or (chars text) k d)
+
+together-le : (cs : List ℕ) → sum_by columns cs ≤ length (encodes cs)
+together-le [] = omega arith
+together-le (c ∷ cs) = simp (length-append, sum_by-cons)
+    (omega (arith, together-le cs, columns-le c))
+
+pub text_width-le : (text : List ℕ) → IsUtf8 text → text_width text ≤ length text
+text_width-le text utf8 =
+    let together = rw (encodes-chars text utf8) at (together-le (chars text)) in
+    omega (arith, visible-le 0 (chars text), together)

@@ -6,8 +6,8 @@ use Rattle.textwrap_words.proofs.Common.{units_text, TextUnit, Visible, Sequence
 use Rattle.textwrap_words.proofs.Common.{shown_len, VisibleEnd, ends_from, is_cut_after, cuts_among}
 use lib.Utf8.{encode}
 use Rattle.textwrap_base.proofs.Utf8.{one-text}
-use Rattle.textwrap_base.proofs.Lists.Rising.{contains-nil, contains-cases, contains-later}
-use Rattle.textwrap_base.proofs.Lists.Rising.{contains-here}
+use Rattle.textwrap_base.proofs.Lists.Ordered.{contains-nil, contains-cases, contains-later}
+use Rattle.textwrap_base.proofs.Lists.Ordered.{contains-here}
 
 -- a cut among units, of which the first begins at these places
 pub record IsFound (offsets : List ℕ) (total at shown : ℕ) (us : List TextUnit) (cut : ℕ) : Type 0 where

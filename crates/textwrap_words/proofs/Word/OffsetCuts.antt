@@ -12,7 +12,8 @@ use lib.Utf8.{encode}
 use Rattle.std.proofs.lemmas.Bool.{not_from_false}
 use Rattle.textwrap_words.specs.WordOffsets.{IsCutAt, AreCutsAt, AreWordsAt, words_at}
 use Rattle.textwrap_base.proofs.Lists.Rising.{IsRising, any-contains, contains-any}
-use Rattle.textwrap_base.proofs.Lists.Rising.{rising-increasing, same-members, increasing-rising}
+use Rattle.textwrap_base.proofs.Lists.Rising.{rising-increasing, increasing-rising, rising-in_order}
+use Rattle.textwrap_base.proofs.Lists.Ordered.{same-members}
 use Rattle.textwrap_words.proofs.Word.FoundOffsets.{contains-found, found-contains}
 
 -- ---- the computed cuts are the cuts
@@ -65,8 +66,10 @@ cuts_at-cuts offsets line = search (rising-increasing, among-rising, cut-found, 
 cuts-unique : (offsets line cuts : List ℕ) → AreCutsAt offsets line cuts
     → cuts ≡ cuts_at offsets line
 cuts-unique offsets line cuts h =
-    same-members cuts (cuts_at offsets line) (increasing-rising cuts h.in_order)
-    (among-rising offsets (length (stripped line)) (units (chars line)) 0 0)
+    same-members (λ cut. cut) cuts (cuts_at offsets line)
+    (rising-in_order cuts (increasing-rising cuts h.in_order))
+    (rising-in_order (cuts_at offsets line)
+    (among-rising offsets (length (stripped line)) (units (chars line)) 0 0))
     (λ cut in_cuts. cut-contained offsets line cut ((h.all cut).0 in_cuts))
     (λ cut found. (h.all cut).1 (cut-found offsets line cut found))
 

@@ -1,5 +1,5 @@
 -- The reader of the first piece.
-use Rattle.textwrap_base.proofs.Common.{◌≡◌, ◌≢◌, ℕ, ◌+◌, ◌*◌, ◌≤◌, Bool, true, false, List, []}
+use Rattle.textwrap_base.proofs.Common.{◌≡◌, ◌≢◌, ℕ, ◌+◌, ◌≤◌, Bool, true, false, List, []}
 use Rattle.textwrap_base.proofs.Common.{◌++◌, refl, sym, ap, ◌∙◌, subst, arith, length, drop}
 use Rattle.textwrap_base.proofs.Common.{IsUtf8, nil_from_length, length-append, length-drop}
 use Rattle.textwrap_base.proofs.Common.{drop-drop, drop_at, drop_all, chars-nil, IsUtf8-nil}
@@ -12,14 +12,14 @@ use Rattle.std.specs.Prelude.{chars, encode_utf8}
 use Rattle.textwrap_words.specs.declared.escapes.State.{State}
 use Rattle.textwrap_words.specs.declared.escapes.State.TheVariants.{Text}
 use Rattle.textwrap_words.proofs.Units.States.{IsStep}
-use Rattle.textwrap_words.proofs.Units.Widths.{columns-le}
+use Rattle.textwrap_words.proofs.Units.Narrow.{columns-le}
 
 pub record IsReading (limit : ℕ) (text : List ℕ) (at : ℕ) (rest : List ℕ) (state : State)
     (width : ℕ) : Type 0 where
   pub utf8 : IsUtf8 rest
   pub place : drop at text ≡ rest
   pub within : at ≤ length text
-  pub bound : width ≤ 2 * at
+  pub bound : width ≤ at
   pub inside : IsInFirst limit (chars text) state width (chars rest)
 
 pub IsReading-start : (limit : ℕ) (text : List ℕ) (at : ℕ) (rest : List ℕ) → IsUtf8 text → at ≡ 0
@@ -33,7 +33,7 @@ pub IsReading-room : (limit : ℕ) (text : List ℕ) (at : ℕ) (rest : List ℕ
 IsReading-room limit text at rest state width c after h e =
     omega (arith, h.within, ap length (h.place ∙ e), length-drop {A = ℕ}, length-append {A = ℕ})
 
-pub added-le : (flag : Bool) (c : ℕ) → added flag c ≤ 2 * length (encode_utf8 c)
+pub added-le : (flag : Bool) (c : ℕ) → added flag c ≤ length (encode_utf8 c)
 added-le true c = columns-le c
 added-le false c = omega arith
 

@@ -1,6 +1,6 @@
 -- The reader of the first piece from a place on that finds the end of its word in the same pass: what
 -- it has seen of the word, whatever characters follow.
-use Rattle.textwrap_base.proofs.Common.{inl, inr, ◌≡◌, ◌≢◌, ℕ, ◌+◌, ◌*◌, ◌-◌, ◌<◌, ◌≤◌, Bool, true}
+use Rattle.textwrap_base.proofs.Common.{inl, inr, ◌≡◌, ◌≢◌, ℕ, ◌+◌, ◌-◌, ◌<◌, ◌≤◌, Bool, true}
 use Rattle.textwrap_base.proofs.Common.{false, List, [], ◌∷◌, ◌++◌, length, drop, get_or, sym}
 use Rattle.textwrap_base.proofs.Common.{ap, ◌∙◌, subst, arith, slice_range, cases_lt, append_assoc}
 use Rattle.textwrap_base.proofs.Common.{append-nil, IsUtf8, IsCharBoundary, IsUtf8-between}
@@ -27,7 +27,7 @@ pub record IsScanned (splitter : Splitter) (limit : ℕ) (text : List ℕ) (at p
   pub boundary : IsCharBoundary text place
   pub plain : (k : ℕ) → at ≤ k → k < place → is_blank (get_or text k 0) ≡ false
   pub uncut : (k : ℕ) → at < k → k < place → is_piece_cut splitter text k ≡ false
-  pub bound : width ≤ 2 * (place - at)
+  pub bound : width ≤ place - at
   pub reads : (more : List ℕ)
       → IsInFirst limit (chars (slice_range text at place) ++ more) state width more
 

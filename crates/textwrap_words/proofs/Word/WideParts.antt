@@ -9,7 +9,7 @@ use Rattle.textwrap_words.proofs.Common.{Sequence, characters, taken_at, units_p
 use Rattle.textwrap_words.proofs.Common.{visible_of, columns}
 use Rattle.textwrap_words.proofs.Units.Parts.{units-tile, units-part}
 
-units_past-skip : (n : ℕ) (cs : List ℕ) → units_past n cs ≡ units (drop n cs)
+pub units_past-skip : (n : ℕ) (cs : List ℕ) → units_past n cs ≡ units (drop n cs)
 units_past-skip zero cs = refl
 units_past-skip (suc n) [] = refl
 units_past-skip (suc n) (c ∷ cs) = units_past-skip n cs

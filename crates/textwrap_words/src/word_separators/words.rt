@@ -104,13 +104,23 @@ impl<'a, A: Allocator> Iterator for Words<'a, A> {
                 if rest.is_empty() {
                     return None;
                 }
-                let (chunk, after) = rest.split_at(chunk_len(rest.as_bytes()));
+                let (chunk, after) = first_chunk(rest);
                 *rest = after;
                 Some(Word::from(chunk))
             }
             Source::Found(words) => words.next(),
         }
     }
+}
+
+/// What becomes the first word of a line, with the blanks after it, and what follows: of `"foo bar"`
+/// these are `"foo "` and `"bar"`. It is not measured. The call always succeeds.
+pub fn first_chunk(line: &str) -> (&str, &str)
+    requires { 0 < length line.now }
+    ensures first { chunks line.now ≡ result.0.now ∷ chunks result.1.now }
+    ensures shorter { length result.1.now < length line.now }
+{
+    line.split_at(chunk_len(line.as_bytes()))
 }
 
 /// The length of what becomes the first word.

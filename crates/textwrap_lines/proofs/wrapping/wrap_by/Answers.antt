@@ -1,6 +1,6 @@
 use Rattle.textwrap_lines.proofs.wrapping.wrap_by.Goals as goal
-use Rattle.textwrap_base.proofs.Common.{map, sym, subst, ◌∙◌}
-use Rattle.textwrap_lines.proofs.Common.{settings_view, line_view, DividesBy, AreTextLines}
+use Rattle.textwrap_base.proofs.Common.{sym, subst, ◌∙◌}
+use Rattle.textwrap_lines.proofs.Common.{settings_view, DividesBy, AreTextLines}
 
 pub into_list-requires : goal.into_list-requires
 into_list-requires g c =

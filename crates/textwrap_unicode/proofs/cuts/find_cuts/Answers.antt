@@ -1,12 +1,10 @@
-use Rattle.textwrap_base.proofs.Common.{◌≡◌, append-nil, char_indices_offset, ap, ◌∙◌, sym, subst}
+use Rattle.textwrap_base.proofs.Common.{append-nil, char_indices_offset, ap, ◌∙◌, sym, subst}
 use Rattle.textwrap_base.proofs.Common.{refl}
 use Rattle.std.specs.Str.Iter.{char_indices_rest}
 use Rattle.textwrap_words.specs.Cuts.{AreInnerCuts}
 use Rattle.textwrap_unicode.specs.Breaks.{breaks_by}
 use Rattle.textwrap_unicode.specs.BreaksLeft.{and}
-use Rattle.textwrap_unicode.specs.Classes.{unit_of}
 use Rattle.textwrap_unicode.specs.Cuts.{may_end, offsets_of}
-use Rattle.textwrap_unicode.specs.Rules.{decide_by}
 use Rattle.textwrap_unicode.proofs.cuts.find_cuts.Goals as goal
 use Rattle.textwrap_unicode.proofs.cuts.find_cuts.Goals.{then-is_cut+in_ok-push, else-is_cut}
 use Rattle.textwrap_unicode.proofs.CuttingLemmas.{IsCutting-start, IsCutting-step, IsCutting-end}

@@ -10,7 +10,7 @@ use Rattle.textwrap_words.proofs.Common.{is_blank, is_due, Visible}
 use Rattle.textwrap_words.specs.Pieces.{as_splitter, IsLetter, IsFirstWord}
 use Rattle.textwrap_words.specs.declared.escapes.State.TheVariants.{Text}
 use Rattle.textwrap_words.proofs.Units.States.{IsStep}
-use Rattle.textwrap_words.proofs.Units.Widths.{columns-le}
+use Rattle.textwrap_words.proofs.Units.Narrow.{columns-le}
 use Rattle.textwrap_words.proofs.Word.Breaking.{due-true, due-false}
 use Rattle.textwrap_base.proofs.Characters.{some-bytes}
 use Rattle.textwrap_words.proofs.Word.CharactersAhead.{ascii-here, ends-within, left-after, starts-within}

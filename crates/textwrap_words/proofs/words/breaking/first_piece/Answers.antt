@@ -1,7 +1,7 @@
 use Rattle.textwrap_words.proofs.words.breaking.first_piece.Goals as goal
 use Rattle.textwrap_base.proofs.Common.{◌≡◌, ◌+◌, sym, ap, subst, arith}
 use Rattle.textwrap_words.proofs.Word.Breaking.{due-true, due-false}
-use Rattle.textwrap_words.proofs.Units.Widths.{columns-le}
+use Rattle.textwrap_words.proofs.Units.Narrow.{columns-le}
 use Rattle.textwrap_words.proofs.Word.FirstUnits.{added}
 use Rattle.textwrap_words.proofs.Word.ReadPieces.{IsReading-start, IsReading-step, IsReading-cut}
 use Rattle.textwrap_words.proofs.Word.ReadPieces.{IsReading-end, IsReading-room}

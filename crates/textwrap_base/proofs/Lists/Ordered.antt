@@ -1,7 +1,6 @@
--- Lists that are in the order of a number of each item.
-use Rattle.std.proofs.Common.{◌≡◌, ◌⊎◌, ℕ, zero, suc, ◌<◌, List, [], ◌∷◌, length, get_or}
-use Rattle.std.proofs.Common.{refl, sym, ap, ◌∙◌, arith, inl, inr}
-use Rattle.std.specs.List.{Contains}
+-- What lists contain, and lists that are in the order of a number of each item.
+use Rattle.textwrap_base.proofs.Common.{◌≡◌, ◌⊎◌, ℕ, zero, suc, ◌<◌, List, [], ◌∷◌, length, get_or}
+use Rattle.textwrap_base.proofs.Common.{Contains, refl, sym, ap, ◌∙◌, arith, inl, inr}
 
 pub contains-nil : {X : Type 0} (y : X) → Contains [] y → ⊥
 contains-nil y h = omega (arith, h.1)

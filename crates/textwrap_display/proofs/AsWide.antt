@@ -1,30 +1,71 @@
 -- Lines that are justified are as wide as was asked.
-use Rattle.textwrap_base.proofs.Common.{◌≡◌, ℕ, ◌+◌, ◌-◌, ◌<◌, ◌≤◌, ◌≢◌, true, List}
-use Rattle.textwrap_base.proofs.Common.{◌++◌, All, All-weaker, length, refl, sym, ap}
-use Rattle.textwrap_base.proofs.Common.{◌∙◌, subst, arith, IsUtf8, eqb-true}
+use Rattle.textwrap_base.proofs.Common.{nat_tests, ◌≡◌, ◌≢◌, ℕ, ◌+◌, ◌-◌, ◌*◌, ◌/◌, ◌<◌, ◌≤◌, min}
+use Rattle.textwrap_base.proofs.Common.{suc, true, List, [], ◌∷◌, ◌++◌, All, All-from_get_or}
+use Rattle.textwrap_base.proofs.Common.{All-head, All-tail, All-weaker, ap, append_assoc, arith}
+use Rattle.textwrap_base.proofs.Common.{drop, eqb-true, get_or-take, IsUtf8, length, length-take}
+use Rattle.textwrap_base.proofs.Common.{subst, sym, take, take-append-drop, ◌∙◌}
+use Rattle.std.specs.Prelude.{◌%◌}
+use Rattle.std.proofs.Math.Nat.{div-add-mod, suc-mul}
+use Rattle.std.proofs.lemmas.List.Sums.{prefix_len_passes}
+use Rattle.textwrap_base.proofs.Utf8.{after_ascii}
+use Rattle.textwrap.specs.Columns.{blanks}
 use Rattle.textwrap_words.specs.Blanks.{is_blank}
 use Rattle.textwrap_words.specs.Units.{text_width}
-use Rattle.textwrap_words.specs.Words.{tiled}
-use Rattle.textwrap_words.proofs.Word.Texts.{AreBlanks}
-use Rattle.textwrap_lines.specs.Text.{HasWholeSequences}
-use Rattle.textwrap_display.specs.Justifying.{widened}
-use Rattle.textwrap_base.proofs.Common.{take, drop, take-append-drop, ◌/◌, ◌==◌, ◌||◌, cond, Bool, false}
-use Rattle.std.specs.Prelude.{◌%◌}
-use Rattle.textwrap_base.proofs.Utf8.{after_ascii}
-use Rattle.textwrap_words.proofs.Word.Texts.{chunks-utf8}
-use Rattle.textwrap_base.proofs.Common.{ne_eqb, length-take, get_or-take, All-from_get_or}
-use Rattle.std.proofs.lemmas.List.Sums.{prefix_len_passes}
-use Rattle.std.proofs.Math.Nat.{div-add-mod}
-use Rattle.textwrap_lines.specs.Paragraph.{Built, line_bytes, Slice}
-use Rattle.textwrap_words.specs.Words.{chunks}
-use Rattle.textwrap_words.proofs.Word.Measured.{words-measured}
+use Rattle.textwrap_words.specs.Words.{chunks, tiled, WordText}
+use Rattle.textwrap_words.proofs.Word.Measured.{IsMeasured, words-measured}
+use Rattle.textwrap_words.proofs.Word.Texts.{AreBlanks, chunks-utf8}
 use Rattle.textwrap_words.proofs.Word.Tiling.{tiled-words_of}
-use Rattle.textwrap_display.proofs.Widths.{blanks-before, widened-width}
+use Rattle.textwrap_lines.specs.Paragraph.{line_bytes}
+use Rattle.textwrap_lines.specs.Text.{HasWholeSequences}
+use Rattle.textwrap_lines.proofs.Text.WholeSequences.{text_width-append}
+use Rattle.textwrap_display.proofs.Widths.{blanks-before, more-blanks}
 use Rattle.textwrap_display.specs.Justifying.{gaps, indent_len, justified, line_words}
+use Rattle.textwrap_display.specs.Justifying.{widened_words}
 
-or-left : (a b : Bool) → b ≡ false → a || b ≡ true → a ≡ true
-or-left true b other is = refl
-or-left false b other is = cc
+-- ---- words with wider gaps
+
+-- a word of whole sequences, before other text
+word-before : (w : WordText) (text : List ℕ) → IsMeasured w → HasWholeSequences w.word
+    → text_width ((w.word ++ w.whitespace) ++ text)
+    ≡ text_width w.word + length w.whitespace + text_width text
+word-before w text here whole =
+    grind (
+      arith,
+      append_assoc,
+      text_width-append w.word (w.whitespace ++ text) here.utf8 whole,
+      blanks-before w.whitespace text here.ending.blanks,
+    )
+
+-- each gap is wider by so many blanks, and the first ones by one more
+widened-width : (each extra : ℕ) (ws : List WordText) → All IsMeasured ws
+    → All (λ w. HasWholeSequences w.word) ws
+    → text_width (tiled (widened_words each extra ws))
+    ≡ (length ws - 1) * each + min extra (length ws - 1) + text_width (tiled ws)
+widened-width each extra [] measured whole = omega arith
+widened-width each extra (w ∷ []) measured whole = omega arith
+widened-width each extra (w ∷ v ∷ ws) measured whole =
+    let more = each + min extra 1 in
+    let rest = tiled (widened_words each (extra - 1) (v ∷ ws)) in
+    let here = All-head IsMeasured w (v ∷ ws) measured in
+    let sound = All-head (λ u. HasWholeSequences u.word) w (v ∷ ws) whole in
+    let many : length (w ∷ v ∷ ws) - 1 ≡ suc (length ws) = omega arith in
+    let fewer : length (v ∷ ws) - 1 ≡ length ws = omega arith in
+    let first : tiled (widened_words each extra (w ∷ v ∷ ws))
+    ≡ (w.word ++ w.whitespace) ++ (blanks more ++ rest) = simp append_assoc in
+    omega (
+      arith,
+      ap text_width first,
+      word-before w (blanks more ++ rest) here sound,
+      more-blanks more rest,
+      word-before w (tiled (v ∷ ws)) here sound,
+      widened-width each (extra - 1) (v ∷ ws) (All-tail IsMeasured w (v ∷ ws) measured)
+          (All-tail (λ u. HasWholeSequences u.word) w (v ∷ ws) whole),
+      ap (λ n. n * each) many,
+      ap (λ n. n * each) fewer,
+      suc-mul (length ws) each,
+    )
+
+-- ---- the line
 
 -- the blanks that a line begins with
 indent-blanks : (line : List ℕ) → AreBlanks (take (indent_len line) line)
@@ -36,9 +77,6 @@ indent-blanks line =
 
 module _ (line : List ℕ) (utf8 : IsUtf8 line)
     (whole : All (λ w. HasWholeSequences w.word) (line_words line)) (some : gaps line ≢ 0) where
-  indent : List ℕ
-  indent = take (indent_len line) line
-
   rest-utf8 : IsUtf8 (drop (indent_len line) line)
   rest-utf8 =
       after_ascii (take (indent_len line) line) (drop (indent_len line) line)
@@ -55,7 +93,7 @@ module _ (line : List ℕ) (utf8 : IsUtf8 line)
       ∙ ap (λ t. length (take n line) + text_width t) (sym (tiled-words_of (drop n line)))
 
   widened-line : (spare : ℕ) → text_width (take (indent_len line) line
-      ++ widened (spare / gaps line) (spare % gaps line) (line_words line))
+      ++ tiled (widened_words (spare / gaps line) (spare % gaps line) (line_words line)))
       ≡ text_width line + spare
   widened-line spare =
       let n = indent_len line in
@@ -66,9 +104,10 @@ module _ (line : List ℕ) (utf8 : IsUtf8 line)
       let few : extra ≤ length ws - 1 = omega (arith, more) in
       omega (
         arith,
-        blanks-before (take n line) (widened each extra ws) (indent-blanks line),
-        widened-width each extra ws (omega (arith, some))
-            (words-measured (chunks (drop n line)) (chunks-utf8 (drop n line) rest-utf8)) whole few,
+        blanks-before (take n line) (tiled (widened_words each extra ws)) (indent-blanks line),
+        widened-width each extra ws
+            (words-measured (chunks (drop n line)) (chunks-utf8 (drop n line) rest-utf8)) whole,
+        few,
         line-width,
         div-add-mod spare (gaps line),
       )
@@ -76,14 +115,4 @@ module _ (line : List ℕ) (utf8 : IsUtf8 line)
   pub justified-width : (width : ℕ) → text_width line ≤ width
       → text_width (line_bytes (justified width line)) ≡ width
   justified-width width fits =
-      by (((width - text_width line) == 0) || (gaps line == 0)) refl
-    where
-      by : (b : Bool) → (((width - text_width line) == 0) || (gaps line == 0)) ≡ b
-          → text_width (line_bytes (cond b (Slice line) (Built (take (indent_len line) line
-          ++ widened ((width - text_width line) / gaps line) ((width - text_width line) % gaps line)
-          (line_words line))))) ≡ width
-      by true none =
-          let zero_too : ((width - text_width line) == 0) ≡ true =
-          or-left ((width - text_width line) == 0) (gaps line == 0) (ne_eqb (gaps line) 0 some) none in
-          omega (arith, fits, eqb-true (width - text_width line) 0 zero_too)
-      by false other = omega (arith, fits, widened-line (width - text_width line))
+      grind (arith, nat_tests, widened-line (width - text_width line))

@@ -1,11 +1,12 @@
 -- One line whose styles are carried: what it shows, what it leaves open and how wide it is.
 use Rattle.textwrap_base.proofs.Common.{◌≡◌, ℕ, ◌-◌, List, [], ◌++◌, All, All-append, All-drop, ap}
-use Rattle.textwrap_base.proofs.Common.{drop, filter, not, suffix_len, length, sum_by, ◌∙◌}
+use Rattle.textwrap_base.proofs.Common.{drop, filter, not, suffix_len, length, sum_by}
+use Rattle.textwrap_base.proofs.Common.{take-append-drop, ◌∙◌}
 use Rattle.std.proofs.lemmas.List.Elements.{All-filter}
 use Rattle.textwrap_words.specs.Units.{columns, text_width}
 use Rattle.textwrap_lines.specs.Paragraph.{line_bytes}
-use Rattle.textwrap_display.specs.Styled.{before_text, EndsPlain, MayCarry, styled_text}
-use Rattle.textwrap_display.specs.Indents.{after_indent}
+use Rattle.textwrap_display.specs.Styled.{EndsPlain, MayCarry, styled_text}
+use Rattle.textwrap_display.specs.Indents.{after_indent, before_text, indent_end}
 use Rattle.textwrap_display.specs.Styles.{carried_line, has_target, is_link, is_reset}
 use Rattle.textwrap_display.specs.Styles.{is_style, open_link, open_styles, sequences}
 use Rattle.textwrap_display.proofs.BetweenSequences.{parts-sequences, parts-styled, parts-visible}
@@ -14,7 +15,7 @@ use Rattle.textwrap_display.proofs.OpenAfter.{link-follows, styles-follow}
 use Rattle.textwrap_display.proofs.SequenceTexts.{IsSequence}
 use Rattle.textwrap_display.proofs.StyleEnds.{closing-sequences, closing_sequences, link-ended}
 use Rattle.textwrap_display.proofs.StyleEnds.{styles-ended}
-use Rattle.textwrap_display.proofs.CarriedBytes.{carried-bytes, line-parts}
+use Rattle.textwrap_display.proofs.CarriedBytes.{carried-bytes}
 
 open-sequences : (before : List (List ℕ)) → All IsSequence before
     → All IsSequence (open_link before ++ open_styles before)
@@ -73,4 +74,4 @@ module _ (indent : List ℕ) (before : List (List ℕ)) (line : List ℕ)
       ∙ ap (sum_by columns) (parts-visible front text (open_link before ++ open_styles before)
       (closing_sequences now) may.front may.text (open-sequences before are)
       (closing-sequences now))
-      ∙ ap text_width (line-parts indent line)
+      ∙ ap text_width (take-append-drop (indent_end indent line) line)

@@ -1,43 +1,28 @@
 -- One line more that sets anew what is open, and ends plain.
-use Rattle.textwrap_base.proofs.Common.{◌≡◌, ℕ, ◌+◌, ◌-◌, ◌<◌, ◌≤◌, Bool, true, false, cond, ◌==◌}
-use Rattle.textwrap_base.proofs.Common.{List, [], ◌∷◌, ◌++◌, length, get_or, take, drop, map, refl}
-use Rattle.textwrap_base.proofs.Common.{sym, ap, ◌∙◌, arith, length-drop, drop_more, CowStr, nat_eq}
-use Rattle.textwrap_base.proofs.Common.{starts_with}
+use Rattle.textwrap_base.proofs.Common.{◌≡◌, ℕ, ◌+◌, ◌<◌, cond, ◌==◌, List, [], ◌∷◌, ◌++◌, length}
+use Rattle.textwrap_base.proofs.Common.{get_or, take, drop, map, sym, ap, ◌∙◌, drop_more, CowStr}
 use Rattle.textwrap_base.proofs.Lists.Maps.{map-push-append}
 use Rattle.std.specs.Cow.{cow_str_bytes}
 use Rattle.textwrap_lines.specs.Paragraph.{Line, Built, Slice, line_view}
 use Rattle.textwrap_lines.proofs.Text.Lines.{line_bytes-line_view}
 use Rattle.textwrap_display.specs.Shortening.{texts_of}
-use Rattle.textwrap_display.specs.Indents.{after_indent}
+use Rattle.textwrap_display.specs.Indents.{after_indent, indent_end}
 use Rattle.textwrap_display.specs.Styles.{carried_line, carried_lines, closing}
 use Rattle.textwrap_display.specs.Styles.{opening, sequences}
 
 -- a line with these texts after its indent and at its end
-abbrev enclosed : List ℕ → ℕ → List ℕ → List ℕ → List ℕ → Line
-enclosed line n text start end =
-    cond (length (start ++ end) == 0) (Slice line) (Built (take n line ++ start ++ text ++ end))
+abbrev enclosed : List ℕ → ℕ → List ℕ → List ℕ → Line
+enclosed line n start end =
+    cond (length (start ++ end) == 0) (Slice line)
+    (Built (take n line ++ start ++ drop n line ++ end))
 
-module _ (indent line : List ℕ) (n : ℕ)
-    (is : n ≡ cond (starts_with nat_eq line indent) (length indent) 0) where
-  pub text-is : drop n line ≡ after_indent indent line
-  text-is = ap (λ k. drop k line) is ∙ by (starts_with nat_eq line indent)
-    where
-      by : (b : Bool)
-          → drop (cond b (length indent) 0) line ≡ cond b (drop (length indent) line) line
-      by true = refl
-      by false = refl
-
-  pub line-is : (before : List (List ℕ)) (start end : List ℕ) (view : Line) → n ≤ length line
-      → start ≡ opening before → end ≡ closing (before ++ sequences (drop n line))
-      → view ≡ enclosed line n (drop n line) start end → view ≡ carried_line indent before line
-  line-is before start end view within starts ends whole =
-      let rest = drop n line in
-      let len : n ≡ length line - length rest = omega (arith, length-drop n line, within) in
-      whole ∙ ap (λ l. enclosed line n rest l end) starts
-      ∙ ap (enclosed line n rest (opening before)) ends
-      ∙ ap (λ k. enclosed line k rest (opening before) (closing (before ++ sequences rest))) len
-      ∙ ap (λ t. enclosed line (length line - length t) t (opening before)
-      (closing (before ++ sequences t))) text-is
+pub line-is : (indent line : List ℕ) (n : ℕ) (before : List (List ℕ)) (start end : List ℕ)
+    (view : Line) → n ≡ indent_end indent line → start ≡ opening before
+    → end ≡ closing (before ++ sequences (drop n line)) → view ≡ enclosed line n start end
+    → view ≡ carried_line indent before line
+line-is indent line n before start end view is starts ends whole =
+    whole ∙ ap (λ l. enclosed line n l end) starts ∙ ap (enclosed line n (opening before)) ends
+    ∙ ap (λ k. enclosed line k (opening before) (closing (before ++ sequences (drop k line)))) is
 
 -- one more of the lines
 pub carries-more : {Z : Type 0} (lines : List (CowStr Z)) (n : ℕ) (line added : CowStr Z)

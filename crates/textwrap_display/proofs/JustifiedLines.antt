@@ -1,6 +1,6 @@
 -- What the lines of a paragraph add to a text, the first of them and those after it.
 use Rattle.textwrap_base.proofs.Common.{◌≡◌, ℕ, Bool, true, List, [], ◌∷◌, ◌++◌, cond, map, refl}
-use Rattle.textwrap_base.proofs.Common.{sym, ap, ◌∙◌, append_assoc}
+use Rattle.textwrap_base.proofs.Common.{append_assoc, arith}
 use Rattle.std.specs.Cow.{cow_str_bytes}
 use Rattle.std.specs.declared.borrow.CowStr.{CowStr}
 use Rattle.textwrap_lines.proofs.Common.{ending_bytes, indent_of, line_bytes, line_view, Settings}
@@ -32,16 +32,4 @@ module _ {Z : Type 0} (settings : Settings) where
       → indent ≡ indent_of settings is_later → text ≡ cow_str_bytes line
       → new ++ added true (lines ++ last ∷ []) ≡ old ++ added is_later (line ∷ (lines ++ last ∷ []))
   added-step is_later line lines last old begun new indent text begins writes indent_is given =
-      let ending = cond is_later (ending_bytes settings.line_ending) [] in
-      let here = justified_after settings.width (indent_of settings is_later)
-      (line_bytes (line_view line)) in
-      let after = added true (lines ++ last ∷ []) in
-      let text_is = given ∙ sym (line_bytes-line_view line) in
-      let written : new ≡ (old ++ ending) ++ here =
-      writes ∙ ap (λ l. l ++ justified_after settings.width indent text) begins
-      ∙ ap (λ i. (old ++ ending) ++ justified_after settings.width i text) indent_is
-      ∙ ap (λ t. (old ++ ending) ++ justified_after settings.width (indent_of settings is_later) t)
-      text_is in
-      ap (λ l. l ++ after) (written ∙ append_assoc old ending here)
-      ∙ append_assoc old (ending ++ here) after
-      ∙ ap (λ l. old ++ l) (sym (added-next is_later line lines last))
+      grind (arith, append_assoc, line_bytes-line_view, added-next)

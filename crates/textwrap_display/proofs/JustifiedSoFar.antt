@@ -1,7 +1,8 @@
 -- A text that is filled with its lines justified, one paragraph after another.
-use Rattle.textwrap_base.proofs.Common.{◌≡◌, ℕ, ◌+◌, ◌||◌, nat_lt, Bool, false, List, [], ◌∷◌}
-use Rattle.textwrap_base.proofs.Common.{◌++◌, length, map, take, drop, refl, sym, ap, ◌∙◌, subst, arith}
-use Rattle.textwrap_base.proofs.Common.{append_assoc, append-nil, flat_map, length-append, length-map}
+use Rattle.textwrap_base.proofs.Common.{◌≡◌, ℕ, ◌+◌, ◌||◌, nat_lt, Bool, false, List, [], ◌∷◌, ◌++◌}
+use Rattle.textwrap_base.proofs.Common.{length, map, take, drop, refl, sym, ap, ◌∙◌, subst, arith}
+use Rattle.textwrap_base.proofs.Common.{append_assoc, append-nil, flat_map, length-append}
+use Rattle.textwrap_base.proofs.Common.{length-map}
 use Rattle.textwrap_base.proofs.Numbers.{is_later-or, some_later}
 use Rattle.textwrap_words.proofs.Common.{Algorithm, Splitter, WordText}
 use Rattle.textwrap_lines.proofs.Common.{AreGroups, AreParagraphParts, ending_bytes, line_from}
@@ -76,22 +77,14 @@ module _ (settings : Settings) (Divides : Bool → List ℕ → List (List WordT
       same : (groups : List (List LineParts))
           → filled ++ rows is_later (parts ∷ groups) ≡ new ++ rows then_later groups
       same groups =
-          let ending = ending_bytes settings.line_ending in
           let (division, laid_out, are_parts) = are in
-          let given : justified_after_indents settings is_later (map line_from parts) ≡ lines =
-          ap (λ ps. justified_after_indents settings is_later (map line_from ps)) are_parts
-          ∙ parts-justified settings is_later division
-          ∙ ap (justified_lines settings.width) (sym are_parts) in
-          let left = flat_map (justified_lines settings.width) groups in
-          let flag : is_later || nat_lt 0 (length lines) ≡ then_later =
-          ap (λ n. is_later || nat_lt 0 n) (justified-length settings.width parts) ∙ sym later in
-          ap (λ l. filled ++ l) (joined_on-append ending is_later lines left)
-          ∙ sym (append_assoc filled (joined_on ending is_later lines)
-          (joined_on ending (is_later || nat_lt 0 (length lines)) left))
-          ∙ ap (λ b. (filled ++ joined_on ending is_later lines) ++ joined_on ending b left) flag
-          ∙ ap (λ ls. (filled ++ joined_on ending is_later ls) ++ joined_on ending then_later left)
-          (sym given)
-          ∙ ap (λ l. l ++ joined_on ending then_later left) (sym is)
+          grind (
+            arith,
+            append_assoc,
+            joined_on-append,
+            justified-length,
+            parts-justified settings is_later division,
+          )
 
   pub so_far-more : {Z : Type 0} (text filled new : List ℕ)
       (items kept found slice : List (CowStr Z)) (start : ℕ) (paragraph : List ℕ) (after : List (List ℕ))

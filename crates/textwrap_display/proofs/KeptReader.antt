@@ -1,5 +1,5 @@
 -- The reader that finds how much of a line is kept: where it stands, and the columns before that.
-use Rattle.textwrap_base.proofs.Common.{◌≡◌, ℕ, ◌+◌, ◌*◌, ◌≤◌, Bool, true, eqb, List, [], ◌∷◌, ◌++◌}
+use Rattle.textwrap_base.proofs.Common.{◌≡◌, ℕ, ◌+◌, ◌≤◌, Bool, true, eqb, List, [], ◌∷◌, ◌++◌}
 use Rattle.textwrap_base.proofs.Common.{length, take, drop, refl, sym, ap, subst, ◌∙◌, arith, zero-add}
 use Rattle.textwrap_base.proofs.Common.{add-zero, append_assoc, append-nil, length-take-le, take_at}
 use Rattle.textwrap_base.proofs.Common.{slice_range, IsUtf8, IsUtf8-take, IsUtf8-drop}
@@ -13,7 +13,8 @@ use Rattle.std.specs.Prelude.{chars, encode_utf8}
 use Rattle.std.proofs.lemmas.Str.{IsCharBoundary-from_drop}
 use Rattle.textwrap_words.proofs.Common.{text_width}
 use Rattle.textwrap_words.proofs.Units.States.{IsStep}
-use Rattle.textwrap_words.proofs.Units.Widths.{columns_in, columns_in-step, text_width-le}
+use Rattle.textwrap_words.proofs.Units.Widths.{columns_in, columns_in-step}
+use Rattle.textwrap_words.proofs.Units.Narrow.{text_width-le}
 use Rattle.textwrap_words.proofs.Word.CharactersAhead.{ends-within, left-after}
 use Rattle.textwrap_words.proofs.Word.FirstUnits.{added}
 use Rattle.textwrap_words.specs.declared.escapes.State.{State}
@@ -94,7 +95,7 @@ module _ (line : List ℕ) (utf8 : IsUtf8 line) where
       ∙ add-zero taken
 
   pub read-le : (place : ℕ) (rest : List ℕ) (state : State) (taken : ℕ) (after_blank : Bool)
-      → IsReadTo line place rest state taken after_blank → taken ≤ 2 * length line
+      → IsReadTo line place rest state taken after_blank → taken ≤ length line
   read-le place rest state taken after_blank h =
       omega (
         arith,

@@ -1,10 +1,11 @@
 -- The words of a line's beginning, where blanks follow it, are the first words of the line.
 use Rattle.textwrap_base.proofs.Common.{◌≡◌, ℕ, ◌⊎◌, true, inl, inr, List, [], ◌∷◌, ◌++◌, get_or}
-use Rattle.textwrap_base.proofs.Common.{length, map, take, drop, refl, sym, ap, ◌∙◌, arith, All-head}
-use Rattle.textwrap_base.proofs.Common.{All-tail, append_assoc, append-nil, add-zero, eqb-true}
-use Rattle.textwrap_base.proofs.Common.{take_at, map-append, take-append-drop, drop_all, get_or-drop}
-use Rattle.textwrap.proofs.Text.InPlaceParts.{without_final_blanks-push}
-use Rattle.textwrap_words.specs.Blanks.{is_blank, without_final_blanks}
+use Rattle.textwrap_base.proofs.Common.{length, map, take, drop, refl, sym, ap, ◌∙◌, arith}
+use Rattle.textwrap_base.proofs.Common.{All-head, All-tail, append_assoc, append-nil, add-zero}
+use Rattle.textwrap_base.proofs.Common.{eqb-true, take_at, map-append, take-append-drop, drop_all}
+use Rattle.textwrap_base.proofs.Common.{get_or-drop, length_push, reverse-append, rules}
+use Rattle.textwrap_base.proofs.Common.{take-append-le}
+use Rattle.textwrap_words.specs.Blanks.{is_blank, trimmed_len, without_final_blanks}
 use Rattle.textwrap_words.specs.Words.{chunks, word_of}
 use Rattle.textwrap_words.proofs.Word.Texts.{AreBlanks}
 use Rattle.textwrap_display.specs.Laws.{word_texts}
@@ -13,14 +14,20 @@ use Rattle.textwrap_display.proofs.KeptChunks.{BlankFollows, first-chunks}
 use Rattle.textwrap_display.proofs.KeptPlaces.{may_end-cases}
 
 -- blanks at the end of a text are final ones
-pub trimmed-blanks : (text bs : List ℕ) → AreBlanks bs
-    → without_final_blanks (text ++ bs) ≡ without_final_blanks text
-trimmed-blanks text [] blanks = ap without_final_blanks (append-nil text)
-trimmed-blanks text (b ∷ bs) blanks =
+pub trimmed_len-blanks : (text bs : List ℕ) → AreBlanks bs
+    → trimmed_len (text ++ bs) ≡ trimmed_len text
+trimmed_len-blanks text [] blanks = ap trimmed_len (append-nil text)
+trimmed_len-blanks text (b ∷ bs) blanks =
     let byte = eqb-true b 32 (All-head (λ c. is_blank c ≡ true) b bs blanks) in
-    ap without_final_blanks (sym (append_assoc text (b ∷ []) bs))
-    ∙ trimmed-blanks (text ++ b ∷ []) bs (All-tail (λ c. is_blank c ≡ true) b bs blanks)
-    ∙ ap (λ c. without_final_blanks (text ++ c ∷ [])) byte ∙ without_final_blanks-push text
+    ap trimmed_len (sym (append_assoc text (b ∷ []) bs))
+    ∙ trimmed_len-blanks (text ++ b ∷ []) bs (All-tail (λ c. is_blank c ≡ true) b bs blanks)
+    ∙ ap (λ c. trimmed_len (text ++ c ∷ [])) byte ∙ search (rules, reverse-append, length_push)
+
+trimmed-blanks : (text bs : List ℕ) → AreBlanks bs
+    → without_final_blanks (text ++ bs) ≡ without_final_blanks text
+trimmed-blanks text bs blanks =
+    ap (λ n. take n (text ++ bs)) (trimmed_len-blanks text bs blanks)
+    ∙ take-append-le (trimmed_len text) text bs (omega arith)
 
 word_texts-parts : (parts : List (List ℕ))
     → map (λ w. w.word) (map word_of parts) ≡ map without_final_blanks parts

@@ -1,6 +1,5 @@
 pub mod StyleRows
 pub mod StyledRows
-pub mod LastOnes
 pub mod OpenAfter
 pub mod StyleKinds
 pub mod OpenAgain
@@ -13,7 +12,6 @@ pub mod CarriedBytes
 pub mod CarriedLine
 pub mod StyleLaws
 pub mod WholeLines
-pub mod TextEnds
 pub mod StyleSequences
 pub mod SequenceTails
 pub mod SequenceUnits
@@ -21,7 +19,6 @@ pub mod OpenSequences
 pub mod OpenStates
 pub mod CarriedLines
 pub mod WordCounts
-pub mod AfterIndent
 pub mod JustifiedLines
 pub mod JustifiedParts
 pub mod JustifiedSoFar

@@ -1,8 +1,8 @@
 -- What was open is open again once the sequences that were left open are written anew.
-use Rattle.textwrap_base.proofs.Common.{◌≡◌, inl, inr, Bool, true, false, cond, List, [], ◌∷◌, ◌++◌}
-use Rattle.textwrap_base.proofs.Common.{All, All-append, All-cons, All-head, All-nil, All-tail, ap}
-use Rattle.textwrap_base.proofs.Common.{append-nil, cases_Bool, filter, fold, refl, subst, sym}
-use Rattle.textwrap_base.proofs.Common.{true≢false, ◌∙◌}
+use Rattle.textwrap_base.proofs.Common.{◌≡◌, Bool, true, false, cond, List, [], ◌∷◌, ◌++◌, All}
+use Rattle.textwrap_base.proofs.Common.{All-append, All-cons, All-head, All-nil, All-tail, ap}
+use Rattle.textwrap_base.proofs.Common.{append-nil, arith, cases_Bool, filter, fold, refl, subst}
+use Rattle.textwrap_base.proofs.Common.{sym, ◌∙◌}
 use Rattle.std.specs.Prelude.{ℕ}
 use Rattle.std.proofs.lemmas.List.Sums.{fold_push, fold-append}
 use Rattle.textwrap_display.specs.Styles.{has_target, is_link, is_reset, is_style, open_link}
@@ -13,7 +13,7 @@ use Rattle.textwrap_display.proofs.StyleKinds.{link-no_style, reset-is_style, st
 
 -- ---- sequences of the other kind change nothing
 
-pub links-pass : (xs link : List (List ℕ)) → All (λ s. is_link s ≡ false) xs
+links-pass : (xs link : List (List ℕ)) → All (λ s. is_link s ≡ false) xs
     → fold next_link link xs ≡ link
 links-pass [] link none = refl
 links-pass (s ∷ xs) link none =
@@ -22,20 +22,15 @@ links-pass (s ∷ xs) link none =
     ∙ links-pass xs link (All-tail (λ t. is_link t ≡ false) s xs none)
 
 no_reset : (s : List ℕ) → is_style s ≡ false → is_reset s ≡ false
-no_reset s none = elim (cases_Bool (is_reset s)) [
-  | inl is ↦ absurd (true≢false (sym (reset-is_style s is) ∙ none))
-  | inr other ↦ other
-]
+no_reset s none = grind (arith, cases_Bool, reset-is_style)
 
-pub styles-pass : (xs styles : List (List ℕ)) → All (λ s. is_style s ≡ false) xs
+styles-pass : (xs styles : List (List ℕ)) → All (λ s. is_style s ≡ false) xs
     → fold next_styles styles xs ≡ styles
 styles-pass [] styles none = refl
 styles-pass (s ∷ xs) styles none =
     let here = All-head (λ t. is_style t ≡ false) s xs none in
-    ap (λ b. fold next_styles (cond b [] (styles ++ filter is_style (s ∷ []))) xs) (no_reset s here)
-    ∙ ap (λ b. fold next_styles (styles ++ cond b (s ∷ []) []) xs) here
-    ∙ ap (λ st. fold next_styles st xs) (append-nil styles)
-    ∙ styles-pass xs styles (All-tail (λ t. is_style t ≡ false) s xs none)
+    let later = All-tail (λ t. is_style t ≡ false) s xs none in
+    grind (arith, append-nil, no_reset s here, styles-pass xs styles later)
 
 -- ---- what is left open is as it was, if it is written anew
 
@@ -85,44 +80,44 @@ next-link link s kept = by (is_link s) (has_target s) refl refl
           (All-nil (λ t. is_style t ≡ false));
     }
 
-styles-kept : (before styles : List (List ℕ)) → AreKeptStyles styles
-    → AreKeptStyles (fold next_styles styles before)
-styles-kept [] styles kept = kept
-styles-kept (s ∷ before) styles kept =
-    styles-kept before (next_styles styles s) (next-styles styles s kept)
-
-link-kept : (before link : List (List ℕ)) → IsKeptLink link
-    → IsKeptLink (fold next_link link before)
-link-kept [] link kept = kept
-link-kept (s ∷ before) link kept = link-kept before (next_link link s) (next-link link s kept)
+-- what each step keeps, all keep
+fold-keeps : (P : List (List ℕ) → Type 0) (next : List (List ℕ) → List ℕ → List (List ℕ))
+    → ((now : List (List ℕ)) (s : List ℕ) → P now → P (next now s))
+    → (before now : List (List ℕ)) → P now → P (fold next now before)
+fold-keeps P next step [] now kept = kept
+fold-keeps P next step (s ∷ before) now kept =
+    fold-keeps P next step before (next now s) (step now s kept)
 
 kept-styles : (before : List (List ℕ)) → AreKeptStyles (open_styles before)
 kept-styles before =
-    subst AreKeptStyles (sym (open_styles-append [] before)) (styles-kept before [] no_styles)
+    subst AreKeptStyles (sym (open_styles-append [] before))
+    (fold-keeps AreKeptStyles next_styles next-styles before [] no_styles)
 
 kept-link : (before : List (List ℕ)) → IsKeptLink (open_link before)
-kept-link before = subst IsKeptLink (sym (open_link-append [] before)) (link-kept before [] no_link)
+kept-link before =
+    subst IsKeptLink (sym (open_link-append [] before))
+    (fold-keeps IsKeptLink next_link next-link before [] no_link)
 
 -- ---- and so it is after sequences that leave nothing open
 
 pub styles-again : (front before : List (List ℕ)) → open_styles front ≡ []
     → open_styles (front ++ (open_link before ++ open_styles before)) ≡ open_styles before
 styles-again front before plain =
-    let link = open_link before in
-    let styles = open_styles before in
-    open_styles-append front (link ++ styles)
-    ∙ ap (λ st. fold next_styles st (link ++ styles)) plain
-    ∙ fold-append next_styles [] link styles
-    ∙ ap (λ st. fold next_styles st styles) (styles-pass link [] (kept-link before).no_style)
-    ∙ (kept-styles before).again
+    grind (
+      arith,
+      fold-append,
+      open_styles-append,
+      (kept-styles before).again,
+      styles-pass (open_link before) [] (kept-link before).no_style,
+    )
 
 pub link-again : (front before : List (List ℕ)) → open_link front ≡ []
     → open_link (front ++ (open_link before ++ open_styles before)) ≡ open_link before
 link-again front before plain =
-    let link = open_link before in
-    let styles = open_styles before in
-    open_link-append front (link ++ styles)
-    ∙ ap (λ l. fold next_link l (link ++ styles)) plain
-    ∙ fold-append next_link [] link styles
-    ∙ ap (λ l. fold next_link l styles) (kept-link before).again
-    ∙ links-pass styles link (kept-styles before).no_link
+    grind (
+      arith,
+      fold-append,
+      open_link-append,
+      (kept-link before).again,
+      links-pass (open_styles before) (open_link before) (kept-styles before).no_link,
+    )

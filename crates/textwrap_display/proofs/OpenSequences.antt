@@ -1,7 +1,7 @@
 -- What is open after one sequence more, and that a style is not empty.
-use Rattle.textwrap_base.proofs.Common.{◌≡◌, ℕ, ◌<◌, Bool, true, false, cond, ◌==◌}
-use Rattle.textwrap_base.proofs.Common.{List, [], ◌∷◌, ◌++◌, length, refl, sym, ap, ◌∙◌, arith}
-use Rattle.textwrap_base.proofs.Common.{append-nil, length-append, filter, ne_eqb, nat_lt, nat_tests}
+use Rattle.textwrap_base.proofs.Common.{◌≡◌, ℕ, ◌<◌, Bool, true, false, cond, ◌==◌, List, [], ◌∷◌}
+use Rattle.textwrap_base.proofs.Common.{◌++◌, length, refl, sym, ◌∙◌, arith, append-nil, cases_Bool}
+use Rattle.textwrap_base.proofs.Common.{length-append, filter, ne_eqb, nat_tests}
 use Rattle.std.specs.List.{after_first, concat}
 use Rattle.textwrap_display.specs.Styles.{has_target, is_reset, is_style, link_fields}
 use Rattle.textwrap_display.specs.Styles.{open_styles}
@@ -37,26 +37,10 @@ no_styles (s ∷ ss) = by (is_style s) refl (no_styles ss)
 
 pub styles-push : (before : List (List ℕ)) (s : List ℕ) → open_styles (before ++ s ∷ [])
     ≡ cond (is_reset s) [] (cond (is_style s) (open_styles before ++ s ∷ []) (open_styles before))
-styles-push before s = open_styles-push before s ∙ ap (cond (is_reset s) []) (by (is_style s))
-  where
-    by : (style : Bool) → open_styles before ++ cond style (s ∷ []) []
-        ≡ cond style (open_styles before ++ s ∷ []) (open_styles before)
-    by true = refl
-    by false = append-nil (open_styles before)
+styles-push before s = grind (arith, cases_Bool, append-nil, open_styles-push)
 
 -- what a link's command leaves open, by whether its target is empty
 pub target-set : (s target : List ℕ) (empty : Bool)
     → target ≡ after_first (λ c. c == 0x3B) (link_fields s) → empty ≡ (length target == 0)
     → cond empty [] (s ∷ []) ≡ cond (has_target s) (s ∷ []) []
-target-set s target empty are is = by empty is
-  where
-    has : has_target s ≡ nat_lt 0 (length target)
-    has = ap (λ l. nat_lt 0 (length l)) (sym are)
-
-    by : (b : Bool) → b ≡ (length target == 0) → cond b [] (s ∷ []) ≡ cond (has_target s) (s ∷ []) []
-    by true none =
-        let lacks : nat_lt 0 (length target) ≡ false = grind (arith, nat_tests) in
-        ap (λ h. cond h (s ∷ []) []) (sym (has ∙ lacks))
-    by false some =
-        let holds : nat_lt 0 (length target) ≡ true = grind (arith, nat_tests) in
-        ap (λ h. cond h (s ∷ []) []) (sym (has ∙ holds))
+target-set s target empty are is = grind (arith, cases_Bool, nat_tests)

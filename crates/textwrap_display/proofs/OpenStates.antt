@@ -1,8 +1,8 @@
 -- What the code keeps of what is open, after one sequence more, and what ends it.
 use Rattle.textwrap_base.proofs.Common.{◌≡◌, ℕ, Bool, true, false, ◌&&◌, ◌||◌, cond, ◌==◌, List, []}
 use Rattle.textwrap_base.proofs.Common.{◌∷◌, ◌++◌, length, sym, ap, ◌∙◌, append-nil, string_bytes}
-use Rattle.textwrap_base.proofs.Common.{and_from, Bor, Option}
-use Rattle.std.specs.List.{after_last, concat, list_all}
+use Rattle.textwrap_base.proofs.Common.{and_from, arith, Bor, Option}
+use Rattle.std.specs.List.{concat, list_all}
 use Rattle.std.specs.Option.{option_copied, option_to_list}
 use Rattle.std.proofs.lemmas.List.Folds.{concat-append}
 use Rattle.textwrap_display.specs.OpenStyles.{IsOpenAfter}
@@ -81,12 +81,4 @@ pub closing-is : {Z : Type 0} (before : List (List ℕ)) (state : OpenStyles Z) 
     → plain ≡ (length (string_bytes state.styles) == 0) → state.link ≡ link
     → cond plain [] style_end
     ++ cond (length (option_to_list (option_copied link)) == 0) [] link_end ≡ closing before
-closing-is before state plain link after is same =
-    let styles : plain ≡ (length (open_styles before) == 0) =
-    is ∙ ap (λ l. length l == 0) after.styles ∙ sym (no_styles (after_last is_reset before)) in
-    let links : option_to_list (option_copied link) ≡ open_link before =
-    ap (λ l. option_to_list (option_copied l)) (sym same) ∙ after.link in
-    ap (λ b. cond b [] style_end
-    ++ cond (length (option_to_list (option_copied link)) == 0) [] link_end) styles
-    ∙ ap (λ l. cond (length (open_styles before) == 0) [] style_end
-    ++ cond (length l == 0) [] link_end) links
+closing-is before state plain link after is same = grind (arith, no_styles)

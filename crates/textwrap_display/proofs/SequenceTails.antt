@@ -2,8 +2,8 @@
 use Rattle.textwrap_base.proofs.Common.{◌≡◌, ◌≢◌, ℕ, ◌+◌, Bool, List, [], ◌∷◌, ◌++◌, length, take}
 use Rattle.textwrap_base.proofs.Common.{refl, sym, ap, ◌∙◌, arith, append_assoc, append-nil}
 use Rattle.textwrap_base.proofs.Common.{length-append, take_at, zero-add, IsUtf8, IsUtf8-past_char}
-use Rattle.textwrap_base.proofs.Common.{encode_utf8_all}
-use Rattle.textwrap_base.proofs.Common.{encodes-append, encodes-chars, chars_past_char, chars-nil}
+use Rattle.textwrap_base.proofs.Common.{encode_utf8_all, encodes-append, encodes-chars}
+use Rattle.textwrap_base.proofs.Common.{chars_past_char, chars-nil}
 use Rattle.std.proofs.lemmas.List.{nil_from_length}
 use Rattle.std.specs.Prelude.{chars, encode_utf8}
 use Rattle.textwrap_words.proofs.Common.{taken_in}
@@ -69,10 +69,6 @@ ends-here text place rest state h none =
     ap (take (escape_len (chars text))) h.whole
     ∙ take_at h.read (chars rest) (escape_len (chars text)) (omega (arith, h.taken, none)) in
     h.place_is ∙ ap (λ l. length (encode_utf8_all l)) (sym all)
-
-pub read-stop : (text : List ℕ) (place : ℕ) (rest : List ℕ) → IsReadTo text place rest Text
-    → place ≡ tail_len text
-read-stop text place rest h = ends-here text place rest Text h refl
 
 taken_in-nil : (state : State) → taken_in state [] ≡ 0
 taken_in-nil Text = refl

@@ -1,8 +1,7 @@
 -- The first escape sequence of a text, where the first ESC stands, and those after it.
 use Rattle.textwrap_base.proofs.Common.{◌≡◌, ℕ, ◌+◌, ◌-◌, eqb, List, [], ◌∷◌, ◌++◌, length}
 use Rattle.textwrap_base.proofs.Common.{take, drop, refl, sym, ap, subst, ◌∙◌, arith, append-nil}
-use Rattle.textwrap_base.proofs.Common.{length-append, take-append-drop, drop_at}
-use Rattle.textwrap_base.proofs.Common.{zero, suc}
+use Rattle.textwrap_base.proofs.Common.{length-append, take-append-drop, drop_at, suc}
 use Rattle.textwrap_base.proofs.Common.{drop-drop, flat_map, slice_range, IsUtf8, IsCharBoundary}
 use Rattle.textwrap_base.proofs.Common.{encode_utf8_all, chars-append, chars_past_char}
 use Rattle.textwrap_base.proofs.Common.{chars_from_encodes, IsUtf8-drop}
@@ -12,16 +11,12 @@ use Rattle.std.proofs.Math.Seq.{drop-append-add}
 use Rattle.std.proofs.lemmas.Str.{IsCharBoundary-from_rest, encode_ascii}
 use Rattle.std.specs.Prelude.{chars}
 use Rattle.std.specs.Str.{NoCharPasses, NonePass}
-use Rattle.textwrap_words.specs.Units.{escape_len, units, units_past}
+use Rattle.textwrap_words.specs.Units.{escape_len, units}
+use Rattle.textwrap_words.proofs.Word.WideParts.{units_past-skip}
 use Rattle.textwrap_display.specs.Styles.{sequence_of, sequences}
 use Rattle.textwrap_display.proofs.SequenceTails.{tail_len}
 
 -- ---- among characters
-
-units_past-skip : (n : ℕ) (cs : List ℕ) → units_past n cs ≡ units (drop n cs)
-units_past-skip zero cs = refl
-units_past-skip (suc n) [] = refl
-units_past-skip (suc n) (c ∷ cs) = units_past-skip n cs
 
 abbrev sequences_in : List ℕ → List (List ℕ)
 sequences_in cs = flat_map sequence_of (units cs)

@@ -1,7 +1,8 @@
 -- What ends the styles and the link that are open.
 use Rattle.textwrap_base.proofs.Common.{◌≡◌, ℕ, Bool, true, false, cond, ◌==◌, List, [], ◌∷◌, ◌++◌}
 use Rattle.textwrap_base.proofs.Common.{All, All-append, All-cons, All-nil, fold, length, refl, ◌∙◌}
-use Rattle.textwrap_base.proofs.Common.{append-nil, codes, eqb-true, nil_from_length, take}
+use Rattle.textwrap_base.proofs.Common.{append-nil, arith, cases_Bool, codes, eqb-true}
+use Rattle.textwrap_base.proofs.Common.{nil_from_length, take}
 use Rattle.textwrap_words.specs.Units.{ends}
 use Rattle.std.proofs.lemmas.Bool.{agree_below_at}
 use Rattle.std.specs.Str.{chars}
@@ -21,14 +22,7 @@ abbrev pub closing_sequences : List (List ℕ) → List (List ℕ)
 closing_sequences before = ends_of (open_styles before) (open_link before)
 
 pub closing-is : (before : List (List ℕ)) → closing before ≡ concat (closing_sequences before)
-closing-is before = by (length (open_styles before) == 0) (length (open_link before) == 0)
-  where
-    by : (plain unlinked : Bool) → cond plain [] style_end ++ cond unlinked [] link_end
-        ≡ concat (cond plain [] (style_end ∷ []) ++ cond unlinked [] (link_end ∷ []))
-    by true true = refl
-    by true false = refl
-    by false true = refl
-    by false false = refl
+closing-is before = grind (arith, cases_Bool)
 
 style_end-is : IsSequence style_end
 unfolding chars encode
@@ -76,25 +70,10 @@ closing-sequences before = by (length (open_styles before) == 0) (length (open_l
 -- ---- nothing is open after them
 
 styles-end : (styles link : List (List ℕ)) → fold next_styles styles (ends_of styles link) ≡ []
-styles-end styles link = by (length styles == 0) (length link == 0) refl
-  where
-    by : (plain unlinked : Bool) → (length styles == 0) ≡ plain → fold next_styles styles
-        (cond plain [] (style_end ∷ []) ++ cond unlinked [] (link_end ∷ [])) ≡ []
-    by true true none = nil_from_length styles (eqb-true (length styles) 0 none)
-    by true false none =
-        append-nil styles ∙ nil_from_length styles (eqb-true (length styles) 0 none)
-    by false true some = refl
-    by false false some = refl
+styles-end styles link = grind (arith, cases_Bool, nil_from_length, eqb-true, append-nil)
 
 link-end : (styles link : List (List ℕ)) → fold next_link link (ends_of styles link) ≡ []
-link-end styles link = by (length styles == 0) (length link == 0) refl
-  where
-    by : (plain unlinked : Bool) → (length link == 0) ≡ unlinked → fold next_link link
-        (cond plain [] (style_end ∷ []) ++ cond unlinked [] (link_end ∷ [])) ≡ []
-    by true true none = nil_from_length link (eqb-true (length link) 0 none)
-    by false true none = nil_from_length link (eqb-true (length link) 0 none)
-    by true false some = refl
-    by false false some = refl
+link-end styles link = grind (arith, cases_Bool, nil_from_length, eqb-true)
 
 pub styles-ended : (before : List (List ℕ)) → open_styles (before ++ closing_sequences before) ≡ []
 styles-ended before =

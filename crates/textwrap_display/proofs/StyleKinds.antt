@@ -1,6 +1,6 @@
 -- A sequence that sets a style is no link, and what takes all styles back sets a style.
-use Rattle.textwrap_base.proofs.Common.{◌≡◌, inl, inr, true, false, List, sym, nat_eq, codes, ap}
-use Rattle.textwrap_base.proofs.Common.{◌∙◌, cases_Bool, and_parts, true≢false, starts_with, ◌&&◌}
+use Rattle.textwrap_base.proofs.Common.{◌≡◌, true, false, List, nat_eq, codes, ap, arith}
+use Rattle.textwrap_base.proofs.Common.{cases_Bool, and_parts, starts_with, ◌&&◌}
 use Rattle.textwrap_base.proofs.Common.{◌||◌, ends_with, list_all}
 use Rattle.std.specs.Prelude.{ℕ, ◌==◌}
 use Rattle.std.specs.Int.{is_in_range}
@@ -20,7 +20,4 @@ style-no_link s is =
     ap is_link (starts_with-rest (codes "\u{1b}[") s front)
 
 pub link-no_style : (s : List ℕ) → is_link s ≡ true → is_style s ≡ false
-link-no_style s is = elim (cases_Bool (is_style s)) [
-  | inl set ↦ absurd (true≢false (sym is ∙ style-no_link s set))
-  | inr other ↦ other
-]
+link-no_style s is = grind (arith, cases_Bool, style-no_link)

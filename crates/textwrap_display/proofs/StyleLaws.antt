@@ -1,12 +1,12 @@
 -- Lines whose styles are carried, one after another.
 use Rattle.textwrap_base.proofs.Common.{◌≡◌, ℕ, cond, ◌==◌, List, [], ◌∷◌, ◌++◌, All, All-append}
-use Rattle.textwrap_base.proofs.Common.{All-cons, All-head, All-nil, All-tail, ap, length, map}
-use Rattle.textwrap_base.proofs.Common.{refl, ◌∙◌}
+use Rattle.textwrap_base.proofs.Common.{All-cons, All-head, All-nil, All-tail, ap, arith, length}
+use Rattle.textwrap_base.proofs.Common.{map, refl, ◌∙◌}
 use Rattle.textwrap_words.specs.Units.{text_width}
 use Rattle.textwrap_lines.specs.Paragraph.{Built, line_bytes, Slice}
-use Rattle.textwrap_display.specs.Styled.{EachWithIndent, before_text, EndsPlain, MayCarry}
+use Rattle.textwrap_display.specs.Styled.{EachWithIndent, EndsPlain, MayCarry}
 use Rattle.textwrap_display.specs.Styled.{styled_lines, styled_text}
-use Rattle.textwrap_display.specs.Indents.{after_indent}
+use Rattle.textwrap_display.specs.Indents.{after_indent, before_text}
 use Rattle.textwrap_display.specs.Styles.{carried_line, carried_lines, closing}
 use Rattle.textwrap_display.specs.Styles.{opening, sequences}
 use Rattle.textwrap_display.proofs.CarriedLine.{carried-plain, carried-styled, carried-wide}
@@ -32,14 +32,12 @@ lines-styled : (lines : List (List ℕ)) (indent later : List ℕ) (before : Lis
     ≡ styled_lines indent later before lines
 lines-styled [] indent later before are all = refl
 lines-styled (line ∷ lines) indent later before are (may, rest) =
-    let now = before ++ sequences (after_indent indent line) in
-    let more = carried_lines later later now lines in
-    ap (λ shown. shown ∷ map (λ l. styled_text [] (line_bytes l)) more)
-    (carried-styled indent before line are may)
-    ∙ ap (λ shown. (styled_text [] (before_text indent line)
-    ++ styled_text before (after_indent indent line)) ∷ shown)
-    (lines-styled lines later later now (more-sequences indent before line are may)
-    (indented-later MayCarry later lines rest))
+    grind (
+      arith,
+      carried-styled indent before line are may,
+      lines-styled lines later later (before ++ sequences (after_indent indent line))
+          (more-sequences indent before line are may) (indented-later MayCarry later lines rest),
+    )
 
 lines-plain : (lines : List (List ℕ)) (indent later : List ℕ) (before : List (List ℕ))
     → All IsSequence before → EachWithIndent MayCarry indent later lines
@@ -58,13 +56,12 @@ lines-wide : (lines : List (List ℕ)) (indent later : List ℕ) (before : List 
     ≡ map text_width lines
 lines-wide [] indent later before are all = refl
 lines-wide (line ∷ lines) indent later before are (may, rest) =
-    let now = before ++ sequences (after_indent indent line) in
-    let more = carried_lines later later now lines in
-    ap (λ width. width ∷ map (λ l. text_width (line_bytes l)) more)
-    (carried-wide indent before line are may)
-    ∙ ap (λ widths. text_width line ∷ widths)
-    (lines-wide lines later later now (more-sequences indent before line are may)
-    (indented-later MayCarry later lines rest))
+    grind (
+      arith,
+      carried-wide indent before line are may,
+      lines-wide lines later later (before ++ sequences (after_indent indent line))
+          (more-sequences indent before line are may) (indented-later MayCarry later lines rest),
+    )
 
 -- the text has no sequence
 abbrev IsPlainLine : List ℕ → List ℕ → Type 0

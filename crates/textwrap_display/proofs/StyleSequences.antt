@@ -3,8 +3,8 @@ use Rattle.textwrap_base.proofs.Common.{◌≡◌, ◌≢◌, ℕ, ◌-◌, Bool
 use Rattle.textwrap_base.proofs.Common.{◌==◌, List, [], ◌∷◌, ◌++◌, length, take, refl, sym, ap}
 use Rattle.textwrap_base.proofs.Common.{◌∙◌, arith, codes, nat_eq, ends_with, cond, length-append}
 use Rattle.textwrap_base.proofs.Common.{take_at, append_assoc, subst, Bor, Option, None, Some}
-use Rattle.textwrap_display.proofs.TextEnds.{ends_with-true, ends_with-after, ends_with-other}
-use Rattle.textwrap_display.proofs.TextEnds.{stripped_suffix}
+use Rattle.textwrap_base.proofs.Lists.Ends.{ends_with-true, ends_with-after, ends_with-other}
+use Rattle.textwrap_base.proofs.Lists.Ends.{stripped_suffix}
 use Rattle.std.specs.Int.{is_in_range}
 use Rattle.std.specs.List.{list_all, list_any}
 use Rattle.std.specs.Option.{MatchOption, option_or}
@@ -20,8 +20,7 @@ pub not_style : (rest : List ℕ) → ((before : List ℕ) → rest ≢ before +
     → is_style (codes "\u{1b}[" ++ rest) ≡ false
 not_style [] lacks = refl
 not_style (c ∷ cs) lacks =
-    ap (λ b. b && list_all (is_in_range 0x30 0x3B) (style_parameters (style_start ++ c ∷ cs)))
-    (ends_with-after style_start (c ∷ cs) (codes "m") (omega arith) lacks)
+    grind (arith, ends_with-after style_start (c ∷ cs) (codes "m") (omega arith) lacks)
 
 style_parameters-is : (parameters : List ℕ)
     → style_parameters (codes "\u{1b}[" ++ (parameters ++ codes "m")) ≡ parameters
@@ -59,14 +58,14 @@ not_link : (rest : List ℕ) → ((before : List ℕ) → rest ≢ before ++ bel
     → ((before : List ℕ) → rest ≢ before ++ terminator) → is_link (link_start ++ rest) ≡ false
 not_link [] no_bell none = refl
 not_link (c ∷ []) no_bell none =
-    ap (λ b. (b || false) && has_semicolon (link_fields (link_start ++ c ∷ [])))
-    (ends_with-after link_start (c ∷ []) bell (omega arith) no_bell)
+    grind (arith, ends_with-after link_start (c ∷ []) bell (omega arith) no_bell)
 not_link (c ∷ d ∷ rest) no_bell none =
-    let whole = link_start ++ c ∷ d ∷ rest in
-    ap (λ b. (b || ends_with nat_eq whole terminator) && has_semicolon (link_fields whole))
-    (ends_with-after link_start (c ∷ d ∷ rest) bell (omega arith) no_bell)
-    ∙ ap (λ b. b && has_semicolon (link_fields whole))
-    (ends_with-after link_start (c ∷ d ∷ rest) terminator (omega arith) none)
+    let whole = c ∷ d ∷ rest in
+    grind (
+      arith,
+      ends_with-after link_start whole bell (omega arith) no_bell,
+      ends_with-after link_start whole terminator (omega arith) none,
+    )
 
 -- these are the fields of a link's command, and a semicolon makes it a link
 pub record IsAround (sequence fields : List ℕ) : Type 0 where

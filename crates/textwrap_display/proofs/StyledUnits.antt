@@ -1,6 +1,6 @@
 -- What units show after some sequences, by what these leave open.
 use Rattle.textwrap_base.proofs.Common.{◌≡◌, ℕ, List, [], ◌∷◌, ◌++◌, ap, append-nil, append_assoc}
-use Rattle.textwrap_base.proofs.Common.{encode_utf8_all, flat_map, refl, sym, ◌∙◌}
+use Rattle.textwrap_base.proofs.Common.{arith, encode_utf8_all, flat_map, refl, sym, ◌∙◌}
 use Rattle.std.specs.Str.{chars}
 use Rattle.textwrap_words.specs.Units.{Sequence, TextUnit, Visible}
 use Rattle.textwrap_display.specs.Styled.{styled, StyledCharacter}
@@ -35,11 +35,7 @@ styled-from (Sequence cs ∷ us) before =
 pub styled-same : (us : List TextUnit) (first second : List (List ℕ))
     → open_link first ≡ open_link second → open_styles first ≡ open_styles second
     → styled first us ≡ styled second us
-styled-same us first second links styles =
-    styled-from us first
-    ∙ ap (λ l. styled_from l (open_styles first) us) links
-    ∙ ap (λ s. styled_from (open_link second) s us) styles
-    ∙ sym (styled-from us second)
+styled-same us first second links styles = grind (arith, styled-from)
 
 pub styled-append : (us vs : List TextUnit) (before : List (List ℕ))
     → styled before (us ++ vs)
@@ -49,10 +45,7 @@ styled-append (Visible c ∷ us) vs before =
     ap (λ shown. record { character = c; link = open_link before; styles = open_styles before }
     ∷ shown) (styled-append us vs before)
 styled-append (Sequence cs ∷ us) vs before =
-    let s = encode_utf8_all cs in
-    styled-append us vs (before ++ s ∷ [])
-    ∙ ap (λ b. styled (before ++ s ∷ []) us ++ styled b vs)
-    (append_assoc before (s ∷ []) (flat_map sequence_of us))
+    grind (arith, append_assoc, styled-append us vs (before ++ encode_utf8_all cs ∷ []))
 
 -- sequences show nothing
 pub sequences-show : (xs before : List (List ℕ)) → styled before (sequence_units xs) ≡ []

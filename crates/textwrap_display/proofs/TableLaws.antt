@@ -1,8 +1,8 @@
 -- The rows of a table are even.
 use Rattle.textwrap_base.proofs.Common.{◌≡◌, ℕ, zero, suc, ◌+◌, ◌-◌, ◌*◌, ◌≤◌, List, [], ◌∷◌, ◌++◌}
 use Rattle.textwrap_base.proofs.Common.{All, All-cons, All-head, All-map, All-nil, All-tail, ap}
-use Rattle.textwrap_base.proofs.Common.{append_assoc, arith, cases_lt, chars-nil, get_or}
-use Rattle.textwrap_base.proofs.Common.{get_or_past, inl, inr, IsUtf8-nil, length, length-map, map}
+use Rattle.textwrap_base.proofs.Common.{append_assoc, arith, cases_lt, get_or}
+use Rattle.textwrap_base.proofs.Common.{get_or_past, inl, inr, length, length-map, map}
 use Rattle.textwrap_base.proofs.Common.{range_with_len, refl, subst, sum_by, sum_by-cons, sym, zip}
 use Rattle.textwrap_base.proofs.Common.{◌∙◌}
 use Rattle.std.proofs.Common.{replicate}
@@ -10,12 +10,13 @@ use Rattle.std.proofs.Math.Nat.{suc-mul}
 use Rattle.textwrap_lines.proofs.Common.{join_with}
 use Rattle.textwrap_lines.proofs.Text.WholeSequences.{text_width-append}
 use Rattle.textwrap_words.proofs.Word.Measured.{text_width-nil}
-use Rattle.textwrap_words.specs.Units.{IsWhole, text_width, units}
+use Rattle.textwrap_words.specs.Units.{text_width}
 use Rattle.textwrap_display.specs.Laws.{KeepToColumns, row_width}
 use Rattle.textwrap_display.specs.Styled.{IsWholeText}
 use Rattle.textwrap_display.specs.Tables.{cell_line, group_rows, height, RowGaps, row_text, Shape}
 use Rattle.textwrap_display.specs.Tables.{shown}
 use Rattle.textwrap_display.proofs.Aligned.{aligned-before}
+use Rattle.textwrap_display.proofs.SequenceTexts.{nil-whole}
 use Rattle.textwrap_display.proofs.TableCells.{length-padded, length-shown}
 
 -- ---- the lines of a cell
@@ -27,10 +28,7 @@ abbrev KeepTo : Shape × List (List ℕ) → Type 0
 KeepTo p = All (Keeps p.0) p.1
 
 keeps-nil : (column : Shape) → Keeps column []
-keeps-nil column = (
-  (IsUtf8-nil, subst (λ cs. All IsWhole (units cs)) (sym chars-nil) (All-nil IsWhole)),
-  omega (arith, text_width-nil),
-)
+keeps-nil column = (nil-whole, omega (arith, text_width-nil))
 
 keeps-at : (column : Shape) (lines : List (List ℕ)) → All (Keeps column) lines → (r : ℕ)
     → Keeps column (cell_line lines r)

@@ -1,8 +1,8 @@
 -- Whole lines under indents that leave nothing open, and the text that such lines join to.
-use Rattle.textwrap_base.proofs.Common.{◌≡◌, ℕ, ◌-◌, Bool, true, false, cond, List, [], ◌∷◌, ◌++◌}
+use Rattle.textwrap_base.proofs.Common.{◌≡◌, ℕ, Bool, true, false, cond, List, [], ◌∷◌, ◌++◌}
 use Rattle.textwrap_base.proofs.Common.{All, All-weaker, All-drop, All-head, All-tail, ap, arith}
 use Rattle.textwrap_base.proofs.Common.{chars-nil, drop, drop_at, flat_map, IsUtf8, IsUtf8-drop}
-use Rattle.textwrap_base.proofs.Common.{length, length-append, nat_eq, refl, starts_with, subst}
+use Rattle.textwrap_base.proofs.Common.{length, nat_eq, refl, starts_with, subst}
 use Rattle.textwrap_base.proofs.Common.{sym, take, take_at, ◌∙◌}
 use Rattle.std.specs.List.{concat}
 use Rattle.std.specs.Str.{chars}
@@ -51,24 +51,17 @@ may-carry indent line own plain whole =
     record { front = front; plain = ends; text = text }
   where
     by : (b : Bool) → starts_with nat_eq line indent ≡ b
-        → let text = cond b (drop (length indent) line) line in
-        AreParts (take (length line - length text) line) text
+        → let n = cond b (length indent) 0 in AreParts (take n line) (drop n line)
     by true starts =
         let rest = drop (length indent) line in
         let shape : line ≡ indent ++ rest = starts_with-rest indent line starts in
-        let len : length indent ≡ length line - length rest =
-        omega (arith, length-append indent rest, ap length shape) in
-        let front : take (length line - length rest) line ≡ indent =
-        ap (take (length line - length rest)) shape
-        ∙ take_at indent rest (length line - length rest) len in (
+        let front : take (length indent) line ≡ indent =
+        ap (take (length indent)) shape ∙ take_at indent rest _ refl in (
           subst IsWholeText (sym front) own,
           subst EndsPlain (sym front) plain,
           whole_text-rest indent rest own (subst IsWholeText shape whole),
         )
-    by false other =
-        let none : length line - length line ≡ 0 = omega arith in
-        let front : take (length line - length line) line ≡ [] = ap (λ n. take n line) none in
-        (subst IsWholeText (sym front) nil-whole, subst EndsPlain (sym front) nil-plain, whole)
+    by false other = (nil-whole, nil-plain, whole)
 
 pub all-may_carry : (indent later : List ℕ) (lines : List (List ℕ)) → IsWholeText indent
     → EndsPlain indent → IsWholeText later → EndsPlain later → All IsWholeText lines
@@ -88,15 +81,14 @@ bare-shown : (lines before : List (List ℕ)) → All IsWholeText lines
 bare-shown [] before whole = ap (λ cs. styled before (units cs)) (sym chars-nil)
 bare-shown (line ∷ lines) before whole =
     let own = All-head IsWholeText line lines whole in
-    let none : length line - length line ≡ 0 = omega arith in
-    let now = before ++ sequences line in
-    let here = styled_text before line in
-    let later = flat_map (λ shown. shown) (styled_lines [] [] now lines) in
-    ap (λ n. (styled_text [] (take n line) ++ here) ++ later) none
-    ∙ ap (λ cs. (styled [] (units cs) ++ here) ++ later) chars-nil
-    ∙ ap (λ shown. here ++ shown) (bare-shown lines now (All-tail IsWholeText line lines whole))
-    ∙ sym (ap (styled before) (text_units-append line (concat lines) own)
-    ∙ styled-append (units (chars line)) (units (chars (concat lines))) before)
+    let rest = All-tail IsWholeText line lines whole in
+    grind (
+      arith,
+      chars-nil,
+      text_units-append line (concat lines) own,
+      styled-append,
+      bare-shown lines (before ++ sequences line) rest,
+    )
 
 -- the lines, each by itself, show what the text shows that they join to
 pub bare-carried : (lines : List (List ℕ)) → All IsWholeText lines

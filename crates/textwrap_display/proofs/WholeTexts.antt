@@ -1,13 +1,11 @@
--- The units and the sequences of texts of whole sequences that are put together.
-use Rattle.textwrap_base.proofs.Common.{◌≡◌, List, ◌++◌, All, All-append}
-use Rattle.textwrap_base.proofs.Common.{ap, chars-append, flat_map}
-use Rattle.textwrap_base.proofs.Common.{flat_map-append, IsUtf8-append, subst, sym, ◌∙◌}
+-- The units of texts of whole sequences that are put together.
+use Rattle.textwrap_base.proofs.Common.{◌≡◌, List, ◌++◌, All, All-append, ap, chars-append}
+use Rattle.textwrap_base.proofs.Common.{IsUtf8-append, subst, sym, ◌∙◌}
 use Rattle.std.specs.Prelude.{ℕ}
 use Rattle.std.specs.Str.{chars}
 use Rattle.textwrap_words.specs.Units.{IsWhole, units}
 use Rattle.textwrap_lines.proofs.Text.WholeSequences.{units-append}
 use Rattle.textwrap_display.specs.Styled.{IsWholeText}
-use Rattle.textwrap_display.specs.Styles.{sequence_of, sequences}
 
 pub text_units-append : (xs ys : List ℕ) → IsWholeText xs
     → units (chars (xs ++ ys)) ≡ units (chars xs) ++ units (chars ys)
@@ -20,9 +18,3 @@ whole_text-append xs ys first second = (
   subst (All IsWhole) (sym (text_units-append xs ys first))
       (All-append IsWhole (units (chars xs)) (units (chars ys)) first.1 second.1),
 )
-
-pub sequences-append : (xs ys : List ℕ) → IsWholeText xs
-    → sequences (xs ++ ys) ≡ sequences xs ++ sequences ys
-sequences-append xs ys whole =
-    ap (flat_map sequence_of) (text_units-append xs ys whole)
-    ∙ flat_map-append sequence_of (units (chars xs)) (units (chars ys))

@@ -1,8 +1,8 @@
 -- A text filled with its lines justified.
-use Rattle.std.specs.Prelude.{◌≡◌, ℕ, ◌-◌, Bool, true, false, List, [], ◌∷◌, ◌++◌, length, take}
+use Rattle.std.specs.Prelude.{◌≡◌, ℕ, ◌-◌, Bool, true, false, List, [], ◌∷◌, ◌++◌}
 use Rattle.std.specs.Prelude.{if◌then◌else◌}
 use Rattle.std.specs.List.{flat_map}
-use Rattle.textwrap_display.specs.Indents.{after_indent}
+use Rattle.textwrap_display.specs.Indents.{after_indent, before_text}
 use Rattle.textwrap_display.specs.Justifying.{justified}
 use Rattle.textwrap_lines.specs.LineEnding.{ending_bytes, join_with, paragraphs_of}
 use Rattle.textwrap_lines.specs.Options.{Settings}
@@ -38,9 +38,8 @@ pub record IsJustifiedText (settings : Settings)
 -- the line is justified after the indent, where it begins with that
 abbrev pub justified_after : ℕ → List ℕ → List ℕ → List ℕ
 justified_after width indent line =
-    let text = after_indent indent line in
-    take (length line - length text) line
-    ++ line_bytes (justified (width - text_width indent) text)
+    before_text indent line
+    ++ line_bytes (justified (width - text_width indent) (after_indent indent line))
 
 -- `is_later` says that a line stands before them
 abbrev pub justified_after_indents : Settings → Bool → List Line → List (List ℕ)

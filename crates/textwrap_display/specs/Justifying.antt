@@ -1,12 +1,12 @@
 -- A line whose gaps between words are widened up to a width.
-use Rattle.std.specs.Prelude.{ℕ, zero, suc, ◌-◌, ◌/◌, ◌%◌, ◌==◌, ◌||◌, ◌+◌, min, List, []}
-use Rattle.std.specs.Prelude.{◌∷◌, ◌++◌, length, take, drop, if◌then◌else◌}
+use Rattle.std.specs.Prelude.{ℕ, ◌-◌, ◌/◌, ◌%◌, ◌==◌, ◌||◌, ◌+◌, min, List, [], ◌∷◌, ◌++◌, length}
+use Rattle.std.specs.Prelude.{take, drop, if◌then◌else◌}
 use Rattle.std.specs.List.{prefix_len}
 use Rattle.textwrap.specs.Columns.{blanks}
 use Rattle.textwrap_lines.specs.Paragraph.{Line, Built, Slice}
-use Rattle.textwrap_words.specs.Blanks.{blank, is_blank}
+use Rattle.textwrap_words.specs.Blanks.{is_blank}
 use Rattle.textwrap_words.specs.Units.{text_width}
-use Rattle.textwrap_words.specs.Words.{WordText, words_of}
+use Rattle.textwrap_words.specs.Words.{WordText, tiled, words_of}
 
 -- how many blanks stand before the first word
 abbrev pub indent_len : List ℕ → ℕ
@@ -20,20 +20,8 @@ line_words line = words_of (drop (indent_len line) line)
 abbrev pub gaps : List ℕ → ℕ
 gaps line = length (line_words line) - 1
 
--- words after the first, each after so many blanks more, and the first ones after one more
-abbrev pub widened_later : ℕ → ℕ → List WordText → List ℕ
-widened_later each extra [] = []
-widened_later each zero (w ∷ words) =
-    blanks each ++ (w.word ++ w.whitespace) ++ widened_later each zero words
-widened_later each (suc extra) (w ∷ words) =
-    blanks each ++ (blank ∷ []) ++ (w.word ++ w.whitespace) ++ widened_later each extra words
-
-abbrev pub widened : ℕ → ℕ → List WordText → List ℕ
-widened each extra [] = []
-widened each extra (w ∷ words) = (w.word ++ w.whitespace) ++ widened_later each extra words
-
--- the same words, each but the last with so many blanks more after it, and the first ones with one
--- more than that
+-- the words, each but the last with so many blanks more after it, and the first ones with one more
+-- than that
 abbrev pub widened_words : ℕ → ℕ → List WordText → List WordText
 widened_words each extra [] = []
 widened_words each extra (w ∷ []) = w ∷ []
@@ -47,4 +35,4 @@ justified width line =
     let spare = width - text_width line in
     if (spare == 0) || (gaps line == 0) then Slice line
     else Built (take (indent_len line) line
-    ++ widened (spare / gaps line) (spare % gaps line) (line_words line))
+    ++ tiled (widened_words (spare / gaps line) (spare % gaps line) (line_words line)))

@@ -1,10 +1,9 @@
 -- What the visible characters of a text show: the link and the styles that are open where each
 -- stands.
-use Rattle.std.specs.Prelude.{◌≡◌, ℕ, ◌-◌, ⊤, List, [], ◌∷◌, ◌++◌, length, take, All, IsUtf8, chars}
-use Rattle.std.specs.Prelude.{encode_utf8_all}
+use Rattle.std.specs.Prelude.{◌≡◌, ℕ, ⊤, List, [], ◌∷◌, ◌++◌, All, IsUtf8, chars, encode_utf8_all}
 use Rattle.textwrap_words.specs.Units.{TextUnit, Visible, Sequence, units}
 use Rattle.textwrap_lines.specs.Text.{HasWholeSequences}
-use Rattle.textwrap_display.specs.Indents.{after_indent}
+use Rattle.textwrap_display.specs.Indents.{after_indent, before_text}
 use Rattle.textwrap_display.specs.Styles.{open_link, open_styles, sequences}
 
 -- a visible character, and what is open where it stands
@@ -36,10 +35,6 @@ abbrev pub EndsPlain : List ℕ → Type 0
 EndsPlain text = (open_styles (sequences text) ≡ []) × (open_link (sequences text) ≡ [])
 
 -- ---- lines
-
--- what stands before the text of a line
-abbrev pub before_text : List ℕ → List ℕ → List ℕ
-before_text indent line = take (length line - length (after_indent indent line)) line
 
 -- the text of the line is whole, and so is what stands before it, which leaves nothing open
 pub record MayCarry (indent line : List ℕ) : Type 0 where

@@ -1,13 +1,14 @@
 -- Styles and links that go on over the ends of lines: each line sets anew what is open where it
 -- begins, and ends plain.
-use Rattle.std.specs.Prelude.{ℕ, ◌-◌, Bool, ◌&&◌, ◌||◌, ◌==◌, nat_eq, nat_lt, List, [], ◌∷◌, ◌++◌, length, take}
-use Rattle.std.specs.Prelude.{drop, filter, chars, encode_utf8_all, codes, if◌then◌else◌}
+use Rattle.std.specs.Prelude.{ℕ, ◌-◌, Bool, ◌&&◌, ◌||◌, ◌==◌, nat_eq, nat_lt, List, [], ◌∷◌, ◌++◌}
+use Rattle.std.specs.Prelude.{length, take, drop, filter, chars, encode_utf8_all, codes}
+use Rattle.std.specs.Prelude.{if◌then◌else◌}
 use Rattle.std.specs.Int.{is_in_range}
 use Rattle.std.specs.List.{after_first, after_last, concat, ends_with, flat_map, list_all, list_any}
 use Rattle.std.specs.List.{starts_with}
 use Rattle.textwrap_words.specs.Units.{TextUnit, Visible, Sequence, units}
 use Rattle.textwrap_lines.specs.Paragraph.{Line, Built, Slice}
-use Rattle.textwrap_display.specs.Indents.{after_indent}
+use Rattle.textwrap_display.specs.Indents.{after_indent, before_text}
 
 -- the escape sequences of a text, in their order
 abbrev pub sequence_of : TextUnit → List (List ℕ)
@@ -84,7 +85,7 @@ carried_line indent before line =
     let start = opening before in
     let end = closing (before ++ sequences text) in
     if length (start ++ end) == 0 then Slice line
-    else Built (take (length line - length text) line ++ start ++ text ++ end)
+    else Built (before_text indent line ++ start ++ text ++ end)
 
 -- the lines, of which the first has this indent and the others the later one
 abbrev pub carried_lines : List ℕ → List ℕ → List (List ℕ) → List (List ℕ) → List Line

@@ -1,22 +1,23 @@
 //! A text filled with its lines justified.
-ghost use Rattle.std.specs.Prelude.{◌≡◌, ◌-◌, ◌++◌, [], alloc_error, length, map, string_bytes};
-ghost use Rattle.std.specs.Prelude.{take, if◌then◌else◌, IfErr, IfOk, OnOk};
-ghost use Rattle.textwrap_display.specs.Indents.{after_indent};
+ghost use Rattle.std.specs.Prelude.{◌≡◌, ◌++◌, [], alloc_error, map, string_bytes};
+ghost use Rattle.std.specs.Prelude.{if◌then◌else◌, IfErr, IfOk, OnOk};
 ghost use Rattle.textwrap_display.specs.JustifiedText.{IsJustifiedText, joined_on};
 ghost use Rattle.textwrap_display.specs.JustifiedText.{justified_after, justified_after_indents};
 ghost use Rattle.textwrap_lines.specs.LineEnding.{ending_bytes};
 ghost use Rattle.textwrap_lines.specs.Options.{Settings, settings_view, HasParts, MayOverflow};
-ghost use Rattle.textwrap_lines.specs.Paragraph.{indent_of, line_view, DividesAs, DividesBy};
+ghost use Rattle.textwrap_lines.specs.Paragraph.{line_view, DividesAs, DividesBy};
 ghost use Rattle.textwrap_lines.specs.Text.{SomeMayPass64Bits};
 ghost use Rattle.textwrap_words.specs.WordSplitters.{Splitter};
 ghost use Rattle.textwrap_words.specs.WrapAlgorithms.{Algorithm};
 
+use crate::indents::indent_len;
 use crate::justifying::push_justified;
 use std::alloc::{AllocError, Allocator};
 use std::borrow::CowStr;
 use textwrap::fuzzing::wrap_single_line;
 use textwrap::words::display_width;
 use textwrap::{Options, WrapError};
+use textwrap_lines::inner::next_indent;
 use textwrap_lines::parts::split_paragraph;
 
 /// The text that [`fill`](textwrap::fill) gives, with its lines justified to the width of the
@@ -101,17 +102,6 @@ fn begin_line<A: Allocator>(
     Ok(())
 }
 
-/// The indent of the next line.
-fn next_indent<'a>(options: &Options<'a>, is_later: bool) -> &'a str
-    ensures { result.now ≡ indent_of (settings_view options.now) is_later }
-{
-    if is_later {
-        options.subsequent_indent
-    } else {
-        options.initial_indent
-    }
-}
-
 /// Adds a line, justified after its indent.
 fn push_justified_after<A: Allocator>(
     text: &mut String<A>,
@@ -122,19 +112,11 @@ fn push_justified_after<A: Allocator>(
     ensures { OnOk result (string_bytes text.new
         ≡ string_bytes text.old ++ justified_after width indent.now line.now) }
 {
-    let (before, after) = split_after(line, indent);
-    text.push_str(before)?;
-    push_justified(text, after, width.saturating_sub(display_width(indent)))
-}
-
-/// The indent of a line, if it begins with that, and what follows it.
-fn split_after<'l>(line: &'l str, indent: &'l str) -> (&'l str, &'l str)
-    ensures before { result.0.now
-        ≡ take (length line.now - length (after_indent indent.now line.now)) line.now }
-    ensures after { result.1.now ≡ after_indent indent.now line.now }
-{
-    match line.strip_prefix(indent) {
-        Some(after) => (indent, after),
-        None => ("", line),
-    }
+    let indent_end = indent_len(line, indent);
+    text.push_str(&line[..indent_end])?;
+    push_justified(
+        text,
+        &line[indent_end..],
+        width.saturating_sub(display_width(indent)),
+    )
 }

@@ -2,15 +2,15 @@
 ghost use Rattle.std.specs.Prelude.{◌≡◌, ◌≢◌, ◌-◌, ◌/◌, ◌%◌, ◌++◌, length, drop, string_bytes};
 ghost use Rattle.std.specs.Prelude.{take, IfOk, MatchOption, OnOk};
 ghost use Rattle.textwrap_display.specs.Justifying.{gaps, indent_len, justified, line_words};
-ghost use Rattle.textwrap_display.specs.Justifying.{widened};
+ghost use Rattle.textwrap_display.specs.Justifying.{widened_words};
 ghost use Rattle.textwrap_lines.specs.Paragraph.{Built, Slice, line_bytes, line_view};
-ghost use Rattle.textwrap_words.specs.Words.{words_of};
+ghost use Rattle.textwrap_words.specs.Words.{tiled, words_of};
 
 use std::alloc::{AllocError, Allocator};
 use std::borrow::CowStr;
 use textwrap::words::display_width;
 use textwrap_words::blanks::{blanks_end, push_blanks};
-use textwrap_words::inner::words_at_blanks;
+use textwrap_words::inner::first_chunk;
 
 /// The line with its gaps between words widened, so that it is as wide as the width, which is in
 /// columns. Each gap gets as many blanks more, and the first ones get one more of what is left over.
@@ -28,7 +28,7 @@ pub fn justify<'t, A: Allocator>(
 ) -> Result<CowStr<'t, A>, AllocError>
     ensures { IfOk result (λ text. line_view text ≡ justified width line.now) }
 {
-    let Some((spare, gaps)) = spare_and_gaps::<A>(line, width) else {
+    let Some((spare, gaps)) = spare_and_gaps(line, width) else {
         return Ok(CowStr::Borrowed(line));
     };
     let mut text = String::new(alloc);
@@ -48,7 +48,7 @@ pub(crate) fn push_justified<A: Allocator>(
     ensures { OnOk result (string_bytes text.new
         ≡ string_bytes text.old ++ line_bytes (justified width line.now)) }
 {
-    match spare_and_gaps::<A>(line, width) {
+    match spare_and_gaps(line, width) {
         Some((spare, gaps)) => push_spread(text, line, spare, gaps),
         None => text.push_str(line),
     }
@@ -56,15 +56,15 @@ pub(crate) fn push_justified<A: Allocator>(
 
 /// How many columns the line falls short of the width, and over how many gaps these are spread;
 /// nothing of a line that stays as it is.
-fn spare_and_gaps<A: Allocator>(line: &str, width: usize) -> Option<(usize, usize)>
+fn spare_and_gaps(line: &str, width: usize) -> Option<(usize, usize)>
     ensures { MatchOption result (justified width line.now ≡ Slice line.now)
         (λ (spare, gaps). (gaps ≢ 0) × (justified width line.now ≡ Built
         (take (indent_len line.now) line.now
-        ++ widened (spare / gaps) (spare % gaps) (line_words line.now)))) }
+        ++ tiled (widened_words (spare / gaps) (spare % gaps) (line_words line.now))))) }
 {
     let spare = width.saturating_sub(display_width(line));
     let (_indent, rest) = split_indent(line);
-    let gaps = count_gaps::<A>(rest);
+    let gaps = count_gaps(rest);
     if spare == 0 || gaps == 0 {
         return None;
     }
@@ -81,7 +81,7 @@ fn push_spread<A: Allocator>(
     requires { gaps ≢ 0 }
     ensures { OnOk result (string_bytes text.new ≡ string_bytes text.old
         ++ (take (indent_len line.now) line.now
-        ++ widened (spare / gaps) (spare % gaps) (line_words line.now))) }
+        ++ tiled (widened_words (spare / gaps) (spare % gaps) (line_words line.now)))) }
 {
     // Reserved before a blank is written, so that a text that fits no memory is refused at once.
     let len = line.len().checked_add(spare).ok_or(AllocError)?;
@@ -100,14 +100,20 @@ fn split_indent(line: &str) -> (&str, &str)
 }
 
 /// How many gaps between words a text has that begins with a word.
-fn count_gaps<A: Allocator>(text: &str) -> usize
+fn count_gaps(text: &str) -> usize
     ensures { result ≡ length (words_of text.now) - 1 }
 {
-    words_at_blanks::<A>(text).count().saturating_sub(1)
+    let mut rest = text;
+    let mut words = 0_usize;
+    while !rest.is_empty() {
+        rest = first_chunk(rest).1;
+        words += 1;
+    }
+    words.saturating_sub(1)
 }
 
-/// Adds the words of a text, and blanks before all but the first: `each`, and one more before the
-/// first `extra` of them.
+/// Adds the words of a text, and blanks after all but the last: `each`, and one more after the first
+/// `extra` of them.
 fn push_widened<A: Allocator>(
     text: &mut String<A>,
     line: &str,
@@ -115,23 +121,19 @@ fn push_widened<A: Allocator>(
     extra: usize,
 ) -> Result<(), AllocError>
     ensures { OnOk result (string_bytes text.new
-        ≡ string_bytes text.old ++ widened each extra (words_of line.now)) }
+        ≡ string_bytes text.old ++ tiled (widened_words each extra (words_of line.now))) }
 {
-    let mut words = words_at_blanks::<A>(line);
-    let Some(first) = words.next() else {
-        return Ok(());
-    };
-    text.push_str(first.word)?;
-    text.push_str(first.whitespace)?;
+    let mut rest = line;
     let mut left = extra;
-    for word in words {
-        push_blanks(text, each)?;
-        if left > 0 {
-            text.push(' ')?;
-            left -= 1;
+    while !rest.is_empty() {
+        let (word, after) = first_chunk(rest);
+        text.push_str(word)?;
+        if !after.is_empty() {
+            push_blanks(text, each)?;
+            push_blanks(text, left.min(1))?;
+            left = left.saturating_sub(1);
         }
-        text.push_str(word.word)?;
-        text.push_str(word.whitespace)?;
+        rest = after;
     }
     Ok(())
 }

@@ -17,6 +17,7 @@ pub use tables::{Column, Gaps, table};
 
 mod alignment;
 mod filling;
+mod indents;
 mod justifying;
 pub mod laws;
 mod shortening;

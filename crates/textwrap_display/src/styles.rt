@@ -1,11 +1,11 @@
 //! Styles and links that go on over the ends of lines: each line sets anew what is open where it
 //! begins, and ends plain.
 ghost use Rattle.std.specs.Prelude.{◌≡◌, ℕ, ◌<◌, ◌==◌, ◌||◌, List, [], ◌∷◌, ◌++◌, chars, length};
-ghost use Rattle.std.specs.Prelude.{drop, encode_utf8_all, if◌then◌else◌, is_some, map, nat_eq};
+ghost use Rattle.std.specs.Prelude.{drop, encode_utf8_all, if◌then◌else◌, is_some, map};
 ghost use Rattle.std.specs.Prelude.{string_bytes, take, IfOk, IfSome, IsCharBoundary, IsUtf8};
 ghost use Rattle.std.specs.Prelude.{MatchOption, OnOk};
 ghost use Rattle.std.specs.Int.{is_in_range};
-ghost use Rattle.std.specs.List.{after_first, list_all, starts_with};
+ghost use Rattle.std.specs.List.{after_first, list_all};
 ghost use Rattle.textwrap_display.specs.OpenStyles.{IsOpenAfter};
 ghost use Rattle.textwrap_display.specs.Shortening.{texts_of};
 ghost use Rattle.textwrap_display.specs.Styles.{carried_lines, closing, is_link, is_style};
@@ -13,6 +13,7 @@ ghost use Rattle.textwrap_display.specs.Styles.{link_fields, opening, sequences,
 ghost use Rattle.textwrap_lines.specs.Paragraph.{Built, Slice, line_view};
 ghost use Rattle.textwrap_words.specs.Units.{escape_len};
 
+use crate::indents::indent_len;
 use std::alloc::{AllocError, Allocator};
 use std::borrow::CowStr;
 use textwrap::Options;
@@ -72,19 +73,6 @@ pub fn carry_styles<'l, A: Allocator + Copy>(
         indent = options.subsequent_indent;
     }
     Ok(carried)
-}
-
-/// How many bytes of a line are its indent: none where it does not begin with that.
-fn indent_len(line: &str, indent: &str) -> usize
-    ensures len { result
-        ≡ (if starts_with nat_eq line.now indent.now then length indent.now else 0) }
-    ensures boundary { IsCharBoundary line.now result }
-{
-    if line.starts_with(indent) {
-        indent.len()
-    } else {
-        0
-    }
 }
 
 /// The line with `opening` after its indent and `closing` at its end. Where both are empty it is

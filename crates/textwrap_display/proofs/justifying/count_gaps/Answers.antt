@@ -1,7 +1,12 @@
 use Rattle.textwrap_display.proofs.justifying.count_gaps.Goals as goal
-use Rattle.textwrap_base.proofs.Common.{arith, inl, ap, length}
-use Rattle.textwrap_display.proofs.WordCounts.{words-few}
+use Rattle.textwrap_base.proofs.Common.{ap, arith, length}
+use Rattle.textwrap_display.proofs.WordCounts.{chunks-few}
 
-pub count-requires-clause-fits : goal.count-requires-clause-fits
-count-requires-clause-fits g c =
-    inl (omega (arith, words-few c.args.text.now, ap length c.words_at_blanks.ensures))
+pub overflow_add-words : goal.overflow_add-words
+overflow_add-words c = omega (
+  arith,
+  c.loop-rest.invariant.count,
+  ap length c.first_chunk.ensures.first,
+  chunks-few c.args.text.now,
+  c.type_inv.text,
+)

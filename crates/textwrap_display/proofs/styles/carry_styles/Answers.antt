@@ -1,7 +1,7 @@
 use Rattle.textwrap_display.proofs.styles.carry_styles.Goals as goal
 use Rattle.textwrap_base.proofs.Common.{◌≡◌, ◌++◌, drop, ap, ◌∙◌, rules}
 use Rattle.textwrap_display.specs.Styles.{closing, opening, sequences}
-use Rattle.textwrap_display.proofs.CarriedLines.{carries-more, line-is, text-is}
+use Rattle.textwrap_display.proofs.CarriedLines.{carries-more, line-is}
 
 pub loop-line-preserved : goal.loop-line-preserved
 loop-line-preserved g c =
@@ -18,12 +18,12 @@ loop-line-preserved g c =
     let ends : c.closing.result.now ≡ closing (before ++ sequences (drop end.result line)) =
     c.closing.ensures (before ++ sequences text) state
     ∙ ap (λ t. closing (before ++ sequences t)) c.range_from.ensures.value in
-    let view = line-is indent line end.result end.ensures.len before c.deref.result.now
-    c.closing.result.now _ end.ensures.boundary.0 starts ends c.in_ok-enclosed.ensures in
+    let view = line-is indent line end.result before c.deref.result.now c.closing.result.now _
+    end.ensures.len starts ends c.in_ok-enclosed.ensures in
     let carries = carries-more c.args.lines.now c.loop-line.line-index c.line-item.result
     c.in_ok-enclosed.field-0 indent c.args.options.now.subsequent_indent.now line text before
     c.loop-line.carried.items c.push.new.self.items _ c.loop-line-test.true c.line-item.is
     c.as_str-line.ensures.value
-    (c.range_from.ensures.value ∙ text-is indent line end.result end.ensures.len)
+    (rw end.ensures.len at c.range_from.ensures.value)
     c.in_ok-push.ensures.items view so_far.2 in
     record { carries = (before ++ sequences text, state, carries); utf8 = search rules }

@@ -5,35 +5,33 @@ use Rattle.std.specs.List.{after_first, position_or_len}
 use Rattle.std.specs.Option.{MatchOption}
 use Rattle.std.proofs.lemmas.Str.Pattern.{split_once_first}
 use Rattle.textwrap_display.specs.Styles.{is_link}
-use Rattle.textwrap_display.proofs.TextEnds.{any-position, stripped_prefix}
+use Rattle.textwrap_base.proofs.Lists.Ends.{any-position, stripped_prefix}
 use Rattle.textwrap_display.proofs.StyleSequences.{IsAround, link-cases}
-use Rattle.textwrap_display.proofs.styles.link_target.Goals.{In_ok-fields-2}
+use Rattle.textwrap_display.proofs.styles.link_target.Goals.{After-or}
 
-pub returns-in_err-fields-2-clause-link : goal.returns-in_err-fields-2-clause-link
-returns-in_err-fields-2-clause-link c =
-    let s = c.args.sequence.now in
-    let rest = c.in_ok-fields.fields.now in
-    let none = subst (λ r. MatchOption r (is_link s ≡ false) (λ fields. IsAround s fields.now))
-    (sym c.or.ensures ∙ c.in_err-fields-2.was)
-    (link-cases s rest c.strip_suffix.result c.strip_suffix-2.result
-    (stripped_prefix (codes "\u{1b}]8;") s rest c.in_ok-fields.ensures.cases)
-    c.strip_suffix.ensures.cases c.strip_suffix-2.ensures.cases) in
-    rw c.from_residual-in_err-fields-2.ensures (sym none)
-
-around : (c : In_ok-fields-2) → IsAround c.args.sequence.now c.in_ok-fields-2.fields.now
-around c =
+-- what is found of either end says whether it is a link
+cases : (c : After-or) → MatchOption c.or.result (is_link c.args.sequence.now ≡ false)
+    (λ fields. IsAround c.args.sequence.now fields.now)
+cases c =
     let s = c.args.sequence.now in
     let rest = c.in_ok-fields.fields.now in
     subst (λ r. MatchOption r (is_link s ≡ false) (λ fields. IsAround s fields.now))
-    (sym c.or.ensures ∙ c.in_ok-fields-2.was)
+    (sym c.or.ensures)
     (link-cases s rest c.strip_suffix.result c.strip_suffix-2.result
     (stripped_prefix (codes "\u{1b}]8;") s rest c.in_ok-fields.ensures.cases)
     c.strip_suffix.ensures.cases c.strip_suffix-2.ensures.cases)
 
+pub returns-in_err-fields-2-clause-link : goal.returns-in_err-fields-2-clause-link
+returns-in_err-fields-2-clause-link c =
+    let none = rw c.in_err-fields-2.was at
+    (cases (goal.at.returns-in_err-fields-2-clause-link c).After-or) in
+    rw c.from_residual-in_err-fields-2.ensures (sym none)
+
 pub returns-in_err-target-clause-link : goal.returns-in_err-target-clause-link
 returns-in_err-target-clause-link c =
     let fields = c.in_ok-fields-2.fields.now in
-    let whole = around (goal.at.returns-in_err-target-clause-link c).In_ok-fields-2 in
+    let whole = rw c.in_ok-fields-2.was at
+    (cases (goal.at.returns-in_err-target-clause-link c).After-or) in
     let found = split_once_first 59 fields c.split_once.result c.split_once.ensures.cases
     (omega arith) in
     let none = rw c.in_err-target.was at found in
@@ -45,7 +43,7 @@ returns-in_err-target-clause-link c =
 pub returns-clause-link : goal.returns-clause-link
 returns-clause-link c =
     let fields = c.in_ok-fields-2.fields.now in
-    let whole = around (goal.at.returns-clause-link c).In_ok-fields-2 in
+    let whole = rw c.in_ok-fields-2.was at (cases (goal.at.returns-clause-link c).After-or) in
     let found = split_once_first 59 fields c.split_once.result c.split_once.ensures.cases
     (omega arith) in
     let there = rw c.in_ok-target.was at found in
@@ -55,7 +53,7 @@ returns-clause-link c =
 
 pub returns-clause-target : goal.returns-clause-target
 returns-clause-target c =
-    let whole = around (goal.at.returns-clause-target c).In_ok-fields-2 in
+    let whole = rw c.in_ok-fields-2.was at (cases (goal.at.returns-clause-target c).After-or) in
     let found = split_once_first 59 c.in_ok-fields-2.fields.now c.split_once.result
     c.split_once.ensures.cases (omega arith) in
     let there = rw c.in_ok-target.was at found in

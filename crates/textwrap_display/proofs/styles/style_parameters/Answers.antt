@@ -1,7 +1,7 @@
 use Rattle.textwrap_display.proofs.styles.style_parameters.Goals as goal
 use Rattle.textwrap_base.proofs.Common.{◌≡◌, ◌++◌, sym, ap, ◌∙◌, codes}
-use Rattle.textwrap_display.proofs.TextEnds.{stripped_prefix}
-use Rattle.textwrap_display.proofs.TextEnds.{stripped_suffix}
+use Rattle.textwrap_base.proofs.Lists.Ends.{stripped_prefix}
+use Rattle.textwrap_base.proofs.Lists.Ends.{stripped_suffix}
 use Rattle.std.specs.Int.{is_in_range}
 use Rattle.std.specs.List.{list_all}
 use Rattle.textwrap_display.specs.Styles.{is_style}

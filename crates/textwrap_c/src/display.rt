@@ -86,8 +86,8 @@ pub extern "C" fn textwrap_justify(
     }
 }
 
-/// Fills a text, justifies all lines but the last of each paragraph, and writes it as `textwrap_fill`
-/// writes a filled one.
+/// Fills a text, justifies all lines but the last of each paragraph, and writes it as
+/// `textwrap_fill` writes a filled one.
 #[unsafe(no_mangle)]
 pub extern "C" fn textwrap_fill_justified(
     alloc: Global,

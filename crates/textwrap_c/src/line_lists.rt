@@ -70,9 +70,10 @@ fn place_shortened(
     place_all(alloc, short)
 }
 
-/// Writes the lines of one text, each with the styles and the link that those before it left open set
-/// anew after its indent, and taken back at its end, as `textwrap_wrap` writes lines that are texts of
-/// their own. The indents are those of the options, and nothing else of them is used.
+/// Writes the lines of one text so that each stands by itself: after its indent it sets anew the link
+/// and the styles that the lines before it left open, and at its end it takes back what is open. They
+/// are written as `textwrap_wrap` writes lines that are texts of their own. The indents are those of
+/// the options, and nothing else of them is used.
 #[unsafe(no_mangle)]
 pub extern "C" fn textwrap_carry_styles(
     alloc: Global,

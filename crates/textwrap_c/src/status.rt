@@ -12,8 +12,8 @@ pub const OUT_OF_MEMORY: u32 = 2;
 /// The room is shorter than the answer, whose length is reported.
 pub const TOO_SMALL: u32 = 3;
 
-/// The options are of another version, or one of their numbers means nothing, or there are to be no
-/// columns.
+/// The options are of another version, a number that was given means nothing, or
+/// `textwrap_wrap_columns` is to make no columns.
 pub const UNKNOWN_OPTIONS: u32 = 4;
 
 /// A number needs more than 128 bits: the sum of all widths, or the cost of some first fragments.

@@ -29,12 +29,13 @@ pub struct TextwrapColumn<'a> {
     pub options: TextwrapOptions<'a>,
     /// Where their lines stand in the width: as in `textwrap_align`.
     pub alignment: u32,
-    /// 0, until a later column takes it, for which 0 will change nothing.
+    /// 0. A later version may give it a meaning, in which 0 will change nothing.
     pub reserved: u32,
 }
 
 /// Wraps the cells in the columns, as many beside one another as there are columns, and writes the
-/// rows as `textwrap_wrap` writes lines that are texts of their own. The last cells may be fewer.
+/// rows as `textwrap_wrap` writes lines that are texts of their own. The last cells may be fewer. A
+/// column that is not known is `UNKNOWN_OPTIONS`.
 #[unsafe(no_mangle)]
 pub extern "C" fn textwrap_table(
     alloc: Global,

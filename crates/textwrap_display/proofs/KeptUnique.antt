@@ -1,4 +1,4 @@
--- One number of bytes is kept of a line.
+-- Only one number of bytes may be kept of a line.
 use Rattle.textwrap_base.proofs.Common.{◌≡◌, ℕ, ◌≤◌, List, inl, inr, arith}
 use Rattle.textwrap_display.specs.Shortening.{IsKept}
 

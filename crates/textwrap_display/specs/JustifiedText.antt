@@ -49,7 +49,8 @@ justified_after_indents settings is_later (line ∷ next ∷ lines) =
     justified_after settings.width (indent_of settings is_later) (line_bytes line)
     ∷ justified_after_indents settings true (next ∷ lines)
 
--- the lines in a row, each with the ending before it, but not the first where none stands before
+-- the lines one after another, each with the ending before it; the first has none if no line stands
+-- before it
 abbrev pub joined_on : List ℕ → Bool → List (List ℕ) → List ℕ
 joined_on ending is_later [] = []
 joined_on ending is_later (line ∷ lines) =

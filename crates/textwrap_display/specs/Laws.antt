@@ -24,7 +24,8 @@ AlignedLinesAreAsWide =
     → IsUtf8 line → HasWholeSequences line → text_width line ≤ width
     → text_width (line_bytes (aligned alignment width line)) ≡ width
 
--- and so is one that is justified, if it has a gap, and no blank stands inside an escape sequence
+-- and so is one that is justified, if it has a gap, and each escape sequence of a word ends in that
+-- word
 abbrev pub JustifiedLinesAreAsWide : Type 0
 JustifiedLinesAreAsWide =
     (width : ℕ) (line : List ℕ)
@@ -33,7 +34,7 @@ JustifiedLinesAreAsWide =
     → text_width (line_bytes (justified width line)) ≡ width
 
 -- a justified line begins with the same blanks and has the same words, in their order; each but the
--- last has as many blanks more after it, and the first ones have one more than that
+-- last has the same number of blanks more after it, and the first ones have one more than that
 pub record KeepsWords (width : ℕ) (line new : List ℕ) : Type 0 where
   pub indent : take (indent_len new) new ≡ take (indent_len line) line
   pub words : map (λ w. w.word) (line_words new) ≡ map (λ w. w.word) (line_words line)
@@ -46,14 +47,14 @@ JustifiedLinesKeepWords =
 
 -- ---- shortened lines
 
--- one number of bytes is kept of a line
+-- only one number of bytes may be kept of a line
 abbrev pub KeptBeginningsAreUnique : Type 0
 KeptBeginningsAreUnique =
     (width : ℕ) (placeholder line : List ℕ) (first second : ℕ)
     → IsKept width placeholder line first → IsKept width placeholder line second → first ≡ second
 
--- a shortened line takes no more than the width, if the placeholder alone does not, and what is kept
--- ends in no escape sequence
+-- a shortened line takes no more than the width, if the placeholder alone does not, and each escape
+-- sequence of what is kept ends in it
 abbrev pub ShortenedLinesKeepToWidth : Type 0
 ShortenedLinesKeepToWidth =
     (width : ℕ) (placeholder line : List ℕ) (short : Line)
@@ -116,19 +117,19 @@ PlainLinesStay =
 
 -- ---- tables
 
--- each line of each cell is such a text, and no wider than its column
+-- the escape sequences of each line of each cell end in it, and it is no wider than its column
 abbrev pub KeepToColumns : List Shape → List (List (List ℕ)) → Type 0
 KeepToColumns columns cells =
     All (λ p. All (λ line. IsWholeText line × (text_width line ≤ p.0.width)) p.1)
     (zip columns cells)
 
--- the columns of the gaps and of all columns together
+-- how much of the screen the gaps and all columns take together
 abbrev pub row_width : RowGaps → List Shape → ℕ
 row_width gaps columns =
     text_width gaps.left + sum_by (λ column. column.width) columns
     + (length columns - 1) * text_width gaps.middle + text_width gaps.right
 
--- each row is exactly as wide
+-- each row takes exactly so much
 abbrev pub TableRowsAreEven : Type 0
 TableRowsAreEven =
     (gaps : RowGaps) (columns : List Shape) (cells : List (List (List ℕ)))

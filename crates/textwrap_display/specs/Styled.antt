@@ -26,7 +26,7 @@ styled_text before text = styled before (units (chars text))
 
 -- ---- texts that may be put together
 
--- text, each of whose escape sequences ends in it
+-- a text, each of whose escape sequences ends in it
 abbrev pub IsWholeText : List ℕ → Type 0
 IsWholeText text = IsUtf8 text × HasWholeSequences text
 
@@ -42,7 +42,8 @@ pub record MayCarry (indent line : List ℕ) : Type 0 where
   pub plain : EndsPlain (before_text indent line)
   pub text : IsWholeText (after_indent indent line)
 
--- each line is so with its indent: the first with this one, the others with the later one
+-- the relation holds of each line and its indent: of the first with this one, of the others with the
+-- later one
 abbrev pub EachWithIndent : (List ℕ → List ℕ → Type 0) → List ℕ → List ℕ → List (List ℕ) → Type 0
 EachWithIndent Is indent later [] = ⊤
 EachWithIndent Is indent later (line ∷ lines) = Is indent line × All (Is later) lines

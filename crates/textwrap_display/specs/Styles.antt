@@ -29,7 +29,7 @@ is_style sequence =
     starts_with nat_eq sequence (codes "\u{1b}[") && ends_with nat_eq sequence (codes "m")
     && list_all (is_in_range 0x30 0x3B) (style_parameters sequence)
 
--- no parameters, or zeros alone, take all styles back
+-- no parameters, or zeros and semicolons alone, take all styles back
 abbrev pub is_reset : List ℕ → Bool
 is_reset sequence =
     is_style sequence && list_all (λ c. (c == 0x30) || (c == 0x3B)) (style_parameters sequence)

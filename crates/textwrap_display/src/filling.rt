@@ -10,7 +10,7 @@ ghost use Rattle.textwrap_lines.specs.Text.{SomeMayPass64Bits};
 ghost use Rattle.textwrap_words.specs.WordSplitters.{Splitter};
 ghost use Rattle.textwrap_words.specs.WrapAlgorithms.{Algorithm};
 
-use crate::indents::indent_len;
+use crate::indents::indent_end;
 use crate::justifying::push_justified;
 use std::alloc::{AllocError, Allocator};
 use std::borrow::CowStr;
@@ -112,7 +112,7 @@ fn push_justified_after<A: Allocator>(
     ensures { OnOk result (string_bytes text.new
         ≡ string_bytes text.old ++ justified_after width indent.now line.now) }
 {
-    let indent_end = indent_len(line, indent);
+    let indent_end = indent_end(line, indent);
     text.push_str(&line[..indent_end])?;
     push_justified(
         text,

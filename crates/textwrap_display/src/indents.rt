@@ -3,7 +3,7 @@ ghost use Rattle.std.specs.Prelude.{◌≡◌, IsCharBoundary};
 ghost use Rattle.textwrap_display.specs.Indents.{indent_end};
 
 /// How many bytes of a line are its indent: none where it does not begin with that.
-pub(crate) fn indent_len(line: &str, indent: &str) -> usize
+pub(crate) fn indent_end(line: &str, indent: &str) -> usize
     ensures len { result ≡ indent_end indent.now line.now }
     ensures boundary { IsCharBoundary line.now result }
 {

@@ -13,8 +13,8 @@ use textwrap_words::blanks::{blanks_end, push_blanks};
 use textwrap_words::inner::first_chunk;
 
 /// The line with its gaps between words widened, so that it is as wide as the width, which is in
-/// columns. Each gap gets as many blanks more, and the first ones get one more of what is left over.
-/// Blanks before the first word and after the last are no gaps, and stay.
+/// columns. Each gap gets the same number of blanks more, and the first ones get one more of what is
+/// left over. Blanks before the first word and after the last are no gaps, and stay.
 ///
 /// In 14 columns `"a few words"` is `"a   few  words"`. A line without gaps stays as it is, and so
 /// does one that is as wide or wider; these are not copied.

@@ -24,19 +24,19 @@ pub fn justified_lines_are_as_wide()
 {}
 
 /// A justified line has the words of the line, in their order, and begins with the same blanks.
-/// Each word but the last has as many blanks more after it, and the first ones have one more than
-/// that.
+/// Each word but the last has the same number of blanks more after it, and the first ones have one
+/// more than that.
 pub fn justified_lines_keep_words()
     ensures { JustifiedLinesKeepWords }
 {}
 
-/// One number of bytes is kept of a line that is cut, so it becomes one line.
+/// Only one number of bytes may be kept of a line that is cut, so it becomes only one line.
 pub fn kept_beginnings_are_unique()
     ensures { KeptBeginningsAreUnique }
 {}
 
 /// A line that was cut takes no more columns than the width, if the placeholder alone does not, and
-/// what is kept ends in no escape sequence.
+/// each escape sequence of what is kept ends in it.
 pub fn shortened_lines_keep_to_width()
     ensures { ShortenedLinesKeepToWidth }
 {}

@@ -13,7 +13,7 @@ ghost use Rattle.textwrap_display.specs.Styles.{link_fields, opening, sequences,
 ghost use Rattle.textwrap_lines.specs.Paragraph.{Built, Slice, line_view};
 ghost use Rattle.textwrap_words.specs.Units.{escape_len};
 
-use crate::indents::indent_len;
+use crate::indents::indent_end;
 use std::alloc::{AllocError, Allocator};
 use std::borrow::CowStr;
 use textwrap::Options;
@@ -45,7 +45,8 @@ const STYLE_AND_LINK_END: &str = "\x1b[0m\x1b]8;;\x1b\\";
 /// should end plain. A line that does not begin with its indent has none.
 ///
 /// A sequence that a line end cuts in two is read as `display_width` reads it, in each line by
-/// itself: the part in the first line has no end, and goes on to the end of what is printed of it.
+/// itself: the part in the first line has no end, so it may take in what is added after it, and the
+/// rest is visible in the second line.
 ///
 /// # Errors
 /// Out of memory, also where a line would be longer than 64 bits can say.
@@ -64,7 +65,7 @@ pub fn carry_styles<'l, A: Allocator + Copy>(
     let mut indent = options.initial_indent;
     for line in lines {
         let line = line.as_str();
-        let indent_end = indent_len(line, indent);
+        let indent_end = indent_end(line, indent);
         // Written before the line is read, which changes what is open.
         opening.clear();
         open.push_opening(&mut opening)?;

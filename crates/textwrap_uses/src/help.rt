@@ -31,7 +31,8 @@ pub fn help_entry(alloc: Global, flag: &str, text: &str, width: usize) -> Result
 /// in what these leave of the width. The entries are a flag, its text, the next flag, and so on.
 ///
 /// At 6 and 26 columns, `-h`, `Print this help.`, `-w N` and `Wrap at N columns.` have the rows
-/// `  -h      Print this help.` and `  -w N    Wrap at N`, and one with the text `columns.` alone.
+/// `  -h      Print this help.` and `  -w N    Wrap at N`, and one with the text `columns.` alone (the
+/// blanks at the ends of rows are not shown).
 pub fn help_rows(
     alloc: Global,
     entries: &[&str],

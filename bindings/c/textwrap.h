@@ -229,13 +229,14 @@ textwrap_status textwrap_fill_justified(const uint8_t *text, size_t text_len,
                                         const textwrap_options *options, uint8_t *room,
                                         size_t room_len, size_t *len);
 
-/* Writes a line that is wider than the width cut, so that it ends in the placeholder. */
+/* Writes the line; one that is wider than the width is cut, so that it ends in the placeholder. */
 TEXTWRAP_CHECKED
 textwrap_status textwrap_shorten(const uint8_t *line, size_t line_len, size_t width,
                                  const uint8_t *placeholder, size_t placeholder_len, uint8_t *room,
                                  size_t room_len, size_t *len);
 
-/* Writes so many of the lines at most. If some are left out, the last one ends in the placeholder. */
+/* Writes so many of the lines at most. If some are left out, the last that is written ends in the
+ * placeholder. */
 TEXTWRAP_CHECKED
 textwrap_status textwrap_shorten_lines(const textwrap_text *lines, size_t lines_len, size_t most,
                                        size_t width, const uint8_t *placeholder,
@@ -243,9 +244,9 @@ textwrap_status textwrap_shorten_lines(const textwrap_text *lines, size_t lines_
                                        size_t places_len, size_t *count, uint8_t *room,
                                        size_t room_len, size_t *len);
 
-/* Writes the lines of one text, each with the styles and the link that those before it left open set
- * anew after its indent, and taken back at its end. The indents are those of the options; nothing else
- * of them is used. */
+/* Writes the lines of one text so that each stands by itself: after its indent it sets anew the link
+ * and the styles that the lines before it left open, and at its end it takes back what is open. The
+ * indents are those of the options; nothing else of them is used. */
 TEXTWRAP_CHECKED
 textwrap_status textwrap_carry_styles(const textwrap_text *lines, size_t lines_len,
                                       const textwrap_options *options, textwrap_line *places,
@@ -256,11 +257,13 @@ textwrap_status textwrap_carry_styles(const textwrap_text *lines, size_t lines_l
 typedef struct {
     textwrap_options options;
     uint32_t alignment; /* a textwrap_alignment */
-    uint32_t reserved;  /* 0 */
+    uint32_t reserved;  /* 0; any other number is TEXTWRAP_UNKNOWN_OPTIONS */
 } textwrap_column;
 
-/* Writes the rows of a table. The cells are given row after row; those that the last row lacks
- * have no lines. Without columns there are no rows. */
+/* Writes the rows of a table. The cells are given row after row. Each is wrapped by the options of
+ * its column, and its lines are aligned in that width. Cells beside one another take as many rows as
+ * the highest of them has lines; those that the last row lacks have no lines. Without columns there
+ * are no rows. */
 TEXTWRAP_CHECKED
 textwrap_status textwrap_table(const textwrap_text *cells, size_t cells_len,
                                const textwrap_column *columns, size_t columns_len,

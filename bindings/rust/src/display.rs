@@ -105,9 +105,9 @@ pub fn align(line: &str, width: usize, alignment: Alignment) -> String {
 
 /// The line with its gaps between words widened, so that it is as wide as the width.
 ///
-/// A gap is the blanks (U+0020) between two words. Each gets as many blanks more, and the first
-/// ones get one more of what is left over. A line without gaps stays as it is, and so does one that
-/// is as wide or wider.
+/// A gap is the blanks (U+0020) between two words. Each gets the same number of blanks more, and the
+/// first ones get one more of what is left over. A line without gaps stays as it is, and so does one
+/// that is as wide or wider.
 ///
 /// # Examples
 ///

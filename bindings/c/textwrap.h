@@ -40,7 +40,8 @@ typedef enum {
     TEXTWRAP_NOT_UTF8 = 1,        /* a text that was given is not UTF-8 */
     TEXTWRAP_OUT_OF_MEMORY = 2,   /* memory ran out */
     TEXTWRAP_TOO_SMALL = 3,       /* the room is too small, and what suffices is reported */
-    TEXTWRAP_UNKNOWN_OPTIONS = 4, /* another version, a number that means nothing, or no columns */
+    TEXTWRAP_UNKNOWN_OPTIONS = 4, /* another version, a number that means nothing, or wrap_columns
+                                   * without columns */
     TEXTWRAP_OVERFLOW = 5,        /* a sum of widths or a cost needs more than 128 bits */
     TEXTWRAP_WRONG_PLACES = 6,    /* offsets that do not increase, or are no places to cut at */
 } textwrap_status;

@@ -108,6 +108,15 @@ fn lines_are_those_that_were_reflowed(rt: HostRuntime) -> Result<(), Fail> {
     Ok(())
 }
 
+#[test]
+fn a_long_text_is_justified(rt: HostRuntime) -> Result<(), Fail> {
+    let text = "> aa bb\n> cc dd\n>\n".repeat(rt.alloc(), 50_000)?;
+    let wanted = "> aa  bb\n> cc dd\n>\n".repeat(rt.alloc(), 50_000)?;
+    let justified = justify_paragraphs(rt.alloc(), &text, &ReflowOptions::new(8))?;
+    assert!(rt; justified.as_str() == wanted.as_str());
+    Ok(())
+}
+
 /// Each allocation in turn is refused, until none is: the text is never another one.
 #[test]
 fn refused_allocations_are_told(rt: HostRuntime) -> Result<(), Fail> {

@@ -11,8 +11,8 @@ use random::Random;
 use settings::{random_width, Settings};
 use texts::{random_paragraphs, random_plain_text, random_text, Alphabet};
 
-/// To start the program `reflow` takes longer than all else in a round, so only one round in so many
-/// asks it.
+/// To start the program `reflow` takes longer than all else in a round, so only one round in so
+/// many asks it.
 const ROUNDS_PER_REFLOW: usize = 16;
 
 /// What a round checks promises on.

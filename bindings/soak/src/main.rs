@@ -1,5 +1,5 @@
-//! `textwrap_soak SEED ROUNDS` makes random texts, options and fragments, and checks promises of the
-//! library on them, through its public calls alone. Its last line says how many checks it made.
+//! `textwrap_soak SEED ROUNDS` makes random texts, options and fragments, and checks promises of
+//! the library on them, through its public calls alone. Its last line says how many checks it made.
 //!
 //! The round number k, counted from 0, has the seed `SEED + k`. So `textwrap_soak SEED 1` repeats
 //! the one round of a seed, which the program names where a promise is broken.

@@ -30,8 +30,8 @@ pub fn soak(library: &impl Library, request: Request) -> Outcome {
     Outcome::Kept(describe_kept(request.rounds, &counts))
 }
 
-/// The name of the first promise that these answers break, if any. Those that are kept before it are
-/// counted.
+/// The name of the first promise that these answers break, if any. Those that are kept before it
+/// are counted.
 pub fn broken_promise(
     case: &Case,
     answers: &Answers<'_>,

@@ -4,8 +4,8 @@ use super::settings::{random_penalties, random_width};
 use textwrap_proved::core::Fragment;
 use textwrap_proved::wrap_algorithms::Penalties;
 
-/// The greatest width that the binding takes of a fragment or a line: the greatest whole number below
-/// 2^64 that a `f64` holds.
+/// The greatest width that the binding takes of a fragment or a line: the greatest whole number
+/// below 2^64 that a `f64` holds.
 pub const GREATEST: usize = usize::MAX - 2047;
 
 /// A fragment of these widths, which a `f64` holds.
@@ -62,8 +62,8 @@ impl Problem {
         }
     }
 
-    /// The width of a line, counted from 0: the last width serves all later lines, and without any it
-    /// is 0.
+    /// The width of a line, counted from 0: the last width serves all later lines, and without any
+    /// it is 0.
     pub fn line_width(&self, number: usize) -> usize {
         let last = self.line_widths.len().saturating_sub(1);
         self.line_widths.get(number.min(last)).copied().unwrap_or(0)

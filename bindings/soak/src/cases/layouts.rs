@@ -28,7 +28,8 @@ pub struct Layout {
 }
 
 impl Layout {
-    /// Lines of so many columns, of least cost and ended by LF. All paragraphs are filled, code too.
+    /// Lines of so many columns, of least cost and ended by LF. All paragraphs are filled, code
+    /// too.
     pub fn new(width: usize) -> Self {
         Layout {
             width,

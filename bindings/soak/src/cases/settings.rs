@@ -38,8 +38,8 @@ pub struct Settings {
 /// Indents, most of them short: one takes more columns than most widths have, and one takes none.
 const INDENTS: &[&str] = &["", "", "", "", "", "> ", "  ", "-->", "あ ", "\x1b[1m", "............"];
 
-/// Penalties that are all the same number: small ones, the greatest of the fast search and the next,
-/// and the greatest of all.
+/// Penalties that are all the same number: small ones, the greatest of the fast search and the
+/// next, and the greatest of all.
 const PENALTIES: &[usize] = &[0, 1, 1 << 62, (1 << 62) + 1, usize::MAX];
 
 impl Settings {

@@ -89,9 +89,9 @@ fn has_whole_sequences(case: &Case) -> bool {
     !matches!(case.alphabet, Alphabet::Cut)
 }
 
-/// Checks that each carried line, read by itself, shows its indent plain and then what its line shows
-/// where all lines are read in a row; that nothing is open at its end; and that it is as wide as its
-/// line. Of texts with escape sequences that are cut nothing is said.
+/// Checks that each carried line, read by itself, shows its indent plain and then what its line
+/// shows where all lines are read in a row; that nothing is open at its end; and that it is as wide
+/// as its line. Of texts with escape sequences that are cut nothing is said.
 pub fn check_carried(case: &Case, found: &Displays<'_>) -> Finding {
     if !has_whole_sequences(case) {
         return Finding::PassedOver;
@@ -163,8 +163,8 @@ fn is_spread(line: &str, new: &str, indent: &str) -> bool {
     old_indent == new_indent && is_inside && new.len() >= line.len()
 }
 
-/// The text with one blank in the place of those between each two words. The blanks around all words
-/// stay.
+/// The text with one blank in the place of those between each two words. The blanks around all
+/// words stay.
 fn narrowed(text: &str) -> String {
     let inside = text.trim_matches(' ');
     let (before, after) = text.split_once(inside).unwrap_or(("", ""));

@@ -8,8 +8,8 @@ use crate::cases::Case;
 use std::borrow::Cow;
 use textwrap_proved::core::display_width;
 
-/// Checks the widths of these lines of the case's text. An escape sequence that is cut hides or shows
-/// other characters in a line than in its pieces, so of such texts nothing is said.
+/// Checks the widths of these lines of the case's text. An escape sequence that is cut hides or
+/// shows other characters in a line than in its pieces, so of such texts nothing is said.
 pub fn check(case: &Case, lines: &[Cow<'_, str>]) -> Finding {
     let settings = &case.settings;
     let is_first_fit = matches!(settings.algorithm, Algorithm::FirstFit);
@@ -31,8 +31,9 @@ fn fits(settings: &Settings, line: &PlacedLine<'_>) -> bool {
 }
 
 /// The width that a line was divided for: that of the settings where its paragraph is kept whole,
-/// and else what the indent leaves. The first line of each paragraph is divided for what the initial
-/// indent leaves, even if it bears the other; where paragraphs are even, that of the text alone.
+/// and else what the indent leaves. The first line of each paragraph is divided for what the
+/// initial indent leaves, even if it bears the other; where paragraphs are even, that of the text
+/// alone.
 fn line_width(settings: &Settings, line: &PlacedLine<'_>) -> usize {
     if line.is_whole {
         return settings.width;

@@ -13,14 +13,15 @@ pub fn least_lines(problem: &Problem) -> LeastLines<'_> {
     wrap_optimal_fit(&problem.blocks, &widths, &problem.penalties)
 }
 
-/// Checks the division of few fragments against all divisions. It has to be refused where a prefix of
-/// the fragments has no division whose cost fits 128 bits.
+/// Checks the division of few fragments against all divisions. It has to be refused where a prefix
+/// of the fragments has no division whose cost fits 128 bits.
 pub fn check(problem: &Problem, found: &LeastLines<'_>) -> Finding {
     let right = right_division(problem).map(|division| division.lines);
     Finding::of(found.as_ref().ok() == right.as_ref())
 }
 
-/// The cheapest division, with ties settled, if each prefix has a division whose cost fits 128 bits.
+/// The cheapest division, with ties settled, if each prefix has a division whose cost fits 128
+/// bits.
 fn right_division(problem: &Problem) -> Option<Division<'_>> {
     let ends = 0..=problem.blocks.len();
     let divisions: Option<Vec<_>> = ends.map(|end| cheapest_division(problem, end)).collect();

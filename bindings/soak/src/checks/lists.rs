@@ -42,8 +42,8 @@ fn whole_line<'t>(paragraph: &'t str, settings: &Settings) -> &'t str {
     }
 }
 
-/// The widths of the first line of a paragraph and of its others. The first line is divided for what
-/// the initial indent leaves, whatever stands before it, unless paragraphs are even.
+/// The widths of the first line of a paragraph and of its others. The first line is divided for
+/// what the initial indent leaves, whatever stands before it, unless paragraphs are even.
 fn line_widths(settings: &Settings, is_later: bool) -> [usize; 2] {
     let beside = |indent| settings.width.saturating_sub(display_width(indent));
     let first = settings.indent(is_later && settings.even_paragraphs);
@@ -66,8 +66,8 @@ fn pieces_of<'t>(paragraph: &'t str, settings: &Settings) -> Vec<Word<'t>> {
     pieces
 }
 
-/// Adds the lines of a paragraph that is divided so: of each line its indent, and the paragraph from
-/// its first piece to its last, without the blanks after that unless these are preserved. (The
+/// Adds the lines of a paragraph that is divided so: of each line its indent, and the paragraph
+/// from its first piece to its last, without the blanks after that unless these are preserved. (The
 /// library's splitter adds no hyphens.) A line without pieces is empty, and has no indent.
 fn push_lines<'t>(
     paragraph: &'t str,

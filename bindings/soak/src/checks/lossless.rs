@@ -38,8 +38,8 @@ pub fn place_lines<'l>(
 }
 
 /// Places the lines of a paragraph, which follow those that were placed before, and returns whether
-/// all are found. A paragraph has at least one line, and just one where it is kept whole; its last is
-/// the first one after which nothing but blanks is left of it.
+/// all are found. A paragraph has at least one line, and just one where it is kept whole; its last
+/// is the first one after which nothing but blanks is left of it.
 fn place_paragraph<'l>(
     paragraph: &str,
     settings: &Settings,
@@ -89,8 +89,8 @@ fn has_pieces(paragraph: &str, settings: &Settings) -> bool {
     !paragraph.is_empty() || (settings.break_words && !settings.initial_indent.is_empty())
 }
 
-/// What follows the slice, which stands at the front of the text or, where blanks are not preserved,
-/// after the blanks there.
+/// What follows the slice, which stands at the front of the text or, where blanks are not
+/// preserved, after the blanks there.
 fn after_slice<'t>(text: &'t str, slice: &str, settings: &Settings) -> Option<&'t str> {
     let at_front = text.strip_prefix(slice);
     if settings.preserve_trailing_space {

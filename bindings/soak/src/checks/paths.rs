@@ -1,8 +1,8 @@
 //! The promises that all ways through the library lead to the same lines.
 //!
 //! The library has short ways for short paragraphs, and fast ways that need no list of words. Here
-//! the lines are also made by such lists; and functions that are handed in where the library has its
-//! own parts make the binding go paragraph by paragraph, by lists of offsets.
+//! the lines are also made by such lists; and functions that are handed in where the library has
+//! its own parts make the binding go paragraph by paragraph, by lists of offsets.
 use super::lists::{wrap_by_lists, Short};
 use super::Finding;
 use crate::cases::settings::{Algorithm, Settings};
@@ -67,8 +67,8 @@ pub fn check_shortcut(case: &Case, ways: &Ways<'_>) -> Finding {
     Finding::of(ways.wrapped == ways.divided)
 }
 
-/// The lines of one paragraph after the other, each by a call of its own. A later one stands behind an
-/// empty paragraph there, which has one line.
+/// The lines of one paragraph after the other, each by a call of its own. A later one stands behind
+/// an empty paragraph there, which has one line.
 fn wrap_paragraphs<'t>(text: &'t str, settings: &Settings) -> Vec<Cow<'t, str>> {
     let ending = settings.line_ending.as_str();
     let options = settings.options();
@@ -82,8 +82,8 @@ fn wrap_paragraphs<'t>(text: &'t str, settings: &Settings) -> Vec<Cow<'t, str>> 
     lines
 }
 
-/// The options, with a function in the place of each part that one can stand for: a function holds no
-/// penalties.
+/// The options, with a function in the place of each part that one can stand for: a function holds
+/// no penalties.
 fn with_functions(settings: &Settings) -> Options<'static> {
     let mut options = settings.options().word_separator(WordSeparator::Custom(between_blanks));
     if settings.split_words {

@@ -1,5 +1,6 @@
 //! What a reader of a text sees: each visible character, with the styles and the link that it has.
-//! Of the texts that are read each escape sequence is whole: they are of the alphabets that cut none.
+//! Of the texts that are read each escape sequence is whole: they are of the alphabets that cut
+//! none.
 
 /// An escape sequence.
 enum Sequence<'t> {
@@ -11,8 +12,8 @@ enum Sequence<'t> {
     Other,
 }
 
-/// The sequence whose ESC stands before this part, which goes up to the next ESC, and the rest of the
-/// part. What ends a command may be a sequence of its own: ESC and `\`.
+/// The sequence whose ESC stands before this part, which goes up to the next ESC, and the rest of
+/// the part. What ends a command may be a sequence of its own: ESC and `\`.
 fn split_sequence(part: &str) -> (Sequence<'_>, &str) {
     if let Some(command) = part.strip_prefix(']') {
         let (command, rest) = command.split_once('\x07').unwrap_or((command, ""));
@@ -43,8 +44,8 @@ pub struct Reader {
     styles: String,
     /// The command that set the link, or nothing.
     link: String,
-    /// The visible characters that were read, and after each the styles and the link it has, between
-    /// two ESC.
+    /// The visible characters that were read, and after each the styles and the link it has,
+    /// between two ESC.
     pub shown: String,
 }
 

@@ -286,8 +286,8 @@ fn broken_names(case: &Case, answers: &Answers<'_>) -> String {
     names.join(" ")
 }
 
-/// Each check accepts the right answer and refuses a wrong one, and the first promise that is broken
-/// is named.
+/// Each check accepts the right answer and refuses a wrong one, and the first promise that is
+/// broken is named.
 #[test]
 fn wrong_answers_are_noticed() {
     let case = small_case();
@@ -320,8 +320,8 @@ fn list_case() -> Case {
     }
 }
 
-/// Promises that are kept are counted, up to the first that is broken, and those that say nothing of
-/// the case are not.
+/// Promises that are kept are counted, up to the first that is broken, and those that say nothing
+/// of the case are not.
 #[test]
 fn kept_promises_are_counted() {
     let case = small_case();

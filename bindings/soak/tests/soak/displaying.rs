@@ -19,8 +19,8 @@ fn case_of(text: &str, width: usize, indent: &'static str) -> Case {
     }
 }
 
-/// A red word, a link and a bold word, over lines of 4 columns. The link is ended, and the styles are
-/// not.
+/// A red word, a link and a bold word, over lines of 4 columns. The link is ended, and the styles
+/// are not.
 const STYLED: &str =
     "\x1b[31mred red\x1b[m \x1b]8;;x\x1b\\link\x1b]a\x07 \x1b[1mbold\x1b]8;;\x1b\\ end";
 
@@ -64,8 +64,8 @@ fn lost_styles_are_noticed() {
     assert_eq!(check_carried(&case, &Displays::of_case(&case)), Finding::PassedOver);
 }
 
-/// What the library makes of `"aa bb c\nd e f g"` in 6 columns, justified otherwise, and whether that
-/// may be right.
+/// What the library makes of `"aa bb c\nd e f g"` in 6 columns, justified otherwise, and whether
+/// that may be right.
 const JUSTIFIED: &[(&str, bool)] = &[
     ("aa  bb\n-c\n-d e f\n-g", true),
     ("aa bb\n-c\n-d e f\n-g", true),

@@ -30,9 +30,9 @@ const FOUND_LINES: &[(&str, &str, bool, &[&str], bool)] = &[
     ("foo bar", "> ", false, &["foo", "bar"], false),
 ];
 
-/// Each line has to be found at its place: no letter, line or inner blank may be lost, changed, moved
-/// or added, and no blank at all where blanks are preserved. A line has to begin with its indent,
-/// and then it is a text of its own.
+/// Each line has to be found at its place: no letter, line or inner blank may be lost, changed,
+/// moved or added, and no blank at all where blanks are preserved. A line has to begin with its
+/// indent, and then it is a text of its own.
 #[test]
 fn lines_that_are_not_the_text_are_noticed() {
     for &(text, indent, preserves, texts, is_text) in FOUND_LINES {

@@ -1,4 +1,5 @@
-//! That each check accepts right answers and notices wrong ones, and what the program makes of that.
+//! That each check accepts right answers and notices wrong ones, and what the program makes of
+//! that.
 use std::borrow::Cow;
 use textwrap_proved::wrap_algorithms::Penalties;
 use textwrap_soak::answers::{Answers, Library, Textwrap};
@@ -60,8 +61,8 @@ fn by_first_fit(width: usize) -> Layout {
     Layout { algorithm: Division::FirstFit, ..Layout::new(width) }
 }
 
-/// A case of which every promise says something: a text of two paragraphs, 8 columns, first fit, two
-/// fragments, and a list before a quote.
+/// A case of which every promise says something: a text of two paragraphs, 8 columns, first fit,
+/// two fragments, and a list before a quote.
 fn small_case() -> Case {
     Case {
         seed: 1,

@@ -38,8 +38,8 @@ const DIVISIONS: &[(Sizes, usize, &[usize], bool)] = &[
     (&[], 10, &[], false),
 ];
 
-/// Of all divisions only one is right: the cheapest, and of several that cost the same the one whose
-/// last line starts earliest, then the line before it, and so on.
+/// Of all divisions only one is right: the cheapest, and of several that cost the same the one
+/// whose last line starts earliest, then the line before it, and so on.
 #[test]
 fn other_divisions_are_noticed() {
     for &(sizes, width, lens, is_right) in DIVISIONS {
@@ -82,8 +82,8 @@ fn divisions_past_128_bits_are_noticed() {
     assert_eq!(findings(&problem, &least_lines(&problem)), [Finding::Kept; 2]);
 }
 
-/// The two reckonings, by all divisions and by a table, agree on each prefix of random fragments: on
-/// what it costs, on where its last line starts, and on whether it can be divided.
+/// The two reckonings, by all divisions and by a table, agree on each prefix of random fragments:
+/// on what it costs, on where its last line starts, and on whether it can be divided.
 #[test]
 fn both_reckonings_agree() {
     for seed in 0..500 {

@@ -70,8 +70,8 @@ const RUNS: &[(&[&str], u64, &str, &str, u8)] = &[
     (&["5", "3", "1"], 5, "", USAGE, 2),
 ];
 
-/// The status is 0 where all promises are kept, 1 where one is broken, and 2 where the words ask for
-/// nothing. The round that failed is named.
+/// The status is 0 where all promises are kept, 1 where one is broken, and 2 where the words ask
+/// for nothing. The round that failed is named.
 #[test]
 fn words_and_answers_give_output_messages_and_status() {
     for &(words, seed, output, messages, status) in RUNS {

@@ -1,191 +1,168 @@
 //! The bounds of answers: each is enough, and some answers are as long.
-use super::{DEFAULTS, HAMLET, NOWHERE, at};
-use crate::bounds::{
+use super::plain::{
+    BARS, BEFORE, BLANK, DEFAULTS, HAMLET, LinesCall, NARROW, NO_GAPS, NOWHERE, TextCall,
+    assert_told, write_lines, write_text,
+};
+use std::process::Abort;
+use textwrap_calls::bounds::{
     textwrap_dedent_bound, textwrap_fill_bound, textwrap_indent_bound, textwrap_refill_bound,
     textwrap_unfill_bound, textwrap_wrap_columns_room_bound, textwrap_wrap_columns_rows_bound,
     textwrap_wrap_lines_bound, textwrap_wrap_room_bound,
 };
-use crate::columns::{TextwrapGaps, textwrap_wrap_columns};
-use crate::filling::textwrap_fill;
-use crate::indentation::{textwrap_dedent, textwrap_indent};
-use crate::options::TextwrapOptions;
-use crate::refilling::{TextwrapLayout, textwrap_refill, textwrap_unfill};
-use crate::status::DONE;
-use crate::wrapping::textwrap_wrap;
+use textwrap_calls::options::TextwrapOptions;
+use textwrap_calls::status::DONE;
 
-/// Each character on a line of its own, after an indent that has the first line for itself.
-const NARROW: TextwrapOptions<'_> = TextwrapOptions {
-    optimal_fit: 0,
-    width: 1,
-    initial_indent: b"**",
-    subsequent_indent: b">",
-    ..DEFAULTS
-};
+/// How much room the longest row has.
+const MOST: usize = 160;
 
-/// Options and a text; how long the filled text is, and its bound.
-const FILLED: &[(TextwrapOptions<'_>, &[u8], usize, usize)] = &[
-    (DEFAULTS, b"", 0, 0),
-    (DEFAULTS, b"\n", 1, 2),
-    (DEFAULTS, HAMLET, 41, 82),
-    (NARROW, b"", 2, 2),
-    (NARROW, b"ab", 8, 8),
-    (TextwrapOptions { crlf: 1, ..NARROW }, b"ab", 10, 10),
-    (NARROW, b"ab\nc", 13, 14),
-];
+/// How many lines the longest row has.
+const MOST_LINES: usize = 16;
 
-#[test]
-fn a_filled_text_is_no_longer_than_its_bound(rt: HostRuntime) {
-    for &(options, text, filled, bound) in FILLED {
-        assert_eq!(rt; textwrap_fill_bound(text.len(), &options), bound);
-        let mut room = [b'.'; 96];
-        let mut len = 0;
-        let status = textwrap_fill(rt.alloc(), text, &options, &mut room[..bound], &mut len);
-        assert_eq!(rt; (status, len), (DONE, filled));
+/// The bound of a call for a text of so many bytes, if it has one.
+fn text_bound(call: TextCall<'_>, text_len: usize) -> usize {
+    match call {
+        TextCall::Fill(options) => textwrap_fill_bound(text_len, &options),
+        TextCall::Refill(options) => textwrap_refill_bound(text_len, &options),
+        TextCall::Unfill => textwrap_unfill_bound(text_len),
+        TextCall::Indent(prefix) => textwrap_indent_bound(text_len, prefix.len()),
+        TextCall::Dedent => textwrap_dedent_bound(text_len),
+        _ => BEFORE,
     }
 }
 
-/// Options and a text; how long the refilled text is, and its bound.
-const REFILLED: &[(TextwrapOptions<'_>, &[u8], usize, usize)] = &[
-    (DEFAULTS, b"", 0, 0),
-    (DEFAULTS, b"ab\n", 3, 18),
-    (NARROW, b"a\n>>>>bcd", 19, 108),
+/// The bounds of the lines and of the room of a call for a text of so many bytes, if it has any.
+fn lines_bounds(call: LinesCall<'_>, text_len: usize) -> (usize, usize) {
+    match call {
+        LinesCall::Wrap(options) => (
+            textwrap_wrap_lines_bound(text_len),
+            textwrap_wrap_room_bound(text_len, &options),
+        ),
+        LinesCall::Columns {
+            columns,
+            options,
+            gaps,
+        } => (
+            textwrap_wrap_columns_rows_bound(text_len, columns),
+            textwrap_wrap_columns_room_bound(text_len, columns, &options, &gaps),
+        ),
+        _ => (BEFORE, BEFORE),
+    }
+}
+
+/// A call and a text; how long the answer is, and its bound.
+type TextRow = (TextCall<'static>, &'static [u8], usize, usize);
+
+/// The same two with CRLF.
+const NARROW_CRLF: TextwrapOptions<'_> = TextwrapOptions { crlf: 1, ..NARROW };
+
+const FILLED: &[TextRow] = &[
+    (TextCall::Fill(DEFAULTS), b"", 0, 0),
+    (TextCall::Fill(DEFAULTS), b"\n", 1, 2),
+    (TextCall::Fill(DEFAULTS), HAMLET, 41, 82),
+    (TextCall::Fill(NARROW), b"", 2, 2),
+    (TextCall::Fill(NARROW), b"ab", 8, 8),
+    (TextCall::Fill(NARROW_CRLF), b"ab", 10, 10),
+    (TextCall::Fill(NARROW), b"ab\nc", 13, 14),
+];
+
+const REFILLED: &[TextRow] = &[
+    (TextCall::Refill(DEFAULTS), b"", 0, 0),
+    (TextCall::Refill(DEFAULTS), b"ab\n", 3, 18),
+    (TextCall::Refill(NARROW), b"a\n>>>>bcd", 19, 108),
+    (TextCall::Refill(NARROW_CRLF), b"a\n>>>>bcd\n", 24, 140),
+];
+
+const OTHERS: &[TextRow] = &[
+    (TextCall::Unfill, b"", 0, 0),
+    (TextCall::Unfill, b"foo\n", 4, 8),
+    (TextCall::Unfill, b"\n > ", 6, 8),
+    (TextCall::Unfill, b"\r\n >\r\n", 6, 12),
+    (TextCall::Indent(b"#"), b"\n\n", 4, 4),
+    (TextCall::Dedent, b"a\n b\n", 5, 5),
+];
+
+/// Asserts that each answer has its bound, and is written where there is so much room.
+fn assert_bounds(rt: &(impl Abort + AllocGlobal), rows: &[TextRow]) {
+    for (row, &(call, text, len, bound)) in rows.iter().enumerate() {
+        assert_told(rt, row, (DONE, text_bound(call, text.len())), (DONE, bound));
+        let mut room = [BLANK; MOST];
+        let mut told = BEFORE;
+        let room = &mut room[..bound.min(MOST)];
+        let status = write_text(rt.alloc(), call, text, room, &mut told);
+        assert_told(rt, row, (status, told), (DONE, len));
+    }
+}
+
+#[test]
+fn a_text_is_no_longer_than_its_bound(rt: HostRuntime) {
+    assert_bounds(&rt, FILLED);
+    assert_bounds(&rt, REFILLED);
+    assert_bounds(&rt, OTHERS);
+}
+
+/// A call and a text; how many lines it has, and their bound; how much room they take, and its bound.
+const LINES: &[(LinesCall<'_>, &[u8], (usize, usize), (usize, usize))] = &[
+    (LinesCall::Wrap(DEFAULTS), b"", (1, 1), (0, 0)),
+    (LinesCall::Wrap(DEFAULTS), b"foo\n\nbar", (3, 9), (0, 0)),
+    (LinesCall::Wrap(DEFAULTS), b"\n\n", (3, 3), (0, 0)),
+    (LinesCall::Wrap(NARROW), b"ab", (3, 3), (6, 6)),
     (
-        TextwrapOptions { crlf: 1, ..NARROW },
-        b"a\n>>>>bcd\n",
-        24,
-        140,
+        LinesCall::Columns {
+            columns: 2,
+            options: TextwrapOptions {
+                width: 2,
+                ..DEFAULTS
+            },
+            gaps: NO_GAPS,
+        },
+        b"\n\n\n",
+        (2, 2),
+        (4, 7),
     ),
 ];
 
 #[test]
-fn a_refilled_text_is_no_longer_than_its_bound(rt: HostRuntime) {
-    for &(options, text, refilled, bound) in REFILLED {
-        assert_eq!(rt; textwrap_refill_bound(text.len(), &options), bound);
-        let mut room = [b'.'; 160];
-        let mut len = 0;
-        let status = textwrap_refill(rt.alloc(), text, &options, &mut room[..bound], &mut len);
-        assert_eq!(rt; (status, len), (DONE, refilled));
-    }
-}
-
-/// Options and a text; how many lines it has, and their bound; how much room those with an indent take,
-/// and its bound.
-const WRAPPED: &[(TextwrapOptions<'_>, &[u8], (usize, usize), (usize, usize))] = &[
-    (DEFAULTS, b"", (1, 1), (0, 0)),
-    (DEFAULTS, b"foo\n\nbar", (3, 9), (0, 0)),
-    (DEFAULTS, b"\n\n", (3, 3), (0, 0)),
-    (NARROW, b"ab", (3, 3), (6, 6)),
-];
-
-#[test]
 fn lines_and_their_room_keep_to_their_bounds(rt: HostRuntime) {
-    for &(options, text, (lines, lines_bound), (used, room_bound)) in WRAPPED {
-        assert_eq!(rt; textwrap_wrap_lines_bound(text.len()), lines_bound);
-        assert_eq!(rt; textwrap_wrap_room_bound(text.len(), &options), room_bound);
-        let mut places = [NOWHERE; 16];
-        let mut count = 0;
-        let mut room = [b'.'; 16];
-        let mut len = 0;
-        let status = textwrap_wrap(
-            rt.alloc(),
-            text,
-            &options,
-            &mut places[..lines_bound],
-            &mut count,
-            &mut room[..room_bound],
-            &mut len,
-        );
-        assert_eq!(rt; (status, count, len), (DONE, lines, used));
+    for (row, &(call, text, (count, most), (len, bound))) in LINES.iter().enumerate() {
+        let bounds = lines_bounds(call, text.len());
+        assert_told(&rt, row, (DONE, bounds.0), (DONE, most));
+        assert_told(&rt, row, (DONE, bounds.1), (DONE, bound));
+        let mut lines = [NOWHERE; MOST_LINES];
+        let lines = &mut lines[..most.min(MOST_LINES)];
+        let mut room = [BLANK; MOST];
+        let room = &mut room[..bound.min(MOST)];
+        let (mut found, mut told) = (BEFORE, BEFORE);
+        let status = write_lines(rt.alloc(), call, text, lines, &mut found, room, &mut told);
+        assert_told(&rt, row, (status, found), (DONE, count));
+        assert_told(&rt, row, (status, told), (DONE, len));
     }
 }
 
+/// The defaults, and bounds of no columns, of rows with bars, and of an indented text.
 #[test]
-fn rows_and_their_room_keep_to_their_bounds(rt: HostRuntime) {
-    let gaps = TextwrapGaps {
-        left: b"",
-        middle: b"",
-        right: b"",
-    };
-    assert_eq!(rt; textwrap_wrap_columns_rows_bound(3, 2), 2);
+fn bounds_are_numbers(rt: HostRuntime) {
     assert_eq!(rt; textwrap_wrap_columns_rows_bound(3, 0), 0);
-    assert_eq!(rt; textwrap_wrap_columns_room_bound(3, 2, &at(2), &gaps), 7);
-    let mut rows = [NOWHERE; 2];
-    let mut count = 0;
-    let mut room = [b'.'; 7];
-    let mut len = 0;
-    let status = textwrap_wrap_columns(
-        rt.alloc(),
-        b"\n\n\n",
-        2,
-        &at(2),
-        &gaps,
-        &mut rows,
-        &mut count,
-        &mut room,
-        &mut len,
+    assert_eq!(rt;
+        textwrap_wrap_columns_room_bound(5, 2, &DEFAULTS, &BARS),
+        44
     );
-    assert_eq!(rt; (status, count, len), (DONE, 2, 4));
-    let gaps = TextwrapGaps {
-        left: b"|",
-        middle: b"|",
-        right: b"|",
-    };
-    assert_eq!(rt; textwrap_wrap_columns_room_bound(5, 2, &at(10), &gaps), 44);
 }
 
-/// A text, the unfilled text with its indents, and their bound. In the third the second line is joined
-/// whole, as it is the first that is not empty, and is the later indent too.
-const UNFILLED: &[(&[u8], &[u8], usize)] = &[
-    (b"", b"", 0),
-    (b"foo\n", b"foo\n", 8),
-    (b"\n > ", b" >  > ", 8),
-    (b"\r\n >\r\n", b" >\r\n >", 12),
+/// Calls and lengths of texts; their bounds. One that no number holds is the greatest.
+const GREATEST: &[(TextCall<'_>, usize, usize)] = &[
+    (TextCall::Fill(DEFAULTS), usize::MAX / 2 + 1, usize::MAX),
+    (TextCall::Fill(DEFAULTS), usize::MAX / 2, usize::MAX - 1),
+    (TextCall::Unfill, usize::MAX, usize::MAX),
 ];
-
-#[test]
-fn an_unfilled_text_keeps_to_its_bound(rt: HostRuntime) {
-    let mut room = [b'.'; 16];
-    let mut len = 0;
-    let mut layout = TextwrapLayout {
-        width: 0,
-        crlf: 0,
-        initial_indent_len: 0,
-        subsequent_indent_len: 0,
-    };
-    for &(text, unfilled, bound) in UNFILLED {
-        assert_eq!(rt; textwrap_unfill_bound(text.len()), bound);
-        let status = textwrap_unfill(rt.alloc(), text, &mut room[..bound], &mut len, &mut layout);
-        assert_eq!(rt; status, DONE);
-        assert_eq!(rt; &room[..len], unfilled);
-    }
-}
-
-#[test]
-fn indented_and_dedented_texts_keep_to_their_bounds(rt: HostRuntime) {
-    let mut room = [b'.'; 16];
-    let mut len = 0;
-    assert_eq!(rt; textwrap_indent_bound(2, 1), 4);
-    let status = textwrap_indent(rt.alloc(), b"\n\n", b"#", &mut room[..4], &mut len);
-    assert_eq!(rt; (status, len), (DONE, 4));
-    assert_eq!(rt; textwrap_dedent_bound(5), 5);
-    let status = textwrap_dedent(rt.alloc(), b"a\n b\n", &mut room[..5], &mut len);
-    assert_eq!(rt; (status, len), (DONE, 5));
-}
 
 #[test]
 fn a_bound_that_no_number_holds_is_the_greatest(rt: HostRuntime) {
-    assert_eq!(rt;
-        textwrap_fill_bound(usize::MAX / 2 + 1, &at(10)),
-        usize::MAX
-    );
-    assert_eq!(rt;
-        textwrap_fill_bound(usize::MAX / 2, &at(10)),
-        usize::MAX - 1
-    );
-    assert_eq!(rt; textwrap_wrap_lines_bound(usize::MAX), usize::MAX);
-    assert_eq!(rt; textwrap_wrap_room_bound(usize::MAX, &NARROW), usize::MAX);
-    assert_eq!(rt; textwrap_wrap_room_bound(usize::MAX, &at(10)), 0);
+    for (row, &(call, text_len, bound)) in GREATEST.iter().enumerate() {
+        assert_told(&rt, row, (DONE, text_bound(call, text_len)), (DONE, bound));
+    }
+    let narrow = lines_bounds(LinesCall::Wrap(NARROW), usize::MAX);
+    assert_eq!(rt; narrow, (usize::MAX, usize::MAX));
+    assert_eq!(rt; textwrap_wrap_room_bound(usize::MAX, &DEFAULTS), 0);
     assert_eq!(rt; textwrap_indent_bound(usize::MAX, usize::MAX), usize::MAX);
-    assert_eq!(rt; textwrap_unfill_bound(usize::MAX), usize::MAX);
     assert_eq!(rt; textwrap_wrap_columns_rows_bound(usize::MAX, 1), usize::MAX);
 }

@@ -1,30 +1,55 @@
 //! A paragraph in steps: pieces at cuts and points, and lines at ends.
-use super::large::{LEN, LINE, LINES};
-use super::pieces::NOWHERE as NO_PIECE;
-use super::{NOWHERE, at};
-use crate::options::TextwrapOptions;
-use crate::status::{DONE, NOT_UTF8, TOO_SMALL, UNKNOWN_OPTIONS, WRONG_PLACES};
-use crate::steps::{textwrap_lines_at, textwrap_pieces_at};
-use std::test::Fail;
+use super::places::{LinesRow, NO_PLACE, NONE, PiecesRow, assert_lines, assert_pieces};
+use super::plain::{BEFORE, DEFAULTS, LinesCall, PiecesCall};
+use textwrap_calls::options::TextwrapOptions;
+use textwrap_calls::status::{DONE, NOT_UTF8, TOO_SMALL, UNKNOWN_OPTIONS, WRONG_PLACES};
 
-/// Cuts, points, the width, and of each piece the offset, the bytes, the blanks, the penalty and the
-/// columns.
-type Row = (
-    &'static [usize],
-    &'static [usize],
-    usize,
-    &'static [(usize, usize, usize, usize, usize)],
-);
+/// The defaults at 9 columns.
+const AT_9: TextwrapOptions<'_> = TextwrapOptions {
+    width: 9,
+    ..DEFAULTS
+};
 
-/// The pieces of `foo bär-baz`.
-const PIECES: &[Row] = &[
-    (&[], &[], 20, &[(0, 12, 0, 0, 11)]),
-    (&[4], &[], 20, &[(0, 3, 1, 0, 3), (4, 8, 0, 0, 7)]),
+/// The defaults at 20 columns.
+const AT_20: TextwrapOptions<'_> = TextwrapOptions {
+    width: 20,
+    ..DEFAULTS
+};
+
+/// The paragraph `foo bär-baz`.
+const PARAGRAPH: &[u8] = b"foo b\xc3\xa4r-baz";
+
+/// The pieces of a paragraph at cuts and points.
+const PIECES: &[PiecesRow] = &[
+    (
+        PiecesCall::PiecesAt {
+            cuts: &[],
+            points: &[],
+            options: AT_20,
+        },
+        PARAGRAPH,
+        (DONE, 1),
+        &[(0, 12, 0, 0, 11), NO_PLACE, NO_PLACE, NO_PLACE],
+    ),
+    (
+        PiecesCall::PiecesAt {
+            cuts: &[4],
+            points: &[],
+            options: AT_20,
+        },
+        PARAGRAPH,
+        (DONE, 2),
+        &[(0, 3, 1, 0, 3), (4, 8, 0, 0, 7), NO_PLACE, NO_PLACE],
+    ),
     // A point at a word's end, or in its blanks, is not used; after a hyphen none is added.
     (
-        &[4],
-        &[2, 3, 4, 9],
-        20,
+        PiecesCall::PiecesAt {
+            cuts: &[4],
+            points: &[2, 3, 4, 9],
+            options: AT_20,
+        },
+        PARAGRAPH,
+        (DONE, 4),
         &[
             (0, 2, 0, 1, 2),
             (2, 1, 1, 0, 1),
@@ -34,9 +59,16 @@ const PIECES: &[Row] = &[
     ),
     // What is wider than a line is broken.
     (
-        &[4],
-        &[9],
-        3,
+        PiecesCall::PiecesAt {
+            cuts: &[4],
+            points: &[9],
+            options: TextwrapOptions {
+                width: 3,
+                ..DEFAULTS
+            },
+        },
+        PARAGRAPH,
+        (DONE, 4),
         &[
             (0, 3, 1, 0, 3),
             (4, 4, 0, 0, 3),
@@ -46,225 +78,189 @@ const PIECES: &[Row] = &[
     ),
 ];
 
-#[test]
-fn a_paragraph_has_pieces_at_cuts_and_points(rt: HostRuntime) {
-    let text = "foo bär-baz".as_bytes();
-    for &(cuts, points, width, expected) in PIECES {
-        let mut pieces = [NO_PIECE; 4];
-        let mut count = 7;
-        let status = textwrap_pieces_at(
-            rt.alloc(),
-            text,
-            cuts,
-            points,
-            &at(width),
-            &mut pieces,
-            &mut count,
-        );
-        assert_eq!(rt; (status, count), (DONE, expected.len()));
-        for (piece, &(offset, len, whitespace_len, penalty_len, columns)) in pieces
-            .iter()
-            .zip(expected)
-        {
-            assert_eq!(rt; (piece.offset, piece.len), (offset, len));
-            assert_eq!(rt;
-                (piece.whitespace_len, piece.penalty_len),
-                (whitespace_len, penalty_len)
-            );
-            assert_eq!(rt; piece.width, columns);
-        }
-    }
-}
+/// The paragraph `foo bär`, whose character of two bytes stands at 5.
+const OTHER: &[u8] = b"foo b\xc3\xa4r";
 
-/// Cuts and points of `foo bär` that are none: not increasing, at an end, inside a character.
-const WRONG: &[(&[usize], &[usize])] = &[
-    (&[4, 4], &[]),
-    (&[], &[5, 4]),
-    (&[0], &[]),
-    (&[8], &[]),
-    (&[], &[9]),
-    (&[], &[6]),
+/// Cuts and points that are none: not increasing, at an end, inside a character.
+const WRONG: &[PiecesRow] = &[
+    (
+        PiecesCall::PiecesAt {
+            cuts: &[4, 4],
+            points: &[],
+            options: AT_9,
+        },
+        OTHER,
+        (WRONG_PLACES, BEFORE),
+        &[NO_PLACE],
+    ),
+    (
+        PiecesCall::PiecesAt {
+            cuts: &[],
+            points: &[5, 4],
+            options: AT_9,
+        },
+        OTHER,
+        (WRONG_PLACES, BEFORE),
+        &[NO_PLACE],
+    ),
+    (
+        PiecesCall::PiecesAt {
+            cuts: &[0],
+            points: &[],
+            options: AT_9,
+        },
+        OTHER,
+        (WRONG_PLACES, BEFORE),
+        &[NO_PLACE],
+    ),
+    (
+        PiecesCall::PiecesAt {
+            cuts: &[8],
+            points: &[],
+            options: AT_9,
+        },
+        OTHER,
+        (WRONG_PLACES, BEFORE),
+        &[NO_PLACE],
+    ),
+    (
+        PiecesCall::PiecesAt {
+            cuts: &[],
+            points: &[9],
+            options: AT_9,
+        },
+        OTHER,
+        (WRONG_PLACES, BEFORE),
+        &[NO_PLACE],
+    ),
+    (
+        PiecesCall::PiecesAt {
+            cuts: &[],
+            points: &[6],
+            options: AT_9,
+        },
+        OTHER,
+        (WRONG_PLACES, BEFORE),
+        &[NO_PLACE],
+    ),
+];
+
+/// Which of several refusals is told, and that too little room is told after them.
+const REFUSED: &[PiecesRow] = &[
+    (
+        PiecesCall::PiecesAt {
+            cuts: &[9],
+            points: &[],
+            options: AT_9,
+        },
+        b"\xff",
+        (NOT_UTF8, BEFORE),
+        &[NO_PLACE],
+    ),
+    (
+        PiecesCall::PiecesAt {
+            cuts: &[9],
+            points: &[],
+            options: TextwrapOptions { version: 0, ..AT_9 },
+        },
+        OTHER,
+        (UNKNOWN_OPTIONS, BEFORE),
+        &[NO_PLACE],
+    ),
+    (
+        PiecesCall::PiecesAt {
+            cuts: &[4],
+            points: &[],
+            options: AT_9,
+        },
+        OTHER,
+        (TOO_SMALL, 2),
+        &[NO_PLACE],
+    ),
 ];
 
 #[test]
-fn places_that_are_none_are_refused(rt: HostRuntime) {
-    let text = "foo bär".as_bytes();
-    let mut pieces = [NO_PIECE; 1];
-    let mut count = 7;
-    for &(cuts, points) in WRONG {
-        let status = textwrap_pieces_at(
-            rt.alloc(),
-            text,
-            cuts,
-            points,
-            &at(9),
-            &mut pieces,
-            &mut count,
-        );
-        assert_eq!(rt; (status, count), (WRONG_PLACES, 7));
-    }
-    let status = textwrap_pieces_at(
-        rt.alloc(),
-        b"\xff",
-        &[9],
-        &[],
-        &at(9),
-        &mut pieces,
-        &mut count,
-    );
-    assert_eq!(rt; (status, count), (NOT_UTF8, 7));
-    let unknown = TextwrapOptions {
-        version: 0,
-        ..at(9)
-    };
-    let status = textwrap_pieces_at(
-        rt.alloc(),
-        text,
-        &[9],
-        &[],
-        &unknown,
-        &mut pieces,
-        &mut count,
-    );
-    assert_eq!(rt; (status, count), (UNKNOWN_OPTIONS, 7));
-    let status = textwrap_pieces_at(rt.alloc(), text, &[4], &[], &at(9), &mut pieces, &mut count);
-    assert_eq!(rt; (status, count), (TOO_SMALL, 2));
-    assert_eq!(rt; pieces[0].offset, 99);
+fn a_paragraph_has_pieces_at_cuts_and_points(rt: HostRuntime) {
+    assert_pieces(&rt, PIECES);
+    assert_pieces(&rt, WRONG);
+    assert_pieces(&rt, REFUSED);
 }
+
+/// Lines end where the caller says.
+const LINES: &[LinesRow] = &[
+    // The pieces are `fo` with a hyphen, `o `, `bar ` and `baz`.
+    (
+        LinesCall::LinesAt {
+            cuts: &[4, 8],
+            points: &[2],
+            ends: &[1, 3, 4],
+            options: AT_9,
+            is_later: 0,
+        },
+        b"foo bar baz",
+        (DONE, 3, 3),
+        &[(0, 3, 1), (2, 5, 0), (8, 3, 0)],
+        b"fo-_____",
+    ),
+    // After other lines the first has the subsequent indent; pieces after the last end are in none.
+    (
+        LinesCall::LinesAt {
+            cuts: &[4, 8],
+            points: &[],
+            ends: &[1],
+            options: TextwrapOptions {
+                subsequent_indent: b"> ",
+                ..AT_9
+            },
+            is_later: 1,
+        },
+        b"foo bar baz",
+        (DONE, 1, 5),
+        &[(0, 5, 1), NONE, NONE],
+        b"> foo___",
+    ),
+    (
+        LinesCall::LinesAt {
+            cuts: &[4, 8],
+            points: &[],
+            ends: &[2, 1],
+            options: AT_9,
+            is_later: 0,
+        },
+        b"foo bar baz",
+        (WRONG_PLACES, BEFORE, BEFORE),
+        &[NONE, NONE, NONE],
+        b"________",
+    ),
+    (
+        LinesCall::LinesAt {
+            cuts: &[4, 8],
+            points: &[],
+            ends: &[4],
+            options: AT_9,
+            is_later: 0,
+        },
+        b"foo bar baz",
+        (WRONG_PLACES, BEFORE, BEFORE),
+        &[NONE, NONE, NONE],
+        b"________",
+    ),
+    (
+        LinesCall::LinesAt {
+            cuts: &[4, 8],
+            points: &[],
+            ends: &[3],
+            options: AT_9,
+            is_later: 2,
+        },
+        b"foo bar baz",
+        (UNKNOWN_OPTIONS, BEFORE, BEFORE),
+        &[NONE, NONE, NONE],
+        b"________",
+    ),
+];
 
 #[test]
 fn lines_end_where_the_caller_says(rt: HostRuntime) {
-    let text = b"foo bar baz";
-    let mut lines = [NOWHERE; 3];
-    let mut room = [b'.'; 8];
-    let (mut count, mut len) = (7, 7);
-    // The pieces are `fo` with a hyphen, `o `, `bar ` and `baz`.
-    let status = textwrap_lines_at(
-        rt.alloc(),
-        text,
-        &[4, 8],
-        &[2],
-        &[1, 3, 4],
-        &at(9),
-        0,
-        &mut lines,
-        &mut count,
-        &mut room,
-        &mut len,
-    );
-    assert_eq!(rt; (status, count, len), (DONE, 3, 3));
-    assert_eq!(rt; &room, b"fo-.....");
-    assert_eq!(rt;
-        (lines[0].offset, lines[0].len, lines[0].is_built),
-        (0, 3, 1)
-    );
-    assert_eq!(rt;
-        (lines[1].offset, lines[1].len, lines[1].is_built),
-        (2, 5, 0)
-    );
-    assert_eq!(rt;
-        (lines[2].offset, lines[2].len, lines[2].is_built),
-        (8, 3, 0)
-    );
-    // After other lines the first has the subsequent indent; pieces after the last end are in none.
-    let indented = TextwrapOptions {
-        subsequent_indent: b"> ",
-        ..at(9)
-    };
-    let status = textwrap_lines_at(
-        rt.alloc(),
-        text,
-        &[4, 8],
-        &[],
-        &[1],
-        &indented,
-        1,
-        &mut lines,
-        &mut count,
-        &mut room,
-        &mut len,
-    );
-    assert_eq!(rt; (status, count, len), (DONE, 1, 5));
-    assert_eq!(rt; &room, b"> foo...");
-    let rows: &[(&[usize], usize, u32)] = &[
-        (&[2, 1], 0, WRONG_PLACES),
-        (&[4], 0, WRONG_PLACES),
-        (&[3], 2, UNKNOWN_OPTIONS),
-    ];
-    for &(ends, is_later, refusal) in rows {
-        let status = textwrap_lines_at(
-            rt.alloc(),
-            text,
-            &[4, 8],
-            &[],
-            ends,
-            &at(9),
-            is_later,
-            &mut lines,
-            &mut count,
-            &mut room,
-            &mut len,
-        );
-        assert_eq!(rt; (status, count, len), (refusal, 1, 5));
-    }
-    assert_eq!(rt; &room, b"> foo...");
-}
-
-#[test]
-fn a_large_paragraph_is_laid_out_in_steps(rt: HostRuntime) -> Result<(), Fail> {
-    let text = LINE.repeat(rt.alloc(), LINES)?;
-    let mut cuts = Vec::new(rt.alloc());
-    let mut ends = Vec::new(rt.alloc());
-    for number in 1..LINES {
-        cuts.push(number * LINE.len())?;
-        ends.push(number)?;
-    }
-    ends.push(LINES)?;
-    let mut pieces = vec![in rt.alloc(); NO_PIECE; LINES]?;
-    let mut count = 0;
-    let bytes = text.as_bytes();
-    let status = textwrap_pieces_at(
-        rt.alloc(),
-        bytes,
-        &cuts,
-        &[2],
-        &at(80),
-        &mut pieces,
-        &mut count,
-    );
-    assert_eq!(rt; (status, count), (TOO_SMALL, LINES + 1));
-    let status = textwrap_pieces_at(
-        rt.alloc(),
-        bytes,
-        &cuts,
-        &[],
-        &at(80),
-        &mut pieces,
-        &mut count,
-    );
-    assert_eq!(rt;
-        (status, count, pieces[LINES - 1].offset),
-        (DONE, LINES, LEN - LINE.len())
-    );
-    let mut lines = vec![in rt.alloc(); NOWHERE; LINES]?;
-    let mut len = 0;
-    let status = textwrap_lines_at(
-        rt.alloc(),
-        bytes,
-        &cuts,
-        &[],
-        &ends,
-        &at(80),
-        1,
-        &mut lines,
-        &mut count,
-        &mut [],
-        &mut len,
-    );
-    assert_eq!(rt; (status, count, len), (DONE, LINES, 0));
-    assert_eq!(rt;
-        (lines[9].offset, lines[9].len),
-        (9 * LINE.len(), LINE.len())
-    );
-    Ok(())
+    assert_lines(&rt, LINES);
 }

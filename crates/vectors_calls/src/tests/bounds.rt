@@ -18,7 +18,7 @@ const MOST: usize = 160;
 /// How many lines the longest row has.
 const MOST_LINES: usize = 16;
 
-/// The bound of a call for a text of so many bytes, if it has one.
+/// The bound of a call for a text of so many bytes, if there is one.
 fn text_bound(call: TextCall<'_>, text_len: usize) -> usize {
     match call {
         TextCall::Fill(options) => textwrap_fill_bound(text_len, &options),
@@ -30,7 +30,7 @@ fn text_bound(call: TextCall<'_>, text_len: usize) -> usize {
     }
 }
 
-/// The bounds of the lines and of the room of a call for a text of so many bytes, if it has any.
+/// The bounds of the lines and of the room of a call for a text of so many bytes, if there are any.
 fn lines_bounds(call: LinesCall<'_>, text_len: usize) -> (usize, usize) {
     match call {
         LinesCall::Wrap(options) => (
@@ -52,7 +52,7 @@ fn lines_bounds(call: LinesCall<'_>, text_len: usize) -> (usize, usize) {
 /// A call and a text; how long the answer is, and its bound.
 type TextRow = (TextCall<'static>, &'static [u8], usize, usize);
 
-/// The same two with CRLF.
+/// The same with CRLF, which takes a byte more a line.
 const NARROW_CRLF: TextwrapOptions<'_> = TextwrapOptions { crlf: 1, ..NARROW };
 
 const FILLED: &[TextRow] = &[
@@ -138,9 +138,9 @@ fn lines_and_their_room_keep_to_their_bounds(rt: HostRuntime) {
     }
 }
 
-/// The defaults, and bounds of no columns, of rows with bars, and of an indented text.
+/// No columns have no rows; the gaps of each row count, and those between its cells.
 #[test]
-fn bounds_are_numbers(rt: HostRuntime) {
+fn bounds_count_rows_and_gaps(rt: HostRuntime) {
     assert_eq!(rt; textwrap_wrap_columns_rows_bound(3, 0), 0);
     assert_eq!(rt;
         textwrap_wrap_columns_room_bound(5, 2, &DEFAULTS, &BARS),

@@ -99,7 +99,7 @@ fn a_large_list_is_shortened_carried_and_laid_out(rt: HostRuntime) -> Result<(),
     Ok(())
 }
 
-/// The numbers from 1 to so many, each so many times.
+/// The first so many multiples of a number.
 fn multiples(alloc: Global, most: usize, step: usize) -> Result<Vec<usize>, AllocError> {
     let mut numbers = Vec::new(alloc);
     let mut number: usize = 0;

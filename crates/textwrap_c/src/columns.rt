@@ -1,35 +1,20 @@
 //! A text in columns beside one another.
-ghost use Rattle.std.specs.Prelude.{◌≡◌, ◌≤◌, ◌<◌, ◌↔◌, ◌⊎◌, IsUtf8, IfOk, map, string_bytes};
+ghost use Rattle.std.specs.Prelude.{◌≡◌, ◌≤◌, ◌<◌, ◌↔◌, ◌⊎◌, IsUtf8};
 ghost use Rattle.textwrap.specs.Columns.{IsInColumns};
 ghost use Rattle.textwrap.specs.Paragraph.{DividesAs};
-ghost use Rattle.textwrap_c.specs.Columns.{AreTextGaps, AreRows, ArePlacedRows};
-ghost use Rattle.textwrap_c.specs.Options.{settings_of, splitter_of, algorithm_of, AreKnown};
-ghost use Rattle.textwrap_c.specs.Options.{AreTexts};
-ghost use Rattle.textwrap_c.specs.Status.{not_utf8, unknown_options};
-ghost use Rattle.textwrap_c.specs.Wrapping.{WritesLines};
+ghost use Rattle.textwrap_calls.specs.Columns.{AreTextGaps, AreRows};
+ghost use Rattle.textwrap_calls.specs.Options.{settings_of, splitter_of, algorithm_of, AreKnown};
+ghost use Rattle.textwrap_calls.specs.Options.{AreTexts};
+ghost use Rattle.textwrap_calls.specs.Status.{not_utf8, unknown_options};
+ghost use Rattle.textwrap_calls.specs.Wrapping.{WritesLines};
 
-use crate::options::{TextwrapOptions, read_options};
-use crate::reported::{TextwrapLine, put_lines};
-use crate::status::{NOT_UTF8, OUT_OF_MEMORY, UNKNOWN_OPTIONS};
-use simdutf8::basic::from_utf8;
-use std::alloc::{AllocError, Global};
-use textwrap::wrap_columns;
-use textwrap_lines::placed::PlacedLines;
+use std::alloc::Global;
+use textwrap_calls::columns;
+use textwrap_calls::columns::TextwrapGaps;
+use textwrap_calls::options::TextwrapOptions;
+use textwrap_calls::wrapping::TextwrapLine;
 
-/// What stands around the cells of a row, in UTF-8.
-#[repr(C)]
-#[derive(Clone, Copy)]
-pub struct TextwrapGaps<'a> {
-    /// What stands before the first cell.
-    pub left: &'a [u8],
-    /// What stands between each two cells.
-    pub middle: &'a [u8],
-    /// What stands after the last cell.
-    pub right: &'a [u8],
-}
-
-/// Wraps the text into so many columns beside one another, and writes the rows as `textwrap_wrap`
-/// writes lines that are texts of their own. No columns at all are `UNKNOWN_OPTIONS`.
+/// Exports [`textwrap_calls::columns::textwrap_wrap_columns`].
 #[unsafe(no_mangle)]
 pub extern "C" fn textwrap_wrap_columns(
     alloc: Global,
@@ -51,41 +36,5 @@ pub extern "C" fn textwrap_wrap_columns(
         × ¬ (IsUtf8 text.now × AreTexts options.now × AreTextGaps gaps.now) }
     ensures statuses { result ≤ unknown_options }
 {
-    if columns == 0 {
-        return UNKNOWN_OPTIONS;
-    }
-    let options = match read_options(options) {
-        Ok(options) => options,
-        Err(status) => return status,
-    };
-    let (Ok(text), Ok(left), Ok(middle), Ok(right)) = (
-        from_utf8(text),
-        from_utf8(gaps.left),
-        from_utf8(gaps.middle),
-        from_utf8(gaps.right),
-    ) else {
-        return NOT_UTF8;
-    };
-    let Ok(found) = wrap_columns(alloc, text, columns, options, left, middle, right) else {
-        return OUT_OF_MEMORY;
-    };
-    let Ok(placed) = place_rows(alloc, found) else {
-        return OUT_OF_MEMORY;
-    };
-    put_lines(&placed, rows, count, room, len)
-}
-
-/// The rows, placed as lines of their own.
-pub(crate) fn place_rows(
-    alloc: Global,
-    rows: Vec<String>,
-) -> Result<PlacedLines<Global>, AllocError>
-    ensures { IfOk result (λ placed. ArePlacedRows (map string_bytes rows.items)
-        placed.places.items placed.built.items) }
-{
-    let mut placed = PlacedLines::new(alloc);
-    for row in rows {
-        placed.push_built("", &row, "")?;
-    }
-    Ok(placed)
+    columns::textwrap_wrap_columns(alloc, text, columns, options, gaps, rows, count, room, len)
 }

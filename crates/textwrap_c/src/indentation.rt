@@ -1,16 +1,13 @@
 //! Indenting and dedenting a text.
 ghost use Rattle.std.specs.Prelude.{◌≡◌, ◌≤◌, ◌↔◌, IsUtf8};
 ghost use Rattle.textwrap.specs.Indentation.{indented, dedented};
-ghost use Rattle.textwrap_c.specs.Room.{WritesText};
-ghost use Rattle.textwrap_c.specs.Status.{not_utf8, too_small};
+ghost use Rattle.textwrap_calls.specs.Room.{WritesText};
+ghost use Rattle.textwrap_calls.specs.Status.{not_utf8, too_small};
 
-use crate::room::put;
-use crate::status::{NOT_UTF8, OUT_OF_MEMORY};
-use simdutf8::basic::from_utf8;
 use std::alloc::Global;
-use textwrap::{dedent, indent};
+use textwrap_calls::indentation;
 
-/// Writes the text with a prefix before each line, as `textwrap_fill` writes a filled one.
+/// Exports [`textwrap_calls::indentation::textwrap_indent`].
 #[unsafe(no_mangle)]
 pub extern "C" fn textwrap_indent(
     alloc: Global,
@@ -24,17 +21,10 @@ pub extern "C" fn textwrap_indent(
     ensures not_utf8 { result ≡ not_utf8 ↔ ¬ (IsUtf8 text.now × IsUtf8 prefix.now) }
     ensures statuses { result ≤ too_small }
 {
-    let (Ok(text), Ok(prefix)) = (from_utf8(text), from_utf8(prefix)) else {
-        return NOT_UTF8;
-    };
-    match indent(alloc, text, prefix) {
-        Ok(indented) => put(indented.as_bytes(), room, len),
-        Err(_) => OUT_OF_MEMORY,
-    }
+    indentation::textwrap_indent(alloc, text, prefix, room, len)
 }
 
-/// Writes the text without the whitespace that all its lines begin with, as `textwrap_fill` writes a
-/// filled one.
+/// Exports [`textwrap_calls::indentation::textwrap_dedent`].
 #[unsafe(no_mangle)]
 pub extern "C" fn textwrap_dedent(
     alloc: Global,
@@ -47,11 +37,5 @@ pub extern "C" fn textwrap_dedent(
     ensures not_utf8 { result ≡ not_utf8 ↔ ¬ IsUtf8 text.now }
     ensures statuses { result ≤ too_small }
 {
-    let Ok(text) = from_utf8(text) else {
-        return NOT_UTF8;
-    };
-    match dedent(alloc, text) {
-        Ok(dedented) => put(dedented.as_bytes(), room, len),
-        Err(_) => OUT_OF_MEMORY,
-    }
+    indentation::textwrap_dedent(alloc, text, room, len)
 }

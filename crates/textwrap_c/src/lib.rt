@@ -1,8 +1,8 @@
 //! `textwrap` for callers in C, and in all languages that call C.
 //!
-//! Each export takes bytes as a pointer and a length, and answers a status, one of those of
-//! [`status`]. What it gives is written into room that the caller lends, and nothing that was
-//! allocated is left behind. A call that does not answer `DONE` leaves the room as it was.
+//! Each export passes its arguments on to the function of its name in `textwrap_calls`, where it is
+//! described, and makes the same promises. Only a static library has exports, and none stands on one;
+//! so the calls stand in a library, on which tests may stand too.
 #![tactic(auto)]
 
 pub mod bounds;
@@ -13,17 +13,10 @@ pub mod filling;
 pub mod fragments;
 pub mod indentation;
 pub mod line_lists;
-pub mod options;
 pub mod pieces;
 pub mod refilling;
-mod reported;
-mod room;
-pub mod status;
 pub mod steps;
 pub mod tables;
-#[cfg(test)]
-mod tests;
-pub mod texts;
 pub mod version;
 pub mod widths;
 pub mod wrapping;

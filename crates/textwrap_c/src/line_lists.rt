@@ -1,26 +1,21 @@
 //! Lists of lines for display: shortened, and with styles carried over their ends.
-ghost use Rattle.std.specs.Prelude.{◌≡◌, ◌≤◌, ℕ, ◌↔◌, [], List, map, All, IsUtf8, IfOk};
+ghost use Rattle.std.specs.Prelude.{◌≡◌, ◌≤◌, ◌↔◌, [], map, All, IsUtf8};
 ghost use Rattle.textwrap.specs.Paragraph.{line_bytes};
-ghost use Rattle.textwrap_c.specs.Columns.{ArePlacedRows, AreRows};
-ghost use Rattle.textwrap_c.specs.Display.{AreShort};
-ghost use Rattle.textwrap_c.specs.Options.{settings_of, AreKnown, AreTexts};
-ghost use Rattle.textwrap_c.specs.Status.{not_utf8, too_small, unknown_options};
-ghost use Rattle.textwrap_c.specs.Texts.{bytes_of, IsText};
-ghost use Rattle.textwrap_c.specs.Wrapping.{WritesLines};
+ghost use Rattle.textwrap_calls.specs.Columns.{AreRows};
+ghost use Rattle.textwrap_calls.specs.Display.{AreShort};
+ghost use Rattle.textwrap_calls.specs.Options.{settings_of, AreKnown, AreTexts};
+ghost use Rattle.textwrap_calls.specs.Status.{not_utf8, too_small, unknown_options};
+ghost use Rattle.textwrap_calls.specs.Texts.{bytes_of, IsText};
+ghost use Rattle.textwrap_calls.specs.Wrapping.{WritesLines};
 ghost use Rattle.textwrap_display.specs.Styles.{carried_lines};
 
-use crate::options::{TextwrapOptions, read_options};
-use crate::reported::{TextwrapLine, put_lines};
-use crate::status::{NOT_UTF8, OUT_OF_MEMORY};
-use crate::texts::{TextwrapText, are_utf8, lines_of, place_all};
-use simdutf8::basic::from_utf8;
-use std::alloc::{AllocError, Global};
-use textwrap::Options;
-use textwrap_display::{carry_styles, shorten_lines};
-use textwrap_lines::placed::PlacedLines;
+use std::alloc::Global;
+use textwrap_calls::line_lists;
+use textwrap_calls::options::TextwrapOptions;
+use textwrap_calls::texts::TextwrapText;
+use textwrap_calls::wrapping::TextwrapLine;
 
-/// Writes so many of the lines at most, as `textwrap_wrap` writes lines that are texts of their own.
-/// If some are left out, the last one ends in the placeholder.
+/// Exports [`textwrap_calls::line_lists::textwrap_shorten_lines`].
 #[unsafe(no_mangle)]
 pub extern "C" fn textwrap_shorten_lines(
     alloc: Global,
@@ -40,40 +35,20 @@ pub extern "C" fn textwrap_shorten_lines(
         ↔ ¬ (All IsText lines.now × IsUtf8 placeholder.now) }
     ensures statuses { result ≤ too_small }
 {
-    let Ok(placeholder) = from_utf8(placeholder) else {
-        return NOT_UTF8;
-    };
-    if !are_utf8(lines) {
-        return NOT_UTF8;
-    }
-    match place_shortened(alloc, lines, most, width, placeholder) {
-        Ok(placed) => put_lines(&placed, places, count, room, len),
-        Err(_) => OUT_OF_MEMORY,
-    }
+    line_lists::textwrap_shorten_lines(
+        alloc,
+        lines,
+        most,
+        width,
+        placeholder,
+        places,
+        count,
+        room,
+        len,
+    )
 }
 
-/// Those lines, placed.
-fn place_shortened(
-    alloc: Global,
-    lines: &[TextwrapText<'_>],
-    most: usize,
-    width: usize,
-    placeholder: &str,
-) -> Result<PlacedLines<Global>, AllocError>
-    requires { All IsText lines.now }
-    ensures { IfOk result (λ placed. (rows : List (List ℕ))
-        × AreShort most width placeholder.now (bytes_of lines.now) rows
-        × ArePlacedRows rows placed.places.items placed.built.items) }
-{
-    let lines = lines_of(alloc, lines)?;
-    let short = shorten_lines(alloc, &lines, most, width, placeholder)?;
-    place_all(alloc, short)
-}
-
-/// Writes the lines of one text so that each stands by itself: after its indent it sets anew the link
-/// and the styles that the lines before it left open, and at its end it takes back what is open. They
-/// are written as `textwrap_wrap` writes lines that are texts of their own. The indents are those of
-/// the options, and nothing else of them is used.
+/// Exports [`textwrap_calls::line_lists::textwrap_carry_styles`].
 #[unsafe(no_mangle)]
 pub extern "C" fn textwrap_carry_styles(
     alloc: Global,
@@ -93,31 +68,5 @@ pub extern "C" fn textwrap_carry_styles(
         × ¬ (All IsText lines.now × AreTexts options.now) }
     ensures statuses { result ≤ unknown_options }
 {
-    let options = match read_options(options) {
-        Ok(options) => options,
-        Err(status) => return status,
-    };
-    if !are_utf8(lines) {
-        return NOT_UTF8;
-    }
-    match place_carried(alloc, lines, &options) {
-        Ok(placed) => put_lines(&placed, places, count, room, len),
-        Err(_) => OUT_OF_MEMORY,
-    }
-}
-
-/// Those lines, placed.
-fn place_carried(
-    alloc: Global,
-    lines: &[TextwrapText<'_>],
-    options: &Options<'_>,
-) -> Result<PlacedLines<Global>, AllocError>
-    requires { All IsText lines.now }
-    ensures { IfOk result (λ placed. ArePlacedRows (map line_bytes (carried_lines
-        options.now.initial_indent.now options.now.subsequent_indent.now [] (bytes_of lines.now)))
-        placed.places.items placed.built.items) }
-{
-    let lines = lines_of(alloc, lines)?;
-    let carried = carry_styles(alloc, &lines, options)?;
-    place_all(alloc, carried)
+    line_lists::textwrap_carry_styles(alloc, lines, options, places, count, room, len)
 }

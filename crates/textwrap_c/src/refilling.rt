@@ -1,22 +1,19 @@
 //! Unfilling and refilling a filled text.
-ghost use Rattle.std.specs.Prelude.{◌≡◌, ◌≢◌, ◌≤◌, ◌↔◌, IsUtf8, IfOk};
+ghost use Rattle.std.specs.Prelude.{◌≡◌, ◌≢◌, ◌≤◌, ◌↔◌, IsUtf8};
 ghost use Rattle.textwrap.specs.Paragraph.{DividesAs};
 ghost use Rattle.textwrap.specs.Refilling.{IsRefilled, unfilled_settings};
-ghost use Rattle.textwrap_c.specs.Options.{settings_of, splitter_of, algorithm_of, AreKnown};
-ghost use Rattle.textwrap_c.specs.Options.{AreTexts};
-ghost use Rattle.textwrap_c.specs.Refilling.{unfilled_parts, IsLayout};
-ghost use Rattle.textwrap_c.specs.Room.{WritesText};
-ghost use Rattle.textwrap_c.specs.Status.{done, not_utf8, too_small, unknown_options};
+ghost use Rattle.textwrap_calls.specs.Options.{settings_of, splitter_of, algorithm_of, AreKnown};
+ghost use Rattle.textwrap_calls.specs.Options.{AreTexts};
+ghost use Rattle.textwrap_calls.specs.Refilling.{unfilled_parts, IsLayout};
+ghost use Rattle.textwrap_calls.specs.Room.{WritesText};
+ghost use Rattle.textwrap_calls.specs.Status.{done, not_utf8, too_small, unknown_options};
 
-use crate::options::{TextwrapOptions, read_options};
-use crate::room::put;
-use crate::status::{DONE, NOT_UTF8, OUT_OF_MEMORY};
-use simdutf8::basic::from_utf8;
-use std::alloc::{AllocError, Allocator, Global};
-use textwrap::{LineEnding, refill, unfill};
+use std::alloc::Global;
+use textwrap_calls::options::TextwrapOptions;
+use textwrap_calls::refilling;
+use textwrap_calls::refilling::TextwrapLayout;
 
-/// Fills a filled text again, with the indents that it has, and writes it as `textwrap_fill` does.
-/// The indents of the options are not used.
+/// Exports [`textwrap_calls::refilling::textwrap_refill`].
 #[unsafe(no_mangle)]
 pub extern "C" fn textwrap_refill(
     alloc: Global,
@@ -33,35 +30,10 @@ pub extern "C" fn textwrap_refill(
         × ¬ (IsUtf8 text.now × AreTexts options.now) }
     ensures statuses { result ≤ unknown_options }
 {
-    let options = match read_options(options) {
-        Ok(options) => options,
-        Err(status) => return status,
-    };
-    let Ok(text) = from_utf8(text) else {
-        return NOT_UTF8;
-    };
-    match refill(alloc, text, options) {
-        Ok(refilled) => put(refilled.as_bytes(), room, len),
-        Err(_) => OUT_OF_MEMORY,
-    }
+    refilling::textwrap_refill(alloc, text, options, room, len)
 }
 
-/// How a text seems to have been filled.
-#[repr(C)]
-#[derive(Clone, Copy)]
-pub struct TextwrapLayout {
-    /// The columns of the widest line.
-    pub width: usize,
-    /// 1 where lines end in CRLF, and else 0.
-    pub crlf: usize,
-    /// How many bytes the initial indent has.
-    pub initial_indent_len: usize,
-    /// How many bytes the subsequent indent has.
-    pub subsequent_indent_len: usize,
-}
-
-/// Joins the lines of a filled text, and finds out how it was filled. The room gets the joined text,
-/// and after it the initial indent and the subsequent one; `len` is that of all three.
+/// Exports [`textwrap_calls::refilling::textwrap_unfill`].
 #[unsafe(no_mangle)]
 pub extern "C" fn textwrap_unfill(
     alloc: Global,
@@ -77,41 +49,5 @@ pub extern "C" fn textwrap_unfill(
     ensures not_utf8 { result ≡ not_utf8 ↔ ¬ IsUtf8 text.now }
     ensures statuses { result ≤ too_small }
 {
-    let Ok(text) = from_utf8(text) else {
-        return NOT_UTF8;
-    };
-    match unfilled_parts(alloc, text) {
-        Ok((parts, found)) => {
-            let status = put(&parts, room, len);
-            if status == DONE {
-                *layout = found;
-            }
-            status
-        }
-        Err(_) => OUT_OF_MEMORY,
-    }
-}
-
-/// The joined text with both indents after it, and the layout.
-fn unfilled_parts<A: Allocator + Copy>(
-    alloc: A,
-    text: &str,
-) -> Result<(Vec<u8, A>, TextwrapLayout), AllocError>
-    ensures parts { IfOk result (λ unfilled. unfilled.0.items ≡ unfilled_parts text.now) }
-    ensures layout { IfOk result (λ unfilled. IsLayout (unfilled_settings text.now) unfilled.1) }
-{
-    let (unfilled, options) = unfill(alloc, text)?;
-    let mut parts = unfilled.into_bytes();
-    parts.extend_from_slice(options.initial_indent.as_bytes())?;
-    parts.extend_from_slice(options.subsequent_indent.as_bytes())?;
-    let layout = TextwrapLayout {
-        width: options.width,
-        crlf: match options.line_ending {
-            LineEnding::LF => 0,
-            LineEnding::CRLF => 1,
-        },
-        initial_indent_len: options.initial_indent.len(),
-        subsequent_indent_len: options.subsequent_indent.len(),
-    };
-    Ok((parts, layout))
+    refilling::textwrap_unfill(alloc, text, room, len, layout)
 }

@@ -1,25 +1,18 @@
 //! The lines of a text.
 ghost use Rattle.std.specs.Prelude.{◌≡◌, ◌≤◌, ◌↔◌, IsUtf8};
 ghost use Rattle.textwrap.specs.Paragraph.{DividesAs};
-ghost use Rattle.textwrap_c.specs.Options.{settings_of, splitter_of, algorithm_of, AreKnown};
-ghost use Rattle.textwrap_c.specs.Options.{AreTexts};
-ghost use Rattle.textwrap_c.specs.Status.{not_utf8, unknown_options};
-ghost use Rattle.textwrap_c.specs.Wrapping.{WritesLines};
+ghost use Rattle.textwrap_calls.specs.Options.{settings_of, splitter_of, algorithm_of, AreKnown};
+ghost use Rattle.textwrap_calls.specs.Options.{AreTexts};
+ghost use Rattle.textwrap_calls.specs.Status.{not_utf8, unknown_options};
+ghost use Rattle.textwrap_calls.specs.Wrapping.{WritesLines};
 ghost use Rattle.textwrap_lines.specs.Places.{ArePlacedLines};
 
-use crate::options::{TextwrapOptions, read_options};
-pub use crate::reported::TextwrapLine;
-use crate::reported::put_lines;
-use crate::status::{NOT_UTF8, OUT_OF_MEMORY};
-use simdutf8::basic::from_utf8;
 use std::alloc::Global;
-use textwrap_lines::placed::place_lines;
+use textwrap_calls::options::TextwrapOptions;
+use textwrap_calls::wrapping;
+use textwrap_calls::wrapping::TextwrapLine;
 
-/// Writes where the lines of the text stand, and how many they are to `count`. A line that is a
-/// slice of the text is reported at the place that it was cut from. A line with an indent is a text of
-/// its own: these go to the front of the room, one after another, and `len` is that of all. Where
-/// the lines or the room are too short for them, only `count` and `len` are written, so that a
-/// second call can bring both.
+/// Exports [`textwrap_calls::wrapping::textwrap_wrap`].
 #[unsafe(no_mangle)]
 pub extern "C" fn textwrap_wrap(
     alloc: Global,
@@ -38,15 +31,5 @@ pub extern "C" fn textwrap_wrap(
         × ¬ (IsUtf8 text.now × AreTexts options.now) }
     ensures statuses { result ≤ unknown_options }
 {
-    let options = match read_options(options) {
-        Ok(options) => options,
-        Err(status) => return status,
-    };
-    let Ok(text) = from_utf8(text) else {
-        return NOT_UTF8;
-    };
-    let Ok(placed) = place_lines(alloc, text, &options) else {
-        return OUT_OF_MEMORY;
-    };
-    put_lines(&placed, lines, count, room, len)
+    wrapping::textwrap_wrap(alloc, text, options, lines, count, room, len)
 }

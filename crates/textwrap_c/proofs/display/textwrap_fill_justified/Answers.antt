@@ -1,8 +1,0 @@
-use Rattle.textwrap_c.proofs.display.textwrap_fill_justified.Goals as goal
-use Rattle.textwrap_c.proofs.RoomLemmas.{WritesText-answer}
-
-pub returns-in-Ok-fill_justified-clause-filled : goal.returns-in-Ok-fill_justified-clause-filled
-returns-in-Ok-fill_justified-clause-filled c =
-    let filled = c.in-Ok-fill_justified.ensures.built_in _ _ _ c.in-Ok.ensures.parts in
-    WritesText-answer _ _ _ _ _ _ _ (rw c.in-Ok-from_utf8.ensures.0 at filled)
-    (rw c.as_bytes.ensures.value at c.put.ensures.text)

@@ -1,9 +1,0 @@
-use Rattle.textwrap_c.proofs.tables.are_known_columns.Given as goal
-use Rattle.textwrap_base.proofs.Common.{ℕ, ◌<◌, get_or}
-use Rattle.textwrap_c.specs.Tables.{IsKnownColumn}
-use Rattle.textwrap_c.specs.declared.tables.TextwrapColumn.{TextwrapColumn}
-
--- the columns so far are known
-abbrev pub invariant-loop-column : goal.invariant-loop-column
-invariant-loop-column l = (k : ℕ) (d : TextwrapColumn) → k < l.column-index
-    → IsKnownColumn (get_or l.columns k d)

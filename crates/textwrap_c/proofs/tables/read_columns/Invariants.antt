@@ -1,9 +1,0 @@
-use Rattle.textwrap_c.proofs.tables.read_columns.Given as goal
-use Rattle.textwrap_base.proofs.Common.{map, take}
-use Rattle.textwrap_display.specs.Tables.{HaveParts}
-use Rattle.textwrap_c.specs.Tables.{parts_of_column}
-
--- the columns so far have their parts
-abbrev pub invariant-loop-column : goal.invariant-loop-column
-invariant-loop-column g l =
-    HaveParts l.columns.items (map parts_of_column (take l.column-index l.given))

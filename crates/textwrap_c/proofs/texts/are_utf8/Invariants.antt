@@ -1,9 +1,0 @@
-use Rattle.textwrap_c.proofs.texts.are_utf8.Given as goal
-use Rattle.textwrap_base.proofs.Common.{ℕ, ◌<◌, get_or}
-use Rattle.textwrap_c.specs.Texts.{IsText}
-use Rattle.textwrap_c.specs.declared.texts.TextwrapText.{TextwrapText}
-
--- the texts so far are UTF-8
-abbrev pub invariant-loop-text : goal.invariant-loop-text
-invariant-loop-text l = (k : ℕ) (d : TextwrapText) → k < l.text-index
-    → IsText (get_or l.texts k d)

@@ -1,8 +1,0 @@
-use Rattle.textwrap_c.proofs.texts.place_all.Given as goal
-use Rattle.textwrap_display.specs.Shortening.{texts_of}
-use Rattle.textwrap_c.specs.Columns.{ArePlacedRows}
-
--- the lines so far are placed
-abbrev pub invariant-loop-line : goal.invariant-loop-line
-invariant-loop-line l =
-    ArePlacedRows (texts_of l.yielded) l.placed.places.items l.placed.built.items

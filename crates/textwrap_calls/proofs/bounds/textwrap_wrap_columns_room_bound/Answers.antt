@@ -1,0 +1,14 @@
+use Rattle.textwrap_calls.proofs.bounds.textwrap_wrap_columns_room_bound.Goals as goal
+use Rattle.textwrap_calls.proofs.Lengths.Limit.{sum-capped}
+use Rattle.textwrap_calls.proofs.Lengths.Rows.{rows_room-fits}
+
+pub returns-clause-value : goal.returns-clause-value
+returns-clause-value c =
+    sum-capped _ _ _ _ _ _ _ _ c.textwrap_wrap_columns_rows_bound.ensures.value
+    c.gaps_and_columns.ensures c.bytes_and_indents.ensures c.saturating_mul.ensures
+    c.saturating_add.ensures
+
+pub returns-clause-enough : goal.returns-clause-enough
+returns-clause-enough c = λ some text utf8 len_is rows are.
+    rows_room-fits c.args.options.now c.args.gaps.now c.args.columns some c.args.text_len text utf8
+    len_is rows are c.saturating_add.result (returns-clause-value c)

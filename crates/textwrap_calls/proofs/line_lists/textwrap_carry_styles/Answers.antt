@@ -1,0 +1,23 @@
+use Rattle.textwrap_calls.proofs.line_lists.textwrap_carry_styles.Goals as goal
+use Rattle.textwrap_base.proofs.Common.{ℕ, List, [], map, refl, ap, subst}
+use Rattle.textwrap.proofs.Common.{Built}
+use Rattle.textwrap.specs.Paragraph.{line_bytes}
+use Rattle.textwrap_display.specs.Styles.{carried_lines}
+use Rattle.textwrap_lines.specs.Options.{Settings}
+use Rattle.textwrap_calls.specs.Columns.{ArePlacedRows}
+use Rattle.textwrap_calls.specs.Options.{settings_of}
+use Rattle.textwrap_calls.specs.Texts.{bytes_of}
+use Rattle.textwrap_calls.proofs.LineLemmas.{WritesLines-reported}
+use Rattle.textwrap_calls.proofs.RowLemmas.{rows-shown}
+
+pub returns-in-Ok-place_carried-clause-carried : goal.returns-in-Ok-place_carried-clause-carried
+returns-in-Ok-place_carried-clause-carried c =
+    let carried : Settings → List (List ℕ) = λ settings. map line_bytes (carried_lines
+    settings.initial_indent settings.subsequent_indent [] (bytes_of c.args.lines.now)) in
+    let rows = carried (settings_of c.args.options.now) in
+    let placed = c.in-Ok-place_carried.placed in
+    let shows = rows-shown [] rows _ _ (subst
+    (λ ls. ArePlacedRows ls placed.places.items placed.built.items)
+    (ap carried c.in-Ok.ensures.parts.settings_are) c.in-Ok-place_carried.ensures) in
+    WritesLines-reported _ _ (map Built rows) _ _ _ _ _ _ _ _ _ _ _ (rows, refl, refl)
+    shows.built_is shows.shown c.put_lines.ensures.statuses c.put_lines.ensures.lines

@@ -1,0 +1,28 @@
+use Rattle.textwrap_calls.proofs.steps.textwrap_lines_at.Goals as goal
+use Rattle.textwrap_base.proofs.Common.{subst}
+use Rattle.textwrap_lines.proofs.Common.{settings_view}
+use Rattle.textwrap_calls.specs.Options.{settings_of}
+use Rattle.textwrap_calls.proofs.StepLemmas.{AreStepLines, steps-written}
+
+pub returns-in-Ok-find_lines-clause-lines : goal.returns-in-Ok-find_lines-clause-lines
+returns-in-Ok-find_lines-clause-lines c =
+    let settings = settings_of c.args.options.now in
+    let cuts = c.args.cuts.now in
+    let points = c.args.points.now in
+    let ends = c.args.ends.now in
+    let later = c.args.is_later in
+    let places = c.in-Ok-find_lines.placed.places.items in
+    let built = c.in-Ok-find_lines.placed.built.items in
+    let found = c.in-Ok-find_lines.ensures in
+    let here = subst (λ text. AreStepLines (settings_view c.in-Ok.options) cuts points ends later
+    text places built) c.in-Ok-from_utf8.ensures.0 (record {
+      placed = found.placed;
+      tile = found.tiles;
+      ends_are = found.steps.ends_are;
+    }) in
+    steps-written settings cuts points ends later c.args.paragraph.now places built
+    (subst (λ s. AreStepLines s cuts points ends later c.args.paragraph.now places built)
+    c.in-Ok.ensures.parts.settings_are here) c.put_lines.result c.args.lines.now
+    c.put_lines.new.lines c.args.count.now c.put_lines.new.count c.args.room.now
+    c.put_lines.new.room c.args.len.now c.put_lines.new.len c.put_lines.ensures.statuses
+    c.put_lines.ensures.lines

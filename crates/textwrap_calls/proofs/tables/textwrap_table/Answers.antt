@@ -1,0 +1,43 @@
+use Rattle.textwrap_calls.proofs.tables.textwrap_table.Goals as goal
+use Rattle.textwrap_base.proofs.Common.{[], arith, map, refl}
+use Rattle.textwrap.proofs.Common.{Built}
+use Rattle.textwrap_calls.proofs.LineLemmas.{WritesLines-reported}
+use Rattle.textwrap_calls.proofs.RowLemmas.{rows-shown}
+use Rattle.textwrap_calls.proofs.TableLemmas.{written-apart}
+
+pub place_table-requires-clause-texts : goal.place_table-requires-clause-texts
+place_table-requires-clause-texts c = c.if-not-have_texts.ensures.0 refl
+
+pub returns-in-Ok-clause-table : goal.returns-in-Ok-clause-table
+returns-in-Ok-clause-table c =
+    let (rows, table, placed) = c.in-Ok.ensures in
+    let here = rw c.in-Some.ensures.gaps at table in
+    let shows = rows-shown [] rows _ _ placed in
+    WritesLines-reported _ _ (map Built rows) _ _ _ _ _ _ _ _ _ _ _ (rows, here, refl)
+    shows.built_is shows.shown c.put_lines.ensures.statuses c.put_lines.ensures.lines
+
+pub returns-in-Ok-clause-unknown : goal.returns-in-Ok-clause-unknown
+returns-in-Ok-clause-unknown c = (
+  λ is _. (written-apart c.put_lines.result c.put_lines.ensures.statuses).1 is,
+  λ unknown. absurd (unknown (c.if-not-are_known_columns.ensures.0 refl)),
+)
+
+pub returns-in-Ok-clause-not_utf8 : goal.returns-in-Ok-clause-not_utf8
+returns-in-Ok-clause-not_utf8 c = (
+  λ is. absurd ((written-apart c.put_lines.result c.put_lines.ensures.statuses).0 is),
+  λ (_, wrong). absurd (wrong (record {
+    cells_are = c.if-not-are_utf8.ensures.0 refl;
+    columns_are = c.if-not-have_texts.ensures.0 refl;
+    gaps_are = c.in-Some.ensures.some;
+  })),
+)
+
+pub returns-in-Err-clause-not_utf8 : goal.returns-in-Err-clause-not_utf8
+returns-in-Err-clause-not_utf8 c = (
+  λ is. let no : ⊥ = omega (arith, is) in absurd no,
+  λ (_, wrong). absurd (wrong (record {
+    cells_are = c.if-not-are_utf8.ensures.0 refl;
+    columns_are = c.if-not-have_texts.ensures.0 refl;
+    gaps_are = c.in-Some.ensures.some;
+  })),
+)

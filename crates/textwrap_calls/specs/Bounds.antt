@@ -1,0 +1,81 @@
+-- How much room answers take at most, by the lengths of the texts.
+use Rattle.std.specs.Prelude.{◌≡◌, ℕ, ◌+◌, ◌-◌, ◌*◌, ◌/◌, ◌^◌, ◌≤◌, ◌⊎◌, min, max, ◌==◌, ◌&&◌, List}
+use Rattle.std.specs.Prelude.{length, IsUtf8, if◌then◌else◌}
+use Rattle.textwrap.specs.Options.{Settings}
+use Rattle.textwrap.specs.Paragraph.{DividesAs, Line}
+use Rattle.textwrap.specs.Columns.{IsInColumns}
+use Rattle.textwrap_calls.specs.Columns.{AreRows}
+use Rattle.textwrap_calls.specs.Options.{settings_of, splitter_of, algorithm_of}
+use Rattle.textwrap_calls.specs.declared.columns.TextwrapGaps.{TextwrapGaps}
+use Rattle.textwrap_calls.specs.declared.options.TextwrapOptions.{TextwrapOptions}
+use Rattle.textwrap_lines.specs.LineEnding.{ending_bytes}
+use Rattle.textwrap_lines.specs.Places.{ArePlacedLines}
+use Rattle.textwrap_lines.specs.declared.places.Place.{Place}
+
+-- the greatest length that a number holds
+abbrev pub greatest : ℕ
+greatest = 2 ^ 64 - 1
+
+-- this many, or the greatest length where they are more
+abbrev pub capped : ℕ → ℕ
+capped n = min n greatest
+
+-- so many are enough for so many, if a number holds how many are needed
+abbrev pub Suffices : ℕ → ℕ → Type 0
+Suffices bound needed = (needed ≤ bound) ⊎ (greatest ≤ bound)
+
+-- room of this length is enough for each such answer
+abbrev pub HoldsEach : (List ℕ → Type 0) → ℕ → Type 0
+HoldsEach IsAnswer room = (answer : List ℕ) → IsAnswer answer → Suffices room (length answer)
+
+-- it is so for all texts of this length
+abbrev pub ForTextsOf : ℕ → (List ℕ → Type 0) → Type 0
+ForTextsOf len Holds = (text : List ℕ) → IsUtf8 text → length text ≡ len → Holds text
+
+-- it is so for all lines that `textwrap_wrap` may report of the text
+abbrev pub ForLinesOf : TextwrapOptions → List ℕ → (List Line → Type 0) → Type 0
+ForLinesOf o text Holds = (lines : List Line) (places : List Place)
+    → ArePlacedLines (settings_of o)
+    (DividesAs (splitter_of o) (algorithm_of o) (settings_of o)) text lines places → Holds lines
+
+-- it is so for all rows that `textwrap_wrap_columns` may write of the text
+abbrev pub ForRowsOf : TextwrapOptions → TextwrapGaps → ℕ → List ℕ → (List Line → Type 0) → Type 0
+ForRowsOf o gaps columns text Holds = (rows : List Line)
+    → AreRows (IsInColumns (settings_of o) (DividesAs (splitter_of o) (algorithm_of o)) columns text
+    gaps.left.now gaps.middle.now gaps.right.now) rows → Holds rows
+
+-- ---- the bounds, without the limit of a number
+
+-- each byte on a line of its own, after an ending and the later indent, and the initial indent
+abbrev pub fill_bound : Settings → ℕ → ℕ
+fill_bound settings len =
+    length settings.initial_indent
+    + len * (1 + length settings.subsequent_indent + length (ending_bytes settings.line_ending))
+
+-- each byte on a line of its own, after an ending and an indent; no indent of the text is longer than
+-- the text
+abbrev pub refill_bound : Settings → ℕ → ℕ
+refill_bound settings len = len * (2 + len + length (ending_bytes settings.line_ending))
+
+-- the lines that have an indent, each byte on a line of its own; without indents there are none
+abbrev pub wrap_room_bound : Settings → ℕ → ℕ
+wrap_room_bound settings len =
+    if (length settings.initial_indent == 0) && (length settings.subsequent_indent == 0) then 0
+    else length settings.initial_indent + len * (1 + length settings.subsequent_indent)
+
+-- each byte on a line of its own, after the prefix
+abbrev pub indent_bound : ℕ → ℕ → ℕ
+indent_bound len prefix_len = len * (1 + prefix_len)
+
+-- each byte on a line of its own, and one line before them, in so many columns; without columns
+-- there are none
+abbrev pub rows_bound : ℕ → ℕ → ℕ
+rows_bound len columns = if columns == 0 then 0 else len / columns + 1
+
+-- the gaps and the columns of each row, and the lines with their indents, each byte on one of its own
+abbrev pub columns_room_bound : TextwrapOptions → TextwrapGaps → ℕ → ℕ → ℕ
+columns_room_bound o gaps len columns =
+    rows_bound len columns
+    * (length gaps.left.now + length gaps.right.now + (columns - 1) * length gaps.middle.now
+    + max o.width columns)
+    + (length o.initial_indent.now + len * (1 + length o.subsequent_indent.now))

@@ -1,0 +1,54 @@
+-- What the numbers of the options mean.
+use Rattle.std.specs.Prelude.{◌≡◌, ℕ, ◌≤◌, ◌==◌, [], ◌∷◌, Bool, not, IsUtf8, if◌then◌else◌}
+use Rattle.textwrap.specs.Options.{Settings, settings_at}
+use Rattle.textwrap.specs.WordSplitters.{Splitter, Whole, AtHyphens}
+use Rattle.textwrap.specs.WrapAlgorithms.{Algorithm, Greedy, LeastCost}
+use Rattle.textwrap_base.specs.declared.penalties.Penalties.{Penalties}
+use Rattle.textwrap_lines.specs.declared.line_ending.LineEnding.TheVariants.{LF, CRLF}
+use Rattle.textwrap_calls.specs.declared.options.TextwrapOptions.{TextwrapOptions}
+
+-- a number that says yes or no
+abbrev pub says_yes : ℕ → Bool
+says_yes n = not (n == 0)
+
+abbrev pub penalties_of : TextwrapOptions → Penalties
+penalties_of o = record {
+  nline_penalty = o.nline_penalty;
+  overflow_penalty = o.overflow_penalty;
+  short_last_line_fraction = o.short_last_line_fraction;
+  short_last_line_penalty = o.short_last_line_penalty;
+  hyphen_penalty = o.hyphen_penalty;
+}
+
+abbrev pub algorithm_of : TextwrapOptions → Algorithm
+algorithm_of o = if o.optimal_fit == 0 then Greedy else LeastCost (penalties_of o)
+
+abbrev pub splitter_of : TextwrapOptions → Splitter
+splitter_of o = if o.split_at_hyphens == 0 then Whole else AtHyphens
+
+abbrev pub settings_of : TextwrapOptions → Settings
+settings_of o = record (settings_at o.width) {
+  line_ending = if o.crlf == 0 then LF else CRLF;
+  initial_indent = o.initial_indent.now;
+  subsequent_indent = o.subsequent_indent.now;
+  break_words = says_yes o.break_words;
+  preserve_trailing_space = says_yes o.preserve_trailing_space;
+  even_paragraphs = says_yes o.even_paragraphs;
+}
+
+-- the version is known, and each number means something
+pub record AreKnown (o : TextwrapOptions) : Type 0 where
+  pub version : o.version ≡ 1
+  pub optimal_fit : o.optimal_fit ≤ 1
+  pub split_at_hyphens : o.split_at_hyphens ≤ 1
+  pub break_words : o.break_words ≤ 1
+  pub preserve_trailing_space : o.preserve_trailing_space ≤ 1
+  pub even_paragraphs : o.even_paragraphs ≤ 1
+  pub crlf : o.crlf ≤ 1
+  pub reserved : o.reserved ≡ 0
+  pub reserved_sizes : o.reserved_sizes ≡ 0 ∷ 0 ∷ 0 ∷ 0 ∷ []
+
+-- the indents are texts
+pub record AreTexts (o : TextwrapOptions) : Type 0 where
+  pub initial : IsUtf8 o.initial_indent.now
+  pub subsequent : IsUtf8 o.subsequent_indent.now

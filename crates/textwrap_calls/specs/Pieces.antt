@@ -1,0 +1,23 @@
+-- What is reported of words and pieces, and the offsets that a line may be cut at.
+use Rattle.std.specs.Prelude.{ℕ, ◌+◌, List, [], ◌∷◌, All, length, IsCharBoundary}
+use Rattle.std.specs.List.Sorted.{IsStrictlyIncreasing}
+use Rattle.textwrap_words.specs.Words.{WordText}
+use Rattle.textwrap_calls.specs.declared.pieces.TextwrapPiece.{TextwrapPiece}
+
+-- where words stand, one after another, the first of them at the place
+abbrev pub piece_places : ℕ → List WordText → List TextwrapPiece
+piece_places at [] = []
+piece_places at (w ∷ ws) =
+    record {
+      offset = at;
+      len = length w.word;
+      whitespace_len = length w.whitespace;
+      penalty_len = length w.penalty;
+      width = w.width;
+    }
+    ∷ piece_places (at + length w.word + length w.whitespace) ws
+
+-- the offsets increase, and are character boundaries of the text
+pub record AreOffsets (text offsets : List ℕ) : Type 0 where
+  pub increasing : IsStrictlyIncreasing offsets
+  pub boundaries : All (IsCharBoundary text) offsets

@@ -1,0 +1,43 @@
+-- The texts of a table and its columns, as C has them.
+use Rattle.std.specs.Prelude.{◌≡◌, ◌≤◌, List, All}
+use Rattle.textwrap_calls.specs.Columns.{AreTextGaps}
+use Rattle.textwrap_calls.specs.Display.{alignment_of}
+use Rattle.textwrap_calls.specs.Options.{AreKnown, AreTexts, settings_of, splitter_of, algorithm_of}
+use Rattle.textwrap_calls.specs.Texts.{IsText}
+use Rattle.textwrap_calls.specs.declared.columns.TextwrapGaps.{TextwrapGaps}
+use Rattle.textwrap_calls.specs.declared.tables.TextwrapColumn.{TextwrapColumn}
+use Rattle.textwrap_calls.specs.declared.texts.TextwrapText.{TextwrapText}
+use Rattle.textwrap_display.specs.Tables.{ColumnParts, RowGaps}
+
+-- what a column is made of
+abbrev pub parts_of_column : TextwrapColumn → ColumnParts
+parts_of_column column = record {
+  settings = settings_of column.options;
+  splitter = splitter_of column.options;
+  algorithm = algorithm_of column.options;
+  alignment = alignment_of column.alignment;
+}
+
+-- its options are known, and each number means something
+pub record IsKnownColumn (column : TextwrapColumn) : Type 0 where
+  pub options : AreKnown column.options
+  pub alignment : column.alignment ≤ 2
+  pub reserved : column.reserved ≡ 0
+
+-- its indents are texts
+pub record HasTexts (column : TextwrapColumn) : Type 0 where
+  pub indents : AreTexts column.options
+
+-- the cells, the indents of the columns and the gaps are texts
+pub record AreTableTexts (cells : List TextwrapText) (columns : List TextwrapColumn)
+    (gaps : TextwrapGaps) : Type 0 where
+  pub cells_are : All IsText cells
+  pub columns_are : All HasTexts columns
+  pub gaps_are : AreTextGaps gaps
+
+abbrev pub row_gaps : TextwrapGaps → RowGaps
+row_gaps gaps = record {
+  left = gaps.left.now;
+  middle = gaps.middle.now;
+  right = gaps.right.now;
+}

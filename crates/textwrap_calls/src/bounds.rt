@@ -1,0 +1,152 @@
+//! How much room an answer takes at most, by the length of its text, so that a caller can bring the
+//! room at the first call. A bound that no number holds is `usize::MAX`.
+ghost use Rattle.std.specs.Prelude.{◌≡◌, ◌≤◌, ◌+◌, ◌-◌, ◌*◌, max, length};
+ghost use Rattle.textwrap.specs.Filling.{IsFilled};
+ghost use Rattle.textwrap.specs.Paragraph.{DividesAs};
+ghost use Rattle.textwrap.specs.Indentation.{dedented, indented};
+ghost use Rattle.textwrap.specs.Refilling.{IsRefilled};
+ghost use Rattle.textwrap_calls.specs.Bounds.{ForLinesOf, ForTextsOf, HoldsEach, Suffices, capped};
+ghost use Rattle.textwrap_calls.specs.Bounds.{ForRowsOf, columns_room_bound, fill_bound, indent_bound};
+ghost use Rattle.textwrap_calls.specs.Bounds.{refill_bound, rows_bound, wrap_room_bound};
+ghost use Rattle.textwrap_calls.specs.Options.{settings_of, splitter_of, algorithm_of};
+ghost use Rattle.textwrap_calls.specs.Refilling.{unfilled_parts};
+ghost use Rattle.textwrap_calls.specs.declared.columns.TextwrapGaps.{TextwrapGaps};
+ghost use Rattle.textwrap_calls.specs.declared.options.TextwrapOptions.{TextwrapOptions};
+ghost use Rattle.textwrap_lines.specs.Places.{built_text};
+
+use crate::columns::TextwrapGaps;
+use crate::options::TextwrapOptions;
+
+/// How many bytes `textwrap_fill` writes at most for a text of so many bytes: 13 for a text of 5 with
+/// indents of 3 and 0 bytes.
+pub fn textwrap_fill_bound(text_len: usize, options: &TextwrapOptions<'_>) -> usize
+    ensures value { result ≡ capped (fill_bound (settings_of options.now) text_len) }
+    ensures enough { ForTextsOf text_len (λ text. HoldsEach (IsFilled (settings_of options.now)
+        (DividesAs (splitter_of options.now) (algorithm_of options.now) (settings_of options.now))
+        text) result) }
+{
+    // A byte, and the ending of the line before it.
+    let byte_and_ending: usize = if options.crlf == 0 { 2 } else { 3 };
+    let line = byte_and_ending.saturating_add(options.subsequent_indent.len());
+    text_len
+        .saturating_mul(line)
+        .saturating_add(options.initial_indent.len())
+}
+
+/// How many bytes `textwrap_refill` writes at most for a text of so many bytes: 40 for a text of 5. It
+/// grows with the square of the length, as an indent of the text may be half of it, and stand before
+/// each byte of the other half. So two calls are cheaper for a long text.
+pub fn textwrap_refill_bound(text_len: usize, options: &TextwrapOptions<'_>) -> usize
+    ensures value { result ≡ capped (refill_bound (settings_of options.now) text_len) }
+    ensures enough { ForTextsOf text_len (λ text. HoldsEach (IsRefilled (settings_of options.now)
+        (DividesAs (splitter_of options.now) (algorithm_of options.now)) text) result) }
+{
+    // The ending before each byte, the byte, and one of the initial indent; the rest is the later one.
+    let beside_indent: usize = if options.crlf == 0 { 3 } else { 4 };
+    text_len.saturating_mul(text_len.saturating_add(beside_indent))
+}
+
+/// How many lines `textwrap_wrap` reports at most of a text of so many bytes, under any options: one
+/// more than it has bytes.
+pub fn textwrap_wrap_lines_bound(text_len: usize) -> usize
+    ensures value { result ≡ capped (text_len + 1) }
+    ensures enough { (options : TextwrapOptions) → ForTextsOf text_len (λ text.
+        ForLinesOf options text (λ lines. Suffices result (length lines))) }
+{
+    text_len.saturating_add(1)
+}
+
+/// How many bytes `textwrap_wrap` writes at most to the room for a text of so many bytes: none without
+/// indents, and 18 for a text of 5 with indents of 3 and 2 bytes.
+pub fn textwrap_wrap_room_bound(text_len: usize, options: &TextwrapOptions<'_>) -> usize
+    ensures value { result ≡ capped (wrap_room_bound (settings_of options.now) text_len) }
+    ensures enough { ForTextsOf text_len (λ text. ForLinesOf options.now text
+        (λ lines. Suffices result (length (built_text lines)))) }
+{
+    if options.initial_indent.is_empty() && options.subsequent_indent.is_empty() {
+        return 0;
+    }
+    bytes_and_indents(text_len, options)
+}
+
+/// How many rows `textwrap_wrap_columns` writes at most of a text of so many bytes, in so many columns:
+/// 4 of 7 in 2. No columns have no rows.
+pub fn textwrap_wrap_columns_rows_bound(text_len: usize, columns: usize) -> usize
+    ensures value { result ≡ capped (rows_bound text_len columns) }
+    ensures enough { 1 ≤ columns → (options : TextwrapOptions) (gaps : TextwrapGaps)
+        → ForTextsOf text_len (λ text. ForRowsOf options gaps columns text
+        (λ rows. Suffices result (length rows))) }
+{
+    if columns == 0 {
+        return 0;
+    }
+    (text_len / columns).saturating_add(1)
+}
+
+/// How many bytes `textwrap_wrap_columns` writes at most to the room: 44 for a text of 5 in 2 columns at
+/// a width of 10, with gaps of one byte each and no indents.
+pub fn textwrap_wrap_columns_room_bound(
+    text_len: usize,
+    columns: usize,
+    options: &TextwrapOptions<'_>,
+    gaps: &TextwrapGaps<'_>,
+) -> usize
+    ensures value { result ≡ capped (columns_room_bound options.now gaps.now text_len columns) }
+    ensures enough { 1 ≤ columns → ForTextsOf text_len (λ text. ForRowsOf options.now gaps.now
+        columns text (λ rows. Suffices result (length (built_text rows)))) }
+{
+    textwrap_wrap_columns_rows_bound(text_len, columns)
+        .saturating_mul(gaps_and_columns(columns, options.width, gaps))
+        .saturating_add(bytes_and_indents(text_len, options))
+}
+
+/// The gaps of a row, and the columns that its cells are filled up to.
+fn gaps_and_columns(columns: usize, width: usize, gaps: &TextwrapGaps<'_>) -> usize
+    ensures { result ≡ capped (length gaps.now.left.now + length gaps.now.right.now
+        + (columns - 1) * length gaps.now.middle.now + max width columns) }
+{
+    columns
+        .saturating_sub(1)
+        .saturating_mul(gaps.middle.len())
+        .saturating_add(gaps.left.len())
+        .saturating_add(gaps.right.len())
+        .saturating_add(width.max(columns))
+}
+
+/// The bytes of a text, each on a line of its own, and the indents of all these lines.
+fn bytes_and_indents(text_len: usize, options: &TextwrapOptions<'_>) -> usize
+    ensures { result ≡ capped (length options.now.initial_indent.now
+        + text_len * (1 + length options.now.subsequent_indent.now)) }
+{
+    let line = 1_usize.saturating_add(options.subsequent_indent.len());
+    text_len
+        .saturating_mul(line)
+        .saturating_add(options.initial_indent.len())
+}
+
+/// How many bytes `textwrap_indent` writes at most for a text and a prefix of so many bytes: 15 for 5
+/// and 2.
+pub fn textwrap_indent_bound(text_len: usize, prefix_len: usize) -> usize
+    ensures value { result ≡ capped (indent_bound text_len prefix_len) }
+    ensures enough { ForTextsOf prefix_len (λ prefix. ForTextsOf text_len (λ text.
+        Suffices result (length (indented prefix text)))) }
+{
+    text_len.saturating_mul(prefix_len.saturating_add(1))
+}
+
+/// How many bytes `textwrap_dedent` writes at most for a text of so many bytes: no more.
+pub fn textwrap_dedent_bound(text_len: usize) -> usize
+    ensures value { result ≡ text_len }
+    ensures enough { ForTextsOf text_len (λ text. length (dedented text) ≤ result) }
+{
+    text_len
+}
+
+/// How many bytes `textwrap_unfill` writes at most for a text of so many bytes, the indents among them:
+/// twice as many. Of 10 for a line feed and four blanks, it writes 8.
+pub fn textwrap_unfill_bound(text_len: usize) -> usize
+    ensures value { result ≡ capped (2 * text_len) }
+    ensures enough { ForTextsOf text_len (λ text. Suffices result (length (unfilled_parts text))) }
+{
+    text_len.saturating_mul(2)
+}

@@ -1,0 +1,83 @@
+//! Filling a text.
+ghost use Rattle.std.specs.Prelude.{◌≡◌, ◌≢◌, ◌≤◌, ◌↔◌, ◌⊎◌, IsUtf8, IfOk, IfErr, length, string_bytes};
+ghost use Rattle.textwrap.specs.Filling.{IsFilled};
+ghost use Rattle.textwrap.specs.InPlace.{IsFilledInPlace};
+ghost use Rattle.textwrap.specs.Paragraph.{DividesAs};
+ghost use Rattle.textwrap_calls.specs.Options.{settings_of, splitter_of, algorithm_of, AreKnown};
+ghost use Rattle.textwrap_calls.specs.Options.{AreTexts};
+ghost use Rattle.textwrap_calls.specs.Room.{WritesText};
+ghost use Rattle.textwrap_calls.specs.Status.{done, not_utf8, out_of_memory, unknown_options};
+
+use crate::options::{TextwrapOptions, read_options};
+use crate::room::put;
+use crate::status::{DONE, NOT_UTF8, OUT_OF_MEMORY};
+use simdutf8::basic::from_utf8;
+use std::alloc::Global;
+use textwrap::{fill, fill_inplace};
+
+/// Writes the filled text to the front of the room, and its length to `len`. Where the room is too
+/// short the length alone is written, so that a second call can bring the room.
+pub fn textwrap_fill(
+    alloc: Global,
+    text: &[u8],
+    options: &TextwrapOptions<'_>,
+    room: &mut [u8],
+    len: &mut usize,
+) -> u32
+    ensures filled { WritesText (IsFilled (settings_of options.now) (DividesAs
+        (splitter_of options.now) (algorithm_of options.now) (settings_of options.now)) text.now)
+        result room.old room.new len.old len.new }
+    ensures unknown { result ≡ unknown_options ↔ ¬ AreKnown options.now }
+    ensures not_utf8 { result ≡ not_utf8 ↔ AreKnown options.now
+        × ¬ (IsUtf8 text.now × AreTexts options.now) }
+    ensures statuses { result ≤ unknown_options }
+{
+    let options = match read_options(options) {
+        Ok(options) => options,
+        Err(status) => return status,
+    };
+    let Ok(text) = from_utf8(text) else {
+        return NOT_UTF8;
+    };
+    match fill(alloc, text, options) {
+        Ok(filled) => put(filled.as_bytes(), room, len),
+        Err(_) => OUT_OF_MEMORY,
+    }
+}
+
+/// Fills a text in its own place: blanks of it become line feeds. It answers `DONE`, `NOT_UTF8` or
+/// `OUT_OF_MEMORY`, and but for `DONE` the text is as it was.
+pub fn textwrap_fill_inplace(alloc: Global, text: &mut [u8], width: usize) -> u32
+    ensures filled { result ≡ done → IsFilledInPlace width text.old text.new }
+    ensures kept { result ≢ done → text.new ≡ text.old }
+    ensures not_utf8 { result ≡ not_utf8 ↔ ¬ IsUtf8 text.old }
+    ensures statuses { result ≤ out_of_memory }
+{
+    match filled_in_place(alloc, text, width) {
+        Ok(filled) => {
+            text.copy_from_slice(filled.as_bytes());
+            DONE
+        }
+        Err(status) => status,
+    }
+}
+
+/// A copy of the text, filled in its place.
+fn filled_in_place(alloc: Global, text: &[u8], width: usize) -> Result<String, u32>
+    ensures filled { IfOk result (λ filled. IsFilledInPlace width text.now (string_bytes filled)) }
+    ensures len { IfOk result (λ filled. length (string_bytes filled) ≡ length text.now) }
+    ensures utf8 { IfOk result (λ _. IsUtf8 text.now) }
+    ensures refused { IfErr result (λ status. ((status ≡ not_utf8) × ¬ IsUtf8 text.now)
+        ⊎ ((status ≡ out_of_memory) × IsUtf8 text.now)) }
+{
+    let Ok(text) = from_utf8(text) else {
+        return Err(NOT_UTF8);
+    };
+    let Ok(mut filled) = String::from_str(alloc, text) else {
+        return Err(OUT_OF_MEMORY);
+    };
+    match fill_inplace(alloc, &mut filled, width) {
+        Ok(()) => Ok(filled),
+        Err(_) => Err(OUT_OF_MEMORY),
+    }
+}

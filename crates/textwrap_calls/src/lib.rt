@@ -1,0 +1,28 @@
+//! The calls of `textwrap` for callers in C, and in all languages that call C.
+//!
+//! Each takes bytes as a slice, which C has as a pointer and a length, and answers a status, one of
+//! those of [`status`]. What it gives is written into room that the caller lends, and nothing that was
+//! allocated is left behind. A call that does not answer `DONE` leaves the room as it was.
+//! `textwrap_c` exports each call under its name.
+#![tactic(auto)]
+
+pub mod bounds;
+pub mod breaks;
+pub mod columns;
+pub mod display;
+pub mod filling;
+pub mod fragments;
+pub mod indentation;
+pub mod line_lists;
+pub mod options;
+pub mod pieces;
+pub mod refilling;
+mod reported;
+mod room;
+pub mod status;
+pub mod steps;
+pub mod tables;
+pub mod texts;
+pub mod version;
+pub mod widths;
+pub mod wrapping;

@@ -1,0 +1,11 @@
+mod alone;
+mod bounds;
+mod fragments;
+mod large;
+mod large_lists;
+mod lines;
+mod pieces;
+mod places;
+mod plain;
+mod steps;
+mod texts;

@@ -1,0 +1,251 @@
+//! Large lists: of texts, of places in a paragraph, and of fragments.
+use super::fragments::PENALTIES;
+use super::large::{
+    HALF, LEN, LINE, LINES, Told, assert_told_twice, last_piece, write_lines_twice,
+};
+use super::plain::{
+    AT_80, BARS, BEFORE, DEFAULTS, LinesCall, NOWHERE, OffsetsCall, PiecesCall, assert_told,
+    write_lines, write_offsets,
+};
+use std::alloc::{AllocError, Global};
+use std::test::Fail;
+use textwrap_calls::fragments::TextwrapFragment;
+use textwrap_calls::options::TextwrapOptions;
+use textwrap_calls::status::{DONE, TOO_SMALL};
+use textwrap_calls::tables::TextwrapColumn;
+use textwrap_calls::texts::TextwrapText;
+use textwrap_calls::wrapping::TextwrapLine;
+
+/// A line of the large text.
+const TEXT: TextwrapText<'_> = TextwrapText {
+    bytes: b"foo bar baz",
+};
+
+/// The defaults at the width of a line.
+const AT_11: TextwrapOptions<'_> = TextwrapOptions {
+    width: 11,
+    ..DEFAULTS
+};
+
+/// All lines but the last one, which leaves the one before it cut.
+fn shortened_lines(alloc: Global) -> Result<Told, AllocError> {
+    let lines = vec![in alloc; TEXT; LINES]?;
+    let call = LinesCall::ShortenLines {
+        lines: &lines,
+        most: LINES - 1,
+        width: 10,
+        placeholder: b"+++",
+    };
+    write_lines_twice(alloc, call, b"", LINES)
+}
+
+/// Lines in pairs, with a style that is on from the start of the first to the end of the second.
+fn styled_lines(alloc: Global) -> Result<Vec<TextwrapText<'static>>, AllocError> {
+    let mut lines = Vec::with_capacity(alloc, LINES)?;
+    for _ in 0..HALF {
+        lines.push(TextwrapText {
+            bytes: b"\x1b[1mfoo",
+        })?;
+        lines.push(TextwrapText {
+            bytes: b"bar\x1b[m",
+        })?;
+    }
+    Ok(lines)
+}
+
+/// These lines, each by itself.
+fn carried(alloc: Global) -> Result<Told, AllocError> {
+    let lines = styled_lines(alloc)?;
+    let call = LinesCall::CarryStyles {
+        lines: &lines,
+        options: AT_11,
+    };
+    write_lines_twice(alloc, call, b"", LINES)
+}
+
+/// Columns of a line's width, whose lines stand at the left and at the right.
+const COLUMNS: &[TextwrapColumn<'_>] = &[
+    TextwrapColumn {
+        options: AT_11,
+        alignment: 0,
+        reserved: 0,
+    },
+    TextwrapColumn {
+        options: AT_11,
+        alignment: 1,
+        reserved: 0,
+    },
+];
+
+/// The lines in two columns, with a bar beside each.
+fn table(alloc: Global) -> Result<Told, AllocError> {
+    let cells = vec![in alloc; TEXT; LINES]?;
+    let call = LinesCall::Table {
+        cells: &cells,
+        columns: COLUMNS,
+        gaps: BARS,
+    };
+    write_lines_twice(alloc, call, b"", HALF)
+}
+
+#[test]
+fn a_large_list_is_shortened_carried_and_laid_out(rt: HostRuntime) -> Result<(), Fail> {
+    let told = shortened_lines(rt.alloc())?;
+    assert_told_twice(&rt, 0, told, 11 * (LINES - 2) + 10);
+    let told = carried(rt.alloc())?;
+    assert_told_twice(&rt, 1, told, 21 * HALF);
+    let told = table(rt.alloc())?;
+    assert_told_twice(&rt, 2, told, 25 * HALF);
+    Ok(())
+}
+
+/// The first so many multiples of a number.
+fn multiples(alloc: Global, most: usize, step: usize) -> Result<Vec<usize>, AllocError> {
+    let mut numbers = Vec::new(alloc);
+    let mut number: usize = 0;
+    for _ in 0..most {
+        number = number.saturating_add(step);
+        numbers.push(number)?;
+    }
+    Ok(numbers)
+}
+
+/// What is told of the pieces of a text at cuts after each of its lines but the last, and at these
+/// points; and where the last piece stands.
+fn pieces_in_steps(
+    alloc: Global,
+    text: &[u8],
+    points: &[usize],
+) -> Result<((u32, usize), usize), AllocError> {
+    let cuts = multiples(alloc, LINES - 1, LINE.len())?;
+    let call = PiecesCall::PiecesAt {
+        cuts: &cuts,
+        points,
+        options: AT_80,
+    };
+    let (told, last) = last_piece(alloc, call, text, LINES)?;
+    Ok((told, last.offset))
+}
+
+/// What is told of the lines and of the room, and where the tenth line stands.
+type LinesTold = ((u32, usize, usize), (usize, usize));
+
+/// The same of the lines of a text, with a piece in each.
+fn tenth_line(
+    alloc: Global,
+    text: &[u8],
+    cuts: &[usize],
+    ends: &[usize],
+) -> Result<LinesTold, AllocError> {
+    let call = LinesCall::LinesAt {
+        cuts,
+        points: &[],
+        ends,
+        options: AT_80,
+        is_later: 1,
+    };
+    let mut lines = vec![in alloc; NOWHERE; LINES]?;
+    let (mut count, mut len) = (BEFORE, BEFORE);
+    let status = write_lines(alloc, call, text, &mut lines, &mut count, &mut [], &mut len);
+    Ok(((status, count, len), place_at(&lines, 9)))
+}
+
+/// Where a line stands.
+fn place_at(lines: &[TextwrapLine], at: usize) -> (usize, usize) {
+    match lines.get(at) {
+        Some(line) => (line.offset, line.len),
+        None => (BEFORE, BEFORE),
+    }
+}
+
+/// The lines that end after each piece.
+fn lines_in_steps(alloc: Global, text: &[u8]) -> Result<LinesTold, AllocError> {
+    let cuts = multiples(alloc, LINES - 1, LINE.len())?;
+    let ends = multiples(alloc, LINES, 1)?;
+    tenth_line(alloc, text, &cuts, &ends)
+}
+
+#[test]
+fn a_large_paragraph_has_pieces_in_steps(rt: HostRuntime) -> Result<(), Fail> {
+    let text = LINE.repeat(rt.alloc(), LINES)?;
+    let (told, _) = pieces_in_steps(rt.alloc(), text.as_bytes(), &[2])?;
+    assert_told(&rt, 0, told, (TOO_SMALL, LINES + 1));
+    let (told, last) = pieces_in_steps(rt.alloc(), text.as_bytes(), &[])?;
+    assert_told(&rt, 1, told, (DONE, LINES));
+    assert_eq!(rt; last, LEN - LINE.len());
+    Ok(())
+}
+
+#[test]
+fn a_large_paragraph_has_lines_in_steps(rt: HostRuntime) -> Result<(), Fail> {
+    let text = LINE.repeat(rt.alloc(), LINES)?;
+    let (told, tenth) = lines_in_steps(rt.alloc(), text.as_bytes())?;
+    assert_eq!(rt; told, (DONE, LINES, 0));
+    assert_eq!(rt; tenth, (9 * LINE.len(), LINE.len()));
+    Ok(())
+}
+
+/// The status, how many offsets are told, and the one at a place among so many.
+fn offset_at(
+    alloc: Global,
+    call: OffsetsCall<'_>,
+    most: usize,
+    at: usize,
+) -> Result<((u32, usize), usize), AllocError> {
+    let mut offsets = vec![in alloc; 0; most]?;
+    let mut count = BEFORE;
+    let status = write_offsets(alloc, call, &mut offsets, &mut count);
+    let offset = match offsets.get(at) {
+        Some(offset) => *offset,
+        None => BEFORE,
+    };
+    Ok(((status, count), offset))
+}
+
+/// The points of a word of so many hyphens.
+fn many_points(alloc: Global) -> Result<((u32, usize), usize), AllocError> {
+    let hyphens = "a-".repeat(alloc, LINES)?;
+    offset_at(
+        alloc,
+        OffsetsCall::SplitPoints(hyphens.as_bytes()),
+        LINES,
+        9,
+    )
+}
+
+/// Fragments of width 1, and lines of 10 of them.
+const ONE: TextwrapFragment = TextwrapFragment {
+    width: 1,
+    whitespace_width: 0,
+    penalty_width: 0,
+    break_penalty: 0,
+};
+
+/// The last end of lines of many fragments, by first fit and by least cost.
+fn many_ends(alloc: Global) -> Result<(((u32, usize), usize), ((u32, usize), usize)), AllocError> {
+    let fragments = vec![in alloc; ONE; 100_000]?;
+    let first_fit = OffsetsCall::FirstFit {
+        fragments: &fragments,
+        line_widths: &[10],
+    };
+    let greedy = offset_at(alloc, first_fit, 10_000, 9_999)?;
+    let optimal_fit = OffsetsCall::OptimalFit {
+        fragments: &fragments,
+        line_widths: &[10],
+        penalties: PENALTIES,
+    };
+    let cheapest = offset_at(alloc, optimal_fit, 10_000, 9_999)?;
+    Ok((greedy, cheapest))
+}
+
+#[test]
+fn many_points_and_ends_are_found(rt: HostRuntime) -> Result<(), Fail> {
+    let (told, tenth) = many_points(rt.alloc())?;
+    assert_told(&rt, 0, told, (DONE, LINES - 1));
+    assert_eq!(rt; tenth, 20);
+    let (greedy, cheapest) = many_ends(rt.alloc())?;
+    assert_told(&rt, 1, greedy.0, (DONE, 10_000));
+    assert_told(&rt, 2, cheapest.0, (DONE, 10_000));
+    assert_eq!(rt; (greedy.1, cheapest.1), (100_000, 100_000));
+    Ok(())
+}

@@ -1,0 +1,293 @@
+//! Lines and rows: where they stand in the text or in the room.
+use super::places::{LinesRow, NONE, assert_lines};
+use super::plain::{AT_4, AT_5, AT_6, BARS, BEFORE, DEFAULTS, LinesCall};
+use textwrap_calls::options::TextwrapOptions;
+use textwrap_calls::status::{DONE, NOT_UTF8, TOO_SMALL, UNKNOWN_OPTIONS};
+use textwrap_calls::tables::TextwrapColumn;
+use textwrap_calls::texts::TextwrapText;
+
+/// A line is a slice of the text, or with an indent a text of its own in the room. Where the lines are
+/// too few their number is told.
+const PLACES: &[LinesRow] = &[
+    (
+        LinesCall::Wrap(TextwrapOptions {
+            subsequent_indent: b"> ",
+            ..AT_5
+        }),
+        b"foo  bar",
+        (DONE, 2, 5),
+        &[(0, 3, 0), (0, 5, 1), NONE],
+        b"> bar___",
+    ),
+    (
+        LinesCall::Wrap(AT_5),
+        b"foo  bar",
+        (TOO_SMALL, 2, 0),
+        &[NONE],
+        b"",
+    ),
+    (
+        LinesCall::Wrap(AT_5),
+        b"foo  bar",
+        (DONE, 2, 0),
+        &[(0, 3, 0), (5, 3, 0), NONE],
+        b"",
+    ),
+    // The second line is no part of the first one, which is a text of its own.
+    (
+        LinesCall::Wrap(TextwrapOptions {
+            initial_indent: b"* ",
+            ..AT_6
+        }),
+        b"foo foo",
+        (DONE, 2, 5),
+        &[(0, 5, 1), (4, 3, 0), NONE],
+        b"* foo___",
+    ),
+    // The empty line stands at its own paragraph, and not behind the line before it.
+    (
+        LinesCall::Wrap(DEFAULTS),
+        b"foo  \n\n  \nbar",
+        (DONE, 4, 0),
+        &[(0, 3, 0), (6, 0, 0), (7, 0, 0), (10, 3, 0)],
+        b"",
+    ),
+    // A line that is a line feed or a carriage return alone is not the one in the ending before it.
+    (
+        LinesCall::Wrap(TextwrapOptions {
+            crlf: 1,
+            ..DEFAULTS
+        }),
+        b"a\r\n\n\r\n\r\r\nb",
+        (DONE, 4, 0),
+        &[(0, 1, 0), (3, 1, 0), (6, 1, 0), (9, 1, 0)],
+        b"",
+    ),
+];
+
+/// Blanks at line ends are kept, with an indent of the first line.
+const PRESERVED: TextwrapOptions<'_> = TextwrapOptions {
+    optimal_fit: 0,
+    preserve_trailing_space: 1,
+    initial_indent: b"* ",
+    width: 7,
+    ..DEFAULTS
+};
+
+/// Blanks that are preserved are part of the line before, also of a built one.
+const BLANKS: &[LinesRow] = &[
+    (
+        LinesCall::Wrap(PRESERVED),
+        b"foo bar  baz\nqux qux",
+        (DONE, 5, 6),
+        &[(0, 6, 1), (4, 5, 0), (9, 3, 0), (13, 4, 0), (17, 3, 0)],
+        b"* foo __",
+    ),
+    (
+        LinesCall::Wrap(TextwrapOptions {
+            even_paragraphs: 1,
+            ..PRESERVED
+        }),
+        b"foo bar  baz\nqux qux",
+        (DONE, 4, 6),
+        &[(0, 6, 1), (4, 5, 0), (9, 3, 0), (13, 7, 0), NONE],
+        b"* foo __",
+    ),
+];
+
+#[test]
+fn lines_are_places_in_the_text_or_in_the_room(rt: HostRuntime) {
+    assert_lines(&rt, PLACES);
+    assert_lines(&rt, BLANKS);
+}
+
+/// The defaults at 24 columns.
+const AT_24: TextwrapOptions<'_> = TextwrapOptions {
+    width: 24,
+    ..DEFAULTS
+};
+
+/// A text in columns. No columns at all are refused.
+const IN_COLUMNS: &[LinesRow] = &[
+    (
+        LinesCall::Columns {
+            columns: 0,
+            options: AT_24,
+            gaps: BARS,
+        },
+        b"Foo Bar Baz Quux",
+        (UNKNOWN_OPTIONS, BEFORE, BEFORE),
+        &[NONE, NONE],
+        b"________________________________",
+    ),
+    (
+        LinesCall::Columns {
+            columns: 4,
+            options: AT_24,
+            gaps: BARS,
+        },
+        b"Foo Bar Baz Quux",
+        (DONE, 1, 24),
+        &[(0, 24, 1), NONE],
+        b"|Foo |Bar |Baz |Quux   |________",
+    ),
+];
+
+/// Lines of which the first leaves a style open.
+const STYLED: &[TextwrapText<'_>] = &[
+    TextwrapText {
+        bytes: b"\x1b[1mone",
+    },
+    TextwrapText { bytes: b"two" },
+];
+
+/// The same, with one line more.
+const STYLED_AND_ONE: &[TextwrapText<'_>] = &[
+    TextwrapText {
+        bytes: b"\x1b[1mone",
+    },
+    TextwrapText { bytes: b"two" },
+    TextwrapText { bytes: b"three" },
+];
+
+/// Lines are left out, and styles carried.
+const LISTS: &[LinesRow] = &[
+    (
+        LinesCall::ShortenLines {
+            lines: STYLED_AND_ONE,
+            most: 2,
+            width: 6,
+            placeholder: b"...",
+        },
+        b"",
+        (DONE, 2, 13),
+        &[(0, 7, 1), (7, 6, 1)],
+        b"\x1b[1monetwo...___________________",
+    ),
+    (
+        LinesCall::CarryStyles {
+            lines: STYLED,
+            options: AT_6,
+        },
+        b"",
+        (DONE, 2, 22),
+        &[(0, 11, 1), (11, 11, 1)],
+        b"\x1b[1mone\x1b[0m\x1b[1mtwo\x1b[0m__________",
+    ),
+];
+
+#[test]
+fn a_text_stands_in_columns_and_lists_are_cut_and_styled(rt: HostRuntime) {
+    assert_lines(&rt, IN_COLUMNS);
+    assert_lines(&rt, LISTS);
+}
+
+/// A column of 4 whose lines stand at the left.
+const LEFT: TextwrapColumn<'_> = TextwrapColumn {
+    options: AT_4,
+    alignment: 0,
+    reserved: 0,
+};
+
+/// Columns of 4 and 5, whose lines stand at the left and at the right.
+const COLUMNS: &[TextwrapColumn<'_>] = &[
+    LEFT,
+    TextwrapColumn {
+        options: AT_5,
+        alignment: 1,
+        reserved: 0,
+    },
+];
+
+/// Texts in two columns, the last of them alone.
+const CELLS: &[TextwrapText<'_>] = &[
+    TextwrapText { bytes: b"foo bar" },
+    TextwrapText { bytes: b"1.5" },
+    TextwrapText { bytes: b"baz" },
+];
+
+/// A cell that is no text.
+const NO_TEXT: &[TextwrapText<'_>] = &[TextwrapText { bytes: b"\xff" }];
+
+/// Texts stand in their columns, where there is room. A column that is not known is refused before a
+/// cell that is no text.
+const TABLES: &[LinesRow] = &[
+    (
+        LinesCall::Table {
+            cells: CELLS,
+            columns: COLUMNS,
+            gaps: BARS,
+        },
+        b"",
+        (TOO_SMALL, 3, 36),
+        &[NONE, NONE, NONE],
+        b"___________________________________",
+    ),
+    (
+        LinesCall::Table {
+            cells: CELLS,
+            columns: COLUMNS,
+            gaps: BARS,
+        },
+        b"",
+        (DONE, 3, 36),
+        &[(0, 12, 1), (12, 12, 1), (24, 12, 1)],
+        b"|foo |  1.5||bar |     ||baz |     |",
+    ),
+    (
+        LinesCall::Table {
+            cells: NO_TEXT,
+            columns: &[
+                LEFT,
+                TextwrapColumn {
+                    alignment: 3,
+                    ..LEFT
+                },
+            ],
+            gaps: BARS,
+        },
+        b"",
+        (UNKNOWN_OPTIONS, BEFORE, BEFORE),
+        &[NONE],
+        b"________________",
+    ),
+    (
+        LinesCall::Table {
+            cells: NO_TEXT,
+            columns: &[
+                LEFT,
+                TextwrapColumn {
+                    reserved: 1,
+                    ..LEFT
+                },
+            ],
+            gaps: BARS,
+        },
+        b"",
+        (UNKNOWN_OPTIONS, BEFORE, BEFORE),
+        &[NONE],
+        b"________________",
+    ),
+    (
+        LinesCall::Table {
+            cells: NO_TEXT,
+            columns: &[
+                LEFT,
+                TextwrapColumn {
+                    alignment: 2,
+                    ..LEFT
+                },
+            ],
+            gaps: BARS,
+        },
+        b"",
+        (NOT_UTF8, BEFORE, BEFORE),
+        &[NONE],
+        b"________________",
+    ),
+];
+
+#[test]
+fn texts_stand_in_their_columns_of_a_table(rt: HostRuntime) {
+    assert_lines(&rt, TABLES);
+}

@@ -1,0 +1,120 @@
+//! Rows of calls that write lines, pieces or offsets, and the assertions of them.
+use super::plain::{
+    BEFORE, BLANK, LinesCall, NO_PIECE, NOWHERE, OffsetsCall, PiecesCall, assert_holds,
+    assert_room, assert_told, write_lines, write_offsets, write_pieces,
+};
+use std::process::Abort;
+use textwrap_calls::pieces::TextwrapPiece;
+use textwrap_calls::wrapping::TextwrapLine;
+
+/// How many lines, pieces or offsets the longest row has.
+const MOST: usize = 8;
+
+/// How much room the longest row has.
+const MOST_ROOM: usize = 64;
+
+/// A line as a row has it: its offset, its length, and whether it is built.
+pub(super) type LinePlace = (usize, usize, usize);
+
+/// A line that was not written.
+pub(super) const NONE: LinePlace = (99, 99, 99);
+
+/// A call and a text; the status, how many lines and how much room are told; all lines and the room
+/// afterwards.
+pub(super) type LinesRow = (
+    LinesCall<'static>,
+    &'static [u8],
+    (u32, usize, usize),
+    &'static [LinePlace],
+    &'static [u8],
+);
+
+/// Asserts what each row says.
+pub(super) fn assert_lines(rt: &(impl Abort + AllocGlobal), rows: &[LinesRow]) {
+    for (row, &(call, text, (status, count, len), places, expected)) in rows.iter().enumerate() {
+        let mut lines = [NOWHERE; MOST];
+        let lines = &mut lines[..places.len().min(MOST)];
+        let mut room = [BLANK; MOST_ROOM];
+        let room = &mut room[..expected.len().min(MOST_ROOM)];
+        let (mut found, mut told) = (BEFORE, BEFORE);
+        let answer = write_lines(rt.alloc(), call, text, lines, &mut found, room, &mut told);
+        assert_told(rt, row, (answer, found), (status, count));
+        assert_told(rt, row, (answer, told), (status, len));
+        assert_holds(rt, row, are_lines(lines, places));
+        assert_room(rt, row, room, expected);
+    }
+}
+
+/// Whether the lines are these.
+fn are_lines(lines: &[TextwrapLine], places: &[LinePlace]) -> bool {
+    for (line, place) in lines.iter().zip(places) {
+        if (line.offset, line.len, line.is_built) != *place {
+            return false;
+        }
+    }
+    lines.len() == places.len()
+}
+
+/// A piece as a row has it: its offset, its bytes, the blanks after it, its penalty and its columns.
+pub(super) type PiecePlace = (usize, usize, usize, usize, usize);
+
+/// A piece that was not written.
+pub(super) const NO_PLACE: PiecePlace = (99, 99, 99, 99, 99);
+
+/// A call and a text; the status, and how many pieces are told; all pieces afterwards.
+pub(super) type PiecesRow = (
+    PiecesCall<'static>,
+    &'static [u8],
+    (u32, usize),
+    &'static [PiecePlace],
+);
+
+/// Asserts what each row says.
+pub(super) fn assert_pieces(rt: &(impl Abort + AllocGlobal), rows: &[PiecesRow]) {
+    for (row, &(call, text, expected, places)) in rows.iter().enumerate() {
+        let mut pieces = [NO_PIECE; MOST];
+        let pieces = &mut pieces[..places.len().min(MOST)];
+        let mut count = BEFORE;
+        let status = write_pieces(rt.alloc(), call, text, pieces, &mut count);
+        assert_told(rt, row, (status, count), expected);
+        assert_holds(rt, row, are_pieces(pieces, places));
+    }
+}
+
+/// Whether the pieces are these.
+fn are_pieces(pieces: &[TextwrapPiece], places: &[PiecePlace]) -> bool {
+    for (piece, place) in pieces.iter().zip(places) {
+        if !is_piece(piece, *place) {
+            return false;
+        }
+    }
+    pieces.len() == places.len()
+}
+
+/// Whether the piece is this one.
+pub(super) fn is_piece(piece: &TextwrapPiece, place: PiecePlace) -> bool {
+    let (offset, len, whitespace_len, penalty_len, width) = place;
+    piece.offset == offset
+        && piece.len == len
+        && piece.whitespace_len == whitespace_len
+        && piece.penalty_len == penalty_len
+        && piece.width == width
+}
+
+/// An offset that was not written.
+pub(super) const NO_OFFSET: usize = 99;
+
+/// A call; the status, and how many offsets are told; all offsets afterwards.
+pub(super) type OffsetsRow = (OffsetsCall<'static>, (u32, usize), &'static [usize]);
+
+/// Asserts what each row says.
+pub(super) fn assert_offsets(rt: &(impl Abort + AllocGlobal), rows: &[OffsetsRow]) {
+    for (row, &(call, expected, places)) in rows.iter().enumerate() {
+        let mut offsets = [NO_OFFSET; MOST];
+        let offsets = &mut offsets[..places.len().min(MOST)];
+        let mut count = BEFORE;
+        let status = write_offsets(rt.alloc(), call, offsets, &mut count);
+        assert_told(rt, row, (status, count), expected);
+        assert_holds(rt, row, &*offsets == places);
+    }
+}

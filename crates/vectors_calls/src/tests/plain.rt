@@ -1,0 +1,353 @@
+//! What the tests share: options, the calls that write alike, and the assertions. A call is made here
+//! alone, in a function without clauses, so that no test has to prove what the call promises.
+use std::alloc::Global;
+use std::process::Abort;
+use textwrap_calls::breaks::textwrap_unicode_cuts;
+use textwrap_calls::columns::{TextwrapGaps, textwrap_wrap_columns};
+use textwrap_calls::display::{
+    textwrap_align, textwrap_fill_justified, textwrap_justify, textwrap_shorten,
+};
+use textwrap_calls::filling::textwrap_fill;
+use textwrap_calls::fragments::{
+    TextwrapFragment, TextwrapPenalties, textwrap_wrap_first_fit, textwrap_wrap_optimal_fit,
+};
+use textwrap_calls::indentation::{textwrap_dedent, textwrap_indent};
+use textwrap_calls::line_lists::{textwrap_carry_styles, textwrap_shorten_lines};
+use textwrap_calls::options::{TextwrapOptions, VERSION};
+use textwrap_calls::pieces::{
+    TextwrapPiece, textwrap_break_apart, textwrap_find_words_at, textwrap_pieces,
+    textwrap_split_points,
+};
+use textwrap_calls::refilling::{TextwrapLayout, textwrap_refill, textwrap_unfill};
+use textwrap_calls::steps::{textwrap_lines_at, textwrap_pieces_at};
+use textwrap_calls::tables::{TextwrapColumn, textwrap_table};
+use textwrap_calls::texts::TextwrapText;
+use textwrap_calls::wrapping::{TextwrapLine, textwrap_wrap};
+
+/// The library's defaults at 10 columns.
+pub(super) const DEFAULTS: TextwrapOptions<'_> = TextwrapOptions {
+    version: VERSION,
+    optimal_fit: 1,
+    split_at_hyphens: 1,
+    break_words: 1,
+    preserve_trailing_space: 0,
+    even_paragraphs: 0,
+    crlf: 0,
+    reserved: 0,
+    width: 10,
+    initial_indent: b"",
+    subsequent_indent: b"",
+    nline_penalty: 1000,
+    overflow_penalty: 2500,
+    short_last_line_fraction: 4,
+    short_last_line_penalty: 25,
+    hyphen_penalty: 25,
+    reserved_sizes: [0; 4],
+};
+
+/// The defaults at 4 columns.
+pub(super) const AT_4: TextwrapOptions<'_> = TextwrapOptions {
+    width: 4,
+    ..DEFAULTS
+};
+
+/// The defaults at 5 columns.
+pub(super) const AT_5: TextwrapOptions<'_> = TextwrapOptions {
+    width: 5,
+    ..DEFAULTS
+};
+
+/// The defaults at 6 columns.
+pub(super) const AT_6: TextwrapOptions<'_> = TextwrapOptions {
+    width: 6,
+    ..DEFAULTS
+};
+
+/// The defaults at 80 columns.
+pub(super) const AT_80: TextwrapOptions<'_> = TextwrapOptions {
+    width: 80,
+    ..DEFAULTS
+};
+
+/// Each character on a line of its own, after an indent that has the first line for itself.
+pub(super) const NARROW: TextwrapOptions<'_> = TextwrapOptions {
+    optimal_fit: 0,
+    width: 1,
+    initial_indent: b"**",
+    subsequent_indent: b">",
+    ..DEFAULTS
+};
+
+/// A text whose lines at 10 columns differ by algorithm and penalties.
+pub(super) const HAMLET: &[u8] = b"To be, or not to be: that is the question";
+
+/// No gaps around the cells of a row.
+pub(super) const NO_GAPS: TextwrapGaps<'_> = TextwrapGaps {
+    left: b"",
+    middle: b"",
+    right: b"",
+};
+
+/// Bars around the cells of a row.
+pub(super) const BARS: TextwrapGaps<'_> = TextwrapGaps {
+    left: b"|",
+    middle: b"|",
+    right: b"|",
+};
+
+/// What a number is before a call, which writes over it or leaves it.
+pub(super) const BEFORE: usize = 97;
+
+/// What a byte of the room is before a call.
+pub(super) const BLANK: u8 = b'_';
+
+/// A line that stands nowhere.
+pub(super) const NOWHERE: TextwrapLine = TextwrapLine {
+    offset: 99,
+    len: 99,
+    is_built: 99,
+};
+
+/// A piece that stands nowhere.
+pub(super) const NO_PIECE: TextwrapPiece = TextwrapPiece {
+    offset: 99,
+    len: 99,
+    whitespace_len: 99,
+    penalty_len: 99,
+    width: 99,
+};
+
+/// A layout that no text has.
+pub(super) const NO_LAYOUT: TextwrapLayout = TextwrapLayout {
+    width: 99,
+    crlf: 99,
+    initial_indent_len: 99,
+    subsequent_indent_len: 99,
+};
+
+/// A call that writes one text into room, and what it is given beside a text.
+#[derive(Clone, Copy)]
+pub(super) enum TextCall<'a> {
+    Fill(TextwrapOptions<'a>),
+    Refill(TextwrapOptions<'a>),
+    Unfill,
+    Indent(&'a [u8]),
+    Dedent,
+    Align { width: usize, alignment: u32 },
+    Justify(usize),
+    FillJustified(TextwrapOptions<'a>),
+    Shorten { width: usize, placeholder: &'a [u8] },
+}
+
+/// Makes the call. Answers the status.
+pub(super) fn write_text(
+    alloc: Global,
+    call: TextCall<'_>,
+    text: &[u8],
+    room: &mut [u8],
+    len: &mut usize,
+) -> u32 {
+    match call {
+        TextCall::Fill(options) => textwrap_fill(alloc, text, &options, room, len),
+        TextCall::Refill(options) => textwrap_refill(alloc, text, &options, room, len),
+        TextCall::Unfill => write_unfilled(alloc, text, room, len),
+        TextCall::Indent(prefix) => textwrap_indent(alloc, text, prefix, room, len),
+        TextCall::Dedent => textwrap_dedent(alloc, text, room, len),
+        TextCall::Align { width, alignment } => {
+            textwrap_align(alloc, text, width, alignment, room, len)
+        }
+        TextCall::Justify(width) => textwrap_justify(alloc, text, width, room, len),
+        TextCall::FillJustified(options) => {
+            textwrap_fill_justified(alloc, text, &options, room, len)
+        }
+        TextCall::Shorten { width, placeholder } => {
+            textwrap_shorten(alloc, text, width, placeholder, room, len)
+        }
+    }
+}
+
+/// Unfills the text, without a layout.
+fn write_unfilled(alloc: Global, text: &[u8], room: &mut [u8], len: &mut usize) -> u32 {
+    let mut layout = NO_LAYOUT;
+    textwrap_unfill(alloc, text, room, len, &mut layout)
+}
+
+/// A call that writes lines and their room, and what it is given beside a text. Those that take a
+/// list of texts take no other.
+#[derive(Clone, Copy)]
+pub(super) enum LinesCall<'a> {
+    Wrap(TextwrapOptions<'a>),
+    Columns {
+        columns: usize,
+        options: TextwrapOptions<'a>,
+        gaps: TextwrapGaps<'a>,
+    },
+    ShortenLines {
+        lines: &'a [TextwrapText<'a>],
+        most: usize,
+        width: usize,
+        placeholder: &'a [u8],
+    },
+    CarryStyles {
+        lines: &'a [TextwrapText<'a>],
+        options: TextwrapOptions<'a>,
+    },
+    Table {
+        cells: &'a [TextwrapText<'a>],
+        columns: &'a [TextwrapColumn<'a>],
+        gaps: TextwrapGaps<'a>,
+    },
+    LinesAt {
+        cuts: &'a [usize],
+        points: &'a [usize],
+        ends: &'a [usize],
+        options: TextwrapOptions<'a>,
+        is_later: usize,
+    },
+}
+
+/// Makes the call. Answers the status.
+pub(super) fn write_lines(
+    alloc: Global,
+    call: LinesCall<'_>,
+    text: &[u8],
+    lines: &mut [TextwrapLine],
+    count: &mut usize,
+    room: &mut [u8],
+    len: &mut usize,
+) -> u32 {
+    match call {
+        LinesCall::Wrap(options) => {
+            textwrap_wrap(alloc, text, &options, lines, count, room, len)
+        }
+        LinesCall::Columns {
+            columns,
+            options,
+            gaps,
+        } => textwrap_wrap_columns(
+            alloc, text, columns, &options, &gaps, lines, count, room, len,
+        ),
+        LinesCall::ShortenLines {
+            lines: given,
+            most,
+            width,
+            placeholder,
+        } => textwrap_shorten_lines(
+            alloc,
+            given,
+            most,
+            width,
+            placeholder,
+            lines,
+            count,
+            room,
+            len,
+        ),
+        LinesCall::CarryStyles {
+            lines: given,
+            options,
+        } => textwrap_carry_styles(alloc, given, &options, lines, count, room, len),
+        LinesCall::Table {
+            cells,
+            columns,
+            gaps,
+        } => textwrap_table(alloc, cells, columns, &gaps, lines, count, room, len),
+        LinesCall::LinesAt {
+            cuts,
+            points,
+            ends,
+            options,
+            is_later,
+        } => textwrap_lines_at(
+            alloc, text, cuts, points, ends, &options, is_later, lines, count, room, len,
+        ),
+    }
+}
+
+/// A call that writes pieces, and what it is given beside a text.
+#[derive(Clone, Copy)]
+pub(super) enum PiecesCall<'a> {
+    Pieces(TextwrapOptions<'a>),
+    WordsAt(&'a [usize]),
+    BreakApart(usize),
+    PiecesAt {
+        cuts: &'a [usize],
+        points: &'a [usize],
+        options: TextwrapOptions<'a>,
+    },
+}
+
+/// Makes the call. Answers the status.
+pub(super) fn write_pieces(
+    alloc: Global,
+    call: PiecesCall<'_>,
+    text: &[u8],
+    pieces: &mut [TextwrapPiece],
+    count: &mut usize,
+) -> u32 {
+    match call {
+        PiecesCall::Pieces(options) => textwrap_pieces(alloc, text, &options, pieces, count),
+        PiecesCall::WordsAt(offsets) => {
+            textwrap_find_words_at(alloc, text, offsets, pieces, count)
+        }
+        PiecesCall::BreakApart(width) => textwrap_break_apart(alloc, text, width, pieces, count),
+        PiecesCall::PiecesAt {
+            cuts,
+            points,
+            options,
+        } => textwrap_pieces_at(alloc, text, cuts, points, &options, pieces, count),
+    }
+}
+
+/// A call that writes offsets or ends, and all that it is given.
+#[derive(Clone, Copy)]
+pub(super) enum OffsetsCall<'a> {
+    SplitPoints(&'a [u8]),
+    UnicodeCuts(&'a [u8]),
+    FirstFit {
+        fragments: &'a [TextwrapFragment],
+        line_widths: &'a [usize],
+    },
+    OptimalFit {
+        fragments: &'a [TextwrapFragment],
+        line_widths: &'a [usize],
+        penalties: TextwrapPenalties,
+    },
+}
+
+/// Makes the call. Answers the status.
+pub(super) fn write_offsets(
+    alloc: Global,
+    call: OffsetsCall<'_>,
+    offsets: &mut [usize],
+    count: &mut usize,
+) -> u32 {
+    match call {
+        OffsetsCall::SplitPoints(word) => textwrap_split_points(alloc, word, offsets, count),
+        OffsetsCall::UnicodeCuts(line) => textwrap_unicode_cuts(alloc, line, offsets, count),
+        OffsetsCall::FirstFit {
+            fragments,
+            line_widths,
+        } => textwrap_wrap_first_fit(alloc, fragments, line_widths, offsets, count),
+        OffsetsCall::OptimalFit {
+            fragments,
+            line_widths,
+            penalties,
+        } => textwrap_wrap_optimal_fit(alloc, fragments, line_widths, &penalties, offsets, count),
+    }
+}
+
+/// Asserts that the call of a row answered this status, and told this number.
+pub(super) fn assert_told(rt: &impl Abort, row: usize, told: (u32, usize), expected: (u32, usize)) {
+    assert_eq!(rt; told, expected, "row {row}");
+}
+
+/// Asserts that the room holds this after the call of a row.
+pub(super) fn assert_room(rt: &impl Abort, row: usize, room: &[u8], expected: &[u8]) {
+    assert_eq!(rt; room, expected, "row {row}");
+}
+
+/// Asserts what else the row says.
+pub(super) fn assert_holds(rt: &impl Abort, row: usize, holds: bool) {
+    assert!(rt; holds, "row {row}");
+}

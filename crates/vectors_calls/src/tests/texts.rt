@@ -1,0 +1,385 @@
+//! Texts that are written into room: as they are filled, indented and made for display.
+use super::plain::{
+    AT_5, AT_6, BEFORE, BLANK, DEFAULTS, HAMLET, TextCall, assert_room, assert_told, write_text,
+};
+use std::process::Abort;
+use textwrap_calls::options::TextwrapOptions;
+use textwrap_calls::status::{DONE, NOT_UTF8, TOO_SMALL, UNKNOWN_OPTIONS};
+
+/// A call and a text; the status, the length that is told, and the room afterwards.
+type TextRow = (TextCall<'static>, &'static [u8], u32, usize, &'static [u8]);
+
+/// How much room the longest row has.
+const MOST: usize = 64;
+
+/// Asserts what each row says.
+fn assert_texts(rt: &(impl Abort + AllocGlobal), rows: &[TextRow]) {
+    for (row, &(call, text, status, len, expected)) in rows.iter().enumerate() {
+        let mut room = [BLANK; MOST];
+        let room = &mut room[..expected.len().min(MOST)];
+        let mut told = BEFORE;
+        let answer = write_text(rt.alloc(), call, text, room, &mut told);
+        assert_told(rt, row, (answer, told), (status, len));
+        assert_room(rt, row, room, expected);
+    }
+}
+
+/// Where the room is too short the length alone is told, and a text that is none changes nothing.
+const ROOM: &[TextRow] = &[
+    (
+        TextCall::Fill(DEFAULTS),
+        b"foo bar baz",
+        DONE,
+        11,
+        b"foo bar\nbaz_____",
+    ),
+    (
+        TextCall::Fill(DEFAULTS),
+        b"foo bar baz",
+        TOO_SMALL,
+        11,
+        b"__________",
+    ),
+    (
+        TextCall::Fill(DEFAULTS),
+        b"foo\xff",
+        NOT_UTF8,
+        BEFORE,
+        b"________________",
+    ),
+];
+
+/// Options whose numbers mean nothing.
+const UNKNOWN: &[TextRow] = &[
+    (
+        TextCall::Fill(TextwrapOptions {
+            version: 2,
+            ..DEFAULTS
+        }),
+        b"foo",
+        UNKNOWN_OPTIONS,
+        BEFORE,
+        b"________",
+    ),
+    (
+        TextCall::Fill(TextwrapOptions {
+            optimal_fit: 2,
+            ..DEFAULTS
+        }),
+        b"foo",
+        UNKNOWN_OPTIONS,
+        BEFORE,
+        b"________",
+    ),
+    (
+        TextCall::Fill(TextwrapOptions {
+            even_paragraphs: 2,
+            ..DEFAULTS
+        }),
+        b"foo",
+        UNKNOWN_OPTIONS,
+        BEFORE,
+        b"________",
+    ),
+    (
+        TextCall::Fill(TextwrapOptions {
+            reserved: 1,
+            ..DEFAULTS
+        }),
+        b"foo",
+        UNKNOWN_OPTIONS,
+        BEFORE,
+        b"________",
+    ),
+    (
+        TextCall::Fill(TextwrapOptions {
+            reserved_sizes: [0, 0, 0, 1],
+            ..DEFAULTS
+        }),
+        b"foo",
+        UNKNOWN_OPTIONS,
+        BEFORE,
+        b"________",
+    ),
+];
+
+#[test]
+fn a_text_is_filled_where_it_has_room_and_known_options(rt: HostRuntime) {
+    assert_texts(&rt, ROOM);
+    assert_texts(&rt, UNKNOWN);
+}
+
+/// Options and a text; the filled text. Each of these options alone changes what is written.
+const FILLED: &[(TextwrapOptions<'_>, &[u8], &[u8])] = &[
+    (
+        DEFAULTS,
+        HAMLET,
+        b"To be,\nor not to\nbe: that\nis the\nquestion",
+    ),
+    (
+        TextwrapOptions {
+            optimal_fit: 0,
+            ..DEFAULTS
+        },
+        HAMLET,
+        b"To be, or\nnot to be:\nthat is\nthe\nquestion",
+    ),
+    (
+        TextwrapOptions {
+            nline_penalty: 1_000_000,
+            ..DEFAULTS
+        },
+        HAMLET,
+        HAMLET,
+    ),
+    (
+        TextwrapOptions {
+            overflow_penalty: 0,
+            ..DEFAULTS
+        },
+        HAMLET,
+        HAMLET,
+    ),
+    (
+        TextwrapOptions {
+            width: 11,
+            ..DEFAULTS
+        },
+        b"foo bar baz a",
+        b"foo bar\nbaz a",
+    ),
+    (
+        TextwrapOptions {
+            short_last_line_penalty: 0,
+            width: 11,
+            ..DEFAULTS
+        },
+        b"foo bar baz a",
+        b"foo bar baz\na",
+    ),
+    (
+        TextwrapOptions {
+            short_last_line_fraction: 20,
+            width: 11,
+            ..DEFAULTS
+        },
+        b"foo bar baz a",
+        b"foo bar baz\na",
+    ),
+    (AT_5, b"foo-bar", b"foo-\nbar"),
+    (
+        TextwrapOptions {
+            split_at_hyphens: 0,
+            width: 5,
+            ..DEFAULTS
+        },
+        b"foo-bar",
+        b"foo-b\nar",
+    ),
+    (
+        TextwrapOptions {
+            break_words: 0,
+            width: 5,
+            ..DEFAULTS
+        },
+        b"foobarbaz",
+        b"foobarbaz",
+    ),
+    (
+        TextwrapOptions {
+            preserve_trailing_space: 1,
+            width: 5,
+            ..DEFAULTS
+        },
+        b"foo bar",
+        b"foo \nbar",
+    ),
+    (
+        TextwrapOptions {
+            crlf: 1,
+            width: 5,
+            ..DEFAULTS
+        },
+        b"foo bar\r\nbaz",
+        b"foo\r\nbar\r\nbaz",
+    ),
+    (
+        TextwrapOptions {
+            initial_indent: b"* ",
+            subsequent_indent: b"    ",
+            width: 9,
+            ..DEFAULTS
+        },
+        b"foo bar\nbaz qu",
+        b"* foo bar\n    baz qu",
+    ),
+    (
+        TextwrapOptions {
+            initial_indent: b"* ",
+            subsequent_indent: b"    ",
+            even_paragraphs: 1,
+            width: 9,
+            ..DEFAULTS
+        },
+        b"foo bar\nbaz qu",
+        b"* foo bar\n    baz\n    qu",
+    ),
+];
+
+#[test]
+fn each_option_reaches_the_library(rt: HostRuntime) {
+    for &(options, text, filled) in FILLED {
+        let row = (TextCall::Fill(options), text, DONE, filled.len(), filled);
+        assert_texts(&rt, &[row]);
+    }
+}
+
+/// A filled text, joined with its indents after it, and filled again; and a text with other indents.
+const INDENTED: &[TextRow] = &[
+    (
+        TextCall::Unfill,
+        b"* foo\n  bar\n",
+        DONE,
+        12,
+        b"foo bar\n*   ____",
+    ),
+    (
+        TextCall::Refill(TextwrapOptions {
+            width: 20,
+            ..DEFAULTS
+        }),
+        b"* foo\n  bar\n",
+        DONE,
+        10,
+        b"* foo bar\n______",
+    ),
+    (
+        TextCall::Indent(b"> "),
+        b"a\n\nb\n",
+        DONE,
+        10,
+        b"> a\n>\n> b\n______",
+    ),
+    (
+        TextCall::Dedent,
+        b"  a\n    b\n",
+        DONE,
+        6,
+        b"a\n  b\n__________",
+    ),
+];
+
+/// The unfilled text with its indents, in as much room as its bound says. In the third the second line
+/// is joined whole, as it is the first that is not empty, and is the later indent too.
+const UNFILLED: &[TextRow] = &[
+    (TextCall::Unfill, b"", DONE, 0, b""),
+    (TextCall::Unfill, b"foo\n", DONE, 4, b"foo\n____"),
+    (TextCall::Unfill, b"\n > ", DONE, 6, b" >  > __"),
+    (TextCall::Unfill, b"\r\n >\r\n", DONE, 6, b" >\r\n >______"),
+];
+
+#[test]
+fn a_text_is_unfilled_refilled_indented_and_dedented(rt: HostRuntime) {
+    assert_texts(&rt, INDENTED);
+    assert_texts(&rt, UNFILLED);
+}
+
+/// A line stands where the number of the alignment says. That the number is known is found out before
+/// the line is read.
+const ALIGNED: &[TextRow] = &[
+    (
+        TextCall::Align {
+            width: 6,
+            alignment: 0,
+        },
+        b"ab",
+        DONE,
+        6,
+        b"ab    ",
+    ),
+    (
+        TextCall::Align {
+            width: 6,
+            alignment: 1,
+        },
+        b"ab",
+        DONE,
+        6,
+        b"    ab",
+    ),
+    (
+        TextCall::Align {
+            width: 6,
+            alignment: 2,
+        },
+        b"ab",
+        DONE,
+        6,
+        b"  ab  ",
+    ),
+    (
+        TextCall::Align {
+            width: 6,
+            alignment: 3,
+        },
+        b"\xe9",
+        UNKNOWN_OPTIONS,
+        BEFORE,
+        b"______",
+    ),
+    (
+        TextCall::Align {
+            width: 6,
+            alignment: 2,
+        },
+        b"\xe9",
+        NOT_UTF8,
+        BEFORE,
+        b"______",
+    ),
+    (
+        TextCall::Align {
+            width: 7,
+            alignment: 0,
+        },
+        b"ab",
+        TOO_SMALL,
+        7,
+        b"______",
+    ),
+];
+
+/// Gaps are widened up to the width, but for the last line of a paragraph; a line is cut before its
+/// placeholder.
+const WIDENED: &[TextRow] = &[
+    (
+        TextCall::Justify(14),
+        b"a few words",
+        DONE,
+        14,
+        b"a   few  words__",
+    ),
+    (
+        TextCall::Shorten {
+            width: 8,
+            placeholder: b"...",
+        },
+        b"a few words",
+        DONE,
+        8,
+        b"a few...________",
+    ),
+    (
+        TextCall::FillJustified(AT_6),
+        b"a bb cc dd",
+        DONE,
+        12,
+        b"a   bb\ncc dd____",
+    ),
+];
+
+#[test]
+fn a_line_is_aligned_justified_and_shortened(rt: HostRuntime) {
+    assert_texts(&rt, ALIGNED);
+    assert_texts(&rt, WIDENED);
+}

@@ -1,6 +1,7 @@
 //! What the words after the program's name mean.
-use super::strings;
-use refusing_heap::Heap;
+use super::plain::{assert_number, strings};
+use fakes::heap::Heap;
+use std::alloc::{AllocError, Global};
 use std::test::Fail;
 use textwrap_program::arguments::{Algorithm, arguments, words_after_name};
 
@@ -14,81 +15,93 @@ const AFTER_NAME: &[(&[&str], &[&str])] = &[
     (&[], &[]),
 ];
 
+/// Whether these are the words after the name.
+fn are_after_name(alloc: Global, given: &[&str], expected: &[&str]) -> Result<bool, AllocError> {
+    let words = words_after_name(alloc, strings(alloc, given)?.into_iter())?;
+    Ok(words == strings(alloc, expected)?)
+}
+
 #[test]
 fn the_first_argument_is_the_name(rt: HostRuntime) -> Result<(), Fail> {
     for &(given, expected) in AFTER_NAME {
-        let given = strings(rt.alloc(), given)?;
-        let words = words_after_name(rt.alloc(), given.into_iter())?;
-        assert!(rt; words == strings(rt.alloc(), expected)?, "{expected:?}");
+        assert!(rt;
+            are_after_name(rt.alloc(), given, expected)?,
+            "{expected:?}"
+        );
     }
     Ok(())
+}
+
+const NINE_WORDS: &[&str] = &["textwrap", "1", "2", "3", "4", "5", "6", "7", "8"];
+
+/// How many words come after the name of [`NINE_WORDS`], or 0 where memory runs out.
+fn count_after_name(alloc: Global, heap: &Heap) -> Result<usize, AllocError> {
+    let given = strings(alloc, NINE_WORDS)?;
+    match words_after_name(heap, given.into_iter()) {
+        Ok(words) => Ok(words.len()),
+        Err(_) => Ok(0),
+    }
 }
 
 #[test]
 fn words_out_of_memory_are_no_fewer_words(rt: HostRuntime) -> Result<(), Fail> {
-    let given = ["textwrap", "1", "2", "3", "4", "5", "6", "7", "8"];
     let heap = Heap::new(rt.alloc(), 0);
-    for allowed in 0..3 {
+    for (allowed, expected) in [(0, 0), (1, 0), (2, 0), (3, 8)] {
         heap.allow(allowed);
-        let given = strings(rt.alloc(), &given)?;
-        assert!(rt;
-            words_after_name(&heap, given.into_iter()).is_err(),
-            "{allowed}"
-        );
+        let count = count_after_name(rt.alloc(), &heap)?;
+        assert_number(&rt, "words after the name", count, expected);
     }
-    heap.allow(3);
-    let words = words_after_name(&heap, strings(rt.alloc(), &given)?.into_iter())?;
-    assert_eq!(rt; words.len(), 8);
-    assert_eq!(rt; heap.left(), 0);
+    assert_number(&rt, "allocations left", heap.left(), 0);
     Ok(())
 }
 
-#[test]
-fn a_width_and_first_are_settings(rt: HostRuntime) -> Result<(), Fail> {
-    for (width, number) in [
-        ("10", 10),
-        ("007", 7),
-        ("0", 0),
-        ("18446744073709551615", usize::MAX),
-    ] {
-        let words = strings(rt.alloc(), &[width, "first"])?;
-        let request = arguments(&words).ok_or(width)?;
-        assert_eq!(rt; request.width, number, "{width}");
-        assert_eq!(rt; request.algorithm, Algorithm::FirstFit, "{width}");
-    }
-    Ok(())
+/// Words, and the width and the algorithm that they ask for, if they are a request.
+const REQUESTS: &[(&[&str], Option<(usize, Algorithm)>)] = &[
+    // A width and `first`.
+    (&["10", "first"], Some((10, Algorithm::FirstFit))),
+    (&["007", "first"], Some((7, Algorithm::FirstFit))),
+    (&["0", "first"], Some((0, Algorithm::FirstFit))),
+    (
+        &["18446744073709551615", "first"],
+        Some((usize::MAX, Algorithm::FirstFit)),
+    ),
+    // Without an algorithm the least cost is meant.
+    (&["10"], Some((10, Algorithm::OptimalFit))),
+    (&["10", "optimal"], Some((10, Algorithm::OptimalFit))),
+    // Other words are none.
+    (&["18446744073709551616"], None),
+    (&["18446744073709551616", "first"], None),
+    (&["+5", "first"], None),
+    (&["", "first"], None),
+    (&["1O", "first"], None),
+    (&["10", "First"], None),
+    (&["10", "Optimal"], None),
+    (&["10", ""], None),
+    (&["10", "first", "x"], None),
+    (&["first"], None),
+    (&[], None),
+];
+
+/// Whether the words ask for this.
+fn ask_for(
+    alloc: Global,
+    words: &[&str],
+    expected: Option<(usize, Algorithm)>,
+) -> Result<bool, AllocError> {
+    let words = strings(alloc, words)?;
+    Ok(match (arguments(&words), expected) {
+        (Some(request), Some((width, algorithm))) => {
+            request.width == width && request.algorithm == algorithm
+        }
+        (None, None) => true,
+        _ => false,
+    })
 }
 
 #[test]
-fn without_an_algorithm_the_least_cost_is_meant(rt: HostRuntime) -> Result<(), Fail> {
-    let rows: [&[&str]; 2] = [&["10"], &["10", "optimal"]];
-    for words in rows {
-        let words = strings(rt.alloc(), words)?;
-        let request = arguments(&words).ok_or("10")?;
-        assert_eq!(rt; request.width, 10, "{words:?}");
-        assert_eq!(rt; request.algorithm, Algorithm::OptimalFit, "{words:?}");
-    }
-    Ok(())
-}
-
-#[test]
-fn other_words_are_none(rt: HostRuntime) -> Result<(), Fail> {
-    let rows: [&[&str]; 11] = [
-        &["18446744073709551616"],
-        &["18446744073709551616", "first"],
-        &["+5", "first"],
-        &["", "first"],
-        &["1O", "first"],
-        &["10", "First"],
-        &["10", "Optimal"],
-        &["10", ""],
-        &["10", "first", "x"],
-        &["first"],
-        &[],
-    ];
-    for words in rows {
-        let words = strings(rt.alloc(), words)?;
-        assert_eq!(rt; arguments(&words), None, "{words:?}");
+fn words_are_a_request_or_none(rt: HostRuntime) -> Result<(), Fail> {
+    for &(words, expected) in REQUESTS {
+        assert!(rt; ask_for(rt.alloc(), words, expected)?, "{words:?}");
     }
     Ok(())
 }

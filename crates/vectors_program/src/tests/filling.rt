@@ -1,176 +1,84 @@
 //! What becomes of a reader and a writer.
-use refusing_heap::Heap;
-use std::alloc::Global;
-use std::io;
-use std::io::{ErrorKind, Read, Write};
+use super::plain::{assert_number, assert_taken, plain_run};
+use fakes::heap::Heap;
+use fakes::streams::{Feed, FeedFault, Sink, SinkFault};
+use std::alloc::{AllocError, Global};
+use std::io::ErrorKind;
 use std::process::Abort;
-use std::test::Fail;
 use textwrap_program::arguments::Algorithm;
-use textwrap_program::filling::{RunError, fault, run};
+use textwrap_program::filling::{RunError, fault};
 
-/// A reader that gives so many of its bytes at a time. After them it fails once, where it has a
-/// fault, and is at its end.
-#[derive(Drop)]
-struct Feed {
-    bytes: &'static [u8],
-    given: usize,
-    step: usize,
-    fault: Option<ErrorKind>,
-}
-
-impl Feed {
-    /// A reader without a fault.
-    fn new(bytes: &'static [u8], step: usize) -> Feed {
-        Feed {
-            bytes,
-            given: 0,
-            step,
-            fault: None,
-        }
-    }
-}
-
-impl Read for Feed {
-    fn read(&mut self, buffer: &mut [u8]) -> io::Result<usize> {
-        let Some(rest) = self.bytes.get(self.given..) else {
-            return Ok(0);
-        };
-        let count = rest.len().min(self.step).min(buffer.len());
-        if count == 0 {
-            return match self.fault.take() {
-                Some(kind) => Err(io::Error::from(kind)),
-                None => Ok(0),
-            };
-        }
-        buffer[..count].copy_from_slice(&rest[..count]);
-        self.given += count;
-        Ok(count)
-    }
-}
-
-/// What a writer does once it is full, or when it is flushed.
-#[derive(Clone, Copy, Debug)]
-enum SinkFault {
-    /// A write fails.
-    Fails(ErrorKind),
-    /// A write takes nothing.
-    TakesNothing,
-    /// A flush fails.
-    FlushFails,
-}
-
-/// A writer that takes so many bytes at a time, and so many in all until its fault. This comes only
-/// once: tried again, the same call would succeed.
-#[derive(Drop)]
-struct Sink {
-    taken: Vec<u8>,
-    step: usize,
-    room: usize,
-    fault: Option<SinkFault>,
-}
-
-impl Sink {
-    /// A writer without a fault.
-    fn new(alloc: Global, step: usize) -> Sink {
-        Sink {
-            taken: Vec::new(alloc),
-            step,
-            room: usize::MAX,
-            fault: None,
-        }
-    }
-}
-
-impl Write for Sink {
-    fn write(&mut self, bytes: &[u8]) -> io::Result<usize> {
-        let count = bytes.len().min(self.step).min(self.room);
-        if count == 0 {
-            self.room = usize::MAX;
-            return match self.fault.take() {
-                Some(SinkFault::Fails(kind)) => Err(io::Error::from(kind)),
-                _ => Ok(0),
-            };
-        }
-        self.taken.extend_from_slice(&bytes[..count])?;
-        self.room -= count;
-        Ok(count)
-    }
-
-    fn flush(&mut self) -> io::Result<()> {
-        match self.fault.take() {
-            Some(SinkFault::FlushFails) => Err(io::Error::from(ErrorKind::BrokenPipe)),
-            _ => Ok(()),
-        }
-    }
-}
-
-/// A reader that gives three bytes, then none, as at the end, and then three more.
-#[derive(Drop)]
-struct Terminal {
-    reads: usize,
-}
-
-impl Read for Terminal {
-    fn read(&mut self, buffer: &mut [u8]) -> io::Result<usize> {
-        self.reads = self.reads.saturating_add(1);
-        if self.reads == 2 || buffer.len() < 3 {
-            return Ok(0);
-        }
-        buffer[..3].copy_from_slice(b"foo");
-        Ok(3)
-    }
-}
-
-/// A writer that takes five bytes at a time, and knows how often it was flushed, and whether
-/// anything was written after that.
-#[derive(Drop)]
-struct Flushed {
-    taken: Vec<u8>,
-    flushes: usize,
-    is_flushed: bool,
-}
-
-impl Flushed {
-    /// A writer that was not flushed yet.
-    fn new(alloc: Global) -> Flushed {
-        Flushed {
-            taken: Vec::new(alloc),
-            flushes: 0,
-            is_flushed: false,
-        }
-    }
-}
-
-impl Write for Flushed {
-    fn write(&mut self, bytes: &[u8]) -> io::Result<usize> {
-        let count = bytes.len().min(5);
-        self.taken.extend_from_slice(&bytes[..count])?;
-        self.is_flushed = false;
-        Ok(count)
-    }
-
-    fn flush(&mut self) -> io::Result<()> {
-        self.flushes = self.flushes.saturating_add(1);
-        self.is_flushed = true;
-        Ok(())
-    }
-}
-
-/// Asserts that an input is read whole and filled to this.
-fn assert_filled(
-    rt: &(impl Abort + AllocGlobal),
-    input: &str,
+/// What a run is given.
+#[derive(Clone, Copy)]
+struct Given<'a> {
+    input: &'a [u8],
+    /// How many bytes the reader gives at a time, and what goes wrong with it.
+    reader: (usize, FeedFault),
+    /// How many bytes the writer takes at a time, and what goes wrong with it.
+    writer: (usize, SinkFault),
     width: usize,
     algorithm: Algorithm,
-    output: &str,
-) {
-    let mut reader = input.as_bytes();
-    let mut writer = Vec::new(rt.alloc());
-    let done = run(rt.alloc(), &mut reader, &mut writer, width, algorithm);
-    assert_eq!(rt; done, Ok(()), "{input:?}");
-    assert!(rt; reader.is_empty(), "{input:?}");
-    assert!(rt; writer.as_slice() == output.as_bytes(), "{input:?}");
 }
+
+/// What a run left behind.
+#[derive(Drop)]
+struct Left {
+    done: Result<(), RunError>,
+    reader: Feed,
+    writer: Sink,
+}
+
+/// What a run leaves behind.
+fn left_by(alloc: Global, given: Given<'_>) -> Result<Left, AllocError> {
+    let mut reader = Feed::new(alloc, given.input, given.reader.0, given.reader.1)?;
+    let mut writer = Sink::new(alloc, given.writer.0, given.writer.1);
+    let (width, algorithm) = (given.width, given.algorithm);
+    let done = plain_run(alloc, &mut reader, &mut writer, width, algorithm);
+    Ok(Left {
+        done,
+        reader,
+        writer,
+    })
+}
+
+/// Asserts that this is what a run returned.
+fn assert_done(
+    rt: &impl Abort,
+    rule: &str,
+    done: Result<(), RunError>,
+    expected: Result<(), RunError>,
+) {
+    assert_eq!(rt; done, expected, "{rule}");
+}
+
+/// Asserts that the writer took these bytes, and was flushed so often, the last time after all of
+/// them.
+fn assert_written(rt: &impl Abort, rule: &str, writer: &Sink, output: &[u8], flushes: usize) {
+    assert_taken(rt, rule, writer, output);
+    assert_number(rt, rule, writer.flushes, flushes);
+    let unflushed = writer.taken.len().saturating_sub(writer.flushed);
+    assert!(rt; flushes == 0 || unflushed == 0, "{rule}");
+}
+
+/// Asserts that a run reads all of its input, and what it returns and writes. The output is flushed
+/// once if all goes well, and else never.
+fn assert_run(
+    rt: &(impl Abort + AllocGlobal),
+    rule: &str,
+    given: Given<'_>,
+    done: Result<(), RunError>,
+    output: &[u8],
+) -> Result<(), AllocError> {
+    let left = left_by(rt.alloc(), given)?;
+    assert_done(rt, rule, left.done, done);
+    assert_number(rt, rule, left.reader.left(), 0);
+    assert_written(rt, rule, &left.writer, output, usize::from(done.is_ok()));
+    Ok(())
+}
+
+const READS: FeedFault = FeedFault::Nothing;
+
+const WRITES: SinkFault = SinkFault::Nothing;
 
 const FIRST: Algorithm = Algorithm::FirstFit;
 
@@ -211,42 +119,80 @@ const FILLED_INPUTS: &[(&str, usize, Algorithm, &str)] = &[
     ("foo  bar ", usize::MAX, OPTIMAL, "foo  bar"),
 ];
 
-#[test]
-fn the_input_is_filled(rt: HostRuntime) {
-    for &(input, width, algorithm, output) in FILLED_INPUTS {
-        assert_filled(&rt, input, width, algorithm, output);
-    }
+/// Asserts that an input is filled to this output.
+fn assert_filled(
+    rt: &(impl Abort + AllocGlobal),
+    input: &str,
+    width: usize,
+    algorithm: Algorithm,
+    output: &str,
+) -> Result<(), AllocError> {
+    let given = Given {
+        input: input.as_bytes(),
+        reader: (usize::MAX, READS),
+        writer: (usize::MAX, WRITES),
+        width,
+        algorithm,
+    };
+    assert_run(rt, input, given, Ok(()), output.as_bytes())
 }
 
 #[test]
-fn a_long_input_is_filled_whole(rt: HostRuntime) -> Result<(), Fail> {
-    let input = "foo bar baz\n".repeat(rt.alloc(), 30000)?;
-    let output = "foo bar\nbaz\n".repeat(rt.alloc(), 30000)?;
-    let mut writer = Flushed::new(rt.alloc());
-    let done = run(rt.alloc(), &mut input.as_bytes(), &mut writer, 10, FIRST);
-    assert_eq!(rt; done, Ok(()));
-    assert!(rt; writer.taken.as_slice() == output.as_bytes());
-    assert_eq!(rt; writer.flushes, 1);
-    assert!(rt; writer.is_flushed);
+fn the_input_is_filled(rt: HostRuntime) -> Result<(), AllocError> {
+    for &(input, width, algorithm, output) in FILLED_INPUTS {
+        assert_filled(&rt, input, width, algorithm, output)?;
+    }
     Ok(())
 }
 
 #[test]
-fn the_end_is_read_once_and_the_output_flushed_once(rt: HostRuntime) {
-    let mut reader = Terminal { reads: 0 };
-    let mut writer = Flushed::new(rt.alloc());
-    let done = run(rt.alloc(), &mut reader, &mut writer, 2, FIRST);
-    assert_eq!(rt; done, Ok(()));
-    assert_eq!(rt; reader.reads, 2);
-    assert_eq!(rt; writer.taken.as_slice(), b"fo\no".as_slice());
-    assert_eq!(rt; writer.flushes, 1);
-    assert!(rt; writer.is_flushed);
-    let input = b"foo bar baz";
-    let done = run(rt.alloc(), &mut input.as_slice(), &mut writer, 10, FIRST);
-    assert_eq!(rt; done, Ok(()));
-    assert_eq!(rt; writer.taken.as_slice(), b"fo\nofoo bar\nbaz".as_slice());
-    assert_eq!(rt; writer.flushes, 2);
-    assert!(rt; writer.is_flushed);
+fn a_long_input_is_filled_whole(rt: HostRuntime) -> Result<(), AllocError> {
+    let input = "foo bar baz\n".repeat(rt.alloc(), 30000)?;
+    let output = "foo bar\nbaz\n".repeat(rt.alloc(), 30000)?;
+    assert_filled(&rt, &input, 10, FIRST, &output)
+}
+
+/// A reader may give more after its end, as a terminal does, and a writer may have been written to
+/// before.
+#[test]
+fn the_end_is_read_once_and_the_output_flushed_once(rt: HostRuntime) -> Result<(), AllocError> {
+    let mut reader = Feed::new(rt.alloc(), b"foofoo", 3, FeedFault::GivesNothing(3))?;
+    let mut writer = Sink::new(rt.alloc(), 5, WRITES);
+    let done = plain_run(rt.alloc(), &mut reader, &mut writer, 2, FIRST);
+    assert_done(&rt, "a terminal", done, Ok(()));
+    assert_number(&rt, "the reads of a terminal", reader.reads, 2);
+    assert_written(&rt, "a terminal", &writer, b"fo\no", 1);
+    let mut reader = Feed::new(rt.alloc(), b"foo bar baz", 20, READS)?;
+    let done = plain_run(rt.alloc(), &mut reader, &mut writer, 10, FIRST);
+    assert_done(&rt, "a second run", done, Ok(()));
+    assert_written(&rt, "a second run", &writer, b"fo\nofoo bar\nbaz", 2);
+    Ok(())
+}
+
+/// What a row shows, the input, how the reader gives and the writer takes, and what the run returns
+/// and writes at 10 columns by first fit.
+type StreamRun = (
+    &'static str,
+    &'static [u8],
+    (usize, FeedFault),
+    (usize, SinkFault),
+    Result<(), RunError>,
+    &'static [u8],
+);
+
+/// Asserts what these runs return and write.
+fn assert_runs(rt: &(impl Abort + AllocGlobal), runs: &[StreamRun]) -> Result<(), AllocError> {
+    for &(rule, input, reader, writer, done, output) in runs {
+        let given = Given {
+            input,
+            reader,
+            writer,
+            width: 10,
+            algorithm: FIRST,
+        };
+        assert_run(rt, rule, given, done, output)?;
+    }
+    Ok(())
 }
 
 /// A text, and the lines of it at 10 columns by first fit.
@@ -254,106 +200,221 @@ const HAMLET: &[u8] = b"To be, or not to be: that is the question";
 
 const FILLED: &[u8] = b"To be, or\nnot to be:\nthat is\nthe\nquestion";
 
+const PIECES: &[StreamRun] = &[
+    (
+        "byte by byte",
+        HAMLET,
+        (1, READS),
+        (1, WRITES),
+        Ok(()),
+        FILLED,
+    ),
+    (
+        "seven and three",
+        HAMLET,
+        (7, READS),
+        (3, WRITES),
+        Ok(()),
+        FILLED,
+    ),
+    (
+        "a character that is cut",
+        b"\xE3\x81\x82",
+        (2, READS),
+        (2, WRITES),
+        Ok(()),
+        b"\xE3\x81\x82",
+    ),
+];
+
 /// A text may come in pieces, which may cut a character, and be taken in pieces.
 #[test]
-fn a_text_comes_and_goes_in_pieces(rt: HostRuntime) {
-    for (mut reader, mut writer, output) in [
-        (Feed::new(HAMLET, 1), Sink::new(rt.alloc(), 1), FILLED),
-        (Feed::new(HAMLET, 7), Sink::new(rt.alloc(), 3), FILLED),
-        (
-            Feed::new(&[0xE3, 0x81, 0x82], 2),
-            Sink::new(rt.alloc(), 2),
-            "あ".as_bytes(),
-        ),
-    ] {
-        let done = run(rt.alloc(), &mut reader, &mut writer, 10, FIRST);
-        assert_eq!(rt; done, Ok(()));
-        assert_eq!(rt; writer.taken.as_slice(), output);
-    }
+fn a_text_comes_and_goes_in_pieces(rt: HostRuntime) -> Result<(), AllocError> {
+    assert_runs(&rt, PIECES)
 }
+
+const BAD_INPUTS: &[StreamRun] = &[
+    (
+        "a read that fails after some bytes",
+        b"To be",
+        (5, FeedFault::Fails(5, ErrorKind::BrokenPipe)),
+        (5, WRITES),
+        Err(RunError::Read),
+        b"",
+    ),
+    (
+        "a read that is interrupted",
+        b"To be",
+        (5, FeedFault::Fails(5, ErrorKind::Interrupted)),
+        (5, WRITES),
+        Err(RunError::Read),
+        b"",
+    ),
+    (
+        "a first read that fails",
+        b"",
+        (5, FeedFault::Fails(0, ErrorKind::BrokenPipe)),
+        (5, WRITES),
+        Err(RunError::Read),
+        b"",
+    ),
+    (
+        "a read that fails after what is no text",
+        b"\x61\xFF",
+        (5, FeedFault::Fails(2, ErrorKind::BrokenPipe)),
+        (5, WRITES),
+        Err(RunError::Read),
+        b"",
+    ),
+    (
+        "no text",
+        b"\xFF",
+        (5, READS),
+        (5, WRITES),
+        Err(RunError::NotUtf8),
+        b"",
+    ),
+    (
+        "a text that ends in none",
+        b"\x61\xFF",
+        (5, READS),
+        (5, WRITES),
+        Err(RunError::NotUtf8),
+        b"",
+    ),
+    (
+        "a character that is cut off",
+        b"\xE3\x81",
+        (5, READS),
+        (5, WRITES),
+        Err(RunError::NotUtf8),
+        b"",
+    ),
+];
 
 /// What cannot be read whole, or is no text, leaves the writer untouched.
 #[test]
-fn a_bad_input_writes_nothing(rt: HostRuntime) {
-    let rows: [(&[u8], Option<ErrorKind>, RunError); 7] = [
-        (b"To be", Some(ErrorKind::BrokenPipe), RunError::Read),
-        (b"To be", Some(ErrorKind::Interrupted), RunError::Read),
-        (b"", Some(ErrorKind::BrokenPipe), RunError::Read),
-        (&[0x61, 0xFF], Some(ErrorKind::BrokenPipe), RunError::Read),
-        (&[0xFF], None, RunError::NotUtf8),
-        (&[0x61, 0xFF], None, RunError::NotUtf8),
-        (&[0xE3, 0x81], None, RunError::NotUtf8),
-    ];
-    for (bytes, fault, error) in rows {
-        let mut reader = Feed::new(bytes, 5);
-        reader.fault = fault;
-        let mut writer = Sink::new(rt.alloc(), 5);
-        let done = run(rt.alloc(), &mut reader, &mut writer, 10, FIRST);
-        assert_eq!(rt; done, Err(error), "{bytes:?}");
-        assert!(rt; writer.taken.is_empty(), "{bytes:?}");
-    }
+fn a_bad_input_writes_nothing(rt: HostRuntime) -> Result<(), AllocError> {
+    assert_runs(&rt, BAD_INPUTS)
 }
+
+const FAULTY_WRITERS: &[StreamRun] = &[
+    (
+        "a first write that takes nothing",
+        HAMLET,
+        (50, READS),
+        (5, SinkFault::TakesNothing(0)),
+        Err(RunError::Write),
+        b"",
+    ),
+    (
+        "a first write that fails",
+        HAMLET,
+        (50, READS),
+        (5, SinkFault::Fails(0, ErrorKind::BrokenPipe)),
+        Err(RunError::Write),
+        b"",
+    ),
+    (
+        "a first write that is interrupted",
+        HAMLET,
+        (50, READS),
+        (5, SinkFault::Fails(0, ErrorKind::Interrupted)),
+        Err(RunError::Write),
+        b"",
+    ),
+    (
+        "a write that fails in mid-stream",
+        HAMLET,
+        (50, READS),
+        (5, SinkFault::Fails(4, ErrorKind::BrokenPipe)),
+        Err(RunError::Write),
+        b"To b",
+    ),
+    (
+        "a write that takes nothing in mid-stream",
+        HAMLET,
+        (50, READS),
+        (5, SinkFault::TakesNothing(4)),
+        Err(RunError::Write),
+        b"To b",
+    ),
+    (
+        "a last write that is interrupted",
+        HAMLET,
+        (50, READS),
+        (
+            5,
+            SinkFault::Fails(FILLED.len() - 1, ErrorKind::Interrupted),
+        ),
+        Err(RunError::Write),
+        b"To be, or\nnot to be:\nthat is\nthe\nquestio",
+    ),
+    (
+        "a flush that fails",
+        HAMLET,
+        (50, READS),
+        (5, SinkFault::FlushFails),
+        Err(RunError::Write),
+        FILLED,
+    ),
+    (
+        "a flush that fails where nothing is written",
+        b"",
+        (50, READS),
+        (5, SinkFault::FlushFails),
+        Err(RunError::Write),
+        b"",
+    ),
+];
 
 /// A write that fails or takes nothing ends the run, with what was written before it, and so does
 /// a flush that fails.
 #[test]
-fn a_write_or_flush_that_fails_leaves_a_prefix(rt: HostRuntime) {
-    for &(input, room, fault) in FAULTY_WRITERS {
-        let mut writer = Sink::new(rt.alloc(), 5);
-        writer.room = room;
-        writer.fault = Some(fault);
-        let mut reader = Feed::new(input, 50);
-        let done = run(rt.alloc(), &mut reader, &mut writer, 10, FIRST);
-        assert_eq!(rt; done, Err(RunError::Write), "{room} {fault:?}");
-        assert_eq!(rt;
-            writer.taken.as_slice(),
-            &FILLED[..room],
-            "{room} {fault:?}"
-        );
-    }
+fn a_write_or_flush_that_fails_leaves_a_prefix(rt: HostRuntime) -> Result<(), AllocError> {
+    assert_runs(&rt, FAULTY_WRITERS)
 }
 
-/// An input, how much of its filled text is written before the fault, and the fault.
-const FAULTY_WRITERS: &[(&[u8], usize, SinkFault)] = &[
-    (HAMLET, 0, SinkFault::TakesNothing),
-    (HAMLET, 0, SinkFault::Fails(ErrorKind::BrokenPipe)),
-    (HAMLET, 0, SinkFault::Fails(ErrorKind::Interrupted)),
-    (HAMLET, 4, SinkFault::Fails(ErrorKind::BrokenPipe)),
-    (HAMLET, 4, SinkFault::TakesNothing),
+/// Runs over the heap, and asserts what the run returns and writes.
+fn assert_run_over(
+    rt: &(impl Abort + AllocGlobal),
+    heap: &Heap,
+    algorithm: Algorithm,
+    done: Result<(), RunError>,
+    output: &[u8],
+) -> Result<(), AllocError> {
+    let mut reader = Feed::new(rt.alloc(), HAMLET, 9, READS)?;
+    let mut writer = Sink::new(rt.alloc(), 9, WRITES);
+    let returned = plain_run(heap, &mut reader, &mut writer, 10, algorithm);
+    assert_done(rt, "over a heap", returned, done);
+    assert_taken(rt, "over a heap", &writer, output);
+    Ok(())
+}
+
+/// An algorithm, how many allocations its run takes, and the output.
+const REFUSALS: &[(Algorithm, usize, &[u8])] = &[
+    (FIRST, 5, FILLED),
     (
-        HAMLET,
-        FILLED.len() - 1,
-        SinkFault::Fails(ErrorKind::Interrupted),
+        OPTIMAL,
+        12,
+        b"To be,\nor not to\nbe: that\nis the\nquestion",
     ),
-    (HAMLET, FILLED.len(), SinkFault::FlushFails),
-    (b"", 0, SinkFault::FlushFails),
 ];
-
-/// Runs with no allocation allowed, then with one more each time, until none is refused, and returns
-/// how many runs were. Asserts that these wrote nothing.
-fn count_refused_runs(rt: &(impl Abort + AllocGlobal), algorithm: Algorithm) -> usize {
-    let heap = Heap::new(rt.alloc(), 0);
-    for allowed in 0..100 {
-        heap.allow(allowed);
-        let mut writer = Sink::new(rt.alloc(), 9);
-        let done = run(&heap, &mut Feed::new(HAMLET, 9), &mut writer, 10, algorithm);
-        if done.is_ok() {
-            assert_eq!(rt; heap.left(), 0, "{algorithm:?}");
-            return allowed;
-        }
-        assert_eq!(rt; done, Err(RunError::Memory), "{algorithm:?} with {allowed}");
-        assert!(rt; writer.taken.is_empty(), "{algorithm:?} with {allowed}");
-    }
-    100
-}
 
 /// Where memory runs out at any of the allocations of a run, nothing is written.
 #[test]
-fn a_run_out_of_memory_writes_nothing(rt: HostRuntime) {
-    for (algorithm, refusals) in [(Algorithm::FirstFit, 5), (Algorithm::OptimalFit, 12)] {
-        let refused = count_refused_runs(&rt, algorithm);
-        assert_eq!(rt; refused, refusals, "{algorithm:?}");
+fn a_run_out_of_memory_writes_nothing(rt: HostRuntime) -> Result<(), AllocError> {
+    let heap = Heap::new(rt.alloc(), 0);
+    for &(algorithm, refusals, output) in REFUSALS {
+        for allowed in 0..refusals {
+            heap.allow(allowed);
+            assert_run_over(&rt, &heap, algorithm, Err(RunError::Memory), b"")?;
+        }
+        heap.allow(refusals);
+        assert_run_over(&rt, &heap, algorithm, Ok(()), output)?;
+        assert_number(&rt, "allocations left", heap.left(), 0);
     }
+    Ok(())
 }
 
 #[test]

@@ -1,159 +1,210 @@
 //! The words, the input, the output and the messages together.
-use super::strings;
-use refusing_heap::Heap;
+use super::plain::{assert_number, assert_taken, plain_execute, strings};
+use fakes::heap::Heap;
+use fakes::streams::{Feed, FeedFault, Sink, SinkFault};
 use std::alloc::AllocError;
-use std::io;
-use std::io::{ErrorKind, Read, Write};
+use std::io::ErrorKind;
 use std::process::Abort;
-use std::test::Fail;
-use textwrap_program::program::execute;
 
 const HAMLET: &[u8] = b"To be, or not to be: that is the question";
 
-/// A reader and writer whose every call fails.
-#[derive(Drop)]
-struct Closed;
+/// What a row shows, its words, the input, what goes wrong with that, with the output and with the
+/// messages, and the output, the messages and the status.
+type Run = (
+    &'static str,
+    &'static [&'static str],
+    &'static [u8],
+    (FeedFault, SinkFault, SinkFault),
+    &'static str,
+    &'static str,
+    u8,
+);
 
-impl Read for Closed {
-    fn read(&mut self, _buffer: &mut [u8]) -> io::Result<usize> {
-        Err(io::Error::from(ErrorKind::BrokenPipe))
-    }
-}
+/// Nothing goes wrong, the input cannot be read, the output cannot be written, no message can be
+/// written.
+const SOUND: (FeedFault, SinkFault, SinkFault) = (
+    FeedFault::Nothing,
+    SinkFault::Nothing,
+    SinkFault::Nothing,
+);
 
-impl Write for Closed {
-    fn write(&mut self, _bytes: &[u8]) -> io::Result<usize> {
-        Err(io::Error::from(ErrorKind::BrokenPipe))
-    }
+const NO_INPUT: (FeedFault, SinkFault, SinkFault) = (
+    FeedFault::Fails(0, ErrorKind::BrokenPipe),
+    SinkFault::Nothing,
+    SinkFault::Nothing,
+);
 
-    fn flush(&mut self) -> io::Result<()> {
-        Err(io::Error::from(ErrorKind::BrokenPipe))
-    }
-}
+const NO_OUTPUT: (FeedFault, SinkFault, SinkFault) = (
+    FeedFault::Nothing,
+    SinkFault::Fails(0, ErrorKind::BrokenPipe),
+    SinkFault::Nothing,
+);
 
-/// Asserts that these words and this input give the output, the messages and the status.
-fn assert_executed(
-    rt: &(impl Abort + AllocGlobal),
-    words: &[&str],
-    input: &[u8],
-    output: &str,
-    messages: &str,
-    status: u8,
-) -> Result<(), AllocError> {
-    let arguments = strings(rt.alloc(), words)?;
-    let mut reader = input;
-    let mut written = Vec::new(rt.alloc());
-    let mut said = Vec::new(rt.alloc());
-    let ended = execute(rt.alloc(), &arguments, &mut reader, &mut written, &mut said);
-    assert_eq!(rt; ended, status, "{words:?}");
-    assert!(rt; written.as_slice() == output.as_bytes(), "{words:?}");
-    assert!(rt; said.as_slice() == messages.as_bytes(), "{words:?}");
-    Ok(())
-}
+const NO_MESSAGES: (FeedFault, SinkFault, SinkFault) = (
+    FeedFault::Nothing,
+    SinkFault::Nothing,
+    SinkFault::Fails(0, ErrorKind::BrokenPipe),
+);
 
 const USAGE: &str = "usage: textwrap_cli WIDTH [first|optimal]\n";
 
-/// Words and an input, and the output, the messages and the status.
-const EXECUTED: &[(&[&str], &[u8], &str, &str, u8)] = &[
+const RUNS: &[Run] = &[
     (
+        "least cost is what is meant",
         &["10"],
         HAMLET,
+        SOUND,
         "To be,\nor not to\nbe: that\nis the\nquestion",
         "",
         0,
     ),
     (
+        "least cost",
         &["10", "optimal"],
         HAMLET,
+        SOUND,
         "To be,\nor not to\nbe: that\nis the\nquestion",
         "",
         0,
     ),
     (
+        "first fit",
         &["10", "first"],
         HAMLET,
+        SOUND,
         "To be, or\nnot to be:\nthat is\nthe\nquestion",
         "",
         0,
     ),
-    (&["2", "first"], b"abc", "ab\nc", "", 0),
     (
+        "a narrow width",
+        &["2", "first"],
+        b"abc",
+        SOUND,
+        "ab\nc",
+        "",
+        0,
+    ),
+    (
+        "no text",
         &["10", "first"],
         &[0xFF],
+        SOUND,
         "",
         "textwrap_cli: input is not UTF-8\n",
         1,
     ),
-    (&[], HAMLET, "", USAGE, 2),
-    (&["10", "first", "x"], HAMLET, "", USAGE, 2),
+    ("no words", &[], HAMLET, SOUND, "", USAGE, 2),
+    (
+        "three words",
+        &["10", "first", "x"],
+        HAMLET,
+        SOUND,
+        "",
+        USAGE,
+        2,
+    ),
+    // A wide line needs no more memory than a narrow one.
+    (
+        "a wide width",
+        &["10001", "first"],
+        HAMLET,
+        SOUND,
+        "To be, or not to be: that is the question",
+        "",
+        0,
+    ),
+    (
+        "the largest width",
+        &["18446744073709551615"],
+        HAMLET,
+        SOUND,
+        "To be, or not to be: that is the question",
+        "",
+        0,
+    ),
+    (
+        "an input that cannot be read",
+        &["10"],
+        HAMLET,
+        NO_INPUT,
+        "",
+        "textwrap_cli: cannot read input\n",
+        1,
+    ),
+    (
+        "an output that cannot be written",
+        &["10"],
+        HAMLET,
+        NO_OUTPUT,
+        "",
+        "textwrap_cli: cannot write output\n",
+        1,
+    ),
+    // A message that cannot be written leaves the status.
+    ("no usage", &["x"], &[0xFF], NO_MESSAGES, "", "", 2),
+    ("no message", &["10"], &[0xFF], NO_MESSAGES, "", "", 1),
 ];
 
+/// Asserts that a run gives its output, its messages and its status.
+fn assert_run(rt: &(impl Abort + AllocGlobal), run: &Run) -> Result<(), AllocError> {
+    let &(rule, words, input, faults, output, messages, status) = run;
+    let words = strings(rt.alloc(), words)?;
+    let mut reader = Feed::new(rt.alloc(), input, 50, faults.0)?;
+    let mut written = Sink::new(rt.alloc(), 50, faults.1);
+    let mut said = Sink::new(rt.alloc(), 50, faults.2);
+    let ended = plain_execute(rt.alloc(), &words, &mut reader, &mut written, &mut said);
+    assert_number(rt, rule, usize::from(ended), usize::from(status));
+    assert_taken(rt, rule, &written, output.as_bytes());
+    assert_taken(rt, rule, &said, messages.as_bytes());
+    Ok(())
+}
+
 #[test]
-fn words_and_input_give_output_messages_and_status(rt: HostRuntime) -> Result<(), Fail> {
-    for &(words, input, output, messages, status) in EXECUTED {
-        assert_executed(&rt, words, input, output, messages, status)?;
+fn words_and_input_give_output_messages_and_status(rt: HostRuntime) -> Result<(), AllocError> {
+    for run in RUNS {
+        assert_run(&rt, run)?;
     }
     Ok(())
 }
 
-#[test]
-fn an_input_that_cannot_be_read_ends_with_status_1(rt: HostRuntime) -> Result<(), Fail> {
+/// Runs the program over the heap, and asserts the output, the messages and the status.
+fn assert_run_over(
+    rt: &(impl Abort + AllocGlobal),
+    heap: &Heap,
+    output: &[u8],
+    messages: &[u8],
+    status: usize,
+) -> Result<(), AllocError> {
     let words = strings(rt.alloc(), &["10"])?;
-    let mut said = Vec::new(rt.alloc());
-    let mut output = Vec::new(rt.alloc());
-    let status = execute(rt.alloc(), &words, &mut Closed, &mut output, &mut said);
-    assert_eq!(rt; status, 1);
-    assert!(rt; output.is_empty());
-    assert!(rt; said.as_slice() == b"textwrap_cli: cannot read input\n".as_slice());
+    let mut reader = Feed::new(rt.alloc(), HAMLET, 50, FeedFault::Nothing)?;
+    let mut written = Sink::new(rt.alloc(), 50, SinkFault::Nothing);
+    let mut said = Sink::new(rt.alloc(), 50, SinkFault::Nothing);
+    let ended = plain_execute(heap, &words, &mut reader, &mut written, &mut said);
+    assert_number(rt, "the status over a heap", usize::from(ended), status);
+    assert_taken(rt, "the output over a heap", &written, output);
+    assert_taken(rt, "the messages over a heap", &said, messages);
     Ok(())
 }
 
-#[test]
-fn an_output_that_cannot_be_written_ends_with_status_1(rt: HostRuntime) -> Result<(), Fail> {
-    let words = strings(rt.alloc(), &["10"])?;
-    let mut said = Vec::new(rt.alloc());
-    let mut input = HAMLET;
-    let status = execute(rt.alloc(), &words, &mut input, &mut Closed, &mut said);
-    assert_eq!(rt; status, 1);
-    assert!(rt; said.as_slice() == b"textwrap_cli: cannot write output\n".as_slice());
-    Ok(())
-}
+/// How many allocations filling [`HAMLET`] by the least cost takes.
+const REFUSALS: usize = 9;
+
+const FILLED: &[u8] = b"To be,\nor not to\nbe: that\nis the\nquestion";
+
+const OUT_OF_MEMORY: &[u8] = b"textwrap_cli: out of memory\n";
 
 /// Wherever one of its allocations is refused, the program says that it is out of memory, and writes
 /// nothing.
 #[test]
-fn a_program_out_of_memory_says_so(rt: HostRuntime) -> Result<(), Fail> {
-    let words = strings(rt.alloc(), &["10"])?;
+fn a_program_out_of_memory_says_so(rt: HostRuntime) -> Result<(), AllocError> {
     let heap = Heap::new(rt.alloc(), 0);
-    let mut output = Vec::new(rt.alloc());
     for allowed in 0..REFUSALS {
         heap.allow(allowed);
-        let mut said = Vec::new(rt.alloc());
-        let status = execute(&heap, &words, &mut &*HAMLET, &mut output, &mut said);
-        assert_eq!(rt; status, 1, "{allowed}");
-        assert!(rt; said.as_slice() == OUT_OF_MEMORY, "{allowed}");
-        assert!(rt; output.is_empty(), "{allowed}");
+        assert_run_over(&rt, &heap, b"", OUT_OF_MEMORY, 1)?;
     }
     heap.allow(REFUSALS);
-    let status = execute(&heap, &words, &mut &*HAMLET, &mut output, &mut Closed);
-    assert_eq!(rt; status, 0);
-    assert_eq!(rt; heap.left(), 0);
-    Ok(())
-}
-
-/// How many allocations filling these words by the least cost takes.
-const REFUSALS: usize = 9;
-
-const OUT_OF_MEMORY: &[u8] = b"textwrap_cli: out of memory\n";
-
-#[test]
-fn a_message_that_cannot_be_written_leaves_the_status(rt: HostRuntime) -> Result<(), Fail> {
-    for (words, status) in [(["x"], 2), (["10"], 1)] {
-        let words = strings(rt.alloc(), &words)?;
-        let mut input = [0xFF].as_slice();
-        let mut output = Vec::new(rt.alloc());
-        let ended = execute(rt.alloc(), &words, &mut input, &mut output, &mut Closed);
-        assert_eq!(rt; ended, status);
-        assert!(rt; output.is_empty());
-    }
+    assert_run_over(&rt, &heap, FILLED, b"", 0)?;
+    assert_number(&rt, "allocations left", heap.left(), 0);
     Ok(())
 }

@@ -1,11 +1,16 @@
 //! Reads and writes of the standard streams that fail, and texts that come and go in pieces.
-use super::fakes::{Fault, Given};
-use super::{Start, run};
-use std::test::Fail;
+use super::folder::{FileFault, Given};
+use super::plain::{
+    Faults, SOUND, Start, assert_bytes, assert_ending, assert_number, assert_reflowed, run,
+};
+use fakes::streams::{FeedFault, SinkFault};
+use std::alloc::AllocError;
+use std::io::ErrorKind;
+use std::process::Abort;
 
 const FILES: &[Given] = &[
-    ("a", b"one two three four\n", Fault::Nothing),
-    ("b", b"five six seven\n", Fault::Nothing),
+    ("a", b"one two three four\n", FileFault::Nothing),
+    ("b", b"five six seven\n", FileFault::Nothing),
 ];
 
 /// What a row shows, its words, the standard input, what goes wrong with that, with the output and
@@ -14,7 +19,7 @@ type FaultRun = (
     &'static str,
     &'static [&'static str],
     &'static [u8],
-    (Fault, Fault, Fault),
+    Faults,
     &'static str,
     &'static str,
     u8,
@@ -25,7 +30,11 @@ const FAULT_RUNS: &[FaultRun] = &[
         "nothing is printed of an input whose read fails",
         &["-w", "10"],
         b"one two three four\n",
-        (Fault::Read(6), Fault::Nothing, Fault::Nothing),
+        (
+            FeedFault::Fails(6, ErrorKind::BrokenPipe),
+            SinkFault::Nothing,
+            SinkFault::Nothing,
+        ),
         "",
         "reflow: standard input: cannot read\n",
         2,
@@ -34,7 +43,11 @@ const FAULT_RUNS: &[FaultRun] = &[
         "the same at the first read",
         &["-w", "10", "--check"],
         b"one two three four\n",
-        (Fault::Read(0), Fault::Nothing, Fault::Nothing),
+        (
+            FeedFault::Fails(0, ErrorKind::BrokenPipe),
+            SinkFault::Nothing,
+            SinkFault::Nothing,
+        ),
         "",
         "reflow: standard input: cannot read\n",
         2,
@@ -43,7 +56,7 @@ const FAULT_RUNS: &[FaultRun] = &[
         "an input that is no text, at its end",
         &["-w", "10"],
         b"one \xE3\x81",
-        (Fault::Nothing, Fault::Nothing, Fault::Nothing),
+        SOUND,
         "",
         "reflow: standard input: not UTF-8\n",
         2,
@@ -52,7 +65,7 @@ const FAULT_RUNS: &[FaultRun] = &[
         "a check of the standard input that would change",
         &["-w", "10", "--check"],
         b"one two three four\n",
-        (Fault::Nothing, Fault::Nothing, Fault::Nothing),
+        SOUND,
         "standard input\n",
         "",
         1,
@@ -61,7 +74,7 @@ const FAULT_RUNS: &[FaultRun] = &[
         "a check of the standard input that would not change",
         &["-w", "10", "--check"],
         b"one two\nthree four\n",
-        (Fault::Nothing, Fault::Nothing, Fault::Nothing),
+        SOUND,
         "",
         "",
         0,
@@ -70,7 +83,11 @@ const FAULT_RUNS: &[FaultRun] = &[
         "a write fails in mid-stream",
         &["-w", "10"],
         b"one two three four\n",
-        (Fault::Nothing, Fault::Write(12), Fault::Nothing),
+        (
+            FeedFault::Nothing,
+            SinkFault::Fails(12, ErrorKind::BrokenPipe),
+            SinkFault::Nothing,
+        ),
         "one two\nthre",
         "reflow: standard input: cannot write\n",
         2,
@@ -79,7 +96,11 @@ const FAULT_RUNS: &[FaultRun] = &[
         "a write that takes nothing is a fault",
         &["-w", "10"],
         b"one two three four\n",
-        (Fault::Nothing, Fault::Full(12), Fault::Nothing),
+        (
+            FeedFault::Nothing,
+            SinkFault::TakesNothing(12),
+            SinkFault::Nothing,
+        ),
         "one two\nthre",
         "reflow: standard input: cannot write\n",
         2,
@@ -88,8 +109,25 @@ const FAULT_RUNS: &[FaultRun] = &[
         "the output cannot be flushed",
         &["-w", "10"],
         b"one two three four\n",
-        (Fault::Nothing, Fault::Flush, Fault::Nothing),
+        (
+            FeedFault::Nothing,
+            SinkFault::FlushFails,
+            SinkFault::Nothing,
+        ),
         "one two\nthree four\n",
+        "reflow: standard input: cannot write\n",
+        2,
+    ),
+    (
+        "the output cannot be flushed, where there is nothing to write",
+        &["-w", "10"],
+        b"",
+        (
+            FeedFault::Nothing,
+            SinkFault::FlushFails,
+            SinkFault::Nothing,
+        ),
+        "",
         "reflow: standard input: cannot write\n",
         2,
     ),
@@ -97,7 +135,11 @@ const FAULT_RUNS: &[FaultRun] = &[
         "a write fails at the first of two files",
         &["-w", "10", "a", "b"],
         b"",
-        (Fault::Nothing, Fault::Write(4), Fault::Nothing),
+        (
+            FeedFault::Nothing,
+            SinkFault::Fails(4, ErrorKind::BrokenPipe),
+            SinkFault::Nothing,
+        ),
         "one five six\nseven\n",
         "reflow: a: cannot write\n",
         2,
@@ -106,7 +148,11 @@ const FAULT_RUNS: &[FaultRun] = &[
         "a write fails at a name",
         &["-w", "10", "--check", "a", "b"],
         b"",
-        (Fault::Nothing, Fault::Write(1), Fault::Nothing),
+        (
+            FeedFault::Nothing,
+            SinkFault::Fails(1, ErrorKind::BrokenPipe),
+            SinkFault::Nothing,
+        ),
         "ab\n",
         "reflow: a: cannot write\n",
         2,
@@ -115,7 +161,11 @@ const FAULT_RUNS: &[FaultRun] = &[
         "a message that is cut off",
         &["-w", "10", "x", "a"],
         b"",
-        (Fault::Nothing, Fault::Nothing, Fault::Write(11)),
+        (
+            FeedFault::Nothing,
+            SinkFault::Nothing,
+            SinkFault::Fails(11, ErrorKind::BrokenPipe),
+        ),
         "one two\nthree four\n",
         "reflow: x: ",
         2,
@@ -124,7 +174,11 @@ const FAULT_RUNS: &[FaultRun] = &[
         "a message that cannot be flushed",
         &["-w", "10", "x"],
         b"",
-        (Fault::Nothing, Fault::Nothing, Fault::Flush),
+        (
+            FeedFault::Nothing,
+            SinkFault::Nothing,
+            SinkFault::FlushFails,
+        ),
         "",
         "reflow: ",
         2,
@@ -133,37 +187,49 @@ const FAULT_RUNS: &[FaultRun] = &[
         "a message on the words that cannot be written",
         &["-w", "x"],
         b"",
-        (Fault::Nothing, Fault::Nothing, Fault::Write(0)),
+        (
+            FeedFault::Nothing,
+            SinkFault::Nothing,
+            SinkFault::Fails(0, ErrorKind::BrokenPipe),
+        ),
         "",
         "",
         2,
     ),
 ];
 
-/// An ending says whether each message was written whole.
+/// Asserts what comes of a run, and that no file is replaced. It ends with whether each message was
+/// written whole.
+fn assert_fault_run(rt: &(impl Abort + AllocGlobal), row: &FaultRun) -> Result<(), AllocError> {
+    let &(rule, words, input, faults, output, messages, status) = row;
+    let start = Start {
+        words,
+        input,
+        files: FILES,
+        faults,
+    };
+    let left = run(rt.alloc(), start)?;
+    assert_bytes(rt, rule, &left.output.taken, output.as_bytes());
+    assert_bytes(rt, rule, &left.messages.taken, messages.as_bytes());
+    let said = matches!(faults.2, SinkFault::Nothing);
+    assert_ending(rt, rule, left.ending, status, said);
+    assert_number(rt, rule, left.folder.replaced, 0);
+    Ok(())
+}
+
 #[test]
-fn faults_of_the_streams_are_reported(rt: HostRuntime) -> Result<(), Fail> {
-    for &(rule, words, input, faults, output, messages, status) in FAULT_RUNS {
-        let start = Start::new(words, input, FILES).with(faults);
-        let left = run(rt.alloc(), &start)?;
-        assert!(rt; left.output.has(output.as_bytes()), "{rule}");
-        assert!(rt; left.messages.has(messages.as_bytes()), "{rule}");
-        assert_eq!(rt; left.ending.status, status, "{rule}");
-        let said = faults.2 == Fault::Nothing;
-        assert_eq!(rt; left.ending.said, said, "{rule}");
-        assert_eq!(rt; left.folder.replaced, 0, "{rule}");
+fn faults_of_the_streams_are_reported(rt: HostRuntime) -> Result<(), AllocError> {
+    for row in FAULT_RUNS {
+        assert_fault_run(&rt, row)?;
     }
     Ok(())
 }
 
 /// A megabyte of paragraphs.
 #[test]
-fn a_large_text_is_reflowed_whole(rt: HostRuntime) -> Result<(), Fail> {
+fn a_large_text_is_reflowed_whole(rt: HostRuntime) -> Result<(), AllocError> {
     let input = "- foo\n  bar\n  baz\n\n".repeat(rt.alloc(), 70_000)?;
     let output = "- foo bar\n  baz\n\n".repeat(rt.alloc(), 70_000)?;
     let words = ["-w", "9", "--first-fit"];
-    let left = run(rt.alloc(), &Start::new(&words, input.as_bytes(), &[]))?;
-    assert!(rt; left.output.has(output.as_bytes()));
-    assert_eq!(rt; left.ending.status, 0);
-    Ok(())
+    assert_reflowed(&rt, "a large text", &words, &input, &output)
 }

@@ -1,7 +1,10 @@
 //! What becomes of files, one after another.
-use super::fakes::{Fault, Given};
-use super::{Start, run};
-use std::test::Fail;
+use super::folder::{FileFault, Folder, Given};
+use super::plain::{SOUND, Start, assert_bytes, assert_ending, assert_number, run};
+use fakes::streams::{FeedFault, SinkFault};
+use std::alloc::AllocError;
+use std::io::ErrorKind;
+use std::process::Abort;
 
 const COUNT: &[u8] = b"one two three four\n";
 
@@ -13,44 +16,77 @@ const EIGHT: &[u8] = b"eight\n";
 const NO_TEXT: &[u8] = b"one \xFF\n";
 
 /// Two files that change at 10 columns, and one that does not.
-const SOUND: &[Given] = &[
-    ("a", COUNT, Fault::Nothing),
-    ("b", FIVE, Fault::Nothing),
-    ("c", EIGHT, Fault::Nothing),
+const SOUND_FILES: &[Given] = &[
+    ("a", COUNT, FileFault::Nothing),
+    ("b", FIVE, FileFault::Nothing),
+    ("c", EIGHT, FileFault::Nothing),
 ];
 
 /// The second of three files goes wrong.
 const CLOSED: &[Given] = &[
-    ("a", COUNT, Fault::Nothing),
-    ("b", FIVE, Fault::Open),
-    ("c", EIGHT, Fault::Nothing),
+    ("a", COUNT, FileFault::Nothing),
+    ("b", FIVE, FileFault::Open),
+    ("c", EIGHT, FileFault::Nothing),
 ];
 
 const CUT_OFF: &[Given] = &[
-    ("a", COUNT, Fault::Nothing),
-    ("b", FIVE, Fault::Read(9)),
-    ("c", EIGHT, Fault::Nothing),
+    ("a", COUNT, FileFault::Nothing),
+    (
+        "b",
+        FIVE,
+        FileFault::Read(FeedFault::Fails(9, ErrorKind::BrokenPipe)),
+    ),
+    ("c", EIGHT, FileFault::Nothing),
 ];
 
 const NO_UTF8: &[Given] = &[
-    ("a", COUNT, Fault::Nothing),
-    ("b", NO_TEXT, Fault::Nothing),
-    ("c", EIGHT, Fault::Nothing),
+    ("a", COUNT, FileFault::Nothing),
+    ("b", NO_TEXT, FileFault::Nothing),
+    ("c", EIGHT, FileFault::Nothing),
 ];
 
 /// The first of two files goes wrong when it is replaced.
-const NO_DRAFT: &[Given] = &[("a", COUNT, Fault::Draft), ("b", FIVE, Fault::Nothing)];
+const NO_DRAFT: &[Given] = &[
+    ("a", COUNT, FileFault::Draft),
+    ("b", FIVE, FileFault::Nothing),
+];
 
-const DRAFT_CUT_OFF: &[Given] = &[("a", COUNT, Fault::Write(7)), ("b", FIVE, Fault::Nothing)];
+const DRAFT_CUT_OFF: &[Given] = &[
+    (
+        "a",
+        COUNT,
+        FileFault::Write(SinkFault::Fails(7, ErrorKind::BrokenPipe)),
+    ),
+    ("b", FIVE, FileFault::Nothing),
+];
 
-const DRAFT_FULL: &[Given] = &[("a", COUNT, Fault::Full(0)), ("b", FIVE, Fault::Nothing)];
+const DRAFT_FULL: &[Given] = &[
+    ("a", COUNT, FileFault::Write(SinkFault::TakesNothing(0))),
+    ("b", FIVE, FileFault::Nothing),
+];
 
-const DRAFT_NOT_FLUSHED: &[Given] = &[("a", COUNT, Fault::Flush), ("b", FIVE, Fault::Nothing)];
+const DRAFT_NOT_FLUSHED: &[Given] = &[
+    ("a", COUNT, FileFault::Write(SinkFault::FlushFails)),
+    ("b", FIVE, FileFault::Nothing),
+];
 
-const NOT_RENAMED: &[Given] = &[("a", COUNT, Fault::Replace), ("b", FIVE, Fault::Nothing)];
+const NOT_RENAMED: &[Given] = &[
+    ("a", COUNT, FileFault::Replace),
+    ("b", FIVE, FileFault::Nothing),
+];
 
 /// A file with a name like an option.
-const ODD_NAME: &[Given] = &[("--check", COUNT, Fault::Nothing)];
+const ODD_NAME: &[Given] = &[("--check", COUNT, FileFault::Nothing)];
+
+/// Two lines that are justified at 10 columns, and that are only reflowed.
+const JUSTIFIED: &[u8] = b"one    two\nthree four\n";
+
+const REFLOWED: &[u8] = b"one two\nthree four\n";
+
+const JUSTIFIED_FIRST: &[Given] = &[
+    ("a", JUSTIFIED, FileFault::Nothing),
+    ("b", REFLOWED, FileFault::Nothing),
+];
 
 /// A run over files, and what has to come of it.
 struct FileRun {
@@ -71,7 +107,7 @@ const FILE_RUNS: &[FileRun] = &[
     FileRun {
         rule: "files are printed one after another",
         words: &["-w", "10", "a", "b", "c"],
-        files: SOUND,
+        files: SOUND_FILES,
         output: "one two\nthree four\nfive six\nseven\neight\n",
         messages: "",
         status: 0,
@@ -81,7 +117,7 @@ const FILE_RUNS: &[FileRun] = &[
     FileRun {
         rule: "options may stand after files, and a file may come twice",
         words: &["b", "b", "-w", "10"],
-        files: SOUND,
+        files: SOUND_FILES,
         output: "five six\nseven\nfive six\nseven\n",
         messages: "",
         status: 0,
@@ -101,7 +137,7 @@ const FILE_RUNS: &[FileRun] = &[
     FileRun {
         rule: "a file that is not there, and the others",
         words: &["-w", "10", "x", "c"],
-        files: SOUND,
+        files: SOUND_FILES,
         output: "eight\n",
         messages: "reflow: x: cannot read\n",
         status: 2,
@@ -151,7 +187,7 @@ const FILE_RUNS: &[FileRun] = &[
     FileRun {
         rule: "a check prints the names of files that would change",
         words: &["-w", "10", "--check", "a", "b", "c"],
-        files: SOUND,
+        files: SOUND_FILES,
         output: "a\nb\n",
         messages: "",
         status: 1,
@@ -161,7 +197,7 @@ const FILE_RUNS: &[FileRun] = &[
     FileRun {
         rule: "a check of files that would not change",
         words: &["-w", "10", "--check", "c", "c"],
-        files: SOUND,
+        files: SOUND_FILES,
         output: "",
         messages: "",
         status: 0,
@@ -181,7 +217,7 @@ const FILE_RUNS: &[FileRun] = &[
     FileRun {
         rule: "a check counts for more than replacing",
         words: &["-w", "10", "--in-place", "--check", "a"],
-        files: SOUND,
+        files: SOUND_FILES,
         output: "a\n",
         messages: "",
         status: 1,
@@ -191,7 +227,7 @@ const FILE_RUNS: &[FileRun] = &[
     FileRun {
         rule: "files are replaced, but for those that do not change",
         words: &["-w", "10", "--in-place", "a", "b", "c"],
-        files: SOUND,
+        files: SOUND_FILES,
         output: "",
         messages: "",
         status: 0,
@@ -201,7 +237,7 @@ const FILE_RUNS: &[FileRun] = &[
     FileRun {
         rule: "a file that comes twice is replaced once",
         words: &["-w", "10", "--in-place", "a", "a"],
-        files: SOUND,
+        files: SOUND_FILES,
         output: "",
         messages: "",
         status: 0,
@@ -278,27 +314,60 @@ const FILE_RUNS: &[FileRun] = &[
         after: &[COUNT, b"five six\nseven\n"],
         replaced: 1,
     },
+    // A check finds what a run would change, which is nothing of a file that is justified.
+    FileRun {
+        rule: "a check of a file that is justified, and of one that is only reflowed",
+        words: &["-w", "10", "--justify", "--check", "a", "b"],
+        files: JUSTIFIED_FIRST,
+        output: "b\n",
+        messages: "",
+        status: 1,
+        after: &[JUSTIFIED, REFLOWED],
+        replaced: 0,
+    },
+    FileRun {
+        rule: "a file that is justified is not replaced, and one that is only reflowed is",
+        words: &["-w", "10", "--justify", "--in-place", "a", "b"],
+        files: JUSTIFIED_FIRST,
+        output: "",
+        messages: "",
+        status: 0,
+        after: &[JUSTIFIED, JUSTIFIED],
+        replaced: 1,
+    },
 ];
 
-/// The standard input is not read where there are files, and no draft is left.
+/// Asserts what stands in the files, and how many were replaced. No draft is left.
+fn assert_folder(rt: &impl Abort, row: &FileRun, folder: &Folder) {
+    assert_number(rt, row.rule, folder.held.len(), row.after.len());
+    for (held, after) in folder.held.iter().zip(row.after) {
+        assert_bytes(rt, row.rule, &held.bytes, after);
+    }
+    assert_number(rt, row.rule, folder.replaced, row.replaced);
+    assert_number(rt, row.rule, folder.drafts, 0);
+}
+
+/// Asserts what comes of a run over files, and that it does not read the standard input.
+fn assert_file_run(rt: &(impl Abort + AllocGlobal), row: &FileRun) -> Result<(), AllocError> {
+    let start = Start {
+        words: row.words,
+        input: b"one two",
+        files: row.files,
+        faults: SOUND,
+    };
+    let left = run(rt.alloc(), start)?;
+    assert_bytes(rt, row.rule, &left.output.taken, row.output.as_bytes());
+    assert_bytes(rt, row.rule, &left.messages.taken, row.messages.as_bytes());
+    assert_ending(rt, row.rule, left.ending, row.status, true);
+    assert_number(rt, row.rule, left.reader.reads, 0);
+    assert_folder(rt, row, &left.folder);
+    Ok(())
+}
+
 #[test]
-fn files_are_treated_one_after_another(rt: HostRuntime) -> Result<(), Fail> {
+fn files_are_treated_one_after_another(rt: HostRuntime) -> Result<(), AllocError> {
     for row in FILE_RUNS {
-        let rule = row.rule;
-        let left = run(rt.alloc(), &Start::new(row.words, b"one two", row.files))?;
-        assert!(rt; left.output.has(row.output.as_bytes()), "{rule}");
-        assert!(rt; left.messages.has(row.messages.as_bytes()), "{rule}");
-        assert_eq!(rt; left.ending.status, row.status, "{rule}");
-        assert!(rt; left.ending.said, "{rule}");
-        assert!(rt; left.reader.is_untouched(), "{rule}");
-        let folder = &left.folder;
-        assert_eq!(rt; folder.held.len(), row.after.len(), "{rule}");
-        for (held, after) in folder.held.iter().zip(row.after) {
-            let name = held.name;
-            assert_eq!(rt; held.bytes.as_slice(), *after, "{rule}: {name}");
-        }
-        assert_eq!(rt; folder.replaced, row.replaced, "{rule}");
-        assert_eq!(rt; folder.drafts, 0, "{rule}");
+        assert_file_run(&rt, row)?;
     }
     Ok(())
 }

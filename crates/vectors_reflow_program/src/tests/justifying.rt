@@ -1,12 +1,8 @@
 //! Texts that are justified, with `--justify`.
-use super::fakes::{Fault, Given};
-use super::{Start, run};
-use std::test::Fail;
+use super::plain::assert_reflowed;
+use std::alloc::AllocError;
 
 const HAMLET: &str = "To be, or not to be: that is the question";
-
-/// Two lines that are justified at 10 columns.
-const AT_10: &[u8] = b"one    two\nthree four\n";
 
 /// What a row shows, its words, the standard input, and the output.
 const JUSTIFIED: &[(&str, &[&str], &str, &str)] = &[
@@ -74,55 +70,17 @@ const JUSTIFIED: &[(&str, &[&str], &str, &str)] = &[
 ];
 
 #[test]
-fn texts_are_justified(rt: HostRuntime) -> Result<(), Fail> {
+fn texts_are_justified(rt: HostRuntime) -> Result<(), AllocError> {
     for &(rule, words, input, output) in JUSTIFIED {
-        let left = run(rt.alloc(), &Start::new(words, input.as_bytes(), &[]))?;
-        assert!(rt; left.output.has(output.as_bytes()), "{rule}");
-        assert!(rt; left.messages.has(b""), "{rule}");
-        assert_eq!(rt; left.ending.status, 0, "{rule}");
+        assert_reflowed(&rt, rule, words, input, output)?;
     }
     Ok(())
 }
 
 #[test]
-fn a_second_run_changes_nothing(rt: HostRuntime) -> Result<(), Fail> {
+fn a_second_run_changes_nothing(rt: HostRuntime) -> Result<(), AllocError> {
     for &(rule, words, _, output) in JUSTIFIED {
-        let left = run(rt.alloc(), &Start::new(words, output.as_bytes(), &[]))?;
-        assert!(rt; left.output.has(output.as_bytes()), "{rule}");
-        assert_eq!(rt; left.ending.status, 0, "{rule}");
-    }
-    Ok(())
-}
-
-/// Without the flag the gaps are single blanks again.
-#[test]
-fn justified_texts_are_reflowed(rt: HostRuntime) -> Result<(), Fail> {
-    let words = ["-w", "10"];
-    let left = run(rt.alloc(), &Start::new(&words, AT_10, &[]))?;
-    assert!(rt; left.output.has(b"one two\nthree four\n"));
-    Ok(())
-}
-
-/// A file that is justified, and one that is only reflowed.
-const FILES: &[Given] = &[
-    ("a", AT_10, Fault::Nothing),
-    ("b", b"one two\nthree four\n", Fault::Nothing),
-];
-
-/// A check finds what a run would change, which is nothing of a file that is justified.
-#[test]
-fn files_are_checked_and_replaced(rt: HostRuntime) -> Result<(), Fail> {
-    let words = ["-w", "10", "--justify", "--check", "a", "b"];
-    let left = run(rt.alloc(), &Start::new(&words, b"", FILES))?;
-    assert!(rt; left.output.has(b"b\n"));
-    assert_eq!(rt; (left.ending.status, left.folder.replaced), (1, 0));
-    let words = ["-w", "10", "--justify", "--in-place", "a", "b"];
-    let left = run(rt.alloc(), &Start::new(&words, b"", FILES))?;
-    assert!(rt; left.output.has(b""));
-    assert_eq!(rt; (left.ending.status, left.folder.replaced), (0, 1));
-    for held in &left.folder.held {
-        let name = held.name;
-        assert_eq!(rt; held.bytes.as_slice(), AT_10, "{name}");
+        assert_reflowed(&rt, rule, words, output, output)?;
     }
     Ok(())
 }

@@ -1,10 +1,12 @@
 //! Where one allocation is refused, at each of them in turn.
-use super::fakes::{Fault, Feed, Folder, Given, Sink};
+use super::folder::{FileFault, Folder, Given};
+use super::plain::{READ_AT_ONCE, WRITTEN_AT_ONCE, assert_bytes, assert_number};
+use fakes::heap::Heap;
+use fakes::streams::{Feed, FeedFault, Sink, SinkFault};
 use reflow_program::inputs::{check_input, print_input, replace_file};
 use reflow_program::layout::Layout;
-use refusing_heap::Heap;
-use std::alloc::{AllocError, Global};
-use std::test::Fail;
+use std::alloc::AllocError;
+use std::process::Abort;
 use textwrap_program::filling::RunError;
 use textwrap_reflow::ReflowOptions;
 
@@ -14,51 +16,55 @@ const FILLED: &[u8] = b"- To be,\n  or not\n  to be:\n  that\n  is the\n  questi
 
 const JUSTIFIED: &[u8] = b"- To   be,\n  or   not\n  to   be:\n  that\n  is   the\n  question\n";
 
-const FILES: &[Given] = &[("a", HAMLET, Fault::Nothing)];
+const FILES: &[Given] = &[("a", HAMLET, FileFault::Nothing)];
 
 /// The ways to treat an input.
-#[derive(Clone, Copy, Debug)]
+#[derive(Clone, Copy)]
 enum Way {
     Print,
     Check,
     Replace,
 }
 
-/// Treats [`HAMLET`], and returns the fault, if any, and the bytes that were written or stand in the
-/// file.
+/// Treats an input, or the file `a`.
 fn treat(
-    alloc: Global,
     heap: &Heap,
-    way: Way,
-    justifies: bool,
-) -> Result<(Option<RunError>, Vec<u8>), AllocError> {
-    let layout = Layout {
-        options: ReflowOptions::new(10),
-        justifies,
-    };
-    let mut folder = Folder::new(alloc, FILES)?;
-    let mut reader = Feed::new(alloc, HAMLET, Fault::Nothing)?;
-    let mut writer = Sink::new(alloc, Fault::Nothing);
-    let fault = match way {
-        Way::Print => print_input(heap, &mut reader, &mut writer, &layout).err(),
-        Way::Check => check_input(heap, "a", &mut reader, &mut writer, &layout).err(),
-        Way::Replace => replace_file(heap, "a", &mut folder, &layout).err(),
-    };
-    let bytes = match (way, folder.held.pop()) {
-        (Way::Replace, Some(held)) => held.bytes,
-        _ => writer.taken,
-    };
-    Ok((fault, bytes))
+    (way, layout): (Way, &Layout<'_>),
+    folder: &mut Folder,
+    reader: &mut Feed,
+    writer: &mut Sink,
+) -> Result<(), RunError> {
+    match way {
+        Way::Print => print_input(heap, reader, writer, layout),
+        Way::Check => check_input(heap, "a", reader, writer, layout).map(|_| ()),
+        Way::Replace => replace_file(heap, "a", folder, layout),
+    }
 }
 
-/// A way, whether lines are justified, how many allocations it takes, what is written or stands in
-/// the file where one of them is refused, and where none is.
-const WAYS: &[(Way, bool, usize, &[u8], &[u8])] = &[
-    (Way::Print, false, REFUSALS, b"", FILLED),
-    (Way::Check, false, REFUSALS, b"", b"a\n"),
-    (Way::Replace, false, REFUSALS, HAMLET, FILLED),
-    (Way::Print, true, JUSTIFYING_REFUSALS, b"", JUSTIFIED),
-    (Way::Replace, true, JUSTIFYING_REFUSALS, HAMLET, JUSTIFIED),
+/// What a row shows, a way, whether lines are justified, how many allocations it takes, and what is
+/// written and what stands in the file where none of them is refused.
+type WayRun = (&'static str, Way, bool, usize, &'static [u8], &'static [u8]);
+
+const WAYS: &[WayRun] = &[
+    ("printed", Way::Print, false, REFUSALS, FILLED, HAMLET),
+    ("checked", Way::Check, false, REFUSALS, b"a\n", HAMLET),
+    ("replaced", Way::Replace, false, REFUSALS, b"", FILLED),
+    (
+        "printed, justified",
+        Way::Print,
+        true,
+        JUSTIFYING_REFUSALS,
+        JUSTIFIED,
+        HAMLET,
+    ),
+    (
+        "replaced, justified",
+        Way::Replace,
+        true,
+        JUSTIFYING_REFUSALS,
+        b"",
+        JUSTIFIED,
+    ),
 ];
 
 /// How many allocations it takes to reflow [`HAMLET`] at 10 columns by the least cost.
@@ -67,21 +73,51 @@ const REFUSALS: usize = 26;
 /// How many it takes to reflow and to justify it.
 const JUSTIFYING_REFUSALS: usize = REFUSALS + 9;
 
+/// Treats [`HAMLET`], and asserts what the call returns, what is written and what stands in the file.
+fn assert_treated(
+    rt: &(impl Abort + AllocGlobal),
+    heap: &Heap,
+    &(rule, way, justifies, ..): &WayRun,
+    done: Result<(), RunError>,
+    (output, file): (&[u8], &[u8]),
+) -> Result<(), AllocError> {
+    let options = ReflowOptions::new(10);
+    let layout = Layout { options, justifies };
+    let mut folder = Folder::new(rt.alloc(), FILES)?;
+    let mut reader = Feed::new(rt.alloc(), HAMLET, READ_AT_ONCE, FeedFault::Nothing)?;
+    let mut writer = Sink::new(rt.alloc(), WRITTEN_AT_ONCE, SinkFault::Nothing);
+    let treated = treat(heap, (way, &layout), &mut folder, &mut reader, &mut writer);
+    assert_done(rt, rule, treated, done);
+    assert_bytes(rt, rule, &writer.taken, output);
+    for held in &folder.held {
+        assert_bytes(rt, rule, &held.bytes, file);
+    }
+    Ok(())
+}
+
+/// Asserts that this is what a call returned.
+fn assert_done(
+    rt: &impl Abort,
+    rule: &str,
+    done: Result<(), RunError>,
+    expected: Result<(), RunError>,
+) {
+    assert_eq!(rt; done, expected, "{rule}");
+}
+
+/// Where memory runs out nothing is written, and the file stays.
 #[test]
-fn an_input_out_of_memory_is_left_alone(rt: HostRuntime) -> Result<(), Fail> {
+fn an_input_out_of_memory_is_left_alone(rt: HostRuntime) -> Result<(), AllocError> {
     let heap = Heap::new(rt.alloc(), 0);
-    for &(way, justifies, refusals, refused, treated) in WAYS {
+    for row in WAYS {
+        let &(rule, _, _, refusals, output, file) = row;
         for allowed in 0..refusals {
             heap.allow(allowed);
-            let (fault, bytes) = treat(rt.alloc(), &heap, way, justifies)?;
-            assert_eq!(rt; fault, Some(RunError::Memory), "{way:?} with {allowed}");
-            assert_eq!(rt; bytes.as_slice(), refused, "{way:?} with {allowed}");
+            assert_treated(&rt, &heap, row, Err(RunError::Memory), (b"", HAMLET))?;
         }
         heap.allow(refusals);
-        let (fault, bytes) = treat(rt.alloc(), &heap, way, justifies)?;
-        assert_eq!(rt; fault, None, "{way:?}");
-        assert_eq!(rt; heap.left(), 0, "{way:?}");
-        assert_eq!(rt; bytes.as_slice(), treated, "{way:?}");
+        assert_treated(&rt, &heap, row, Ok(()), (output, file))?;
+        assert_number(&rt, rule, heap.left(), 0);
     }
     Ok(())
 }

@@ -1,7 +1,11 @@
 //! What the words after the program's name mean, seen by what is done with the standard input.
-use super::fakes::Fault;
-use super::{Start, run};
-use std::test::Fail;
+use super::plain::{
+    Left, Start, assert_bytes, assert_ending, assert_number, assert_reflowed, assert_spans, run,
+};
+use fakes::streams::{FeedFault, SinkFault};
+use std::alloc::AllocError;
+use std::io::ErrorKind;
+use std::process::Abort;
 
 const COUNT: &str = "one two three four\n";
 
@@ -150,17 +154,19 @@ const READ_AND_WRITTEN: &[(&str, &[&str], &str, &str)] = &[
         COUNT,
         COUNT_AT_10,
     ),
+    (
+        "lines that are justified are filled again, without the flag",
+        &["-w", "10"],
+        "one    two\nthree four\n",
+        COUNT_AT_10,
+    ),
     ("no input", &["-w", "10"], "", ""),
 ];
 
 #[test]
-fn options_lay_out_the_standard_input(rt: HostRuntime) -> Result<(), Fail> {
+fn options_lay_out_the_standard_input(rt: HostRuntime) -> Result<(), AllocError> {
     for &(rule, words, input, output) in READ_AND_WRITTEN {
-        let left = run(rt.alloc(), &Start::new(words, input.as_bytes(), &[]))?;
-        assert!(rt; left.output.has(output.as_bytes()), "{rule}");
-        assert!(rt; left.messages.has(b""), "{rule}");
-        let ending = left.ending;
-        assert_eq!(rt; (ending.status, ending.said), (0, true), "{rule}");
+        assert_reflowed(&rt, rule, words, input, output)?;
     }
     Ok(())
 }
@@ -216,15 +222,44 @@ const REFUSED: &[(&str, &[&str], &str, &str)] = &[
     ),
 ];
 
+/// Runs with words that ask for no input. Asserts that none is read, and the status.
+fn told(
+    rt: &(impl Abort + AllocGlobal),
+    rule: &str,
+    words: &[&str],
+    fault: SinkFault,
+    status: u8,
+) -> Result<Left, AllocError> {
+    let start = Start {
+        words,
+        input: b"one two",
+        files: &[],
+        faults: (FeedFault::Nothing, fault, SinkFault::Nothing),
+    };
+    let left = run(rt.alloc(), start)?;
+    assert_number(rt, rule, left.reader.reads, 0);
+    assert_ending(rt, rule, left.ending, status, true);
+    Ok(left)
+}
+
+/// Asserts that words are no request, and how the message begins and ends.
+fn assert_refused(
+    rt: &(impl Abort + AllocGlobal),
+    rule: &str,
+    words: &[&str],
+    first: &str,
+    last: &str,
+) -> Result<(), AllocError> {
+    let left = told(rt, rule, words, SinkFault::Nothing, 2)?;
+    assert_spans(rt, rule, &left.messages.taken, first, last);
+    assert_bytes(rt, rule, &left.output.taken, b"");
+    Ok(())
+}
+
 #[test]
-fn other_words_are_no_request(rt: HostRuntime) -> Result<(), Fail> {
+fn other_words_are_no_request(rt: HostRuntime) -> Result<(), AllocError> {
     for &(rule, words, first, last) in REFUSED {
-        let left = run(rt.alloc(), &Start::new(words, b"one two", &[]))?;
-        assert!(rt; left.messages.spans(first, last), "{rule}");
-        assert!(rt; left.output.has(b""), "{rule}");
-        assert!(rt; left.reader.is_untouched(), "{rule}");
-        let ending = left.ending;
-        assert_eq!(rt; (ending.status, ending.said), (2, true), "{rule}");
+        assert_refused(&rt, rule, words, first, last)?;
     }
     Ok(())
 }
@@ -247,26 +282,38 @@ Usage: reflow [OPTIONS] [FILE]...\n",
 ];
 
 /// What goes wrong with the output, and the message and the status then.
-const SHOWING_FAULTS: &[(Fault, &[u8], u8)] = &[
-    (Fault::Nothing, b"", 0),
-    (Fault::Write(4), b"reflow: cannot write\n", 2),
-    (Fault::Flush, b"reflow: cannot write\n", 2),
+const SHOWING_FAULTS: &[(SinkFault, &[u8], u8)] = &[
+    (SinkFault::Nothing, b"", 0),
+    (
+        SinkFault::Fails(4, ErrorKind::BrokenPipe),
+        b"reflow: cannot write\n",
+        2,
+    ),
+    (SinkFault::FlushFails, b"reflow: cannot write\n", 2),
 ];
+
+/// Asserts how the answer begins and ends, and what is said where it cannot be written.
+fn assert_shown(
+    rt: &(impl Abort + AllocGlobal),
+    words: &[&str],
+    first: &str,
+    last: &str,
+) -> Result<(), AllocError> {
+    for &(fault, message, status) in SHOWING_FAULTS {
+        let left = told(rt, first, words, fault, status)?;
+        assert_bytes(rt, first, &left.messages.taken, message);
+        if status == 0 {
+            assert_spans(rt, first, &left.output.taken, first, last);
+        }
+    }
+    Ok(())
+}
 
 /// The answer goes to the output, and if that fails, a message says so.
 #[test]
-fn help_and_version_are_shown(rt: HostRuntime) -> Result<(), Fail> {
+fn help_and_version_are_shown(rt: HostRuntime) -> Result<(), AllocError> {
     for &(words, first, last) in SHOWN {
-        for &(fault, message, status) in SHOWING_FAULTS {
-            let faults = (Fault::Nothing, fault, Fault::Nothing);
-            let start = Start::new(words, b"one two", &[]).with(faults);
-            let left = run(rt.alloc(), &start)?;
-            let is_shown = left.output.spans(first, last);
-            assert!(rt; is_shown || fault != Fault::Nothing, "{first}");
-            assert!(rt; left.messages.has(message), "{first} {fault:?}");
-            assert!(rt; left.reader.is_untouched(), "{first} {fault:?}");
-            assert_eq!(rt; left.ending.status, status, "{first} {fault:?}");
-        }
+        assert_shown(&rt, words, first, last)?;
     }
     Ok(())
 }

@@ -8,7 +8,6 @@
 //! heap.allow(100);
 //! assert!(rt; fill(&heap, "foo bar", Options::new(3)).is_ok());
 //! ```
-#![tactic(auto)]
 
 ghost use Rattle.std.specs.contracts.impls.GlobalAllocator.TheImpl.{ghosts};
 

@@ -1,0 +1,114 @@
+//! What the tests share: a run without its clauses, since each clause costs at each call, and
+//! assertions on what it leaves.
+use super::folder::{Folder, Given};
+use fakes::streams::{Feed, FeedFault, Sink, SinkFault};
+use reflow_program::program::{Ending, execute};
+use std::alloc::{AllocError, Global};
+use std::process::Abort;
+
+/// How many bytes the readers give at a time.
+pub const READ_AT_ONCE: usize = 3;
+
+/// How many bytes the writers take at a time.
+pub const WRITTEN_AT_ONCE: usize = 5;
+
+/// What goes wrong with the standard input, the output and the messages.
+pub type Faults = (FeedFault, SinkFault, SinkFault);
+
+/// Nothing goes wrong.
+pub const SOUND: Faults = (FeedFault::Nothing, SinkFault::Nothing, SinkFault::Nothing);
+
+/// What a run is given.
+#[derive(Clone, Copy)]
+pub struct Start<'a> {
+    pub words: &'a [&'a str],
+    pub input: &'a [u8],
+    pub files: &'a [Given],
+    pub faults: Faults,
+}
+
+/// What a run left behind.
+#[derive(Drop)]
+pub struct Left {
+    pub ending: Ending,
+    pub reader: Feed,
+    pub output: Sink,
+    pub messages: Sink,
+    pub folder: Folder,
+}
+
+/// The words as strings.
+pub fn strings(alloc: Global, words: &[&str]) -> Result<Vec<String>, AllocError> {
+    let mut strings = Vec::new(alloc);
+    for word in words {
+        strings.push(String::from_str(alloc, word)?)?;
+    }
+    Ok(strings)
+}
+
+/// Runs the program.
+pub fn run(alloc: Global, start: Start<'_>) -> Result<Left, AllocError> {
+    let words = strings(alloc, start.words)?;
+    let mut folder = Folder::new(alloc, start.files)?;
+    let mut reader = Feed::new(alloc, start.input, READ_AT_ONCE, start.faults.0)?;
+    let mut output = Sink::new(alloc, WRITTEN_AT_ONCE, start.faults.1);
+    let mut messages = Sink::new(alloc, WRITTEN_AT_ONCE, start.faults.2);
+    let ending = execute(
+        alloc,
+        &words,
+        &mut folder,
+        &mut reader,
+        &mut output,
+        &mut messages,
+    );
+    Ok(Left {
+        ending,
+        reader,
+        output,
+        messages,
+        folder,
+    })
+}
+
+/// Asserts that the bytes are these.
+pub fn assert_bytes(rt: &impl Abort, rule: &str, bytes: &[u8], expected: &[u8]) {
+    assert!(rt; bytes == expected, "{rule}");
+}
+
+/// Asserts that the number is this.
+pub fn assert_number(rt: &impl Abort, rule: &str, number: usize, expected: usize) {
+    assert_eq!(rt; number, expected, "{rule}");
+}
+
+/// Asserts that the bytes begin and end with these texts.
+pub fn assert_spans(rt: &impl Abort, rule: &str, bytes: &[u8], first: &str, last: &str) {
+    assert!(rt; bytes.starts_with(first.as_bytes()), "{rule}");
+    assert!(rt; bytes.ends_with(last.as_bytes()), "{rule}");
+}
+
+/// Asserts that a run ended with this status, and whether each message was written whole.
+pub fn assert_ending(rt: &impl Abort, rule: &str, ending: Ending, status: u8, said: bool) {
+    assert_number(rt, rule, usize::from(ending.status), usize::from(status));
+    assert!(rt; ending.said == said, "{rule}");
+}
+
+/// Asserts that a run reflows the standard input to this output, without a message.
+pub fn assert_reflowed(
+    rt: &(impl Abort + AllocGlobal),
+    rule: &str,
+    words: &[&str],
+    input: &str,
+    output: &str,
+) -> Result<(), AllocError> {
+    let start = Start {
+        words,
+        input: input.as_bytes(),
+        files: &[],
+        faults: SOUND,
+    };
+    let left = run(rt.alloc(), start)?;
+    assert_bytes(rt, rule, &left.output.taken, output.as_bytes());
+    assert_bytes(rt, rule, &left.messages.taken, b"");
+    assert_ending(rt, rule, left.ending, 0, true);
+    Ok(())
+}

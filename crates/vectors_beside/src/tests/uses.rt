@@ -1,21 +1,21 @@
-use crate::checking::{is_filled, line_count};
-use crate::comments::{common_mark, rewrapped};
-use crate::gallery::{Picture, few_rows, hung_rows};
-use crate::help::{help_entry, help_rows};
-use crate::hyphens::{Entry, HyphenError, hyphenated_lines};
-use crate::languages::lines_in_any_language;
-use crate::lists::listed_lines;
-use crate::mail::{filled_anew, quote, quoted_as_it_is, sent_lines};
-use crate::notes::fill_note;
-use crate::paths::path_lines;
-use crate::scripts::script;
-use crate::sentences::sentence_lines;
-use crate::tables::barred_rows;
 use std::alloc::Global;
 use std::borrow::CowStr;
 use std::test::Fail;
 use textwrap::Options;
 use textwrap_lines::placed::{Place, PlacedLines};
+use textwrap_uses::checking::{is_filled, line_count};
+use textwrap_uses::comments::{common_mark, rewrapped};
+use textwrap_uses::gallery::{Picture, few_rows, hung_rows};
+use textwrap_uses::help::{help_entry, help_rows};
+use textwrap_uses::hyphens::{Entry, HyphenError, hyphenated_lines};
+use textwrap_uses::languages::lines_in_any_language;
+use textwrap_uses::lists::listed_lines;
+use textwrap_uses::mail::{filled_anew, quote, quoted_as_it_is, sent_lines};
+use textwrap_uses::notes::fill_note;
+use textwrap_uses::paths::path_lines;
+use textwrap_uses::scripts::script;
+use textwrap_uses::sentences::sentence_lines;
+use textwrap_uses::tables::barred_rows;
 
 /// Whether the lines have these texts, each line a part of the text that was wrapped.
 fn are_borrowed(lines: &[CowStr<'_>], expected: &[&str]) -> bool {

@@ -1,12 +1,64 @@
 //! What becomes of texts of many paragraphs. Each row has the rule that it shows.
+mod justifying;
+
+use super::plain::{assert_count, assert_text};
+use LineEnding::{CRLF, LF};
+use Pass::{Justify, Reflow};
 use refusing_heap::Heap;
-use std::alloc::{AllocError, Global};
+use std::alloc::{AllocError, Allocator, Global};
 use std::process::Abort;
 use std::test::Fail;
-use textwrap_lines::LineEnding;
-use textwrap_reflow::{Algorithm, ReflowOptions, reflow};
+use textwrap::LineEnding;
+use textwrap_reflow::{Algorithm, ReflowOptions, justify_paragraphs, reflow};
 
-mod justifying;
+/// A pass over a text.
+#[derive(Clone, Copy)]
+pub enum Pass {
+    /// `reflow`.
+    Reflow,
+    /// `justify_paragraphs`.
+    Justify,
+}
+
+/// What the pass makes of a text.
+fn passed<A: Allocator + Copy>(
+    alloc: A,
+    pass: Pass,
+    text: &str,
+    options: &ReflowOptions<'_>,
+) -> Result<String<A>, AllocError> {
+    match pass {
+        Reflow => reflow(alloc, text, options),
+        Justify => justify_paragraphs(alloc, text, options),
+    }
+}
+
+/// Asserts what becomes of a text.
+fn assert_passed(
+    rt: &(impl Abort + AllocGlobal),
+    rule: &str,
+    pass: Pass,
+    options: &ReflowOptions<'_>,
+    text: &str,
+    wanted: &str,
+) -> Result<(), AllocError> {
+    let found = passed(rt.alloc(), pass, text, options)?;
+    assert_text(rt, rule, &found, wanted);
+    Ok(())
+}
+
+/// Asserts what becomes of a text, and that the same pass over the result changes nothing.
+fn assert_stays(
+    rt: &(impl Abort + AllocGlobal),
+    rule: &str,
+    pass: Pass,
+    options: &ReflowOptions<'_>,
+    text: &str,
+    wanted: &str,
+) -> Result<(), AllocError> {
+    assert_passed(rt, rule, pass, options, text, wanted)?;
+    assert_passed(rt, rule, pass, options, wanted, wanted)
+}
 
 /// The rule, the columns, the text, and the text by first fit.
 #[rattlefmt::skip]
@@ -34,27 +86,6 @@ const BY_FIRST_FIT: &[(&str, usize, &str, &str)] = &[
     ("a line feed alone", 80, "\n", "\n"),
 ];
 
-/// The rule, the text, and the text at 80 columns with code kept.
-#[rattlefmt::skip]
-const WITH_CODE: &[(&str, &str, &str)] = &[
-    ("a fenced block", "a\nb\n```x\nc\nd\n~~~\n\ne\n> ```\nf\ng\n", "a b\n```x\nc\nd\n~~~\n\ne\n> ```\nf g\n"),
-    ("lines behind four blanks", "a\nb\n    h\n    i\nj\nk", "a b\n    h\n    i\nj k"),
-    ("a fence that is never closed", "a\n~~~\nj\nk", "a\n~~~\nj\nk"),
-];
-
-/// Asserts what becomes of a text.
-fn assert_reflowed(
-    rt: &(impl Abort + AllocGlobal),
-    rule: &str,
-    text: &str,
-    options: &ReflowOptions<'_>,
-    wanted: &str,
-) -> Result<(), AllocError> {
-    let reflowed = reflow(rt.alloc(), text, options)?;
-    assert!(rt; reflowed.as_str() == wanted, "{rule}: {reflowed:?}");
-    Ok(())
-}
-
 /// Lines of so many columns by first fit.
 fn by_first_fit(width: usize) -> ReflowOptions<'static> {
     ReflowOptions {
@@ -63,84 +94,117 @@ fn by_first_fit(width: usize) -> ReflowOptions<'static> {
     }
 }
 
-/// The rows hold, and reflowing the result again changes nothing.
 #[test]
 fn paragraphs_are_filled(rt: HostRuntime) -> Result<(), Fail> {
     for &(rule, width, text, wanted) in BY_FIRST_FIT {
-        let options = by_first_fit(width);
-        assert_reflowed(&rt, rule, text, &options, wanted)?;
-        assert_reflowed(&rt, rule, wanted, &options, wanted)?;
+        assert_stays(&rt, rule, Reflow, &by_first_fit(width), text, wanted)?;
     }
     Ok(())
 }
 
+/// Code, behind four blanks and between fences.
+const CODE: &str = "a b\n```x\nc d\ne\n```\n    f g\n    h\ni j\nk\n";
+
+/// The rule, the pass, the columns, whether code is kept, the prefix, the ending of lines, the text,
+/// and the text by least cost.
+type OptionsRow = (
+    &'static str,
+    Pass,
+    usize,
+    bool,
+    &'static str,
+    LineEnding,
+    &'static str,
+    &'static str,
+);
+
+#[rattlefmt::skip]
+const BY_OPTIONS: &[OptionsRow] = &[
+    ("a fenced block", Reflow, 80, true, "", LF,
+     "a\nb\n```x\nc\nd\n~~~\n\ne\n> ```\nf\ng\n",
+     "a b\n```x\nc\nd\n~~~\n\ne\n> ```\nf g\n"),
+    ("lines behind four blanks", Reflow, 80, true, "", LF,
+     "a\nb\n    h\n    i\nj\nk",
+     "a b\n    h\n    i\nj k"),
+    ("a fence that is never closed", Reflow, 80, true, "", LF,
+     "a\n~~~\nj\nk",
+     "a\n~~~\nj\nk"),
+    ("prefix", Reflow, 80, false, ">", LF,
+     "a\nb\n> c\n> d\n- e\n  f\n",
+     "a\nb\n> c d\n- e\n  f\n"),
+    ("CRLF", Reflow, 7, false, "", CRLF,
+     "a b\nc d e\n\n",
+     "a b c\r\nd e\r\n\r\n"),
+    ("least cost", Reflow, 9, false, "", LF,
+     "- aa bb cc\n  d ee\n",
+     "- aa bb\n  cc d ee\n"),
+    ("code", Justify, 8, false, "", LF,
+     CODE,
+     "a      b\n```x\nc      d\ne\n```\n    f  g\n    h\ni      j\nk\n"),
+    ("code is kept", Justify, 8, true, "", LF,
+     CODE,
+     "a b\n```x\nc d\ne\n```\n    f g\n    h\ni      j\nk\n"),
+    ("prefix", Justify, 7, false, ">", LF,
+     "a b\nc\n> d e\n> f\n",
+     "a b\nc\n> d   e\n> f\n"),
+    ("CRLF", Justify, 5, false, "", CRLF,
+     "a b\nc d\n\n",
+     "a   b\r\nc d\r\n\r\n"),
+];
+
+/// Asserts what becomes of a row's text.
+fn assert_kept_to(
+    rt: &(impl Abort + AllocGlobal),
+    (rule, pass, width, keeps_code, prefix, line_ending, text, wanted): OptionsRow,
+) -> Result<(), AllocError> {
+    let options = ReflowOptions {
+        keeps_code,
+        prefix,
+        line_ending,
+        ..ReflowOptions::new(width)
+    };
+    assert_passed(rt, rule, pass, &options, text, wanted)
+}
+
 #[test]
 fn options_are_kept_to(rt: HostRuntime) -> Result<(), Fail> {
-    let with_code = ReflowOptions {
-        keeps_code: true,
-        ..ReflowOptions::new(80)
-    };
-    for &(rule, text, wanted) in WITH_CODE {
-        assert_reflowed(&rt, rule, text, &with_code, wanted)?;
+    for &row in BY_OPTIONS {
+        assert_kept_to(&rt, row)?;
     }
-    let quotes = ReflowOptions {
-        prefix: ">",
-        ..ReflowOptions::new(80)
-    };
-    let text = "a\nb\n> c\n> d\n- e\n  f\n";
-    assert_reflowed(&rt, "prefix", text, &quotes, "a\nb\n> c d\n- e\n  f\n")?;
-    let crlf = ReflowOptions {
-        line_ending: LineEnding::CRLF,
-        ..ReflowOptions::new(7)
-    };
-    assert_reflowed(&rt, "CRLF", "a b\nc d e\n\n", &crlf, "a b c\r\nd e\r\n\r\n")?;
-    let cheap = ReflowOptions::new(9);
-    assert_reflowed(
-        &rt,
-        "least cost",
-        "- aa bb cc\n  d ee\n",
-        &cheap,
-        "- aa bb\n  cc d ee\n",
-    )?;
     Ok(())
 }
 
 /// A text of so many paragraphs of a hundred words each.
 fn long_text(alloc: Global, paragraphs: usize) -> Result<String, AllocError> {
-    let mut text = String::new(alloc);
-    for _ in 0..paragraphs {
-        text.push_str("> ")?;
-        for _ in 0..100 {
-            text.push_str("word ")?;
-        }
-        text.push_str("\n>\n")?;
-    }
-    Ok(text)
+    let words = "word ".repeat(alloc, 100)?;
+    let paragraph = format!(in alloc; "> {words}\n>\n")?;
+    paragraph.repeat(alloc, paragraphs)
 }
 
 #[test]
 fn a_long_text_is_reflowed(rt: HostRuntime) -> Result<(), Fail> {
     let text = long_text(rt.alloc(), 500)?;
-    let reflowed = reflow(rt.alloc(), &text, &by_first_fit(22))?;
-    assert_eq!(rt; reflowed.lines().count(), 500 * 26);
-    let whole = reflow(rt.alloc(), &reflowed, &by_first_fit(1000))?;
-    assert_eq!(rt; whole.lines().count(), 500 * 2);
+    let reflowed = passed(rt.alloc(), Reflow, &text, &by_first_fit(22))?;
+    assert_count(&rt, "lines", reflowed.lines().count(), 500 * 26);
+    let whole = passed(rt.alloc(), Reflow, &reflowed, &by_first_fit(1000))?;
+    assert_count(&rt, "whole paragraphs", whole.lines().count(), 500 * 2);
     Ok(())
 }
 
-/// Each allocation in turn is refused, until none is: the text is never another one.
-#[test]
-fn refused_allocations_are_told(rt: HostRuntime) -> Result<(), Fail> {
-    let options = by_first_fit(9);
-    let text = "- one two three\n  four\n\nfive\n";
-    for allocations in 0..200 {
-        let heap = Heap::new(rt.alloc(), allocations);
-        if let Ok(reflowed) = reflow(&heap, text, &options) {
-            assert_eq!(rt; reflowed.as_str(), "- one two\n  three\n  four\n\nfive\n");
-            assert!(rt; allocations > 4, "{allocations} allocations are enough");
-            return Ok(());
-        }
-    }
-    assert!(rt; false, "200 allocations are not enough");
-    Ok(())
+/// Whether a text with a list becomes what it is to be.
+pub fn is_passed(heap: &Heap, pass: Pass) -> Result<bool, AllocError> {
+    let (options, text, wanted) = match pass {
+        Reflow => (
+            by_first_fit(9),
+            "- one two three\n  four\n\nfive\n",
+            "- one two\n  three\n  four\n\nfive\n",
+        ),
+        Justify => (
+            ReflowOptions::new(14),
+            "- one two\n  three four\n  five\n\nsix\n",
+            "- one      two\n  three   four\n  five\n\nsix\n",
+        ),
+    };
+    let found = passed(heap, pass, text, &options)?;
+    Ok(found.as_str() == wanted)
 }

@@ -1,10 +1,12 @@
 //! Lines that get blanks up to a width.
-use refusing_heap::Heap;
+use super::super::plain::{assert_count, assert_holds};
+use super::Change::{Aligned, Justified, Shortened};
+use super::{Change, LineRow, assert_all_changed, assert_changed, changed};
+use Alignment::{Centre, Left, Right};
 use std::alloc::AllocError;
-use std::borrow::CowStr;
 use std::process::Abort;
 use std::test::Fail;
-use textwrap_display::{Alignment, align, justify};
+use textwrap_display::Alignment;
 
 /// The rule, the line, the columns, and the line at the left, at the right and in the middle.
 #[rattlefmt::skip]
@@ -18,116 +20,102 @@ const ALIGNED: &[(&str, &str, usize, &str, &str, &str)] = &[
     ("an empty line", "", 2, "  ", "  ", "  "),
 ];
 
-/// The rule, the line, the columns, and the line justified.
+/// Lines that are justified.
 #[rattlefmt::skip]
-const JUSTIFIED: &[(&str, &str, usize, &str)] = &[
-    ("one more blank in the first gap", "a few words", 12, "a  few words"),
-    ("as many in each", "a few words", 13, "a  few  words"),
-    ("what is left over goes to the first", "a b c d", 9, "a  b  c d"),
-    ("gaps keep what they have", "a   b c", 9, "a    b  c"),
-    ("blanks before the first word stay", "  a b c", 9, "  a  b  c"),
-    ("blanks after the last word stay, and count", "a b  ", 7, "a   b  "),
-    ("wide characters take two columns", "日 本", 7, "日   本"),
-    ("escape sequences take none", "\x1b[1ma b\x1b[m", 5, "\x1b[1ma   b\x1b[m"),
-    ("tabs are no gaps, and take no columns", "a\tb c", 8, "a\tb     c"),
+const JUSTIFIED: &[LineRow] = &[
+    ("one more blank in the first gap", Justified, "a few words", 12, "a  few words"),
+    ("as many in each", Justified, "a few words", 13, "a  few  words"),
+    ("what is left over goes to the first", Justified, "a b c d", 9, "a  b  c d"),
+    ("gaps keep what they have", Justified, "a   b c", 9, "a    b  c"),
+    ("blanks before the first word stay", Justified, "  a b c", 9, "  a  b  c"),
+    ("blanks after the last word stay, and count", Justified, "a b  ", 7, "a   b  "),
+    ("wide characters take two columns", Justified, "日 本", 7, "日   本"),
+    ("escape sequences take none", Justified, "\x1b[1ma b\x1b[m", 5, "\x1b[1ma   b\x1b[m"),
+    ("tabs are no gaps, and take no columns", Justified, "a\tb c", 8, "a\tb     c"),
 ];
 
-/// The rule, and a line that stays as it is in 5 columns.
+/// Lines that stay as they are.
 #[rattlefmt::skip]
-const KEPT: &[(&str, &str)] = &[
-    ("a line without gaps", "abc"),
-    ("an empty line", ""),
-    ("blanks alone", "   "),
-    ("an indent alone is no gap", "  ab"),
-    ("a line as wide as the width", "ab cd"),
-    ("a wider line", "ab cdef"),
+const KEPT: &[LineRow] = &[
+    ("as wide", Aligned(Right), "foo", 3, "foo"),
+    ("wider", Aligned(Right), "foo bar", 3, "foo bar"),
+    ("wide characters", Aligned(Right), "日本", 3, "日本"),
+    ("a line without gaps", Justified, "abc", 5, "abc"),
+    ("an empty line", Justified, "", 5, ""),
+    ("blanks alone", Justified, "   ", 5, "   "),
+    ("an indent alone is no gap", Justified, "  ab", 5, "  ab"),
+    ("a line as wide as the width", Justified, "ab cd", 5, "ab cd"),
+    ("a wider line", Justified, "ab cdef", 5, "ab cdef"),
 ];
-
-/// Asserts that a line became this text, as one of its own.
-fn assert_built(rt: &impl Abort, rule: &str, line: &CowStr<'_>, wanted: &str) {
-    assert!(rt; line.as_str() == wanted, "{rule}: {line:?}");
-    assert!(rt; matches!(line, CowStr::Owned(_)), "{rule}: borrowed");
-}
-
-/// Asserts that a line is as it was, and borrowed.
-fn assert_kept(rt: &impl Abort, rule: &str, line: &CowStr<'_>, text: &str) {
-    assert!(rt; line.as_str() == text, "{rule}: {line:?}");
-    assert!(rt; matches!(line, CowStr::Borrowed(_)), "{rule}: copied");
-}
 
 #[test]
 fn lines_are_aligned(rt: HostRuntime) -> Result<(), Fail> {
     for &(rule, line, width, left, right, centre) in ALIGNED {
-        let alloc = rt.alloc();
-        assert_built(
-            &rt,
-            rule,
-            &align(alloc, line, width, Alignment::Left)?,
-            left,
-        );
-        assert_built(
-            &rt,
-            rule,
-            &align(alloc, line, width, Alignment::Right)?,
-            right,
-        );
-        assert_built(
-            &rt,
-            rule,
-            &align(alloc, line, width, Alignment::Centre)?,
-            centre,
-        );
-    }
-    for &(rule, line) in &[
-        ("as wide", "foo"),
-        ("wider", "foo bar"),
-        ("wide characters", "日本"),
-    ] {
-        assert_kept(
-            &rt,
-            rule,
-            &align(rt.alloc(), line, 3, Alignment::Right)?,
-            line,
-        );
+        assert_changed(&rt, (rule, Aligned(Left), line, width, left))?;
+        assert_changed(&rt, (rule, Aligned(Right), line, width, right))?;
+        assert_changed(&rt, (rule, Aligned(Centre), line, width, centre))?;
     }
     Ok(())
 }
 
 #[test]
 fn lines_are_justified(rt: HostRuntime) -> Result<(), Fail> {
-    for &(rule, line, width, wanted) in JUSTIFIED {
-        assert_built(&rt, rule, &justify(rt.alloc(), line, width)?, wanted);
-    }
-    for &(rule, line) in KEPT {
-        assert_kept(&rt, rule, &justify(rt.alloc(), line, 5)?, line);
+    assert_all_changed(&rt, JUSTIFIED)?;
+    Ok(())
+}
+
+#[test]
+fn wide_lines_stay(rt: HostRuntime) -> Result<(), Fail> {
+    assert_all_changed(&rt, KEPT)?;
+    Ok(())
+}
+
+/// The rule, the call, how many words of five columns the line has, the columns, the bytes of the new
+/// line, and what it begins and ends with.
+type LongRow = (
+    &'static str,
+    Change<'static>,
+    usize,
+    usize,
+    usize,
+    &'static str,
+    &'static str,
+);
+
+#[rattlefmt::skip]
+const LONG: &[LongRow] = &[
+    ("a cut one column before the end", Shortened("..."), 200_000, 999_999, 999_994 + 3, "word ", "word..."),
+    ("a line that loses nearly all", Shortened(" ..."), 200_000, 80, 74 + 4, "word ", "word ..."),
+    ("blanks in each gap", Justified, 10_000, 70_000, 70_000, "word ", "word "),
+    ("blanks before the line", Aligned(Right), 10_000, 70_000, 70_000, "  ", "word word "),
+];
+
+/// Asserts what a line of so many words becomes.
+fn assert_long(
+    rt: &(impl Abort + AllocGlobal),
+    (rule, change, words, width, len, start, end): LongRow,
+) -> Result<(), AllocError> {
+    let line = "word ".repeat(rt.alloc(), words)?;
+    let found = changed(rt.alloc(), change, &line, width)?;
+    assert_count(rt, rule, found.len(), len);
+    assert_holds(rt, rule, found.starts_with(start));
+    assert_holds(rt, rule, found.ends_with(end));
+    Ok(())
+}
+
+#[test]
+fn long_lines_are_changed(rt: HostRuntime) -> Result<(), Fail> {
+    for &row in LONG {
+        assert_long(&rt, row)?;
     }
     Ok(())
 }
 
-/// A long line, and widths that fit no memory.
+/// Widths that fit no memory.
 #[test]
-fn limits_are_told(rt: HostRuntime) -> Result<(), Fail> {
-    let line = "word ".repeat(rt.alloc(), 10000)?;
-    let justified = justify(rt.alloc(), &line, 70000)?;
-    assert_eq!(rt; justified.as_str().len(), 70000);
-    let aligned = align(rt.alloc(), &line, 70000, Alignment::Right)?;
-    assert!(rt; aligned.as_str().starts_with("  "));
-    assert!(rt; aligned.as_str().ends_with("word word "));
-    let refused = align(rt.alloc(), "a", usize::MAX, Alignment::Left);
-    assert!(rt; refused.is_err());
-    let refused = justify(rt.alloc(), "a b", usize::MAX);
-    assert!(rt; refused.is_err());
-    Ok(())
-}
-
-/// The one allocation of each is refused, and then it is out of memory.
-#[test]
-fn refused_allocations_are_told(rt: HostRuntime) -> Result<(), Fail> {
-    let heap = Heap::new(rt.alloc(), 0);
-    assert!(rt; align(&heap, "a", 3, Alignment::Left).is_err());
-    let heap = Heap::new(rt.alloc(), 0);
-    assert!(rt; justify(&heap, "a b", 5).is_err());
-    let heap = Heap::new(rt.alloc(), 0);
-    assert!(rt; justify(&heap, "a b", 3).is_ok());
-    Ok(())
+fn limits_are_told(rt: HostRuntime) {
+    let refused = changed(rt.alloc(), Aligned(Left), "a", usize::MAX);
+    assert_holds(&rt, "a line that is aligned", refused.is_err());
+    let refused = changed(rt.alloc(), Justified, "a b", usize::MAX);
+    assert_holds(&rt, "a line that is justified", refused.is_err());
 }

@@ -1,11 +1,11 @@
 //! Texts whose paragraphs are justified. Each row has the rule that it shows.
-use super::{BY_FIRST_FIT, assert_reflowed, by_first_fit};
-use refusing_heap::Heap;
+use super::super::plain::assert_holds;
+use super::Pass::{Justify, Reflow};
+use super::{BY_FIRST_FIT, assert_passed, assert_stays, by_first_fit, passed};
 use std::alloc::AllocError;
 use std::process::Abort;
 use std::test::Fail;
-use textwrap_lines::LineEnding;
-use textwrap_reflow::{ReflowOptions, justify_paragraphs};
+use textwrap_reflow::ReflowOptions;
 
 /// The rule, the columns, the text, and the text justified.
 #[rattlefmt::skip]
@@ -34,76 +34,43 @@ const JUSTIFIED: &[(&str, usize, &str, &str)] = &[
     ("a line feed alone", 80, "\n", "\n"),
 ];
 
-/// Code, behind four blanks and between fences, and what becomes of it at 8 columns where it is
-/// kept and where it is not.
-const CODE: &str = "a b\n```x\nc d\ne\n```\n    f g\n    h\ni j\nk\n";
-
-const CODE_KEPT: &str = "a b\n```x\nc d\ne\n```\n    f g\n    h\ni      j\nk\n";
-
-const CODE_JUSTIFIED: &str = "a      b\n```x\nc      d\ne\n```\n    f  g\n    h\ni      j\nk\n";
-
-/// Asserts what becomes of a text.
-fn assert_justified(
-    rt: &(impl Abort + AllocGlobal),
-    rule: &str,
-    text: &str,
-    options: &ReflowOptions<'_>,
-    wanted: &str,
-) -> Result<(), AllocError> {
-    let justified = justify_paragraphs(rt.alloc(), text, options)?;
-    assert!(rt; justified.as_str() == wanted, "{rule}: {justified:?}");
-    Ok(())
-}
-
-/// The rows hold, and justifying the result again changes nothing.
 #[test]
 fn paragraphs_are_justified(rt: HostRuntime) -> Result<(), Fail> {
     for &(rule, width, text, wanted) in JUSTIFIED {
-        let options = ReflowOptions::new(width);
-        assert_justified(&rt, rule, text, &options, wanted)?;
-        assert_justified(&rt, rule, wanted, &options, wanted)?;
+        assert_stays(&rt, rule, Justify, &ReflowOptions::new(width), text, wanted)?;
     }
     Ok(())
 }
 
-#[test]
-fn options_are_kept_to(rt: HostRuntime) -> Result<(), Fail> {
-    let options = ReflowOptions::new(8);
-    assert_justified(&rt, "code", CODE, &options, CODE_JUSTIFIED)?;
-    let with_code = ReflowOptions {
-        keeps_code: true,
-        ..options
-    };
-    assert_justified(&rt, "code is kept", CODE, &with_code, CODE_KEPT)?;
-    let quotes = ReflowOptions {
-        prefix: ">",
-        ..ReflowOptions::new(7)
-    };
-    let text = "a b\nc\n> d e\n> f\n";
-    assert_justified(&rt, "prefix", text, &quotes, "a b\nc\n> d   e\n> f\n")?;
-    let crlf = ReflowOptions {
-        line_ending: LineEnding::CRLF,
-        ..ReflowOptions::new(5)
-    };
-    assert_justified(&rt, "CRLF", "a b\nc d\n\n", &crlf, "a   b\r\nc d\r\n\r\n")?;
-    Ok(())
+/// Asserts that a text that was reflowed has the same lines once it is justified, that it becomes
+/// what it was when it is reflowed again, and that it stays when it is justified again.
+fn assert_only_justified(
+    rt: &(impl Abort + AllocGlobal),
+    rule: &str,
+    options: &ReflowOptions<'_>,
+    reflowed: &str,
+) -> Result<(), AllocError> {
+    let justified = passed(rt.alloc(), Justify, reflowed, options)?;
+    assert_same_words(rt, rule, &justified, reflowed);
+    assert_passed(rt, rule, Reflow, options, &justified, reflowed)?;
+    assert_passed(rt, rule, Justify, options, &justified, &justified)
 }
 
-/// What was reflowed has the same lines once it is justified, and becomes what it was when it is
-/// reflowed again.
+/// Asserts that the lines of two texts have the same words.
+fn assert_same_words(rt: &impl Abort, rule: &str, text: &str, other: &str) {
+    for (line, other) in text.lines().zip(other.lines()) {
+        assert_holds(rt, rule, have_same_words(line, other));
+    }
+}
+
+fn have_same_words(line: &str, other: &str) -> bool {
+    line.split_whitespace().eq(other.split_whitespace())
+}
+
 #[test]
 fn lines_are_those_that_were_reflowed(rt: HostRuntime) -> Result<(), Fail> {
     for &(rule, width, _, reflowed) in BY_FIRST_FIT {
-        let options = by_first_fit(width);
-        let justified = justify_paragraphs(rt.alloc(), reflowed, &options)?;
-        assert_reflowed(&rt, rule, &justified, &options, reflowed)?;
-        assert_justified(&rt, rule, &justified, &options, justified.as_str())?;
-        for (line, old) in justified.lines().zip(reflowed.lines()) {
-            assert!(rt;
-                line.split_whitespace().eq(old.split_whitespace()),
-                "{rule}: {line:?}"
-            );
-        }
+        assert_only_justified(&rt, rule, &by_first_fit(width), reflowed)?;
     }
     Ok(())
 }
@@ -112,25 +79,6 @@ fn lines_are_those_that_were_reflowed(rt: HostRuntime) -> Result<(), Fail> {
 fn a_long_text_is_justified(rt: HostRuntime) -> Result<(), Fail> {
     let text = "> aa bb\n> cc dd\n>\n".repeat(rt.alloc(), 50_000)?;
     let wanted = "> aa  bb\n> cc dd\n>\n".repeat(rt.alloc(), 50_000)?;
-    let justified = justify_paragraphs(rt.alloc(), &text, &ReflowOptions::new(8))?;
-    assert!(rt; justified.as_str() == wanted.as_str());
-    Ok(())
-}
-
-/// Each allocation in turn is refused, until none is: the text is never another one.
-#[test]
-fn refused_allocations_are_told(rt: HostRuntime) -> Result<(), Fail> {
-    let options = ReflowOptions::new(14);
-    let text = "- one two\n  three four\n  five\n\nsix\n";
-    for allocations in 0..200 {
-        let heap = Heap::new(rt.alloc(), allocations);
-        if let Ok(justified) = justify_paragraphs(&heap, text, &options) {
-            let wanted = "- one      two\n  three   four\n  five\n\nsix\n";
-            assert_eq!(rt; justified.as_str(), wanted);
-            assert!(rt; allocations > 4, "{allocations} allocations are enough");
-            return Ok(());
-        }
-    }
-    assert!(rt; false, "200 allocations are not enough");
+    assert_passed(&rt, "long", Justify, &ReflowOptions::new(8), &text, &wanted)?;
     Ok(())
 }

@@ -1,13 +1,16 @@
+//! The callers of `textwrap_uses`: what each gives on its happy path.
+mod hyphens;
+
+use super::plain::{are_texts, assert_count, assert_holds, assert_text};
 use std::alloc::Global;
 use std::borrow::CowStr;
+use std::process::Abort;
 use std::test::Fail;
-use textwrap::Options;
-use textwrap_lines::placed::{Place, PlacedLines};
+use textwrap::{Options, WrapError};
 use textwrap_uses::checking::{is_filled, line_count};
 use textwrap_uses::comments::{common_mark, rewrapped};
 use textwrap_uses::gallery::{Picture, few_rows, hung_rows};
 use textwrap_uses::help::{help_entry, help_rows};
-use textwrap_uses::hyphens::{Entry, HyphenError, hyphenated_lines};
 use textwrap_uses::languages::lines_in_any_language;
 use textwrap_uses::lists::listed_lines;
 use textwrap_uses::mail::{filled_anew, quote, quoted_as_it_is, sent_lines};
@@ -16,139 +19,65 @@ use textwrap_uses::paths::path_lines;
 use textwrap_uses::scripts::script;
 use textwrap_uses::sentences::sentence_lines;
 use textwrap_uses::tables::barred_rows;
-
-/// Whether the lines have these texts, each line a part of the text that was wrapped.
-fn are_borrowed(lines: &[CowStr<'_>], expected: &[&str]) -> bool {
-    for (line, expected) in lines.iter().zip(expected) {
-        if !matches!(line, CowStr::Borrowed(_)) || line.as_str() != *expected {
-            return false;
-        }
-    }
-    lines.len() == expected.len()
-}
+use vectors_functions::are_borrowed;
 
 #[test]
 fn a_help_entry_has_its_flag_and_its_text(rt: HostRuntime) -> Result<(), Fail> {
     let entry = help_entry(rt.alloc(), "-w      ", "The width of a line.", 20)?;
-    assert_eq!(rt; entry.as_str(), "-w      The width of\n        a line.");
+    assert_text(&rt, "help", &entry, "-w      The width of\n        a line.");
     Ok(())
 }
+
+const HELP_ROWS: &[&str] = &[
+    "  -h      Print this help.",
+    "  -w N    Wrap at N       ",
+    "          columns.        ",
+];
 
 #[test]
 fn help_has_flags_and_texts(rt: HostRuntime) -> Result<(), Fail> {
     let entries = ["-h", "Print this help.", "-w N", "Wrap at N columns."];
     let rows = help_rows(rt.alloc(), &entries, 6, 26)?;
-    assert_eq!(rt; rows.len(), 3);
-    assert_eq!(rt; rows[0].as_str(), "  -h      Print this help.");
-    assert_eq!(rt; rows[1].as_str(), "  -w N    Wrap at N       ");
-    assert_eq!(rt; rows[2].as_str(), "          columns.        ");
+    assert_holds(&rt, "help", are_texts(&rows, HELP_ROWS));
+    Ok(())
+}
+
+const BARRED_ROWS: &[&str] = &[
+    "| one   | four  |",
+    "| two   | five  |",
+    "| three |       |",
+];
+
+#[test]
+fn rows_stand_between_bars(rt: HostRuntime) -> Result<(), Fail> {
+    let rows = barred_rows(rt.alloc(), "one two three four five", 2, 17)?;
+    assert_holds(&rt, "rows", are_texts(&rows, BARRED_ROWS));
     Ok(())
 }
 
 #[test]
-fn mail_is_quoted(rt: HostRuntime) -> Result<(), Fail> {
+fn mail_is_quoted_and_filled(rt: HostRuntime) -> Result<(), Fail> {
     let quoted = quote(rt.alloc(), "foo bar baz\nfoo", 9)?;
-    assert_eq!(rt; quoted.as_str(), "> foo bar\n> baz\n> foo");
+    assert_text(&rt, "quoted", &quoted, "> foo bar\n> baz\n> foo");
+    let quoted = quoted_as_it_is(rt.alloc(), "Hi\n\nyou\n")?;
+    assert_text(&rt, "quoted as it is", &quoted, "> Hi\n>\n> you\n");
+    let filled = filled_anew(rt.alloc(), "foo\nbar baz", 7)?;
+    assert_text(&rt, "filled anew", &filled, "foo bar\nbaz");
+    Ok(())
+}
+
+/// Asserts what the lines of a mail are, each a part of it.
+fn assert_sent(rt: &(impl Abort + AllocGlobal), options: &Options<'_>) -> Result<(), WrapError> {
+    let lines = sent_lines(rt.alloc(), "foo bar baz\r\nfoo", options)?;
+    assert_holds(rt, "sent", are_borrowed(&lines, &["foo bar", "baz", "foo"]));
     Ok(())
 }
 
 #[test]
 fn mail_is_sent_twice_by_the_same_options(rt: HostRuntime) -> Result<(), Fail> {
     let options = Options::new(7);
-    for _ in 0..2 {
-        let lines = sent_lines(rt.alloc(), "foo bar baz\r\nfoo", &options)?;
-        assert!(rt;
-            are_borrowed(&lines, &["foo bar", "baz", "foo"]),
-            "{lines:?}"
-        );
-    }
-    Ok(())
-}
-
-#[test]
-fn a_filled_text_is_filled_already(rt: HostRuntime) -> Result<(), Fail> {
-    for &(text, width, expected) in &[
-        ("foo bar\nbaz", 7, true),
-        ("foo bar baz", 7, false),
-        ("foo ", 7, false),
-        ("", 0, true),
-    ] {
-        let filled = is_filled(rt.alloc(), text, width)?;
-        assert!(rt; filled == expected, "{text:?}");
-    }
-    Ok(())
-}
-
-#[test]
-fn lines_are_counted(rt: HostRuntime) -> Result<(), Fail> {
-    for &(text, count) in &[("To be, or not to be", 2), ("", 1), ("one\ntwo", 2)] {
-        let lines = line_count(rt.alloc(), text, 10)?;
-        assert!(rt; lines == count, "{text:?}");
-    }
-    Ok(())
-}
-
-#[test]
-fn pictures_fill_rows(rt: HostRuntime) -> Result<(), Fail> {
-    let picture = |width| Picture { width, margin: 10 };
-    let pictures = [picture(60), picture(80), picture(70), picture(70)];
-    let rows = hung_rows(rt.alloc(), &pictures, 150)?;
-    assert_eq!(rt; rows.len(), 2);
-    for row in &rows {
-        assert_eq!(rt; row.len(), 2);
-    }
-    let rows = few_rows(rt.alloc(), &pictures, 150)?;
-    assert_eq!(rt; rows.len(), 2);
-    Ok(())
-}
-
-#[test]
-fn paths_are_cut_after_slashes(rt: HostRuntime) -> Result<(), Fail> {
-    let rows: &[(&str, usize, &[&str])] = &[
-        (
-            "/usr/local/share/doc",
-            10,
-            &["/usr/", "local/", "share/doc"],
-        ),
-        ("/a b/c d/", 5, &["/a b/", "c d/"]),
-        ("añ/b", 4, &["añ/b"]),
-        ("añ/b", 3, &["añ/", "b"]),
-        ("names", 3, &["nam", "es"]),
-    ];
-    for &(path, width, lines) in rows {
-        let given = path_lines(rt.alloc(), path, width)?;
-        assert!(rt; are_borrowed(&given, lines), "{given:?}");
-    }
-    Ok(())
-}
-
-#[test]
-fn words_are_listed(rt: HostRuntime) -> Result<(), Fail> {
-    let rows: &[(&str, usize, &[&str])] = &[
-        ("a superset", 8, &["a", "super-", "set"]),
-        ("a superset", 11, &["a superset"]),
-        ("super supersonic", 6, &["super", "super-", "sonic"]),
-        ("one\ntwo three", 5, &["one", "two", "three"]),
-    ];
-    for &(text, width, expected) in rows {
-        let lines = listed_lines(rt.alloc(), text, width)?;
-        let texts = lines.iter().map(|line| line.as_str());
-        assert!(rt; texts.eq(expected.iter().copied()), "{lines:?}");
-    }
-    Ok(())
-}
-
-#[test]
-fn mail_is_quoted_as_it_is(rt: HostRuntime) -> Result<(), Fail> {
-    let quoted = quoted_as_it_is(rt.alloc(), "Hi\n\nyou\n")?;
-    assert_eq!(rt; quoted.as_str(), "> Hi\n>\n> you\n");
-    Ok(())
-}
-
-#[test]
-fn a_broken_paragraph_is_filled_anew(rt: HostRuntime) -> Result<(), Fail> {
-    let filled = filled_anew(rt.alloc(), "foo\nbar baz", 7)?;
-    assert_eq!(rt; filled.as_str(), "foo bar\nbaz");
+    assert_sent(&rt, &options)?;
+    assert_sent(&rt, &options)?;
     Ok(())
 }
 
@@ -156,11 +85,9 @@ fn a_broken_paragraph_is_filled_anew(rt: HostRuntime) -> Result<(), Fail> {
 fn comments_keep_their_marks(rt: HostRuntime) -> Result<(), Fail> {
     let comment = "/// A short\n/// line of\n/// text";
     let rewrapped = rewrapped(rt.alloc(), comment, 16)?;
-    assert_eq!(rt; rewrapped.as_str(), "/// A short line\n/// of text");
-    assert_eq!(rt;
-        common_mark(rt.alloc(), "/* A\n * short\n * comment")?,
-        " * "
-    );
+    assert_text(&rt, "comment", &rewrapped, "/// A short line\n/// of text");
+    let mark = common_mark(rt.alloc(), "/* A\n * short\n * comment")?;
+    assert_text(&rt, "mark", mark, " * ");
     Ok(())
 }
 
@@ -168,164 +95,160 @@ fn comments_keep_their_marks(rt: HostRuntime) -> Result<(), Fail> {
 fn a_note_is_filled_in_place(rt: HostRuntime) -> Result<(), Fail> {
     let mut note = String::from_str(rt.alloc(), "milk and bread")?;
     fill_note(rt.alloc(), &mut note, 9)?;
-    assert_eq!(rt; note.as_str(), "milk and\nbread");
+    assert_text(&rt, "note", &note, "milk and\nbread");
     Ok(())
 }
 
 #[test]
 fn a_script_loses_its_margin(rt: HostRuntime) -> Result<(), Fail> {
     let script = script(rt.alloc(), "    if x:\n      y\n")?;
-    assert_eq!(rt; script.as_str(), "if x:\n  y\n");
+    assert_text(&rt, "script", &script, "if x:\n  y\n");
     Ok(())
 }
 
-#[test]
-fn a_text_in_japanese_ends_its_lines_where_it_may(rt: HostRuntime) -> Result<(), Fail> {
-    let lines = lines_in_any_language(rt.alloc(), "これは「ペン」です。", 8)?;
-    assert!(rt; are_borrowed(&lines, &["これは", "「ペン」", "です。"]));
-    Ok(())
-}
+/// A text, the columns, and whether it is filled already.
+const ARE_FILLED: &[(&str, usize, bool)] = &[
+    ("foo bar\nbaz", 7, true),
+    ("foo bar baz", 7, false),
+    ("foo ", 7, false),
+    ("", 0, true),
+];
 
 #[test]
-fn sentences_are_cut_after_full_stops(rt: HostRuntime) -> Result<(), Fail> {
-    let rows: &[(&str, usize, &[&str])] = &[
-        ("はい。いいえ。さあ。", 10, &["はい。", "いいえ。", "さあ。"]),
-        ("はい。いいえ。さあ。", 14, &["はい。いいえ。", "さあ。"]),
-        ("はい。", 4, &["はい", "。"]),
-        ("a。b。c", 3, &["a。", "b。", "c"]),
-    ];
-    for &(text, width, lines) in rows {
-        let given = sentence_lines(rt.alloc(), text, width)?;
-        assert!(rt; are_borrowed(&given, lines), "{given:?}");
+fn a_filled_text_is_filled_already(rt: HostRuntime) -> Result<(), Fail> {
+    for &(text, width, wanted) in ARE_FILLED {
+        let is_filled = is_filled(rt.alloc(), text, width)?;
+        assert_holds(&rt, text, is_filled == wanted);
     }
     Ok(())
 }
 
+/// A text, and how many lines it has at 10 columns.
+const COUNTED: &[(&str, usize)] = &[("To be, or not to be", 2), ("", 1), ("one\ntwo", 2)];
+
 #[test]
-fn rows_stand_between_bars(rt: HostRuntime) -> Result<(), Fail> {
-    let rows = barred_rows(rt.alloc(), "one two three four five", 2, 17)?;
-    let texts = rows.iter().map(|row| row.as_str());
-    let expected = [
-        "| one   | four  |",
-        "| two   | five  |",
-        "| three |       |",
-    ];
-    assert!(rt; texts.eq(expected.iter().copied()), "{rows:?}");
+fn lines_are_counted(rt: HostRuntime) -> Result<(), Fail> {
+    for &(text, wanted) in COUNTED {
+        assert_count(&rt, text, line_count(rt.alloc(), text, 10)?, wanted);
+    }
     Ok(())
 }
 
-/// Whether a line of the paragraph that stands at this place has this text.
-fn is_line(paragraph: &str, placed: &PlacedLines<Global>, place: &Place, expected: &str) -> bool {
-    let source = if place.is_built {
-        placed.built.as_slice()
-    } else {
-        paragraph.as_bytes()
-    };
-    let Some(rest) = source.get(place.offset..) else {
-        return false;
-    };
-    rest.get(..place.len) == Some(expected.as_bytes())
+const PICTURES: &[Picture] = &[
+    Picture {
+        width: 60,
+        margin: 10,
+    },
+    Picture {
+        width: 80,
+        margin: 10,
+    },
+    Picture {
+        width: 70,
+        margin: 10,
+    },
+    Picture {
+        width: 70,
+        margin: 10,
+    },
+];
+
+#[test]
+fn pictures_fill_rows(rt: HostRuntime) -> Result<(), Fail> {
+    let rows = hung_rows(rt.alloc(), PICTURES, 150)?;
+    assert_count(&rt, "rows", rows.len(), 2);
+    for row in &rows {
+        assert_count(&rt, "pictures", row.len(), 2);
+    }
+    let rows = few_rows(rt.alloc(), PICTURES, 150)?;
+    assert_count(&rt, "few rows", rows.len(), 2);
+    Ok(())
 }
 
-/// Whether the lines of a paragraph have these texts.
-fn are_lines(paragraph: &str, placed: &PlacedLines<Global>, expected: &[&str]) -> bool {
-    for (place, expected) in placed.places.iter().zip(expected) {
-        if !is_line(paragraph, placed, place, expected) {
-            return false;
+/// A caller that gives the lines of a text, each a part of it.
+#[derive(Clone, Copy)]
+enum Caller {
+    /// Ends the lines of a path after slashes.
+    Paths,
+    /// Ends lines after sentences.
+    Sentences,
+    /// Ends the lines of a text in Japanese where it may.
+    Languages,
+}
+
+/// The caller, the text, the columns, and the lines.
+type LinesRow = (Caller, &'static str, usize, &'static [&'static str]);
+
+#[rattlefmt::skip]
+const LINES: &[LinesRow] = &[
+    (Caller::Paths, "/usr/local/share/doc", 10, &["/usr/", "local/", "share/doc"]),
+    (Caller::Paths, "/a b/c d/", 5, &["/a b/", "c d/"]),
+    (Caller::Paths, "añ/b", 4, &["añ/b"]),
+    (Caller::Paths, "añ/b", 3, &["añ/", "b"]),
+    (Caller::Paths, "names", 3, &["nam", "es"]),
+    (Caller::Sentences, "はい。いいえ。さあ。", 10, &["はい。", "いいえ。", "さあ。"]),
+    (Caller::Sentences, "はい。いいえ。さあ。", 14, &["はい。いいえ。", "さあ。"]),
+    (Caller::Sentences, "はい。", 4, &["はい", "。"]),
+    (Caller::Sentences, "a。b。c", 3, &["a。", "b。", "c"]),
+    (Caller::Languages, "これは「ペン」です。", 8, &["これは", "「ペン」", "です。"]),
+];
+
+/// The lines that a caller gives.
+fn lines_by(
+    alloc: Global,
+    caller: Caller,
+    text: &str,
+    width: usize,
+) -> Result<Vec<CowStr<'_>>, WrapError> {
+    match caller {
+        Caller::Paths => path_lines(alloc, text, width),
+        Caller::Sentences => sentence_lines(alloc, text, width),
+        Caller::Languages => lines_in_any_language(alloc, text, width),
+    }
+}
+
+/// Asserts what the lines of a row are.
+fn assert_cut(
+    rt: &(impl Abort + AllocGlobal),
+    (caller, text, width, wanted): LinesRow,
+) -> Result<(), WrapError> {
+    let lines = lines_by(rt.alloc(), caller, text, width)?;
+    assert_holds(rt, text, are_borrowed(&lines, wanted));
+    Ok(())
+}
+
+#[test]
+fn lines_end_where_a_caller_cuts(rt: HostRuntime) -> Result<(), Fail> {
+    for &row in LINES {
+        assert_cut(&rt, row)?;
+    }
+    Ok(())
+}
+
+/// A text, the columns, and its words as a list.
+const LISTED: &[(&str, usize, &[&str])] = &[
+    ("a superset", 8, &["a", "super-", "set"]),
+    ("a superset", 11, &["a superset"]),
+    ("super supersonic", 6, &["super", "super-", "sonic"]),
+    ("one\ntwo three", 5, &["one", "two", "three"]),
+];
+
+/// Whether the words of a text are listed so.
+fn is_listed(alloc: Global, text: &str, width: usize, wanted: &[&str]) -> Result<bool, WrapError> {
+    let lines = listed_lines(alloc, text, width)?;
+    for (line, wanted) in lines.iter().zip(wanted) {
+        if line.as_str() != *wanted {
+            return Ok(false);
         }
     }
-    placed.places.len() == expected.len()
+    Ok(lines.len() == wanted.len())
 }
 
 #[test]
-fn words_are_hyphenated_by_a_dictionary(rt: HostRuntime) -> Result<(), Fail> {
-    let dictionary = [
-        Entry {
-            word: "typesetting",
-            points: &[4, 7],
-        },
-        Entry {
-            word: "machines",
-            points: &[2],
-        },
-        Entry {
-            word: "größte",
-            points: &[4, 6],
-        },
-        // This entry is not the first with its text, and is not used.
-        Entry {
-            word: "machines",
-            points: &[0],
-        },
-    ];
-    let rows: &[(&str, usize, &[&str])] = &[
-        (
-            "typesetting machines",
-            10,
-            &["typeset-", "ting ma-", "chines"],
-        ),
-        ("typesetting machines", 20, &["typesetting machines"]),
-        (
-            "machines, other words",
-            8,
-            &["machines", ", other", "words"],
-        ),
-        ("größte  größte", 5, &["größ-", "te", "größ-", "te"]),
-        ("größte", 4, &["grö-", "ßte"]),
-        ("  machines ", 6, &["  ma-", "chines"]),
-        ("", 6, &[""]),
-    ];
-    for &(paragraph, width, expected) in rows {
-        let placed = hyphenated_lines(rt.alloc(), paragraph, &dictionary, width)?;
-        assert!(rt; are_lines(paragraph, &placed, expected), "{paragraph:?}");
+fn words_are_listed(rt: HostRuntime) -> Result<(), Fail> {
+    for &(text, width, wanted) in LISTED {
+        let is_listed = is_listed(rt.alloc(), text, width, wanted)?;
+        assert_holds(&rt, text, is_listed);
     }
-    Ok(())
-}
-
-#[test]
-fn wrong_points_of_a_word_are_refused(rt: HostRuntime) -> Result<(), Fail> {
-    let wrong: &[(&str, &[usize])] = &[
-        ("größte", &[0]),
-        ("größte", &[3]),
-        ("größte", &[4, 2]),
-        ("größte", &[4, 4]),
-        ("größte", &[8]),
-        ("größte", &[10]),
-        ("größte", &[usize::MAX]),
-        ("", &[0]),
-    ];
-    for &(word, points) in wrong {
-        let dictionary = [Entry { word, points }];
-        let refused = hyphenated_lines(rt.alloc(), "  größte words", &dictionary, 6);
-        assert!(rt;
-            matches!(refused, Err(HyphenError::WrongPoints)),
-            "{points:?}"
-        );
-        let placed = hyphenated_lines(rt.alloc(), "words", &dictionary, 6)?;
-        assert!(rt; are_lines("words", &placed, &["words"]), "{points:?}");
-    }
-    Ok(())
-}
-
-#[test]
-fn a_long_paragraph_is_hyphenated(rt: HostRuntime) -> Result<(), Fail> {
-    let dictionary = [
-        Entry {
-            word: "typesetting",
-            points: &[4, 7],
-        },
-        Entry {
-            word: "machines",
-            points: &[2],
-        },
-    ];
-    let mut paragraph = String::new(rt.alloc());
-    let mut expected = Vec::new(rt.alloc());
-    for _ in 0..1000 {
-        paragraph.push_str("typesetting machines ")?;
-        expected.extend_from_slice(&["typeset-", "ting ma-", "chines"])?;
-    }
-    let placed = hyphenated_lines(rt.alloc(), &paragraph, &dictionary, 10)?;
-    assert!(rt; are_lines(&paragraph, &placed, &expected));
     Ok(())
 }

@@ -16,5 +16,3 @@ pub mod paths;
 pub mod scripts;
 pub mod sentences;
 pub mod tables;
-#[cfg(test)]
-mod tests;

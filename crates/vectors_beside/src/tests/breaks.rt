@@ -3,6 +3,7 @@ mod differing;
 mod official;
 mod wrapping;
 
+use super::plain::{assert_count, assert_holds, assert_text};
 use differing::BY_PAIRS;
 use official::{BEGINNINGS, OTHERS, SECONDS};
 use std::alloc::{AllocError, Global};
@@ -59,7 +60,21 @@ fn insert_others(alloc: Global, cases: &mut BTreeSet<String>) -> Result<(), Allo
 
 /// A case's text, without the marks.
 fn text_of(alloc: Global, case: &str) -> Result<String, AllocError> {
-    case.chars().filter(|c| *c != '÷').collect(alloc)
+    let mut text = String::new(alloc);
+    for c in case.chars() {
+        if c != '÷' {
+            text.push(c)?;
+        }
+    }
+    Ok(text)
+}
+
+/// The breaks of a text, by the call that is for these numbers.
+fn breaks_of(text: &str, numbers: Numbers) -> LineBreaks<'_> {
+    match numbers {
+        Numbers::ByPairs => line_breaks(text),
+        Numbers::ByExpression => line_breaks_by(text, numbers),
+    }
 }
 
 /// A text with the marks of these breaks. What is behind the last break ends without one.
@@ -79,7 +94,7 @@ fn with_marks(alloc: Global, text: &str, breaks: LineBreaks<'_>) -> Result<Strin
 /// The mark of a break behind this line of a text. `!` stands where it is mandatory and ought not to
 /// be, or the other way round: a line must end after a line ending and at the end of the text.
 fn mark_of(found: LineBreak, line: &str, text: &str) -> char {
-    let is_mandatory = found.at == text.len() || line.chars().next_back().is_some_and(ends_line);
+    let is_mandatory = found.at == text.len() || must_end(line);
     if found.is_mandatory == is_mandatory {
         '÷'
     } else {
@@ -87,28 +102,35 @@ fn mark_of(found: LineBreak, line: &str, text: &str) -> char {
     }
 }
 
-/// Whether a line must end after this character (of the classes BK, CR, LF and NL).
-fn ends_line(c: char) -> bool {
-    matches!(c, '\n'..='\r' | '\u{85}' | '\u{2028}' | '\u{2029}')
+/// Whether a line must end after its last character (one of the classes BK, CR, LF and NL).
+fn must_end(line: &str) -> bool {
+    matches!(
+        line.chars().next_back(),
+        Some('\n'..='\r' | '\u{85}' | '\u{2028}' | '\u{2029}')
+    )
 }
 
-/// Asserts that the text of a case has the breaks that the case has marks for, by pairs.
-fn assert_breaks(rt: &(impl Abort + AllocGlobal), case: &str) -> Result<(), AllocError> {
+/// Asserts that the text of a case has the breaks that the case has marks for.
+fn assert_breaks(
+    rt: &(impl Abort + AllocGlobal),
+    case: &str,
+    numbers: Numbers,
+) -> Result<(), AllocError> {
     let text = text_of(rt.alloc(), case)?;
-    let found = with_marks(rt.alloc(), &text, line_breaks(&text))?;
-    assert_eq!(rt; found.as_str(), case);
+    let found = with_marks(rt.alloc(), &text, breaks_of(&text, numbers))?;
+    assert_text(rt, "breaks", &found, case);
     Ok(())
 }
 
-/// The same, by the expression of numbers.
-fn assert_breaks_by_expression(
+/// Asserts this of each case.
+fn assert_all_breaks(
     rt: &(impl Abort + AllocGlobal),
-    case: &str,
+    cases: &BTreeSet<String>,
+    numbers: Numbers,
 ) -> Result<(), AllocError> {
-    let text = text_of(rt.alloc(), case)?;
-    let breaks = line_breaks_by(&text, Numbers::ByExpression);
-    let found = with_marks(rt.alloc(), &text, breaks)?;
-    assert_eq!(rt; found.as_str(), case);
+    for case in cases {
+        assert_breaks(rt, case, numbers)?;
+    }
     Ok(())
 }
 
@@ -120,57 +142,42 @@ fn assert_same_text(
 ) -> Result<(), AllocError> {
     let text = text_of(rt.alloc(), case)?;
     let other_text = text_of(rt.alloc(), other)?;
-    assert_eq!(rt; text.as_str(), other_text.as_str());
-    assert!(rt; case != other, "{case:?} has the same marks twice");
+    assert_text(rt, case, &text, &other_text);
+    assert_holds(rt, "other marks", case != other);
     Ok(())
 }
 
-/// Takes the cases out that [`BY_PAIRS`] has. Asserts that each of these is one, and has the breaks
-/// that stand there.
+/// Takes the cases out that [`BY_PAIRS`] has. Asserts that each of these is one, that it stands there
+/// once, and that its text has the breaks that stand there by pairs.
 fn take_differing(
     rt: &(impl Abort + AllocGlobal),
     cases: &mut BTreeSet<String>,
 ) -> Result<(), AllocError> {
-    for &(rule, official, by_pairs) in BY_PAIRS {
-        let was_there = cases.remove(official);
-        assert!(rt;
-            was_there,
-            "{rule}: {official:?} is no case, or stands twice"
-        );
+    for &(_, official, by_pairs) in BY_PAIRS {
+        assert_holds(rt, official, cases.remove(official));
         assert_same_text(rt, official, by_pairs)?;
-        assert_breaks(rt, by_pairs)?;
-    }
-    Ok(())
-}
-
-/// All cases but those of [`BY_PAIRS`] have the official breaks, and these have the breaks there.
-#[test]
-fn official_cases_by_pairs(rt: HostRuntime) -> Result<(), Fail> {
-    let mut cases = official_cases(rt.alloc())?;
-    assert_eq!(rt; cases.len(), DISTINCT_CASES);
-    take_differing(&rt, &mut cases)?;
-    assert_eq!(rt; cases.len(), OFFICIAL_BY_PAIRS);
-    for case in &cases {
-        assert_breaks(&rt, case)?;
+        assert_breaks(rt, by_pairs, Numbers::ByPairs)?;
     }
     Ok(())
 }
 
 /// All cases have the official breaks by the expression of numbers, which the official file assumes.
+/// By pairs all but those of [`BY_PAIRS`] have them, and these have the breaks there.
 #[test]
-fn official_cases_by_expression(rt: HostRuntime) -> Result<(), Fail> {
-    let cases = official_cases(rt.alloc())?;
-    assert_eq!(rt; cases.len(), DISTINCT_CASES);
-    for case in &cases {
-        assert_breaks_by_expression(&rt, case)?;
-    }
+fn official_cases_have_their_breaks(rt: HostRuntime) -> Result<(), Fail> {
+    let mut cases = official_cases(rt.alloc())?;
+    assert_count(&rt, "distinct cases", cases.len(), DISTINCT_CASES);
+    assert_all_breaks(&rt, &cases, Numbers::ByExpression)?;
+    take_differing(&rt, &mut cases)?;
+    assert_count(&rt, "by pairs", cases.len(), OFFICIAL_BY_PAIRS);
+    assert_all_breaks(&rt, &cases, Numbers::ByPairs)?;
     Ok(())
 }
 
 #[test]
 fn cases_beyond_the_official(rt: HostRuntime) -> Result<(), Fail> {
     for &(_, case) in BEYOND_OFFICIAL {
-        assert_breaks(&rt, case)?;
+        assert_breaks(&rt, case, Numbers::ByPairs)?;
     }
     Ok(())
 }

@@ -1,7 +1,8 @@
 //! Texts in the columns of a table.
+use super::super::plain::{are_texts, assert_count, assert_text};
 use Alignment::{Centre, Left, Right};
-use refusing_heap::Heap;
-use std::alloc::Allocator;
+use fakes::heap::Heap;
+use std::alloc::{Allocator, Global};
 use std::process::Abort;
 use std::test::Fail;
 use textwrap::{Options, WrapAlgorithm, WrapError};
@@ -84,58 +85,68 @@ fn rows_of<A: Allocator + Copy>(
     Ok(rows)
 }
 
-/// Whether the rows have these texts.
-fn are_rows(rows: &[String], expected: &[&str]) -> bool {
-    for (row, expected) in rows.iter().zip(expected) {
-        if row.as_str() != *expected {
-            return false;
-        }
-    }
-    rows.len() == expected.len()
+/// Asserts what the rows of texts are.
+fn assert_table(
+    rt: &(impl Abort + AllocGlobal),
+    rule: &str,
+    shapes: &[(usize, Alignment)],
+    texts: &[&str],
+    gaps: &Gaps<'_>,
+    wanted: &[&str],
+) -> Result<(), WrapError> {
+    let rows = rows_of(rt.alloc(), shapes, texts, gaps)?;
+    assert_rows(rt, rule, &rows, wanted);
+    Ok(())
+}
+
+/// Asserts that rows are these.
+fn assert_rows(rt: &impl Abort, rule: &str, rows: &[String], wanted: &[&str]) {
+    assert!(rt; are_texts(rows, wanted), "{rule}: {rows:?}");
 }
 
 #[test]
 fn texts_stand_in_their_columns(rt: HostRuntime) -> Result<(), Fail> {
-    for &(rule, shapes, texts, expected) in TABLES {
-        let rows = rows_of(rt.alloc(), shapes, texts, &BARS)?;
-        assert!(rt; are_rows(&rows, expected), "{rule}: {rows:?}");
+    for &(rule, shapes, texts, wanted) in TABLES {
+        assert_table(&rt, rule, shapes, texts, &BARS, wanted)?;
     }
     Ok(())
 }
 
+const HELP_GAPS: Gaps<'static> = Gaps {
+    left: "  ",
+    middle: "  ",
+    right: "",
+};
+
+const HELP_SHAPES: &[(usize, Alignment)] = &[(13, Left), (24, Left)];
+
 /// The flags of a program and what they mean.
+const HELP: &[&str] = &[
+    "-h, --help",
+    "Print this help and exit.",
+    "-w, --width N",
+    "Wrap at N columns, where the default is that of the terminal.",
+    "-q",
+    "Say nothing.",
+];
+
+const HELP_ROWS: &[&str] = &[
+    "  -h, --help     Print this help and     ",
+    "                 exit.                   ",
+    "  -w, --width N  Wrap at N columns, where",
+    "                 the default is that of  ",
+    "                 the terminal.           ",
+    "  -q             Say nothing.            ",
+];
+
 #[test]
 fn a_help_text_has_two_columns(rt: HostRuntime) -> Result<(), Fail> {
-    let gaps = Gaps {
-        left: "  ",
-        middle: "  ",
-        right: "",
-    };
-    let texts = [
-        "-h, --help",
-        "Print this help and exit.",
-        "-w, --width N",
-        "Wrap at N columns, where the default is that of the terminal.",
-        "-q",
-        "Say nothing.",
-    ];
-    let rows = rows_of(rt.alloc(), &[(13, Left), (24, Left)], &texts, &gaps)?;
-    let expected = [
-        "  -h, --help     Print this help and     ",
-        "                 exit.                   ",
-        "  -w, --width N  Wrap at N columns, where",
-        "                 the default is that of  ",
-        "                 the terminal.           ",
-        "  -q             Say nothing.            ",
-    ];
-    assert!(rt; are_rows(&rows, &expected), "{rows:?}");
+    assert_table(&rt, "help", HELP_SHAPES, HELP, &HELP_GAPS, HELP_ROWS)?;
     Ok(())
 }
 
-/// Each column has options of its own: a word that is not broken passes its column, and an indent
-/// is a part of the line.
-#[test]
-fn columns_have_their_own_options(rt: HostRuntime) -> Result<(), Fail> {
+/// The rows of three texts in columns with options of their own.
+fn rows_by_options(alloc: Global, texts: &[&str]) -> Result<Vec<String>, WrapError> {
     let columns = [
         Column {
             options: Options::new(3).break_words(false),
@@ -150,68 +161,83 @@ fn columns_have_their_own_options(rt: HostRuntime) -> Result<(), Fail> {
             alignment: Right,
         },
     ];
-    let texts = ["foobar ab", "one two", "abcd"];
-    let rows = table(rt.alloc(), &texts, &columns, &BARS)?;
-    let expected = ["|foobar|- one  |abc|", "|ab |  two  |  d|"];
-    assert!(rt; are_rows(&rows, &expected), "{rows:?}");
+    let rows = table(alloc, texts, &columns, &BARS)?;
+    Ok(rows)
+}
+
+/// Each column has options of its own: a word that is not broken passes its column, and an indent
+/// is a part of the line.
+#[test]
+fn columns_have_their_own_options(rt: HostRuntime) -> Result<(), Fail> {
+    let rows = rows_by_options(rt.alloc(), &["foobar ab", "one two", "abcd"])?;
+    let wanted = ["|foobar|- one  |abc|", "|ab |  two  |  d|"];
+    assert_rows(&rt, "options", &rows, &wanted);
     Ok(())
 }
 
-/// A cell of many lines beside one of a single line, and many cells beside one another.
+const TWO_COLUMNS: &[(usize, Alignment)] = &[(1, Left), (1, Left)];
+
+/// A cell of many lines beside one of a single line.
 #[test]
-fn long_tables_are_made(rt: HostRuntime) -> Result<(), Fail> {
+fn a_high_row_is_made(rt: HostRuntime) -> Result<(), Fail> {
     let text = "a\n".repeat(rt.alloc(), 20_000)?;
-    let rows = rows_of(rt.alloc(), &[(1, Left), (1, Left)], &[&text, "b"], &BARS)?;
-    assert_eq!(rt; rows.len(), 20_001);
+    let rows = rows_of(rt.alloc(), TWO_COLUMNS, &[&text, "b"], &BARS)?;
+    assert_high_row(&rt, &rows);
+    Ok(())
+}
+
+/// Asserts that the first row has both texts, the last none, and each other the left one.
+fn assert_high_row(rt: &impl Abort, rows: &[String]) {
+    assert_count(rt, "rows", rows.len(), 20_001);
     for (r, row) in rows.iter().enumerate() {
-        let expected = match r {
+        let wanted = match r {
             0 => "|a|b|",
             20_000 => "| | |",
             _ => "|a| |",
         };
-        assert_eq!(rt; row.as_str(), expected);
+        assert_text(rt, "a row", row, wanted);
     }
+}
+
+/// Many cells beside one another, where one at the end is missing: each row has two lines.
+#[test]
+fn many_rows_are_made(rt: HostRuntime) -> Result<(), Fail> {
     let mut texts = Vec::new(rt.alloc());
     for _ in 0..9_999 {
         texts.push("c d")?;
     }
-    let rows = rows_of(rt.alloc(), &[(1, Left), (1, Left)], &texts, &BARS)?;
-    assert_eq!(rt; rows.len(), 10_000);
+    let rows = rows_of(rt.alloc(), TWO_COLUMNS, &texts, &BARS)?;
+    assert_count(&rt, "rows", rows.len(), 10_000);
     Ok(())
 }
 
-/// Columns that fit no memory, alone or together, are refused before a blank is written.
+/// Columns that fit no memory, alone or together.
+const TOO_WIDE: &[[(usize, Alignment); 2]] = &[
+    [(1 << 63, Left), (1, Left)],
+    [(1, Left), (usize::MAX, Right)],
+    [(usize::MAX, Right), (usize::MAX, Centre)],
+    [(1 << 63, Centre), (1 << 63, Left)],
+];
+
+/// Whether a table of two texts is out of memory.
+fn is_refused(alloc: Global, shapes: &[(usize, Alignment)]) -> bool {
+    let refused = rows_of(alloc, shapes, &["a", "b"], &BARS);
+    matches!(refused, Err(WrapError::Memory(_)))
+}
+
+/// These are refused before a blank is written.
 #[test]
 fn limits_are_told(rt: HostRuntime) {
-    for shapes in [
-        [(1 << 63, Left), (1, Left)],
-        [(1, Left), (usize::MAX, Right)],
-        [(usize::MAX, Right), (usize::MAX, Centre)],
-        [(1 << 63, Centre), (1 << 63, Left)],
-    ] {
-        let refused = rows_of(rt.alloc(), &shapes, &["a", "b"], &BARS);
-        assert!(rt; matches!(refused, Err(WrapError::Memory(_))), "{shapes:?}");
+    for shapes in TOO_WIDE {
+        let is_told = is_refused(rt.alloc(), shapes);
+        assert!(rt; is_told, "{shapes:?}");
     }
 }
 
-/// Each allocation in turn is refused, until none is: it is out of memory, and never other rows.
-#[test]
-fn refused_allocations_are_told(rt: HostRuntime) {
-    for allocations in 0..100 {
-        let heap = Heap::new(rt.alloc(), allocations);
-        match rows_of(
-            &heap,
-            &[(3, Left), (3, Right)],
-            &["one two", "a", "b"],
-            &BARS,
-        ) {
-            Ok(rows) => {
-                assert_eq!(rt; rows.len(), 3);
-                assert_eq!(rt; heap.left(), 0);
-                return;
-            }
-            Err(error) => assert!(rt; matches!(error, WrapError::Memory(_))),
-        }
-    }
-    assert!(rt; false, "100 allocations are not enough");
+const REFUSED_SHAPES: &[(usize, Alignment)] = &[(3, Left), (3, Right)];
+
+/// Whether a table has as many rows as it is to have.
+pub fn is_table(heap: &Heap) -> Result<bool, WrapError> {
+    let rows = rows_of(heap, REFUSED_SHAPES, &["one two", "a", "b"], &BARS)?;
+    Ok(rows.len() == 3)
 }

@@ -1,11 +1,11 @@
 //! Styles and links that go on over the ends of lines.
-use refusing_heap::Heap;
-use std::alloc::{AllocError, Allocator};
+use super::super::plain::{assert_count, assert_lines, assert_text, plain_carry_styles};
+use fakes::heap::Heap;
+use std::alloc::{AllocError, Allocator, Global};
 use std::borrow::CowStr;
 use std::process::Abort;
 use std::test::Fail;
-use textwrap::{Options, WrapAlgorithm, wrap};
-use textwrap_display::carry_styles;
+use textwrap::{Options, WrapAlgorithm, WrapError, wrap};
 
 /// The rule, the two indents, the lines, and what they become. A line that stays is not copied.
 #[rattlefmt::skip]
@@ -120,98 +120,86 @@ fn lines<A: Allocator + Copy>(
     Ok(lines)
 }
 
-/// Asserts that the lines became these, and were copied only where they changed.
+/// Asserts what lines with these indents become, of which as few are copied as change.
 fn assert_carried(
-    rt: &impl Abort,
+    rt: &(impl Abort + AllocGlobal),
     rule: &str,
-    lines: &[CowStr<'_>],
-    carried: &[CowStr<'_>],
-    expected: &[&str],
-) {
-    assert_eq!(rt; carried.len(), expected.len(), "{rule}");
-    for ((carried, line), expected) in carried.iter().zip(lines).zip(expected) {
-        let is_kept = line.as_str() == *expected;
-        assert!(rt; carried.as_str() == *expected, "{rule}: {carried:?}");
-        assert!(rt;
-            matches!(carried, CowStr::Borrowed(_)) == is_kept,
-            "{rule}: {carried:?}"
-        );
-    }
+    [initial, later]: [&str; 2],
+    texts: &[&'static str],
+    wanted: &[&str],
+) -> Result<(), AllocError> {
+    let lines = lines(rt.alloc(), texts)?;
+    let options = Options::new(0)
+        .initial_indent(initial)
+        .subsequent_indent(later);
+    let carried = plain_carry_styles(rt.alloc(), &lines, &options)?;
+    assert_lines(rt, rule, &lines, &carried, wanted);
+    Ok(())
 }
 
 #[test]
 fn styles_are_carried(rt: HostRuntime) -> Result<(), Fail> {
-    for &(rule, [initial, later], texts, expected) in CARRIED {
-        let lines = lines(rt.alloc(), texts)?;
-        let options = Options::new(0)
-            .initial_indent(initial)
-            .subsequent_indent(later);
-        let carried = carry_styles(rt.alloc(), &lines, &options)?;
-        assert_carried(&rt, rule, &lines, &carried, expected);
+    for &(rule, indents, texts, wanted) in CARRIED {
+        assert_carried(&rt, rule, indents, texts, wanted)?;
     }
     Ok(())
 }
 
-/// Lines of 9 columns, by first fit.
-fn options() -> Options<'static> {
-    Options::new(9)
-        .wrap_algorithm(WrapAlgorithm::FirstFit)
-        .initial_indent("* ")
-        .subsequent_indent("  ")
+/// Asserts what the lines of a text become, by first fit.
+pub fn assert_wrapped_and_carried(
+    rt: &(impl Abort + AllocGlobal),
+    text: &str,
+    width: usize,
+    [initial, later]: [&str; 2],
+    wanted: &[&str],
+) -> Result<(), WrapError> {
+    let options = Options::new(width)
+        .initial_indent(initial)
+        .subsequent_indent(later)
+        .wrap_algorithm(WrapAlgorithm::FirstFit);
+    let lines = wrap(rt.alloc(), text, Options::from(&options))?;
+    let carried = plain_carry_styles(rt.alloc(), &lines, &options)?;
+    assert_lines(rt, text, &lines, &carried, wanted);
+    Ok(())
 }
 
 #[test]
 fn wrapped_lines_are_carried(rt: HostRuntime) -> Result<(), Fail> {
-    let lines = wrap(rt.alloc(), "one \x1b[1mtwo three\x1b[0m four", options())?;
-    let carried = carry_styles(rt.alloc(), &lines, &options())?;
-    let expected = ["* one \x1b[1mtwo\x1b[0m", "  \x1b[1mthree\x1b[0m", "  four"];
-    assert_carried(&rt, "a text", &lines, &carried, &expected);
+    let text = "one \x1b[1mtwo three\x1b[0m four";
+    let wanted = ["* one \x1b[1mtwo\x1b[0m", "  \x1b[1mthree\x1b[0m", "  four"];
+    assert_wrapped_and_carried(&rt, text, 9, ["* ", "  "], &wanted)?;
     Ok(())
+}
+
+/// So many lines after one that begins a link, each of which begins a style.
+fn many_lines<'l>(alloc: Global, count: usize) -> Result<Vec<CowStr<'l>>, AllocError> {
+    let mut lines = Vec::new(alloc);
+    lines.push(CowStr::Borrowed("\x1b]8;;u\x07some"))?;
+    for _ in 0..count {
+        lines.push(CowStr::Borrowed("more \x1b[0m\x1b[1mwords"))?;
+    }
+    Ok(lines)
 }
 
 #[test]
 fn many_lines_are_carried(rt: HostRuntime) -> Result<(), Fail> {
-    let mut lines = Vec::new(rt.alloc());
-    lines.push(CowStr::Borrowed("\x1b]8;;u\x07some"))?;
-    for _ in 1..10_000 {
-        lines.push(CowStr::Borrowed("more \x1b[0m\x1b[1mwords"))?;
-    }
-    let carried = carry_styles(rt.alloc(), &lines, &Options::new(0))?;
-    assert_eq!(rt; carried.len(), 10_000);
+    let lines = many_lines(rt.alloc(), 9_999)?;
+    let carried = plain_carry_styles(rt.alloc(), &lines, &Options::new(0))?;
+    assert_count(&rt, "lines", carried.len(), 10_000);
     let last = "\x1b]8;;u\x07\x1b[1mmore \x1b[0m\x1b[1mwords\x1b[0m\x1b]8;;\x1b\\";
-    assert_eq!(rt; carried[9_999].as_str(), last);
+    assert_text(&rt, "the last", carried[9_999].as_str(), last);
     Ok(())
 }
 
-/// Each allocation in turn is refused, until none is: the lines are never other ones.
-#[test]
-fn refused_allocations_are_told(rt: HostRuntime) -> Result<(), Fail> {
-    for allocations in 0..20 {
-        let heap = Heap::new(rt.alloc(), 100);
-        let lines = lines(
-            &heap,
-            &["\x1b[1ma", "b\x1b]8;;u\x07", "c\x1b[m\x1b]8;;\x07", "d"],
-        )?;
-        heap.allow(allocations);
-        if let Ok(carried) = carry_styles(&heap, &lines, &Options::new(0)) {
-            assert_eq!(rt; carried.len(), 4);
-            assert!(rt; allocations == 7, "{allocations} allocations are enough");
-            return Ok(());
-        }
-    }
-    assert!(rt; false, "20 allocations are not enough");
-    Ok(())
-}
-
-/// The list is allocated, and no line that stays.
-#[test]
-fn one_allocation_is_enough(rt: HostRuntime) -> Result<(), Fail> {
-    let heap = Heap::new(rt.alloc(), 100);
-    let lines = lines(&heap, &["a", "b"])?;
-    heap.allow(0);
-    assert!(rt; carry_styles(&heap, &lines, &Options::new(0)).is_err());
-    heap.allow(1);
-    assert!(rt; carry_styles(&heap, &lines, &Options::new(0)).is_ok());
-    assert_eq!(rt; heap.left(), 0);
-    Ok(())
+/// Whether as many lines come of these where so many allocations are allowed once the lines are made.
+pub fn are_carried(
+    heap: &Heap,
+    texts: &[&'static str],
+    allowed: usize,
+) -> Result<bool, AllocError> {
+    heap.allow(100);
+    let lines = lines(heap, texts)?;
+    heap.allow(allowed);
+    let carried = plain_carry_styles(heap, &lines, &Options::new(0))?;
+    Ok(carried.len() == texts.len())
 }

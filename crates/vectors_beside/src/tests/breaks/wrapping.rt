@@ -1,9 +1,10 @@
 //! Texts of several languages, wrapped at the places of Unicode line breaking.
-use std::alloc::Global;
+use super::super::plain::{assert_count, assert_holds, assert_text};
+use std::alloc::{AllocError, Global};
 use std::test::Fail;
 use textwrap::word_separators::LineCuts;
 use textwrap::{Options, WordSeparator, WrapAlgorithm, WrapError, fill};
-use textwrap_unicode::{line_breaks, unicode_cuts};
+use textwrap_unicode::{LineBreak, line_breaks, unicode_cuts};
 
 /// A text filled at a width by first fit, with words cut at its breaks.
 fn filled(alloc: Global, text: &str, width: usize) -> Result<String, WrapError> {
@@ -56,9 +57,8 @@ const FILLED: &[(&str, usize, &str)] = &[
 
 #[test]
 fn texts_of_many_languages(rt: HostRuntime) -> Result<(), Fail> {
-    for &(text, width, expected) in FILLED {
-        let filled = filled(rt.alloc(), text, width)?;
-        assert_eq!(rt; filled.as_str(), expected);
+    for &(text, width, wanted) in FILLED {
+        assert_text(&rt, text, &filled(rt.alloc(), text, width)?, wanted);
     }
     Ok(())
 }
@@ -76,32 +76,42 @@ const CUTS: &[(&str, &[usize])] = &[
     ("foo- \u{ad}bar", &[5]),
 ];
 
+/// Whether a line is cut at these places.
+fn is_cut_at(alloc: Global, line: &str, wanted: &[usize]) -> Result<bool, AllocError> {
+    let cuts = unicode_cuts(alloc, line)?;
+    Ok(&cuts[..] == wanted)
+}
+
 #[test]
 fn lines_are_cut_into_words(rt: HostRuntime) -> Result<(), Fail> {
-    for &(line, expected) in CUTS {
-        let cuts = unicode_cuts(rt.alloc(), line)?;
-        assert_eq!(rt; &cuts[..], expected);
+    for &(line, wanted) in CUTS {
+        let is_cut = is_cut_at(rt.alloc(), line, wanted)?;
+        assert_holds(&rt, line, is_cut);
     }
     Ok(())
 }
 
+/// A line of 50,000 words of three letters, with the blank after each.
 #[test]
 fn a_long_line_is_cut_at_each_blank(rt: HostRuntime) -> Result<(), Fail> {
     let line = "foo ".repeat(rt.alloc(), 50_000)?;
     let cuts = unicode_cuts(rt.alloc(), &line)?;
-    assert_eq!(rt; cuts.len(), 49_999);
-    assert_eq!(rt; cuts.last(), Some(&199_996));
+    assert_count(&rt, "cuts", cuts.len(), 49_999);
+    assert_count(&rt, "the last", cuts[49_998], 199_996);
     Ok(())
 }
+
+/// Where a line of `foo bar\nbaz` may end, and whether it must.
+const BREAKS: &[(usize, bool)] = &[(4, false), (8, true), (11, true)];
 
 #[test]
 fn a_line_must_end_after_a_line_feed_and_at_the_end(rt: HostRuntime) {
     let mut breaks = line_breaks("foo bar\nbaz");
-    for expected in [(4, false), (8, true), (11, true)] {
-        let found = breaks.next();
-        assert!(rt; found.is_some_and(|found| (found.at, found.is_mandatory) == expected));
+    for &(at, is_mandatory) in BREAKS {
+        let wanted = LineBreak { at, is_mandatory };
+        assert_holds(&rt, "a break", breaks.next() == Some(wanted));
     }
-    assert!(rt; breaks.next().is_none());
-    assert!(rt; breaks.next().is_none());
-    assert!(rt; line_breaks("").next().is_none());
+    assert_holds(&rt, "none is left", breaks.next().is_none());
+    assert_holds(&rt, "nor later", breaks.next().is_none());
+    assert_holds(&rt, "no text", line_breaks("").next().is_none());
 }

@@ -1,12 +1,11 @@
 //! Texts that are filled with their lines justified.
+use super::super::plain::{assert_count, assert_holds, assert_text, plain_fill_justified};
 use LineEnding::{CRLF, LF};
-use refusing_heap::Heap;
-use std::alloc::Global;
+use fakes::heap::Heap;
 use std::process::Abort;
 use std::test::Fail;
 use textwrap::wrap_algorithms::LineEnds;
 use textwrap::{LineEnding, Options, WrapAlgorithm, WrapError};
-use textwrap_display::fill_justified;
 use vectors_functions::{end_all, end_early, end_twice};
 
 /// The rule, the text, the columns, the initial and the subsequent indent, and the text filled.
@@ -58,43 +57,59 @@ const PRESERVED: &[Row] = &[
     ("past the width", "a b  c d", 4, "", "", "a b  \nc d"),
 ];
 
-/// The text of a row, filled by first fit.
-fn fill_row(
-    alloc: Global,
-    row: Row,
+/// The same, with CRLF between lines.
+const IN_CRLF: &[Row] = &[(
+    "paragraphs end in CRLF too",
+    "a b c\r\nd e f\r\n",
+    4,
+    "",
+    "",
+    "a  b\r\nc\r\nd  e\r\nf\r\n",
+)];
+
+/// Asserts what becomes of a row's text by first fit.
+fn assert_filled(
+    rt: &(impl Abort + AllocGlobal),
+    (rule, text, width, initial, later, wanted): Row,
     line_ending: LineEnding,
     keeps_blanks: bool,
-) -> Result<String, WrapError> {
-    let options = Options::new(row.2)
-        .initial_indent(row.3)
-        .subsequent_indent(row.4)
+) -> Result<(), WrapError> {
+    let options = Options::new(width)
+        .initial_indent(initial)
+        .subsequent_indent(later)
         .line_ending(line_ending)
         .preserve_trailing_space(keeps_blanks)
         .wrap_algorithm(WrapAlgorithm::FirstFit);
-    fill_justified(alloc, row.1, options)
+    let filled = plain_fill_justified(rt.alloc(), text, options)?;
+    assert_text(rt, rule, &filled, wanted);
+    Ok(())
 }
 
-#[test]
-fn texts_are_filled(rt: HostRuntime) -> Result<(), Fail> {
-    for &row in FILLED {
-        let filled = fill_row(rt.alloc(), row, LF, false)?;
-        assert!(rt; filled.as_str() == row.5, "{}: {filled:?}", row.0);
+/// Asserts this of each row.
+fn assert_all_filled(
+    rt: &(impl Abort + AllocGlobal),
+    rows: &[Row],
+    line_ending: LineEnding,
+    keeps_blanks: bool,
+) -> Result<(), WrapError> {
+    for &row in rows {
+        assert_filled(rt, row, line_ending, keeps_blanks)?;
     }
-    for &row in PRESERVED {
-        let filled = fill_row(rt.alloc(), row, LF, true)?;
-        assert!(rt; filled.as_str() == row.5, "{}: {filled:?}", row.0);
-    }
-    // By the default algorithm.
-    let filled = fill_justified(rt.alloc(), "one two three four", Options::new(10))?;
-    assert_eq!(rt; filled.as_str(), "one    two\nthree four");
     Ok(())
 }
 
 #[test]
-fn paragraphs_end_in_crlf(rt: HostRuntime) -> Result<(), Fail> {
-    let row = ("", "a b c\r\nd e f\r\n", 4, "", "", "");
-    let filled = fill_row(rt.alloc(), row, CRLF, false)?;
-    assert_eq!(rt; filled.as_str(), "a  b\r\nc\r\nd  e\r\nf\r\n");
+fn texts_are_filled(rt: HostRuntime) -> Result<(), Fail> {
+    assert_all_filled(&rt, FILLED, LF, false)?;
+    assert_all_filled(&rt, PRESERVED, LF, true)?;
+    assert_all_filled(&rt, IN_CRLF, CRLF, false)?;
+    Ok(())
+}
+
+#[test]
+fn the_default_is_the_least_cost(rt: HostRuntime) -> Result<(), Fail> {
+    let filled = plain_fill_justified(rt.alloc(), "one two three four", Options::new(10))?;
+    assert_text(&rt, "by default", &filled, "one    two\nthree four");
     Ok(())
 }
 
@@ -110,8 +125,8 @@ fn assert_ended(
         .subsequent_indent("  ")
         .break_words(false)
         .wrap_algorithm(WrapAlgorithm::Custom(ends));
-    let filled = fill_justified(rt.alloc(), text, options)?;
-    assert!(rt; filled.as_str() == wanted, "{text:?}: {filled:?}");
+    let filled = plain_fill_justified(rt.alloc(), text, options)?;
+    assert_text(rt, text, &filled, wanted);
     Ok(())
 }
 
@@ -130,17 +145,30 @@ fn lines_are_those_of_a_caller(rt: HostRuntime) -> Result<(), Fail> {
     Ok(())
 }
 
-/// By the default algorithm.
+/// The rule, what is repeated, how often, the columns, and the bytes of the text filled by the default
+/// algorithm.
+#[rattlefmt::skip]
+const LONG: &[(&str, &str, usize, usize, usize)] = &[
+    ("6249 lines of 80 columns with their endings, and one of 16 words", "word ", 100_000, 80, 6249 * 81 + 79),
+    ("in each paragraph two lines of 9 columns and one of 4", "a bc def a bc def a bc\n", 10_000, 9, 10_000 * 25),
+];
+
+/// Asserts how many bytes a long text has once it is filled.
+fn assert_long(
+    rt: &(impl Abort + AllocGlobal),
+    (rule, part, times, width, len): (&str, &str, usize, usize, usize),
+) -> Result<(), WrapError> {
+    let text = part.repeat(rt.alloc(), times)?;
+    let filled = plain_fill_justified(rt.alloc(), &text, Options::new(width))?;
+    assert_count(rt, rule, filled.len(), len);
+    Ok(())
+}
+
 #[test]
 fn long_texts_are_filled(rt: HostRuntime) -> Result<(), Fail> {
-    // 6249 lines of 80 columns with their endings, and one of 16 words.
-    let text = "word ".repeat(rt.alloc(), 100_000)?;
-    let filled = fill_justified(rt.alloc(), &text, Options::new(80))?;
-    assert_eq!(rt; filled.len(), 6249 * 81 + 79);
-    // In each paragraph two lines of 9 columns and one of 4, with an ending each.
-    let text = "a bc def a bc def a bc\n".repeat(rt.alloc(), 10_000)?;
-    let filled = fill_justified(rt.alloc(), &text, Options::new(9))?;
-    assert_eq!(rt; filled.len(), 10_000 * 25);
+    for &row in LONG {
+        assert_long(&rt, row)?;
+    }
     Ok(())
 }
 
@@ -151,29 +179,14 @@ fn widths_past_any_memory_are_refused(rt: HostRuntime) {
         .initial_indent("> ")
         .break_words(false)
         .wrap_algorithm(WrapAlgorithm::Custom(LineEnds::new(rt.alloc(), end_all)));
-    let refused = fill_justified(rt.alloc(), "a b c d e f", options);
-    assert!(rt; matches!(refused, Err(WrapError::Memory(_))));
+    let refused = plain_fill_justified(rt.alloc(), "a b c d e f", options);
+    let is_told = matches!(refused, Err(WrapError::Memory(_)));
+    assert_holds(&rt, "out of memory", is_told);
 }
 
-/// Each allocation in turn is refused, until none is: the text is never another one.
-#[test]
-fn refused_allocations_are_told(rt: HostRuntime) -> Result<(), Fail> {
-    let heap = Heap::new(rt.alloc(), 0);
-    for allowed in 0..100 {
-        heap.allow(allowed);
-        let options = Options::new(6).initial_indent("- ").subsequent_indent("  ");
-        match fill_justified(&heap, "a b c\nd e f", options) {
-            Ok(filled) => {
-                assert_eq!(rt; filled.as_str(), "- a  b\n  c\n  d  e\n  f");
-                assert_eq!(rt; heap.left(), 0);
-                return Ok(());
-            }
-            Err(error) => {
-                assert!(rt; matches!(error, WrapError::Memory(_)));
-                assert_eq!(rt; heap.left(), usize::MAX);
-            }
-        }
-    }
-    assert!(rt; false, "100 allocations are not enough");
-    Ok(())
+/// Whether two paragraphs are filled as they are to be.
+pub fn is_filled(heap: &Heap) -> Result<bool, WrapError> {
+    let options = Options::new(6).initial_indent("- ").subsequent_indent("  ");
+    let filled = plain_fill_justified(heap, "a b c\nd e f", options)?;
+    Ok(filled.as_str() == "- a  b\n  c\n  d  e\n  f")
 }

@@ -1,8 +1,12 @@
 //! The examples that others document, and what they become here.
+use super::super::plain::{assert_count, assert_text};
+use super::Change::Shortened;
+use super::assert_changed;
+use super::styles::assert_wrapped_and_carried;
+use std::alloc::AllocError;
+use std::process::Abort;
 use std::test::Fail;
 use textwrap::words::strip_ansi_escape_sequences;
-use textwrap::{Options, WrapAlgorithm, wrap};
-use textwrap_display::{carry_styles, shorten};
 
 /// Of the function `shorten` of Python's module `textwrap`: the text, the width and the placeholder,
 /// what Python 3.11 returns, and what stands here.
@@ -16,8 +20,7 @@ const PYTHON: &[(&str, usize, &str, &str, &str)] = &[
 #[test]
 fn texts_are_shortened_as_in_python(rt: HostRuntime) -> Result<(), Fail> {
     for &(line, width, placeholder, _, here) in PYTHON {
-        let short = shorten(rt.alloc(), line, width, placeholder)?;
-        assert!(rt; short.as_str() == here, "{line}: {short:?}");
+        assert_changed(&rt, (line, Shortened(placeholder), line, width, here))?;
     }
     Ok(())
 }
@@ -52,23 +55,25 @@ const WRAP_ANSI: &[(&str, usize, &[&str], &[&str])] = &[
             "\x1b]8;;https://www.example.com\x07us\x1b]8;;\x07."]),
 ];
 
+/// Asserts that two lines show the same text.
+fn assert_same_shown(
+    rt: &(impl Abort + AllocGlobal),
+    line: &str,
+    other: &str,
+) -> Result<(), AllocError> {
+    let shown = strip_ansi_escape_sequences(rt.alloc(), line)?;
+    let other_shown = strip_ansi_escape_sequences(rt.alloc(), other)?;
+    assert_text(rt, line, &shown, &other_shown);
+    Ok(())
+}
+
 #[test]
 fn styles_are_carried_as_in_wrap_ansi(rt: HostRuntime) -> Result<(), Fail> {
     for &(text, width, there, here) in WRAP_ANSI {
-        let by_first_fit = Options::new(width).wrap_algorithm(WrapAlgorithm::FirstFit);
-        let lines = wrap(rt.alloc(), text, by_first_fit)?;
-        let carried = carry_styles(rt.alloc(), &lines, &Options::new(0))?;
-        assert!(rt;
-            carried.len() == here.len() && carried.len() == there.len(),
-            "{carried:?}"
-        );
-        for (line, (here, there)) in carried.iter().zip(here.iter().zip(there)) {
-            assert!(rt; line.as_str() == *here, "{line:?}");
-            let shown = strip_ansi_escape_sequences(rt.alloc(), line)?;
-            assert!(rt;
-                shown == strip_ansi_escape_sequences(rt.alloc(), there)?,
-                "{line:?}"
-            );
+        assert_wrapped_and_carried(&rt, text, width, ["", ""], here)?;
+        assert_count(&rt, text, here.len(), there.len());
+        for (here, there) in here.iter().zip(there) {
+            assert_same_shown(&rt, here, there)?;
         }
     }
     Ok(())

@@ -1,0 +1,7 @@
+//! In tables by what they are about. Each row has the rule that it shows.
+mod breaks;
+mod display;
+mod plain;
+mod reflow;
+mod refusals;
+mod uses;

@@ -1,0 +1,70 @@
+//! What lines for display become. Each row has the rule that it shows.
+mod documented;
+mod filling;
+mod shortening;
+mod styles;
+mod tables;
+mod widening;
+
+use super::plain::assert_line;
+use Change::{Aligned, Justified, Shortened};
+pub use filling::is_filled;
+pub use shortening::are_shortened;
+use std::alloc::{AllocError, Allocator};
+use std::borrow::CowStr;
+use std::process::Abort;
+pub use styles::are_carried;
+pub use tables::is_table;
+use textwrap_display::{Alignment, align, justify, shorten};
+
+/// A call that makes one line of another.
+#[derive(Clone, Copy)]
+pub enum Change<'p> {
+    /// `shorten`, with this placeholder.
+    Shortened(&'p str),
+    /// `align`.
+    Aligned(Alignment),
+    /// `justify`.
+    Justified,
+}
+
+/// The rule, the call, the line, the columns, and the line that it becomes.
+type LineRow = (
+    &'static str,
+    Change<'static>,
+    &'static str,
+    usize,
+    &'static str,
+);
+
+/// What the call makes of a line at so many columns.
+pub fn changed<'l, A: Allocator>(
+    alloc: A,
+    change: Change<'_>,
+    line: &'l str,
+    width: usize,
+) -> Result<CowStr<'l, A>, AllocError> {
+    match change {
+        Shortened(placeholder) => shorten(alloc, line, width, placeholder),
+        Aligned(alignment) => align(alloc, line, width, alignment),
+        Justified => justify(alloc, line, width),
+    }
+}
+
+/// Asserts what a line becomes, and that it is copied only if it changes.
+fn assert_changed(
+    rt: &(impl Abort + AllocGlobal),
+    (rule, change, line, width, wanted): LineRow,
+) -> Result<(), AllocError> {
+    let found = changed(rt.alloc(), change, line, width)?;
+    assert_line(rt, rule, line, &found, wanted);
+    Ok(())
+}
+
+/// Asserts this of each row.
+fn assert_all_changed(rt: &(impl Abort + AllocGlobal), rows: &[LineRow]) -> Result<(), AllocError> {
+    for &row in rows {
+        assert_changed(rt, row)?;
+    }
+    Ok(())
+}

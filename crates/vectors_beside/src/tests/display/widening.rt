@@ -1,0 +1,121 @@
+//! Lines that get blanks up to a width.
+use super::super::plain::{assert_count, assert_holds};
+use super::Change::{Aligned, Justified, Shortened};
+use super::{Change, LineRow, assert_all_changed, assert_changed, changed};
+use Alignment::{Centre, Left, Right};
+use std::alloc::AllocError;
+use std::process::Abort;
+use std::test::Fail;
+use textwrap_display::Alignment;
+
+/// The rule, the line, the columns, and the line at the left, at the right and in the middle.
+#[rattlefmt::skip]
+const ALIGNED: &[(&str, &str, usize, &str, &str, &str)] = &[
+    ("blanks up to the width", "foo", 6, "foo   ", "   foo", " foo  "),
+    ("an odd blank goes right", "ab", 5, "ab   ", "   ab", " ab  "),
+    ("one blank goes right", "ab", 3, "ab ", " ab", "ab "),
+    ("wide characters take two columns", "日本", 6, "日本  ", "  日本", " 日本 "),
+    ("escape sequences take none", "\x1b[1mab\x1b[m", 4, "\x1b[1mab\x1b[m  ", "  \x1b[1mab\x1b[m", " \x1b[1mab\x1b[m "),
+    ("blanks at the ends count", " a ", 5, " a   ", "   a ", "  a  "),
+    ("an empty line", "", 2, "  ", "  ", "  "),
+];
+
+/// Lines that are justified.
+#[rattlefmt::skip]
+const JUSTIFIED: &[LineRow] = &[
+    ("one more blank in the first gap", Justified, "a few words", 12, "a  few words"),
+    ("as many in each", Justified, "a few words", 13, "a  few  words"),
+    ("what is left over goes to the first", Justified, "a b c d", 9, "a  b  c d"),
+    ("gaps keep what they have", Justified, "a   b c", 9, "a    b  c"),
+    ("blanks before the first word stay", Justified, "  a b c", 9, "  a  b  c"),
+    ("blanks after the last word stay, and count", Justified, "a b  ", 7, "a   b  "),
+    ("wide characters take two columns", Justified, "日 本", 7, "日   本"),
+    ("escape sequences take none", Justified, "\x1b[1ma b\x1b[m", 5, "\x1b[1ma   b\x1b[m"),
+    ("tabs are no gaps, and take no columns", Justified, "a\tb c", 8, "a\tb     c"),
+];
+
+/// Lines that stay as they are.
+#[rattlefmt::skip]
+const KEPT: &[LineRow] = &[
+    ("as wide", Aligned(Right), "foo", 3, "foo"),
+    ("wider", Aligned(Right), "foo bar", 3, "foo bar"),
+    ("wide characters", Aligned(Right), "日本", 3, "日本"),
+    ("a line without gaps", Justified, "abc", 5, "abc"),
+    ("an empty line", Justified, "", 5, ""),
+    ("blanks alone", Justified, "   ", 5, "   "),
+    ("an indent alone is no gap", Justified, "  ab", 5, "  ab"),
+    ("a line as wide as the width", Justified, "ab cd", 5, "ab cd"),
+    ("a wider line", Justified, "ab cdef", 5, "ab cdef"),
+];
+
+#[test]
+fn lines_are_aligned(rt: HostRuntime) -> Result<(), Fail> {
+    for &(rule, line, width, left, right, centre) in ALIGNED {
+        assert_changed(&rt, (rule, Aligned(Left), line, width, left))?;
+        assert_changed(&rt, (rule, Aligned(Right), line, width, right))?;
+        assert_changed(&rt, (rule, Aligned(Centre), line, width, centre))?;
+    }
+    Ok(())
+}
+
+#[test]
+fn lines_are_justified(rt: HostRuntime) -> Result<(), Fail> {
+    assert_all_changed(&rt, JUSTIFIED)?;
+    Ok(())
+}
+
+#[test]
+fn wide_lines_stay(rt: HostRuntime) -> Result<(), Fail> {
+    assert_all_changed(&rt, KEPT)?;
+    Ok(())
+}
+
+/// The rule, the call, how many words of five columns the line has, the columns, the bytes of the new
+/// line, and what it begins and ends with.
+type LongRow = (
+    &'static str,
+    Change<'static>,
+    usize,
+    usize,
+    usize,
+    &'static str,
+    &'static str,
+);
+
+#[rattlefmt::skip]
+const LONG: &[LongRow] = &[
+    ("a cut one column before the end", Shortened("..."), 200_000, 999_999, 999_994 + 3, "word ", "word..."),
+    ("a line that loses nearly all", Shortened(" ..."), 200_000, 80, 74 + 4, "word ", "word ..."),
+    ("blanks in each gap", Justified, 10_000, 70_000, 70_000, "word ", "word "),
+    ("blanks before the line", Aligned(Right), 10_000, 70_000, 70_000, "  ", "word word "),
+];
+
+/// Asserts what a line of so many words becomes.
+fn assert_long(
+    rt: &(impl Abort + AllocGlobal),
+    (rule, change, words, width, len, start, end): LongRow,
+) -> Result<(), AllocError> {
+    let line = "word ".repeat(rt.alloc(), words)?;
+    let found = changed(rt.alloc(), change, &line, width)?;
+    assert_count(rt, rule, found.len(), len);
+    assert_holds(rt, rule, found.starts_with(start));
+    assert_holds(rt, rule, found.ends_with(end));
+    Ok(())
+}
+
+#[test]
+fn long_lines_are_changed(rt: HostRuntime) -> Result<(), Fail> {
+    for &row in LONG {
+        assert_long(&rt, row)?;
+    }
+    Ok(())
+}
+
+/// Widths that fit no memory.
+#[test]
+fn limits_are_told(rt: HostRuntime) {
+    let refused = changed(rt.alloc(), Aligned(Left), "a", usize::MAX);
+    assert_holds(&rt, "a line that is aligned", refused.is_err());
+    let refused = changed(rt.alloc(), Justified, "a b", usize::MAX);
+    assert_holds(&rt, "a line that is justified", refused.is_err());
+}

@@ -1,0 +1,86 @@
+//! The calls that several tests make, without their clauses, since each function that makes a call
+//! pays for its clauses; and what tests assert.
+use std::alloc::{AllocError, Allocator};
+use std::borrow::CowStr;
+use std::process::Abort;
+use textwrap::{Options, WrapError};
+use textwrap_display::{carry_styles, fill_justified, shorten_lines};
+
+/// `carry_styles`.
+pub fn plain_carry_styles<'l, A: Allocator + Copy>(
+    alloc: A,
+    lines: &'l [CowStr<'_, A>],
+    options: &Options<'_>,
+) -> Result<Vec<CowStr<'l, A>, A>, AllocError> {
+    carry_styles(alloc, lines, options)
+}
+
+/// `fill_justified`.
+pub fn plain_fill_justified<A: Allocator + Copy>(
+    alloc: A,
+    text: &str,
+    options: Options<'_>,
+) -> Result<String<A>, WrapError> {
+    fill_justified(alloc, text, options)
+}
+
+/// `shorten_lines`.
+pub fn plain_shorten_lines<'l, A: Allocator + Copy>(
+    alloc: A,
+    lines: &'l [CowStr<'_, A>],
+    most: usize,
+    width: usize,
+    placeholder: &str,
+) -> Result<Vec<CowStr<'l, A>, A>, AllocError> {
+    shorten_lines(alloc, lines, most, width, placeholder)
+}
+
+/// Asserts what a test has found to hold.
+pub fn assert_holds(rt: &impl Abort, rule: &str, holds: bool) {
+    assert!(rt; holds, "{rule}");
+}
+
+/// Asserts that there are so many, of whatever is counted.
+pub fn assert_count(rt: &impl Abort, rule: &str, count: usize, wanted: usize) {
+    assert!(rt; count == wanted, "{rule}: {count} and not {wanted}");
+}
+
+/// Asserts that a text is the one that is wanted.
+pub fn assert_text(rt: &impl Abort, rule: &str, text: &str, wanted: &str) {
+    assert!(rt; text == wanted, "{rule}: {text:?}");
+}
+
+/// Asserts that a line became this text: a line that changed is one of its own, and a line that
+/// stays is not copied.
+pub fn assert_line(rt: &impl Abort, rule: &str, line: &str, found: &CowStr<'_>, wanted: &str) {
+    let is_kept = line == wanted;
+    assert_text(rt, rule, found.as_str(), wanted);
+    assert!(rt;
+        matches!(found, CowStr::Borrowed(_)) == is_kept,
+        "{rule}: {line:?} is copied or not"
+    );
+}
+
+/// Asserts the same of each of some lines, and that there are no others.
+pub fn assert_lines(
+    rt: &impl Abort,
+    rule: &str,
+    lines: &[CowStr<'_>],
+    found: &[CowStr<'_>],
+    wanted: &[&str],
+) {
+    assert_count(rt, rule, found.len(), wanted.len());
+    for ((found, line), wanted) in found.iter().zip(lines).zip(wanted) {
+        assert_line(rt, rule, line.as_str(), found, wanted);
+    }
+}
+
+/// Whether texts of their own are these.
+pub fn are_texts(texts: &[String], wanted: &[&str]) -> bool {
+    for (text, wanted) in texts.iter().zip(wanted) {
+        if text.as_str() != *wanted {
+            return false;
+        }
+    }
+    texts.len() == wanted.len()
+}

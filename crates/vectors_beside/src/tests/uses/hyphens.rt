@@ -1,0 +1,130 @@
+//! Words that are hyphenated by a dictionary.
+use super::super::plain::assert_holds;
+use std::alloc::{AllocError, Global};
+use std::process::Abort;
+use std::test::Fail;
+use textwrap_lines::placed::{Place, PlacedLines};
+use textwrap_uses::hyphens::{Entry, HyphenError, hyphenated_lines};
+
+const DICTIONARY: &[Entry<'static>] = &[
+    Entry {
+        word: "typesetting",
+        points: &[4, 7],
+    },
+    Entry {
+        word: "machines",
+        points: &[2],
+    },
+    Entry {
+        word: "größte",
+        points: &[4, 6],
+    },
+    // This entry is not the first with its text, and is not used.
+    Entry {
+        word: "machines",
+        points: &[0],
+    },
+];
+
+/// A paragraph, the columns, and its lines.
+#[rattlefmt::skip]
+const HYPHENATED: &[(&str, usize, &[&str])] = &[
+    ("typesetting machines", 10, &["typeset-", "ting ma-", "chines"]),
+    ("typesetting machines", 20, &["typesetting machines"]),
+    ("machines, other words", 8, &["machines", ", other", "words"]),
+    ("größte  größte", 5, &["größ-", "te", "größ-", "te"]),
+    ("größte", 4, &["grö-", "ßte"]),
+    ("  machines ", 6, &["  ma-", "chines"]),
+    ("", 6, &[""]),
+];
+
+/// Whether a line of the paragraph that stands at this place has this text.
+fn is_line(paragraph: &str, placed: &PlacedLines<Global>, place: &Place, expected: &str) -> bool {
+    let source = if place.is_built {
+        placed.built.as_slice()
+    } else {
+        paragraph.as_bytes()
+    };
+    let Some(rest) = source.get(place.offset..) else {
+        return false;
+    };
+    rest.get(..place.len) == Some(expected.as_bytes())
+}
+
+/// Whether the lines of a paragraph have these texts.
+fn are_lines(paragraph: &str, placed: &PlacedLines<Global>, expected: &[&str]) -> bool {
+    for (place, expected) in placed.places.iter().zip(expected) {
+        if !is_line(paragraph, placed, place, expected) {
+            return false;
+        }
+    }
+    placed.places.len() == expected.len()
+}
+
+/// Whether a paragraph has these lines.
+fn is_hyphenated(
+    alloc: Global,
+    paragraph: &str,
+    dictionary: &[Entry<'_>],
+    width: usize,
+    expected: &[&str],
+) -> Result<bool, HyphenError> {
+    let placed = hyphenated_lines(alloc, paragraph, dictionary, width)?;
+    Ok(are_lines(paragraph, &placed, expected))
+}
+
+#[test]
+fn words_are_hyphenated_by_a_dictionary(rt: HostRuntime) -> Result<(), Fail> {
+    for &(paragraph, width, expected) in HYPHENATED {
+        let is_right = is_hyphenated(rt.alloc(), paragraph, DICTIONARY, width, expected)?;
+        assert_holds(&rt, paragraph, is_right);
+    }
+    Ok(())
+}
+
+/// A word, and points at which it can't be split.
+#[rattlefmt::skip]
+const WRONG: &[(&str, &[usize])] = &[
+    ("größte", &[0]),
+    ("größte", &[3]),
+    ("größte", &[4, 2]),
+    ("größte", &[4, 4]),
+    ("größte", &[8]),
+    ("größte", &[10]),
+    ("größte", &[usize::MAX]),
+    ("", &[0]),
+];
+
+/// Whether a dictionary is refused for a paragraph that has its word, and serves for another.
+fn is_refused(alloc: Global, dictionary: &[Entry<'_>]) -> Result<bool, HyphenError> {
+    let refused = is_hyphenated(alloc, "  größte words", dictionary, 6, &[]);
+    let serves = is_hyphenated(alloc, "words", dictionary, 6, &["words"])?;
+    Ok(serves && matches!(refused, Err(HyphenError::WrongPoints)))
+}
+
+#[test]
+fn wrong_points_of_a_word_are_refused(rt: HostRuntime) -> Result<(), Fail> {
+    for &(word, points) in WRONG {
+        let is_refused = is_refused(rt.alloc(), &[Entry { word, points }])?;
+        assert!(rt; is_refused, "{points:?}");
+    }
+    Ok(())
+}
+
+/// The lines of so many times the first row of [`HYPHENATED`], one after another.
+fn many_lines(alloc: Global, times: usize) -> Result<Vec<&'static str>, AllocError> {
+    let mut lines = Vec::new(alloc);
+    for _ in 0..times {
+        lines.extend_from_slice(&["typeset-", "ting ma-", "chines"])?;
+    }
+    Ok(lines)
+}
+
+#[test]
+fn a_long_paragraph_is_hyphenated(rt: HostRuntime) -> Result<(), Fail> {
+    let paragraph = "typesetting machines ".repeat(rt.alloc(), 1000)?;
+    let expected = many_lines(rt.alloc(), 1000)?;
+    let is_right = is_hyphenated(rt.alloc(), &paragraph, DICTIONARY, 10, &expected)?;
+    assert_holds(&rt, "long", is_right);
+    Ok(())
+}

@@ -1,5 +1,0 @@
-//! The tests of `textwrap_reflow`.
-#![tactic(auto)]
-
-#[cfg(test)]
-mod tests;

@@ -1,5 +1,6 @@
-//! The tests of the crates beside `textwrap`: of lines for display, of texts of many paragraphs, of
-//! Unicode line breaking, and of the callers that show how the library is used.
+//! The tests of the crates beside `textwrap`: of lines for display, of texts of many paragraphs and the
+//! program over them, of Unicode line breaking, of the calls for C, and of the callers that show how the
+//! library is used.
 #![tactic(auto)]
 
 #[cfg(test)]

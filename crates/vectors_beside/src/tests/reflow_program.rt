@@ -1,0 +1,10 @@
+//! The program `reflow`: what its words mean, what becomes of its files, of what it reads and writes,
+//! and what it says.
+mod disk;
+mod faults;
+mod files;
+mod folder;
+mod justifying;
+mod memory;
+mod plain;
+mod words;

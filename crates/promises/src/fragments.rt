@@ -10,8 +10,9 @@ ghost use Rattle.textwrap_base.specs.Table.{fragments_table, minimum_of, TableOv
 use std::alloc::{AllocError, Global};
 use textwrap::minima::{Minimum, Steps, is_queue_case, queue_minima, table_minima};
 use textwrap::words::Fragment;
-use textwrap::wrap_algorithms::{Penalties, WrapError, wrap_first_fit};
-use textwrap::wrap_algorithms::{wrap_optimal_fit, wrap_optimal_fit_counted};
+use textwrap::wrap_algorithms::{
+    Penalties, WrapError, wrap_first_fit, wrap_optimal_fit, wrap_optimal_fit_counted,
+};
 
 /// As `wrap_first_fit`.
 pub fn first_fit_greedy<'a, T: Fragment>(

@@ -30,7 +30,8 @@ pub fn filled_in_place(alloc: Global, text: &mut String, width: usize) -> Result
 pub fn kept_in_place(alloc: Global, text: &mut String, columns: usize) -> Result<(), AllocError>
     ensures unchanged { OnErr result (text.new ≡ text.old) }
 {
-    fill_inplace(alloc, text, columns)
+    fill_inplace(alloc, text, columns)?;
+    Ok(())
 }
 
 /// The text of `unfill`.
@@ -69,6 +70,8 @@ pub fn rows_in_columns(
         (DividesUnder options.entry) columns text.now left_gap.now middle_gap.now right_gap.now
         (map string_bytes rows.items)) }
 {
-    let rows = wrap_columns(alloc, text, columns, options, left_gap, middle_gap, right_gap)?;
+    let rows = wrap_columns(
+        alloc, text, columns, options, left_gap, middle_gap, right_gap,
+    )?;
     Ok(rows)
 }

@@ -97,7 +97,7 @@ fn a_long_line_is_cut_at_each_blank(rt: HostRuntime) -> Result<(), Fail> {
     let line = "foo ".repeat(rt.alloc(), 50_000)?;
     let cuts = unicode_cuts(rt.alloc(), &line)?;
     assert_count(&rt, "cuts", cuts.len(), 49_999);
-    assert_count(&rt, "the last", cuts[49_998], 199_996);
+    assert_holds(&rt, "the last", cuts.last() == Some(&199_996));
     Ok(())
 }
 

@@ -1,23 +1,37 @@
 //! Lines that get blanks up to a width.
 use super::super::plain::{assert_count, assert_holds};
 use super::Change::{Aligned, Justified, Shortened};
-use super::{Change, LineRow, assert_all_changed, assert_changed, changed};
+use super::{Change, LineRow, assert_all_changed, changed};
 use Alignment::{Centre, Left, Right};
 use std::alloc::AllocError;
 use std::process::Abort;
 use std::test::Fail;
 use textwrap_display::Alignment;
 
-/// The rule, the line, the columns, and the line at the left, at the right and in the middle.
+/// Lines that are aligned.
 #[rattlefmt::skip]
-const ALIGNED: &[(&str, &str, usize, &str, &str, &str)] = &[
-    ("blanks up to the width", "foo", 6, "foo   ", "   foo", " foo  "),
-    ("an odd blank goes right", "ab", 5, "ab   ", "   ab", " ab  "),
-    ("one blank goes right", "ab", 3, "ab ", " ab", "ab "),
-    ("wide characters take two columns", "日本", 6, "日本  ", "  日本", " 日本 "),
-    ("escape sequences take none", "\x1b[1mab\x1b[m", 4, "\x1b[1mab\x1b[m  ", "  \x1b[1mab\x1b[m", " \x1b[1mab\x1b[m "),
-    ("blanks at the ends count", " a ", 5, " a   ", "   a ", "  a  "),
-    ("an empty line", "", 2, "  ", "  ", "  "),
+const ALIGNED: &[LineRow] = &[
+    ("blanks up to the width", Aligned(Left), "foo", 6, "foo   "),
+    ("blanks up to the width", Aligned(Right), "foo", 6, "   foo"),
+    ("blanks up to the width", Aligned(Centre), "foo", 6, " foo  "),
+    ("an odd blank goes right", Aligned(Left), "ab", 5, "ab   "),
+    ("an odd blank goes right", Aligned(Right), "ab", 5, "   ab"),
+    ("an odd blank goes right", Aligned(Centre), "ab", 5, " ab  "),
+    ("one blank goes right", Aligned(Left), "ab", 3, "ab "),
+    ("one blank goes right", Aligned(Right), "ab", 3, " ab"),
+    ("one blank goes right", Aligned(Centre), "ab", 3, "ab "),
+    ("wide characters take two columns", Aligned(Left), "日本", 6, "日本  "),
+    ("wide characters take two columns", Aligned(Right), "日本", 6, "  日本"),
+    ("wide characters take two columns", Aligned(Centre), "日本", 6, " 日本 "),
+    ("escape sequences take none", Aligned(Left), "\x1b[1mab\x1b[m", 4, "\x1b[1mab\x1b[m  "),
+    ("escape sequences take none", Aligned(Right), "\x1b[1mab\x1b[m", 4, "  \x1b[1mab\x1b[m"),
+    ("escape sequences take none", Aligned(Centre), "\x1b[1mab\x1b[m", 4, " \x1b[1mab\x1b[m "),
+    ("blanks at the ends count", Aligned(Left), " a ", 5, " a   "),
+    ("blanks at the ends count", Aligned(Right), " a ", 5, "   a "),
+    ("blanks at the ends count", Aligned(Centre), " a ", 5, "  a  "),
+    ("an empty line", Aligned(Left), "", 2, "  "),
+    ("an empty line", Aligned(Right), "", 2, "  "),
+    ("an empty line", Aligned(Centre), "", 2, "  "),
 ];
 
 /// Lines that are justified.
@@ -50,11 +64,7 @@ const KEPT: &[LineRow] = &[
 
 #[test]
 fn lines_are_aligned(rt: HostRuntime) -> Result<(), Fail> {
-    for &(rule, line, width, left, right, centre) in ALIGNED {
-        assert_changed(&rt, (rule, Aligned(Left), line, width, left))?;
-        assert_changed(&rt, (rule, Aligned(Right), line, width, right))?;
-        assert_changed(&rt, (rule, Aligned(Centre), line, width, centre))?;
-    }
+    assert_all_changed(&rt, ALIGNED)?;
     Ok(())
 }
 

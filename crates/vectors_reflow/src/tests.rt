@@ -1,5 +1,5 @@
 //! What becomes of texts of many paragraphs. Each row has the rule that it shows.
-use refusing_heap::Heap;
+use fakes::heap::Heap;
 use std::alloc::{AllocError, Global};
 use std::process::Abort;
 use std::test::Fail;

@@ -1,6 +1,6 @@
 //! Texts that are filled with their lines justified.
 use LineEnding::{CRLF, LF};
-use refusing_heap::Heap;
+use fakes::heap::Heap;
 use std::alloc::Global;
 use std::process::Abort;
 use std::test::Fail;

@@ -1,5 +1,5 @@
 //! Lines that are cut, and end in a placeholder.
-use refusing_heap::Heap;
+use fakes::heap::Heap;
 use std::alloc::{AllocError, Allocator, Global};
 use std::borrow::CowStr;
 use std::process::Abort;

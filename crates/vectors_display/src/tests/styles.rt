@@ -1,5 +1,5 @@
 //! Styles and links that go on over the ends of lines.
-use refusing_heap::Heap;
+use fakes::heap::Heap;
 use std::alloc::{AllocError, Allocator};
 use std::borrow::CowStr;
 use std::process::Abort;

@@ -1,6 +1,6 @@
 //! Texts in the columns of a table.
 use Alignment::{Centre, Left, Right};
-use refusing_heap::Heap;
+use fakes::heap::Heap;
 use std::alloc::Allocator;
 use std::process::Abort;
 use std::test::Fail;

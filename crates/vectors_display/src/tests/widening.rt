@@ -1,5 +1,5 @@
 //! Lines that get blanks up to a width.
-use refusing_heap::Heap;
+use fakes::heap::Heap;
 use std::alloc::AllocError;
 use std::borrow::CowStr;
 use std::process::Abort;

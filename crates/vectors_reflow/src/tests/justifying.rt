@@ -1,6 +1,6 @@
 //! Texts whose paragraphs are justified. Each row has the rule that it shows.
 use super::{BY_FIRST_FIT, assert_reflowed, by_first_fit};
-use refusing_heap::Heap;
+use fakes::heap::Heap;
 use std::alloc::AllocError;
 use std::process::Abort;
 use std::test::Fail;

@@ -1,7 +1,7 @@
 //! The table of least costs, the search for the same by a queue, the line costs that they ask for,
 //! and the queue case.
 use super::divisions::{Block, FALLING};
-use refusing_heap::Heap;
+use fakes::heap::Heap;
 use std::alloc::{AllocError, Allocator, Global};
 use std::process::Abort;
 use std::test::Fail;

@@ -1,6 +1,6 @@
 //! The days that tasks are assigned to.
 use crate::{Day, Task, assign_days};
-use refusing_heap::Heap;
+use fakes::heap::Heap;
 use std::alloc::{AllocError, Allocator};
 use std::process::Abort;
 use std::test::Fail;

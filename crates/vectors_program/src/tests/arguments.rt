@@ -34,23 +34,26 @@ fn the_first_argument_is_the_name(rt: HostRuntime) -> Result<(), Fail> {
 
 const NINE_WORDS: &[&str] = &["textwrap", "1", "2", "3", "4", "5", "6", "7", "8"];
 
-/// How many words come after the name of [`NINE_WORDS`], or 0 where memory runs out.
-fn count_after_name(alloc: Global, heap: &Heap) -> Result<usize, AllocError> {
+/// How many words come after the name of [`NINE_WORDS`], if memory is left for all.
+fn count_after_name(alloc: Global, heap: &Heap) -> Result<Option<usize>, AllocError> {
     let given = strings(alloc, NINE_WORDS)?;
     match words_after_name(heap, given.into_iter()) {
-        Ok(words) => Ok(words.len()),
-        Err(_) => Ok(0),
+        Ok(words) => Ok(Some(words.len())),
+        Err(_) => Ok(None),
     }
 }
 
 #[test]
 fn words_out_of_memory_are_no_fewer_words(rt: HostRuntime) -> Result<(), Fail> {
     let heap = Heap::new(rt.alloc(), 0);
-    for (allowed, expected) in [(0, 0), (1, 0), (2, 0), (3, 8)] {
+    for allowed in 0..3 {
         heap.allow(allowed);
         let count = count_after_name(rt.alloc(), &heap)?;
-        assert_number(&rt, "words after the name", count, expected);
+        assert_eq!(rt; count, None, "{allowed}");
     }
+    heap.allow(3);
+    let count = count_after_name(rt.alloc(), &heap)?;
+    assert_eq!(rt; count, Some(8));
     assert_number(&rt, "allocations left", heap.left(), 0);
     Ok(())
 }

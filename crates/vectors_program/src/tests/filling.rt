@@ -219,11 +219,11 @@ const PIECES: &[StreamRun] = &[
     ),
     (
         "a character that is cut",
-        b"\xE3\x81\x82",
+        &[0xE3, 0x81, 0x82],
         (2, READS),
         (2, WRITES),
         Ok(()),
-        b"\xE3\x81\x82",
+        &[0xE3, 0x81, 0x82],
     ),
 ];
 
@@ -260,7 +260,7 @@ const BAD_INPUTS: &[StreamRun] = &[
     ),
     (
         "a read that fails after what is no text",
-        b"\x61\xFF",
+        &[0x61, 0xFF],
         (5, FeedFault::Fails(2, ErrorKind::BrokenPipe)),
         (5, WRITES),
         Err(RunError::Read),
@@ -268,7 +268,7 @@ const BAD_INPUTS: &[StreamRun] = &[
     ),
     (
         "no text",
-        b"\xFF",
+        &[0xFF],
         (5, READS),
         (5, WRITES),
         Err(RunError::NotUtf8),
@@ -276,7 +276,7 @@ const BAD_INPUTS: &[StreamRun] = &[
     ),
     (
         "a text that ends in none",
-        b"\x61\xFF",
+        &[0x61, 0xFF],
         (5, READS),
         (5, WRITES),
         Err(RunError::NotUtf8),
@@ -284,7 +284,7 @@ const BAD_INPUTS: &[StreamRun] = &[
     ),
     (
         "a character that is cut off",
-        b"\xE3\x81",
+        &[0xE3, 0x81],
         (5, READS),
         (5, WRITES),
         Err(RunError::NotUtf8),

@@ -1,6 +1,6 @@
 //! The text that `fill_inplace` leaves, also where memory is refused.
 use super::assert_text;
-use refusing_heap::Heap;
+use fakes::heap::Heap;
 use std::alloc::AllocError;
 use std::process::Abort;
 use std::test::Fail;

@@ -1,6 +1,6 @@
 //! Each call with each of its allocations refused in turn.
 use super::words::are_offsets;
-use refusing_heap::Heap;
+use fakes::heap::Heap;
 use std::alloc::{AllocError, Allocator, Global};
 use std::borrow::CowStr;
 use std::fmt::Debug;

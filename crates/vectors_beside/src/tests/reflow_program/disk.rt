@@ -182,13 +182,14 @@ fn assert_files_are_replaced(
     assert_replaced(rt, folder)
 }
 
-/// Makes a draft for the file `a`, writes into it and discards it. Returns its mode, and whether the
-/// write says how much it wrote.
+/// Makes a draft for the file `a`, writes a long text into it and discards it. Returns its mode, and
+/// whether the write says how much it wrote.
 fn drafted(rt: &(impl rt::Files + AllocGlobal), folder: &str) -> io::Result<(u32, bool)> {
     let (a, beside) = (path(rt, folder, "a")?, path(rt, folder, "a.reflow")?);
+    let text = COUNT.repeat(rt.alloc(), 5_000)?;
     let mut disk = Disk::new(rt);
     let mut draft = disk.draft(a.as_str())?;
-    let count = draft.write(COUNT.as_bytes())?;
+    let count = draft.write(text.as_bytes())?;
     let found = fs::metadata(rt, beside.as_str())?;
     disk.discard(a.as_str(), draft);
     Ok((found.mode() & 0o7777, found.len() == count as u64))

@@ -1,45 +1,55 @@
 //! Texts in columns beside one another, by `wrap_columns`.
-use super::plain::{Layout, OPTIMAL_FIT, assert_text, joined_rows, options_of, plain_wrap_columns};
+use super::plain::{Layout, OPTIMAL_FIT, assert_row, options_of, plain_wrap_columns};
 use std::process::Abort;
 use std::test::Fail;
 use textwrap::wrap_algorithms::LineEnds;
 use textwrap::{Options, WrapAlgorithm, WrapError};
 use vectors_functions::end_nowhere;
 
-/// Asserts that the text has these rows, with a line feed between each two, in columns between
-/// these gaps.
+/// Whether the rows are these.
+fn are_rows(rows: &[String], expected: &[&str]) -> bool {
+    for (row, expected) in rows.iter().zip(expected) {
+        if row.as_str() != *expected {
+            return false;
+        }
+    }
+    rows.len() == expected.len()
+}
+
+/// Asserts that the text has these rows in columns between these gaps.
 fn assert_rows(
     rt: &(impl Abort + AllocGlobal),
     text: &str,
     columns: usize,
     options: Options<'_>,
     gaps: [&str; 3],
-    expected: &str,
+    expected: &[&str],
 ) -> Result<(), WrapError> {
     assert!(rt; columns >= 1);
     let rows = plain_wrap_columns(rt.alloc(), text, columns, options, gaps)?;
-    assert_text(rt, text, joined_rows(rt.alloc(), &rows), expected)
+    assert_row(rt, text, are_rows(&rows, expected));
+    Ok(())
 }
 
-const IN_COLUMNS: &[(&str, usize, usize, Layout<'_>, [&str; 3], &str)] = &[
-    ("a b c d", 4, 7, OPTIMAL_FIT, ["", "", ""], "abcd   "),
+const IN_COLUMNS: &[(&str, usize, usize, Layout<'_>, [&str; 3], &[&str])] = &[
+    ("a b c d", 4, 7, OPTIMAL_FIT, ["", "", ""], &["abcd   "]),
     (
         "Foo Bar Baz Quux",
         4,
         24,
         OPTIMAL_FIT,
         ["|", "|", "|"],
-        "|Foo |Bar |Baz |Quux   |",
+        &["|Foo |Bar |Baz |Quux   |"],
     ),
-    ("あ", 2, 2, OPTIMAL_FIT, ["", "", ""], "あ "),
-    ("", 1, 10, OPTIMAL_FIT, ["| ", "", " |"], "|        |"),
+    ("あ", 2, 2, OPTIMAL_FIT, ["", "", ""], &["あ "]),
+    ("", 1, 10, OPTIMAL_FIT, ["| ", "", " |"], &["|        |"]),
     (
         "xyz",
         2,
         10,
         OPTIMAL_FIT,
         ["----> ", " !!! ", " <----"],
-        "----> x !!! z <----\n----> y !!!   <----",
+        &["----> x !!! z <----", "----> y !!!   <----"],
     ),
     (
         "Words and a few emojis 😍 wrapped in ⓶ columns",
@@ -47,7 +57,11 @@ const IN_COLUMNS: &[(&str, usize, usize, Layout<'_>, [&str; 3], &str)] = &[
         30,
         OPTIMAL_FIT,
         ["✨ ", " ⚽ ", " 👀"],
-        "✨ Words      ⚽ wrapped in 👀\n✨ and a few  ⚽ ⓶ columns  👀\n✨ emojis 😍  ⚽            👀",
+        &[
+            "✨ Words      ⚽ wrapped in 👀",
+            "✨ and a few  ⚽ ⓶ columns  👀",
+            "✨ emojis 😍  ⚽            👀",
+        ],
     ),
     // A word that may not be broken passes its column.
     (
@@ -59,7 +73,7 @@ const IN_COLUMNS: &[(&str, usize, usize, Layout<'_>, [&str; 3], &str)] = &[
             ..OPTIMAL_FIT
         },
         ["", "|", ""],
-        "foobar",
+        &["foobar"],
     ),
 ];
 
@@ -88,7 +102,7 @@ fn a_text_without_lines_has_no_rows(rt: HostRuntime) -> Result<(), Fail> {
             wrap_algorithm: nowhere,
             ..options_of(width, &OPTIMAL_FIT)
         };
-        assert_rows(&rt, "foo", columns, options, ["<", "xx", ">"], "")?;
+        assert_rows(&rt, "foo", columns, options, ["<", "xx", ">"], &[])?;
     }
     Ok(())
 }

@@ -1,7 +1,7 @@
 //! Words, points and lines by functions of the caller.
 use super::plain::Kind::{Borrowed, Owned};
 use super::plain::{
-    Lines, OPTIMAL_FIT, assert_borrowed, assert_lines, assert_row, one_line, options_of,
+    Layout, Lines, OPTIMAL_FIT, assert_borrowed, assert_lines, assert_row, one_line, options_of,
     plain_append, plain_split, plain_wrap,
 };
 use std::alloc::{AllocError, Global};
@@ -18,28 +18,33 @@ use vectors_functions::{
     end_twice, refuse_line, refuse_word, refuse_words, split_in_middle,
 };
 
-/// The options of this width that cut lines into words here.
-fn with_cuts<'a>(width: usize, line_cuts: LineCuts) -> Options<'a> {
+/// Words that are not broken.
+const WHOLE_WORDS: Layout<'_> = Layout {
+    break_words: false,
+    ..OPTIMAL_FIT
+};
+
+/// The same options, cutting lines into words here.
+fn with_cuts<'a>(options: Options<'a>, line_cuts: LineCuts) -> Options<'a> {
     Options {
         word_separator: WordSeparator::Custom(line_cuts),
-        ..options_of(width, &OPTIMAL_FIT)
+        ..options
     }
 }
 
-/// The options of this width that split words here.
-fn with_points<'a>(width: usize, word_cuts: WordCuts) -> Options<'a> {
+/// The same options, splitting words here.
+fn with_points<'a>(options: Options<'a>, word_cuts: WordCuts) -> Options<'a> {
     Options {
         word_splitter: WordSplitter::Custom(word_cuts),
-        ..options_of(width, &OPTIMAL_FIT)
+        ..options
     }
 }
 
-/// The options of this width that end lines here, and break no words.
-fn with_ends<'a>(width: usize, line_ends: LineEnds) -> Options<'a> {
+/// The same options, ending lines here.
+fn with_ends<'a>(options: Options<'a>, line_ends: LineEnds) -> Options<'a> {
     Options {
         wrap_algorithm: WrapAlgorithm::Custom(line_ends),
-        break_words: false,
-        ..options_of(width, &OPTIMAL_FIT)
+        ..options
     }
 }
 
@@ -66,7 +71,8 @@ fn assert_cut(
     rows: Rows<'_>,
 ) -> Result<(), WrapError> {
     for &(text, width, expected) in rows {
-        let lines = plain_wrap(rt.alloc(), text, with_cuts(width, line_cuts));
+        let options = with_cuts(options_of(width, &OPTIMAL_FIT), line_cuts);
+        let lines = plain_wrap(rt.alloc(), text, options);
         assert_borrowed(rt, text, lines, expected)?;
     }
     Ok(())
@@ -124,7 +130,8 @@ const HYPHENED: &[(&str, usize, Lines<'_>)] = &[
 fn a_split_word_has_a_hyphen_at_the_end_of_its_line(rt: HostRuntime) -> Result<(), Fail> {
     let in_middle = WordCuts::new(rt.alloc(), split_in_middle);
     for &(text, width, expected) in HYPHENED {
-        let lines = plain_wrap(rt.alloc(), text, with_points(width, in_middle));
+        let options = with_points(options_of(width, &OPTIMAL_FIT), in_middle);
+        let lines = plain_wrap(rt.alloc(), text, options);
         assert_lines(&rt, text, lines, expected)?;
     }
     Ok(())
@@ -137,7 +144,8 @@ fn assert_ended(
     expected: &[&str],
 ) -> Result<(), WrapError> {
     let text = "First, second, third, fourth, fifth, sixth";
-    let lines = plain_wrap(rt.alloc(), text, with_ends(10, line_ends));
+    let options = with_ends(options_of(10, &WHOLE_WORDS), line_ends);
+    let lines = plain_wrap(rt.alloc(), text, options);
     assert_borrowed(rt, text, lines, expected)
 }
 
@@ -176,27 +184,37 @@ fn keeps_lines(alloc: Global, options: &Options<'_>) -> Result<bool, WrapError> 
 /// list of lines is lent, and that other words are not.
 fn assert_refuses_baz(
     rt: &(impl Abort + AllocGlobal),
-    options: &Options<'_>,
+    options: Options<'_>,
 ) -> Result<(), WrapError> {
-    let lines = plain_wrap(rt.alloc(), "foo\nbar", Options::from(options));
-    assert_borrowed(rt, "foo\nbar", lines, &["foo", "bar"])?;
     for text in ["baz", "foo\nbaz"] {
-        assert_row(rt, text, is_refused(rt.alloc(), text, options));
+        assert_row(rt, text, is_refused(rt.alloc(), text, &options));
     }
-    assert_row(rt, "baz after x", keeps_lines(rt.alloc(), options)?);
-    Ok(())
+    assert_row(rt, "baz after x", keeps_lines(rt.alloc(), &options)?);
+    let lines = plain_wrap(rt.alloc(), "foo\nbar", options);
+    assert_borrowed(rt, "foo\nbar", lines, &["foo", "bar"])
+}
+
+/// The options by which no word is broken at two columns.
+fn narrow<'a>() -> Options<'a> {
+    options_of(2, &WHOLE_WORDS)
 }
 
 /// Where a function of the caller is out of memory, so is the call, and what was lent stays as it
 /// was.
 #[test]
 fn a_function_may_refuse(rt: HostRuntime) -> Result<(), Fail> {
-    let separator = with_cuts(2, LineCuts::new(rt.alloc(), refuse_line)).break_words(false);
-    assert_refuses_baz(&rt, &separator)?;
-    let splitter = with_points(2, WordCuts::new(rt.alloc(), refuse_word)).break_words(false);
-    assert_refuses_baz(&rt, &splitter)?;
-    let algorithm = with_ends(2, LineEnds::new(rt.alloc(), refuse_words));
-    assert_refuses_baz(&rt, &algorithm)?;
+    assert_refuses_baz(
+        &rt,
+        with_cuts(narrow(), LineCuts::new(rt.alloc(), refuse_line)),
+    )?;
+    assert_refuses_baz(
+        &rt,
+        with_points(narrow(), WordCuts::new(rt.alloc(), refuse_word)),
+    )?;
+    assert_refuses_baz(
+        &rt,
+        with_ends(narrow(), LineEnds::new(rt.alloc(), refuse_words)),
+    )?;
     Ok(())
 }
 

@@ -1,6 +1,6 @@
 //! The texts of `fill`.
 use super::plain::{
-    FIRST_FIT, Layout, OPTIMAL_FIT, PENALTIES, assert_text, joined_lines, options_of, plain_append,
+    FIRST_FIT, Layout, OPTIMAL_FIT, PENALTIES, assert_row, assert_text, options_of, plain_append,
     plain_fill, plain_wrap,
 };
 use LineEnding::{CRLF, LF};
@@ -183,6 +183,18 @@ fn indents_make_no_difference_to_that(rt: HostRuntime) -> Result<(), Fail> {
     Ok(())
 }
 
+/// Whether words are broken, whether blanks are kept, and whether paragraphs are even.
+const SETTINGS: &[(bool, bool, bool)] = &[
+    (false, false, false),
+    (false, false, true),
+    (false, true, false),
+    (false, true, true),
+    (true, false, false),
+    (true, false, true),
+    (true, true, false),
+    (true, true, true),
+];
+
 /// Asserts the same for words that are broken or whole, blanks that are preserved or left off, and
 /// even and uneven paragraphs.
 fn assert_same_under_settings(
@@ -190,18 +202,14 @@ fn assert_same_under_settings(
     width: usize,
     layout: &Layout<'_>,
 ) -> Result<(), WrapError> {
-    for break_words in [false, true] {
-        for preserve_trailing_space in [false, true] {
-            for even_paragraphs in [false, true] {
-                let layout = Layout {
-                    break_words,
-                    preserve_trailing_space,
-                    even_paragraphs,
-                    ..*layout
-                };
-                assert_same_lines(rt, width, &layout)?;
-            }
-        }
+    for &(break_words, preserve_trailing_space, even_paragraphs) in SETTINGS {
+        let layout = Layout {
+            break_words,
+            preserve_trailing_space,
+            even_paragraphs,
+            ..*layout
+        };
+        assert_same_lines(rt, width, &layout)?;
     }
     Ok(())
 }
@@ -255,37 +263,60 @@ fn assert_listed(
     options: &Options<'_>,
 ) -> Result<(), WrapError> {
     let listed = listed_lines(rt.alloc(), text, options)?;
-    assert_wrapped(rt, text, options, &listed)?;
-    assert_filled(rt, text, options, &listed)
+    let row = (text, options.width);
+    assert_row(rt, row, has_lines(rt.alloc(), text, options, &listed)?);
+    assert_row(rt, row, is_filled(rt.alloc(), text, options, &listed)?);
+    Ok(())
 }
 
-/// Asserts that the list of the lines of a text is this one.
-fn assert_wrapped(
-    rt: &(impl Abort + AllocGlobal),
+/// Whether the list of the lines of a text has the texts of these.
+fn has_lines(
+    alloc: Global,
     text: &str,
     options: &Options<'_>,
     listed: &[CowStr<'_>],
-) -> Result<(), WrapError> {
-    let listed = joined_lines(rt.alloc(), listed, "|")?;
-    assert_text(rt, text, wrapped_text(rt.alloc(), text, options), &listed)
-}
-
-/// Asserts that a text is filled to these lines.
-fn assert_filled(
-    rt: &(impl Abort + AllocGlobal),
-    text: &str,
-    options: &Options<'_>,
-    listed: &[CowStr<'_>],
-) -> Result<(), WrapError> {
-    let listed = joined_lines(rt.alloc(), listed, options.line_ending.as_str())?;
-    let filled = plain_fill(rt.alloc(), text, Options::from(options));
-    assert_text(rt, text, filled, &listed)
-}
-
-/// The lines of a text, with `|` between each two.
-fn wrapped_text(alloc: Global, text: &str, options: &Options<'_>) -> Result<String, WrapError> {
+) -> Result<bool, WrapError> {
     let lines = plain_wrap(alloc, text, Options::from(options))?;
-    joined_lines(alloc, &lines, "|")
+    Ok(are_same(&lines, listed))
+}
+
+/// Whether the lines have the same texts.
+fn are_same(lines: &[CowStr<'_>], listed: &[CowStr<'_>]) -> bool {
+    for (line, listed) in lines.iter().zip(listed) {
+        if line.as_str() != listed.as_str() {
+            return false;
+        }
+    }
+    lines.len() == listed.len()
+}
+
+/// Whether a text is filled to these lines.
+fn is_filled(
+    alloc: Global,
+    text: &str,
+    options: &Options<'_>,
+    listed: &[CowStr<'_>],
+) -> Result<bool, WrapError> {
+    let filled = plain_fill(alloc, text, Options::from(options))?;
+    Ok(are_joined(&filled, listed, options.line_ending.as_str()))
+}
+
+/// Whether a text is the lines, with the ending between each two.
+fn are_joined(filled: &str, lines: &[CowStr<'_>], ending: &str) -> bool {
+    let mut rest = filled;
+    for (i, line) in lines.iter().enumerate() {
+        let before = if i == 0 { "" } else { ending };
+        match after(rest, before, line.as_str()) {
+            Some(after) => rest = after,
+            None => return false,
+        }
+    }
+    rest.is_empty()
+}
+
+/// What is left of a text after these two parts of it, if it begins with them.
+fn after<'t>(text: &'t str, first: &str, second: &str) -> Option<&'t str> {
+    text.strip_prefix(first)?.strip_prefix(second)
 }
 
 /// The lines of a text, paragraph by paragraph, by way of lists of words.

@@ -18,13 +18,18 @@ use textwrap::{LineEnding, Options, WordSeparator, WrapError};
 /// that stands; an end.
 type Long<'a> = (&'a str, &'a str, usize, &'a str, usize, &'a str);
 
+/// A part that is repeated so many times, with what follows it.
+fn repeated(alloc: Global, part: &str, count: usize, after: &str) -> Result<String, AllocError> {
+    let repeated = part.repeat(alloc, count)?;
+    format!(in alloc; "{repeated}{after}")
+}
+
 /// The whole text.
-fn whole(alloc: Global, text: Long<'_>) -> Result<String, WrapError> {
+fn whole(alloc: Global, text: Long<'_>) -> Result<String, AllocError> {
     let (beginning, part, parts, after, lines, end) = text;
-    let part = part.repeat(alloc, parts)?;
-    let line = format!(in alloc; "{part}{after}")?;
-    let lines = line.repeat(alloc, lines)?;
-    Ok(format!(in alloc; "{beginning}{lines}{end}")?)
+    let line = repeated(alloc, part, parts, after)?;
+    let lines = repeated(alloc, &line, lines, end)?;
+    format!(in alloc; "{beginning}{lines}")
 }
 
 /// A call that gives a text or lines.
@@ -47,27 +52,41 @@ enum Call {
     Dedent,
 }
 
-/// What a call gives by these options, lines with `|` after each.
-fn given(alloc: Global, call: Call, text: &str, options: Options<'_>) -> Result<String, WrapError> {
+/// Whether a call by these options gives this text, or lines or rows with `|` after each.
+fn gives(
+    alloc: Global,
+    call: Call,
+    text: &str,
+    options: Options<'_>,
+    expected: &str,
+) -> Result<bool, WrapError> {
     match call {
-        Wrap => ended(alloc, plain_wrap(alloc, text, options)),
-        WrapSingleLines => ended(alloc, words_wrapped(alloc, text, &options)),
-        Fill => plain_fill(alloc, text, options),
-        FillLine => line_ended(plain_fill(alloc, text, options)),
-        FillInplace => plain_fill_inplace(alloc, text, options.width),
-        Column => rows_ended(
-            alloc,
-            plain_wrap_columns(alloc, text, 1, options, ["", "", ""]),
+        Wrap => are_lines(plain_wrap(alloc, text, options), expected),
+        WrapSingleLines => are_lines(words_wrapped(alloc, text, &options), expected),
+        Fill => is_text(plain_fill(alloc, text, options), expected, ""),
+        FillLine => is_text(plain_fill(alloc, text, options), expected, "\n"),
+        FillInplace => is_text(plain_fill_inplace(alloc, text, options.width), expected, ""),
+        Column => are_rows(
+            plain_wrap_columns(alloc, text, 1, options, NO_GAPS),
+            expected,
         ),
-        Table => rows_ended(
-            alloc,
-            plain_wrap_columns(alloc, text, 200, options, ["|", "|", "|"]),
+        Table => are_rows(
+            plain_wrap_columns(alloc, text, 200, options, GAPS),
+            expected,
         ),
-        Refill => plain_refill(alloc, text, options),
-        Indent => plain_indent(alloc, text, options.initial_indent),
-        Dedent => plain_dedent(alloc, text),
+        Refill => is_text(plain_refill(alloc, text, options), expected, ""),
+        Indent => is_text(
+            plain_indent(alloc, text, options.initial_indent),
+            expected,
+            "",
+        ),
+        Dedent => is_text(plain_dedent(alloc, text), expected, ""),
     }
 }
+
+const NO_GAPS: [&str; 3] = ["", "", ""];
+
+const GAPS: [&str; 3] = ["|", "|", "|"];
 
 /// The lines of `wrap_single_line` on each word by itself.
 fn words_wrapped<'t>(
@@ -82,36 +101,36 @@ fn words_wrapped<'t>(
     Ok(lines)
 }
 
-/// The lines with `|` after each, and `+` before those that are no part of the text.
-fn ended(alloc: Global, lines: Result<Vec<CowStr<'_>>, WrapError>) -> Result<String, WrapError> {
-    let lines = lines?;
-    let mut ended = String::new(alloc);
-    for line in lines.iter() {
-        if matches!(line, CowStr::Owned(_)) {
-            ended.push('+')?;
-        }
-        ended.push_str(line.as_str())?;
-        ended.push('|')?;
-    }
-    Ok(ended)
+/// Whether a call gave what is left of the expected text without this end.
+fn is_text(given: Result<String, WrapError>, expected: &str, end: &str) -> Result<bool, WrapError> {
+    Ok(Some(given?.as_str()) == expected.strip_suffix(end))
 }
 
-/// The text with a line feed after it.
-fn line_ended(text: Result<String, WrapError>) -> Result<String, WrapError> {
-    let mut text = text?;
-    text.push('\n')?;
-    Ok(text)
+/// Whether a call gave these lines, each a part of the text, with `|` after each.
+fn are_lines(given: Result<Vec<CowStr<'_>>, WrapError>, expected: &str) -> Result<bool, WrapError> {
+    let mut rest = Some(expected);
+    for line in given?.iter() {
+        rest = if matches!(line, CowStr::Borrowed(_)) {
+            after(rest, line.as_str())
+        } else {
+            None
+        };
+    }
+    Ok(rest == Some(""))
 }
 
-/// The rows of a table, with `|` after each.
-fn rows_ended(alloc: Global, rows: Result<Vec<String>, WrapError>) -> Result<String, WrapError> {
-    let rows = rows?;
-    let mut ended = String::new(alloc);
-    for row in rows.iter() {
-        ended.push_str(row.as_str())?;
-        ended.push('|')?;
+/// Whether a call gave these rows, with `|` after each.
+fn are_rows(given: Result<Vec<String>, WrapError>, expected: &str) -> Result<bool, WrapError> {
+    let mut rest = Some(expected);
+    for row in given?.iter() {
+        rest = after(rest, row.as_str());
     }
-    Ok(ended)
+    Ok(rest == Some(""))
+}
+
+/// What is left of a text after this line and `|`, if it begins with them.
+fn after<'t>(text: Option<&'t str>, line: &str) -> Option<&'t str> {
+    text?.strip_prefix(line)?.strip_prefix('|')
 }
 
 const EMPTY: Long<'_> = ("", "", 0, "", 0, "");
@@ -409,8 +428,8 @@ const ROWS: &[Row<'_>] = &[
     ),
 ];
 
-/// What the call of a row gives.
-fn given_by(alloc: Global, row: &Row<'_>) -> Result<String, WrapError> {
+/// Whether the call of a row gives this text.
+fn gives_by(alloc: Global, row: &Row<'_>, expected: &str) -> Result<bool, WrapError> {
     let &(_, call, width, layout, indent, text, _) = row;
     let indent = whole(alloc, indent)?;
     let text = whole(alloc, text)?;
@@ -419,15 +438,13 @@ fn given_by(alloc: Global, row: &Row<'_>) -> Result<String, WrapError> {
         subsequent_indent: &indent,
         ..layout
     };
-    given(alloc, call, &text, options_of(width, &layout))
+    gives(alloc, call, &text, options_of(width, &layout), expected)
 }
 
 /// Whether the call of a row gives what the row says.
 fn is_right(alloc: Global, row: &Row<'_>) -> Result<bool, WrapError> {
-    let given = given_by(alloc, row)?;
-    let &(_, _, _, _, _, _, expected) = row;
-    let expected = whole(alloc, expected)?;
-    Ok(given.as_str() == expected.as_str())
+    let expected = whole(alloc, row.6)?;
+    gives_by(alloc, row, &expected)
 }
 
 /// A long text is treated as a short one is.

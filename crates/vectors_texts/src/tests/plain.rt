@@ -63,26 +63,34 @@ pub(super) const FIRST_FIT: Layout<'static> = Layout {
     ..OPTIMAL_FIT
 };
 
-/// The options of this width.
-pub(super) fn options_of<'a>(width: usize, layout: &Layout<'a>) -> Options<'a> {
-    let wrap_algorithm = match layout.penalties {
+/// First fit, or optimal fit by these penalties.
+fn algorithm_of(penalties: Option<Penalties>) -> WrapAlgorithm {
+    match penalties {
         Some(penalties) => WrapAlgorithm::OptimalFit(penalties),
         None => WrapAlgorithm::FirstFit,
-    };
-    let word_splitter = if layout.split_words {
+    }
+}
+
+/// The splitter at hyphens, or at nothing.
+fn splitter_of(split_words: bool) -> WordSplitter {
+    if split_words {
         WordSplitter::HyphenSplitter
     } else {
         WordSplitter::NoHyphenation
-    };
+    }
+}
+
+/// The options of this width.
+pub(super) fn options_of<'a>(width: usize, layout: &Layout<'a>) -> Options<'a> {
     Options {
         width,
         line_ending: layout.line_ending,
         initial_indent: layout.initial_indent,
         subsequent_indent: layout.subsequent_indent,
         break_words: layout.break_words,
-        wrap_algorithm,
+        wrap_algorithm: algorithm_of(layout.penalties),
         word_separator: WordSeparator::AsciiSpace,
-        word_splitter,
+        word_splitter: splitter_of(layout.split_words),
         preserve_trailing_space: layout.preserve_trailing_space,
         even_paragraphs: layout.even_paragraphs,
     }
@@ -215,34 +223,6 @@ pub(super) fn plain_indent(alloc: Global, text: &str, prefix: &str) -> Result<St
 /// The text of `dedent`.
 pub(super) fn plain_dedent(alloc: Global, text: &str) -> Result<String, WrapError> {
     Ok(dedent(alloc, text)?)
-}
-
-/// The texts of the lines, with this between each two.
-pub(super) fn joined_lines(
-    alloc: Global,
-    lines: &[CowStr<'_>],
-    between: &str,
-) -> Result<String, WrapError> {
-    let mut joined = String::new(alloc);
-    for (i, line) in lines.iter().enumerate() {
-        if i > 0 {
-            joined.push_str(between)?;
-        }
-        joined.push_str(line.as_str())?;
-    }
-    Ok(joined)
-}
-
-/// The rows, with a line feed between each two.
-pub(super) fn joined_rows(alloc: Global, rows: &[String]) -> Result<String, WrapError> {
-    let mut joined = String::new(alloc);
-    for (i, row) in rows.iter().enumerate() {
-        if i > 0 {
-            joined.push('\n')?;
-        }
-        joined.push_str(row.as_str())?;
-    }
-    Ok(joined)
 }
 
 /// Asserts that what a row says holds.

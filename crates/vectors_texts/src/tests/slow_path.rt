@@ -8,62 +8,50 @@ use std::borrow::CowStr;
 use std::test::Fail;
 use textwrap::{Options, WrapError};
 
-/// Where a line is out, so that the initial indent is not printed.
-const LATER: Layout<'static> = Layout {
-    initial_indent: ">>>",
-    ..FIRST_FIT
-};
-
-/// The same, where paragraphs are to be even.
-const LATER_EVEN: Layout<'static> = Layout {
-    even_paragraphs: true,
-    ..LATER
-};
-
-/// Appends the lines of a paragraph to a list of the line `x`, with the shortcut and without it.
-fn appended_twice<'p>(
+/// The lines of a paragraph, after the line `x` or by itself, with the shortcut for short ones or
+/// without.
+fn appended<'p>(
     alloc: Global,
-    paragraph: &'p str,
-    options: &Options<'_>,
-) -> Result<Vec<CowStr<'p>>, WrapError> {
-    let mut lines = one_line(alloc)?;
-    plain_append(alloc, paragraph, options, false, &mut lines)?;
-    plain_append(alloc, paragraph, options, true, &mut lines)?;
-    Ok(lines)
-}
-
-/// A later paragraph is one line if it has fewer bytes than the width has columns, though the slow
-/// path would divide it at the width that the initial indent leaves.
-#[test]
-fn a_later_paragraph_takes_the_shortcut_past_an_initial_indent(
-    rt: HostRuntime,
-) -> Result<(), Fail> {
-    let lines = appended_twice(rt.alloc(), "foobar ba", &options_of(10, &LATER));
-    assert_borrowed(&rt, "foobar ba", lines, &["x", "foobar ba", "foobar", "ba"])?;
-    Ok(())
-}
-
-/// Whether a line is out is told by the list of lines: where it has one, an even paragraph is
-/// divided at the whole width, also one that is not short.
-#[test]
-fn a_list_with_a_line_makes_a_paragraph_a_later_one(rt: HostRuntime) -> Result<(), Fail> {
-    for paragraph in ["foobar ba", "foobar bar"] {
-        let lines = appended_twice(rt.alloc(), paragraph, &options_of(10, &LATER_EVEN));
-        assert_borrowed(&rt, paragraph, lines, &["x", paragraph, paragraph])?;
-    }
-    Ok(())
-}
-
-/// The lines of a paragraph by itself, with the shortcut for short ones or without.
-fn lines_alone<'p>(
-    alloc: Global,
+    is_later: bool,
     paragraph: &'p str,
     options: &Options<'_>,
     slowly: bool,
 ) -> Result<Vec<CowStr<'p>>, WrapError> {
-    let mut lines = Vec::new(alloc);
+    let mut lines = if is_later {
+        one_line(alloc)?
+    } else {
+        Vec::new(alloc)
+    };
     plain_append(alloc, paragraph, options, slowly, &mut lines)?;
     Ok(lines)
+}
+
+const LATER: &[(&str, bool, bool, &[&str])] = &[
+    // A later paragraph is one line if it has fewer bytes than the width has columns, though the
+    // slow path would divide it at the width that the initial indent leaves.
+    ("foobar ba", false, false, &["x", "foobar ba"]),
+    ("foobar ba", false, true, &["x", "foobar", "ba"]),
+    // An even one is divided at the whole width either way.
+    ("foobar ba", true, false, &["x", "foobar ba"]),
+    ("foobar ba", true, true, &["x", "foobar ba"]),
+    ("foobar bar", true, false, &["x", "foobar bar"]),
+    ("foobar bar", true, true, &["x", "foobar bar"]),
+];
+
+/// Whether a line is out is told by the list of lines.
+#[test]
+fn a_list_with_a_line_makes_a_paragraph_a_later_one(rt: HostRuntime) -> Result<(), Fail> {
+    for &(paragraph, even_paragraphs, slowly, expected) in LATER {
+        let layout = Layout {
+            initial_indent: ">>>",
+            even_paragraphs,
+            ..FIRST_FIT
+        };
+        let options = options_of(10, &layout);
+        let lines = appended(rt.alloc(), true, paragraph, &options, slowly);
+        assert_borrowed(&rt, paragraph, lines, expected)?;
+    }
+    Ok(())
 }
 
 const SHORT_PARAGRAPHS: &[(&str, usize, Layout<'_>, &str)] = &[
@@ -97,7 +85,7 @@ fn the_shortcut_gives_the_lines_of_the_slow_path(rt: HostRuntime) -> Result<(), 
     for &(paragraph, width, layout, line) in SHORT_PARAGRAPHS {
         for slowly in [false, true] {
             let options = options_of(width, &layout);
-            let lines = lines_alone(rt.alloc(), paragraph, &options, slowly);
+            let lines = appended(rt.alloc(), false, paragraph, &options, slowly);
             assert_borrowed(&rt, paragraph, lines, &[line])?;
         }
     }

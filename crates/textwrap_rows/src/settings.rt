@@ -12,7 +12,6 @@ struct Settings<'a> {
     subsequent_indent: &'a str,
     break_words: bool,
     is_first_fit: bool,
-    short_last_line_fraction: usize,
     preserve_trailing_space: bool,
     even_paragraphs: bool,
 }
@@ -23,10 +22,7 @@ pub fn options(words: &[String]) -> Result<Options<'_>, Fault> {
     let wrap_algorithm = if settings.is_first_fit {
         WrapAlgorithm::FirstFit
     } else {
-        WrapAlgorithm::OptimalFit(Penalties {
-            short_last_line_fraction: settings.short_last_line_fraction,
-            ..Penalties::new()
-        })
+        WrapAlgorithm::OptimalFit(Penalties::new())
     };
     Ok(Options {
         width: settings.width,
@@ -54,7 +50,6 @@ fn read(words: &[String]) -> Result<Settings<'_>, Fault> {
         subsequent_indent: "",
         break_words: true,
         is_first_fit: false,
-        short_last_line_fraction: 4,
         preserve_trailing_space: false,
         even_paragraphs: false,
     };
@@ -75,7 +70,6 @@ fn set<'a>(settings: &mut Settings<'a>, name: &str, word: &'a str) -> Result<&'a
     match name {
         "initial" => settings.initial_indent = word,
         "subsequent" => settings.subsequent_indent = word,
-        "fraction" => settings.short_last_line_fraction = number(word)?,
         _ => return switch(settings, word),
     }
     Ok("")
@@ -89,7 +83,7 @@ fn switch<'a>(settings: &mut Settings<'_>, word: &'a str) -> Result<&'a str, Fau
         "crlf" => settings.line_ending = LineEnding::CRLF,
         "blanks" => settings.preserve_trailing_space = true,
         "even" => settings.even_paragraphs = true,
-        "initial" | "subsequent" | "fraction" => return Ok(word),
+        "initial" | "subsequent" => return Ok(word),
         _ => return Err(Fault::Malformed),
     }
     Ok("")

@@ -307,7 +307,7 @@ fn are_joined(filled: &str, lines: &[CowStr<'_>], ending: &str) -> bool {
     for (i, line) in lines.iter().enumerate() {
         let before = if i == 0 { "" } else { ending };
         match after(rest, before, line.as_str()) {
-            Some(after) => rest = after,
+            Some(left) => rest = left,
             None => return false,
         }
     }

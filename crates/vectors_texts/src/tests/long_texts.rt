@@ -103,13 +103,15 @@ fn words_wrapped<'t>(
 
 /// Whether a call gave what is left of the expected text without this end.
 fn is_text(given: Result<String, WrapError>, expected: &str, end: &str) -> Result<bool, WrapError> {
-    Ok(Some(given?.as_str()) == expected.strip_suffix(end))
+    let given = given?;
+    Ok(Some(given.as_str()) == expected.strip_suffix(end))
 }
 
 /// Whether a call gave these lines, each a part of the text, with `|` after each.
 fn are_lines(given: Result<Vec<CowStr<'_>>, WrapError>, expected: &str) -> Result<bool, WrapError> {
+    let lines = given?;
     let mut rest = Some(expected);
-    for line in given?.iter() {
+    for line in lines.iter() {
         rest = if matches!(line, CowStr::Borrowed(_)) {
             after(rest, line.as_str())
         } else {
@@ -121,8 +123,9 @@ fn are_lines(given: Result<Vec<CowStr<'_>>, WrapError>, expected: &str) -> Resul
 
 /// Whether a call gave these rows, with `|` after each.
 fn are_rows(given: Result<Vec<String>, WrapError>, expected: &str) -> Result<bool, WrapError> {
+    let rows = given?;
     let mut rest = Some(expected);
-    for row in given?.iter() {
+    for row in rows.iter() {
         rest = after(rest, row.as_str());
     }
     Ok(rest == Some(""))
@@ -434,8 +437,8 @@ fn gives_by(alloc: Global, row: &Row<'_>, expected: &str) -> Result<bool, WrapEr
     let indent = whole(alloc, indent)?;
     let text = whole(alloc, text)?;
     let layout = Layout {
-        initial_indent: &indent,
-        subsequent_indent: &indent,
+        initial_indent: indent.as_str(),
+        subsequent_indent: indent.as_str(),
         ..layout
     };
     gives(alloc, call, &text, options_of(width, &layout), expected)

@@ -1,60 +1,111 @@
 //! Words, points and lines by functions of the caller.
-use super::wrapping::Kind::{Borrowed, Owned};
-use super::wrapping::{assert_borrowed, assert_wrapped};
-use std::borrow::CowStr;
+use super::plain::Kind::{Borrowed, Owned};
+use super::plain::{
+    Layout, Lines, OPTIMAL_FIT, assert_borrowed, assert_lines, assert_row, one_line, options_of,
+    plain_append, plain_split, plain_wrap,
+};
+use std::alloc::{AllocError, Global};
+use std::fmt::Debug;
 use std::process::Abort;
 use std::test::Fail;
-use textwrap::fuzzing::wrap_single_line_slow_path;
 use textwrap::word_separators::LineCuts;
-use textwrap::word_splitters::{WordCuts, split_words};
+use textwrap::word_splitters::WordCuts;
 use textwrap::words::Word;
 use textwrap::wrap_algorithms::LineEnds;
-use textwrap::{Options, WordSeparator, WordSplitter, WrapAlgorithm, WrapError, wrap};
+use textwrap::{Options, WordSeparator, WordSplitter, WrapAlgorithm, WrapError};
 use vectors_functions::{
     are_borrowed, cut_everywhere, cut_foobar, cut_nowhere, end_all, end_early, end_nowhere,
     end_twice, refuse_line, refuse_word, refuse_words, split_in_middle,
 };
 
-/// The options of this width that cut lines into words here.
-fn with_cuts<'a>(width: usize, line_cuts: LineCuts) -> Options<'a> {
-    Options::new(width).word_separator(WordSeparator::Custom(line_cuts))
+/// Words that are not broken.
+const WHOLE_WORDS: Layout<'_> = Layout {
+    break_words: false,
+    ..OPTIMAL_FIT
+};
+
+/// The same options, cutting lines into words here.
+fn with_cuts<'a>(options: Options<'a>, line_cuts: LineCuts) -> Options<'a> {
+    Options {
+        word_separator: WordSeparator::Custom(line_cuts),
+        ..options
+    }
 }
 
-/// The options of this width that split words here.
-fn with_points<'a>(width: usize, word_cuts: WordCuts) -> Options<'a> {
-    Options::new(width).word_splitter(WordSplitter::Custom(word_cuts))
+/// The same options, splitting words here.
+fn with_points<'a>(options: Options<'a>, word_cuts: WordCuts) -> Options<'a> {
+    Options {
+        word_splitter: WordSplitter::Custom(word_cuts),
+        ..options
+    }
 }
 
-/// The options of this width that end lines here, and break no words.
-fn with_ends<'a>(width: usize, line_ends: LineEnds) -> Options<'a> {
-    Options::new(width)
-        .wrap_algorithm(WrapAlgorithm::Custom(line_ends))
-        .break_words(false)
+/// The same options, ending lines here.
+fn with_ends<'a>(options: Options<'a>, line_ends: LineEnds) -> Options<'a> {
+    Options {
+        wrap_algorithm: WrapAlgorithm::Custom(line_ends),
+        ..options
+    }
+}
+
+/// A text, a width and the lines.
+type Rows<'a> = &'a [(&'a str, usize, &'a [&'a str])];
+
+const CUT_IN_MIDDLE: Rows<'_> = &[
+    ("foobar", 5, &["foo", "bar"]),
+    ("foobar\nfoobaz", 5, &["foo", "bar", "fooba", "z"]),
+];
+
+const CUT_NOWHERE: Rows<'_> = &[("foo bar", 5, &["foo b", "ar"])];
+
+const CUT_EVERYWHERE: Rows<'_> = &[
+    ("añb", 1, &["a", "ñ", "b"]),
+    ("a안b", 2, &["a", "안", "b"]),
+    ("안 b", 3, &["안", " b"]),
+];
+
+/// Asserts that the texts have these lines if they are cut into words here.
+fn assert_cut(
+    rt: &(impl Abort + AllocGlobal),
+    line_cuts: LineCuts,
+    rows: Rows<'_>,
+) -> Result<(), WrapError> {
+    for &(text, width, expected) in rows {
+        let options = with_cuts(options_of(width, &OPTIMAL_FIT), line_cuts);
+        let lines = plain_wrap(rt.alloc(), text, options);
+        assert_borrowed(rt, text, lines, expected)?;
+    }
+    Ok(())
 }
 
 /// The words of a line are its parts between the cuts of the caller.
 #[test]
 fn a_line_is_cut_where_the_function_says(rt: HostRuntime) -> Result<(), Fail> {
-    let in_middle = LineCuts::new(rt.alloc(), cut_foobar);
-    let nowhere = LineCuts::new(rt.alloc(), cut_nowhere);
-    let everywhere = LineCuts::new(rt.alloc(), cut_everywhere);
-    let rows: &[(&str, usize, LineCuts, &[&str])] = &[
-        ("foobar", 5, in_middle, &["foo", "bar"]),
-        (
-            "foobar\nfoobaz",
-            5,
-            in_middle,
-            &["foo", "bar", "fooba", "z"],
-        ),
-        ("foo bar", 5, nowhere, &["foo b", "ar"]),
-        ("añb", 1, everywhere, &["a", "ñ", "b"]),
-        ("a안b", 2, everywhere, &["a", "안", "b"]),
-        ("안 b", 3, everywhere, &["안", " b"]),
-    ];
-    for &(text, width, line_cuts, lines) in rows {
-        assert_borrowed(&rt, text, with_cuts(width, line_cuts), lines)?;
-    }
+    assert_cut(&rt, LineCuts::new(rt.alloc(), cut_foobar), CUT_IN_MIDDLE)?;
+    assert_cut(&rt, LineCuts::new(rt.alloc(), cut_nowhere), CUT_NOWHERE)?;
+    assert_cut(
+        &rt,
+        LineCuts::new(rt.alloc(), cut_everywhere),
+        CUT_EVERYWHERE,
+    )?;
     Ok(())
+}
+
+/// The texts and the penalties of pieces.
+const SPLIT_IN_MIDDLE: &[(&str, &str)] = &[("fo-", ""), ("bar", ""), ("foo", "-"), ("bar  ", "")];
+
+/// Whether the pieces have these texts and penalties.
+fn are_pieces(pieces: &[Word<'_>], expected: &[(&str, &str)]) -> bool {
+    for (piece, &(text, penalty)) in pieces.iter().zip(expected) {
+        let expected = Word {
+            penalty,
+            ..Word::from(text)
+        };
+        if *piece != expected {
+            return false;
+        }
+    }
+    pieces.len() == expected.len()
 }
 
 /// The pieces of a word lie between the points of the caller, with a hyphen as penalty where the
@@ -63,96 +114,107 @@ fn a_line_is_cut_where_the_function_says(rt: HostRuntime) -> Result<(), Fail> {
 fn a_word_is_split_where_the_function_says(rt: HostRuntime) -> Result<(), Fail> {
     let splitter = WordSplitter::Custom(WordCuts::new(rt.alloc(), split_in_middle));
     let words = [Word::from("fo-bar"), Word::from("foobar  ")];
-    let pieces = split_words(rt.alloc(), words, &splitter)?;
-    let mut with_hyphen = Word::from("foo");
-    with_hyphen.penalty = "-";
-    let expected = [
-        Word::from("fo-"),
-        Word::from("bar"),
-        with_hyphen,
-        Word::from("bar  "),
-    ];
-    assert_eq!(rt; pieces.as_slice(), expected.as_slice());
+    let pieces = plain_split(rt.alloc(), &words, &splitter)?;
+    assert_row(&rt, "foobar", are_pieces(&pieces, SPLIT_IN_MIDDLE));
     Ok(())
 }
+
+const HYPHENED: &[(&str, usize, Lines<'_>)] = &[
+    ("foobar", 4, &[(Owned, "foo-"), (Borrowed, "bar")]),
+    ("fo-bar", 4, &[(Borrowed, "fo-"), (Borrowed, "bar")]),
+    ("foobar", 6, &[(Borrowed, "foobar")]),
+];
 
 /// A line that ends at a point of the caller shows the hyphen, and is no slice of the text then.
 #[test]
 fn a_split_word_has_a_hyphen_at_the_end_of_its_line(rt: HostRuntime) -> Result<(), Fail> {
     let in_middle = WordCuts::new(rt.alloc(), split_in_middle);
-    let hyphened = [(Owned, "foo-"), (Borrowed, "bar")];
-    assert_wrapped(&rt, "foobar", with_points(4, in_middle), &hyphened)?;
-    assert_borrowed(&rt, "fo-bar", with_points(4, in_middle), &["fo-", "bar"])?;
-    assert_borrowed(&rt, "foobar", with_points(6, in_middle), &["foobar"])?;
+    for &(text, width, expected) in HYPHENED {
+        let options = with_points(options_of(width, &OPTIMAL_FIT), in_middle);
+        let lines = plain_wrap(rt.alloc(), text, options);
+        assert_lines(&rt, text, lines, expected)?;
+    }
     Ok(())
 }
+
+/// Asserts that a text of six words has these lines if they end here.
+fn assert_ended(
+    rt: &(impl Abort + AllocGlobal),
+    line_ends: LineEnds,
+    expected: &[&str],
+) -> Result<(), WrapError> {
+    let text = "First, second, third, fourth, fifth, sixth";
+    let options = with_ends(options_of(10, &WHOLE_WORDS), line_ends);
+    let lines = plain_wrap(rt.alloc(), text, options);
+    assert_borrowed(rt, text, lines, expected)
+}
+
+const ENDED_ALL: &[&str] = &["First,", "second, third,", "fourth, fifth, sixth"];
+
+const ENDED_EARLY: &[&str] = &["First,", "second, third,"];
+
+const ENDED_TWICE: &[&str] = &["First,", "", "second, third, fourth, fifth, sixth"];
 
 /// The lines end where the caller says; words after the last end are lost, and equal ends make an
 /// empty line.
 #[test]
 fn lines_end_where_the_function_says(rt: HostRuntime) -> Result<(), Fail> {
-    let rows: &[(LineEnds, &[&str])] = &[
-        (
-            LineEnds::new(rt.alloc(), end_all),
-            &["First,", "second, third,", "fourth, fifth, sixth"],
-        ),
-        (
-            LineEnds::new(rt.alloc(), end_early),
-            &["First,", "second, third,"],
-        ),
-        (LineEnds::new(rt.alloc(), end_nowhere), &[]),
-        (
-            LineEnds::new(rt.alloc(), end_twice),
-            &["First,", "", "second, third, fourth, fifth, sixth"],
-        ),
-    ];
-    for &(line_ends, lines) in rows {
-        let text = "First, second, third, fourth, fifth, sixth";
-        assert_borrowed(&rt, text, with_ends(10, line_ends), lines)?;
-    }
+    assert_ended(&rt, LineEnds::new(rt.alloc(), end_all), ENDED_ALL)?;
+    assert_ended(&rt, LineEnds::new(rt.alloc(), end_early), ENDED_EARLY)?;
+    assert_ended(&rt, LineEnds::new(rt.alloc(), end_nowhere), &[])?;
+    assert_ended(&rt, LineEnds::new(rt.alloc(), end_twice), ENDED_TWICE)?;
     Ok(())
 }
 
-/// Asserts that wrapping `text` is refused as memory that ran out is.
-fn assert_refused(rt: &(impl Abort + AllocGlobal), text: &str, options: &Options<'_>) {
-    let lines = wrap(rt.alloc(), text, Options::from(options));
-    assert!(rt; matches!(lines, Err(WrapError::Memory(_))), "{text:?}");
+/// Whether wrapping the text is refused as memory that ran out is.
+fn is_refused(alloc: Global, text: &str, options: &Options<'_>) -> bool {
+    let lines = plain_wrap(alloc, text, Options::from(options));
+    matches!(lines, Err(WrapError::Memory(_)))
+}
+
+/// Whether a list of a line is as it was after `baz` has been refused.
+fn keeps_lines(alloc: Global, options: &Options<'_>) -> Result<bool, WrapError> {
+    let mut lines = one_line(alloc)?;
+    let refused = plain_append(alloc, "baz", options, true, &mut lines);
+    let is_refused = matches!(refused, Err(WrapError::Memory(_)));
+    Ok(is_refused && are_borrowed(&lines, &["x"]))
 }
 
 /// Asserts that with these options `baz` is refused, alone, after another paragraph, and where a
-/// list of lines is lent.
+/// list of lines is lent, and that other words are not.
 fn assert_refuses_baz(
     rt: &(impl Abort + AllocGlobal),
     options: Options<'_>,
 ) -> Result<(), WrapError> {
-    assert_borrowed(rt, "foo\nbar", Options::from(&options), &["foo", "bar"])?;
-    assert_refused(rt, "baz", &options);
-    assert_refused(rt, "foo\nbaz", &options);
-    assert_keeps_lines(rt, &options)
+    for text in ["baz", "foo\nbaz"] {
+        assert_row(rt, text, is_refused(rt.alloc(), text, &options));
+    }
+    assert_row(rt, "baz after x", keeps_lines(rt.alloc(), &options)?);
+    let lines = plain_wrap(rt.alloc(), "foo\nbar", options);
+    assert_borrowed(rt, "foo\nbar", lines, &["foo", "bar"])
 }
 
-/// Asserts that with these options `baz` is refused, and leaves a list of lines as it was.
-fn assert_keeps_lines(
-    rt: &(impl Abort + AllocGlobal),
-    options: &Options<'_>,
-) -> Result<(), WrapError> {
-    let mut lines = Vec::new(rt.alloc());
-    lines.push(CowStr::Borrowed("x"))?;
-    let refused = wrap_single_line_slow_path(rt.alloc(), "baz", options, &mut lines);
-    assert!(rt; matches!(refused, Err(WrapError::Memory(_))));
-    assert!(rt; are_borrowed(&lines, &["x"]), "{lines:?}");
-    Ok(())
+/// The options by which no word is broken at two columns.
+fn narrow<'a>() -> Options<'a> {
+    options_of(2, &WHOLE_WORDS)
 }
 
 /// Where a function of the caller is out of memory, so is the call, and what was lent stays as it
 /// was.
 #[test]
 fn a_function_may_refuse(rt: HostRuntime) -> Result<(), Fail> {
-    let separator = with_cuts(2, LineCuts::new(rt.alloc(), refuse_line)).break_words(false);
-    assert_refuses_baz(&rt, separator)?;
-    let splitter = with_points(2, WordCuts::new(rt.alloc(), refuse_word)).break_words(false);
-    assert_refuses_baz(&rt, splitter)?;
-    assert_refuses_baz(&rt, with_ends(2, LineEnds::new(rt.alloc(), refuse_words)))?;
+    assert_refuses_baz(
+        &rt,
+        with_cuts(narrow(), LineCuts::new(rt.alloc(), refuse_line)),
+    )?;
+    assert_refuses_baz(
+        &rt,
+        with_points(narrow(), WordCuts::new(rt.alloc(), refuse_word)),
+    )?;
+    assert_refuses_baz(
+        &rt,
+        with_ends(narrow(), LineEnds::new(rt.alloc(), refuse_words)),
+    )?;
     Ok(())
 }
 
@@ -160,30 +222,53 @@ fn a_function_may_refuse(rt: HostRuntime) -> Result<(), Fail> {
 #[test]
 fn functions_are_equal_to_nothing(rt: HostRuntime) {
     let separator = WordSeparator::Custom(LineCuts::new(rt.alloc(), cut_nowhere));
-    assert!(rt; separator != separator);
-    assert!(rt; separator != WordSeparator::AsciiSpace);
-    assert!(rt; WordSeparator::AsciiSpace != separator);
-    assert!(rt; WordSeparator::AsciiSpace == WordSeparator::AsciiSpace);
+    assert_row(&rt, "itself", separator != separator);
+    assert_row(&rt, "blanks", separator != WordSeparator::AsciiSpace);
+    assert_row(&rt, "to blanks", WordSeparator::AsciiSpace != separator);
     let splitter = WordSplitter::Custom(WordCuts::new(rt.alloc(), split_in_middle));
-    assert!(rt; splitter != splitter);
-    assert!(rt; splitter != WordSplitter::HyphenSplitter);
-    assert!(rt; WordSplitter::NoHyphenation != splitter);
-    assert!(rt; WordSplitter::HyphenSplitter == WordSplitter::HyphenSplitter);
+    assert_row(&rt, "itself", splitter != splitter);
+    assert_row(&rt, "hyphens", splitter != WordSplitter::HyphenSplitter);
+    assert_row(&rt, "to none", WordSplitter::NoHyphenation != splitter);
     let algorithm = WrapAlgorithm::Custom(LineEnds::new(rt.alloc(), end_all));
-    assert!(rt; algorithm != algorithm);
-    assert!(rt; algorithm != WrapAlgorithm::FirstFit);
-    assert!(rt; WrapAlgorithm::new() != algorithm);
-    assert!(rt; WrapAlgorithm::FirstFit == WrapAlgorithm::FirstFit);
+    assert_row(&rt, "itself", algorithm != algorithm);
+    assert_row(&rt, "first fit", algorithm != WrapAlgorithm::FirstFit);
+    assert_row(&rt, "to optimal fit", WrapAlgorithm::new() != algorithm);
+}
+
+/// Parts that are built in equal themselves.
+#[test]
+fn built_in_parts_are_equal_to_themselves(rt: HostRuntime) {
+    assert_row(
+        &rt,
+        "blanks",
+        WordSeparator::AsciiSpace == WordSeparator::AsciiSpace,
+    );
+    assert_row(
+        &rt,
+        "hyphens",
+        WordSplitter::HyphenSplitter == WordSplitter::HyphenSplitter,
+    );
+    assert_row(
+        &rt,
+        "first fit",
+        WrapAlgorithm::FirstFit == WrapAlgorithm::FirstFit,
+    );
+}
+
+/// Whether the debug text of a value is this one.
+fn is_shown(alloc: Global, value: &impl Debug, expected: &str) -> Result<bool, AllocError> {
+    let shown = format!(in alloc; "{value:?}")?;
+    Ok(shown.as_str() == expected)
 }
 
 /// A debug text shows the type alone.
 #[test]
 fn functions_are_shown_by_their_types(rt: HostRuntime) -> Result<(), Fail> {
-    let cuts = format!(in rt.alloc(); "{:?}", LineCuts::new(rt.alloc(), cut_nowhere))?;
-    assert_eq!(rt; cuts.as_str(), "LineCuts");
-    let points = format!(in rt.alloc(); "{:?}", WordCuts::new(rt.alloc(), split_in_middle))?;
-    assert_eq!(rt; points.as_str(), "WordCuts");
-    let ends = format!(in rt.alloc(); "{:?}", LineEnds::new(rt.alloc(), end_all))?;
-    assert_eq!(rt; ends.as_str(), "LineEnds");
+    let cuts = LineCuts::new(rt.alloc(), cut_nowhere);
+    assert_row(&rt, "cuts", is_shown(rt.alloc(), &cuts, "LineCuts")?);
+    let points = WordCuts::new(rt.alloc(), split_in_middle);
+    assert_row(&rt, "points", is_shown(rt.alloc(), &points, "WordCuts")?);
+    let ends = LineEnds::new(rt.alloc(), end_all);
+    assert_row(&rt, "ends", is_shown(rt.alloc(), &ends, "LineEnds")?);
     Ok(())
 }

@@ -1,161 +1,217 @@
-//! The text of `fill`.
-use super::{assert_text, by_first_fit, with_endings, with_indents};
-use std::alloc::{AllocError, Global};
+//! The texts of `fill`.
+use super::plain::{
+    FIRST_FIT, Layout, OPTIMAL_FIT, PENALTIES, assert_row, assert_text, options_of, plain_append,
+    plain_fill, plain_wrap,
+};
+use LineEnding::{CRLF, LF};
+use std::alloc::Global;
 use std::borrow::CowStr;
 use std::process::Abort;
 use std::test::Fail;
-use textwrap::fuzzing::{wrap_single_line, wrap_single_line_slow_path};
 use textwrap::wrap_algorithms::Penalties;
-use textwrap::{LineEnding, Options, WordSplitter, WrapAlgorithm, WrapError, fill, wrap};
+use textwrap::{LineEnding, Options, WrapError};
 
-/// Asserts that the text is filled to the expected one.
-fn assert_filled(
-    rt: &(impl Abort + AllocGlobal),
-    text: &str,
-    options: Options<'_>,
-    expected: &str,
-) -> Result<(), WrapError> {
-    let filled = fill(rt.alloc(), text, options)?;
-    assert_text(rt, text, &filled, expected);
-    Ok(())
-}
-
-const FILLED_BY_FIRST_FIT: &[(&str, usize, &str)] = &[
-    ("", 10, ""),
-    ("foo bar baz", 10, "foo bar\nbaz"),
+const FILLED: &[(&str, usize, Layout<'_>, &str)] = &[
+    // The lines of first fit.
     (
         "To be, or not to be: that is the question\n",
         10,
+        FIRST_FIT,
         "To be, or\nnot to be:\nthat is\nthe\nquestion\n",
     ),
-    ("test\n\na\n\n", 80, "test\n\na\n\n"),
-    ("  \n \n  \n ", 80, "\n\n\n"),
-    ("1 3 5 7\n1 3 5 7", 5, "1 3 5\n7\n1 3 5\n7"),
-    ("aa bb cc dd", 5, "aa bb\ncc dd"),
-    ("aa bb cc dd", 8, "aa bb cc\ndd"),
+    ("1 3 5 7\n1 3 5 7", 5, FIRST_FIT, "1 3 5\n7\n1 3 5\n7"),
+    ("aa bb cc dd", 5, FIRST_FIT, "aa bb\ncc dd"),
+    ("aa bb cc dd", 8, FIRST_FIT, "aa bb cc\ndd"),
+    // The lines of least cost.
+    ("foo bar baz", 10, OPTIMAL_FIT, "foo bar\nbaz"),
+    (
+        "To be, or not to be: that is the question\n",
+        10,
+        OPTIMAL_FIT,
+        "To be,\nor not to\nbe: that\nis the\nquestion\n",
+    ),
+    ("test\n\na\n\n", 80, OPTIMAL_FIT, "test\n\na\n\n"),
+    ("  \n \n  \n ", 80, OPTIMAL_FIT, "\n\n\n"),
+    ("ab\ncdefghijkl", 5, OPTIMAL_FIT, "ab\ncdefg\nhijkl"),
     // An escape sequence of two characters before a third, all in one word.
-    ("\x1b!Ͽ", 10, "\x1b!Ͽ"),
+    ("\x1b!Ͽ", 10, OPTIMAL_FIT, "\x1b!Ͽ"),
+    // Blanks are kept if that is on.
+    (
+        "foo  ",
+        10,
+        Layout {
+            preserve_trailing_space: true,
+            ..OPTIMAL_FIT
+        },
+        "foo  ",
+    ),
+    // A word stays whole where words are not broken.
+    (
+        "foo\u{a0}bar\u{2011}baz",
+        5,
+        Layout {
+            break_words: false,
+            ..OPTIMAL_FIT
+        },
+        "foo\u{a0}bar\u{2011}baz",
+    ),
+    // Once a line is out, the first line of a paragraph is divided for the width that the initial
+    // indent leaves, and where paragraphs are to be even, for the one that its own indent leaves.
+    (
+        "aaa\nbbb ccc",
+        7,
+        Layout {
+            subsequent_indent: "    ",
+            ..OPTIMAL_FIT
+        },
+        "aaa\n    bbb ccc",
+    ),
+    (
+        "aaa\nbbb ccc",
+        7,
+        Layout {
+            subsequent_indent: "    ",
+            even_paragraphs: true,
+            ..OPTIMAL_FIT
+        },
+        "aaa\n    bbb\n    ccc",
+    ),
+    (
+        "a\n\nb",
+        10,
+        Layout {
+            subsequent_indent: "> ",
+            ..OPTIMAL_FIT
+        },
+        "a\n\n> b",
+    ),
+    (
+        "a\n\nb",
+        10,
+        Layout {
+            subsequent_indent: "> ",
+            even_paragraphs: true,
+            ..OPTIMAL_FIT
+        },
+        "a\n\n> b",
+    ),
 ];
 
-/// The lines of first fit, joined by line feeds.
+/// The lines of a text are joined by its line ending.
 #[test]
-fn lines_of_first_fit_are_joined(rt: HostRuntime) -> Result<(), Fail> {
-    for &(text, width, expected) in FILLED_BY_FIRST_FIT {
-        assert_filled(&rt, text, by_first_fit(width), expected)?;
+fn texts_are_filled(rt: HostRuntime) -> Result<(), Fail> {
+    for (text, width, layout, expected) in FILLED {
+        let filled = plain_fill(rt.alloc(), text, options_of(*width, layout));
+        assert_text(&rt, text, filled, expected)?;
     }
     Ok(())
 }
+
+/// Penalties that are all unlike the defaults.
+const ODD: Penalties = Penalties {
+    nline_penalty: 3,
+    overflow_penalty: 7,
+    short_last_line_fraction: 2,
+    short_last_line_penalty: 90,
+    hyphen_penalty: 11,
+};
+
+/// Penalties that are too great for a search for the least costs.
+const GREAT: Penalties = Penalties {
+    nline_penalty: usize::MAX,
+    ..PENALTIES
+};
+
+const WIDTHS: &[usize] = &[
+    0,
+    1,
+    2,
+    3,
+    4,
+    5,
+    6,
+    7,
+    8,
+    9,
+    10,
+    11,
+    12,
+    13,
+    20,
+    31,
+    50,
+    80,
+    usize::MAX,
+];
 
 /// Most paragraphs are divided without a list of their words; the lines are those of the lists.
 #[test]
 fn a_list_of_words_makes_no_difference(rt: HostRuntime) -> Result<(), Fail> {
-    let odd = Penalties {
-        nline_penalty: 3,
-        overflow_penalty: 7,
-        short_last_line_fraction: 2,
-        short_last_line_penalty: 90,
-        hyphen_penalty: 11,
-    };
-    // Too great for a search for the least costs.
-    let great = Penalties {
-        nline_penalty: usize::MAX,
-        ..Penalties::new()
-    };
-    for algorithm in [
-        WrapAlgorithm::FirstFit,
-        WrapAlgorithm::new(),
-        WrapAlgorithm::OptimalFit(odd),
-        WrapAlgorithm::OptimalFit(great),
-    ] {
-        for width in (0..14).chain([20, 31, 50, 80, usize::MAX]) {
-            for splitter in [WordSplitter::HyphenSplitter, WordSplitter::NoHyphenation] {
-                let options = Options::new(width)
-                    .wrap_algorithm(algorithm)
-                    .word_splitter(splitter);
-                assert_same_lines(&rt, &options)?;
+    for penalties in [None, Some(PENALTIES), Some(ODD), Some(GREAT)] {
+        for width in WIDTHS {
+            for split_words in [true, false] {
+                let layout = Layout {
+                    penalties,
+                    split_words,
+                    ..OPTIMAL_FIT
+                };
+                assert_same_lines(&rt, *width, &layout)?;
             }
         }
     }
     Ok(())
 }
 
+const INDENTS: &[(&str, &str)] = &[("", ""), ("* ", "  "), ("", "> "), ("\x1b[1m안안안", "")];
+
 /// No setting by built-in parts needs that list.
 #[test]
 fn indents_make_no_difference_to_that(rt: HostRuntime) -> Result<(), Fail> {
-    for algorithm in [WrapAlgorithm::FirstFit, WrapAlgorithm::new()] {
-        for width in [0, 1, 2, 3, 5, 7, 10, 13, 20, 40] {
-            for (initial, subsequent) in [("", ""), ("* ", "  "), ("", "> "), ("\x1b[1m안안안", "")] {
-                let options = with_indents(width, initial, subsequent).wrap_algorithm(algorithm);
-                assert_same_under_settings(&rt, &options)?;
+    for &(initial_indent, subsequent_indent) in INDENTS {
+        for penalties in [None, Some(PENALTIES)] {
+            for width in [0, 1, 2, 3, 5, 7, 10, 13, 20, 40] {
+                let layout = Layout {
+                    initial_indent,
+                    subsequent_indent,
+                    penalties,
+                    ..OPTIMAL_FIT
+                };
+                assert_same_under_settings(&rt, width, &layout)?;
             }
         }
     }
     Ok(())
 }
+
+/// Whether words are broken, whether blanks are kept, and whether paragraphs are even.
+const SETTINGS: &[(bool, bool, bool)] = &[
+    (false, false, false),
+    (false, false, true),
+    (false, true, false),
+    (false, true, true),
+    (true, false, false),
+    (true, false, true),
+    (true, true, false),
+    (true, true, true),
+];
 
 /// Asserts the same for words that are broken or whole, blanks that are preserved or left off, and
 /// even and uneven paragraphs.
 fn assert_same_under_settings(
     rt: &(impl Abort + AllocGlobal),
-    options: &Options<'_>,
+    width: usize,
+    layout: &Layout<'_>,
 ) -> Result<(), WrapError> {
-    for broken in [false, true] {
-        for preserve in [false, true] {
-            for even in [false, true] {
-                let options = Options::from(options)
-                    .break_words(broken)
-                    .preserve_trailing_space(preserve)
-                    .even_paragraphs(even);
-                assert_same_lines(rt, &options)?;
-            }
-        }
+    for &(break_words, preserve_trailing_space, even_paragraphs) in SETTINGS {
+        let layout = Layout {
+            break_words,
+            preserve_trailing_space,
+            even_paragraphs,
+            ..*layout
+        };
+        assert_same_lines(rt, width, &layout)?;
     }
     Ok(())
-}
-
-/// The lines of a text, of which each paragraph is divided by way of a list of its words, unless it
-/// is one line as a whole.
-fn listed_lines<'t>(
-    alloc: Global,
-    text: &'t str,
-    options: &Options<'_>,
-) -> Result<Vec<CowStr<'t>>, WrapError> {
-    let mut lines = Vec::new(alloc);
-    let mut rest = Some(text);
-    // No text has more paragraphs.
-    for _ in 0..=text.len() {
-        let Some(text) = rest else {
-            break;
-        };
-        let (paragraph, after) = match text.split_once(options.line_ending.as_str()) {
-            Some((paragraph, after)) => (paragraph, Some(after)),
-            None => (text, None),
-        };
-        let indent = if lines.is_empty() {
-            options.initial_indent
-        } else {
-            options.subsequent_indent
-        };
-        if indent.is_empty() && paragraph.len() < options.width {
-            wrap_single_line(alloc, paragraph, options, &mut lines)?;
-        } else {
-            wrap_single_line_slow_path(alloc, paragraph, options, &mut lines)?;
-        }
-        rest = after;
-    }
-    Ok(lines)
-}
-
-/// The lines with a text between each two.
-fn joined(alloc: Global, lines: &[CowStr<'_>], between: &str) -> Result<String, AllocError> {
-    let mut joined = String::new(alloc);
-    for (i, line) in lines.iter().enumerate() {
-        if i > 0 {
-            joined.push_str(between)?;
-        }
-        joined.push_str(line.as_str())?;
-    }
-    Ok(joined)
 }
 
 const TEXTS: &[&str] = &[
@@ -182,85 +238,113 @@ const TEXTS: &[&str] = &[
     "é\r\n안녕하 세요\n\n \n안\r\r\n  a안-b  \n",
 ];
 
-/// Asserts that the texts have the lines of the lists, by each ending, in a list and in one text.
+/// Asserts that the texts have the lines of the lists, by each ending.
 fn assert_same_lines(
     rt: &(impl Abort + AllocGlobal),
-    options: &Options<'_>,
+    width: usize,
+    layout: &Layout<'_>,
 ) -> Result<(), WrapError> {
-    for &text in TEXTS {
-        for ending in [LineEnding::LF, LineEnding::CRLF] {
-            let options = Options::from(options).line_ending(ending);
-            let listed = listed_lines(rt.alloc(), text, &options)?;
-            let lines = wrap(rt.alloc(), text, Options::from(&options))?;
-            let texts = joined(rt.alloc(), &listed, "|")?;
-            assert_text(rt, text, &joined(rt.alloc(), &lines, "|")?, &texts);
-            let filled = joined(rt.alloc(), &listed, ending.as_str())?;
-            assert_filled(rt, text, options, &filled)?;
+    for text in TEXTS {
+        for line_ending in [LF, CRLF] {
+            let layout = Layout {
+                line_ending,
+                ..*layout
+            };
+            assert_listed(rt, text, &options_of(width, &layout))?;
         }
     }
     Ok(())
 }
 
-const FILLED_AT_LEAST_COST: &[(&str, usize, &str)] = &[
-    ("foo bar baz", 10, "foo bar\nbaz"),
-    (
-        "To be, or not to be: that is the question\n",
-        10,
-        "To be,\nor not to\nbe: that\nis the\nquestion\n",
-    ),
-    ("test\n\na\n\n", 80, "test\n\na\n\n"),
-    ("  \n \n  \n ", 80, "\n\n\n"),
-    ("ab\ncdefghijkl", 5, "ab\ncdefg\nhijkl"),
-    ("foo  ", 10, "foo"),
-    ("\x1b!Ͽ", 10, "\x1b!Ͽ"),
-];
-
-/// The lines of least cost, joined by line feeds.
-#[test]
-fn lines_of_least_cost_are_joined(rt: HostRuntime) -> Result<(), Fail> {
-    for &(text, width, expected) in FILLED_AT_LEAST_COST {
-        assert_filled(&rt, text, Options::new(width), expected)?;
-    }
+/// Asserts that a text has the lines of the lists of words, in a list and in one text.
+fn assert_listed(
+    rt: &(impl Abort + AllocGlobal),
+    text: &str,
+    options: &Options<'_>,
+) -> Result<(), WrapError> {
+    let listed = listed_lines(rt.alloc(), text, options)?;
+    let row = (text, options.width);
+    assert_row(rt, row, has_lines(rt.alloc(), text, options, &listed)?);
+    assert_row(rt, row, is_filled(rt.alloc(), text, options, &listed)?);
     Ok(())
 }
 
-const FILLED_WITH_ENDINGS: &[(&str, usize, LineEnding, bool, &str)] = &[
-    (
-        "foo bar\r\nfoobar",
-        4,
-        LineEnding::CRLF,
-        false,
-        "foo\r\nbar\r\nfoob\r\nar",
-    ),
-    ("foo  ", 10, LineEnding::LF, true, "foo  "),
-];
-
-/// Lines are joined by the chosen ending, and blanks are kept if that is on.
-#[test]
-fn endings_and_blanks_are_as_chosen(rt: HostRuntime) -> Result<(), Fail> {
-    for &(text, width, ending, preserve, expected) in FILLED_WITH_ENDINGS {
-        assert_filled(&rt, text, with_endings(width, ending, preserve), expected)?;
-    }
-    Ok(())
+/// Whether the list of the lines of a text has the texts of these.
+fn has_lines(
+    alloc: Global,
+    text: &str,
+    options: &Options<'_>,
+    listed: &[CowStr<'_>],
+) -> Result<bool, WrapError> {
+    let lines = plain_wrap(alloc, text, Options::from(options))?;
+    Ok(are_same(&lines, listed))
 }
 
-const FILLED_WITH_INDENTS: &[(&str, usize, &str, &str, &str)] = &[
-    (
-        "foo\u{a0}bar\u{2011}baz",
-        5,
-        "",
-        "",
-        "foo\u{a0}bar\u{2011}baz",
-    ),
-    ("foo bar baz", 10, "* ", "  ", "* foo bar\n  baz"),
-];
-
-/// A word stays whole where words are not broken, and lines have their indents.
-#[test]
-fn long_words_stay_whole_and_lines_are_indented(rt: HostRuntime) -> Result<(), Fail> {
-    for &(text, width, initial, subsequent, expected) in FILLED_WITH_INDENTS {
-        let options = with_indents(width, initial, subsequent).break_words(false);
-        assert_filled(&rt, text, options, expected)?;
+/// Whether the lines have the same texts.
+fn are_same(lines: &[CowStr<'_>], listed: &[CowStr<'_>]) -> bool {
+    for (line, listed) in lines.iter().zip(listed) {
+        if line.as_str() != listed.as_str() {
+            return false;
+        }
     }
-    Ok(())
+    lines.len() == listed.len()
+}
+
+/// Whether a text is filled to these lines.
+fn is_filled(
+    alloc: Global,
+    text: &str,
+    options: &Options<'_>,
+    listed: &[CowStr<'_>],
+) -> Result<bool, WrapError> {
+    let filled = plain_fill(alloc, text, Options::from(options))?;
+    Ok(are_joined(&filled, listed, options.line_ending.as_str()))
+}
+
+/// Whether a text is the lines, with the ending between each two.
+fn are_joined(filled: &str, lines: &[CowStr<'_>], ending: &str) -> bool {
+    let mut rest = filled;
+    for (i, line) in lines.iter().enumerate() {
+        let before = if i == 0 { "" } else { ending };
+        match after(rest, before, line.as_str()) {
+            Some(left) => rest = left,
+            None => return false,
+        }
+    }
+    rest.is_empty()
+}
+
+/// What is left of a text after these two parts of it, if it begins with them.
+fn after<'t>(text: &'t str, first: &str, second: &str) -> Option<&'t str> {
+    text.strip_prefix(first)?.strip_prefix(second)
+}
+
+/// The lines of a text, paragraph by paragraph, by way of lists of words.
+fn listed_lines<'t>(
+    alloc: Global,
+    text: &'t str,
+    options: &Options<'_>,
+) -> Result<Vec<CowStr<'t>>, WrapError> {
+    let mut lines = Vec::new(alloc);
+    for paragraph in text.split(options.line_ending.as_str()) {
+        push_listed(alloc, paragraph, options, &mut lines)?;
+    }
+    Ok(lines)
+}
+
+/// Appends the lines of a paragraph, which is divided by way of a list of its words, unless it is
+/// one line as a whole.
+fn push_listed<'t>(
+    alloc: Global,
+    paragraph: &'t str,
+    options: &Options<'_>,
+    lines: &mut Vec<CowStr<'t>>,
+) -> Result<(), WrapError> {
+    let indent = if lines.is_empty() {
+        options.initial_indent
+    } else {
+        options.subsequent_indent
+    };
+    let is_one_line = indent.is_empty() && paragraph.len() < options.width;
+    plain_append(alloc, paragraph, options, !is_one_line, lines)
 }

@@ -1,196 +1,507 @@
 //! Long texts: of nothing but line endings, of nothing but blanks, and of many words. A body that
 //! gave up on what is longer than the rows of the other tables would pass those.
-use std::alloc::Global;
+use super::plain::{
+    FIRST_FIT, Layout, OPTIMAL_FIT, assert_row, is_unfilled, options_of, plain_append,
+    plain_dedent, plain_fill, plain_fill_inplace, plain_indent, plain_refill, plain_wrap,
+    plain_wrap_columns,
+};
+use Call::{
+    Column, Dedent, Fill, FillInplace, FillLine, Indent, Refill, Table, Wrap, WrapSingleLines,
+};
+use std::alloc::{AllocError, Global};
 use std::borrow::CowStr;
 use std::test::Fail;
-use textwrap::fuzzing::wrap_single_line;
 use textwrap::words::Word;
-use textwrap::{
-    Options, WordSeparator, WrapAlgorithm, WrapError, dedent, fill, fill_inplace, indent, refill,
-    unfill, wrap, wrap_columns,
-};
+use textwrap::{LineEnding, Options, WordSeparator, WrapError};
+
+/// A text: a beginning; a part that is repeated so many times, with what follows it; how many times
+/// that stands; an end.
+type Long<'a> = (&'a str, &'a str, usize, &'a str, usize, &'a str);
+
+/// A part that is repeated so many times, with what follows it.
+fn repeated(alloc: Global, part: &str, count: usize, after: &str) -> Result<String, AllocError> {
+    let repeated = part.repeat(alloc, count)?;
+    format!(in alloc; "{repeated}{after}")
+}
+
+/// The whole text.
+fn whole(alloc: Global, text: Long<'_>) -> Result<String, AllocError> {
+    let (beginning, part, parts, after, lines, end) = text;
+    let line = repeated(alloc, part, parts, after)?;
+    let lines = repeated(alloc, &line, lines, end)?;
+    format!(in alloc; "{beginning}{lines}")
+}
+
+/// A call that gives a text or lines.
+#[derive(Clone, Copy)]
+enum Call {
+    Wrap,
+    /// On each word by itself.
+    WrapSingleLines,
+    Fill,
+    /// With a line feed after it.
+    FillLine,
+    FillInplace,
+    /// In one column without gaps.
+    Column,
+    /// In 200 columns with `|` before, between and after them.
+    Table,
+    Refill,
+    /// By the first of the indents.
+    Indent,
+    Dedent,
+}
+
+/// Whether a call by these options gives this text, or lines or rows with `|` after each.
+fn gives(
+    alloc: Global,
+    call: Call,
+    text: &str,
+    options: Options<'_>,
+    expected: &str,
+) -> Result<bool, WrapError> {
+    match call {
+        Wrap => are_lines(plain_wrap(alloc, text, options), expected),
+        WrapSingleLines => are_lines(words_wrapped(alloc, text, &options), expected),
+        Fill => is_text(plain_fill(alloc, text, options), expected, ""),
+        FillLine => is_text(plain_fill(alloc, text, options), expected, "\n"),
+        FillInplace => is_text(plain_fill_inplace(alloc, text, options.width), expected, ""),
+        Column => are_rows(
+            plain_wrap_columns(alloc, text, 1, options, NO_GAPS),
+            expected,
+        ),
+        Table => are_rows(
+            plain_wrap_columns(alloc, text, 200, options, GAPS),
+            expected,
+        ),
+        Refill => is_text(plain_refill(alloc, text, options), expected, ""),
+        Indent => is_text(
+            plain_indent(alloc, text, options.initial_indent),
+            expected,
+            "",
+        ),
+        Dedent => is_text(plain_dedent(alloc, text), expected, ""),
+    }
+}
+
+const NO_GAPS: [&str; 3] = ["", "", ""];
+
+const GAPS: [&str; 3] = ["|", "|", "|"];
+
+/// The lines of `wrap_single_line` on each word by itself.
+fn words_wrapped<'t>(
+    alloc: Global,
+    text: &'t str,
+    options: &Options<'_>,
+) -> Result<Vec<CowStr<'t>>, WrapError> {
+    let mut lines = Vec::new(alloc);
+    for word in text.split_ascii_whitespace() {
+        plain_append(alloc, word, options, false, &mut lines)?;
+    }
+    Ok(lines)
+}
+
+/// Whether a call gave what is left of the expected text without this end.
+fn is_text(given: Result<String, WrapError>, expected: &str, end: &str) -> Result<bool, WrapError> {
+    let given = given?;
+    Ok(Some(given.as_str()) == expected.strip_suffix(end))
+}
+
+/// Whether a call gave these lines, each a part of the text, with `|` after each.
+fn are_lines(given: Result<Vec<CowStr<'_>>, WrapError>, expected: &str) -> Result<bool, WrapError> {
+    let lines = given?;
+    let mut rest = Some(expected);
+    for line in lines.iter() {
+        rest = if matches!(line, CowStr::Borrowed(_)) {
+            after(rest, line.as_str())
+        } else {
+            None
+        };
+    }
+    Ok(rest == Some(""))
+}
+
+/// Whether a call gave these rows, with `|` after each.
+fn are_rows(given: Result<Vec<String>, WrapError>, expected: &str) -> Result<bool, WrapError> {
+    let rows = given?;
+    let mut rest = Some(expected);
+    for row in rows.iter() {
+        rest = after(rest, row.as_str());
+    }
+    Ok(rest == Some(""))
+}
+
+/// What is left of a text after this line and `|`, if it begins with them.
+fn after<'t>(text: Option<&'t str>, line: &str) -> Option<&'t str> {
+    text?.strip_prefix(line)?.strip_prefix('|')
+}
+
+const EMPTY: Long<'_> = ("", "", 0, "", 0, "");
 
 /// How many line endings. A built test has a million of them done in less than a second, but
 /// `rt try`, which checks each access, would take minutes for so many.
 const LINE_ENDINGS: usize = 10_000;
 
+const LINE_FEEDS: Long<'_> = ("", "\n", LINE_ENDINGS, "", 1, "");
+
 /// How many blanks.
-const BLANKS: usize = 1_000_000;
+const MILLION: usize = 1_000_000;
 
-/// Whether these are so many empty lines.
-fn are_empty(lines: &[CowStr<'_>], count: usize) -> bool {
-    for line in lines {
-        if !line.as_str().is_empty() {
-            return false;
-        }
+const BLANKS: Long<'_> = ("", " ", MILLION, "", 1, "");
+
+/// How many words.
+const WORDS: usize = 6_000;
+
+const MANY_WORDS: Long<'_> = ("", "ab ", WORDS, "", 1, "");
+
+const LINES_OF_WORDS: Long<'_> = ("", "ab ab ab\n", WORDS / 3 - 1, "", 1, "ab ab ab");
+
+/// Many paragraphs, each of three lines and an empty one.
+const PARAGRAPHS: Long<'_> = ("", "To be,\tor not\r\nto be\n\n", 300, "", 1, "");
+
+const KEEPING_BLANKS: Layout<'_> = Layout {
+    preserve_trailing_space: true,
+    ..OPTIMAL_FIT
+};
+
+/// What both indents are in most rows, or in some.
+const NONE: Long<'_> = EMPTY;
+
+const QUOTE: Long<'_> = ("> ", "", 0, "", 0, "");
+
+const LONG_QUOTE: Long<'_> = ("", "> ", 5000, "", 1, "");
+
+/// What is tried; the call, its width, its other options but for the indents, what both indents
+/// are, and its text; what it gives.
+type Row<'a> = (
+    &'a str,
+    Call,
+    usize,
+    Layout<'a>,
+    Long<'a>,
+    Long<'a>,
+    Long<'a>,
+);
+
+const ROWS: &[Row<'_>] = &[
+    // Each line ending stays one: the paragraphs before, between and after them are empty lines.
+    (
+        "line feeds wrapped",
+        Wrap,
+        80,
+        OPTIMAL_FIT,
+        NONE,
+        LINE_FEEDS,
+        ("", "|", LINE_ENDINGS + 1, "", 1, ""),
+    ),
+    (
+        "line feeds filled",
+        Fill,
+        80,
+        OPTIMAL_FIT,
+        NONE,
+        LINE_FEEDS,
+        LINE_FEEDS,
+    ),
+    (
+        "line feeds in place",
+        FillInplace,
+        80,
+        OPTIMAL_FIT,
+        NONE,
+        LINE_FEEDS,
+        LINE_FEEDS,
+    ),
+    (
+        "line feeds in a column",
+        Column,
+        1,
+        OPTIMAL_FIT,
+        NONE,
+        LINE_FEEDS,
+        ("", " |", LINE_ENDINGS + 1, "", 1, ""),
+    ),
+    // Empty lines are nothing to fill again. They get the indent without its blank, and lose
+    // nothing.
+    (
+        "line feeds refilled",
+        Refill,
+        80,
+        OPTIMAL_FIT,
+        NONE,
+        LINE_FEEDS,
+        EMPTY,
+    ),
+    (
+        "line feeds indented",
+        Indent,
+        80,
+        OPTIMAL_FIT,
+        QUOTE,
+        LINE_FEEDS,
+        ("", ">\n", LINE_ENDINGS, "", 1, ""),
+    ),
+    (
+        "line feeds dedented",
+        Dedent,
+        80,
+        OPTIMAL_FIT,
+        NONE,
+        LINE_FEEDS,
+        LINE_FEEDS,
+    ),
+    // Blanks are the end of one line, which is left off, and no place to break it in place.
+    (
+        "blanks wrapped",
+        Wrap,
+        80,
+        OPTIMAL_FIT,
+        NONE,
+        BLANKS,
+        ("|", "", 0, "", 1, ""),
+    ),
+    ("blanks filled", Fill, 80, OPTIMAL_FIT, NONE, BLANKS, EMPTY),
+    (
+        "blanks kept",
+        Fill,
+        80,
+        KEEPING_BLANKS,
+        NONE,
+        BLANKS,
+        BLANKS,
+    ),
+    (
+        "blanks in place",
+        FillInplace,
+        80,
+        OPTIMAL_FIT,
+        NONE,
+        BLANKS,
+        BLANKS,
+    ),
+    (
+        "blanks in a column",
+        Column,
+        1,
+        OPTIMAL_FIT,
+        NONE,
+        BLANKS,
+        (" |", "", 0, "", 1, ""),
+    ),
+    // Blanks are the indent of a line that has nothing else.
+    (
+        "blanks refilled",
+        Refill,
+        80,
+        OPTIMAL_FIT,
+        NONE,
+        BLANKS,
+        BLANKS,
+    ),
+    (
+        "blanks indented",
+        Indent,
+        80,
+        OPTIMAL_FIT,
+        QUOTE,
+        BLANKS,
+        (">", " ", MILLION, "", 1, ""),
+    ),
+    (
+        "blanks dedented",
+        Dedent,
+        80,
+        OPTIMAL_FIT,
+        NONE,
+        BLANKS,
+        EMPTY,
+    ),
+    // Lines of three words are full, so no others cost less.
+    (
+        "words filled",
+        Fill,
+        8,
+        OPTIMAL_FIT,
+        NONE,
+        MANY_WORDS,
+        LINES_OF_WORDS,
+    ),
+    (
+        "words wrapped",
+        Wrap,
+        8,
+        OPTIMAL_FIT,
+        NONE,
+        MANY_WORDS,
+        ("", "ab ab ab|", WORDS / 3, "", 1, ""),
+    ),
+    (
+        "words refilled",
+        Refill,
+        8,
+        OPTIMAL_FIT,
+        NONE,
+        LINES_OF_WORDS,
+        LINES_OF_WORDS,
+    ),
+    (
+        "words alone",
+        WrapSingleLines,
+        8,
+        OPTIMAL_FIT,
+        NONE,
+        MANY_WORDS,
+        ("", "ab|", WORDS, "", 1, ""),
+    ),
+    // No line follows the last two words.
+    (
+        "words in place",
+        FillInplace,
+        7,
+        OPTIMAL_FIT,
+        NONE,
+        ("", "abc ", 100_000, "", 1, ""),
+        ("", "abc abc\n", 49_999, "", 1, "abc abc "),
+    ),
+    // Each paragraph has its lines.
+    (
+        "paragraphs wrapped",
+        Wrap,
+        10,
+        FIRST_FIT,
+        NONE,
+        PARAGRAPHS,
+        ("", "To be,\tor|not\r|to be||", 300, "", 1, "|"),
+    ),
+    (
+        "paragraphs filled",
+        Fill,
+        10,
+        FIRST_FIT,
+        NONE,
+        PARAGRAPHS,
+        ("", "To be,\tor\nnot\r\nto be\n\n", 300, "", 1, ""),
+    ),
+    // A long indent stands before each line, and a long margin is lost.
+    (
+        "a long prefix",
+        Indent,
+        80,
+        OPTIMAL_FIT,
+        LONG_QUOTE,
+        ("", "ab\n", 50, "", 1, ""),
+        ("", "> ", 5000, "ab\n", 50, ""),
+    ),
+    (
+        "long indents",
+        FillLine,
+        10_002,
+        OPTIMAL_FIT,
+        LONG_QUOTE,
+        ("", "ab ", 49, "", 1, "ab"),
+        ("", "> ", 5000, "ab\n", 50, ""),
+    ),
+    (
+        "a long margin",
+        Dedent,
+        80,
+        OPTIMAL_FIT,
+        NONE,
+        ("", " ", 5000, "ab\n", 50, ""),
+        ("", "ab\n", 50, "", 1, ""),
+    ),
+    // Many columns of many lines, and a wide one.
+    (
+        "a large table",
+        Table,
+        401,
+        OPTIMAL_FIT,
+        NONE,
+        ("", "a\n", 200 * 200 - 1, "", 1, "a"),
+        ("", "|a", 200, "||", 200, ""),
+    ),
+    (
+        "a letter in a wide column",
+        Column,
+        100_000,
+        OPTIMAL_FIT,
+        NONE,
+        ("a", "", 0, "", 1, ""),
+        ("a", " ", 99_999, "", 1, "|"),
+    ),
+];
+
+/// Whether the call of a row gives this text.
+fn gives_by(alloc: Global, row: &Row<'_>, expected: &str) -> Result<bool, WrapError> {
+    let &(_, call, width, layout, indent, text, _) = row;
+    let indent = whole(alloc, indent)?;
+    let text = whole(alloc, text)?;
+    let layout = Layout {
+        initial_indent: indent.as_str(),
+        subsequent_indent: indent.as_str(),
+        ..layout
+    };
+    gives(alloc, call, &text, options_of(width, &layout), expected)
+}
+
+/// Whether the call of a row gives what the row says.
+fn is_right(alloc: Global, row: &Row<'_>) -> Result<bool, WrapError> {
+    let expected = whole(alloc, row.6)?;
+    gives_by(alloc, row, &expected)
+}
+
+/// A long text is treated as a short one is.
+#[test]
+fn long_texts_are_laid_out(rt: HostRuntime) -> Result<(), Fail> {
+    for row in ROWS {
+        assert_row(&rt, row.0, is_right(rt.alloc(), row)?);
     }
-    lines.len() == count
-}
-
-/// Whether these are so many rows of this text.
-fn are_rows(rows: &[String], text: &str, count: usize) -> bool {
-    for row in rows {
-        if row.as_str() != text {
-            return false;
-        }
-    }
-    rows.len() == count
-}
-
-/// Whether the text stays as it is in place.
-fn stays_in_place(alloc: Global, text: &str) -> Result<bool, WrapError> {
-    let mut filled = String::from_str(alloc, text)?;
-    fill_inplace(alloc, &mut filled, 80)?;
-    Ok(filled.as_str() == text)
-}
-
-/// Whether the text has so many rows of a blank in one column.
-fn has_blank_rows(alloc: Global, text: &str, count: usize) -> Result<bool, WrapError> {
-    let rows = wrap_columns(alloc, text, 1, Options::new(1), "", "", "")?;
-    Ok(are_rows(&rows, " ", count))
+    Ok(())
 }
 
 /// Whether the text is one word, with this whitespace.
-fn is_one_word(alloc: Global, text: &str, whitespace: &str) -> Result<bool, WrapError> {
+fn is_one_word(alloc: Global, text: &str, whitespace: &str) -> Result<bool, AllocError> {
     let words = WordSeparator::new().find_words(alloc, text)?;
     let words: Vec<Word<'_>> = words.collect(alloc)?;
     Ok(words.len() == 1 && words[0] == Word::from(text) && words[0].whitespace == whitespace)
 }
 
-/// Whether the text is unfilled to nothing, with this width and this indent.
-fn is_unfilled(alloc: Global, text: &str, width: usize, initial: &str) -> Result<bool, WrapError> {
-    let (unfilled, options) = unfill(alloc, text)?;
-    Ok(unfilled.is_empty() && options.width == width && options.initial_indent == initial)
+/// Whether the text is unfilled to nothing, with this width, and is one word. All of it is the
+/// indent and the whitespace of the word, or nothing.
+fn is_empty(alloc: Global, text: &str, width: usize, is_blank: bool) -> Result<bool, AllocError> {
+    let blanks = if is_blank { text } else { "" };
+    let is_unfilled = is_unfilled(alloc, text, "", width, [blanks, ""], LineEnding::LF)?;
+    Ok(is_unfilled && is_one_word(alloc, text, blanks)?)
 }
 
-/// Each line ending stays one: the paragraphs before, between and after them are empty lines.
+/// Line endings have no text, and are a word of no blanks. Blanks are a word without text, and the
+/// indent of a line that has nothing else.
 #[test]
-fn many_line_endings_are_empty_lines(rt: HostRuntime) -> Result<(), Fail> {
-    let text = "\n".repeat(rt.alloc(), LINE_ENDINGS)?;
-    let lines = wrap(rt.alloc(), &text, Options::new(80))?;
-    assert!(rt; are_empty(&lines, LINE_ENDINGS + 1));
-    let filled = fill(rt.alloc(), &text, Options::new(80))?;
-    assert!(rt; filled.as_str() == text.as_str());
-    assert!(rt; stays_in_place(rt.alloc(), &text)?);
-    assert!(rt; has_blank_rows(rt.alloc(), &text, LINE_ENDINGS + 1)?);
-    Ok(())
-}
-
-/// Empty lines are nothing to fill again. They get the indent without its blank, and lose nothing.
-#[test]
-fn many_line_endings_are_blank_lines(rt: HostRuntime) -> Result<(), Fail> {
-    let text = "\n".repeat(rt.alloc(), LINE_ENDINGS)?;
-    assert!(rt; is_unfilled(rt.alloc(), &text, 0, "")?);
-    let refilled = refill(rt.alloc(), &text, Options::new(80))?;
-    assert!(rt; refilled.is_empty());
-    let indented = indent(rt.alloc(), &text, "> ")?;
-    let expected = ">\n".repeat(rt.alloc(), LINE_ENDINGS)?;
-    assert!(rt; indented.as_str() == expected.as_str());
-    let dedented = dedent(rt.alloc(), &text)?;
-    assert!(rt; dedented.as_str() == text.as_str());
-    assert!(rt; is_one_word(rt.alloc(), &text, "")?);
-    Ok(())
-}
-
-/// Blanks are the end of one line, which is left off, and no place to break it in place.
-#[test]
-fn many_blanks_are_one_empty_line(rt: HostRuntime) -> Result<(), Fail> {
-    let text = " ".repeat(rt.alloc(), BLANKS)?;
-    let lines = wrap(rt.alloc(), &text, Options::new(80))?;
-    assert!(rt; are_empty(&lines, 1));
-    let filled = fill(rt.alloc(), &text, Options::new(80))?;
-    assert!(rt; filled.is_empty());
-    let kept = Options::new(80).preserve_trailing_space(true);
-    let filled = fill(rt.alloc(), &text, kept)?;
-    assert!(rt; filled.as_str() == text.as_str());
-    assert!(rt; stays_in_place(rt.alloc(), &text)?);
-    assert!(rt; has_blank_rows(rt.alloc(), &text, 1)?);
-    Ok(())
-}
-
-/// Blanks are a word without text, and the indent of a line that has nothing else.
-#[test]
-fn many_blanks_are_an_indent(rt: HostRuntime) -> Result<(), Fail> {
-    let text = " ".repeat(rt.alloc(), BLANKS)?;
-    assert!(rt; is_unfilled(rt.alloc(), &text, BLANKS, &text)?);
-    let refilled = refill(rt.alloc(), &text, Options::new(80))?;
-    assert!(rt; refilled.as_str() == text.as_str());
-    let indented = indent(rt.alloc(), &text, "> ")?;
-    assert!(rt; indented.as_str().strip_prefix('>') == Some(text.as_str()));
-    let dedented = dedent(rt.alloc(), &text)?;
-    assert!(rt; dedented.is_empty());
-    assert!(rt; is_one_word(rt.alloc(), &text, &text)?);
-    Ok(())
-}
-
-/// How many words.
-const WORDS: usize = 6_000;
-
-/// Lines of three words are full, so no others cost less.
-#[test]
-fn many_words_are_many_lines(rt: HostRuntime) -> Result<(), Fail> {
-    let text = "ab ".repeat(rt.alloc(), WORDS)?;
-    let full = "ab ab ab\n".repeat(rt.alloc(), WORDS / 3)?;
-    let filled = fill(rt.alloc(), &text, Options::new(8))?;
-    assert!(rt; Some(filled.as_str()) == full.strip_suffix('\n'));
-    assert_eq!(rt; wrap(rt.alloc(), &text, Options::new(8))?.len(), WORDS / 3);
-    let refilled = refill(rt.alloc(), &filled, Options::new(8))?;
-    assert!(rt; refilled.as_str() == filled.as_str());
-    let mut lines = Vec::new(rt.alloc());
-    for word in text.split_ascii_whitespace() {
-        wrap_single_line(rt.alloc(), word, &Options::new(8), &mut lines)?;
+fn long_texts_are_unfilled_to_nothing(rt: HostRuntime) -> Result<(), Fail> {
+    for (text, width, is_blank) in [(LINE_FEEDS, 0, false), (BLANKS, MILLION, true)] {
+        let text = whole(rt.alloc(), text)?;
+        let holds = is_empty(rt.alloc(), &text, width, is_blank)?;
+        assert_row(&rt, "unfilled to nothing", holds);
     }
-    assert_eq!(rt; lines.len(), WORDS);
     Ok(())
+}
+
+/// Whether the text is filled in place to the lines of first fit.
+fn is_filled_alike(alloc: Global, text: &str, width: usize) -> Result<bool, WrapError> {
+    let in_place = plain_fill_inplace(alloc, text, width)?;
+    let filled = plain_fill(alloc, text, options_of(width, &FIRST_FIT))?;
+    Ok(in_place.as_str() == filled.as_str())
 }
 
 /// Filled in place the text has the lines of first fit, at widths of one to four digits.
 #[test]
 fn many_words_are_filled_in_place(rt: HostRuntime) -> Result<(), Fail> {
-    let text = "ab c def ".repeat(rt.alloc(), WORDS / 3)?;
-    for width in [7, 77, 777, 7777] {
-        let mut in_place = String::from_str(rt.alloc(), text.trim_end())?;
-        fill_inplace(rt.alloc(), &mut in_place, width)?;
-        let options = Options::new(width).wrap_algorithm(WrapAlgorithm::FirstFit);
-        let filled = fill(rt.alloc(), text.trim_end(), options)?;
-        assert!(rt; in_place.as_str() == filled.as_str(), "{width}");
-    }
-    Ok(())
-}
-
-/// A long indent, and a long margin.
-#[test]
-fn indents_may_be_long(rt: HostRuntime) -> Result<(), Fail> {
-    let indent_text = "> ".repeat(rt.alloc(), 5000)?;
-    let line = "ab\n".repeat(rt.alloc(), 50)?;
-    let indented = indent(rt.alloc(), &line, &indent_text)?;
-    let expected = format!(in rt.alloc(); "{indent_text}ab\n")?.repeat(rt.alloc(), 50)?;
-    assert!(rt; indented.as_str() == expected.as_str());
-    let options = Options::new(10_002)
-        .initial_indent(&indent_text)
-        .subsequent_indent(&indent_text);
-    let filled = fill(
+    let text = whole(
         rt.alloc(),
-        "ab ".repeat(rt.alloc(), 50)?.trim_end(),
-        options,
+        ("", "ab c def ", WORDS / 3 - 1, "", 1, "ab c def"),
     )?;
-    assert!(rt; Some(filled.as_str()) == expected.strip_suffix('\n'));
-    let margin = " ".repeat(rt.alloc(), 5000)?;
-    let text = format!(in rt.alloc(); "{margin}ab\n")?.repeat(rt.alloc(), 50)?;
-    assert!(rt; dedent(rt.alloc(), &text)?.as_str() == line.as_str());
-    Ok(())
-}
-
-/// Many columns of many lines, and a wide one.
-#[test]
-fn tables_may_be_large(rt: HostRuntime) -> Result<(), Fail> {
-    let lines = "a\n".repeat(rt.alloc(), 200 * 200 - 1)?;
-    let text = format!(in rt.alloc(); "{lines}a")?;
-    let rows = wrap_columns(rt.alloc(), &text, 200, Options::new(401), "|", "|", "|")?;
-    let row = format!(in rt.alloc(); "{}|", "|a".repeat(rt.alloc(), 200)?)?;
-    assert!(rt; are_rows(&rows, &row, 200));
-    let rows = wrap_columns(rt.alloc(), "a", 1, Options::new(100_000), "", "", "")?;
-    let row = format!(in rt.alloc(); "a{}", " ".repeat(rt.alloc(), 99_999)?)?;
-    assert!(rt; are_rows(&rows, &row, 1));
+    for width in [7, 77, 777, 7777] {
+        assert_row(&rt, "in place", is_filled_alike(rt.alloc(), &text, width)?);
+    }
     Ok(())
 }

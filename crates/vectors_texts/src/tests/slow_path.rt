@@ -1,85 +1,101 @@
 //! The calls of the module `fuzzing`.
-use super::{assert_text, with_endings, with_indents};
+use super::plain::{
+    FIRST_FIT, Layout, OPTIMAL_FIT, assert_borrowed, assert_text, one_line, options_of,
+    plain_append, plain_fill_slowly,
+};
 use std::alloc::Global;
 use std::borrow::CowStr;
 use std::test::Fail;
-use textwrap::fuzzing::{fill_slow_path, wrap_single_line, wrap_single_line_slow_path};
-use textwrap::{LineEnding, Options, WrapAlgorithm, WrapError};
-use vectors_functions::are_borrowed;
+use textwrap::{Options, WrapError};
 
-/// A later paragraph is one line if it has fewer bytes than the width has columns, though the slow
-/// path would divide it at the width that the initial indent leaves.
+/// The lines of a paragraph, after the line `x` or by itself, with the shortcut for short ones or
+/// without.
+fn appended<'p>(
+    alloc: Global,
+    is_later: bool,
+    paragraph: &'p str,
+    options: &Options<'_>,
+    slowly: bool,
+) -> Result<Vec<CowStr<'p>>, WrapError> {
+    let mut lines = if is_later {
+        one_line(alloc)?
+    } else {
+        Vec::new(alloc)
+    };
+    plain_append(alloc, paragraph, options, slowly, &mut lines)?;
+    Ok(lines)
+}
+
+const LATER: &[(&str, bool, bool, &[&str])] = &[
+    // A later paragraph is one line if it has fewer bytes than the width has columns, though the
+    // slow path would divide it at the width that the initial indent leaves.
+    ("foobar ba", false, false, &["x", "foobar ba"]),
+    ("foobar ba", false, true, &["x", "foobar", "ba"]),
+    // An even one is divided at the whole width either way.
+    ("foobar ba", true, false, &["x", "foobar ba"]),
+    ("foobar ba", true, true, &["x", "foobar ba"]),
+    ("foobar bar", true, false, &["x", "foobar bar"]),
+    ("foobar bar", true, true, &["x", "foobar bar"]),
+];
+
+/// Whether a line is out is told by the list of lines.
 #[test]
-fn a_later_paragraph_takes_the_shortcut_past_an_initial_indent(
-    rt: HostRuntime,
-) -> Result<(), Fail> {
-    let options = with_indents(10, ">>>", "").wrap_algorithm(WrapAlgorithm::FirstFit);
-    let mut lines = Vec::new(rt.alloc());
-    lines.push(CowStr::Borrowed("x"))?;
-    wrap_single_line(rt.alloc(), "foobar ba", &options, &mut lines)?;
-    wrap_single_line_slow_path(rt.alloc(), "foobar ba", &options, &mut lines)?;
-    let expected = ["x", "foobar ba", "foobar", "ba"];
-    assert!(rt; are_borrowed(&lines, &expected), "{lines:?}");
+fn a_list_with_a_line_makes_a_paragraph_a_later_one(rt: HostRuntime) -> Result<(), Fail> {
+    for &(paragraph, even_paragraphs, slowly, expected) in LATER {
+        let layout = Layout {
+            initial_indent: ">>>",
+            even_paragraphs,
+            ..FIRST_FIT
+        };
+        let options = options_of(10, &layout);
+        let lines = appended(rt.alloc(), true, paragraph, &options, slowly);
+        assert_borrowed(&rt, paragraph, lines, expected)?;
+    }
     Ok(())
 }
 
-/// The lines of a paragraph by itself, by `wrap_single_line`.
-fn lines_of_shortcut<'p>(
-    alloc: Global,
-    paragraph: &'p str,
-    options: &Options<'_>,
-) -> Result<Vec<CowStr<'p>>, WrapError> {
-    let mut lines = Vec::new(alloc);
-    wrap_single_line(alloc, paragraph, options, &mut lines)?;
-    Ok(lines)
-}
-
-/// The lines of a paragraph by itself, by `wrap_single_line_slow_path`.
-fn lines_of_slow_path<'p>(
-    alloc: Global,
-    paragraph: &'p str,
-    options: &Options<'_>,
-) -> Result<Vec<CowStr<'p>>, WrapError> {
-    let mut lines = Vec::new(alloc);
-    wrap_single_line_slow_path(alloc, paragraph, options, &mut lines)?;
-    Ok(lines)
-}
-
-const SHORT_PARAGRAPHS: &[(&str, usize, &str, bool, &str)] = &[
-    ("", 1, "", false, ""),
-    ("  ", 3, "", false, ""),
-    ("  foo-bar  ", 12, "", false, "  foo-bar"),
-    ("foo  ", 6, "", true, "foo  "),
-    ("안녕 하세요", 20, "", false, "안녕 하세요"),
-    ("foobar", 7, "12345", false, "foobar"),
+const SHORT_PARAGRAPHS: &[(&str, usize, Layout<'_>, &str)] = &[
+    ("", 1, OPTIMAL_FIT, ""),
+    ("  ", 3, OPTIMAL_FIT, ""),
+    ("  foo-bar  ", 12, OPTIMAL_FIT, "  foo-bar"),
+    (
+        "foo  ",
+        6,
+        Layout {
+            preserve_trailing_space: true,
+            ..OPTIMAL_FIT
+        },
+        "foo  ",
+    ),
+    ("안녕 하세요", 20, OPTIMAL_FIT, "안녕 하세요"),
+    (
+        "foobar",
+        7,
+        Layout {
+            subsequent_indent: "12345",
+            ..OPTIMAL_FIT
+        },
+        "foobar",
+    ),
 ];
 
 /// Without an initial indent, a paragraph that is short has the same line either way.
 #[test]
 fn the_shortcut_gives_the_lines_of_the_slow_path(rt: HostRuntime) -> Result<(), Fail> {
-    for &(paragraph, width, indent, preserve, line) in SHORT_PARAGRAPHS {
-        let options = with_indents(width, "", indent).preserve_trailing_space(preserve);
-        let short = lines_of_shortcut(rt.alloc(), paragraph, &options)?;
-        assert!(rt; are_borrowed(&short, &[line]), "{paragraph:?}");
-        let slow = lines_of_slow_path(rt.alloc(), paragraph, &options)?;
-        assert!(rt; are_borrowed(&slow, &[line]), "{paragraph:?}");
+    for &(paragraph, width, layout, line) in SHORT_PARAGRAPHS {
+        for slowly in [false, true] {
+            let options = options_of(width, &layout);
+            let lines = appended(rt.alloc(), false, paragraph, &options, slowly);
+            assert_borrowed(&rt, paragraph, lines, &[line])?;
+        }
     }
     Ok(())
 }
 
-const FILLED: &[(&str, usize, bool, &str)] = &[
-    ("ab\ncdefghijkl", 5, false, "ab\ncdefg\nhijkl"),
-    ("foo bar  ", 10, false, "foo bar"),
-    ("foo  ", 10, true, "foo  "),
-];
-
 /// Filling by the slow path gives what `fill` gives.
 #[test]
 fn the_slow_path_fills_alike(rt: HostRuntime) -> Result<(), Fail> {
-    for &(text, width, preserve, expected) in FILLED {
-        let options = with_endings(width, LineEnding::LF, preserve);
-        let filled = fill_slow_path(rt.alloc(), text, options)?;
-        assert_text(&rt, text, filled.as_str(), expected);
-    }
+    let filled = plain_fill_slowly(rt.alloc(), "ab\ncdefghijkl", options_of(5, &OPTIMAL_FIT));
+    assert_text(&rt, "ab\ncdefghijkl", filled, "ab\ncdefg\nhijkl")?;
     Ok(())
 }

@@ -1,0 +1,47 @@
+//! A row: a call, `=>`, and what it gives.
+use crate::calls;
+use crate::faults::Fault;
+use crate::notation::words;
+use std::alloc::{AllocError, Global};
+
+/// What became of a line.
+#[derive(Debug, Drop)]
+pub enum Outcome {
+    /// The line is empty or a comment.
+    NoRow,
+    /// The call gave what the row says.
+    Right,
+    /// It gave something else, or could not be made. This tells it, with the row.
+    Wrong(String),
+}
+
+/// Makes the call of a line, and compares what it gives with what stands after `=>`.
+pub fn tried(alloc: Global, line: &str) -> Result<Outcome, AllocError> {
+    if line.is_empty() || line.starts_with('#') {
+        return Ok(Outcome::NoRow);
+    }
+    let Some((call, expected)) = line.split_once(" => ") else {
+        return wrong(alloc, line, "is", "no row");
+    };
+    match given(alloc, call) {
+        Ok(given) if given.as_str() == expected => Ok(Outcome::Right),
+        Ok(given) => wrong(alloc, line, "gives", given.as_str()),
+        Err(Fault::Malformed) => wrong(alloc, line, "is", "no row"),
+        Err(_) => wrong(alloc, line, "has", "no memory"),
+    }
+}
+
+/// The outcome of a wrong row, of which this is told.
+fn wrong(alloc: Global, line: &str, verb: &str, object: &str) -> Result<Outcome, AllocError> {
+    Ok(Outcome::Wrong(format!(in alloc; "{line}\n  {verb} {object}")?))
+}
+
+/// What a call gives, as a row writes it. Where the library refuses, that is one word.
+fn given(alloc: Global, call: &str) -> Result<String, Fault> {
+    let words = words(alloc, call)?;
+    match calls::answer(alloc, &words) {
+        Err(Fault::Memory) => Ok(String::from_str(alloc, "memory")?),
+        Err(Fault::Overflow) => Ok(String::from_str(alloc, "overflow")?),
+        answer => answer,
+    }
+}

@@ -1,19 +1,22 @@
 //! Costs of lines and divisions at the ends of the numbers.
-use super::divisions::{Block, have_lens};
-use super::minima::{LIMIT, all_penalties, are_minima, assert_agreed, penalties_of, searched};
+use super::divisions::Block;
+use super::minima::{
+    Candidate, LIMIT, all_penalties, assert_agreed, assert_candidates, assert_minima, penalties_of,
+    searched,
+};
+use super::plain::{assert_lens, assert_row, plain_is_queue_case, plain_optimal_fit, plain_table};
 use std::alloc::Global;
 use std::process::Abort;
 use std::test::Fail;
 use textwrap::WrapError;
-use textwrap::minima::{CostSource, LineCosts, Steps, is_queue_case, table_minima};
-use textwrap::wrap_algorithms::{Penalties, wrap_optimal_fit};
+use textwrap::wrap_algorithms::Penalties;
 
 const MAX: usize = usize::MAX;
 
 /// The greatest width as a cost.
 const WIDEST: u128 = 18_446_744_073_709_551_615;
 
-const GREATEST_CANDIDATES: &[(usize, usize, usize, u128, Option<u128>)] = &[
+const GREATEST_CANDIDATES: &[Candidate] = &[
     // The line closes at 2^64, or 2^64 - 1 above its width.
     (0, 1, 0, 0, Some(u128::MAX)),
     (0, 1, 0, 1, None),
@@ -60,32 +63,42 @@ const GREATEST_CANDIDATES: &[(usize, usize, usize, u128, Option<u128>)] = &[
 fn candidates_reach_the_end_of_128_bits(rt: HostRuntime) -> Result<(), Fail> {
     let blocks = [Block(MAX, 0, 1), Block(0, 0, 0), Block(MAX, MAX, MAX)];
     let penalties = all_penalties(MAX);
-    let mut costs = LineCosts::new(rt.alloc(), &blocks, &[1, MAX, MAX - 1], &penalties)?;
-    for &(start, end, line_number, before, expected) in GREATEST_CANDIDATES {
-        assert!(rt; start < end && end <= costs.ends());
-        let candidate = costs.candidate(start, end, line_number, before);
-        assert_eq!(rt; candidate, expected, "{start} to {end}, line {line_number}");
-    }
-    assert_eq!(rt; costs.steps(), GREATEST_CANDIDATES.len() as u128);
+    assert_candidates(
+        &rt,
+        &blocks,
+        &[1, MAX, MAX - 1],
+        &penalties,
+        GREATEST_CANDIDATES,
+    )?;
     Ok(())
 }
 
-/// Asserts that the fragments have these entries: by the table, and by the search where it may be
-/// used.
-fn assert_minima(
+/// Asserts that the search over line costs of these fragments finds these entries.
+fn assert_searched(
     rt: &(impl Abort + AllocGlobal),
     blocks: &[Block],
     line_widths: &[usize],
     penalties: &Penalties,
     expected: &[(usize, u128)],
 ) -> Result<(), WrapError> {
-    let mut steps = Steps::new();
-    let minima = table_minima(rt.alloc(), blocks, line_widths, penalties, &mut steps)?;
-    assert!(rt; are_minima(&minima, expected), "{blocks:?} {minima:?}");
-    if is_queue_case(blocks, line_widths, penalties) {
+    let (minima, _steps) = searched(rt, rt.alloc(), blocks, line_widths, penalties)?;
+    assert_minima(rt, blocks, Ok(minima), expected)
+}
+
+/// Asserts that the fragments have these entries: by the table, and by the search where it may be
+/// used.
+fn assert_entries(
+    rt: &(impl Abort + AllocGlobal),
+    blocks: &[Block],
+    line_widths: &[usize],
+    penalties: &Penalties,
+    expected: &[(usize, u128)],
+) -> Result<(), WrapError> {
+    let (minima, _asked) = plain_table(rt.alloc(), blocks, line_widths, penalties);
+    assert_minima(rt, blocks, minima, expected)?;
+    if plain_is_queue_case(blocks, line_widths, penalties) {
         assert_agreed(rt, blocks, line_widths, penalties)?;
-        let (minima, _steps) = searched(rt, rt.alloc(), blocks, line_widths, penalties)?;
-        assert!(rt; are_minima(&minima, expected), "{blocks:?} {minima:?}");
+        assert_searched(rt, blocks, line_widths, penalties, expected)?;
     }
     Ok(())
 }
@@ -265,18 +278,17 @@ const TABLES_OF_ANY_NUMBERS: &[(&[Block], &[usize], usize, &[(usize, u128)], &[u
 fn widths_and_penalties_may_be_any_numbers(rt: HostRuntime) -> Result<(), Fail> {
     for &(blocks, line_widths, each, expected, lens) in TABLES_OF_ANY_NUMBERS {
         let penalties = all_penalties(each);
-        assert_minima(&rt, blocks, line_widths, &penalties, expected)?;
-        let lines = wrap_optimal_fit(rt.alloc(), blocks, line_widths, &penalties)?;
-        assert!(rt; have_lens(&lines, lens), "{blocks:?} {line_widths:?}");
+        assert_entries(&rt, blocks, line_widths, &penalties, expected)?;
+        let lines = plain_optimal_fit(rt.alloc(), blocks, line_widths, &penalties);
+        assert_lens(&rt, (blocks, line_widths), lines, lens)?;
     }
     Ok(())
 }
 
 /// The cost of one fragment on a line of four columns.
 fn cost_of(alloc: Global, block: Block, penalties: &Penalties) -> Result<u128, WrapError> {
-    let mut steps = Steps::new();
-    let minima = table_minima(alloc, &[block], &[4], penalties, &mut steps)?;
-    Ok(minima.last().map_or(0, |minimum| minimum.cost))
+    let (minima, _asked) = plain_table(alloc, &[block], &[4], penalties);
+    Ok(minima?.last().map_or(0, |minimum| minimum.cost))
 }
 
 const GREATEST_PENALTIES: &[([usize; 5], u128, u128)] = &[
@@ -312,9 +324,9 @@ fn each_penalty_counts_up_to_its_end(rt: HostRuntime) -> Result<(), Fail> {
     for &(numbers, hyphened, wide) in GREATEST_PENALTIES {
         let penalties = penalties_of(numbers);
         let cost = cost_of(rt.alloc(), Block(1, 0, 1), &penalties)?;
-        assert_eq!(rt; cost, hyphened, "{penalties:?}");
+        assert_row(&rt, (numbers, cost), cost == hyphened);
         let cost = cost_of(rt.alloc(), Block(6, 0, 0), &penalties)?;
-        assert_eq!(rt; cost, wide, "{penalties:?}");
+        assert_row(&rt, (numbers, cost), cost == wide);
     }
     Ok(())
 }

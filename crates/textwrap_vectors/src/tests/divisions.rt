@@ -1,14 +1,16 @@
 //! The division of fragments into lines.
 ghost use Rattle.textwrap.specs.Sizes.{Sizes};
 
-use std::alloc::{AllocError, AllocFailed};
+use super::plain::{
+    assert_lens, assert_row, assert_text, have_lens, plain_first_fit, plain_optimal_fit,
+    plain_optimal_fit_counted,
+};
+use std::alloc::{AllocError, AllocFailed, Global};
+use std::fmt::Display;
 use std::test::Fail;
 use textwrap::WrapError;
-use textwrap::minima::Steps;
 use textwrap::words::{Fragment, Word};
-use textwrap::wrap_algorithms::{
-    OverflowError, Penalties, wrap_first_fit, wrap_optimal_fit, wrap_optimal_fit_counted,
-};
+use textwrap::wrap_algorithms::{OverflowError, Penalties};
 
 /// A fragment with its width, its whitespace width and its penalty width.
 #[derive(Clone, Copy, Debug)]
@@ -57,7 +59,7 @@ const MAX: usize = usize::MAX;
 const WIDEST: Block = Block(MAX, 0, 0);
 
 /// The default penalties, but for the largest one on each column past the width.
-const STRICT: Penalties = Penalties {
+pub(super) const STRICT: Penalties = Penalties {
     nline_penalty: 1000,
     overflow_penalty: MAX,
     short_last_line_fraction: 4,
@@ -82,16 +84,6 @@ const STRICTEST: Penalties = Penalties {
     short_last_line_penalty: MAX,
     hyphen_penalty: MAX,
 };
-
-/// Whether the lines have so many fragments each.
-pub(super) fn have_lens<T>(lines: &[&[T]], lens: &[usize]) -> bool {
-    for (line, len) in lines.iter().zip(lens) {
-        if line.len() != *len {
-            return false;
-        }
-    }
-    lines.len() == lens.len()
-}
 
 const FIRST_FITS: &[(&[Block], &[usize], &[usize])] = &[
     (&[], &[10], &[0]),
@@ -145,8 +137,8 @@ const FIRST_FITS: &[(&[Block], &[usize], &[usize])] = &[
 #[test]
 fn each_line_takes_what_fits(rt: HostRuntime) -> Result<(), Fail> {
     for &(blocks, line_widths, lens) in FIRST_FITS {
-        let lines = wrap_first_fit(rt.alloc(), blocks, line_widths)?;
-        assert!(rt; have_lens(&lines, lens), "{blocks:?} {line_widths:?}");
+        let lines = plain_first_fit(rt.alloc(), blocks, line_widths);
+        assert_lens(&rt, (blocks, line_widths), lines, lens)?;
     }
     Ok(())
 }
@@ -155,10 +147,8 @@ fn each_line_takes_what_fits(rt: HostRuntime) -> Result<(), Fail> {
 #[test]
 fn words_are_divided(rt: HostRuntime) -> Result<(), Fail> {
     let words = [Word::from("foo "), Word::from("bar "), Word::from("baz")];
-    let lines = wrap_first_fit(rt.alloc(), &words, &[10])?;
-    assert_eq!(rt; lines.len(), 2);
-    assert_eq!(rt; lines[0], &words[..2]);
-    assert_eq!(rt; lines[1], &words[2..]);
+    let lines = plain_first_fit(rt.alloc(), &words, &[10])?;
+    assert!(rt; lines.as_slice() == [&words[..2], &words[2..]].as_slice());
     Ok(())
 }
 
@@ -203,15 +193,29 @@ const OPTIMAL_FITS: &[(&[Block], &[usize], &[usize])] = &[
 #[test]
 fn fragments_are_divided_at_least_cost(rt: HostRuntime) -> Result<(), Fail> {
     for &(blocks, line_widths, lens) in OPTIMAL_FITS {
-        let lines = wrap_optimal_fit(rt.alloc(), blocks, line_widths, &Penalties::new())?;
-        assert!(rt; have_lens(&lines, lens), "{blocks:?} {line_widths:?}");
+        let lines = plain_optimal_fit(rt.alloc(), blocks, line_widths, &Penalties::new());
+        assert_lens(&rt, (blocks, line_widths), lines, lens)?;
     }
     Ok(())
 }
 
-/// Whether the call was refused, as one whose costs do not fit.
-fn is_refused<T>(lines: &Result<T, WrapError>) -> bool {
-    matches!(lines, Err(WrapError::Overflow(_)))
+/// Whether the call gives one line, where the costs fit, and else is refused as one whose costs do
+/// not; and whether it asks for so many line costs.
+fn is_divided(
+    alloc: Global,
+    blocks: &[Block],
+    width: usize,
+    penalties: &Penalties,
+    fits: bool,
+    count: u128,
+) -> bool {
+    let (lines, asked) = plain_optimal_fit_counted(alloc, blocks, &[width], penalties);
+    let is_as_expected = match lines {
+        Ok(lines) => fits && have_lens(&lines, &[1]),
+        Err(WrapError::Overflow(_)) => !fits,
+        Err(WrapError::Memory(_)) => false,
+    };
+    is_as_expected && asked == count
 }
 
 const REFUSED_COSTS: &[(&[Block], usize, Penalties, bool, u128)] = &[
@@ -231,15 +235,9 @@ const REFUSED_COSTS: &[(&[Block], usize, Penalties, bool, u128)] = &[
 /// for until then are counted.
 #[test]
 fn costs_past_128_bits_are_refused(rt: HostRuntime) {
-    for &(blocks, width, penalties, fits, count) in REFUSED_COSTS {
-        let mut steps = Steps::new();
-        let lines = wrap_optimal_fit_counted(rt.alloc(), blocks, &[width], &penalties, &mut steps);
-        assert!(rt; lines.is_ok() == fits, "{blocks:?}");
-        assert!(rt; is_refused(&lines) != fits, "{blocks:?}");
-        if let Ok(lines) = lines {
-            assert!(rt; have_lens(&lines, &[1]), "{blocks:?}");
-        }
-        assert_eq!(rt; steps.count(), count, "{blocks:?}");
+    for (blocks, width, penalties, fits, count) in REFUSED_COSTS {
+        let holds = is_divided(rt.alloc(), blocks, *width, penalties, *fits, *count);
+        assert_row(&rt, *blocks, holds);
     }
 }
 
@@ -255,16 +253,20 @@ fn the_default_penalties_are_the_new_ones(rt: HostRuntime) {
     assert_eq!(rt; penalties.hyphen_penalty, 25);
 }
 
+/// What an error says.
+fn shown(alloc: Global, error: &impl Display) -> Result<String, WrapError> {
+    Ok(format!(in alloc; "{error}")?)
+}
+
 /// An error says what it is, and each failed allocation is out of memory.
 #[test]
 fn errors_have_their_texts(rt: HostRuntime) -> Result<(), Fail> {
-    let overflow = "wrap_optimal_fit cost computation overflowed";
-    let text = format!(in rt.alloc(); "{OverflowError}")?;
-    assert_eq!(rt; text.as_str(), overflow);
-    let text = format!(in rt.alloc(); "{}", WrapError::Overflow(OverflowError))?;
-    assert_eq!(rt; text.as_str(), overflow);
-    let text = format!(in rt.alloc(); "{}", WrapError::Memory(AllocError))?;
-    assert_eq!(rt; text.as_str(), "out of memory");
+    let text = "wrap_optimal_fit cost computation overflowed";
+    assert_text(&rt, "itself", shown(rt.alloc(), &OverflowError), text)?;
+    let overflow = WrapError::Overflow(OverflowError);
+    assert_text(&rt, "overflow", shown(rt.alloc(), &overflow), text)?;
+    let memory = WrapError::Memory(AllocError);
+    assert_text(&rt, "memory", shown(rt.alloc(), &memory), "out of memory")?;
     let refused = WrapError::from(AllocFailed { value: "foo" });
     assert!(rt; matches!(refused, WrapError::Memory(_)));
     assert!(rt; matches!(WrapError::from(AllocError), WrapError::Memory(_)));

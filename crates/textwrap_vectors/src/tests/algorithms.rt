@@ -3,10 +3,9 @@ ghost use Rattle.std.specs.Prelude.{IfOk};
 ghost use Rattle.textwrap.specs.LineEnds.{AreEnds};
 
 use super::divisions::STRICT;
-use super::plain::{assert_lens, assert_row, have_lens, plain_divide, plain_words};
+use super::plain::{assert_found, assert_gives_lens, have_lens, plain_divide, plain_words};
 use std::alloc::{AllocError, Global};
 use std::process::Abort;
-use std::test::Fail;
 use textwrap::words::Word;
 use textwrap::wrap_algorithms::{LineEnds, Penalties};
 use textwrap::{WrapAlgorithm, WrapError};
@@ -42,22 +41,19 @@ const DIVIDED_TEXTS: &[DividedTexts<'_>] = &[
 
 /// `WrapAlgorithm::wrap` divides words by first fit, or at the least cost.
 #[test]
-fn algorithms_divide_words(rt: HostRuntime) -> Result<(), Fail> {
+fn algorithms_divide_words(rt: HostRuntime) {
     for &(texts, line_widths, least, first) in DIVIDED_TEXTS {
-        let optimal = WrapAlgorithm::new();
-        assert_row(
-            &rt,
+        let divided = divides(rt.alloc(), WrapAlgorithm::new(), texts, line_widths, least);
+        assert_found(&rt, texts, divided);
+        let divided = divides(
+            rt.alloc(),
+            WrapAlgorithm::FirstFit,
             texts,
-            divides(rt.alloc(), optimal, texts, line_widths, least)?,
+            line_widths,
+            first,
         );
-        let first_fit = WrapAlgorithm::FirstFit;
-        assert_row(
-            &rt,
-            texts,
-            divides(rt.alloc(), first_fit, texts, line_widths, first)?,
-        );
+        assert_found(&rt, texts, divided);
     }
-    Ok(())
 }
 
 /// A word of one column.
@@ -111,14 +107,14 @@ fn assert_divided(
     words: [Word<'_>; 2],
     line_width: usize,
     lens: &[usize],
-) -> Result<(), WrapError> {
+) {
     let lines = plain_divide(rt.alloc(), algorithm, &words, &[line_width]);
-    assert_lens(rt, (line_width, lens), lines, lens)
+    assert_gives_lens(rt, (line_width, lens), lines, lens);
 }
 
 /// Words of any field `width` are divided on lines of any width. In these rows both algorithms agree.
 #[test]
-fn words_of_any_width_are_divided(rt: HostRuntime) -> Result<(), Fail> {
+fn words_of_any_width_are_divided(rt: HostRuntime) {
     for &(first, first_width, second, second_width, line_width, lens) in DIVIDED_WORDS {
         let words = [
             Word {
@@ -130,10 +126,9 @@ fn words_of_any_width_are_divided(rt: HostRuntime) -> Result<(), Fail> {
                 ..second
             },
         ];
-        assert_divided(&rt, WrapAlgorithm::FirstFit, words, line_width, lens)?;
-        assert_divided(&rt, WrapAlgorithm::new(), words, line_width, lens)?;
+        assert_divided(&rt, WrapAlgorithm::FirstFit, words, line_width, lens);
+        assert_divided(&rt, WrapAlgorithm::new(), words, line_width, lens);
     }
-    Ok(())
 }
 
 /// Takes the widths of the lines for their ends, but for those that fall or pass the words. Refuses
@@ -183,14 +178,13 @@ const LINES_AT_ENDS: &[(&[usize], &[usize])] = &[
 /// A function of the caller gets the words and the line widths, and its lines lie between its ends;
 /// where it refuses, so does the call.
 #[test]
-fn lines_lie_between_the_ends_of_the_caller(rt: HostRuntime) -> Result<(), Fail> {
+fn lines_lie_between_the_ends_of_the_caller(rt: HostRuntime) {
     for &(line_widths, lens) in LINES_AT_ENDS {
-        let holds = divides_at_widths(rt.alloc(), NUMBERS, line_widths, lens)?;
-        assert_row(&rt, line_widths, holds);
+        let divided = divides_at_widths(rt.alloc(), NUMBERS, line_widths, lens);
+        assert_found(&rt, line_widths, divided);
     }
     let refused = divides_at_widths(rt.alloc(), &["one "], &[1], &[]);
     assert!(rt; matches!(refused, Err(WrapError::Memory(_))));
-    Ok(())
 }
 
 /// A word of the greatest width.
@@ -203,13 +197,12 @@ const WIDEST: Word<'_> = Word {
 
 /// Words that are too wide for the costs are refused at the least cost alone: first fit has none.
 #[test]
-fn words_too_wide_for_128_bits_are_refused_by_cost_alone(rt: HostRuntime) -> Result<(), Fail> {
+fn words_too_wide_for_128_bits_are_refused_by_cost_alone(rt: HostRuntime) {
     let words = [WIDEST, WIDEST];
-    let optimal = WrapAlgorithm::OptimalFit(STRICT);
-    let refused = assert_divided(&rt, optimal, words, 0, &[]);
+    let strict = WrapAlgorithm::OptimalFit(STRICT);
+    let refused = plain_divide(rt.alloc(), strict, &words, &[0]);
     assert!(rt; matches!(refused, Err(WrapError::Overflow(_))));
-    assert_divided(&rt, WrapAlgorithm::FirstFit, words, 0, &[1, 1])?;
-    Ok(())
+    assert_divided(&rt, WrapAlgorithm::FirstFit, words, 0, &[1, 1]);
 }
 
 /// Equal are first fit to itself, and optimal fit to itself at equal penalties.

@@ -1,10 +1,11 @@
 //! Fragments with break penalties of their own.
-use super::minima::{LIMIT, all_penalties, assert_agreed, assert_minima, drawn_blocks};
-use super::plain::{assert_lens, assert_row, plain_is_queue_case, plain_optimal_fit, plain_table};
+use super::minima::{LIMIT, all_penalties, assert_agreed, assert_minima, drawn_blocks, least_cost};
+use super::plain::{
+    assert_gives_lens, assert_row, plain_is_queue_case, plain_optimal_fit, plain_table,
+};
 use crate::Card;
 use std::alloc::{AllocError, Global};
 use std::process::Abort;
-use std::test::Fail;
 use textwrap::WrapError;
 use textwrap::words::Fragment;
 use textwrap::wrap_algorithms::Penalties;
@@ -17,17 +18,6 @@ fn card(width: usize, keep: usize) -> Card {
         penalty: 0,
         keep,
     }
-}
-
-/// The least cost of all fragments: that of the last prefix.
-fn least_cost<T: Fragment>(
-    alloc: Global,
-    fragments: &[T],
-    line_width: usize,
-    penalties: &Penalties,
-) -> Result<Option<u128>, WrapError> {
-    let (minima, _asked) = plain_table(alloc, fragments, &[line_width], penalties);
-    Ok(minima?.last().map(|minimum| minimum.cost))
 }
 
 const VERSES: &[(usize, &[usize], u128, bool)] = &[
@@ -43,17 +33,16 @@ const VERSES: &[(usize, &[usize], u128, bool)] = &[
 /// The second of three cards stays at the end of a row until that costs as much as the other
 /// division; at a tie the last row begins earlier. A break penalty above 2^62 is no queue case.
 #[test]
-fn a_dear_break_keeps_two_cards_together(rt: HostRuntime) -> Result<(), Fail> {
+fn a_dear_break_keeps_two_cards_together(rt: HostRuntime) {
     let penalties = Penalties::new();
     for &(keep, lens, cost, is_case) in VERSES {
         let cards = [card(4, 0), card(4, keep), card(4, 0)];
         let lines = plain_optimal_fit(rt.alloc(), &cards, &[9], &penalties);
-        assert_lens(&rt, keep, lines, lens)?;
-        let least = least_cost(rt.alloc(), &cards, 9, &penalties)?;
+        assert_gives_lens(&rt, keep, lines, lens);
+        let least = least_cost(&rt, &cards, 9, &penalties);
         let case = plain_is_queue_case(&cards, &[9], &penalties);
         assert_row(&rt, keep, least == Some(cost) && case == is_case);
     }
-    Ok(())
 }
 
 /// A card with all numbers at their greatest but its width.
@@ -66,16 +55,15 @@ const GREATEST: Card = Card {
 
 /// With all numbers at their greatest, one card costs 2^128 - 1 and two on one line less than that.
 #[test]
-fn the_greatest_break_penalties_fit(rt: HostRuntime) -> Result<(), Fail> {
+fn the_greatest_break_penalties_fit(rt: HostRuntime) {
     let penalties = all_penalties(usize::MAX);
     let cards = [GREATEST; 2];
     let (minima, _asked) = plain_table(rt.alloc(), &cards, &[usize::MAX], &penalties);
     let expected = [(0, 0), (0, u128::MAX), (0, 36_893_488_147_419_103_230)];
-    assert_minima(&rt, "cards", minima, &expected)?;
+    assert_minima(&rt, "cards", minima, &expected);
     let lines = plain_optimal_fit(rt.alloc(), &cards, &[usize::MAX], &penalties);
-    assert_lens(&rt, "cards", lines, &[2])?;
+    assert_gives_lens(&rt, "cards", lines, &[2]);
     assert!(rt; !plain_is_queue_case(&cards, &[usize::MAX], &penalties));
-    Ok(())
 }
 
 /// The line of a poem: to end with a line that leads on costs as much as a line of its own.
@@ -141,19 +129,18 @@ const POEM: [Verse; 3] = [
 /// A break penalty may depend on the penalties. The usual hyphen penalty counts for none of these,
 /// though each has a penalty width.
 #[test]
-fn a_break_penalty_may_come_from_the_penalties(rt: HostRuntime) -> Result<(), Fail> {
+fn a_break_penalty_may_come_from_the_penalties(rt: HostRuntime) {
     for (nline_penalty, lens, cost) in VERSES_BY_PENALTY {
         let penalties = Penalties {
             nline_penalty: *nline_penalty,
             short_last_line_penalty: 0,
             ..Penalties::new()
         };
-        let least = least_cost(rt.alloc(), &POEM, 10, &penalties)?;
+        let least = least_cost(&rt, &POEM, 10, &penalties);
         assert_row(&rt, *nline_penalty, least == Some(*cost));
         let lines = plain_optimal_fit(rt.alloc(), &POEM, &[10], &penalties);
-        assert_lens(&rt, *nline_penalty, lines, lens)?;
+        assert_gives_lens(&rt, *nline_penalty, lines, lens);
     }
-    Ok(())
 }
 
 /// Cards of a small generator, with break penalties up to a mask.
@@ -178,20 +165,19 @@ fn assert_agreed_on_cards(
     count: usize,
     mask: usize,
     penalties: &Penalties,
-) -> Result<(), WrapError> {
-    let cards = drawn_cards(rt.alloc(), count, mask)?;
-    assert_agreed(rt, &cards, &[9], penalties)?;
-    assert_agreed(rt, &cards, &[5, 20], penalties)
+) {
+    let cards = drawn_cards(rt.alloc(), count, mask).expect(rt, "cards");
+    assert_agreed(rt, &cards, &[9], penalties);
+    assert_agreed(rt, &cards, &[5, 20], penalties);
 }
 
 /// The search gives the list of the table for cards too, ties included.
 #[test]
-fn the_search_agrees_with_the_table_on_cards(rt: HostRuntime) -> Result<(), Fail> {
+fn the_search_agrees_with_the_table_on_cards(rt: HostRuntime) {
     for count in [1, 2, 5, 40] {
         for mask in [0, 1, 31, 1023] {
-            assert_agreed_on_cards(&rt, count, mask, &Penalties::new())?;
-            assert_agreed_on_cards(&rt, count, mask, &all_penalties(0))?;
+            assert_agreed_on_cards(&rt, count, mask, &Penalties::new());
+            assert_agreed_on_cards(&rt, count, mask, &all_penalties(0));
         }
     }
-    Ok(())
 }

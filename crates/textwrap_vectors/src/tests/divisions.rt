@@ -2,12 +2,11 @@
 ghost use Rattle.textwrap.specs.Sizes.{Sizes};
 
 use super::plain::{
-    assert_lens, assert_row, assert_text, have_lens, plain_first_fit, plain_optimal_fit,
+    assert_gives, assert_gives_lens, assert_row, have_lens, plain_first_fit, plain_optimal_fit,
     plain_optimal_fit_counted,
 };
 use std::alloc::{AllocError, AllocFailed, Global};
 use std::fmt::Display;
-use std::test::Fail;
 use textwrap::WrapError;
 use textwrap::words::{Fragment, Word};
 use textwrap::wrap_algorithms::{OverflowError, Penalties};
@@ -135,21 +134,21 @@ const FIRST_FITS: &[(&[Block], &[usize], &[usize])] = &[
 /// A line takes fragments while they fit, and its first in any case; the last line width serves all
 /// later lines, and without any width it is 0.
 #[test]
-fn each_line_takes_what_fits(rt: HostRuntime) -> Result<(), Fail> {
+fn each_line_takes_what_fits(rt: HostRuntime) {
     for &(blocks, line_widths, lens) in FIRST_FITS {
         let lines = plain_first_fit(rt.alloc(), blocks, line_widths);
-        assert_lens(&rt, (blocks, line_widths), lines, lens)?;
+        assert_gives_lens(&rt, (blocks, line_widths), lines, lens);
     }
-    Ok(())
 }
 
 /// The lines are slices of the list that was given.
 #[test]
-fn words_are_divided(rt: HostRuntime) -> Result<(), Fail> {
+fn words_are_divided(rt: HostRuntime) {
     let words = [Word::from("foo "), Word::from("bar "), Word::from("baz")];
-    let lines = plain_first_fit(rt.alloc(), &words, &[10])?;
-    assert!(rt; lines.as_slice() == [&words[..2], &words[2..]].as_slice());
-    Ok(())
+    let lines = plain_first_fit(rt.alloc(), &words, &[10]).expect(&rt, "lines");
+    assert!(rt; lines.len() == 2);
+    assert_row(&rt, "first", lines[0] == &words[..2]);
+    assert_row(&rt, "second", lines[1] == &words[2..]);
 }
 
 const OPTIMAL_FITS: &[(&[Block], &[usize], &[usize])] = &[
@@ -191,12 +190,11 @@ const OPTIMAL_FITS: &[(&[Block], &[usize], &[usize])] = &[
 /// Each line costs 1000, a gap before a later line its square, and a column past the width 2500;
 /// the sum decides, and a line may be wider than it should where that is cheaper.
 #[test]
-fn fragments_are_divided_at_least_cost(rt: HostRuntime) -> Result<(), Fail> {
+fn fragments_are_divided_at_least_cost(rt: HostRuntime) {
     for &(blocks, line_widths, lens) in OPTIMAL_FITS {
         let lines = plain_optimal_fit(rt.alloc(), blocks, line_widths, &Penalties::new());
-        assert_lens(&rt, (blocks, line_widths), lines, lens)?;
+        assert_gives_lens(&rt, (blocks, line_widths), lines, lens);
     }
-    Ok(())
 }
 
 /// Whether the call gives one line, where the costs fit, and else is refused as one whose costs do
@@ -242,15 +240,19 @@ fn costs_past_128_bits_are_refused(rt: HostRuntime) {
 }
 
 /// The default penalties.
+const DEFAULTS: Penalties = Penalties {
+    nline_penalty: 1000,
+    overflow_penalty: 2500,
+    short_last_line_fraction: 4,
+    short_last_line_penalty: 25,
+    hyphen_penalty: 25,
+};
+
+/// The default penalties are the new ones.
 #[test]
 fn the_default_penalties_are_the_new_ones(rt: HostRuntime) {
-    let penalties = Penalties::default();
-    assert!(rt; penalties == Penalties::new());
-    assert_eq!(rt; penalties.nline_penalty, 1000);
-    assert_eq!(rt; penalties.overflow_penalty, 2500);
-    assert_eq!(rt; penalties.short_last_line_fraction, 4);
-    assert_eq!(rt; penalties.short_last_line_penalty, 25);
-    assert_eq!(rt; penalties.hyphen_penalty, 25);
+    assert!(rt; Penalties::default() == DEFAULTS);
+    assert!(rt; Penalties::new() == DEFAULTS);
 }
 
 /// What an error says.
@@ -260,15 +262,14 @@ fn shown(alloc: Global, error: &impl Display) -> Result<String, WrapError> {
 
 /// An error says what it is, and each failed allocation is out of memory.
 #[test]
-fn errors_have_their_texts(rt: HostRuntime) -> Result<(), Fail> {
+fn errors_have_their_texts(rt: HostRuntime) {
     let text = "wrap_optimal_fit cost computation overflowed";
-    assert_text(&rt, "itself", shown(rt.alloc(), &OverflowError), text)?;
+    assert_gives(&rt, "itself", shown(rt.alloc(), &OverflowError), text);
     let overflow = WrapError::Overflow(OverflowError);
-    assert_text(&rt, "overflow", shown(rt.alloc(), &overflow), text)?;
+    assert_gives(&rt, "overflow", shown(rt.alloc(), &overflow), text);
     let memory = WrapError::Memory(AllocError);
-    assert_text(&rt, "memory", shown(rt.alloc(), &memory), "out of memory")?;
+    assert_gives(&rt, "memory", shown(rt.alloc(), &memory), "out of memory");
     let refused = WrapError::from(AllocFailed { value: "foo" });
     assert!(rt; matches!(refused, WrapError::Memory(_)));
     assert!(rt; matches!(WrapError::from(AllocError), WrapError::Memory(_)));
-    Ok(())
 }

@@ -1,12 +1,11 @@
 //! Texts at the widths at the ends of their type.
 use super::plain::{
-    assert_text, plain_append, plain_copy, plain_fill, plain_fill_inplace, plain_fill_slowly,
+    assert_gives, at_width, plain_append, plain_fill, plain_fill_inplace, plain_fill_slowly,
     plain_options, plain_refill, plain_wrap,
 };
 use std::alloc::Global;
 use std::borrow::CowStr;
 use std::process::Abort;
-use std::test::Fail;
 use textwrap::{Options, WrapAlgorithm, WrapError};
 
 const MAX: usize = usize::MAX;
@@ -50,45 +49,49 @@ fn assert_lines(
     text: &str,
     given: Result<Vec<CowStr<'_>>, WrapError>,
     filled: &str,
-) -> Result<(), WrapError> {
-    let lines = given?;
+) {
+    let lines = given.expect(rt, text);
     assert!(rt; are_lines_of(&lines, filled), "{text:?} has {lines:?}");
-    Ok(())
 }
 
 /// Asserts that each call that wraps or fills gives this filled text, or its lines.
 pub(super) fn assert_laid_out(
     rt: &(impl Abort + AllocGlobal),
     text: &str,
-    options: Options<'_>,
+    options: &Options<'_>,
     expected: &str,
-) -> Result<(), WrapError> {
+) {
     let alloc = rt.alloc();
     assert_lines(
         rt,
         text,
-        lines_by_paragraphs(alloc, text, &options, false),
+        lines_by_paragraphs(alloc, text, options, false),
         expected,
-    )?;
+    );
     assert_lines(
         rt,
         text,
-        lines_by_paragraphs(alloc, text, &options, true),
+        lines_by_paragraphs(alloc, text, options, true),
         expected,
-    )?;
+    );
     assert_lines(
         rt,
         text,
-        plain_wrap(alloc, text, plain_copy(&options)),
+        plain_wrap(alloc, text, Options::from(options)),
         expected,
-    )?;
-    assert_text(
+    );
+    assert_gives(
         rt,
         text,
-        plain_fill(alloc, text, plain_copy(&options)),
+        plain_fill(alloc, text, Options::from(options)),
         expected,
-    )?;
-    assert_text(rt, text, plain_fill_slowly(alloc, text, options), expected)
+    );
+    assert_gives(
+        rt,
+        text,
+        plain_fill_slowly(alloc, text, Options::from(options)),
+        expected,
+    );
 }
 
 const FILLED_AT_ENDS: &[FilledAtEnds<'_>] = &[
@@ -193,32 +196,28 @@ const FILLED_AT_ENDS: &[FilledAtEnds<'_>] = &[
     ),
 ];
 
-/// Asserts that a text is filled to these at the widths at the ends, with these indents.
+/// Asserts that a text is filled to these at the widths at the ends, with options of any width.
 fn assert_filled_at_ends(
     rt: &(impl Abort + AllocGlobal),
     text: &str,
-    indents: [&str; 2],
-    algorithm: WrapAlgorithm,
+    options: &Options<'_>,
     expected: &[&str; 4],
-) -> Result<(), WrapError> {
-    let [initial, subsequent] = indents;
+) {
     for (width, expected) in END_WIDTHS.iter().zip(expected) {
-        let options = plain_options(*width, initial, subsequent, algorithm);
-        assert_laid_out(rt, text, options, expected)?;
+        assert_laid_out(rt, text, &at_width(options, *width), expected);
     }
-    Ok(())
 }
 
 /// At a width of 0 or 1 no line has room for two characters with columns, and at the greatest widths
 /// a paragraph is one line. Optimal fit takes a width of 0 for one of 1.
 #[test]
-fn texts_are_filled_at_the_ends_of_widths(rt: HostRuntime) -> Result<(), Fail> {
+fn texts_are_filled_at_the_ends_of_widths(rt: HostRuntime) {
     for (text, initial, subsequent, least, first) in FILLED_AT_ENDS {
-        let indents = [*initial, *subsequent];
-        assert_filled_at_ends(&rt, text, indents, WrapAlgorithm::new(), least)?;
-        assert_filled_at_ends(&rt, text, indents, WrapAlgorithm::FirstFit, first)?;
+        let options = plain_options(0, initial, subsequent, WrapAlgorithm::new());
+        assert_filled_at_ends(&rt, text, &options, least);
+        let options = plain_options(0, initial, subsequent, WrapAlgorithm::FirstFit);
+        assert_filled_at_ends(&rt, text, &options, first);
     }
-    Ok(())
 }
 
 const FILLED_IN_PLACE: &[(&str, &str, &str)] = &[
@@ -236,19 +235,18 @@ const FILLED_IN_PLACE: &[(&str, &str, &str)] = &[
 /// At a width of 0 or 1 each word has a line of its own in place, and at the greatest widths nothing
 /// changes.
 #[test]
-fn texts_are_filled_in_place_at_the_ends_of_widths(rt: HostRuntime) -> Result<(), Fail> {
+fn texts_are_filled_in_place_at_the_ends_of_widths(rt: HostRuntime) {
     for &(text, narrow, wide) in FILLED_IN_PLACE {
         for width in END_WIDTHS {
             let expected = if width <= 1 { narrow } else { wide };
-            assert_text(
+            assert_gives(
                 &rt,
                 text,
                 plain_fill_inplace(rt.alloc(), text, width),
                 expected,
-            )?;
+            );
         }
     }
-    Ok(())
 }
 
 const REFILLED_AT_ENDS: &[(&str, &str, &str, &str)] = &[
@@ -264,30 +262,30 @@ const REFILLED_AT_ENDS: &[(&str, &str, &str, &str)] = &[
     ("\n  a\n  b", "\n  a\n  b", "\n  a\n  b", "  a b"),
 ];
 
-/// Asserts that a text is refilled to these at the widths at the ends: at the least two, and at the
-/// greatest two.
+/// Asserts that a text is refilled to these at the widths at the ends, with options of any width: at
+/// the least two, and at the greatest two.
 fn assert_refilled(
     rt: &(impl Abort + AllocGlobal),
     text: &str,
-    algorithm: WrapAlgorithm,
+    options: &Options<'_>,
     narrow: &str,
     wide: &str,
-) -> Result<(), WrapError> {
+) {
     for width in END_WIDTHS {
-        let options = plain_options(width, "", "", algorithm);
         let expected = if width <= 1 { narrow } else { wide };
-        assert_text(rt, text, plain_refill(rt.alloc(), text, options), expected)?;
+        let refilled = plain_refill(rt.alloc(), text, at_width(options, width));
+        assert_gives(rt, text, refilled, expected);
     }
-    Ok(())
 }
 
 /// A text that is refilled keeps its indents and its ending at each width. Where the indent leaves
 /// no room, optimal fit puts a character beside it, and first fit does not.
 #[test]
-fn texts_are_refilled_at_the_ends_of_widths(rt: HostRuntime) -> Result<(), Fail> {
+fn texts_are_refilled_at_the_ends_of_widths(rt: HostRuntime) {
     for &(text, least, first, wide) in REFILLED_AT_ENDS {
-        assert_refilled(&rt, text, WrapAlgorithm::new(), least, wide)?;
-        assert_refilled(&rt, text, WrapAlgorithm::FirstFit, first, wide)?;
+        let options = plain_options(0, "", "", WrapAlgorithm::new());
+        assert_refilled(&rt, text, &options, least, wide);
+        let options = plain_options(0, "", "", WrapAlgorithm::FirstFit);
+        assert_refilled(&rt, text, &options, first, wide);
     }
-    Ok(())
 }

@@ -1,10 +1,10 @@
 //! Texts with escape sequences that are cut short.
 use super::plain::{
-    assert_row, assert_text, assert_words, plain_break, plain_strip, plain_width, plain_wrap,
+    assert_found, assert_gives, assert_gives_words, assert_row, plain_break, plain_strip,
+    plain_width, plain_wrap,
 };
 use crate::functions::are_borrowed;
 use std::alloc::Global;
-use std::test::Fail;
 use textwrap::words::Word;
 use textwrap::{Options, WrapError};
 
@@ -71,13 +71,12 @@ fn are_lines(alloc: Global, text: &str, lines: &[&str]) -> Result<bool, WrapErro
 /// end of the text. It has no columns and is not broken: at 1 column, no piece and no line has more
 /// than one visible character.
 #[test]
-fn sequences_may_be_cut_at_each_place(rt: HostRuntime) -> Result<(), Fail> {
+fn sequences_may_be_cut_at_each_place(rt: HostRuntime) {
     for &(text, visible, columns, pieces) in CUT_SEQUENCES {
         assert_row(&rt, text, plain_width(text) == columns);
-        assert_text(&rt, text, plain_strip(rt.alloc(), text), visible)?;
+        assert_gives(&rt, text, plain_strip(rt.alloc(), text), visible);
         let broken = plain_break(rt.alloc(), &[Word::from(text)], 1);
-        assert_words(&rt, text, broken, pieces)?;
-        assert_row(&rt, text, are_lines(rt.alloc(), text, pieces)?);
+        assert_gives_words(&rt, text, broken, pieces);
+        assert_found(&rt, text, are_lines(rt.alloc(), text, pieces));
     }
-    Ok(())
 }

@@ -1,13 +1,12 @@
 //! One large row for each call on words and lines that allocates. A body that gave up on what is
 //! longer than the rows of the other tables would pass those.
 use super::plain::{
-    assert_text, plain_break, plain_divide, plain_find_words, plain_find_words_at, plain_first_fit,
-    plain_optimal_fit, plain_points, plain_split, plain_strip,
+    assert_gives, plain_break, plain_divide, plain_find_words, plain_find_words_at,
+    plain_first_fit, plain_optimal_fit, plain_points, plain_split, plain_strip,
 };
 use crate::functions::{cut_characters, end_each, split_characters};
 use std::alloc::{AllocError, Global};
 use std::process::Abort;
-use std::test::Fail;
 use textwrap::word_separators::LineCuts;
 use textwrap::word_splitters::WordCuts;
 use textwrap::words::Word;
@@ -36,15 +35,9 @@ fn are_many(words: &[Word<'_>], text: &str, blanks: &str) -> bool {
 }
 
 /// Asserts that a call gave so many words, each with this text and these blanks.
-fn assert_many(
-    rt: &impl Abort,
-    given: Result<Vec<Word<'_>>, WrapError>,
-    text: &str,
-    blanks: &str,
-) -> Result<(), WrapError> {
-    let words = given?;
+fn assert_many(rt: &impl Abort, given: Result<Vec<Word<'_>>, WrapError>, text: &str, blanks: &str) {
+    let words = given.expect(rt, "memory");
     assert!(rt; are_many(&words, text, blanks), "{text:?}");
-    Ok(())
 }
 
 /// Whether these are so many lines of one element each.
@@ -58,42 +51,45 @@ fn are_single<T>(lines: &[&[T]], count: usize) -> bool {
 }
 
 /// Asserts that a call gave so many lines of one word each.
-fn assert_single(
-    rt: &impl Abort,
-    given: Result<Vec<&[Word<'_>]>, WrapError>,
-    count: usize,
-) -> Result<(), WrapError> {
-    let lines = given?;
+fn assert_single(rt: &impl Abort, given: Result<Vec<&[Word<'_>]>, WrapError>, count: usize) {
+    let lines = given.expect(rt, "memory");
     assert!(rt; are_single(&lines, count));
-    Ok(())
 }
 
 /// Asserts that a call gave so many numbers.
-fn assert_count(
-    rt: &impl Abort,
-    given: Result<Vec<usize>, WrapError>,
-    count: usize,
-) -> Result<(), WrapError> {
-    let numbers = given?;
+fn assert_count(rt: &impl Abort, given: Result<Vec<usize>, WrapError>, count: usize) {
+    let numbers = given.expect(rt, "memory");
     assert!(rt; numbers.len() == count);
-    Ok(())
+}
+
+/// So many copies of a text.
+fn many(rt: &(impl Abort + AllocGlobal), text: &str) -> String {
+    text.repeat(rt.alloc(), MANY).expect(rt, text)
+}
+
+/// So many words.
+fn many_words(rt: &(impl Abort + AllocGlobal), count: usize) -> Vec<Word<'static>> {
+    vec![in rt.alloc(); WORD; count].expect(rt, "words")
+}
+
+/// So many widths of lines, each with room for one word.
+fn many_widths(rt: &(impl Abort + AllocGlobal), count: usize) -> Vec<usize> {
+    vec![in rt.alloc(); 4; count].expect(rt, "widths")
 }
 
 #[test]
-fn many_words_are_found(rt: HostRuntime) -> Result<(), Fail> {
-    let line = "ab ".repeat(rt.alloc(), MANY)?;
+fn many_words_are_found(rt: HostRuntime) {
+    let line = many(&rt, "ab ");
     let words = plain_find_words(rt.alloc(), rt.alloc(), WordSeparator::AsciiSpace, &line);
-    assert_many(&rt, words, "ab", " ")?;
-    Ok(())
+    assert_many(&rt, words, "ab", " ");
 }
 
 #[test]
-fn many_words_are_split_and_broken(rt: HostRuntime) -> Result<(), Fail> {
-    let words = vec![in rt.alloc(); WORD; MANY]?;
+fn many_words_are_split_and_broken(rt: HostRuntime) {
+    let words = many_words(&rt, MANY);
     let pieces = plain_split(rt.alloc(), &words, &WordSplitter::HyphenSplitter);
-    assert_many(&rt, pieces, "ab", " ")?;
-    assert_many(&rt, plain_break(rt.alloc(), &words, 2), "ab", " ")?;
-    Ok(())
+    assert_many(&rt, pieces, "ab", " ");
+    assert_many(&rt, plain_break(rt.alloc(), &words, 2), "ab", " ");
 }
 
 /// Each third offset of so many.
@@ -106,97 +102,84 @@ fn every_third(alloc: Global, count: usize) -> Result<Vec<usize>, AllocError> {
 }
 
 #[test]
-fn a_line_is_cut_at_many_offsets(rt: HostRuntime) -> Result<(), Fail> {
-    let line = "ab ".repeat(rt.alloc(), MANY)?;
-    let offsets = every_third(rt.alloc(), line.len())?;
+fn a_line_is_cut_at_many_offsets(rt: HostRuntime) {
+    let line = many(&rt, "ab ");
+    let offsets = every_third(rt.alloc(), line.len()).expect(&rt, "offsets");
     let words = plain_find_words_at(&rt, rt.alloc(), &line, &offsets);
-    assert_many(&rt, words, "ab", " ")?;
-    Ok(())
+    assert_many(&rt, words, "ab", " ");
 }
 
 /// Asserts that a word has so many points, and is split at them into pieces with this text each.
-fn assert_split(
-    rt: &(impl Abort + AllocGlobal),
-    word: &str,
-    splitter: WordSplitter,
-    piece: &str,
-) -> Result<(), WrapError> {
-    assert_count(rt, plain_points(rt.alloc(), &splitter, word), MANY - 1)?;
+fn assert_split(rt: &(impl Abort + AllocGlobal), word: &str, splitter: WordSplitter, piece: &str) {
+    assert_count(rt, plain_points(rt.alloc(), &splitter, word), MANY - 1);
     let pieces = plain_split(rt.alloc(), &[Word::from(word)], &splitter);
-    assert_many(rt, pieces, piece, "")
+    assert_many(rt, pieces, piece, "");
 }
 
 #[test]
-fn a_word_is_split_into_many_pieces(rt: HostRuntime) -> Result<(), Fail> {
-    let word = "a-".repeat(rt.alloc(), MANY)?;
-    assert_split(&rt, &word, WordSplitter::HyphenSplitter, "a-")?;
-    Ok(())
+fn a_word_is_split_into_many_pieces(rt: HostRuntime) {
+    let word = many(&rt, "a-");
+    assert_split(&rt, &word, WordSplitter::HyphenSplitter, "a-");
 }
 
 #[test]
-fn a_word_is_broken_into_many_pieces(rt: HostRuntime) -> Result<(), Fail> {
-    let word = "あ".repeat(rt.alloc(), MANY)?;
+fn a_word_is_broken_into_many_pieces(rt: HostRuntime) {
+    let word = many(&rt, "あ");
     let pieces = plain_break(rt.alloc(), &[Word::from(word.as_str())], 2);
-    assert_many(&rt, pieces, "あ", "")?;
-    Ok(())
+    assert_many(&rt, pieces, "あ", "");
 }
 
 #[test]
-fn a_caller_gives_many_cuts_and_points(rt: HostRuntime) -> Result<(), Fail> {
-    let text = "é".repeat(rt.alloc(), MANY)?;
+fn a_caller_gives_many_cuts_and_points(rt: HostRuntime) {
+    let text = many(&rt, "é");
     let cuts = LineCuts::new(rt.alloc(), cut_characters);
     let words = plain_find_words(rt.alloc(), rt.alloc(), WordSeparator::Custom(cuts), &text);
-    assert_many(&rt, words, "é", "")?;
+    assert_many(&rt, words, "é", "");
     let points = WordCuts::new(rt.alloc(), split_characters);
-    assert_split(&rt, &text, WordSplitter::Custom(points), "é")?;
-    Ok(())
+    assert_split(&rt, &text, WordSplitter::Custom(points), "é");
 }
 
 #[test]
-fn a_caller_gives_many_ends(rt: HostRuntime) -> Result<(), Fail> {
-    let words = vec![in rt.alloc(); WORD; MANY]?;
+fn a_caller_gives_many_ends(rt: HostRuntime) {
+    let words = many_words(&rt, MANY);
     let algorithm = WrapAlgorithm::Custom(LineEnds::new(rt.alloc(), end_each));
     assert_single(
         &rt,
         plain_divide(rt.alloc(), algorithm, &words, &[80]),
         MANY,
-    )?;
-    Ok(())
+    );
 }
 
 /// A long text with escape sequences, without them.
 #[test]
-fn a_long_text_is_stripped(rt: HostRuntime) -> Result<(), Fail> {
-    let coloured = "a\x1b[1m".repeat(rt.alloc(), MANY)?;
-    let visible = "a".repeat(rt.alloc(), MANY)?;
-    assert_text(
+fn a_long_text_is_stripped(rt: HostRuntime) {
+    let coloured = many(&rt, "a\x1b[1m");
+    let visible = many(&rt, "a");
+    assert_gives(
         &rt,
         "coloured",
         plain_strip(rt.alloc(), &coloured),
         &visible,
-    )?;
-    Ok(())
+    );
 }
 
 /// Lines of many widths, each with room for one word.
 #[test]
-fn lines_have_many_widths(rt: HostRuntime) -> Result<(), Fail> {
-    let words = vec![in rt.alloc(); WORD; MANY]?;
-    let widths = vec![in rt.alloc(); 4; MANY]?;
-    assert_single(&rt, plain_first_fit(rt.alloc(), &words, &widths), MANY)?;
+fn lines_have_many_widths(rt: HostRuntime) {
+    let words = many_words(&rt, MANY);
+    let widths = many_widths(&rt, MANY);
+    assert_single(&rt, plain_first_fit(rt.alloc(), &words, &widths), MANY);
     let lines = plain_optimal_fit(rt.alloc(), &words, &widths, &Penalties::new());
-    assert_single(&rt, lines, MANY)?;
-    Ok(())
+    assert_single(&rt, lines, MANY);
 }
 
 /// Where later widths differ, the least cost is found by the table, whose rows grow with the words,
 /// so there are fewer of them.
 #[test]
-fn a_table_may_be_large(rt: HostRuntime) -> Result<(), Fail> {
-    let words = vec![in rt.alloc(); WORD; MANY / 6]?;
-    let mut widths = vec![in rt.alloc(); 4; MANY / 6]?;
+fn a_table_may_be_large(rt: HostRuntime) {
+    let words = many_words(&rt, MANY / 6);
+    let mut widths = vec![in rt.alloc(); 4; MANY / 6].expect(&rt, "widths");
     widths[1] = 3;
     let lines = plain_optimal_fit(rt.alloc(), &words, &widths, &Penalties::new());
-    assert_single(&rt, lines, MANY / 6)?;
-    Ok(())
+    assert_single(&rt, lines, MANY / 6);
 }

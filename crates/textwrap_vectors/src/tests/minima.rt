@@ -8,7 +8,6 @@ use fakes::heap::Heap;
 use std::alloc::{AllocError, Allocator, Global};
 use std::fmt::Debug;
 use std::process::Abort;
-use std::test::Fail;
 use textwrap::WrapError;
 use textwrap::minima::{
     CostSource, LineCosts, Minimum, Steps, is_queue_case, queue_search, table_minima,
@@ -17,7 +16,7 @@ use textwrap::words::Fragment;
 use textwrap::wrap_algorithms::Penalties;
 
 /// Whether the minima have these starts and costs.
-fn are_minima(minima: &[Minimum], expected: &[(usize, u128)]) -> bool {
+pub(super) fn are_minima(minima: &[Minimum], expected: &[(usize, u128)]) -> bool {
     for (minimum, (start, cost)) in minima.iter().zip(expected) {
         if minimum.start != *start || minimum.cost != *cost {
             return false;
@@ -32,10 +31,9 @@ pub(super) fn assert_minima<R: Copy + Debug>(
     row: R,
     given: Result<Vec<Minimum>, WrapError>,
     expected: &[(usize, u128)],
-) -> Result<(), WrapError> {
-    let minima = given?;
+) {
+    let minima = given.expect(rt, "memory");
     assert!(rt; are_minima(&minima, expected), "{row:?} {minima:?}");
-    Ok(())
 }
 
 const TABLES: &[(&[Block], &[usize], usize, &[(usize, u128)], u128)] = &[
@@ -67,7 +65,7 @@ const TABLES: &[(&[Block], &[usize], usize, &[(usize, u128)], u128)] = &[
 /// Entry j of the table is the least cost of the first j fragments, and the earliest start of a
 /// last line that reaches it. A table of n fragments asks for n(n + 1)/2 line costs.
 #[test]
-fn tables_have_the_least_costs_and_the_earliest_starts(rt: HostRuntime) -> Result<(), Fail> {
+fn tables_have_the_least_costs_and_the_earliest_starts(rt: HostRuntime) {
     for &(blocks, line_widths, fraction, expected, count) in TABLES {
         let penalties = Penalties {
             short_last_line_fraction: fraction,
@@ -75,9 +73,19 @@ fn tables_have_the_least_costs_and_the_earliest_starts(rt: HostRuntime) -> Resul
         };
         let (minima, asked) = plain_table(rt.alloc(), blocks, line_widths, &penalties);
         assert_row(&rt, blocks, asked == count);
-        assert_minima(&rt, blocks, minima, expected)?;
+        assert_minima(&rt, blocks, minima, expected);
     }
-    Ok(())
+}
+
+/// The least cost of all fragments: that of the last prefix.
+pub(super) fn least_cost<T: Fragment>(
+    rt: &(impl Abort + AllocGlobal),
+    fragments: &[T],
+    line_width: usize,
+    penalties: &Penalties,
+) -> Option<u128> {
+    let (minima, _asked) = plain_table(rt.alloc(), fragments, &[line_width], penalties);
+    Some(minima.expect(rt, "memory").last()?.cost)
 }
 
 /// Where a line starts and ends, its number, what stands before it, and what the candidate costs.
@@ -91,8 +99,9 @@ pub(super) fn assert_candidates(
     line_widths: &[usize],
     penalties: &Penalties,
     candidates: &[Candidate],
-) -> Result<(), WrapError> {
-    let mut costs = LineCosts::new(rt.alloc(), blocks, line_widths, penalties)?;
+) {
+    let made = LineCosts::new(rt.alloc(), blocks, line_widths, penalties);
+    let mut costs = made.expect(rt, "memory");
     assert_row(
         rt,
         blocks,
@@ -108,7 +117,6 @@ pub(super) fn assert_candidates(
             candidate == expected && is_counted,
         );
     }
-    Ok(())
 }
 
 const CANDIDATES: &[Candidate] = &[
@@ -130,9 +138,8 @@ const CANDIDATES: &[Candidate] = &[
 /// A candidate is what stands before a line and the cost of the line, and each that is asked for
 /// counts.
 #[test]
-fn a_source_counts_what_it_is_asked(rt: HostRuntime) -> Result<(), Fail> {
-    assert_candidates(&rt, FALLING, &[10], &Penalties::new(), CANDIDATES)?;
-    Ok(())
+fn a_source_counts_what_it_is_asked(rt: HostRuntime) {
+    assert_candidates(&rt, FALLING, &[10], &Penalties::new(), CANDIDATES);
 }
 
 const COUNTS: &[(u128, u128, u128, u128)] = &[
@@ -152,24 +159,24 @@ const COUNTS: &[(u128, u128, u128, u128)] = &[
 
 /// The count to which this much and more was added, and the count after a table that went on with it.
 /// A table of two fragments takes three steps.
-fn counts_of(alloc: Global, count: u128, more: u128) -> Result<(u128, u128), WrapError> {
+fn counts_of(rt: &(impl Abort + AllocGlobal), count: u128, more: u128) -> (u128, u128) {
     let blocks = [Block(1, 0, 0), Block(1, 0, 0)];
     let mut steps = Steps::new();
     steps.add(count);
     steps.add(more);
     let before = steps.count();
-    table_minima(alloc, &blocks, &[10], &Penalties::new(), &mut steps)?;
-    Ok((before, steps.count()))
+    let table = table_minima(rt.alloc(), &blocks, &[10], &Penalties::new(), &mut steps);
+    assert!(rt; table.is_ok());
+    (before, steps.count())
 }
 
 /// A count that reaches the largest number stays there, also where a table goes on with it.
 #[test]
-fn a_count_stays_at_its_end(rt: HostRuntime) -> Result<(), Fail> {
+fn a_count_stays_at_its_end(rt: HostRuntime) {
     for &(count, more, expected, after_table) in COUNTS {
-        let counts = counts_of(rt.alloc(), count, more)?;
+        let counts = counts_of(&rt, count, more);
         assert_row(&rt, (count, more), counts == (expected, after_table));
     }
-    Ok(())
 }
 
 /// The greatest number of a queue case.
@@ -255,10 +262,10 @@ fn assert_same<R: Copy + Debug>(
     row: R,
     first: Result<Vec<Minimum>, WrapError>,
     second: Result<Vec<Minimum>, WrapError>,
-) -> Result<(), WrapError> {
-    let (first, second) = (first?, second?);
+) {
+    let first = first.expect(rt, "memory");
+    let second = second.expect(rt, "memory");
     assert!(rt; first.as_slice() == second.as_slice(), "{row:?}");
-    Ok(())
 }
 
 /// Asserts that these are a queue case, in which the search gives the list of the table: each start
@@ -268,10 +275,10 @@ pub(super) fn assert_agreed<T: Fragment>(
     fragments: &[T],
     line_widths: &[usize],
     penalties: &Penalties,
-) -> Result<(), WrapError> {
+) {
     let (table, _asked) = plain_table(rt.alloc(), fragments, line_widths, penalties);
     let (minima, _asked) = plain_queue(rt, rt.alloc(), fragments, line_widths, penalties);
-    assert_same(rt, line_widths, minima, table)
+    assert_same(rt, line_widths, minima, table);
 }
 
 /// Fragments of a small generator: each width is drawn up to its mask, and the first raised.
@@ -315,15 +322,10 @@ const MASKS: &[([usize; 3], usize)] = &[
 const WIDTHS: &[&[usize]] = &[&[80], &[20], &[5, 20], &[20, 5], &[0, 9], &[], &[7, 7, 7]];
 
 /// Asserts that the search and the table agree on these fragments, whatever the line widths.
-fn assert_agreed_at_all(
-    rt: &(impl Abort + AllocGlobal),
-    blocks: &[Block],
-    penalties: &Penalties,
-) -> Result<(), WrapError> {
+fn assert_agreed_at_all(rt: &(impl Abort + AllocGlobal), blocks: &[Block], penalties: &Penalties) {
     for line_widths in WIDTHS {
-        assert_agreed(rt, blocks, line_widths, penalties)?;
+        assert_agreed(rt, blocks, line_widths, penalties);
     }
-    Ok(())
 }
 
 /// Asserts that the search and the table agree on so many fragments with these masks.
@@ -332,23 +334,22 @@ fn assert_agreed_on_drawn(
     count: usize,
     masks: [usize; 3],
     raised: usize,
-) -> Result<(), WrapError> {
-    let blocks = drawn_blocks(rt.alloc(), 7, count, masks, raised)?;
-    assert_agreed_at_all(rt, &blocks, &Penalties::new())?;
-    assert_agreed_at_all(rt, &blocks, &all_penalties(0))?;
-    assert_agreed_at_all(rt, &blocks, &all_penalties(LIMIT))
+) {
+    let blocks = drawn_blocks(rt.alloc(), 7, count, masks, raised).expect(rt, "blocks");
+    assert_agreed_at_all(rt, &blocks, &Penalties::new());
+    assert_agreed_at_all(rt, &blocks, &all_penalties(0));
+    assert_agreed_at_all(rt, &blocks, &all_penalties(LIMIT));
 }
 
 /// In the queue case the search gives the list of the table, ties included, whatever the first line
 /// width.
 #[test]
-fn the_search_agrees_with_the_table(rt: HostRuntime) -> Result<(), Fail> {
+fn the_search_agrees_with_the_table(rt: HostRuntime) {
     for count in [0, 1, 2, 3, 4, 40] {
         for &(masks, raised) in MASKS {
-            assert_agreed_on_drawn(&rt, count, masks, raised)?;
+            assert_agreed_on_drawn(&rt, count, masks, raised);
         }
     }
-    Ok(())
 }
 
 /// What the search finds over line costs of these fragments, which are a queue case, and its steps.
@@ -378,7 +379,7 @@ fn found_by_search(rt: &(impl Abort + AllocGlobal), heap: &Heap) -> Result<usize
 /// The search is out of memory where either of its lists is refused: the one of what it finds, and
 /// the one of its stretches.
 #[test]
-fn a_refused_search_finds_nothing_else(rt: HostRuntime) -> Result<(), Fail> {
+fn a_refused_search_finds_nothing_else(rt: HostRuntime) {
     let heap = Heap::new(rt.alloc(), 0);
     for allowed in 0..2 {
         heap.allow(allowed);
@@ -386,15 +387,15 @@ fn a_refused_search_finds_nothing_else(rt: HostRuntime) -> Result<(), Fail> {
         assert!(rt; matches!(refused, Err(WrapError::Memory(_))), "{allowed}");
     }
     heap.allow(2);
-    assert!(rt; found_by_search(&rt, &heap)? == 10 && heap.left() == 0);
-    Ok(())
+    assert!(rt; matches!(found_by_search(&rt, &heap), Ok(10)));
+    assert!(rt; heap.left() == 0);
 }
 
 /// The line costs that were asked for when each of the allocations was refused. The first are made
 /// before any is asked for.
-const STEPS_OF_TABLE: [u128; 8] = [0, 0, 0, 0, 0, 10, 36, 45];
+const STEPS_OF_TABLE: &[u128] = &[0, 0, 0, 0, 0, 10, 36, 45];
 
-const STEPS_OF_QUEUE: [u128; 6] = [0, 0, 0, 0, 0, 1];
+const STEPS_OF_QUEUE: &[u128] = &[0, 0, 0, 0, 0, 1];
 
 /// The line costs that the table asked for until it was refused.
 fn refused_table(heap: &Heap) -> Option<u128> {
@@ -408,63 +409,60 @@ fn refused_queue(rt: &impl Abort, heap: &Heap) -> Option<u128> {
     minima.is_err().then_some(asked)
 }
 
-/// Where memory runs out, the line costs that were asked for until then have been counted.
+/// Where memory runs out in the table, the line costs that were asked for until then have been
+/// counted.
 #[test]
-fn steps_are_counted_until_memory_runs_out(rt: HostRuntime) {
+fn steps_of_the_table_are_counted_until_memory_runs_out(rt: HostRuntime) {
     let heap = Heap::new(rt.alloc(), 0);
-    for (allowed, expected) in STEPS_OF_TABLE.into_iter().enumerate() {
+    for (allowed, expected) in STEPS_OF_TABLE.iter().enumerate() {
         heap.allow(allowed);
-        assert_row(&rt, allowed, refused_table(&heap) == Some(expected));
-    }
-    for (allowed, expected) in STEPS_OF_QUEUE.into_iter().enumerate() {
-        heap.allow(allowed);
-        assert_row(&rt, allowed, refused_queue(&rt, &heap) == Some(expected));
+        assert_row(&rt, allowed, refused_table(&heap) == Some(*expected));
     }
 }
 
-/// The line costs that the table asks for, on lines of 80, and those that `queue_minima` asks for.
-/// Asserts that both give these minima.
-fn steps_of_both(
-    rt: &(impl Abort + AllocGlobal),
-    blocks: &[Block],
-    minima: &[Minimum],
-) -> Result<(u128, u128), WrapError> {
-    let (table, of_table) = plain_table(rt.alloc(), blocks, &[80], &Penalties::new());
-    assert_row(rt, "table", table?.as_slice() == minima);
-    let (again, of_queue) = plain_queue(rt, rt.alloc(), blocks, &[80], &Penalties::new());
-    assert_row(rt, "queue", again?.as_slice() == minima);
-    Ok((of_table, of_queue))
+/// The same in the search.
+#[test]
+fn steps_of_the_search_are_counted_until_memory_runs_out(rt: HostRuntime) {
+    let heap = Heap::new(rt.alloc(), 0);
+    for (allowed, expected) in STEPS_OF_QUEUE.iter().enumerate() {
+        heap.allow(allowed);
+        assert_row(&rt, allowed, refused_queue(&rt, &heap) == Some(*expected));
+    }
+}
+
+/// The line costs that the table asks for, on lines of 80. Asserts that it gives these minima.
+fn steps_of_table(rt: &(impl Abort + AllocGlobal), blocks: &[Block], minima: &[Minimum]) -> u128 {
+    let (table, asked) = plain_table(rt.alloc(), blocks, &[80], &Penalties::new());
+    assert_row(rt, asked, table.expect(rt, "memory").as_slice() == minima);
+    asked
+}
+
+/// The line costs that `queue_minima` asks for, on lines of 80. Asserts that it gives these minima.
+fn steps_of_queue(rt: &(impl Abort + AllocGlobal), blocks: &[Block], minima: &[Minimum]) -> u128 {
+    let (again, asked) = plain_queue(rt, rt.alloc(), blocks, &[80], &Penalties::new());
+    assert_row(rt, asked, again.expect(rt, "memory").as_slice() == minima);
+    asked
 }
 
 /// The steps of a division into lines of this width.
-fn steps_of_division(
-    alloc: Global,
-    blocks: &[Block],
-    line_width: usize,
-) -> Result<u128, WrapError> {
-    let (lines, asked) = plain_optimal_fit_counted(alloc, blocks, &[line_width], &Penalties::new());
-    lines?;
-    Ok(asked)
+fn steps_of_division(rt: &(impl Abort + AllocGlobal), blocks: &[Block], line_width: usize) -> u128 {
+    let penalties = Penalties::new();
+    let (lines, asked) = plain_optimal_fit_counted(rt.alloc(), blocks, &[line_width], &penalties);
+    assert!(rt; lines.is_ok());
+    asked
 }
 
 /// Of 1000 fragments the search asks for at most 30,000 line costs, where the table asks for
 /// 500,500. That all three calls by the search count the same shows that none searches uncounted.
 #[test]
-fn the_search_asks_for_few_line_costs(rt: HostRuntime) -> Result<(), Fail> {
-    let blocks = vec![in rt.alloc(); Block(3, 1, 0); 1000]?;
-    let (minima, steps) = searched(&rt, rt.alloc(), &blocks, &[80], &Penalties::new())?;
+fn the_search_asks_for_few_line_costs(rt: HostRuntime) {
+    let blocks = vec![in rt.alloc(); Block(3, 1, 0); 1000].expect(&rt, "blocks");
+    let found = searched(&rt, rt.alloc(), &blocks, &[80], &Penalties::new());
+    let (minima, steps) = found.expect(&rt, "memory");
     assert_row(&rt, steps, (1000..=30_000).contains(&steps));
-    assert_row(
-        &rt,
-        steps,
-        steps_of_both(&rt, &blocks, &minima)? == (500_500, steps),
-    );
-    assert_row(
-        &rt,
-        steps,
-        steps_of_division(rt.alloc(), &blocks, 80)? == steps,
-    );
-    Ok(())
+    assert_row(&rt, steps, steps_of_table(&rt, &blocks, &minima) == 500_500);
+    assert_row(&rt, steps, steps_of_queue(&rt, &blocks, &minima) == steps);
+    assert_row(&rt, steps, steps_of_division(&rt, &blocks, 80) == steps);
 }
 
 const STEPS: &[(&[Block], u128, u128)] = &[
@@ -476,12 +474,11 @@ const STEPS: &[(&[Block], u128, u128)] = &[
 /// Outside the queue case the table is asked: 15 line costs of five fragments. No fragments need
 /// none, and one needs at most 12.
 #[test]
-fn steps_are_those_of_the_case(rt: HostRuntime) -> Result<(), Fail> {
+fn steps_are_those_of_the_case(rt: HostRuntime) {
     for &(blocks, least, most) in STEPS {
-        let count = steps_of_division(rt.alloc(), blocks, 10)?;
+        let count = steps_of_division(&rt, blocks, 10);
         assert_row(&rt, (blocks, count), count >= least && count <= most);
     }
-    Ok(())
 }
 
 /// Lines that cost the square of how many fragments they have, and a count of what was asked.
@@ -534,13 +531,12 @@ fn are_of_one_fragment_each(minima: &[Minimum]) -> bool {
 /// Where a line costs the square of its length, lines of one fragment are the cheapest: entry j
 /// starts at j - 1 and costs j. A table of 1000 fragments would ask for 500500 line costs.
 #[test]
-fn a_queue_searches_any_source_that_suits_it(rt: HostRuntime) -> Result<(), Fail> {
+fn a_queue_searches_any_source_that_suits_it(rt: HostRuntime) {
     let mut squares = Squares {
         ends: 1000,
         asked: 0,
     };
-    let minima = queue_search(rt.alloc(), &mut squares)?;
+    let minima = queue_search(rt.alloc(), &mut squares).expect(&rt, "minima");
     assert_row(&rt, "minima", are_of_one_fragment_each(&minima));
     assert_row(&rt, squares.asked, squares.asked <= 30_000);
-    Ok(())
 }

@@ -1,12 +1,10 @@
 //! The pieces that words are split and broken into.
 use super::plain::{
-    assert_numbers, assert_row, assert_words, plain_break, plain_break_apart, plain_points,
-    plain_split,
+    assert_found, assert_gives_numbers, assert_gives_words, assert_row, plain_break,
+    plain_break_apart, plain_points, plain_split, plain_words,
 };
 use std::alloc::Global;
-use std::test::Fail;
-use textwrap::word_splitters::split_words;
-use textwrap::words::{Word, break_words};
+use textwrap::words::Word;
 use textwrap::{WordSplitter, WrapError};
 
 const SPLIT_POINTS: &[(&str, &[usize])] = &[
@@ -29,20 +27,23 @@ const SPLIT_POINTS: &[(&str, &[usize])] = &[
 /// A word may be split after each hyphen between alphanumeric characters, and without hyphenation
 /// nowhere.
 #[test]
-fn a_word_is_split_after_hyphens_between_alphanumerics(rt: HostRuntime) -> Result<(), Fail> {
+fn a_word_is_split_after_hyphens_between_alphanumerics(rt: HostRuntime) {
     for &(word, wanted) in SPLIT_POINTS {
         let points = plain_points(rt.alloc(), &WordSplitter::HyphenSplitter, word);
-        assert_numbers(&rt, word, points, wanted)?;
+        assert_gives_numbers(&rt, word, points, wanted);
         let points = plain_points(rt.alloc(), &WordSplitter::NoHyphenation, word);
-        assert_numbers(&rt, word, points, &[])?;
+        assert_gives_numbers(&rt, word, points, &[]);
     }
-    Ok(())
 }
 
 /// The pieces that the words of these texts are split into.
-fn split_texts<'t>(alloc: Global, texts: &[&'t str]) -> Result<Vec<Word<'t>>, WrapError> {
-    let words = texts.iter().map(|text| Word::from(*text));
-    Ok(split_words(alloc, words, &WordSplitter::HyphenSplitter)?)
+fn split_texts<'t>(
+    alloc: Global,
+    texts: &[&'t str],
+    splitter: &WordSplitter,
+) -> Result<Vec<Word<'t>>, WrapError> {
+    let words = plain_words(alloc, texts)?;
+    plain_split(alloc, &words, splitter)
 }
 
 const SPLIT_WORDS: &[(&[&str], &[&str])] = &[
@@ -58,28 +59,28 @@ const SPLIT_WORDS: &[(&[&str], &[&str])] = &[
 
 /// A piece before a split point ends in its hyphen; the last one keeps the blanks of the word.
 #[test]
-fn words_are_split_into_their_pieces(rt: HostRuntime) -> Result<(), Fail> {
+fn words_are_split_into_their_pieces(rt: HostRuntime) {
     for &(texts, wanted) in SPLIT_WORDS {
-        assert_words(&rt, texts, split_texts(rt.alloc(), texts), wanted)?;
+        let pieces = split_texts(rt.alloc(), texts, &WordSplitter::HyphenSplitter);
+        assert_gives_words(&rt, texts, pieces, wanted);
     }
-    Ok(())
 }
 
 /// Without hyphenation each word is its one piece.
 #[test]
-fn words_stay_whole_without_hyphenation(rt: HostRuntime) -> Result<(), Fail> {
-    let words = [Word::from("foo-bar"), Word::from("   "), Word::from("")];
-    let pieces = plain_split(rt.alloc(), &words, &WordSplitter::NoHyphenation);
-    assert_words(&rt, "words", pieces, &["foo-bar", "   ", ""])?;
-    Ok(())
+fn words_stay_whole_without_hyphenation(rt: HostRuntime) {
+    let texts = ["foo-bar", "   ", ""];
+    let pieces = split_texts(rt.alloc(), &texts, &WordSplitter::NoHyphenation);
+    assert_gives_words(&rt, "words", pieces, &texts);
 }
 
 /// Built-in splitters are equal if they are the same.
 #[test]
-fn splitters_are_equal_where_their_cases_are(rt: HostRuntime) -> Result<(), Fail> {
-    assert!(rt; WordSplitter::NoHyphenation == WordSplitter::NoHyphenation.clone()?);
+fn splitters_are_equal_where_their_cases_are(rt: HostRuntime) {
+    assert!(rt;
+        WordSplitter::NoHyphenation == WordSplitter::NoHyphenation.clone().expect(&rt, "splitter")
+    );
     assert!(rt; WordSplitter::NoHyphenation != WordSplitter::HyphenSplitter);
-    Ok(())
 }
 
 const BROKEN_TEXTS: &[(&str, usize, &[&str])] = &[
@@ -127,17 +128,16 @@ const BROKEN_TEXTS: &[(&str, usize, &[&str])] = &[
 /// A word is cut before each visible character with which a piece that has columns would pass the
 /// limit. A piece of one character may pass it.
 #[test]
-fn a_word_is_cut_where_it_would_pass_the_limit(rt: HostRuntime) -> Result<(), Fail> {
+fn a_word_is_cut_where_it_would_pass_the_limit(rt: HostRuntime) {
     for &(text, line_width, wanted) in BROKEN_TEXTS {
         let pieces = plain_break_apart(rt.alloc(), Word::from(text), line_width);
-        assert_words(&rt, text, pieces, wanted)?;
+        assert_gives_words(&rt, text, pieces, wanted);
     }
-    Ok(())
 }
 
 /// The last piece has the whitespace and the penalty of the word, and each piece its own width.
 #[test]
-fn the_last_piece_has_the_ends_of_the_word(rt: HostRuntime) -> Result<(), Fail> {
+fn the_last_piece_has_the_ends_of_the_word(rt: HostRuntime) {
     let word = Word {
         word: "abcd",
         whitespace: "  ",
@@ -154,7 +154,6 @@ fn the_last_piece_has_the_ends_of_the_word(rt: HostRuntime) -> Result<(), Fail> 
     assert_eq!(rt; pieces.next(), Some(last));
     assert_eq!(rt; pieces.next(), None);
     assert_eq!(rt; pieces.next(), None);
-    Ok(())
 }
 
 const BROKEN_WORDS: &[(&[&str], usize, &[&str])] = &[
@@ -174,18 +173,17 @@ fn break_texts<'t>(
     texts: &[&'t str],
     line_width: usize,
 ) -> Result<Vec<Word<'t>>, WrapError> {
-    let words = texts.iter().map(|text| Word::from(*text));
-    Ok(break_words(alloc, words, line_width)?)
+    let words = plain_words(alloc, texts)?;
+    plain_break(alloc, &words, line_width)
 }
 
 /// The words that are wider than the limit are broken, and the others stay.
 #[test]
-fn words_that_are_too_wide_are_broken(rt: HostRuntime) -> Result<(), Fail> {
+fn words_that_are_too_wide_are_broken(rt: HostRuntime) {
     for &(texts, line_width, wanted) in BROKEN_WORDS {
         let pieces = break_texts(rt.alloc(), texts, line_width);
-        assert_words(&rt, texts, pieces, wanted)?;
+        assert_gives_words(&rt, texts, pieces, wanted);
     }
-    Ok(())
 }
 
 const WORDS_OF_ANY_WIDTH: &[(&str, usize, usize, usize)] = &[
@@ -206,22 +204,21 @@ fn is_one_piece(
     width: usize,
 ) -> Result<bool, WrapError> {
     let pieces = plain_break(alloc, &[word], line_width)?;
-    Ok(pieces.as_slice() == [Word { width, ..word }].as_slice())
+    Ok(pieces.len() == 1 && pieces[0] == Word { width, ..word })
 }
 
 /// Whether a word is broken is decided by its field `width`, and a piece has the width of its text.
 #[test]
-fn a_word_is_kept_by_its_width_alone(rt: HostRuntime) -> Result<(), Fail> {
+fn a_word_is_kept_by_its_width_alone(rt: HostRuntime) {
     for &(text, width, line_width, expected) in WORDS_OF_ANY_WIDTH {
         let word = Word {
             width,
             ..Word::from(text)
         };
-        assert_row(
+        assert_found(
             &rt,
             word,
-            is_one_piece(rt.alloc(), word, line_width, expected)?,
+            is_one_piece(rt.alloc(), word, line_width, expected),
         );
     }
-    Ok(())
 }

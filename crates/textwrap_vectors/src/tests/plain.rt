@@ -1,8 +1,8 @@
 //! The calls of the library without their clauses, and the assertions that the tests share.
 //!
 //! A clause of what a function calls is read in the proof of that function, and a value that lives
-//! over a `?` has to be let go there. So each call of the library stands here once, and what a call
-//! gives is handed to an assertion as it is, before anyone asks whether there was memory for it.
+//! there has to be let go at each `?`. So each call of the library stands here once, and what a call
+//! gives is handed to an assertion as it is: the assertion expects that there was memory for it.
 use super::words::{are_offsets, are_words};
 use std::alloc::{Allocator, Global};
 use std::borrow::CowStr;
@@ -26,40 +26,46 @@ pub(super) fn assert_row<R: Copy + Debug>(rt: &impl Abort, row: R, holds: bool) 
     assert!(rt; holds, "{row:?}");
 }
 
+/// Asserts that what a row says was found to hold.
+pub(super) fn assert_found<R: Copy + Debug>(
+    rt: &impl Abort,
+    row: R,
+    holds: Result<bool, WrapError>,
+) {
+    assert!(rt; holds.expect(rt, "memory"), "{row:?}");
+}
+
 /// Asserts that a call on this input gave the expected text.
-pub(super) fn assert_text(
+pub(super) fn assert_gives(
     rt: &impl Abort,
     input: &str,
     given: Result<String, WrapError>,
     expected: &str,
-) -> Result<(), WrapError> {
-    let given = given?;
+) {
+    let given = given.expect(rt, input);
     assert_eq!(rt; given.as_str(), expected, "{input:?}");
-    Ok(())
 }
 
 /// Asserts that a call on this input gave the words or pieces of these texts.
-pub(super) fn assert_words<R: Copy + Debug>(
+pub(super) fn assert_gives_words<R: Copy + Debug>(
     rt: &impl Abort,
     input: R,
     given: Result<Vec<Word<'_>>, WrapError>,
     texts: &[&str],
-) -> Result<(), WrapError> {
-    let given = given?;
+) {
+    let given = given.expect(rt, "memory");
     assert!(rt; are_words(&given, texts), "{input:?} has {given:?}");
-    Ok(())
 }
 
 /// Asserts that a call on this input gave these numbers, such as the points of a word.
-pub(super) fn assert_numbers(
+pub(super) fn assert_gives_numbers(
     rt: &impl Abort,
     input: &str,
     given: Result<Vec<usize>, WrapError>,
     expected: &[usize],
-) -> Result<(), WrapError> {
-    let given = given?;
+) {
+    let given = given.expect(rt, input);
     assert_eq!(rt; given.as_slice(), expected, "{input:?}");
-    Ok(())
 }
 
 /// Whether the lines have so many fragments each.
@@ -73,15 +79,14 @@ pub(super) fn have_lens<T>(lines: &[&[T]], lens: &[usize]) -> bool {
 }
 
 /// Asserts that a call gave lines of so many fragments each.
-pub(super) fn assert_lens<T, R: Copy + Debug>(
+pub(super) fn assert_gives_lens<T, R: Copy + Debug>(
     rt: &impl Abort,
     row: R,
     given: Result<Vec<&[T]>, WrapError>,
     lens: &[usize],
-) -> Result<(), WrapError> {
-    let given = given?;
+) {
+    let given = given.expect(rt, "memory");
     assert!(rt; have_lens(&given, lens), "{row:?}");
-    Ok(())
 }
 
 /// The visible characters of a text.
@@ -262,9 +267,9 @@ pub(super) fn plain_options<'a>(
         .wrap_algorithm(algorithm)
 }
 
-/// The same options once more.
-pub(super) fn plain_copy<'a>(options: &Options<'a>) -> Options<'a> {
-    Options::from(options)
+/// The same options at another width.
+pub(super) fn at_width<'a>(options: &Options<'a>, width: usize) -> Options<'a> {
+    Options::from(options).width(width)
 }
 
 /// The lines of a text.

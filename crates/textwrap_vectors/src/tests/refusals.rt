@@ -1,6 +1,6 @@
 //! Each call with each of its allocations refused in turn.
 use super::plain::{
-    plain_append, plain_break, plain_columns, plain_dedent, plain_divide, plain_fill,
+    assert_found, plain_append, plain_break, plain_columns, plain_dedent, plain_divide, plain_fill,
     plain_fill_slowly, plain_find_words, plain_find_words_at, plain_first_fit, plain_indent,
     plain_optimal_fit, plain_optimal_fit_counted, plain_options, plain_points, plain_queue,
     plain_refill, plain_split, plain_strip, plain_table, plain_unfill, plain_wrap,
@@ -10,7 +10,6 @@ use fakes::heap::Heap;
 use std::alloc::{AllocError, Global};
 use std::borrow::CowStr;
 use std::process::Abort;
-use std::test::Fail;
 use textwrap::minima::{CostSource, LineCosts, Minimum};
 use textwrap::word_separators::LineCuts;
 use textwrap::word_splitters::WordCuts;
@@ -24,34 +23,45 @@ trait Call {
     fn answer<R: Abort + AllocGlobal>(&self, rt: &R, heap: &Heap) -> Result<String, WrapError>;
 }
 
-/// Whether the call gave this text, or was out of memory: then there is no answer yet.
-fn is_given(given: Result<String, WrapError>, expected: &str) -> Result<Option<bool>, WrapError> {
+/// Whether the call gave this text; nothing where it was out of memory.
+fn is_given(given: Result<String, WrapError>, expected: &str) -> Option<bool> {
     match given {
-        Ok(answer) => Ok(Some(answer.as_str() == expected)),
-        Err(WrapError::Memory(_)) => Ok(None),
-        Err(error) => Err(error),
+        Ok(answer) => Some(answer.as_str() == expected),
+        Err(WrapError::Memory(_)) => None,
+        Err(WrapError::Overflow(_)) => Some(false),
     }
 }
 
-/// Calls with no allocation allowed, then with one more each time, until none is refused. Asserts
-/// that every refused call is out of memory, that there are so many of them, and that the last call
-/// gives the expected answer and makes all the allocations that are allowed.
+/// Calls with no allocation allowed, then with one more each time, until none is refused. Every
+/// refused call has to be out of memory. How many these are, if the last call gives the expected
+/// answer.
+fn refusals_of<C: Call>(
+    rt: &(impl Abort + AllocGlobal),
+    call: &C,
+    heap: &Heap,
+    expected: &str,
+) -> Option<usize> {
+    for allowed in 0..100 {
+        heap.allow(allowed);
+        if let Some(is_expected) = is_given(call.answer(rt, heap), expected) {
+            return is_expected.then_some(allowed);
+        }
+    }
+    None
+}
+
+/// Asserts that a call is refused so many times, before it gives the expected answer and makes all
+/// the allocations that are allowed.
 fn assert_refused<C: Call>(
     rt: &(impl Abort + AllocGlobal),
     call: &C,
     refusals: usize,
     expected: &str,
-) -> Result<(), WrapError> {
+) {
     let heap = Heap::new(rt.alloc(), 0);
-    for allowed in 0..100 {
-        heap.allow(allowed);
-        if let Some(is_expected) = is_given(call.answer(rt, &heap), expected)? {
-            assert!(rt; is_expected, "{expected:?}");
-            assert!(rt; allowed == refusals && heap.left() == 0, "{expected:?}");
-            return Ok(());
-        }
-    }
-    Err(WrapError::Memory(AllocError))
+    let counted = refusals_of(rt, call, &heap, expected);
+    assert!(rt; counted == Some(refusals), "{expected:?} after {counted:?}");
+    assert!(rt; heap.left() == 0, "{expected:?}");
 }
 
 /// A call on words.
@@ -155,11 +165,10 @@ const ON_WORDS: &[(OnWords, usize, &str)] = &[
 
 /// What finds, splits and breaks words is out of memory wherever one of its lists cannot grow.
 #[test]
-fn refused_words_are_no_other_words(rt: HostRuntime) -> Result<(), Fail> {
+fn refused_words_are_no_other_words(rt: HostRuntime) {
     for (call, refusals, expected) in ON_WORDS {
-        assert_refused(&rt, call, *refusals, expected)?;
+        assert_refused(&rt, call, *refusals, expected);
     }
-    Ok(())
 }
 
 /// A call that divides.
@@ -238,11 +247,10 @@ const ON_LINES: &[(OnLines, usize, &str)] = &[
 
 /// What divides is out of memory wherever one of its lists cannot grow.
 #[test]
-fn a_refused_division_is_no_other_division(rt: HostRuntime) -> Result<(), Fail> {
+fn a_refused_division_is_no_other_division(rt: HostRuntime) {
     for (call, refusals, expected) in ON_LINES {
-        assert_refused(&rt, call, *refusals, expected)?;
+        assert_refused(&rt, call, *refusals, expected);
     }
-    Ok(())
 }
 
 /// A call that finds least costs.
@@ -297,11 +305,10 @@ const ON_COSTS: &[(OnCosts, usize, &str)] = &[
 
 /// What finds least costs is out of memory wherever one of its lists cannot grow.
 #[test]
-fn refused_costs_are_no_other_costs(rt: HostRuntime) -> Result<(), Fail> {
+fn refused_costs_are_no_other_costs(rt: HostRuntime) {
     for (call, refusals, expected) in ON_COSTS {
-        assert_refused(&rt, call, *refusals, expected)?;
+        assert_refused(&rt, call, *refusals, expected);
     }
-    Ok(())
 }
 
 /// A call that gives the lines of a text.
@@ -432,11 +439,10 @@ const ON_TEXTS: &[(OnText, usize, &str)] = &[
 
 /// What gives lines is out of memory wherever one of its lists or texts cannot grow.
 #[test]
-fn refused_lines_are_no_other_lines(rt: HostRuntime) -> Result<(), Fail> {
+fn refused_lines_are_no_other_lines(rt: HostRuntime) {
     for (call, refusals, expected) in ON_TEXTS {
-        assert_refused(&rt, call, *refusals, expected)?;
+        assert_refused(&rt, call, *refusals, expected);
     }
-    Ok(())
 }
 
 /// Whether the list can grow no more once it is full.
@@ -449,25 +455,24 @@ fn is_full_at_its_end(mut lines: Vec<CowStr<'_, &Heap>, &Heap>) -> Result<bool, 
 
 /// Appends the lines of a text to a list of a heap that allows one allocation, and asserts that it
 /// was made, and that each line was allocated by the heap that was passed.
-fn assert_lent(rt: &(impl Abort + AllocGlobal), slowly: bool) -> Result<(), WrapError> {
+fn assert_lent(rt: &(impl Abort + AllocGlobal), slowly: bool) {
     let of_lines = Heap::new(rt.alloc(), 100);
     let of_list = Heap::new(rt.alloc(), 1);
     let mut lines = Vec::new(&of_list);
     let options = indented(10, WrapAlgorithm::new());
-    plain_append(&of_lines, TEXT, &options, slowly, &mut lines)?;
+    let appended = plain_append(&of_lines, TEXT, &options, slowly, &mut lines);
+    assert!(rt; appended.is_ok());
     assert!(rt; of_list.left() == 0);
     assert!(rt; of_lines.left() < 100_usize.saturating_sub(lines.len()));
-    assert!(rt; is_full_at_its_end(lines)?);
-    Ok(())
+    assert_found(rt, slowly, is_full_at_its_end(lines));
 }
 
 /// Appended lines lie in the allocator that is passed, and the list stays in its own: it can grow no
 /// more where that refuses.
 #[test]
-fn a_lent_list_keeps_its_allocator(rt: HostRuntime) -> Result<(), Fail> {
-    assert_lent(&rt, false)?;
-    assert_lent(&rt, true)?;
-    Ok(())
+fn a_lent_list_keeps_its_allocator(rt: HostRuntime) {
+    assert_lent(&rt, false);
+    assert_lent(&rt, true);
 }
 
 /// A call that fills a text.
@@ -519,11 +524,10 @@ const ON_FILLING: &[(OnFilling, usize, &str)] = &[
 
 /// What fills is out of memory wherever one of its lists or texts cannot grow.
 #[test]
-fn a_refused_text_is_no_other_text(rt: HostRuntime) -> Result<(), Fail> {
+fn a_refused_text_is_no_other_text(rt: HostRuntime) {
     for (call, refusals, expected) in ON_FILLING {
-        assert_refused(&rt, call, *refusals, expected)?;
+        assert_refused(&rt, call, *refusals, expected);
     }
-    Ok(())
 }
 
 /// A call on a text that is laid out already, or in columns.
@@ -583,9 +587,8 @@ const ON_LAYOUT: &[(OnLayout, usize, &str)] = &[
 /// What indents, refills or makes columns is out of memory wherever one of its lists or texts
 /// cannot grow.
 #[test]
-fn a_refused_layout_is_no_other_layout(rt: HostRuntime) -> Result<(), Fail> {
+fn a_refused_layout_is_no_other_layout(rt: HostRuntime) {
     for (call, refusals, expected) in ON_LAYOUT {
-        assert_refused(&rt, call, *refusals, expected)?;
+        assert_refused(&rt, call, *refusals, expected);
     }
-    Ok(())
 }

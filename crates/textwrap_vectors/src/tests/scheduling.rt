@@ -1,10 +1,10 @@
 //! The days that tasks are assigned to.
-use super::plain::assert_row;
+use super::plain::{assert_found, assert_row};
 use crate::{Day, Task, assign_days};
 use fakes::heap::Heap;
 use std::alloc::{AllocError, Allocator, Global};
 use std::process::Abort;
-use std::test::Fail;
+use textwrap::WrapError;
 
 /// A task: its name, and its hours of work, of sweeping and of cleanup.
 type Row<'a> = (&'a str, usize, usize, usize);
@@ -53,13 +53,12 @@ fn assert_days(
     rows: &[Row<'_>],
     day_length: usize,
     expected: Plan<'_>,
-) -> Result<(), AllocError> {
-    let days = plain_days(rt.alloc(), rt.alloc(), rows, day_length)?;
+) {
+    let days = plain_days(rt.alloc(), rt.alloc(), rows, day_length).expect(rt, "days");
     assert!(rt;
         are_days(&days, expected),
         "at {day_length} hours: {days:?}"
     );
-    Ok(())
 }
 
 /// The tasks of building a house.
@@ -170,11 +169,10 @@ const PLANS: &[(usize, &[Row<'_>], Plan<'_>)] = &[
 
 /// A day takes its tasks in order while they fit, and its first in any case.
 #[test]
-fn a_day_takes_tasks_while_they_fit(rt: HostRuntime) -> Result<(), Fail> {
+fn a_day_takes_tasks_while_they_fit(rt: HostRuntime) {
     for &(day_length, rows, plan) in PLANS {
-        assert_days(&rt, rows, day_length, plan)?;
+        assert_days(&rt, rows, day_length, plan);
     }
-    Ok(())
 }
 
 /// The names of all days, joined.
@@ -197,7 +195,7 @@ fn are_names(names: &[&str], rows: &[Row<'_>]) -> bool {
 }
 
 /// Whether the names of the days that the house takes are those of its tasks.
-fn keeps_all(alloc: Global, day_length: usize) -> Result<bool, AllocError> {
+fn keeps_all(alloc: Global, day_length: usize) -> Result<bool, WrapError> {
     let days = plain_days(alloc, alloc, HOUSE, day_length)?;
     let names = names_of(alloc, &days)?;
     Ok(are_names(&names, HOUSE))
@@ -206,11 +204,10 @@ fn keeps_all(alloc: Global, day_length: usize) -> Result<bool, AllocError> {
 /// The names of the days, joined, are those of the tasks in order: none is lost, and none is there
 /// twice.
 #[test]
-fn each_task_is_done_once_and_in_order(rt: HostRuntime) -> Result<(), Fail> {
+fn each_task_is_done_once_and_in_order(rt: HostRuntime) {
     for day_length in [0, 5, 8, 16, 30, MAX] {
-        assert_row(&rt, day_length, keeps_all(rt.alloc(), day_length)?);
+        assert_found(&rt, day_length, keeps_all(rt.alloc(), day_length));
     }
-    Ok(())
 }
 
 /// How many days the house takes, at 8 hours each.
@@ -220,13 +217,13 @@ fn days_of_house(alloc: Global, heap: &Heap) -> Result<usize, AllocError> {
 
 /// Where one of its allocations is refused, no plan is made.
 #[test]
-fn a_refused_plan_has_no_days(rt: HostRuntime) -> Result<(), Fail> {
+fn a_refused_plan_has_no_days(rt: HostRuntime) {
     let heap = Heap::new(rt.alloc(), 0);
     for allowed in 0..10 {
         heap.allow(allowed);
         assert_row(&rt, allowed, days_of_house(rt.alloc(), &heap).is_err());
     }
     heap.allow(10);
-    assert!(rt; days_of_house(rt.alloc(), &heap)? == 6 && heap.left() == 0);
-    Ok(())
+    assert!(rt; matches!(days_of_house(rt.alloc(), &heap), Ok(6)));
+    assert!(rt; heap.left() == 0);
 }

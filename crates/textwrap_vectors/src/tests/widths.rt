@@ -1,6 +1,5 @@
 //! The columns of texts, and the widths of words.
-use super::plain::{assert_row, assert_text, plain_strip, plain_width};
-use std::test::Fail;
+use super::plain::{assert_gives, assert_row, plain_strip, plain_width};
 use textwrap::words::{Fragment, Word};
 
 const WIDTHS: &[(&str, usize)] = &[
@@ -60,11 +59,10 @@ const VISIBLE_TEXTS: &[(&str, &str)] = &[
 
 /// Without its escape sequences a text is its visible characters, in order.
 #[test]
-fn only_visible_characters_are_left(rt: HostRuntime) -> Result<(), Fail> {
+fn only_visible_characters_are_left(rt: HostRuntime) {
     for &(text, visible) in VISIBLE_TEXTS {
-        assert_text(&rt, text, plain_strip(rt.alloc(), text), visible)?;
+        assert_gives(&rt, text, plain_strip(rt.alloc(), text), visible);
     }
-    Ok(())
 }
 
 const WORDS: &[(&str, &str, &str, usize)] = &[
@@ -102,48 +100,72 @@ fn a_word_is_a_text_without_its_final_blanks(rt: HostRuntime) {
     }
 }
 
+/// Blanks, a penalty and a width.
+const THREE_WIDTHS: &[(&str, &str, usize)] = &[
+    ("", "", 0),
+    ("  ", "-", 3),
+    (" ", "->", usize::MAX),
+];
+
 /// As a fragment a word has its field `width`, and the bytes of its whitespace and of its penalty.
 #[test]
 fn a_word_has_three_widths(rt: HostRuntime) {
-    for &(whitespace, penalty, width) in &[("", "", 0), ("  ", "-", 3), (" ", "->", usize::MAX)] {
+    for &(whitespace, penalty, width) in THREE_WIDTHS {
         let word = Word {
             word: "foo",
             whitespace,
             penalty,
             width,
         };
-        assert_eq!(rt; word.width(), width);
-        assert_eq!(rt; word.whitespace_width(), whitespace.len());
-        assert_eq!(rt; word.penalty_width(), penalty.len());
+        let has_width = word.width() == width;
+        let has_blanks = word.whitespace_width() == whitespace.len();
+        let has_penalty = word.penalty_width() == penalty.len();
+        assert_row(&rt, word, has_width && has_blanks && has_penalty);
     }
 }
+
+const WORD: Word<'_> = Word {
+    word: "foo",
+    whitespace: "  ",
+    penalty: "-",
+    width: 3,
+};
+
+/// Words that differ from it in one field each.
+const OTHERS: &[Word<'_>] = &[
+    Word {
+        word: "bar",
+        whitespace: "  ",
+        penalty: "-",
+        width: 3,
+    },
+    Word {
+        word: "foo",
+        whitespace: " ",
+        penalty: "-",
+        width: 3,
+    },
+    Word {
+        word: "foo",
+        whitespace: "  ",
+        penalty: "",
+        width: 3,
+    },
+    Word {
+        word: "foo",
+        whitespace: "  ",
+        penalty: "-",
+        width: 4,
+    },
+];
 
 /// A copy equals its word; words that differ in one field are not equal.
 #[test]
 fn words_are_copied_and_compared_by_all_fields(rt: HostRuntime) {
-    let word = Word {
-        word: "foo",
-        whitespace: "  ",
-        penalty: "-",
-        width: 3,
-    };
+    let word = WORD;
     let copy = word;
-    assert_eq!(rt; word, copy);
-    for other in [
-        Word {
-            word: "bar",
-            ..word
-        },
-        Word {
-            whitespace: " ",
-            ..word
-        },
-        Word {
-            penalty: "",
-            ..word
-        },
-        Word { width: 4, ..word },
-    ] {
-        assert_ne!(rt; word, other);
+    assert_row(&rt, word, word == copy);
+    for other in OTHERS {
+        assert_row(&rt, *other, word != *other);
     }
 }

@@ -2,8 +2,7 @@
 ghost use Rattle.std.specs.Prelude.{All, IsCharBoundary, IsTrue};
 ghost use Rattle.std.specs.List.Sorted.{IsStrictlyIncreasing};
 
-use super::plain::{assert_words, plain_find_words, plain_find_words_at};
-use std::test::Fail;
+use super::plain::{assert_gives_words, plain_find_words, plain_find_words_at};
 use textwrap::WordSeparator;
 use textwrap::words::Word;
 
@@ -33,13 +32,12 @@ const LINES: &[(&str, &[&str])] = &[
 
 /// A line is cut before each character that is no blank and stands right after one.
 #[test]
-fn lines_have_their_words(rt: HostRuntime) -> Result<(), Fail> {
+fn lines_have_their_words(rt: HostRuntime) {
     for &(line, texts) in LINES {
         let words = plain_find_words(rt.alloc(), rt.alloc(), WordSeparator::new(), line);
-        assert_words(&rt, line, words, texts)?;
+        assert_gives_words(&rt, line, words, texts);
     }
     assert!(rt; WordSeparator::new() == WordSeparator::AsciiSpace);
-    Ok(())
 }
 
 /// Whether the offsets increase and are places at which the text may be cut.
@@ -97,10 +95,9 @@ const LINES_AT_OFFSETS: &[(&str, &[usize], &[&str])] = &[
 /// At offsets, which count its text without escape sequences, a line is cut right after the visible
 /// character that ends there; not at its ends, and not after a hyphen or a soft hyphen.
 #[test]
-fn lines_are_cut_at_offsets_of_their_visible_text(rt: HostRuntime) -> Result<(), Fail> {
+fn lines_are_cut_at_offsets_of_their_visible_text(rt: HostRuntime) {
     for &(line, offsets, texts) in LINES_AT_OFFSETS {
         let words = plain_find_words_at(&rt, rt.alloc(), line, offsets);
-        assert_words(&rt, line, words, texts)?;
+        assert_gives_words(&rt, line, words, texts);
     }
-    Ok(())
 }

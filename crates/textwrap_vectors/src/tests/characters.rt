@@ -128,8 +128,8 @@ fn is_unfilled(
     width: usize,
     indent: &str,
 ) -> Result<bool, WrapError> {
-    let (given, options) = plain_unfill(alloc, text)?;
-    Ok(given.as_str() == unfilled && options.width == width && options.initial_indent == indent)
+    let (given, given_width, given_indent) = plain_unfill(alloc, text)?;
+    Ok(given.as_str() == unfilled && given_width == width && given_indent == indent)
 }
 
 const CHARACTERS_AS_TEXTS: &[(&str, &str, usize, &str, &str, &str, &str, &str)] = &[

@@ -334,12 +334,14 @@ pub(super) fn plain_refill<A: Allocator + Copy>(
     refill(alloc, text, options)
 }
 
-/// A text, unfilled, and the options that were found.
+/// A text, unfilled, with the width and the first indent that were found. (The options themselves
+/// are not handed out: another crate made them.)
 pub(super) fn plain_unfill<'t, A: Allocator + Copy>(
     alloc: A,
     text: &'t str,
-) -> Result<(String<A>, Options<'t>), WrapError> {
-    Ok(unfill(alloc, text)?)
+) -> Result<(String<A>, usize, &'t str), WrapError> {
+    let (unfilled, options) = unfill(alloc, text)?;
+    Ok((unfilled, options.width, options.initial_indent))
 }
 
 /// A text, indented.

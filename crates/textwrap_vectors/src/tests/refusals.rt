@@ -557,7 +557,7 @@ impl Call for OnLayout {
 
 /// A text, unfilled.
 fn unfilled(alloc: Global, heap: &Heap) -> Result<String, WrapError> {
-    let (text, _options) = plain_unfill(heap, "* foo\n  bar\n  baz\n")?;
+    let (text, _width, _indent) = plain_unfill(heap, "* foo\n  bar\n  baz\n")?;
     Ok(String::from_str(alloc, &text)?)
 }
 

@@ -1,11 +1,14 @@
-//! Problems other than text, with known answers, that calls of `textwrap` solve; and the tests of
-//! its public calls.
+//! Problems other than text, with known answers, that calls of `textwrap` solve; functions of a
+//! caller, with contracts, that tests need; and the tests of the public calls of `textwrap` on
+//! words, on other fragments, and on texts at the limits of what the calls may meet: single
+//! characters, the least and the greatest widths, memory that runs out.
 #![tactic(auto)]
 
 pub use cards::Card;
 pub use scheduling::{Day, Task, assign_days};
 
 mod cards;
+pub mod functions;
 mod scheduling;
 #[cfg(test)]
 mod tests;

@@ -1,12 +1,14 @@
 //! Fragments with break penalties of their own.
-use super::divisions::have_lens;
-use super::minima::{LIMIT, all_penalties, are_minima, assert_agreed, drawn_blocks};
+use super::minima::{LIMIT, all_penalties, assert_agreed, assert_minima, drawn_blocks, least_cost};
+use super::plain::{
+    assert_gives_lens, assert_row, plain_is_queue_case, plain_optimal_fit, plain_table,
+};
 use crate::Card;
 use std::alloc::{AllocError, Global};
-use std::test::Fail;
-use textwrap::minima::{Minimum, Steps, is_queue_case, table_minima};
+use std::process::Abort;
+use textwrap::WrapError;
 use textwrap::words::Fragment;
-use textwrap::wrap_algorithms::{Penalties, wrap_optimal_fit};
+use textwrap::wrap_algorithms::Penalties;
 
 /// A card of this width, with a space of 1 after it, and its break penalty.
 fn card(width: usize, keep: usize) -> Card {
@@ -16,11 +18,6 @@ fn card(width: usize, keep: usize) -> Card {
         penalty: 0,
         keep,
     }
-}
-
-/// The least cost of all fragments: that of the last prefix.
-fn least_cost(minima: &[Minimum]) -> Option<u128> {
-    Some(minima.last()?.cost)
 }
 
 const VERSES: &[(usize, &[usize], u128, bool)] = &[
@@ -36,39 +33,37 @@ const VERSES: &[(usize, &[usize], u128, bool)] = &[
 /// The second of three cards stays at the end of a row until that costs as much as the other
 /// division; at a tie the last row begins earlier. A break penalty above 2^62 is no queue case.
 #[test]
-fn a_dear_break_keeps_two_cards_together(rt: HostRuntime) -> Result<(), Fail> {
+fn a_dear_break_keeps_two_cards_together(rt: HostRuntime) {
     let penalties = Penalties::new();
     for &(keep, lens, cost, is_case) in VERSES {
         let cards = [card(4, 0), card(4, keep), card(4, 0)];
-        let lines = wrap_optimal_fit(rt.alloc(), &cards, &[9], &penalties)?;
-        assert!(rt; have_lens(&lines, lens), "{keep}: {lines:?}");
-        let mut steps = Steps::new();
-        let minima = table_minima(rt.alloc(), &cards, &[9], &penalties, &mut steps)?;
-        assert_eq!(rt; least_cost(&minima), Some(cost), "{keep}");
-        assert_eq!(rt; is_queue_case(&cards, &[9], &penalties), is_case, "{keep}");
+        let lines = plain_optimal_fit(rt.alloc(), &cards, &[9], &penalties);
+        assert_gives_lens(&rt, keep, lines, lens);
+        let least = least_cost(&rt, &cards, 9, &penalties);
+        let case = plain_is_queue_case(&cards, &[9], &penalties);
+        assert_row(&rt, keep, least == Some(cost) && case == is_case);
     }
-    Ok(())
 }
+
+/// A card with all numbers at their greatest but its width.
+const GREATEST: Card = Card {
+    width: 0,
+    whitespace: 0,
+    penalty: 0,
+    keep: usize::MAX,
+};
 
 /// With all numbers at their greatest, one card costs 2^128 - 1 and two on one line less than that.
 #[test]
-fn the_greatest_break_penalties_fit(rt: HostRuntime) -> Result<(), Fail> {
-    const MAX: usize = usize::MAX;
-    let penalties = all_penalties(MAX);
-    let cards = [Card {
-        width: 0,
-        whitespace: 0,
-        penalty: 0,
-        keep: MAX,
-    }; 2];
-    let mut steps = Steps::new();
-    let minima = table_minima(rt.alloc(), &cards, &[MAX], &penalties, &mut steps)?;
+fn the_greatest_break_penalties_fit(rt: HostRuntime) {
+    let penalties = all_penalties(usize::MAX);
+    let cards = [GREATEST; 2];
+    let (minima, _asked) = plain_table(rt.alloc(), &cards, &[usize::MAX], &penalties);
     let expected = [(0, 0), (0, u128::MAX), (0, 36_893_488_147_419_103_230)];
-    assert!(rt; are_minima(&minima, &expected), "{minima:?}");
-    let lines = wrap_optimal_fit(rt.alloc(), &cards, &[MAX], &penalties)?;
-    assert!(rt; have_lens(&lines, &[2]), "{lines:?}");
-    assert!(rt; !is_queue_case(&cards, &[MAX], &penalties));
-    Ok(())
+    assert_minima(&rt, "cards", minima, &expected);
+    let lines = plain_optimal_fit(rt.alloc(), &cards, &[usize::MAX], &penalties);
+    assert_gives_lens(&rt, "cards", lines, &[2]);
+    assert!(rt; !plain_is_queue_case(&cards, &[usize::MAX], &penalties));
 }
 
 /// The line of a poem: to end with a line that leads on costs as much as a line of its own.
@@ -107,30 +102,45 @@ impl Fragment for Verse {
     }
 }
 
+/// The penalty of a line, how many of three verses each line has, and what they cost.
+const VERSES_BY_PENALTY: &[(usize, [usize; 2], u128)] = &[
+    (0, [2, 1], 0),
+    (24, [2, 1], 72),
+    (25, [1, 2], 75),
+    (26, [1, 2], 77),
+];
+
+/// Three verses, of which the second leads on.
+const POEM: [Verse; 3] = [
+    Verse {
+        width: 4,
+        leads_on: false,
+    },
+    Verse {
+        width: 4,
+        leads_on: true,
+    },
+    Verse {
+        width: 4,
+        leads_on: false,
+    },
+];
+
 /// A break penalty may depend on the penalties. The usual hyphen penalty counts for none of these,
 /// though each has a penalty width.
 #[test]
-fn a_break_penalty_may_come_from_the_penalties(rt: HostRuntime) -> Result<(), Fail> {
-    let verse = |leads_on: bool| Verse { width: 4, leads_on };
-    let verses = [verse(false), verse(true), verse(false)];
-    for (nline_penalty, lens, cost) in [
-        (0, [2, 1], 0),
-        (24, [2, 1], 72),
-        (25, [1, 2], 75),
-        (26, [1, 2], 77),
-    ] {
+fn a_break_penalty_may_come_from_the_penalties(rt: HostRuntime) {
+    for (nline_penalty, lens, cost) in VERSES_BY_PENALTY {
         let penalties = Penalties {
-            nline_penalty,
+            nline_penalty: *nline_penalty,
             short_last_line_penalty: 0,
             ..Penalties::new()
         };
-        let mut steps = Steps::new();
-        let minima = table_minima(rt.alloc(), &verses, &[10], &penalties, &mut steps)?;
-        assert_eq!(rt; least_cost(&minima), Some(cost), "{nline_penalty}");
-        let lines = wrap_optimal_fit(rt.alloc(), &verses, &[10], &penalties)?;
-        assert!(rt; have_lens(&lines, &lens), "{nline_penalty}: {lines:?}");
+        let least = least_cost(&rt, &POEM, 10, &penalties);
+        assert_row(&rt, *nline_penalty, least == Some(*cost));
+        let lines = plain_optimal_fit(rt.alloc(), &POEM, &[10], &penalties);
+        assert_gives_lens(&rt, *nline_penalty, lines, lens);
     }
-    Ok(())
 }
 
 /// Cards of a small generator, with break penalties up to a mask.
@@ -149,17 +159,25 @@ fn drawn_cards(alloc: Global, count: usize, mask: usize) -> Result<Vec<Card>, Al
     Ok(cards)
 }
 
+/// Asserts that the search and the table agree on so many cards with break penalties up to a mask.
+fn assert_agreed_on_cards(
+    rt: &(impl Abort + AllocGlobal),
+    count: usize,
+    mask: usize,
+    penalties: &Penalties,
+) {
+    let cards = drawn_cards(rt.alloc(), count, mask).expect(rt, "cards");
+    assert_agreed(rt, &cards, &[9], penalties);
+    assert_agreed(rt, &cards, &[5, 20], penalties);
+}
+
 /// The search gives the list of the table for cards too, ties included.
 #[test]
-fn the_search_agrees_with_the_table_on_cards(rt: HostRuntime) -> Result<(), Fail> {
+fn the_search_agrees_with_the_table_on_cards(rt: HostRuntime) {
     for count in [1, 2, 5, 40] {
         for mask in [0, 1, 31, 1023] {
-            let cards = drawn_cards(rt.alloc(), count, mask)?;
-            for penalties in [Penalties::new(), all_penalties(0)] {
-                assert_agreed(&rt, &cards, &[9], &penalties)?;
-                assert_agreed(&rt, &cards, &[5, 20], &penalties)?;
-            }
+            assert_agreed_on_cards(&rt, count, mask, &Penalties::new());
+            assert_agreed_on_cards(&rt, count, mask, &all_penalties(0));
         }
     }
-    Ok(())
 }

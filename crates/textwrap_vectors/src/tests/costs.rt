@@ -1,19 +1,22 @@
 //! Costs of lines and divisions at the ends of the numbers.
-use super::divisions::{Block, have_lens};
-use super::minima::{LIMIT, all_penalties, are_minima, assert_agreed, penalties_of, searched};
-use std::alloc::Global;
+use super::divisions::Block;
+use super::minima::{
+    Candidate, LIMIT, all_penalties, are_minima, assert_agreed, assert_candidates, assert_minima,
+    least_cost, penalties_of, searched,
+};
+use super::plain::{
+    assert_gives_lens, assert_row, plain_is_queue_case, plain_optimal_fit, plain_table,
+};
 use std::process::Abort;
-use std::test::Fail;
 use textwrap::WrapError;
-use textwrap::minima::{CostSource, LineCosts, Steps, is_queue_case, table_minima};
-use textwrap::wrap_algorithms::{Penalties, wrap_optimal_fit};
+use textwrap::wrap_algorithms::Penalties;
 
 const MAX: usize = usize::MAX;
 
 /// The greatest width as a cost.
 const WIDEST: u128 = 18_446_744_073_709_551_615;
 
-const GREATEST_CANDIDATES: &[(usize, usize, usize, u128, Option<u128>)] = &[
+const GREATEST_CANDIDATES: &[Candidate] = &[
     // The line closes at 2^64, or 2^64 - 1 above its width.
     (0, 1, 0, 0, Some(u128::MAX)),
     (0, 1, 0, 1, None),
@@ -57,37 +60,46 @@ const GREATEST_CANDIDATES: &[(usize, usize, usize, u128, Option<u128>)] = &[
 /// A candidate may cost 2^128 - 1 and no more, with what stands before it. Its line may have any
 /// number, and each candidate that is asked for counts, also one that does not fit.
 #[test]
-fn candidates_reach_the_end_of_128_bits(rt: HostRuntime) -> Result<(), Fail> {
+fn candidates_reach_the_end_of_128_bits(rt: HostRuntime) {
     let blocks = [Block(MAX, 0, 1), Block(0, 0, 0), Block(MAX, MAX, MAX)];
     let penalties = all_penalties(MAX);
-    let mut costs = LineCosts::new(rt.alloc(), &blocks, &[1, MAX, MAX - 1], &penalties)?;
-    for &(start, end, line_number, before, expected) in GREATEST_CANDIDATES {
-        assert!(rt; start < end && end <= costs.ends());
-        let candidate = costs.candidate(start, end, line_number, before);
-        assert_eq!(rt; candidate, expected, "{start} to {end}, line {line_number}");
-    }
-    assert_eq!(rt; costs.steps(), GREATEST_CANDIDATES.len() as u128);
-    Ok(())
+    assert_candidates(
+        &rt,
+        &blocks,
+        &[1, MAX, MAX - 1],
+        &penalties,
+        GREATEST_CANDIDATES,
+    );
 }
 
-/// Asserts that the fragments have these entries: by the table, and by the search where it may be
-/// used.
-fn assert_minima(
+/// Asserts that the search over line costs of these fragments finds these entries.
+fn assert_searched(
     rt: &(impl Abort + AllocGlobal),
     blocks: &[Block],
     line_widths: &[usize],
     penalties: &Penalties,
     expected: &[(usize, u128)],
-) -> Result<(), WrapError> {
-    let mut steps = Steps::new();
-    let minima = table_minima(rt.alloc(), blocks, line_widths, penalties, &mut steps)?;
-    assert!(rt; are_minima(&minima, expected), "{blocks:?} {minima:?}");
-    if is_queue_case(blocks, line_widths, penalties) {
-        assert_agreed(rt, blocks, line_widths, penalties)?;
-        let (minima, _steps) = searched(rt, rt.alloc(), blocks, line_widths, penalties)?;
-        assert!(rt; are_minima(&minima, expected), "{blocks:?} {minima:?}");
+) {
+    let found = searched(rt, rt.alloc(), blocks, line_widths, penalties);
+    let (minima, _steps) = found.expect(rt, "memory");
+    assert_row(rt, blocks, are_minima(&minima, expected));
+}
+
+/// Asserts that the fragments have these entries: by the table, and by the search where it may be
+/// used.
+fn assert_entries(
+    rt: &(impl Abort + AllocGlobal),
+    blocks: &[Block],
+    line_widths: &[usize],
+    penalties: &Penalties,
+    expected: &[(usize, u128)],
+) {
+    let (minima, _asked) = plain_table(rt.alloc(), blocks, line_widths, penalties);
+    assert_minima(rt, blocks, minima, expected);
+    if plain_is_queue_case(blocks, line_widths, penalties) {
+        assert_agreed(rt, blocks, line_widths, penalties);
+        assert_searched(rt, blocks, line_widths, penalties, expected);
     }
-    Ok(())
 }
 
 const TABLES_OF_ANY_NUMBERS: &[(&[Block], &[usize], usize, &[(usize, u128)], &[usize])] = &[
@@ -262,21 +274,13 @@ const TABLES_OF_ANY_NUMBERS: &[(&[Block], &[usize], usize, &[(usize, u128)], &[u
 /// Widths and penalties may be any numbers: sums past 64 bits are exact, and a candidate past 128
 /// bits is passed over. The same number is each of the five penalties.
 #[test]
-fn widths_and_penalties_may_be_any_numbers(rt: HostRuntime) -> Result<(), Fail> {
+fn widths_and_penalties_may_be_any_numbers(rt: HostRuntime) {
     for &(blocks, line_widths, each, expected, lens) in TABLES_OF_ANY_NUMBERS {
         let penalties = all_penalties(each);
-        assert_minima(&rt, blocks, line_widths, &penalties, expected)?;
-        let lines = wrap_optimal_fit(rt.alloc(), blocks, line_widths, &penalties)?;
-        assert!(rt; have_lens(&lines, lens), "{blocks:?} {line_widths:?}");
+        assert_entries(&rt, blocks, line_widths, &penalties, expected);
+        let lines = plain_optimal_fit(rt.alloc(), blocks, line_widths, &penalties);
+        assert_gives_lens(&rt, (blocks, line_widths), lines, lens);
     }
-    Ok(())
-}
-
-/// The cost of one fragment on a line of four columns.
-fn cost_of(alloc: Global, block: Block, penalties: &Penalties) -> Result<u128, WrapError> {
-    let mut steps = Steps::new();
-    let minima = table_minima(alloc, &[block], &[4], penalties, &mut steps)?;
-    Ok(minima.last().map_or(0, |minimum| minimum.cost))
 }
 
 const GREATEST_PENALTIES: &[([usize; 5], u128, u128)] = &[
@@ -308,13 +312,12 @@ const GREATEST_PENALTIES: &[([usize; 5], u128, u128)] = &[
 /// of a short last line where twice the fraction is below the width, and that of a hyphen. A line of
 /// six columns costs that of a line, and twice that of a column past the width.
 #[test]
-fn each_penalty_counts_up_to_its_end(rt: HostRuntime) -> Result<(), Fail> {
+fn each_penalty_counts_up_to_its_end(rt: HostRuntime) {
     for &(numbers, hyphened, wide) in GREATEST_PENALTIES {
         let penalties = penalties_of(numbers);
-        let cost = cost_of(rt.alloc(), Block(1, 0, 1), &penalties)?;
-        assert_eq!(rt; cost, hyphened, "{penalties:?}");
-        let cost = cost_of(rt.alloc(), Block(6, 0, 0), &penalties)?;
-        assert_eq!(rt; cost, wide, "{penalties:?}");
+        let cost = least_cost(&rt, &[Block(1, 0, 1)], 4, &penalties);
+        assert_row(&rt, (numbers, cost), cost == Some(hyphened));
+        let cost = least_cost(&rt, &[Block(6, 0, 0)], 4, &penalties);
+        assert_row(&rt, (numbers, cost), cost == Some(wide));
     }
-    Ok(())
 }

@@ -1,14 +1,15 @@
 //! The division of fragments into lines.
 ghost use Rattle.textwrap.specs.Sizes.{Sizes};
 
-use std::alloc::{AllocError, AllocFailed};
-use std::test::Fail;
-use textwrap::WrapError;
-use textwrap::minima::Steps;
-use textwrap::words::{Fragment, Word};
-use textwrap::wrap_algorithms::{
-    OverflowError, Penalties, wrap_first_fit, wrap_optimal_fit, wrap_optimal_fit_counted,
+use super::plain::{
+    assert_gives, assert_gives_lens, assert_row, have_lens, plain_first_fit, plain_optimal_fit,
+    plain_optimal_fit_counted,
 };
+use std::alloc::{AllocError, AllocFailed, Global};
+use std::fmt::Display;
+use textwrap::WrapError;
+use textwrap::words::{Fragment, Word};
+use textwrap::wrap_algorithms::{OverflowError, Penalties};
 
 /// A fragment with its width, its whitespace width and its penalty width.
 #[derive(Clone, Copy, Debug)]
@@ -57,7 +58,7 @@ const MAX: usize = usize::MAX;
 const WIDEST: Block = Block(MAX, 0, 0);
 
 /// The default penalties, but for the largest one on each column past the width.
-const STRICT: Penalties = Penalties {
+pub(super) const STRICT: Penalties = Penalties {
     nline_penalty: 1000,
     overflow_penalty: MAX,
     short_last_line_fraction: 4,
@@ -82,16 +83,6 @@ const STRICTEST: Penalties = Penalties {
     short_last_line_penalty: MAX,
     hyphen_penalty: MAX,
 };
-
-/// Whether the lines have so many fragments each.
-pub(super) fn have_lens<T>(lines: &[&[T]], lens: &[usize]) -> bool {
-    for (line, len) in lines.iter().zip(lens) {
-        if line.len() != *len {
-            return false;
-        }
-    }
-    lines.len() == lens.len()
-}
 
 const FIRST_FITS: &[(&[Block], &[usize], &[usize])] = &[
     (&[], &[10], &[0]),
@@ -143,23 +134,21 @@ const FIRST_FITS: &[(&[Block], &[usize], &[usize])] = &[
 /// A line takes fragments while they fit, and its first in any case; the last line width serves all
 /// later lines, and without any width it is 0.
 #[test]
-fn each_line_takes_what_fits(rt: HostRuntime) -> Result<(), Fail> {
+fn each_line_takes_what_fits(rt: HostRuntime) {
     for &(blocks, line_widths, lens) in FIRST_FITS {
-        let lines = wrap_first_fit(rt.alloc(), blocks, line_widths)?;
-        assert!(rt; have_lens(&lines, lens), "{blocks:?} {line_widths:?}");
+        let lines = plain_first_fit(rt.alloc(), blocks, line_widths);
+        assert_gives_lens(&rt, (blocks, line_widths), lines, lens);
     }
-    Ok(())
 }
 
 /// The lines are slices of the list that was given.
 #[test]
-fn words_are_divided(rt: HostRuntime) -> Result<(), Fail> {
+fn words_are_divided(rt: HostRuntime) {
     let words = [Word::from("foo "), Word::from("bar "), Word::from("baz")];
-    let lines = wrap_first_fit(rt.alloc(), &words, &[10])?;
-    assert_eq!(rt; lines.len(), 2);
-    assert_eq!(rt; lines[0], &words[..2]);
-    assert_eq!(rt; lines[1], &words[2..]);
-    Ok(())
+    let lines = plain_first_fit(rt.alloc(), &words, &[10]).expect(&rt, "lines");
+    assert!(rt; lines.len() == 2);
+    assert_row(&rt, "first", lines[0] == &words[..2]);
+    assert_row(&rt, "second", lines[1] == &words[2..]);
 }
 
 const OPTIMAL_FITS: &[(&[Block], &[usize], &[usize])] = &[
@@ -201,17 +190,30 @@ const OPTIMAL_FITS: &[(&[Block], &[usize], &[usize])] = &[
 /// Each line costs 1000, a gap before a later line its square, and a column past the width 2500;
 /// the sum decides, and a line may be wider than it should where that is cheaper.
 #[test]
-fn fragments_are_divided_at_least_cost(rt: HostRuntime) -> Result<(), Fail> {
+fn fragments_are_divided_at_least_cost(rt: HostRuntime) {
     for &(blocks, line_widths, lens) in OPTIMAL_FITS {
-        let lines = wrap_optimal_fit(rt.alloc(), blocks, line_widths, &Penalties::new())?;
-        assert!(rt; have_lens(&lines, lens), "{blocks:?} {line_widths:?}");
+        let lines = plain_optimal_fit(rt.alloc(), blocks, line_widths, &Penalties::new());
+        assert_gives_lens(&rt, (blocks, line_widths), lines, lens);
     }
-    Ok(())
 }
 
-/// Whether the call was refused, as one whose costs do not fit.
-fn is_refused<T>(lines: &Result<T, WrapError>) -> bool {
-    matches!(lines, Err(WrapError::Overflow(_)))
+/// Whether the call gives one line, where the costs fit, and else is refused as one whose costs do
+/// not; and whether it asks for so many line costs.
+fn is_divided(
+    alloc: Global,
+    blocks: &[Block],
+    width: usize,
+    penalties: &Penalties,
+    fits: bool,
+    count: u128,
+) -> bool {
+    let (lines, asked) = plain_optimal_fit_counted(alloc, blocks, &[width], penalties);
+    let is_as_expected = match lines {
+        Ok(lines) => fits && have_lens(&lines, &[1]),
+        Err(WrapError::Overflow(_)) => !fits,
+        Err(WrapError::Memory(_)) => false,
+    };
+    is_as_expected && asked == count
 }
 
 const REFUSED_COSTS: &[(&[Block], usize, Penalties, bool, u128)] = &[
@@ -231,42 +233,43 @@ const REFUSED_COSTS: &[(&[Block], usize, Penalties, bool, u128)] = &[
 /// for until then are counted.
 #[test]
 fn costs_past_128_bits_are_refused(rt: HostRuntime) {
-    for &(blocks, width, penalties, fits, count) in REFUSED_COSTS {
-        let mut steps = Steps::new();
-        let lines = wrap_optimal_fit_counted(rt.alloc(), blocks, &[width], &penalties, &mut steps);
-        assert!(rt; lines.is_ok() == fits, "{blocks:?}");
-        assert!(rt; is_refused(&lines) != fits, "{blocks:?}");
-        if let Ok(lines) = lines {
-            assert!(rt; have_lens(&lines, &[1]), "{blocks:?}");
-        }
-        assert_eq!(rt; steps.count(), count, "{blocks:?}");
+    for (blocks, width, penalties, fits, count) in REFUSED_COSTS {
+        let holds = is_divided(rt.alloc(), blocks, *width, penalties, *fits, *count);
+        assert_row(&rt, *blocks, holds);
     }
 }
 
 /// The default penalties.
+const DEFAULTS: Penalties = Penalties {
+    nline_penalty: 1000,
+    overflow_penalty: 2500,
+    short_last_line_fraction: 4,
+    short_last_line_penalty: 25,
+    hyphen_penalty: 25,
+};
+
+/// The default penalties are the new ones.
 #[test]
 fn the_default_penalties_are_the_new_ones(rt: HostRuntime) {
-    let penalties = Penalties::default();
-    assert!(rt; penalties == Penalties::new());
-    assert_eq!(rt; penalties.nline_penalty, 1000);
-    assert_eq!(rt; penalties.overflow_penalty, 2500);
-    assert_eq!(rt; penalties.short_last_line_fraction, 4);
-    assert_eq!(rt; penalties.short_last_line_penalty, 25);
-    assert_eq!(rt; penalties.hyphen_penalty, 25);
+    assert!(rt; Penalties::default() == DEFAULTS);
+    assert!(rt; Penalties::new() == DEFAULTS);
+}
+
+/// What an error says.
+fn shown(alloc: Global, error: &impl Display) -> Result<String, WrapError> {
+    Ok(format!(in alloc; "{error}")?)
 }
 
 /// An error says what it is, and each failed allocation is out of memory.
 #[test]
-fn errors_have_their_texts(rt: HostRuntime) -> Result<(), Fail> {
-    let overflow = "wrap_optimal_fit cost computation overflowed";
-    let text = format!(in rt.alloc(); "{OverflowError}")?;
-    assert_eq!(rt; text.as_str(), overflow);
-    let text = format!(in rt.alloc(); "{}", WrapError::Overflow(OverflowError))?;
-    assert_eq!(rt; text.as_str(), overflow);
-    let text = format!(in rt.alloc(); "{}", WrapError::Memory(AllocError))?;
-    assert_eq!(rt; text.as_str(), "out of memory");
+fn errors_have_their_texts(rt: HostRuntime) {
+    let text = "wrap_optimal_fit cost computation overflowed";
+    assert_gives(&rt, "itself", shown(rt.alloc(), &OverflowError), text);
+    let overflow = WrapError::Overflow(OverflowError);
+    assert_gives(&rt, "overflow", shown(rt.alloc(), &overflow), text);
+    let memory = WrapError::Memory(AllocError);
+    assert_gives(&rt, "memory", shown(rt.alloc(), &memory), "out of memory");
     let refused = WrapError::from(AllocFailed { value: "foo" });
     assert!(rt; matches!(refused, WrapError::Memory(_)));
     assert!(rt; matches!(WrapError::from(AllocError), WrapError::Memory(_)));
-    Ok(())
 }

@@ -1,16 +1,19 @@
 //! The table of least costs, the search for the same by a queue, the line costs that they ask for,
 //! and the queue case.
 use super::divisions::{Block, FALLING};
+use super::plain::{
+    assert_row, plain_is_queue_case, plain_optimal_fit_counted, plain_queue, plain_table,
+};
 use fakes::heap::Heap;
 use std::alloc::{AllocError, Allocator, Global};
+use std::fmt::Debug;
 use std::process::Abort;
-use std::test::Fail;
 use textwrap::WrapError;
 use textwrap::minima::{
-    CostSource, LineCosts, Minimum, Steps, is_queue_case, queue_minima, queue_search, table_minima,
+    CostSource, LineCosts, Minimum, Steps, is_queue_case, queue_search, table_minima,
 };
 use textwrap::words::Fragment;
-use textwrap::wrap_algorithms::{Penalties, wrap_optimal_fit_counted};
+use textwrap::wrap_algorithms::Penalties;
 
 /// Whether the minima have these starts and costs.
 pub(super) fn are_minima(minima: &[Minimum], expected: &[(usize, u128)]) -> bool {
@@ -20,6 +23,17 @@ pub(super) fn are_minima(minima: &[Minimum], expected: &[(usize, u128)]) -> bool
         }
     }
     minima.len() == expected.len()
+}
+
+/// Asserts that a call gave minima with these starts and costs.
+pub(super) fn assert_minima<R: Copy + Debug>(
+    rt: &impl Abort,
+    row: R,
+    given: Result<Vec<Minimum>, WrapError>,
+    expected: &[(usize, u128)],
+) {
+    let minima = given.expect(rt, "memory");
+    assert!(rt; are_minima(&minima, expected), "{row:?} {minima:?}");
 }
 
 const TABLES: &[(&[Block], &[usize], usize, &[(usize, u128)], u128)] = &[
@@ -51,52 +65,81 @@ const TABLES: &[(&[Block], &[usize], usize, &[(usize, u128)], u128)] = &[
 /// Entry j of the table is the least cost of the first j fragments, and the earliest start of a
 /// last line that reaches it. A table of n fragments asks for n(n + 1)/2 line costs.
 #[test]
-fn tables_have_the_least_costs_and_the_earliest_starts(rt: HostRuntime) -> Result<(), Fail> {
+fn tables_have_the_least_costs_and_the_earliest_starts(rt: HostRuntime) {
     for &(blocks, line_widths, fraction, expected, count) in TABLES {
         let penalties = Penalties {
             short_last_line_fraction: fraction,
             ..Penalties::new()
         };
-        let mut steps = Steps::new();
-        let minima = table_minima(rt.alloc(), blocks, line_widths, &penalties, &mut steps)?;
-        assert!(rt; are_minima(&minima, expected), "{blocks:?} {minima:?}");
-        assert_eq!(rt; steps.count(), count, "{blocks:?}");
+        let (minima, asked) = plain_table(rt.alloc(), blocks, line_widths, &penalties);
+        assert_row(&rt, blocks, asked == count);
+        assert_minima(&rt, blocks, minima, expected);
     }
-    Ok(())
 }
 
-const CANDIDATES: &[(usize, usize, usize, u128, u128)] = &[
-    (0, 1, 0, 0, 1000),
-    (0, 2, 0, 0, 13500),
-    (1, 2, 1, 1000, 2025),
-    (0, 3, 0, 0, 38525),
-    (1, 3, 1, 1000, 14525),
-    (2, 3, 2, 2025, 3050),
-    (0, 4, 0, 0, 26000),
-    (1, 4, 1, 1000, 2000),
-    (2, 4, 2, 2025, 3050),
-    (3, 4, 3, 3050, 4150),
-    (3, 5, 3, 3050, 4050),
-    (4, 5, 2, 2000, 3000),
+/// The least cost of all fragments: that of the last prefix.
+pub(super) fn least_cost<T: Fragment>(
+    rt: &(impl Abort + AllocGlobal),
+    fragments: &[T],
+    line_width: usize,
+    penalties: &Penalties,
+) -> Option<u128> {
+    let (minima, _asked) = plain_table(rt.alloc(), fragments, &[line_width], penalties);
+    Some(minima.expect(rt, "memory").last()?.cost)
+}
+
+/// Where a line starts and ends, its number, what stands before it, and what the candidate costs.
+pub(super) type Candidate = (usize, usize, usize, u128, Option<u128>);
+
+/// Asserts that the line costs of these fragments have these candidates, and that each that is asked
+/// for counts.
+pub(super) fn assert_candidates(
+    rt: &(impl Abort + AllocGlobal),
+    blocks: &[Block],
+    line_widths: &[usize],
+    penalties: &Penalties,
+    candidates: &[Candidate],
+) {
+    let made = LineCosts::new(rt.alloc(), blocks, line_widths, penalties);
+    let mut costs = made.expect(rt, "memory");
+    assert_row(
+        rt,
+        blocks,
+        costs.steps() == 0 && costs.ends() == blocks.len(),
+    );
+    for (asked, &(start, end, line_number, before, expected)) in candidates.iter().enumerate() {
+        assert!(rt; start < end && end <= costs.ends());
+        let candidate = costs.candidate(start, end, line_number, before);
+        let is_counted = costs.steps() == asked as u128 + 1;
+        assert_row(
+            rt,
+            (start, end, line_number),
+            candidate == expected && is_counted,
+        );
+    }
+}
+
+const CANDIDATES: &[Candidate] = &[
+    (0, 1, 0, 0, Some(1000)),
+    (0, 2, 0, 0, Some(13500)),
+    (1, 2, 1, 1000, Some(2025)),
+    (0, 3, 0, 0, Some(38525)),
+    (1, 3, 1, 1000, Some(14525)),
+    (2, 3, 2, 2025, Some(3050)),
+    (0, 4, 0, 0, Some(26000)),
+    (1, 4, 1, 1000, Some(2000)),
+    (2, 4, 2, 2025, Some(3050)),
+    (3, 4, 3, 3050, Some(4150)),
+    (3, 5, 3, 3050, Some(4050)),
+    (4, 5, 2, 2000, Some(3000)),
+    (1, 3, 1, u128::MAX, None),
 ];
 
 /// A candidate is what stands before a line and the cost of the line, and each that is asked for
 /// counts.
 #[test]
-fn a_source_counts_what_it_is_asked(rt: HostRuntime) -> Result<(), Fail> {
-    let penalties = Penalties::new();
-    let mut costs = LineCosts::new(rt.alloc(), FALLING, &[10], &penalties)?;
-    assert_eq!(rt; costs.steps(), 0);
-    for &(start, end, line_number, before, cost) in CANDIDATES {
-        assert!(rt; start < end && end <= costs.ends());
-        let candidate = costs.candidate(start, end, line_number, before);
-        assert_eq!(rt; candidate, Some(cost), "{start} to {end}");
-    }
-    assert_eq!(rt; costs.steps(), 12);
-    assert!(rt; costs.ends() == 5);
-    assert_eq!(rt; costs.candidate(1, 3, 1, u128::MAX), None);
-    assert_eq!(rt; costs.steps(), 13);
-    Ok(())
+fn a_source_counts_what_it_is_asked(rt: HostRuntime) {
+    assert_candidates(&rt, FALLING, &[10], &Penalties::new(), CANDIDATES);
 }
 
 const COUNTS: &[(u128, u128, u128, u128)] = &[
@@ -114,20 +157,26 @@ const COUNTS: &[(u128, u128, u128, u128)] = &[
     (u128::MAX, u128::MAX, u128::MAX, u128::MAX),
 ];
 
+/// The count to which this much and more was added, and the count after a table that went on with it.
+/// A table of two fragments takes three steps.
+fn counts_of(rt: &(impl Abort + AllocGlobal), count: u128, more: u128) -> (u128, u128) {
+    let blocks = [Block(1, 0, 0), Block(1, 0, 0)];
+    let mut steps = Steps::new();
+    steps.add(count);
+    steps.add(more);
+    let before = steps.count();
+    let table = table_minima(rt.alloc(), &blocks, &[10], &Penalties::new(), &mut steps);
+    assert!(rt; table.is_ok());
+    (before, steps.count())
+}
+
 /// A count that reaches the largest number stays there, also where a table goes on with it.
 #[test]
-fn a_count_stays_at_its_end(rt: HostRuntime) -> Result<(), Fail> {
+fn a_count_stays_at_its_end(rt: HostRuntime) {
     for &(count, more, expected, after_table) in COUNTS {
-        let mut steps = Steps::new();
-        steps.add(count);
-        steps.add(more);
-        assert_eq!(rt; steps.count(), expected, "{count} and {more}");
-        // A table of two fragments takes three steps.
-        let blocks = [Block(1, 0, 0), Block(1, 0, 0)];
-        table_minima(rt.alloc(), &blocks, &[10], &Penalties::new(), &mut steps)?;
-        assert_eq!(rt; steps.count(), after_table, "{count} and {more}");
+        let counts = counts_of(&rt, count, more);
+        assert_row(&rt, (count, more), counts == (expected, after_table));
     }
-    Ok(())
 }
 
 /// The greatest number of a queue case.
@@ -169,8 +218,8 @@ const CASES_BY_WIDTHS: &[(&[Block], &[usize], bool)] = &[
 #[test]
 fn queue_cases_are_told_by_their_widths(rt: HostRuntime) {
     for &(blocks, line_widths, expected) in CASES_BY_WIDTHS {
-        let is_case = is_queue_case(blocks, line_widths, &Penalties::new());
-        assert_eq!(rt; is_case, expected, "{blocks:?} {line_widths:?}");
+        let is_case = plain_is_queue_case(blocks, line_widths, &Penalties::new());
+        assert_row(&rt, (blocks, line_widths), is_case == expected);
     }
 }
 
@@ -202,10 +251,21 @@ const CASES_BY_PENALTIES: &[([usize; 5], bool)] = &[
 #[test]
 fn queue_cases_are_told_by_their_penalties(rt: HostRuntime) {
     for &(numbers, expected) in CASES_BY_PENALTIES {
-        let penalties = penalties_of(numbers);
-        let is_case = is_queue_case(&[Block(1, 0, 0)], &[10], &penalties);
-        assert_eq!(rt; is_case, expected, "{penalties:?}");
+        let is_case = plain_is_queue_case(&[Block(1, 0, 0)], &[10], &penalties_of(numbers));
+        assert_row(&rt, numbers, is_case == expected);
     }
+}
+
+/// Asserts that two calls gave the same minima.
+fn assert_same<R: Copy + Debug>(
+    rt: &impl Abort,
+    row: R,
+    first: Result<Vec<Minimum>, WrapError>,
+    second: Result<Vec<Minimum>, WrapError>,
+) {
+    let first = first.expect(rt, "memory");
+    let second = second.expect(rt, "memory");
+    assert!(rt; first.as_slice() == second.as_slice(), "{row:?}");
 }
 
 /// Asserts that these are a queue case, in which the search gives the list of the table: each start
@@ -215,16 +275,10 @@ pub(super) fn assert_agreed<T: Fragment>(
     fragments: &[T],
     line_widths: &[usize],
     penalties: &Penalties,
-) -> Result<(), WrapError> {
-    let mut steps = Steps::new();
-    let table = table_minima(rt.alloc(), fragments, line_widths, penalties, &mut steps)?;
-    assert!(rt;
-        is_queue_case(fragments, line_widths, penalties),
-        "{fragments:?}"
-    );
-    let minima = queue_minima(rt.alloc(), fragments, line_widths, penalties, &mut steps)?;
-    assert!(rt; minima.as_slice() == table.as_slice(), "{fragments:?}");
-    Ok(())
+) {
+    let (table, _asked) = plain_table(rt.alloc(), fragments, line_widths, penalties);
+    let (minima, _asked) = plain_queue(rt, rt.alloc(), fragments, line_widths, penalties);
+    assert_same(rt, line_widths, minima, table);
 }
 
 /// Fragments of a small generator: each width is drawn up to its mask, and the first raised.
@@ -265,23 +319,37 @@ const MASKS: &[([usize; 3], usize)] = &[
     ([3, 1, 0], 0),
 ];
 
+const WIDTHS: &[&[usize]] = &[&[80], &[20], &[5, 20], &[20, 5], &[0, 9], &[], &[7, 7, 7]];
+
+/// Asserts that the search and the table agree on these fragments, whatever the line widths.
+fn assert_agreed_at_all(rt: &(impl Abort + AllocGlobal), blocks: &[Block], penalties: &Penalties) {
+    for line_widths in WIDTHS {
+        assert_agreed(rt, blocks, line_widths, penalties);
+    }
+}
+
+/// Asserts that the search and the table agree on so many fragments with these masks.
+fn assert_agreed_on_drawn(
+    rt: &(impl Abort + AllocGlobal),
+    count: usize,
+    masks: [usize; 3],
+    raised: usize,
+) {
+    let blocks = drawn_blocks(rt.alloc(), 7, count, masks, raised).expect(rt, "blocks");
+    assert_agreed_at_all(rt, &blocks, &Penalties::new());
+    assert_agreed_at_all(rt, &blocks, &all_penalties(0));
+    assert_agreed_at_all(rt, &blocks, &all_penalties(LIMIT));
+}
+
 /// In the queue case the search gives the list of the table, ties included, whatever the first line
 /// width.
 #[test]
-fn the_search_agrees_with_the_table(rt: HostRuntime) -> Result<(), Fail> {
-    let penalties = [Penalties::new(), all_penalties(0), all_penalties(LIMIT)];
-    let widths: &[&[usize]] = &[&[80], &[20], &[5, 20], &[20, 5], &[0, 9], &[], &[7, 7, 7]];
+fn the_search_agrees_with_the_table(rt: HostRuntime) {
     for count in [0, 1, 2, 3, 4, 40] {
         for &(masks, raised) in MASKS {
-            let blocks = drawn_blocks(rt.alloc(), 7, count, masks, raised)?;
-            for &line_widths in widths {
-                for penalties in &penalties {
-                    assert_agreed(&rt, &blocks, line_widths, penalties)?;
-                }
-            }
+            assert_agreed_on_drawn(&rt, count, masks, raised);
         }
     }
-    Ok(())
 }
 
 /// What the search finds over line costs of these fragments, which are a queue case, and its steps.
@@ -299,94 +367,102 @@ pub(super) fn searched<A: Allocator + Copy>(
     Ok((minima, costs.steps()))
 }
 
+/// Nine fragments of three columns and a blank.
+const NINE: [Block; 9] = [Block(3, 1, 0); 9];
+
+/// How many minima the search finds for nine fragments.
+fn found_by_search(rt: &(impl Abort + AllocGlobal), heap: &Heap) -> Result<usize, WrapError> {
+    let (minima, _steps) = searched(rt, heap, &NINE, &[7], &Penalties::new())?;
+    Ok(minima.len())
+}
+
 /// The search is out of memory where either of its lists is refused: the one of what it finds, and
 /// the one of its stretches.
 #[test]
-fn a_refused_search_finds_nothing_else(rt: HostRuntime) -> Result<(), Fail> {
+fn a_refused_search_finds_nothing_else(rt: HostRuntime) {
     let heap = Heap::new(rt.alloc(), 0);
-    let blocks = [Block(3, 1, 0); 9];
     for allowed in 0..2 {
         heap.allow(allowed);
-        let refused = searched(&rt, &heap, &blocks, &[7], &Penalties::new());
+        let refused = found_by_search(&rt, &heap);
         assert!(rt; matches!(refused, Err(WrapError::Memory(_))), "{allowed}");
     }
     heap.allow(2);
-    let (minima, _steps) = searched(&rt, &heap, &blocks, &[7], &Penalties::new())?;
-    assert_eq!(rt; minima.len(), 10);
-    assert_eq!(rt; heap.left(), 0);
-    Ok(())
+    assert!(rt; matches!(found_by_search(&rt, &heap), Ok(10)));
+    assert!(rt; heap.left() == 0);
 }
 
 /// The line costs that were asked for when each of the allocations was refused. The first are made
 /// before any is asked for.
-const STEPS_OF_TABLE: [u128; 8] = [0, 0, 0, 0, 0, 10, 36, 45];
+const STEPS_OF_TABLE: &[u128] = &[0, 0, 0, 0, 0, 10, 36, 45];
 
-const STEPS_OF_QUEUE: [u128; 6] = [0, 0, 0, 0, 0, 1];
+const STEPS_OF_QUEUE: &[u128] = &[0, 0, 0, 0, 0, 1];
 
-/// Where memory runs out, the line costs that were asked for until then have been counted.
+/// The line costs that the table asked for until it was refused.
+fn refused_table(heap: &Heap) -> Option<u128> {
+    let (minima, asked) = plain_table(heap, &NINE, &[7, 3, 7], &Penalties::new());
+    minima.is_err().then_some(asked)
+}
+
+/// The line costs that the search asked for until it was refused.
+fn refused_queue(rt: &impl Abort, heap: &Heap) -> Option<u128> {
+    let (minima, asked) = plain_queue(rt, heap, &NINE, &[7], &Penalties::new());
+    minima.is_err().then_some(asked)
+}
+
+/// Where memory runs out in the table, the line costs that were asked for until then have been
+/// counted.
 #[test]
-fn steps_are_counted_until_memory_runs_out(rt: HostRuntime) {
+fn steps_of_the_table_are_counted_until_memory_runs_out(rt: HostRuntime) {
     let heap = Heap::new(rt.alloc(), 0);
-    let blocks = [Block(3, 1, 0); 9];
-    let penalties = Penalties::new();
-    for (allowed, expected) in STEPS_OF_TABLE.into_iter().enumerate() {
+    for (allowed, expected) in STEPS_OF_TABLE.iter().enumerate() {
         heap.allow(allowed);
-        let mut steps = Steps::new();
-        let refused = table_minima(&heap, &blocks, &[7, 3, 7], &penalties, &mut steps);
-        assert!(rt; refused.is_err(), "{allowed}");
-        assert_eq!(rt; steps.count(), expected, "{allowed}");
-    }
-    assert!(rt; is_queue_case(&blocks, &[7], &penalties));
-    for (allowed, expected) in STEPS_OF_QUEUE.into_iter().enumerate() {
-        heap.allow(allowed);
-        let mut steps = Steps::new();
-        let refused = queue_minima(&heap, &blocks, &[7], &penalties, &mut steps);
-        assert!(rt; refused.is_err(), "{allowed}");
-        assert_eq!(rt; steps.count(), expected, "{allowed}");
+        assert_row(&rt, allowed, refused_table(&heap) == Some(*expected));
     }
 }
 
-/// What the table finds on lines of 80, and its steps.
-fn by_table(alloc: Global, blocks: &[Block]) -> Result<(Vec<Minimum>, u128), WrapError> {
-    let mut steps = Steps::new();
-    let minima = table_minima(alloc, blocks, &[80], &Penalties::new(), &mut steps)?;
-    Ok((minima, steps.count()))
+/// The same in the search.
+#[test]
+fn steps_of_the_search_are_counted_until_memory_runs_out(rt: HostRuntime) {
+    let heap = Heap::new(rt.alloc(), 0);
+    for (allowed, expected) in STEPS_OF_QUEUE.iter().enumerate() {
+        heap.allow(allowed);
+        assert_row(&rt, allowed, refused_queue(&rt, &heap) == Some(*expected));
+    }
 }
 
-/// What `queue_minima` finds on lines of 80, and its steps.
-fn by_queue(
-    rt: &(impl Abort + AllocGlobal),
-    blocks: &[Block],
-) -> Result<(Vec<Minimum>, u128), WrapError> {
+/// The line costs that the table asks for, on lines of 80. Asserts that it gives these minima.
+fn steps_of_table(rt: &(impl Abort + AllocGlobal), blocks: &[Block], minima: &[Minimum]) -> u128 {
+    let (table, asked) = plain_table(rt.alloc(), blocks, &[80], &Penalties::new());
+    assert_row(rt, asked, table.expect(rt, "memory").as_slice() == minima);
+    asked
+}
+
+/// The line costs that `queue_minima` asks for, on lines of 80. Asserts that it gives these minima.
+fn steps_of_queue(rt: &(impl Abort + AllocGlobal), blocks: &[Block], minima: &[Minimum]) -> u128 {
+    let (again, asked) = plain_queue(rt, rt.alloc(), blocks, &[80], &Penalties::new());
+    assert_row(rt, asked, again.expect(rt, "memory").as_slice() == minima);
+    asked
+}
+
+/// The steps of a division into lines of this width.
+fn steps_of_division(rt: &(impl Abort + AllocGlobal), blocks: &[Block], line_width: usize) -> u128 {
     let penalties = Penalties::new();
-    assert!(rt; is_queue_case(blocks, &[80], &penalties));
-    let mut steps = Steps::new();
-    let minima = queue_minima(rt.alloc(), blocks, &[80], &penalties, &mut steps)?;
-    Ok((minima, steps.count()))
-}
-
-/// The steps of a division into lines of 80.
-fn steps_of_division(alloc: Global, blocks: &[Block]) -> Result<u128, WrapError> {
-    let mut steps = Steps::new();
-    wrap_optimal_fit_counted(alloc, blocks, &[80], &Penalties::new(), &mut steps)?;
-    Ok(steps.count())
+    let (lines, asked) = plain_optimal_fit_counted(rt.alloc(), blocks, &[line_width], &penalties);
+    assert!(rt; lines.is_ok());
+    asked
 }
 
 /// Of 1000 fragments the search asks for at most 30,000 line costs, where the table asks for
 /// 500,500. That all three calls by the search count the same shows that none searches uncounted.
 #[test]
-fn the_search_asks_for_few_line_costs(rt: HostRuntime) -> Result<(), Fail> {
-    let blocks = vec![in rt.alloc(); Block(3, 1, 0); 1000]?;
-    let (table, asked) = by_table(rt.alloc(), &blocks)?;
-    assert_eq!(rt; asked, 500_500);
-    let (minima, steps) = searched(&rt, rt.alloc(), &blocks, &[80], &Penalties::new())?;
-    assert!(rt; minima.as_slice() == table.as_slice());
-    assert!(rt; (1000..=30_000).contains(&steps), "{steps}");
-    let (again, counted) = by_queue(&rt, &blocks)?;
-    assert!(rt; again.as_slice() == table.as_slice());
-    assert_eq!(rt; counted, steps);
-    assert_eq!(rt; steps_of_division(rt.alloc(), &blocks)?, steps);
-    Ok(())
+fn the_search_asks_for_few_line_costs(rt: HostRuntime) {
+    let blocks = vec![in rt.alloc(); Block(3, 1, 0); 1000].expect(&rt, "blocks");
+    let found = searched(&rt, rt.alloc(), &blocks, &[80], &Penalties::new());
+    let (minima, steps) = found.expect(&rt, "memory");
+    assert_row(&rt, steps, (1000..=30_000).contains(&steps));
+    assert_row(&rt, steps, steps_of_table(&rt, &blocks, &minima) == 500_500);
+    assert_row(&rt, steps, steps_of_queue(&rt, &blocks, &minima) == steps);
+    assert_row(&rt, steps, steps_of_division(&rt, &blocks, 80) == steps);
 }
 
 const STEPS: &[(&[Block], u128, u128)] = &[
@@ -398,14 +474,11 @@ const STEPS: &[(&[Block], u128, u128)] = &[
 /// Outside the queue case the table is asked: 15 line costs of five fragments. No fragments need
 /// none, and one needs at most 12.
 #[test]
-fn steps_are_those_of_the_case(rt: HostRuntime) -> Result<(), Fail> {
+fn steps_are_those_of_the_case(rt: HostRuntime) {
     for &(blocks, least, most) in STEPS {
-        let mut steps = Steps::new();
-        wrap_optimal_fit_counted(rt.alloc(), blocks, &[10], &Penalties::new(), &mut steps)?;
-        let count = steps.count();
-        assert!(rt; count >= least && count <= most, "{blocks:?}: {count}");
+        let count = steps_of_division(&rt, blocks, 10);
+        assert_row(&rt, (blocks, count), count >= least && count <= most);
     }
-    Ok(())
 }
 
 /// Lines that cost the square of how many fragments they have, and a count of what was asked.
@@ -442,21 +515,28 @@ impl CostSource for Squares {
     }
 }
 
+/// Whether entry j starts at j - 1 and costs j, for each j up to 1000.
+fn are_of_one_fragment_each(minima: &[Minimum]) -> bool {
+    let Some((first, later)) = minima.split_first() else {
+        return false;
+    };
+    for (before, minimum) in later.iter().enumerate() {
+        if minimum.start != before || minimum.cost != before as u128 + 1 {
+            return false;
+        }
+    }
+    *first == Minimum { start: 0, cost: 0 } && later.len() == 1000
+}
+
 /// Where a line costs the square of its length, lines of one fragment are the cheapest: entry j
 /// starts at j - 1 and costs j. A table of 1000 fragments would ask for 500500 line costs.
 #[test]
-fn a_queue_searches_any_source_that_suits_it(rt: HostRuntime) -> Result<(), Fail> {
+fn a_queue_searches_any_source_that_suits_it(rt: HostRuntime) {
     let mut squares = Squares {
         ends: 1000,
         asked: 0,
     };
-    let minima = queue_search(rt.alloc(), &mut squares)?;
-    assert_eq!(rt; minima.len(), 1001);
-    assert_eq!(rt; minima[0], Minimum { start: 0, cost: 0 });
-    for (before, minimum) in minima.iter().skip(1).enumerate() {
-        assert_eq!(rt; minimum.start, before);
-        assert_eq!(rt; minimum.cost, before as u128 + 1);
-    }
-    assert!(rt; squares.asked <= 30_000, "{}", squares.asked);
-    Ok(())
+    let minima = queue_search(rt.alloc(), &mut squares).expect(&rt, "minima");
+    assert_row(&rt, "minima", are_of_one_fragment_each(&minima));
+    assert_row(&rt, squares.asked, squares.asked <= 30_000);
 }

@@ -19,7 +19,7 @@ use textwrap_uses::paths::path_lines;
 use textwrap_uses::scripts::script;
 use textwrap_uses::sentences::sentence_lines;
 use textwrap_uses::tables::barred_rows;
-use vectors_functions::are_borrowed;
+use textwrap_vectors::functions::are_borrowed;
 
 #[test]
 fn a_help_entry_has_its_flag_and_its_text(rt: HostRuntime) -> Result<(), Fail> {

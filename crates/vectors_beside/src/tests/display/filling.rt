@@ -6,7 +6,7 @@ use std::process::Abort;
 use std::test::Fail;
 use textwrap::wrap_algorithms::LineEnds;
 use textwrap::{LineEnding, Options, WrapAlgorithm, WrapError};
-use vectors_functions::{end_all, end_early, end_twice};
+use textwrap_vectors::functions::{end_all, end_early, end_twice};
 
 /// The rule, the text, the columns, the initial and the subsequent indent, and the text filled.
 type Row = (

@@ -1,7 +1,7 @@
 //! The calls of the module `fuzzing`.
-use super::plain::{
+use super::plain::{plain_append, plain_fill_slowly};
+use super::texts::{
     FIRST_FIT, Layout, OPTIMAL_FIT, assert_borrowed, assert_text, one_line, options_of,
-    plain_append, plain_fill_slowly,
 };
 use std::alloc::Global;
 use std::borrow::CowStr;

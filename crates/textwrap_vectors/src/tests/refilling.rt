@@ -1,8 +1,6 @@
 //! Texts by `unfill` and `refill`.
-use super::plain::{
-    FIRST_FIT, Layout, OPTIMAL_FIT, assert_row, assert_text, is_unfilled, options_of, plain_fill,
-    plain_refill,
-};
+use super::plain::{assert_row, plain_fill, plain_refill};
+use super::texts::{FIRST_FIT, Layout, OPTIMAL_FIT, assert_text, is_unfilled, options_of};
 use LineEnding::{CRLF, LF};
 use std::alloc::Global;
 use std::process::Abort;

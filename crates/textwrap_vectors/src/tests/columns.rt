@@ -1,10 +1,11 @@
 //! Texts in columns beside one another, by `wrap_columns`.
-use super::plain::{Layout, OPTIMAL_FIT, assert_row, options_of, plain_wrap_columns};
+use super::plain::assert_row;
+use super::texts::{Layout, OPTIMAL_FIT, options_of, plain_wrap_columns};
+use crate::functions::end_nowhere;
 use std::process::Abort;
 use std::test::Fail;
 use textwrap::wrap_algorithms::LineEnds;
 use textwrap::{Options, WrapAlgorithm, WrapError};
-use vectors_functions::end_nowhere;
 
 /// Whether the rows are these.
 fn are_rows(rows: &[String], expected: &[&str]) -> bool {

@@ -1,6 +1,7 @@
 //! The text that `fill_inplace` leaves, also where memory is refused.
-use super::plain::{assert_text, plain_fill_inplace};
-use refusing_heap::Heap;
+use super::plain::plain_fill_inplace;
+use super::texts::assert_text;
+use fakes::heap::Heap;
 use std::alloc::AllocError;
 use std::process::Abort;
 use std::test::Fail;

@@ -1,8 +1,8 @@
 //! The lines of `wrap`.
-use super::plain::Kind::{Borrowed, Owned};
-use super::plain::{
+use super::plain::plain_wrap;
+use super::texts::Kind::{Borrowed, Owned};
+use super::texts::{
     FIRST_FIT, Layout, Lines, OPTIMAL_FIT, PENALTIES, assert_borrowed, assert_lines, options_of,
-    plain_wrap,
 };
 use std::test::Fail;
 use textwrap::LineEnding;

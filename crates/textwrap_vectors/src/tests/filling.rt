@@ -1,8 +1,6 @@
 //! The texts of `fill`.
-use super::plain::{
-    FIRST_FIT, Layout, OPTIMAL_FIT, PENALTIES, assert_row, assert_text, options_of, plain_append,
-    plain_fill, plain_wrap,
-};
+use super::plain::{assert_row, plain_append, plain_fill, plain_wrap};
+use super::texts::{FIRST_FIT, Layout, OPTIMAL_FIT, PENALTIES, assert_text, options_of};
 use LineEnding::{CRLF, LF};
 use std::alloc::Global;
 use std::borrow::CowStr;

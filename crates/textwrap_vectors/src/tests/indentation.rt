@@ -1,5 +1,6 @@
 //! Texts by `indent` and `dedent`.
-use super::plain::{assert_text, plain_dedent, plain_indent};
+use super::plain::{plain_dedent, plain_indent};
+use super::texts::assert_text;
 use std::test::Fail;
 
 const INDENTED: &[(&str, &str, &str)] = &[

@@ -1,25 +1,18 @@
-//! What the tests of all calls share: each call without its clauses, options, and assertions.
-//!
-//! The tables say what a call gives, and its clauses nothing of that. So the tests make their calls
-//! through functions that have none, and the check of a test does not read those of the library. A
-//! value that lives over a `?` has to be let go there: so what a call gives is handed to an
-//! assertion as it is, before anyone asks whether there was memory for it.
+//! What the tests on texts share: options that a constant can hold, and assertions on texts and lines.
+//! A value that lives over a `?` has to be let go there: so what a call gives is handed to an assertion
+//! as it is, before anyone asks whether there was memory for it.
 ghost use Rattle.std.specs.Prelude.{◌≤◌};
 
+use crate::functions::are_borrowed;
 use Kind::Borrowed;
 use std::alloc::{AllocError, Global};
 use std::borrow::CowStr;
-use std::fmt::Debug;
 use std::process::Abort;
-use textwrap::fuzzing::{fill_slow_path, wrap_single_line, wrap_single_line_slow_path};
-use textwrap::word_splitters::split_words;
-use textwrap::words::Word;
 use textwrap::wrap_algorithms::Penalties;
 use textwrap::{
-    LineEnding, Options, WordSeparator, WordSplitter, WrapAlgorithm, WrapError, dedent, fill,
-    fill_inplace, indent, refill, unfill, wrap, wrap_columns,
+    LineEnding, Options, WordSeparator, WordSplitter, WrapAlgorithm, WrapError, unfill,
+    wrap_columns,
 };
-use vectors_functions::are_borrowed;
 
 /// The options of a row but for its width: built-in parts, which a constant can hold.
 #[derive(Clone, Copy)]
@@ -96,73 +89,11 @@ pub(super) fn options_of<'a>(width: usize, layout: &Layout<'a>) -> Options<'a> {
     }
 }
 
-/// The pieces that words are split into.
-pub(super) fn plain_split<'t>(
-    alloc: Global,
-    words: &[Word<'t>],
-    splitter: &WordSplitter,
-) -> Result<Vec<Word<'t>>, WrapError> {
-    Ok(split_words(alloc, words.iter().copied(), splitter)?)
-}
-
-/// The lines of `wrap`.
-pub(super) fn plain_wrap<'t>(
-    alloc: Global,
-    text: &'t str,
-    options: Options<'_>,
-) -> Result<Vec<CowStr<'t>>, WrapError> {
-    wrap(alloc, text, options)
-}
-
 /// A list of one line, `x`.
 pub(super) fn one_line<'t>(alloc: Global) -> Result<Vec<CowStr<'t>>, WrapError> {
     let mut lines = Vec::new(alloc);
     lines.push(CowStr::Borrowed("x"))?;
     Ok(lines)
-}
-
-/// Appends the lines of a paragraph, with the shortcut for a short one or without it.
-pub(super) fn plain_append<'t>(
-    alloc: Global,
-    paragraph: &'t str,
-    options: &Options<'_>,
-    slowly: bool,
-    lines: &mut Vec<CowStr<'t>>,
-) -> Result<(), WrapError> {
-    if slowly {
-        wrap_single_line_slow_path(alloc, paragraph, options, lines)
-    } else {
-        wrap_single_line(alloc, paragraph, options, lines)
-    }
-}
-
-/// The text of `fill`.
-pub(super) fn plain_fill(
-    alloc: Global,
-    text: &str,
-    options: Options<'_>,
-) -> Result<String, WrapError> {
-    fill(alloc, text, options)
-}
-
-/// The text of `fill_slow_path`.
-pub(super) fn plain_fill_slowly(
-    alloc: Global,
-    text: &str,
-    options: Options<'_>,
-) -> Result<String, WrapError> {
-    fill_slow_path(alloc, text, options)
-}
-
-/// The text that `fill_inplace` leaves.
-pub(super) fn plain_fill_inplace(
-    alloc: Global,
-    text: &str,
-    width: usize,
-) -> Result<String, WrapError> {
-    let mut filled = String::from_str(alloc, text)?;
-    fill_inplace(alloc, &mut filled, width)?;
-    Ok(filled)
 }
 
 /// The rows of `wrap_columns`.
@@ -204,30 +135,6 @@ pub(super) fn have_layout(
         && options.initial_indent == indents[0]
         && options.subsequent_indent == indents[1]
         && options.line_ending == ending
-}
-
-/// The text of `refill`.
-pub(super) fn plain_refill(
-    alloc: Global,
-    text: &str,
-    options: Options<'_>,
-) -> Result<String, WrapError> {
-    refill(alloc, text, options)
-}
-
-/// The text of `indent`.
-pub(super) fn plain_indent(alloc: Global, text: &str, prefix: &str) -> Result<String, WrapError> {
-    Ok(indent(alloc, text, prefix)?)
-}
-
-/// The text of `dedent`.
-pub(super) fn plain_dedent(alloc: Global, text: &str) -> Result<String, WrapError> {
-    Ok(dedent(alloc, text)?)
-}
-
-/// Asserts that what a row says holds.
-pub(super) fn assert_row<R: Copy + Debug>(rt: &impl Abort, row: R, holds: bool) {
-    assert!(rt; holds, "{row:?}");
 }
 
 /// Asserts that a call on this input gave the expected text.

@@ -1,10 +1,10 @@
 //! Long texts: of nothing but line endings, of nothing but blanks, and of many words. A body that
 //! gave up on what is longer than the rows of the other tables would pass those.
 use super::plain::{
-    FIRST_FIT, Layout, OPTIMAL_FIT, assert_row, is_unfilled, options_of, plain_append,
-    plain_dedent, plain_fill, plain_fill_inplace, plain_indent, plain_refill, plain_wrap,
-    plain_wrap_columns,
+    assert_row, plain_append, plain_dedent, plain_fill, plain_fill_inplace, plain_indent,
+    plain_refill, plain_wrap,
 };
+use super::texts::{FIRST_FIT, Layout, OPTIMAL_FIT, is_unfilled, options_of, plain_wrap_columns};
 use Call::{
     Column, Dedent, Fill, FillInplace, FillLine, Indent, Refill, Table, Wrap, WrapSingleLines,
 };

@@ -1,8 +1,12 @@
 //! Words, points and lines by functions of the caller.
-use super::plain::Kind::{Borrowed, Owned};
-use super::plain::{
-    Layout, Lines, OPTIMAL_FIT, assert_borrowed, assert_lines, assert_row, one_line, options_of,
-    plain_append, plain_split, plain_wrap,
+use super::plain::{assert_row, plain_append, plain_split, plain_wrap};
+use super::texts::Kind::{Borrowed, Owned};
+use super::texts::{
+    Layout, Lines, OPTIMAL_FIT, assert_borrowed, assert_lines, one_line, options_of,
+};
+use crate::functions::{
+    are_borrowed, cut_everywhere, cut_foobar, cut_nowhere, end_all, end_early, end_nowhere,
+    end_twice, refuse_line, refuse_word, refuse_words, split_in_middle,
 };
 use std::alloc::{AllocError, Global};
 use std::fmt::Debug;
@@ -13,10 +17,6 @@ use textwrap::word_splitters::WordCuts;
 use textwrap::words::Word;
 use textwrap::wrap_algorithms::LineEnds;
 use textwrap::{Options, WordSeparator, WordSplitter, WrapAlgorithm, WrapError};
-use vectors_functions::{
-    are_borrowed, cut_everywhere, cut_foobar, cut_nowhere, end_all, end_early, end_nowhere,
-    end_twice, refuse_line, refuse_word, refuse_words, split_in_middle,
-};
 
 /// Words that are not broken.
 const WHOLE_WORDS: Layout<'_> = Layout {

@@ -1,4 +1,0 @@
-mod arguments;
-mod filling;
-mod plain;
-mod program;

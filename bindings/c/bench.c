@@ -8,7 +8,7 @@
 #include <string.h>
 #include <time.h>
 
-#include "textwrap.h"
+#include "textwrap_proved.h"
 
 enum { MOST = 1 << 27, RUNS = 25, ROOM = 2 };
 

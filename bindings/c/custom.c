@@ -1,8 +1,8 @@
 /* textwrap_wrap_by and textwrap_fill_by: a text is wrapped by functions of the caller, paragraph by
- * paragraph, in the steps of textwrap.h. */
+ * paragraph, in the steps of textwrap_proved.h. */
 #include <stdlib.h>
 
-#include "textwrap.h"
+#include "textwrap_proved.h"
 
 /* Numbers, as many as there is room for. */
 typedef struct {

@@ -2,7 +2,7 @@
 #include <stdio.h>
 #include <stdlib.h>
 
-#include "textwrap.h"
+#include "textwrap_proved.h"
 
 /* All of standard input, and its length, or NULL where memory runs out. */
 static uint8_t *read_all(size_t *len) {

@@ -1,7 +1,7 @@
-/* The calls of textwrap.h that are handed arrays, for a caller whose pointer to nothing is null. Each is
+/* The calls of textwrap_proved.h that are handed arrays, for a caller whose pointer to nothing is null. Each is
  * the proved call of the archive, which wants a pointer that is not; the Makefile gives that call the
  * name that it has here. No array is copied, so the texts within one have to have pointers. */
-#include "textwrap.h"
+#include "textwrap_proved.h"
 
 #define PROVED(name) extern __typeof__(textwrap_##name) proved_##name
 PROVED(display_width);

@@ -6,7 +6,7 @@
 #include <stdlib.h>
 #include <string.h>
 
-#include "textwrap.h"
+#include "textwrap_proved.h"
 
 /* How many allocations are left before the one that is refused, whether that was refused, and how
  * many blocks there are. */

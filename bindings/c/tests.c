@@ -1,10 +1,10 @@
-/* Each declaration of textwrap.h on a worked example, and each option with an answer that it alone
+/* Each declaration of textwrap_proved.h on a worked example, and each option with an answer that it alone
  * gives. */
 #include <stdio.h>
 #include <stdlib.h>
 #include <string.h>
 
-#include "textwrap.h"
+#include "textwrap_proved.h"
 
 static int failures = 0;
 

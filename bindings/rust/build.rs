@@ -8,7 +8,7 @@ use std::path::{Path, PathBuf};
 use std::process::Command;
 
 /// An archive without a heap, and one that has it over malloc.
-const ARCHIVES: [(&str, bool); 2] = [("textwrap_c", false), ("textwrap", true)];
+const ARCHIVES: [(&str, bool); 2] = [("textwrap_c", false), ("textwrap_proved", true)];
 
 fn main() {
     println!("cargo::rerun-if-env-changed=TEXTWRAP_LIBRARY");
@@ -66,7 +66,7 @@ fn installed() -> Option<PathBuf> {
         println!("cargo::rerun-if-env-changed={variable}");
     }
     let program = env::var_os("PKG_CONFIG").unwrap_or_else(|| "pkg-config".into());
-    let answer = Command::new(program).args(["--variable=libdir", "textwrap"]).output().ok()?;
+    let answer = Command::new(program).args(["--variable=libdir", "textwrap_proved"]).output().ok()?;
     let folder = String::from_utf8(answer.stdout).ok()?;
     answer.status.success().then(|| PathBuf::from(folder.trim_end()))
 }

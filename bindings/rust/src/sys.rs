@@ -1,4 +1,4 @@
-//! The exports of the library, as `bindings/c/textwrap.h` has them. Nothing compares the two but
+//! The exports of the library, as `bindings/c/textwrap_proved.h` has them. Nothing compares the two but
 //! the tests of each.
 
 pub const DONE: u32 = 0;

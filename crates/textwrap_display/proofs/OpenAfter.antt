@@ -19,10 +19,6 @@ pub open_styles-push : (before : List (List ℕ)) (s : List ℕ)
     → open_styles (before ++ s ∷ []) ≡ next_styles (open_styles before) s
 open_styles-push before s = grind (arith, cases_Bool, after_last-push, filter-append)
 
--- the last of some links, if it has a target
-abbrev last_link : List (List ℕ) → List (List ℕ)
-last_link links = filter has_target (drop (length links - 1) links)
-
 pub open_link-push : (before : List (List ℕ)) (s : List ℕ)
     → open_link (before ++ s ∷ []) ≡ next_link (open_link before) s
 open_link-push before s = grind (arith, cases_Bool, filter-append, last_one-push, append-nil)

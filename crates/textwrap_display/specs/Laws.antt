@@ -1,13 +1,14 @@
 -- The statements of the laws, each under a name that a caller can cite.
-use Rattle.std.specs.Prelude.{◌≡◌, ◌≢◌, ℕ, ◌+◌, ◌-◌, ◌*◌, ◌/◌, ◌%◌, ◌≤◌, List, [], ◌++◌, All}
-use Rattle.std.specs.Prelude.{IsUtf8, length, map, replicate, sum_by, take}
-use Rattle.std.specs.List.{concat, flat_map, range_with_len, zip}
+use Rattle.std.specs.Prelude.{◌≡◌, ◌≢◌, ℕ, ◌+◌, ◌-◌, ◌*◌, ◌/◌, ◌%◌, ◌<◌, ◌≤◌, List, [], ◌++◌, All}
+use Rattle.std.specs.Prelude.{IsUtf8, length, map, replicate, slice_index_or, sum_by, take}
+use Rattle.std.specs.List.{concat, flat_map, zip}
 use Rattle.textwrap_display.specs.Alignment.{aligned}
 use Rattle.textwrap_display.specs.Justifying.{gaps, indent_len, justified, line_words}
 use Rattle.textwrap_display.specs.Justifying.{widened_words}
 use Rattle.textwrap_display.specs.Shortening.{IsKept, IsShortened}
-use Rattle.textwrap_display.specs.Tables.{cell_line, group_rows, height, RowGaps, Shape}
+use Rattle.textwrap_display.specs.Tables.{group_rows, height, RowGaps, Shape}
 use Rattle.textwrap_display.specs.declared.alignment.Alignment.{Alignment}
+use Rattle.textwrap_lines.specs.LineEnding.{join_with}
 use Rattle.textwrap_lines.specs.Text.{HasWholeSequences}
 use Rattle.textwrap_words.specs.Units.{text_width}
 use Rattle.textwrap_words.specs.Words.{words_of}
@@ -136,9 +137,29 @@ TableRowsAreEven =
     → IsWholeText gaps.left → IsWholeText gaps.middle → KeepToColumns columns cells
     → All (λ row. text_width row ≡ row_width gaps columns) (group_rows gaps columns cells)
 
--- what the rows show of a cell, one row after another, is its lines, and after them nothing
+-- a row that shows these texts, one in each column
+abbrev pub row_of : RowGaps → List (List ℕ) → List ℕ
+row_of gaps texts = gaps.left ++ join_with gaps.middle texts ++ gaps.right
+
+-- what a cell shows in so many rows: each of its lines once, in order, and blanks below them
+abbrev pub cell_shown : Shape → ℕ → List (List ℕ) → List (List ℕ)
+cell_shown column rows lines =
+    map (λ line. line_bytes (aligned column.alignment column.width line))
+    (lines ++ replicate (rows - length lines) [])
+
+-- the rows show so many texts each, and from the first row to the last the texts of a column are
+-- what its cell shows
+pub record ShowsEachLineOnce (gaps : RowGaps) (columns : List Shape) (cells : List (List (List ℕ)))
+    (rows : List (List ℕ)) : Type 0 where
+  pub texts : List (List (List ℕ))
+  pub rows_are : rows ≡ map (row_of gaps) texts
+  pub each_column : All (λ row. length row ≡ length columns) texts
+  pub each_cell : (at : ℕ) (column : Shape) → at < length columns
+      → column ≡ slice_index_or columns at column
+      → map (λ row. slice_index_or row at []) texts
+      ≡ cell_shown column (height cells) (slice_index_or cells at [])
+
 abbrev pub TablesShowEachLineOnce : Type 0
 TablesShowEachLineOnce =
-    (cells : List (List (List ℕ)))
-    → All (λ lines. map (cell_line lines) (range_with_len 0 (height cells))
-    ≡ lines ++ replicate (height cells - length lines) []) cells
+    (gaps : RowGaps) (columns : List Shape) (cells : List (List (List ℕ)))
+    → ShowsEachLineOnce gaps columns cells (group_rows gaps columns cells)

@@ -85,8 +85,9 @@ pub fn table_rows_are_even()
     ensures { TableRowsAreEven }
 {}
 
-/// What the rows of a group of cells show of one of them, one row after another, is the lines of
-/// the cell, and after these nothing. So no line is lost, and none is shown twice.
+/// Each row of a group of cells shows one text in each column, between the gaps. In a column these
+/// are, from the first row to the last, the lines of its cell, each aligned, and below them blanks.
+/// So no line is lost, none is shown twice, and the last column is no exception.
 pub fn tables_show_each_line_once()
     ensures { TablesShowEachLineOnce }
 {}

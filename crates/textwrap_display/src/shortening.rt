@@ -12,8 +12,9 @@ use textwrap_words::escapes::State;
 use textwrap_words::inner::columns;
 
 /// The lines, at most so many. Where some are left out, the last one that is not ends in the
-/// placeholder: it is cut as [`shorten`] cuts a line that is too wide, or stands whole before the
-/// placeholder where there is room for both. The other lines stay as they are, and are not copied.
+/// placeholder: it is cut as [`shorten`] cuts a line that is too wide, or, where there is room for
+/// both, stands before the placeholder whole, but for blanks at its end. The other lines stay as they
+/// are, and are not copied.
 ///
 /// Of `"one"`, `"two three"` and `"four"`, two at most in 8 columns are `"one"` and `"two .."`, where
 /// the placeholder is `" .."`. With `most` 0 there are no lines.

@@ -9,9 +9,9 @@ ghost use Rattle.textwrap_program.specs.Filling.{fault_line, ReadsAll, FillsTo, 
 ghost use Rattle.textwrap_program.specs.Program.{line_feed, TriesLine};
 
 use crate::arguments::Algorithm;
-use simdutf8::basic::from_utf8;
 use std::alloc::Allocator;
 use std::io::{Read, Write};
+use std::str::from_utf8;
 use textwrap_lines::{Options, fill};
 use textwrap_words::wrap_algorithms::{Penalties, WrapAlgorithm, WrapError};
 

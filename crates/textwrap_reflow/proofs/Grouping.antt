@@ -64,22 +64,6 @@ joined_to-more first line later (Paragraph next more ∷ blocks) hangs =
       | false ↦ rw hangs refl
     ])
 
--- ---- a line that does not go on
-
-with_line-other : (first line : List ℕ) (later : List (List ℕ)) (blocks : List Block)
-    → hangs_from line first ≡ false
-    → joined_to first later (with_line line blocks) ≡ Paragraph first later ∷ with_line line blocks
-with_line-other first line later [] other = rw other refl
-with_line-other first line later (Apart next ∷ blocks) other = rw other refl
-with_line-other first line later (Paragraph next more ∷ blocks) other =
-    elim (hangs_from next line) as (λ b. joined_to first later (cond b
-    (Paragraph line (next ∷ more) ∷ blocks) (Paragraph line [] ∷ Paragraph next more ∷ blocks))
-    ≡ Paragraph first later ∷ cond b
-    (Paragraph line (next ∷ more) ∷ blocks) (Paragraph line [] ∷ Paragraph next more ∷ blocks)) [
-      | true ↦ rw other refl
-      | false ↦ rw other refl
-    ]
-
 -- a line goes on with the paragraph, if no fence is open
 abbrev pub goes_on : Bool → List ℕ → List ℕ → Bool
 goes_on keeps_code first line =
@@ -95,10 +79,6 @@ blank_too None true not = cc
 blank_too None false not = refl
 blank_too (Some fence) blank not = cc
 
-only : (b : Bool) → b && not false ≡ false → b ≡ false
-only true is = cc
-only false is = refl
-
 module _ (keeps_code : Bool) (first line : List ℕ) (later lines : List (List ℕ)) where
   pub goes_on-joins : goes_on keeps_code first line ≡ true
       → joined_to first later (blocks keeps_code None (line ∷ lines))
@@ -112,16 +92,3 @@ module _ (keeps_code : Bool) (first line : List ℕ) (later lines : List (List �
         closed (fence_after keeps_code None rest) (is_blank_line rest) stays,
       )
       (joined_to-more first line later (blocks keeps_code None lines) hangs)
-
-  pub goes_on-stops : goes_on keeps_code first line ≡ false
-      → joined_to first later (blocks keeps_code None (line ∷ lines))
-      ≡ Paragraph first later ∷ blocks keeps_code None (line ∷ lines)
-  goes_on-stops stops =
-      let rest = after_prefix line in
-      let more = blocks keeps_code (fence_after keeps_code None rest) lines in
-      elim (stands_apart keeps_code None rest) as (λ b. hangs_from line first && not b ≡ false
-      → joined_to first later (cond b (Apart line ∷ more) (with_line line more))
-      ≡ Paragraph first later ∷ cond b (Apart line ∷ more) (with_line line more)) [
-        | true ↦ λ _. refl
-        | false ↦ λ other. with_line-other first line later more (only (hangs_from line first) other)
-      ] stops

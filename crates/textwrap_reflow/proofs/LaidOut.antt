@@ -79,10 +79,6 @@ kept-front options (line ∷ kept) parts lines (front, back, is, rest, all) =
 
 -- ---- the ending of the last line
 
-ended-next : (ending line next : List ℕ) (lines : List (List ℕ))
-    → ended ending (line ∷ next ∷ lines) ≡ (line ++ ending) ++ ended ending (next ∷ lines)
-ended-next ending line next lines = refl
-
 pub ended-joined : (ending line : List ℕ) (lines : List (List ℕ))
     → ended ending (line ∷ lines) ≡ join_with ending (line ∷ lines) ++ ending
 ended-joined ending line [] = append-nil (line ++ ending)

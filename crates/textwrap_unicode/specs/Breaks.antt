@@ -67,17 +67,5 @@ breaks_by numbers text = breaks_from numbers nothing 0 (chars text)
 
 -- ---- with numbers by pairs
 
-abbrev pub verdict_between : List ℕ → ℕ → Verdict
-verdict_between front next = verdict_by ByPairs front next []
-
-abbrev pub IsPlace : List ℕ → ℕ → Verdict → Type 0
-IsPlace = IsPlaceBy ByPairs
-
-abbrev pub IsBreak : List ℕ → LineBreak → Type 0
-IsBreak = IsBreakBy ByPairs
-
-abbrev pub AreBreaks : List ℕ → List LineBreak → Type 0
-AreBreaks = AreBreaksBy ByPairs
-
 abbrev pub line_breaks : List ℕ → List LineBreak
 line_breaks = breaks_by ByPairs

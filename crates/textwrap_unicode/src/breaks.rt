@@ -44,8 +44,8 @@ pub fn line_breaks(text: &str) -> LineBreaks<'_>
     line_breaks_by(text, Numbers::ByPairs)
 }
 
-/// The same, with numbers kept together in this way: `"equals .35"` has breaks at 7 and at the end
-/// by pairs, and by the expression one more, at 8.
+/// The same, with numbers kept together in this way: `"equals .35"` has a break at the end by pairs,
+/// and by the expression one more, at 8.
 pub fn line_breaks_by(text: &str, numbers: Numbers) -> LineBreaks<'_>
     ensures { result ≡ breaks_by numbers text.now }
 {

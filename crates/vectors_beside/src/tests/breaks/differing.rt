@@ -2,7 +2,7 @@
 //! else than the official file, which has numbers by the expression of example 7 of UAX #14.
 //!
 //! The cases are of LineBreakTest-15.0.0.txt, © 2022 Unicode®, Inc. The licence is `LICENSE-UNICODE`
-//! in this crate's folder.
+//! at the top of the repository.
 
 /// The part of LB25 by which no line may end where the official file lets one; the case as there;
 /// and the case by pairs.

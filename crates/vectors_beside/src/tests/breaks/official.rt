@@ -3,7 +3,7 @@
 //!
 //! That file is of 2022-02-26, 00:38:39 GMT. © 2022 Unicode®, Inc.
 //! For terms of use, see https://www.unicode.org/terms_of_use.html
-//! The licence is `LICENSE-UNICODE` in this crate's folder.
+//! The licence is `LICENSE-UNICODE` at the top of the repository.
 //!
 //! The mark `÷` stands wherever a line may end.
 

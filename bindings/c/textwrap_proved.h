@@ -17,8 +17,8 @@
  * It allocates by three of them, rattle_alloc, rattle_realloc and rattle_dealloc. heap.c has them over
  * malloc, and says what each returns.
  */
-#ifndef TEXTWRAP_H
-#define TEXTWRAP_H
+#ifndef TEXTWRAP_PROVED_H
+#define TEXTWRAP_PROVED_H
 
 #include <stddef.h>
 #include <stdint.h>

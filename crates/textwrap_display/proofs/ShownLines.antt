@@ -80,6 +80,6 @@ module _ (gaps : RowGaps) (columns : List Shape) (cells : List (List (List ℕ))
     texts = texts;
     rows_are = sym (map-twice (row_of gaps) (shown_lines columns cells) places);
     each_column = All-map (λ row. length row ≡ length columns) (shown_lines columns cells) places
-    (λ k d within. length-shown columns cells (get_or places k d));
+        (λ k d within. length-shown columns cells (get_or places k d));
     each_cell = column-shown;
   }

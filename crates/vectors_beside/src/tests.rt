@@ -3,7 +3,7 @@ mod breaks;
 mod c;
 mod display;
 mod plain;
+mod program;
 mod reflow;
-mod reflow_program;
 mod refusals;
 mod uses;

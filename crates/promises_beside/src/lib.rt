@@ -1,0 +1,6 @@
+//! As the crate `promises`, of the calls of the crates beside `textwrap`.
+#![tactic(auto)]
+
+pub mod cuts;
+pub mod display;
+pub mod paragraphs;

@@ -1,6 +1,7 @@
 //! As the crate `promises`, of the calls of the crates beside `textwrap`.
 #![tactic(auto)]
 
+pub mod calls;
 pub mod cuts;
 pub mod display;
 pub mod paragraphs;

@@ -5,5 +5,6 @@
 
 pub mod fragments;
 pub mod lines;
+pub mod program;
 pub mod texts;
 pub mod words;

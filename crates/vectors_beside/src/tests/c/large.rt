@@ -201,7 +201,7 @@ fn a_large_text_has_its_lines_and_rows(rt: HostRuntime) -> Result<(), Fail> {
 }
 
 /// The status, how many pieces are told, and the last of so many.
-pub(super) fn last_piece(
+fn last_piece(
     alloc: Global,
     call: PiecesCall<'_>,
     text: &[u8],

@@ -1,17 +1,17 @@
 //! Large lists: of texts, of places in a paragraph, and of fragments.
 use super::fragments::PENALTIES;
-use super::large::{
-    HALF, LEN, LINE, LINES, Told, assert_told_twice, last_piece, write_lines_twice,
-};
+use super::large::{HALF, LEN, LINE, LINES, Told, assert_told_twice, write_lines_twice};
 use super::plain::{
-    AT_80, BARS, BEFORE, DEFAULTS, LinesCall, NOWHERE, OffsetsCall, PiecesCall, assert_told,
-    write_lines, write_offsets,
+    AT_80, BARS, BEFORE, DEFAULTS, LinesCall, NO_PIECE, NOWHERE, OffsetsCall, assert_told,
+    write_offsets,
 };
 use std::alloc::{AllocError, Global};
 use std::test::Fail;
 use textwrap_calls::fragments::TextwrapFragment;
 use textwrap_calls::options::TextwrapOptions;
+use textwrap_calls::pieces::TextwrapPiece;
 use textwrap_calls::status::{DONE, TOO_SMALL};
+use textwrap_calls::steps::{textwrap_lines_at, textwrap_pieces_at};
 use textwrap_calls::tables::TextwrapColumn;
 use textwrap_calls::texts::TextwrapText;
 use textwrap_calls::wrapping::TextwrapLine;
@@ -39,23 +39,24 @@ fn shortened_lines(alloc: Global) -> Result<Told, AllocError> {
     write_lines_twice(alloc, call, b"", LINES)
 }
 
-/// Lines in pairs, with a style that is on from the start of the first to the end of the second.
-fn styled_lines(alloc: Global) -> Result<Vec<TextwrapText<'static>>, AllocError> {
-    let mut lines = Vec::with_capacity(alloc, LINES)?;
-    for _ in 0..HALF {
-        lines.push(TextwrapText {
-            bytes: b"\x1b[1mfoo",
-        })?;
-        lines.push(TextwrapText {
-            bytes: b"bar\x1b[m",
-        })?;
-    }
-    Ok(lines)
-}
+/// A line that leaves a style open.
+const STYLED: TextwrapText<'_> = TextwrapText {
+    bytes: b"\x1b[1mfoo",
+};
 
-/// These lines, each by itself.
+/// A line that ends the style.
+const PLAIN_AGAIN: TextwrapText<'_> = TextwrapText {
+    bytes: b"bar\x1b[m",
+};
+
+/// Lines in pairs, with a style that is on from the start of the first to the end of the second.
 fn carried(alloc: Global) -> Result<Told, AllocError> {
-    let lines = styled_lines(alloc)?;
+    let mut lines = vec![in alloc; STYLED; LINES]?;
+    for i in 0..HALF {
+        if let Some(line) = lines.get_mut(2 * i + 1) {
+            *line = PLAIN_AGAIN;
+        }
+    }
     let call = LinesCall::CarryStyles {
         lines: &lines,
         options: AT_11,
@@ -111,20 +112,26 @@ fn multiples(alloc: Global, most: usize, step: usize) -> Result<Vec<usize>, Allo
 }
 
 /// What is told of the pieces of a text at cuts after each of its lines but the last, and at these
-/// points; and where the last piece stands.
+/// points; and where the last piece stands. Their lists are of several lifetimes, so the call is made
+/// here.
 fn pieces_in_steps(
     alloc: Global,
     text: &[u8],
     points: &[usize],
 ) -> Result<((u32, usize), usize), AllocError> {
     let cuts = multiples(alloc, LINES - 1, LINE.len())?;
-    let call = PiecesCall::PiecesAt {
-        cuts: &cuts,
-        points,
-        options: AT_80,
-    };
-    let (told, last) = last_piece(alloc, call, text, LINES)?;
-    Ok((told, last.offset))
+    let mut pieces = vec![in alloc; NO_PIECE; LINES]?;
+    let mut count = BEFORE;
+    let status = textwrap_pieces_at(alloc, text, &cuts, points, &AT_80, &mut pieces, &mut count);
+    Ok(((status, count), offset_of_last(&pieces)))
+}
+
+/// Where the last piece stands.
+fn offset_of_last(pieces: &[TextwrapPiece]) -> usize {
+    match pieces.last() {
+        Some(last) => last.offset,
+        None => BEFORE,
+    }
 }
 
 /// What is told of the lines and of the room, and where the tenth line stands.
@@ -137,16 +144,21 @@ fn tenth_line(
     cuts: &[usize],
     ends: &[usize],
 ) -> Result<LinesTold, AllocError> {
-    let call = LinesCall::LinesAt {
-        cuts,
-        points: &[],
-        ends,
-        options: AT_80,
-        is_later: 1,
-    };
     let mut lines = vec![in alloc; NOWHERE; LINES]?;
     let (mut count, mut len) = (BEFORE, BEFORE);
-    let status = write_lines(alloc, call, text, &mut lines, &mut count, &mut [], &mut len);
+    let status = textwrap_lines_at(
+        alloc,
+        text,
+        cuts,
+        &[],
+        ends,
+        &AT_80,
+        1,
+        &mut lines,
+        &mut count,
+        &mut [],
+        &mut len,
+    );
     Ok(((status, count, len), place_at(&lines, 9)))
 }
 

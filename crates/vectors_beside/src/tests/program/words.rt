@@ -174,7 +174,14 @@ fn options_lay_out_the_standard_input(rt: HostRuntime) -> Result<(), AllocError>
 const WIDTH: &str = "reflow: the width is not a number of 64 bits\n";
 
 /// What a row shows, its words, how the messages begin, and how they end.
-const REFUSED: &[(&str, &[&str], &str, &str)] = &[
+type Refused = (
+    &'static str,
+    &'static [&'static str],
+    &'static str,
+    &'static str,
+);
+
+const REFUSED: &[Refused] = &[
     ("a width with a letter", &["-w", "1O"], WIDTH, WIDTH),
     ("no width", &["-w="], WIDTH, WIDTH),
     ("a width with a sign", &["--width", "+5"], WIDTH, WIDTH),
@@ -222,20 +229,23 @@ const REFUSED: &[(&str, &[&str], &str, &str)] = &[
     ),
 ];
 
+/// What a run on these words is given.
+fn start(words: &'static [&'static str], output: SinkFault) -> Start<'static> {
+    Start {
+        words,
+        input: b"one two",
+        files: &[],
+        faults: (FeedFault::Nothing, output, SinkFault::Nothing),
+    }
+}
+
 /// Runs with words that ask for no input. Asserts that none is read, and the status.
 fn told(
     rt: &(impl Abort + AllocGlobal),
     rule: &str,
-    words: &[&str],
-    fault: SinkFault,
+    start: Start<'_>,
     status: u8,
 ) -> Result<Left, AllocError> {
-    let start = Start {
-        words,
-        input: b"one two",
-        files: &[],
-        faults: (FeedFault::Nothing, fault, SinkFault::Nothing),
-    };
     let left = run(rt.alloc(), start)?;
     assert_number(rt, rule, left.reader.reads, 0);
     assert_ending(rt, rule, left.ending, status, true);
@@ -243,14 +253,9 @@ fn told(
 }
 
 /// Asserts that words are no request, and how the message begins and ends.
-fn assert_refused(
-    rt: &(impl Abort + AllocGlobal),
-    rule: &str,
-    words: &[&str],
-    first: &str,
-    last: &str,
-) -> Result<(), AllocError> {
-    let left = told(rt, rule, words, SinkFault::Nothing, 2)?;
+fn assert_refused(rt: &(impl Abort + AllocGlobal), row: &Refused) -> Result<(), AllocError> {
+    let &(rule, words, first, last) = row;
+    let left = told(rt, rule, start(words, SinkFault::Nothing), 2)?;
     assert_spans(rt, rule, &left.messages.taken, first, last);
     assert_bytes(rt, rule, &left.output.taken, b"");
     Ok(())
@@ -258,14 +263,16 @@ fn assert_refused(
 
 #[test]
 fn other_words_are_no_request(rt: HostRuntime) -> Result<(), AllocError> {
-    for &(rule, words, first, last) in REFUSED {
-        assert_refused(&rt, rule, words, first, last)?;
+    for row in REFUSED {
+        assert_refused(&rt, row)?;
     }
     Ok(())
 }
 
 /// Words that ask for help or the version, and how the answer begins and ends.
-const SHOWN: &[(&[&str], &str, &str)] = &[
+type Shown = (&'static [&'static str], &'static str, &'static str);
+
+const SHOWN: &[Shown] = &[
     (
         &["--help"],
         "Fills the paragraphs of a text, each under its own prefix.\n\n\
@@ -293,14 +300,10 @@ const SHOWING_FAULTS: &[(SinkFault, &[u8], u8)] = &[
 ];
 
 /// Asserts how the answer begins and ends, and what is said where it cannot be written.
-fn assert_shown(
-    rt: &(impl Abort + AllocGlobal),
-    words: &[&str],
-    first: &str,
-    last: &str,
-) -> Result<(), AllocError> {
+fn assert_shown(rt: &(impl Abort + AllocGlobal), row: &Shown) -> Result<(), AllocError> {
+    let &(words, first, last) = row;
     for &(fault, message, status) in SHOWING_FAULTS {
-        let left = told(rt, first, words, fault, status)?;
+        let left = told(rt, first, start(words, fault), status)?;
         assert_bytes(rt, first, &left.messages.taken, message);
         if status == 0 {
             assert_spans(rt, first, &left.output.taken, first, last);
@@ -312,8 +315,8 @@ fn assert_shown(
 /// The answer goes to the output, and if that fails, a message says so.
 #[test]
 fn help_and_version_are_shown(rt: HostRuntime) -> Result<(), AllocError> {
-    for &(words, first, last) in SHOWN {
-        assert_shown(&rt, words, first, last)?;
+    for row in SHOWN {
+        assert_shown(&rt, row)?;
     }
     Ok(())
 }

@@ -31,7 +31,7 @@ extern "C" {
 /* The version of the library that this header is of: 10,000 times its first number, 100 times its
  * second, and its third. textwrap_library_version returns that of the library that was linked. Within
  * a first number, a later library serves a program that was built for an earlier one. */
-#define TEXTWRAP_LIBRARY_VERSION 10500u
+#define TEXTWRAP_LIBRARY_VERSION 20000u
 uint32_t textwrap_library_version(void);
 
 /* What a call returns. */

@@ -85,7 +85,7 @@ fn command<'a>(alloc: Global) -> Result<Command<'a>, AllocError>
     ensures { IfOk result (λ command. app_of command ≡ reflow_app) }
 {
     Command::new(alloc, "reflow")
-        .version("1.5.0")
+        .version("2.0.0")
         .about("Fills the paragraphs of a text, each under its own prefix.")
         .no_binary_name(true)
         .arg(width_argument(alloc))?

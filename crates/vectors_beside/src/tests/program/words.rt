@@ -282,10 +282,10 @@ Usage: reflow [OPTIONS] [FILE]...\n",
     (&["-w", "x", "-h"], "Fills ", "Print version\n"),
     (
         &["--check", "a", "--version"],
-        "reflow 1.5.0\n",
-        "reflow 1.5.0\n",
+        "reflow 2.0.0\n",
+        "reflow 2.0.0\n",
     ),
-    (&["-V"], "reflow 1.5.0\n", "reflow 1.5.0\n"),
+    (&["-V"], "reflow 2.0.0\n", "reflow 1.5.0\n"),
 ];
 
 /// What goes wrong with the output, and the message and the status then.

@@ -12,7 +12,7 @@ use textwrap_soak::checks::paths::Ways;
 use textwrap_soak::checks::refilling::Refills;
 use textwrap_soak::checks::reflowing::Reflows;
 use textwrap_soak::checks::Finding;
-use textwrap_soak::promises::{PROMISES, PROMISES_LEN};
+use textwrap_soak::promises::{Promise, PROMISES, PROMISES_LEN};
 use textwrap_soak::soak::{broken_promise, describe_kept, soak, Outcome};
 
 type Texts = &'static [&'static str];
@@ -278,10 +278,8 @@ const ROWS: &[(Change, &str)] = &[
 
 /// The names of all promises that are broken.
 fn broken_names(case: &Case, answers: &Answers<'_>) -> String {
-    let is_broken = |promise: &textwrap_soak::promises::Promise| {
-        promise.check(case, answers) == Finding::Broken
-    };
-    let broken = PROMISES.iter().filter(|(promise, _)| is_broken(promise));
+    let is_broken = |promise: Promise| promise.check(case, answers) == Finding::Broken;
+    let broken = PROMISES.iter().filter(|&&(promise, _)| is_broken(promise));
     let names: Vec<&str> = broken.map(|&(_, name)| name).collect();
     names.join(" ")
 }
@@ -314,7 +312,7 @@ fn list_case() -> Case {
         plain: "- foo\n- bar".into(),
         first_width: 5,
         settings: Settings { initial_indent: "> ", ..Settings::unbroken(20, Algorithm::FirstFit) },
-        // Too wide for the search, which makes no difference here.
+        // Too wide for the search: the library takes the table.
         many: problem_of(&[(1 << 63, 0)], 0, 2500),
         ..small_case()
     }

@@ -202,7 +202,7 @@ fn words_too_wide_for_128_bits_are_refused_by_cost_alone(rt: HostRuntime) {
     let strict = WrapAlgorithm::OptimalFit(STRICT);
     let refused = plain_divide(rt.alloc(), strict, &words, &[0]);
     assert!(rt; matches!(refused, Err(WrapError::Overflow(_))));
-    assert_divided(&rt, WrapAlgorithm::FirstFit, words, 0, &[1, 1]);
+    assert_divided(&rt, WrapAlgorithm::FirstFit, [WIDEST, WIDEST], 0, &[1, 1]);
 }
 
 /// Equal are first fit to itself, and optimal fit to itself at equal penalties.

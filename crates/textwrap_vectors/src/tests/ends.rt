@@ -1,7 +1,7 @@
 //! Texts at the widths at the ends of their type.
 use super::plain::{
-    assert_gives, at_width, plain_append, plain_fill, plain_fill_inplace, plain_fill_slowly,
-    plain_options, plain_refill, plain_wrap,
+    assert_gives, plain_append, plain_fill, plain_fill_inplace, plain_fill_slowly, plain_options,
+    plain_refill, plain_wrap,
 };
 use std::alloc::Global;
 use std::borrow::CowStr;
@@ -204,7 +204,8 @@ fn assert_filled_at_ends(
     expected: &[&str; 4],
 ) {
     for (width, expected) in END_WIDTHS.iter().zip(expected) {
-        assert_laid_out(rt, text, &at_width(options, *width), expected);
+        let options = Options::from(options).width(*width);
+        assert_laid_out(rt, text, &options, expected);
     }
 }
 
@@ -273,7 +274,8 @@ fn assert_refilled(
 ) {
     for width in END_WIDTHS {
         let expected = if width <= 1 { narrow } else { wide };
-        let refilled = plain_refill(rt.alloc(), text, at_width(options, width));
+        let options = Options::from(options).width(width);
+        let refilled = plain_refill(rt.alloc(), text, options);
         assert_gives(rt, text, refilled, expected);
     }
 }

@@ -267,11 +267,6 @@ pub(super) fn plain_options<'a>(
         .wrap_algorithm(algorithm)
 }
 
-/// The same options at another width.
-pub(super) fn at_width<'a>(options: &Options<'a>, width: usize) -> Options<'a> {
-    Options::from(options).width(width)
-}
-
 /// The lines of a text.
 pub(super) fn plain_wrap<'t, A: Allocator + Copy>(
     alloc: A,

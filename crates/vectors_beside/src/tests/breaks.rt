@@ -77,11 +77,11 @@ fn breaks_of(text: &str, numbers: Numbers) -> LineBreaks<'_> {
     }
 }
 
-/// A text with the marks of its breaks. What is behind the last break ends without one.
-fn with_marks(alloc: Global, text: &str, numbers: Numbers) -> Result<String, AllocError> {
+/// A text with the marks of these breaks. What is behind the last break ends without one.
+fn with_marks(alloc: Global, text: &str, breaks: LineBreaks<'_>) -> Result<String, AllocError> {
     let mut marked = String::new(alloc);
     let mut start = 0;
-    for found in breaks_of(text, numbers) {
+    for found in breaks {
         let line = text.get(start..found.at).unwrap_or("");
         marked.push_str(line)?;
         marked.push(mark_of(found, line, text))?;
@@ -117,7 +117,7 @@ fn assert_breaks(
     numbers: Numbers,
 ) -> Result<(), AllocError> {
     let text = text_of(rt.alloc(), case)?;
-    let found = with_marks(rt.alloc(), &text, numbers)?;
+    let found = with_marks(rt.alloc(), &text, breaks_of(&text, numbers))?;
     assert_text(rt, "breaks", &found, case);
     Ok(())
 }

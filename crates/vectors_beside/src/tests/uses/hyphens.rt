@@ -48,10 +48,7 @@ fn is_line(paragraph: &str, placed: &PlacedLines<Global>, place: &Place, expecte
     let Some(rest) = source.get(place.offset..) else {
         return false;
     };
-    match rest.get(..place.len) {
-        Some(line) => line == expected.as_bytes(),
-        None => false,
-    }
+    rest.get(..place.len) == Some(expected.as_bytes())
 }
 
 /// Whether the lines of a paragraph have these texts.

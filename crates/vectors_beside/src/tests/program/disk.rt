@@ -67,15 +67,26 @@ const BEFORE: &[(&str, &str, u32)] = &[
     ("closed", COUNT, 0o444),
 ];
 
-/// Makes the files, and a link to the first. This gets another owner and another group, where the
-/// tests may do that: only the super-user may.
+/// Makes the files.
 fn make_files(rt: &(impl rt::Files + AllocGlobal), folder: &str) -> io::Result<()> {
     for &file in BEFORE {
         write(rt, folder, file)?;
     }
-    let (a, link) = (path(rt, folder, "a")?, path(rt, folder, "link")?);
-    let _given = lchown(rt, a.as_str(), Some(1), Some(2));
+    Ok(())
+}
+
+/// Makes a link to the file `a`.
+fn make_link(rt: &(impl rt::Files + AllocGlobal), folder: &str) -> io::Result<()> {
+    let link = path(rt, folder, "link")?;
     symlink(rt, "a", link.as_str())
+}
+
+/// Gives the file `a` to another owner and another group, if the tests may do that: only the
+/// super-user may.
+fn give_away(rt: &(impl rt::Files + AllocGlobal), folder: &str) -> io::Result<()> {
+    let a = path(rt, folder, "a")?;
+    let _given = lchown(rt, a.as_str(), Some(1), Some(2));
+    Ok(())
 }
 
 /// Runs the program on a file of the folder, and returns the status, and whether the output and the
@@ -131,21 +142,27 @@ fn assert_runs(rt: &(impl rt::Files + AllocGlobal + Abort), folder: &str) -> io:
 /// What stands in the files after the runs.
 const AFTER: &[(&str, &str)] = &[("a", COUNT_AT_10), ("b", COUNT), ("b.reflow", "old")];
 
+/// Whether the link is one.
+fn is_link(rt: &(impl rt::Files + AllocGlobal), folder: &str) -> io::Result<bool> {
+    let link = path(rt, folder, "link")?;
+    Ok(fs::symlink_metadata(rt, link.as_str())?.is_symlink())
+}
+
+/// How many files there are in the folder.
+fn count_files(rt: &(impl rt::Runtime + AllocGlobal), folder: &str) -> io::Result<usize> {
+    Ok(fs::read_dir(rt, folder)?.count())
+}
+
 /// Asserts that one file was replaced, and no other written. The link is still one.
 fn assert_replaced(rt: &(impl rt::Runtime + AllocGlobal + Abort), folder: &str) -> io::Result<()> {
     for &(name, text) in AFTER {
         let is_held = holds(rt, folder, name, text)?;
         assert!(rt; is_held, "{name}");
     }
-    let link = path(rt, folder, "link")?;
-    let is_link = fs::symlink_metadata(rt, link.as_str())?.is_symlink();
+    let is_link = is_link(rt, folder)?;
     assert!(rt; is_link);
-    assert_number(
-        rt,
-        "files",
-        fs::read_dir(rt, folder)?.count(),
-        BEFORE.len() + 1,
-    );
+    let count = count_files(rt, folder)?;
+    assert_number(rt, "files and the link", count, BEFORE.len() + 1);
     Ok(())
 }
 
@@ -173,6 +190,8 @@ fn assert_files_are_replaced(
     folder: &str,
 ) -> io::Result<()> {
     make_files(rt, folder)?;
+    make_link(rt, folder)?;
+    give_away(rt, folder)?;
     let before = rights(rt, folder, "a")?;
     assert_runs(rt, folder)?;
     let is_kept = rights(rt, folder, "a")? == before && before.2 == 0o640;
@@ -182,17 +201,26 @@ fn assert_files_are_replaced(
     assert_replaced(rt, folder)
 }
 
-/// Makes a draft for the file `a`, writes a long text into it and discards it. Returns its mode, and
-/// whether the write says how much it wrote.
-fn drafted(rt: &(impl rt::Files + AllocGlobal), folder: &str) -> io::Result<(u32, bool)> {
+/// Makes a draft for a file, writes the text into it and discards it. Returns its mode, and whether
+/// the write says how much it wrote.
+fn drafted(
+    rt: &(impl rt::Files + AllocGlobal),
+    (file, draft_path): (&str, &str),
+    text: &str,
+) -> io::Result<(u32, bool)> {
+    let mut disk = Disk::new(rt);
+    let mut draft = disk.draft(file)?;
+    let count = draft.write(text.as_bytes())?;
+    let found = fs::metadata(rt, draft_path)?;
+    disk.discard(file, draft);
+    Ok((found.mode() & 0o7777, found.len() == count as u64))
+}
+
+/// The same for the file `a`, with a long text.
+fn drafted_long(rt: &(impl rt::Files + AllocGlobal), folder: &str) -> io::Result<(u32, bool)> {
     let (a, beside) = (path(rt, folder, "a")?, path(rt, folder, "a.reflow")?);
     let text = COUNT.repeat(rt.alloc(), 5_000)?;
-    let mut disk = Disk::new(rt);
-    let mut draft = disk.draft(a.as_str())?;
-    let count = draft.write(text.as_bytes())?;
-    let found = fs::metadata(rt, beside.as_str())?;
-    disk.discard(a.as_str(), draft);
-    Ok((found.mode() & 0o7777, found.len() == count as u64))
+    drafted(rt, (a.as_str(), beside.as_str()), text.as_str())
 }
 
 /// Whether a draft cannot be put in the place of its file, once this is a folder.
@@ -224,7 +252,7 @@ fn assert_drafts_are_made_and_removed(
     folder: &str,
 ) -> io::Result<()> {
     write(rt, folder, ("a", COUNT, 0o644))?;
-    let (mode, is_counted) = drafted(rt, folder)?;
+    let (mode, is_counted) = drafted_long(rt, folder)?;
     assert_number(rt, "the mode of a draft", mode as usize, 0o600);
     assert!(rt; is_counted);
     let is_left = is_there(rt, folder, "a.reflow")?;

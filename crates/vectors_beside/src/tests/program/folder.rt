@@ -70,10 +70,12 @@ impl Folder {
 
     /// The file of this name.
     fn find(&self, name: &str) -> io::Result<&Held> {
-        match self.held.iter().find(|held| held.name == name) {
-            Some(held) => Ok(held),
-            None => Err(io::Error::from(ErrorKind::NotFound)),
+        for held in &self.held {
+            if held.name == name {
+                return Ok(held);
+            }
         }
+        Err(io::Error::from(ErrorKind::NotFound))
     }
 }
 

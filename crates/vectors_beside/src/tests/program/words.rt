@@ -1,6 +1,7 @@
 //! What the words after the program's name mean, seen by what is done with the standard input.
 use super::plain::{
-    Left, Start, assert_bytes, assert_ending, assert_number, assert_reflowed, assert_spans, run,
+    Left, SOUND, Start, assert_bytes, assert_ending, assert_number, assert_reflowed, assert_spans,
+    run,
 };
 use fakes::streams::{FeedFault, SinkFault};
 use std::alloc::AllocError;
@@ -229,33 +230,23 @@ const REFUSED: &[Refused] = &[
     ),
 ];
 
-/// What a run on these words is given.
-fn start(words: &'static [&'static str], output: SinkFault) -> Start<'static> {
-    Start {
-        words,
-        input: b"one two",
-        files: &[],
-        faults: (FeedFault::Nothing, output, SinkFault::Nothing),
-    }
-}
-
-/// Runs with words that ask for no input. Asserts that none is read, and the status.
-fn told(
-    rt: &(impl Abort + AllocGlobal),
-    rule: &str,
-    start: Start<'_>,
-    status: u8,
-) -> Result<Left, AllocError> {
-    let left = run(rt.alloc(), start)?;
+/// Asserts that a run read no input, and how it ended. Each message was written whole.
+fn assert_unread(rt: &impl Abort, rule: &str, left: &Left, status: u8) {
     assert_number(rt, rule, left.reader.reads, 0);
     assert_ending(rt, rule, left.ending, status, true);
-    Ok(left)
 }
 
 /// Asserts that words are no request, and how the message begins and ends.
 fn assert_refused(rt: &(impl Abort + AllocGlobal), row: &Refused) -> Result<(), AllocError> {
     let &(rule, words, first, last) = row;
-    let left = told(rt, rule, start(words, SinkFault::Nothing), 2)?;
+    let start = Start {
+        words,
+        input: b"one two",
+        files: &[],
+        faults: SOUND,
+    };
+    let left = run(rt.alloc(), start)?;
+    assert_unread(rt, rule, &left, 2);
     assert_spans(rt, rule, &left.messages.taken, first, last);
     assert_bytes(rt, rule, &left.output.taken, b"");
     Ok(())
@@ -300,14 +291,23 @@ const SHOWING_FAULTS: &[(SinkFault, &[u8], u8)] = &[
 ];
 
 /// Asserts how the answer begins and ends, and what is said where it cannot be written.
-fn assert_shown(rt: &(impl Abort + AllocGlobal), row: &Shown) -> Result<(), AllocError> {
+fn assert_shown(
+    rt: &(impl Abort + AllocGlobal),
+    row: &Shown,
+    &(fault, message, status): &(SinkFault, &[u8], u8),
+) -> Result<(), AllocError> {
     let &(words, first, last) = row;
-    for &(fault, message, status) in SHOWING_FAULTS {
-        let left = told(rt, first, start(words, fault), status)?;
-        assert_bytes(rt, first, &left.messages.taken, message);
-        if status == 0 {
-            assert_spans(rt, first, &left.output.taken, first, last);
-        }
+    let start = Start {
+        words,
+        input: b"one two",
+        files: &[],
+        faults: (FeedFault::Nothing, fault, SinkFault::Nothing),
+    };
+    let left = run(rt.alloc(), start)?;
+    assert_unread(rt, first, &left, status);
+    assert_bytes(rt, first, &left.messages.taken, message);
+    if status == 0 {
+        assert_spans(rt, first, &left.output.taken, first, last);
     }
     Ok(())
 }
@@ -316,7 +316,9 @@ fn assert_shown(rt: &(impl Abort + AllocGlobal), row: &Shown) -> Result<(), Allo
 #[test]
 fn help_and_version_are_shown(rt: HostRuntime) -> Result<(), AllocError> {
     for row in SHOWN {
-        assert_shown(&rt, row)?;
+        for faulty in SHOWING_FAULTS {
+            assert_shown(&rt, row, faulty)?;
+        }
     }
     Ok(())
 }

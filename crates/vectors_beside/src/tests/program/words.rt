@@ -276,7 +276,7 @@ Usage: reflow [OPTIONS] [FILE]...\n",
         "reflow 2.0.0\n",
         "reflow 2.0.0\n",
     ),
-    (&["-V"], "reflow 2.0.0\n", "reflow 1.5.0\n"),
+    (&["-V"], "reflow 2.0.0\n", "reflow 2.0.0\n"),
 ];
 
 /// What goes wrong with the output, and the message and the status then.

@@ -4,4 +4,5 @@
 pub mod calls;
 pub mod cuts;
 pub mod display;
+pub mod files;
 pub mod paragraphs;

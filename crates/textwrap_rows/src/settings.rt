@@ -24,6 +24,7 @@ pub fn options(words: &[String]) -> Result<Options<'_>, Fault> {
     } else {
         WrapAlgorithm::OptimalFit(Penalties::new())
     };
+    let (word_separator, word_splitter) = (WordSeparator::AsciiSpace, WordSplitter::HyphenSplitter);
     Ok(Options {
         width: settings.width,
         line_ending: settings.line_ending,
@@ -31,8 +32,8 @@ pub fn options(words: &[String]) -> Result<Options<'_>, Fault> {
         subsequent_indent: settings.subsequent_indent,
         break_words: settings.break_words,
         wrap_algorithm,
-        word_separator: WordSeparator::AsciiSpace,
-        word_splitter: WordSplitter::HyphenSplitter,
+        word_separator,
+        word_splitter,
         preserve_trailing_space: settings.preserve_trailing_space,
         even_paragraphs: settings.even_paragraphs,
     })

@@ -33,8 +33,7 @@ use textwrap_words::wrap_algorithms::Penalties;
 const LIMIT: usize = 1 << 62;
 
 /// Whether the lines of least cost of a paragraph can be searched for: not in an empty one, and not
-/// where a number is too great. `is_later` says that a line
-/// stands before it.
+/// where a number is too great. `is_later` says that a line stands before it.
 pub(crate) fn suits_search(
     paragraph: &str,
     options: &Options<'_>,

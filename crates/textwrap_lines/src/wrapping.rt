@@ -50,13 +50,14 @@ use textwrap_words::wrap_algorithms::WrapError;
 /// these are split and broken as the options say, and divided into lines by their algorithm.
 ///
 /// By built-in parts there is always at least one line. Only blanks at line ends are lost, and only
-/// the indents are added; a line with an indent is a text of its own. By first fit, where words are
-/// broken, no line of a divided paragraph passes the width that it was divided for, but one that is
-/// a single piece with one character that takes columns. With [`Options::even_paragraphs`] such a line
-/// keeps to the width of the options together with its indent, but for such a piece, and unless the
-/// indent alone passes the width. Blanks preserved at the end of a line do not count. So does the
-/// line as it is printed, if words stand between blanks, none are preserved and no escape sequence
-/// is cut.
+/// the indents are added; a line with an indent is a text of its own.
+///
+/// By first fit, where words are broken, no line of a divided paragraph passes the width that it was
+/// divided for, but one that is a single piece with one character that takes columns. Blanks
+/// preserved at its end do not count. With [`Options::even_paragraphs`] the line keeps to the width
+/// of the options together with its indent, but for such a piece, and unless the indent alone passes
+/// the width. The same is true of the columns of the printed line, if words stand between blanks,
+/// none are preserved and no escape sequence is cut.
 ///
 /// # Errors
 /// [`WrapError::Memory`] where memory runs out, or a function of the caller says so.

@@ -1,8 +1,8 @@
-//! What the crate above needs of words beside the public calls, which `textwrap` does not pass on.
+//! What the crates above need of words beside the public calls, which `textwrap` does not pass on.
 ghost use Rattle.std.specs.Prelude.{◌≡◌};
-ghost use Rattle.textwrap_words.specs.Units.{columns};
 ghost use Rattle.textwrap_words.specs.Words.{words_of};
 
+pub use crate::characters::columns;
 pub use crate::pieces::{BuiltInSplitter, Piece, Pieces, next_piece};
 pub use crate::printable::is_printable;
 use crate::word_separators::Words;
@@ -10,14 +10,6 @@ pub use crate::word_separators::words::{first_chunk, words_between};
 pub use crate::word_splitters::pieces::{push_measured, push_split};
 pub use crate::wrap_algorithms::at_ends::lines_between;
 use std::alloc::Allocator;
-use unicode_width::UnicodeWidthChar;
-
-/// The columns of a character alone, 0 for a control character.
-pub fn columns(ch: char) -> usize
-    ensures { result ≡ columns ch }
-{
-    ch.width().unwrap_or(0)
-}
 
 /// The words of a line that is cut at its blanks, one after the other, as
 /// [`WordSeparator::AsciiSpace`](crate::word_separators::WordSeparator) finds them: of `"foo bar"`

@@ -4,6 +4,7 @@
 #![tactic(auto)]
 
 pub mod blanks;
+mod characters;
 pub mod escapes;
 pub mod inner;
 pub mod laws;

@@ -10,8 +10,8 @@ ghost use Rattle.textwrap_words.specs.WordSplitters.{split_words};
 ghost use Rattle.textwrap_words.specs.Words.{words_of};
 
 use crate::blanks::blanks_end;
+use crate::characters::columns;
 use crate::escapes::State;
-use crate::inner::columns;
 use crate::word_splitters::hyphens::is_hyphen_point;
 
 /// Where a piece of a text stands. It begins where the one before it ends.

@@ -6,8 +6,8 @@ ghost use Rattle.textwrap_words.specs.Units.{text_width, escape, stripped};
 ghost use Rattle.textwrap_words.specs.Words.{word_view, sizes_of, word_of};
 
 use crate::blanks::split_final_blanks;
+use crate::characters::columns;
 use crate::escapes::State;
-use crate::inner::columns;
 use crate::printable::printable_len;
 pub use breaking::{BreakApart, break_words};
 use std::alloc::{AllocError, Allocator};

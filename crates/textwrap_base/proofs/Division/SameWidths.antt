@@ -1,6 +1,11 @@
 -- Line widths that are equal line by line.
 use Rattle.textwrap_base.proofs.Common.{◌≡◌, ℕ, zero, suc, ◌+◌, min, List, [], ◌∷◌, refl, add-one}
 use Rattle.textwrap_base.proofs.Common.{arith, line_width, AllFit, AllFull, IsGreedy, Sizes}
+use Rattle.textwrap_base.proofs.Common.{AreEqualFromSecond}
+
+-- one width is the same for all lines
+pub one-width : (width : ℕ) → AreEqualFromSecond (width ∷ [])
+one-width width = λ k later within. absurd (omega arith)
 
 pub line_width-one : (width number : ℕ) → line_width (width ∷ []) number ≡ width
 line_width-one width number = let first : min number 0 ≡ 0 = omega arith in rw first refl

@@ -102,6 +102,11 @@ pub onto_first-some : (c : ℕ) (parts : List (List ℕ)) → 0 < length (onto_f
 onto_first-some c [] = omega arith
 onto_first-some c (part ∷ parts) = omega arith
 
+pub onto_first-length : (c : ℕ) (parts : List (List ℕ))
+    → length (onto_first c parts) ≤ length parts + 1
+onto_first-length c [] = omega arith
+onto_first-length c (part ∷ parts) = omega arith
+
 pub onto_first-append : (c : ℕ) (ps qs : List (List ℕ)) → 0 < length ps
     → onto_first c (ps ++ qs) ≡ onto_first c ps ++ qs
 onto_first-append c [] qs some = absurd (omega arith)

@@ -26,10 +26,10 @@ use Rattle.textwrap_lines.proofs.Text.WholeSequences.{units-plain, text_width-ap
 
 -- ---- a line
 
-blanks-printable : (bytes : List ℕ) → AreBlanks bytes → IsPrintable bytes
+pub blanks-printable : (bytes : List ℕ) → AreBlanks bytes → IsPrintable bytes
 blanks-printable bytes blanks = grind (arith, All-weaker, eqb-true)
 
-blanks-whole : (bytes : List ℕ) → AreBlanks bytes → HasWholeSequences bytes
+pub blanks-whole : (bytes : List ℕ) → AreBlanks bytes → HasWholeSequences bytes
 blanks-whole bytes blanks =
     grind (arith, blanks-printable, chars-IsAscii, printable-ascii, units-plain, All-weaker)
 

@@ -7,8 +7,8 @@ ghost use Rattle.textwrap_words.specs.Units.{text_width};
 ghost use Rattle.textwrap_words.specs.Words.{word_view};
 
 use super::Word;
+use crate::characters::columns;
 use crate::escapes::State;
-use crate::inner::columns;
 use std::alloc::{AllocError, Allocator};
 
 /// An iterator over the pieces of a word, made by `Word::break_apart`. It gives them in order and

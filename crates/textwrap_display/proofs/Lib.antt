@@ -29,6 +29,7 @@ pub mod JustifiedWords
 pub mod Aligned
 pub mod AsWide
 pub mod TableCells
+pub mod TableFits
 pub mod TableRows
 pub mod TableGroups
 pub mod TableParts

@@ -65,7 +65,7 @@ chunks-more texts count at zero = refl
 chunks-more texts count at (suc more) =
     rw (chunk-more texts count at, chunks-more texts count (at + 1) more) refl
 
-groups-more : (count : ℕ) (front rest : List (List ℕ)) → 0 < count → 0 < length (front ++ rest)
+pub groups-more : (count : ℕ) (front rest : List (List ℕ)) → 0 < count → 0 < length (front ++ rest)
     → length front ≡ min count (length (front ++ rest))
     → groups_of count (front ++ rest) ≡ front ∷ groups_of count rest
 groups-more count front rest some more is =

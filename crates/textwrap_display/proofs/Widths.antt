@@ -1,26 +1,19 @@
 -- How wide blanks are.
-use Rattle.textwrap_base.proofs.Common.{◌≡◌, ℕ, ◌+◌, true, List, ◌++◌, All-weaker, ap, arith}
-use Rattle.textwrap_base.proofs.Common.{chars-IsAscii, eqb-true, length, refl, ◌∙◌}
+use Rattle.textwrap_base.proofs.Common.{◌≡◌, ℕ, ◌+◌, true, List, ◌++◌, ap}
+use Rattle.textwrap_base.proofs.Common.{length, refl, ◌∙◌}
 use Rattle.std.proofs.lemmas.List.{length-replicate}
 use Rattle.std.proofs.lemmas.List.Elements.{All-replicate}
 use Rattle.textwrap.specs.Columns.{blanks}
 use Rattle.textwrap_words.specs.Blanks.{blank, is_blank}
-use Rattle.textwrap_words.specs.Units.{IsPrintable, text_width}
-use Rattle.textwrap_words.proofs.Units.Widths.{printable-ascii, printable-width}
+use Rattle.textwrap_words.specs.Units.{text_width}
+use Rattle.textwrap_words.proofs.Units.Widths.{printable-width}
 use Rattle.textwrap_words.proofs.Word.Texts.{AreBlanks}
-use Rattle.textwrap_lines.specs.Text.{HasWholeSequences}
 use Rattle.textwrap_lines.proofs.Paragraph.OneLine.{blanks-utf8}
-use Rattle.textwrap_lines.proofs.Text.WholeSequences.{text_width-append, units-plain}
+use Rattle.textwrap_lines.proofs.Text.PrintedLines.{blanks-printable, blanks-whole}
+use Rattle.textwrap_lines.proofs.Text.WholeSequences.{text_width-append}
 
 pub blanks-are : (n : ℕ) → AreBlanks (blanks n)
 blanks-are n = All-replicate (λ c. is_blank c ≡ true) n blank refl
-
-blanks-printable : (bytes : List ℕ) → AreBlanks bytes → IsPrintable bytes
-blanks-printable bytes are = grind (arith, All-weaker, eqb-true)
-
-blanks-whole : (bytes : List ℕ) → AreBlanks bytes → HasWholeSequences bytes
-blanks-whole bytes are =
-    grind (arith, blanks-printable, chars-IsAscii, printable-ascii, units-plain, All-weaker)
 
 -- text after blanks
 pub blanks-before : (bytes text : List ℕ) → AreBlanks bytes

@@ -4,18 +4,15 @@ use Rattle.textwrap_base.proofs.Common.{List, [], ◌∷◌, length, arith, case
 use Rattle.textwrap_base.proofs.Common.{get_or, ap, prefix_len, sym, ◌∙◌, zero, suc}
 use Rattle.textwrap_base.proofs.Common.{IsUtf8, IsCharBoundary, ◌++◌, drop, cases_Bool, ne_eqb}
 use Rattle.textwrap_base.proofs.Common.{refl, take}
+use Rattle.textwrap_base.proofs.Lists.Parts.{onto_first-length}
 use Rattle.textwrap_base.proofs.Utf8.{IsCharBoundary-after_blank}
 use Rattle.std.proofs.lemmas.Str.{IsCharBoundary-start}
-use Rattle.std.specs.List.{onto_first, slice_index}
+use Rattle.std.specs.List.{slice_index}
 use Rattle.std.proofs.lemmas.List.Sums.{prefix_len_is, prefix_len_stops}
 use Rattle.std.proofs.lemmas.List.Sums.{prefix_len-drop_all, prefix_len-drop_no}
 use Rattle.textwrap_display.specs.Justifying.{indent_len}
 use Rattle.textwrap_words.specs.Blanks.{blank, BlanksBetween, is_blank}
 use Rattle.textwrap_words.specs.Words.{chunks}
-
-onto_first-length : (c : ℕ) (parts : List (List ℕ)) → length (onto_first c parts) ≤ length parts + 1
-onto_first-length c [] = omega arith
-onto_first-length c (part ∷ parts) = omega arith
 
 pub chunks-few : (line : List ℕ) → length (chunks line) ≤ length line
 chunks-few [] = omega arith

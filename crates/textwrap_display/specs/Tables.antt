@@ -1,5 +1,6 @@
 -- Texts in the columns of a table.
-use Rattle.std.specs.Prelude.{◌≡◌, ◌==◌, ℕ, max, List, [], ◌++◌, fold, length, map, replicate}
+use Rattle.std.specs.Prelude.{◌≡◌, ◌==◌, ℕ, max, List, [], ◌++◌, All, fold, length, map}
+use Rattle.std.specs.Prelude.{replicate}
 use Rattle.std.specs.Prelude.{slice_index_or, Vec, if◌then◌else◌}
 use Rattle.std.specs.Borrow.{Bor}
 use Rattle.std.specs.Fork.{slice_chunk}
@@ -9,7 +10,7 @@ use Rattle.std.specs.declared.borrow.CowStr.{CowStr}
 use Rattle.textwrap_lines.specs.LineEnding.{join_with}
 use Rattle.textwrap_lines.specs.Options.{HasParts, Settings, settings_view}
 use Rattle.textwrap_lines.specs.Paragraph.{DividesAs, DividesBy, Line, line_bytes}
-use Rattle.textwrap_lines.specs.Text.{AreTextLines}
+use Rattle.textwrap_lines.specs.Text.{AreTextLines, SomeMayPass64Bits}
 use Rattle.textwrap_words.specs.WordSplitters.{Splitter}
 use Rattle.textwrap_words.specs.WrapAlgorithms.{Algorithm}
 use Rattle.textwrap_display.specs.Alignment.{aligned}
@@ -110,6 +111,11 @@ ColumnMakes column = AreTextLines (settings_view column.options) (DividesBy colu
 abbrev pub IsTable : {E C : Type 0} {e : _} {c : _} → List (Column E C e c) → RowGaps
     → List (List ℕ) → List (List ℕ) → Type 0
 IsTable = IsTableBy ColumnMakes shape_of
+
+-- no text may have, in its column, a paragraph whose pieces pass 64 bits together
+abbrev pub AllFit64Bits : {E C : Type 0} {e : _} {c : _} → List (Column E C e c) → List (List ℕ)
+    → Type 0
+AllFit64Bits columns texts = All (λ p. ¬ SomeMayPass64Bits p.0.options p.1) (zip columns texts)
 
 -- ---- the same by built-in parts
 

@@ -2,7 +2,8 @@
 ghost use Rattle.std.specs.Prelude.{◌≡◌, ◌<◌, ◌^◌, List, [], ◌++◌, All, length, map};
 ghost use Rattle.std.specs.Prelude.{slice_index_or, string_bytes, alloc_error, IfErr, IfOk, OnOk};
 ghost use Rattle.std.specs.Prelude.{SomeIff};
-ghost use Rattle.textwrap_display.specs.Tables.{AreCells, ColumnMakes, ColumnParts, HaveParts};
+ghost use Rattle.textwrap_display.specs.Tables.{AllFit64Bits, AreCells, ColumnMakes, ColumnParts};
+ghost use Rattle.textwrap_display.specs.Tables.{HaveParts, groups_of};
 ghost use Rattle.textwrap_display.specs.Tables.{IsTable, IsTableOf, cell_line, cell_texts};
 ghost use Rattle.textwrap_display.specs.Tables.{gap_before, gaps_view, group_rows, height};
 ghost use Rattle.textwrap_display.specs.Tables.{row_text, shape_of, texts_in};
@@ -76,6 +77,9 @@ pub fn table<A: Allocator + Copy>(
         → IsTableOf parts (gaps_view gaps.now) (texts_in cells.now) (map string_bytes rows.items)) }
     ensures only_memory { All (λ column. ¬ MayOverflow column.options) columns.now
         → IfErr result (λ error. error ≡ WrapError.Memory alloc_error) }
+    // Overflow needs a text with a paragraph whose pieces are together wider than 64 bits can say.
+    ensures no_overflow { All (AllFit64Bits columns.now) (groups_of (length columns.now) (texts_in cells.now))
+        → IfErr result (λ error. error ≡ WrapError.Memory alloc_error) }
 {
     let mut rows = Vec::new(alloc);
     if columns.is_empty() {
@@ -100,6 +104,8 @@ fn wrap_cells<'t, A: Allocator + Copy>(
     ensures cells { IfOk result (λ cells.
         AreCells ColumnMakes columns.now (texts_in texts.now) (cell_texts cells.items)) }
     ensures only_memory { All (λ column. ¬ MayOverflow column.options) columns.now
+        → IfErr result (λ error. error ≡ WrapError.Memory alloc_error) }
+    ensures no_overflow { AllFit64Bits columns.now (texts_in texts.now)
         → IfErr result (λ error. error ≡ WrapError.Memory alloc_error) }
 {
     let mut cells = Vec::new(alloc);

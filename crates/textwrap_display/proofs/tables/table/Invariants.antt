@@ -1,9 +1,10 @@
 use Rattle.textwrap_display.proofs.tables.table.Given as goal
-use Rattle.textwrap_base.proofs.Common.{◌≡◌, ℕ, List, ◌++◌, length, map, string_bytes}
+use Rattle.textwrap_base.proofs.Common.{◌≡◌, ℕ, List, ◌++◌, All, length, map, string_bytes}
 use Rattle.std.specs.Slice.Iter.{chunks_rest, chunks_size}
-use Rattle.textwrap_display.specs.Tables.{gaps_view, IsTable, texts_in}
+use Rattle.textwrap_display.specs.Tables.{AllFit64Bits, gaps_view, groups_of, IsTable, texts_in}
 
--- with any table of the texts that are left, the rows so far are that of all
+-- with any table of the texts that are left, the rows so far are that of all; and if all texts fit,
+-- those that are left do
 abbrev pub invariant-loop-texts : goal.invariant-loop-texts
 invariant-loop-texts g l =
     (chunks_size l.texts-iterator ≡ length l.columns)
@@ -11,3 +12,6 @@ invariant-loop-texts g l =
     → IsTable l.columns (gaps_view l.gaps) (texts_in (chunks_rest l.texts-iterator)) others
     → IsTable l.columns (gaps_view l.gaps) (texts_in l.cells)
     (map string_bytes l.rows.items ++ others))
+    × (All (AllFit64Bits l.columns) (groups_of (length l.columns) (texts_in l.cells))
+    → All (AllFit64Bits l.columns)
+    (groups_of (length l.columns) (texts_in (chunks_rest l.texts-iterator))))

@@ -1,11 +1,11 @@
 -- The division of a paragraph: it is the only one, and what its lines keep to.
 use Rattle.textwrap_base.proofs.Common.{◌≡◌, ℕ, ◌+◌, ◌≤◌, List, [], ◌∷◌, ◌++◌, All}
 use Rattle.textwrap_base.proofs.Common.{length, sym, ap, ◌∙◌, subst, arith, inl, inr, All-nil}
-use Rattle.textwrap_base.proofs.Common.{All-cons, cases_lt, AreEqualFromSecond, priced_at, Sizes}
+use Rattle.textwrap_base.proofs.Common.{All-cons, cases_lt, priced_at, Sizes}
 use Rattle.textwrap_base.proofs.Common.{closed_width, AllFit, Fits, take_all}
 use Rattle.textwrap_base.specs.Division.{IsDivision}
 use Rattle.textwrap_base.proofs.Cost.Unique.{chosen_one}
-use Rattle.textwrap_base.proofs.Division.SameWidths.{line_width-one}
+use Rattle.textwrap_base.proofs.Division.SameWidths.{line_width-one, one-width}
 use Rattle.textwrap_base.proofs.Division.Unique.{greedy_unique}
 use Rattle.textwrap_words.proofs.Common.{Algorithm, Greedy, LeastCost, IsDividedBy, sizes_of, WordText}
 use Rattle.textwrap_reflow.specs.Laws.{IsWithin}
@@ -13,10 +13,6 @@ use Rattle.textwrap_reflow.specs.Reflow.{AreAllLines, AreLinesOf, Filled, Kept, 
 use Rattle.textwrap_reflow.specs.Reflow.{algorithm_of, printed}
 use Rattle.textwrap_reflow.proofs.Common.{hanging}
 use Rattle.textwrap_reflow.specs.declared.options.ReflowOptions.{ReflowOptions}
-
--- one width is the same for all lines
-pub one-width : (width : ℕ) → AreEqualFromSecond (width ∷ [])
-one-width width = λ k later within. absurd (omega arith)
 
 -- either algorithm divides
 pub divided : (algorithm : Algorithm) (width : ℕ) (xs : List WordText) (lines : List (List WordText))

@@ -6,10 +6,10 @@ use Rattle.textwrap_base.proofs.Common.{Sizes, slice_range, subst, sym}
 use mathlib.Core.Path.{fun_ext}
 use Rattle.textwrap_base.proofs.Cost.Chosen.{by_table-chosen}
 use Rattle.textwrap_base.proofs.Division.SameWidths.{IsGreedy-same, line_width-one, line_width-two}
+use Rattle.textwrap_base.proofs.Division.SameWidths.{one-width}
 use Rattle.textwrap_base.specs.Table.{table}
 use Rattle.textwrap_base.specs.declared.penalties.Penalties.{Penalties}
 use Rattle.textwrap_words.proofs.Common.{Algorithm, Greedy, LeastCost, IsDividedBy}
-use Rattle.textwrap_reflow.proofs.Divisions.{one-width}
 
 module _ {X : Type 0} (priced : X → PricedSizes) (penalties : Penalties) (widths others : List ℕ)
     (same : (number : ℕ) → line_width widths number ≡ line_width others number) (xs : List X) where

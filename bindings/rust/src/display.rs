@@ -138,13 +138,13 @@ pub fn justify(line: &str, width: usize) -> String {
 /// use textwrap_proved::display::fill_justified;
 /// use textwrap_proved::Options;
 ///
-/// let text = "Memory safety without garbage collection.";
-/// assert_eq!(fill_justified(text, 15), "Memory   safety\nwithout garbage\ncollection.");
+/// let text = "The tide comes in and goes out by the moon.";
+/// assert_eq!(fill_justified(text, 15), "The  tide comes\nin and goes out\nby the moon.");
 ///
 /// let options = Options::new(18).initial_indent("- ").subsequent_indent("  ");
 /// assert_eq!(
 ///     fill_justified(text, &options),
-///     "- Memory    safety\n  without  garbage\n  collection."
+///     "- The  tide  comes\n  in  and goes out\n  by the moon."
 /// );
 /// ```
 pub fn fill_justified<'a, Opt>(text: &str, width_or_options: Opt) -> String
@@ -165,9 +165,9 @@ where
 /// ```
 /// use textwrap_proved::display::shorten;
 ///
-/// assert_eq!(shorten("Hello world", 11, " ..."), "Hello world");
-/// assert_eq!(shorten("Hello world", 10, " ..."), "Hello ...");
-/// assert_eq!(shorten("Hello world", 8, " ..."), " ...");
+/// assert_eq!(shorten("apples pears", 12, " ..."), "apples pears");
+/// assert_eq!(shorten("apples pears", 11, " ..."), "apples ...");
+/// assert_eq!(shorten("apples pears", 9, " ..."), " ...");
 /// ```
 pub fn shorten(line: &str, width: usize, placeholder: &str) -> String {
     or_abort(fallible::shorten(line, width, placeholder))
@@ -185,10 +185,10 @@ pub fn shorten(line: &str, width: usize, placeholder: &str) -> String {
 /// use textwrap_proved::display::shorten_lines;
 /// use textwrap_proved::wrap;
 ///
-/// let lines = wrap("Memory safety without garbage collection.", 15);
-/// assert_eq!(lines, ["Memory safety", "without garbage", "collection."]);
-/// assert_eq!(shorten_lines(&lines, 2, 15, " [..]"), ["Memory safety", "without [..]"]);
-/// assert_eq!(shorten_lines(&lines, 1, 15, ".."), ["Memory safety.."]);
+/// let lines = wrap("The tide comes in and goes out by the moon.", 15);
+/// assert_eq!(lines, ["The tide comes", "in and goes out", "by the moon."]);
+/// assert_eq!(shorten_lines(&lines, 2, 15, " [..]"), ["The tide comes", "in and [..]"]);
+/// assert_eq!(shorten_lines(&lines, 1, 16, ".."), ["The tide comes.."]);
 /// assert_eq!(shorten_lines(&lines, 3, 15, " [..]"), lines);
 /// ```
 pub fn shorten_lines<S>(lines: &[S], most: usize, width: usize, placeholder: &str) -> Vec<String>

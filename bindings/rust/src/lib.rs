@@ -11,7 +11,7 @@
 //! which are proved, state the exact result of each call. What is written in Rust here is the way
 //! there and back, and what functions of the caller take part in.
 //!
-//! # Wrapping Text
+//! # Lines of a width
 //!
 //! [`wrap()`] returns the lines of a text, and [`fill()`] joins them:
 //!
@@ -28,13 +28,13 @@
 //! [`unfill()`] take texts that are filled already, [`wrap_columns()`] lays a text out in columns,
 //! and [`fill_inplace()`] fills a `String` in its own place.
 //!
-//! ## Displayed Width vs Byte Size
+//! ## Columns and bytes
 //!
 //! A width counts columns of a terminal, not bytes: `é` takes one column and two bytes, `好` two
 //! columns and three bytes. [`display_width`](core::display_width()) says what a text takes.
 //! Offsets, such as the points of a [`WordSplitter`], count bytes.
 //!
-//! # Indentation and Dedentation
+//! # Prefixes and margins
 //!
 //! [`indent()`] puts a prefix before each line, and [`dedent()`] takes away the whitespace that all
 //! lines begin with:
@@ -42,11 +42,11 @@
 //! ```
 //! use textwrap_proved::{dedent, indent};
 //!
-//! assert_eq!(indent("foo\nbar\n", "* "), "* foo\n* bar\n");
-//! assert_eq!(dedent("    foo\n      bar\n"), "foo\n  bar\n");
+//! assert_eq!(indent("tea\nmilk\n", "+ "), "+ tea\n+ milk\n");
+//! assert_eq!(dedent("    tea\n      green\n"), "tea\n  green\n");
 //! ```
 //!
-//! # Lines for Display
+//! # Lines for display
 //!
 //! The module [`display`] aligns, justifies and shortens lines, carries their styles on from line
 //! to line, and lays texts out in tables:
@@ -74,14 +74,13 @@
 //!
 //! `docs/DIFFERENCES.md` of the repository has all of them, with those of the library itself.
 //!
-//! # Cargo Features
+//! # Features
 //!
 //! With `unicode-linebreak`, a default feature, [`WordSeparator::new`] is
 //! [`UnicodeBreakProperties`](WordSeparator::UnicodeBreakProperties), and else
 //! [`AsciiSpace`](WordSeparator::AsciiSpace), as in the original. The features `std`, `smawk` and
 //! `unicode-width` change nothing: they are there so that a line of `Cargo.toml` that names them
-//! stays as it is. The crate needs `alloc`, and the heap of the C
-//! library.
+//! stays as it is. The crate needs `alloc`, and the heap of the C library.
 //!
 //! # Memory
 //!
@@ -137,11 +136,11 @@ pub use crate::wrap_algorithms::WrapAlgorithm;
 /// ```
 /// use textwrap_proved::{fill, Options};
 ///
-/// let text = "Memory safety without garbage collection.";
-/// assert_eq!(fill(text, 15), "Memory safety\nwithout garbage\ncollection.");
+/// let text = "The tide comes in and goes out by the moon.";
+/// assert_eq!(fill(text, 15), "The tide comes\nin and goes out\nby the moon.");
 ///
-/// let options = Options::new(15).initial_indent("- ").subsequent_indent("  ");
-/// assert_eq!(fill(text, &options), "- Memory safety\n  without\n  garbage\n  collection.");
+/// let options = Options::new(18).initial_indent("1. ").subsequent_indent("   ");
+/// assert_eq!(fill(text, &options), "1. The tide comes\n   in and goes out\n   by the moon.");
 /// ```
 pub fn fill<'a, Opt>(text: &str, width_or_options: Opt) -> String
 where
@@ -156,7 +155,7 @@ where
 /// between them. A line without an indent and without an added hyphen borrows from the text, and
 /// any other is a `String`.
 ///
-/// # Optimal-Fit Wrapping
+/// # Which lines
 ///
 /// By default, the lines are those of the least cost, whose gaps are even. First fit takes the
 /// words that fit, line by line, and is faster. See [`WrapAlgorithm`].
@@ -180,13 +179,13 @@ where
 /// use std::borrow::Cow::{Borrowed, Owned};
 /// use textwrap_proved::{wrap, Options};
 ///
-/// let options = Options::new(15).subsequent_indent("....");
-/// let lines = wrap("Wrapping text all day long.", &options);
-/// assert_eq!(lines, ["Wrapping text", "....all day", "....long."]);
+/// let options = Options::new(14).subsequent_indent(">>");
+/// let lines = wrap("Shall we meet at noon or at one?", &options);
+/// assert_eq!(lines, ["Shall we meet", ">>at noon or", ">>at one?"]);
 /// assert!(matches!(lines[..], [Borrowed(_), Owned(_), Owned(_)]));
 /// ```
 ///
-/// ## Leading and Trailing Whitespace
+/// # Blanks
 ///
 /// Blanks between words are kept within a line, and left off at its end. Blanks that a paragraph
 /// begins with are a word without text, which the next word follows if it fits:
@@ -194,10 +193,10 @@ where
 /// ```
 /// use textwrap_proved::wrap;
 ///
-/// assert_eq!(wrap("Foo   bar baz", 10), ["Foo   bar", "baz"]);
-/// assert_eq!(wrap("Foo   bar baz", 8), ["Foo", "bar baz"]);
-/// assert_eq!(wrap("  foo bar", 8), ["  foo", "bar"]);
-/// assert_eq!(wrap("  foo bar", 4), ["", "foo", "bar"]);
+/// assert_eq!(wrap("one   two ten", 10), ["one   two", "ten"]);
+/// assert_eq!(wrap("one   two ten", 8), ["one", "two ten"]);
+/// assert_eq!(wrap("  one two", 8), ["  one", "two"]);
+/// assert_eq!(wrap("  one two", 4), ["", "one", "two"]);
 /// ```
 pub fn wrap<'a, Opt>(text: &str, width_or_options: Opt) -> Vec<Cow<'_, str>>
 where
@@ -254,9 +253,9 @@ where
 /// ```
 /// use textwrap_proved::refill;
 ///
-/// let mail = "> Memory\n> safety without garbage\n> collection.\n";
-/// assert_eq!(refill(mail, 20), "> Memory safety\n> without garbage\n> collection.\n");
-/// assert_eq!(refill("- This is my\n  list item.\n", 20), "- This is my list\n  item.\n");
+/// let mail = "> Shall\n> we meet at noon\n> or at one?\n";
+/// assert_eq!(refill(mail, 16), "> Shall we meet\n> at noon or at\n> one?\n");
+/// assert_eq!(refill("- a pound of\n  flour\n", 20), "- a pound of flour\n");
 /// ```
 pub fn refill<'a, Opt>(filled_text: &str, new_width_or_options: Opt) -> String
 where
@@ -276,10 +275,10 @@ where
 /// ```
 /// use textwrap_proved::{unfill, LineEnding};
 ///
-/// let (text, options) = unfill("* This is an\n  example of\n  a list item.\n");
-/// assert_eq!(text, "This is an example of a list item.\n");
-/// assert_eq!((options.initial_indent, options.subsequent_indent), ("* ", "  "));
-/// assert_eq!((options.width, options.line_ending), (14, LineEnding::LF));
+/// let (text, options) = unfill("+ salt, and\n  a little\n  sugar\n");
+/// assert_eq!(text, "salt, and a little sugar\n");
+/// assert_eq!((options.initial_indent, options.subsequent_indent), ("+ ", "  "));
+/// assert_eq!((options.width, options.line_ending), (11, LineEnding::LF));
 /// ```
 pub fn unfill(text: &str) -> (String, Options<'_>) {
     or_abort(fallible::unfill(text))
@@ -293,7 +292,7 @@ pub fn unfill(text: &str) -> (String, Options<'_>) {
 /// ```
 /// use textwrap_proved::indent;
 ///
-/// assert_eq!(indent("foo = 123\n\nprint(foo)\n", "# "), "# foo = 123\n#\n# print(foo)\n");
+/// assert_eq!(indent("width 40\n\nheight 3\n", "# "), "# width 40\n#\n# height 3\n");
 /// ```
 pub fn indent(s: &str, prefix: &str) -> String {
     or_abort(fallible::indent(s, prefix))
@@ -306,8 +305,7 @@ pub fn indent(s: &str, prefix: &str) -> String {
 /// ```
 /// use textwrap_proved::dedent;
 ///
-/// assert_eq!(dedent("    1st line\n      2nd line\n    3rd line\n"),
-///            "1st line\n  2nd line\n3rd line\n");
+/// assert_eq!(dedent("   bread\n     rye\n   cheese\n"), "bread\n  rye\ncheese\n");
 /// ```
 pub fn dedent(s: &str) -> String {
     or_abort(fallible::dedent(s))
@@ -332,9 +330,9 @@ pub fn dedent(s: &str) -> String {
 /// # Examples
 ///
 /// ```
-/// let mut text = String::from("Hello   World!");
+/// let mut text = String::from("apples   pears");
 /// textwrap_proved::fill_inplace(&mut text, 10);
-/// assert_eq!(text, "Hello  \nWorld!");
+/// assert_eq!(text, "apples  \npears");
 /// ```
 pub fn fill_inplace(text: &mut String, width: usize) {
     or_abort(fallible::fill_inplace(text, width))

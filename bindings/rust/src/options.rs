@@ -14,8 +14,8 @@ use crate::{LineEnding, WordSeparator, WordSplitter, WrapAlgorithm};
 /// use textwrap_proved::{fill, Options};
 ///
 /// let options = Options::new(12).initial_indent("* ").subsequent_indent("  ");
-/// assert_eq!(fill("This is a little example.", &options), "* This is\n  a little\n  example.");
-/// assert_eq!(fill("This is a little example.", 12), "This is\na little\nexample.");
+/// assert_eq!(fill("a list of a few words", &options), "* a list\n  of a few\n  words");
+/// assert_eq!(fill("a list of a few words", 12), "a list of a\nfew words");
 /// ```
 #[derive(Clone, Debug)]
 #[non_exhaustive]

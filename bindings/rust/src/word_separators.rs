@@ -23,8 +23,8 @@ use core::fmt;
 /// use textwrap_proved::core::Word;
 /// use textwrap_proved::WordSeparator::AsciiSpace;
 ///
-/// let words: Vec<Word> = AsciiSpace.find_words("Hello   World!").collect();
-/// assert_eq!(words, [Word::from("Hello   "), Word::from("World!")]);
+/// let words: Vec<Word> = AsciiSpace.find_words("apples   pears").collect();
+/// assert_eq!(words, [Word::from("apples   "), Word::from("pears")]);
 /// ```
 #[derive(Clone, Copy, Debug)]
 #[non_exhaustive]

@@ -231,7 +231,7 @@ impl Error for OverflowError {}
 /// without any it is 0. A fragment that is wider than its line has it for itself. No fragments are
 /// one empty line.
 ///
-/// # First-Fit Algorithm
+/// # How a line is filled
 ///
 /// There is no look-ahead, so a line may be short because the next fragment is wide:
 ///
@@ -303,7 +303,7 @@ pub fn wrap_first_fit<'a, T: Fragment>(fragments: &'a [T], line_widths: &[f64]) 
 /// Line l, counted from 0, may be `line_widths[l]` wide. The last width serves all later lines, and
 /// without any it is 0. No fragments are one empty line.
 ///
-/// # Optimal-Fit Algorithm
+/// # Which division is cheapest
 ///
 /// All divisions are looked at together, and the cheapest is taken; [`Penalties`] says what a line
 /// costs. Lines that leave even gaps are cheaper than those that leave one large gap, since a gap

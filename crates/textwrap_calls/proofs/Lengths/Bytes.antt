@@ -11,7 +11,7 @@ use Rattle.textwrap_lines.proofs.Common.{line_bytes, line_from, indent_of}
 use Rattle.textwrap_lines.proofs.Paragraph.Kept.{HasNoHyphen}
 use Rattle.textwrap_lines.proofs.Text.Wrapped.{IsWrapped-from}
 use Rattle.textwrap_calls.proofs.Lengths.Columns.{texts_length}
-use Rattle.textwrap_calls.proofs.Lengths.Filled.{bytes_of}
+use Rattle.textwrap.proofs.Text.WholeLines.{bytes_of}
 use Rattle.textwrap_calls.proofs.Lengths.Lines.{count-all, slices-all, slices_length, line-length}
 use Rattle.textwrap_calls.proofs.Lengths.Lines.{indent-length}
 

@@ -10,14 +10,12 @@ use Rattle.textwrap_lines.proofs.Common.{join_with, ending_bytes}
 use Rattle.textwrap_lines.proofs.Common.{DividesAs, IsFilled}
 use Rattle.textwrap_lines.proofs.Paragraph.Kept.{HasNoHyphen}
 use Rattle.textwrap_lines.proofs.Text.Wrapped.{IsWrapped-from}
+use Rattle.textwrap.proofs.Text.WholeLines.{bytes_of}
 use Rattle.textwrap_calls.specs.Bounds.{capped, fill_bound, ForTextsOf, HoldsEach}
 use Rattle.textwrap_calls.proofs.Lengths.Lines.{count-all, slices-all, slices_length, join-length, line-length, indent-length}
 use Rattle.textwrap_calls.proofs.Lengths.Limit.{within-limit}
 
 -- ---- how long lines are, joined
-
-abbrev pub bytes_of : List LineParts → List (List ℕ)
-bytes_of parts = map line_bytes (map line_from parts)
 
 joined-length : (settings : Settings) (ending : List ℕ) (indent : ℕ) (p : LineParts)
     (parts : List LineParts) → length p.indent ≤ indent → AreIndented settings true parts

@@ -4,17 +4,12 @@ use Rattle.textwrap_base.proofs.Common.{cond, List, [], ◌∷◌, length, refl,
 use Rattle.textwrap_base.proofs.Common.{arith, flat_map, length-append, IsUtf8, onto_first}
 use Rattle.std.proofs.lemmas.Nat.{mul-le}
 use Rattle.std.specs.Str.{trim_end}
-use Rattle.textwrap_base.proofs.Lists.Parts.{flat, flat-onto_first}
+use Rattle.textwrap_base.proofs.Lists.Parts.{flat, flat-onto_first, onto_first-length}
 use Rattle.textwrap_base.proofs.Whitespace.{trim_end-front}
 use Rattle.textwrap.proofs.Common.{ended_parts}
 use Rattle.textwrap.specs.Indentation.{indent_of_part, indented, indented_part, is_blank_line}
 use Rattle.textwrap_calls.specs.Bounds.{capped, ForTextsOf, indent_bound, Suffices}
 use Rattle.textwrap_calls.proofs.Lengths.Limit.{within-limit}
-
-onto_first-length : (c : ℕ) (parts : List (List ℕ))
-    → length (onto_first c parts) ≤ length parts + 1
-onto_first-length c [] = omega arith
-onto_first-length c (part ∷ parts) = omega arith
 
 -- a text has no more parts than bytes
 count-parts : (text : List ℕ) → length (ended_parts text) ≤ length text

@@ -1,6 +1,6 @@
 -- How long a refilled text is at most.
 use Rattle.textwrap_base.proofs.Common.{◌≡◌, ℕ, ◌+◌, ◌*◌, ◌≤◌, List, [], ◌∷◌, ◌++◌, length, map, drop, sym}
-use Rattle.textwrap_base.proofs.Common.{ap, ◌∙◌, subst, arith, refl, All, All-cons, All-head, All-nil, All-tail}
+use Rattle.textwrap_base.proofs.Common.{ap, subst, arith, refl, All, All-cons, All-head, All-nil, All-tail}
 use Rattle.textwrap_base.proofs.Common.{IsAscii, IsUtf8, IsUtf8-append, IsUtf8-drop, IsUtf8-from_ascii}
 use Rattle.textwrap_base.proofs.Common.{StartsWith, get_or, length-append, lines}
 use Rattle.std.specs.Prelude.{is_some}
@@ -24,7 +24,7 @@ use Rattle.textwrap_calls.proofs.Lengths.Dedented.{lines-utf8}
 use Rattle.textwrap_calls.proofs.Lengths.Filled.{filled-bound}
 use Rattle.textwrap_calls.proofs.Lengths.Joined.{joined-length}
 use Rattle.textwrap_calls.proofs.Lengths.Limit.{within-limit}
-use Rattle.textwrap_calls.proofs.Lengths.TextLines.{ended_length, final_feed, lines-length, feed-within}
+use Rattle.textwrap_calls.proofs.Lengths.TextLines.{final_feed, lines-length, feed-within}
 use Rattle.textwrap_calls.proofs.Lengths.Unfilled.{added-length, indents-length}
 
 -- ---- the joined text is UTF-8

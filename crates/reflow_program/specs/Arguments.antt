@@ -1,6 +1,7 @@
 -- What the program's arguments mean.
-use Rattle.std.specs.Prelude.{◌≡◌, ℕ, Bool, ◌&&◌, not, true, false, List, [], ◌∷◌, map, codes}
+use Rattle.std.specs.Prelude.{◌≡◌, ℕ, Bool, ◌&&◌, not, true, false, List, [], ◌∷◌, ◌++◌, map, codes}
 use Rattle.std.specs.Prelude.{Option, Some, None, unwrap_or, option_and_then, if◌then◌else◌}
+use Rattle.std.specs.List.{flat_map}
 use Rattle.std.specs.Option.{option_map_or}
 use Rattle.std.specs.Str.{bytes_eq}
 use Rattle.clap.specs.Words.{App, HasKind, Row, Rule, Text, all_of, fault_of, first_of, kind_of, matches_of}
@@ -10,6 +11,7 @@ use Rattle.clap.specs.declared.error.kind.ErrorKind.TheVariants.{OutOfMemory}
 use Rattle.textwrap_lines.specs.declared.line_ending.LineEnding.{LineEnding}
 use Rattle.textwrap_lines.specs.declared.line_ending.LineEnding.TheVariants.{CRLF, LF}
 use Rattle.textwrap_program.specs.Arguments.{width_of}
+use Rattle.textwrap_program.specs.Program.{line_feed}
 use Rattle.textwrap_reflow.specs.declared.options.Algorithm.{Algorithm}
 use Rattle.textwrap_reflow.specs.declared.options.Algorithm.TheVariants.{FirstFit, LeastCost}
 use Rattle.reflow_program.specs.declared.arguments.ArgumentError.{ArgumentError}
@@ -59,6 +61,33 @@ reflow_app = record {
   };
   subs = [];
 }
+
+-- ---- what it shows of itself
+
+abbrev pub help_lines : List Text
+help_lines =
+    codes "Fills the paragraphs of a text, each under its own prefix." ∷ codes ""
+    ∷ codes "Usage: reflow [OPTIONS] [FILE]..." ∷ codes ""
+    ∷ codes "Arguments:"
+    ∷ codes "  [FILE]...  Files; the standard input if there are none" ∷ codes ""
+    ∷ codes "Options:"
+    ∷ codes "  -w, --width <N>      Columns of a line [default: 80]"
+    ∷ codes "      --first-fit      Fill each line with as many words as fit"
+    ∷ codes "      --least-cost     Choose the least ragged lines (default)"
+    ∷ codes "      --justify        Widen the gaps of lines to the width"
+    ∷ codes "      --crlf           End lines with CR LF"
+    ∷ codes "      --prefix <TEXT>  Fill only paragraphs whose prefix begins with TEXT"
+    ∷ codes "      --keep-code      Leave fenced and indented code as it is"
+    ∷ codes "      --check          Print the names of files that would change"
+    ∷ codes "      --in-place       Replace each file, by way of a new file FILE.reflow"
+    ∷ codes "  -h, --help           Print help"
+    ∷ codes "  -V, --version        Print version" ∷ []
+
+abbrev pub help_text : Text
+help_text = flat_map (λ line. line ++ line_feed ∷ []) help_lines
+
+abbrev pub version_text : Text
+version_text = codes "reflow 2.0.0" ++ line_feed ∷ []
 
 -- ---- what its matches mean
 

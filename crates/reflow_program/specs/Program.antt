@@ -4,13 +4,13 @@ use Rattle.std.specs.Prelude.{Option, None, Some, Result, Ok, Err, IfOk}
 use Rattle.std.specs.Result.{result_err}
 use Rattle.std.specs.Io.KnownBytes.{Appends, Keeps}
 use Rattle.clap.specs.Words.{fault_of, kind_of, matches_of}
-use Rattle.clap.specs.declared.error.Error.{Error}
-use Rattle.clap.specs.declared.error.kind.ErrorKind.TheVariants.{DisplayHelp, DisplayVersion}
+use Rattle.clap.specs.declared.error.kind.ErrorKind.{ErrorKind}
+use Rattle.clap.specs.declared.error.kind.ErrorKind.TheVariants.{DisplayHelp, DisplayVersion, OutOfMemory}
 use Rattle.textwrap_program.specs.Filling.{WritesPrefix}
 use Rattle.textwrap_program.specs.Program.{line_feed}
 use Rattle.textwrap_program.specs.declared.filling.RunError.{RunError}
 use Rattle.textwrap_program.specs.declared.filling.RunError.TheVariants.{Read, NotUtf8, Memory, Write}
-use Rattle.reflow_program.specs.Arguments.{IsRequest, Refuses, reflow_app}
+use Rattle.reflow_program.specs.Arguments.{IsRequest, Refuses, help_text, reflow_app, version_text}
 use Rattle.reflow_program.specs.Files.{KnownFiles, SameFiles}
 use Rattle.reflow_program.specs.Inputs.{Checks, ChecksFile, Prints, PrintsFile, Replaces}
 use Rattle.reflow_program.specs.declared.arguments.ArgumentError.{ArgumentError}
@@ -122,7 +122,7 @@ module _ (layout : Layout) where
       × TreatsFiles mode names mid new rest
       × (ending ≡ joined first rest)
 
--- ---- the whole run
+-- ---- where there is a request
 
 -- without files the standard input is the one input, and else it is not read
 abbrev pub ServesNames : Request → List (List ℕ) → Option (List ℕ) → Option (List ℕ) → World → World
@@ -138,38 +138,51 @@ ServesNames request (name ∷ names) unread left old new ending =
 abbrev pub Serves : Request → Option (List ℕ) → Option (List ℕ) → World → World → Ending → Type 0
 Serves request = ServesNames request (map (λ name. name.now) request.files.items)
 
+-- ---- where there is no request
+
 -- a text goes to the output, or a prefix of it with a line that says so
-abbrev pub Shows : Option (List ℕ) → Option (List ℕ) → Option (List ℕ) → Option (List ℕ) → Ending
-    → Type 0
-Shows old new was is ending =
-    (text : List ℕ)
-    × ((Appends old new text × Keeps was is × (ending ≡ all_well))
-    ⊎ (WritesPrefix old new text
-    × SaysLine (codes "reflow: cannot write") was is ending.said × (ending.status ≡ 2)))
-
--- nothing goes to the output, and a text is said
-abbrev pub Warns : Option (List ℕ) → Option (List ℕ) → Option (List ℕ) → Option (List ℕ) → Ending
-    → Type 0
-Warns old new was is ending =
-    Keeps old new × ((text : List ℕ) × Says text was is ending.said) × (ending.status ≡ 2)
-
--- what is written of an error of the command line: help and the version are shown, all else is a
--- warning
-abbrev pub ExplainsParse : Error → Option (List ℕ) → Option (List ℕ) → Option (List ℕ)
+abbrev pub Shows : List ℕ → Option (List ℕ) → Option (List ℕ) → Option (List ℕ)
     → Option (List ℕ) → Ending → Type 0
-ExplainsParse error old new was is ending =
-    Warns old new was is ending
-    ⊎ (((kind_of error ≡ DisplayHelp) ⊎ (kind_of error ≡ DisplayVersion))
-    × Shows old new was is ending)
+Shows text old new was is ending =
+    (Appends old new text × Keeps was is × (ending ≡ all_well))
+    ⊎ (WritesPrefix old new text
+    × SaysLine (codes "reflow: cannot write") was is ending.said × (ending.status ≡ 2))
 
--- what is written where there is no request
+-- memory ran out before the first input
+abbrev pub SaysMemory : Option (List ℕ) → Option (List ℕ) → Bool → Type 0
+SaysMemory = SaysLine (codes "reflow: out of memory")
+
+-- the text that an error displays is said, and where this is not known, some text
+abbrev pub SaysShown : Option (List ℕ) → Option (List ℕ) → Option (List ℕ) → Bool → Type 0
+SaysShown None was is said = (text : List ℕ) × Says text was is said
+SaysShown (Some text) was is said = Says text was is said
+
+-- of a fault the text of its error is said, unless memory ran out for that text
+abbrev pub Warns : Option (List ℕ) → Option (List ℕ) → Option (List ℕ) → Bool → Type 0
+Warns shown was is said = SaysShown shown was is said ⊎ SaysMemory was is said
+
+-- what is written of an error of the command line, by its kind and the text that it displays: the
+-- help and the version go to the output, and a fault to the messages
+abbrev pub ExplainsParse : ErrorKind → Option (List ℕ) → Option (List ℕ) → Option (List ℕ)
+    → Option (List ℕ) → Option (List ℕ) → Ending → Type 0
+ExplainsParse DisplayHelp shown old new was is ending = Shows help_text old new was is ending
+ExplainsParse DisplayVersion shown old new was is ending = Shows version_text old new was is ending
+ExplainsParse OutOfMemory shown old new was is ending =
+    Keeps old new × SaysMemory was is ending.said × (ending.status ≡ 2)
+ExplainsParse _ shown old new was is ending =
+    Keeps old new × Warns shown was is ending.said × (ending.status ≡ 2)
+
+-- what is written where there is no request; what an error displays, `clap` does not promise
 abbrev pub Explains : ArgumentError → Option (List ℕ) → Option (List ℕ) → Option (List ℕ)
     → Option (List ℕ) → Ending → Type 0
 Explains refused.Width old new was is ending =
     Keeps old new
     × SaysLine (codes "reflow: the width is not a number of 64 bits") was is ending.said
     × (ending.status ≡ 2)
-Explains (refused.Clap error) old new was is ending = ExplainsParse error old new was is ending
+Explains (refused.Clap error) old new was is ending =
+    ExplainsParse (kind_of error) None old new was is ending
+
+-- ---- the whole run
 
 -- the words mean a request, which is served, or they mean none, and nothing is read or replaced
 abbrev pub Executes : List (List ℕ) → Option (List ℕ) → Option (List ℕ) → World → World → Ending

@@ -13,6 +13,31 @@ use textwrap_lines::LineEnding;
 use textwrap_program::arguments::parse_width;
 use textwrap_reflow::{Algorithm, ReflowOptions};
 
+/// What `--help` shows, which is what `clap` makes of the command line.
+pub const HELP: &str = "Fills the paragraphs of a text, each under its own prefix.
+
+Usage: reflow [OPTIONS] [FILE]...
+
+Arguments:
+  [FILE]...  Files; the standard input if there are none
+
+Options:
+  -w, --width <N>      Columns of a line [default: 80]
+      --first-fit      Fill each line with as many words as fit
+      --least-cost     Choose the least ragged lines (default)
+      --justify        Widen the gaps of lines to the width
+      --crlf           End lines with CR LF
+      --prefix <TEXT>  Fill only paragraphs whose prefix begins with TEXT
+      --keep-code      Leave fenced and indented code as it is
+      --check          Print the names of files that would change
+      --in-place       Replace each file, by way of a new file FILE.reflow
+  -h, --help           Print help
+  -V, --version        Print version
+";
+
+/// What `--version` shows, which is what `clap` makes of it.
+pub const VERSION: &str = "reflow 2.0.0\n";
+
 /// What is done with each input.
 #[derive(Clone, Copy, Debug, PartialEq, Eq)]
 pub enum Mode {

@@ -2,14 +2,16 @@
 ghost use Rattle.std.specs.Prelude.{◌≡◌, map, string_bytes, OnOk, OnErr};
 ghost use Rattle.std.specs.Io.KnownBytes.{Appends};
 ghost use Rattle.textwrap_program.specs.Filling.{WritesPrefix};
-ghost use Rattle.reflow_program.specs.Program.{Executes, Explains, ExplainsParse, Says, SaysLine, Serves};
+ghost use Rattle.reflow_program.specs.Program.{Executes, Explains, ExplainsParse, SaysLine, Serves};
 ghost use Rattle.reflow_program.specs.Program.{TreatsFile, TreatsFiles, TreatsInput, Reports, all_well};
-ghost use Rattle.reflow_program.specs.Program.{fault_line, fault_text, joined};
+ghost use Rattle.reflow_program.specs.Program.{Shows, Warns, fault_line, fault_text, joined};
 
-use crate::arguments::{ArgumentError, Mode, Request, parse};
+use crate::arguments::{ArgumentError, HELP, Mode, Request, VERSION, parse};
 use crate::files::Files;
 use crate::inputs::{check_file, check_input, print_file, print_input, replace_file};
+use clap::error::ErrorKind;
 use std::alloc::Global;
+use std::fmt::Display;
 use std::io::{Read, Write};
 use textwrap_program::filling::{RunError, write_line, write_to_end};
 
@@ -19,7 +21,7 @@ const WIDTH_LINE: &str = "reflow: the width is not a number of 64 bits";
 /// What the program says where memory runs out before the first input.
 const MEMORY_LINE: &str = "reflow: out of memory";
 
-/// What the program says where its help cannot be written.
+/// What the program says where its help or its version cannot be written.
 const WRITE_LINE: &str = "reflow: cannot write";
 
 /// What the standard input is called in messages.
@@ -240,29 +242,56 @@ fn explain<W: Write, M: Write>(
 {
     match error {
         ArgumentError::Width => complain(messages, WIDTH_LINE),
-        ArgumentError::Clap(error) => explain_parse(alloc, error, output, messages),
+        ArgumentError::Clap(error) => explain_parse(alloc, error.kind(), error, output, messages),
     }
 }
 
-/// Says why the arguments are not those of the program, or shows the help or the version.
-fn explain_parse<W: Write, M: Write>(
+/// Shows the help or the version, or says why the arguments are not those of the program, by the
+/// kind of the error. The type of the error is left open: `clap` promises nothing of the text that
+/// its errors display, so only in this way can the clause ask that this text is the one that is
+/// said.
+fn explain_parse<E: Display, W: Write, M: Write>(
     alloc: Global,
-    error: &clap::Error,
+    kind: ErrorKind,
+    error: &E,
     output: &mut W,
     messages: &mut M,
 ) -> Ending
-    ensures { ExplainsParse error.now (W.contents output.old) (W.contents output.new)
+    ensures { ExplainsParse kind (E.output error.now)
+        (W.contents output.old) (W.contents output.new)
         (M.contents messages.old) (M.contents messages.new) result }
+{
+    match kind {
+        ErrorKind::DisplayHelp => show(HELP, output, messages),
+        ErrorKind::DisplayVersion => show(VERSION, output, messages),
+        ErrorKind::OutOfMemory => complain(messages, MEMORY_LINE),
+        _ => warn(alloc, error, messages),
+    }
+}
+
+/// Shows a text.
+fn show<W: Write, M: Write>(text: &str, output: &mut W, messages: &mut M) -> Ending
+    ensures { Shows text.now (W.contents output.old) (W.contents output.new)
+        (M.contents messages.old) (M.contents messages.new) result }
+{
+    match write_to_end(output, text.as_bytes()) {
+        Ok(()) => Ending::well(),
+        Err(_) => complain(messages, WRITE_LINE),
+    }
+}
+
+/// Says what an error displays.
+fn warn<E: Display, M: Write>(alloc: Global, error: &E, messages: &mut M) -> Ending
+    ensures said { Warns (E.output error.now)
+        (M.contents messages.old) (M.contents messages.new) result.said }
+    ensures status { result.status ≡ 2 }
 {
     let Ok(text) = format!(in alloc; "{error}") else {
         return complain(messages, MEMORY_LINE);
     };
-    if error.use_stderr() {
-        return warn(messages, &text);
-    }
-    match write_to_end(output, text.as_bytes()) {
-        Ok(()) => Ending::well(),
-        Err(_) => complain(messages, WRITE_LINE),
+    Ending {
+        status: 2,
+        said: write_to_end(messages, text.as_bytes()).is_ok(),
     }
 }
 
@@ -275,17 +304,5 @@ pub fn complain<M: Write>(messages: &mut M, line: &str) -> Ending
     Ending {
         status: 2,
         said: write_line(messages, line).is_ok(),
-    }
-}
-
-/// Says a text of a fault that came before the first input.
-fn warn<M: Write>(messages: &mut M, text: &str) -> Ending
-    ensures said { Says text.now
-        (M.contents messages.old) (M.contents messages.new) result.said }
-    ensures status { result.status ≡ 2 }
-{
-    Ending {
-        status: 2,
-        said: write_to_end(messages, text.as_bytes()).is_ok(),
     }
 }

@@ -1,10 +1,11 @@
 //! What the words after the program's name mean, seen by what is done with the standard input.
 use super::plain::{
     Left, SOUND, Start, assert_bytes, assert_ending, assert_number, assert_reflowed, assert_spans,
-    run,
+    run, strings,
 };
 use fakes::streams::{FeedFault, SinkFault};
-use std::alloc::AllocError;
+use reflow_program::arguments::{ArgumentError, HELP, VERSION, parse};
+use std::alloc::{AllocError, Global};
 use std::io::ErrorKind;
 use std::process::Abort;
 
@@ -319,6 +320,33 @@ fn help_and_version_are_shown(rt: HostRuntime) -> Result<(), AllocError> {
         for faulty in SHOWING_FAULTS {
             assert_shown(&rt, row, faulty)?;
         }
+    }
+    Ok(())
+}
+
+/// Words that ask for help or the version, and all that is shown.
+const RENDERED: &[(&[&str], &str)] = &[
+    (&["--help"], HELP),
+    (&["-h"], HELP),
+    (&["--version"], VERSION),
+    (&["-V"], VERSION),
+];
+
+/// What `clap` makes of words that mean no request.
+fn rendered(alloc: Global, words: &[&str]) -> Result<String, AllocError> {
+    let words = strings(alloc, words)?;
+    match parse(alloc, &words) {
+        Err(ArgumentError::Clap(error)) => format!(in alloc; "{error}"),
+        _ => Ok(String::new(alloc)),
+    }
+}
+
+/// The texts that are shown are those that `clap` makes of the command line.
+#[test]
+fn what_is_shown_is_as_clap_makes_it(rt: HostRuntime) -> Result<(), AllocError> {
+    for &(words, text) in RENDERED {
+        let rendered = rendered(rt.alloc(), words)?;
+        assert_bytes(&rt, text, rendered.as_bytes(), text.as_bytes());
     }
     Ok(())
 }

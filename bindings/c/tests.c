@@ -513,6 +513,10 @@ static void words_are_cut_split_and_broken(void) {
     CHECK(textwrap_find_words_at(bytes("\xc3\xa9"), 2, inside, 1, words, 4, &count)
           == TEXTWRAP_WRONG_PLACES);
     CHECK(count == 2);
+    const size_t shown[2] = {4, 7};
+    CHECK(textwrap_find_words_at(bytes("\x1b[1mfoo bar"), 11, shown, 2, words, 4, &count)
+          == TEXTWRAP_DONE);
+    CHECK(count == 2 && stands(words[0], 0, 7, 1, 3) && stands(words[1], 8, 3, 0, 3));
     CHECK(textwrap_split_points(bytes("can-be-split"), 12, points, 3, &count) == TEXTWRAP_DONE);
     CHECK(count == 2 && points[0] == 4 && points[1] == 7);
     CHECK(textwrap_split_points(bytes("--foo"), 5, points, 3, &count) == TEXTWRAP_DONE && count == 0);

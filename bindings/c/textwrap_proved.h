@@ -349,7 +349,8 @@ textwrap_status textwrap_pieces(const uint8_t *paragraph, size_t paragraph_len,
 
 /* Writes the words of a line that may be broken at these offsets, as a line segmenter gives them. They
  * count the bytes of the line without its escape sequences, increase, and are character boundaries of
- * that text; else WRONG_PLACES. The line is not cut at its ends, nor directly after a hyphen. */
+ * that text; else WRONG_PLACES, even if there is no memory. The line is not cut at its ends, nor directly
+ * after a hyphen. */
 TEXTWRAP_CHECKED
 textwrap_status textwrap_find_words_at(const uint8_t *line, size_t line_len, const size_t *offsets,
                                        size_t offsets_len, textwrap_piece *words, size_t words_len,

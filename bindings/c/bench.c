@@ -78,7 +78,7 @@ static textwrap_status wrap_indented(work *w) {
 
 static textwrap_status wrap_columns(work *w) {
     const uint8_t bar[] = "|";
-    textwrap_gaps gaps = {text_of(bar), text_of(bar), text_of(bar)};
+    textwrap_gaps gaps = textwrap_gaps_new(text_of(bar), text_of(bar), text_of(bar));
     size_t count, len;
     return textwrap_wrap_columns(w->text, w->text_len, 2, &w->options, &gaps, w->lines, w->lines_len,
                                  &count, w->room, w->room_len, &len);
@@ -162,7 +162,7 @@ static textwrap_status carry_styles(work *w) {
 
 /* The texts in two columns. */
 static textwrap_status table(work *w) {
-    textwrap_gaps gaps = {text_of(blanks), text_of(blanks), text_of(blanks)};
+    textwrap_gaps gaps = textwrap_gaps_new(text_of(blanks), text_of(blanks), text_of(blanks));
     textwrap_column columns[2] = {{w->options, TEXTWRAP_LEFT, 0}, {w->options, TEXTWRAP_RIGHT, 0}};
     size_t count, len;
     return textwrap_table(w->texts, w->texts_len, columns, 2, &gaps, w->lines, w->lines_len, &count,

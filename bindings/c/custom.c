@@ -270,12 +270,20 @@ size_t textwrap_cut_at_breaks(void *context, const uint8_t *paragraph, size_t pa
     return status == TEXTWRAP_DONE ? count : paragraph_len + 1;
 }
 
+/* Whether no function is set that this library does not know. */
+static int are_known(const textwrap_functions *functions) {
+    for (size_t i = 0; i < sizeof functions->reserved / sizeof *functions->reserved; i++)
+        if (functions->reserved[i] != NULL) return 0;
+    return 1;
+}
+
 /* Finds the lines of a text. */
 static textwrap_status run(work *w, const uint8_t *text, size_t text_len,
                            const textwrap_options *options, const textwrap_functions *functions) {
     memset(w, 0, sizeof *w);
     w->options = options;
     w->functions = functions;
+    if (!are_known(functions)) return TEXTWRAP_UNKNOWN_OPTIONS;
     textwrap_status status = begin(w);
     /* If the text or the options are refused, this call says so, before any function is called. */
     if (status == TEXTWRAP_DONE)

@@ -60,7 +60,10 @@ static textwrap_options some_options(const textwrap_options *options) {
 }
 
 static textwrap_gaps some_gaps(const textwrap_gaps *gaps) {
-    textwrap_gaps some = {some_text(gaps->left), some_text(gaps->middle), some_text(gaps->right)};
+    textwrap_gaps some = *gaps;
+    some.left = some_text(gaps->left);
+    some.middle = some_text(gaps->middle);
+    some.right = some_text(gaps->right);
     return some;
 }
 

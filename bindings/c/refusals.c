@@ -90,7 +90,7 @@ static textwrap_status wrapped(struct lent *lent) {
 static textwrap_status in_columns(struct lent *lent) {
     textwrap_options o = options_of(1, 0);
     textwrap_text gap = {bytes("|"), 1};
-    textwrap_gaps gaps = {gap, gap, gap};
+    textwrap_gaps gaps = textwrap_gaps_new(gap, gap, gap);
     o.width = 30;
     return textwrap_wrap_columns(bytes(TEXT), strlen(TEXT), 2, &o, &gaps, lent->lines, 16,
                                  &lent->count, lent->room, 256, &lent->len);
@@ -152,7 +152,7 @@ static textwrap_status styles_carried(struct lent *lent) {
 }
 
 static textwrap_status in_a_table(struct lent *lent) {
-    const textwrap_gaps gaps = {text_of("|"), text_of("|"), text_of("|")};
+    const textwrap_gaps gaps = textwrap_gaps_new(text_of("|"), text_of("|"), text_of("|"));
     const textwrap_text cells[3] = {text_of(TEXT), text_of("1.50"), text_of("foo")};
     const textwrap_column columns[2] = {{options_of(0, 1), TEXTWRAP_LEFT, 0},
                                         {options_of(1, 0), TEXTWRAP_RIGHT, 0}};

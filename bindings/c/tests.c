@@ -126,7 +126,7 @@ static void lines_are_places(void) {
 
 static void rows_are_written(void) {
     textwrap_options o = textwrap_options_new(24);
-    textwrap_gaps gaps = {text_of("|"), text_of("|"), text_of("|")};
+    textwrap_gaps gaps = textwrap_gaps_new(text_of("|"), text_of("|"), text_of("|"));
     textwrap_line rows[1];
     size_t count = 0, len = 0;
     uint8_t room[24];
@@ -144,10 +144,12 @@ static void filled_texts_are_unfilled_and_refilled(void) {
     uint8_t room[32];
     size_t len = 0;
     textwrap_layout layout;
+    memset(&layout, 7, sizeof layout);
     CHECK(textwrap_unfill(bytes(text), 12, room, sizeof room, &len, &layout) == TEXTWRAP_DONE);
     CHECK(len == 12 && memcmp(room, "foo bar\n*   ", 12) == 0);
     CHECK(layout.width == 5 && layout.crlf == 0);
     CHECK(layout.initial_indent_len == 2 && layout.subsequent_indent_len == 2);
+    for (int i = 0; i < 4; i++) CHECK(layout.reserved_sizes[i] == 0);
     textwrap_options o = textwrap_options_new(20);
     CHECK(textwrap_refill(bytes(text), 12, &o, room, sizeof room, &len) == TEXTWRAP_DONE);
     CHECK(len == 10 && memcmp(room, "* foo bar\n", 10) == 0);
@@ -376,7 +378,7 @@ static void tables_are_written(void) {
                                     text_of("three"), text_of("12.25")};
     const textwrap_column columns[3] = {column_of(4, TEXTWRAP_LEFT), column_of(6, TEXTWRAP_RIGHT),
                                         column_of(4, TEXTWRAP_CENTRE)};
-    const textwrap_gaps gaps = {text_of("[ "), text_of(" | "), text_of(" ]")};
+    const textwrap_gaps gaps = textwrap_gaps_new(text_of("[ "), text_of(" | "), text_of(" ]"));
     textwrap_line rows[4];
     uint8_t room[128] = "...";
     size_t count = 7, len = 7;
@@ -406,8 +408,8 @@ static void tables_are_written(void) {
 static void wrong_tables_are_refused(void) {
     const textwrap_text cells[2] = {text_of("a"), text_of("b")};
     const textwrap_text wrong[2] = {text_of("a"), text_of("\xff")};
-    const textwrap_gaps gaps = {text_of("|"), text_of("|"), text_of("|")};
-    const textwrap_gaps wrong_gaps = {gaps.left, text_of("\xff"), gaps.right};
+    const textwrap_gaps gaps = textwrap_gaps_new(text_of("|"), text_of("|"), text_of("|"));
+    const textwrap_gaps wrong_gaps = textwrap_gaps_new(gaps.left, text_of("\xff"), gaps.right);
     textwrap_column columns[2] = {column_of(4, TEXTWRAP_LEFT), column_of(4, TEXTWRAP_LEFT)};
     textwrap_line rows[1];
     uint8_t room[16] = "...";
@@ -513,6 +515,10 @@ static void words_are_cut_split_and_broken(void) {
     CHECK(textwrap_find_words_at(bytes("\xc3\xa9"), 2, inside, 1, words, 4, &count)
           == TEXTWRAP_WRONG_PLACES);
     CHECK(count == 2);
+    const size_t shown[2] = {4, 7};
+    CHECK(textwrap_find_words_at(bytes("\x1b[1mfoo bar"), 11, shown, 2, words, 4, &count)
+          == TEXTWRAP_DONE);
+    CHECK(count == 2 && stands(words[0], 0, 7, 1, 3) && stands(words[1], 8, 3, 0, 3));
     CHECK(textwrap_split_points(bytes("can-be-split"), 12, points, 3, &count) == TEXTWRAP_DONE);
     CHECK(count == 2 && points[0] == 4 && points[1] == 7);
     CHECK(textwrap_split_points(bytes("--foo"), 5, points, 3, &count) == TEXTWRAP_DONE && count == 0);
@@ -600,7 +606,7 @@ static int is_wrapped_by(textwrap_options options, textwrap_functions functions,
 
 /* Whether textwrap_wrap_by without functions does what textwrap_wrap does. */
 static int is_wrapped_alike(textwrap_options options, const char *text) {
-    const textwrap_functions none = {NULL, NULL, NULL, NULL};
+    const textwrap_functions none = textwrap_functions_new(NULL);
     textwrap_line lines[64], others[64];
     uint8_t room[512], other_room[512];
     size_t count = 0, len = 0, other_count = 0, other_len = 0;
@@ -619,7 +625,7 @@ static int is_wrapped_alike(textwrap_options options, const char *text) {
 
 /* Whether textwrap_fill_by without functions does what textwrap_fill does. */
 static int is_filled_alike(textwrap_options options, const char *text) {
-    const textwrap_functions none = {NULL, NULL, NULL, NULL};
+    const textwrap_functions none = textwrap_functions_new(NULL);
     uint8_t room[512], other_room[512];
     size_t len = 0, other_len = 0;
     textwrap_status status = textwrap_fill(bytes(text), strlen(text), &options, room, 512, &len);
@@ -652,7 +658,8 @@ static void texts_are_wrapped_alike_without_functions(void) {
 }
 
 static void lines_end_at_unicode_breaks(void) {
-    const textwrap_functions breaks = {NULL, textwrap_cut_at_breaks, NULL, NULL};
+    textwrap_functions breaks = textwrap_functions_new(NULL);
+    breaks.cut = textwrap_cut_at_breaks;
     size_t cuts[4], count = 0;
     CHECK(textwrap_unicode_cuts(bytes("foo-bar \xe6\x97\xa5\xe6\x9c\xac"), 14, cuts, 4, &count)
           == TEXTWRAP_DONE);
@@ -682,14 +689,18 @@ static void lines_end_at_unicode_breaks(void) {
 static void functions_of_the_caller_take_part(void) {
     int calls = 0;
     size_t two = 2;
-    textwrap_functions commas = {&calls, cut_after_commas, NULL, NULL};
+    textwrap_functions commas = textwrap_functions_new(&calls);
+    commas.cut = cut_after_commas;
     CHECK(is_wrapped_by(textwrap_options_new(4), commas, "a,b,c,d\na,b,c", "a,b,|c,d|a,b,|c|"));
     CHECK(calls == 2);
-    textwrap_functions pairs = {&two, NULL, split_at_context, NULL};
+    textwrap_functions pairs = textwrap_functions_new(&two);
+    pairs.split = split_at_context;
     CHECK(is_wrapped_by(textwrap_options_new(3), pairs, "foobar", "fo-|oba|r|"));
-    textwrap_functions alone = {NULL, NULL, NULL, each_alone};
+    textwrap_functions alone = textwrap_functions_new(NULL);
+    alone.divide = each_alone;
     CHECK(is_wrapped_by(textwrap_options_new(5), alone, "a b-c d", "a|b-|c|d|"));
-    const textwrap_functions wrong = {NULL, NULL, NULL, past_the_end};
+    textwrap_functions wrong = textwrap_functions_new(NULL);
+    wrong.divide = past_the_end;
     textwrap_options o = textwrap_options_new(3);
     textwrap_line lines[4];
     size_t count = 7, len = 7;
@@ -702,6 +713,39 @@ static void functions_of_the_caller_take_part(void) {
     CHECK(textwrap_wrap_by(bytes("a b c"), 5, &o, &alone, lines, 2, &count, room, 4, &len)
           == TEXTWRAP_TOO_SMALL);
     CHECK(count == 3 && len == 0);
+}
+
+static void do_nothing(void) {}
+
+/* What is in reserve means nothing yet, so it has to be 0. */
+static void what_is_in_reserve_is_refused(void) {
+    textwrap_options o = textwrap_options_new(24);
+    const textwrap_text bar = text_of("|");
+    const textwrap_fragment card = {4, 1, 0, 0};
+    const textwrap_column column = column_of(4, TEXTWRAP_LEFT);
+    const size_t nine = 9;
+    textwrap_line lines[1];
+    uint8_t room[24];
+    size_t end = 7, count = 7, len = 7;
+    for (int i = 0; i < 4; i++) {
+        textwrap_gaps gaps = textwrap_gaps_new(bar, bar, bar);
+        gaps.reserved_sizes[i] = 1;
+        CHECK(textwrap_wrap_columns(bytes("foo"), 3, 1, &o, &gaps, lines, 1, &count, room, 24, &len)
+              == TEXTWRAP_UNKNOWN_OPTIONS);
+        CHECK(textwrap_table(&bar, 1, &column, 1, &gaps, lines, 1, &count, room, 24, &len)
+              == TEXTWRAP_UNKNOWN_OPTIONS);
+        textwrap_penalties penalties = textwrap_penalties_of(&o);
+        penalties.reserved_sizes[i] = 1;
+        CHECK(textwrap_wrap_optimal_fit(&card, 1, &nine, 1, &penalties, &end, 1, &count)
+              == TEXTWRAP_UNKNOWN_OPTIONS);
+        textwrap_functions functions = textwrap_functions_new(NULL);
+        functions.reserved[i] = do_nothing;
+        CHECK(textwrap_wrap_by(bytes("foo"), 3, &o, &functions, lines, 1, &count, room, 24, &len)
+              == TEXTWRAP_UNKNOWN_OPTIONS);
+        CHECK(textwrap_fill_by(bytes("foo"), 3, &o, &functions, room, 24, &len)
+              == TEXTWRAP_UNKNOWN_OPTIONS);
+    }
+    CHECK(end == 7 && count == 7 && len == 7);
 }
 
 static void bounds_are_enough(void) {
@@ -724,7 +768,7 @@ static void bounds_are_enough(void) {
     CHECK(len == 4 && memcmp(room, "#\n#\n", 4) == 0);
     CHECK(textwrap_dedent_bound(5) == 5);
     CHECK(textwrap_dedent(bytes("a\n b\n"), 5, room, 5, &len) == TEXTWRAP_DONE && len == 5);
-    textwrap_gaps gaps = {text_of(""), text_of(""), text_of("")};
+    textwrap_gaps gaps = textwrap_gaps_new(text_of(""), text_of(""), text_of(""));
     o = textwrap_options_new(2);
     CHECK(textwrap_wrap_columns_rows_bound(3, 2) == 2);
     CHECK(textwrap_wrap_columns_room_bound(3, 2, &o, &gaps) == 7);
@@ -742,9 +786,10 @@ static void a_pointer_to_nothing_may_be_null(void) {
     textwrap_options o = textwrap_options_new(10);
     o.initial_indent.at = NULL;
     o.subsequent_indent.at = NULL;
-    const textwrap_gaps gaps = {{NULL, 0}, {NULL, 0}, {NULL, 0}};
+    const textwrap_text nothing = {NULL, 0};
+    const textwrap_gaps gaps = textwrap_gaps_new(nothing, nothing, nothing);
     const textwrap_penalties penalties = textwrap_penalties_new();
-    const textwrap_functions functions = {NULL, NULL, NULL, NULL};
+    const textwrap_functions functions = textwrap_functions_new(NULL);
     textwrap_layout layout;
     textwrap_line line[1];
     uint8_t room[10];
@@ -832,6 +877,7 @@ int main(void) {
     texts_are_wrapped_alike_without_functions();
     lines_end_at_unicode_breaks();
     functions_of_the_caller_take_part();
+    what_is_in_reserve_is_refused();
     bounds_are_enough();
     if (failures == 0) printf("C: ok\n");
     return failures != 0;

@@ -40,8 +40,8 @@ typedef enum {
     TEXTWRAP_NOT_UTF8 = 1,        /* a text that was given is not UTF-8 */
     TEXTWRAP_OUT_OF_MEMORY = 2,   /* memory ran out */
     TEXTWRAP_TOO_SMALL = 3,       /* the room is too small, and what suffices is reported */
-    TEXTWRAP_UNKNOWN_OPTIONS = 4, /* another version, a number that means nothing, or wrap_columns
-                                   * without columns */
+    TEXTWRAP_UNKNOWN_OPTIONS = 4, /* another version, a number that means nothing, one in reserve that
+                                   * is not 0, or wrap_columns without columns */
     TEXTWRAP_OVERFLOW = 5,        /* a sum of widths or a cost needs more than 128 bits */
     TEXTWRAP_WRONG_PLACES = 6,    /* offsets that do not increase, or are no places to cut at */
 } textwrap_status;
@@ -154,12 +154,25 @@ textwrap_status textwrap_wrap(const uint8_t *text, size_t text_len, const textwr
                               textwrap_line *lines, size_t lines_len, size_t *count, uint8_t *room,
                               size_t room_len, size_t *len);
 
-/* What stands around the cells of a row. */
+/* What stands around the cells of a row. Take it from textwrap_gaps_new, so that later fields have
+ * their defaults. */
 typedef struct {
-    textwrap_text left;   /* before the first cell */
-    textwrap_text middle; /* between each two cells */
-    textwrap_text right;  /* after the last cell */
+    textwrap_text left;       /* before the first cell */
+    textwrap_text middle;     /* between each two cells */
+    textwrap_text right;      /* after the last cell */
+    size_t reserved_sizes[4]; /* 0; any other number is TEXTWRAP_UNKNOWN_OPTIONS */
 } textwrap_gaps;
+
+/* Gaps of these texts. */
+static inline textwrap_gaps textwrap_gaps_new(textwrap_text left, textwrap_text middle,
+                                              textwrap_text right) {
+    textwrap_gaps gaps;
+    memset(&gaps, 0, sizeof gaps);
+    gaps.left = left;
+    gaps.middle = middle;
+    gaps.right = right;
+    return gaps;
+}
 
 /* Wraps the text into so many columns beside one another, at least 1, and writes the rows to the
  * room and where they stand, as textwrap_wrap does. The width of the options is that of a row. */
@@ -181,6 +194,7 @@ typedef struct {
     size_t crlf;                  /* 1 where lines end in CRLF, and else 0 */
     size_t initial_indent_len;    /* the bytes of the initial indent */
     size_t subsequent_indent_len; /* the bytes of the subsequent indent */
+    size_t reserved_sizes[4];     /* written as 0, until a later number takes one */
 } textwrap_layout;
 
 /* Joins the lines of a filled text. The room gets the joined text, and after it the initial indent
@@ -281,17 +295,20 @@ typedef struct {
     size_t break_penalty;    /* what a line costs more that ends with it, by least cost */
 } textwrap_fragment;
 
-/* What lines of the least cost are measured by. */
+/* What lines of the least cost are measured by. Take it from textwrap_penalties_new or
+ * textwrap_penalties_of and change what has to differ, so that later penalties have their defaults. */
 typedef struct {
     size_t nline_penalty;            /* for each line */
     size_t overflow_penalty;         /* for each unit past the width */
     size_t short_last_line_fraction; /* a last fragment narrower than width / this is short */
     size_t short_last_line_penalty;  /* for a short last line of one fragment */
+    size_t reserved_sizes[4];        /* 0; any other number is TEXTWRAP_UNKNOWN_OPTIONS */
 } textwrap_penalties;
 
 /* The library's default penalties. */
 static inline textwrap_penalties textwrap_penalties_new(void) {
     textwrap_penalties penalties;
+    memset(&penalties, 0, sizeof penalties);
     penalties.nline_penalty = 1000;
     penalties.overflow_penalty = 2500;
     penalties.short_last_line_fraction = 4;
@@ -301,7 +318,7 @@ static inline textwrap_penalties textwrap_penalties_new(void) {
 
 /* Those of the options. */
 static inline textwrap_penalties textwrap_penalties_of(const textwrap_options *options) {
-    textwrap_penalties penalties;
+    textwrap_penalties penalties = textwrap_penalties_new();
     penalties.nline_penalty = options->nline_penalty;
     penalties.overflow_penalty = options->overflow_penalty;
     penalties.short_last_line_fraction = options->short_last_line_fraction;
@@ -349,7 +366,8 @@ textwrap_status textwrap_pieces(const uint8_t *paragraph, size_t paragraph_len,
 
 /* Writes the words of a line that may be broken at these offsets, as a line segmenter gives them. They
  * count the bytes of the line without its escape sequences, increase, and are character boundaries of
- * that text; else WRONG_PLACES. The line is not cut at its ends, nor directly after a hyphen. */
+ * that text; else WRONG_PLACES, even if there is no memory. The line is not cut at its ends, nor directly
+ * after a hyphen. */
 TEXTWRAP_CHECKED
 textwrap_status textwrap_find_words_at(const uint8_t *line, size_t line_len, const size_t *offsets,
                                        size_t offsets_len, textwrap_piece *words, size_t words_len,
@@ -397,7 +415,8 @@ textwrap_status textwrap_lines_at(const uint8_t *paragraph, size_t paragraph_len
                                   uint8_t *room, size_t room_len, size_t *len);
 
 /* Functions of the caller, each called with the context. NULL stands for the part that the options
- * name. They write offsets in bytes, and return how many. */
+ * name. They write offsets in bytes, and return how many. Take it from textwrap_functions_new and set
+ * what takes part, so that later functions are NULL. */
 typedef struct {
     void *context;
     /* Where a paragraph is cut into words, in its order; no more than it has bytes. */
@@ -408,7 +427,16 @@ typedef struct {
      * wide; no more than there are pieces, and one. */
     size_t (*divide)(void *context, const textwrap_piece *pieces, size_t pieces_len,
                      const size_t line_widths[2], size_t *ends);
+    void (*reserved[4])(void); /* NULL; any other is TEXTWRAP_UNKNOWN_OPTIONS */
 } textwrap_functions;
+
+/* No functions, and this context. */
+static inline textwrap_functions textwrap_functions_new(void *context) {
+    textwrap_functions functions;
+    memset(&functions, 0, sizeof functions);
+    functions.context = context;
+    return functions;
+}
 
 /* A function for `cut`, which finds Unicode line breaks by textwrap_unicode_cuts. It needs no context. If
  * memory runs out, it returns more than there may be, and so textwrap_wrap_by WRONG_PLACES. */

@@ -76,7 +76,12 @@ pub struct Gaps<'a> {
 
 impl Gaps<'_> {
     pub(crate) fn to_sys(self) -> sys::Gaps {
-        sys::Gaps { left: self.left.into(), middle: self.middle.into(), right: self.right.into() }
+        sys::Gaps {
+            left: self.left.into(),
+            middle: self.middle.into(),
+            right: self.right.into(),
+            reserved_sizes: [0; 4],
+        }
     }
 
     /// What they take together in a row of so many columns, of which there is at least one.

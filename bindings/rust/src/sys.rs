@@ -58,6 +58,7 @@ pub struct Gaps {
     pub left: Text,
     pub middle: Text,
     pub right: Text,
+    pub reserved_sizes: [usize; 4],
 }
 
 #[repr(C)]
@@ -74,6 +75,7 @@ pub struct Layout {
     pub crlf: usize,
     pub initial_indent_len: usize,
     pub subsequent_indent_len: usize,
+    pub reserved_sizes: [usize; 4],
 }
 
 #[repr(C)]
@@ -90,6 +92,7 @@ pub struct Penalties {
     pub overflow_penalty: usize,
     pub short_last_line_fraction: usize,
     pub short_last_line_penalty: usize,
+    pub reserved_sizes: [usize; 4],
 }
 
 #[repr(C)]

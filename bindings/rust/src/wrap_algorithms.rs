@@ -420,6 +420,7 @@ fn optimal_fit_ends(
         overflow_penalty: penalties.overflow_penalty,
         short_last_line_fraction: penalties.short_last_line_fraction,
         short_last_line_penalty: penalties.short_last_line_penalty,
+        reserved_sizes: [0; 4],
     };
     // SAFETY: as in `first_fit_ends`.
     unsafe {

@@ -2,7 +2,7 @@
 ghost use Rattle.std.specs.Prelude.{◌≡◌, ◌≤◌, ◌<◌, ◌↔◌, ◌⊎◌, IsUtf8};
 ghost use Rattle.textwrap.specs.Columns.{IsInColumns};
 ghost use Rattle.textwrap.specs.Paragraph.{DividesAs};
-ghost use Rattle.textwrap_calls.specs.Columns.{AreTextGaps, AreRows};
+ghost use Rattle.textwrap_calls.specs.Columns.{AreKnownGaps, AreTextGaps, AreRows};
 ghost use Rattle.textwrap_calls.specs.Options.{settings_of, splitter_of, algorithm_of, AreKnown};
 ghost use Rattle.textwrap_calls.specs.Options.{AreTexts};
 ghost use Rattle.textwrap_calls.specs.Status.{not_utf8, unknown_options};
@@ -31,8 +31,10 @@ pub extern "C" fn textwrap_wrap_columns(
         (DividesAs (splitter_of options.now) (algorithm_of options.now)) columns text.now
         gaps.now.left.now gaps.now.middle.now gaps.now.right.now) lines)
         text.now result rows.old rows.new count.old count.new room.old room.new len.old len.new }
-    ensures unknown { result ≡ unknown_options ↔ (columns < 1) ⊎ (¬ AreKnown options.now) }
+    ensures unknown { result ≡ unknown_options ↔ (columns < 1) ⊎ (¬ AreKnown options.now)
+        ⊎ (¬ AreKnownGaps gaps.now) }
     ensures not_utf8 { result ≡ not_utf8 ↔ (1 ≤ columns) × AreKnown options.now
+        × AreKnownGaps gaps.now
         × ¬ (IsUtf8 text.now × AreTexts options.now × AreTextGaps gaps.now) }
     ensures statuses { result ≤ unknown_options }
 {

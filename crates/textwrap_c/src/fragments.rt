@@ -1,13 +1,15 @@
 //! Fragments of the caller's own, and the two algorithms that divide them into lines.
-ghost use Rattle.std.specs.Prelude.{◌≡◌, ◌≢◌, ◌⊎◌};
+ghost use Rattle.std.specs.Prelude.{◌≡◌, ◌≢◌, ◌⊎◌, ◌↔◌};
 ghost use Rattle.textwrap_base.specs.Cost.{total_width, Overflows, AreEqualFromSecond};
 ghost use Rattle.textwrap_base.specs.Division.{IsGreedy};
 ghost use Rattle.textwrap_base.specs.Errors.{Fits64Bits, Passes128Bits};
 ghost use Rattle.textwrap_base.specs.OptimalFit.{IsByOptimalFit};
 ghost use Rattle.textwrap_base.specs.Table.{TableOverflows};
 ghost use Rattle.textwrap_calls.specs.Fragments.{sizes_of, priced_of, penalties_of, AreEndsOf};
+ghost use Rattle.textwrap_calls.specs.Fragments.{AreKnownPenalties};
 ghost use Rattle.textwrap_calls.specs.Room.{WritesText};
-ghost use Rattle.textwrap_calls.specs.Status.{done, out_of_memory, too_small, overflow};
+ghost use Rattle.textwrap_calls.specs.Status.{done, out_of_memory, too_small, unknown_options};
+ghost use Rattle.textwrap_calls.specs.Status.{overflow};
 
 use std::alloc::Global;
 use textwrap_calls::fragments;
@@ -50,10 +52,12 @@ pub extern "C" fn textwrap_wrap_optimal_fit(
         → TableOverflows priced_of (penalties_of penalties.now) line_widths.now fragments.now }
     ensures table_written_only { (result ≡ done) ⊎ (result ≡ too_small)
         → ¬ TableOverflows priced_of (penalties_of penalties.now) line_widths.now fragments.now }
-    ensures too_wide { Passes128Bits (total_width sizes_of fragments.now) → result ≡ overflow }
+    ensures too_wide { AreKnownPenalties penalties.now
+        → Passes128Bits (total_width sizes_of fragments.now) → result ≡ overflow }
     ensures no_overflow { Fits64Bits (total_width sizes_of fragments.now) → result ≢ overflow }
+    ensures unknown { result ≡ unknown_options ↔ ¬ AreKnownPenalties penalties.now }
     ensures statuses { (result ≡ done) ⊎ (result ≡ out_of_memory) ⊎ (result ≡ too_small)
-        ⊎ (result ≡ overflow) }
+        ⊎ (result ≡ unknown_options) ⊎ (result ≡ overflow) }
 {
     fragments::textwrap_wrap_optimal_fit(alloc, fragments, line_widths, penalties, ends, count)
 }

@@ -49,7 +49,7 @@ pub extern "C" fn textwrap_find_words_at(
     ensures words { WritesText (λ answer. answer ≡ piece_places 0 (words_at offsets.now line.now))
         result words.old words.new count.old count.new }
     ensures not_utf8 { result ≡ not_utf8 ↔ ¬ IsUtf8 line.now }
-    ensures wrong_places { result ≡ wrong_places → IsUtf8 line.now
+    ensures wrong_places { result ≡ wrong_places ↔ IsUtf8 line.now
         × ¬ AreOffsets (stripped line.now) offsets.now }
     ensures right_places { (result ≡ done) ⊎ (result ≡ too_small)
         → AreOffsets (stripped line.now) offsets.now }

@@ -1,6 +1,6 @@
 //! Texts in the columns of a table.
 ghost use Rattle.std.specs.Prelude.{◌≡◌, ◌≤◌, ◌↔◌, [], map, All};
-ghost use Rattle.textwrap_calls.specs.Columns.{AreRows};
+ghost use Rattle.textwrap_calls.specs.Columns.{AreKnownGaps, AreRows};
 ghost use Rattle.textwrap_calls.specs.Status.{not_utf8, unknown_options};
 ghost use Rattle.textwrap_calls.specs.Tables.{AreTableTexts, IsKnownColumn};
 ghost use Rattle.textwrap_calls.specs.Tables.{parts_of_column, row_gaps};
@@ -30,8 +30,9 @@ pub extern "C" fn textwrap_table(
     ensures table { WritesLines (λ lines _. AreRows (IsTableOf (map parts_of_column columns.now)
         (row_gaps gaps.now) (bytes_of cells.now)) lines)
         [] result rows.old rows.new count.old count.new room.old room.new len.old len.new }
-    ensures unknown { result ≡ unknown_options ↔ ¬ All IsKnownColumn columns.now }
-    ensures not_utf8 { result ≡ not_utf8 ↔ All IsKnownColumn columns.now
+    ensures unknown { result ≡ unknown_options
+        ↔ ¬ (All IsKnownColumn columns.now × AreKnownGaps gaps.now) }
+    ensures not_utf8 { result ≡ not_utf8 ↔ All IsKnownColumn columns.now × AreKnownGaps gaps.now
         × ¬ AreTableTexts cells.now columns.now gaps.now }
     ensures statuses { result ≤ unknown_options }
 {

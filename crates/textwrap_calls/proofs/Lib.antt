@@ -2,6 +2,7 @@ pub mod GroupLemmas
 pub mod Lengths
 pub mod LineLemmas
 pub mod LineListLemmas
+pub mod Offsets
 pub mod PieceLemmas
 pub mod PlaceLemmas
 pub mod RoomLemmas

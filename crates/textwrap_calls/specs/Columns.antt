@@ -1,9 +1,13 @@
 -- What is reported of rows.
-use Rattle.std.specs.Prelude.{◌≡◌, ℕ, List, map, IsUtf8}
+use Rattle.std.specs.Prelude.{◌≡◌, ℕ, List, [], ◌∷◌, map, IsUtf8}
 use Rattle.textwrap.specs.Paragraph.{Line, Built}
 use Rattle.textwrap_lines.specs.Places.{CutLine, built_text, cut_line, lines_of, places_of}
 use Rattle.textwrap_lines.specs.declared.places.Place.{Place}
 use Rattle.textwrap_calls.specs.declared.columns.TextwrapGaps.{TextwrapGaps}
+
+-- the numbers in reserve are 0
+pub record AreKnownGaps (gaps : TextwrapGaps) : Type 0 where
+  pub reserved_sizes : gaps.reserved_sizes ≡ 0 ∷ 0 ∷ 0 ∷ 0 ∷ []
 
 -- the gaps are texts
 pub record AreTextGaps (gaps : TextwrapGaps) : Type 0 where

@@ -27,6 +27,10 @@ penalties_of p = record {
   hyphen_penalty = 0;
 }
 
+-- the numbers in reserve are 0
+pub record AreKnownPenalties (p : TextwrapPenalties) : Type 0 where
+  pub reserved_sizes : p.reserved_sizes ≡ 0 ∷ 0 ∷ 0 ∷ 0 ∷ []
+
 -- where lines end that follow `at` elements: how many there are up to there
 abbrev pub ends_from : {X : Type 0} → ℕ → List (List X) → List ℕ
 ends_from at [] = []

@@ -1,5 +1,6 @@
 -- What is reported of words and pieces, and the offsets that a line may be cut at.
-use Rattle.std.specs.Prelude.{ℕ, ◌+◌, List, [], ◌∷◌, All, length, IsCharBoundary}
+use Rattle.std.specs.Prelude.{ℕ, ◌+◌, ◌==◌, List, [], ◌∷◌, All, length, IsCharBoundary}
+use Rattle.std.specs.Prelude.{if◌then◌else◌}
 use Rattle.std.specs.List.Sorted.{IsStrictlyIncreasing}
 use Rattle.textwrap_words.specs.Words.{WordText}
 use Rattle.textwrap_calls.specs.declared.pieces.TextwrapPiece.{TextwrapPiece}
@@ -21,3 +22,9 @@ piece_places at (w ∷ ws) =
 pub record AreOffsets (text offsets : List ℕ) : Type 0 where
   pub increasing : IsStrictlyIncreasing offsets
   pub boundaries : All (IsCharBoundary text) offsets
+
+-- the offsets that are left when a place is reached: without the first, if it is this place
+abbrev pub offsets_past : ℕ → List ℕ → List ℕ
+offsets_past place [] = []
+offsets_past place (offset ∷ offsets) =
+    if offset == place then offsets else offset ∷ offsets

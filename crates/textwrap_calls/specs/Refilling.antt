@@ -1,5 +1,5 @@
 -- What is written of an unfilled text.
-use Rattle.std.specs.Prelude.{◌≡◌, ℕ, List, ◌++◌, length}
+use Rattle.std.specs.Prelude.{◌≡◌, ℕ, List, [], ◌∷◌, ◌++◌, length}
 use Rattle.textwrap.specs.Options.{Settings}
 use Rattle.textwrap.specs.Refilling.{unfilled_text, unfilled_settings}
 use Rattle.textwrap_lines.specs.declared.line_ending.LineEnding.{LineEnding}
@@ -23,3 +23,4 @@ pub record IsLayout (settings : Settings) (layout : TextwrapLayout) : Type 0 whe
   pub crlf : layout.crlf ≡ ending_number settings.line_ending
   pub initial : layout.initial_indent_len ≡ length settings.initial_indent
   pub subsequent : layout.subsequent_indent_len ≡ length settings.subsequent_indent
+  pub reserved_sizes : layout.reserved_sizes ≡ 0 ∷ 0 ∷ 0 ∷ 0 ∷ []

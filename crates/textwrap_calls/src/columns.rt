@@ -1,8 +1,9 @@
 //! A text in columns beside one another.
-ghost use Rattle.std.specs.Prelude.{◌≡◌, ◌≤◌, ◌<◌, ◌↔◌, ◌⊎◌, IsUtf8, IfOk, map, string_bytes};
+ghost use Rattle.std.specs.Prelude.{◌≡◌, ◌≤◌, ◌<◌, ◌↔◌, ◌⊎◌, IsUtf8, true, IfOk, map};
+ghost use Rattle.std.specs.Prelude.{string_bytes};
 ghost use Rattle.textwrap.specs.Columns.{IsInColumns};
 ghost use Rattle.textwrap.specs.Paragraph.{DividesAs};
-ghost use Rattle.textwrap_calls.specs.Columns.{AreTextGaps, AreRows, ArePlacedRows};
+ghost use Rattle.textwrap_calls.specs.Columns.{AreKnownGaps, AreTextGaps, AreRows, ArePlacedRows};
 ghost use Rattle.textwrap_calls.specs.Options.{settings_of, splitter_of, algorithm_of, AreKnown};
 ghost use Rattle.textwrap_calls.specs.Options.{AreTexts};
 ghost use Rattle.textwrap_calls.specs.Status.{not_utf8, unknown_options};
@@ -26,10 +27,13 @@ pub struct TextwrapGaps<'a> {
     pub middle: &'a [u8],
     /// What stands after the last cell.
     pub right: &'a [u8],
+    /// 0 each, until a later number takes one, for which 0 will change nothing.
+    pub reserved_sizes: [usize; 4],
 }
 
 /// Wraps the text into so many columns beside one another, and writes the rows as `textwrap_wrap`
-/// writes lines that are texts of their own. No columns at all are `UNKNOWN_OPTIONS`.
+/// writes lines that are texts of their own. No columns at all are `UNKNOWN_OPTIONS`, and so are gaps
+/// that are not known.
 pub fn textwrap_wrap_columns(
     alloc: Global,
     text: &[u8],
@@ -45,12 +49,14 @@ pub fn textwrap_wrap_columns(
         (DividesAs (splitter_of options.now) (algorithm_of options.now)) columns text.now
         gaps.now.left.now gaps.now.middle.now gaps.now.right.now) lines)
         text.now result rows.old rows.new count.old count.new room.old room.new len.old len.new }
-    ensures unknown { result ≡ unknown_options ↔ (columns < 1) ⊎ (¬ AreKnown options.now) }
+    ensures unknown { result ≡ unknown_options ↔ (columns < 1) ⊎ (¬ AreKnown options.now)
+        ⊎ (¬ AreKnownGaps gaps.now) }
     ensures not_utf8 { result ≡ not_utf8 ↔ (1 ≤ columns) × AreKnown options.now
+        × AreKnownGaps gaps.now
         × ¬ (IsUtf8 text.now × AreTexts options.now × AreTextGaps gaps.now) }
     ensures statuses { result ≤ unknown_options }
 {
-    if columns == 0 {
+    if columns == 0 || !are_known_gaps(gaps) {
         return UNKNOWN_OPTIONS;
     }
     let options = match read_options(options) {
@@ -72,6 +78,13 @@ pub fn textwrap_wrap_columns(
         return OUT_OF_MEMORY;
     };
     put_lines(&placed, rows, count, room, len)
+}
+
+/// Whether the numbers in reserve are 0.
+pub(crate) fn are_known_gaps(gaps: &TextwrapGaps<'_>) -> bool
+    ensures { result ≡ true ↔ AreKnownGaps gaps.now }
+{
+    gaps.reserved_sizes == [0; 4]
 }
 
 /// The rows, placed as lines of their own.

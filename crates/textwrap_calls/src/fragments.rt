@@ -1,16 +1,18 @@
 //! Fragments of the caller's own, and the two algorithms that divide them into lines.
-ghost use Rattle.std.specs.Prelude.{◌≡◌, ◌≢◌, ◌⊎◌, IfOk, map};
+ghost use Rattle.std.specs.Prelude.{◌≡◌, ◌≢◌, ◌⊎◌, ◌↔◌, true, IfOk, map};
 ghost use Rattle.textwrap_base.specs.Cost.{total_width, Overflows, AreEqualFromSecond};
 ghost use Rattle.textwrap_base.specs.Division.{IsGreedy, IsDivision};
 ghost use Rattle.textwrap_base.specs.Errors.{Fits64Bits, Passes128Bits};
 ghost use Rattle.textwrap_base.specs.OptimalFit.{IsByOptimalFit};
 ghost use Rattle.textwrap_base.specs.Table.{TableOverflows};
 ghost use Rattle.textwrap_calls.specs.Fragments.{sizes_of, priced_of, penalties_of, ends_of, AreEndsOf};
+ghost use Rattle.textwrap_calls.specs.Fragments.{AreKnownPenalties};
 ghost use Rattle.textwrap_calls.specs.Room.{WritesText};
-ghost use Rattle.textwrap_calls.specs.Status.{done, out_of_memory, too_small, overflow};
+ghost use Rattle.textwrap_calls.specs.Status.{done, out_of_memory, too_small, unknown_options};
+ghost use Rattle.textwrap_calls.specs.Status.{overflow};
 
 use crate::room::put;
-use crate::status::{OUT_OF_MEMORY, OVERFLOW};
+use crate::status::{OUT_OF_MEMORY, OVERFLOW, UNKNOWN_OPTIONS};
 use std::alloc::{AllocError, Global};
 use textwrap::words::Fragment;
 use textwrap::wrap_algorithms::{Penalties, WrapError, wrap_first_fit, wrap_optimal_fit};
@@ -66,6 +68,8 @@ pub struct TextwrapPenalties {
     pub short_last_line_fraction: usize,
     /// What a short last line costs.
     pub short_last_line_penalty: usize,
+    /// 0 each, until a later penalty takes one, for which 0 will change nothing.
+    pub reserved_sizes: [usize; 4],
 }
 
 /// Divides the fragments into lines by first fit, and writes where each line ends: how many
@@ -102,7 +106,8 @@ fn first_fit_ends(
 }
 
 /// The same by least cost. `OVERFLOW` if the widths of all fragments together, or the least cost of
-/// the first so many of them, need more than 128 bits.
+/// the first so many of them, need more than 128 bits. Penalties that are not known are
+/// `UNKNOWN_OPTIONS`.
 pub fn textwrap_wrap_optimal_fit(
     alloc: Global,
     fragments: &[TextwrapFragment],
@@ -122,11 +127,16 @@ pub fn textwrap_wrap_optimal_fit(
         → TableOverflows priced_of (penalties_of penalties.now) line_widths.now fragments.now }
     ensures table_written_only { (result ≡ done) ⊎ (result ≡ too_small)
         → ¬ TableOverflows priced_of (penalties_of penalties.now) line_widths.now fragments.now }
-    ensures too_wide { Passes128Bits (total_width sizes_of fragments.now) → result ≡ overflow }
+    ensures too_wide { AreKnownPenalties penalties.now
+        → Passes128Bits (total_width sizes_of fragments.now) → result ≡ overflow }
     ensures no_overflow { Fits64Bits (total_width sizes_of fragments.now) → result ≢ overflow }
+    ensures unknown { result ≡ unknown_options ↔ ¬ AreKnownPenalties penalties.now }
     ensures statuses { (result ≡ done) ⊎ (result ≡ out_of_memory) ⊎ (result ≡ too_small)
-        ⊎ (result ≡ overflow) }
+        ⊎ (result ≡ unknown_options) ⊎ (result ≡ overflow) }
 {
+    if !are_known_penalties(penalties) {
+        return UNKNOWN_OPTIONS;
+    }
     let penalties = Penalties {
         nline_penalty: penalties.nline_penalty,
         overflow_penalty: penalties.overflow_penalty,
@@ -144,6 +154,13 @@ pub fn textwrap_wrap_optimal_fit(
         Ok(found) => put(&found, ends, count),
         Err(_) => OUT_OF_MEMORY,
     }
+}
+
+/// Whether the numbers in reserve are 0.
+fn are_known_penalties(penalties: &TextwrapPenalties) -> bool
+    ensures { result ≡ true ↔ AreKnownPenalties penalties.now }
+{
+    penalties.reserved_sizes == [0; 4]
 }
 
 /// Where lines end that fragments were divided into.

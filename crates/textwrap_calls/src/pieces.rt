@@ -1,8 +1,7 @@
 //! Words, and the pieces that they are split and broken into, by where they stand.
-ghost use Rattle.std.specs.Prelude.{◌≡◌, ◌⊎◌, ◌↔◌, ◌≤◌, [], IfOk, IfSome, None};
-ghost use Rattle.std.specs.Prelude.{IsUtf8, true, map};
+ghost use Rattle.std.specs.Prelude.{◌≡◌, ◌⊎◌, ◌↔◌, ◌≤◌, [], IfOk, IsUtf8, true, map};
 ghost use Rattle.textwrap_calls.specs.Options.{settings_of, splitter_of, AreKnown, AreTexts};
-ghost use Rattle.textwrap_calls.specs.Pieces.{AreOffsets, piece_places};
+ghost use Rattle.textwrap_calls.specs.Pieces.{AreOffsets, offsets_past, piece_places};
 ghost use Rattle.textwrap_calls.specs.Room.{WritesText};
 ghost use Rattle.textwrap_calls.specs.Status.{done, not_utf8, too_small, unknown_options, wrong_places};
 ghost use Rattle.textwrap_lines.specs.Options.{settings_view};
@@ -22,8 +21,9 @@ use std::alloc::{AllocError, Global};
 use textwrap::Options;
 use textwrap::word_separators::find_words_at;
 use textwrap::word_splitters::WordSplitter;
-use textwrap::words::{BreakApart, Word, display_width, strip_ansi_escape_sequences};
+use textwrap::words::{BreakApart, Word, display_width};
 use textwrap_lines::inner::paragraph_pieces;
+use textwrap_words::escapes::State;
 use textwrap_words::inner::BuiltInSplitter;
 
 /// Where a word stands, or a part of one.
@@ -102,7 +102,7 @@ fn placed_pieces(
 
 /// Writes the words of a line that may be broken at these offsets, as the library's `find_words_at`
 /// finds them. They count the bytes of the line without its escape sequences, increase, and are
-/// character boundaries of that text; else the call answers `WRONG_PLACES`.
+/// character boundaries of that text; else the call answers `WRONG_PLACES`, even if there is no memory.
 pub fn textwrap_find_words_at(
     alloc: Global,
     line: &[u8],
@@ -113,7 +113,7 @@ pub fn textwrap_find_words_at(
     ensures words { WritesText (λ answer. answer ≡ piece_places 0 (words_at offsets.now line.now))
         result words.old words.new count.old count.new }
     ensures not_utf8 { result ≡ not_utf8 ↔ ¬ IsUtf8 line.now }
-    ensures wrong_places { result ≡ wrong_places → IsUtf8 line.now
+    ensures wrong_places { result ≡ wrong_places ↔ IsUtf8 line.now
         × ¬ AreOffsets (stripped line.now) offsets.now }
     ensures right_places { (result ≡ done) ⊎ (result ≡ too_small)
         → AreOffsets (stripped line.now) offsets.now }
@@ -122,43 +122,51 @@ pub fn textwrap_find_words_at(
     let Ok(line) = from_utf8(line) else {
         return NOT_UTF8;
     };
+    if !are_offsets(line, offsets) {
+        return WRONG_PLACES;
+    }
     match words_at(alloc, line, offsets) {
-        Ok(Some(found)) => put(&found, words, count),
-        Ok(None) => WRONG_PLACES,
+        Ok(found) => put(&found, words, count),
         Err(_) => OUT_OF_MEMORY,
     }
 }
 
-/// The words of a line at these offsets, or `None` where they are no offsets of its visible text.
-fn words_at(
-    alloc: Global,
-    line: &str,
-    offsets: &[usize],
-) -> Result<Option<Vec<TextwrapPiece>>, AllocError>
-    ensures words { IfOk result (λ found. IfSome found (λ words.
-        AreOffsets (stripped line.now) offsets.now
-        × (words.items ≡ piece_places 0 (words_at offsets.now line.now)))) }
-    ensures refused { IfOk result (λ found. found ≡ None
-        → ¬ AreOffsets (stripped line.now) offsets.now) }
+/// Whether offsets increase, and are character boundaries of the line without its escape sequences.
+fn are_offsets(line: &str, offsets: &[usize]) -> bool
+    ensures { result ≡ true ↔ AreOffsets (stripped line.now) offsets.now }
 {
-    let visible = strip_ansi_escape_sequences(alloc, line)?;
-    if !are_offsets(&visible, offsets) {
-        return Ok(None);
+    let mut state = State::Text;
+    let mut shown = 0;
+    let mut left = offsets_past(shown, offsets);
+    for ch in line.chars() {
+        let (next, is_visible) = state.step(ch);
+        if is_visible {
+            shown += ch.len_utf8();
+            left = offsets_past(shown, left);
+        }
+        state = next;
     }
-    let words = find_words_at(alloc, line, offsets)?;
-    Ok(Some(place_words(alloc, line, &words)?))
+    left.is_empty()
 }
 
-/// Whether offsets increase, and are character boundaries of a text.
-fn are_offsets(text: &str, offsets: &[usize]) -> bool
-    ensures { result ≡ true ↔ AreOffsets text.now offsets.now }
+/// The offsets that are left when a place is reached: without the first, if it is this place.
+fn offsets_past(place: usize, offsets: &[usize]) -> &[usize]
+    ensures { result.now ≡ offsets_past place offsets.now }
 {
-    for i in 0..offsets.len() {
-        if !text.is_char_boundary(offsets[i]) || (i > 0 && offsets[i - 1] >= offsets[i]) {
-            return false;
-        }
+    match offsets {
+        [offset, rest @ ..] if *offset == place => rest,
+        _ => offsets,
     }
-    true
+}
+
+/// The words of a line at these offsets.
+fn words_at(alloc: Global, line: &str, offsets: &[usize]) -> Result<Vec<TextwrapPiece>, AllocError>
+    requires { AreOffsets (stripped line.now) offsets.now }
+    ensures { IfOk result (λ words.
+        words.items ≡ piece_places 0 (words_at offsets.now line.now)) }
+{
+    let words = find_words_at(alloc, line, offsets)?;
+    place_words(alloc, line, &words)
 }
 
 /// Writes the offsets at which a word may be split: after each hyphen between letters or digits.

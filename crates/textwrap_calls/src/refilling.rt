@@ -57,6 +57,8 @@ pub struct TextwrapLayout {
     pub initial_indent_len: usize,
     /// How many bytes the subsequent indent has.
     pub subsequent_indent_len: usize,
+    /// 0 each, until a later number takes one.
+    pub reserved_sizes: [usize; 4],
 }
 
 /// Joins the lines of a filled text, and finds out how it was filled. The room gets the joined text,
@@ -110,6 +112,7 @@ fn unfilled_parts<A: Allocator + Copy>(
         },
         initial_indent_len: options.initial_indent.len(),
         subsequent_indent_len: options.subsequent_indent.len(),
+        reserved_sizes: [0; 4],
     };
     Ok((parts, layout))
 }

@@ -1,7 +1,7 @@
 //! Texts in the columns of a table.
 ghost use Rattle.std.specs.Prelude.{◌≡◌, ◌≤◌, ◌↔◌, ℕ, true, [], List, map, All, IfNone, IfOk};
 ghost use Rattle.std.specs.Prelude.{IfSome};
-ghost use Rattle.textwrap_calls.specs.Columns.{ArePlacedRows, AreRows, AreTextGaps};
+ghost use Rattle.textwrap_calls.specs.Columns.{AreKnownGaps, ArePlacedRows, AreRows, AreTextGaps};
 ghost use Rattle.textwrap_calls.specs.Status.{not_utf8, unknown_options};
 ghost use Rattle.textwrap_calls.specs.Tables.{AreTableTexts, HasTexts, IsKnownColumn};
 ghost use Rattle.textwrap_calls.specs.Tables.{parts_of_column, row_gaps};
@@ -9,7 +9,7 @@ ghost use Rattle.textwrap_calls.specs.Texts.{bytes_of, IsText};
 ghost use Rattle.textwrap_calls.specs.Wrapping.{WritesLines};
 ghost use Rattle.textwrap_display.specs.Tables.{gaps_view, HaveParts, IsTableOf};
 
-use crate::columns::{TextwrapGaps, place_rows};
+use crate::columns::{TextwrapGaps, are_known_gaps, place_rows};
 use crate::display::read_alignment;
 use crate::options::{TextwrapOptions, are_known, read_options};
 use crate::reported::{TextwrapLine, put_lines};
@@ -35,7 +35,7 @@ pub struct TextwrapColumn<'a> {
 
 /// Wraps the cells in the columns, as many beside one another as there are columns, and writes the
 /// rows as `textwrap_wrap` writes lines that are texts of their own. The last cells may be fewer. A
-/// column that is not known is `UNKNOWN_OPTIONS`.
+/// column that is not known is `UNKNOWN_OPTIONS`, and so are such gaps.
 pub fn textwrap_table(
     alloc: Global,
     cells: &[TextwrapText<'_>],
@@ -49,12 +49,13 @@ pub fn textwrap_table(
     ensures table { WritesLines (λ lines _. AreRows (IsTableOf (map parts_of_column columns.now)
         (row_gaps gaps.now) (bytes_of cells.now)) lines)
         [] result rows.old rows.new count.old count.new room.old room.new len.old len.new }
-    ensures unknown { result ≡ unknown_options ↔ ¬ All IsKnownColumn columns.now }
-    ensures not_utf8 { result ≡ not_utf8 ↔ All IsKnownColumn columns.now
+    ensures unknown { result ≡ unknown_options
+        ↔ ¬ (All IsKnownColumn columns.now × AreKnownGaps gaps.now) }
+    ensures not_utf8 { result ≡ not_utf8 ↔ All IsKnownColumn columns.now × AreKnownGaps gaps.now
         × ¬ AreTableTexts cells.now columns.now gaps.now }
     ensures statuses { result ≤ unknown_options }
 {
-    if !are_known_columns(columns) {
+    if !are_known_columns(columns) || !are_known_gaps(gaps) {
         return UNKNOWN_OPTIONS;
     }
     if !are_utf8(cells) || !have_texts(columns) {

@@ -1,9 +1,8 @@
 use Rattle.textwrap_calls.proofs.pieces.are_offsets.Given as goal
-use Rattle.textwrap_base.proofs.Common.{ℕ, ◌+◌, ◌<◌, IsCharBoundary, slice_index}
+use Rattle.textwrap_base.proofs.Common.{length}
+use Rattle.textwrap_calls.proofs.Offsets.Reading.{IsReading}
 
--- the first offsets are character boundaries, and each is below the next
-abbrev pub invariant-loop-i : goal.invariant-loop-i
-invariant-loop-i l = record {
-  boundaries : (k : ℕ) → k < l.i → IsCharBoundary l.text (slice_index l.offsets k);
-  increasing : (k : ℕ) → k + 1 < l.i → slice_index l.offsets k < slice_index l.offsets (k + 1);
-}
+-- the bytes that are shown so far and those ahead are all, and the offsets that are left are those
+-- that the characters ahead have still to pass
+abbrev pub invariant-loop-ch : goal.invariant-loop-ch
+invariant-loop-ch l = IsReading l.line l.offsets (length l.yielded) l.state l.shown l.left

@@ -19,13 +19,16 @@ returns-in-Ok-clause-table c =
 pub returns-in-Ok-clause-unknown : goal.returns-in-Ok-clause-unknown
 returns-in-Ok-clause-unknown c = (
   λ is _. (written-apart c.put_lines.result c.put_lines.ensures.statuses).1 is,
-  λ unknown. absurd (unknown (c.if-not-are_known_columns.ensures.0 refl)),
+  λ unknown. absurd (unknown (
+    c.if-not-are_known_columns.ensures.0 refl,
+    c.if-not-are_known_gaps.ensures.0 refl,
+  )),
 )
 
 pub returns-in-Ok-clause-not_utf8 : goal.returns-in-Ok-clause-not_utf8
 returns-in-Ok-clause-not_utf8 c = (
   λ is. absurd ((written-apart c.put_lines.result c.put_lines.ensures.statuses).0 is),
-  λ (_, wrong). absurd (wrong (record {
+  λ (_, _, wrong). absurd (wrong (record {
     cells_are = c.if-not-are_utf8.ensures.0 refl;
     columns_are = c.if-not-have_texts.ensures.0 refl;
     gaps_are = c.in-Some.ensures.some;
@@ -35,7 +38,7 @@ returns-in-Ok-clause-not_utf8 c = (
 pub returns-in-Err-clause-not_utf8 : goal.returns-in-Err-clause-not_utf8
 returns-in-Err-clause-not_utf8 c = (
   λ is. let no : ⊥ = omega (arith, is) in absurd no,
-  λ (_, wrong). absurd (wrong (record {
+  λ (_, _, wrong). absurd (wrong (record {
     cells_are = c.if-not-are_utf8.ensures.0 refl;
     columns_are = c.if-not-have_texts.ensures.0 refl;
     gaps_are = c.in-Some.ensures.some;

@@ -38,4 +38,5 @@ fn a_filled_text_has_a_layout(rt: HostRuntime) {
         (layout.initial_indent_len, layout.subsequent_indent_len),
         (2, 2)
     );
+    assert_eq!(rt; layout.reserved_sizes, [0; 4]);
 }

@@ -2,7 +2,7 @@
 use super::places::{NO_OFFSET, OffsetsRow, assert_offsets};
 use super::plain::{BEFORE, OffsetsCall};
 use textwrap_calls::fragments::{TextwrapFragment, TextwrapPenalties};
-use textwrap_calls::status::{DONE, OVERFLOW, TOO_SMALL};
+use textwrap_calls::status::{DONE, OVERFLOW, TOO_SMALL, UNKNOWN_OPTIONS};
 
 /// A fragment of 5.
 const FIVE: TextwrapFragment = TextwrapFragment {
@@ -32,6 +32,7 @@ pub(super) const PENALTIES: TextwrapPenalties = TextwrapPenalties {
     overflow_penalty: 2500,
     short_last_line_fraction: 4,
     short_last_line_penalty: 25,
+    reserved_sizes: [0; 4],
 };
 
 /// Lines take fragments while they fit, and no fragments are one empty line.
@@ -62,7 +63,8 @@ const FIRST_FIT: &[OffsetsRow] = &[
     ),
 ];
 
-/// A break penalty moves a line end, and widths that are too large overflow.
+/// A break penalty moves a line end, widths that are too large overflow, and penalties that are not
+/// known are refused before that.
 const OPTIMAL_FIT: &[OffsetsRow] = &[
     (
         OffsetsCall::OptimalFit {
@@ -99,6 +101,19 @@ const OPTIMAL_FIT: &[OffsetsRow] = &[
             },
         },
         (OVERFLOW, BEFORE),
+        &[NO_OFFSET, NO_OFFSET],
+    ),
+    (
+        OffsetsCall::OptimalFit {
+            fragments: &[WIDE, WIDE],
+            line_widths: &[0],
+            penalties: TextwrapPenalties {
+                overflow_penalty: usize::MAX,
+                reserved_sizes: [1, 0, 0, 0],
+                ..PENALTIES
+            },
+        },
+        (UNKNOWN_OPTIONS, BEFORE),
         &[NO_OFFSET, NO_OFFSET],
     ),
 ];

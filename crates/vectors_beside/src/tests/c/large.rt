@@ -3,8 +3,8 @@
 use super::alone::told_width;
 use super::places::{NO_PLACE, PiecePlace, is_piece};
 use super::plain::{
-    AT_80, BEFORE, DEFAULTS, LinesCall, NO_PIECE, NOWHERE, PiecesCall, TextCall, assert_holds,
-    assert_told, write_lines, write_pieces, write_text,
+    AT_80, BEFORE, DEFAULTS, LinesCall, NO_GAPS, NO_PIECE, NOWHERE, PiecesCall, TextCall,
+    assert_holds, assert_told, write_lines, write_pieces, write_text,
 };
 use std::alloc::{AllocError, Global};
 use std::process::Abort;
@@ -124,9 +124,8 @@ const LINES_AND_ROWS: &[(LinesCall<'_>, usize)] = &[
                 ..DEFAULTS
             },
             gaps: TextwrapGaps {
-                left: b"",
-                middle: b"",
                 right: b"|",
+                ..NO_GAPS
             },
         },
         LEN + 12,

@@ -1,6 +1,6 @@
 //! Lines and rows: where they stand in the text or in the room.
 use super::places::{LinesRow, NONE, assert_lines};
-use super::plain::{AT_4, AT_5, AT_6, BARS, BEFORE, DEFAULTS, LinesCall};
+use super::plain::{AT_4, AT_5, AT_6, BARS, BEFORE, DEFAULTS, LinesCall, UNKNOWN_GAPS};
 use textwrap_calls::options::TextwrapOptions;
 use textwrap_calls::status::{DONE, NOT_UTF8, TOO_SMALL, UNKNOWN_OPTIONS};
 use textwrap_calls::tables::TextwrapColumn;
@@ -107,13 +107,24 @@ const AT_24: TextwrapOptions<'_> = TextwrapOptions {
     ..DEFAULTS
 };
 
-/// A text in columns. No columns at all are refused.
+/// A text in columns. No columns at all are refused, and gaps that are not known.
 const IN_COLUMNS: &[LinesRow] = &[
     (
         LinesCall::Columns {
             columns: 0,
             options: AT_24,
             gaps: BARS,
+        },
+        b"Foo Bar Baz Quux",
+        (UNKNOWN_OPTIONS, BEFORE, BEFORE),
+        &[NONE, NONE],
+        b"________________________________",
+    ),
+    (
+        LinesCall::Columns {
+            columns: 4,
+            options: AT_24,
+            gaps: UNKNOWN_GAPS,
         },
         b"Foo Bar Baz Quux",
         (UNKNOWN_OPTIONS, BEFORE, BEFORE),
@@ -210,7 +221,7 @@ const CELLS: &[TextwrapText<'_>] = &[
 const NO_TEXT: &[TextwrapText<'_>] = &[TextwrapText { bytes: b"\xff" }];
 
 /// Texts stand in their columns, where there is room. A column that is not known is refused before a
-/// cell that is no text.
+/// cell that is no text, and so are such gaps.
 const TABLES: &[LinesRow] = &[
     (
         LinesCall::Table {
@@ -262,6 +273,17 @@ const TABLES: &[LinesRow] = &[
                 },
             ],
             gaps: BARS,
+        },
+        b"",
+        (UNKNOWN_OPTIONS, BEFORE, BEFORE),
+        &[NONE],
+        b"________________",
+    ),
+    (
+        LinesCall::Table {
+            cells: NO_TEXT,
+            columns: &[LEFT],
+            gaps: UNKNOWN_GAPS,
         },
         b"",
         (UNKNOWN_OPTIONS, BEFORE, BEFORE),

@@ -78,6 +78,19 @@ const WORDS_AT: &[PiecesRow] = &[
         (WRONG_PLACES, BEFORE),
         &[NO_PLACE, NO_PLACE, NO_PLACE, NO_PLACE],
     ),
+    // Escape sequences do not count: `foo bar` is visible.
+    (
+        PiecesCall::WordsAt(&[0, 4, 7]),
+        b"\x1b[1mfoo\x1b[0m bar",
+        (DONE, 2),
+        &[(0, 11, 1, 0, 3), (12, 3, 0, 0, 3), NO_PLACE, NO_PLACE],
+    ),
+    (
+        PiecesCall::WordsAt(&[4, 12]),
+        b"\x1b[1mfoo\x1b[0m bar",
+        (WRONG_PLACES, BEFORE),
+        &[NO_PLACE, NO_PLACE, NO_PLACE, NO_PLACE],
+    ),
     // Inside an `é`.
     (
         PiecesCall::WordsAt(&[1]),

@@ -86,6 +86,7 @@ pub(super) const NO_GAPS: TextwrapGaps<'_> = TextwrapGaps {
     left: b"",
     middle: b"",
     right: b"",
+    reserved_sizes: [0; 4],
 };
 
 /// Bars around the cells of a row.
@@ -93,6 +94,13 @@ pub(super) const BARS: TextwrapGaps<'_> = TextwrapGaps {
     left: b"|",
     middle: b"|",
     right: b"|",
+    reserved_sizes: [0; 4],
+};
+
+/// Gaps with a number that means nothing.
+pub(super) const UNKNOWN_GAPS: TextwrapGaps<'_> = TextwrapGaps {
+    reserved_sizes: [0, 0, 0, 1],
+    ..BARS
 };
 
 /// What a number is before a call, which writes over it or leaves it.
@@ -123,6 +131,7 @@ pub(super) const NO_LAYOUT: TextwrapLayout = TextwrapLayout {
     crlf: 99,
     initial_indent_len: 99,
     subsequent_indent_len: 99,
+    reserved_sizes: [99; 4],
 };
 
 /// A call that writes one text into room, and what it is given beside a text.

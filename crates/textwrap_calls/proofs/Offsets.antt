@@ -1,0 +1,3 @@
+pub mod Later
+pub mod Passed
+pub mod Reading

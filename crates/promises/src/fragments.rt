@@ -23,7 +23,8 @@ pub fn first_fit_greedy<'a, T: Fragment>(
     ensures greedy { IfOk result (λ lines.
         IsGreedy T.sizes line_widths.now fragments.now (map (λ line. line.now) lines.items)) }
 {
-    wrap_first_fit(alloc, fragments, line_widths)
+    let lines = wrap_first_fit(alloc, fragments, line_widths)?;
+    Ok(lines)
 }
 
 /// As `wrap_optimal_fit`.

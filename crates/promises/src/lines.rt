@@ -3,15 +3,14 @@ ghost use Rattle.std.specs.Prelude.{length, map, nat_lt, string_bytes, IfOk};
 ghost use Rattle.textwrap_lines.specs.Filling.{IsFilled};
 ghost use Rattle.textwrap_lines.specs.Fuzzing.{AppendsLines};
 ghost use Rattle.textwrap_lines.specs.Options.{settings_view, MayOverflow};
-ghost use Rattle.textwrap_lines.specs.Paragraph.{AreDividedParts, AreParagraphParts, DividesBy};
-ghost use Rattle.textwrap_lines.specs.Paragraph.{line_view};
+ghost use Rattle.textwrap_lines.specs.Paragraph.{AreParagraphParts, DividesBy, line_view};
 ghost use Rattle.textwrap_lines.specs.Text.{IsWrapped};
 ghost use Rattle.textwrap_words.specs.WordSplitters.{splitter_view};
 ghost use Rattle.textwrap_words.specs.WrapAlgorithms.{algorithm_view};
 
 use std::alloc::Global;
 use std::borrow::CowStr;
-use textwrap::fuzzing::{wrap_single_line, wrap_single_line_slow_path};
+use textwrap::fuzzing::wrap_single_line;
 use textwrap::{Options, WrapError, fill, wrap};
 
 /// As `wrap`.
@@ -49,18 +48,4 @@ pub fn appended_lines<'t>(
         (nat_lt 0 (length lines.old.items)) line.now) lines.old.items lines.new.items result }
 {
     wrap_single_line(alloc, line, options, lines)
-}
-
-/// As `wrap_single_line_slow_path`.
-pub fn divided_lines<'t>(
-    alloc: Global,
-    line: &'t str,
-    options: &Options<'_>,
-    lines: &mut Vec<CowStr<'t>>,
-) -> Result<(), WrapError>
-    ensures appended { AppendsLines (MayOverflow options.now)
-        (AreDividedParts (settings_view options.now) (DividesBy options.now)
-        (nat_lt 0 (length lines.old.items)) line.now) lines.old.items lines.new.items result }
-{
-    wrap_single_line_slow_path(alloc, line, options, lines)
 }

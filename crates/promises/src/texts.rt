@@ -30,8 +30,7 @@ pub fn filled_in_place(alloc: Global, text: &mut String, width: usize) -> Result
 pub fn kept_in_place(alloc: Global, text: &mut String, columns: usize) -> Result<(), AllocError>
     ensures unchanged { OnErr result (text.new ≡ text.old) }
 {
-    fill_inplace(alloc, text, columns)?;
-    Ok(())
+    fill_inplace(alloc, text, columns)
 }
 
 /// The text of `unfill`.

@@ -41,7 +41,8 @@ pub fn words_at_offsets<'a>(
     ensures words { IfOk result (λ words. map word_view words.items
         ≡ words_at offsets.now line.now) }
 {
-    find_words_at(alloc, line, offsets)
+    let words = find_words_at(alloc, line, offsets)?;
+    Ok(words)
 }
 
 /// As `split_words`.

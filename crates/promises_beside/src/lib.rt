@@ -6,3 +6,4 @@ pub mod cuts;
 pub mod display;
 pub mod files;
 pub mod paragraphs;
+pub mod steps;

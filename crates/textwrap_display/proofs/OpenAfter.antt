@@ -1,7 +1,7 @@
 -- What is open after some sequences and after one more, or any more.
-use Rattle.textwrap_base.proofs.Common.{◌≡◌, cond, List, [], ◌∷◌, ◌++◌, length, drop, filter, fold}
+use Rattle.textwrap_base.proofs.Common.{◌≡◌, cond, List, [], ◌∷◌, ◌++◌, filter, fold}
 use Rattle.textwrap_base.proofs.Common.{sym, ap, ◌∙◌, append-nil, arith, cases_Bool, append_assoc}
-use Rattle.std.specs.Prelude.{ℕ, ◌-◌}
+use Rattle.std.specs.Prelude.{ℕ}
 use Rattle.std.proofs.lemmas.List.Elements.{filter-append}
 use Rattle.textwrap_display.specs.Styles.{has_target, is_link, is_reset, is_style, open_link}
 use Rattle.textwrap_display.specs.Styles.{open_styles}

@@ -336,7 +336,7 @@ textwrap_status textwrap_wrap_first_fit(const textwrap_fragment *fragments, size
                                         size_t *ends, size_t ends_len, size_t *count);
 
 /* The same by least cost. OVERFLOW if all widths together, or the least cost of some first fragments,
- * need more than 128 bits. */
+ * need more than 128 bits; UNKNOWN_OPTIONS if a number of the penalties in reserve is not 0. */
 TEXTWRAP_CHECKED
 textwrap_status textwrap_wrap_optimal_fit(const textwrap_fragment *fragments, size_t fragments_len,
                                           const size_t *line_widths, size_t line_widths_len,

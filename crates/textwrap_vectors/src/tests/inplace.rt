@@ -1,6 +1,6 @@
 //! The text that `fill_inplace` leaves, also where memory is refused.
-use super::plain::plain_fill_inplace;
-use super::texts::assert_text;
+use super::texts::Call::FillInplace;
+use super::texts::assert_gives;
 use fakes::heap::Heap;
 use std::alloc::AllocError;
 use std::process::Abort;
@@ -23,12 +23,10 @@ const FILLED: &[(&str, usize, &str)] = &[
 /// In each part between line feeds, the last blank before each later line of first fit becomes a
 /// line feed, and nothing else changes.
 #[test]
-fn blanks_before_new_lines_become_line_feeds(rt: HostRuntime) -> Result<(), Fail> {
+fn blanks_before_new_lines_become_line_feeds(rt: HostRuntime) {
     for &(text, width, expected) in FILLED {
-        let filled = plain_fill_inplace(rt.alloc(), text, width);
-        assert_text(&rt, text, filled, expected)?;
+        assert_gives(&rt, FillInplace(width), text, expected);
     }
-    Ok(())
 }
 
 /// Fills the text with so many allocations allowed, and returns whether it was filled. Asserts that

@@ -223,9 +223,9 @@ fn a_refusal_is_passed_on(rt: HostRuntime) {
     }
 }
 
-/// A function of the caller equals nothing, not even itself.
+/// A function of the caller equals nothing, not even itself. Parts that are built in equal themselves.
 #[test]
-fn functions_are_equal_to_nothing(rt: HostRuntime) {
+fn only_built_in_parts_are_equal(rt: HostRuntime) {
     let separator = WordSeparator::Custom(LineCuts::new(rt.alloc(), cut_nowhere));
     assert_row(&rt, "itself", separator != separator);
     assert_row(&rt, "blanks", separator != WordSeparator::AsciiSpace);
@@ -238,11 +238,6 @@ fn functions_are_equal_to_nothing(rt: HostRuntime) {
     assert_row(&rt, "itself", algorithm != algorithm);
     assert_row(&rt, "first fit", algorithm != WrapAlgorithm::FirstFit);
     assert_row(&rt, "to optimal fit", WrapAlgorithm::new() != algorithm);
-}
-
-/// Parts that are built in equal themselves.
-#[test]
-fn built_in_parts_are_equal_to_themselves(rt: HostRuntime) {
     assert_row(
         &rt,
         "blanks",

@@ -20,14 +20,14 @@ use textwrap::wrap_algorithms::{LineEnds, Penalties};
 use textwrap::{LineEnding, Options, WordSeparator, WordSplitter, WrapAlgorithm, WrapError};
 
 /// A call on an input of its own.
-trait Refusable {
+pub(super) trait Refusable {
     /// Whether the call gives what it should. All that it allocates by itself comes from `heap`.
     fn is_right<R: Abort + AllocGlobal>(&self, rt: &R, heap: &Heap) -> Result<bool, WrapError>;
 }
 
 /// Calls with no allocation allowed, then with one more each time, until none is refused. Every
 /// refused call has to be out of memory. How many these are, if the last call gives what it should.
-fn refusals_of<C: Refusable>(
+pub(super) fn refusals_of<C: Refusable>(
     rt: &(impl Abort + AllocGlobal),
     call: &C,
     heap: &Heap,

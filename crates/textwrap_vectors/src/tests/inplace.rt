@@ -30,6 +30,7 @@ fn blanks_before_new_lines_become_line_feeds(rt: HostRuntime) {
 }
 
 /// A text that is filled in place, the width, and what becomes of it.
+#[derive(Drop)]
 struct InPlace<'a>(&'a str, usize, &'a str);
 
 impl Refusable for InPlace<'_> {

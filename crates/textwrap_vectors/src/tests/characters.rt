@@ -206,12 +206,12 @@ const CHARACTERS_AS_TEXTS: &[(&str, &str, usize, &str, &str, &str, &str, &str)] 
 #[test]
 fn a_single_character_is_a_text(rt: HostRuntime) {
     for &(text, unfilled, width, found, refilled, indented, dedented, rows) in CHARACTERS_AS_TEXTS {
-        let unfill = Unfill(width, [found, ""], LineEnding::LF);
+        let unfill = Unfill(width, found, "", LineEnding::LF);
         assert_gives(&rt, unfill, text, unfilled);
         assert_gives(&rt, Refill(1, OPTIMAL_FIT), text, refilled);
         assert_gives(&rt, Indent("> "), text, indented);
         assert_gives(&rt, Dedent, text, dedented);
-        let columns = Columns(2, 5, OPTIMAL_FIT, ["<", "|", ">"]);
+        let columns = Columns(2, 5, OPTIMAL_FIT, "<", "|", ">");
         assert_gives(&rt, columns, text, rows);
     }
 }

@@ -53,8 +53,9 @@ const IN_COLUMNS: &[(&str, usize, usize, Layout<'_>, [&str; 3], &str)] = &[
 /// the division leaves over follows the last.
 #[test]
 fn texts_stand_in_columns(rt: HostRuntime) {
-    for &(text, columns, width, layout, gaps, expected) in IN_COLUMNS {
-        assert_gives(&rt, Columns(columns, width, layout, gaps), text, expected);
+    for &(text, columns, width, layout, [left, middle, right], expected) in IN_COLUMNS {
+        let call = Columns(columns, width, layout, left, middle, right);
+        assert_gives(&rt, call, text, expected);
     }
 }
 
@@ -82,6 +83,6 @@ fn a_text_without_lines_has_no_rows(rt: HostRuntime) {
 #[test]
 fn gaps_past_64_bits_are_refused_at_once(rt: HostRuntime) {
     const COLUMNS: usize = 9_223_372_036_854_775_809;
-    let call = Columns(COLUMNS, 80, OPTIMAL_FIT, ["", "xx", ""]);
+    let call = Columns(COLUMNS, 80, OPTIMAL_FIT, "", "xx", "");
     assert_out_of_memory(&rt, COLUMNS, gives(rt.alloc(), call, "", ""));
 }

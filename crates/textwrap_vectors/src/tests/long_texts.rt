@@ -95,7 +95,7 @@ const ROWS: &[Row<'_>] = &[
     ),
     (
         "line feeds in a column",
-        Columns(1, 1, OPTIMAL_FIT, ["", "", ""]),
+        Columns(1, 1, OPTIMAL_FIT, "", "", ""),
         NONE,
         LINE_FEEDS,
         ("", " \n", LINE_ENDINGS + 1, "", 1, ""),
@@ -136,7 +136,7 @@ const ROWS: &[Row<'_>] = &[
     ("blanks in place", FillInplace(80), NONE, BLANKS, BLANKS),
     (
         "blanks in a column",
-        Columns(1, 1, OPTIMAL_FIT, ["", "", ""]),
+        Columns(1, 1, OPTIMAL_FIT, "", "", ""),
         NONE,
         BLANKS,
         (" \n", "", 0, "", 1, ""),
@@ -250,14 +250,14 @@ const ROWS: &[Row<'_>] = &[
     // Many columns of many lines, and a wide one.
     (
         "a large table",
-        Columns(200, 401, OPTIMAL_FIT, ["|", "|", "|"]),
+        Columns(200, 401, OPTIMAL_FIT, "|", "|", "|"),
         NONE,
         ("", "a\n", 200 * 200 - 1, "", 1, "a"),
         ("", "|a", 200, "|\n", 200, ""),
     ),
     (
         "a letter in a wide column",
-        Columns(1, 100_000, OPTIMAL_FIT, ["", "", ""]),
+        Columns(1, 100_000, OPTIMAL_FIT, "", "", ""),
         NONE,
         ("a", "", 0, "", 1, ""),
         ("a", " ", 99_999, "", 1, "\n"),
@@ -314,7 +314,7 @@ fn is_empty(
     let blanks = if is_blank { text.as_str() } else { "" };
     let words = plain_find_words(alloc, alloc, WordSeparator::new(), &text);
     let is_one_word = has_words(words, &[text.as_str()])?;
-    let is_unfilled = gives(alloc, Unfill(width, [blanks, ""], LF), &text, "")?;
+    let is_unfilled = gives(alloc, Unfill(width, blanks, "", LF), &text, "")?;
     Ok(is_one_word && is_unfilled && Word::from(text.as_str()).whitespace == blanks)
 }
 

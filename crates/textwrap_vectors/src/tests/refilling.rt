@@ -35,8 +35,9 @@ const UNFILLED: &[(&str, &str, usize, [&str; 2], LineEnding)] = &[
 /// prefixes as indents, and the ending.
 #[test]
 fn texts_are_unfilled(rt: HostRuntime) {
-    for &(text, unfilled, width, indents, ending) in UNFILLED {
-        assert_gives(&rt, Unfill(width, indents, ending), text, unfilled);
+    for &(text, unfilled, width, [initial, subsequent], ending) in UNFILLED {
+        let call = Unfill(width, initial, subsequent, ending);
+        assert_gives(&rt, call, text, unfilled);
     }
 }
 

@@ -143,7 +143,7 @@ const ON_TEXTS: &[(Given<'_>, usize)] = &[
     ),
     (
         Given(
-            Unfill(5, ["* ", "  "], LineEnding::LF),
+            Unfill(5, "* ", "  ", LineEnding::LF),
             "* foo\n  bar\n  baz\n",
             "foo bar baz\n",
         ),
@@ -155,7 +155,7 @@ const ON_TEXTS: &[(Given<'_>, usize)] = &[
     ),
     (
         Given(
-            Columns(2, 24, OPTIMAL_FIT, ["|", "|", "|"]),
+            Columns(2, 24, OPTIMAL_FIT, "|", "|", "|"),
             TEXT,
             "|To be,    |is the     |\n|or not to |question   |\n|be: that  |Hamlet     |\n",
         ),

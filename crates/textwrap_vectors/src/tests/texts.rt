@@ -143,9 +143,9 @@ pub(super) enum Call<'a> {
     FillInplace(usize),
     Refill(usize, Layout<'a>),
     /// The rows of so many columns with these gaps, each with a line feed after it.
-    Columns(usize, usize, Layout<'a>, [&'a str; 3]),
+    Columns(usize, usize, Layout<'a>, &'a str, &'a str, &'a str),
     /// The text, and the width, the indents and the ending of its options.
-    Unfill(usize, [&'a str; 2], LineEnding),
+    Unfill(usize, &'a str, &'a str, LineEnding),
     Indent(&'a str),
     Dedent,
     /// The text without escape sequences.
@@ -202,12 +202,13 @@ pub(super) fn gives<A: Allocator + Copy>(
                 expected,
             )
         }
-        Columns(columns, width, layout, gaps) => {
+        Columns(columns, width, layout, left, middle, right) => {
             let options = options_of(width, &layout);
+            let gaps = [left, middle, right];
             has_rows(plain_columns(alloc, text, columns, options, gaps), expected)
         }
-        Unfill(width, indents, ending) => {
-            is_unfilled(alloc, text, expected, width, indents, ending)
+        Unfill(width, initial, subsequent, ending) => {
+            is_unfilled(alloc, text, expected, width, [initial, subsequent], ending)
         }
         Indent(prefix) => is_text(plain_indent(alloc, text, prefix), expected),
         Dedent => is_text(plain_dedent(alloc, text), expected),

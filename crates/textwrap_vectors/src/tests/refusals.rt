@@ -9,7 +9,7 @@ use super::texts::Call::{Columns, Dedent, Fill, FillSlowly, Indent, Refill, Stri
 use super::texts::{Call, FIRST_FIT, Layout, OPTIMAL_FIT, gives, options_of};
 use crate::functions::{cut_everywhere, end_all, split_in_middle};
 use fakes::heap::Heap;
-use std::alloc::{AllocError, Global};
+use std::alloc::AllocError;
 use std::borrow::CowStr;
 use std::process::Abort;
 use textwrap::minima::{CostSource, LineCosts};

@@ -9,6 +9,7 @@ mod divisions;
 mod ends;
 mod escapes;
 mod filling;
+mod given;
 mod indentation;
 mod inplace;
 mod large;

@@ -3,7 +3,8 @@ ghost use Rattle.std.specs.Prelude.{IfOk};
 ghost use Rattle.textwrap.specs.LineEnds.{AreEnds};
 
 use super::divisions::STRICT;
-use super::plain::{assert_found, assert_gives_lens, have_lens, plain_divide, plain_words};
+use super::given::{assert_found, assert_out_of_memory, has_lens, have_lens};
+use super::plain::{plain_divide, plain_words};
 use std::alloc::{AllocError, Global};
 use std::process::Abort;
 use textwrap::words::Word;
@@ -36,6 +37,8 @@ type DividedTexts<'a> = (&'a [&'a str], &'a [usize], &'a [usize], &'a [usize]);
 const DIVIDED_TEXTS: &[DividedTexts<'_>] = &[
     (&[], &[10], &[0], &[0]),
     (&["To ", "be, "], &[3], &[1, 1], &[1, 1]),
+    (&["foo ", "bar"], &[3], &[1, 1], &[1, 1]),
+    (&["foo ", "bar"], &[3, 3], &[1, 1], &[1, 1]),
     (HAMLET, &[10, 10], &[2, 3, 2, 2, 1], &[3, 3, 2, 1, 1]),
 ];
 
@@ -109,7 +112,7 @@ fn assert_divided(
     lens: &[usize],
 ) {
     let lines = plain_divide(rt.alloc(), algorithm, &words, &[line_width]);
-    assert_gives_lens(rt, (line_width, lens), lines, lens);
+    assert_found(rt, (line_width, lens), has_lens(lines, lens));
 }
 
 /// Words of any field `width` are divided on lines of any width. In these rows both algorithms agree.
@@ -184,7 +187,7 @@ fn lines_lie_between_the_ends_of_the_caller(rt: HostRuntime) {
         assert_found(&rt, line_widths, divided);
     }
     let refused = divides_at_widths(rt.alloc(), &["one "], &[1], &[]);
-    assert!(rt; matches!(refused, Err(WrapError::Memory(_))));
+    assert_out_of_memory(&rt, "one word", refused);
 }
 
 /// A word of the greatest width.

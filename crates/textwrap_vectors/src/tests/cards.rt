@@ -1,8 +1,7 @@
 //! Fragments with break penalties of their own.
-use super::minima::{LIMIT, all_penalties, assert_agreed, assert_minima, drawn_blocks, least_cost};
-use super::plain::{
-    assert_gives_lens, assert_row, plain_is_queue_case, plain_optimal_fit, plain_table,
-};
+use super::given::{assert_found, assert_row, has_lens, has_minima};
+use super::minima::{LIMIT, all_penalties, assert_agreed, drawn_blocks, least_cost};
+use super::plain::{plain_is_queue_case, plain_optimal_fit, plain_table};
 use crate::Card;
 use std::alloc::{AllocError, Global};
 use std::process::Abort;
@@ -38,7 +37,7 @@ fn a_dear_break_keeps_two_cards_together(rt: HostRuntime) {
     for &(keep, lens, cost, is_case) in VERSES {
         let cards = [card(4, 0), card(4, keep), card(4, 0)];
         let lines = plain_optimal_fit(rt.alloc(), &cards, &[9], &penalties);
-        assert_gives_lens(&rt, keep, lines, lens);
+        assert_found(&rt, keep, has_lens(lines, lens));
         let least = least_cost(&rt, &cards, 9, &penalties);
         let case = plain_is_queue_case(&cards, &[9], &penalties);
         assert_row(&rt, keep, least == Some(cost) && case == is_case);
@@ -60,9 +59,9 @@ fn the_greatest_break_penalties_fit(rt: HostRuntime) {
     let cards = [GREATEST; 2];
     let (minima, _asked) = plain_table(rt.alloc(), &cards, &[usize::MAX], &penalties);
     let expected = [(0, 0), (0, u128::MAX), (0, 36_893_488_147_419_103_230)];
-    assert_minima(&rt, "cards", minima, &expected);
+    assert_found(&rt, "cards", has_minima(minima, &expected));
     let lines = plain_optimal_fit(rt.alloc(), &cards, &[usize::MAX], &penalties);
-    assert_gives_lens(&rt, "cards", lines, &[2]);
+    assert_found(&rt, "cards", has_lens(lines, &[2]));
     assert!(rt; !plain_is_queue_case(&cards, &[usize::MAX], &penalties));
 }
 
@@ -139,7 +138,7 @@ fn a_break_penalty_may_come_from_the_penalties(rt: HostRuntime) {
         let least = least_cost(&rt, &POEM, 10, &penalties);
         assert_row(&rt, *nline_penalty, least == Some(*cost));
         let lines = plain_optimal_fit(rt.alloc(), &POEM, &[10], &penalties);
-        assert_gives_lens(&rt, *nline_penalty, lines, lens);
+        assert_found(&rt, *nline_penalty, has_lens(lines, lens));
     }
 }
 

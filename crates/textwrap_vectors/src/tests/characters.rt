@@ -1,15 +1,15 @@
 //! Texts of one character: of no columns, one, two and three, a blank, a line ending, a hyphen.
 use super::ends::assert_laid_out;
+use super::given::{assert_found, assert_row, has_numbers, has_words};
 use super::plain::{
-    assert_found, assert_gives, assert_gives_numbers, assert_gives_words, assert_row, plain_break,
-    plain_break_apart, plain_columns, plain_dedent, plain_fill_inplace, plain_find_words,
-    plain_find_words_at, plain_indent, plain_options, plain_points, plain_refill, plain_split,
-    plain_strip, plain_unfill, plain_width,
+    plain_break, plain_break_apart, plain_find_words, plain_find_words_at, plain_points,
+    plain_split, plain_width,
 };
-use std::alloc::Global;
+use super::texts::Call::{Columns, Dedent, FillInplace, Indent, Refill, Strip, Unfill};
+use super::texts::{FIRST_FIT, Layout, OPTIMAL_FIT, assert_gives};
 use std::process::Abort;
 use textwrap::words::Word;
-use textwrap::{Options, WordSeparator, WordSplitter, WrapAlgorithm, WrapError};
+use textwrap::{LineEnding, WordSeparator, WordSplitter};
 
 const CHARACTERS_AS_WORDS: &[(&str, usize, &str, &[usize], &[&str])] = &[
     ("\u{301}", 0, "\u{301}", &[0, 2], &["\u{301}"]),
@@ -34,27 +34,28 @@ const CHARACTERS_AS_WORDS: &[(&str, usize, &str, &[usize], &[&str])] = &[
 fn a_single_character_is_one_word(rt: HostRuntime) {
     for &(text, columns, visible, offsets, _) in CHARACTERS_AS_WORDS {
         assert_row(&rt, text, plain_width(text) == columns);
-        assert_gives(&rt, text, plain_strip(rt.alloc(), text), visible);
+        assert_gives(&rt, Strip, text, visible);
         let words = plain_find_words(rt.alloc(), rt.alloc(), WordSeparator::new(), text);
-        assert_gives_words(&rt, text, words, &[text]);
+        assert_found(&rt, text, has_words(words, &[text]));
         let words = plain_find_words_at(&rt, rt.alloc(), text, offsets);
-        assert_gives_words(&rt, text, words, &[text]);
+        assert_found(&rt, text, has_words(words, &[text]));
     }
 }
 
 /// Asserts that a splitter does not split the word of a text.
 fn assert_unsplit(rt: &(impl Abort + AllocGlobal), text: &str, splitter: WordSplitter) {
-    assert_gives_numbers(rt, text, plain_points(rt.alloc(), &splitter, text), &[]);
+    let points = plain_points(rt.alloc(), &splitter, text);
+    assert_found(rt, text, has_numbers(points, &[]));
     let pieces = plain_split(rt.alloc(), &[Word::from(text)], &splitter);
-    assert_gives_words(rt, text, pieces, &[text]);
+    assert_found(rt, text, has_words(pieces, &[text]));
 }
 
 /// Asserts that a text is broken into these pieces at the limit, and that its word is kept.
 fn assert_kept(rt: &(impl Abort + AllocGlobal), text: &str, line_width: usize, broken: &[&str]) {
     let pieces = plain_break_apart(rt.alloc(), Word::from(text), line_width);
-    assert_gives_words(rt, text, pieces, broken);
+    assert_found(rt, text, has_words(pieces, broken));
     let pieces = plain_break(rt.alloc(), &[Word::from(text)], line_width);
-    assert_gives_words(rt, text, pieces, &[text]);
+    assert_found(rt, text, has_words(pieces, &[text]));
 }
 
 /// The word of one character is neither split nor broken, however wide it is. A blank is a word
@@ -70,17 +71,18 @@ fn a_single_character_is_neither_split_nor_broken(rt: HostRuntime) {
     }
 }
 
-/// Asserts that the text is filled to this at each of many widths, by both algorithms, and that
-/// filling in place changes nothing of it.
-fn assert_filled_at_each_width(rt: &(impl Abort + AllocGlobal), text: &str, expected: &str) {
-    for width in [0, 1, 2, 3, 4, usize::MAX] {
-        let options = plain_options(width, "", "", WrapAlgorithm::new());
-        assert_laid_out(rt, text, &options, expected);
-        let options = plain_options(width, "", "", WrapAlgorithm::FirstFit);
-        assert_laid_out(rt, text, &options, expected);
-        assert_gives(rt, text, plain_fill_inplace(rt.alloc(), text, width), text);
-    }
-}
+/// Two indents of two columns.
+const INDENTED: Layout<'_> = Layout {
+    initial_indent: "> ",
+    subsequent_indent: "- ",
+    ..OPTIMAL_FIT
+};
+
+/// The same by first fit.
+const INDENTED_FIRST_FIT: Layout<'_> = Layout {
+    penalties: None,
+    ..INDENTED
+};
 
 const FILLED_CHARACTERS: &[(&str, &str, &str, &str)] = &[
     ("\u{301}", "\u{301}", "> \u{301}", "> \u{301}"),
@@ -101,35 +103,20 @@ const FILLED_CHARACTERS: &[(&str, &str, &str, &str)] = &[
 ];
 
 /// A text of one character is one line at any width, and a line ending is two empty ones; a blank at
-/// a line's end is left off. At 4 columns an indent of two leaves room for two: a wider character
-/// stands beside it at the least cost, and on the next line by first fit.
+/// a line's end is left off. Filling in place changes nothing. At 4 columns an indent of two leaves
+/// room for two: a wider character stands beside it at the least cost, and on the next line by first
+/// fit.
 #[test]
 fn a_single_character_is_filled_at_any_width(rt: HostRuntime) {
     for &(text, filled, least, first) in FILLED_CHARACTERS {
-        assert_filled_at_each_width(&rt, text, filled);
-        let options = plain_options(4, "> ", "- ", WrapAlgorithm::new());
-        assert_laid_out(&rt, text, &options, least);
-        let options = plain_options(4, "> ", "- ", WrapAlgorithm::FirstFit);
-        assert_laid_out(&rt, text, &options, first);
+        for width in [0, 1, 2, 3, 4, usize::MAX] {
+            assert_laid_out(&rt, text, width, OPTIMAL_FIT, filled);
+            assert_laid_out(&rt, text, width, FIRST_FIT, filled);
+            assert_gives(&rt, FillInplace(width), text, text);
+        }
+        assert_laid_out(&rt, text, 4, INDENTED, least);
+        assert_laid_out(&rt, text, 4, INDENTED_FIRST_FIT, first);
     }
-}
-
-/// Whether the text in two columns has this one row. Each column is one wide, between gaps of one.
-fn has_row(alloc: Global, text: &str, expected: &str) -> Result<bool, WrapError> {
-    let rows = plain_columns(alloc, text, Options::new(5), ["<", "|", ">"])?;
-    Ok(rows.len() == 1 && rows[0].as_str() == expected)
-}
-
-/// Whether a text is unfilled to this, with this width and this indent of its lines.
-fn is_unfilled(
-    alloc: Global,
-    text: &str,
-    unfilled: &str,
-    width: usize,
-    indent: &str,
-) -> Result<bool, WrapError> {
-    let (given, given_width, given_indent) = plain_unfill(alloc, text)?;
-    Ok(given.as_str() == unfilled && given_width == width && given_indent == indent)
 }
 
 const CHARACTERS_AS_TEXTS: &[(&str, &str, usize, &str, &str, &str, &str, &str)] = &[
@@ -141,7 +128,7 @@ const CHARACTERS_AS_TEXTS: &[(&str, &str, usize, &str, &str, &str, &str, &str)] 
         "\u{301}",
         "> \u{301}",
         "\u{301}",
-        "<\u{301} | >",
+        "<\u{301} | >\n",
     ),
     (
         "\u{200d}",
@@ -151,7 +138,7 @@ const CHARACTERS_AS_TEXTS: &[(&str, &str, usize, &str, &str, &str, &str, &str)] 
         "\u{200d}",
         "> \u{200d}",
         "\u{200d}",
-        "<\u{200d} | >",
+        "<\u{200d} | >\n",
     ),
     (
         "\u{ad}",
@@ -161,16 +148,34 @@ const CHARACTERS_AS_TEXTS: &[(&str, &str, usize, &str, &str, &str, &str, &str)] 
         "\u{ad}",
         "> \u{ad}",
         "\u{ad}",
-        "<\u{ad} | >",
+        "<\u{ad} | >\n",
     ),
-    ("\x07", "\x07", 0, "", "\x07", "> \x07", "\x07", "<\x07 | >"),
-    ("\t", "\t", 0, "", "\t", ">\t", "", "<\t | >"),
-    ("\n", "", 0, "", "", ">\n", "\n", "< | >"),
-    ("\r\n", "", 0, "", "", ">\r\n", "\n", "<\r | >"),
-    ("\x1b", "\x1b", 0, "", "\x1b", "> \x1b", "\x1b", "<\x1b | >"),
-    ("a", "a", 1, "", "a", "> a", "a", "<a| >"),
-    ("é", "é", 1, "", "é", "> é", "é", "<é| >"),
-    ("-", "", 1, "-", "-", "> -", "-", "<-| >"),
+    (
+        "\x07",
+        "\x07",
+        0,
+        "",
+        "\x07",
+        "> \x07",
+        "\x07",
+        "<\x07 | >\n",
+    ),
+    ("\t", "\t", 0, "", "\t", ">\t", "", "<\t | >\n"),
+    ("\n", "", 0, "", "", ">\n", "\n", "< | >\n"),
+    ("\r\n", "", 0, "", "", ">\r\n", "\n", "<\r | >\n"),
+    (
+        "\x1b",
+        "\x1b",
+        0,
+        "",
+        "\x1b",
+        "> \x1b",
+        "\x1b",
+        "<\x1b | >\n",
+    ),
+    ("a", "a", 1, "", "a", "> a", "a", "<a| >\n"),
+    ("é", "é", 1, "", "é", "> é", "é", "<é| >\n"),
+    ("-", "", 1, "-", "-", "> -", "-", "<-| >\n"),
     (
         "\u{a0}",
         "\u{a0}",
@@ -179,10 +184,10 @@ const CHARACTERS_AS_TEXTS: &[(&str, &str, usize, &str, &str, &str, &str, &str)] 
         "\u{a0}",
         ">\u{a0}",
         "",
-        "<\u{a0}| >",
+        "<\u{a0}| >\n",
     ),
-    (" ", "", 1, " ", " ", "> ", "", "< | >"),
-    ("あ", "あ", 2, "", "あ", "> あ", "あ", "<あ| >"),
+    (" ", "", 1, " ", " ", "> ", "", "< | >\n"),
+    ("あ", "あ", 2, "", "あ", "> あ", "あ", "<あ| >\n"),
     (
         "\u{17d8}",
         "\u{17d8}",
@@ -191,28 +196,22 @@ const CHARACTERS_AS_TEXTS: &[(&str, &str, usize, &str, &str, &str, &str, &str)] 
         "\u{17d8}",
         "> \u{17d8}",
         "\u{17d8}",
-        "<\u{17d8}| >",
+        "<\u{17d8}| >\n",
     ),
 ];
 
 /// A text of one character as a whole text: a blank and a hyphen look like an indent, and whitespace
-/// is a blank line. Two columns show the character and an empty cell, or two lines.
+/// is a blank line. Two columns of one, between gaps of one, show the character and an empty cell, or
+/// two lines.
 #[test]
 fn a_single_character_is_a_text(rt: HostRuntime) {
-    for &(text, unfilled, width, found, refilled, indented, dedented, row) in CHARACTERS_AS_TEXTS {
-        assert_found(
-            &rt,
-            text,
-            is_unfilled(rt.alloc(), text, unfilled, width, found),
-        );
-        assert_gives(
-            &rt,
-            text,
-            plain_refill(rt.alloc(), text, Options::new(1)),
-            refilled,
-        );
-        assert_gives(&rt, text, plain_indent(rt.alloc(), text, "> "), indented);
-        assert_gives(&rt, text, plain_dedent(rt.alloc(), text), dedented);
-        assert_found(&rt, text, has_row(rt.alloc(), text, row));
+    for &(text, unfilled, width, found, refilled, indented, dedented, rows) in CHARACTERS_AS_TEXTS {
+        let unfill = Unfill(width, found, "", LineEnding::LF);
+        assert_gives(&rt, unfill, text, unfilled);
+        assert_gives(&rt, Refill(1, OPTIMAL_FIT), text, refilled);
+        assert_gives(&rt, Indent("> "), text, indented);
+        assert_gives(&rt, Dedent, text, dedented);
+        let columns = Columns(2, 5, OPTIMAL_FIT, "<", "|", ">");
+        assert_gives(&rt, columns, text, rows);
     }
 }

@@ -1,14 +1,14 @@
 //! Costs of lines and divisions at the ends of the numbers.
 use super::divisions::Block;
+use super::given::{assert_found, assert_row, has_lens, has_minima};
 use super::minima::{
-    Candidate, LIMIT, all_penalties, are_minima, assert_agreed, assert_candidates, assert_minima,
-    least_cost, penalties_of, searched,
+    Candidate, LIMIT, all_penalties, assert_agreed, has_candidates, least_cost, penalties_of,
+    searched,
 };
-use super::plain::{
-    assert_gives_lens, assert_row, plain_is_queue_case, plain_optimal_fit, plain_table,
-};
+use super::plain::{plain_is_queue_case, plain_optimal_fit, plain_table};
 use std::process::Abort;
 use textwrap::WrapError;
+use textwrap::minima::Minimum;
 use textwrap::wrap_algorithms::Penalties;
 
 const MAX: usize = usize::MAX;
@@ -63,26 +63,26 @@ const GREATEST_CANDIDATES: &[Candidate] = &[
 fn candidates_reach_the_end_of_128_bits(rt: HostRuntime) {
     let blocks = [Block(MAX, 0, 1), Block(0, 0, 0), Block(MAX, MAX, MAX)];
     let penalties = all_penalties(MAX);
-    assert_candidates(
-        &rt,
+    let widths = [1, MAX, MAX - 1];
+    let holds = has_candidates(
+        rt.alloc(),
         &blocks,
-        &[1, MAX, MAX - 1],
+        &widths,
         &penalties,
         GREATEST_CANDIDATES,
     );
+    assert_found(&rt, "candidates", holds);
 }
 
-/// Asserts that the search over line costs of these fragments finds these entries.
-fn assert_searched(
+/// What the search finds over line costs of these fragments.
+fn found_by_search(
     rt: &(impl Abort + AllocGlobal),
     blocks: &[Block],
     line_widths: &[usize],
     penalties: &Penalties,
-    expected: &[(usize, u128)],
-) {
-    let found = searched(rt, rt.alloc(), blocks, line_widths, penalties);
-    let (minima, _steps) = found.expect(rt, "memory");
-    assert_row(rt, blocks, are_minima(&minima, expected));
+) -> Result<Vec<Minimum>, WrapError> {
+    let (minima, _steps) = searched(rt, rt.alloc(), blocks, line_widths, penalties)?;
+    Ok(minima)
 }
 
 /// Asserts that the fragments have these entries: by the table, and by the search where it may be
@@ -95,10 +95,11 @@ fn assert_entries(
     expected: &[(usize, u128)],
 ) {
     let (minima, _asked) = plain_table(rt.alloc(), blocks, line_widths, penalties);
-    assert_minima(rt, blocks, minima, expected);
+    assert_found(rt, blocks, has_minima(minima, expected));
     if plain_is_queue_case(blocks, line_widths, penalties) {
         assert_agreed(rt, blocks, line_widths, penalties);
-        assert_searched(rt, blocks, line_widths, penalties, expected);
+        let minima = found_by_search(rt, blocks, line_widths, penalties);
+        assert_found(rt, blocks, has_minima(minima, expected));
     }
 }
 
@@ -279,7 +280,7 @@ fn widths_and_penalties_may_be_any_numbers(rt: HostRuntime) {
         let penalties = all_penalties(each);
         assert_entries(&rt, blocks, line_widths, &penalties, expected);
         let lines = plain_optimal_fit(rt.alloc(), blocks, line_widths, &penalties);
-        assert_gives_lens(&rt, (blocks, line_widths), lines, lens);
+        assert_found(&rt, (blocks, line_widths), has_lens(lines, lens));
     }
 }
 

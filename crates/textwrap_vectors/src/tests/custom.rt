@@ -1,17 +1,19 @@
 //! Words, points and lines by functions of the caller.
-use super::plain::{assert_row, plain_append, plain_split, plain_wrap};
-use super::texts::Kind::{Borrowed, Owned};
-use super::texts::{
-    Layout, Lines, OPTIMAL_FIT, assert_borrowed, assert_lines, one_line, options_of,
-};
+ghost use Rattle.std.specs.Prelude.{IfOk};
+ghost use Rattle.textwrap.specs.Cuts.{AreInnerCuts};
+
+use super::given::{assert_found, assert_out_of_memory, assert_row, has_lines};
+use super::plain::{plain_append, plain_split, plain_wrap};
+use super::texts::{Layout, OPTIMAL_FIT, options_of};
 use crate::functions::{
-    are_borrowed, cut_everywhere, cut_foobar, cut_nowhere, end_all, end_early, end_nowhere,
-    end_twice, refuse_line, refuse_word, refuse_words, split_in_middle,
+    cut_everywhere, cut_foobar, cut_nowhere, end_all, end_early, end_nowhere, end_twice,
+    refuse_line, refuse_word, refuse_words, split_in_middle,
 };
+use fakes::heap::Heap;
 use std::alloc::{AllocError, Global};
+use std::borrow::CowStr;
 use std::fmt::Debug;
 use std::process::Abort;
-use std::test::Fail;
 use textwrap::word_separators::LineCuts;
 use textwrap::word_splitters::WordCuts;
 use textwrap::words::Word;
@@ -24,71 +26,71 @@ const WHOLE_WORDS: Layout<'_> = Layout {
     ..OPTIMAL_FIT
 };
 
-/// The same options, cutting lines into words here.
-fn with_cuts<'a>(options: Options<'a>, line_cuts: LineCuts) -> Options<'a> {
+/// Options of this width, cutting lines into words here.
+fn cut_at<'a>(width: usize, layout: &Layout<'a>, line_cuts: LineCuts) -> Options<'a> {
     Options {
         word_separator: WordSeparator::Custom(line_cuts),
-        ..options
+        ..options_of(width, layout)
     }
 }
 
-/// The same options, splitting words here.
-fn with_points<'a>(options: Options<'a>, word_cuts: WordCuts) -> Options<'a> {
+/// Options of this width, splitting words here.
+fn split_at<'a>(width: usize, layout: &Layout<'a>, word_cuts: WordCuts) -> Options<'a> {
     Options {
         word_splitter: WordSplitter::Custom(word_cuts),
-        ..options
+        ..options_of(width, layout)
     }
 }
 
-/// The same options, ending lines here.
-fn with_ends<'a>(options: Options<'a>, line_ends: LineEnds) -> Options<'a> {
+/// Options of this width by which words stay whole, ending lines here.
+fn ended_at<'a>(width: usize, line_ends: LineEnds) -> Options<'a> {
     Options {
         wrap_algorithm: WrapAlgorithm::Custom(line_ends),
-        ..options
+        ..options_of(width, &WHOLE_WORDS)
     }
+}
+
+/// Whether a text has these lines, as `given::are_lines` has them.
+fn wraps(
+    alloc: Global,
+    text: &str,
+    options: Options<'_>,
+    expected: &str,
+) -> Result<bool, WrapError> {
+    has_lines(plain_wrap(alloc, text, options), expected)
 }
 
 /// A text, a width and the lines.
-type Rows<'a> = &'a [(&'a str, usize, &'a [&'a str])];
+type Rows<'a> = &'a [(&'a str, usize, &'a str)];
 
 const CUT_IN_MIDDLE: Rows<'_> = &[
-    ("foobar", 5, &["foo", "bar"]),
-    ("foobar\nfoobaz", 5, &["foo", "bar", "fooba", "z"]),
+    ("foobar", 5, "foo|bar|"),
+    ("foobar\nfoobaz", 5, "foo|bar|fooba|z|"),
 ];
 
-const CUT_NOWHERE: Rows<'_> = &[("foo bar", 5, &["foo b", "ar"])];
+const CUT_NOWHERE: Rows<'_> = &[("foo bar", 5, "foo b|ar|")];
 
 const CUT_EVERYWHERE: Rows<'_> = &[
-    ("añb", 1, &["a", "ñ", "b"]),
-    ("a안b", 2, &["a", "안", "b"]),
-    ("안 b", 3, &["안", " b"]),
+    ("añb", 1, "a|ñ|b|"),
+    ("a안b", 2, "a|안|b|"),
+    ("안 b", 3, "안| b|"),
 ];
 
 /// Asserts that the texts have these lines if they are cut into words here.
-fn assert_cut(
-    rt: &(impl Abort + AllocGlobal),
-    line_cuts: LineCuts,
-    rows: Rows<'_>,
-) -> Result<(), WrapError> {
+fn assert_cut(rt: &(impl Abort + AllocGlobal), line_cuts: LineCuts, rows: Rows<'_>) {
     for &(text, width, expected) in rows {
-        let options = with_cuts(options_of(width, &OPTIMAL_FIT), line_cuts);
-        let lines = plain_wrap(rt.alloc(), text, options);
-        assert_borrowed(rt, text, lines, expected)?;
+        let options = cut_at(width, &OPTIMAL_FIT, line_cuts);
+        assert_found(rt, text, wraps(rt.alloc(), text, options, expected));
     }
-    Ok(())
 }
 
 /// The words of a line are its parts between the cuts of the caller.
 #[test]
-fn a_line_is_cut_where_the_function_says(rt: HostRuntime) -> Result<(), Fail> {
-    assert_cut(&rt, LineCuts::new(rt.alloc(), cut_foobar), CUT_IN_MIDDLE)?;
-    assert_cut(&rt, LineCuts::new(rt.alloc(), cut_nowhere), CUT_NOWHERE)?;
-    assert_cut(
-        &rt,
-        LineCuts::new(rt.alloc(), cut_everywhere),
-        CUT_EVERYWHERE,
-    )?;
-    Ok(())
+fn a_line_is_cut_where_the_function_says(rt: HostRuntime) {
+    let alloc = rt.alloc();
+    assert_cut(&rt, LineCuts::new(alloc, cut_foobar), CUT_IN_MIDDLE);
+    assert_cut(&rt, LineCuts::new(alloc, cut_nowhere), CUT_NOWHERE);
+    assert_cut(&rt, LineCuts::new(alloc, cut_everywhere), CUT_EVERYWHERE);
 }
 
 /// The texts and the penalties of pieces.
@@ -111,116 +113,122 @@ fn are_pieces(pieces: &[Word<'_>], expected: &[(&str, &str)]) -> bool {
 /// The pieces of a word lie between the points of the caller, with a hyphen as penalty where the
 /// word has none.
 #[test]
-fn a_word_is_split_where_the_function_says(rt: HostRuntime) -> Result<(), Fail> {
+fn a_word_is_split_where_the_function_says(rt: HostRuntime) {
     let splitter = WordSplitter::Custom(WordCuts::new(rt.alloc(), split_in_middle));
     let words = [Word::from("fo-bar"), Word::from("foobar  ")];
-    let pieces = plain_split(rt.alloc(), &words, &splitter)?;
+    let pieces = plain_split(rt.alloc(), &words, &splitter).expect(&rt, "pieces");
     assert_row(&rt, "foobar", are_pieces(&pieces, SPLIT_IN_MIDDLE));
-    Ok(())
 }
 
-const HYPHENED: &[(&str, usize, Lines<'_>)] = &[
-    ("foobar", 4, &[(Owned, "foo-"), (Borrowed, "bar")]),
-    ("fo-bar", 4, &[(Borrowed, "fo-"), (Borrowed, "bar")]),
-    ("foobar", 6, &[(Borrowed, "foobar")]),
+const HYPHENED: Rows<'_> = &[
+    ("foobar", 4, "+foo-|bar|"),
+    ("fo-bar", 4, "fo-|bar|"),
+    ("foobar", 6, "foobar|"),
 ];
 
 /// A line that ends at a point of the caller shows the hyphen, and is no slice of the text then.
 #[test]
-fn a_split_word_has_a_hyphen_at_the_end_of_its_line(rt: HostRuntime) -> Result<(), Fail> {
+fn a_split_word_has_a_hyphen_at_the_end_of_its_line(rt: HostRuntime) {
     let in_middle = WordCuts::new(rt.alloc(), split_in_middle);
     for &(text, width, expected) in HYPHENED {
-        let options = with_points(options_of(width, &OPTIMAL_FIT), in_middle);
-        let lines = plain_wrap(rt.alloc(), text, options);
-        assert_lines(&rt, text, lines, expected)?;
+        let options = split_at(width, &OPTIMAL_FIT, in_middle);
+        assert_found(&rt, text, wraps(rt.alloc(), text, options, expected));
     }
-    Ok(())
 }
 
 /// Asserts that a text of six words has these lines if they end here.
-fn assert_ended(
-    rt: &(impl Abort + AllocGlobal),
-    line_ends: LineEnds,
-    expected: &[&str],
-) -> Result<(), WrapError> {
+fn assert_ended(rt: &(impl Abort + AllocGlobal), line_ends: LineEnds, expected: &str) {
     let text = "First, second, third, fourth, fifth, sixth";
-    let options = with_ends(options_of(10, &WHOLE_WORDS), line_ends);
-    let lines = plain_wrap(rt.alloc(), text, options);
-    assert_borrowed(rt, text, lines, expected)
+    let holds = wraps(rt.alloc(), text, ended_at(10, line_ends), expected);
+    assert_found(rt, expected, holds);
 }
 
-const ENDED_ALL: &[&str] = &["First,", "second, third,", "fourth, fifth, sixth"];
+const ENDED_ALL: &str = "First,|second, third,|fourth, fifth, sixth|";
 
-const ENDED_EARLY: &[&str] = &["First,", "second, third,"];
+const ENDED_EARLY: &str = "First,|second, third,|";
 
-const ENDED_TWICE: &[&str] = &["First,", "", "second, third, fourth, fifth, sixth"];
+const ENDED_TWICE: &str = "First,||second, third, fourth, fifth, sixth|";
 
 /// The lines end where the caller says; words after the last end are lost, and equal ends make an
 /// empty line.
 #[test]
-fn lines_end_where_the_function_says(rt: HostRuntime) -> Result<(), Fail> {
-    assert_ended(&rt, LineEnds::new(rt.alloc(), end_all), ENDED_ALL)?;
-    assert_ended(&rt, LineEnds::new(rt.alloc(), end_early), ENDED_EARLY)?;
-    assert_ended(&rt, LineEnds::new(rt.alloc(), end_nowhere), &[])?;
-    assert_ended(&rt, LineEnds::new(rt.alloc(), end_twice), ENDED_TWICE)?;
-    Ok(())
+fn lines_end_where_the_function_says(rt: HostRuntime) {
+    let alloc = rt.alloc();
+    assert_ended(&rt, LineEnds::new(alloc, end_all), ENDED_ALL);
+    assert_ended(&rt, LineEnds::new(alloc, end_early), ENDED_EARLY);
+    assert_ended(&rt, LineEnds::new(alloc, end_nowhere), "");
+    assert_ended(&rt, LineEnds::new(alloc, end_twice), ENDED_TWICE);
 }
 
-/// Whether wrapping the text is refused as memory that ran out is.
-fn is_refused(alloc: Global, text: &str, options: &Options<'_>) -> bool {
-    let lines = plain_wrap(alloc, text, Options::from(options));
-    matches!(lines, Err(WrapError::Memory(_)))
-}
-
-/// Whether a list of a line is as it was after `baz` has been refused.
+/// Whether a list of the line `x` is as it was after `baz` has been refused.
 fn keeps_lines(alloc: Global, options: &Options<'_>) -> Result<bool, WrapError> {
-    let mut lines = one_line(alloc)?;
+    let mut lines = Vec::new(alloc);
+    lines.push(CowStr::Borrowed("x"))?;
     let refused = plain_append(alloc, "baz", options, true, &mut lines);
     let is_refused = matches!(refused, Err(WrapError::Memory(_)));
-    Ok(is_refused && are_borrowed(&lines, &["x"]))
+    Ok(is_refused & has_lines(Ok(lines), "x|")?)
 }
 
 /// Asserts that with these options `baz` is refused, alone, after another paragraph, and where a
 /// list of lines is lent, and that other words are not.
-fn assert_refuses_baz(
-    rt: &(impl Abort + AllocGlobal),
-    options: Options<'_>,
-) -> Result<(), WrapError> {
+fn assert_refuses_baz(rt: &(impl Abort + AllocGlobal), options: Options<'_>) {
     for text in ["baz", "foo\nbaz"] {
-        assert_row(rt, text, is_refused(rt.alloc(), text, &options));
+        let refused = wraps(rt.alloc(), text, Options::from(&options), "");
+        assert_out_of_memory(rt, text, refused);
     }
-    assert_row(rt, "baz after x", keeps_lines(rt.alloc(), &options)?);
-    let lines = plain_wrap(rt.alloc(), "foo\nbar", options);
-    assert_borrowed(rt, "foo\nbar", lines, &["foo", "bar"])
-}
-
-/// The options by which no word is broken at two columns.
-fn narrow<'a>() -> Options<'a> {
-    options_of(2, &WHOLE_WORDS)
+    assert_found(rt, "baz after x", keeps_lines(rt.alloc(), &options));
+    let text = "foo\nbar";
+    assert_found(rt, text, wraps(rt.alloc(), text, options, "foo|bar|"));
 }
 
 /// Where a function of the caller is out of memory, so is the call, and what was lent stays as it
 /// was.
 #[test]
-fn a_function_may_refuse(rt: HostRuntime) -> Result<(), Fail> {
-    assert_refuses_baz(
-        &rt,
-        with_cuts(narrow(), LineCuts::new(rt.alloc(), refuse_line)),
-    )?;
-    assert_refuses_baz(
-        &rt,
-        with_points(narrow(), WordCuts::new(rt.alloc(), refuse_word)),
-    )?;
-    assert_refuses_baz(
-        &rt,
-        with_ends(narrow(), LineEnds::new(rt.alloc(), refuse_words)),
-    )?;
-    Ok(())
+fn a_function_may_refuse(rt: HostRuntime) {
+    let cuts = LineCuts::new(rt.alloc(), refuse_line);
+    assert_refuses_baz(&rt, cut_at(2, &WHOLE_WORDS, cuts));
+    let points = WordCuts::new(rt.alloc(), refuse_word);
+    assert_refuses_baz(&rt, split_at(2, &WHOLE_WORDS, points));
+    let ends = LineEnds::new(rt.alloc(), refuse_words);
+    assert_refuses_baz(&rt, ended_at(2, ends));
 }
 
-/// A function of the caller equals nothing, not even itself.
+/// Refuses each line that has a character.
+fn refuse_each(alloc: Global, line: &str) -> Result<Vec<usize>, AllocError>
+    ensures { IfOk result (λ cuts. AreInnerCuts line.now cuts.items) }
+{
+    if line.is_empty() {
+        return cut_nowhere(alloc, line);
+    }
+    Err(AllocError)
+}
+
+/// Notes each line in a list of its own, which cannot grow, and cuts no line.
+fn grow_refused(alloc: Global, line: &str) -> Result<Vec<usize>, AllocError>
+    ensures { IfOk result (λ cuts. AreInnerCuts line.now cuts.items) }
+{
+    let heap = Heap::new(alloc, 0);
+    let mut lens = Vec::new(&heap);
+    lens.push(line.len())?;
+    cut_nowhere(alloc, line)
+}
+
+/// A call is out of memory too where a function of the caller says at once that it is, and where a
+/// list that the function makes for itself cannot grow.
 #[test]
-fn functions_are_equal_to_nothing(rt: HostRuntime) {
+fn a_refusal_is_passed_on(rt: HostRuntime) {
+    let refused = LineCuts::new(rt.alloc(), refuse_each);
+    let stuck = LineCuts::new(rt.alloc(), grow_refused);
+    for cuts in [refused, stuck] {
+        let options = cut_at(5, &OPTIMAL_FIT, cuts);
+        let given = wraps(rt.alloc(), "foobar", options, "");
+        assert_out_of_memory(&rt, "foobar", given);
+    }
+}
+
+/// A function of the caller equals nothing, not even itself. Parts that are built in equal themselves.
+#[test]
+fn only_built_in_parts_are_equal(rt: HostRuntime) {
     let separator = WordSeparator::Custom(LineCuts::new(rt.alloc(), cut_nowhere));
     assert_row(&rt, "itself", separator != separator);
     assert_row(&rt, "blanks", separator != WordSeparator::AsciiSpace);
@@ -233,11 +241,6 @@ fn functions_are_equal_to_nothing(rt: HostRuntime) {
     assert_row(&rt, "itself", algorithm != algorithm);
     assert_row(&rt, "first fit", algorithm != WrapAlgorithm::FirstFit);
     assert_row(&rt, "to optimal fit", WrapAlgorithm::new() != algorithm);
-}
-
-/// Parts that are built in equal themselves.
-#[test]
-fn built_in_parts_are_equal_to_themselves(rt: HostRuntime) {
     assert_row(
         &rt,
         "blanks",
@@ -256,19 +259,18 @@ fn built_in_parts_are_equal_to_themselves(rt: HostRuntime) {
 }
 
 /// Whether the debug text of a value is this one.
-fn is_shown(alloc: Global, value: &impl Debug, expected: &str) -> Result<bool, AllocError> {
+fn is_shown(alloc: Global, value: &impl Debug, expected: &str) -> Result<bool, WrapError> {
     let shown = format!(in alloc; "{value:?}")?;
     Ok(shown.as_str() == expected)
 }
 
 /// A debug text shows the type alone.
 #[test]
-fn functions_are_shown_by_their_types(rt: HostRuntime) -> Result<(), Fail> {
+fn functions_are_shown_by_their_types(rt: HostRuntime) {
     let cuts = LineCuts::new(rt.alloc(), cut_nowhere);
-    assert_row(&rt, "cuts", is_shown(rt.alloc(), &cuts, "LineCuts")?);
+    assert_found(&rt, "cuts", is_shown(rt.alloc(), &cuts, "LineCuts"));
     let points = WordCuts::new(rt.alloc(), split_in_middle);
-    assert_row(&rt, "points", is_shown(rt.alloc(), &points, "WordCuts")?);
+    assert_found(&rt, "points", is_shown(rt.alloc(), &points, "WordCuts"));
     let ends = LineEnds::new(rt.alloc(), end_all);
-    assert_row(&rt, "ends", is_shown(rt.alloc(), &ends, "LineEnds")?);
-    Ok(())
+    assert_found(&rt, "ends", is_shown(rt.alloc(), &ends, "LineEnds"));
 }

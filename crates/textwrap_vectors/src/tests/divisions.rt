@@ -1,10 +1,8 @@
 //! The division of fragments into lines.
 ghost use Rattle.textwrap.specs.Sizes.{Sizes};
 
-use super::plain::{
-    assert_gives, assert_gives_lens, assert_row, have_lens, plain_first_fit, plain_optimal_fit,
-    plain_optimal_fit_counted,
-};
+use super::given::{assert_found, assert_row, has_lens, have_lens};
+use super::plain::{plain_first_fit, plain_optimal_fit, plain_optimal_fit_counted};
 use std::alloc::{AllocError, AllocFailed, Global};
 use std::fmt::Display;
 use textwrap::WrapError;
@@ -137,7 +135,7 @@ const FIRST_FITS: &[(&[Block], &[usize], &[usize])] = &[
 fn each_line_takes_what_fits(rt: HostRuntime) {
     for &(blocks, line_widths, lens) in FIRST_FITS {
         let lines = plain_first_fit(rt.alloc(), blocks, line_widths);
-        assert_gives_lens(&rt, (blocks, line_widths), lines, lens);
+        assert_found(&rt, (blocks, line_widths), has_lens(lines, lens));
     }
 }
 
@@ -193,7 +191,7 @@ const OPTIMAL_FITS: &[(&[Block], &[usize], &[usize])] = &[
 fn fragments_are_divided_at_least_cost(rt: HostRuntime) {
     for &(blocks, line_widths, lens) in OPTIMAL_FITS {
         let lines = plain_optimal_fit(rt.alloc(), blocks, line_widths, &Penalties::new());
-        assert_gives_lens(&rt, (blocks, line_widths), lines, lens);
+        assert_found(&rt, (blocks, line_widths), has_lens(lines, lens));
     }
 }
 
@@ -255,20 +253,25 @@ fn the_default_penalties_are_the_new_ones(rt: HostRuntime) {
     assert!(rt; Penalties::new() == DEFAULTS);
 }
 
-/// What an error says.
-fn shown(alloc: Global, error: &impl Display) -> Result<String, WrapError> {
-    Ok(format!(in alloc; "{error}")?)
+/// Whether this is what an error says.
+fn is_shown(alloc: Global, error: &impl Display, text: &str) -> Result<bool, WrapError> {
+    let shown = format!(in alloc; "{error}")?;
+    Ok(shown.as_str() == text)
 }
 
 /// An error says what it is, and each failed allocation is out of memory.
 #[test]
 fn errors_have_their_texts(rt: HostRuntime) {
     let text = "wrap_optimal_fit cost computation overflowed";
-    assert_gives(&rt, "itself", shown(rt.alloc(), &OverflowError), text);
+    assert_found(&rt, "itself", is_shown(rt.alloc(), &OverflowError, text));
     let overflow = WrapError::Overflow(OverflowError);
-    assert_gives(&rt, "overflow", shown(rt.alloc(), &overflow), text);
+    assert_found(&rt, "overflow", is_shown(rt.alloc(), &overflow, text));
     let memory = WrapError::Memory(AllocError);
-    assert_gives(&rt, "memory", shown(rt.alloc(), &memory), "out of memory");
+    assert_found(
+        &rt,
+        "memory",
+        is_shown(rt.alloc(), &memory, "out of memory"),
+    );
     let refused = WrapError::from(AllocFailed { value: "foo" });
     assert!(rt; matches!(refused, WrapError::Memory(_)));
     assert!(rt; matches!(WrapError::from(AllocError), WrapError::Memory(_)));

@@ -1,12 +1,9 @@
 //! Texts at the widths at the ends of their type.
-use super::plain::{
-    assert_gives, plain_append, plain_fill, plain_fill_inplace, plain_fill_slowly, plain_options,
-    plain_refill, plain_wrap,
-};
-use std::alloc::Global;
-use std::borrow::CowStr;
+use super::given::{assert_found, has_lines_of};
+use super::plain::plain_wrap;
+use super::texts::Call::{Fill, FillInplace, FillSlowly, Refill};
+use super::texts::{FIRST_FIT, Layout, OPTIMAL_FIT, appended, assert_gives, options_of};
 use std::process::Abort;
-use textwrap::{Options, WrapAlgorithm, WrapError};
 
 const MAX: usize = usize::MAX;
 
@@ -17,81 +14,22 @@ const END_WIDTHS: [usize; 4] = [0, 1, MAX - 1, MAX];
 /// by first fit.
 type FilledAtEnds<'a> = (&'a str, &'a str, &'a str, [&'a str; 4], [&'a str; 4]);
 
-/// Whether the lines are those of this filled text.
-fn are_lines_of(lines: &[CowStr<'_>], filled: &str) -> bool {
-    let mut expected = filled.split('\n');
-    for line in lines {
-        if expected.next() != Some(line.as_str()) {
-            return false;
-        }
-    }
-    expected.next().is_none()
-}
-
-/// The lines of the text, one paragraph after the other, with the shortcut for short ones or
-/// without.
-fn lines_by_paragraphs<'t>(
-    alloc: Global,
-    text: &'t str,
-    options: &Options<'_>,
-    slowly: bool,
-) -> Result<Vec<CowStr<'t>>, WrapError> {
-    let mut lines = Vec::new(alloc);
-    for paragraph in text.split('\n') {
-        plain_append(alloc, paragraph, options, slowly, &mut lines)?;
-    }
-    Ok(lines)
-}
-
-/// Asserts that a call gave the lines of this filled text.
-fn assert_lines(
-    rt: &impl Abort,
-    text: &str,
-    given: Result<Vec<CowStr<'_>>, WrapError>,
-    filled: &str,
-) {
-    let lines = given.expect(rt, text);
-    assert!(rt; are_lines_of(&lines, filled), "{text:?} has {lines:?}");
-}
-
 /// Asserts that each call that wraps or fills gives this filled text, or its lines.
 pub(super) fn assert_laid_out(
     rt: &(impl Abort + AllocGlobal),
     text: &str,
-    options: &Options<'_>,
+    width: usize,
+    layout: Layout<'_>,
     expected: &str,
 ) {
-    let alloc = rt.alloc();
-    assert_lines(
-        rt,
-        text,
-        lines_by_paragraphs(alloc, text, options, false),
-        expected,
-    );
-    assert_lines(
-        rt,
-        text,
-        lines_by_paragraphs(alloc, text, options, true),
-        expected,
-    );
-    assert_lines(
-        rt,
-        text,
-        plain_wrap(alloc, text, Options::from(options)),
-        expected,
-    );
-    assert_gives(
-        rt,
-        text,
-        plain_fill(alloc, text, Options::from(options)),
-        expected,
-    );
-    assert_gives(
-        rt,
-        text,
-        plain_fill_slowly(alloc, text, Options::from(options)),
-        expected,
-    );
+    for slowly in [false, true] {
+        let lines = appended(rt.alloc(), text, &options_of(width, &layout), slowly);
+        assert_found(rt, text, has_lines_of(lines, expected));
+    }
+    let lines = plain_wrap(rt.alloc(), text, options_of(width, &layout));
+    assert_found(rt, text, has_lines_of(lines, expected));
+    assert_gives(rt, Fill(width, layout), text, expected);
+    assert_gives(rt, FillSlowly(width, layout), text, expected);
 }
 
 const FILLED_AT_ENDS: &[FilledAtEnds<'_>] = &[
@@ -196,16 +134,15 @@ const FILLED_AT_ENDS: &[FilledAtEnds<'_>] = &[
     ),
 ];
 
-/// Asserts that a text is filled to these at the widths at the ends, with options of any width.
+/// Asserts that a text is filled to these at the widths at the ends.
 fn assert_filled_at_ends(
     rt: &(impl Abort + AllocGlobal),
     text: &str,
-    options: &Options<'_>,
+    layout: Layout<'_>,
     expected: &[&str; 4],
 ) {
     for (width, expected) in END_WIDTHS.iter().zip(expected) {
-        let options = Options::from(options).width(*width);
-        assert_laid_out(rt, text, &options, expected);
+        assert_laid_out(rt, text, *width, layout, expected);
     }
 }
 
@@ -213,11 +150,18 @@ fn assert_filled_at_ends(
 /// a paragraph is one line. Optimal fit takes a width of 0 for one of 1.
 #[test]
 fn texts_are_filled_at_the_ends_of_widths(rt: HostRuntime) {
-    for (text, initial, subsequent, least, first) in FILLED_AT_ENDS {
-        let options = plain_options(0, initial, subsequent, WrapAlgorithm::new());
-        assert_filled_at_ends(&rt, text, &options, least);
-        let options = plain_options(0, initial, subsequent, WrapAlgorithm::FirstFit);
-        assert_filled_at_ends(&rt, text, &options, first);
+    for &(text, initial_indent, subsequent_indent, least, first) in FILLED_AT_ENDS {
+        let layout = Layout {
+            initial_indent,
+            subsequent_indent,
+            ..OPTIMAL_FIT
+        };
+        assert_filled_at_ends(&rt, text, layout, &least);
+        let layout = Layout {
+            penalties: None,
+            ..layout
+        };
+        assert_filled_at_ends(&rt, text, layout, &first);
     }
 }
 
@@ -240,12 +184,7 @@ fn texts_are_filled_in_place_at_the_ends_of_widths(rt: HostRuntime) {
     for &(text, narrow, wide) in FILLED_IN_PLACE {
         for width in END_WIDTHS {
             let expected = if width <= 1 { narrow } else { wide };
-            assert_gives(
-                &rt,
-                text,
-                plain_fill_inplace(rt.alloc(), text, width),
-                expected,
-            );
+            assert_gives(&rt, FillInplace(width), text, expected);
         }
     }
 }
@@ -263,31 +202,19 @@ const REFILLED_AT_ENDS: &[(&str, &str, &str, &str)] = &[
     ("\n  a\n  b", "\n  a\n  b", "\n  a\n  b", "  a b"),
 ];
 
-/// Asserts that a text is refilled to these at the widths at the ends, with options of any width: at
-/// the least two, and at the greatest two.
-fn assert_refilled(
-    rt: &(impl Abort + AllocGlobal),
-    text: &str,
-    options: &Options<'_>,
-    narrow: &str,
-    wide: &str,
-) {
-    for width in END_WIDTHS {
-        let expected = if width <= 1 { narrow } else { wide };
-        let options = Options::from(options).width(width);
-        let refilled = plain_refill(rt.alloc(), text, options);
-        assert_gives(rt, text, refilled, expected);
-    }
-}
-
 /// A text that is refilled keeps its indents and its ending at each width. Where the indent leaves
 /// no room, optimal fit puts a character beside it, and first fit does not.
 #[test]
 fn texts_are_refilled_at_the_ends_of_widths(rt: HostRuntime) {
     for &(text, least, first, wide) in REFILLED_AT_ENDS {
-        let options = plain_options(0, "", "", WrapAlgorithm::new());
-        assert_refilled(&rt, text, &options, least, wide);
-        let options = plain_options(0, "", "", WrapAlgorithm::FirstFit);
-        assert_refilled(&rt, text, &options, first, wide);
+        for width in END_WIDTHS {
+            let (least, first) = if width <= 1 {
+                (least, first)
+            } else {
+                (wide, wide)
+            };
+            assert_gives(&rt, Refill(width, OPTIMAL_FIT), text, least);
+            assert_gives(&rt, Refill(width, FIRST_FIT), text, first);
+        }
     }
 }

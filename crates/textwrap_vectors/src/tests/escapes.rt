@@ -1,12 +1,12 @@
 //! Texts with escape sequences that are cut short.
-use super::plain::{
-    assert_found, assert_gives, assert_gives_words, assert_row, plain_break, plain_strip,
-    plain_width, plain_wrap,
-};
+use super::given::{assert_found, assert_row, has_words};
+use super::plain::{plain_break, plain_width, plain_wrap};
+use super::texts::Call::Strip;
+use super::texts::{OPTIMAL_FIT, assert_gives, options_of};
 use crate::functions::are_borrowed;
 use std::alloc::Global;
+use textwrap::WrapError;
 use textwrap::words::Word;
-use textwrap::{Options, WrapError};
 
 const CUT_SEQUENCES: &[(&str, &str, usize, &[&str])] = &[
     // ESC, which takes one character more, and a control sequence, which a letter ends.
@@ -63,7 +63,7 @@ const CUT_SEQUENCES: &[(&str, &str, usize, &[&str])] = &[
 
 /// Whether these parts of a text are its lines at 1 column.
 fn are_lines(alloc: Global, text: &str, lines: &[&str]) -> Result<bool, WrapError> {
-    let wrapped = plain_wrap(alloc, text, Options::new(1))?;
+    let wrapped = plain_wrap(alloc, text, options_of(1, &OPTIMAL_FIT))?;
     Ok(are_borrowed(&wrapped, lines))
 }
 
@@ -74,9 +74,9 @@ fn are_lines(alloc: Global, text: &str, lines: &[&str]) -> Result<bool, WrapErro
 fn sequences_may_be_cut_at_each_place(rt: HostRuntime) {
     for &(text, visible, columns, pieces) in CUT_SEQUENCES {
         assert_row(&rt, text, plain_width(text) == columns);
-        assert_gives(&rt, text, plain_strip(rt.alloc(), text), visible);
+        assert_gives(&rt, Strip, text, visible);
         let broken = plain_break(rt.alloc(), &[Word::from(text)], 1);
-        assert_gives_words(&rt, text, broken, pieces);
+        assert_found(&rt, text, has_words(broken, pieces));
         assert_found(&rt, text, are_lines(rt.alloc(), text, pieces));
     }
 }

@@ -1,11 +1,12 @@
 //! The texts of `fill`.
-use super::plain::{assert_row, plain_append, plain_fill, plain_wrap};
-use super::texts::{FIRST_FIT, Layout, OPTIMAL_FIT, PENALTIES, assert_text, options_of};
+use super::given::{are_joined, assert_found};
+use super::plain::{plain_append, plain_fill, plain_wrap};
+use super::texts::Call::{Fill, FillSlowly};
+use super::texts::{FIRST_FIT, Layout, OPTIMAL_FIT, PENALTIES, assert_gives, options_of};
 use LineEnding::{CRLF, LF};
 use std::alloc::Global;
 use std::borrow::CowStr;
 use std::process::Abort;
-use std::test::Fail;
 use textwrap::wrap_algorithms::Penalties;
 use textwrap::{LineEnding, Options, WrapError};
 
@@ -95,14 +96,13 @@ const FILLED: &[(&str, usize, Layout<'_>, &str)] = &[
     ),
 ];
 
-/// The lines of a text are joined by its line ending.
+/// The lines of a text are joined by its line ending. The slow path gives the same.
 #[test]
-fn texts_are_filled(rt: HostRuntime) -> Result<(), Fail> {
-    for (text, width, layout, expected) in FILLED {
-        let filled = plain_fill(rt.alloc(), text, options_of(*width, layout));
-        assert_text(&rt, text, filled, expected)?;
+fn texts_are_filled(rt: HostRuntime) {
+    for &(text, width, layout, expected) in FILLED {
+        assert_gives(&rt, Fill(width, layout), text, expected);
+        assert_gives(&rt, FillSlowly(width, layout), text, expected);
     }
-    Ok(())
 }
 
 /// Penalties that are all unlike the defaults.
@@ -144,27 +144,26 @@ const WIDTHS: &[usize] = &[
 
 /// Most paragraphs are divided without a list of their words; the lines are those of the lists.
 #[test]
-fn a_list_of_words_makes_no_difference(rt: HostRuntime) -> Result<(), Fail> {
+fn a_list_of_words_makes_no_difference(rt: HostRuntime) {
     for penalties in [None, Some(PENALTIES), Some(ODD), Some(GREAT)] {
-        for width in WIDTHS {
+        for &width in WIDTHS {
             for split_words in [true, false] {
                 let layout = Layout {
                     penalties,
                     split_words,
                     ..OPTIMAL_FIT
                 };
-                assert_same_lines(&rt, *width, &layout)?;
+                assert_same_lines(&rt, width, layout);
             }
         }
     }
-    Ok(())
 }
 
 const INDENTS: &[(&str, &str)] = &[("", ""), ("* ", "  "), ("", "> "), ("\x1b[1m안안안", "")];
 
 /// No setting by built-in parts needs that list.
 #[test]
-fn indents_make_no_difference_to_that(rt: HostRuntime) -> Result<(), Fail> {
+fn indents_make_no_difference_to_that(rt: HostRuntime) {
     for &(initial_indent, subsequent_indent) in INDENTS {
         for penalties in [None, Some(PENALTIES)] {
             for width in [0, 1, 2, 3, 5, 7, 10, 13, 20, 40] {
@@ -174,11 +173,10 @@ fn indents_make_no_difference_to_that(rt: HostRuntime) -> Result<(), Fail> {
                     penalties,
                     ..OPTIMAL_FIT
                 };
-                assert_same_under_settings(&rt, width, &layout)?;
+                assert_same_under_settings(&rt, width, layout);
             }
         }
     }
-    Ok(())
 }
 
 /// Whether words are broken, whether blanks are kept, and whether paragraphs are even.
@@ -195,21 +193,16 @@ const SETTINGS: &[(bool, bool, bool)] = &[
 
 /// Asserts the same for words that are broken or whole, blanks that are preserved or left off, and
 /// even and uneven paragraphs.
-fn assert_same_under_settings(
-    rt: &(impl Abort + AllocGlobal),
-    width: usize,
-    layout: &Layout<'_>,
-) -> Result<(), WrapError> {
+fn assert_same_under_settings(rt: &(impl Abort + AllocGlobal), width: usize, layout: Layout<'_>) {
     for &(break_words, preserve_trailing_space, even_paragraphs) in SETTINGS {
         let layout = Layout {
             break_words,
             preserve_trailing_space,
             even_paragraphs,
-            ..*layout
+            ..layout
         };
-        assert_same_lines(rt, width, &layout)?;
+        assert_same_lines(rt, width, layout);
     }
-    Ok(())
 }
 
 const TEXTS: &[&str] = &[
@@ -237,45 +230,30 @@ const TEXTS: &[&str] = &[
 ];
 
 /// Asserts that the texts have the lines of the lists, by each ending.
-fn assert_same_lines(
-    rt: &(impl Abort + AllocGlobal),
-    width: usize,
-    layout: &Layout<'_>,
-) -> Result<(), WrapError> {
-    for text in TEXTS {
+fn assert_same_lines(rt: &(impl Abort + AllocGlobal), width: usize, layout: Layout<'_>) {
+    for &text in TEXTS {
         for line_ending in [LF, CRLF] {
             let layout = Layout {
                 line_ending,
-                ..*layout
+                ..layout
             };
-            assert_listed(rt, text, &options_of(width, &layout))?;
+            assert_listed(rt, text, &options_of(width, &layout));
         }
     }
-    Ok(())
 }
 
 /// Asserts that a text has the lines of the lists of words, in a list and in one text.
-fn assert_listed(
-    rt: &(impl Abort + AllocGlobal),
-    text: &str,
-    options: &Options<'_>,
-) -> Result<(), WrapError> {
-    let listed = listed_lines(rt.alloc(), text, options)?;
+fn assert_listed(rt: &(impl Abort + AllocGlobal), text: &str, options: &Options<'_>) {
     let row = (text, options.width);
-    assert_row(rt, row, has_lines(rt.alloc(), text, options, &listed)?);
-    assert_row(rt, row, is_filled(rt.alloc(), text, options, &listed)?);
-    Ok(())
+    assert_found(rt, row, has_listed_lines(rt.alloc(), text, options));
+    assert_found(rt, row, is_listed_text(rt.alloc(), text, options));
 }
 
-/// Whether the list of the lines of a text has the texts of these.
-fn has_lines(
-    alloc: Global,
-    text: &str,
-    options: &Options<'_>,
-    listed: &[CowStr<'_>],
-) -> Result<bool, WrapError> {
+/// Whether the list of the lines of a text has the texts of those by way of lists of words.
+fn has_listed_lines(alloc: Global, text: &str, options: &Options<'_>) -> Result<bool, WrapError> {
+    let listed = listed_lines(alloc, text, options)?;
     let lines = plain_wrap(alloc, text, Options::from(options))?;
-    Ok(are_same(&lines, listed))
+    Ok(are_same(&lines, &listed))
 }
 
 /// Whether the lines have the same texts.
@@ -288,36 +266,15 @@ fn are_same(lines: &[CowStr<'_>], listed: &[CowStr<'_>]) -> bool {
     lines.len() == listed.len()
 }
 
-/// Whether a text is filled to these lines.
-fn is_filled(
-    alloc: Global,
-    text: &str,
-    options: &Options<'_>,
-    listed: &[CowStr<'_>],
-) -> Result<bool, WrapError> {
+/// Whether a text is filled to the lines by way of lists of words.
+fn is_listed_text(alloc: Global, text: &str, options: &Options<'_>) -> Result<bool, WrapError> {
+    let listed = listed_lines(alloc, text, options)?;
     let filled = plain_fill(alloc, text, Options::from(options))?;
-    Ok(are_joined(&filled, listed, options.line_ending.as_str()))
+    Ok(are_joined(&listed, options.line_ending.as_str(), &filled))
 }
 
-/// Whether a text is the lines, with the ending between each two.
-fn are_joined(filled: &str, lines: &[CowStr<'_>], ending: &str) -> bool {
-    let mut rest = filled;
-    for (i, line) in lines.iter().enumerate() {
-        let before = if i == 0 { "" } else { ending };
-        match after(rest, before, line.as_str()) {
-            Some(left) => rest = left,
-            None => return false,
-        }
-    }
-    rest.is_empty()
-}
-
-/// What is left of a text after these two parts of it, if it begins with them.
-fn after<'t>(text: &'t str, first: &str, second: &str) -> Option<&'t str> {
-    text.strip_prefix(first)?.strip_prefix(second)
-}
-
-/// The lines of a text, paragraph by paragraph, by way of lists of words.
+/// The lines of a text, paragraph by paragraph. Each is divided by way of a list of its words, unless
+/// it is one line as a whole.
 fn listed_lines<'t>(
     alloc: Global,
     text: &'t str,
@@ -325,24 +282,18 @@ fn listed_lines<'t>(
 ) -> Result<Vec<CowStr<'t>>, WrapError> {
     let mut lines = Vec::new(alloc);
     for paragraph in text.split(options.line_ending.as_str()) {
-        push_listed(alloc, paragraph, options, &mut lines)?;
+        let slowly = !is_one_line(paragraph, options, lines.is_empty());
+        plain_append(alloc, paragraph, options, slowly, &mut lines)?;
     }
     Ok(lines)
 }
 
-/// Appends the lines of a paragraph, which is divided by way of a list of its words, unless it is
-/// one line as a whole.
-fn push_listed<'t>(
-    alloc: Global,
-    paragraph: &'t str,
-    options: &Options<'_>,
-    lines: &mut Vec<CowStr<'t>>,
-) -> Result<(), WrapError> {
-    let indent = if lines.is_empty() {
+/// Whether a paragraph is one line as a whole: no indent stands before it, and it is short.
+fn is_one_line(paragraph: &str, options: &Options<'_>, is_first: bool) -> bool {
+    let indent = if is_first {
         options.initial_indent
     } else {
         options.subsequent_indent
     };
-    let is_one_line = indent.is_empty() && paragraph.len() < options.width;
-    plain_append(alloc, paragraph, options, !is_one_line, lines)
+    indent.is_empty() && paragraph.len() < options.width
 }

@@ -1,7 +1,6 @@
 //! Texts by `indent` and `dedent`.
-use super::plain::{plain_dedent, plain_indent};
-use super::texts::assert_text;
-use std::test::Fail;
+use super::texts::Call::{Dedent, Indent};
+use super::texts::assert_gives;
 
 const INDENTED: &[(&str, &str, &str)] = &[
     ("", "# ", ""),
@@ -23,12 +22,10 @@ const INDENTED: &[(&str, &str, &str)] = &[
 /// Each line gets the prefix, and a line of whitespace alone the prefix without its final
 /// whitespace.
 #[test]
-fn lines_get_the_prefix(rt: HostRuntime) -> Result<(), Fail> {
+fn lines_get_the_prefix(rt: HostRuntime) {
     for &(text, prefix, expected) in INDENTED {
-        let indented = plain_indent(rt.alloc(), text, prefix);
-        assert_text(&rt, text, indented, expected)?;
+        assert_gives(&rt, Indent(prefix), text, expected);
     }
-    Ok(())
 }
 
 const DEDENTED: &[(&str, &str)] = &[
@@ -44,10 +41,8 @@ const DEDENTED: &[(&str, &str)] = &[
 /// Each line loses the whitespace that all lines begin with; lines of whitespace alone become
 /// empty.
 #[test]
-fn lines_lose_the_margin(rt: HostRuntime) -> Result<(), Fail> {
+fn lines_lose_the_margin(rt: HostRuntime) {
     for &(text, expected) in DEDENTED {
-        let dedented = plain_dedent(rt.alloc(), text);
-        assert_text(&rt, text, dedented, expected)?;
+        assert_gives(&rt, Dedent, text, expected);
     }
-    Ok(())
 }

@@ -1,11 +1,11 @@
 //! The text that `fill_inplace` leaves, also where memory is refused.
-use super::plain::plain_fill_inplace;
-use super::texts::assert_text;
+use super::given::assert_row;
+use super::refusals::{Refusable, refusals_of};
+use super::texts::Call::FillInplace;
+use super::texts::assert_gives;
 use fakes::heap::Heap;
-use std::alloc::AllocError;
 use std::process::Abort;
-use std::test::Fail;
-use textwrap::fill_inplace;
+use textwrap::{WrapError, fill_inplace};
 
 const FILLED: &[(&str, usize, &str)] = &[
     ("foo  bar    baz", 10, "foo  bar   \nbaz"),
@@ -23,49 +23,31 @@ const FILLED: &[(&str, usize, &str)] = &[
 /// In each part between line feeds, the last blank before each later line of first fit becomes a
 /// line feed, and nothing else changes.
 #[test]
-fn blanks_before_new_lines_become_line_feeds(rt: HostRuntime) -> Result<(), Fail> {
+fn blanks_before_new_lines_become_line_feeds(rt: HostRuntime) {
     for &(text, width, expected) in FILLED {
-        let filled = plain_fill_inplace(rt.alloc(), text, width);
-        assert_text(&rt, text, filled, expected)?;
+        assert_gives(&rt, FillInplace(width), text, expected);
     }
-    Ok(())
 }
 
-/// Fills the text with so many allocations allowed, and returns whether it was filled. Asserts that
-/// a refused call leaves the text as it was, and any other the expected one.
-fn is_filled(
-    rt: &impl Abort,
-    heap: &Heap,
-    allowed: usize,
-    text: &str,
-    width: usize,
-    expected: &str,
-) -> Result<bool, AllocError> {
-    heap.allow(1);
-    let mut filled = String::from_str(heap, text)?;
-    heap.allow(allowed);
-    let is_filled = fill_inplace(heap, &mut filled, width).is_ok();
-    let left = if is_filled { expected } else { text };
-    assert_eq!(rt; filled.as_str(), left, "{text:?}");
-    Ok(is_filled)
-}
+/// A text that is filled in place, the width, and what becomes of it.
+#[derive(Drop)]
+struct InPlace<'a>(&'a str, usize, &'a str);
 
-/// Fills the text with no allocation allowed, then with one more each time, until none is refused.
-/// Asserts that the last call needed them all. Returns how many calls were refused.
-fn count_refusals(
-    rt: &impl Abort,
-    heap: &Heap,
-    text: &str,
-    width: usize,
-    expected: &str,
-) -> Result<usize, AllocError> {
-    for allowed in 0..100 {
-        if is_filled(rt, heap, allowed, text, width, expected)? {
-            assert_eq!(rt; heap.left(), 0, "{text:?}");
-            return Ok(allowed);
+impl Refusable for InPlace<'_> {
+    /// A refused call has to leave the text as it was. What this test itself allocates does not count.
+    fn is_right<R: Abort + AllocGlobal>(&self, _rt: &R, heap: &Heap) -> Result<bool, WrapError> {
+        let allowed = heap.left();
+        heap.allow(1);
+        let mut text = String::from_str(heap, self.0)?;
+        heap.allow(allowed);
+        let filled = fill_inplace(heap, &mut text, self.1);
+        let expected = if filled.is_ok() { self.2 } else { self.0 };
+        if text.as_str() != expected {
+            return Ok(false);
         }
+        filled?;
+        Ok(true)
     }
-    Err(AllocError)
 }
 
 const REFUSED: &[(&str, usize, &str, usize)] = &[
@@ -114,15 +96,23 @@ const REFUSED: &[(&str, usize, &str, usize)] = &[
     ),
 ];
 
+/// Whether a call that is refused at least so often was refused so many times. One that is never
+/// refused was not.
+fn are_enough(refusals: Option<usize>, least: usize) -> bool {
+    match refusals {
+        Some(refusals) => refusals >= least && (least > 0 || refusals == 0),
+        None => false,
+    }
+}
+
 /// Where memory runs out for the offsets of the blanks that change, at the first of them or later,
 /// the text is as it was. Where none changes, nothing is refused.
 #[test]
-fn a_refused_text_is_as_it_was(rt: HostRuntime) -> Result<(), Fail> {
+fn a_refused_text_is_as_it_was(rt: HostRuntime) {
     let heap = Heap::new(rt.alloc(), 0);
     for &(text, width, expected, least_refusals) in REFUSED {
-        let refusals = count_refusals(&rt, &heap, text, width, expected)?;
-        let is_right = refusals >= least_refusals && (least_refusals > 0 || refusals == 0);
-        assert!(rt; is_right, "{text:?}: {refusals}");
+        let refusals = refusals_of(&rt, &InPlace(text, width, expected), &heap);
+        let is_right = are_enough(refusals, least_refusals);
+        assert_row(&rt, (text, refusals), is_right && heap.left() == 0);
     }
-    Ok(())
 }

@@ -1,8 +1,9 @@
 //! One large row for each call on words and lines that allocates. A body that gave up on what is
 //! longer than the rows of the other tables would pass those.
+use super::given::assert_found;
 use super::plain::{
-    assert_gives, plain_break, plain_divide, plain_find_words, plain_find_words_at,
-    plain_first_fit, plain_optimal_fit, plain_points, plain_split, plain_strip,
+    plain_break, plain_divide, plain_find_words, plain_find_words_at, plain_first_fit,
+    plain_optimal_fit, plain_points, plain_split,
 };
 use crate::functions::{cut_characters, end_each, split_characters};
 use std::alloc::{AllocError, Global};
@@ -34,14 +35,18 @@ fn are_many(words: &[Word<'_>], text: &str, blanks: &str) -> bool {
     words.len() == MANY
 }
 
-/// Asserts that a call gave so many words, each with this text and these blanks.
-fn assert_many(rt: &impl Abort, given: Result<Vec<Word<'_>>, WrapError>, text: &str, blanks: &str) {
-    let words = given.expect(rt, "memory");
-    assert!(rt; are_many(&words, text, blanks), "{text:?}");
+/// Whether a call gave so many words, each with this text and these blanks.
+fn has_many(
+    given: Result<Vec<Word<'_>>, WrapError>,
+    text: &str,
+    blanks: &str,
+) -> Result<bool, WrapError> {
+    let words = given?;
+    Ok(are_many(&words, text, blanks))
 }
 
-/// Whether these are so many lines of one element each.
-fn are_single<T>(lines: &[&[T]], count: usize) -> bool {
+/// Whether these are so many lines of one word each.
+fn are_single(lines: &[&[Word<'_>]], count: usize) -> bool {
     for line in lines {
         if line.len() != 1 {
             return false;
@@ -50,16 +55,10 @@ fn are_single<T>(lines: &[&[T]], count: usize) -> bool {
     lines.len() == count
 }
 
-/// Asserts that a call gave so many lines of one word each.
-fn assert_single(rt: &impl Abort, given: Result<Vec<&[Word<'_>]>, WrapError>, count: usize) {
-    let lines = given.expect(rt, "memory");
-    assert!(rt; are_single(&lines, count));
-}
-
-/// Asserts that a call gave so many numbers.
-fn assert_count(rt: &impl Abort, given: Result<Vec<usize>, WrapError>, count: usize) {
-    let numbers = given.expect(rt, "memory");
-    assert!(rt; numbers.len() == count);
+/// Whether a call gave so many lines of one word each.
+fn has_single(given: Result<Vec<&[Word<'_>]>, WrapError>, count: usize) -> Result<bool, WrapError> {
+    let lines = given?;
+    Ok(are_single(&lines, count))
 }
 
 /// So many copies of a text.
@@ -72,26 +71,6 @@ fn many_words(rt: &(impl Abort + AllocGlobal), count: usize) -> Vec<Word<'static
     vec![in rt.alloc(); WORD; count].expect(rt, "words")
 }
 
-/// So many widths of lines, each with room for one word.
-fn many_widths(rt: &(impl Abort + AllocGlobal), count: usize) -> Vec<usize> {
-    vec![in rt.alloc(); 4; count].expect(rt, "widths")
-}
-
-#[test]
-fn many_words_are_found(rt: HostRuntime) {
-    let line = many(&rt, "ab ");
-    let words = plain_find_words(rt.alloc(), rt.alloc(), WordSeparator::AsciiSpace, &line);
-    assert_many(&rt, words, "ab", " ");
-}
-
-#[test]
-fn many_words_are_split_and_broken(rt: HostRuntime) {
-    let words = many_words(&rt, MANY);
-    let pieces = plain_split(rt.alloc(), &words, &WordSplitter::HyphenSplitter);
-    assert_many(&rt, pieces, "ab", " ");
-    assert_many(&rt, plain_break(rt.alloc(), &words, 2), "ab", " ");
-}
-
 /// Each third offset of so many.
 fn every_third(alloc: Global, count: usize) -> Result<Vec<usize>, AllocError> {
     let mut offsets = Vec::new(alloc);
@@ -102,75 +81,74 @@ fn every_third(alloc: Global, count: usize) -> Result<Vec<usize>, AllocError> {
 }
 
 #[test]
-fn a_line_is_cut_at_many_offsets(rt: HostRuntime) {
+fn many_words_are_found_at_blanks_and_offsets(rt: HostRuntime) {
     let line = many(&rt, "ab ");
+    let words = plain_find_words(rt.alloc(), rt.alloc(), WordSeparator::AsciiSpace, &line);
+    assert_found(&rt, "at blanks", has_many(words, "ab", " "));
     let offsets = every_third(rt.alloc(), line.len()).expect(&rt, "offsets");
     let words = plain_find_words_at(&rt, rt.alloc(), &line, &offsets);
-    assert_many(&rt, words, "ab", " ");
-}
-
-/// Asserts that a word has so many points, and is split at them into pieces with this text each.
-fn assert_split(rt: &(impl Abort + AllocGlobal), word: &str, splitter: WordSplitter, piece: &str) {
-    assert_count(rt, plain_points(rt.alloc(), &splitter, word), MANY - 1);
-    let pieces = plain_split(rt.alloc(), &[Word::from(word)], &splitter);
-    assert_many(rt, pieces, piece, "");
+    assert_found(&rt, "at offsets", has_many(words, "ab", " "));
 }
 
 #[test]
-fn a_word_is_split_into_many_pieces(rt: HostRuntime) {
+fn many_words_are_split_and_broken(rt: HostRuntime) {
+    let words = many_words(&rt, MANY);
+    let pieces = plain_split(rt.alloc(), &words, &WordSplitter::HyphenSplitter);
+    assert_found(&rt, "split", has_many(pieces, "ab", " "));
+    let pieces = plain_break(rt.alloc(), &words, 2);
+    assert_found(&rt, "broken", has_many(pieces, "ab", " "));
+}
+
+/// Whether a word may be split between so many pieces, and is split into them, with this text each.
+fn is_split(
+    alloc: Global,
+    word: &str,
+    splitter: WordSplitter,
+    piece: &str,
+) -> Result<bool, WrapError> {
+    let points = plain_points(alloc, &splitter, word)?.len();
+    let pieces = plain_split(alloc, &[Word::from(word)], &splitter);
+    Ok(has_many(pieces, piece, "")? && points == MANY - 1)
+}
+
+#[test]
+fn a_word_has_many_pieces(rt: HostRuntime) {
     let word = many(&rt, "a-");
-    assert_split(&rt, &word, WordSplitter::HyphenSplitter, "a-");
-}
-
-#[test]
-fn a_word_is_broken_into_many_pieces(rt: HostRuntime) {
+    let hyphens = WordSplitter::HyphenSplitter;
+    assert_found(&rt, "split", is_split(rt.alloc(), &word, hyphens, "a-"));
     let word = many(&rt, "あ");
     let pieces = plain_break(rt.alloc(), &[Word::from(word.as_str())], 2);
-    assert_many(&rt, pieces, "あ", "");
+    assert_found(&rt, "broken", has_many(pieces, "あ", ""));
 }
 
+/// Each letter of the text is a word by itself, or a piece of the one word.
 #[test]
 fn a_caller_gives_many_cuts_and_points(rt: HostRuntime) {
     let text = many(&rt, "é");
-    let cuts = LineCuts::new(rt.alloc(), cut_characters);
-    let words = plain_find_words(rt.alloc(), rt.alloc(), WordSeparator::Custom(cuts), &text);
-    assert_many(&rt, words, "é", "");
-    let points = WordCuts::new(rt.alloc(), split_characters);
-    assert_split(&rt, &text, WordSplitter::Custom(points), "é");
+    let cuts = WordSeparator::Custom(LineCuts::new(rt.alloc(), cut_characters));
+    let words = plain_find_words(rt.alloc(), rt.alloc(), cuts, &text);
+    assert_found(&rt, "cuts", has_many(words, "é", ""));
+    let points = WordSplitter::Custom(WordCuts::new(rt.alloc(), split_characters));
+    assert_found(&rt, "points", is_split(rt.alloc(), &text, points, "é"));
 }
 
 #[test]
 fn a_caller_gives_many_ends(rt: HostRuntime) {
     let words = many_words(&rt, MANY);
     let algorithm = WrapAlgorithm::Custom(LineEnds::new(rt.alloc(), end_each));
-    assert_single(
-        &rt,
-        plain_divide(rt.alloc(), algorithm, &words, &[80]),
-        MANY,
-    );
-}
-
-/// A long text with escape sequences, without them.
-#[test]
-fn a_long_text_is_stripped(rt: HostRuntime) {
-    let coloured = many(&rt, "a\x1b[1m");
-    let visible = many(&rt, "a");
-    assert_gives(
-        &rt,
-        "coloured",
-        plain_strip(rt.alloc(), &coloured),
-        &visible,
-    );
+    let lines = plain_divide(rt.alloc(), algorithm, &words, &[80]);
+    assert_found(&rt, "ends", has_single(lines, MANY));
 }
 
 /// Lines of many widths, each with room for one word.
 #[test]
 fn lines_have_many_widths(rt: HostRuntime) {
     let words = many_words(&rt, MANY);
-    let widths = many_widths(&rt, MANY);
-    assert_single(&rt, plain_first_fit(rt.alloc(), &words, &widths), MANY);
+    let widths = vec![in rt.alloc(); 4; MANY].expect(&rt, "widths");
+    let lines = plain_first_fit(rt.alloc(), &words, &widths);
+    assert_found(&rt, "first fit", has_single(lines, MANY));
     let lines = plain_optimal_fit(rt.alloc(), &words, &widths, &Penalties::new());
-    assert_single(&rt, lines, MANY);
+    assert_found(&rt, "optimal fit", has_single(lines, MANY));
 }
 
 /// Where later widths differ, the least cost is found by the table, whose rows grow with the words,
@@ -181,5 +159,5 @@ fn a_table_may_be_large(rt: HostRuntime) {
     let mut widths = vec![in rt.alloc(); 4; MANY / 6].expect(&rt, "widths");
     widths[1] = 3;
     let lines = plain_optimal_fit(rt.alloc(), &words, &widths, &Penalties::new());
-    assert_single(&rt, lines, MANY / 6);
+    assert_found(&rt, "by the table", has_single(lines, MANY / 6));
 }

@@ -1,12 +1,10 @@
 //! The table of least costs, the search for the same by a queue, the line costs that they ask for,
 //! and the queue case.
 use super::divisions::{Block, FALLING};
-use super::plain::{
-    assert_row, plain_is_queue_case, plain_optimal_fit_counted, plain_queue, plain_table,
-};
+use super::given::{assert_found, assert_out_of_memory, assert_row, has_minima};
+use super::plain::{plain_is_queue_case, plain_optimal_fit_counted, plain_queue, plain_table};
 use fakes::heap::Heap;
 use std::alloc::{AllocError, Allocator, Global};
-use std::fmt::Debug;
 use std::process::Abort;
 use textwrap::WrapError;
 use textwrap::minima::{
@@ -14,27 +12,6 @@ use textwrap::minima::{
 };
 use textwrap::words::Fragment;
 use textwrap::wrap_algorithms::Penalties;
-
-/// Whether the minima have these starts and costs.
-pub(super) fn are_minima(minima: &[Minimum], expected: &[(usize, u128)]) -> bool {
-    for (minimum, (start, cost)) in minima.iter().zip(expected) {
-        if minimum.start != *start || minimum.cost != *cost {
-            return false;
-        }
-    }
-    minima.len() == expected.len()
-}
-
-/// Asserts that a call gave minima with these starts and costs.
-pub(super) fn assert_minima<R: Copy + Debug>(
-    rt: &impl Abort,
-    row: R,
-    given: Result<Vec<Minimum>, WrapError>,
-    expected: &[(usize, u128)],
-) {
-    let minima = given.expect(rt, "memory");
-    assert!(rt; are_minima(&minima, expected), "{row:?} {minima:?}");
-}
 
 const TABLES: &[(&[Block], &[usize], usize, &[(usize, u128)], u128)] = &[
     (&[Block(10, 0, 0)], &[10], 4, &[(0, 0), (0, 1000)], 1),
@@ -73,7 +50,7 @@ fn tables_have_the_least_costs_and_the_earliest_starts(rt: HostRuntime) {
         };
         let (minima, asked) = plain_table(rt.alloc(), blocks, line_widths, &penalties);
         assert_row(&rt, blocks, asked == count);
-        assert_minima(&rt, blocks, minima, expected);
+        assert_found(&rt, blocks, has_minima(minima, expected));
     }
 }
 
@@ -91,32 +68,32 @@ pub(super) fn least_cost<T: Fragment>(
 /// Where a line starts and ends, its number, what stands before it, and what the candidate costs.
 pub(super) type Candidate = (usize, usize, usize, u128, Option<u128>);
 
-/// Asserts that the line costs of these fragments have these candidates, and that each that is asked
-/// for counts.
-pub(super) fn assert_candidates(
-    rt: &(impl Abort + AllocGlobal),
+/// Whether these line costs have these candidates, of which each counts as one step.
+fn are_candidates(costs: &mut LineCosts<Global>, candidates: &[Candidate]) -> bool {
+    for (asked, &(start, end, line_number, before, expected)) in candidates.iter().enumerate() {
+        if start >= end || end > costs.ends() {
+            return false;
+        }
+        let candidate = costs.candidate(start, end, line_number, before);
+        if candidate != expected || costs.steps() != asked as u128 + 1 {
+            return false;
+        }
+    }
+    true
+}
+
+/// Whether the line costs of these fragments have these candidates, and each that is asked for
+/// counts.
+pub(super) fn has_candidates(
+    alloc: Global,
     blocks: &[Block],
     line_widths: &[usize],
     penalties: &Penalties,
     candidates: &[Candidate],
-) {
-    let made = LineCosts::new(rt.alloc(), blocks, line_widths, penalties);
-    let mut costs = made.expect(rt, "memory");
-    assert_row(
-        rt,
-        blocks,
-        costs.steps() == 0 && costs.ends() == blocks.len(),
-    );
-    for (asked, &(start, end, line_number, before, expected)) in candidates.iter().enumerate() {
-        assert!(rt; start < end && end <= costs.ends());
-        let candidate = costs.candidate(start, end, line_number, before);
-        let is_counted = costs.steps() == asked as u128 + 1;
-        assert_row(
-            rt,
-            (start, end, line_number),
-            candidate == expected && is_counted,
-        );
-    }
+) -> Result<bool, WrapError> {
+    let mut costs = LineCosts::new(alloc, blocks, line_widths, penalties)?;
+    let is_new = costs.steps() == 0 && costs.ends() == blocks.len();
+    Ok(is_new && are_candidates(&mut costs, candidates))
 }
 
 const CANDIDATES: &[Candidate] = &[
@@ -139,7 +116,8 @@ const CANDIDATES: &[Candidate] = &[
 /// counts.
 #[test]
 fn a_source_counts_what_it_is_asked(rt: HostRuntime) {
-    assert_candidates(&rt, FALLING, &[10], &Penalties::new(), CANDIDATES);
+    let holds = has_candidates(rt.alloc(), FALLING, &[10], &Penalties::new(), CANDIDATES);
+    assert_found(&rt, "candidates", holds);
 }
 
 const COUNTS: &[(u128, u128, u128, u128)] = &[
@@ -213,16 +191,6 @@ const CASES_BY_WIDTHS: &[(&[Block], &[usize], bool)] = &[
     (&[Block(0, 0, usize::MAX), Block(1, 0, 0)], &[10], false),
 ];
 
-/// In a queue case all line widths from the second on are the same, closed widths never fall, and
-/// neither a line width nor the sum of all widths passes 2^62.
-#[test]
-fn queue_cases_are_told_by_their_widths(rt: HostRuntime) {
-    for &(blocks, line_widths, expected) in CASES_BY_WIDTHS {
-        let is_case = plain_is_queue_case(blocks, line_widths, &Penalties::new());
-        assert_row(&rt, (blocks, line_widths), is_case == expected);
-    }
-}
-
 /// These penalties, in the order of the fields.
 pub(super) fn penalties_of(numbers: [usize; 5]) -> Penalties {
     Penalties {
@@ -247,25 +215,29 @@ const CASES_BY_PENALTIES: &[([usize; 5], bool)] = &[
     ([1000, 2500, 4, 25, usize::MAX - 1], false),
 ];
 
-/// Each penalty of a queue case may be 2^62, and none may be more.
+/// In a queue case all line widths from the second on are the same, closed widths never fall, and
+/// neither a line width nor the sum of all widths passes 2^62. Each penalty may be 2^62, and none may
+/// be more.
 #[test]
-fn queue_cases_are_told_by_their_penalties(rt: HostRuntime) {
+fn queue_cases_are_told_by_their_numbers(rt: HostRuntime) {
+    for &(blocks, line_widths, expected) in CASES_BY_WIDTHS {
+        let is_case = plain_is_queue_case(blocks, line_widths, &Penalties::new());
+        assert_row(&rt, (blocks, line_widths), is_case == expected);
+    }
     for &(numbers, expected) in CASES_BY_PENALTIES {
         let is_case = plain_is_queue_case(&[Block(1, 0, 0)], &[10], &penalties_of(numbers));
         assert_row(&rt, numbers, is_case == expected);
     }
 }
 
-/// Asserts that two calls gave the same minima.
-fn assert_same<R: Copy + Debug>(
-    rt: &impl Abort,
-    row: R,
+/// Whether two calls gave the same minima.
+fn are_same(
     first: Result<Vec<Minimum>, WrapError>,
     second: Result<Vec<Minimum>, WrapError>,
-) {
-    let first = first.expect(rt, "memory");
-    let second = second.expect(rt, "memory");
-    assert!(rt; first.as_slice() == second.as_slice(), "{row:?}");
+) -> Result<bool, WrapError> {
+    let first = first?;
+    let second = second?;
+    Ok(first.as_slice() == second.as_slice())
 }
 
 /// Asserts that these are a queue case, in which the search gives the list of the table: each start
@@ -278,10 +250,22 @@ pub(super) fn assert_agreed<T: Fragment>(
 ) {
     let (table, _asked) = plain_table(rt.alloc(), fragments, line_widths, penalties);
     let (minima, _asked) = plain_queue(rt, rt.alloc(), fragments, line_widths, penalties);
-    assert_same(rt, line_widths, minima, table);
+    assert_found(rt, line_widths, are_same(minima, table));
 }
 
-/// Fragments of a small generator: each width is drawn up to its mask, and the first raised.
+/// A fragment of the state of a small generator: each width is drawn up to its mask, and the first
+/// raised.
+fn drawn_block(state: u64, masks: [usize; 3], raised: usize) -> Block {
+    let drawn = (state >> 32) as usize;
+    let [width, whitespace, penalty] = masks;
+    Block(
+        (drawn & width).saturating_add(raised),
+        (drawn >> 8) & whitespace,
+        (drawn >> 16) & penalty,
+    )
+}
+
+/// Fragments of a small generator.
 pub(super) fn drawn_blocks(
     alloc: Global,
     seed: u64,
@@ -295,13 +279,7 @@ pub(super) fn drawn_blocks(
         state = state
             .wrapping_mul(6_364_136_223_846_793_005)
             .wrapping_add(1_442_695_040_888_963_407);
-        let drawn = (state >> 32) as usize;
-        let [width, whitespace, penalty] = masks;
-        blocks.push(Block(
-            (drawn & width).saturating_add(raised),
-            (drawn >> 8) & whitespace,
-            (drawn >> 16) & penalty,
-        ))?;
+        blocks.push(drawn_block(state, masks, raised))?;
     }
     Ok(blocks)
 }
@@ -370,10 +348,10 @@ pub(super) fn searched<A: Allocator + Copy>(
 /// Nine fragments of three columns and a blank.
 const NINE: [Block; 9] = [Block(3, 1, 0); 9];
 
-/// How many minima the search finds for nine fragments.
-fn found_by_search(rt: &(impl Abort + AllocGlobal), heap: &Heap) -> Result<usize, WrapError> {
+/// Whether the search finds ten minima for nine fragments.
+fn finds_ten(rt: &(impl Abort + AllocGlobal), heap: &Heap) -> Result<bool, WrapError> {
     let (minima, _steps) = searched(rt, heap, &NINE, &[7], &Penalties::new())?;
-    Ok(minima.len())
+    Ok(minima.len() == 10)
 }
 
 /// The search is out of memory where either of its lists is refused: the one of what it finds, and
@@ -383,65 +361,66 @@ fn a_refused_search_finds_nothing_else(rt: HostRuntime) {
     let heap = Heap::new(rt.alloc(), 0);
     for allowed in 0..2 {
         heap.allow(allowed);
-        let refused = found_by_search(&rt, &heap);
-        assert!(rt; matches!(refused, Err(WrapError::Memory(_))), "{allowed}");
+        assert_out_of_memory(&rt, allowed, finds_ten(&rt, &heap));
     }
     heap.allow(2);
-    assert!(rt; matches!(found_by_search(&rt, &heap), Ok(10)));
-    assert!(rt; heap.left() == 0);
+    assert_found(&rt, "allowed", finds_ten(&rt, &heap));
+    assert_row(&rt, "left", heap.left() == 0);
 }
 
-/// The line costs that were asked for when each of the allocations was refused. The first are made
-/// before any is asked for.
-const STEPS_OF_TABLE: &[u128] = &[0, 0, 0, 0, 0, 10, 36, 45];
+/// Whether the search is asked, or the table, how many allocations are allowed, and the line costs that
+/// were asked for when the next was refused. The first are made before any is asked for.
+const STEPS_UNTIL_REFUSED: &[(bool, usize, u128)] = &[
+    (false, 0, 0),
+    (false, 1, 0),
+    (false, 2, 0),
+    (false, 3, 0),
+    (false, 4, 0),
+    (false, 5, 10),
+    (false, 6, 36),
+    (false, 7, 45),
+    (true, 0, 0),
+    (true, 1, 0),
+    (true, 2, 0),
+    (true, 3, 0),
+    (true, 4, 0),
+    (true, 5, 1),
+];
 
-const STEPS_OF_QUEUE: &[u128] = &[0, 0, 0, 0, 0, 1];
-
-/// The line costs that the table asked for until it was refused.
-fn refused_table(heap: &Heap) -> Option<u128> {
-    let (minima, asked) = plain_table(heap, &NINE, &[7, 3, 7], &Penalties::new());
+/// The line costs that the search or the table asked for until it was refused.
+fn steps_until_refused(rt: &impl Abort, heap: &Heap, by_search: bool) -> Option<u128> {
+    let (minima, asked) = if by_search {
+        plain_queue(rt, heap, &NINE, &[7], &Penalties::new())
+    } else {
+        plain_table(heap, &NINE, &[7, 3, 7], &Penalties::new())
+    };
     minima.is_err().then_some(asked)
 }
 
-/// The line costs that the search asked for until it was refused.
-fn refused_queue(rt: &impl Abort, heap: &Heap) -> Option<u128> {
-    let (minima, asked) = plain_queue(rt, heap, &NINE, &[7], &Penalties::new());
-    minima.is_err().then_some(asked)
-}
-
-/// Where memory runs out in the table, the line costs that were asked for until then have been
-/// counted.
+/// Where memory runs out, the line costs that were asked for until then have been counted.
 #[test]
-fn steps_of_the_table_are_counted_until_memory_runs_out(rt: HostRuntime) {
+fn steps_are_counted_until_memory_runs_out(rt: HostRuntime) {
     let heap = Heap::new(rt.alloc(), 0);
-    for (allowed, expected) in STEPS_OF_TABLE.iter().enumerate() {
+    for &(by_search, allowed, expected) in STEPS_UNTIL_REFUSED {
         heap.allow(allowed);
-        assert_row(&rt, allowed, refused_table(&heap) == Some(*expected));
+        let asked = steps_until_refused(&rt, &heap, by_search);
+        assert_row(&rt, (by_search, allowed), asked == Some(expected));
     }
 }
 
-/// The same in the search.
-#[test]
-fn steps_of_the_search_are_counted_until_memory_runs_out(rt: HostRuntime) {
-    let heap = Heap::new(rt.alloc(), 0);
-    for (allowed, expected) in STEPS_OF_QUEUE.iter().enumerate() {
-        heap.allow(allowed);
-        assert_row(&rt, allowed, refused_queue(&rt, &heap) == Some(*expected));
-    }
-}
-
-/// The line costs that the table asks for, on lines of 80. Asserts that it gives these minima.
-fn steps_of_table(rt: &(impl Abort + AllocGlobal), blocks: &[Block], minima: &[Minimum]) -> u128 {
-    let (table, asked) = plain_table(rt.alloc(), blocks, &[80], &Penalties::new());
-    assert_row(rt, asked, table.expect(rt, "memory").as_slice() == minima);
-    asked
-}
-
-/// The line costs that `queue_minima` asks for, on lines of 80. Asserts that it gives these minima.
-fn steps_of_queue(rt: &(impl Abort + AllocGlobal), blocks: &[Block], minima: &[Minimum]) -> u128 {
-    let (again, asked) = plain_queue(rt, rt.alloc(), blocks, &[80], &Penalties::new());
-    assert_row(rt, asked, again.expect(rt, "memory").as_slice() == minima);
-    asked
+/// The line costs that the search or the table asks for, on lines of 80, if it gives these minima.
+fn steps_for(
+    rt: &(impl Abort + AllocGlobal),
+    blocks: &[Block],
+    minima: &[Minimum],
+    by_search: bool,
+) -> Option<u128> {
+    let (found, asked) = if by_search {
+        plain_queue(rt, rt.alloc(), blocks, &[80], &Penalties::new())
+    } else {
+        plain_table(rt.alloc(), blocks, &[80], &Penalties::new())
+    };
+    (found.ok()?.as_slice() == minima).then_some(asked)
 }
 
 /// The steps of a division into lines of this width.
@@ -456,13 +435,16 @@ fn steps_of_division(rt: &(impl Abort + AllocGlobal), blocks: &[Block], line_wid
 /// 500,500. That all three calls by the search count the same shows that none searches uncounted.
 #[test]
 fn the_search_asks_for_few_line_costs(rt: HostRuntime) {
-    let blocks = vec![in rt.alloc(); Block(3, 1, 0); 1000].expect(&rt, "blocks");
+    let blocks = [Block(3, 1, 0); 1000];
     let found = searched(&rt, rt.alloc(), &blocks, &[80], &Penalties::new());
     let (minima, steps) = found.expect(&rt, "memory");
+    let by_table = steps_for(&rt, &blocks, &minima, false);
+    let by_search = steps_for(&rt, &blocks, &minima, true);
+    let by_division = steps_of_division(&rt, &blocks, 80);
     assert_row(&rt, steps, (1000..=30_000).contains(&steps));
-    assert_row(&rt, steps, steps_of_table(&rt, &blocks, &minima) == 500_500);
-    assert_row(&rt, steps, steps_of_queue(&rt, &blocks, &minima) == steps);
-    assert_row(&rt, steps, steps_of_division(&rt, &blocks, 80) == steps);
+    assert_row(&rt, by_table, by_table == Some(500_500));
+    assert_row(&rt, by_search, by_search == Some(steps));
+    assert_row(&rt, by_division, by_division == steps);
 }
 
 const STEPS: &[(&[Block], u128, u128)] = &[

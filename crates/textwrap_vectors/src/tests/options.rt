@@ -1,5 +1,5 @@
 //! Options and their builders.
-use super::plain::assert_row;
+use super::given::assert_row;
 use super::texts::{Layout, OPTIMAL_FIT, have_layout, options_of};
 use std::test::Fail;
 use textwrap::{LineEnding, Options, WordSeparator, WordSplitter, WrapAlgorithm};

@@ -1,8 +1,6 @@
 //! The pieces that words are split and broken into.
-use super::plain::{
-    assert_found, assert_gives_numbers, assert_gives_words, assert_row, plain_break,
-    plain_break_apart, plain_points, plain_split, plain_words,
-};
+use super::given::{assert_found, has_numbers, has_words};
+use super::plain::{plain_break, plain_break_apart, plain_points, plain_split, plain_words};
 use std::alloc::Global;
 use textwrap::words::Word;
 use textwrap::{WordSplitter, WrapError};
@@ -30,48 +28,67 @@ const SPLIT_POINTS: &[(&str, &[usize])] = &[
 fn a_word_is_split_after_hyphens_between_alphanumerics(rt: HostRuntime) {
     for &(word, wanted) in SPLIT_POINTS {
         let points = plain_points(rt.alloc(), &WordSplitter::HyphenSplitter, word);
-        assert_gives_numbers(&rt, word, points, wanted);
+        assert_found(&rt, word, has_numbers(points, wanted));
         let points = plain_points(rt.alloc(), &WordSplitter::NoHyphenation, word);
-        assert_gives_numbers(&rt, word, points, &[]);
+        assert_found(&rt, word, has_numbers(points, &[]));
     }
 }
 
-/// The pieces that the words of these texts are split into.
-fn split_texts<'t>(
-    alloc: Global,
-    texts: &[&'t str],
-    splitter: &WordSplitter,
-) -> Result<Vec<Word<'t>>, WrapError> {
-    let words = plain_words(alloc, texts)?;
-    plain_split(alloc, &words, splitter)
+/// Where words are cut.
+#[derive(Clone, Copy)]
+enum Cut {
+    /// At their hyphens.
+    AtHyphens,
+    /// Nowhere, by the splitter that says so.
+    Nowhere,
+    /// Where they pass this limit.
+    At(usize),
 }
 
-const SPLIT_WORDS: &[(&[&str], &[&str])] = &[
-    (&["foo-bar  "], &["foo-", "bar  "]),
+use Cut::{At, AtHyphens, Nowhere};
+
+/// Words, where they are cut, and the pieces.
+const CUT_WORDS: &[(&[&str], Cut, &[&str])] = &[
+    // A piece before a split point ends in its hyphen; the last one keeps the blanks of the word.
+    (&["foo-bar  "], AtHyphens, &["foo-", "bar  "]),
     (
         &["can-be-split", "foo(-)bar "],
+        AtHyphens,
         &["can-", "be-", "split", "foo(-)bar "],
     ),
-    (&["   "], &["   "]),
-    (&["\x1b[3-1m"], &["\x1b[3-", "1m"]),
-    (&[], &[]),
+    (&["   "], AtHyphens, &["   "]),
+    (&["\x1b[3-1m"], AtHyphens, &["\x1b[3-", "1m"]),
+    (&[], AtHyphens, &[]),
+    // Without hyphenation each word is its one piece.
+    (&["foo-bar", "   ", ""], Nowhere, &["foo-bar", "   ", ""]),
+    // The words that are wider than the limit are broken, and the others stay.
+    (&["ab ", "cdef "], At(2), &["ab ", "cd", "ef "]),
+    (&["ab ", "cdef "], At(0), &["a", "b ", "c", "d", "e", "f "]),
+    (&["ab ", "cdef "], At(1), &["a", "b ", "c", "d", "e", "f "]),
+    (&["ab ", "cdef "], At(usize::MAX - 1), &["ab ", "cdef "]),
+    (&["ab ", "cdef "], At(usize::MAX), &["ab ", "cdef "]),
+    (&["\u{301} ", "あ"], At(0), &["\u{301} ", "あ"]),
+    (&["   "], At(0), &["   "]),
+    (&[], At(0), &[]),
 ];
 
-/// A piece before a split point ends in its hyphen; the last one keeps the blanks of the word.
-#[test]
-fn words_are_split_into_their_pieces(rt: HostRuntime) {
-    for &(texts, wanted) in SPLIT_WORDS {
-        let pieces = split_texts(rt.alloc(), texts, &WordSplitter::HyphenSplitter);
-        assert_gives_words(&rt, texts, pieces, wanted);
+/// What the words of these texts are cut into.
+fn cut_texts<'t>(alloc: Global, texts: &[&'t str], cut: Cut) -> Result<Vec<Word<'t>>, WrapError> {
+    let words = plain_words(alloc, texts)?;
+    match cut {
+        AtHyphens => plain_split(alloc, &words, &WordSplitter::HyphenSplitter),
+        Nowhere => plain_split(alloc, &words, &WordSplitter::NoHyphenation),
+        At(line_width) => plain_break(alloc, &words, line_width),
     }
 }
 
-/// Without hyphenation each word is its one piece.
+/// Each word is cut by itself, and keeps its place.
 #[test]
-fn words_stay_whole_without_hyphenation(rt: HostRuntime) {
-    let texts = ["foo-bar", "   ", ""];
-    let pieces = split_texts(rt.alloc(), &texts, &WordSplitter::NoHyphenation);
-    assert_gives_words(&rt, "words", pieces, &texts);
+fn words_are_cut_into_their_pieces(rt: HostRuntime) {
+    for &(texts, cut, wanted) in CUT_WORDS {
+        let pieces = cut_texts(rt.alloc(), texts, cut);
+        assert_found(&rt, texts, has_words(pieces, wanted));
+    }
 }
 
 /// Built-in splitters are equal if they are the same.
@@ -131,7 +148,7 @@ const BROKEN_TEXTS: &[(&str, usize, &[&str])] = &[
 fn a_word_is_cut_where_it_would_pass_the_limit(rt: HostRuntime) {
     for &(text, line_width, wanted) in BROKEN_TEXTS {
         let pieces = plain_break_apart(rt.alloc(), Word::from(text), line_width);
-        assert_gives_words(&rt, text, pieces, wanted);
+        assert_found(&rt, text, has_words(pieces, wanted));
     }
 }
 
@@ -154,36 +171,6 @@ fn the_last_piece_has_the_ends_of_the_word(rt: HostRuntime) {
     assert_eq!(rt; pieces.next(), Some(last));
     assert_eq!(rt; pieces.next(), None);
     assert_eq!(rt; pieces.next(), None);
-}
-
-const BROKEN_WORDS: &[(&[&str], usize, &[&str])] = &[
-    (&["ab ", "cdef "], 2, &["ab ", "cd", "ef "]),
-    (&["ab ", "cdef "], 0, &["a", "b ", "c", "d", "e", "f "]),
-    (&["ab ", "cdef "], 1, &["a", "b ", "c", "d", "e", "f "]),
-    (&["ab ", "cdef "], usize::MAX - 1, &["ab ", "cdef "]),
-    (&["ab ", "cdef "], usize::MAX, &["ab ", "cdef "]),
-    (&["\u{301} ", "あ"], 0, &["\u{301} ", "あ"]),
-    (&["   "], 0, &["   "]),
-    (&[], 0, &[]),
-];
-
-/// What the words of these texts are broken into.
-fn break_texts<'t>(
-    alloc: Global,
-    texts: &[&'t str],
-    line_width: usize,
-) -> Result<Vec<Word<'t>>, WrapError> {
-    let words = plain_words(alloc, texts)?;
-    plain_break(alloc, &words, line_width)
-}
-
-/// The words that are wider than the limit are broken, and the others stay.
-#[test]
-fn words_that_are_too_wide_are_broken(rt: HostRuntime) {
-    for &(texts, line_width, wanted) in BROKEN_WORDS {
-        let pieces = break_texts(rt.alloc(), texts, line_width);
-        assert_gives_words(&rt, texts, pieces, wanted);
-    }
 }
 
 const WORDS_OF_ANY_WIDTH: &[(&str, usize, usize, usize)] = &[

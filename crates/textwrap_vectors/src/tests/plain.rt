@@ -1,12 +1,10 @@
-//! The calls of the library without their clauses, and the assertions that the tests share.
+//! The calls of the library without their clauses.
 //!
 //! A clause of what a function calls is read in the proof of that function, and a value that lives
-//! there has to be let go at each `?`. So each call of the library stands here once, and what a call
-//! gives is handed to an assertion as it is: the assertion expects that there was memory for it.
-use super::words::{are_offsets, are_words};
+//! there has to be let go at each `?`. So each call of the library stands here once.
+use super::given::are_offsets;
 use std::alloc::{Allocator, Global};
 use std::borrow::CowStr;
-use std::fmt::Debug;
 use std::process::Abort;
 use textwrap::fuzzing::{fill_slow_path, wrap_single_line, wrap_single_line_slow_path};
 use textwrap::minima::{Minimum, Steps, is_queue_case, queue_minima, table_minima};
@@ -18,76 +16,8 @@ use textwrap::wrap_algorithms::{
 };
 use textwrap::{
     Options, WordSeparator, WordSplitter, WrapAlgorithm, WrapError, dedent, fill, fill_inplace,
-    indent, refill, unfill, wrap, wrap_columns,
+    indent, refill, wrap, wrap_columns,
 };
-
-/// Asserts that what a row says holds.
-pub(super) fn assert_row<R: Copy + Debug>(rt: &impl Abort, row: R, holds: bool) {
-    assert!(rt; holds, "{row:?}");
-}
-
-/// Asserts that what a row says was found to hold.
-pub(super) fn assert_found<R: Copy + Debug>(
-    rt: &impl Abort,
-    row: R,
-    holds: Result<bool, WrapError>,
-) {
-    assert!(rt; holds.expect(rt, "memory"), "{row:?}");
-}
-
-/// Asserts that a call on this input gave the expected text.
-pub(super) fn assert_gives(
-    rt: &impl Abort,
-    input: &str,
-    given: Result<String, WrapError>,
-    expected: &str,
-) {
-    let given = given.expect(rt, input);
-    assert_eq!(rt; given.as_str(), expected, "{input:?}");
-}
-
-/// Asserts that a call on this input gave the words or pieces of these texts.
-pub(super) fn assert_gives_words<R: Copy + Debug>(
-    rt: &impl Abort,
-    input: R,
-    given: Result<Vec<Word<'_>>, WrapError>,
-    texts: &[&str],
-) {
-    let given = given.expect(rt, "memory");
-    assert!(rt; are_words(&given, texts), "{input:?} has {given:?}");
-}
-
-/// Asserts that a call on this input gave these numbers, such as the points of a word.
-pub(super) fn assert_gives_numbers(
-    rt: &impl Abort,
-    input: &str,
-    given: Result<Vec<usize>, WrapError>,
-    expected: &[usize],
-) {
-    let given = given.expect(rt, input);
-    assert_eq!(rt; given.as_slice(), expected, "{input:?}");
-}
-
-/// Whether the lines have so many fragments each.
-pub(super) fn have_lens<T>(lines: &[&[T]], lens: &[usize]) -> bool {
-    for (line, len) in lines.iter().zip(lens) {
-        if line.len() != *len {
-            return false;
-        }
-    }
-    lines.len() == lens.len()
-}
-
-/// Asserts that a call gave lines of so many fragments each.
-pub(super) fn assert_gives_lens<T, R: Copy + Debug>(
-    rt: &impl Abort,
-    row: R,
-    given: Result<Vec<&[T]>, WrapError>,
-    lens: &[usize],
-) {
-    let given = given.expect(rt, "memory");
-    assert!(rt; have_lens(&given, lens), "{row:?}");
-}
 
 /// The visible characters of a text.
 pub(super) fn plain_strip<A: Allocator + Copy>(
@@ -254,19 +184,6 @@ pub(super) fn plain_queue<A: Allocator + Copy, T: Fragment>(
     }
 }
 
-/// Options with this width, these indents and this algorithm, and else as by default.
-pub(super) fn plain_options<'a>(
-    width: usize,
-    initial_indent: &'a str,
-    subsequent_indent: &'a str,
-    algorithm: WrapAlgorithm,
-) -> Options<'a> {
-    Options::new(width)
-        .initial_indent(initial_indent)
-        .subsequent_indent(subsequent_indent)
-        .wrap_algorithm(algorithm)
-}
-
 /// The lines of a text.
 pub(super) fn plain_wrap<'t, A: Allocator + Copy>(
     alloc: A,
@@ -285,10 +202,9 @@ pub(super) fn plain_append<'t, A: Allocator + Copy>(
     lines: &mut Vec<CowStr<'t, A>, A>,
 ) -> Result<(), WrapError> {
     if slowly {
-        wrap_single_line_slow_path(alloc, paragraph, options, lines)
-    } else {
-        wrap_single_line(alloc, paragraph, options, lines)
+        return wrap_single_line_slow_path(alloc, paragraph, options, lines);
     }
+    wrap_single_line(alloc, paragraph, options, lines)
 }
 
 /// A text, filled.
@@ -310,11 +226,11 @@ pub(super) fn plain_fill_slowly<A: Allocator + Copy>(
 }
 
 /// A text, filled in place.
-pub(super) fn plain_fill_inplace(
-    alloc: Global,
+pub(super) fn plain_fill_inplace<A: Allocator + Copy>(
+    alloc: A,
     text: &str,
     width: usize,
-) -> Result<String, WrapError> {
+) -> Result<String<A>, WrapError> {
     let mut filled = String::from_str(alloc, text)?;
     fill_inplace(alloc, &mut filled, width)?;
     Ok(filled)
@@ -327,16 +243,6 @@ pub(super) fn plain_refill<A: Allocator + Copy>(
     options: Options<'_>,
 ) -> Result<String<A>, WrapError> {
     refill(alloc, text, options)
-}
-
-/// A text, unfilled, with the width and the first indent that were found. (The options themselves
-/// are not handed out: another crate made them.)
-pub(super) fn plain_unfill<'t, A: Allocator + Copy>(
-    alloc: A,
-    text: &'t str,
-) -> Result<(String<A>, usize, &'t str), WrapError> {
-    let (unfilled, options) = unfill(alloc, text)?;
-    Ok((unfilled, options.width, options.initial_indent))
 }
 
 /// A text, indented.
@@ -356,13 +262,14 @@ pub(super) fn plain_dedent<A: Allocator + Copy>(
     Ok(dedent(alloc, text)?)
 }
 
-/// The rows of a text in two columns, with these gaps.
+/// The rows of a text in columns with these gaps. The call wants one column at least.
 pub(super) fn plain_columns<A: Allocator + Copy>(
     alloc: A,
     text: &str,
+    columns: usize,
     options: Options<'_>,
     gaps: [&str; 3],
 ) -> Result<Vec<String<A>, A>, WrapError> {
     let [left, middle, right] = gaps;
-    wrap_columns(alloc, text, 2, options, left, middle, right)
+    wrap_columns(alloc, text, columns.max(1), options, left, middle, right)
 }

@@ -1,10 +1,10 @@
 //! Texts by `unfill` and `refill`.
-use super::plain::{assert_row, plain_fill, plain_refill};
-use super::texts::{FIRST_FIT, Layout, OPTIMAL_FIT, assert_text, is_unfilled, options_of};
+use super::given::{assert_found, is_text};
+use super::plain::{plain_fill, plain_refill};
+use super::texts::Call::{Refill, Unfill};
+use super::texts::{FIRST_FIT, Layout, OPTIMAL_FIT, assert_gives, options_of};
 use LineEnding::{CRLF, LF};
 use std::alloc::Global;
-use std::process::Abort;
-use std::test::Fail;
 use textwrap::{LineEnding, WrapError};
 
 const UNFILLED: &[(&str, &str, usize, [&str; 2], LineEnding)] = &[
@@ -34,12 +34,11 @@ const UNFILLED: &[(&str, &str, usize, [&str; 2], LineEnding)] = &[
 /// The lines lose their prefixes and are joined by blanks; the options have the widest line, the
 /// prefixes as indents, and the ending.
 #[test]
-fn texts_are_unfilled(rt: HostRuntime) -> Result<(), Fail> {
-    for &(text, unfilled, width, indents, ending) in UNFILLED {
-        let holds = is_unfilled(rt.alloc(), text, unfilled, width, indents, ending)?;
-        assert_row(&rt, text, holds);
+fn texts_are_unfilled(rt: HostRuntime) {
+    for &(text, unfilled, width, [initial, subsequent], ending) in UNFILLED {
+        let call = Unfill(width, initial, subsequent, ending);
+        assert_gives(&rt, call, text, unfilled);
     }
-    Ok(())
 }
 
 const REFILLED: &[(&str, usize, Layout<'_>, &str)] = &[
@@ -86,12 +85,10 @@ const REFILLED: &[(&str, usize, Layout<'_>, &str)] = &[
 /// A text is unfilled and filled again, with its own indents and the algorithm and the ending of the
 /// options.
 #[test]
-fn texts_are_refilled(rt: HostRuntime) -> Result<(), Fail> {
-    for (text, width, layout, expected) in REFILLED {
-        let refilled = plain_refill(rt.alloc(), text, options_of(*width, layout));
-        assert_text(&rt, text, refilled, expected)?;
+fn texts_are_refilled(rt: HostRuntime) {
+    for &(text, width, layout, expected) in REFILLED {
+        assert_gives(&rt, Refill(width, layout), text, expected);
     }
-    Ok(())
 }
 
 /// The text, filled at the first width with its words kept whole, and refilled at the second.
@@ -110,21 +107,16 @@ fn filled_twice(
     plain_refill(alloc, &filled, options_of(second, &OPTIMAL_FIT))
 }
 
-/// Asserts that the text, filled at the first width and refilled at the second, is the text filled
-/// at the second.
-fn assert_filled_once(
-    rt: &(impl Abort + AllocGlobal),
+/// Whether the text, filled at the first width and refilled at the second, is the text filled at the
+/// second.
+fn is_filled_once(
+    alloc: Global,
     text: &str,
     first: usize,
     second: usize,
-) -> Result<(), WrapError> {
-    let once = plain_fill(rt.alloc(), text, options_of(second, &OPTIMAL_FIT))?;
-    assert_text(
-        rt,
-        text,
-        filled_twice(rt.alloc(), text, first, second),
-        &once,
-    )
+) -> Result<bool, WrapError> {
+    let once = plain_fill(alloc, text, options_of(second, &OPTIMAL_FIT))?;
+    is_text(filled_twice(alloc, text, first, second), &once)
 }
 
 const PLAIN_TEXTS: &[&str] = &[
@@ -142,11 +134,11 @@ const PLAIN_TEXTS: &[&str] = &[
 
 /// Filling a plain text at one width and refilling it at another is filling it at the other.
 #[test]
-fn a_plain_text_filled_again_is_filled_once(rt: HostRuntime) -> Result<(), Fail> {
-    for text in PLAIN_TEXTS {
+fn a_plain_text_filled_again_is_filled_once(rt: HostRuntime) {
+    for &text in PLAIN_TEXTS {
         for width in 1..41 {
-            assert_filled_once(&rt, text, width, 41 - width)?;
+            let holds = is_filled_once(rt.alloc(), text, width, 41 - width);
+            assert_found(&rt, (text, width), holds);
         }
     }
-    Ok(())
 }

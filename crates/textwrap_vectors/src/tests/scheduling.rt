@@ -1,5 +1,5 @@
 //! The days that tasks are assigned to.
-use super::plain::{assert_found, assert_row};
+use super::given::{assert_found, assert_row};
 use crate::{Day, Task, assign_days};
 use fakes::heap::Heap;
 use std::alloc::{AllocError, Allocator, Global};

@@ -1,17 +1,16 @@
-//! What the tests on texts share: options that a constant can hold, and assertions on texts and lines.
-//! A value that lives over a `?` has to be let go there: so what a call gives is handed to an assertion
-//! as it is, before anyone asks whether there was memory for it.
-ghost use Rattle.std.specs.Prelude.{◌≤◌};
-
-use crate::functions::are_borrowed;
-use Kind::Borrowed;
-use std::alloc::{AllocError, Global};
+//! What the tests on texts share: options that a constant can hold, and the calls that give a text,
+//! lines or rows, each with what it takes beside its text.
+use super::given::{assert_found, has_lines, has_rows, is_text};
+use super::plain::{
+    plain_append, plain_columns, plain_dedent, plain_fill, plain_fill_inplace, plain_fill_slowly,
+    plain_indent, plain_refill, plain_strip, plain_wrap,
+};
+use std::alloc::Allocator;
 use std::borrow::CowStr;
 use std::process::Abort;
 use textwrap::wrap_algorithms::Penalties;
 use textwrap::{
     LineEnding, Options, WordSeparator, WordSplitter, WrapAlgorithm, WrapError, unfill,
-    wrap_columns,
 };
 
 /// The options of a row but for its width: built-in parts, which a constant can hold.
@@ -89,41 +88,6 @@ pub(super) fn options_of<'a>(width: usize, layout: &Layout<'a>) -> Options<'a> {
     }
 }
 
-/// A list of one line, `x`.
-pub(super) fn one_line<'t>(alloc: Global) -> Result<Vec<CowStr<'t>>, WrapError> {
-    let mut lines = Vec::new(alloc);
-    lines.push(CowStr::Borrowed("x"))?;
-    Ok(lines)
-}
-
-/// The rows of `wrap_columns`.
-pub(super) fn plain_wrap_columns(
-    alloc: Global,
-    text: &str,
-    columns: usize,
-    options: Options<'_>,
-    gaps: [&str; 3],
-) -> Result<Vec<String>, WrapError>
-    requires { 1 ≤ columns }
-{
-    let [left, middle, right] = gaps;
-    wrap_columns(alloc, text, columns, options, left, middle, right)
-}
-
-/// Whether `unfill` gives this text, and options with this width, these indents and this ending.
-/// (The options are not handed out: the merge gate refuses that of options that another crate made.)
-pub(super) fn is_unfilled(
-    alloc: Global,
-    text: &str,
-    unfilled: &str,
-    width: usize,
-    indents: [&str; 2],
-    ending: LineEnding,
-) -> Result<bool, AllocError> {
-    let (given, options) = unfill(alloc, text)?;
-    Ok(given.as_str() == unfilled && have_layout(&options, width, indents, ending))
-}
-
 /// Whether the options have this width, these indents and this ending.
 pub(super) fn have_layout(
     options: &Options<'_>,
@@ -137,59 +101,127 @@ pub(super) fn have_layout(
         && options.line_ending == ending
 }
 
-/// Asserts that a call on this input gave the expected text.
-pub(super) fn assert_text(
-    rt: &impl Abort,
-    input: &str,
-    given: Result<String, WrapError>,
-    expected: &str,
-) -> Result<(), WrapError> {
-    let given = given?;
-    assert_eq!(rt; given.as_str(), expected, "{input:?}");
-    Ok(())
-}
-
-/// Asserts that a call on this text gave these lines, each of them borrowed.
-pub(super) fn assert_borrowed(
-    rt: &impl Abort,
+/// Whether `unfill` gives this text, and options with this width, these indents and this ending.
+/// (The options are not handed out: the merge gate refuses that of options that another crate made.)
+fn is_unfilled<A: Allocator + Copy>(
+    alloc: A,
     text: &str,
-    given: Result<Vec<CowStr<'_>>, WrapError>,
-    expected: &[&str],
-) -> Result<(), WrapError> {
-    let lines = given?;
-    assert!(rt; are_borrowed(&lines, expected), "{text:?} has {lines:?}");
-    Ok(())
+    unfilled: &str,
+    width: usize,
+    indents: [&str; 2],
+    ending: LineEnding,
+) -> Result<bool, WrapError> {
+    let (given, options) = unfill(alloc, text)?;
+    Ok(given.as_str() == unfilled && have_layout(&options, width, indents, ending))
 }
 
-/// A line of the text itself, or one of its own.
-#[derive(Clone, Copy)]
-pub(super) enum Kind {
-    Borrowed,
-    Owned,
-}
-
-/// The lines of a text, in this kind each.
-pub(super) type Lines<'a> = &'a [(Kind, &'a str)];
-
-/// Whether the lines are these, each of its kind.
-fn are_lines(lines: &[CowStr<'_>], expected: Lines<'_>) -> bool {
-    for (line, (kind, expected)) in lines.iter().zip(expected) {
-        let is_borrowed = matches!(line, CowStr::Borrowed(_));
-        if is_borrowed != matches!(kind, Borrowed) || line.as_str() != *expected {
-            return false;
-        }
+/// The lines of a text, one paragraph after the other, with the shortcut for short ones or without.
+pub(super) fn appended<'t, A: Allocator + Copy>(
+    alloc: A,
+    text: &'t str,
+    options: &Options<'_>,
+    slowly: bool,
+) -> Result<Vec<CowStr<'t, A>, A>, WrapError> {
+    let mut lines = Vec::new(alloc);
+    for paragraph in text.split('\n') {
+        plain_append(alloc, paragraph, options, slowly, &mut lines)?;
     }
-    lines.len() == expected.len()
+    Ok(lines)
 }
 
-/// Asserts that a call on this text gave these lines, each of its kind.
-pub(super) fn assert_lines(
-    rt: &impl Abort,
+/// A call that gives a text, lines or rows, with what it takes beside the text.
+#[derive(Clone, Copy)]
+pub(super) enum Call<'a> {
+    /// The lines, as `given::are_lines` has them.
+    Wrap(usize, Layout<'a>),
+    /// The lines of `wrap_single_line` for one paragraph after the other.
+    Append(usize, Layout<'a>),
+    /// The lines of `wrap_single_line_slow_path`.
+    AppendSlowly(usize, Layout<'a>),
+    Fill(usize, Layout<'a>),
+    FillSlowly(usize, Layout<'a>),
+    FillInplace(usize),
+    Refill(usize, Layout<'a>),
+    /// The rows of so many columns with these gaps, each with a line feed after it.
+    Columns(usize, usize, Layout<'a>, &'a str, &'a str, &'a str),
+    /// The text, and the width, the indents and the ending of its options.
+    Unfill(usize, &'a str, &'a str, LineEnding),
+    Indent(&'a str),
+    Dedent,
+    /// The text without escape sequences.
+    Strip,
+}
+
+use Call::{
+    Append, AppendSlowly, Columns, Dedent, Fill, FillInplace, FillSlowly, Indent, Refill, Strip,
+    Unfill, Wrap,
+};
+
+/// Whether a call gives this.
+pub(super) fn gives<A: Allocator + Copy>(
+    alloc: A,
+    call: Call<'_>,
     text: &str,
-    given: Result<Vec<CowStr<'_>>, WrapError>,
-    expected: Lines<'_>,
-) -> Result<(), WrapError> {
-    let lines = given?;
-    assert!(rt; are_lines(&lines, expected), "{text:?} has {lines:?}");
-    Ok(())
+    expected: &str,
+) -> Result<bool, WrapError> {
+    match call {
+        Wrap(width, layout) => {
+            has_lines(
+                plain_wrap(alloc, text, options_of(width, &layout)),
+                expected,
+            )
+        }
+        Append(width, layout) => {
+            has_lines(
+                appended(alloc, text, &options_of(width, &layout), false),
+                expected,
+            )
+        }
+        AppendSlowly(width, layout) => {
+            has_lines(
+                appended(alloc, text, &options_of(width, &layout), true),
+                expected,
+            )
+        }
+        Fill(width, layout) => {
+            is_text(
+                plain_fill(alloc, text, options_of(width, &layout)),
+                expected,
+            )
+        }
+        FillSlowly(width, layout) => {
+            is_text(
+                plain_fill_slowly(alloc, text, options_of(width, &layout)),
+                expected,
+            )
+        }
+        FillInplace(width) => is_text(plain_fill_inplace(alloc, text, width), expected),
+        Refill(width, layout) => {
+            is_text(
+                plain_refill(alloc, text, options_of(width, &layout)),
+                expected,
+            )
+        }
+        Columns(columns, width, layout, left, middle, right) => {
+            let options = options_of(width, &layout);
+            let gaps = [left, middle, right];
+            has_rows(plain_columns(alloc, text, columns, options, gaps), expected)
+        }
+        Unfill(width, initial, subsequent, ending) => {
+            is_unfilled(alloc, text, expected, width, [initial, subsequent], ending)
+        }
+        Indent(prefix) => is_text(plain_indent(alloc, text, prefix), expected),
+        Dedent => is_text(plain_dedent(alloc, text), expected),
+        Strip => is_text(plain_strip(alloc, text), expected),
+    }
+}
+
+/// Asserts that a call gives this.
+pub(super) fn assert_gives(
+    rt: &(impl Abort + AllocGlobal),
+    call: Call<'_>,
+    text: &str,
+    expected: &str,
+) {
+    assert_found(rt, text, gives(rt.alloc(), call, text, expected));
 }

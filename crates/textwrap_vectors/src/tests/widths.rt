@@ -1,5 +1,8 @@
 //! The columns of texts, and the widths of words.
-use super::plain::{assert_gives, assert_row, plain_strip, plain_width};
+use super::given::assert_row;
+use super::plain::plain_width;
+use super::texts::Call::Strip;
+use super::texts::assert_gives;
 use textwrap::words::{Fragment, Word};
 
 const WIDTHS: &[(&str, usize)] = &[
@@ -61,7 +64,7 @@ const VISIBLE_TEXTS: &[(&str, &str)] = &[
 #[test]
 fn only_visible_characters_are_left(rt: HostRuntime) {
     for &(text, visible) in VISIBLE_TEXTS {
-        assert_gives(&rt, text, plain_strip(rt.alloc(), text), visible);
+        assert_gives(&rt, Strip, text, visible);
     }
 }
 

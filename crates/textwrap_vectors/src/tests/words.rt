@@ -1,20 +1,8 @@
 //! The words of a line.
-ghost use Rattle.std.specs.Prelude.{All, IsCharBoundary, IsTrue};
-ghost use Rattle.std.specs.List.Sorted.{IsStrictlyIncreasing};
-
-use super::plain::{assert_gives_words, plain_find_words, plain_find_words_at};
+use super::given::{assert_found, has_words};
+use super::plain::{plain_find_words, plain_find_words_at};
+use std::process::Abort;
 use textwrap::WordSeparator;
-use textwrap::words::Word;
-
-/// Whether the words are those of these texts.
-pub(super) fn are_words(words: &[Word<'_>], texts: &[&str]) -> bool {
-    for (word, text) in words.iter().zip(texts) {
-        if *word != Word::from(*text) {
-            return false;
-        }
-    }
-    words.len() == texts.len()
-}
 
 const LINES: &[(&str, &[&str])] = &[
     ("", &[]),
@@ -35,22 +23,9 @@ const LINES: &[(&str, &[&str])] = &[
 fn lines_have_their_words(rt: HostRuntime) {
     for &(line, texts) in LINES {
         let words = plain_find_words(rt.alloc(), rt.alloc(), WordSeparator::new(), line);
-        assert_gives_words(&rt, line, words, texts);
+        assert_found(&rt, line, has_words(words, texts));
     }
     assert!(rt; WordSeparator::new() == WordSeparator::AsciiSpace);
-}
-
-/// Whether the offsets increase and are places at which the text may be cut.
-pub(super) fn are_offsets(text: &str, offsets: &[usize]) -> bool
-    ensures increasing { IsTrue result → IsStrictlyIncreasing offsets.now }
-    ensures boundaries { IsTrue result → All (IsCharBoundary text.now) offsets.now }
-{
-    for i in 0..offsets.len() {
-        if !text.is_char_boundary(offsets[i]) || i > 0 && offsets[i - 1] >= offsets[i] {
-            return false;
-        }
-    }
-    true
 }
 
 const LINES_AT_OFFSETS: &[(&str, &[usize], &[&str])] = &[
@@ -98,6 +73,6 @@ const LINES_AT_OFFSETS: &[(&str, &[usize], &[&str])] = &[
 fn lines_are_cut_at_offsets_of_their_visible_text(rt: HostRuntime) {
     for &(line, offsets, texts) in LINES_AT_OFFSETS {
         let words = plain_find_words_at(&rt, rt.alloc(), line, offsets);
-        assert_gives_words(&rt, line, words, texts);
+        assert_found(&rt, line, has_words(words, texts));
     }
 }

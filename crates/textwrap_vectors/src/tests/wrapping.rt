@@ -1,10 +1,6 @@
 //! The lines of `wrap`.
-use super::plain::plain_wrap;
-use super::texts::Kind::{Borrowed, Owned};
-use super::texts::{
-    FIRST_FIT, Layout, Lines, OPTIMAL_FIT, PENALTIES, assert_borrowed, assert_lines, options_of,
-};
-use std::test::Fail;
+use super::texts::Call::Wrap;
+use super::texts::{FIRST_FIT, Layout, OPTIMAL_FIT, PENALTIES, assert_gives};
 use textwrap::LineEnding;
 use textwrap::wrap_algorithms::Penalties;
 
@@ -14,28 +10,23 @@ const LONG_LAST_LINE: Penalties = Penalties {
     ..PENALTIES
 };
 
-const WRAPPED: &[(&str, usize, Layout<'_>, &[&str])] = &[
+const WRAPPED: &[(&str, usize, Layout<'_>, &str)] = &[
     // By first fit a line takes words while they fit. Blanks at the ends of lines are left off.
     (
         "To be, or not to be: that is the question",
         10,
         FIRST_FIT,
-        &["To be, or", "not to be:", "that is", "the", "question"],
+        "To be, or|not to be:|that is|the|question|",
     ),
     (
         "To be, or not to be, that is the question.",
         10,
         FIRST_FIT,
-        &["To be, or", "not to be,", "that is", "the", "question."],
+        "To be, or|not to be,|that is|the|question.|",
     ),
-    (
-        "foo     bar     baz  ",
-        5,
-        FIRST_FIT,
-        &["foo", "bar", "baz"],
-    ),
-    ("", 10, FIRST_FIT, &[""]),
-    ("", 0, FIRST_FIT, &[""]),
+    ("foo     bar     baz  ", 5, FIRST_FIT, "foo|bar|baz|"),
+    ("", 10, FIRST_FIT, "|"),
+    ("", 0, FIRST_FIT, "|"),
     // By optimal fit the lines are those whose costs have the least sum, and among equal sums those
     // whose last lines start earliest. A paragraph with fewer bytes than the width has columns is
     // one line.
@@ -43,29 +34,25 @@ const WRAPPED: &[(&str, usize, Layout<'_>, &[&str])] = &[
         "textwrap: a small library for wrapping text.",
         18,
         OPTIMAL_FIT,
-        &["textwrap: a", "small library for", "wrapping text."],
+        "textwrap: a|small library for|wrapping text.|",
     ),
     (
         "textwrap: an efficient and powerful library for wrapping text.",
         28,
         OPTIMAL_FIT,
-        &[
-            "textwrap: an efficient",
-            "and powerful library for",
-            "wrapping text.",
-        ],
+        "textwrap: an efficient|and powerful library for|wrapping text.|",
     ),
     (
         "To be, or not to be: that is the question",
         10,
         OPTIMAL_FIT,
-        &["To be,", "or not to", "be: that", "is the", "question"],
+        "To be,|or not to|be: that|is the|question|",
     ),
     (
         "This is a demo of the short last line penalty.",
         37,
         OPTIMAL_FIT,
-        &["This is a demo of the short last", "line penalty."],
+        "This is a demo of the short last|line penalty.|",
     ),
     (
         "This is a demo of the short last line penalty.",
@@ -74,35 +61,30 @@ const WRAPPED: &[(&str, usize, Layout<'_>, &[&str])] = &[
             penalties: Some(LONG_LAST_LINE),
             ..OPTIMAL_FIT
         },
-        &["This is a demo of the short last line", "penalty."],
+        "This is a demo of the short last line|penalty.|",
     ),
-    ("", 0, OPTIMAL_FIT, &[""]),
-    ("", 10, OPTIMAL_FIT, &[""]),
-    (
-        "foo     bar     baz  ",
-        5,
-        OPTIMAL_FIT,
-        &["foo", "bar", "baz"],
-    ),
-    ("Foo   bar baz", 8, OPTIMAL_FIT, &["Foo", "bar baz"]),
-    ("  foo bar", 8, OPTIMAL_FIT, &["  foo", "bar"]),
-    ("  foo bar", 4, OPTIMAL_FIT, &["", "foo", "bar"]),
-    (" foobar baz", 6, OPTIMAL_FIT, &["", "foobar", "baz"]),
-    ("foo bar", usize::MAX, OPTIMAL_FIT, &["foo bar"]),
-    ("  \n \n  \n ", 80, OPTIMAL_FIT, &["", "", "", ""]),
+    ("", 0, OPTIMAL_FIT, "|"),
+    ("", 10, OPTIMAL_FIT, "|"),
+    ("foo     bar     baz  ", 5, OPTIMAL_FIT, "foo|bar|baz|"),
+    ("Foo   bar baz", 8, OPTIMAL_FIT, "Foo|bar baz|"),
+    ("  foo bar", 8, OPTIMAL_FIT, "  foo|bar|"),
+    ("  foo bar", 4, OPTIMAL_FIT, "|foo|bar|"),
+    (" foobar baz", 6, OPTIMAL_FIT, "|foobar|baz|"),
+    ("foo bar", usize::MAX, OPTIMAL_FIT, "foo bar|"),
+    ("  \n \n  \n ", 80, OPTIMAL_FIT, "||||"),
     // Words are split after hyphens, and broken unless they are to stay whole; no line with room
     // for a piece is wider than the width by more than the costs allow.
-    ("foo-bar", 5, OPTIMAL_FIT, &["foo-", "bar"]),
-    ("foo-bar-baz", 9, OPTIMAL_FIT, &["foo-bar-", "baz"]),
-    ("testx y", 4, OPTIMAL_FIT, &["test", "x y"]),
-    ("Ｈｅｌｌｏ", 5, OPTIMAL_FIT, &["Ｈｅ", "ｌｌ", "ｏ"]),
-    ("안녕하세요", 8, OPTIMAL_FIT, &["안녕하세", "요"]),
-    ("foobar", 0, OPTIMAL_FIT, &["f", "o", "o", "b", "a", "r"]),
+    ("foo-bar", 5, OPTIMAL_FIT, "foo-|bar|"),
+    ("foo-bar-baz", 9, OPTIMAL_FIT, "foo-bar-|baz|"),
+    ("testx y", 4, OPTIMAL_FIT, "test|x y|"),
+    ("Ｈｅｌｌｏ", 5, OPTIMAL_FIT, "Ｈｅ|ｌｌ|ｏ|"),
+    ("안녕하세요", 8, OPTIMAL_FIT, "안녕하세|요|"),
+    ("foobar", 0, OPTIMAL_FIT, "f|o|o|b|a|r|"),
     (
         "This is a little example.",
         4,
         OPTIMAL_FIT,
-        &["This", "is a", "litt", "le", "exam", "ple."],
+        "This|is a|litt|le|exam|ple.|",
     ),
     (
         "small  large   tiny",
@@ -111,7 +93,7 @@ const WRAPPED: &[(&str, usize, Layout<'_>, &[&str])] = &[
             break_words: false,
             ..OPTIMAL_FIT
         },
-        &["small", "large", "tiny"],
+        "small|large|tiny|",
     ),
     (
         "The --foo-bar flag.",
@@ -120,10 +102,10 @@ const WRAPPED: &[(&str, usize, Layout<'_>, &[&str])] = &[
             break_words: false,
             ..OPTIMAL_FIT
         },
-        &["The", "--foo-", "bar", "flag."],
+        "The|--foo-|bar|flag.|",
     ),
     // A blank cuts an escape sequence in two: what follows it is measured by itself.
-    ("\x1b[1 2ma", 2, OPTIMAL_FIT, &["\x1b[1", "2m", "a"]),
+    ("\x1b[1 2ma", 2, OPTIMAL_FIT, "\x1b[1|2m|a|"),
     // An initial indent stands before an empty line only where words are broken.
     (
         "",
@@ -133,7 +115,7 @@ const WRAPPED: &[(&str, usize, Layout<'_>, &[&str])] = &[
             break_words: false,
             ..OPTIMAL_FIT
         },
-        &[""],
+        "|",
     ),
     // Blanks are kept if that is on.
     (
@@ -143,7 +125,7 @@ const WRAPPED: &[(&str, usize, Layout<'_>, &[&str])] = &[
             preserve_trailing_space: true,
             ..OPTIMAL_FIT
         },
-        &["foo bar ", "baz"],
+        "foo bar |baz|",
     ),
     (
         "foo     bar     baz  ",
@@ -152,7 +134,7 @@ const WRAPPED: &[(&str, usize, Layout<'_>, &[&str])] = &[
             preserve_trailing_space: true,
             ..OPTIMAL_FIT
         },
-        &["foo     ", "bar     ", "baz  "],
+        "foo     |bar     |baz  |",
     ),
     (
         "foo  ",
@@ -161,7 +143,7 @@ const WRAPPED: &[(&str, usize, Layout<'_>, &[&str])] = &[
             preserve_trailing_space: true,
             ..OPTIMAL_FIT
         },
-        &["foo  "],
+        "foo  |",
     ),
     // Paragraphs end at the chosen ending alone.
     (
@@ -172,97 +154,57 @@ const WRAPPED: &[(&str, usize, Layout<'_>, &[&str])] = &[
             preserve_trailing_space: true,
             ..OPTIMAL_FIT
         },
-        &["a", "b\nc"],
+        "a|b\nc|",
     ),
 ];
 
 /// A text has the lines of its options, each a slice of the text if nothing was added to it.
 #[test]
-fn texts_are_wrapped(rt: HostRuntime) -> Result<(), Fail> {
-    for (text, width, layout, expected) in WRAPPED {
-        let lines = plain_wrap(rt.alloc(), text, options_of(*width, layout));
-        assert_borrowed(&rt, text, lines, expected)?;
+fn texts_are_wrapped(rt: HostRuntime) {
+    for &(text, width, layout, expected) in WRAPPED {
+        assert_gives(&rt, Wrap(width, layout), text, expected);
     }
-    Ok(())
 }
 
-const INDENTED: &[(&str, usize, &str, &str, Lines<'_>)] = &[
-    ("", 10, "!!!", "", &[(Owned, "!!!")]),
-    (
-        "foobarbaz",
-        5,
-        "-->",
-        "",
-        &[(Owned, "-->"), (Borrowed, "fooba"), (Borrowed, "rbaz")],
-    ),
-    (
-        "foobarbaz",
-        5,
-        "* ",
-        "  ",
-        &[(Owned, "* foo"), (Owned, "  bar"), (Owned, "  baz")],
-    ),
+const INDENTED: &[(&str, usize, &str, &str, &str)] = &[
+    ("", 10, "!!!", "", "+!!!|"),
+    ("foobarbaz", 5, "-->", "", "+-->|fooba|rbaz|"),
+    ("foobarbaz", 5, "* ", "  ", "+* foo|+  bar|+  baz|"),
     (
         "This is a little example.",
         12,
         "* ",
         "  ",
-        &[
-            (Owned, "* This is"),
-            (Owned, "  a little"),
-            (Owned, "  example."),
-        ],
+        "+* This is|+  a little|+  example.|",
     ),
     (
         "x x x x x x x x x x x x x",
         10,
         "👉👉",
         "",
-        &[
-            (Owned, "👉👉x x x"),
-            (Borrowed, "x x x x x"),
-            (Borrowed, "x x x x x"),
-        ],
+        "+👉👉x x x|x x x x x|x x x x x|",
     ),
     (
         "Wrapping text all day long.",
         15,
         "",
         "....",
-        &[
-            (Borrowed, "Wrapping text"),
-            (Owned, "....all day"),
-            (Owned, "....long."),
-        ],
+        "Wrapping text|+....all day|+....long.|",
     ),
-    (
-        "a\n\nb",
-        10,
-        "",
-        "> ",
-        &[(Borrowed, "a"), (Borrowed, ""), (Owned, "> b")],
-    ),
-    (
-        "aaa\nbbb ccc",
-        7,
-        "",
-        "    ",
-        &[(Borrowed, "aaa"), (Owned, "    bbb ccc")],
-    ),
+    ("a\n\nb", 10, "", "> ", "a||+> b|"),
+    ("aaa\nbbb ccc", 7, "", "    ", "aaa|+    bbb ccc|"),
 ];
 
 /// The first line has the initial indent, and each later one with pieces the subsequent one; a line
 /// to which nothing was added is borrowed.
 #[test]
-fn lines_are_indented(rt: HostRuntime) -> Result<(), Fail> {
+fn lines_are_indented(rt: HostRuntime) {
     for &(text, width, initial_indent, subsequent_indent, expected) in INDENTED {
         let layout = Layout {
             initial_indent,
             subsequent_indent,
             ..OPTIMAL_FIT
         };
-        let lines = plain_wrap(rt.alloc(), text, options_of(width, &layout));
-        assert_lines(&rt, text, lines, expected)?;
+        assert_gives(&rt, Wrap(width, layout), text, expected);
     }
-    Ok(())
 }

@@ -180,27 +180,13 @@ type StreamRun = (
     &'static [u8],
 );
 
-/// Asserts what these runs return and write.
-fn assert_runs(rt: &(impl Abort + AllocGlobal), runs: &[StreamRun]) -> Result<(), AllocError> {
-    for &(rule, input, reader, writer, done, output) in runs {
-        let given = Given {
-            input,
-            reader,
-            writer,
-            width: 10,
-            algorithm: FIRST,
-        };
-        assert_run(rt, rule, given, done, output)?;
-    }
-    Ok(())
-}
-
 /// A text, and the lines of it at 10 columns by first fit.
 const HAMLET: &[u8] = b"To be, or not to be: that is the question";
 
 const FILLED: &[u8] = b"To be, or\nnot to be:\nthat is\nthe\nquestion";
 
-const PIECES: &[StreamRun] = &[
+const RUNS: &[StreamRun] = &[
+    // A text may come in pieces, which may cut a character, and be taken in pieces.
     (
         "byte by byte",
         HAMLET,
@@ -225,15 +211,7 @@ const PIECES: &[StreamRun] = &[
         Ok(()),
         &[0xE3, 0x81, 0x82],
     ),
-];
-
-/// A text may come in pieces, which may cut a character, and be taken in pieces.
-#[test]
-fn a_text_comes_and_goes_in_pieces(rt: HostRuntime) -> Result<(), AllocError> {
-    assert_runs(&rt, PIECES)
-}
-
-const BAD_INPUTS: &[StreamRun] = &[
+    // What cannot be read whole, or is no text, leaves the writer untouched.
     (
         "a read that fails after some bytes",
         b"To be",
@@ -290,15 +268,8 @@ const BAD_INPUTS: &[StreamRun] = &[
         Err(RunError::NotUtf8),
         b"",
     ),
-];
-
-/// What cannot be read whole, or is no text, leaves the writer untouched.
-#[test]
-fn a_bad_input_writes_nothing(rt: HostRuntime) -> Result<(), AllocError> {
-    assert_runs(&rt, BAD_INPUTS)
-}
-
-const FAULTY_WRITERS: &[StreamRun] = &[
+    // A write that fails or takes nothing ends the run, with what was written before it, and so does a
+    // flush that fails.
     (
         "a first write that takes nothing",
         HAMLET,
@@ -368,11 +339,20 @@ const FAULTY_WRITERS: &[StreamRun] = &[
     ),
 ];
 
-/// A write that fails or takes nothing ends the run, with what was written before it, and so does
-/// a flush that fails.
+/// A run ends at the first read, write or flush that fails, and returns that.
 #[test]
-fn a_write_or_flush_that_fails_leaves_a_prefix(rt: HostRuntime) -> Result<(), AllocError> {
-    assert_runs(&rt, FAULTY_WRITERS)
+fn a_run_ends_where_its_streams_fail(rt: HostRuntime) -> Result<(), AllocError> {
+    for &(rule, input, reader, writer, done, output) in RUNS {
+        let given = Given {
+            input,
+            reader,
+            writer,
+            width: 10,
+            algorithm: FIRST,
+        };
+        assert_run(&rt, rule, given, done, output)?;
+    }
+    Ok(())
 }
 
 /// Runs over the heap, and asserts what the run returns and writes.

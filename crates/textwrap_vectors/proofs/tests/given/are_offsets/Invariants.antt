@@ -1,6 +1,6 @@
 use Rattle.std.proofs.Common.{ℕ, ◌+◌, ◌<◌, get_or}
 use Rattle.std.specs.Prelude.{IsCharBoundary}
-use Rattle.textwrap_vectors.proofs.tests.words.are_offsets.Given as goal
+use Rattle.textwrap_vectors.proofs.tests.given.are_offsets.Given as goal
 
 -- what the offsets before this one keep to
 abbrev pub invariant-loop-i : goal.invariant-loop-i

@@ -342,6 +342,11 @@ pub(super) fn assert_told(rt: &impl Abort, row: usize, told: (u32, usize), expec
     assert_eq!(rt; told, expected, "row {row}");
 }
 
+/// Asserts that a number is the one of a row.
+pub(super) fn assert_number(rt: &impl Abort, row: usize, number: usize, expected: usize) {
+    assert_eq!(rt; number, expected, "row {row}");
+}
+
 /// Asserts that the room holds this after the call of a row.
 pub(super) fn assert_room(rt: &impl Abort, row: usize, room: &[u8], expected: &[u8]) {
     assert_eq!(rt; room, expected, "row {row}");

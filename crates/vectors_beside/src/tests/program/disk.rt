@@ -1,5 +1,6 @@
 //! Files of the file system, in a folder of their own.
-use super::plain::{SOUND, WRITTEN_AT_ONCE, assert_number, strings};
+use super::folder::WRITTEN_AT_ONCE;
+use super::plain::{SOUND, assert_number, strings};
 use fakes::streams::{Sink, SinkFault};
 use reflow_program::disk::Disk;
 use reflow_program::files::Files;

@@ -1,6 +1,6 @@
 //! Where one allocation is refused, at each of them in turn.
-use super::folder::{FileFault, Folder, Given};
-use super::plain::{READ_AT_ONCE, WRITTEN_AT_ONCE, assert_bytes, assert_number};
+use super::folder::{FileFault, Folder, Given, READ_AT_ONCE, WRITTEN_AT_ONCE};
+use super::plain::{assert_bytes, assert_number};
 use fakes::heap::Heap;
 use fakes::streams::{Feed, FeedFault, Sink, SinkFault};
 use reflow_program::inputs::{check_input, print_input, replace_file};

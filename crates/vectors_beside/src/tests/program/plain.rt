@@ -1,16 +1,10 @@
 //! What the tests share: a run without its clauses, since each clause costs at each call, and
 //! assertions on what it leaves.
-use super::folder::{Folder, Given};
+use super::folder::{Folder, Given, READ_AT_ONCE, WRITTEN_AT_ONCE};
 use fakes::streams::{Feed, FeedFault, Sink, SinkFault};
 use reflow_program::program::{Ending, execute};
 use std::alloc::{AllocError, Global};
 use std::process::Abort;
-
-/// How many bytes the readers give at a time.
-pub const READ_AT_ONCE: usize = 3;
-
-/// How many bytes the writers take at a time.
-pub const WRITTEN_AT_ONCE: usize = 5;
 
 /// What goes wrong with the standard input, the output and the messages.
 pub type Faults = (FeedFault, SinkFault, SinkFault);
@@ -92,6 +86,18 @@ pub fn assert_ending(rt: &impl Abort, rule: &str, ending: Ending, status: u8, sa
     assert!(rt; ending.said == said, "{rule}");
 }
 
+/// Asserts what a run wrote into its output and into its messages.
+pub fn assert_left(rt: &impl Abort, rule: &str, left: &Left, (output, messages): (&[u8], &[u8])) {
+    assert_bytes(rt, rule, &left.output.taken, output);
+    assert_bytes(rt, rule, &left.messages.taken, messages);
+}
+
+/// Asserts that a run read no input, and how it ended. Each message was written whole.
+pub fn assert_unread(rt: &impl Abort, rule: &str, left: &Left, status: u8) {
+    assert_number(rt, rule, left.reader.reads, 0);
+    assert_ending(rt, rule, left.ending, status, true);
+}
+
 /// Asserts that a run reflows the standard input to this output, without a message.
 pub fn assert_reflowed(
     rt: &(impl Abort + AllocGlobal),
@@ -99,16 +105,14 @@ pub fn assert_reflowed(
     words: &[&str],
     input: &str,
     output: &str,
-) -> Result<(), AllocError> {
+) {
     let start = Start {
         words,
         input: input.as_bytes(),
         files: &[],
         faults: SOUND,
     };
-    let left = run(rt.alloc(), start)?;
-    assert_bytes(rt, rule, &left.output.taken, output.as_bytes());
-    assert_bytes(rt, rule, &left.messages.taken, b"");
+    let left = run(rt.alloc(), start).expect(rt, rule);
+    assert_left(rt, rule, &left, (output.as_bytes(), b""));
     assert_ending(rt, rule, left.ending, 0, true);
-    Ok(())
 }

@@ -1,10 +1,6 @@
 //! What the words after the program's name mean, seen by what is done with the standard input.
-use super::plain::{
-    Left, SOUND, Start, assert_bytes, assert_ending, assert_number, assert_reflowed, assert_spans,
-    run,
-};
+use super::plain::{SOUND, Start, assert_bytes, assert_reflowed, assert_spans, assert_unread, run};
 use fakes::streams::{FeedFault, SinkFault};
-use std::alloc::AllocError;
 use std::io::ErrorKind;
 use std::process::Abort;
 
@@ -165,11 +161,10 @@ const READ_AND_WRITTEN: &[(&str, &[&str], &str, &str)] = &[
 ];
 
 #[test]
-fn options_lay_out_the_standard_input(rt: HostRuntime) -> Result<(), AllocError> {
+fn options_lay_out_the_standard_input(rt: HostRuntime) {
     for &(rule, words, input, output) in READ_AND_WRITTEN {
-        assert_reflowed(&rt, rule, words, input, output)?;
+        assert_reflowed(&rt, rule, words, input, output);
     }
-    Ok(())
 }
 
 const WIDTH: &str = "reflow: the width is not a number of 64 bits\n";
@@ -230,14 +225,8 @@ const REFUSED: &[Refused] = &[
     ),
 ];
 
-/// Asserts that a run read no input, and how it ended. Each message was written whole.
-fn assert_unread(rt: &impl Abort, rule: &str, left: &Left, status: u8) {
-    assert_number(rt, rule, left.reader.reads, 0);
-    assert_ending(rt, rule, left.ending, status, true);
-}
-
 /// Asserts that words are no request, and how the message begins and ends.
-fn assert_refused(rt: &(impl Abort + AllocGlobal), row: &Refused) -> Result<(), AllocError> {
+fn assert_refused(rt: &(impl Abort + AllocGlobal), row: &Refused) {
     let &(rule, words, first, last) = row;
     let start = Start {
         words,
@@ -245,38 +234,50 @@ fn assert_refused(rt: &(impl Abort + AllocGlobal), row: &Refused) -> Result<(), 
         files: &[],
         faults: SOUND,
     };
-    let left = run(rt.alloc(), start)?;
+    let left = run(rt.alloc(), start).expect(rt, rule);
     assert_unread(rt, rule, &left, 2);
     assert_spans(rt, rule, &left.messages.taken, first, last);
     assert_bytes(rt, rule, &left.output.taken, b"");
-    Ok(())
 }
 
 #[test]
-fn other_words_are_no_request(rt: HostRuntime) -> Result<(), AllocError> {
+fn other_words_are_no_request(rt: HostRuntime) {
     for row in REFUSED {
-        assert_refused(&rt, row)?;
+        assert_refused(&rt, row);
     }
-    Ok(())
 }
 
-/// Words that ask for help or the version, and how the answer begins and ends.
-type Shown = (&'static [&'static str], &'static str, &'static str);
+/// The help.
+const HELP: &str = "\
+Fills the paragraphs of a text, each under its own prefix.
 
-const SHOWN: &[Shown] = &[
-    (
-        &["--help"],
-        "Fills the paragraphs of a text, each under its own prefix.\n\n\
-Usage: reflow [OPTIONS] [FILE]...\n",
-        "  -h, --help           Print help\n  -V, --version        Print version\n",
-    ),
-    (&["-w", "x", "-h"], "Fills ", "Print version\n"),
-    (
-        &["--check", "a", "--version"],
-        "reflow 2.0.0\n",
-        "reflow 2.0.0\n",
-    ),
-    (&["-V"], "reflow 2.0.0\n", "reflow 2.0.0\n"),
+Usage: reflow [OPTIONS] [FILE]...
+
+Arguments:
+  [FILE]...  Files; the standard input if there are none
+
+Options:
+  -w, --width <N>      Columns of a line [default: 80]
+      --first-fit      Fill each line with as many words as fit
+      --least-cost     Choose the least ragged lines (default)
+      --justify        Widen the gaps of lines to the width
+      --crlf           End lines with CR LF
+      --prefix <TEXT>  Fill only paragraphs whose prefix begins with TEXT
+      --keep-code      Leave fenced and indented code as it is
+      --check          Print the names of files that would change
+      --in-place       Replace each file, by way of a new file FILE.reflow
+  -h, --help           Print help
+  -V, --version        Print version
+";
+
+const VERSION: &str = "reflow 2.0.0\n";
+
+/// Words that ask for help or the version, and the answer.
+const SHOWN: &[(&[&str], &str)] = &[
+    (&["--help"], HELP),
+    (&["-w", "x", "-h"], HELP),
+    (&["--check", "a", "--version"], VERSION),
+    (&["-V"], VERSION),
 ];
 
 /// What goes wrong with the output, and the message and the status then.
@@ -290,35 +291,32 @@ const SHOWING_FAULTS: &[(SinkFault, &[u8], u8)] = &[
     (SinkFault::FlushFails, b"reflow: cannot write\n", 2),
 ];
 
-/// Asserts how the answer begins and ends, and what is said where it cannot be written.
+/// Asserts what the answer is, and what is said where it cannot be written.
 fn assert_shown(
     rt: &(impl Abort + AllocGlobal),
-    row: &Shown,
+    (words, answer): (&[&str], &str),
     &(fault, message, status): &(SinkFault, &[u8], u8),
-) -> Result<(), AllocError> {
-    let &(words, first, last) = row;
+) {
     let start = Start {
         words,
         input: b"one two",
         files: &[],
         faults: (FeedFault::Nothing, fault, SinkFault::Nothing),
     };
-    let left = run(rt.alloc(), start)?;
-    assert_unread(rt, first, &left, status);
-    assert_bytes(rt, first, &left.messages.taken, message);
+    let left = run(rt.alloc(), start).expect(rt, answer);
+    assert_unread(rt, answer, &left, status);
+    assert_bytes(rt, answer, &left.messages.taken, message);
     if status == 0 {
-        assert_spans(rt, first, &left.output.taken, first, last);
+        assert_bytes(rt, answer, &left.output.taken, answer.as_bytes());
     }
-    Ok(())
 }
 
 /// The answer goes to the output, and if that fails, a message says so.
 #[test]
-fn help_and_version_are_shown(rt: HostRuntime) -> Result<(), AllocError> {
-    for row in SHOWN {
+fn help_and_version_are_shown(rt: HostRuntime) {
+    for &shown in SHOWN {
         for faulty in SHOWING_FAULTS {
-            assert_shown(&rt, row, faulty)?;
+            assert_shown(&rt, shown, faulty);
         }
     }
-    Ok(())
 }

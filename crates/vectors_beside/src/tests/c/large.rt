@@ -111,17 +111,6 @@ const TEXTS: &[TextRow] = &[
         LINES,
         HALF * 12 + 7,
     ),
-    // A prefix and a placeholder of 1,000 bytes. Ten columns are left for words.
-    (TextCall::Indent(&[b'>'; 1000]), LINE, 1_000, 1_012 * 1_000),
-    (
-        TextCall::Shorten {
-            width: 1_010,
-            placeholder: &[b'+'; 1000],
-        },
-        "foo bar ",
-        1_000,
-        7 + 1_000,
-    ),
     // Blanks beside no text, and nine gaps of 5,000.
     (
         TextCall::Align {
@@ -194,6 +183,17 @@ fn told_of_text(alloc: Global, (call, part, times, _): TextRow) -> Result<Told, 
     write_text_twice(alloc, call, text.as_bytes())
 }
 
+/// What the calls tell with a prefix and with a placeholder of 1,000 bytes, which leaves ten columns.
+fn told_of_long(alloc: Global) -> Result<[Told; 2], AllocError> {
+    let long = "+".repeat(alloc, 1_000)?;
+    let text = LINE.repeat(alloc, 1_000)?;
+    let (placeholder, text) = (long.as_bytes(), text.as_bytes());
+    let indented = write_text_twice(alloc, TextCall::Indent(placeholder), text)?;
+    let width = 1_010;
+    let shortened = write_text_twice(alloc, TextCall::Shorten { width, placeholder }, text)?;
+    Ok([indented, shortened])
+}
+
 /// The same of lines and rows.
 fn told_of_lines(
     alloc: Global,
@@ -209,6 +209,9 @@ fn large_texts_are_written(rt: HostRuntime) {
         let told = told_of_text(rt.alloc(), texts).expect(&rt, "memory");
         assert_told_twice(&rt, row, told, texts.3);
     }
+    let [indented, shortened] = told_of_long(rt.alloc()).expect(&rt, "memory");
+    assert_told_twice(&rt, TEXTS.len(), indented, 1_000 * (1_000 + 12));
+    assert_told_twice(&rt, TEXTS.len() + 1, shortened, 7 + 1_000);
 }
 
 #[test]

@@ -82,23 +82,27 @@ const COLUMNS: &[TextwrapColumn<'_>] = &[
     },
 ];
 
-/// 200 columns.
-const MANY_COLUMNS: &[TextwrapColumn<'_>] = &[LEFT; 200];
-
-/// So many lines in these columns, with a bar beside each, in so many rows.
-fn table(
-    alloc: Global,
-    cells: usize,
-    columns: &'static [TextwrapColumn<'static>],
-    rows: usize,
-) -> Result<Told, AllocError> {
-    let cells = vec![in alloc; TEXT; cells]?;
+/// The lines in two columns, with a bar beside each.
+fn table(alloc: Global) -> Result<Told, AllocError> {
+    let cells = vec![in alloc; TEXT; LINES]?;
     let call = LinesCall::Table {
         cells: &cells,
-        columns,
+        columns: COLUMNS,
         gaps: BARS,
     };
-    write_lines_twice(alloc, call, b"", rows)
+    write_lines_twice(alloc, call, b"", HALF)
+}
+
+/// Two rows of 200 columns, with a bar beside each.
+fn wide_table(alloc: Global) -> Result<Told, AllocError> {
+    let cells = vec![in alloc; TEXT; 400]?;
+    let columns = vec![in alloc; LEFT; 200]?;
+    let call = LinesCall::Table {
+        cells: &cells,
+        columns: &columns,
+        gaps: BARS,
+    };
+    write_lines_twice(alloc, call, b"", 2)
 }
 
 #[test]
@@ -107,9 +111,9 @@ fn a_large_list_is_shortened_carried_and_laid_out(rt: HostRuntime) {
     assert_told_twice(&rt, 0, told, 11 * (LINES - 2) + 10);
     let told = carried(rt.alloc()).expect(&rt, "lines");
     assert_told_twice(&rt, 1, told, 21 * HALF);
-    let told = table(rt.alloc(), LINES, COLUMNS, HALF).expect(&rt, "cells");
+    let told = table(rt.alloc()).expect(&rt, "cells");
     assert_told_twice(&rt, 2, told, 25 * HALF);
-    let told = table(rt.alloc(), 400, MANY_COLUMNS, 2).expect(&rt, "cells");
+    let told = wide_table(rt.alloc()).expect(&rt, "cells");
     assert_told_twice(&rt, 3, told, 2 * (200 * 11 + 201));
 }
 

@@ -221,7 +221,7 @@ fn assert_fault_run(rt: &(impl Abort + AllocGlobal), row: &FaultRun) {
         files: FILES,
         faults,
     };
-    let left = run(rt.alloc(), start).expect(rt, rule);
+    let left = run(rt, rule, start);
     assert_left(rt, rule, &left, (output.as_bytes(), messages.as_bytes()));
     let said = matches!(faults.2, SinkFault::Nothing);
     assert_ending(rt, rule, left.ending, status, said);

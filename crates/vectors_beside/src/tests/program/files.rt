@@ -374,7 +374,7 @@ fn assert_file_run(rt: &(impl Abort + AllocGlobal), row: &FileRun) {
         files: row.files,
         faults: SOUND,
     };
-    let left = run(rt.alloc(), start).expect(rt, row.rule);
+    let left = run(rt, row.rule, start);
     assert_left(
         rt,
         row.rule,

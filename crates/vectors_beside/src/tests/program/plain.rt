@@ -40,13 +40,15 @@ pub fn strings(alloc: Global, words: &[&str]) -> Result<Vec<String>, AllocError>
     Ok(strings)
 }
 
-/// Runs the program.
-pub fn run(alloc: Global, start: Start<'_>) -> Result<Left, AllocError> {
-    let words = strings(alloc, start.words)?;
-    let mut folder = Folder::new(alloc, start.files)?;
-    let mut reader = Feed::new(alloc, start.input, READ_AT_ONCE, start.faults.0)?;
-    let mut output = Sink::new(alloc, WRITTEN_AT_ONCE, start.faults.1);
-    let mut messages = Sink::new(alloc, WRITTEN_AT_ONCE, start.faults.2);
+/// Runs the program. What it is given has to have memory.
+pub fn run(rt: &(impl Abort + AllocGlobal), rule: &str, start: Start<'_>) -> Left {
+    let alloc = rt.alloc();
+    let (of_input, of_output, of_messages) = start.faults;
+    let words = strings(alloc, start.words).expect(rt, rule);
+    let mut folder = Folder::new(alloc, start.files).expect(rt, rule);
+    let mut reader = Feed::new(alloc, start.input, READ_AT_ONCE, of_input).expect(rt, rule);
+    let mut output = Sink::new(alloc, WRITTEN_AT_ONCE, of_output);
+    let mut messages = Sink::new(alloc, WRITTEN_AT_ONCE, of_messages);
     let ending = execute(
         alloc,
         &words,
@@ -55,13 +57,13 @@ pub fn run(alloc: Global, start: Start<'_>) -> Result<Left, AllocError> {
         &mut output,
         &mut messages,
     );
-    Ok(Left {
+    Left {
         ending,
         reader,
         output,
         messages,
         folder,
-    })
+    }
 }
 
 /// Asserts that the bytes are these.
@@ -112,7 +114,7 @@ pub fn assert_reflowed(
         files: &[],
         faults: SOUND,
     };
-    let left = run(rt.alloc(), start).expect(rt, rule);
+    let left = run(rt, rule, start);
     assert_left(rt, rule, &left, (output.as_bytes(), b""));
     assert_ending(rt, rule, left.ending, 0, true);
 }

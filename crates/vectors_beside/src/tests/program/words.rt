@@ -234,7 +234,7 @@ fn assert_refused(rt: &(impl Abort + AllocGlobal), row: &Refused) {
         files: &[],
         faults: SOUND,
     };
-    let left = run(rt.alloc(), start).expect(rt, rule);
+    let left = run(rt, rule, start);
     assert_unread(rt, rule, &left, 2);
     assert_spans(rt, rule, &left.messages.taken, first, last);
     assert_bytes(rt, rule, &left.output.taken, b"");
@@ -303,7 +303,7 @@ fn assert_shown(
         files: &[],
         faults: (FeedFault::Nothing, fault, SinkFault::Nothing),
     };
-    let left = run(rt.alloc(), start).expect(rt, answer);
+    let left = run(rt, answer, start);
     assert_unread(rt, answer, &left, status);
     assert_bytes(rt, answer, &left.messages.taken, message);
     if status == 0 {

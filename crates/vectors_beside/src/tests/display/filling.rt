@@ -111,9 +111,15 @@ fn the_default_is_the_least_cost(rt: HostRuntime) {
     assert_gives(&rt, "by default", filled, "one    two\nthree four");
 }
 
-/// Asserts what becomes of a text where a function of the caller ends the lines.
+/// Asserts what becomes of a text where a function of the caller ends the lines. The options are made
+/// here, by their own methods: a function that is handed another is not covered by the borrow checker
+/// if it calls a third that gives options with it.
 fn assert_ended(rt: &(impl Abort + AllocGlobal), ends: LineEnds, text: &str, wanted: &str) {
-    let options = plain_options(8, "> ", "  ", WrapAlgorithm::Custom(ends)).break_words(false);
+    let options = Options::new(8)
+        .initial_indent("> ")
+        .subsequent_indent("  ")
+        .break_words(false)
+        .wrap_algorithm(WrapAlgorithm::Custom(ends));
     assert_gives(
         rt,
         text,
@@ -164,10 +170,10 @@ fn long_texts_are_filled(rt: HostRuntime) {
 /// A line that fits no memory is refused at once, and not once it is half written.
 #[test]
 fn widths_past_any_memory_are_refused(rt: HostRuntime) {
-    let ends = LineEnds::new(rt.alloc(), end_all);
-    let options = plain_options(usize::MAX, "> ", "", WrapAlgorithm::Custom(ends)).break_words(
-        false,
-    );
+    let options = Options::new(usize::MAX)
+        .initial_indent("> ")
+        .break_words(false)
+        .wrap_algorithm(WrapAlgorithm::Custom(LineEnds::new(rt.alloc(), end_all)));
     let refused = plain_fill_justified(rt.alloc(), "a b c d e f", options);
     let is_told = matches!(refused, Err(WrapError::Memory(_)));
     assert_holds(&rt, "out of memory", is_told);

@@ -1,7 +1,6 @@
 //! Words that are hyphenated by a dictionary.
 use super::super::plain::assert_holds;
 use std::alloc::{AllocError, Global};
-use std::process::Abort;
 use textwrap_lines::placed::Place;
 use textwrap_uses::hyphens::{Entry, HyphenError, hyphenated_lines};
 

@@ -3,7 +3,6 @@
 //! the assertion expects that there was memory for it.
 use std::alloc::{AllocError, Allocator, Global};
 use std::borrow::CowStr;
-use std::fmt::Debug;
 use std::process::Abort;
 use textwrap::{Options, WrapAlgorithm, WrapError, wrap};
 use textwrap_display::{carry_styles, fill_justified, shorten_lines};
@@ -75,14 +74,11 @@ pub fn assert_text(rt: &impl Abort, rule: &str, text: &str, wanted: &str) {
 }
 
 /// Asserts that a call gave this text.
-pub fn assert_gives<E: Debug + Drop>(
-    rt: &impl Abort,
-    rule: &str,
-    given: Result<String, E>,
-    wanted: &str,
-) {
-    let given = given.expect(rt, rule);
-    assert_text(rt, rule, &given, wanted);
+pub fn assert_gives<E: Drop>(rt: &impl Abort, rule: &str, given: Result<String, E>, wanted: &str) {
+    match given {
+        Ok(given) => assert_text(rt, rule, &given, wanted),
+        Err(_) => assert_holds(rt, rule, false),
+    }
 }
 
 /// Asserts that a call gave these texts.
@@ -99,12 +95,9 @@ pub fn assert_gives_texts(
 /// Asserts that a line became this text: a line that changed is one of its own, and a line that
 /// stays is not copied.
 pub fn assert_line(rt: &impl Abort, rule: &str, line: &str, found: &CowStr<'_>, wanted: &str) {
-    let is_kept = line == wanted;
     assert_text(rt, rule, found.as_str(), wanted);
-    assert!(rt;
-        matches!(found, CowStr::Borrowed(_)) == is_kept,
-        "{rule}: {line:?} is copied or not"
-    );
+    let is_kept = matches!(found, CowStr::Borrowed(_));
+    assert_holds(rt, rule, is_kept == (line == wanted));
 }
 
 /// Asserts the same of each of some lines, and that there are no others.
@@ -116,8 +109,10 @@ pub fn assert_lines(
     wanted: &[&str],
 ) {
     assert_count(rt, rule, found.len(), wanted.len());
-    for ((found, line), wanted) in found.iter().zip(lines).zip(wanted) {
-        assert_line(rt, rule, line.as_str(), found, wanted);
+    for (i, found) in found.iter().enumerate() {
+        if let (Some(line), Some(wanted)) = (lines.get(i), wanted.get(i)) {
+            assert_line(rt, rule, line.as_str(), found, wanted);
+        }
     }
 }
 

@@ -120,10 +120,8 @@ fn a_large_list_is_shortened_carried_and_laid_out(rt: HostRuntime) {
 /// The first so many multiples of a number.
 fn multiples(alloc: Global, most: usize, step: usize) -> Result<Vec<usize>, AllocError> {
     let mut numbers = Vec::new(alloc);
-    let mut number: usize = 0;
-    for _ in 0..most {
-        number = number.saturating_add(step);
-        numbers.push(number)?;
+    for before in 0..most {
+        numbers.push(step.saturating_mul(before + 1))?;
     }
     Ok(numbers)
 }

@@ -73,7 +73,7 @@ pub fn assert_bytes(rt: &impl Abort, rule: &str, bytes: &[u8], expected: &[u8]) 
 
 /// Asserts that the number is this.
 pub fn assert_number(rt: &impl Abort, rule: &str, number: usize, expected: usize) {
-    assert_eq!(rt; number, expected, "{rule}");
+    assert!(rt; number == expected, "{rule}: {number}");
 }
 
 /// Asserts that the bytes begin and end with these texts.

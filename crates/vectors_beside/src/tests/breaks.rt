@@ -33,6 +33,8 @@ const BEYOND_OFFICIAL: &[(&str, Numbers, &str)] = &[
     ("LB21: × BA, which is HH, and LB31: ÷ behind it", ByPairs, "中\u{2010}÷中÷"),
     ("LB13: × IS, behind a space too, and LB25: IS × NU", ByPairs, "equals .35÷"),
     ("LB13 as well, and LB31: what begins with IS is no number", ByExpression, "equals .÷35÷"),
+    ("LB18: SP ÷, LB5: LF !, LB3: ! eot", ByPairs, "foo ÷bar\n÷baz÷"),
+    ("LB2 and LB3: no text has no breaks", ByPairs, ""),
 ];
 
 /// Each case of the official file.
@@ -104,7 +106,8 @@ fn must_end(line: &str) -> bool {
     )
 }
 
-/// Whether a text has the breaks that a case has marks for, and no others.
+/// Whether a text has the breaks that a case has marks for, and no others, however often one more is
+/// asked for.
 fn are_marked(mut breaks: LineBreaks<'_>, case: &str, len: usize) -> bool {
     let mut at: usize = 0;
     for line in case.split_inclusive('÷') {
@@ -116,7 +119,7 @@ fn are_marked(mut breaks: LineBreaks<'_>, case: &str, len: usize) -> bool {
             return false;
         }
     }
-    breaks.next().is_none()
+    breaks.next().is_none() && breaks.next().is_none()
 }
 
 /// Asserts that the text of a case has the breaks that the case has marks for.

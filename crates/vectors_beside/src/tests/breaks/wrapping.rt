@@ -4,7 +4,7 @@ use std::alloc::{AllocError, Global};
 use std::process::Abort;
 use textwrap::word_separators::LineCuts;
 use textwrap::{Options, WordSeparator, WrapAlgorithm, WrapError, fill};
-use textwrap_unicode::{LineBreak, line_breaks, unicode_cuts};
+use textwrap_unicode::unicode_cuts;
 
 /// A text filled at a width by first fit, with words cut at its breaks.
 fn filled(alloc: Global, text: &str, width: usize) -> Result<String, WrapError> {
@@ -105,19 +105,4 @@ fn a_long_line_is_cut_at_each_blank(rt: HostRuntime) {
     let cuts = plain_unicode_cuts(rt.alloc(), &line).expect(&rt, "cuts");
     assert_count(&rt, "cuts", cuts.len(), 49_999);
     assert_holds(&rt, "the last", cuts.last() == Some(&199_996));
-}
-
-/// Where a line of `foo bar\nbaz` may end, and whether it must.
-const BREAKS: &[(usize, bool)] = &[(4, false), (8, true), (11, true)];
-
-#[test]
-fn a_line_must_end_after_a_line_feed_and_at_the_end(rt: HostRuntime) {
-    let mut breaks = line_breaks("foo bar\nbaz");
-    for &(at, is_mandatory) in BREAKS {
-        let wanted = LineBreak { at, is_mandatory };
-        assert_holds(&rt, "a break", breaks.next() == Some(wanted));
-    }
-    assert_holds(&rt, "none is left", breaks.next().is_none());
-    assert_holds(&rt, "nor later", breaks.next().is_none());
-    assert_holds(&rt, "no text", line_breaks("").next().is_none());
 }

@@ -52,19 +52,14 @@ pub fn changed<'l, A: Allocator>(
 }
 
 /// Asserts what a line becomes, and that it is copied only if it changes.
-fn assert_changed(
-    rt: &(impl Abort + AllocGlobal),
-    (rule, change, line, width, wanted): LineRow,
-) -> Result<(), AllocError> {
-    let found = changed(rt.alloc(), change, line, width)?;
+fn assert_changed(rt: &(impl Abort + AllocGlobal), (rule, change, line, width, wanted): LineRow) {
+    let found = changed(rt.alloc(), change, line, width).expect(rt, rule);
     assert_line(rt, rule, line, &found, wanted);
-    Ok(())
 }
 
 /// Asserts this of each row.
-fn assert_all_changed(rt: &(impl Abort + AllocGlobal), rows: &[LineRow]) -> Result<(), AllocError> {
+fn assert_all_changed(rt: &(impl Abort + AllocGlobal), rows: &[LineRow]) {
     for &row in rows {
-        assert_changed(rt, row)?;
+        assert_changed(rt, row);
     }
-    Ok(())
 }

@@ -1,10 +1,33 @@
 //! The calls that several tests make, without their clauses, since each function that makes a call
-//! pays for its clauses; and what tests assert.
-use std::alloc::{AllocError, Allocator};
+//! pays for its clauses; and what tests assert. What a call gives is handed to an assertion as it is:
+//! the assertion expects that there was memory for it.
+use std::alloc::{AllocError, Allocator, Global};
 use std::borrow::CowStr;
 use std::process::Abort;
-use textwrap::{Options, WrapError};
+use textwrap::{Options, WrapAlgorithm, WrapError, wrap};
 use textwrap_display::{carry_styles, fill_justified, shorten_lines};
+
+/// Options with this width, these indents and this algorithm, and else as by default.
+pub fn plain_options<'a>(
+    width: usize,
+    initial_indent: &'a str,
+    subsequent_indent: &'a str,
+    algorithm: WrapAlgorithm,
+) -> Options<'a> {
+    Options::new(width)
+        .initial_indent(initial_indent)
+        .subsequent_indent(subsequent_indent)
+        .wrap_algorithm(algorithm)
+}
+
+/// `wrap`.
+pub fn plain_wrap<'t>(
+    alloc: Global,
+    text: &'t str,
+    options: Options<'_>,
+) -> Result<Vec<CowStr<'t>>, WrapError> {
+    wrap(alloc, text, options)
+}
 
 /// `carry_styles`.
 pub fn plain_carry_styles<'l, A: Allocator + Copy>(
@@ -50,15 +73,31 @@ pub fn assert_text(rt: &impl Abort, rule: &str, text: &str, wanted: &str) {
     assert!(rt; text == wanted, "{rule}: {text:?}");
 }
 
+/// Asserts that a call gave this text.
+pub fn assert_gives<E: Drop>(rt: &impl Abort, rule: &str, given: Result<String, E>, wanted: &str) {
+    match given {
+        Ok(given) => assert_text(rt, rule, &given, wanted),
+        Err(_) => assert_holds(rt, rule, false),
+    }
+}
+
+/// Asserts that a call gave these texts.
+pub fn assert_gives_texts(
+    rt: &impl Abort,
+    rule: &str,
+    given: Result<Vec<String>, WrapError>,
+    wanted: &[&str],
+) {
+    let given = given.expect(rt, rule);
+    assert!(rt; are_texts(&given, wanted), "{rule}: {given:?}");
+}
+
 /// Asserts that a line became this text: a line that changed is one of its own, and a line that
 /// stays is not copied.
 pub fn assert_line(rt: &impl Abort, rule: &str, line: &str, found: &CowStr<'_>, wanted: &str) {
-    let is_kept = line == wanted;
     assert_text(rt, rule, found.as_str(), wanted);
-    assert!(rt;
-        matches!(found, CowStr::Borrowed(_)) == is_kept,
-        "{rule}: {line:?} is copied or not"
-    );
+    let is_kept = matches!(found, CowStr::Borrowed(_));
+    assert_holds(rt, rule, is_kept == (line == wanted));
 }
 
 /// Asserts the same of each of some lines, and that there are no others.
@@ -70,13 +109,15 @@ pub fn assert_lines(
     wanted: &[&str],
 ) {
     assert_count(rt, rule, found.len(), wanted.len());
-    for ((found, line), wanted) in found.iter().zip(lines).zip(wanted) {
-        assert_line(rt, rule, line.as_str(), found, wanted);
+    for (i, found) in found.iter().enumerate() {
+        if let (Some(line), Some(wanted)) = (lines.get(i), wanted.get(i)) {
+            assert_line(rt, rule, line.as_str(), found, wanted);
+        }
     }
 }
 
 /// Whether texts of their own are these.
-pub fn are_texts(texts: &[String], wanted: &[&str]) -> bool {
+fn are_texts(texts: &[String], wanted: &[&str]) -> bool {
     for (text, wanted) in texts.iter().zip(wanted) {
         if text.as_str() != *wanted {
             return false;

@@ -1,13 +1,12 @@
 //! What becomes of texts of many paragraphs. Each row has the rule that it shows.
 mod justifying;
 
-use super::plain::{assert_count, assert_text};
+use super::plain::assert_gives;
 use LineEnding::{CRLF, LF};
 use Pass::{Justify, Reflow};
 use fakes::heap::Heap;
 use std::alloc::{AllocError, Allocator, Global};
 use std::process::Abort;
-use std::test::Fail;
 use textwrap::LineEnding;
 use textwrap_reflow::{Algorithm, ReflowOptions, justify_paragraphs, reflow};
 
@@ -20,6 +19,24 @@ pub enum Pass {
     Justify,
 }
 
+/// `reflow`.
+fn plain_reflow<A: Allocator + Copy>(
+    alloc: A,
+    text: &str,
+    options: &ReflowOptions<'_>,
+) -> Result<String<A>, AllocError> {
+    reflow(alloc, text, options)
+}
+
+/// `justify_paragraphs`.
+fn plain_justify<A: Allocator + Copy>(
+    alloc: A,
+    text: &str,
+    options: &ReflowOptions<'_>,
+) -> Result<String<A>, AllocError> {
+    justify_paragraphs(alloc, text, options)
+}
+
 /// What the pass makes of a text.
 fn passed<A: Allocator + Copy>(
     alloc: A,
@@ -28,8 +45,8 @@ fn passed<A: Allocator + Copy>(
     options: &ReflowOptions<'_>,
 ) -> Result<String<A>, AllocError> {
     match pass {
-        Reflow => reflow(alloc, text, options),
-        Justify => justify_paragraphs(alloc, text, options),
+        Reflow => plain_reflow(alloc, text, options),
+        Justify => plain_justify(alloc, text, options),
     }
 }
 
@@ -41,10 +58,8 @@ fn assert_passed(
     options: &ReflowOptions<'_>,
     text: &str,
     wanted: &str,
-) -> Result<(), AllocError> {
-    let found = passed(rt.alloc(), pass, text, options)?;
-    assert_text(rt, rule, &found, wanted);
-    Ok(())
+) {
+    assert_gives(rt, rule, passed(rt.alloc(), pass, text, options), wanted);
 }
 
 /// Asserts what becomes of a text, and that the same pass over the result changes nothing.
@@ -55,9 +70,9 @@ fn assert_stays(
     options: &ReflowOptions<'_>,
     text: &str,
     wanted: &str,
-) -> Result<(), AllocError> {
-    assert_passed(rt, rule, pass, options, text, wanted)?;
-    assert_passed(rt, rule, pass, options, wanted, wanted)
+) {
+    assert_passed(rt, rule, pass, options, text, wanted);
+    assert_passed(rt, rule, pass, options, wanted, wanted);
 }
 
 /// The rule, the columns, the text, and the text by first fit.
@@ -95,11 +110,10 @@ fn by_first_fit(width: usize) -> ReflowOptions<'static> {
 }
 
 #[test]
-fn paragraphs_are_filled(rt: HostRuntime) -> Result<(), Fail> {
+fn paragraphs_are_filled(rt: HostRuntime) {
     for &(rule, width, text, wanted) in BY_FIRST_FIT {
-        assert_stays(&rt, rule, Reflow, &by_first_fit(width), text, wanted)?;
+        assert_stays(&rt, rule, Reflow, &by_first_fit(width), text, wanted);
     }
-    Ok(())
 }
 
 /// Code, behind four blanks and between fences.
@@ -152,43 +166,58 @@ const BY_OPTIONS: &[OptionsRow] = &[
      "a   b\r\nc d\r\n\r\n"),
 ];
 
-/// Asserts what becomes of a row's text.
-fn assert_kept_to(
-    rt: &(impl Abort + AllocGlobal),
-    (rule, pass, width, keeps_code, prefix, line_ending, text, wanted): OptionsRow,
-) -> Result<(), AllocError> {
-    let options = ReflowOptions {
-        keeps_code,
-        prefix,
-        line_ending,
-        ..ReflowOptions::new(width)
-    };
-    assert_passed(rt, rule, pass, &options, text, wanted)
-}
-
 #[test]
-fn options_are_kept_to(rt: HostRuntime) -> Result<(), Fail> {
-    for &row in BY_OPTIONS {
-        assert_kept_to(&rt, row)?;
+fn options_are_kept_to(rt: HostRuntime) {
+    for &(rule, pass, width, keeps_code, prefix, line_ending, text, wanted) in BY_OPTIONS {
+        let options = ReflowOptions {
+            keeps_code,
+            prefix,
+            line_ending,
+            ..ReflowOptions::new(width)
+        };
+        assert_passed(&rt, rule, pass, &options, text, wanted);
     }
-    Ok(())
 }
 
-/// A text of so many paragraphs of a hundred words each.
-fn long_text(alloc: Global, paragraphs: usize) -> Result<String, AllocError> {
-    let words = "word ".repeat(alloc, 100)?;
-    let paragraph = format!(in alloc; "> {words}\n>\n")?;
-    paragraph.repeat(alloc, paragraphs)
+/// A text: a beginning, a part that is repeated so many times, and an end; and how many times all of
+/// this stands.
+type Long = (&'static str, &'static str, usize, &'static str, usize);
+
+/// 500 paragraphs of a hundred words each: as they are given, at 22 columns and on one line.
+const GIVEN: Long = ("> ", "word ", 100, "\n>\n", 500);
+
+const NARROW: Long = ("", "> word word word word\n", 25, ">\n", 500);
+
+const WIDE: Long = ("> word", " word", 99, "\n>\n", 500);
+
+/// The rule, the pass, the columns, the text, and the text by first fit.
+#[rattlefmt::skip]
+const LONG: &[(&str, Pass, usize, Long, Long)] = &[
+    ("lines", Reflow, 22, GIVEN, NARROW),
+    ("whole paragraphs", Reflow, 1000, NARROW, WIDE),
+    ("a paragraph of 60,000 lines", Reflow, 22,
+     ("", "> word word\n", 60_000, "", 1), ("", "> word word word word\n", 30_000, "", 1)),
+    ("many paragraphs that are justified", Justify, 8,
+     ("", "> aa bb\n> cc dd\n>\n", 50_000, "", 1), ("", "> aa  bb\n> cc dd\n>\n", 50_000, "", 1)),
+];
+
+/// The whole text.
+fn long_text(
+    alloc: Global,
+    (beginning, part, parts, end, times): Long,
+) -> Result<String, AllocError> {
+    let parts = part.repeat(alloc, parts)?;
+    let text = format!(in alloc; "{beginning}{parts}{end}")?;
+    text.repeat(alloc, times)
 }
 
 #[test]
-fn a_long_text_is_reflowed(rt: HostRuntime) -> Result<(), Fail> {
-    let text = long_text(rt.alloc(), 500)?;
-    let reflowed = passed(rt.alloc(), Reflow, &text, &by_first_fit(22))?;
-    assert_count(&rt, "lines", reflowed.lines().count(), 500 * 26);
-    let whole = passed(rt.alloc(), Reflow, &reflowed, &by_first_fit(1000))?;
-    assert_count(&rt, "whole paragraphs", whole.lines().count(), 500 * 2);
-    Ok(())
+fn long_texts_are_reflowed_and_justified(rt: HostRuntime) {
+    for &(rule, pass, width, text, wanted) in LONG {
+        let text = long_text(rt.alloc(), text).expect(&rt, rule);
+        let wanted = long_text(rt.alloc(), wanted).expect(&rt, rule);
+        assert_passed(&rt, rule, pass, &by_first_fit(width), &text, &wanted);
+    }
 }
 
 /// Whether a text with a list becomes what it is to be.

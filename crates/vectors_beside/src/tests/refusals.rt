@@ -6,7 +6,6 @@ use super::plain::assert_holds;
 use super::reflow::{Pass, is_passed};
 use fakes::heap::Heap;
 use std::process::Abort;
-use std::test::Fail;
 use textwrap::WrapError;
 use textwrap_display::Alignment::Left;
 

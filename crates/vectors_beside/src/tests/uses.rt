@@ -1,11 +1,10 @@
 //! The callers of `textwrap_uses`: what each gives on its happy path.
 mod hyphens;
 
-use super::plain::{are_texts, assert_count, assert_holds, assert_text};
+use super::plain::{assert_count, assert_gives, assert_gives_texts, assert_holds, assert_text};
 use std::alloc::Global;
 use std::borrow::CowStr;
 use std::process::Abort;
-use std::test::Fail;
 use textwrap::{Options, WrapError};
 use textwrap_uses::checking::{is_filled, line_count};
 use textwrap_uses::comments::{common_mark, rewrapped};
@@ -21,13 +20,6 @@ use textwrap_uses::sentences::sentence_lines;
 use textwrap_uses::tables::barred_rows;
 use textwrap_vectors::functions::are_borrowed;
 
-#[test]
-fn a_help_entry_has_its_flag_and_its_text(rt: HostRuntime) -> Result<(), Fail> {
-    let entry = help_entry(rt.alloc(), "-w      ", "The width of a line.", 20)?;
-    assert_text(&rt, "help", &entry, "-w      The width of\n        a line.");
-    Ok(())
-}
-
 const HELP_ROWS: &[&str] = &[
     "  -h      Print this help.",
     "  -w N    Wrap at N       ",
@@ -35,11 +27,21 @@ const HELP_ROWS: &[&str] = &[
 ];
 
 #[test]
-fn help_has_flags_and_texts(rt: HostRuntime) -> Result<(), Fail> {
+fn help_has_flags_and_texts(rt: HostRuntime) {
+    let entry = help_entry(rt.alloc(), "-w      ", "The width of a line.", 20);
+    assert_gives(
+        &rt,
+        "an entry",
+        entry,
+        "-w      The width of\n        a line.",
+    );
     let entries = ["-h", "Print this help.", "-w N", "Wrap at N columns."];
-    let rows = help_rows(rt.alloc(), &entries, 6, 26)?;
-    assert_holds(&rt, "help", are_texts(&rows, HELP_ROWS));
-    Ok(())
+    assert_gives_texts(
+        &rt,
+        "help",
+        help_rows(rt.alloc(), &entries, 6, 26),
+        HELP_ROWS,
+    );
 }
 
 const BARRED_ROWS: &[&str] = &[
@@ -49,61 +51,52 @@ const BARRED_ROWS: &[&str] = &[
 ];
 
 #[test]
-fn rows_stand_between_bars(rt: HostRuntime) -> Result<(), Fail> {
-    let rows = barred_rows(rt.alloc(), "one two three four five", 2, 17)?;
-    assert_holds(&rt, "rows", are_texts(&rows, BARRED_ROWS));
-    Ok(())
+fn rows_stand_between_bars(rt: HostRuntime) {
+    let rows = barred_rows(rt.alloc(), "one two three four five", 2, 17);
+    assert_gives_texts(&rt, "rows", rows, BARRED_ROWS);
 }
 
 #[test]
-fn mail_is_quoted_and_filled(rt: HostRuntime) -> Result<(), Fail> {
-    let quoted = quote(rt.alloc(), "foo bar baz\nfoo", 9)?;
-    assert_text(&rt, "quoted", &quoted, "> foo bar\n> baz\n> foo");
-    let quoted = quoted_as_it_is(rt.alloc(), "Hi\n\nyou\n")?;
-    assert_text(&rt, "quoted as it is", &quoted, "> Hi\n>\n> you\n");
-    let filled = filled_anew(rt.alloc(), "foo\nbar baz", 7)?;
-    assert_text(&rt, "filled anew", &filled, "foo bar\nbaz");
-    Ok(())
-}
-
-/// Asserts what the lines of a mail are, each a part of it.
-fn assert_sent(rt: &(impl Abort + AllocGlobal), options: &Options<'_>) -> Result<(), WrapError> {
-    let lines = sent_lines(rt.alloc(), "foo bar baz\r\nfoo", options)?;
-    assert_holds(rt, "sent", are_borrowed(&lines, &["foo bar", "baz", "foo"]));
-    Ok(())
+fn mail_is_quoted_and_filled(rt: HostRuntime) {
+    let quoted = quote(rt.alloc(), "foo bar baz\nfoo", 9);
+    assert_gives(&rt, "quoted", quoted, "> foo bar\n> baz\n> foo");
+    let quoted = quoted_as_it_is(rt.alloc(), "Hi\n\nyou\n");
+    assert_gives(&rt, "quoted as it is", quoted, "> Hi\n>\n> you\n");
+    let filled = filled_anew(rt.alloc(), "foo\nbar baz", 7);
+    assert_gives(&rt, "filled anew", filled, "foo bar\nbaz");
 }
 
 #[test]
-fn mail_is_sent_twice_by_the_same_options(rt: HostRuntime) -> Result<(), Fail> {
+fn mail_is_sent_twice_by_the_same_options(rt: HostRuntime) {
     let options = Options::new(7);
-    assert_sent(&rt, &options)?;
-    assert_sent(&rt, &options)?;
-    Ok(())
+    for turn in ["sent", "sent again"] {
+        let lines = sent_lines(rt.alloc(), "foo bar baz\r\nfoo", &options);
+        assert_cut(&rt, turn, lines, &["foo bar", "baz", "foo"]);
+    }
 }
 
 #[test]
-fn comments_keep_their_marks(rt: HostRuntime) -> Result<(), Fail> {
+fn comments_keep_their_marks(rt: HostRuntime) {
     let comment = "/// A short\n/// line of\n/// text";
-    let rewrapped = rewrapped(rt.alloc(), comment, 16)?;
-    assert_text(&rt, "comment", &rewrapped, "/// A short line\n/// of text");
-    let mark = common_mark(rt.alloc(), "/* A\n * short\n * comment")?;
+    let rewrapped = rewrapped(rt.alloc(), comment, 16);
+    assert_gives(&rt, "comment", rewrapped, "/// A short line\n/// of text");
+    let mark = common_mark(rt.alloc(), "/* A\n * short\n * comment").expect(&rt, "mark");
     assert_text(&rt, "mark", mark, " * ");
-    Ok(())
+}
+
+/// A note that is filled.
+fn filled_note(alloc: Global, text: &str, width: usize) -> Result<String, WrapError> {
+    let mut note = String::from_str(alloc, text)?;
+    fill_note(alloc, &mut note, width)?;
+    Ok(note)
 }
 
 #[test]
-fn a_note_is_filled_in_place(rt: HostRuntime) -> Result<(), Fail> {
-    let mut note = String::from_str(rt.alloc(), "milk and bread")?;
-    fill_note(rt.alloc(), &mut note, 9)?;
-    assert_text(&rt, "note", &note, "milk and\nbread");
-    Ok(())
-}
-
-#[test]
-fn a_script_loses_its_margin(rt: HostRuntime) -> Result<(), Fail> {
-    let script = script(rt.alloc(), "    if x:\n      y\n")?;
-    assert_text(&rt, "script", &script, "if x:\n  y\n");
-    Ok(())
+fn notes_and_scripts_are_laid_out(rt: HostRuntime) {
+    let note = filled_note(rt.alloc(), "milk and bread", 9);
+    assert_gives(&rt, "note", note, "milk and\nbread");
+    let script = script(rt.alloc(), "    if x:\n      y\n");
+    assert_gives(&rt, "script", script, "if x:\n  y\n");
 }
 
 /// A text, the columns, and whether it is filled already.
@@ -115,23 +108,22 @@ const ARE_FILLED: &[(&str, usize, bool)] = &[
 ];
 
 #[test]
-fn a_filled_text_is_filled_already(rt: HostRuntime) -> Result<(), Fail> {
+fn a_filled_text_is_filled_already(rt: HostRuntime) {
     for &(text, width, wanted) in ARE_FILLED {
-        let is_filled = is_filled(rt.alloc(), text, width)?;
+        let is_filled = is_filled(rt.alloc(), text, width).expect(&rt, text);
         assert_holds(&rt, text, is_filled == wanted);
     }
-    Ok(())
 }
 
 /// A text, and how many lines it has at 10 columns.
 const COUNTED: &[(&str, usize)] = &[("To be, or not to be", 2), ("", 1), ("one\ntwo", 2)];
 
 #[test]
-fn lines_are_counted(rt: HostRuntime) -> Result<(), Fail> {
+fn lines_are_counted(rt: HostRuntime) {
     for &(text, wanted) in COUNTED {
-        assert_count(&rt, text, line_count(rt.alloc(), text, 10)?, wanted);
+        let count = line_count(rt.alloc(), text, 10).expect(&rt, text);
+        assert_count(&rt, text, count, wanted);
     }
-    Ok(())
 }
 
 const PICTURES: &[Picture] = &[
@@ -153,16 +145,20 @@ const PICTURES: &[Picture] = &[
     },
 ];
 
-#[test]
-fn pictures_fill_rows(rt: HostRuntime) -> Result<(), Fail> {
-    let rows = hung_rows(rt.alloc(), PICTURES, 150)?;
-    assert_count(&rt, "rows", rows.len(), 2);
-    for row in &rows {
-        assert_count(&rt, "pictures", row.len(), 2);
+/// Asserts that rows have so many pictures each.
+fn assert_hung(rt: &impl Abort, rule: &str, rows: &[&[Picture]], wanted: &[usize]) {
+    assert_count(rt, rule, rows.len(), wanted.len());
+    for (row, wanted) in rows.iter().zip(wanted) {
+        assert_count(rt, rule, row.len(), *wanted);
     }
-    let rows = few_rows(rt.alloc(), PICTURES, 150)?;
-    assert_count(&rt, "few rows", rows.len(), 2);
-    Ok(())
+}
+
+#[test]
+fn pictures_fill_rows(rt: HostRuntime) {
+    let rows = hung_rows(rt.alloc(), PICTURES, 150).expect(&rt, "rows");
+    assert_hung(&rt, "rows", &rows, &[2, 2]);
+    let rows = few_rows(rt.alloc(), PICTURES, 150).expect(&rt, "few rows");
+    assert_hung(&rt, "few rows", &rows, &[2, 2]);
 }
 
 /// A caller that gives the lines of a text, each a part of it.
@@ -207,22 +203,22 @@ fn lines_by(
     }
 }
 
-/// Asserts what the lines of a row are.
+/// Asserts that a call gave these lines, each a part of the text.
 fn assert_cut(
-    rt: &(impl Abort + AllocGlobal),
-    (caller, text, width, wanted): LinesRow,
-) -> Result<(), WrapError> {
-    let lines = lines_by(rt.alloc(), caller, text, width)?;
-    assert_holds(rt, text, are_borrowed(&lines, wanted));
-    Ok(())
+    rt: &impl Abort,
+    rule: &str,
+    lines: Result<Vec<CowStr<'_>>, WrapError>,
+    wanted: &[&str],
+) {
+    let lines = lines.expect(rt, rule);
+    assert_holds(rt, rule, are_borrowed(&lines, wanted));
 }
 
 #[test]
-fn lines_end_where_a_caller_cuts(rt: HostRuntime) -> Result<(), Fail> {
-    for &row in LINES {
-        assert_cut(&rt, row)?;
+fn lines_end_where_a_caller_cuts(rt: HostRuntime) {
+    for &(caller, text, width, wanted) in LINES {
+        assert_cut(&rt, text, lines_by(rt.alloc(), caller, text, width), wanted);
     }
-    Ok(())
 }
 
 /// A text, the columns, and its words as a list.
@@ -245,10 +241,9 @@ fn is_listed(alloc: Global, text: &str, width: usize, wanted: &[&str]) -> Result
 }
 
 #[test]
-fn words_are_listed(rt: HostRuntime) -> Result<(), Fail> {
+fn words_are_listed(rt: HostRuntime) {
     for &(text, width, wanted) in LISTED {
-        let is_listed = is_listed(rt.alloc(), text, width, wanted)?;
+        let is_listed = is_listed(rt.alloc(), text, width, wanted).expect(&rt, text);
         assert_holds(&rt, text, is_listed);
     }
-    Ok(())
 }

@@ -1,10 +1,10 @@
 //! Texts of several languages, wrapped at the places of Unicode line breaking.
-use super::super::plain::{assert_count, assert_holds, assert_text};
+use super::super::plain::{assert_count, assert_gives, assert_holds};
 use std::alloc::{AllocError, Global};
-use std::test::Fail;
+use std::process::Abort;
 use textwrap::word_separators::LineCuts;
 use textwrap::{Options, WordSeparator, WrapAlgorithm, WrapError, fill};
-use textwrap_unicode::{LineBreak, line_breaks, unicode_cuts};
+use textwrap_unicode::unicode_cuts;
 
 /// A text filled at a width by first fit, with words cut at its breaks.
 fn filled(alloc: Global, text: &str, width: usize) -> Result<String, WrapError> {
@@ -56,11 +56,10 @@ const FILLED: &[(&str, usize, &str)] = &[
 ];
 
 #[test]
-fn texts_of_many_languages(rt: HostRuntime) -> Result<(), Fail> {
+fn texts_of_many_languages(rt: HostRuntime) {
     for &(text, width, wanted) in FILLED {
-        assert_text(&rt, text, &filled(rt.alloc(), text, width)?, wanted);
+        assert_gives(&rt, text, filled(rt.alloc(), text, width), wanted);
     }
-    Ok(())
 }
 
 /// A line, and where it is cut into words.
@@ -76,42 +75,34 @@ const CUTS: &[(&str, &[usize])] = &[
     ("foo- \u{ad}bar", &[5]),
 ];
 
-/// Whether a line is cut at these places.
-fn is_cut_at(alloc: Global, line: &str, wanted: &[usize]) -> Result<bool, AllocError> {
-    let cuts = unicode_cuts(alloc, line)?;
-    Ok(&cuts[..] == wanted)
+/// `unicode_cuts`.
+fn plain_unicode_cuts(alloc: Global, line: &str) -> Result<Vec<usize>, AllocError> {
+    unicode_cuts(alloc, line)
+}
+
+/// Asserts that a line was cut at these places.
+fn assert_cut_at(
+    rt: &impl Abort,
+    line: &str,
+    cuts: Result<Vec<usize>, AllocError>,
+    wanted: &[usize],
+) {
+    let cuts = cuts.expect(rt, line);
+    assert_holds(rt, line, cuts.as_slice() == wanted);
 }
 
 #[test]
-fn lines_are_cut_into_words(rt: HostRuntime) -> Result<(), Fail> {
+fn lines_are_cut_into_words(rt: HostRuntime) {
     for &(line, wanted) in CUTS {
-        let is_cut = is_cut_at(rt.alloc(), line, wanted)?;
-        assert_holds(&rt, line, is_cut);
+        assert_cut_at(&rt, line, plain_unicode_cuts(rt.alloc(), line), wanted);
     }
-    Ok(())
 }
 
 /// A line of 50,000 words of three letters, with the blank after each.
 #[test]
-fn a_long_line_is_cut_at_each_blank(rt: HostRuntime) -> Result<(), Fail> {
-    let line = "foo ".repeat(rt.alloc(), 50_000)?;
-    let cuts = unicode_cuts(rt.alloc(), &line)?;
+fn a_long_line_is_cut_at_each_blank(rt: HostRuntime) {
+    let line = "foo ".repeat(rt.alloc(), 50_000).expect(&rt, "line");
+    let cuts = plain_unicode_cuts(rt.alloc(), &line).expect(&rt, "cuts");
     assert_count(&rt, "cuts", cuts.len(), 49_999);
     assert_holds(&rt, "the last", cuts.last() == Some(&199_996));
-    Ok(())
-}
-
-/// Where a line of `foo bar\nbaz` may end, and whether it must.
-const BREAKS: &[(usize, bool)] = &[(4, false), (8, true), (11, true)];
-
-#[test]
-fn a_line_must_end_after_a_line_feed_and_at_the_end(rt: HostRuntime) {
-    let mut breaks = line_breaks("foo bar\nbaz");
-    for &(at, is_mandatory) in BREAKS {
-        let wanted = LineBreak { at, is_mandatory };
-        assert_holds(&rt, "a break", breaks.next() == Some(wanted));
-    }
-    assert_holds(&rt, "none is left", breaks.next().is_none());
-    assert_holds(&rt, "nor later", breaks.next().is_none());
-    assert_holds(&rt, "no text", line_breaks("").next().is_none());
 }

@@ -1,14 +1,13 @@
-//! A text of 1 MiB through each call: first with no room, so that its length is reported, and then with
-//! just so much.
+//! A text of 1 MiB through each call, and other texts that make its answer large: first with no room, so
+//! that its length is reported, and then with just so much.
 use super::alone::told_width;
 use super::places::{NO_PLACE, PiecePlace, is_piece};
 use super::plain::{
-    AT_80, BEFORE, DEFAULTS, LinesCall, NO_GAPS, NO_PIECE, NOWHERE, PiecesCall, TextCall,
+    AT_80, BARS, BEFORE, DEFAULTS, LinesCall, NO_GAPS, NO_PIECE, NOWHERE, PiecesCall, TextCall,
     assert_holds, assert_told, write_lines, write_pieces, write_text,
 };
 use std::alloc::{AllocError, Global};
 use std::process::Abort;
-use std::test::Fail;
 use textwrap_calls::columns::TextwrapGaps;
 use textwrap_calls::filling::textwrap_fill_inplace;
 use textwrap_calls::options::TextwrapOptions;
@@ -66,56 +65,72 @@ pub(super) fn write_lines_twice(
     Ok(((without, reported), (with, len), !room.contains(&b'.')))
 }
 
-/// Calls, and how long their answers are.
-const FILLING: &[(TextCall<'_>, usize)] = &[
-    (TextCall::Fill(AT_80), LEN),
+/// A call, what its text is made of and how often, and how long the answer is.
+type TextRow = (TextCall<'static>, &'static str, usize, usize);
+
+const TEXTS: &[TextRow] = &[
+    (TextCall::Fill(AT_80), LINE, LINES, LEN),
     (
         TextCall::Refill(TextwrapOptions {
             width: 11,
             ..DEFAULTS
         }),
+        LINE,
+        LINES,
         LEN,
     ),
-    (TextCall::Unfill, LEN),
-];
-
-const INDENTATION: &[(TextCall<'_>, usize)] = &[
-    (TextCall::Indent(b"> "), LEN + 2 * LINES),
-    (TextCall::Dedent, LEN),
-];
-
-// The text as one line, in which a line feed takes no columns.
-const WIDENING: &[(TextCall<'_>, usize)] = &[
-    (
-        TextCall::Align {
-            width: LEN,
-            alignment: 1,
-        },
-        LEN + LINES,
-    ),
-    (TextCall::Justify(LEN), LEN + LINES),
-];
-
-const SHORTENING: &[(TextCall<'_>, usize)] = &[
+    (TextCall::Unfill, LINE, LINES, LEN),
+    (TextCall::Indent(b"> "), LINE, LINES, LEN + 2 * LINES),
+    (TextCall::Dedent, LINE, LINES, LEN),
     (
         TextCall::FillJustified(TextwrapOptions {
             width: 8,
             ..DEFAULTS
         }),
+        LINE,
+        LINES,
         LEN + LINES,
     ),
+    // The text as one line, in which a line feed takes no columns.
+    (
+        TextCall::Align {
+            width: LEN,
+            alignment: 1,
+        },
+        LINE,
+        LINES,
+        LEN + LINES,
+    ),
+    (TextCall::Justify(LEN), LINE, LINES, LEN + LINES),
     (
         TextCall::Shorten {
             width: 11 * HALF + 7,
             placeholder: b"",
         },
+        LINE,
+        LINES,
         HALF * 12 + 7,
     ),
+    // Blanks beside no text, and nine gaps of 5,000.
+    (
+        TextCall::Align {
+            width: 10_000,
+            alignment: 2,
+        },
+        "",
+        1,
+        10_000,
+    ),
+    (TextCall::Justify(45_011), "a ", 10, 45_011),
 ];
 
-/// Rows of one column of 11 with a bar at their right, and lines with an indent of one blank, so that
-/// each of them is built.
-const LINES_AND_ROWS: &[(LinesCall<'_>, usize)] = &[
+/// A call, what its text is made of and how often, how many lines there are at most, and how much room
+/// they take.
+type LinesRow = (LinesCall<'static>, &'static str, usize, usize, usize);
+
+const LINES_AND_ROWS: &[LinesRow] = &[
+    // Rows of one column of 11 with a bar at their right, and lines with an indent of one blank, so
+    // that each of them is built.
     (
         LinesCall::Columns {
             columns: 1,
@@ -128,6 +143,9 @@ const LINES_AND_ROWS: &[(LinesCall<'_>, usize)] = &[
                 ..NO_GAPS
             },
         },
+        LINE,
+        LINES,
+        LINES + 1,
         LEN + 12,
     ),
     (
@@ -136,71 +154,75 @@ const LINES_AND_ROWS: &[(LinesCall<'_>, usize)] = &[
             subsequent_indent: b" ",
             ..AT_80
         }),
+        LINE,
+        LINES,
+        LINES + 1,
         LEN + 1,
+    ),
+    // Two rows of 200 columns of 4, with a bar beside each.
+    (
+        LinesCall::Columns {
+            columns: 200,
+            options: TextwrapOptions {
+                width: 1_001,
+                ..DEFAULTS
+            },
+            gaps: BARS,
+        },
+        "ab ",
+        400,
+        2,
+        2 * 1_001,
     ),
 ];
 
-/// Asserts that each call on this text tells its length and writes as much.
-fn assert_texts(
-    rt: &(impl Abort + AllocGlobal),
-    text: &[u8],
-    rows: &[(TextCall<'_>, usize)],
-) -> Result<(), AllocError> {
-    for (row, &(call, len)) in rows.iter().enumerate() {
-        let told = write_text_twice(rt.alloc(), call, text)?;
-        assert_told_twice(rt, row, told, len);
-    }
-    Ok(())
+/// What the call of a row tells.
+fn told_of_text(alloc: Global, (call, part, times, _): TextRow) -> Result<Told, AllocError> {
+    let text = part.repeat(alloc, times)?;
+    write_text_twice(alloc, call, text.as_bytes())
 }
 
-/// Asserts this of the large text.
-fn assert_written(
-    rt: &(impl Abort + AllocGlobal),
-    rows: &[(TextCall<'_>, usize)],
-) -> Result<(), Fail> {
-    let text = LINE.repeat(rt.alloc(), LINES)?;
-    assert_texts(rt, text.as_bytes(), rows)?;
-    Ok(())
-}
-
-#[test]
-fn a_large_text_is_filled_unfilled_and_refilled(rt: HostRuntime) -> Result<(), Fail> {
-    assert_written(&rt, FILLING)
-}
-
-#[test]
-fn a_large_text_is_indented_and_dedented(rt: HostRuntime) -> Result<(), Fail> {
-    assert_written(&rt, INDENTATION)
-}
-
-#[test]
-fn a_large_line_is_aligned_and_justified(rt: HostRuntime) -> Result<(), Fail> {
-    assert_written(&rt, WIDENING)
-}
-
-#[test]
-fn a_large_line_is_filled_justified_and_shortened(rt: HostRuntime) -> Result<(), Fail> {
-    assert_written(&rt, SHORTENING)
+/// What the calls tell with a prefix and with a placeholder of 1,000 bytes, which leaves ten columns.
+fn told_of_long(alloc: Global) -> Result<[Told; 2], AllocError> {
+    let long = "+".repeat(alloc, 1_000)?;
+    let text = LINE.repeat(alloc, 1_000)?;
+    let (placeholder, text) = (long.as_bytes(), text.as_bytes());
+    let indented = write_text_twice(alloc, TextCall::Indent(placeholder), text)?;
+    let width = 1_010;
+    let shortened = write_text_twice(alloc, TextCall::Shorten { width, placeholder }, text)?;
+    Ok([indented, shortened])
 }
 
 /// The same of lines and rows.
-fn assert_lines(rt: &(impl Abort + AllocGlobal), text: &[u8]) -> Result<(), AllocError> {
-    for (row, &(call, len)) in LINES_AND_ROWS.iter().enumerate() {
-        let told = write_lines_twice(rt.alloc(), call, text, LINES + 1)?;
-        assert_told_twice(rt, row, told, len);
-    }
-    Ok(())
+fn told_of_lines(
+    alloc: Global,
+    (call, part, times, most, _): LinesRow,
+) -> Result<Told, AllocError> {
+    let text = part.repeat(alloc, times)?;
+    write_lines_twice(alloc, call, text.as_bytes(), most)
 }
 
 #[test]
-fn a_large_text_has_its_lines_and_rows(rt: HostRuntime) -> Result<(), Fail> {
-    let text = LINE.repeat(rt.alloc(), LINES)?;
-    assert_lines(&rt, text.as_bytes())?;
-    Ok(())
+fn large_texts_are_written(rt: HostRuntime) {
+    for (row, &texts) in TEXTS.iter().enumerate() {
+        let told = told_of_text(rt.alloc(), texts).expect(&rt, "memory");
+        assert_told_twice(&rt, row, told, texts.3);
+    }
+    let [indented, shortened] = told_of_long(rt.alloc()).expect(&rt, "memory");
+    assert_told_twice(&rt, TEXTS.len(), indented, 1_000 * (1_000 + 12));
+    assert_told_twice(&rt, TEXTS.len() + 1, shortened, 7 + 1_000);
+}
+
+#[test]
+fn large_texts_have_their_lines_and_rows(rt: HostRuntime) {
+    for (row, &lines) in LINES_AND_ROWS.iter().enumerate() {
+        let told = told_of_lines(rt.alloc(), lines).expect(&rt, "memory");
+        assert_told_twice(&rt, row, told, lines.4);
+    }
 }
 
 /// The status, how many pieces are told, and the last of so many.
-fn last_piece(
+pub(super) fn last_piece(
     alloc: Global,
     call: PiecesCall<'_>,
     text: &[u8],
@@ -233,29 +255,22 @@ const PIECES: &[(PiecesCall<'_>, (u32, usize), PiecePlace)] = &[
     (PiecesCall::WordsAt(&[12]), (DONE, 2), NO_PLACE),
 ];
 
-/// Asserts what each row says.
-fn assert_pieces(rt: &(impl Abort + AllocGlobal), text: &[u8]) -> Result<(), AllocError> {
+#[test]
+fn a_large_text_is_cut_split_and_broken(rt: HostRuntime) {
+    let text = LINE.repeat(rt.alloc(), LINES).expect(&rt, "text");
     for (row, &(call, expected, place)) in PIECES.iter().enumerate() {
-        let (told, last) = last_piece(rt.alloc(), call, text, 2 * LINES + 1)?;
-        assert_told(rt, row, told, expected);
-        assert_holds(rt, row, is_piece(&last, place));
+        let most = 2 * LINES + 1;
+        let (told, last) = last_piece(rt.alloc(), call, text.as_bytes(), most).expect(&rt, "room");
+        assert_told(&rt, row, told, expected);
+        assert_holds(&rt, row, is_piece(&last, place));
     }
-    Ok(())
 }
 
 #[test]
-fn a_large_text_is_cut_split_and_broken(rt: HostRuntime) -> Result<(), Fail> {
-    let text = LINE.repeat(rt.alloc(), LINES)?;
-    assert_pieces(&rt, text.as_bytes())?;
-    Ok(())
-}
-
-#[test]
-fn a_large_text_is_measured(rt: HostRuntime) -> Result<(), Fail> {
-    let text = LINE.repeat(rt.alloc(), LINES)?;
+fn a_large_text_is_measured(rt: HostRuntime) {
+    let text = LINE.repeat(rt.alloc(), LINES).expect(&rt, "text");
     let told = told_width(text.as_bytes());
     assert_told(&rt, 0, told, (DONE, LEN - LINES));
-    Ok(())
 }
 
 /// The status, and whether a text is then this one.
@@ -266,10 +281,11 @@ fn is_filled_as(alloc: Global, text: &str, filled: &str) -> Result<(u32, bool), 
 }
 
 #[test]
-fn a_large_text_is_filled_in_place(rt: HostRuntime) -> Result<(), Fail> {
-    let text = LINE.repeat(rt.alloc(), LINES)?;
-    let filled = "foo bar\nbaz\n".repeat(rt.alloc(), LINES)?;
-    let found = is_filled_as(rt.alloc(), &text, &filled)?;
+fn a_large_text_is_filled_in_place(rt: HostRuntime) {
+    let text = LINE.repeat(rt.alloc(), LINES).expect(&rt, "text");
+    let filled = "foo bar\nbaz\n"
+        .repeat(rt.alloc(), LINES)
+        .expect(&rt, "filled");
+    let found = is_filled_as(rt.alloc(), &text, &filled).expect(&rt, "bytes");
     assert_eq!(rt; found, (DONE, true));
-    Ok(())
 }

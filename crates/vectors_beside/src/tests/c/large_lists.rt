@@ -1,12 +1,13 @@
 //! Large lists: of texts, of places in a paragraph, and of fragments.
 use super::fragments::PENALTIES;
-use super::large::{HALF, LEN, LINE, LINES, Told, assert_told_twice, write_lines_twice};
+use super::large::{
+    HALF, LEN, LINE, LINES, Told, assert_told_twice, last_piece, write_lines_twice,
+};
 use super::plain::{
-    AT_80, BARS, BEFORE, DEFAULTS, LinesCall, NO_PIECE, NOWHERE, OffsetsCall, assert_told,
-    write_offsets,
+    AT_80, BARS, BEFORE, DEFAULTS, LinesCall, NO_PIECE, NOWHERE, OffsetsCall, PiecesCall,
+    assert_number, assert_told, write_offsets,
 };
 use std::alloc::{AllocError, Global};
-use std::test::Fail;
 use textwrap_calls::fragments::TextwrapFragment;
 use textwrap_calls::options::TextwrapOptions;
 use textwrap_calls::pieces::TextwrapPiece;
@@ -64,13 +65,16 @@ fn carried(alloc: Global) -> Result<Told, AllocError> {
     write_lines_twice(alloc, call, b"", LINES)
 }
 
-/// Columns of a line's width, whose lines stand at the left and at the right.
+/// A column of a line's width, whose lines stand at the left.
+const LEFT: TextwrapColumn<'_> = TextwrapColumn {
+    options: AT_11,
+    alignment: 0,
+    reserved: 0,
+};
+
+/// The same, and one whose lines stand at the right.
 const COLUMNS: &[TextwrapColumn<'_>] = &[
-    TextwrapColumn {
-        options: AT_11,
-        alignment: 0,
-        reserved: 0,
-    },
+    LEFT,
     TextwrapColumn {
         options: AT_11,
         alignment: 1,
@@ -89,24 +93,35 @@ fn table(alloc: Global) -> Result<Told, AllocError> {
     write_lines_twice(alloc, call, b"", HALF)
 }
 
+/// Two rows of 200 columns, with a bar beside each.
+fn wide_table(alloc: Global) -> Result<Told, AllocError> {
+    let cells = vec![in alloc; TEXT; 400]?;
+    let columns = vec![in alloc; LEFT; 200]?;
+    let call = LinesCall::Table {
+        cells: &cells,
+        columns: &columns,
+        gaps: BARS,
+    };
+    write_lines_twice(alloc, call, b"", 2)
+}
+
 #[test]
-fn a_large_list_is_shortened_carried_and_laid_out(rt: HostRuntime) -> Result<(), Fail> {
-    let told = shortened_lines(rt.alloc())?;
+fn a_large_list_is_shortened_carried_and_laid_out(rt: HostRuntime) {
+    let told = shortened_lines(rt.alloc()).expect(&rt, "lines");
     assert_told_twice(&rt, 0, told, 11 * (LINES - 2) + 10);
-    let told = carried(rt.alloc())?;
+    let told = carried(rt.alloc()).expect(&rt, "lines");
     assert_told_twice(&rt, 1, told, 21 * HALF);
-    let told = table(rt.alloc())?;
+    let told = table(rt.alloc()).expect(&rt, "cells");
     assert_told_twice(&rt, 2, told, 25 * HALF);
-    Ok(())
+    let told = wide_table(rt.alloc()).expect(&rt, "cells");
+    assert_told_twice(&rt, 3, told, 2 * (200 * 11 + 201));
 }
 
 /// The first so many multiples of a number.
 fn multiples(alloc: Global, most: usize, step: usize) -> Result<Vec<usize>, AllocError> {
     let mut numbers = Vec::new(alloc);
-    let mut number: usize = 0;
-    for _ in 0..most {
-        number = number.saturating_add(step);
-        numbers.push(number)?;
+    for before in 0..most {
+        numbers.push(step.saturating_mul(before + 1))?;
     }
     Ok(numbers)
 }
@@ -177,24 +192,34 @@ fn lines_in_steps(alloc: Global, text: &[u8]) -> Result<LinesTold, AllocError> {
     tenth_line(alloc, text, &cuts, &ends)
 }
 
-#[test]
-fn a_large_paragraph_has_pieces_in_steps(rt: HostRuntime) -> Result<(), Fail> {
-    let text = LINE.repeat(rt.alloc(), LINES)?;
-    let (told, _) = pieces_in_steps(rt.alloc(), text.as_bytes(), &[2])?;
-    assert_told(&rt, 0, told, (TOO_SMALL, LINES + 1));
-    let (told, last) = pieces_in_steps(rt.alloc(), text.as_bytes(), &[])?;
-    assert_told(&rt, 1, told, (DONE, LINES));
-    assert_eq!(rt; last, LEN - LINE.len());
-    Ok(())
+/// What is told of the words of a line at 1,000 offsets, and where the last stands.
+fn words_at_many(alloc: Global) -> Result<((u32, usize), usize), AllocError> {
+    let text = LINE.repeat(alloc, 1_001)?;
+    let offsets = multiples(alloc, 1_000, LINE.len())?;
+    let call = PiecesCall::WordsAt(&offsets);
+    let (told, last) = last_piece(alloc, call, text.as_bytes(), 1_001)?;
+    Ok((told, last.offset))
 }
 
 #[test]
-fn a_large_paragraph_has_lines_in_steps(rt: HostRuntime) -> Result<(), Fail> {
-    let text = LINE.repeat(rt.alloc(), LINES)?;
-    let (told, tenth) = lines_in_steps(rt.alloc(), text.as_bytes())?;
+fn a_large_paragraph_has_pieces_in_steps(rt: HostRuntime) {
+    let text = LINE.repeat(rt.alloc(), LINES).expect(&rt, "text");
+    let (told, _) = pieces_in_steps(rt.alloc(), text.as_bytes(), &[2]).expect(&rt, "room");
+    assert_told(&rt, 0, told, (TOO_SMALL, LINES + 1));
+    let (told, last) = pieces_in_steps(rt.alloc(), text.as_bytes(), &[]).expect(&rt, "room");
+    assert_told(&rt, 1, told, (DONE, LINES));
+    assert_number(&rt, 1, last, LEN - LINE.len());
+    let (told, last) = words_at_many(rt.alloc()).expect(&rt, "room");
+    assert_told(&rt, 2, told, (DONE, 1_001));
+    assert_number(&rt, 2, last, 1_000 * LINE.len());
+}
+
+#[test]
+fn a_large_paragraph_has_lines_in_steps(rt: HostRuntime) {
+    let text = LINE.repeat(rt.alloc(), LINES).expect(&rt, "text");
+    let (told, tenth) = lines_in_steps(rt.alloc(), text.as_bytes()).expect(&rt, "room");
     assert_eq!(rt; told, (DONE, LINES, 0));
     assert_eq!(rt; tenth, (9 * LINE.len(), LINE.len()));
-    Ok(())
 }
 
 /// The status, how many offsets are told, and the one at a place among so many.
@@ -225,6 +250,12 @@ fn many_points(alloc: Global) -> Result<((u32, usize), usize), AllocError> {
     )
 }
 
+/// The cuts of a line of 5,000 bytes, between each two of its characters.
+fn many_cuts(alloc: Global) -> Result<((u32, usize), usize), AllocError> {
+    let line = "é日".repeat(alloc, 1_000)?;
+    offset_at(alloc, OffsetsCall::UnicodeCuts(line.as_bytes()), 1_999, 9)
+}
+
 /// Fragments of width 1, and lines of 10 of them.
 const ONE: TextwrapFragment = TextwrapFragment {
     width: 1,
@@ -234,7 +265,7 @@ const ONE: TextwrapFragment = TextwrapFragment {
 };
 
 /// The last end of lines of many fragments, by first fit and by least cost.
-fn many_ends(alloc: Global) -> Result<(((u32, usize), usize), ((u32, usize), usize)), AllocError> {
+fn many_ends(alloc: Global) -> Result<[((u32, usize), usize); 2], AllocError> {
     let fragments = vec![in alloc; ONE; 100_000]?;
     let first_fit = OffsetsCall::FirstFit {
         fragments: &fragments,
@@ -247,17 +278,19 @@ fn many_ends(alloc: Global) -> Result<(((u32, usize), usize), ((u32, usize), usi
         penalties: PENALTIES,
     };
     let cheapest = offset_at(alloc, optimal_fit, 10_000, 9_999)?;
-    Ok((greedy, cheapest))
+    Ok([greedy, cheapest])
 }
 
 #[test]
-fn many_points_and_ends_are_found(rt: HostRuntime) -> Result<(), Fail> {
-    let (told, tenth) = many_points(rt.alloc())?;
+fn many_points_cuts_and_ends_are_found(rt: HostRuntime) {
+    let (told, tenth) = many_points(rt.alloc()).expect(&rt, "points");
     assert_told(&rt, 0, told, (DONE, LINES - 1));
-    assert_eq!(rt; tenth, 20);
-    let (greedy, cheapest) = many_ends(rt.alloc())?;
-    assert_told(&rt, 1, greedy.0, (DONE, 10_000));
-    assert_told(&rt, 2, cheapest.0, (DONE, 10_000));
-    assert_eq!(rt; (greedy.1, cheapest.1), (100_000, 100_000));
-    Ok(())
+    assert_number(&rt, 0, tenth, 20);
+    let (told, tenth) = many_cuts(rt.alloc()).expect(&rt, "cuts");
+    assert_told(&rt, 1, told, (DONE, 1_999));
+    assert_number(&rt, 1, tenth, 25);
+    for (told, last) in many_ends(rt.alloc()).expect(&rt, "ends") {
+        assert_told(&rt, 2, told, (DONE, 10_000));
+        assert_number(&rt, 2, last, 100_000);
+    }
 }

@@ -95,12 +95,6 @@ const BLANKS: &[LinesRow] = &[
     ),
 ];
 
-#[test]
-fn lines_are_places_in_the_text_or_in_the_room(rt: HostRuntime) {
-    assert_lines(&rt, PLACES);
-    assert_lines(&rt, BLANKS);
-}
-
 /// The defaults at 24 columns.
 const AT_24: TextwrapOptions<'_> = TextwrapOptions {
     width: 24,
@@ -175,6 +169,19 @@ const LISTS: &[LinesRow] = &[
         &[(0, 7, 1), (7, 6, 1)],
         b"\x1b[1monetwo...___________________",
     ),
+    // There are fewer than may be kept.
+    (
+        LinesCall::ShortenLines {
+            lines: STYLED_AND_ONE,
+            most: usize::MAX,
+            width: 6,
+            placeholder: b"...",
+        },
+        b"",
+        (DONE, 3, 15),
+        &[(0, 7, 1), (7, 3, 1), (10, 5, 1)],
+        b"\x1b[1monetwothree___________________",
+    ),
     (
         LinesCall::CarryStyles {
             lines: STYLED,
@@ -186,12 +193,6 @@ const LISTS: &[LinesRow] = &[
         b"\x1b[1mone\x1b[0m\x1b[1mtwo\x1b[0m__________",
     ),
 ];
-
-#[test]
-fn a_text_stands_in_columns_and_lists_are_cut_and_styled(rt: HostRuntime) {
-    assert_lines(&rt, IN_COLUMNS);
-    assert_lines(&rt, LISTS);
-}
 
 /// A column of 4 whose lines stand at the left.
 const LEFT: TextwrapColumn<'_> = TextwrapColumn {
@@ -310,6 +311,10 @@ const TABLES: &[LinesRow] = &[
 ];
 
 #[test]
-fn texts_stand_in_their_columns_of_a_table(rt: HostRuntime) {
+fn lines_and_rows_are_places_in_the_text_or_in_the_room(rt: HostRuntime) {
+    assert_lines(&rt, PLACES);
+    assert_lines(&rt, BLANKS);
+    assert_lines(&rt, IN_COLUMNS);
+    assert_lines(&rt, LISTS);
     assert_lines(&rt, TABLES);
 }

@@ -348,12 +348,17 @@ pub(super) fn write_offsets(
 
 /// Asserts that the call of a row answered this status, and told this number.
 pub(super) fn assert_told(rt: &impl Abort, row: usize, told: (u32, usize), expected: (u32, usize)) {
-    assert_eq!(rt; told, expected, "row {row}");
+    assert!(rt; told == expected, "row {row}: {told:?}");
+}
+
+/// Asserts that a number is the one of a row.
+pub(super) fn assert_number(rt: &impl Abort, row: usize, number: usize, expected: usize) {
+    assert!(rt; number == expected, "row {row}: {number}");
 }
 
 /// Asserts that the room holds this after the call of a row.
 pub(super) fn assert_room(rt: &impl Abort, row: usize, room: &[u8], expected: &[u8]) {
-    assert_eq!(rt; room, expected, "row {row}");
+    assert!(rt; room == expected, "row {row}: {room:?}");
 }
 
 /// Asserts what else the row says.

@@ -103,12 +103,6 @@ const UNKNOWN: &[TextRow] = &[
     ),
 ];
 
-#[test]
-fn a_text_is_filled_where_it_has_room_and_known_options(rt: HostRuntime) {
-    assert_texts(&rt, ROOM);
-    assert_texts(&rt, UNKNOWN);
-}
-
 /// Options and a text; the filled text. Each of these options alone changes what is written.
 const FILLED: &[(TextwrapOptions<'_>, &[u8], &[u8])] = &[
     (
@@ -224,6 +218,34 @@ const FILLED: &[(TextwrapOptions<'_>, &[u8], &[u8])] = &[
         b"foo bar\nbaz qu",
         b"* foo bar\n    baz\n    qu",
     ),
+    // No text is wider than the greatest width.
+    (
+        TextwrapOptions {
+            width: usize::MAX,
+            ..DEFAULTS
+        },
+        HAMLET,
+        HAMLET,
+    ),
+    (
+        TextwrapOptions {
+            initial_indent: b"* ",
+            width: usize::MAX,
+            ..DEFAULTS
+        },
+        b"foo bar",
+        b"* foo bar",
+    ),
+    (
+        TextwrapOptions {
+            optimal_fit: 0,
+            initial_indent: b"* ",
+            width: usize::MAX,
+            ..DEFAULTS
+        },
+        b"foo bar",
+        b"* foo bar",
+    ),
 ];
 
 #[test]
@@ -277,12 +299,6 @@ const UNFILLED: &[TextRow] = &[
     (TextCall::Unfill, b"\n > ", DONE, 6, b" >  > __"),
     (TextCall::Unfill, b"\r\n >\r\n", DONE, 6, b" >\r\n >______"),
 ];
-
-#[test]
-fn a_text_is_unfilled_refilled_indented_and_dedented(rt: HostRuntime) {
-    assert_texts(&rt, INDENTED);
-    assert_texts(&rt, UNFILLED);
-}
 
 /// A line stands where the number of the alignment says. That the number is known is found out before
 /// the line is read.
@@ -379,7 +395,11 @@ const WIDENED: &[TextRow] = &[
 ];
 
 #[test]
-fn a_line_is_aligned_justified_and_shortened(rt: HostRuntime) {
+fn texts_are_written_where_there_is_room_and_options_are_known(rt: HostRuntime) {
+    assert_texts(&rt, ROOM);
+    assert_texts(&rt, UNKNOWN);
+    assert_texts(&rt, INDENTED);
+    assert_texts(&rt, UNFILLED);
     assert_texts(&rt, ALIGNED);
     assert_texts(&rt, WIDENED);
 }

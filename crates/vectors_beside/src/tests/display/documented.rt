@@ -1,11 +1,10 @@
 //! The examples that others document, and what they become here.
-use super::super::plain::{assert_count, assert_text};
+use super::super::plain::{assert_count, assert_holds};
 use super::Change::Shortened;
 use super::assert_changed;
 use super::styles::assert_wrapped_and_carried;
-use std::alloc::AllocError;
+use std::alloc::{AllocError, Global};
 use std::process::Abort;
-use std::test::Fail;
 use textwrap::words::strip_ansi_escape_sequences;
 
 /// Of the function `shorten` of Python's module `textwrap`: the text, the width and the placeholder,
@@ -18,11 +17,10 @@ const PYTHON: &[(&str, usize, &str, &str, &str)] = &[
 ];
 
 #[test]
-fn texts_are_shortened_as_in_python(rt: HostRuntime) -> Result<(), Fail> {
+fn texts_are_shortened_as_in_python(rt: HostRuntime) {
     for &(line, width, placeholder, _, here) in PYTHON {
-        assert_changed(&rt, (line, Shortened(placeholder), line, width, here))?;
+        assert_changed(&rt, (line, Shortened(placeholder), line, width, here));
     }
-    Ok(())
 }
 
 /// Of `wrap-ansi`: the text, the width, the lines that its version 8.1.0 returns, and those here.
@@ -55,26 +53,34 @@ const WRAP_ANSI: &[(&str, usize, &[&str], &[&str])] = &[
             "\x1b]8;;https://www.example.com\x07us\x1b]8;;\x07."]),
 ];
 
-/// Asserts that two lines show the same text.
-fn assert_same_shown(
-    rt: &(impl Abort + AllocGlobal),
-    line: &str,
-    other: &str,
-) -> Result<(), AllocError> {
-    let shown = strip_ansi_escape_sequences(rt.alloc(), line)?;
-    let other_shown = strip_ansi_escape_sequences(rt.alloc(), other)?;
-    assert_text(rt, line, &shown, &other_shown);
-    Ok(())
+/// `strip_ansi_escape_sequences`.
+fn plain_strip(alloc: Global, line: &str) -> Result<String, AllocError> {
+    strip_ansi_escape_sequences(alloc, line)
+}
+
+/// Whether two lines show the same text.
+fn is_same_shown(alloc: Global, line: &str, other: &str) -> Result<bool, AllocError> {
+    let shown = plain_strip(alloc, line)?;
+    let other_shown = plain_strip(alloc, other)?;
+    Ok(shown == other_shown)
+}
+
+/// Asserts that lines show the same texts as others.
+fn assert_same_shown(rt: &(impl Abort + AllocGlobal), lines: &[&str], others: &[&str]) {
+    for (line, other) in lines.iter().zip(others) {
+        assert_holds(
+            rt,
+            line,
+            is_same_shown(rt.alloc(), line, other).expect(rt, line),
+        );
+    }
+    assert_count(rt, "lines", lines.len(), others.len());
 }
 
 #[test]
-fn styles_are_carried_as_in_wrap_ansi(rt: HostRuntime) -> Result<(), Fail> {
+fn styles_are_carried_as_in_wrap_ansi(rt: HostRuntime) {
     for &(text, width, there, here) in WRAP_ANSI {
-        assert_wrapped_and_carried(&rt, text, width, ["", ""], here)?;
-        assert_count(&rt, text, here.len(), there.len());
-        for (here, there) in here.iter().zip(there) {
-            assert_same_shown(&rt, here, there)?;
-        }
+        assert_wrapped_and_carried(&rt, text, width, ["", ""], here);
+        assert_same_shown(&rt, here, there);
     }
-    Ok(())
 }

@@ -1,9 +1,10 @@
 //! Texts that are filled with their lines justified.
-use super::super::plain::{assert_count, assert_holds, assert_text, plain_fill_justified};
+use super::super::plain::{
+    assert_count, assert_gives, assert_holds, plain_fill_justified, plain_options,
+};
 use LineEnding::{CRLF, LF};
 use fakes::heap::Heap;
 use std::process::Abort;
-use std::test::Fail;
 use textwrap::wrap_algorithms::LineEnds;
 use textwrap::{LineEnding, Options, WrapAlgorithm, WrapError};
 use textwrap_vectors::functions::{end_all, end_early, end_twice};
@@ -73,16 +74,16 @@ fn assert_filled(
     (rule, text, width, initial, later, wanted): Row,
     line_ending: LineEnding,
     keeps_blanks: bool,
-) -> Result<(), WrapError> {
-    let options = Options::new(width)
-        .initial_indent(initial)
-        .subsequent_indent(later)
+) {
+    let options = plain_options(width, initial, later, WrapAlgorithm::FirstFit)
         .line_ending(line_ending)
-        .preserve_trailing_space(keeps_blanks)
-        .wrap_algorithm(WrapAlgorithm::FirstFit);
-    let filled = plain_fill_justified(rt.alloc(), text, options)?;
-    assert_text(rt, rule, &filled, wanted);
-    Ok(())
+        .preserve_trailing_space(keeps_blanks);
+    assert_gives(
+        rt,
+        rule,
+        plain_fill_justified(rt.alloc(), text, options),
+        wanted,
+    );
 }
 
 /// Asserts this of each row.
@@ -91,58 +92,54 @@ fn assert_all_filled(
     rows: &[Row],
     line_ending: LineEnding,
     keeps_blanks: bool,
-) -> Result<(), WrapError> {
+) {
     for &row in rows {
-        assert_filled(rt, row, line_ending, keeps_blanks)?;
+        assert_filled(rt, row, line_ending, keeps_blanks);
     }
-    Ok(())
 }
 
 #[test]
-fn texts_are_filled(rt: HostRuntime) -> Result<(), Fail> {
-    assert_all_filled(&rt, FILLED, LF, false)?;
-    assert_all_filled(&rt, PRESERVED, LF, true)?;
-    assert_all_filled(&rt, IN_CRLF, CRLF, false)?;
-    Ok(())
+fn texts_are_filled(rt: HostRuntime) {
+    assert_all_filled(&rt, FILLED, LF, false);
+    assert_all_filled(&rt, PRESERVED, LF, true);
+    assert_all_filled(&rt, IN_CRLF, CRLF, false);
 }
 
 #[test]
-fn the_default_is_the_least_cost(rt: HostRuntime) -> Result<(), Fail> {
-    let filled = plain_fill_justified(rt.alloc(), "one two three four", Options::new(10))?;
-    assert_text(&rt, "by default", &filled, "one    two\nthree four");
-    Ok(())
+fn the_default_is_the_least_cost(rt: HostRuntime) {
+    let filled = plain_fill_justified(rt.alloc(), "one two three four", Options::new(10));
+    assert_gives(&rt, "by default", filled, "one    two\nthree four");
 }
 
-/// Asserts what becomes of a text where a function of the caller ends the lines.
-fn assert_ended(
-    rt: &(impl Abort + AllocGlobal),
-    ends: LineEnds,
-    text: &str,
-    wanted: &str,
-) -> Result<(), WrapError> {
+/// Asserts what becomes of a text where a function of the caller ends the lines. The options are made
+/// here, by their own methods: a function that is handed another is not covered by the borrow checker
+/// if it calls a third that gives options with it.
+fn assert_ended(rt: &(impl Abort + AllocGlobal), ends: LineEnds, text: &str, wanted: &str) {
     let options = Options::new(8)
         .initial_indent("> ")
         .subsequent_indent("  ")
         .break_words(false)
         .wrap_algorithm(WrapAlgorithm::Custom(ends));
-    let filled = plain_fill_justified(rt.alloc(), text, options)?;
-    assert_text(rt, text, &filled, wanted);
-    Ok(())
+    assert_gives(
+        rt,
+        text,
+        plain_fill_justified(rt.alloc(), text, options),
+        wanted,
+    );
 }
 
 /// A line that is not full, words that are in no line, a line without words, and paragraphs without
 /// lines, before the first one and after it.
 #[test]
-fn lines_are_those_of_a_caller(rt: HostRuntime) -> Result<(), Fail> {
+fn lines_are_those_of_a_caller(rt: HostRuntime) {
     let all = LineEnds::new(rt.alloc(), end_all);
-    assert_ended(&rt, all, "a b c d e f", "> a\n  b    c\n  d e f")?;
+    assert_ended(&rt, all, "a b c d e f", "> a\n  b    c\n  d e f");
     let early = LineEnds::new(rt.alloc(), end_early);
-    assert_ended(&rt, early, "a b c d e f", "> a\n  b c")?;
+    assert_ended(&rt, early, "a b c d e f", "> a\n  b c");
     let twice = LineEnds::new(rt.alloc(), end_twice);
-    assert_ended(&rt, twice, "a b c d e f", "> a\n\n  b c d e f")?;
-    assert_ended(&rt, all, "x\na b c d e f\ny", "> a\n  b    c\n  d e f")?;
-    assert_ended(&rt, all, "x", "")?;
-    Ok(())
+    assert_ended(&rt, twice, "a b c d e f", "> a\n\n  b c d e f");
+    assert_ended(&rt, all, "x\na b c d e f\ny", "> a\n  b    c\n  d e f");
+    assert_ended(&rt, all, "x", "");
 }
 
 /// The rule, what is repeated, how often, the columns, and the bytes of the text filled by the default
@@ -157,19 +154,17 @@ const LONG: &[(&str, &str, usize, usize, usize)] = &[
 fn assert_long(
     rt: &(impl Abort + AllocGlobal),
     (rule, part, times, width, len): (&str, &str, usize, usize, usize),
-) -> Result<(), WrapError> {
-    let text = part.repeat(rt.alloc(), times)?;
-    let filled = plain_fill_justified(rt.alloc(), &text, Options::new(width))?;
+) {
+    let text = part.repeat(rt.alloc(), times).expect(rt, rule);
+    let filled = plain_fill_justified(rt.alloc(), &text, Options::new(width)).expect(rt, rule);
     assert_count(rt, rule, filled.len(), len);
-    Ok(())
 }
 
 #[test]
-fn long_texts_are_filled(rt: HostRuntime) -> Result<(), Fail> {
+fn long_texts_are_filled(rt: HostRuntime) {
     for &row in LONG {
-        assert_long(&rt, row)?;
+        assert_long(&rt, row);
     }
-    Ok(())
 }
 
 /// A line that fits no memory is refused at once, and not once it is half written.
@@ -186,7 +181,7 @@ fn widths_past_any_memory_are_refused(rt: HostRuntime) {
 
 /// Whether two paragraphs are filled as they are to be.
 pub fn is_filled(heap: &Heap) -> Result<bool, WrapError> {
-    let options = Options::new(6).initial_indent("- ").subsequent_indent("  ");
+    let options = plain_options(6, "- ", "  ", WrapAlgorithm::new());
     let filled = plain_fill_justified(heap, "a b c\nd e f", options)?;
     Ok(filled.as_str() == "- a  b\n  c\n  d  e\n  f")
 }

@@ -6,7 +6,6 @@ use fakes::heap::Heap;
 use std::alloc::{AllocError, Allocator};
 use std::borrow::CowStr;
 use std::process::Abort;
-use std::test::Fail;
 
 /// Lines that are cut.
 #[rattlefmt::skip]
@@ -59,6 +58,7 @@ const FEWER: &[(&str, usize, &[&str])] = &[
     ("an empty line", 4, &["one two three", "four", "five  ", " .."]),
     ("as many as there are, with nothing cut", 5, &["one two three", "four", "five  ", "", "six seven eight"]),
     ("more than there are", 6, &["one two three", "four", "five  ", "", "six seven eight"]),
+    ("as many as may be", usize::MAX, &["one two three", "four", "five  ", "", "six seven eight"]),
 ];
 
 const LINES: [&str; 5] = ["one two three", "four", "five  ", "", "six seven eight"];
@@ -77,36 +77,23 @@ fn lines<A: Allocator + Copy>(alloc: A) -> Result<Vec<CowStr<'static, A>, A>, Al
 }
 
 #[test]
-fn wide_lines_are_cut(rt: HostRuntime) -> Result<(), Fail> {
-    assert_all_changed(&rt, SHORTENED)?;
-    Ok(())
-}
-
-#[test]
-fn other_lines_stay(rt: HostRuntime) -> Result<(), Fail> {
-    assert_all_changed(&rt, KEPT)?;
-    Ok(())
+fn wide_lines_are_cut_and_others_stay(rt: HostRuntime) {
+    assert_all_changed(&rt, SHORTENED);
+    assert_all_changed(&rt, KEPT);
 }
 
 /// Asserts what becomes of `LINES`, of which as few are copied as are cut.
-fn assert_fewer(
-    rt: &(impl Abort + AllocGlobal),
-    rule: &str,
-    most: usize,
-    wanted: &[&str],
-) -> Result<(), AllocError> {
-    let lines = lines(rt.alloc())?;
-    let short = plain_shorten_lines(rt.alloc(), &lines, most, 10, " ..")?;
+fn assert_fewer(rt: &(impl Abort + AllocGlobal), rule: &str, most: usize, wanted: &[&str]) {
+    let lines = lines(rt.alloc()).expect(rt, rule);
+    let short = plain_shorten_lines(rt.alloc(), &lines, most, 10, " ..").expect(rt, rule);
     assert_lines(rt, rule, &lines, &short, wanted);
-    Ok(())
 }
 
 #[test]
-fn lines_are_left_out(rt: HostRuntime) -> Result<(), Fail> {
+fn lines_are_left_out(rt: HostRuntime) {
     for &(rule, most, wanted) in FEWER {
-        assert_fewer(&rt, rule, most, wanted)?;
+        assert_fewer(&rt, rule, most, wanted);
     }
-    Ok(())
 }
 
 /// Whether `LINES` become two where so many allocations are allowed once the lines are made.

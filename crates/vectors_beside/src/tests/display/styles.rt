@@ -1,11 +1,12 @@
 //! Styles and links that go on over the ends of lines.
-use super::super::plain::{assert_count, assert_holds, assert_lines, plain_carry_styles};
+use super::super::plain::{
+    assert_count, assert_holds, assert_lines, plain_carry_styles, plain_options, plain_wrap,
+};
 use fakes::heap::Heap;
 use std::alloc::{AllocError, Allocator, Global};
 use std::borrow::CowStr;
 use std::process::Abort;
-use std::test::Fail;
-use textwrap::{Options, WrapAlgorithm, WrapError, wrap};
+use textwrap::{Options, WrapAlgorithm};
 
 /// The rule, the two indents, the lines, and what they become. A line that stays is not copied.
 #[rattlefmt::skip]
@@ -127,22 +128,18 @@ fn assert_carried(
     [initial, later]: [&str; 2],
     texts: &[&'static str],
     wanted: &[&str],
-) -> Result<(), AllocError> {
-    let lines = lines(rt.alloc(), texts)?;
-    let options = Options::new(0)
-        .initial_indent(initial)
-        .subsequent_indent(later);
-    let carried = plain_carry_styles(rt.alloc(), &lines, &options)?;
+) {
+    let lines = lines(rt.alloc(), texts).expect(rt, rule);
+    let options = plain_options(0, initial, later, WrapAlgorithm::FirstFit);
+    let carried = plain_carry_styles(rt.alloc(), &lines, &options).expect(rt, rule);
     assert_lines(rt, rule, &lines, &carried, wanted);
-    Ok(())
 }
 
 #[test]
-fn styles_are_carried(rt: HostRuntime) -> Result<(), Fail> {
+fn styles_are_carried(rt: HostRuntime) {
     for &(rule, indents, texts, wanted) in CARRIED {
-        assert_carried(&rt, rule, indents, texts, wanted)?;
+        assert_carried(&rt, rule, indents, texts, wanted);
     }
-    Ok(())
 }
 
 /// Asserts what the lines of a text become, by first fit.
@@ -152,23 +149,18 @@ pub fn assert_wrapped_and_carried(
     width: usize,
     [initial, later]: [&str; 2],
     wanted: &[&str],
-) -> Result<(), WrapError> {
-    let options = Options::new(width)
-        .initial_indent(initial)
-        .subsequent_indent(later)
-        .wrap_algorithm(WrapAlgorithm::FirstFit);
-    let lines = wrap(rt.alloc(), text, Options::from(&options))?;
-    let carried = plain_carry_styles(rt.alloc(), &lines, &options)?;
+) {
+    let options = plain_options(width, initial, later, WrapAlgorithm::FirstFit);
+    let lines = plain_wrap(rt.alloc(), text, Options::from(&options)).expect(rt, text);
+    let carried = plain_carry_styles(rt.alloc(), &lines, &options).expect(rt, text);
     assert_lines(rt, text, &lines, &carried, wanted);
-    Ok(())
 }
 
 #[test]
-fn wrapped_lines_are_carried(rt: HostRuntime) -> Result<(), Fail> {
+fn wrapped_lines_are_carried(rt: HostRuntime) {
     let text = "one \x1b[1mtwo three\x1b[0m four";
     let wanted = ["* one \x1b[1mtwo\x1b[0m", "  \x1b[1mthree\x1b[0m", "  four"];
-    assert_wrapped_and_carried(&rt, text, 9, ["* ", "  "], &wanted)?;
-    Ok(())
+    assert_wrapped_and_carried(&rt, text, 9, ["* ", "  "], &wanted);
 }
 
 /// So many lines after one that begins a link, each of which begins a style.
@@ -181,22 +173,19 @@ fn many_lines<'l>(alloc: Global, count: usize) -> Result<Vec<CowStr<'l>>, AllocE
     Ok(lines)
 }
 
-/// Whether the last of the lines has this text.
-fn is_last(lines: &[CowStr<'_>], text: &str) -> bool {
-    match lines.last() {
-        Some(line) => line.as_str() == text,
-        None => false,
-    }
+/// Asserts how many lines there are, and what the last is.
+fn assert_last(rt: &impl Abort, lines: &[CowStr<'_>], count: usize, text: &str) {
+    assert_count(rt, "lines", lines.len(), count);
+    let last = lines.last().map(|line| line.as_str());
+    assert_holds(rt, "the last", last == Some(text));
 }
 
 #[test]
-fn many_lines_are_carried(rt: HostRuntime) -> Result<(), Fail> {
-    let lines = many_lines(rt.alloc(), 9_999)?;
-    let carried = plain_carry_styles(rt.alloc(), &lines, &Options::new(0))?;
-    assert_count(&rt, "lines", carried.len(), 10_000);
+fn many_lines_are_carried(rt: HostRuntime) {
+    let lines = many_lines(rt.alloc(), 9_999).expect(&rt, "lines");
+    let carried = plain_carry_styles(rt.alloc(), &lines, &Options::new(0)).expect(&rt, "carried");
     let last = "\x1b]8;;u\x07\x1b[1mmore \x1b[0m\x1b[1mwords\x1b[0m\x1b]8;;\x1b\\";
-    assert_holds(&rt, "the last", is_last(&carried, last));
-    Ok(())
+    assert_last(&rt, &carried, 10_000, last);
 }
 
 /// Whether as many lines come of these where so many allocations are allowed once the lines are made.

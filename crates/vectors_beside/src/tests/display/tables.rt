@@ -1,10 +1,9 @@
 //! Texts in the columns of a table.
-use super::super::plain::{are_texts, assert_count, assert_text};
+use super::super::plain::{assert_count, assert_gives_texts, assert_text};
 use Alignment::{Centre, Left, Right};
 use fakes::heap::Heap;
 use std::alloc::{Allocator, Global};
 use std::process::Abort;
-use std::test::Fail;
 use textwrap::{Options, WrapAlgorithm, WrapError};
 use textwrap_display::{Alignment, Column, Gaps, table};
 
@@ -81,35 +80,24 @@ fn rows_of<A: Allocator + Copy>(
         let options = Options::new(width).wrap_algorithm(WrapAlgorithm::FirstFit);
         columns.push(Column { options, alignment })?;
     }
-    let rows = table(alloc, texts, &columns, gaps)?;
-    Ok(rows)
+    plain_table(alloc, texts, &columns, gaps)
 }
 
-/// Asserts what the rows of texts are.
-fn assert_table(
-    rt: &(impl Abort + AllocGlobal),
-    rule: &str,
-    shapes: &[(usize, Alignment)],
+/// `table`.
+fn plain_table<A: Allocator + Copy>(
+    alloc: A,
     texts: &[&str],
+    columns: &[Column<'_>],
     gaps: &Gaps<'_>,
-    wanted: &[&str],
-) -> Result<(), WrapError> {
-    let rows = rows_of(rt.alloc(), shapes, texts, gaps)?;
-    assert_rows(rt, rule, &rows, wanted);
-    Ok(())
-}
-
-/// Asserts that rows are these.
-fn assert_rows(rt: &impl Abort, rule: &str, rows: &[String], wanted: &[&str]) {
-    assert!(rt; are_texts(rows, wanted), "{rule}: {rows:?}");
+) -> Result<Vec<String<A>, A>, WrapError> {
+    table(alloc, texts, columns, gaps)
 }
 
 #[test]
-fn texts_stand_in_their_columns(rt: HostRuntime) -> Result<(), Fail> {
+fn texts_stand_in_their_columns(rt: HostRuntime) {
     for &(rule, shapes, texts, wanted) in TABLES {
-        assert_table(&rt, rule, shapes, texts, &BARS, wanted)?;
+        assert_gives_texts(&rt, rule, rows_of(rt.alloc(), shapes, texts, &BARS), wanted);
     }
-    Ok(())
 }
 
 const HELP_GAPS: Gaps<'static> = Gaps {
@@ -140,9 +128,9 @@ const HELP_ROWS: &[&str] = &[
 ];
 
 #[test]
-fn a_help_text_has_two_columns(rt: HostRuntime) -> Result<(), Fail> {
-    assert_table(&rt, "help", HELP_SHAPES, HELP, &HELP_GAPS, HELP_ROWS)?;
-    Ok(())
+fn a_help_text_has_two_columns(rt: HostRuntime) {
+    let rows = rows_of(rt.alloc(), HELP_SHAPES, HELP, &HELP_GAPS);
+    assert_gives_texts(&rt, "help", rows, HELP_ROWS);
 }
 
 /// The rows of three texts in columns with options of their own.
@@ -161,29 +149,26 @@ fn rows_by_options(alloc: Global, texts: &[&str]) -> Result<Vec<String>, WrapErr
             alignment: Right,
         },
     ];
-    let rows = table(alloc, texts, &columns, &BARS)?;
-    Ok(rows)
+    plain_table(alloc, texts, &columns, &BARS)
 }
 
 /// Each column has options of its own: a word that is not broken passes its column, and an indent
 /// is a part of the line.
 #[test]
-fn columns_have_their_own_options(rt: HostRuntime) -> Result<(), Fail> {
-    let rows = rows_by_options(rt.alloc(), &["foobar ab", "one two", "abcd"])?;
+fn columns_have_their_own_options(rt: HostRuntime) {
+    let rows = rows_by_options(rt.alloc(), &["foobar ab", "one two", "abcd"]);
     let wanted = ["|foobar|- one  |abc|", "|ab |  two  |  d|"];
-    assert_rows(&rt, "options", &rows, &wanted);
-    Ok(())
+    assert_gives_texts(&rt, "options", rows, &wanted);
 }
 
 const TWO_COLUMNS: &[(usize, Alignment)] = &[(1, Left), (1, Left)];
 
 /// A cell of many lines beside one of a single line.
 #[test]
-fn a_high_row_is_made(rt: HostRuntime) -> Result<(), Fail> {
-    let text = "a\n".repeat(rt.alloc(), 20_000)?;
-    let rows = rows_of(rt.alloc(), TWO_COLUMNS, &[&text, "b"], &BARS)?;
+fn a_high_row_is_made(rt: HostRuntime) {
+    let text = "a\n".repeat(rt.alloc(), 20_000).expect(&rt, "text");
+    let rows = rows_of(rt.alloc(), TWO_COLUMNS, &[&text, "b"], &BARS).expect(&rt, "rows");
     assert_high_row(&rt, &rows);
-    Ok(())
 }
 
 /// Asserts that the first row has both texts, the last none, and each other the left one.
@@ -201,14 +186,27 @@ fn assert_high_row(rt: &impl Abort, rows: &[String]) {
 
 /// Many cells beside one another, where one at the end is missing: each row has two lines.
 #[test]
-fn many_rows_are_made(rt: HostRuntime) -> Result<(), Fail> {
-    let mut texts = Vec::new(rt.alloc());
-    for _ in 0..9_999 {
-        texts.push("c d")?;
-    }
-    let rows = rows_of(rt.alloc(), TWO_COLUMNS, &texts, &BARS)?;
+fn many_rows_are_made(rt: HostRuntime) {
+    let texts = vec![in rt.alloc(); "c d"; 9_999].expect(&rt, "texts");
+    let rows = rows_of(rt.alloc(), TWO_COLUMNS, &texts, &BARS).expect(&rt, "rows");
     assert_count(&rt, "rows", rows.len(), 10_000);
-    Ok(())
+}
+
+/// A row of 200 cells.
+const ROW_OF_200: &str =
+    "|a|a|a|a|a|a|a|a|a|a|a|a|a|a|a|a|a|a|a|a|a|a|a|a|a|a|a|a|a|a|a|a|a|a|a|a|a|a|a|a|a|a|a|a|a\
+|a|a|a|a|a|a|a|a|a|a|a|a|a|a|a|a|a|a|a|a|a|a|a|a|a|a|a|a|a|a|a|a|a|a|a|a|a|a|a|a|a|a|a|a|a\
+|a|a|a|a|a|a|a|a|a|a|a|a|a|a|a|a|a|a|a|a|a|a|a|a|a|a|a|a|a|a|a|a|a|a|a|a|a|a|a|a|a|a|a|a|a\
+|a|a|a|a|a|a|a|a|a|a|a|a|a|a|a|a|a|a|a|a|a|a|a|a|a|a|a|a|a|a|a|a|a|a|a|a|a|a|a|a|a|a|a|a|a\
+|a|a|a|a|a|a|a|a|a|a|a|a|a|a|a|a|a|a|a|a|";
+
+/// Many columns beside one another, in two rows.
+#[test]
+fn many_columns_are_made(rt: HostRuntime) {
+    let shapes = vec![in rt.alloc(); (1, Left); 200].expect(&rt, "columns");
+    let texts = vec![in rt.alloc(); "a"; 400].expect(&rt, "texts");
+    let rows = rows_of(rt.alloc(), &shapes, &texts, &BARS);
+    assert_gives_texts(&rt, "200 columns", rows, &[ROW_OF_200, ROW_OF_200]);
 }
 
 /// Columns that fit no memory, alone or together.

@@ -3,9 +3,7 @@ use super::super::plain::{assert_count, assert_holds};
 use super::Change::{Aligned, Justified, Shortened};
 use super::{Change, LineRow, assert_all_changed, changed};
 use Alignment::{Centre, Left, Right};
-use std::alloc::AllocError;
 use std::process::Abort;
-use std::test::Fail;
 use textwrap_display::Alignment;
 
 /// Lines that are aligned.
@@ -29,6 +27,15 @@ const ALIGNED: &[LineRow] = &[
     ("blanks at the ends count", Aligned(Left), " a ", 5, " a   "),
     ("blanks at the ends count", Aligned(Right), " a ", 5, "   a "),
     ("blanks at the ends count", Aligned(Centre), " a ", 5, "  a  "),
+    ("blanks inside count", Aligned(Left), "a few words", 12, "a few words "),
+    ("blanks inside count", Aligned(Right), "a few words", 12, " a few words"),
+    ("blanks inside count", Aligned(Centre), "a few words", 12, "a few words "),
+    ("blanks before the first word count", Aligned(Left), "  a b c", 9, "  a b c  "),
+    ("blanks before the first word count", Aligned(Right), "  a b c", 9, "    a b c"),
+    ("blanks before the first word count", Aligned(Centre), "  a b c", 9, "   a b c "),
+    ("wide characters with a blank", Aligned(Left), "日 本", 7, "日 本  "),
+    ("wide characters with a blank", Aligned(Right), "日 本", 7, "  日 本"),
+    ("wide characters with a blank", Aligned(Centre), "日 本", 7, " 日 本 "),
     ("an empty line", Aligned(Left), "", 2, "  "),
     ("an empty line", Aligned(Right), "", 2, "  "),
     ("an empty line", Aligned(Centre), "", 2, "  "),
@@ -63,29 +70,18 @@ const KEPT: &[LineRow] = &[
 ];
 
 #[test]
-fn lines_are_aligned(rt: HostRuntime) -> Result<(), Fail> {
-    assert_all_changed(&rt, ALIGNED)?;
-    Ok(())
+fn lines_are_aligned_and_justified(rt: HostRuntime) {
+    assert_all_changed(&rt, ALIGNED);
+    assert_all_changed(&rt, JUSTIFIED);
+    assert_all_changed(&rt, KEPT);
 }
 
-#[test]
-fn lines_are_justified(rt: HostRuntime) -> Result<(), Fail> {
-    assert_all_changed(&rt, JUSTIFIED)?;
-    Ok(())
-}
-
-#[test]
-fn wide_lines_stay(rt: HostRuntime) -> Result<(), Fail> {
-    assert_all_changed(&rt, KEPT)?;
-    Ok(())
-}
-
-/// The rule, the call, how many words of five columns the line has, the columns, the bytes of the new
-/// line, and what it begins and ends with.
+/// The rule, the call, what the line is made of and how often, the columns, the bytes of the new line,
+/// and what it begins and ends with.
 type LongRow = (
     &'static str,
     Change<'static>,
-    usize,
+    (&'static str, usize),
     usize,
     usize,
     &'static str,
@@ -94,31 +90,33 @@ type LongRow = (
 
 #[rattlefmt::skip]
 const LONG: &[LongRow] = &[
-    ("a cut one column before the end", Shortened("..."), 200_000, 999_999, 999_994 + 3, "word ", "word..."),
-    ("a line that loses nearly all", Shortened(" ..."), 200_000, 80, 74 + 4, "word ", "word ..."),
-    ("blanks in each gap", Justified, 10_000, 70_000, 70_000, "word ", "word "),
-    ("blanks before the line", Aligned(Right), 10_000, 70_000, 70_000, "  ", "word word "),
+    ("a cut one column before the end", Shortened("..."), ("word ", 200_000), 999_999, 999_994 + 3, "word ", "word..."),
+    ("a line that loses nearly all", Shortened(" ..."), ("word ", 200_000), 80, 74 + 4, "word ", "word ..."),
+    ("blanks in each gap", Justified, ("word ", 10_000), 70_000, 70_000, "word ", "word "),
+    ("blanks before the line", Aligned(Right), ("word ", 10_000), 70_000, 70_000, "  ", "word word "),
+    ("an empty line", Aligned(Left), ("", 1), 10_000, 10_000, "  ", "  "),
+    ("an empty line", Aligned(Right), ("", 1), 10_000, 10_000, "  ", "  "),
+    ("an empty line", Aligned(Centre), ("", 1), 10_000, 10_000, "  ", "  "),
+    ("gaps of 5,000 blanks", Justified, ("a ", 10), 45_011, 45_011, "a  ", "  a "),
 ];
 
-/// Asserts what a line of so many words becomes.
+/// Asserts what a line of so many parts becomes.
 fn assert_long(
     rt: &(impl Abort + AllocGlobal),
-    (rule, change, words, width, len, start, end): LongRow,
-) -> Result<(), AllocError> {
-    let line = "word ".repeat(rt.alloc(), words)?;
-    let found = changed(rt.alloc(), change, &line, width)?;
+    (rule, change, (part, times), width, len, start, end): LongRow,
+) {
+    let line = part.repeat(rt.alloc(), times).expect(rt, rule);
+    let found = changed(rt.alloc(), change, &line, width).expect(rt, rule);
     assert_count(rt, rule, found.len(), len);
     assert_holds(rt, rule, found.starts_with(start));
     assert_holds(rt, rule, found.ends_with(end));
-    Ok(())
 }
 
 #[test]
-fn long_lines_are_changed(rt: HostRuntime) -> Result<(), Fail> {
+fn long_lines_are_changed(rt: HostRuntime) {
     for &row in LONG {
-        assert_long(&rt, row)?;
+        assert_long(&rt, row);
     }
-    Ok(())
 }
 
 /// Widths that fit no memory.

@@ -1,5 +1,6 @@
 //! Files of the file system, in a folder of their own.
-use super::plain::{SOUND, WRITTEN_AT_ONCE, assert_number, strings};
+use super::folder::WRITTEN_AT_ONCE;
+use super::plain::{SOUND, assert_number, strings};
 use fakes::streams::{Sink, SinkFault};
 use reflow_program::disk::Disk;
 use reflow_program::files::Files;
@@ -268,10 +269,10 @@ fn assert_drafts_are_made_and_removed(
 
 /// The path of a new folder of the process of this number.
 fn made_folder(rt: &(impl rt::Runtime + AllocGlobal), process: u32) -> io::Result<String> {
-    let name = format!(in rt.alloc(); "reflow-test-{process}")?;
-    let folder = env::temp_dir(rt)?.join(rt.alloc(), name.as_str())?;
-    fs::create_dir(rt, folder.as_path())?;
-    Ok(folder.into_string())
+    let temporary = env::temp_dir(rt)?.into_string();
+    let folder = format!(in rt.alloc(); "{temporary}/reflow-test-{process}")?;
+    fs::create_dir(rt, folder.as_str())?;
+    Ok(folder)
 }
 
 #[test]

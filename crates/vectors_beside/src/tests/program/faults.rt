@@ -1,16 +1,16 @@
 //! Reads and writes of the standard streams that fail, and texts that come and go in pieces.
 use super::folder::{FileFault, Given};
 use super::plain::{
-    Faults, SOUND, Start, assert_bytes, assert_ending, assert_number, assert_reflowed, run,
+    Faults, SOUND, Start, assert_ending, assert_left, assert_number, assert_reflowed, run,
 };
 use fakes::streams::{FeedFault, SinkFault};
-use std::alloc::AllocError;
 use std::io::ErrorKind;
 use std::process::Abort;
 
 const FILES: &[Given] = &[
     ("a", b"one two three four\n", FileFault::Nothing),
     ("b", b"five six seven\n", FileFault::Nothing),
+    ("empty", b"", FileFault::Nothing),
 ];
 
 /// What a row shows, its words, the standard input, what goes wrong with that, with the output and
@@ -132,6 +132,19 @@ const FAULT_RUNS: &[FaultRun] = &[
         2,
     ),
     (
+        "the same of a file",
+        &["-w", "10", "empty", "a"],
+        b"",
+        (
+            FeedFault::Nothing,
+            SinkFault::FlushFails,
+            SinkFault::Nothing,
+        ),
+        "one two\nthree four\n",
+        "reflow: empty: cannot write\n",
+        2,
+    ),
+    (
         "a write fails at the first of two files",
         &["-w", "10", "a", "b"],
         b"",
@@ -200,7 +213,7 @@ const FAULT_RUNS: &[FaultRun] = &[
 
 /// Asserts what comes of a run, and that no file is replaced. It ends with whether each message was
 /// written whole.
-fn assert_fault_run(rt: &(impl Abort + AllocGlobal), row: &FaultRun) -> Result<(), AllocError> {
+fn assert_fault_run(rt: &(impl Abort + AllocGlobal), row: &FaultRun) {
     let &(rule, words, input, faults, output, messages, status) = row;
     let start = Start {
         words,
@@ -208,28 +221,29 @@ fn assert_fault_run(rt: &(impl Abort + AllocGlobal), row: &FaultRun) -> Result<(
         files: FILES,
         faults,
     };
-    let left = run(rt.alloc(), start)?;
-    assert_bytes(rt, rule, &left.output.taken, output.as_bytes());
-    assert_bytes(rt, rule, &left.messages.taken, messages.as_bytes());
+    let left = run(rt, rule, start);
+    assert_left(rt, rule, &left, (output.as_bytes(), messages.as_bytes()));
     let said = matches!(faults.2, SinkFault::Nothing);
     assert_ending(rt, rule, left.ending, status, said);
     assert_number(rt, rule, left.folder.replaced, 0);
-    Ok(())
 }
 
 #[test]
-fn faults_of_the_streams_are_reported(rt: HostRuntime) -> Result<(), AllocError> {
+fn faults_of_the_streams_are_reported(rt: HostRuntime) {
     for row in FAULT_RUNS {
-        assert_fault_run(&rt, row)?;
+        assert_fault_run(&rt, row);
     }
-    Ok(())
 }
 
 /// A megabyte of paragraphs.
 #[test]
-fn a_large_text_is_reflowed_whole(rt: HostRuntime) -> Result<(), AllocError> {
-    let input = "- foo\n  bar\n  baz\n\n".repeat(rt.alloc(), 70_000)?;
-    let output = "- foo bar\n  baz\n\n".repeat(rt.alloc(), 70_000)?;
+fn a_large_text_is_reflowed_whole(rt: HostRuntime) {
+    let input = "- foo\n  bar\n  baz\n\n"
+        .repeat(rt.alloc(), 70_000)
+        .expect(&rt, "input");
+    let output = "- foo bar\n  baz\n\n"
+        .repeat(rt.alloc(), 70_000)
+        .expect(&rt, "output");
     let words = ["-w", "9", "--first-fit"];
-    assert_reflowed(&rt, "a large text", &words, &input, &output)
+    assert_reflowed(&rt, "a large text", &words, &input, &output);
 }

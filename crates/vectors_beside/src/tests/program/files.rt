@@ -1,8 +1,7 @@
 //! What becomes of files, one after another.
 use super::folder::{FileFault, Folder, Given};
-use super::plain::{SOUND, Start, assert_bytes, assert_ending, assert_number, run};
+use super::plain::{SOUND, Start, assert_bytes, assert_left, assert_number, assert_unread, run};
 use fakes::streams::{FeedFault, SinkFault};
-use std::alloc::AllocError;
 use std::io::ErrorKind;
 use std::process::Abort;
 
@@ -215,6 +214,26 @@ const FILE_RUNS: &[FileRun] = &[
         replaced: 0,
     },
     FileRun {
+        rule: "a check of a file that cannot be opened, of one that is not there, and of the others",
+        words: &["-w", "10", "--check", "b", "x", "a", "c"],
+        files: CLOSED,
+        output: "a\n",
+        messages: "reflow: b: cannot read\nreflow: x: cannot read\n",
+        status: 2,
+        after: &[COUNT, FIVE, EIGHT],
+        replaced: 0,
+    },
+    FileRun {
+        rule: "a check of nothing but a file that cannot be opened",
+        words: &["-w", "10", "--check", "b"],
+        files: CLOSED,
+        output: "",
+        messages: "reflow: b: cannot read\n",
+        status: 2,
+        after: &[COUNT, FIVE, EIGHT],
+        replaced: 0,
+    },
+    FileRun {
         rule: "a check counts for more than replacing",
         words: &["-w", "10", "--in-place", "--check", "a"],
         files: SOUND_FILES,
@@ -348,26 +367,27 @@ fn assert_folder(rt: &impl Abort, row: &FileRun, folder: &Folder) {
 }
 
 /// Asserts what comes of a run over files, and that it does not read the standard input.
-fn assert_file_run(rt: &(impl Abort + AllocGlobal), row: &FileRun) -> Result<(), AllocError> {
+fn assert_file_run(rt: &(impl Abort + AllocGlobal), row: &FileRun) {
     let start = Start {
         words: row.words,
         input: b"one two",
         files: row.files,
         faults: SOUND,
     };
-    let left = run(rt.alloc(), start)?;
-    assert_bytes(rt, row.rule, &left.output.taken, row.output.as_bytes());
-    assert_bytes(rt, row.rule, &left.messages.taken, row.messages.as_bytes());
-    assert_ending(rt, row.rule, left.ending, row.status, true);
-    assert_number(rt, row.rule, left.reader.reads, 0);
+    let left = run(rt, row.rule, start);
+    assert_left(
+        rt,
+        row.rule,
+        &left,
+        (row.output.as_bytes(), row.messages.as_bytes()),
+    );
+    assert_unread(rt, row.rule, &left, row.status);
     assert_folder(rt, row, &left.folder);
-    Ok(())
 }
 
 #[test]
-fn files_are_treated_one_after_another(rt: HostRuntime) -> Result<(), AllocError> {
+fn files_are_treated_one_after_another(rt: HostRuntime) {
     for row in FILE_RUNS {
-        assert_file_run(&rt, row)?;
+        assert_file_run(&rt, row);
     }
-    Ok(())
 }

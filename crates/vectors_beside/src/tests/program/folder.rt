@@ -1,10 +1,15 @@
 //! Files in memory, which fail where they are told to.
-use super::plain::{READ_AT_ONCE, WRITTEN_AT_ONCE};
 use fakes::streams::{Feed, FeedFault, Sink, SinkFault};
 use reflow_program::files::Files;
 use std::alloc::{AllocError, Global};
 use std::io;
 use std::io::ErrorKind;
+
+/// How many bytes the readers give at a time.
+pub const READ_AT_ONCE: usize = 3;
+
+/// How many bytes the writers take at a time.
+pub const WRITTEN_AT_ONCE: usize = 5;
 
 /// What goes wrong with a file.
 #[derive(Clone, Copy)]

@@ -1,11 +1,10 @@
 //! Where one allocation is refused, at each of them in turn.
-use super::folder::{FileFault, Folder, Given};
-use super::plain::{READ_AT_ONCE, WRITTEN_AT_ONCE, assert_bytes, assert_number};
+use super::folder::{FileFault, Folder, Given, READ_AT_ONCE, WRITTEN_AT_ONCE};
+use super::plain::{assert_bytes, assert_number};
 use fakes::heap::Heap;
 use fakes::streams::{Feed, FeedFault, Sink, SinkFault};
 use reflow_program::inputs::{check_input, print_input, replace_file};
 use reflow_program::layout::Layout;
-use std::alloc::AllocError;
 use std::process::Abort;
 use textwrap_program::filling::RunError;
 use textwrap_reflow::ReflowOptions;
@@ -80,11 +79,13 @@ fn assert_treated(
     &(rule, way, justifies, ..): &WayRun,
     done: Result<(), RunError>,
     (output, file): (&[u8], &[u8]),
-) -> Result<(), AllocError> {
+) {
     let options = ReflowOptions::new(10);
     let layout = Layout { options, justifies };
-    let mut folder = Folder::new(rt.alloc(), FILES)?;
-    let mut reader = Feed::new(rt.alloc(), HAMLET, READ_AT_ONCE, FeedFault::Nothing)?;
+    let mut folder = Folder::new(rt.alloc(), FILES).expect(rt, rule);
+    let mut reader = Feed::new(rt.alloc(), HAMLET, READ_AT_ONCE, FeedFault::Nothing).expect(
+        rt, rule,
+    );
     let mut writer = Sink::new(rt.alloc(), WRITTEN_AT_ONCE, SinkFault::Nothing);
     let treated = treat(heap, (way, &layout), &mut folder, &mut reader, &mut writer);
     assert_done(rt, rule, treated, done);
@@ -92,7 +93,6 @@ fn assert_treated(
     for held in &folder.held {
         assert_bytes(rt, rule, &held.bytes, file);
     }
-    Ok(())
 }
 
 /// Asserts that this is what a call returned.
@@ -107,17 +107,16 @@ fn assert_done(
 
 /// Where memory runs out nothing is written, and the file stays.
 #[test]
-fn an_input_out_of_memory_is_left_alone(rt: HostRuntime) -> Result<(), AllocError> {
+fn an_input_out_of_memory_is_left_alone(rt: HostRuntime) {
     let heap = Heap::new(rt.alloc(), 0);
     for row in WAYS {
         let &(rule, _, _, refusals, output, file) = row;
         for allowed in 0..refusals {
             heap.allow(allowed);
-            assert_treated(&rt, &heap, row, Err(RunError::Memory), (b"", HAMLET))?;
+            assert_treated(&rt, &heap, row, Err(RunError::Memory), (b"", HAMLET));
         }
         heap.allow(refusals);
-        assert_treated(&rt, &heap, row, Ok(()), (output, file))?;
+        assert_treated(&rt, &heap, row, Ok(()), (output, file));
         assert_number(&rt, rule, heap.left(), 0);
     }
-    Ok(())
 }

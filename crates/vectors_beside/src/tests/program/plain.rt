@@ -1,16 +1,10 @@
 //! What the tests share: a run without its clauses, since each clause costs at each call, and
 //! assertions on what it leaves.
-use super::folder::{Folder, Given};
+use super::folder::{Folder, Given, READ_AT_ONCE, WRITTEN_AT_ONCE};
 use fakes::streams::{Feed, FeedFault, Sink, SinkFault};
 use reflow_program::program::{Ending, execute};
 use std::alloc::{AllocError, Global};
 use std::process::Abort;
-
-/// How many bytes the readers give at a time.
-pub const READ_AT_ONCE: usize = 3;
-
-/// How many bytes the writers take at a time.
-pub const WRITTEN_AT_ONCE: usize = 5;
 
 /// What goes wrong with the standard input, the output and the messages.
 pub type Faults = (FeedFault, SinkFault, SinkFault);
@@ -46,13 +40,15 @@ pub fn strings(alloc: Global, words: &[&str]) -> Result<Vec<String>, AllocError>
     Ok(strings)
 }
 
-/// Runs the program.
-pub fn run(alloc: Global, start: Start<'_>) -> Result<Left, AllocError> {
-    let words = strings(alloc, start.words)?;
-    let mut folder = Folder::new(alloc, start.files)?;
-    let mut reader = Feed::new(alloc, start.input, READ_AT_ONCE, start.faults.0)?;
-    let mut output = Sink::new(alloc, WRITTEN_AT_ONCE, start.faults.1);
-    let mut messages = Sink::new(alloc, WRITTEN_AT_ONCE, start.faults.2);
+/// Runs the program. What it is given has to have memory.
+pub fn run(rt: &(impl Abort + AllocGlobal), rule: &str, start: Start<'_>) -> Left {
+    let alloc = rt.alloc();
+    let (of_input, of_output, of_messages) = start.faults;
+    let words = strings(alloc, start.words).expect(rt, rule);
+    let mut folder = Folder::new(alloc, start.files).expect(rt, rule);
+    let mut reader = Feed::new(alloc, start.input, READ_AT_ONCE, of_input).expect(rt, rule);
+    let mut output = Sink::new(alloc, WRITTEN_AT_ONCE, of_output);
+    let mut messages = Sink::new(alloc, WRITTEN_AT_ONCE, of_messages);
     let ending = execute(
         alloc,
         &words,
@@ -61,13 +57,13 @@ pub fn run(alloc: Global, start: Start<'_>) -> Result<Left, AllocError> {
         &mut output,
         &mut messages,
     );
-    Ok(Left {
+    Left {
         ending,
         reader,
         output,
         messages,
         folder,
-    })
+    }
 }
 
 /// Asserts that the bytes are these.
@@ -77,7 +73,7 @@ pub fn assert_bytes(rt: &impl Abort, rule: &str, bytes: &[u8], expected: &[u8]) 
 
 /// Asserts that the number is this.
 pub fn assert_number(rt: &impl Abort, rule: &str, number: usize, expected: usize) {
-    assert_eq!(rt; number, expected, "{rule}");
+    assert!(rt; number == expected, "{rule}: {number}");
 }
 
 /// Asserts that the bytes begin and end with these texts.
@@ -92,6 +88,18 @@ pub fn assert_ending(rt: &impl Abort, rule: &str, ending: Ending, status: u8, sa
     assert!(rt; ending.said == said, "{rule}");
 }
 
+/// Asserts what a run wrote into its output and into its messages.
+pub fn assert_left(rt: &impl Abort, rule: &str, left: &Left, (output, messages): (&[u8], &[u8])) {
+    assert_bytes(rt, rule, &left.output.taken, output);
+    assert_bytes(rt, rule, &left.messages.taken, messages);
+}
+
+/// Asserts that a run read no input, and how it ended. Each message was written whole.
+pub fn assert_unread(rt: &impl Abort, rule: &str, left: &Left, status: u8) {
+    assert_number(rt, rule, left.reader.reads, 0);
+    assert_ending(rt, rule, left.ending, status, true);
+}
+
 /// Asserts that a run reflows the standard input to this output, without a message.
 pub fn assert_reflowed(
     rt: &(impl Abort + AllocGlobal),
@@ -99,16 +107,14 @@ pub fn assert_reflowed(
     words: &[&str],
     input: &str,
     output: &str,
-) -> Result<(), AllocError> {
+) {
     let start = Start {
         words,
         input: input.as_bytes(),
         files: &[],
         faults: SOUND,
     };
-    let left = run(rt.alloc(), start)?;
-    assert_bytes(rt, rule, &left.output.taken, output.as_bytes());
-    assert_bytes(rt, rule, &left.messages.taken, b"");
+    let left = run(rt, rule, start);
+    assert_left(rt, rule, &left, (output.as_bytes(), b""));
     assert_ending(rt, rule, left.ending, 0, true);
-    Ok(())
 }

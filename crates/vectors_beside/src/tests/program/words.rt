@@ -1,7 +1,6 @@
 //! What the words after the program's name mean, seen by what is done with the standard input.
 use super::plain::{
-    Left, SOUND, Start, assert_bytes, assert_ending, assert_number, assert_reflowed, assert_spans,
-    run, strings,
+    SOUND, Start, assert_bytes, assert_reflowed, assert_spans, assert_unread, run, strings,
 };
 use fakes::streams::{FeedFault, SinkFault};
 use reflow_program::arguments::{ArgumentError, HELP, VERSION, parse};
@@ -166,11 +165,10 @@ const READ_AND_WRITTEN: &[(&str, &[&str], &str, &str)] = &[
 ];
 
 #[test]
-fn options_lay_out_the_standard_input(rt: HostRuntime) -> Result<(), AllocError> {
+fn options_lay_out_the_standard_input(rt: HostRuntime) {
     for &(rule, words, input, output) in READ_AND_WRITTEN {
-        assert_reflowed(&rt, rule, words, input, output)?;
+        assert_reflowed(&rt, rule, words, input, output);
     }
-    Ok(())
 }
 
 const WIDTH: &str = "reflow: the width is not a number of 64 bits\n";
@@ -231,14 +229,8 @@ const REFUSED: &[Refused] = &[
     ),
 ];
 
-/// Asserts that a run read no input, and how it ended. Each message was written whole.
-fn assert_unread(rt: &impl Abort, rule: &str, left: &Left, status: u8) {
-    assert_number(rt, rule, left.reader.reads, 0);
-    assert_ending(rt, rule, left.ending, status, true);
-}
-
 /// Asserts that words are no request, and how the message begins and ends.
-fn assert_refused(rt: &(impl Abort + AllocGlobal), row: &Refused) -> Result<(), AllocError> {
+fn assert_refused(rt: &(impl Abort + AllocGlobal), row: &Refused) {
     let &(rule, words, first, last) = row;
     let start = Start {
         words,
@@ -246,38 +238,25 @@ fn assert_refused(rt: &(impl Abort + AllocGlobal), row: &Refused) -> Result<(), 
         files: &[],
         faults: SOUND,
     };
-    let left = run(rt.alloc(), start)?;
+    let left = run(rt, rule, start);
     assert_unread(rt, rule, &left, 2);
     assert_spans(rt, rule, &left.messages.taken, first, last);
     assert_bytes(rt, rule, &left.output.taken, b"");
-    Ok(())
 }
 
 #[test]
-fn other_words_are_no_request(rt: HostRuntime) -> Result<(), AllocError> {
+fn other_words_are_no_request(rt: HostRuntime) {
     for row in REFUSED {
-        assert_refused(&rt, row)?;
+        assert_refused(&rt, row);
     }
-    Ok(())
 }
 
-/// Words that ask for help or the version, and how the answer begins and ends.
-type Shown = (&'static [&'static str], &'static str, &'static str);
-
-const SHOWN: &[Shown] = &[
-    (
-        &["--help"],
-        "Fills the paragraphs of a text, each under its own prefix.\n\n\
-Usage: reflow [OPTIONS] [FILE]...\n",
-        "  -h, --help           Print help\n  -V, --version        Print version\n",
-    ),
-    (&["-w", "x", "-h"], "Fills ", "Print version\n"),
-    (
-        &["--check", "a", "--version"],
-        "reflow 2.0.0\n",
-        "reflow 2.0.0\n",
-    ),
-    (&["-V"], "reflow 2.0.0\n", "reflow 2.0.0\n"),
+/// Words that ask for help or the version, and the answer.
+const SHOWN: &[(&[&str], &str)] = &[
+    (&["--help"], HELP),
+    (&["-w", "x", "-h"], HELP),
+    (&["--check", "a", "--version"], VERSION),
+    (&["-V"], VERSION),
 ];
 
 /// What goes wrong with the output, and the message and the status then.
@@ -291,37 +270,34 @@ const SHOWING_FAULTS: &[(SinkFault, &[u8], u8)] = &[
     (SinkFault::FlushFails, b"reflow: cannot write\n", 2),
 ];
 
-/// Asserts how the answer begins and ends, and what is said where it cannot be written.
+/// Asserts what the answer is, and what is said where it cannot be written.
 fn assert_shown(
     rt: &(impl Abort + AllocGlobal),
-    row: &Shown,
+    (words, answer): (&[&str], &str),
     &(fault, message, status): &(SinkFault, &[u8], u8),
-) -> Result<(), AllocError> {
-    let &(words, first, last) = row;
+) {
     let start = Start {
         words,
         input: b"one two",
         files: &[],
         faults: (FeedFault::Nothing, fault, SinkFault::Nothing),
     };
-    let left = run(rt.alloc(), start)?;
-    assert_unread(rt, first, &left, status);
-    assert_bytes(rt, first, &left.messages.taken, message);
+    let left = run(rt, answer, start);
+    assert_unread(rt, answer, &left, status);
+    assert_bytes(rt, answer, &left.messages.taken, message);
     if status == 0 {
-        assert_spans(rt, first, &left.output.taken, first, last);
+        assert_bytes(rt, answer, &left.output.taken, answer.as_bytes());
     }
-    Ok(())
 }
 
 /// The answer goes to the output, and if that fails, a message says so.
 #[test]
-fn help_and_version_are_shown(rt: HostRuntime) -> Result<(), AllocError> {
-    for row in SHOWN {
+fn help_and_version_are_shown(rt: HostRuntime) {
+    for &shown in SHOWN {
         for faulty in SHOWING_FAULTS {
-            assert_shown(&rt, row, faulty)?;
+            assert_shown(&rt, shown, faulty);
         }
     }
-    Ok(())
 }
 
 /// Words that ask for help or the version, and all that is shown.
@@ -343,10 +319,9 @@ fn rendered(alloc: Global, words: &[&str]) -> Result<String, AllocError> {
 
 /// The texts that are shown are those that `clap` makes of the command line.
 #[test]
-fn what_is_shown_is_as_clap_makes_it(rt: HostRuntime) -> Result<(), AllocError> {
+fn what_is_shown_is_as_clap_makes_it(rt: HostRuntime) {
     for &(words, text) in RENDERED {
-        let rendered = rendered(rt.alloc(), words)?;
+        let rendered = rendered(rt.alloc(), words).expect(&rt, text);
         assert_bytes(&rt, text, rendered.as_bytes(), text.as_bytes());
     }
-    Ok(())
 }

@@ -1,9 +1,7 @@
 //! Words that are hyphenated by a dictionary.
 use super::super::plain::assert_holds;
 use std::alloc::{AllocError, Global};
-use std::process::Abort;
-use std::test::Fail;
-use textwrap_lines::placed::{Place, PlacedLines};
+use textwrap_lines::placed::Place;
 use textwrap_uses::hyphens::{Entry, HyphenError, hyphenated_lines};
 
 const DICTIONARY: &[Entry<'static>] = &[
@@ -38,27 +36,23 @@ const HYPHENATED: &[(&str, usize, &[&str])] = &[
     ("", 6, &[""]),
 ];
 
-/// Whether a line of the paragraph that stands at this place has this text.
-fn is_line(paragraph: &str, placed: &PlacedLines<Global>, place: &Place, expected: &str) -> bool {
-    let source = if place.is_built {
-        placed.built.as_slice()
-    } else {
-        paragraph.as_bytes()
-    };
-    let Some(rest) = source.get(place.offset..) else {
-        return false;
-    };
-    rest.get(..place.len) == Some(expected.as_bytes())
+/// Whether a text of this source that stands at this place is this one.
+fn is_text_at(source: &[u8], place: &Place, expected: &str) -> bool {
+    match source.get(place.offset..) {
+        Some(rest) => rest.get(..place.len) == Some(expected.as_bytes()),
+        None => false,
+    }
 }
 
-/// Whether the lines of a paragraph have these texts.
-fn are_lines(paragraph: &str, placed: &PlacedLines<Global>, expected: &[&str]) -> bool {
-    for (place, expected) in placed.places.iter().zip(expected) {
-        if !is_line(paragraph, placed, place, expected) {
+/// Whether the lines of a paragraph have these texts. Those that are built stand in `built`.
+fn are_lines(paragraph: &[u8], built: &[u8], places: &[Place], expected: &[&str]) -> bool {
+    for (place, expected) in places.iter().zip(expected) {
+        let source = if place.is_built { built } else { paragraph };
+        if !is_text_at(source, place, expected) {
             return false;
         }
     }
-    placed.places.len() == expected.len()
+    places.len() == expected.len()
 }
 
 /// Whether a paragraph has these lines.
@@ -70,16 +64,16 @@ fn is_hyphenated(
     expected: &[&str],
 ) -> Result<bool, HyphenError> {
     let placed = hyphenated_lines(alloc, paragraph, dictionary, width)?;
-    Ok(are_lines(paragraph, &placed, expected))
+    let (built, places) = (placed.built.as_slice(), placed.places.as_slice());
+    Ok(are_lines(paragraph.as_bytes(), built, places, expected))
 }
 
 #[test]
-fn words_are_hyphenated_by_a_dictionary(rt: HostRuntime) -> Result<(), Fail> {
+fn words_are_hyphenated_by_a_dictionary(rt: HostRuntime) {
     for &(paragraph, width, expected) in HYPHENATED {
-        let is_right = is_hyphenated(rt.alloc(), paragraph, DICTIONARY, width, expected)?;
-        assert_holds(&rt, paragraph, is_right);
+        let is_right = is_hyphenated(rt.alloc(), paragraph, DICTIONARY, width, expected);
+        assert_holds(&rt, paragraph, is_right.expect(&rt, paragraph));
     }
-    Ok(())
 }
 
 /// A word, and points at which it can't be split.
@@ -103,12 +97,11 @@ fn is_refused(alloc: Global, dictionary: &[Entry<'_>]) -> Result<bool, HyphenErr
 }
 
 #[test]
-fn wrong_points_of_a_word_are_refused(rt: HostRuntime) -> Result<(), Fail> {
+fn wrong_points_of_a_word_are_refused(rt: HostRuntime) {
     for &(word, points) in WRONG {
-        let is_refused = is_refused(rt.alloc(), &[Entry { word, points }])?;
+        let is_refused = is_refused(rt.alloc(), &[Entry { word, points }]).expect(&rt, word);
         assert!(rt; is_refused, "{points:?}");
     }
-    Ok(())
 }
 
 /// The lines of so many times the first row of [`HYPHENATED`], one after another.
@@ -121,10 +114,11 @@ fn many_lines(alloc: Global, times: usize) -> Result<Vec<&'static str>, AllocErr
 }
 
 #[test]
-fn a_long_paragraph_is_hyphenated(rt: HostRuntime) -> Result<(), Fail> {
-    let paragraph = "typesetting machines ".repeat(rt.alloc(), 1000)?;
-    let expected = many_lines(rt.alloc(), 1000)?;
-    let is_right = is_hyphenated(rt.alloc(), &paragraph, DICTIONARY, 10, &expected)?;
-    assert_holds(&rt, "long", is_right);
-    Ok(())
+fn a_long_paragraph_is_hyphenated(rt: HostRuntime) {
+    let paragraph = "typesetting machines "
+        .repeat(rt.alloc(), 1000)
+        .expect(&rt, "text");
+    let expected = many_lines(rt.alloc(), 1000).expect(&rt, "lines");
+    let is_right = is_hyphenated(rt.alloc(), &paragraph, DICTIONARY, 10, &expected);
+    assert_holds(&rt, "long", is_right.expect(&rt, "memory"));
 }

@@ -8,7 +8,7 @@ use textwrap_soak::arguments::Request;
 use textwrap_soak::cases::settings::{Algorithm, Settings};
 use textwrap_soak::cases::Case;
 use textwrap_soak::checks::displaying::Displays;
-use textwrap_soak::checks::paths::Ways;
+use textwrap_soak::checks::paths::{check_shortcut, Ways};
 use textwrap_soak::checks::refilling::Refills;
 use textwrap_soak::checks::reflowing::Reflows;
 use textwrap_soak::checks::Finding;
@@ -353,6 +353,18 @@ fn each_way_is_asked() {
     assert_eq!(ways.divided, [">>>", "foobar", "ba"]);
     assert_eq!(ways.filled, ">>>\nfoobar ba");
     assert_eq!(ways.filled_slowly, ">>>\nfoobar ba");
+}
+
+/// An indent of later lines alone does not excuse the shortcut: what it answers is judged.
+#[test]
+fn the_shortcut_is_judged_behind_a_subsequent_indent() {
+    let small = small_case();
+    let settings = Settings { width: 10, subsequent_indent: "  ", ..small.settings };
+    let case = Case { text: "foobar ba".into(), settings, ..small };
+    let mut ways = Ways::of_case(&case);
+    assert_eq!(check_shortcut(&case, &ways), Finding::Kept);
+    ways.divided = vec!["foobar".into(), "  ba".into()];
+    assert_eq!(check_shortcut(&case, &ways), Finding::Broken);
 }
 
 /// In some hundred rounds each promise of the library says something, and is kept.

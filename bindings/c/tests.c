@@ -635,6 +635,23 @@ static int is_filled_alike(textwrap_options options, const char *text) {
         && memcmp(room, other_room, len) == 0;
 }
 
+/* A point behind each letter but the last, each with a hyphen. */
+static void a_word_may_have_many_points(void) {
+    enum { LETTERS = 20000 };
+    static uint8_t word[LETTERS];
+    static size_t points[LETTERS - 1];
+    static textwrap_piece pieces[LETTERS];
+    const textwrap_options o = textwrap_options_new(80);
+    size_t count = 0;
+    memset(word, 'a', sizeof word);
+    for (size_t i = 0; i < LETTERS - 1; i++) points[i] = i + 1;
+    CHECK(textwrap_pieces_at(word, LETTERS, NULL, 0, points, LETTERS - 1, &o, pieces, LETTERS, &count)
+          == TEXTWRAP_DONE);
+    CHECK(count == LETTERS && stands(pieces[LETTERS - 1], LETTERS - 1, 1, 0, 1));
+    const textwrap_piece before = pieces[LETTERS - 2];
+    CHECK(before.offset == LETTERS - 2 && before.len == 1 && before.penalty_len == 1);
+}
+
 static void texts_are_wrapped_alike_without_functions(void) {
     static const char *const texts[] = {
         "", "\n", "foo", "foo bar baz", "  foo  ", HAMLET, "a-b-c d-e\n\nfoobarbaz qux  \n",
@@ -874,6 +891,7 @@ int main(void) {
     pieces_are_places();
     words_are_cut_split_and_broken();
     a_paragraph_is_laid_out_in_steps();
+    a_word_may_have_many_points();
     texts_are_wrapped_alike_without_functions();
     lines_end_at_unicode_breaks();
     functions_of_the_caller_take_part();

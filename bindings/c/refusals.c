@@ -1,6 +1,7 @@
-/* Each call with each of its allocations refused in turn, by a heap of the test's own: a refused call
- * is out of memory, changes nothing and leaves nothing allocated. What comes after the refused
- * allocation is allowed again, so a call that overlooks the refusal is done, which is a fault. */
+/* Each call of the library as it is installed, with each of its allocations refused in turn: a refused
+ * call is out of memory, changes nothing and leaves nothing allocated. What comes after the refused
+ * allocation is allowed again, so a call that overlooks the refusal is done, which is a fault. The
+ * library is linked with --wrap, so that its malloc, calloc, realloc and free are those of this file. */
 #include <stdbool.h>
 #include <stdio.h>
 #include <stdlib.h>
@@ -8,18 +9,16 @@
 
 #include "textwrap_proved.h"
 
+void *__real_malloc(size_t size);
+void *__real_calloc(size_t count, size_t size);
+void *__real_realloc(void *block, size_t size);
+void __real_free(void *block);
+
 /* How many allocations are left before the one that is refused, whether that was refused, and how
  * many blocks there are. */
 static long left;
 static bool refused;
 static long live;
-
-struct block {
-    bool ok;
-    void *at;
-};
-
-static _Alignas(max_align_t) char nothing[sizeof(max_align_t)];
 
 /* Whether this allocation is the one that is refused. */
 static bool refuses(void) {
@@ -28,27 +27,33 @@ static bool refuses(void) {
     return true;
 }
 
-struct block rattle_alloc(size_t size, size_t align) {
-    if (refuses()) return (struct block){false, nothing};
+void *__wrap_malloc(size_t size) {
+    if (refuses()) return NULL;
     live++;
-    return (struct block){true, malloc(size > 0 ? size : align)};
+    return __real_malloc(size);
 }
 
-struct block rattle_realloc(void *block, size_t kept, size_t size, size_t align) {
-    (void)kept;
-    if (refuses()) return (struct block){false, nothing};
-    return (struct block){true, realloc(block, size > 0 ? size : align)};
+void *__wrap_calloc(size_t count, size_t size) {
+    if (refuses()) return NULL;
+    live++;
+    return __real_calloc(count, size);
 }
 
-void rattle_dealloc(void *block) {
-    live--;
-    free(block);
+void *__wrap_realloc(void *block, size_t size) {
+    if (refuses()) return NULL;
+    if (block == NULL) live++;
+    return __real_realloc(block, size);
+}
+
+void __wrap_free(void *block) {
+    if (block != NULL) live--;
+    __real_free(block);
 }
 
 /* What a call may write to. */
 struct lent {
     uint8_t room[256];
-    textwrap_line lines[16];
+    textwrap_line lines[64];
     textwrap_layout layout;
     uint8_t text[9];
     textwrap_piece pieces[16];
@@ -209,43 +214,109 @@ static textwrap_status in_lines_at_ends(struct lent *lent) {
                              &lent->count, lent->room, 256, &lent->len);
 }
 
-static const struct {
+/* Cuts before each byte but the first. */
+static size_t cut_everywhere(void *context, const uint8_t *paragraph, size_t len, size_t *cuts) {
+    (void)context;
+    (void)paragraph;
+    for (size_t i = 1; i < len; i++) cuts[i - 1] = i;
+    return len > 0 ? len - 1 : 0;
+}
+
+/* By functions of the caller. The text is long enough that each list grows, and so does the room. */
+static const char LONG_TEXT[] = "to be or not to be that is the question\nfoo bar baz qux quux foobar";
+
+static textwrap_status wrapped_by(struct lent *lent, textwrap_functions functions, uint32_t optimal_fit) {
+    textwrap_options o = options_of(optimal_fit, 1);
+    o.width = 3;
+    return textwrap_wrap_by(bytes(LONG_TEXT), strlen(LONG_TEXT), &o, &functions, lent->lines, 64,
+                            &lent->count, lent->room, 256, &lent->len);
+}
+
+static textwrap_status by_no_functions(struct lent *lent) {
+    return wrapped_by(lent, textwrap_functions_new(NULL), 0);
+}
+
+static textwrap_status by_no_functions_at_least_cost(struct lent *lent) {
+    return wrapped_by(lent, textwrap_functions_new(NULL), 1);
+}
+
+static textwrap_status by_a_function(struct lent *lent) {
+    textwrap_functions functions = textwrap_functions_new(NULL);
+    functions.cut = cut_everywhere;
+    return wrapped_by(lent, functions, 0);
+}
+
+static textwrap_status by_breaks(struct lent *lent) {
+    textwrap_functions functions = textwrap_functions_new(NULL);
+    functions.cut = textwrap_cut_at_breaks;
+    return wrapped_by(lent, functions, 0);
+}
+
+static textwrap_status filled_by_no_functions(struct lent *lent) {
+    const textwrap_functions none = textwrap_functions_new(NULL);
+    textwrap_options o = options_of(0, 1);
+    return textwrap_fill_by(bytes(LONG_TEXT), strlen(LONG_TEXT), &o, &none, lent->room, 256, &lent->len);
+}
+
+/* What this returns is no status: it is more than there may be if memory runs out. */
+static textwrap_status cut_by_the_function(struct lent *lent) {
+    size_t cuts[16] = {0}, count = textwrap_cut_at_breaks(NULL, bytes("foo bar baz"), 11, cuts);
+    if (count > 11) return TEXTWRAP_OUT_OF_MEMORY;
+    lent->count = count;
+    memcpy(lent->places, cuts, count * sizeof *cuts);
+    return TEXTWRAP_DONE;
+}
+
+static const struct call {
     const char *name;
     textwrap_status (*call)(struct lent *);
+    /* Whether a function that the call is handed allocates too, and tells it by wrong places. */
+    bool has_function;
 } CALLS[] = {
-    {"fill by first fit", by_first_fit},
-    {"fill by first fit, with an indent", by_first_fit_indented},
-    {"fill by optimal fit", by_optimal_fit},
-    {"fill by optimal fit, with an indent", by_optimal_fit_indented},
-    {"wrap", wrapped},
-    {"wrap_columns", in_columns},
-    {"refill", refilled},
-    {"unfill", unfilled},
-    {"indent", indented},
-    {"dedent", dedented},
-    {"fill_inplace", in_place},
-    {"display_width", measured},
-    {"align", aligned},
-    {"justify", justified},
-    {"fill_justified", filled_justified},
-    {"shorten", shortened},
-    {"shorten_lines", lines_shortened},
-    {"carry_styles", styles_carried},
-    {"table", in_a_table},
-    {"wrap_first_fit", greedily},
-    {"wrap_optimal_fit", at_least_cost},
-    {"pieces", in_pieces},
-    {"find_words_at", cut_at_offsets},
-    {"split_points", split},
-    {"unicode_cuts", cut_at_breaks},
-    {"break_apart", broken},
-    {"pieces_at", in_pieces_at_cuts},
-    {"lines_at", in_lines_at_ends},
+    {"fill by first fit", by_first_fit, false},
+    {"fill by first fit, with an indent", by_first_fit_indented, false},
+    {"fill by optimal fit", by_optimal_fit, false},
+    {"fill by optimal fit, with an indent", by_optimal_fit_indented, false},
+    {"wrap", wrapped, false},
+    {"wrap_columns", in_columns, false},
+    {"refill", refilled, false},
+    {"unfill", unfilled, false},
+    {"indent", indented, false},
+    {"dedent", dedented, false},
+    {"fill_inplace", in_place, false},
+    {"display_width", measured, false},
+    {"align", aligned, false},
+    {"justify", justified, false},
+    {"fill_justified", filled_justified, false},
+    {"shorten", shortened, false},
+    {"shorten_lines", lines_shortened, false},
+    {"carry_styles", styles_carried, false},
+    {"table", in_a_table, false},
+    {"wrap_first_fit", greedily, false},
+    {"wrap_optimal_fit", at_least_cost, false},
+    {"pieces", in_pieces, false},
+    {"find_words_at", cut_at_offsets, false},
+    {"split_points", split, false},
+    {"unicode_cuts", cut_at_breaks, false},
+    {"break_apart", broken, false},
+    {"pieces_at", in_pieces_at_cuts, false},
+    {"lines_at", in_lines_at_ends, false},
+    {"wrap_by", by_no_functions, false},
+    {"wrap_by at least cost", by_no_functions_at_least_cost, false},
+    {"wrap_by a function", by_a_function, false},
+    {"wrap_by Unicode line breaks", by_breaks, true},
+    {"fill_by", filled_by_no_functions, false},
+    {"cut_at_breaks", cut_by_the_function, false},
 };
+
+/* Whether a call says by this status that an allocation was refused. */
+static bool is_refusal(const struct call *call, textwrap_status status) {
+    return status == TEXTWRAP_OUT_OF_MEMORY || (call->has_function && status == TEXTWRAP_WRONG_PLACES);
+}
 
 /* How many allocations a call makes, or -1 at a fault: one is refused, then the one after it, until
  * the call meets no refusal. */
-static long refusals_of(textwrap_status (*call)(struct lent *)) {
+static long refusals_of(const struct call *call) {
     for (long refusals = 0; refusals < 1000; refusals++) {
         struct lent lent, old;
         memset(&lent, 7, sizeof lent);
@@ -254,10 +325,10 @@ static long refusals_of(textwrap_status (*call)(struct lent *)) {
         left = refusals;
         refused = false;
         live = 0;
-        textwrap_status status = call(&lent);
+        textwrap_status status = call->call(&lent);
         if (live != 0) return -1;
         if (!refused) return status == TEXTWRAP_DONE ? refusals : -1;
-        if (status != TEXTWRAP_OUT_OF_MEMORY || memcmp(&lent, &old, sizeof lent) != 0) return -1;
+        if (!is_refusal(call, status) || memcmp(&lent, &old, sizeof lent) != 0) return -1;
     }
     return -1;
 }
@@ -265,7 +336,7 @@ static long refusals_of(textwrap_status (*call)(struct lent *)) {
 int main(void) {
     int failures = 0;
     for (size_t i = 0; i < sizeof CALLS / sizeof CALLS[0]; i++) {
-        long refusals = refusals_of(CALLS[i].call);
+        long refusals = refusals_of(&CALLS[i]);
         if (refusals < 0) {
             printf("%s: FAULT\n", CALLS[i].name);
             failures++;

@@ -4,23 +4,8 @@
 #include <stdlib.h>
 #include <string.h>
 
+#include "check.h"
 #include "textwrap_proved.h"
-
-static int failures = 0;
-
-#define CHECK(condition)                                                       \
-    do {                                                                       \
-        if (!(condition)) {                                                    \
-            printf("%s:%d: %s\n", __FILE__, __LINE__, #condition);             \
-            failures++;                                                        \
-        }                                                                      \
-    } while (0)
-
-static const uint8_t *bytes(const char *text) { return (const uint8_t *)text; }
-
-static textwrap_text text_of(const char *text) {
-    return (textwrap_text){bytes(text), strlen(text)};
-}
 
 /* Whether the text, filled by these options, is this. */
 static int is_filled(textwrap_options options, const char *text, const char *filled) {
@@ -89,6 +74,41 @@ static void options_without_a_meaning_are_refused(void) {
     }
 }
 
+/* A text that is not UTF-8 is refused by each call, and nothing is changed. */
+static void texts_that_are_not_utf8_are_refused(void) {
+    const textwrap_options o = textwrap_options_new(10);
+    const textwrap_gaps gaps = textwrap_gaps_new(text_of("|"), text_of("|"), text_of("|"));
+    const uint8_t *wrong = bytes("ab\xff");
+    const size_t place = 1;
+    textwrap_layout layout;
+    textwrap_piece pieces[3];
+    textwrap_line lines[3];
+    uint8_t room[32] = "...", text[4] = "a\xff";
+    size_t places[3], count = 7, len = 7;
+    const textwrap_status statuses[] = {
+        textwrap_fill(wrong, 3, &o, room, 32, &len),
+        textwrap_fill_inplace(text, 3, 1),
+        textwrap_wrap(wrong, 3, &o, lines, 3, &count, room, 32, &len),
+        textwrap_wrap_columns(wrong, 3, 1, &o, &gaps, lines, 3, &count, room, 32, &len),
+        textwrap_refill(wrong, 3, &o, room, 32, &len),
+        textwrap_unfill(wrong, 3, room, 32, &len, &layout),
+        textwrap_indent(wrong, 3, bytes("> "), 2, room, 32, &len),
+        textwrap_indent(bytes("a"), 1, wrong, 3, room, 32, &len),
+        textwrap_dedent(wrong, 3, room, 32, &len),
+        textwrap_pieces(wrong, 3, &o, pieces, 3, &count),
+        textwrap_find_words_at(wrong, 3, &place, 1, pieces, 3, &count),
+        textwrap_unicode_cuts(wrong, 3, places, 3, &count),
+        textwrap_split_points(wrong, 3, places, 3, &count),
+        textwrap_break_apart(wrong, 3, 1, pieces, 3, &count),
+        textwrap_pieces_at(wrong, 3, &place, 1, &place, 1, &o, pieces, 3, &count),
+        textwrap_lines_at(wrong, 3, &place, 1, &place, 1, &place, 1, &o, 0, lines, 3, &count, room, 32,
+                          &len),
+    };
+    for (size_t i = 0; i < sizeof statuses / sizeof *statuses; i++)
+        CHECK(statuses[i] == TEXTWRAP_NOT_UTF8);
+    CHECK(count == 7 && len == 7 && memcmp(room, "...", 4) == 0 && memcmp(text, "a\xff", 3) == 0);
+}
+
 static void columns_are_counted(void) {
     size_t columns = 7;
     CHECK(textwrap_display_width(bytes("Caf\xc3\xa9"), 5, &columns) == TEXTWRAP_DONE && columns == 4);
@@ -145,6 +165,9 @@ static void filled_texts_are_unfilled_and_refilled(void) {
     size_t len = 0;
     textwrap_layout layout;
     memset(&layout, 7, sizeof layout);
+    const textwrap_layout old = layout;
+    CHECK(textwrap_unfill(bytes(text), 12, room, 11, &len, &layout) == TEXTWRAP_TOO_SMALL);
+    CHECK(len == 12 && memcmp(&layout, &old, sizeof layout) == 0);
     CHECK(textwrap_unfill(bytes(text), 12, room, sizeof room, &len, &layout) == TEXTWRAP_DONE);
     CHECK(len == 12 && memcmp(room, "foo bar\n*   ", 12) == 0);
     CHECK(layout.width == 5 && layout.crlf == 0);
@@ -166,11 +189,9 @@ static void texts_are_indented_dedented_and_filled_in_place(void) {
     uint8_t text[] = "foo  bar";
     CHECK(textwrap_fill_inplace(text, 8, 5) == TEXTWRAP_DONE);
     CHECK(memcmp(text, "foo \nbar", 8) == 0);
-}
-
-/* Whether these bytes are the text. */
-static int is_text(const uint8_t *at, size_t len, const char *text) {
-    return len == strlen(text) && memcmp(at, text, len) == 0;
+    uint8_t words[] = "a b c";
+    CHECK(textwrap_fill_inplace(words, 5, 0) == TEXTWRAP_DONE);
+    CHECK(memcmp(words, "a\nb\nc", 5) == 0);
 }
 
 /* Whether these lines, which stand in the room one after another, are those of the text. There each
@@ -652,25 +673,40 @@ static void a_word_may_have_many_points(void) {
     CHECK(before.offset == LETTERS - 2 && before.len == 1 && before.penalty_len == 1);
 }
 
+/* The options that 10 bits stand for, at a width. The wide indents have more bytes than columns, and
+ * each of the penalties is far from its default. */
+static textwrap_options options_of(unsigned bits, size_t width) {
+    const int wide = bits >> 8 & 1;
+    textwrap_options o = textwrap_options_new(width);
+    o.optimal_fit = bits & 1;
+    o.split_at_hyphens = bits >> 1 & 1;
+    o.break_words = bits >> 2 & 1;
+    o.preserve_trailing_space = bits >> 3 & 1;
+    o.even_paragraphs = bits >> 4 & 1;
+    o.crlf = bits >> 5 & 1;
+    if (bits >> 6 & 1) o.initial_indent = text_of(wide ? "\xe4\xbd\xa0" : "* ");
+    if (bits >> 7 & 1) o.subsequent_indent = text_of(wide ? "\xe2\x94\x82" : "    ");
+    if (bits >> 9 & 1) {
+        o.nline_penalty = 20;
+        o.overflow_penalty = 1;
+        o.short_last_line_fraction = 7;
+        o.short_last_line_penalty = 400;
+        o.hyphen_penalty = 5000;
+    }
+    return o;
+}
+
 static void texts_are_wrapped_alike_without_functions(void) {
     static const char *const texts[] = {
         "", "\n", "foo", "foo bar baz", "  foo  ", HAMLET, "a-b-c d-e\n\nfoobarbaz qux  \n",
         "\xe4\xbd\xa0\xe5\xa5\xbd \xe4\xb8\x96\xe7\x95\x8c\r\nfoo", "\x1b[31mred\x1b[0m foo bar",
+        "a\rb cccc\r\ndd\r", "\tfoo\t bar\xe3\x80\x80", "foo bar baz a",
     };
-    for (unsigned bits = 0; bits < 256; bits++)
+    for (unsigned bits = 0; bits < 1024; bits++)
         for (size_t width = 0; width < 12; width += 1 + width / 4)
             for (size_t i = 0; i < sizeof texts / sizeof *texts; i++) {
-                textwrap_options o = textwrap_options_new(width);
-                o.optimal_fit = bits & 1;
-                o.split_at_hyphens = bits >> 1 & 1;
-                o.break_words = bits >> 2 & 1;
-                o.preserve_trailing_space = bits >> 3 & 1;
-                o.even_paragraphs = bits >> 4 & 1;
-                o.crlf = bits >> 5 & 1;
-                if (bits >> 6 & 1) o.initial_indent = text_of("* ");
-                if (bits >> 7 & 1) o.subsequent_indent = text_of("    ");
-                CHECK(is_wrapped_alike(o, texts[i]));
-                CHECK(is_filled_alike(o, texts[i]));
+                CHECK(is_wrapped_alike(options_of(bits, width), texts[i]));
+                CHECK(is_filled_alike(options_of(bits, width), texts[i]));
             }
 }
 
@@ -872,6 +908,7 @@ int main(void) {
     statuses_have_words();
     each_option_has_its_effect();
     options_without_a_meaning_are_refused();
+    texts_that_are_not_utf8_are_refused();
     columns_are_counted();
     room_that_is_too_small_is_reported();
     lines_are_places();

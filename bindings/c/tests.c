@@ -688,8 +688,8 @@ static textwrap_options options_of(unsigned bits, size_t width) {
     if (bits >> 7 & 1) o.subsequent_indent = text_of(wide ? "\xe2\x94\x82" : "    ");
     if (bits >> 9 & 1) {
         o.nline_penalty = 20;
-        o.overflow_penalty = 1;
-        o.short_last_line_fraction = 7;
+        o.overflow_penalty = 15;
+        o.short_last_line_fraction = 20;
         o.short_last_line_penalty = 400;
         o.hyphen_penalty = 5000;
     }

@@ -1,4 +1,7 @@
 //! Lines for display: each call on worked examples, and with functions of the caller.
+mod drawn;
+
+use drawn::Random;
 use textwrap_proved::core::Word;
 use textwrap_proved::display::{
     align, carry_styles, fallible, fill_justified, justify, shorten, shorten_lines, table,
@@ -157,6 +160,30 @@ fn indents_are_not_justified() {
 }
 
 #[test]
+fn lines_are_justified_beside_indents_of_other_characters() {
+    let indented = first_fit(9).initial_indent("│ ").subsequent_indent("日");
+    for options in at_breaks_and_at_blanks(&indented) {
+        let filled = "│ foo   b\n日cde  fg\n日hijklmn";
+        assert_eq!(fill_justified("foo b cde fg hijklmn", &options), filled);
+        assert_eq!(fill_justified("foo\t b cde", &options), "│ foo\t   b\n日cde");
+    }
+}
+
+#[test]
+fn many_lines_are_justified() {
+    let text = vec!["a b"; 1_001].join(" ");
+    let filled = vec!["a  b"; 1_000].join("\n");
+    for options in at_breaks_and_at_blanks(&first_fit(4)) {
+        let own = options.clone().word_separator(drawn::own(options.word_separator));
+        for options in [options, own] {
+            assert_eq!(fill_justified(&text, &options), format!("{filled}\na b"));
+            let longer = fill_justified(&format!("{text} a b"), &options);
+            assert_eq!(longer, format!("{filled}\na  b\na b"));
+        }
+    }
+}
+
+#[test]
 fn blanks_at_line_ends_are_no_gaps() {
     for options in at_breaks_and_at_blanks(&first_fit(6).preserve_trailing_space(true)) {
         assert_eq!(fill_justified("a b cdef", options), "a   b \ncdef");
@@ -270,11 +297,6 @@ fn a_splitter_must_not_go_back_in_a_filled_text() {
     fill_justified("foobar", Options::new(5).word_splitter(going_back));
 }
 
-/// Cuts where `AsciiSpace` does. With it the crate does what the library does without.
-fn at_blanks(line: &str) -> Box<dyn Iterator<Item = Word<'_>> + '_> {
-    WordSeparator::AsciiSpace.find_words(line)
-}
-
 #[test]
 fn functions_may_do_what_the_built_in_parts_do() {
     let text = "Words,  a hyphen-ated one, 안녕하세요 and\n\n  supercalifragilistic \
@@ -288,7 +310,7 @@ fn functions_may_do_what_the_built_in_parts_do() {
         let unbroken = indented.clone().break_words(false);
         let greedy = unbroken.clone().wrap_algorithm(WrapAlgorithm::FirstFit);
         for options in [plain, crlf, indented, even, unbroken, greedy] {
-            let own = options.clone().word_separator(WordSeparator::Custom(at_blanks));
+            let own = options.clone().word_separator(drawn::own(options.word_separator));
             assert_eq!(fill_justified(text, &own), fill_justified(text, &options));
             for alignment in [Alignment::Left, Alignment::Right, Alignment::Centre] {
                 // The last row of cells lacks one.
@@ -297,6 +319,32 @@ fn functions_may_do_what_the_built_in_parts_do() {
                     table(&cells, &three_columns(&options, &options, alignment), &AROUND)
                 );
             }
+        }
+    }
+}
+
+#[test]
+fn a_separator_of_the_callers_own_may_be_a_built_in_one() {
+    let random = &mut Random::new(2);
+    for _ in 0..3_000 {
+        let (text, plain) = (drawn::text(random), drawn::options(random));
+        let cells = [(); 4].map(|()| drawn::text(random));
+        let [left, middle, right] = [(); 3].map(|()| drawn::around(random));
+        let gaps = Gaps { left, middle, right };
+        let alignments = [Alignment::Left, Alignment::Right, Alignment::Centre];
+        let alignment = alignments[random.below(3)];
+        for options in at_breaks_and_at_blanks(&plain) {
+            let own = options.clone().word_separator(drawn::own(options.word_separator));
+            assert_eq!(
+                fill_justified(&text, &own),
+                fill_justified(&text, &options),
+                "{text:?} by {options:?}"
+            );
+            assert_eq!(
+                table(&cells, &three_columns(&own, &options, alignment), &gaps),
+                table(&cells, &three_columns(&options, &options, alignment), &gaps),
+                "{cells:?} by {options:?}, {alignment:?} between {gaps:?}"
+            );
         }
     }
 }

@@ -1,6 +1,9 @@
 //! Uses of the original's calls, as its users write them. Only the name of the crate differs.
+mod drawn;
+
+use drawn::Random;
 use std::borrow::Cow;
-use std::cell::Cell;
+use std::cell::{Cell, RefCell};
 use std::error::Error;
 use textwrap_proved as textwrap;
 
@@ -172,6 +175,61 @@ fn filling_keeps_to_the_original() {
     assert_eq!(text, "Hello  \nWorld!");
 }
 
+/// The built-in separators. By either a call goes another way through the crate.
+const SEPARATORS: [WordSeparator; 2] =
+    [WordSeparator::UnicodeBreakProperties, WordSeparator::AsciiSpace];
+
+#[test]
+fn white_space_other_than_blanks_is_kept() {
+    for separator in SEPARATORS {
+        let options = |width| Options::new(width).word_separator(separator);
+        for text in ["foo\t", "foo\r", "foo\u{3000}", "foo\u{a0}", "\t", "foo\t\u{3000}"] {
+            for width in [80, 3] {
+                let options = options(width).break_words(false);
+                assert_eq!(wrap(text, &options), [text], "{options:?}");
+                assert_eq!(fill(text, &options), text, "{options:?}");
+                assert_eq!(refill(text, &options), text, "{options:?}");
+            }
+            assert_eq!(wrap(&format!("{text}  "), options(80)), [text]);
+            assert_eq!(wrap(&format!("a {text}  \nb"), options(80)), [&format!("a {text}"), "b"]);
+        }
+        assert_eq!(refill("foo\t\n", options(80)), "foo\t\n");
+        assert_eq!(refill("foo\nbar\u{3000}\n", options(80)), "foo bar\u{3000}\n");
+        let crlf = options(80).line_ending(LineEnding::CRLF);
+        assert_eq!(wrap("a\rb cccc\r\ndd\r", &crlf), ["a\rb cccc", "dd\r"]);
+        assert_eq!(wrap("a\rb cccc\r\ndd\r", options(80)), ["a\rb cccc\r", "dd\r"]);
+        assert_eq!(fill("a\u{3000}\r", options(80)), "a\u{3000}\r");
+    }
+}
+
+#[test]
+fn an_empty_line_is_borrowed() {
+    for separator in SEPARATORS {
+        for width in [0, 1, 80] {
+            let text = "foo\n\nbar";
+            let options = Options::new(width).word_separator(separator).break_words(false);
+            let lines = wrap(text, &options);
+            assert!(lines.iter().all(|line| matches!(line, Cow::Borrowed(_))), "{options:?}");
+            assert_eq!(lines, ["foo", "", "bar"]);
+            assert_eq!(lines[1].as_ptr(), text[4..].as_ptr(), "it stands at its own paragraph");
+        }
+    }
+}
+
+#[test]
+fn gaps_and_indents_take_their_columns() {
+    for separator in SEPARATORS {
+        let options = Options::new(14).word_separator(separator);
+        let rows = ["│ foo │ baz  │", "│ bar │      │"];
+        assert_eq!(wrap_columns("foo bar baz", 2, &options, "│ ", " │ ", " │"), rows);
+        let wide = options.clone().width(10);
+        assert_eq!(wrap_columns("a b c", 3, &wide, "日", "│", "é"), ["日a│b│c  é"]);
+        let indented = options.width(6).initial_indent("│ ").subsequent_indent("日");
+        assert_eq!(wrap("ab cd ef", &indented), ["│ ab", "日cd", "日ef"]);
+        assert_eq!(wrap("a b cd ef", indented.width(7)), ["│ a b", "日cd ef"]);
+    }
+}
+
 #[test]
 fn texts_are_unfilled_and_refilled() {
     let (text, options) = unfill("* foo bar\r\n  baz\r\n");
@@ -301,6 +359,93 @@ fn parts_are_compared() {
 }
 
 // ---- Fragments and algorithms
+
+/// An item with a width, what stands after it, and what it has more at the end of a line.
+#[derive(Debug, PartialEq)]
+struct Plain(f64, f64, f64);
+
+impl Fragment for Plain {
+    fn width(&self) -> f64 {
+        self.0
+    }
+
+    fn whitespace_width(&self) -> f64 {
+        self.1
+    }
+
+    fn penalty_width(&self) -> f64 {
+        self.2
+    }
+}
+
+/// How many of the fragments stand on each line.
+fn counts<T>(lines: &[&[T]]) -> Vec<usize> {
+    lines.iter().map(|line| line.len()).collect()
+}
+
+#[test]
+fn each_width_is_that_of_its_line() {
+    let items: Vec<Plain> = (0..12).map(|_| Plain(3.0, 0.0, 0.0)).collect();
+    let words: Vec<Word> = (0..12).map(|_| Word::from("foo")).collect();
+    let optimal = WrapAlgorithm::new();
+    for (widths, expected) in [
+        (vec![3, 3, 30], vec![1, 1, 10]),
+        (vec![3, 6, 3, 6, 9], vec![1, 2, 1, 2, 3, 3]),
+        (vec![6], vec![2; 6]),
+        (vec![], vec![1; 12]),
+    ] {
+        let whole: Vec<f64> = widths.iter().map(|&width| width as f64).collect();
+        assert_eq!(counts(&wrap_first_fit(&items, &whole)), expected);
+        assert_eq!(counts(&WrapAlgorithm::FirstFit.wrap(&words, &widths)), expected);
+        let lines = wrap_optimal_fit(&items, &whole, &Penalties::new());
+        assert_eq!(lines.map(|lines| counts(&lines)), Ok(expected.clone()));
+        assert_eq!(counts(&optimal.wrap(&words, &widths)), expected);
+    }
+}
+
+#[test]
+fn what_stands_after_a_fragment_counts() {
+    let divided = |whitespace: f64, penalty: f64| {
+        let items = [(); 4].map(|()| Plain(2.0, whitespace, penalty));
+        let first_fit = counts(&wrap_first_fit(&items, &[6.0]));
+        let optimal = counts(&wrap_optimal_fit(&items, &[6.0], &Penalties::new()).unwrap());
+        (first_fit, optimal)
+    };
+    assert_eq!(divided(0.0, 0.0), (vec![3, 1], vec![3, 1]));
+    assert_eq!(divided(1.0, 0.0), (vec![2, 2], vec![2, 2]));
+    assert_eq!(divided(3.0, 0.0), (vec![1; 4], vec![1; 4]));
+    assert_eq!(divided(0.0, 1.0), (vec![2, 2], vec![2, 2]));
+    assert_eq!(divided(0.0, 3.0), (vec![1; 4], vec![1; 4]));
+}
+
+#[test]
+fn the_penalty_of_a_word_takes_its_columns() {
+    let words = ["foo", "bar", "baz"].map(|word| Word { penalty: "---", ..Word::from(word) });
+    for algorithm in [WrapAlgorithm::FirstFit, WrapAlgorithm::new()] {
+        assert_eq!(counts(&algorithm.wrap(&words, &[8])), [1, 1, 1]);
+        assert_eq!(counts(&algorithm.wrap(&words, &[9])), [2, 1]);
+    }
+    assert_eq!(counts(&wrap_first_fit(&words, &[8.0])), [1, 1, 1]);
+}
+
+#[test]
+fn penalties_of_0() {
+    let divided = |items: &[Plain], penalties: &Penalties| {
+        let lines = wrap_optimal_fit(items, &[4.0], penalties);
+        lines.map(|lines| counts(&lines))
+    };
+    // On two lines they leave a gap of 1, and on one they pass the width by 4.
+    let gap = [Plain(3.0, 1.0, 0.0), Plain(4.0, 1.0, 0.0)];
+    let free = Penalties { nline_penalty: 0, overflow_penalty: 0, ..Penalties::new() };
+    assert_eq!(divided(&gap, &free), Ok(vec![2]));
+    assert_eq!(divided(&gap, &Penalties { overflow_penalty: 1, ..free }), Ok(vec![1, 1]));
+    // A last fragment as wide as its line is short by a fraction of 0, and not by one of 1.
+    let steep = Penalties { short_last_line_penalty: 1_000_000, ..Penalties::new() };
+    let short = |short_last_line_fraction| {
+        divided(&gap, &Penalties { short_last_line_fraction, ..steep })
+    };
+    assert_eq!((short(0), short(1), short(2)), (Ok(vec![2]), Ok(vec![1, 1]), Ok(vec![1, 1])));
+}
 
 /// An item with a width, one unit after it, and a counter of what it is asked.
 #[derive(Debug, PartialEq)]
@@ -500,6 +645,75 @@ fn an_algorithm_gets_pieces_and_widths() {
 }
 
 #[test]
+fn an_algorithm_gets_all_widths_and_words() {
+    fn checked<'a, 'b>(words: &'b [Word<'a>], widths: &'b [usize]) -> Vec<&'b [Word<'a>]> {
+        assert_eq!(widths, [4, 3, 2, 1]);
+        assert_eq!(words, [Word::from("a "), Word::from("b  "), Word { penalty: "--", ..Word::from("c") }]);
+        vec![&words[..1], &[], &words[1..]]
+    }
+    let words = [Word::from("a "), Word::from("b  "), Word { penalty: "--", ..Word::from("c") }];
+    let lines = WrapAlgorithm::Custom(checked).wrap(&words, &[4, 3, 2, 1]);
+    assert_eq!(lines, [&words[..1], &[], &words[1..]]);
+}
+
+#[test]
+fn an_algorithm_is_asked_unless_the_text_is_shorter_than_the_width() {
+    let none_first = WrapAlgorithm::Custom(|words, _| vec![&[], words]);
+    for separator in SEPARATORS {
+        let options = Options::new(3).word_separator(separator).wrap_algorithm(none_first);
+        assert_eq!(wrap("fo", &options), ["fo"]);
+        assert_eq!(wrap("foo", &options), ["", "foo"]);
+        assert_eq!(wrap("é", &options), ["é"]);
+        assert_eq!(wrap("éa", &options), ["", "éa"]);
+        assert_eq!(fill("fo\nfoo", &options), "fo\n\nfoo");
+        assert_eq!(wrap("fo", options.initial_indent(" ")), ["", "fo"]);
+    }
+}
+
+thread_local! {
+    /// The words that a splitter was handed.
+    static NOTED: RefCell<Vec<String>> = const { RefCell::new(Vec::new()) };
+}
+
+fn noting(word: &str) -> Vec<usize> {
+    NOTED.with_borrow_mut(|noted| noted.push(word.into()));
+    vec![]
+}
+
+#[test]
+fn a_splitter_gets_words_without_the_blanks_after_them() {
+    fn at_breaks(line: &str) -> Box<dyn Iterator<Item = Word<'_>> + '_> {
+        WordSeparator::UnicodeBreakProperties.find_words(line)
+    }
+    let [breaks, blanks] = SEPARATORS;
+    for (separator, text, words) in [
+        (blanks, "foo  bar\t baz\u{3000}  ", &["foo", "bar\t", "baz\u{3000}"][..]),
+        (blanks, "  foo-bar\rbaz", &["", "foo-bar\rbaz"]),
+        (breaks, "foo  bar\t baz\u{3000}  ", &["foo", "bar\t", "baz\u{3000}"]),
+        (breaks, "foo-bar 日本", &["foo-bar", "日", "本"]),
+        (WordSeparator::Custom(at_breaks), "foo\t bar ", &["foo\t", "bar"]),
+        (WordSeparator::Custom(after_commas), "a, b ,c", &["a,", " b ,", "c"]),
+    ] {
+        let splitter = WordSplitter::Custom(noting);
+        fill(text, Options::new(3).word_separator(separator).word_splitter(splitter));
+        assert_eq!(NOTED.take(), words, "{text:?} by {separator:?}");
+    }
+}
+
+#[test]
+fn a_word_without_a_byte_is_left_out() {
+    fn with_empty_words(line: &str) -> Box<dyn Iterator<Item = Word<'_>> + '_> {
+        let parts = ["", &line[..4], "", "", &line[4..], ""];
+        Box::new(parts.into_iter().map(Word::from))
+    }
+    let options = Options::new(5).word_separator(WordSeparator::Custom(with_empty_words));
+    assert_eq!(wrap("foo barbaz", &options), ["foo", "barba", "z"]);
+    let split = options.word_splitter(WordSplitter::Custom(noting));
+    assert_eq!(fill("foo bar", split), "foo\nbar");
+    assert_eq!(NOTED.take(), ["foo", "bar"]);
+}
+
+#[test]
 fn paragraphs_with_functions_of_the_caller() {
     let options = Options::new(6)
         .subsequent_indent("> ")
@@ -541,17 +755,42 @@ fn lines_end_where_unicode_lets_them() {
     assert_eq!(WordSeparator::UnicodeBreakProperties.find_words("").count(), 0);
 }
 
+/// Whether lines are the same, borrowed or not, and from where.
+fn are_alike(lines: &[Cow<str>], others: &[Cow<str>]) -> bool {
+    lines.len() == others.len()
+        && lines.iter().zip(others).all(|pair| match pair {
+            (Cow::Borrowed(a), Cow::Borrowed(b)) => a == b && a.as_ptr() == b.as_ptr(),
+            (Cow::Owned(a), Cow::Owned(b)) => a == b,
+            _ => false,
+        })
+}
+
+#[test]
+fn a_separator_of_the_callers_own_may_be_a_built_in_one() {
+    let random = &mut Random::new(1);
+    for _ in 0..4_000 {
+        let (text, plain) = (drawn::text(random), drawn::options(random));
+        let [left, middle, right] = [(); 3].map(|()| drawn::around(random));
+        let columns = random.below(4) + 1;
+        for separator in SEPARATORS {
+            let options = plain.clone().word_separator(separator);
+            let own = options.clone().word_separator(drawn::own(separator));
+            assert!(are_alike(&wrap(&text, &own), &wrap(&text, &options)), "{text:?} by {options:?}");
+            assert_eq!(fill(&text, &own), fill(&text, &options), "{text:?} by {options:?}");
+            assert_eq!(refill(&text, &own), refill(&text, &options), "{text:?} by {options:?}");
+            assert_eq!(
+                wrap_columns(&text, columns, &own, left, middle, right),
+                wrap_columns(&text, columns, &options, left, middle, right),
+                "{text:?} by {options:?} between {left:?}, {middle:?} and {right:?}"
+            );
+        }
+    }
+}
+
 /// Functions that do what the built-in parts do.
 fn as_built_in<'a>(options: &'a Options<'a>) -> Options<'a> {
-    fn at_blanks(line: &str) -> Box<dyn Iterator<Item = Word<'_>> + '_> {
-        WordSeparator::AsciiSpace.find_words(line)
-    }
-    fn at_breaks(line: &str) -> Box<dyn Iterator<Item = Word<'_>> + '_> {
-        WordSeparator::UnicodeBreakProperties.find_words(line)
-    }
-    let is_at_blanks = options.word_separator == WordSeparator::AsciiSpace;
     Options::from(options)
-        .word_separator(WordSeparator::Custom(if is_at_blanks { at_blanks } else { at_breaks }))
+        .word_separator(drawn::own(options.word_separator))
         .word_splitter(WordSplitter::Custom(|word| WordSplitter::HyphenSplitter.split_points(word)))
         .wrap_algorithm(WrapAlgorithm::Custom(|words, widths| {
             WrapAlgorithm::new().wrap(words, widths)
@@ -621,6 +860,25 @@ fn a_separator_must_not_give_penalties() {
 }
 
 #[test]
+#[should_panic(expected = "as Word::from makes them")]
+fn a_separator_must_not_leave_a_blank_in_a_word() {
+    fn blank_inside(line: &str) -> Box<dyn Iterator<Item = Word<'_>> + '_> {
+        Box::new(std::iter::once(Word { word: line, whitespace: "", penalty: "", width: 7 }))
+    }
+    wrap("foobar ", Options::new(5).word_separator(WordSeparator::Custom(blank_inside)));
+}
+
+#[test]
+#[should_panic(expected = "as Word::from makes them")]
+fn a_separator_must_not_take_a_tab_for_a_blank() {
+    fn tab_behind(line: &str) -> Box<dyn Iterator<Item = Word<'_>> + '_> {
+        let (word, whitespace) = line.split_at(6);
+        Box::new(std::iter::once(Word { word, whitespace, penalty: "", width: 6 }))
+    }
+    wrap("foobar\t", Options::new(5).word_separator(WordSeparator::Custom(tab_behind)));
+}
+
+#[test]
 #[should_panic(expected = "points of a WordSplitter::Custom must not decrease")]
 fn a_splitter_must_not_go_back() {
     wrap("foobar", Options::new(5).word_splitter(WordSplitter::Custom(|_| vec![3, 2])));
@@ -666,5 +924,37 @@ fn the_twins_with_functions_of_the_caller() {
     for options in [options, Options::new(6)] {
         let rows = fallible::wrap_columns("a,b", usize::MAX, &options, "", "|", "");
         assert_eq!(rows, Err(textwrap::OutOfMemory));
+    }
+}
+
+// ---- Long texts
+
+#[test]
+fn a_long_line_behind_an_indent_is_whole() {
+    let word = "x".repeat(200_000);
+    for separator in SEPARATORS {
+        for separator in [separator, drawn::own(separator)] {
+            let options = Options::new(300_000).word_separator(separator).initial_indent("> ");
+            let lines = textwrap::fallible::wrap(&word, &options).unwrap();
+            assert_eq!(lines.len(), 1);
+            assert_eq!(lines[0], format!("> {word}"));
+            assert_eq!(fill(&word, &options), lines[0]);
+        }
+    }
+}
+
+#[test]
+fn many_rows_and_wide_columns() {
+    let text = vec!["ab"; 3_000].join(" ");
+    for separator in SEPARATORS {
+        for separator in [separator, drawn::own(separator)] {
+            let options = Options::new(6).word_separator(separator);
+            let rows = wrap_columns(&text, 2, &options, "", "|", "!");
+            assert_eq!(rows.len(), 1_500);
+            assert!(rows.iter().all(|row| row == "ab|ab!"));
+            let rows = wrap_columns("a\nb", 2, options.width(10_003), "<", "|", ">");
+            let blanks = " ".repeat(4_999);
+            assert_eq!(rows, [format!("<a{blanks}|b{blanks}>")]);
+        }
     }
 }

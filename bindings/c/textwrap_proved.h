@@ -1,7 +1,7 @@
 /* textwrap: word wrapping and paragraph filling, proved.
  *
- * The library is libtextwrap_c.a, written in Rattle and proved. This header is written by hand; the
- * tests beside it use each declaration once.
+ * The library is libtextwrap_c.a, written in Rattle and proved. This header is written by hand;
+ * tools/headers compares it with the library, and the tests beside it use each declaration once.
  *
  * A text is a pointer and a length in bytes, in UTF-8. A pointer is aligned as its type asks, and is
  * not null, but for that of an array of length 0. (null.c sees to these. A program that links the

@@ -1,5 +1,5 @@
-//! The exports of the library, as `bindings/c/textwrap_proved.h` has them. Nothing compares the two but
-//! the tests of each.
+//! The exports of the library, as `bindings/c/textwrap_proved.h` has them. `tools/headers` compares the
+//! two.
 
 pub const DONE: u32 = 0;
 pub const OUT_OF_MEMORY: u32 = 2;

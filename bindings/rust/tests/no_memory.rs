@@ -1,0 +1,103 @@
+//! Each call of `fallible`, with each of the allocations that it makes in Rust refused in turn: it has to
+//! return that memory ran out. One that aborts ends the test. What the library allocates is refused by
+//! the tests in C.
+use std::alloc::{GlobalAlloc, Layout, System};
+use std::cell::Cell;
+use std::ptr::null_mut;
+use textwrap_proved::display::{self, Alignment, Column, Gaps};
+use textwrap_proved::{fallible, Options, OutOfMemory, WordSeparator};
+
+/// The heap of the system, but that it refuses an allocation where it is told to.
+struct Refusing;
+
+thread_local! {
+    /// How many allocations of this thread are left before the one that is refused, if any is.
+    static LEFT: Cell<Option<usize>> = const { Cell::new(None) };
+}
+
+/// Whether this allocation is refused. If it is, none after it is.
+fn is_refused() -> bool {
+    let left = LEFT.get();
+    LEFT.set(left.and_then(|left| left.checked_sub(1)));
+    left == Some(0)
+}
+
+// SAFETY: what is not refused is passed on.
+unsafe impl GlobalAlloc for Refusing {
+    unsafe fn alloc(&self, layout: Layout) -> *mut u8 {
+        // SAFETY: as for this function.
+        if is_refused() { null_mut() } else { unsafe { System.alloc(layout) } }
+    }
+
+    unsafe fn dealloc(&self, block: *mut u8, layout: Layout) {
+        // SAFETY: as for this function.
+        unsafe { System.dealloc(block, layout) }
+    }
+
+    unsafe fn realloc(&self, block: *mut u8, layout: Layout, size: usize) -> *mut u8 {
+        // SAFETY: as for this function.
+        if is_refused() { null_mut() } else { unsafe { System.realloc(block, layout, size) } }
+    }
+}
+
+#[global_allocator]
+static HEAP: Refusing = Refusing;
+
+/// Refuses the first allocation of a call, then the second, until it makes none that is refused. A guess
+/// at the room may be refused without harm: then the call asks for what it needs.
+fn refuse_each<T: PartialEq + std::fmt::Debug>(name: &str, call: impl Fn() -> Result<T, OutOfMemory>) {
+    let expected = call();
+    assert!(expected.is_ok(), "{name}");
+    for refused in 0.. {
+        LEFT.set(Some(refused));
+        let answer = call();
+        let is_done = LEFT.take().is_some();
+        assert!(answer == expected || (!is_done && answer == Err(OutOfMemory)), "{name}: {answer:?}");
+        if is_done {
+            break;
+        }
+    }
+}
+
+const TEXT: &str = "To be, or not to-be: that is\n\nthe 日本語 question";
+
+/// Options of each kind that the crate tells apart.
+fn each_options() -> [Options<'static>; 4] {
+    let options = Options::new(9).initial_indent("* ").subsequent_indent("  ");
+    [
+        Options::new(9).word_separator(WordSeparator::UnicodeBreakProperties),
+        options.clone().word_separator(WordSeparator::UnicodeBreakProperties),
+        Options::new(9).word_separator(WordSeparator::AsciiSpace),
+        options.word_separator(WordSeparator::AsciiSpace),
+    ]
+}
+
+#[test]
+fn calls_on_texts() {
+    for options in each_options() {
+        refuse_each("fill", || fallible::fill(TEXT, &options));
+        refuse_each("wrap", || fallible::wrap(TEXT, &options));
+        refuse_each("refill", || fallible::refill("> foo bar\n> baz\n", &options));
+        refuse_each("wrap_columns", || fallible::wrap_columns(TEXT, 2, &options, "[", "│", "]"));
+    }
+    refuse_each("unfill", || fallible::unfill("> foo\n> bar\n").map(|(text, _)| text));
+    refuse_each("indent", || fallible::indent("foo\nbar", "> "));
+    refuse_each("dedent", || fallible::dedent("  foo\n  bar"));
+}
+
+#[test]
+fn calls_for_display() {
+    let fallible_align = |line| display::fallible::align(line, 9, Alignment::Right);
+    refuse_each("align", || fallible_align("foo"));
+    refuse_each("justify", || display::fallible::justify("a few words", 14));
+    refuse_each("shorten", || display::fallible::shorten("foo bar", 5, ".."));
+    refuse_each("shorten_lines", || display::fallible::shorten_lines(&["foo", "bar"], 1, 5, ".."));
+    refuse_each("carry_styles", || display::fallible::carry_styles(&["\u{1b}[1mfoo", "bar"], 5));
+    let gaps = Gaps { left: "[", middle: "│", right: "]" };
+    for options in each_options() {
+        refuse_each("fill_justified", || display::fallible::fill_justified(TEXT, &options));
+        let columns = [Alignment::Left, Alignment::Right]
+            .map(|alignment| Column { options: options.clone(), alignment });
+        refuse_each("table", || display::fallible::table(&[TEXT, "foo", "bar"], &columns, &gaps));
+    }
+}

@@ -72,8 +72,8 @@ static const char *wrapped(textwrap_options options, textwrap_functions function
     textwrap_line lines[32];
     uint8_t room[256];
     size_t count = 0, len = 0, used = 0;
-    textwrap_status status = textwrap_wrap_by(bytes(text), strlen(text), &options, &functions, lines, 32,
-                                              &count, room, sizeof room, &len);
+    textwrap_status status = textwrap_wrap_by(bytes(text), strlen(text), &options, &functions, lines,
+                                              32, &count, room, sizeof room, &len);
     if (status != TEXTWRAP_DONE) return textwrap_status_text(status);
     for (size_t i = 0; i < count; i++) {
         const uint8_t *line = (lines[i].is_built ? room : bytes(text)) + lines[i].offset;
@@ -118,8 +118,8 @@ static void what_is_refused_calls_no_function(void) {
     CHECK(is_refused_unasked("a b c d", refused, TEXTWRAP_UNKNOWN_OPTIONS));
 }
 
-/* "> aa", "> bb" and "> cc" stand in 12 bytes, and joined in 14. The room is a block of its own, so that
- * a byte behind it belongs to nobody. */
+/* "> aa", "> bb" and "> cc" stand in 12 bytes, and joined in 14. The room is a block of its own with one
+ * byte more, which has to stay. */
 static void room_that_is_too_short_is_left(void) {
     textwrap_options o = first_fit(4);
     const textwrap_functions none = textwrap_functions_new(NULL);
@@ -152,8 +152,8 @@ static void too_few_lines_are_left(void) {
     o.initial_indent = o.subsequent_indent = text_of("> ");
     for (size_t lines_len = 0; lines_len <= 3; lines_len++) {
         textwrap_line lines[4] = {unset, unset, unset, unset};
-        textwrap_status status = textwrap_wrap_by(bytes("aa bb cc"), 8, &o, &none, lines, lines_len, &count,
-                                                  room, sizeof room, &len);
+        textwrap_status status = textwrap_wrap_by(bytes("aa bb cc"), 8, &o, &none, lines, lines_len,
+                                                  &count, room, sizeof room, &len);
         CHECK(status == (lines_len < 3 ? TEXTWRAP_TOO_SMALL : TEXTWRAP_DONE));
         CHECK(count == 3 && len == 12 && memcmp(&lines[lines_len], &unset, sizeof unset) == 0);
         CHECK(lines_len == 3 || memcmp(room, "...", 4) == 0);
@@ -205,7 +205,8 @@ static void a_last_line_may_be_empty(void) {
     CHECK(strcmp(wrapped(o, functions, "a b c"), "a|b|c||") == 0);
     uint8_t room[8];
     size_t len = 0;
-    CHECK(textwrap_fill_by(bytes("a b c"), 5, &o, &functions, room, sizeof room, &len) == TEXTWRAP_DONE);
+    CHECK(textwrap_fill_by(bytes("a b c"), 5, &o, &functions, room, sizeof room, &len)
+          == TEXTWRAP_DONE);
     CHECK(is_text(room, len, "a\nb\nc\n"));
 }
 

@@ -1,7 +1,8 @@
 /* Each call of the library as it is installed, with each of its allocations refused in turn: a refused
  * call is out of memory, changes nothing and leaves nothing allocated. What comes after the refused
  * allocation is allowed again, so a call that overlooks the refusal is done, which is a fault. The
- * library is linked with --wrap, so that its malloc, calloc, realloc and free are those of this file. */
+ * library is linked with --wrap, so that its malloc, calloc, realloc and free are those of this
+ * file. */
 #include <stdbool.h>
 #include <stdio.h>
 #include <stdlib.h>
@@ -225,7 +226,8 @@ static size_t cut_everywhere(void *context, const uint8_t *paragraph, size_t len
 /* By functions of the caller. The text is long enough that each list grows, and so does the room. */
 static const char LONG_TEXT[] = "to be or not to be that is the question\nfoo bar baz qux quux foobar";
 
-static textwrap_status wrapped_by(struct lent *lent, textwrap_functions functions, uint32_t optimal_fit) {
+static textwrap_status wrapped_by(struct lent *lent, textwrap_functions functions,
+                                  uint32_t optimal_fit) {
     textwrap_options o = options_of(optimal_fit, 1);
     o.width = 3;
     return textwrap_wrap_by(bytes(LONG_TEXT), strlen(LONG_TEXT), &o, &functions, lent->lines, 64,
@@ -255,7 +257,8 @@ static textwrap_status by_breaks(struct lent *lent) {
 static textwrap_status filled_by_no_functions(struct lent *lent) {
     const textwrap_functions none = textwrap_functions_new(NULL);
     textwrap_options o = options_of(0, 1);
-    return textwrap_fill_by(bytes(LONG_TEXT), strlen(LONG_TEXT), &o, &none, lent->room, 256, &lent->len);
+    return textwrap_fill_by(bytes(LONG_TEXT), strlen(LONG_TEXT), &o, &none, lent->room, 256,
+                            &lent->len);
 }
 
 /* What this returns is no status: it is more than there may be if memory runs out. */

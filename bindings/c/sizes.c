@@ -68,10 +68,10 @@ static void the_lines_of_a_long_text_are_places(void) {
     for (int by = 0; by < 2; by++) {
         size_t count = 0, len = 0;
         memset(room, 0, BUILT);
-        CHECK((by ? textwrap_wrap_by(text, LONG, &o, &none, lines, LINES, &count, room, BUILT, &len)
-                  : textwrap_wrap(text, LONG, &o, lines, LINES, &count, room, BUILT, &len))
-              == TEXTWRAP_DONE);
-        CHECK(count == LINES && is_equal(room, len, built, BUILT));
+        textwrap_status status =
+            by ? textwrap_wrap_by(text, LONG, &o, &none, lines, LINES, &count, room, BUILT, &len)
+               : textwrap_wrap(text, LONG, &o, lines, LINES, &count, room, BUILT, &len);
+        CHECK(status == TEXTWRAP_DONE && count == LINES && is_equal(room, len, built, BUILT));
         CHECK(lines[LINES - 1].offset == BUILT - 9 && lines[LINES - 1].len == 9);
     }
     free(text);
@@ -89,33 +89,35 @@ static void many_fragments_are_divided(void) {
     for (int by_cost = 0; by_cost < 2; by_cost++) {
         size_t count = 0;
         memset(ends, 0, sizeof ends);
-        CHECK((by_cost ? textwrap_wrap_optimal_fit(fragments, MANY, &one, 1, &penalties, ends, MANY, &count)
-                       : textwrap_wrap_first_fit(fragments, MANY, &one, 1, ends, MANY, &count))
-              == TEXTWRAP_DONE);
-        CHECK(count == MANY && ends[0] == 1 && ends[1000] == 1001 && ends[MANY - 1] == MANY);
+        textwrap_status status =
+            by_cost ? textwrap_wrap_optimal_fit(fragments, MANY, &one, 1, &penalties, ends, MANY, &count)
+                    : textwrap_wrap_first_fit(fragments, MANY, &one, 1, ends, MANY, &count);
+        CHECK(status == TEXTWRAP_DONE && count == MANY);
+        CHECK(ends[0] == 1 && ends[1000] == 1001 && ends[MANY - 1] == MANY);
     }
 }
 
 /* Two letters, each on a line of its own behind an indent of many. */
 static void long_indents_are_whole(void) {
+    enum { FILLED = 2 * MANY + 3 };
     const textwrap_text indent = letters('x', MANY), later_indent = letters('y', MANY);
     const textwrap_functions none = textwrap_functions_new(NULL);
     textwrap_options o = textwrap_options_new(MANY + 1);
-    uint8_t *expected = memory(2 * MANY + 3), *room = memory(2 * MANY + 3);
+    uint8_t *expected = memory(FILLED), *room = memory(FILLED);
     o.initial_indent = indent;
     o.subsequent_indent = later_indent;
     memcpy(expected, indent.at, MANY);
     memcpy(expected + MANY, "a\n", 2);
     memcpy(expected + MANY + 2, later_indent.at, MANY);
-    expected[2 * MANY + 2] = 'b';
+    expected[FILLED - 1] = 'b';
     for (int call = 0; call < 3; call++) {
         size_t len = 0;
-        memset(room, 0, 2 * MANY + 3);
-        CHECK((call == 0   ? textwrap_fill(bytes("a b"), 3, &o, room, 2 * MANY + 3, &len)
-               : call == 1 ? textwrap_fill_by(bytes("a b"), 3, &o, &none, room, 2 * MANY + 3, &len)
-                           : textwrap_fill_justified(bytes("a b"), 3, &o, room, 2 * MANY + 3, &len))
-              == TEXTWRAP_DONE);
-        CHECK(is_equal(room, len, expected, 2 * MANY + 3));
+        memset(room, 0, FILLED);
+        textwrap_status status =
+            call == 0   ? textwrap_fill(bytes("a b"), 3, &o, room, FILLED, &len)
+            : call == 1 ? textwrap_fill_by(bytes("a b"), 3, &o, &none, room, FILLED, &len)
+                        : textwrap_fill_justified(bytes("a b"), 3, &o, room, FILLED, &len);
+        CHECK(status == TEXTWRAP_DONE && is_equal(room, len, expected, FILLED));
     }
     release(indent);
     release(later_indent);
@@ -124,15 +126,16 @@ static void long_indents_are_whole(void) {
 }
 
 static void long_gaps_are_whole(void) {
+    enum { ROW = 3 * MANY + 2 };
     const textwrap_text gap = letters('|', MANY);
     const textwrap_gaps gaps = textwrap_gaps_new(gap, gap, gap);
-    const textwrap_options o = textwrap_options_new(3 * MANY + 2);
+    const textwrap_options o = textwrap_options_new(ROW);
     textwrap_line row;
-    uint8_t *room = memory(3 * MANY + 2);
+    uint8_t *room = memory(ROW);
     size_t count = 0, len = 0;
-    CHECK(textwrap_wrap_columns(bytes("a\nb"), 3, 2, &o, &gaps, &row, 1, &count, room, 3 * MANY + 2, &len)
+    CHECK(textwrap_wrap_columns(bytes("a\nb"), 3, 2, &o, &gaps, &row, 1, &count, room, ROW, &len)
           == TEXTWRAP_DONE);
-    CHECK(count == 1 && len == 3 * MANY + 2 && memcmp(room, gap.at, MANY) == 0);
+    CHECK(count == 1 && len == ROW && memcmp(room, gap.at, MANY) == 0);
     CHECK(room[MANY] == 'a' && memcmp(room + MANY + 1, gap.at, MANY) == 0);
     CHECK(room[2 * MANY + 1] == 'b' && memcmp(room + 2 * MANY + 2, gap.at, MANY) == 0);
     release(gap);
@@ -151,8 +154,8 @@ static void long_prefixes_and_placeholders_are_whole(void) {
     CHECK(is_equal(room, len, prefix.at, MANY));
     const textwrap_text lines[2] = {line, line};
     memset(room, 0, MANY);
-    CHECK(textwrap_shorten_lines(lines, 2, 1, MANY, prefix.at, MANY, &place, 1, &count, room, MANY, &len)
-          == TEXTWRAP_DONE);
+    CHECK(textwrap_shorten_lines(lines, 2, 1, MANY, prefix.at, MANY, &place, 1, &count, room, MANY,
+                                 &len) == TEXTWRAP_DONE);
     CHECK(count == 1 && place.len == MANY && is_equal(room, len, prefix.at, MANY));
     release(prefix);
     release(line);
@@ -167,8 +170,8 @@ static void many_lines_are_shortened(void) {
     uint8_t *room = memory(LINES);
     size_t count = 0, len = 0;
     for (size_t i = 0; i < LINES; i++) lines[i] = text_of("a");
-    CHECK(textwrap_shorten_lines(lines, LINES, LINES, 1, bytes("."), 1, places, LINES, &count, room, LINES,
-                                 &len) == TEXTWRAP_DONE);
+    CHECK(textwrap_shorten_lines(lines, LINES, LINES, 1, bytes("."), 1, places, LINES, &count, room,
+                                 LINES, &len) == TEXTWRAP_DONE);
     CHECK(count == LINES && len == LINES && places[LINES - 1].offset == LINES - 1);
     CHECK(room[0] == 'a' && room[LINES - 1] == 'a');
     free(lines);

@@ -179,26 +179,41 @@ fn filling_keeps_to_the_original() {
 const SEPARATORS: [WordSeparator; 2] =
     [WordSeparator::UnicodeBreakProperties, WordSeparator::AsciiSpace];
 
+/// Asserts that a word with white space at its end stays whole, wherever it stands.
+fn assert_is_kept(word: &str, separator: WordSeparator) {
+    let options = Options::new(80).word_separator(separator).break_words(false);
+    let narrow = options.clone().width(3);
+    assert_eq!(wrap(word, &options), [word], "by {separator:?}");
+    assert_eq!(wrap(word, &narrow), [word], "by {separator:?}");
+    assert_eq!(fill(word, &narrow), word, "by {separator:?}");
+    assert_eq!(refill(word, &narrow), word, "by {separator:?}");
+    assert_eq!(wrap(&format!("{word}  "), &options), [word], "by {separator:?}");
+    let before_another = format!("a {word}  \nb");
+    assert_eq!(wrap(&before_another, &options), [&format!("a {word}"), "b"], "by {separator:?}");
+}
+
 #[test]
 fn white_space_other_than_blanks_is_kept() {
+    for word in ["foo\t", "foo\r", "foo\u{3000}", "foo\u{a0}", "\t", "foo\t\u{3000}"] {
+        SEPARATORS.into_iter().for_each(|separator| assert_is_kept(word, separator));
+    }
     for separator in SEPARATORS {
-        let options = |width| Options::new(width).word_separator(separator);
-        for text in ["foo\t", "foo\r", "foo\u{3000}", "foo\u{a0}", "\t", "foo\t\u{3000}"] {
-            for width in [80, 3] {
-                let options = options(width).break_words(false);
-                assert_eq!(wrap(text, &options), [text], "{options:?}");
-                assert_eq!(fill(text, &options), text, "{options:?}");
-                assert_eq!(refill(text, &options), text, "{options:?}");
-            }
-            assert_eq!(wrap(&format!("{text}  "), options(80)), [text]);
-            assert_eq!(wrap(&format!("a {text}  \nb"), options(80)), [&format!("a {text}"), "b"]);
-        }
-        assert_eq!(refill("foo\t\n", options(80)), "foo\t\n");
-        assert_eq!(refill("foo\nbar\u{3000}\n", options(80)), "foo bar\u{3000}\n");
-        let crlf = options(80).line_ending(LineEnding::CRLF);
-        assert_eq!(wrap("a\rb cccc\r\ndd\r", &crlf), ["a\rb cccc", "dd\r"]);
-        assert_eq!(wrap("a\rb cccc\r\ndd\r", options(80)), ["a\rb cccc\r", "dd\r"]);
-        assert_eq!(fill("a\u{3000}\r", options(80)), "a\u{3000}\r");
+        let options = Options::new(80).word_separator(separator);
+        assert_eq!(fill("a\u{3000}\r", &options), "a\u{3000}\r");
+        assert_eq!(refill("foo\t\n", &options), "foo\t\n");
+        assert_eq!(refill("foo\nbar\u{3000}\n", options), "foo bar\u{3000}\n");
+    }
+}
+
+#[test]
+fn a_carriage_return_by_itself_ends_no_paragraph() {
+    for separator in SEPARATORS {
+        let options = Options::new(80).word_separator(separator);
+        let text = "a\rb cccc\r\ndd\r";
+        assert_eq!(wrap(text, &options), ["a\rb cccc\r", "dd\r"]);
+        let crlf = options.line_ending(LineEnding::CRLF);
+        assert_eq!(wrap(text, &crlf), ["a\rb cccc", "dd\r"]);
+        assert_eq!(fill(text, &crlf), text);
     }
 }
 
@@ -222,8 +237,8 @@ fn gaps_and_indents_take_their_columns() {
         let options = Options::new(14).word_separator(separator);
         let rows = ["│ foo │ baz  │", "│ bar │      │"];
         assert_eq!(wrap_columns("foo bar baz", 2, &options, "│ ", " │ ", " │"), rows);
-        let wide = options.clone().width(10);
-        assert_eq!(wrap_columns("a b c", 3, &wide, "日", "│", "é"), ["日a│b│c  é"]);
+        let wide = options.clone().width(11);
+        assert_eq!(wrap_columns("a b c", 3, &wide, "日", "│", "é"), ["日a │b │c é"]);
         let indented = options.width(6).initial_indent("│ ").subsequent_indent("日");
         assert_eq!(wrap("ab cd ef", &indented), ["│ ab", "日cd", "日ef"]);
         assert_eq!(wrap("a b cd ef", indented.width(7)), ["│ a b", "日cd ef"]);
@@ -648,10 +663,12 @@ fn an_algorithm_gets_pieces_and_widths() {
 fn an_algorithm_gets_all_widths_and_words() {
     fn checked<'a, 'b>(words: &'b [Word<'a>], widths: &'b [usize]) -> Vec<&'b [Word<'a>]> {
         assert_eq!(widths, [4, 3, 2, 1]);
-        assert_eq!(words, [Word::from("a "), Word::from("b  "), Word { penalty: "--", ..Word::from("c") }]);
+        let hyphened = Word { penalty: "--", ..Word::from("c") };
+        assert_eq!(words, [Word::from("a "), Word::from("b  "), hyphened]);
         vec![&words[..1], &[], &words[1..]]
     }
-    let words = [Word::from("a "), Word::from("b  "), Word { penalty: "--", ..Word::from("c") }];
+    let hyphened = Word { penalty: "--", ..Word::from("c") };
+    let words = [Word::from("a "), Word::from("b  "), hyphened];
     let lines = WrapAlgorithm::Custom(checked).wrap(&words, &[4, 3, 2, 1]);
     assert_eq!(lines, [&words[..1], &[], &words[1..]]);
 }
@@ -775,7 +792,8 @@ fn a_separator_of_the_callers_own_may_be_a_built_in_one() {
         for separator in SEPARATORS {
             let options = plain.clone().word_separator(separator);
             let own = options.clone().word_separator(drawn::own(separator));
-            assert!(are_alike(&wrap(&text, &own), &wrap(&text, &options)), "{text:?} by {options:?}");
+            let lines = wrap(&text, &own);
+            assert!(are_alike(&lines, &wrap(&text, &options)), "{text:?} by {options:?}");
             assert_eq!(fill(&text, &own), fill(&text, &options), "{text:?} by {options:?}");
             assert_eq!(refill(&text, &own), refill(&text, &options), "{text:?} by {options:?}");
             assert_eq!(

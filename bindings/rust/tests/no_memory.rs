@@ -1,8 +1,9 @@
-//! Each call of `fallible`, with each of the allocations that it makes in Rust refused in turn: it has to
-//! return that memory ran out. One that aborts ends the test. What the library allocates is refused by
-//! the tests in C.
+//! Each call of `fallible`, with each of the allocations that it makes in Rust refused in turn: it
+//! has to return that memory ran out. One that aborts ends the test. What the library allocates is
+//! refused by the tests in C.
 use std::alloc::{GlobalAlloc, Layout, System};
 use std::cell::Cell;
+use std::fmt::Debug;
 use std::ptr::null_mut;
 use textwrap_proved::display::{self, Alignment, Column, Gaps};
 use textwrap_proved::{fallible, Options, OutOfMemory, WordSeparator};
@@ -43,16 +44,21 @@ unsafe impl GlobalAlloc for Refusing {
 #[global_allocator]
 static HEAP: Refusing = Refusing;
 
-/// Refuses the first allocation of a call, then the second, until it makes none that is refused. A guess
-/// at the room may be refused without harm: then the call asks for what it needs.
-fn refuse_each<T: PartialEq + std::fmt::Debug>(name: &str, call: impl Fn() -> Result<T, OutOfMemory>) {
+/// Refuses the first allocation of a call, then the second, until it makes none that is refused. A
+/// guess at the room may be refused without harm: then the call asks for what it needs.
+fn refuse_each<T, F>(name: &str, call: F)
+where
+    T: PartialEq + Debug,
+    F: Fn() -> Result<T, OutOfMemory>,
+{
     let expected = call();
     assert!(expected.is_ok(), "{name}");
     for refused in 0.. {
         LEFT.set(Some(refused));
         let answer = call();
         let is_done = LEFT.take().is_some();
-        assert!(answer == expected || (!is_done && answer == Err(OutOfMemory)), "{name}: {answer:?}");
+        let is_refusal = !is_done && answer == Err(OutOfMemory);
+        assert!(is_refusal || answer == expected, "{name}: {answer:?}");
         if is_done {
             break;
         }
@@ -87,8 +93,7 @@ fn calls_on_texts() {
 
 #[test]
 fn calls_for_display() {
-    let fallible_align = |line| display::fallible::align(line, 9, Alignment::Right);
-    refuse_each("align", || fallible_align("foo"));
+    refuse_each("align", || display::fallible::align("foo", 9, Alignment::Right));
     refuse_each("justify", || display::fallible::justify("a few words", 14));
     refuse_each("shorten", || display::fallible::shorten("foo bar", 5, ".."));
     refuse_each("shorten_lines", || display::fallible::shorten_lines(&["foo", "bar"], 1, 5, ".."));

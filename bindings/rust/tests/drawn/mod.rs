@@ -31,12 +31,13 @@ impl Random {
 
 /// Words, and all that may be taken for white space or for the end of a line somewhere.
 const PARTS: [&str; 24] = [
-    "foo", "a", "be", "unbreakable", "hyphen-ated", "--", " ", " ", " ", "  ", "\t", "\r", "\n", "\r\n",
-    "\u{3000}", "\u{a0}", "\u{2003}", "日本", "é", "│", "😂", "\u{1b}[1m", "> ", "*",
+    "foo", "a", "be", "unbreakable", "hyphen-ated", "--", " ", " ", " ", "  ", "\t", "\r", "\n",
+    "\r\n", "\u{3000}", "\u{a0}", "\u{2003}", "日本", "é", "│", "😂", "\u{1b}[1m", "> ", "*",
 ];
 
 /// What may stand before a line or between two cells. Most of it has more bytes than columns.
-const AROUND: [&str; 9] = ["", "", "* ", "    ", "│ ", "日", "\u{3000}", "\u{1b}[1m│\u{1b}[0m", "é\t"];
+const AROUND: [&str; 9] =
+    ["", "", "* ", "    ", "│ ", "日", "\u{3000}", "\u{1b}[1m│\u{1b}[0m", "é\t"];
 
 /// A text of up to 15 parts.
 pub fn text(random: &mut Random) -> String {

@@ -2,7 +2,7 @@
 //! library.
 use crate::answer::{self, Answer, Ending, Unfilled};
 use crate::causes::{Mend, Mends};
-use crate::drawn::Drawn;
+use crate::drawn::{Drawn, Separator};
 use crate::original::Original;
 use textwrap_proved as proved;
 
@@ -16,7 +16,15 @@ pub struct Call {
     pub original: fn(&Original) -> Answer,
     /// The documented differences that can matter.
     pub mends: &'static [Mend],
+    /// Where words stand in this call, if an option says that.
+    pub separator: fn(&Drawn) -> Option<Separator>,
 }
+
+/// The separator of the options.
+const OF_OPTIONS: fn(&Drawn) -> Option<Separator> = |drawn| Some(drawn.separator);
+
+/// No option says where words stand.
+const OF_NONE: fn(&Drawn) -> Option<Separator> = |_| None;
 
 /// The columns of a text.
 pub const DISPLAY_WIDTH: Call = Call {
@@ -26,6 +34,7 @@ pub const DISPLAY_WIDTH: Call = Call {
         Answer::Number(textwrap::core::display_width(&original.drawn().text))
     },
     mends: &[Mend::Characters],
+    separator: OF_NONE,
 };
 
 /// A filled text.
@@ -36,19 +45,26 @@ pub const FILL: Call = Call {
         let drawn = original.drawn();
         Answer::Text(original.fill(&drawn.text, drawn.original_options()))
     },
-    mends: &[Mend::Characters, Mend::WholeCosts, Mend::EvenParagraphs, Mend::FinalBlanks],
+    mends: &[
+        Mend::Characters, Mend::WholeCosts, Mend::EvenParagraphs, Mend::FinalBlanks, Mend::Cuts,
+    ],
+    separator: OF_OPTIONS,
 };
 
 /// A text filled to a width, with the options that it has if no others are given.
 pub const FILL_AT_WIDTH: Call = Call {
     name: "fill at width",
-    proved: |drawn| Answer::Text(proved::fill(&drawn.text, drawn.width)),
+    proved: |drawn| {
+        let drawn = drawn.with_default_options();
+        Answer::Text(proved::fill(&drawn.text, drawn.width))
+    },
     original: |original| {
         let drawn = original.drawn().with_default_options();
         let options = textwrap::Options::new(drawn.width);
         Answer::Text(original.of(&drawn).fill(&drawn.text, options))
     },
-    mends: &[Mend::Characters, Mend::WholeCosts],
+    mends: &[Mend::Characters, Mend::WholeCosts, Mend::Cuts],
+    separator: |_| Some(Separator::default_of_both()),
 };
 
 /// The lines of a text.
@@ -59,7 +75,10 @@ pub const WRAP: Call = Call {
         Answer::Lines(answer::placed(&drawn.text, &lines))
     },
     original: |original| original.wrap(),
-    mends: &[Mend::Characters, Mend::WholeCosts, Mend::EvenParagraphs, Mend::EmptyLines],
+    mends: &[
+        Mend::Characters, Mend::WholeCosts, Mend::EvenParagraphs, Mend::EmptyLines, Mend::Cuts,
+    ],
+    separator: OF_OPTIONS,
 };
 
 /// The rows of a table.
@@ -76,8 +95,9 @@ pub const WRAP_COLUMNS: Call = Call {
     original: |original| original.wrap_columns(),
     mends: &[
         Mend::Characters, Mend::WholeCosts, Mend::EvenParagraphs, Mend::LastColumn, Mend::WideLines,
-        Mend::LongRows,
+        Mend::LongRows, Mend::Cuts,
     ],
+    separator: OF_OPTIONS,
 };
 
 /// A filled text, filled again. It is one paragraph then, so none is a later one.
@@ -85,7 +105,8 @@ pub const REFILL: Call = Call {
     name: "refill",
     proved: |drawn| Answer::Text(proved::refill(&drawn.text, drawn.proved_options())),
     original: |original| original.refill(),
-    mends: &[Mend::Characters, Mend::WholeCosts, Mend::FinalBlanks],
+    mends: &[Mend::Characters, Mend::WholeCosts, Mend::FinalBlanks, Mend::Cuts],
+    separator: OF_OPTIONS,
 };
 
 /// A filled text with its lines joined, and how it was filled. Where an indent lies in the text is
@@ -106,12 +127,14 @@ pub const UNFILL: Call = Call {
             others_are_default: options.break_words
                 && options.wrap_algorithm == proved::WrapAlgorithm::new()
                 && options.word_splitter == proved::WordSplitter::HyphenSplitter
+                && options.word_separator == proved::WordSeparator::new()
                 && !options.preserve_trailing_space
                 && !options.even_paragraphs,
         })
     },
     original: |original| original.unfill(),
     mends: &[Mend::Characters],
+    separator: OF_NONE,
 };
 
 /// A text with a prefix before each line.
@@ -123,6 +146,7 @@ pub const INDENT: Call = Call {
         Answer::Text(textwrap::indent(&drawn.text, &drawn.prefix))
     },
     mends: &[],
+    separator: OF_NONE,
 };
 
 /// A text without its margin.
@@ -131,6 +155,7 @@ pub const DEDENT: Call = Call {
     proved: |drawn| Answer::Text(proved::dedent(&drawn.text)),
     original: |original| Answer::Text(textwrap::dedent(&original.drawn().text)),
     mends: &[],
+    separator: OF_NONE,
 };
 
 /// A text filled in its own place.
@@ -148,6 +173,7 @@ pub const FILL_INPLACE: Call = Call {
         Answer::Text(text)
     },
     mends: &[Mend::Characters],
+    separator: OF_NONE,
 };
 
 /// All of them.

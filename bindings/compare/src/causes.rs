@@ -24,6 +24,8 @@ pub enum Mend {
     WideLines,
     /// A row that fits no memory is refused.
     LongRows,
+    /// Words stand between the line breaks that the proved library finds.
+    Cuts,
 }
 
 /// Some of the mends.
@@ -56,12 +58,16 @@ pub enum Cause {
     Tie,
     RoundedCosts,
     RoundedSearch,
+    FallingWidths,
     EvenParagraphs,
     FinalBlanks,
     EmptyLines,
     LastColumn,
     WideLines,
     LongRows,
+    LastBreak,
+    AsciiBreaks,
+    Breaks,
 }
 
 impl fmt::Display for Cause {
@@ -71,22 +77,27 @@ impl fmt::Display for Cause {
             Cause::Tie => "it takes another of the divisions that cost the same",
             Cause::RoundedCosts => "its costs are rounded, and by them its division is no dearer",
             Cause::RoundedSearch => "its costs are rounded, and its search misses the least one",
+            Cause::FallingWidths => "its search misses the least cost, as a longer line is narrower",
             Cause::EvenParagraphs => "it has no even paragraphs",
             Cause::FinalBlanks => "it drops the final blanks of a text on one line",
             Cause::EmptyLines => "its empty line borrows a static text",
             Cause::LastColumn => "it pads the last column by another rule",
             Cause::WideLines => "it panics at a line that is wider than its column",
             Cause::LongRows => "it panics at a row that fits no memory",
+            Cause::LastBreak => "it drops the last break of a line that ends in a hyphen",
+            Cause::AsciiBreaks => "it breaks a line of ASCII elsewhere",
+            Cause::Breaks => "it breaks a line elsewhere, by its own tables and rules",
         })
     }
 }
 
 impl Mend {
-    /// The cause that this mend shows, but for the division of words, where costs tell the cause.
+    /// The cause that this mend shows, but for cutting and dividing: there the cuts and the costs
+    /// tell the cause.
     pub fn cause(self) -> Option<Cause> {
         match self {
             Mend::Characters => Some(Cause::Characters),
-            Mend::WholeCosts => None,
+            Mend::WholeCosts | Mend::Cuts => None,
             Mend::EvenParagraphs => Some(Cause::EvenParagraphs),
             Mend::FinalBlanks => Some(Cause::FinalBlanks),
             Mend::EmptyLines => Some(Cause::EmptyLines),

@@ -80,6 +80,18 @@ pub fn comparable(text: &str) -> String {
     })
 }
 
+/// The text with stand-ins from the start, for texts that are cut at line breaks: as another
+/// character may be cut elsewhere, none can stand in when only the original is asked.
+pub fn agreed(text: &str) -> String {
+    KNOWN.with_borrow_mut(|known| {
+        let mut agreed = |ch| match known.stand_in_of(ch) {
+            StandIn::Is(other) => other,
+            _ => ch,
+        };
+        text.chars().map(&mut agreed).collect()
+    })
+}
+
 /// The characters that were left out so far.
 pub fn left_out() -> BTreeSet<char> {
     KNOWN.with_borrow(|known| known.left_out.clone())
@@ -129,6 +141,7 @@ fn kinds(ch: char) -> (Kind, Kind) {
 /// says nothing else of a character's class.
 fn is_alphanumeric_here(ch: char) -> bool {
     let options = proved::Options::new(0)
+        .word_separator(proved::WordSeparator::AsciiSpace)
         .wrap_algorithm(proved::WrapAlgorithm::FirstFit)
         .break_words(false);
     proved::wrap(&format!("{ch}-a"), options).len() == 2

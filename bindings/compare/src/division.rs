@@ -2,6 +2,7 @@
 //! caller for that, and its words, their pieces and the lines made of them stay its own.
 use crate::causes::Cause;
 use crate::drawn::{original_penalties, Algorithm, Penalties};
+use crate::functions::there::{in_pairs, two_that_fit};
 use crate::least_cost::{Pieces, Ties};
 use std::cell::RefCell;
 use std::cmp::Ordering;
@@ -52,24 +53,36 @@ pub fn take_findings() -> Findings {
     STATE.with_borrow_mut(|state| std::mem::take(&mut state.findings))
 }
 
-/// The rule of the paragraph that is divided now, and whether it is even.
-fn next_rule() -> (Rule, bool) {
+/// Notes why an answer of the original differs.
+pub fn note_cause(cause: Cause) {
+    STATE.with_borrow_mut(|state| state.findings.causes.insert(cause));
+}
+
+/// The rule of the paragraph that is divided now.
+fn rule() -> Rule {
+    STATE.with_borrow(|state| state.rule.expect("a rule is set before words are divided"))
+}
+
+/// Counts a paragraph that has lines: one without any leaves the next where it was itself.
+fn count_paragraph() {
     STATE.with_borrow_mut(|state| {
-        let rule = state.rule.as_mut().expect("a rule is set before words are divided");
-        let is_even = rule.uneven_paragraphs == 0;
-        rule.uneven_paragraphs = rule.uneven_paragraphs.saturating_sub(1);
-        (*rule, is_even)
-    })
+        if let Some(rule) = &mut state.rule {
+            rule.uneven_paragraphs = rule.uneven_paragraphs.saturating_sub(1);
+        }
+    });
 }
 
 /// Divides the words of a paragraph by the rule.
 fn divide<'a, 'b>(words: &'b [Word<'a>], line_widths: &'b [usize]) -> Vec<&'b [Word<'a>]> {
-    let (rule, is_even) = next_rule();
+    let rule = rule();
     let &[first, later] = line_widths else {
         panic!("the original gives a first width and a later one, and not {line_widths:?}")
     };
+    let is_even = rule.uneven_paragraphs == 0;
     let widths = if is_even { [later, later] } else { [first, later] };
-    match (rule.algorithm, rule.whole_costs) {
+    let lines = match (rule.algorithm, rule.whole_costs) {
+        (Algorithm::InPairs, _) => in_pairs(words, &widths),
+        (Algorithm::TwoThatFit, _) => two_that_fit(words, &widths),
         (Algorithm::FirstFit, _) => wrap_first_fit(words, &widths.map(|width| width as f64)),
         (Algorithm::OptimalFit(penalties), None) => by_the_original(words, widths, penalties),
         (Algorithm::OptimalFit(penalties), Some(ties)) => {
@@ -79,7 +92,11 @@ fn divide<'a, 'b>(words: &'b [Word<'a>], line_widths: &'b [usize]) -> Vec<&'b [W
             note_why(&pieces, &ends, &originals);
             lines_at(words, &ends)
         }
+    };
+    if !lines.is_empty() {
+        count_paragraph();
     }
+    lines
 }
 
 fn by_the_original<'a, 'b>(
@@ -118,7 +135,9 @@ fn note_why(pieces: &Pieces<'_, '_>, least: &[usize], originals: &[usize]) {
     let (originals_cost, least_cost) = (pieces.cost(originals), pieces.cost(least));
     let cause = match cost_order(originals_cost, least_cost) {
         Ordering::Equal => Some(Cause::Tie),
-        Ordering::Greater if !pieces.is_rounded() => None,
+        Ordering::Greater if !pieces.is_rounded() => {
+            pieces.has_falling_widths().then_some(Cause::FallingWidths)
+        }
         Ordering::Greater if pieces.rounded_cost(originals) <= pieces.rounded_cost(least) => {
             Some(Cause::RoundedCosts)
         }

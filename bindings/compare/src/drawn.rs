@@ -1,7 +1,10 @@
 //! What is drawn for a round: a text, the options, and what the calls need beyond these.
+use crate::breaks;
 use crate::characters;
+use crate::functions::{self, here, there};
 use crate::random::Random;
 use crate::texts;
+use std::fmt;
 use textwrap_proved as proved;
 
 /// Numbers at which something could overflow, or is rounded in a `f64`.
@@ -23,6 +26,59 @@ pub enum Algorithm {
     FirstFit,
     /// By the least cost.
     OptimalFit(Penalties),
+    /// By a function of the caller, two words a line.
+    InPairs,
+    /// By a function of the caller that looks at the widths.
+    TwoThatFit,
+}
+
+/// Where words stand.
+#[derive(Clone, Copy, Debug, PartialEq, Eq, PartialOrd, Ord)]
+pub enum Separator {
+    /// Between blanks.
+    Blanks,
+    /// Between Unicode line breaks. A function gives the original those of the proved library.
+    OurBreaks,
+    /// Between Unicode line breaks, which each library finds by itself.
+    OwnBreaks,
+    /// By a function of the caller.
+    Slashes,
+}
+
+impl Separator {
+    /// That of both libraries if none is given.
+    pub fn default_of_both() -> Separator {
+        if breaks::HAS_OWN { Separator::OwnBreaks } else { Separator::Blanks }
+    }
+
+    /// Whether words stand between Unicode line breaks.
+    pub fn is_breaks(self) -> bool {
+        matches!(self, Separator::OurBreaks | Separator::OwnBreaks)
+    }
+}
+
+impl fmt::Display for Separator {
+    fn fmt(&self, f: &mut fmt::Formatter<'_>) -> fmt::Result {
+        f.pad(match self {
+            Separator::Blanks => "at blanks",
+            Separator::OurBreaks => "at our line breaks",
+            Separator::OwnBreaks => "each at its breaks",
+            Separator::Slashes => "by a function",
+        })
+    }
+}
+
+/// Where words may be split.
+#[derive(Clone, Copy, Debug, PartialEq, Eq)]
+pub enum Splitter {
+    /// Nowhere.
+    Nowhere,
+    /// After hyphens between letters or digits.
+    Hyphens,
+    /// By a function of the caller, after `super`.
+    AfterSuper,
+    /// By a function of the caller, after each three characters.
+    EachThree,
 }
 
 /// What stands around the cells of a row.
@@ -51,8 +107,10 @@ pub struct Drawn {
     pub break_words: bool,
     /// How words are divided into lines.
     pub algorithm: Algorithm,
-    /// Whether words may be split after their hyphens.
-    pub split_at_hyphens: bool,
+    /// Where words stand.
+    pub separator: Separator,
+    /// Where words may be split.
+    pub splitter: Splitter,
     /// Whether CRLF is the line ending, in place of LF.
     pub crlf: bool,
     /// Whether blanks at line ends are kept.
@@ -81,7 +139,8 @@ impl Drawn {
             subsequent_indent: texts::indent(random),
             break_words: !random.one_in(4),
             algorithm: algorithm(random),
-            split_at_hyphens: !random.one_in(4),
+            separator: separator(random),
+            splitter: splitter(random),
             crlf: random.one_in(3),
             preserve_trailing_space: random.one_in(3),
             even_paragraphs: random.one_in(4),
@@ -95,7 +154,8 @@ impl Drawn {
             },
             text,
         };
-        drawn.with_texts(characters::comparable)
+        let drawn = drawn.with_texts(characters::comparable);
+        if drawn.separator.is_breaks() { drawn.with_texts(characters::agreed) } else { drawn }
     }
 
     /// The line ending of the options.
@@ -105,7 +165,7 @@ impl Drawn {
 
     /// The options of the proved library.
     pub fn proved_options(&self) -> proved::Options<'_> {
-        use proved::{LineEnding, WordSplitter, WrapAlgorithm};
+        use proved::{LineEnding, WordSeparator, WordSplitter, WrapAlgorithm};
         proved::Options::new(self.width)
             .line_ending(if self.crlf { LineEnding::CRLF } else { LineEnding::LF })
             .initial_indent(&self.initial_indent)
@@ -114,11 +174,21 @@ impl Drawn {
             .wrap_algorithm(match self.algorithm {
                 Algorithm::FirstFit => WrapAlgorithm::FirstFit,
                 Algorithm::OptimalFit(penalties) => WrapAlgorithm::OptimalFit(penalties),
+                Algorithm::InPairs => WrapAlgorithm::Custom(here::in_pairs),
+                Algorithm::TwoThatFit => WrapAlgorithm::Custom(here::two_that_fit),
             })
-            .word_splitter(if self.split_at_hyphens {
-                WordSplitter::HyphenSplitter
-            } else {
-                WordSplitter::NoHyphenation
+            .word_separator(match self.separator {
+                Separator::Blanks => WordSeparator::AsciiSpace,
+                Separator::OurBreaks | Separator::OwnBreaks => {
+                    WordSeparator::UnicodeBreakProperties
+                }
+                Separator::Slashes => WordSeparator::Custom(here::after_slashes),
+            })
+            .word_splitter(match self.splitter {
+                Splitter::Nowhere => WordSplitter::NoHyphenation,
+                Splitter::Hyphens => WordSplitter::HyphenSplitter,
+                Splitter::AfterSuper => WordSplitter::Custom(functions::after_super),
+                Splitter::EachThree => WordSplitter::Custom(functions::each_three),
             })
             .preserve_trailing_space(self.preserve_trailing_space)
             .even_paragraphs(self.even_paragraphs)
@@ -132,25 +202,36 @@ impl Drawn {
             .initial_indent(&self.initial_indent)
             .subsequent_indent(&self.subsequent_indent)
             .break_words(self.break_words)
-            .word_separator(WordSeparator::AsciiSpace)
             .wrap_algorithm(match self.algorithm {
                 Algorithm::FirstFit => WrapAlgorithm::FirstFit,
                 Algorithm::OptimalFit(penalties) => {
                     WrapAlgorithm::OptimalFit(original_penalties(penalties))
                 }
+                Algorithm::InPairs => WrapAlgorithm::Custom(there::in_pairs),
+                Algorithm::TwoThatFit => WrapAlgorithm::Custom(there::two_that_fit),
             })
-            .word_splitter(if self.split_at_hyphens {
-                WordSplitter::HyphenSplitter
-            } else {
-                WordSplitter::NoHyphenation
+            .word_separator(match self.separator {
+                Separator::Blanks => WordSeparator::AsciiSpace,
+                Separator::OurBreaks => WordSeparator::Custom(breaks::by_our_cuts),
+                Separator::OwnBreaks => breaks::own(),
+                Separator::Slashes => WordSeparator::Custom(there::after_slashes),
+            })
+            .word_splitter(match self.splitter {
+                Splitter::Nowhere => WordSplitter::NoHyphenation,
+                Splitter::Hyphens => WordSplitter::HyphenSplitter,
+                Splitter::AfterSuper => WordSplitter::Custom(functions::after_super),
+                Splitter::EachThree => WordSplitter::Custom(functions::each_three),
             })
             .preserve_trailing_space(self.preserve_trailing_space)
     }
 
     /// The same with the options that the original has if it is given a width alone.
     pub fn with_default_options(&self) -> Drawn {
+        let separator = Separator::default_of_both();
+        let text = if separator.is_breaks() { characters::agreed(&self.text) } else { self.text.clone() };
         let usual = textwrap::wrap_algorithms::Penalties::new();
         Drawn {
+            text,
             initial_indent: String::new(),
             subsequent_indent: String::new(),
             break_words: true,
@@ -161,7 +242,8 @@ impl Drawn {
                 short_last_line_penalty: usual.short_last_line_penalty,
                 hyphen_penalty: usual.hyphen_penalty,
             }),
-            split_at_hyphens: true,
+            separator,
+            splitter: Splitter::Hyphens,
             crlf: false,
             preserve_trailing_space: false,
             even_paragraphs: false,
@@ -221,6 +303,26 @@ fn width(random: &mut Random, text: &str) -> usize {
     }
 }
 
+/// Any of the separators, as often. One that the original lacks gives way to that with our breaks.
+fn separator(random: &mut Random) -> Separator {
+    match random.below(4) {
+        0 => Separator::Blanks,
+        1 if breaks::HAS_OWN => Separator::OwnBreaks,
+        1 | 2 => Separator::OurBreaks,
+        _ => Separator::Slashes,
+    }
+}
+
+/// Any of the splitters, mostly that at hyphens.
+fn splitter(random: &mut Random) -> Splitter {
+    match random.below(8) {
+        0 | 1 => Splitter::Nowhere,
+        2 => Splitter::AfterSuper,
+        3 => Splitter::EachThree,
+        _ => Splitter::Hyphens,
+    }
+}
+
 /// The columns and the width of a table. A row is huge only if it has one column of all the width
 /// that there is: a shorter one may find memory, and then it would take all of it.
 fn table(random: &mut Random, width: usize) -> (usize, usize) {
@@ -237,8 +339,14 @@ fn table(random: &mut Random, width: usize) -> (usize, usize) {
     (columns, if keeps_width { width } else { random.below(WIDEST_ROW) })
 }
 
-/// First fit, or least cost by usual penalties, by small ones or with huge ones among them.
+/// A function of the caller, first fit, or least cost by usual penalties, by small ones or with huge
+/// ones among them.
 fn algorithm(random: &mut Random) -> Algorithm {
+    match random.below(12) {
+        0 => return Algorithm::InPairs,
+        1 => return Algorithm::TwoThatFit,
+        _ => {}
+    }
     let usual = Penalties::new();
     let most_huge = match random.below(8) {
         0..=1 => return Algorithm::FirstFit,

@@ -1,11 +1,8 @@
 //! Planted faults: answers that are wrong in one way, each of which the comparison has to notice.
-//!
-//! `hyphen_penalty` alone has no fault here: no built-in splitter adds a hyphen, so it changes
-//! nothing.
 use crate::answer::{Answer, Ending, Line, Place, Unfilled};
 use crate::calls::{self, Call};
 use crate::causes::{Cause, Mends};
-use crate::drawn::{Algorithm, Drawn, Penalties};
+use crate::drawn::{Algorithm, Drawn, Penalties, Splitter};
 use crate::judge::{judge, Verdict};
 use crate::original::Original;
 use std::collections::BTreeSet;
@@ -54,7 +51,7 @@ pub const FAULTS: &[Fault] = &[
         calls::FILL.proved_answer(&Drawn { break_words: true, ..drawn.clone() })
     }),
     fault("words are always split", &calls::FILL, |drawn| {
-        calls::FILL.proved_answer(&Drawn { split_at_hyphens: true, ..drawn.clone() })
+        calls::FILL.proved_answer(&Drawn { splitter: Splitter::Hyphens, ..drawn.clone() })
     }),
     fault("first fit in place of the least cost", &calls::FILL, |drawn| {
         calls::FILL.proved_answer(&Drawn { algorithm: Algorithm::FirstFit, ..drawn.clone() })
@@ -74,6 +71,10 @@ pub const FAULTS: &[Fault] = &[
     fault("short_last_line_penalty is ignored", &calls::FILL, |drawn| {
         let usual = Penalties::new().short_last_line_penalty;
         by_penalties(drawn, |own| Penalties { short_last_line_penalty: usual, ..own })
+    }),
+    fault("hyphen_penalty is ignored", &calls::FILL, |drawn| {
+        let usual = Penalties::new().hyphen_penalty;
+        by_penalties(drawn, |own| Penalties { hyphen_penalty: usual, ..own })
     }),
     fault("costs are rounded as in the original", &calls::FILL, |drawn| {
         by_the_original(&calls::FILL, drawn, Cause::RoundedCosts)
@@ -265,8 +266,8 @@ fn unfilled(drawn: &Drawn, change: impl Fn(&mut Unfilled)) -> Answer {
 /// `fill` by other penalties.
 fn by_penalties(drawn: &Drawn, change: impl Fn(Penalties) -> Penalties) -> Answer {
     let algorithm = match drawn.algorithm {
-        Algorithm::FirstFit => Algorithm::FirstFit,
         Algorithm::OptimalFit(own) => Algorithm::OptimalFit(change(own)),
+        other => other,
     };
     calls::FILL.proved_answer(&Drawn { algorithm, ..drawn.clone() })
 }

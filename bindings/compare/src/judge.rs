@@ -5,7 +5,7 @@ use crate::calls::Call;
 use crate::causes::{Cause, Mend, Mends};
 use crate::characters::StandIns;
 use crate::division;
-use crate::drawn::Drawn;
+use crate::drawn::{Drawn, Separator};
 use std::collections::BTreeSet;
 
 /// What an answer is found to be.
@@ -61,7 +61,11 @@ impl Case<'_> {
 
     /// The mends that can matter here.
     fn mends(&self) -> Mends {
-        let matter = |mend: &Mend| *mend != Mend::Characters || self.stand_ins.is_some();
+        let matter = |mend: &Mend| match mend {
+            Mend::Characters => self.stand_ins.is_some(),
+            Mend::Cuts => (self.call.separator)(self.drawn) == Some(Separator::OwnBreaks),
+            _ => true,
+        };
         let mends: Vec<Mend> = self.call.mends.iter().copied().filter(matter).collect();
         Mends::of(&mends)
     }

@@ -68,12 +68,12 @@ impl<'w, 'a> Pieces<'w, 'a> {
         } else {
             0
         };
-        let hyphen = if self.words[end - 1].penalty.is_empty() {
-            0
-        } else {
-            self.penalties.hyphen_penalty as u128
-        };
-        fit.checked_add(self.penalties.nline_penalty as u128)?.checked_add(hyphen)
+        fit.checked_add(self.penalties.nline_penalty as u128)?.checked_add(self.hyphen_penalty(end))
+    }
+
+    /// What the hyphen at the end of a line costs, if one is added there.
+    fn hyphen_penalty(&self, end: usize) -> u128 {
+        if self.words[end - 1].penalty.is_empty() { 0 } else { self.penalties.hyphen_penalty as u128 }
     }
 
     /// What the first pieces up to an end cost, by where their last line starts, over a table of
@@ -130,14 +130,14 @@ impl<'w, 'a> Pieces<'w, 'a> {
     }
 
     /// What it costs in rounded numbers, as the original adds them up: line by line, and first what
-    /// each line costs. No built-in splitter adds a hyphen, so none is due.
+    /// each line costs, and what its hyphen costs last.
     pub fn rounded_cost(&self, ends: &[usize]) -> f64 {
         let penalties = &self.penalties;
         self.lines(ends).fold(0.0, |sum, (start, end)| {
             let (closed, target) = (self.closed(start, end) as f64, self.target(start) as f64);
             let fraction = penalties.short_last_line_fraction as f64;
             let sum = sum + penalties.nline_penalty as f64;
-            if closed > target {
+            let sum = if closed > target {
                 sum + (closed - target) * penalties.overflow_penalty as f64
             } else if end < self.words.len() {
                 sum + (target - closed).powi(2)
@@ -145,8 +145,15 @@ impl<'w, 'a> Pieces<'w, 'a> {
                 sum + penalties.short_last_line_penalty as f64
             } else {
                 sum
-            }
+            };
+            sum + self.hyphen_penalty(end) as f64
         })
+    }
+
+    /// Whether a line is narrower than one that ends a piece earlier: that one has a hyphen added.
+    /// The order of costs on which the original's search relies does not hold there.
+    pub fn has_falling_widths(&self) -> bool {
+        (1..self.words.len()).any(|end| self.closed(0, end + 1) < self.closed(0, end))
     }
 
     /// Whether a cost that the original looks at may be one that a `f64` rounds.

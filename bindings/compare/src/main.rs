@@ -1,19 +1,22 @@
 //! Runs the proved library and the original on random texts and options, call by call:
 //!
-//!     compare [--plant] [ROUNDS [SEED]]
+//!     compare [--first | --plant] [ROUNDS [SEED]]
 //!
 //! An answer has to be that of the original with the documented differences put right, in each
 //! byte, in what is borrowed, and in the place that it is borrowed from. Where the original answers
-//! otherwise, the differences that had to be put right are counted. It ends with status 1 if an
-//! answer is another. With `--plant` it answers wrongly in place of the library, in one way after
-//! another, and ends with status 1 if one of these faults is not noticed.
+//! otherwise, the differences that had to be put right are counted, by call and by what words stand
+//! between. It ends with status 1 if an answer is another; with `--first` it does so at once. With
+//! `--plant` it answers wrongly in place of the library, in one way after another, and ends with
+//! status 1 if one of these faults is not noticed.
 mod answer;
+mod breaks;
 mod calls;
 mod causes;
 mod characters;
 mod division;
 mod drawn;
 mod faults;
+mod functions;
 mod judge;
 mod least_cost;
 mod original;
@@ -24,7 +27,7 @@ mod texts;
 use answer::Answer;
 use calls::{Call, CALLS};
 use causes::Cause;
-use drawn::Drawn;
+use drawn::{Drawn, Separator};
 use faults::{Fault, FAULTS};
 use judge::{judge, Unexplained, Verdict};
 use random::Random;
@@ -36,9 +39,18 @@ use std::process::ExitCode;
 /// As many unexplained differences are printed.
 const PRINTED: u64 = 20;
 
+/// What is done in each round.
+#[derive(Clone, Copy, PartialEq, Eq)]
+enum Task {
+    Compare,
+    /// Compare until a difference is not explained.
+    CompareUntilFirst,
+    Plant,
+}
+
 /// What the command line asks for.
 struct Request {
-    plants: bool,
+    task: Task,
     /// Round after round is its own seed, so each can be run again by itself.
     rounds: Range<u64>,
 }
@@ -46,7 +58,12 @@ struct Request {
 impl Request {
     fn read(words: impl Iterator<Item = String>) -> Option<Request> {
         let mut words = words.peekable();
-        let plants = words.next_if(|word| word == "--plant").is_some();
+        let task = match words.next_if(|word| word.starts_with("--")).as_deref() {
+            None => Task::Compare,
+            Some("--first") => Task::CompareUntilFirst,
+            Some("--plant") => Task::Plant,
+            Some(_) => return None,
+        };
         let numbers: Vec<u64> = words.map(|word| word.parse().ok()).collect::<Option<_>>()?;
         let (rounds, seed) = match numbers[..] {
             [] => (10_000, 1),
@@ -54,11 +71,14 @@ impl Request {
             [rounds, seed] => (rounds, seed),
             _ => return None,
         };
-        Some(Request { plants, rounds: seed..seed.checked_add(rounds)? })
+        Some(Request { task, rounds: seed..seed.checked_add(rounds)? })
     }
 }
 
-/// What was counted of a call.
+/// A call, as its place in [`CALLS`], and what words stand between in it.
+type Kind = (usize, Option<Separator>);
+
+/// What was counted of calls of a kind.
 #[derive(Default)]
 struct Counts {
     same: u64,
@@ -95,31 +115,53 @@ fn print_unexplained(round: u64, call: &Call, drawn: &Drawn, answer: &Answer, wh
     }
 }
 
-/// Compares all calls in each round. Whether all answers are explained.
-fn compare(rounds: Range<u64>) -> bool {
-    let mut counts: Vec<Counts> = CALLS.iter().map(|_| Counts::default()).collect();
+/// Compares all calls in one round, and returns how many answers are not explained. No more than
+/// `printed` of these are printed.
+fn compare_round(round: u64, counts: &mut BTreeMap<Kind, Counts>, mut printed: u64) -> u64 {
+    let drawn = Drawn::new(&mut Random::new(round));
     let mut unexplained = 0;
-    for round in rounds.clone() {
-        let drawn = Drawn::new(&mut Random::new(round));
-        for (call, counts) in CALLS.iter().zip(&mut counts) {
-            let answer = call.proved_answer(&drawn);
-            let verdict = judge(call, &drawn, &answer);
-            counts.add(&verdict);
-            if let Verdict::Unexplained(why) = &verdict {
-                unexplained += 1;
-                if unexplained <= PRINTED {
-                    print_unexplained(round, call, &drawn, &answer, why);
-                }
+    for (place, call) in CALLS.iter().enumerate() {
+        let answer = call.proved_answer(&drawn);
+        let verdict = judge(call, &drawn, &answer);
+        counts.entry((place, (call.separator)(&drawn))).or_default().add(&verdict);
+        if let Verdict::Unexplained(why) = &verdict {
+            unexplained += 1;
+            if printed > 0 {
+                printed -= 1;
+                print_unexplained(round, call, &drawn, &answer, why);
             }
         }
     }
-    for (call, Counts { same, explained, unexplained, causes }) in CALLS.iter().zip(&counts) {
-        println!("{:14}{same:9} the same {explained:8} explained {unexplained:5} not", call.name);
+    unexplained
+}
+
+fn print_counts(counts: &BTreeMap<Kind, Counts>) {
+    for (&(place, separator), Counts { same, explained, unexplained, causes }) in counts {
+        let separator = separator.map_or(String::new(), |separator| separator.to_string());
+        println!(
+            "{:14}{separator:19}{same:9} the same {explained:8} explained {unexplained:5} not",
+            CALLS[place].name
+        );
         for (cause, count) in causes {
-            println!("{:14}{count:9} {cause}", "");
+            println!("{:33}{count:9} {cause}", "");
         }
     }
-    let total = (rounds.end - rounds.start) * CALLS.len() as u64;
+}
+
+/// Compares all calls in each round. Whether all answers are explained.
+fn compare(rounds: Range<u64>, ends_at_first: bool) -> bool {
+    let mut counts = BTreeMap::new();
+    let (mut unexplained, mut done) = (0, 0);
+    for round in rounds.clone() {
+        let left = PRINTED.saturating_sub(unexplained);
+        unexplained += compare_round(round, &mut counts, left);
+        done += 1;
+        if ends_at_first && unexplained > 0 {
+            break;
+        }
+    }
+    print_counts(&counts);
+    let total = done * CALLS.len() as u64;
     println!("{total} calls from seed {}, {unexplained} not explained", rounds.start);
     for ch in characters::left_out() {
         let code = u32::from(ch);
@@ -161,11 +203,15 @@ fn plant(rounds: Range<u64>) -> bool {
 
 fn main() -> ExitCode {
     let Some(request) = Request::read(std::env::args().skip(1)) else {
-        eprintln!("usage: compare [--plant] [ROUNDS [SEED]]");
+        eprintln!("usage: compare [--first | --plant] [ROUNDS [SEED]]");
         return ExitCode::from(2);
     };
     // A panic of the original is an answer, and its message would only be in the way.
     panic::set_hook(Box::new(|_| {}));
-    let is_good = if request.plants { plant(request.rounds) } else { compare(request.rounds) };
+    let is_good = match request.task {
+        Task::Compare => compare(request.rounds, false),
+        Task::CompareUntilFirst => compare(request.rounds, true),
+        Task::Plant => plant(request.rounds),
+    };
     ExitCode::from(u8::from(!is_good))
 }

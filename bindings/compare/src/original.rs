@@ -1,13 +1,14 @@
 //! The original, with some of the documented differences put right. Whatever is not mended is asked
 //! of the original as any user would ask it.
 use crate::answer::{placed, Answer, Ending, Line, Place, Unfilled};
+use crate::breaks;
 use crate::causes::{Mend, Mends};
 use crate::division::{self, Rule};
-use crate::drawn::{Algorithm, Drawn, Gaps};
+use crate::drawn::{Algorithm, Drawn, Gaps, Separator};
 use crate::least_cost::Ties;
 use crate::rows::Table;
 use std::borrow::Cow;
-use textwrap::Options;
+use textwrap::{Options, WordSeparator};
 
 /// The original for what was drawn, with these mends.
 pub struct Original<'d> {
@@ -37,9 +38,18 @@ impl<'d> Original<'d> {
         self.drawn
     }
 
-    /// The options with an algorithm that has the mends of dividing words, if there are any. It
-    /// serves for one call, with this text.
+    /// The options with a separator that has the proved library's line breaks, if that is mended.
+    fn with_mended_cuts<'o>(&self, options: Options<'o>) -> Options<'o> {
+        if self.mends.has(Mend::Cuts) && self.drawn.separator == Separator::OwnBreaks {
+            return options.word_separator(WordSeparator::Custom(breaks::by_mended_cuts));
+        }
+        options
+    }
+
+    /// The options with the mends of cutting, and with an algorithm that has those of dividing
+    /// words, if there are any. It serves for one call, with this text.
     fn mended<'o>(&self, text: &str, options: Options<'o>) -> Options<'o> {
+        let options = self.with_mended_cuts(options);
         let is_optimal = matches!(self.drawn.algorithm, Algorithm::OptimalFit(_));
         let whole_costs = self.mends.has(Mend::WholeCosts) && is_optimal;
         let is_even = self.mends.has(Mend::EvenParagraphs) && self.drawn.even_paragraphs;
@@ -162,7 +172,7 @@ impl<'d> Original<'d> {
             others_are_default: options.break_words
                 && options.wrap_algorithm == textwrap::WrapAlgorithm::new()
                 && options.word_splitter == textwrap::WordSplitter::HyphenSplitter
-                && options.word_separator == textwrap::WordSeparator::AsciiSpace
+                && options.word_separator == textwrap::WordSeparator::new()
                 && !options.preserve_trailing_space,
         })
     }

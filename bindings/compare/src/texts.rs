@@ -53,13 +53,23 @@ const OTHER_BLANKS: Alphabet = &[
     "\u{a0}", "\u{3000}", "\u{2003}", "\u{2028}", "\u{1680}", "a\u{a0}b", "\u{2029}", "\u{202f}",
 ];
 
+/// Words with slashes, after which a function cuts.
+const PATHS: Alphabet = &["and/or", "a/b/c", "/usr/share/", "http://example.com/a-b", "//", "é/안"];
+
+/// What line breaks depend on: brackets, quotes, numbers, joiners, scripts without blanks, and what
+/// versions of Unicode or of its rules have otherwise.
+const BREAKS: Alphabet = &[
+    "(", ")", "[a]", "“a”", "«", "!", "?", "…", "—", "1,000.50", "$5", "10%", "a\u{2060}b", "א-ב", "、。",
+    "（a）", "a（", "🇩🇪🇫🇷", "กำลัง", "ភាសា", "\u{1f02c}\u{1f3fb}", "日本」", "\u{34f}", "-",
+];
+
 /// What later lines of a filled text begin with.
 const PREFIXES: Alphabet = &["> ", "* ", "// ", "# ", "- ", "+", "/", "  ", "    ", "\t", " > "];
 
 /// The alphabets of which a text has some.
 const ALPHABETS: &[Alphabet] = &[
     HYPHENS, ACCENTS, WIDE, MARKS, EMOJI, CONTROLS, TABS, ESCAPES, CUT_ESCAPES, OTHER_BLANKS,
-    PREFIXES,
+    PREFIXES, PATHS, BREAKS,
 ];
 
 /// What lines may end in, one list for a text.
@@ -137,8 +147,18 @@ fn prose(random: &mut Random) -> String {
     words.collect::<Vec<_>>().join(" ")
 }
 
+/// More than a thousand short lines.
+fn many_lines(random: &mut Random) -> String {
+    let ending = random.pick(&["\n", "\r\n"]);
+    let lines = (0..1_001 + random.below(400)).map(|_| random.pick(WORDS));
+    lines.collect::<Vec<_>>().join(ending)
+}
+
 /// A text, mostly of some lines.
 pub fn text(random: &mut Random) -> String {
+    if random.one_in(2048) {
+        return many_lines(random);
+    }
     if random.one_in(4) {
         return prose(random);
     }

@@ -68,7 +68,8 @@ fn why(line: &str, ours: &[usize], originals: &[usize]) -> Cause {
 
 /// Whether a line ends in a hyphen or a soft hyphen, with nothing but escape sequences after it.
 fn ends_in_hyphen(line: &str) -> bool {
-    let rest = line.rsplit(['-', '\u{ad}']).next().unwrap_or(line);
-    let is_escape = rest.starts_with('\u{1b}') && display_width(rest) == 0;
-    rest.len() < line.len() && (rest.is_empty() || is_escape)
+    line.match_indices(['-', '\u{ad}']).any(|(at, hyphen)| {
+        let rest = &line[at + hyphen.len()..];
+        rest.is_empty() || rest.starts_with('\u{1b}') && display_width(rest) == 0
+    })
 }

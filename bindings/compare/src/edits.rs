@@ -1,0 +1,112 @@
+//! Faults that are planted in the sources of the Rust binding: each is an edit of one file, and the
+//! comparison has to notice it. The old text has to stand there exactly once.
+//!
+//! Faults in what finds the line breaks have no place here: breaks are given to the original, or are
+//! counted where it has others.
+
+/// A wrong line in place of a right one.
+pub struct Edit {
+    /// What is wrong then.
+    pub name: &'static str,
+    /// The file, from the folder of the binding.
+    pub file: &'static str,
+    /// What stands in it.
+    pub old: &'static str,
+    /// What comes in its place.
+    pub new: &'static str,
+}
+
+/// The edits, by file.
+pub const EDITS: &[Edit] = &[
+    Edit {
+        name: "the separator is ignored where nothing else is a function",
+        file: "src/options.rs",
+        old: "|| !matches!(self.word_separator, WordSeparator::AsciiSpace)",
+        new: "",
+    },
+    Edit {
+        name: "CRLF is taken for LF",
+        file: "src/options.rs",
+        old: "crlf: (self.line_ending == LineEnding::CRLF).into(),",
+        new: "crlf: 0,",
+    },
+    Edit {
+        name: "blanks at line ends are dropped",
+        file: "src/options.rs",
+        old: "preserve_trailing_space: self.preserve_trailing_space.into(),",
+        new: "preserve_trailing_space: 0,",
+    },
+    Edit {
+        name: "even paragraphs are forgotten",
+        file: "src/options.rs",
+        old: "even_paragraphs: self.even_paragraphs.into(),",
+        new: "even_paragraphs: 0,",
+    },
+    Edit {
+        name: "the later indent is the first one",
+        file: "src/options.rs",
+        old: "subsequent_indent: self.subsequent_indent.into(),",
+        new: "subsequent_indent: self.initial_indent.into(),",
+    },
+    Edit {
+        name: "an empty line has a word",
+        file: "src/word_separators.rs",
+        old: "Ok(Box::new(words.filter(|_| !line.is_empty())))",
+        new: "Ok(Box::new(words))",
+    },
+    Edit {
+        name: "words with one hyphen are not split",
+        file: "src/word_splitters.rs",
+        old: "if hyphens == 0 {",
+        new: "if hyphens < 2 {",
+    },
+    Edit {
+        name: "a splitter gets a word without the tab at its end",
+        file: "src/word_splitters.rs",
+        old: "let mut points = self.points_of(word)?;",
+        new: "let mut points = self.points_of(word.trim_end())?;",
+    },
+    Edit {
+        name: "the fourth point of a word is lost",
+        file: "src/word_splitters.rs",
+        old: "points.dedup();",
+        new: "points.truncate(3);",
+    },
+    Edit {
+        name: "first fit has the later width for the first line",
+        file: "src/wrap_algorithms.rs",
+        old: "WrapAlgorithm::FirstFit => Ok(first_fit_ends(fragments, line_widths)?),",
+        new: "WrapAlgorithm::FirstFit => Ok(first_fit_ends(fragments, &line_widths[1..])?),",
+    },
+    Edit {
+        name: "a hyphen costs what it does by default",
+        file: "src/wrap_algorithms.rs",
+        old: "WrapAlgorithm::OptimalFit(penalties) if has_hyphen => penalties.hyphen_penalty,",
+        new: "WrapAlgorithm::OptimalFit(_) if has_hyphen => Penalties::new().hyphen_penalty,",
+    },
+    Edit {
+        name: "an overflow costs something even if its penalty is 0",
+        file: "src/wrap_algorithms.rs",
+        old: "overflow_penalty: penalties.overflow_penalty,",
+        new: "overflow_penalty: penalties.overflow_penalty.max(1),",
+    },
+    Edit {
+        name: "the fraction 0 is taken for 1",
+        file: "src/wrap_algorithms.rs",
+        old: "short_last_line_fraction: penalties.short_last_line_fraction,",
+        new: "short_last_line_fraction: penalties.short_last_line_fraction.max(1),",
+    },
+    Edit {
+        name: "an empty line is a text of its own",
+        file: "src/room.rs",
+        old: "LineText::Borrowed(text) => Ok(Cow::Borrowed(text)),",
+        new: "LineText::Borrowed(\"\") => Ok(Cow::Owned(String::new())),\n            \
+              LineText::Borrowed(text) => Ok(Cow::Borrowed(text)),",
+    },
+    Edit {
+        name: "rows past 1,000 are lost",
+        file: "src/room.rs",
+        old: "for line in self.lines(\"\") {",
+        new: "for line in self.lines(\"\").take(1_000) {",
+    },
+];

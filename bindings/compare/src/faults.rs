@@ -1,8 +1,9 @@
 //! Planted faults: answers that are wrong in one way, each of which the comparison has to notice.
 use crate::answer::{Answer, Ending, Line, Place, Unfilled};
+use crate::breaks;
 use crate::calls::{self, Call};
 use crate::causes::{Cause, Mends};
-use crate::drawn::{Algorithm, Drawn, Penalties, Splitter};
+use crate::drawn::{Algorithm, Drawn, Penalties, Separator, Splitter};
 use crate::judge::{judge, Verdict};
 use crate::original::Original;
 use std::collections::BTreeSet;
@@ -23,8 +24,14 @@ const fn fault(name: &'static str, call: &'static Call, answer: fn(&Drawn) -> An
     Fault { name, call, answer }
 }
 
-/// The faults, by call.
-pub const FAULTS: &[Fault] = &[
+/// All faults that can be planted here.
+pub fn faults() -> impl Iterator<Item = &'static Fault> {
+    let with_breaks = if breaks::HAS_OWN { WITH_OWN_BREAKS } else { &[] };
+    [FAULTS, WITH_FUNCTIONS, with_breaks].into_iter().flatten()
+}
+
+/// Faults that show whatever words stand between, by call.
+const FAULTS: &[Fault] = &[
     fault("a cut escape sequence counts", &calls::DISPLAY_WIDTH, |drawn| {
         let cut = usize::from(drawn.text.ends_with('\u{1b}'));
         number(&calls::DISPLAY_WIDTH, drawn, |columns| columns + cut)
@@ -221,6 +228,136 @@ pub const FAULTS: &[Fault] = &[
         calls::FILL_INPLACE.proved_answer(&Drawn { width, ..drawn.clone() })
     }),
 ];
+
+/// Faults where words stand between line breaks, or functions of the caller take part.
+const WITH_FUNCTIONS: &[Fault] = &[
+    fault("line breaks are ignored", &calls::FILL, |drawn| {
+        let ignored = if drawn.separator.is_breaks() { Separator::Blanks } else { drawn.separator };
+        calls::FILL.proved_answer(&Drawn { separator: ignored, ..drawn.clone() })
+    }),
+    fault("a separator of the caller is ignored", &calls::FILL, |drawn| {
+        let ignored = match drawn.separator {
+            Separator::Slashes => Separator::Blanks,
+            other => other,
+        };
+        calls::FILL.proved_answer(&Drawn { separator: ignored, ..drawn.clone() })
+    }),
+    fault("a lone CR ends a paragraph at line breaks", &calls::FILL, |drawn| {
+        let paragraphs = drawn.text.split("\r\n").map(|text| text.replace('\r', "\r\n"));
+        let parted = paragraphs.collect::<Vec<_>>().join("\r\n");
+        let text = if at_breaks(drawn) && drawn.crlf { parted } else { drawn.text.clone() };
+        calls::FILL.proved_answer(&Drawn { text, ..drawn.clone() })
+    }),
+    fault("the last white space is lost at line breaks", &calls::FILL, |drawn| {
+        text(&calls::FILL, drawn, |text| {
+            if at_breaks(drawn) { text.trim_end().into() } else { text }
+        })
+    }),
+    fault("a last CR is lost at line breaks", &calls::FILL, |drawn| {
+        text(&calls::FILL, drawn, |text| {
+            if at_breaks(drawn) { text.trim_end_matches('\r').into() } else { text }
+        })
+    }),
+    fault("a splitter of the caller is ignored", &calls::FILL, |drawn| {
+        let splitter = if splits_itself(drawn) { Splitter::Nowhere } else { drawn.splitter };
+        calls::FILL.proved_answer(&Drawn { splitter, ..drawn.clone() })
+    }),
+    fault("the tab at the end of a short line is lost", &calls::WRAP, |drawn| {
+        lines(drawn, |line| {
+            let is_short = at_breaks(drawn) && line.text.len() < drawn.width;
+            let text = if is_short { line.text.trim_end_matches('\t').into() } else { line.text };
+            Line { text, ..line }
+        })
+    }),
+    fault("an algorithm is not asked at a text as long as its width", &calls::WRAP, |drawn| {
+        let is_skipped = divides_itself(drawn) && drawn.text.len() == drawn.width;
+        let width = if is_skipped { drawn.width.saturating_add(1) } else { drawn.width };
+        calls::WRAP.proved_answer(&Drawn { width, ..drawn.clone() })
+    }),
+    fault("an algorithm of the caller is ignored", &calls::WRAP, |drawn| {
+        let own = drawn.algorithm;
+        let algorithm = if divides_itself(drawn) { Algorithm::FirstFit } else { own };
+        calls::WRAP.proved_answer(&Drawn { algorithm, ..drawn.clone() })
+    }),
+    fault("no words are a line where the caller gives none", &calls::WRAP, |drawn| {
+        match calls::WRAP.proved_answer(drawn) {
+            Answer::Lines(lines) if lines.is_empty() => Answer::Lines(vec![Line {
+                text: String::new(),
+                place: Place::BorrowedAt(0),
+            }]),
+            other => other,
+        }
+    }),
+    fault("an added hyphen is lost", &calls::WRAP, |drawn| {
+        lines(drawn, |line| match line.text.strip_suffix('-') {
+            Some(text) if splits_itself(drawn) && line.place == Place::Owned => {
+                Line { text: text.into(), ..line }
+            }
+            _ => line,
+        })
+    }),
+    fault("a line with an added hyphen is borrowed", &calls::WRAP, |drawn| {
+        let has_indents = !drawn.initial_indent.is_empty() || !drawn.subsequent_indent.is_empty();
+        lines(drawn, |line| match line.place {
+            Place::Owned if !has_indents => Line { place: Place::BorrowedAt(0), ..line },
+            _ => line,
+        })
+    }),
+    fault("gaps are measured in bytes at line breaks", &calls::WRAP_COLUMNS, |drawn| {
+        let more = if at_breaks(drawn) { bytes_past_columns(drawn) } else { 0 };
+        let row_width = drawn.row_width.saturating_sub(more);
+        calls::WRAP_COLUMNS.proved_answer(&Drawn { row_width, ..drawn.clone() })
+    }),
+    fault("rows past 1,000 are lost at line breaks", &calls::WRAP_COLUMNS, |drawn| {
+        match calls::WRAP_COLUMNS.proved_answer(drawn) {
+            Answer::Rows(rows) if at_breaks(drawn) => {
+                Answer::Rows(rows.into_iter().take(1_000).collect())
+            }
+            other => other,
+        }
+    }),
+    fault("refilling loses the last white space at line breaks", &calls::REFILL, |drawn| {
+        let text = drawn.text.trim_end_matches(|ch: char| ch.is_whitespace() && ch != '\n');
+        let text = if at_breaks(drawn) { text } else { &drawn.text };
+        calls::REFILL.proved_answer(&Drawn { text: text.into(), ..drawn.clone() })
+    }),
+];
+
+/// Faults that only the original's own line breaks show.
+const WITH_OWN_BREAKS: &[Fault] = &[
+    fault("words stand at blanks by default", &calls::FILL_AT_WIDTH, |drawn| {
+        let usual = drawn.with_default_options();
+        calls::FILL.proved_answer(&Drawn { separator: Separator::Blanks, ..usual })
+    }),
+    fault("the last break is dropped as in the original", &calls::WRAP, |drawn| {
+        by_the_original(&calls::WRAP, drawn, Cause::LastBreak)
+    }),
+    fault("lines are broken as in the original", &calls::WRAP, |drawn| {
+        by_the_original(&calls::WRAP, drawn, Cause::Breaks)
+    }),
+];
+
+/// Whether words stand between line breaks.
+fn at_breaks(drawn: &Drawn) -> bool {
+    drawn.separator.is_breaks()
+}
+
+/// Whether a function of the caller splits words.
+fn splits_itself(drawn: &Drawn) -> bool {
+    matches!(drawn.splitter, Splitter::AfterSuper | Splitter::EachThree)
+}
+
+/// Whether a function of the caller divides words into lines.
+fn divides_itself(drawn: &Drawn) -> bool {
+    matches!(drawn.algorithm, Algorithm::InPairs | Algorithm::TwoThatFit)
+}
+
+/// How many bytes more than columns the gaps of a row have.
+fn bytes_past_columns(drawn: &Drawn) -> usize {
+    let more = |gap: &str| gap.len() - proved::core::display_width(gap);
+    let middle = more(&drawn.gaps.middle).saturating_mul(drawn.columns.saturating_sub(1));
+    (more(&drawn.gaps.left) + more(&drawn.gaps.right)).saturating_add(middle)
+}
 
 /// The number that the call answers, changed.
 fn number(call: &Call, drawn: &Drawn, change: impl Fn(usize) -> usize) -> Answer {

@@ -28,7 +28,7 @@ use answer::Answer;
 use calls::{Call, CALLS};
 use causes::Cause;
 use drawn::{Drawn, Separator};
-use faults::{Fault, FAULTS};
+use faults::{faults, Fault};
 use judge::{judge, Unexplained, Verdict};
 use random::Random;
 use std::collections::BTreeMap;
@@ -46,6 +46,17 @@ enum Task {
     /// Compare until a difference is not explained.
     CompareUntilFirst,
     Plant,
+}
+
+impl Task {
+    /// The rounds that suffice to notice what is planted. Some of it shows in few texts.
+    fn usual_rounds(self) -> u64 {
+        match self {
+            Task::Compare => 10_000,
+            Task::CompareUntilFirst => 50_000,
+            Task::Plant => 200_000,
+        }
+    }
 }
 
 /// What the command line asks for.
@@ -66,7 +77,7 @@ impl Request {
         };
         let numbers: Vec<u64> = words.map(|word| word.parse().ok()).collect::<Option<_>>()?;
         let (rounds, seed) = match numbers[..] {
-            [] => (10_000, 1),
+            [] => (task.usual_rounds(), 1),
             [rounds] => (rounds, 1),
             [rounds, seed] => (rounds, seed),
             _ => return None,
@@ -185,7 +196,7 @@ fn noticed(fault: &Fault, mut rounds: Range<u64>) -> Option<u64> {
 /// Plants each fault. Whether all of them are noticed.
 fn plant(rounds: Range<u64>) -> bool {
     let mut missed = 0;
-    for fault in FAULTS {
+    for fault in faults() {
         let (call, name) = (fault.call.name, fault.name);
         match noticed(fault, rounds.clone()) {
             Some(round) => {
@@ -197,7 +208,7 @@ fn plant(rounds: Range<u64>) -> bool {
             }
         }
     }
-    println!("{} faults planted, {missed} not noticed", FAULTS.len());
+    println!("{} faults planted, {missed} not noticed", faults().count());
     missed == 0
 }
 

@@ -1,7 +1,9 @@
 //! How long each call takes here and in the original, in one process.
 //!
-//! What it prints is a table of Markdown, by the length of a text of prose: the processor time of a call
-//! here, the least of many runs, and what part of the original's it is. Below 1 the call is faster here.
+//! What it prints is a table of Markdown, by the length of a text: the processor time of a call here, the
+//! least of many runs, and what part of the original's it is. Below 1 the call is faster here. A row says
+//! what words stand between. At line breaks each library finds them itself, as it does by default; without
+//! its feature `unicode-linebreak` the original has none, and a time stands alone.
 use std::hint::black_box;
 use textwrap_proved as proved;
 
@@ -77,9 +79,61 @@ fn wide(len: usize) -> String {
     prose(len).replace("and", "안녕").replace("nobody", "你好")
 }
 
+/// Japanese of as many bytes, or up to two more. There are no blanks in it, and a paragraph ends after some
+/// 900 characters.
+fn japanese(len: usize) -> String {
+    const SENTENCE: &str = "夕方の港は半ば暗く、誰も口をきかなかった。「船はもう出た」と老人が言った。";
+    let mut text = String::new();
+    for (i, ch) in SENTENCE.chars().cycle().enumerate() {
+        if text.len() >= len {
+            break;
+        }
+        if i > 0 && i % 900 == 0 {
+            text.push('\n');
+        }
+        text.push(ch);
+    }
+    text
+}
+
+/// What words stand between.
+#[derive(Clone, Copy, PartialEq, Eq)]
+enum Separator {
+    Blanks,
+    Breaks,
+}
+
+impl Separator {
+    fn name(self) -> &'static str {
+        match self {
+            Separator::Blanks => "at blanks",
+            Separator::Breaks => "at line breaks",
+        }
+    }
+
+    fn ours(self) -> proved::WordSeparator {
+        match self {
+            Separator::Blanks => proved::WordSeparator::AsciiSpace,
+            Separator::Breaks => proved::WordSeparator::UnicodeBreakProperties,
+        }
+    }
+
+    /// The same for the original, or `None` if it has no such separator.
+    fn theirs(self) -> Option<textwrap::WordSeparator> {
+        match self {
+            Separator::Blanks => Some(textwrap::WordSeparator::AsciiSpace),
+            #[cfg(feature = "unicode-linebreak")]
+            Separator::Breaks => Some(textwrap::WordSeparator::UnicodeBreakProperties),
+            #[cfg(not(feature = "unicode-linebreak"))]
+            Separator::Breaks => None,
+        }
+    }
+}
+
 /// What a call is measured on.
 struct Work {
     text: String,
+    separator: Separator,
     width: usize,
     is_optimal: bool,
     has_indents: bool,
@@ -91,6 +145,7 @@ impl Work {
         proved::Options::new(self.width)
             .initial_indent(indents[0])
             .subsequent_indent(indents[1])
+            .word_separator(self.separator.ours())
             .wrap_algorithm(if self.is_optimal {
                 proved::WrapAlgorithm::new()
             } else {
@@ -103,6 +158,7 @@ impl Work {
         textwrap::Options::new(self.width)
             .initial_indent(indents[0])
             .subsequent_indent(indents[1])
+            .word_separator(self.separator.theirs().unwrap_or(textwrap::WordSeparator::AsciiSpace))
             .wrap_algorithm(if self.is_optimal {
                 textwrap::WrapAlgorithm::new()
             } else {
@@ -120,7 +176,7 @@ macro_rules! measure {
     };
 }
 
-/// Calls that depend on the options.
+/// Calls that depend on what words stand between, and on the other options.
 const BY_OPTIONS: &[(&str, Measure)] = &[
     ("fill", measure!(w, proved::fill(&w.text, w.ours()), textwrap::fill(&w.text, w.theirs()))),
     (
@@ -135,9 +191,10 @@ const BY_OPTIONS: &[(&str, Measure)] = &[
             textwrap::wrap_columns(&w.text, 2, w.theirs(), "|", "|", "|")
         ),
     ),
+    ("refill", measure!(w, proved::refill(&w.text, w.ours()), textwrap::refill(&w.text, w.theirs()))),
 ];
 
-/// Calls that do not, or mostly do not.
+/// Calls that do not.
 const BY_TEXT: &[(&str, Measure)] = &[
     (
         "display_width",
@@ -153,7 +210,6 @@ const BY_TEXT: &[(&str, Measure)] = &[
         "unfill",
         measure!(w, proved::unfill(&w.text).0.len(), textwrap::unfill(&w.text).0.len()),
     ),
-    ("refill", measure!(w, proved::refill(&w.text, w.ours()), textwrap::refill(&w.text, w.theirs()))),
     (
         "fill_inplace",
         |w: &Work| {
@@ -179,34 +235,56 @@ fn shown(time: f64) -> String {
 }
 
 /// Prints a row: the call, and its times at each length of text.
-fn print_row(name: &str, measure: Measure, make: fn(usize) -> String, work: &dyn Fn(String) -> Work) {
+fn print_row(name: &str, measure: Measure, make: MakeText, work: &dyn Fn(String) -> Work) {
     print!("| {name} |");
     for len in [60, 500, 1_000_000] {
-        let (ours, theirs) = measure(&work(make(len)));
-        print!(" {}, {:.2} |", shown(ours), ours / theirs);
+        let work = work(make(len));
+        let (ours, theirs) = measure(&work);
+        match work.separator.theirs() {
+            Some(_) => print!(" {}, {:.2} |", shown(ours), ours / theirs),
+            None => print!(" {} |", shown(ours)),
+        }
     }
     println!();
+}
+
+/// A text of a length in bytes.
+type MakeText = fn(usize) -> String;
+
+/// The algorithm, the width and whether there are indents, of each row of a call.
+const OPTIONS: &[(bool, usize, bool)] = &[
+    (false, 20, false), (false, 80, false), (false, 80, true), (true, 20, false), (true, 80, false),
+    (true, 80, true),
+];
+
+/// Prints the rows of a call by its options.
+fn print_by_options(separator: Separator, (kind, make): (&str, MakeText), name: &str, measure: Measure) {
+    for &(is_optimal, width, has_indents) in OPTIONS {
+        let algorithm = if is_optimal { "least cost" } else { "first fit" };
+        let indents = if has_indents { ", indents" } else { "" };
+        let row = format!("`{name}`{kind}, {}, {algorithm}, {width}{indents}", separator.name());
+        let work = |text| Work { text, separator, width, is_optimal, has_indents };
+        // The indents are those of the text there.
+        if name != "refill" || !has_indents {
+            print_row(&row, measure, make, &work);
+        }
+    }
 }
 
 fn main() {
     println!("| Call | 60 bytes | 500 bytes | 1 MB |");
     println!("|---|---|---|---|");
-    for (name, measure) in BY_OPTIONS {
-        for is_optimal in [false, true] {
-            for width in [20, 80] {
-                for has_indents in [false, true] {
-                    let algorithm = if is_optimal { "least cost" } else { "first fit" };
-                    let indents = if has_indents { ", indents" } else { "" };
-                    let row = format!("`{name}`, {algorithm}, {width}{indents}");
-                    let work = |text| Work { text, width, is_optimal, has_indents };
-                    print_row(&row, *measure, prose, &work);
-                }
+    for separator in [Separator::Blanks, Separator::Breaks] {
+        for text in [("", prose as MakeText), (", Japanese", japanese)] {
+            for &(name, measure) in BY_OPTIONS {
+                print_by_options(separator, text, name, measure);
             }
         }
     }
-    for (kind, make) in [("", prose as fn(usize) -> String), (", wide", wide)] {
+    for (kind, make) in [("", prose as MakeText), (", wide", wide)] {
         for (name, measure) in BY_TEXT {
-            let work = |text| Work { text, width: 80, is_optimal: false, has_indents: false };
+            let separator = Separator::Blanks;
+            let work = |text| Work { text, separator, width: 80, is_optimal: false, has_indents: false };
             print_row(&format!("`{name}`{kind}"), *measure, make, &work);
         }
     }

@@ -2,7 +2,8 @@
 //! library.
 use crate::answer::{self, Answer, Ending, Unfilled};
 use crate::causes::{Mend, Mends};
-use crate::drawn::{Drawn, Separator};
+use crate::choices::Separator;
+use crate::drawn::Drawn;
 use crate::original::Original;
 use textwrap_proved as proved;
 

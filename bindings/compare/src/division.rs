@@ -1,7 +1,7 @@
 //! How the original divides words, with differences of this put right: it takes a function of the
 //! caller for that, and its words, their pieces and the lines made of them stay its own.
 use crate::causes::Cause;
-use crate::drawn::{original_penalties, Algorithm, Penalties};
+use crate::choices::{original_penalties, Algorithm, Penalties};
 use crate::functions::there::{in_pairs, two_that_fit};
 use crate::least_cost::{Pieces, Ties};
 use std::cell::RefCell;

@@ -1,85 +1,12 @@
 //! What is drawn for a round: a text, the options, and what the calls need beyond these.
-use crate::breaks;
 use crate::characters;
-use crate::functions::{self, here, there};
+use crate::choices::{Algorithm, Penalties, Separator, Splitter, HUGE};
 use crate::random::Random;
 use crate::texts;
-use std::fmt;
 use textwrap_proved as proved;
-
-/// Numbers at which something could overflow, or is rounded in a `f64`.
-const HUGE: &[usize] = &[
-    1 << 31, (1 << 53) - 1, 1 << 53, (1 << 53) + 1, 1 << 62, (1 << 62) + 1, 1 << 63, usize::MAX - 1,
-    usize::MAX,
-];
 
 /// More columns than this for a row would make rows too long to print.
 const WIDEST_ROW: usize = 120;
-
-/// What lines of the least cost are measured by.
-pub type Penalties = proved::wrap_algorithms::Penalties;
-
-/// How words are divided into lines.
-#[derive(Clone, Copy, Debug)]
-pub enum Algorithm {
-    /// By first fit.
-    FirstFit,
-    /// By the least cost.
-    OptimalFit(Penalties),
-    /// By a function of the caller, two words a line.
-    InPairs,
-    /// By a function of the caller that looks at the widths.
-    TwoThatFit,
-}
-
-/// Where words stand.
-#[derive(Clone, Copy, Debug, PartialEq, Eq, PartialOrd, Ord)]
-pub enum Separator {
-    /// Between blanks.
-    Blanks,
-    /// Between Unicode line breaks. A function gives the original those of the proved library.
-    OurBreaks,
-    /// Between Unicode line breaks, which each library finds by itself.
-    OwnBreaks,
-    /// By a function of the caller.
-    Slashes,
-}
-
-impl Separator {
-    /// That of both libraries if none is given.
-    pub fn default_of_both() -> Separator {
-        if breaks::HAS_OWN { Separator::OwnBreaks } else { Separator::Blanks }
-    }
-
-    /// Whether words stand between Unicode line breaks.
-    pub fn is_breaks(self) -> bool {
-        matches!(self, Separator::OurBreaks | Separator::OwnBreaks)
-    }
-}
-
-impl fmt::Display for Separator {
-    fn fmt(&self, f: &mut fmt::Formatter<'_>) -> fmt::Result {
-        f.pad(match self {
-            Separator::Blanks => "at blanks",
-            Separator::OurBreaks => "at our line breaks",
-            Separator::OwnBreaks => "each at its breaks",
-            Separator::Slashes => "by a function",
-        })
-    }
-}
-
-/// Where words may be split.
-#[derive(Clone, Copy, Debug, PartialEq, Eq)]
-pub enum Splitter {
-    /// Nowhere.
-    Nowhere,
-    /// After hyphens between letters or digits.
-    Hyphens,
-    /// By a function of the caller, after `super`.
-    AfterSuper,
-    /// By a function of the caller, after each three characters.
-    EachThree,
-}
 
 /// What stands around the cells of a row.
 #[derive(Clone, Debug)]
@@ -138,9 +65,9 @@ impl Drawn {
             initial_indent: texts::indent(random),
             subsequent_indent: texts::indent(random),
             break_words: !random.one_in(4),
-            algorithm: algorithm(random),
-            separator: separator(random),
-            splitter: splitter(random),
+            algorithm: Algorithm::drawn(random),
+            separator: Separator::drawn(random),
+            splitter: Splitter::drawn(random),
             crlf: random.one_in(3),
             preserve_trailing_space: random.one_in(3),
             even_paragraphs: random.one_in(4),
@@ -165,63 +92,30 @@ impl Drawn {
 
     /// The options of the proved library.
     pub fn proved_options(&self) -> proved::Options<'_> {
-        use proved::{LineEnding, WordSeparator, WordSplitter, WrapAlgorithm};
+        use proved::LineEnding;
         proved::Options::new(self.width)
             .line_ending(if self.crlf { LineEnding::CRLF } else { LineEnding::LF })
             .initial_indent(&self.initial_indent)
             .subsequent_indent(&self.subsequent_indent)
             .break_words(self.break_words)
-            .wrap_algorithm(match self.algorithm {
-                Algorithm::FirstFit => WrapAlgorithm::FirstFit,
-                Algorithm::OptimalFit(penalties) => WrapAlgorithm::OptimalFit(penalties),
-                Algorithm::InPairs => WrapAlgorithm::Custom(here::in_pairs),
-                Algorithm::TwoThatFit => WrapAlgorithm::Custom(here::two_that_fit),
-            })
-            .word_separator(match self.separator {
-                Separator::Blanks => WordSeparator::AsciiSpace,
-                Separator::OurBreaks | Separator::OwnBreaks => {
-                    WordSeparator::UnicodeBreakProperties
-                }
-                Separator::Slashes => WordSeparator::Custom(here::after_slashes),
-            })
-            .word_splitter(match self.splitter {
-                Splitter::Nowhere => WordSplitter::NoHyphenation,
-                Splitter::Hyphens => WordSplitter::HyphenSplitter,
-                Splitter::AfterSuper => WordSplitter::Custom(functions::after_super),
-                Splitter::EachThree => WordSplitter::Custom(functions::each_three),
-            })
+            .wrap_algorithm(self.algorithm.proved())
+            .word_separator(self.separator.proved())
+            .word_splitter(self.splitter.proved())
             .preserve_trailing_space(self.preserve_trailing_space)
             .even_paragraphs(self.even_paragraphs)
     }
 
     /// The same for the original, as far as it has them.
     pub fn original_options(&self) -> textwrap::Options<'_> {
-        use textwrap::{LineEnding, WordSeparator, WordSplitter, WrapAlgorithm};
+        use textwrap::LineEnding;
         textwrap::Options::new(self.width)
             .line_ending(if self.crlf { LineEnding::CRLF } else { LineEnding::LF })
             .initial_indent(&self.initial_indent)
             .subsequent_indent(&self.subsequent_indent)
             .break_words(self.break_words)
-            .wrap_algorithm(match self.algorithm {
-                Algorithm::FirstFit => WrapAlgorithm::FirstFit,
-                Algorithm::OptimalFit(penalties) => {
-                    WrapAlgorithm::OptimalFit(original_penalties(penalties))
-                }
-                Algorithm::InPairs => WrapAlgorithm::Custom(there::in_pairs),
-                Algorithm::TwoThatFit => WrapAlgorithm::Custom(there::two_that_fit),
-            })
-            .word_separator(match self.separator {
-                Separator::Blanks => WordSeparator::AsciiSpace,
-                Separator::OurBreaks => WordSeparator::Custom(breaks::by_our_cuts),
-                Separator::OwnBreaks => breaks::own(),
-                Separator::Slashes => WordSeparator::Custom(there::after_slashes),
-            })
-            .word_splitter(match self.splitter {
-                Splitter::Nowhere => WordSplitter::NoHyphenation,
-                Splitter::Hyphens => WordSplitter::HyphenSplitter,
-                Splitter::AfterSuper => WordSplitter::Custom(functions::after_super),
-                Splitter::EachThree => WordSplitter::Custom(functions::each_three),
-            })
+            .wrap_algorithm(self.algorithm.original())
+            .word_separator(self.separator.original())
+            .word_splitter(self.splitter.original())
             .preserve_trailing_space(self.preserve_trailing_space)
     }
 
@@ -275,17 +169,6 @@ impl Drawn {
     }
 }
 
-/// The penalties as the original has them.
-pub fn original_penalties(penalties: Penalties) -> textwrap::wrap_algorithms::Penalties {
-    textwrap::wrap_algorithms::Penalties {
-        nline_penalty: penalties.nline_penalty,
-        overflow_penalty: penalties.overflow_penalty,
-        short_last_line_fraction: penalties.short_last_line_fraction,
-        short_last_line_penalty: penalties.short_last_line_penalty,
-        hyphen_penalty: penalties.hyphen_penalty,
-    }
-}
-
 /// A width: small, or about as many columns as a line of the text has bytes, or huge.
 fn width(random: &mut Random, text: &str) -> usize {
     match random.below(32) {
@@ -303,26 +186,6 @@ fn width(random: &mut Random, text: &str) -> usize {
     }
 }
 
-/// Any of the separators, as often. One that the original lacks gives way to that with our breaks.
-fn separator(random: &mut Random) -> Separator {
-    match random.below(4) {
-        0 => Separator::Blanks,
-        1 if breaks::HAS_OWN => Separator::OwnBreaks,
-        1 | 2 => Separator::OurBreaks,
-        _ => Separator::Slashes,
-    }
-}
-
-/// Any of the splitters, mostly that at hyphens.
-fn splitter(random: &mut Random) -> Splitter {
-    match random.below(8) {
-        0 | 1 => Splitter::Nowhere,
-        2 => Splitter::AfterSuper,
-        3 => Splitter::EachThree,
-        _ => Splitter::Hyphens,
-    }
-}
-
 /// The columns and the width of a table. A row is huge only if it has one column of all the width
 /// that there is: a shorter one may find memory, and then it would take all of it.
 fn table(random: &mut Random, width: usize) -> (usize, usize) {
@@ -337,36 +200,4 @@ fn table(random: &mut Random, width: usize) -> (usize, usize) {
     }
     let keeps_width = width <= WIDEST_ROW && random.one_in(3);
     (columns, if keeps_width { width } else { random.below(WIDEST_ROW) })
-}
-
-/// A function of the caller, first fit, or least cost by usual penalties, by small ones or with huge
-/// ones among them.
-fn algorithm(random: &mut Random) -> Algorithm {
-    match random.below(12) {
-        0 => return Algorithm::InPairs,
-        1 => return Algorithm::TwoThatFit,
-        _ => {}
-    }
-    let usual = Penalties::new();
-    let most_huge = match random.below(8) {
-        0..=1 => return Algorithm::FirstFit,
-        2..=3 => return Algorithm::OptimalFit(usual),
-        4..=6 => 0,
-        _ => 4,
-    };
-    let mut penalty = |usual: usize| match random.below(8) {
-        chosen if chosen < most_huge => random.pick(HUGE),
-        4 => usual,
-        5 => 0,
-        6 => random.below(8),
-        3 => random.below(10_000),
-        _ => random.below(200),
-    };
-    Algorithm::OptimalFit(Penalties {
-        nline_penalty: penalty(usual.nline_penalty),
-        overflow_penalty: penalty(usual.overflow_penalty),
-        short_last_line_fraction: penalty(usual.short_last_line_fraction),
-        short_last_line_penalty: penalty(usual.short_last_line_penalty),
-        hyphen_penalty: penalty(usual.hyphen_penalty),
-    })
 }

@@ -4,8 +4,9 @@ use crate::answer::Answer;
 use crate::calls::Call;
 use crate::causes::{Cause, Mend, Mends};
 use crate::characters::StandIns;
+use crate::choices::Separator;
 use crate::division;
-use crate::drawn::{Drawn, Separator};
+use crate::drawn::Drawn;
 use std::collections::BTreeSet;
 
 /// What an answer is found to be.

@@ -1,6 +1,6 @@
 //! The cost of lines in whole numbers, as `docs/behaviour.md` has it, and the division that the
 //! rule for equal costs names. Every line that there could be is looked at: texts are short here.
-use crate::drawn::Penalties;
+use crate::choices::Penalties;
 use textwrap::core::Word;
 
 /// Above this a `f64` rounds whole numbers.

@@ -3,8 +3,9 @@
 use crate::answer::{placed, Answer, Ending, Line, Place, Unfilled};
 use crate::breaks;
 use crate::causes::{Mend, Mends};
+use crate::choices::{Algorithm, Separator};
 use crate::division::{self, Rule};
-use crate::drawn::{Algorithm, Drawn, Gaps, Separator};
+use crate::drawn::{Drawn, Gaps};
 use crate::least_cost::Ties;
 use crate::rows::Table;
 use std::borrow::Cow;

@@ -5,8 +5,11 @@ use crate::random::Random;
 use crate::texts;
 use textwrap_proved as proved;
 
-/// More columns than this for a row would make rows too long to print.
+/// More columns than this for a row would make rows too long to print, and so are rare.
 const WIDEST_ROW: usize = 120;
+
+/// Now and then a row has as many.
+const WIDEST_RARE_ROW: usize = 4_000;
 
 /// What stands around the cells of a row.
 #[derive(Clone, Debug)]
@@ -198,6 +201,9 @@ fn table(random: &mut Random, width: usize) -> (usize, usize) {
     if width == usize::MAX && random.one_in(2) {
         return (1, width);
     }
-    let keeps_width = width <= WIDEST_ROW && random.one_in(3);
-    (columns, if keeps_width { width } else { random.below(WIDEST_ROW) })
+    if width <= WIDEST_ROW && random.one_in(3) {
+        return (columns, width);
+    }
+    let widest = if random.one_in(128) { WIDEST_RARE_ROW } else { WIDEST_ROW };
+    (columns, random.below(widest))
 }

@@ -232,10 +232,12 @@ const FAULTS: &[Fault] = &[
 
 /// Faults where words stand between line breaks, or functions of the caller take part.
 const WITH_FUNCTIONS: &[Fault] = &[
-    fault("line breaks are ignored", &calls::FILL, |drawn| {
-        let ignored = if drawn.separator.is_breaks() { Separator::Blanks } else { drawn.separator };
-        calls::FILL.proved_answer(&Drawn { separator: ignored, ..drawn.clone() })
+    fault("line breaks are ignored", &calls::FILL, |drawn| without_breaks(&calls::FILL, drawn)),
+    fault("line breaks are ignored", &calls::WRAP, |drawn| without_breaks(&calls::WRAP, drawn)),
+    fault("line breaks are ignored", &calls::WRAP_COLUMNS, |drawn| {
+        without_breaks(&calls::WRAP_COLUMNS, drawn)
     }),
+    fault("line breaks are ignored", &calls::REFILL, |drawn| without_breaks(&calls::REFILL, drawn)),
     fault("a separator of the caller is ignored", &calls::FILL, |drawn| {
         let ignored = match drawn.separator {
             Separator::Slashes => Separator::Blanks,
@@ -309,6 +311,11 @@ const WITH_FUNCTIONS: &[Fault] = &[
         let row_width = drawn.row_width.saturating_sub(more);
         calls::WRAP_COLUMNS.proved_answer(&Drawn { row_width, ..drawn.clone() })
     }),
+    fault("rows are no wider than 1,000 at line breaks", &calls::WRAP_COLUMNS, |drawn| {
+        let most = if at_breaks(drawn) { 1_000 } else { usize::MAX };
+        let row_width = drawn.row_width.min(most);
+        calls::WRAP_COLUMNS.proved_answer(&Drawn { row_width, ..drawn.clone() })
+    }),
     fault("rows past 1,000 are lost at line breaks", &calls::WRAP_COLUMNS, |drawn| {
         match calls::WRAP_COLUMNS.proved_answer(drawn) {
             Answer::Rows(rows) if at_breaks(drawn) => {
@@ -341,6 +348,12 @@ const WITH_OWN_BREAKS: &[Fault] = &[
 /// Whether words stand between line breaks.
 fn at_breaks(drawn: &Drawn) -> bool {
     drawn.separator.is_breaks()
+}
+
+/// The call with words at blanks where they stand between line breaks.
+fn without_breaks(call: &Call, drawn: &Drawn) -> Answer {
+    let separator = if at_breaks(drawn) { Separator::Blanks } else { drawn.separator };
+    call.proved_answer(&Drawn { separator, ..drawn.clone() })
 }
 
 /// Whether a function of the caller splits words.

@@ -36,15 +36,16 @@ impl<'d> Table<'d> {
         let has_other_padding = self.left_over() != self.inner_width % self.column_width;
         mends.has(Mend::LastColumn) && has_other_padding
             || mends.has(Mend::WideLines) && self.has_wide_lines(lines)
-            || mends.has(Mend::LongRows) && self.is_too_long()
+            || mends.has(Mend::LongRows) && self.has_long_rows(lines)
     }
 
     fn has_wide_lines(&self, lines: &[Cow<'_, str>]) -> bool {
         lines.iter().any(|line| display_width(line) > self.column_width)
     }
 
-    fn is_too_long(&self) -> bool {
-        self.column_width as u128 > LONGEST
+    /// Whether there is a row, and it fits no memory. Without lines there is none.
+    fn has_long_rows(&self, lines: &[Cow<'_, str>]) -> bool {
+        !lines.is_empty() && self.column_width as u128 > LONGEST
     }
 
     /// What the columns leave of the inner width.
@@ -57,7 +58,7 @@ impl<'d> Table<'d> {
         if !mends.has(Mend::WideLines) && self.has_wide_lines(lines) {
             return Answer::Panic;
         }
-        if self.is_too_long() {
+        if self.has_long_rows(lines) {
             return if mends.has(Mend::LongRows) { Answer::OutOfMemory } else { Answer::Panic };
         }
         let left_over = if mends.has(Mend::LastColumn) {

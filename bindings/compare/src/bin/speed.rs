@@ -257,15 +257,15 @@ const OPTIONS: &[(bool, usize, bool)] = &[
     (true, 80, true),
 ];
 
-/// Prints the rows of a call by its options.
+/// Prints the rows of a call by its options. Refilling takes its indents from the text, and makes one
+/// paragraph of it, on whose many short lines the original takes seconds.
 fn print_by_options(separator: Separator, (kind, make): (&str, MakeText), name: &str, measure: Measure) {
     for &(is_optimal, width, has_indents) in OPTIONS {
         let algorithm = if is_optimal { "least cost" } else { "first fit" };
         let indents = if has_indents { ", indents" } else { "" };
         let row = format!("`{name}`{kind}, {}, {algorithm}, {width}{indents}", separator.name());
         let work = |text| Work { text, separator, width, is_optimal, has_indents };
-        // The indents are those of the text there.
-        if name != "refill" || !has_indents {
+        if name != "refill" || width == 80 && !has_indents {
             print_row(&row, measure, make, &work);
         }
     }

@@ -4,9 +4,11 @@ pub use Rattle.textwrap_lines.specs.Layout.{front_of}
 pub use Rattle.textwrap_lines.specs.LineEnding.{ending_bytes, join_with, line_feed, paragraphs_of}
 pub use Rattle.textwrap_lines.specs.LineEnding.{parts_past}
 pub use Rattle.textwrap_lines.specs.LineSinks.{Took}
-pub use Rattle.textwrap_lines.specs.Options.{HasParts, MayOverflow, Settings, settings_view}
+pub use Rattle.textwrap_lines.specs.Options.{HasParts, HasPartsAt, MayOverflow, Settings}
+pub use Rattle.textwrap_lines.specs.Options.{settings_view}
 pub use Rattle.textwrap_lines.specs.Paragraph.{AreDividedParts, AreIndented, AreParagraphParts}
-pub use Rattle.textwrap_lines.specs.Paragraph.{ArePieces, assembled_line, covered, DividesAs}
+pub use Rattle.textwrap_lines.specs.Paragraph.{ArePieces, assembled_line, broken_pieces_of, covered}
+pub use Rattle.textwrap_lines.specs.Paragraph.{DividesAs, DividesAt, pieces_by}
 pub use Rattle.textwrap_lines.specs.Paragraph.{DividesBy, empty_word, first_width, front_pieces}
 pub use Rattle.textwrap_lines.specs.Paragraph.{indent_of, is_whole, IsDividedInto, IsOneCharacter}
 pub use Rattle.textwrap_lines.specs.Paragraph.{keeps_whitespace, KeepsToWidth, KeepToWidths}

@@ -6,6 +6,7 @@ pub mod Endings
 pub mod Groups
 pub mod Lines
 pub mod Lossless
+pub mod Named
 pub mod Paragraphs
 pub mod Printed
 pub mod PrintedLines

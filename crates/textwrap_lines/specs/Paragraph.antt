@@ -88,9 +88,13 @@ module _ (settings : Settings) where
   broken_pieces_of split =
       if settings.break_words then front_pieces ++ broken_words later_width split else split
 
-  -- the pieces of a paragraph by built-in parts: its words, split and broken
+  -- the pieces of a paragraph whose words this function names: split and broken
+  abbrev pub pieces_by : (List ℕ → List WordText) → Splitter → List ℕ → List WordText
+  pieces_by words splitter paragraph = broken_pieces_of (split_words splitter (words paragraph))
+
+  -- the same of words between blanks
   abbrev pub pieces_of : Splitter → List ℕ → List WordText
-  pieces_of splitter paragraph = broken_pieces_of (split_words splitter (words_of paragraph))
+  pieces_of = pieces_by words_of
 
 -- the same as a relation, where relations say what words a line may have, what points a word, and
 -- what lines of these widths a list of pieces
@@ -127,6 +131,13 @@ abbrev pub DividesAs : Splitter → Algorithm → Settings → Bool → List ℕ
     → Type 0
 DividesAs splitter algorithm settings =
     IsDividedInto settings AreWordsOf (ArePoints splitter) (IsDividedBy algorithm sizes_of)
+
+-- the same by the words that a function names
+abbrev pub DividesAt : (List ℕ → List WordText) → Splitter → Algorithm → Settings → Bool → List ℕ
+    → List (List WordText) → Type 0
+DividesAt words splitter algorithm settings =
+    IsDividedInto settings (λ line ws. ws ≡ words line) (ArePoints splitter)
+    (IsDividedBy algorithm sizes_of)
 
 -- the same by the default separator and splitter
 abbrev pub DividesByDefault : Settings → Algorithm → Bool → List ℕ → List (List WordText) → Type 0

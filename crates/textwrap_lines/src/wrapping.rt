@@ -56,8 +56,8 @@ use textwrap_words::wrap_algorithms::WrapError;
 /// divided for, but one that is a single piece with one character that takes columns. Blanks
 /// preserved at its end do not count. With [`Options::even_paragraphs`] the line keeps to the width
 /// of the options together with its indent, but for such a piece, and unless the indent alone passes
-/// the width. The same is true of the columns of the printed line, if words stand between blanks,
-/// none are preserved and no escape sequence is cut.
+/// the width. The same is true of the columns of the printed line, if no blanks are preserved and no
+/// escape sequence is cut.
 ///
 /// # Errors
 /// [`WrapError::Memory`] where memory runs out, or a function of the caller says so.
@@ -91,10 +91,11 @@ pub fn wrap<'t, A: Allocator + Copy>(
         (DividesAs splitter Greedy settings) text.now (map line_view lines.items)) }
     // And so they do in the columns that they are printed in, if no blanks are preserved and neither
     // an indent nor a piece cuts an escape sequence; a text of one paragraph need not be even.
-    ensures printed { IfOk result (λ lines. (settings : Settings) (splitter : Splitter)
-        → HasParts options.entry settings splitter Greedy → CanKeepToWidth settings text.now
-        → ArePrintedWithin settings (DividesAs splitter Greedy settings) text.now
-        (map line_view lines.items)) }
+    ensures printed { options.entry.wrap_algorithm ≡ FirstFit
+        → splitter_view options.entry.word_splitter ≢ None
+        → CanKeepToWidth (settings_view options.entry) text.now
+        → IfOk result (λ lines. ArePrintedWithin (settings_view options.entry)
+        (DividesBy options.entry) text.now (map line_view lines.items)) }
     ensures only_memory { ¬ MayOverflow options.entry
         → IfErr result (λ error. error ≡ WrapError.Memory alloc_error) }
     // Overflow needs a paragraph whose pieces are together wider than 64 bits can say.
@@ -348,7 +349,10 @@ pub fn wrap_single_line_slow_path<'t, A: Allocator + Copy>(
 }
 
 /// The pieces of a paragraph that are divided.
-fn find_pieces<'t, A: Allocator + Copy>(
+///
+/// # Errors
+/// [`AllocError`] where memory runs out, or a function of the caller says so.
+pub fn find_pieces<'t, A: Allocator + Copy>(
     alloc: A,
     paragraph: &'t str,
     options: &Options<'_>,

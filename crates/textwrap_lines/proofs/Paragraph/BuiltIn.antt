@@ -14,14 +14,14 @@ use Rattle.textwrap_lines.specs.Paragraph.{DividesUnder}
 use Rattle.textwrap_lines.specs.Places.{ArePlacedLines}
 use Rattle.textwrap_lines.specs.declared.places.Place.{Place}
 
-points-as : {C : Type 0} {c : _} (splitter : splitters.WordSplitter C c) (s : Splitter)
+pub points-as : {C : Type 0} {c : _} (splitter : splitters.WordSplitter C c) (s : Splitter)
     → splitter_view splitter ≡ Some s → MaySplit splitter ≡ ArePoints s
 points-as splitters.TheVariants.NoHyphenation s is = let same : Whole ≡ s = cc in ap ArePoints same
 points-as splitters.TheVariants.HyphenSplitter s is =
     let same : AtHyphens ≡ s = cc in ap ArePoints same
 points-as (splitters.TheVariants.Custom given) s is = cc
 
-division-as : {E : Type 0} {e : _} (algorithm : algorithms.WrapAlgorithm E e) (a : Algorithm)
+pub division-as : {E : Type 0} {e : _} (algorithm : algorithms.WrapAlgorithm E e) (a : Algorithm)
     → algorithm_view algorithm ≡ Some a
     → MayDivide algorithm (λ w. w) ≡ IsDividedBy a sizes_of
 division-as algorithms.TheVariants.FirstFit a is =

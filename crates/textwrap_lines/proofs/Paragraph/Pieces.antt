@@ -5,7 +5,8 @@ use Rattle.textwrap_base.proofs.Common.{List, [], All, refl, sym, ap, ◌∙◌,
 use Rattle.textwrap_words.proofs.Common.{WordText, sizes_of, tiled, word_of, words_of, AreWordsOf}
 use Rattle.textwrap_words.proofs.Common.{Algorithm, Splitter, ArePoints}
 use Rattle.textwrap_lines.proofs.Common.{Settings, empty_word, ArePieces, pieces_of, widths_of}
-use Rattle.textwrap_lines.proofs.Common.{DividesAs}
+use Rattle.textwrap_lines.proofs.Common.{DividesAs, pieces_by, broken_pieces_of}
+use Rattle.textwrap_words.proofs.Common.{split_words}
 use Rattle.textwrap_base.proofs.Division.Map.{IsDividedBy-whole}
 use Rattle.textwrap_words.proofs.Word.Bounds.{IsNarrowWord-measured, total_width-narrow}
 use Rattle.textwrap_words.proofs.Word.Words.{words_unique}
@@ -23,11 +24,22 @@ word_of-nil = simp text_width-nil
 
 -- ---- the built-in parts leave exactly the computed pieces
 
+-- where the words of a line are those that a function names
+pub ArePieces-by : (Words : List ℕ → List WordText → Type 0) (words : List ℕ → List WordText)
+    → ((line : List ℕ) (ws : List WordText) → Words line ws → ws ≡ words line)
+    → (settings : Settings) (splitter : Splitter) (paragraph : List ℕ) (pieces : List WordText)
+    → ArePieces settings Words (ArePoints splitter) paragraph pieces
+    → pieces ≡ pieces_by settings words splitter paragraph
+ArePieces-by Words words named settings splitter paragraph pieces
+    (ws, split, ws_are, split_are, is) =
+    is ∙ ap (broken_pieces_of settings) (AreSplit-is splitter ws split split_are
+    ∙ ap (split_words splitter) (named paragraph ws ws_are))
+
 pub ArePieces-is : (settings : Settings) (splitter : Splitter) (paragraph : List ℕ)
     (pieces : List WordText) → ArePieces settings AreWordsOf (ArePoints splitter) paragraph pieces
     → pieces ≡ pieces_of settings splitter paragraph
-ArePieces-is settings splitter paragraph pieces (words, split, words_are, split_are, is) =
-    search (rules, arith, AreSplit-is splitter words split split_are, words_unique paragraph words)
+ArePieces-is =
+    ArePieces-by AreWordsOf words_of (λ line words are. (words_unique line words).0 are)
 
 pub ArePieces-computed : (settings : Settings) (splitter : Splitter) (paragraph : List ℕ)
     → ArePieces settings AreWordsOf (ArePoints splitter) paragraph

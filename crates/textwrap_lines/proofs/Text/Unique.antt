@@ -3,12 +3,14 @@ use Rattle.textwrap_base.proofs.Common.{◌≡◌, ℕ, Bool, true, false, Match
 use Rattle.textwrap_base.proofs.Common.{[], ◌∷◌, length, sym, ap, ◌∙◌, Sizes, rules}
 use Rattle.textwrap_base.proofs.Common.{AreEqualFromSecond, priced_at, arith}
 use Rattle.textwrap_words.proofs.Common.{Algorithm, Greedy, LeastCost, IsDividedBy, WordText}
-use Rattle.textwrap_words.proofs.Common.{word_of, Splitter}
-use Rattle.textwrap_lines.proofs.Common.{Settings, Line, LineParts, DividesAs, AreDividedParts}
+use Rattle.textwrap_words.proofs.Common.{word_of, words_of, AreWordsOf, ArePoints, sizes_of, Splitter}
+use Rattle.textwrap_words.proofs.Word.Words.{words_unique}
+use Rattle.textwrap_lines.proofs.Common.{Settings, Line, LineParts, DividesAs, DividesAt}
+use Rattle.textwrap_lines.proofs.Common.{AreDividedParts, IsDividedInto}
 use Rattle.textwrap_lines.proofs.Common.{AreParagraphParts, AreGroups, AreTextLines, IsFilled}
 use Rattle.textwrap_base.proofs.Division.Unique.{greedy_unique}
 use Rattle.textwrap_base.proofs.Cost.Unique.{chosen_one}
-use Rattle.textwrap_lines.proofs.Paragraph.Pieces.{ArePieces-is}
+use Rattle.textwrap_lines.proofs.Paragraph.Pieces.{ArePieces-by}
 use Rattle.textwrap_lines.proofs.PlacedPieces.Costs.{two-equal}
 
 divided_one : {X : Type 0} (algorithm : Algorithm) (sizes : X → Sizes) (widths : List ℕ)
@@ -21,15 +23,33 @@ divided_one (LeastCost penalties) sizes widths xs lines others equal one other =
     chosen_one (λ x. priced_at penalties (sizes x)) penalties widths xs lines others
     (one.chosen equal) (other.chosen equal)
 
+-- where the words of a line are those that a function names
+division_one-by : (Words : List ℕ → List WordText → Type 0) (words : List ℕ → List WordText)
+    → ((line : List ℕ) (ws : List WordText) → Words line ws → ws ≡ words line)
+    → (settings : Settings) (algorithm : Algorithm) (splitter : Splitter)
+    (is_later : Bool) (paragraph : List ℕ) (division other : List (List WordText))
+    → let Divides : Bool → List ℕ → List (List WordText) → Type 0 =
+    IsDividedInto settings Words (ArePoints splitter) (IsDividedBy algorithm sizes_of) in
+    Divides is_later paragraph division → Divides is_later paragraph other → division ≡ other
+division_one-by Words words named settings algorithm splitter is_later paragraph division other
+    (pieces, are, divided) (others, others_are, others_divided) =
+    let same = ArePieces-by Words words named settings splitter paragraph others others_are
+    ∙ sym (ArePieces-by Words words named settings splitter paragraph pieces are) in
+    search (rules, arith, divided_one, two-equal)
+
 pub division_one : (settings : Settings) (algorithm : Algorithm) (splitter : Splitter)
     (is_later : Bool) (paragraph : List ℕ) (division other : List (List WordText))
     → DividesAs splitter algorithm settings is_later paragraph division
     → DividesAs splitter algorithm settings is_later paragraph other → division ≡ other
-division_one settings algorithm splitter is_later paragraph division other (pieces, are, divided)
-    (others, others_are, others_divided) =
-    let same = ArePieces-is settings splitter paragraph others others_are
-    ∙ sym (ArePieces-is settings splitter paragraph pieces are) in
-    search (rules, arith, divided_one, two-equal)
+division_one =
+    division_one-by AreWordsOf words_of (λ line words are. (words_unique line words).0 are)
+
+pub division_one-at : (words : List ℕ → List WordText) (settings : Settings)
+    (algorithm : Algorithm) (splitter : Splitter)
+    (is_later : Bool) (paragraph : List ℕ) (division other : List (List WordText))
+    → DividesAt words splitter algorithm settings is_later paragraph division
+    → DividesAt words splitter algorithm settings is_later paragraph other → division ≡ other
+division_one-at words = division_one-by (λ line ws. ws ≡ words line) words (λ line ws is. is)
 
 -- where a paragraph has one division
 module _ (settings : Settings) (Divides : Bool → List ℕ → List (List WordText) → Type 0)

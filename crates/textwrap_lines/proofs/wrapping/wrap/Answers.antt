@@ -4,7 +4,7 @@ use Rattle.textwrap_lines.proofs.Common.{line_view}
 use Rattle.textwrap_words.proofs.Common.{Greedy}
 use Rattle.textwrap_lines.proofs.Text.Wrapped.{IsWrapped-options, LinesKeepToWidth-options}
 use Rattle.textwrap_lines.proofs.Text.Wrapped.{LinesKeepToWidth-from}
-use Rattle.textwrap_lines.proofs.Text.Printed.{ArePrintedWithin-from}
+use Rattle.textwrap_lines.proofs.Text.Wrapped.{ArePrintedWithin-options}
 use Rattle.textwrap_lines.proofs.Paragraph.BuiltIn.{lines-as}
 
 pub returns-clause-lines : goal.returns-clause-lines
@@ -31,7 +31,7 @@ returns-clause-built_in_even g c = λ settings splitter parts even breaks.
     (returns-clause-built_in g c settings splitter Greedy parts)
 
 pub returns-clause-printed : goal.returns-clause-printed
-returns-clause-printed g c = λ settings splitter parts can.
-    ArePrintedWithin-from settings splitter c.args.text.now
-    (map line_view c.in_ok-lines.lines.items) c.utf8.text can
-    (returns-clause-built_in g c settings splitter Greedy parts)
+returns-clause-printed g c = λ first built_in can.
+    ArePrintedWithin-options c.args.options c.args.text.now
+    (map line_view c.in_ok-lines.lines.items) c.utf8.text first built_in can
+    (returns-clause-lines g c).are

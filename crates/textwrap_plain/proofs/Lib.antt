@@ -1,0 +1,5 @@
+pub mod Parts
+pub mod Separators
+pub mod Tables
+pub mod Words
+pub mod Wrapped

@@ -1,0 +1,85 @@
+-- The words of a line: they are the line, and each covers some of it.
+use Rattle.textwrap_base.proofs.Common.{◌≡◌, ◌≢◌, ℕ, ◌<◌, List, [], ◌∷◌, All, All-cons, All-head}
+use Rattle.textwrap_base.proofs.Common.{All-nil, All-tail, arith, ap, drop, IsUtf8, length, map, refl}
+use Rattle.textwrap_base.proofs.Common.{length-drop, ne_eqb, suc, zero}
+use Rattle.textwrap_base.proofs.Lists.Parts.{length-slice}
+use Rattle.std.specs.List.{slice_range}
+use Rattle.textwrap_base.proofs.Lists.Rising.{increasing-rising, IsRising}
+use Rattle.textwrap_words.proofs.Common.{chunks, stripped, word_of, words_of, WordText}
+use Rattle.textwrap_words.proofs.Word.GivenCuts.{parts-texts}
+use Rattle.textwrap_words.proofs.Word.Parts.{inner-cuts}
+use Rattle.textwrap_words.proofs.Word.Pieces.{AreTexts, AreTexts-words}
+use Rattle.textwrap_words.proofs.Word.Words.{AreChunks-chunks, words_unique}
+use Rattle.textwrap_words.specs.Cuts.{AreInnerCuts, parts_between, parts_from}
+use Rattle.textwrap_unicode.proofs.InnerCuts.{cuts_at-AreInnerCuts}
+use Rattle.textwrap_unicode.specs.Breaks.{breaks_by}
+use Rattle.textwrap_unicode.specs.Cuts.{cuts_by, offsets_of}
+use Rattle.textwrap_unicode.specs.declared.numbers.Numbers.{Numbers}
+use Rattle.textwrap_plain.specs.Options.{words_by}
+use Rattle.textwrap_plain.specs.declared.options.PlainSeparator.{PlainSeparator}
+use Rattle.textwrap_plain.specs.declared.options.PlainSeparator.TheVariants.{AtBlanks, AtBreaks}
+
+cuts-inner : (numbers : Numbers) (line : List ℕ) → IsUtf8 line
+    → AreInnerCuts line (cuts_by numbers line)
+cuts-inner numbers line utf8 =
+    cuts_at-AreInnerCuts (offsets_of (breaks_by numbers (stripped line))) line utf8
+
+pub words_by-texts : (separator : PlainSeparator) (line : List ℕ) → IsUtf8 line
+    → AreTexts line (words_by separator line)
+words_by-texts AtBlanks line utf8 =
+    AreTexts-words line (words_of line) utf8 ((words_unique line (words_of line)).1 refl)
+words_by-texts (AtBreaks numbers) line utf8 =
+    parts-texts line (cuts_by numbers line) utf8
+    (inner-cuts line (cuts_by numbers line) (cuts-inner numbers line utf8))
+
+-- ---- no part is empty
+
+parts_from-some : (start : ℕ) (cuts line : List ℕ) → IsRising (start ∷ cuts)
+    → start < length line → All (λ cut. cut < length line) cuts
+    → All (λ part. part ≢ []) (parts_from start cuts line)
+parts_from-some start [] line rising within all =
+    All-cons (λ part. part ≢ []) (drop start line) []
+    (λ none. omega (arith, within, ap length none, length-drop start line))
+    (All-nil (λ part. part ≢ []))
+parts_from-some start (cut ∷ cuts) line rising within all =
+    let before : start < cut = rising zero (suc zero) (omega arith) (omega arith) in
+    let here = All-head (λ cut. cut < length line) cut cuts all in
+    All-cons (λ part. part ≢ []) (slice_range line start cut) (parts_from cut cuts line)
+    (λ none. omega (arith, before, here, ap length none, length-slice line start cut (omega (arith, before))))
+    (parts_from-some cut cuts line (λ i j lt within. rising (suc i) (suc j) (omega arith) (omega arith)) here
+    (All-tail (λ cut. cut < length line) cut cuts all))
+
+rising-zero : (cuts : List ℕ) → IsRising cuts → All (λ cut. 0 < cut) cuts → IsRising (0 ∷ cuts)
+rising-zero cuts rising after zero zero lt within = absurd (omega (arith, lt))
+rising-zero cuts rising after (suc i) zero lt within = absurd (omega (arith, lt))
+rising-zero cuts rising after zero (suc j) lt within = after j 0 (omega (arith, within))
+rising-zero cuts rising after (suc i) (suc j) lt within =
+    rising i j (omega (arith, lt)) (omega (arith, within))
+
+parts_between-some : (cuts line : List ℕ) → AreInnerCuts line cuts
+    → All (λ part. part ≢ []) (parts_between cuts line)
+parts_between-some cuts [] inner = All-nil (λ part. part ≢ [])
+parts_between-some cuts (c ∷ line) inner =
+    rw (ne_eqb (length (c ∷ line)) 0 (λ none. omega (arith, none)))
+    (parts_from-some 0 cuts (c ∷ line)
+    (rising-zero cuts (increasing-rising cuts inner.in_order) inner.after_start) (omega arith)
+    inner.before_end)
+
+-- the words are parts of the line, none of which is empty
+pub record AreSomeParts (words : List WordText) : Type 0 where
+  pub parts : List (List ℕ)
+  pub some : All (λ part. part ≢ []) parts
+  pub are : words ≡ map word_of parts
+
+pub words_by-parts : (separator : PlainSeparator) (line : List ℕ) → IsUtf8 line
+    → AreSomeParts (words_by separator line)
+words_by-parts AtBlanks line utf8 = record {
+  parts = chunks line;
+  some = (AreChunks-chunks line).nonempty;
+  are = refl;
+}
+words_by-parts (AtBreaks numbers) line utf8 = record {
+  parts = parts_between (cuts_by numbers line) line;
+  some = parts_between-some (cuts_by numbers line) line (cuts-inner numbers line utf8);
+  are = refl;
+}

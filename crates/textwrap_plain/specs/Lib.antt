@@ -1,0 +1,3 @@
+pub mod Laws
+pub mod Options
+pub mod Tables

@@ -1,0 +1,58 @@
+-- What options without functions say, and the lines that they name.
+use Rattle.std.specs.Prelude.{◌≡◌, ℕ, Bool, List, map}
+use Rattle.textwrap.specs.Cuts.{parts_between}
+use Rattle.textwrap.specs.Options.{default_algorithm, Settings, settings_at}
+use Rattle.textwrap.specs.WordSplitters.{Splitter, Whole, AtHyphens}
+use Rattle.textwrap.specs.Words.{WordText, word_of, words_of}
+use Rattle.textwrap.specs.WrapAlgorithms.{Algorithm, Greedy, LeastCost}
+use Rattle.textwrap_lines.specs.Paragraph.{DividesAt}
+use Rattle.textwrap_unicode.specs.Cuts.{cuts_by}
+use Rattle.textwrap_unicode.specs.declared.numbers.Numbers.TheVariants.{ByPairs}
+use Rattle.textwrap_plain.specs.declared.options.PlainAlgorithm.{PlainAlgorithm}
+use Rattle.textwrap_plain.specs.declared.options.PlainAlgorithm.TheVariants.{FirstFit, OptimalFit}
+use Rattle.textwrap_plain.specs.declared.options.PlainOptions.{PlainOptions}
+use Rattle.textwrap_plain.specs.declared.options.PlainSeparator.{PlainSeparator}
+use Rattle.textwrap_plain.specs.declared.options.PlainSeparator.TheVariants.{AtBlanks, AtBreaks}
+use Rattle.textwrap_plain.specs.declared.options.PlainSplitter.{PlainSplitter}
+use Rattle.textwrap_plain.specs.declared.options.PlainSplitter.TheVariants.{NoHyphenation, HyphenSplitter}
+
+-- the words of a line: between blanks, or between the places where Unicode lets it end
+abbrev pub words_by : PlainSeparator → List ℕ → List WordText
+words_by AtBlanks line = words_of line
+words_by (AtBreaks numbers) line = map word_of (parts_between (cuts_by numbers line) line)
+
+abbrev pub splitter_as : PlainSplitter → Splitter
+splitter_as NoHyphenation = Whole
+splitter_as HyphenSplitter = AtHyphens
+
+abbrev pub algorithm_as : PlainAlgorithm → Algorithm
+algorithm_as FirstFit = Greedy
+algorithm_as (OptimalFit penalties) = LeastCost penalties
+
+abbrev pub settings_of : PlainOptions → Settings
+settings_of o = record {
+  width = o.width;
+  line_ending = o.line_ending;
+  initial_indent = o.initial_indent.now;
+  subsequent_indent = o.subsequent_indent.now;
+  break_words = o.break_words;
+  preserve_trailing_space = o.preserve_trailing_space;
+  even_paragraphs = o.even_paragraphs;
+}
+
+abbrev pub splitter_of : PlainOptions → Splitter
+splitter_of o = splitter_as o.word_splitter
+
+abbrev pub algorithm_of : PlainOptions → Algorithm
+algorithm_of o = algorithm_as o.wrap_algorithm
+
+-- a paragraph is divided so under these settings, by the options' words, splitter and algorithm
+abbrev pub DividesPlainly : PlainOptions → Settings → Bool → List ℕ → List (List WordText) → Type 0
+DividesPlainly o = DividesAt (words_by o.word_separator) (splitter_of o) (algorithm_of o)
+
+-- these are the defaults at a width
+pub record AreDefaults (width : ℕ) (o : PlainOptions) : Type 0 where
+  pub settings : settings_of o ≡ settings_at width
+  pub separator : o.word_separator ≡ AtBreaks ByPairs
+  pub splitter : splitter_of o ≡ AtHyphens
+  pub algorithm : algorithm_of o ≡ default_algorithm

@@ -1,0 +1,39 @@
+-- Texts in the columns of a table, by options without functions.
+use Rattle.std.specs.Prelude.{◌≡◌, ℕ, List, map}
+use Rattle.textwrap.specs.Options.{Settings}
+use Rattle.textwrap.specs.Paragraph.{Line}
+use Rattle.textwrap.specs.Text.{AreTextLines}
+use Rattle.textwrap.specs.WordSplitters.{Splitter}
+use Rattle.textwrap.specs.Words.{WordText}
+use Rattle.textwrap.specs.WrapAlgorithms.{Algorithm}
+use Rattle.textwrap_display.specs.Tables.{IsTableBy, RowGaps, Shape}
+use Rattle.textwrap_display.specs.declared.alignment.Alignment.{Alignment}
+use Rattle.textwrap_lines.specs.Paragraph.{DividesAt}
+use Rattle.textwrap_plain.specs.Options.{algorithm_of, settings_of, splitter_of, words_by}
+use Rattle.textwrap_plain.specs.declared.display.PlainColumn.{PlainColumn}
+
+-- how a column wraps its texts, and where their lines stand in it
+pub record PlainParts : Type 0 where
+  pub words : List ℕ → List WordText
+  pub settings : Settings
+  pub splitter : Splitter
+  pub algorithm : Algorithm
+  pub alignment : Alignment
+
+abbrev pub plain_parts : PlainColumn → PlainParts
+plain_parts c = record {
+  words = words_by c.options.word_separator;
+  settings = settings_of c.options;
+  splitter = splitter_of c.options;
+  algorithm = algorithm_of c.options;
+  alignment = c.alignment;
+}
+
+abbrev pub PlainMakes : PlainParts → List ℕ → List Line → Type 0
+PlainMakes p = AreTextLines p.settings (DividesAt p.words p.splitter p.algorithm p.settings)
+
+abbrev pub plain_shape : PlainParts → Shape
+plain_shape p = record { width = p.settings.width; alignment = p.alignment }
+
+abbrev pub IsPlainTable : List PlainParts → RowGaps → List (List ℕ) → List (List ℕ) → Type 0
+IsPlainTable = IsTableBy PlainMakes plain_shape

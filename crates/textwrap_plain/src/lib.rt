@@ -1,0 +1,15 @@
+//! The calls of `textwrap` and `textwrap_display` by options that hold no function, and so can be
+//! returned, stored and compared: beside the port, for callers that have words end where Unicode lets
+//! a line end, and for calls from C. Each part of these options is built in, so each answer is the one
+//! that its contract names.
+#![tactic(auto)]
+
+mod options;
+pub mod display;
+pub mod laws;
+pub mod placed;
+pub mod texts;
+
+pub use display::{PlainColumn, fill_justified, table};
+pub use options::{PlainAlgorithm, PlainOptions, PlainSeparator, PlainSplitter};
+pub use texts::{fill, refill, wrap, wrap_columns};

@@ -1,0 +1,125 @@
+//! How a text is wrapped, by built-in parts alone.
+ghost use Rattle.std.specs.Prelude.{◌≡◌, Some};
+ghost use Rattle.textwrap.specs.Options.{HasParts};
+ghost use Rattle.textwrap.specs.WordSplitters.{splitter_view};
+ghost use Rattle.textwrap.specs.WrapAlgorithms.{algorithm_view};
+ghost use Rattle.textwrap_plain.specs.Options.{algorithm_of, AreDefaults, settings_of, splitter_of};
+
+use textwrap::wrap_algorithms::Penalties;
+use textwrap::{LineEnding, Options, WordSplitter, WrapAlgorithm};
+use textwrap_lines::inner::DEFAULTS;
+use textwrap_unicode::Numbers;
+
+/// Where words end.
+#[derive(Clone, Copy, Debug, PartialEq, Eq)]
+pub enum PlainSeparator {
+    /// At blanks.
+    AtBlanks,
+    /// Where Unicode lets a line end
+    /// ([UAX #14](https://www.unicode.org/reports/tr14/)), as `unicode_cuts` of `textwrap_unicode` says.
+    AtBreaks(Numbers),
+}
+
+/// Where words are split.
+#[derive(Clone, Copy, Debug, PartialEq, Eq)]
+pub enum PlainSplitter {
+    /// Nowhere.
+    NoHyphenation,
+    /// After each hyphen between alphanumeric characters.
+    HyphenSplitter,
+}
+
+/// How words are divided into lines.
+#[derive(Clone, Copy, Debug, PartialEq, Eq)]
+pub enum PlainAlgorithm {
+    /// Each line takes as many words as fit.
+    FirstFit,
+    /// The lines cost the least together.
+    OptimalFit(Penalties),
+}
+
+/// How a text is wrapped: what `Options` of `textwrap` say, but for functions of the caller.
+#[derive(Clone, Copy, Debug)]
+pub struct PlainOptions<'a> {
+    /// The columns of a line, with its indent.
+    pub width: usize,
+    /// What ends a paragraph, and joins the lines of a filled text.
+    pub line_ending: LineEnding,
+    /// What is printed before the first line.
+    pub initial_indent: &'a str,
+    /// What is printed before each later line.
+    pub subsequent_indent: &'a str,
+    /// Whether words that are too wide for a line are broken.
+    pub break_words: bool,
+    /// Where words end.
+    pub word_separator: PlainSeparator,
+    /// Where words are split.
+    pub word_splitter: PlainSplitter,
+    /// How words are divided into lines.
+    pub wrap_algorithm: PlainAlgorithm,
+    /// Whether blanks at line ends are kept.
+    pub preserve_trailing_space: bool,
+    /// Whether the first lines of later paragraphs are divided for the width that their own indent
+    /// leaves.
+    pub even_paragraphs: bool,
+}
+
+impl PlainOptions<'static> {
+    /// The defaults of `Options` at a width in columns, but that words end where Unicode lets a line
+    /// end, numbers being kept together by pairs.
+    pub fn new(width: usize) -> PlainOptions<'static>
+        ensures { AreDefaults width result }
+    {
+        PlainOptions {
+            width,
+            line_ending: LineEnding::LF,
+            initial_indent: "",
+            subsequent_indent: "",
+            break_words: true,
+            word_separator: PlainSeparator::AtBreaks(Numbers::ByPairs),
+            word_splitter: PlainSplitter::HyphenSplitter,
+            wrap_algorithm: PlainAlgorithm::OptimalFit(Penalties::new()),
+            preserve_trailing_space: false,
+            even_paragraphs: false,
+        }
+    }
+}
+
+impl<'a> PlainOptions<'a> {
+    /// The options of `textwrap` that say the same, but that words stand between blanks.
+    pub fn at_blanks(&self) -> Options<'a>
+        ensures { HasParts result (settings_of self.now) (splitter_of self.now)
+            (algorithm_of self.now) }
+    {
+        Options {
+            width: self.width,
+            line_ending: self.line_ending,
+            initial_indent: self.initial_indent,
+            subsequent_indent: self.subsequent_indent,
+            break_words: self.break_words,
+            wrap_algorithm: self.algorithm(),
+            word_splitter: self.splitter(),
+            preserve_trailing_space: self.preserve_trailing_space,
+            even_paragraphs: self.even_paragraphs,
+            ..DEFAULTS
+        }
+    }
+
+    fn algorithm(&self) -> WrapAlgorithm
+        ensures { algorithm_view result ≡ Some (algorithm_of self.now) }
+    {
+        match self.wrap_algorithm {
+            PlainAlgorithm::FirstFit => WrapAlgorithm::FirstFit,
+            PlainAlgorithm::OptimalFit(penalties) => WrapAlgorithm::OptimalFit(penalties),
+        }
+    }
+
+    fn splitter(&self) -> WordSplitter
+        ensures { splitter_view result ≡ Some (splitter_of self.now) }
+    {
+        match self.word_splitter {
+            PlainSplitter::NoHyphenation => WordSplitter::NoHyphenation,
+            PlainSplitter::HyphenSplitter => WordSplitter::HyphenSplitter,
+        }
+    }
+}

@@ -61,14 +61,20 @@ static textwrap_options whole_words(const textwrap_options *options) {
     return whole;
 }
 
-/* Finds the cuts of a paragraph: by the caller's function, or before the words between blanks. */
+/* What a function of the caller says that has found so many places, of which there may be so many. */
+static textwrap_status told(size_t count, size_t most) {
+    if (count == TEXTWRAP_NO_MEMORY) return TEXTWRAP_OUT_OF_MEMORY;
+    return count <= most ? TEXTWRAP_DONE : TEXTWRAP_WRONG_PLACES;
+}
+
+/* Finds the cuts of a paragraph: by the caller's function, or before the words that the options name. */
 static textwrap_status find_cuts(work *w, const uint8_t *paragraph, size_t len) {
     textwrap_status status = grow_numbers(&w->cuts, len + 1);
     if (status == TEXTWRAP_DONE) status = grow_pieces(w, len + 1);
     if (status != TEXTWRAP_DONE) return status;
     if (w->functions->cut != NULL) {
         w->cuts.len = w->functions->cut(w->functions->context, paragraph, len, w->cuts.at);
-        return w->cuts.len <= len ? TEXTWRAP_DONE : TEXTWRAP_WRONG_PLACES;
+        return told(w->cuts.len, len);
     }
     textwrap_options whole = whole_words(w->options);
     status = textwrap_pieces(paragraph, len, &whole, w->pieces, w->pieces_room, &w->pieces_len);
@@ -84,7 +90,8 @@ static textwrap_status find_word_points(work *w, const uint8_t *word, size_t len
     textwrap_status status = TEXTWRAP_DONE;
     if (w->functions->split != NULL) {
         count = w->functions->split(w->functions->context, word, len, points);
-        if (count > len) return TEXTWRAP_WRONG_PLACES;
+        status = told(count, len);
+        if (status != TEXTWRAP_DONE) return status;
     } else if (w->options->split_at_hyphens != 0) {
         status = textwrap_split_points(word, len, points, len, &count);
     }
@@ -151,7 +158,7 @@ static textwrap_status find_ends(work *w, size_t is_later) {
     if (w->functions->divide != NULL) {
         w->ends.len = w->functions->divide(w->functions->context, w->pieces, w->pieces_len, widths,
                                            w->ends.at);
-        return w->ends.len <= w->pieces_len + 1 ? TEXTWRAP_DONE : TEXTWRAP_WRONG_PLACES;
+        return told(w->ends.len, w->pieces_len + 1);
     }
     price_pieces(w);
     if (w->options->optimal_fit == 0)
@@ -267,7 +274,7 @@ size_t textwrap_cut_at_breaks(void *context, const uint8_t *paragraph, size_t pa
     (void)context;
     textwrap_status status =
         textwrap_unicode_cuts(paragraph, paragraph_len, cuts, paragraph_len, &count);
-    return status == TEXTWRAP_DONE ? count : paragraph_len + 1;
+    return status == TEXTWRAP_DONE ? count : TEXTWRAP_NO_MEMORY;
 }
 
 /* Whether no function is set that this library does not know. */

@@ -5,6 +5,7 @@
 
 #define PROVED(name) extern __typeof__(textwrap_##name) proved_##name
 PROVED(display_width);
+PROVED(strip_ansi_escape_sequences);
 PROVED(fill);
 PROVED(fill_bound);
 PROVED(fill_inplace);
@@ -29,6 +30,7 @@ PROVED(wrap_optimal_fit);
 PROVED(pieces);
 PROVED(find_words_at);
 PROVED(split_points);
+PROVED(line_breaks);
 PROVED(unicode_cuts);
 PROVED(break_apart);
 PROVED(pieces_at);
@@ -69,6 +71,11 @@ static textwrap_gaps some_gaps(const textwrap_gaps *gaps) {
 
 textwrap_status textwrap_display_width(const uint8_t *text, size_t text_len, size_t *columns) {
     return proved_display_width(ARRAY(text, text_len), columns);
+}
+
+textwrap_status textwrap_strip_ansi_escape_sequences(const uint8_t *text, size_t text_len,
+                                                     uint8_t *room, size_t room_len, size_t *len) {
+    return proved_strip_ansi_escape_sequences(ARRAY(text, text_len), ARRAY(room, room_len), len);
 }
 
 textwrap_status textwrap_fill(const uint8_t *text, size_t text_len, const textwrap_options *options,
@@ -225,6 +232,12 @@ textwrap_status textwrap_find_words_at(const uint8_t *line, size_t line_len, con
                                        size_t *count) {
     return proved_find_words_at(ARRAY(line, line_len), ARRAY(offsets, offsets_len),
                                 ARRAY(words, words_len), count);
+}
+
+textwrap_status textwrap_line_breaks(const uint8_t *text, size_t text_len, uint32_t unicode_breaks,
+                                     textwrap_line_break *breaks, size_t breaks_len, size_t *count) {
+    return proved_line_breaks(ARRAY(text, text_len), unicode_breaks, ARRAY(breaks, breaks_len),
+                              count);
 }
 
 textwrap_status textwrap_unicode_cuts(const uint8_t *line, size_t line_len, size_t *cuts,

@@ -197,6 +197,43 @@ static textwrap_status cut_at_breaks(struct lent *lent) {
     return textwrap_unicode_cuts(bytes("foo bar baz"), 11, lent->places, 16, &lent->count);
 }
 
+static textwrap_status breaks_of(struct lent *lent) {
+    textwrap_line_break breaks[8];
+    textwrap_status status = textwrap_line_breaks(bytes("foo bar\nbaz"), 11, 1, breaks, 8, &lent->count);
+    for (size_t i = 0; status == TEXTWRAP_DONE && i < lent->count; i++)
+        lent->places[i] = breaks[i].offset;
+    return status;
+}
+
+static textwrap_status stripped(struct lent *lent) {
+    return textwrap_strip_ansi_escape_sequences(bytes("a\x1b[1mb"), 6, lent->room,
+                                                sizeof lent->room, &lent->len);
+}
+
+/* Options at which words end where Unicode lets a line end. */
+static textwrap_options at_breaks(size_t width) {
+    textwrap_options o = textwrap_options_new(width);
+    o.unicode_breaks = 1;
+    return o;
+}
+
+static textwrap_status filled_at_breaks(struct lent *lent) {
+    textwrap_options o = at_breaks(5);
+    return textwrap_fill(bytes("foo bar baz"), 11, &o, lent->room, sizeof lent->room, &lent->len);
+}
+
+static textwrap_status wrapped_at_breaks(struct lent *lent) {
+    textwrap_options o = at_breaks(5);
+    o.optimal_fit = 0;
+    return textwrap_wrap(bytes("foo bar baz"), 11, &o, lent->lines, 16, &lent->count, lent->room,
+                         sizeof lent->room, &lent->len);
+}
+
+static textwrap_status in_pieces_at_breaks(struct lent *lent) {
+    textwrap_options o = at_breaks(5);
+    return textwrap_pieces(bytes("foo bar baz"), 11, &o, lent->pieces, 16, &lent->count);
+}
+
 static textwrap_status broken(struct lent *lent) {
     return textwrap_break_apart(bytes("foobar"), 6, 2, lent->pieces, 16, &lent->count);
 }
@@ -261,10 +298,10 @@ static textwrap_status filled_by_no_functions(struct lent *lent) {
                             &lent->len);
 }
 
-/* What this returns is no status: it is more than there may be if memory runs out. */
+/* What this returns is no status. */
 static textwrap_status cut_by_the_function(struct lent *lent) {
     size_t cuts[16] = {0}, count = textwrap_cut_at_breaks(NULL, bytes("foo bar baz"), 11, cuts);
-    if (count > 11) return TEXTWRAP_OUT_OF_MEMORY;
+    if (count == TEXTWRAP_NO_MEMORY) return TEXTWRAP_OUT_OF_MEMORY;
     lent->count = count;
     memcpy(lent->places, cuts, count * sizeof *cuts);
     return TEXTWRAP_DONE;
@@ -273,49 +310,47 @@ static textwrap_status cut_by_the_function(struct lent *lent) {
 static const struct call {
     const char *name;
     textwrap_status (*call)(struct lent *);
-    /* Whether a function that the call is handed allocates too, and tells it by wrong places. */
-    bool has_function;
 } CALLS[] = {
-    {"fill by first fit", by_first_fit, false},
-    {"fill by first fit, with an indent", by_first_fit_indented, false},
-    {"fill by optimal fit", by_optimal_fit, false},
-    {"fill by optimal fit, with an indent", by_optimal_fit_indented, false},
-    {"wrap", wrapped, false},
-    {"wrap_columns", in_columns, false},
-    {"refill", refilled, false},
-    {"unfill", unfilled, false},
-    {"indent", indented, false},
-    {"dedent", dedented, false},
-    {"fill_inplace", in_place, false},
-    {"display_width", measured, false},
-    {"align", aligned, false},
-    {"justify", justified, false},
-    {"fill_justified", filled_justified, false},
-    {"shorten", shortened, false},
-    {"shorten_lines", lines_shortened, false},
-    {"carry_styles", styles_carried, false},
-    {"table", in_a_table, false},
-    {"wrap_first_fit", greedily, false},
-    {"wrap_optimal_fit", at_least_cost, false},
-    {"pieces", in_pieces, false},
-    {"find_words_at", cut_at_offsets, false},
-    {"split_points", split, false},
-    {"unicode_cuts", cut_at_breaks, false},
-    {"break_apart", broken, false},
-    {"pieces_at", in_pieces_at_cuts, false},
-    {"lines_at", in_lines_at_ends, false},
-    {"wrap_by", by_no_functions, false},
-    {"wrap_by at least cost", by_no_functions_at_least_cost, false},
-    {"wrap_by a function", by_a_function, false},
-    {"wrap_by Unicode line breaks", by_breaks, true},
-    {"fill_by", filled_by_no_functions, false},
-    {"cut_at_breaks", cut_by_the_function, false},
+    {"fill by first fit", by_first_fit},
+    {"fill by first fit, with an indent", by_first_fit_indented},
+    {"fill by optimal fit", by_optimal_fit},
+    {"fill by optimal fit, with an indent", by_optimal_fit_indented},
+    {"wrap", wrapped},
+    {"wrap_columns", in_columns},
+    {"refill", refilled},
+    {"unfill", unfilled},
+    {"indent", indented},
+    {"dedent", dedented},
+    {"fill_inplace", in_place},
+    {"display_width", measured},
+    {"align", aligned},
+    {"justify", justified},
+    {"fill_justified", filled_justified},
+    {"shorten", shortened},
+    {"shorten_lines", lines_shortened},
+    {"carry_styles", styles_carried},
+    {"table", in_a_table},
+    {"wrap_first_fit", greedily},
+    {"wrap_optimal_fit", at_least_cost},
+    {"pieces", in_pieces},
+    {"find_words_at", cut_at_offsets},
+    {"split_points", split},
+    {"line_breaks", breaks_of},
+    {"unicode_cuts", cut_at_breaks},
+    {"strip_ansi_escape_sequences", stripped},
+    {"fill at Unicode line breaks", filled_at_breaks},
+    {"wrap at Unicode line breaks", wrapped_at_breaks},
+    {"pieces at Unicode line breaks", in_pieces_at_breaks},
+    {"break_apart", broken},
+    {"pieces_at", in_pieces_at_cuts},
+    {"lines_at", in_lines_at_ends},
+    {"wrap_by", by_no_functions},
+    {"wrap_by at least cost", by_no_functions_at_least_cost},
+    {"wrap_by a function", by_a_function},
+    {"wrap_by Unicode line breaks", by_breaks},
+    {"fill_by", filled_by_no_functions},
+    {"cut_at_breaks", cut_by_the_function},
 };
-
-/* Whether a call says by this status that an allocation was refused. */
-static bool is_refusal(const struct call *call, textwrap_status status) {
-    return status == TEXTWRAP_OUT_OF_MEMORY || (call->has_function && status == TEXTWRAP_WRONG_PLACES);
-}
 
 /* How many allocations a call makes, or -1 at a fault: one is refused, then the one after it, until
  * the call meets no refusal. */
@@ -331,7 +366,7 @@ static long refusals_of(const struct call *call) {
         textwrap_status status = call->call(&lent);
         if (live != 0) return -1;
         if (!refused) return status == TEXTWRAP_DONE ? refusals : -1;
-        if (!is_refusal(call, status) || memcmp(&lent, &old, sizeof lent) != 0) return -1;
+        if (status != TEXTWRAP_OUT_OF_MEMORY || memcmp(&lent, &old, sizeof lent) != 0) return -1;
     }
     return -1;
 }

@@ -64,7 +64,7 @@ static void options_without_a_meaning_are_refused(void) {
     refused[0].version = 2;
     refused[1].optimal_fit = 2;
     refused[2].even_paragraphs = 7;
-    refused[3].reserved = 1;
+    refused[3].unicode_breaks = 3;
     refused[4].reserved_sizes[3] = 1;
     for (int i = 0; i < 5; i++) {
         uint8_t room[4] = "...";
@@ -710,6 +710,66 @@ static void texts_are_wrapped_alike_without_functions(void) {
             }
 }
 
+/* Whether a text has these breaks by this form of the rules, as offsets, each that is mandatory with
+ * an exclamation mark. */
+static int breaks_at(const char *text, uint32_t unicode_breaks, const char *expected) {
+    textwrap_line_break breaks[16];
+    char found[128] = "";
+    size_t count = 0;
+    if (textwrap_line_breaks(bytes(text), strlen(text), unicode_breaks, breaks, 16, &count)
+        != TEXTWRAP_DONE)
+        return 0;
+    for (size_t i = 0; i < count; i++)
+        sprintf(found + strlen(found), "%zu%s ", breaks[i].offset, breaks[i].is_mandatory ? "!" : "");
+    return strcmp(found, expected) == 0;
+}
+
+static void texts_have_line_breaks(void) {
+    textwrap_line_break breaks[1];
+    size_t count = 7;
+    CHECK(breaks_at("foo bar\nbaz", 1, "4 8! 11! "));
+    CHECK(breaks_at("", 1, ""));
+    CHECK(breaks_at("equals .35", 1, "10! ") && breaks_at("equals .35", 2, "7 10! "));
+    CHECK(textwrap_line_breaks(bytes("a b"), 3, 1, breaks, 1, &count) == TEXTWRAP_TOO_SMALL && count == 2);
+    count = 7;
+    CHECK(textwrap_line_breaks(bytes("a"), 1, 0, breaks, 1, &count) == TEXTWRAP_UNKNOWN_OPTIONS);
+    CHECK(textwrap_line_breaks(bytes("a"), 1, 3, breaks, 1, &count) == TEXTWRAP_UNKNOWN_OPTIONS);
+    CHECK(textwrap_line_breaks(bytes("\xff"), 1, 2, breaks, 1, &count) == TEXTWRAP_NOT_UTF8);
+    CHECK(count == 7);
+}
+
+static void escape_sequences_are_stripped(void) {
+    uint8_t room[8];
+    size_t len = 0;
+    CHECK(textwrap_strip_ansi_escape_sequences(bytes("a\x1b[1mb"), 6, room, 8, &len) == TEXTWRAP_DONE);
+    CHECK(len == 2 && memcmp(room, "ab", 2) == 0);
+    CHECK(textwrap_strip_ansi_escape_sequences(bytes("\xff"), 1, room, 8, &len) == TEXTWRAP_NOT_UTF8);
+}
+
+/* A text without blanks, which Unicode lets a line end in, and a number. */
+static const char japanese[] = "\xe3\x81\x93\xe3\x82\x8c\xe3\x81\xaf\xe3\x80\x8c\xe3\x83\x9a"
+                               "\xe3\x83\xb3\xe3\x80\x8d\xe3\x81\xa7\xe3\x81\x99\xe3\x80\x82";
+
+static void options_may_ask_for_unicode_breaks(void) {
+    textwrap_options o = textwrap_options_new(8);
+    uint8_t room[64];
+    size_t len = 0, count = 0;
+    textwrap_piece pieces[8];
+    o.optimal_fit = 0;
+    o.unicode_breaks = 1;
+    CHECK(textwrap_fill(bytes(japanese), strlen(japanese), &o, room, sizeof room, &len) == TEXTWRAP_DONE);
+    CHECK(len == 32 && room[9] == '\n' && room[22] == '\n');
+    CHECK(textwrap_refill(bytes("a\nb"), 3, &o, room, sizeof room, &len) == TEXTWRAP_DONE && len == 3);
+    CHECK(textwrap_fill_justified(bytes(japanese), strlen(japanese), &o, room, sizeof room, &len)
+          == TEXTWRAP_DONE && len == 32);
+    CHECK(textwrap_pieces(bytes(japanese), strlen(japanese), &o, pieces, 8, &count) == TEXTWRAP_DONE);
+    CHECK(count == 7 && pieces[3].offset == 9 && pieces[3].len == 6);
+    o.unicode_breaks = 2;
+    o.width = 5;
+    CHECK(textwrap_fill(bytes("equals .35"), 10, &o, room, sizeof room, &len) == TEXTWRAP_DONE);
+    CHECK(len == 12);
+}
+
 static void lines_end_at_unicode_breaks(void) {
     textwrap_functions breaks = textwrap_functions_new(NULL);
     breaks.cut = textwrap_cut_at_breaks;
@@ -888,7 +948,9 @@ static void a_pointer_to_nothing_may_be_null(void) {
     CHECK(textwrap_pieces(NULL, 0, &o, NULL, 0, &count) == TEXTWRAP_DONE && count == 0);
     CHECK(textwrap_find_words_at(NULL, 0, NULL, 0, NULL, 0, &count) == TEXTWRAP_DONE);
     CHECK(textwrap_split_points(NULL, 0, NULL, 0, &count) == TEXTWRAP_DONE && count == 0);
+    CHECK(textwrap_line_breaks(NULL, 0, 1, NULL, 0, &count) == TEXTWRAP_DONE && count == 0);
     CHECK(textwrap_unicode_cuts(NULL, 0, NULL, 0, &count) == TEXTWRAP_DONE && count == 0);
+    CHECK(textwrap_strip_ansi_escape_sequences(NULL, 0, NULL, 0, &len) == TEXTWRAP_DONE && len == 0);
     CHECK(textwrap_break_apart(NULL, 0, 1, NULL, 0, &count) == TEXTWRAP_DONE);
     CHECK(textwrap_pieces_at(NULL, 0, NULL, 0, NULL, 0, &o, NULL, 0, &count) == TEXTWRAP_DONE);
     CHECK(textwrap_lines_at(NULL, 0, NULL, 0, NULL, 0, NULL, 0, &o, 0, line, 1, &count, NULL, 0, &len)
@@ -930,6 +992,9 @@ int main(void) {
     a_paragraph_is_laid_out_in_steps();
     a_word_may_have_many_points();
     texts_are_wrapped_alike_without_functions();
+    texts_have_line_breaks();
+    escape_sequences_are_stripped();
+    options_may_ask_for_unicode_breaks();
     lines_end_at_unicode_breaks();
     functions_of_the_caller_take_part();
     what_is_in_reserve_is_refused();

@@ -93,7 +93,8 @@ typedef struct {
     uint32_t preserve_trailing_space; /* blanks at line ends are kept */
     uint32_t even_paragraphs;         /* first lines of later paragraphs are no wider than others */
     uint32_t crlf;                    /* CRLF ends paragraphs and joins lines, in place of LF */
-    uint32_t reserved;                /* 0 */
+    uint32_t unicode_breaks;          /* words end at blanks (0), or where UAX #14 lets a line end, with
+                                       * numbers kept together by pairs (1) or by the expression (2) */
     size_t width;                     /* the columns of a line */
     textwrap_text initial_indent;     /* what is printed before the first line */
     textwrap_text subsequent_indent;  /* what is printed before each later line */
@@ -130,6 +131,12 @@ static inline textwrap_options textwrap_options_new(size_t width) {
  * Allocates nothing. DONE or NOT_UTF8. */
 TEXTWRAP_CHECKED
 textwrap_status textwrap_display_width(const uint8_t *text, size_t text_len, size_t *columns);
+
+/* Writes the text without its escape sequences, as textwrap_fill writes a filled one: "ab" for
+ * "a\x1b[1mb". */
+TEXTWRAP_CHECKED
+textwrap_status textwrap_strip_ansi_escape_sequences(const uint8_t *text, size_t text_len,
+                                                     uint8_t *room, size_t room_len, size_t *len);
 
 /* Writes the filled text to the front of the room, and its length. At 10 columns "foo bar baz" is
  * "foo bar\nbaz". */
@@ -373,6 +380,20 @@ textwrap_status textwrap_find_words_at(const uint8_t *line, size_t line_len, con
                                        size_t offsets_len, textwrap_piece *words, size_t words_len,
                                        size_t *count);
 
+/* A place of a text where a line may or must end. */
+typedef struct {
+    size_t offset;       /* how many bytes of the text come before it */
+    size_t is_mandatory; /* 1 where a line must end, and else 0 */
+} textwrap_line_break;
+
+/* Writes where a line of the text may end, and where it must, by the Unicode line breaking algorithm
+ * (UAX #14 at Unicode 15.0). The last place is the end, unless the text is empty: 4, 8, where a line
+ * must end, and 11 for "foo bar\nbaz". Numbers are kept together by pairs (1) or by the expression (2),
+ * as by unicode_breaks of the options; any other number is TEXTWRAP_UNKNOWN_OPTIONS. */
+TEXTWRAP_CHECKED
+textwrap_status textwrap_line_breaks(const uint8_t *text, size_t text_len, uint32_t unicode_breaks,
+                                     textwrap_line_break *breaks, size_t breaks_len, size_t *count);
+
 /* Writes where a line is cut into words by the Unicode line breaking algorithm (UAX #14 at Unicode 15.0):
  * at the places of its text without escape sequences where it may end, but not directly after a hyphen.
  * They are cuts for textwrap_pieces_at. */
@@ -414,9 +435,13 @@ textwrap_status textwrap_lines_at(const uint8_t *paragraph, size_t paragraph_len
                                   textwrap_line *lines, size_t lines_len, size_t *count,
                                   uint8_t *room, size_t room_len, size_t *len);
 
+/* What a function of the caller returns if memory runs out: the call that asked it then returns
+ * TEXTWRAP_OUT_OF_MEMORY. */
+#define TEXTWRAP_NO_MEMORY SIZE_MAX
+
 /* Functions of the caller, each called with the context. NULL stands for the part that the options
- * name. They write offsets in bytes, and return how many. Take it from textwrap_functions_new and set
- * what takes part, so that later functions are NULL. */
+ * name. They write offsets in bytes, and return how many, or TEXTWRAP_NO_MEMORY. Take it from
+ * textwrap_functions_new and set what takes part, so that later functions are NULL. */
 typedef struct {
     void *context;
     /* Where a paragraph is cut into words, in its order; no more than it has bytes. */
@@ -438,8 +463,8 @@ static inline textwrap_functions textwrap_functions_new(void *context) {
     return functions;
 }
 
-/* A function for `cut`, which finds Unicode line breaks by textwrap_unicode_cuts. It needs no context. If
- * memory runs out, it returns more than there may be, and so textwrap_wrap_by WRONG_PLACES. */
+/* A function for `cut`, which finds Unicode line breaks by textwrap_unicode_cuts. It needs no context.
+ * Without other functions, `unicode_breaks` of the options does the same in one call. */
 size_t textwrap_cut_at_breaks(void *context, const uint8_t *paragraph, size_t paragraph_len,
                               size_t *cuts);
 

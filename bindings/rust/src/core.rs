@@ -24,8 +24,9 @@
 //!     lines.iter().map(|line| line.iter().map(|piece| piece.word).collect()).collect();
 //! assert_eq!(texts, [vec!["A", "foo-"], vec!["bar,"], vec!["unbrea"], vec!["kable"]]);
 //! ```
-use crate::room::{listed, or_abort, OutOfMemory};
+use crate::room::{listed, or_abort, written, OutOfMemory};
 use crate::sys;
+use alloc::string::String;
 use alloc::vec::Vec;
 use core::fmt::Debug;
 use core::ops::Deref;
@@ -52,6 +53,24 @@ pub fn display_width(text: &str) -> usize {
     let status = unsafe { sys::textwrap_display_width(text.as_ptr(), text.len(), &mut columns) };
     assert_eq!(status, sys::DONE, "a str is UTF-8");
     columns
+}
+
+/// The text without its escape sequences, as those for colours and links.
+///
+/// # Examples
+///
+/// ```
+/// use textwrap_proved::core::strip_ansi_escape_sequences;
+///
+/// assert_eq!(strip_ansi_escape_sequences("\u{1b}[32mgrün\u{1b}[0m"), "grün");
+/// ```
+pub fn strip_ansi_escape_sequences(text: &str) -> String {
+    // SAFETY: a text with its length, and room with its length; the call writes UTF-8.
+    or_abort(unsafe {
+        written(text.len(), |room, room_len, len| {
+            sys::textwrap_strip_ansi_escape_sequences(text.as_ptr(), text.len(), room, room_len, len)
+        })
+    })
 }
 
 /// An item that is placed on a line and never cut.

@@ -98,6 +98,7 @@ use alloc::borrow::Cow;
 use alloc::string::String;
 use alloc::vec::Vec;
 
+pub mod breaks;
 mod columns;
 pub mod core;
 mod custom;

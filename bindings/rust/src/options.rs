@@ -190,11 +190,10 @@ impl<'a> Options<'a> {
         Options { even_paragraphs, ..self }
     }
 
-    /// Whether a function of the caller takes part, or Unicode line breaks: then a text is wrapped
-    /// paragraph by paragraph.
+    /// Whether a function of the caller takes part: then a text is wrapped paragraph by paragraph.
     pub(crate) fn has_function(&self) -> bool {
         matches!(self.wrap_algorithm, WrapAlgorithm::Custom(_))
-            || !matches!(self.word_separator, WordSeparator::AsciiSpace)
+            || matches!(self.word_separator, WordSeparator::Custom(_))
             || matches!(self.word_splitter, WordSplitter::Custom(_))
     }
 
@@ -212,7 +211,7 @@ impl<'a> Options<'a> {
             preserve_trailing_space: self.preserve_trailing_space.into(),
             even_paragraphs: self.even_paragraphs.into(),
             crlf: (self.line_ending == LineEnding::CRLF).into(),
-            reserved: 0,
+            unicode_breaks: (self.word_separator == WordSeparator::UnicodeBreakProperties).into(),
             width: self.width,
             initial_indent: self.initial_indent.into(),
             subsequent_indent: self.subsequent_indent.into(),

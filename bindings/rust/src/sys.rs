@@ -33,7 +33,7 @@ pub struct Options {
     pub preserve_trailing_space: u32,
     pub even_paragraphs: u32,
     pub crlf: u32,
-    pub reserved: u32,
+    pub unicode_breaks: u32,
     pub width: usize,
     pub initial_indent: Text,
     pub subsequent_indent: Text,
@@ -51,6 +51,13 @@ pub struct Line {
     pub offset: usize,
     pub len: usize,
     pub is_built: usize,
+}
+
+#[repr(C)]
+#[derive(Clone, Copy)]
+pub struct LineBreak {
+    pub offset: usize,
+    pub is_mandatory: usize,
 }
 
 #[repr(C)]
@@ -106,6 +113,14 @@ pub struct Piece {
 }
 
 extern "C" {
+    pub fn textwrap_strip_ansi_escape_sequences(
+        text: *const u8,
+        text_len: usize,
+        room: *mut u8,
+        room_len: usize,
+        len: *mut usize,
+    ) -> u32;
+
     pub fn textwrap_display_width(text: *const u8, text_len: usize, columns: *mut usize) -> u32;
 
     pub fn textwrap_fill(
@@ -298,6 +313,15 @@ extern "C" {
         offsets_len: usize,
         words: *mut Piece,
         words_len: usize,
+        count: *mut usize,
+    ) -> u32;
+
+    pub fn textwrap_line_breaks(
+        text: *const u8,
+        text_len: usize,
+        unicode_breaks: u32,
+        breaks: *mut LineBreak,
+        breaks_len: usize,
         count: *mut usize,
     ) -> u32;
 

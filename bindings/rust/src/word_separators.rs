@@ -152,6 +152,7 @@ impl Default for WordSeparator {
 /// and there is no indent.
 fn words_between_blanks(line: &str) -> Result<Vec<sys::Piece>, OutOfMemory> {
     let options = Options::new(0)
+        .word_separator(WordSeparator::AsciiSpace)
         .break_words(false)
         .word_splitter(WordSplitter::NoHyphenation)
         .to_sys();

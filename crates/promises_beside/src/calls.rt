@@ -1,7 +1,6 @@
 //! What is written for a caller in C.
 ghost use Rattle.textwrap.specs.Filling.{IsFilled};
-ghost use Rattle.textwrap.specs.Paragraph.{DividesAs};
-ghost use Rattle.textwrap_calls.specs.Options.{settings_of, splitter_of, algorithm_of};
+ghost use Rattle.textwrap_calls.specs.Options.{Divides, settings_of};
 ghost use Rattle.textwrap_calls.specs.Room.{WritesText};
 ghost use Rattle.textwrap_calls.specs.Wrapping.{WritesLines};
 ghost use Rattle.textwrap_lines.specs.Places.{ArePlacedLines};
@@ -19,8 +18,7 @@ pub fn written_text(
     room: &mut [u8],
     len: &mut usize,
 ) -> u32
-    ensures filled { WritesText (IsFilled (settings_of options.now) (DividesAs
-        (splitter_of options.now) (algorithm_of options.now) (settings_of options.now)) text.now)
+    ensures filled { WritesText (IsFilled (settings_of options.now) (Divides options.now (settings_of options.now)) text.now)
         result room.old room.new len.old len.new }
 {
     textwrap_fill(alloc, text, options, room, len)
@@ -36,8 +34,7 @@ pub fn written_lines(
     room: &mut [u8],
     len: &mut usize,
 ) -> u32
-    ensures wrapped { WritesLines (ArePlacedLines (settings_of options.now) (DividesAs
-        (splitter_of options.now) (algorithm_of options.now) (settings_of options.now)) text.now)
+    ensures wrapped { WritesLines (ArePlacedLines (settings_of options.now) (Divides options.now (settings_of options.now)) text.now)
         text.now result lines.old lines.new count.old count.new room.old room.new len.old len.new }
 {
     textwrap_wrap(alloc, text, options, lines, count, room, len)

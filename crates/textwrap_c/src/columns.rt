@@ -1,9 +1,8 @@
 //! A text in columns beside one another.
 ghost use Rattle.std.specs.Prelude.{◌≡◌, ◌≤◌, ◌<◌, ◌↔◌, ◌⊎◌, IsUtf8};
 ghost use Rattle.textwrap.specs.Columns.{IsInColumns};
-ghost use Rattle.textwrap.specs.Paragraph.{DividesAs};
 ghost use Rattle.textwrap_calls.specs.Columns.{AreKnownGaps, AreTextGaps, AreRows};
-ghost use Rattle.textwrap_calls.specs.Options.{settings_of, splitter_of, algorithm_of, AreKnown};
+ghost use Rattle.textwrap_calls.specs.Options.{settings_of, AreKnown, Divides};
 ghost use Rattle.textwrap_calls.specs.Options.{AreTexts};
 ghost use Rattle.textwrap_calls.specs.Status.{not_utf8, unknown_options};
 ghost use Rattle.textwrap_calls.specs.Wrapping.{WritesLines};
@@ -28,7 +27,7 @@ pub extern "C" fn textwrap_wrap_columns(
     len: &mut usize,
 ) -> u32
     ensures columns { WritesLines (λ lines _. AreRows (IsInColumns (settings_of options.now)
-        (DividesAs (splitter_of options.now) (algorithm_of options.now)) columns text.now
+        (Divides options.now) columns text.now
         gaps.now.left.now gaps.now.middle.now gaps.now.right.now) lines)
         text.now result rows.old rows.new count.old count.new room.old room.new len.old len.new }
     ensures unknown { result ≡ unknown_options ↔ (columns < 1) ⊎ (¬ AreKnown options.now)

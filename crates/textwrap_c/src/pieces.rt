@@ -1,11 +1,13 @@
 //! Words, and the pieces that they are split and broken into, by where they stand.
 ghost use Rattle.std.specs.Prelude.{◌≡◌, ◌⊎◌, ◌↔◌, ◌≤◌, []};
 ghost use Rattle.std.specs.Prelude.{IsUtf8};
-ghost use Rattle.textwrap_calls.specs.Options.{settings_of, splitter_of, AreKnown, AreTexts};
+ghost use Rattle.textwrap_calls.specs.Options.{separator_of, settings_of, splitter_of};
+ghost use Rattle.textwrap_calls.specs.Options.{AreKnown, AreTexts};
 ghost use Rattle.textwrap_calls.specs.Pieces.{AreOffsets, piece_places};
 ghost use Rattle.textwrap_calls.specs.Room.{WritesText};
 ghost use Rattle.textwrap_calls.specs.Status.{done, not_utf8, too_small, unknown_options, wrong_places};
-ghost use Rattle.textwrap_lines.specs.Paragraph.{pieces_of};
+ghost use Rattle.textwrap_lines.specs.Paragraph.{pieces_by};
+ghost use Rattle.textwrap_plain.specs.Options.{words_by};
 ghost use Rattle.textwrap_words.specs.Breaking.{broken_pieces};
 ghost use Rattle.textwrap_words.specs.Units.{stripped};
 ghost use Rattle.textwrap_words.specs.WordOffsets.{words_at};
@@ -26,9 +28,9 @@ pub extern "C" fn textwrap_pieces(
     pieces: &mut [TextwrapPiece],
     count: &mut usize,
 ) -> u32
-    ensures pieces { WritesText (λ answer. answer ≡ piece_places 0
-        (pieces_of (settings_of options.now) (splitter_of options.now) paragraph.now))
-        result pieces.old pieces.new count.old count.new }
+    ensures pieces { WritesText (λ answer. answer ≡ piece_places 0 (pieces_by
+        (settings_of options.now) (words_by (separator_of options.now)) (splitter_of options.now)
+        paragraph.now)) result pieces.old pieces.new count.old count.new }
     ensures unknown { result ≡ unknown_options ↔ ¬ AreKnown options.now }
     ensures not_utf8 { result ≡ not_utf8 ↔ AreKnown options.now
         × ¬ (IsUtf8 paragraph.now × AreTexts options.now) }

@@ -1,8 +1,7 @@
 //! Unfilling and refilling a filled text.
 ghost use Rattle.std.specs.Prelude.{◌≡◌, ◌≢◌, ◌≤◌, ◌↔◌, IsUtf8};
-ghost use Rattle.textwrap.specs.Paragraph.{DividesAs};
 ghost use Rattle.textwrap.specs.Refilling.{IsRefilled, unfilled_settings};
-ghost use Rattle.textwrap_calls.specs.Options.{settings_of, splitter_of, algorithm_of, AreKnown};
+ghost use Rattle.textwrap_calls.specs.Options.{settings_of, AreKnown, Divides};
 ghost use Rattle.textwrap_calls.specs.Options.{AreTexts};
 ghost use Rattle.textwrap_calls.specs.Refilling.{unfilled_parts, IsLayout};
 ghost use Rattle.textwrap_calls.specs.Room.{WritesText};
@@ -22,8 +21,7 @@ pub extern "C" fn textwrap_refill(
     room: &mut [u8],
     len: &mut usize,
 ) -> u32
-    ensures refilled { WritesText (IsRefilled (settings_of options.now) (DividesAs
-        (splitter_of options.now) (algorithm_of options.now)) text.now)
+    ensures refilled { WritesText (IsRefilled (settings_of options.now) (Divides options.now) text.now)
         result room.old room.new len.old len.new }
     ensures unknown { result ≡ unknown_options ↔ ¬ AreKnown options.now }
     ensures not_utf8 { result ≡ not_utf8 ↔ AreKnown options.now

@@ -6,7 +6,7 @@ ghost use Rattle.textwrap_calls.specs.Tables.{AreTableTexts, IsKnownColumn};
 ghost use Rattle.textwrap_calls.specs.Tables.{parts_of_column, row_gaps};
 ghost use Rattle.textwrap_calls.specs.Texts.{bytes_of};
 ghost use Rattle.textwrap_calls.specs.Wrapping.{WritesLines};
-ghost use Rattle.textwrap_display.specs.Tables.{IsTableOf};
+ghost use Rattle.textwrap_plain.specs.Tables.{IsPlainTable};
 
 use std::alloc::Global;
 use textwrap_calls::columns::TextwrapGaps;
@@ -27,7 +27,7 @@ pub extern "C" fn textwrap_table(
     room: &mut [u8],
     len: &mut usize,
 ) -> u32
-    ensures table { WritesLines (λ lines _. AreRows (IsTableOf (map parts_of_column columns.now)
+    ensures table { WritesLines (λ lines _. AreRows (IsPlainTable (map parts_of_column columns.now)
         (row_gaps gaps.now) (bytes_of cells.now)) lines)
         [] result rows.old rows.new count.old count.new room.old room.new len.old len.new }
     ensures unknown { result ≡ unknown_options

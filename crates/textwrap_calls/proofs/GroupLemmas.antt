@@ -5,16 +5,23 @@ use Rattle.textwrap_base.proofs.Common.{append_assoc, append-nil, flat_map, leng
 use Rattle.textwrap_base.proofs.Common.{map-append, IsUtf8}
 use Rattle.textwrap.proofs.Common.{ending_bytes, join_with, paragraphs_of, Settings, Line, Slice}
 use Rattle.textwrap.proofs.Common.{Built, LineParts, line_from, covered_by}
-use Rattle.textwrap.specs.Paragraph.{DividesAs}
+use Rattle.textwrap.specs.Paragraph.{DividesAt}
 use Rattle.textwrap.specs.WordSplitters.{Splitter}
 use Rattle.textwrap.specs.WrapAlgorithms.{Algorithm}
 use Rattle.textwrap_lines.specs.Places.{ArePlacedLines, CutLine, built_text, cut_line, cut_lines}
 use Rattle.textwrap_lines.specs.Places.{lines_of, places_of, text_cuts}
 use Rattle.textwrap_lines.specs.declared.places.Place.{Place}
-use Rattle.textwrap_lines.proofs.Paragraph.Pieces.{IsDividedInto-tile}
+use Rattle.textwrap_base.proofs.Division.Map.{IsDividedBy-whole}
+use Rattle.textwrap_words.proofs.Common.{ArePoints, sizes_of, tiled, WordText}
+use Rattle.textwrap_words.proofs.Word.Pieces.{ArePoints-cuts}
+use Rattle.textwrap_lines.proofs.Common.{widths_of}
+use Rattle.textwrap_lines.proofs.Paragraph.GivenPieces.{pieces-tile}
+use Rattle.textwrap_plain.proofs.Wrapped.{texts-at}
 use Rattle.textwrap_lines.proofs.Text.Cuts.{lines_of-cut_lines}
 use Rattle.textwrap_lines.proofs.Text.EndingTexts.{join-paragraphs_of, paragraphs_of-utf8}
 use Rattle.textwrap_lines.proofs.Text.Lossless.{groups-tile}
+use Rattle.textwrap_plain.specs.Options.{words_by}
+use Rattle.textwrap_plain.specs.declared.options.PlainSeparator.{PlainSeparator}
 use Rattle.textwrap_calls.specs.Wrapping.{ShowLines}
 use Rattle.textwrap_calls.proofs.PlaceLemmas.{AreCut, HasRest, passes, shown}
 
@@ -81,19 +88,33 @@ lines_of-text_cuts ending start (parts ∷ groups) =
     ∙ ap (λ ls. map line_from parts ++ ls) (lines_of-text_cuts ending next groups)
     ∙ sym (map-append line_from parts (flat_map (λ ps. ps) groups))
 
+-- the pieces of a divided paragraph are the paragraph
+divided-tile : (settings : Settings) (separator : PlainSeparator) (splitter : Splitter)
+    (algorithm : Algorithm) (is_later : Bool) (paragraph : List ℕ)
+    (division : List (List WordText)) → IsUtf8 paragraph
+    → DividesAt (words_by separator) splitter algorithm settings is_later paragraph division
+    → tiled (flat_map (λ line. line) division) ≡ paragraph
+divided-tile settings separator splitter algorithm is_later paragraph division utf8
+    (pieces, are, divided) =
+    ap tiled (IsDividedBy-whole sizes_of algorithm (widths_of settings is_later) pieces division
+    divided)
+    ∙ pieces-tile settings (λ line words. words ≡ words_by separator line) (ArePoints splitter)
+    (texts-at separator) (ArePoints-cuts splitter) paragraph pieces utf8 are
+
 -- what is reported of the lines of a text shows them
-pub placed-shown : (settings : Settings) (splitter : Splitter) (algorithm : Algorithm)
+pub placed-shown : (settings : Settings) (separator : PlainSeparator) (splitter : Splitter)
+    (algorithm : Algorithm)
     (text : List ℕ) (lines : List Line) (places : List Place) → IsUtf8 text
-    → ArePlacedLines settings (DividesAs splitter algorithm settings) text lines places
+    → ArePlacedLines settings (DividesAt (words_by separator) splitter algorithm settings) text lines places
     → (rest : List ℕ) → ShowLines text (built_text lines ++ rest) 0 0 lines places
-placed-shown settings splitter algorithm text lines places utf8 placed rest =
+placed-shown settings separator splitter algorithm text lines places utf8 placed rest =
     let ending = ending_bytes settings.line_ending in
     let paragraphs = paragraphs_of settings.line_ending text in
     let groups = placed.are.groups in
     let cuts = text_cuts (length ending) 0 (map covered_by groups) groups in
     let tile : map covered_by groups ≡ paragraphs =
-    groups-tile settings (DividesAs splitter algorithm settings)
-    (IsDividedInto-tile settings algorithm splitter) false paragraphs groups
+    groups-tile settings (DividesAt (words_by separator) splitter algorithm settings)
+    (divided-tile settings separator splitter algorithm) false paragraphs groups
     (paragraphs_of-utf8 settings.line_ending text utf8) placed.are.defined in
     let whole : text ≡ join_with ending (map covered_by groups) =
     sym (ap (join_with ending) tile ∙ join-paragraphs_of settings.line_ending text) in

@@ -11,6 +11,7 @@ pub mod Pieces
 pub mod Refilled
 pub mod Room
 pub mod Rows
+pub mod Split
 pub mod Sums
 pub mod TextLines
 pub mod Unfilled

@@ -5,6 +5,7 @@ pub mod LineListLemmas
 pub mod Offsets
 pub mod PieceLemmas
 pub mod PlaceLemmas
+pub mod ReadOptions
 pub mod RoomLemmas
 pub mod RowLemmas
 pub mod StepLemmas

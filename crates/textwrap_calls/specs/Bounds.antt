@@ -2,10 +2,10 @@
 use Rattle.std.specs.Prelude.{◌≡◌, ℕ, ◌+◌, ◌-◌, ◌*◌, ◌/◌, ◌^◌, ◌≤◌, ◌⊎◌, min, max, ◌==◌, ◌&&◌, List}
 use Rattle.std.specs.Prelude.{length, IsUtf8, if◌then◌else◌}
 use Rattle.textwrap.specs.Options.{Settings}
-use Rattle.textwrap.specs.Paragraph.{DividesAs, Line}
+use Rattle.textwrap.specs.Paragraph.{Line}
 use Rattle.textwrap.specs.Columns.{IsInColumns}
 use Rattle.textwrap_calls.specs.Columns.{AreRows}
-use Rattle.textwrap_calls.specs.Options.{settings_of, splitter_of, algorithm_of}
+use Rattle.textwrap_calls.specs.Options.{Divides, settings_of}
 use Rattle.textwrap_calls.specs.declared.columns.TextwrapGaps.{TextwrapGaps}
 use Rattle.textwrap_calls.specs.declared.options.TextwrapOptions.{TextwrapOptions}
 use Rattle.textwrap_lines.specs.LineEnding.{ending_bytes}
@@ -36,12 +36,12 @@ ForTextsOf len Holds = (text : List ℕ) → IsUtf8 text → length text ≡ len
 abbrev pub ForLinesOf : TextwrapOptions → List ℕ → (List Line → Type 0) → Type 0
 ForLinesOf o text Holds = (lines : List Line) (places : List Place)
     → ArePlacedLines (settings_of o)
-    (DividesAs (splitter_of o) (algorithm_of o) (settings_of o)) text lines places → Holds lines
+    (Divides o (settings_of o)) text lines places → Holds lines
 
 -- it is so for all rows that `textwrap_wrap_columns` may write of the text
 abbrev pub ForRowsOf : TextwrapOptions → TextwrapGaps → ℕ → List ℕ → (List Line → Type 0) → Type 0
 ForRowsOf o gaps columns text Holds = (rows : List Line)
-    → AreRows (IsInColumns (settings_of o) (DividesAs (splitter_of o) (algorithm_of o)) columns text
+    → AreRows (IsInColumns (settings_of o) (Divides o) columns text
     gaps.left.now gaps.middle.now gaps.right.now) rows → Holds rows
 
 -- ---- the bounds, without the limit of a number

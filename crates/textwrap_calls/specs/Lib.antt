@@ -1,4 +1,5 @@
 pub mod Bounds
+pub mod Breaks
 pub mod Columns
 pub mod Display
 pub mod Fragments

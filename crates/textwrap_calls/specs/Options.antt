@@ -1,5 +1,15 @@
 -- What the numbers of the options mean.
-use Rattle.std.specs.Prelude.{◌≡◌, ℕ, ◌≤◌, ◌==◌, [], ◌∷◌, Bool, not, IsUtf8, if◌then◌else◌}
+use Rattle.std.specs.Prelude.{◌≡◌, ℕ, ◌≤◌, ◌==◌, List, [], ◌∷◌, Bool, not, IsUtf8}
+use Rattle.std.specs.Prelude.{if◌then◌else◌}
+use Rattle.textwrap_plain.specs.Options as plain
+use Rattle.textwrap_plain.specs.Options.{words_by}
+use Rattle.textwrap_plain.specs.declared.options.PlainOptions.{PlainOptions}
+use Rattle.textwrap_plain.specs.declared.options.PlainSeparator.{PlainSeparator}
+use Rattle.textwrap_plain.specs.declared.options.PlainSeparator.TheVariants.{AtBlanks, AtBreaks}
+use Rattle.textwrap_unicode.specs.declared.numbers.Numbers.{Numbers}
+use Rattle.textwrap_unicode.specs.declared.numbers.Numbers.TheVariants.{ByExpression, ByPairs}
+use Rattle.textwrap.specs.Paragraph.{DividesAt}
+use Rattle.textwrap.specs.Words.{WordText}
 use Rattle.textwrap.specs.Options.{Settings, settings_at}
 use Rattle.textwrap.specs.WordSplitters.{Splitter, Whole, AtHyphens}
 use Rattle.textwrap.specs.WrapAlgorithms.{Algorithm, Greedy, LeastCost}
@@ -26,6 +36,14 @@ algorithm_of o = if o.optimal_fit == 0 then Greedy else LeastCost (penalties_of 
 abbrev pub splitter_of : TextwrapOptions → Splitter
 splitter_of o = if o.split_at_hyphens == 0 then Whole else AtHyphens
 
+-- how numbers are kept together, by the number that says so
+abbrev pub numbers_of : ℕ → Numbers
+numbers_of n = if n == 1 then ByPairs else ByExpression
+
+abbrev pub separator_of : TextwrapOptions → PlainSeparator
+separator_of o =
+    if o.unicode_breaks == 0 then AtBlanks else AtBreaks (numbers_of o.unicode_breaks)
+
 abbrev pub settings_of : TextwrapOptions → Settings
 settings_of o = record (settings_at o.width) {
   line_ending = if o.crlf == 0 then LF else CRLF;
@@ -36,6 +54,18 @@ settings_of o = record (settings_at o.width) {
   even_paragraphs = says_yes o.even_paragraphs;
 }
 
+-- a paragraph is divided so under these settings, by the words, the splitter and the algorithm of the
+-- options
+abbrev pub Divides : TextwrapOptions → Settings → Bool → List ℕ → List (List WordText) → Type 0
+Divides o = DividesAt (words_by (separator_of o)) (splitter_of o) (algorithm_of o)
+
+-- these are the options as the library has them
+pub record AreRead (o : TextwrapOptions) (read : PlainOptions) : Type 0 where
+  pub settings : plain.settings_of read ≡ settings_of o
+  pub separator : read.word_separator ≡ separator_of o
+  pub splitter : plain.splitter_of read ≡ splitter_of o
+  pub algorithm : plain.algorithm_of read ≡ algorithm_of o
+
 -- the version is known, and each number means something
 pub record AreKnown (o : TextwrapOptions) : Type 0 where
   pub version : o.version ≡ 1
@@ -45,7 +75,7 @@ pub record AreKnown (o : TextwrapOptions) : Type 0 where
   pub preserve_trailing_space : o.preserve_trailing_space ≤ 1
   pub even_paragraphs : o.even_paragraphs ≤ 1
   pub crlf : o.crlf ≤ 1
-  pub reserved : o.reserved ≡ 0
+  pub unicode_breaks : o.unicode_breaks ≤ 2
   pub reserved_sizes : o.reserved_sizes ≡ 0 ∷ 0 ∷ 0 ∷ 0 ∷ []
 
 -- the indents are texts

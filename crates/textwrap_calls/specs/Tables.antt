@@ -2,16 +2,20 @@
 use Rattle.std.specs.Prelude.{◌≡◌, ◌≤◌, List, All}
 use Rattle.textwrap_calls.specs.Columns.{AreTextGaps}
 use Rattle.textwrap_calls.specs.Display.{alignment_of}
-use Rattle.textwrap_calls.specs.Options.{AreKnown, AreTexts, settings_of, splitter_of, algorithm_of}
+use Rattle.textwrap_calls.specs.Options.{AreKnown, AreTexts, settings_of, splitter_of}
+use Rattle.textwrap_calls.specs.Options.{algorithm_of, separator_of}
 use Rattle.textwrap_calls.specs.Texts.{IsText}
 use Rattle.textwrap_calls.specs.declared.columns.TextwrapGaps.{TextwrapGaps}
 use Rattle.textwrap_calls.specs.declared.tables.TextwrapColumn.{TextwrapColumn}
 use Rattle.textwrap_calls.specs.declared.texts.TextwrapText.{TextwrapText}
-use Rattle.textwrap_display.specs.Tables.{ColumnParts, RowGaps}
+use Rattle.textwrap_display.specs.Tables.{RowGaps}
+use Rattle.textwrap_plain.specs.Options.{words_by}
+use Rattle.textwrap_plain.specs.Tables.{PlainParts}
 
 -- what a column is made of
-abbrev pub parts_of_column : TextwrapColumn → ColumnParts
+abbrev pub parts_of_column : TextwrapColumn → PlainParts
 parts_of_column column = record {
+  words = words_by (separator_of column.options);
   settings = settings_of column.options;
   splitter = splitter_of column.options;
   algorithm = algorithm_of column.options;

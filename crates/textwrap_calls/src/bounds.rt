@@ -2,13 +2,12 @@
 //! room at the first call. A bound that no number holds is `usize::MAX`.
 ghost use Rattle.std.specs.Prelude.{◌≡◌, ◌≤◌, ◌+◌, ◌-◌, ◌*◌, max, length};
 ghost use Rattle.textwrap.specs.Filling.{IsFilled};
-ghost use Rattle.textwrap.specs.Paragraph.{DividesAs};
 ghost use Rattle.textwrap.specs.Indentation.{dedented, indented};
 ghost use Rattle.textwrap.specs.Refilling.{IsRefilled};
 ghost use Rattle.textwrap_calls.specs.Bounds.{ForLinesOf, ForTextsOf, HoldsEach, Suffices, capped};
 ghost use Rattle.textwrap_calls.specs.Bounds.{ForRowsOf, columns_room_bound, fill_bound, indent_bound};
 ghost use Rattle.textwrap_calls.specs.Bounds.{refill_bound, rows_bound, wrap_room_bound};
-ghost use Rattle.textwrap_calls.specs.Options.{settings_of, splitter_of, algorithm_of};
+ghost use Rattle.textwrap_calls.specs.Options.{settings_of, Divides};
 ghost use Rattle.textwrap_calls.specs.Refilling.{unfilled_parts};
 ghost use Rattle.textwrap_calls.specs.declared.columns.TextwrapGaps.{TextwrapGaps};
 ghost use Rattle.textwrap_calls.specs.declared.options.TextwrapOptions.{TextwrapOptions};
@@ -22,7 +21,7 @@ use crate::options::TextwrapOptions;
 pub fn textwrap_fill_bound(text_len: usize, options: &TextwrapOptions<'_>) -> usize
     ensures value { result ≡ capped (fill_bound (settings_of options.now) text_len) }
     ensures enough { ForTextsOf text_len (λ text. HoldsEach (IsFilled (settings_of options.now)
-        (DividesAs (splitter_of options.now) (algorithm_of options.now) (settings_of options.now))
+        (Divides options.now (settings_of options.now))
         text) result) }
 {
     // A byte, and the ending of the line before it.
@@ -39,7 +38,7 @@ pub fn textwrap_fill_bound(text_len: usize, options: &TextwrapOptions<'_>) -> us
 pub fn textwrap_refill_bound(text_len: usize, options: &TextwrapOptions<'_>) -> usize
     ensures value { result ≡ capped (refill_bound (settings_of options.now) text_len) }
     ensures enough { ForTextsOf text_len (λ text. HoldsEach (IsRefilled (settings_of options.now)
-        (DividesAs (splitter_of options.now) (algorithm_of options.now)) text) result) }
+        (Divides options.now) text) result) }
 {
     // The ending before each byte, the byte, and one of the initial indent; the rest is the later one.
     let beside_indent: usize = if options.crlf == 0 { 3 } else { 4 };

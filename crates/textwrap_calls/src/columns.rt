@@ -2,9 +2,8 @@
 ghost use Rattle.std.specs.Prelude.{◌≡◌, ◌≤◌, ◌<◌, ◌↔◌, ◌⊎◌, IsUtf8, true, IfOk, map};
 ghost use Rattle.std.specs.Prelude.{string_bytes};
 ghost use Rattle.textwrap.specs.Columns.{IsInColumns};
-ghost use Rattle.textwrap.specs.Paragraph.{DividesAs};
 ghost use Rattle.textwrap_calls.specs.Columns.{AreKnownGaps, AreTextGaps, AreRows, ArePlacedRows};
-ghost use Rattle.textwrap_calls.specs.Options.{settings_of, splitter_of, algorithm_of, AreKnown};
+ghost use Rattle.textwrap_calls.specs.Options.{settings_of, AreKnown, Divides};
 ghost use Rattle.textwrap_calls.specs.Options.{AreTexts};
 ghost use Rattle.textwrap_calls.specs.Status.{not_utf8, unknown_options};
 ghost use Rattle.textwrap_calls.specs.Wrapping.{WritesLines};
@@ -14,8 +13,8 @@ use crate::reported::{TextwrapLine, put_lines};
 use crate::status::{NOT_UTF8, OUT_OF_MEMORY, UNKNOWN_OPTIONS};
 use simdutf8::basic::from_utf8;
 use std::alloc::{AllocError, Global};
-use textwrap::wrap_columns;
 use textwrap_lines::placed::PlacedLines;
+use textwrap_plain::wrap_columns;
 
 /// What stands around the cells of a row, in UTF-8.
 #[repr(C)]
@@ -46,7 +45,7 @@ pub fn textwrap_wrap_columns(
     len: &mut usize,
 ) -> u32
     ensures columns { WritesLines (λ lines _. AreRows (IsInColumns (settings_of options.now)
-        (DividesAs (splitter_of options.now) (algorithm_of options.now)) columns text.now
+        (Divides options.now) columns text.now
         gaps.now.left.now gaps.now.middle.now gaps.now.right.now) lines)
         text.now result rows.old rows.new count.old count.new room.old room.new len.old len.new }
     ensures unknown { result ≡ unknown_options ↔ (columns < 1) ⊎ (¬ AreKnown options.now)
@@ -71,7 +70,7 @@ pub fn textwrap_wrap_columns(
     ) else {
         return NOT_UTF8;
     };
-    let Ok(found) = wrap_columns(alloc, text, columns, options, left, middle, right) else {
+    let Ok(found) = wrap_columns(alloc, text, columns, &options, left, middle, right) else {
         return OUT_OF_MEMORY;
     };
     let Ok(placed) = place_rows(alloc, found) else {

@@ -1,8 +1,8 @@
 //! Lines for display: aligned, justified and shortened.
 ghost use Rattle.std.specs.Prelude.{◌≡◌, ◌<◌, ◌≤◌, ◌↔◌, IsUtf8, IfSome, IfNone};
-ghost use Rattle.textwrap.specs.Paragraph.{DividesAs, line_bytes};
+ghost use Rattle.textwrap.specs.Paragraph.{line_bytes};
 ghost use Rattle.textwrap_calls.specs.Display.{alignment_of, IsShort};
-ghost use Rattle.textwrap_calls.specs.Options.{settings_of, splitter_of, algorithm_of, AreKnown};
+ghost use Rattle.textwrap_calls.specs.Options.{settings_of, AreKnown, Divides};
 ghost use Rattle.textwrap_calls.specs.Options.{AreTexts};
 ghost use Rattle.textwrap_calls.specs.Room.{WritesText};
 ghost use Rattle.textwrap_calls.specs.Status.{not_utf8, too_small, unknown_options};
@@ -15,7 +15,8 @@ use crate::room::put;
 use crate::status::{NOT_UTF8, OUT_OF_MEMORY, UNKNOWN_OPTIONS};
 use simdutf8::basic::from_utf8;
 use std::alloc::Global;
-use textwrap_display::{Alignment, align, fill_justified, justify, shorten};
+use textwrap_display::{Alignment, align, justify, shorten};
+use textwrap_plain::fill_justified;
 
 /// Writes the line with blanks up to the width, as `textwrap_fill` writes a filled text. The
 /// alignment is 0 for the left, 1 for the right and 2 for the middle; any other is
@@ -93,8 +94,7 @@ pub fn textwrap_fill_justified(
     room: &mut [u8],
     len: &mut usize,
 ) -> u32
-    ensures filled { WritesText (IsJustifiedText (settings_of options.now) (DividesAs
-        (splitter_of options.now) (algorithm_of options.now) (settings_of options.now)) text.now)
+    ensures filled { WritesText (IsJustifiedText (settings_of options.now) (Divides options.now (settings_of options.now)) text.now)
         result room.old room.new len.old len.new }
     ensures unknown { result ≡ unknown_options ↔ ¬ AreKnown options.now }
     ensures not_utf8 { result ≡ not_utf8 ↔ AreKnown options.now
@@ -108,7 +108,7 @@ pub fn textwrap_fill_justified(
     let Ok(text) = from_utf8(text) else {
         return NOT_UTF8;
     };
-    match fill_justified(alloc, text, options) {
+    match fill_justified(alloc, text, &options) {
         Ok(filled) => put(filled.as_bytes(), room, len),
         Err(_) => OUT_OF_MEMORY,
     }

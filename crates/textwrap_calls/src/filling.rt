@@ -2,8 +2,7 @@
 ghost use Rattle.std.specs.Prelude.{◌≡◌, ◌≢◌, ◌≤◌, ◌↔◌, ◌⊎◌, IsUtf8, IfOk, IfErr, length, string_bytes};
 ghost use Rattle.textwrap.specs.Filling.{IsFilled};
 ghost use Rattle.textwrap.specs.InPlace.{IsFilledInPlace};
-ghost use Rattle.textwrap.specs.Paragraph.{DividesAs};
-ghost use Rattle.textwrap_calls.specs.Options.{settings_of, splitter_of, algorithm_of, AreKnown};
+ghost use Rattle.textwrap_calls.specs.Options.{settings_of, AreKnown, Divides};
 ghost use Rattle.textwrap_calls.specs.Options.{AreTexts};
 ghost use Rattle.textwrap_calls.specs.Room.{WritesText};
 ghost use Rattle.textwrap_calls.specs.Status.{done, not_utf8, out_of_memory, unknown_options};
@@ -13,7 +12,8 @@ use crate::room::put;
 use crate::status::{DONE, NOT_UTF8, OUT_OF_MEMORY};
 use simdutf8::basic::from_utf8;
 use std::alloc::Global;
-use textwrap::{fill, fill_inplace};
+use textwrap::fill_inplace;
+use textwrap_plain::fill;
 
 /// Writes the filled text to the front of the room, and its length to `len`. Where the room is too
 /// short the length alone is written, so that a second call can bring the room.
@@ -24,8 +24,7 @@ pub fn textwrap_fill(
     room: &mut [u8],
     len: &mut usize,
 ) -> u32
-    ensures filled { WritesText (IsFilled (settings_of options.now) (DividesAs
-        (splitter_of options.now) (algorithm_of options.now) (settings_of options.now)) text.now)
+    ensures filled { WritesText (IsFilled (settings_of options.now) (Divides options.now (settings_of options.now)) text.now)
         result room.old room.new len.old len.new }
     ensures unknown { result ≡ unknown_options ↔ ¬ AreKnown options.now }
     ensures not_utf8 { result ≡ not_utf8 ↔ AreKnown options.now
@@ -39,7 +38,7 @@ pub fn textwrap_fill(
     let Ok(text) = from_utf8(text) else {
         return NOT_UTF8;
     };
-    match fill(alloc, text, options) {
+    match fill(alloc, text, &options) {
         Ok(filled) => put(filled.as_bytes(), room, len),
         Err(_) => OUT_OF_MEMORY,
     }

@@ -92,7 +92,7 @@ pub fn textwrap_carry_styles(
     ensures statuses { result ≤ unknown_options }
 {
     let options = match read_options(options) {
-        Ok(options) => options,
+        Ok(options) => options.at_blanks(),
         Err(status) => return status,
     };
     if !are_utf8(lines) {

@@ -1,19 +1,16 @@
 //! How a text is wrapped, as C has it.
-ghost use Rattle.std.specs.Prelude.{◌≡◌, ◌⊎◌, ◌↔◌, true, Some, IfOk, IfErr};
-ghost use Rattle.textwrap.specs.WrapAlgorithms.{algorithm_view};
-ghost use Rattle.textwrap.specs.WordSplitters.{splitter_view};
-ghost use Rattle.textwrap.specs.Options.{HasParts};
-ghost use Rattle.textwrap_words.specs.Pieces.{as_splitter};
-ghost use Rattle.textwrap_calls.specs.Options.{settings_of, splitter_of, algorithm_of, AreKnown};
-ghost use Rattle.textwrap_calls.specs.Options.{AreTexts};
+ghost use Rattle.std.specs.Prelude.{◌≡◌, ◌⊎◌, ◌↔◌, true, IfOk, IfErr};
+ghost use Rattle.textwrap_calls.specs.Options.{algorithm_of, AreKnown, AreRead, AreTexts};
+ghost use Rattle.textwrap_calls.specs.Options.{separator_of, splitter_of};
 ghost use Rattle.textwrap_calls.specs.Status.{not_utf8, unknown_options};
+ghost use Rattle.textwrap_plain.specs.Options.{algorithm_as, splitter_as};
 
 use crate::status::{NOT_UTF8, UNKNOWN_OPTIONS};
 use simdutf8::basic::from_utf8;
+use textwrap::LineEnding;
 use textwrap::wrap_algorithms::Penalties;
-use textwrap::{LineEnding, Options, WordSplitter, WrapAlgorithm};
-use textwrap_lines::inner::DEFAULTS;
-use textwrap_words::inner::BuiltInSplitter;
+use textwrap_plain::{PlainAlgorithm, PlainOptions, PlainSeparator, PlainSplitter};
+use textwrap_unicode::Numbers;
 
 /// The version of [`TextwrapOptions`].
 pub const VERSION: u32 = 1;
@@ -37,8 +34,9 @@ pub struct TextwrapOptions<'a> {
     pub even_paragraphs: u32,
     /// Whether CRLF ends a paragraph and joins lines, in place of LF.
     pub crlf: u32,
-    /// 0, until a later option takes it, for which 0 will change nothing.
-    pub reserved: u32,
+    /// Where words end: at blanks (0), or where Unicode lets a line end (UAX #14), with numbers kept
+    /// together by pairs of characters (1) or by the expression of numbers (2).
+    pub unicode_breaks: u32,
     /// The columns of a line.
     pub width: usize,
     /// What is printed before the first line, in UTF-8.
@@ -64,9 +62,8 @@ pub struct TextwrapOptions<'a> {
 ///
 /// # Errors
 /// The status `UNKNOWN_OPTIONS` or `NOT_UTF8`.
-pub(crate) fn read_options<'a>(given: &TextwrapOptions<'a>) -> Result<Options<'a>, u32>
-    ensures parts { IfOk result (λ options. HasParts options (settings_of given.now)
-        (splitter_of given.now) (algorithm_of given.now)) }
+pub(crate) fn read_options<'a>(given: &TextwrapOptions<'a>) -> Result<PlainOptions<'a>, u32>
+    ensures read { IfOk result (λ options. AreRead given.now options) }
     ensures known { IfOk result (λ _. AreKnown given.now) }
     ensures texts { IfOk result (λ _. AreTexts given.now) }
     ensures refused { IfErr result (λ status.
@@ -82,7 +79,7 @@ pub(crate) fn read_options<'a>(given: &TextwrapOptions<'a>) -> Result<Options<'a
     ) else {
         return Err(NOT_UTF8);
     };
-    Ok(Options {
+    Ok(PlainOptions {
         width: given.width,
         line_ending: if given.crlf == 0 {
             LineEnding::LF
@@ -92,11 +89,11 @@ pub(crate) fn read_options<'a>(given: &TextwrapOptions<'a>) -> Result<Options<'a
         initial_indent,
         subsequent_indent,
         break_words: given.break_words != 0,
-        wrap_algorithm: read_algorithm(given),
+        word_separator: read_separator(given),
         word_splitter: read_splitter(given),
+        wrap_algorithm: read_algorithm(given),
         preserve_trailing_space: given.preserve_trailing_space != 0,
         even_paragraphs: given.even_paragraphs != 0,
-        ..DEFAULTS
     })
 }
 
@@ -111,18 +108,29 @@ pub(crate) fn are_known(given: &TextwrapOptions<'_>) -> bool
         && given.preserve_trailing_space <= 1
         && given.even_paragraphs <= 1
         && given.crlf <= 1
-        && given.reserved == 0
+        && given.unicode_breaks <= 2
         && given.reserved_sizes == [0; 4]
 }
 
+/// Where words end.
+fn read_separator(given: &TextwrapOptions<'_>) -> PlainSeparator
+    ensures { result ≡ separator_of given.now }
+{
+    match given.unicode_breaks {
+        0 => PlainSeparator::AtBlanks,
+        1 => PlainSeparator::AtBreaks(Numbers::ByPairs),
+        _ => PlainSeparator::AtBreaks(Numbers::ByExpression),
+    }
+}
+
 /// The algorithm that is asked for.
-fn read_algorithm(given: &TextwrapOptions<'_>) -> WrapAlgorithm
-    ensures { algorithm_view result ≡ Some (algorithm_of given.now) }
+fn read_algorithm(given: &TextwrapOptions<'_>) -> PlainAlgorithm
+    ensures { algorithm_as result ≡ algorithm_of given.now }
 {
     if given.optimal_fit == 0 {
-        return WrapAlgorithm::FirstFit;
+        return PlainAlgorithm::FirstFit;
     }
-    WrapAlgorithm::OptimalFit(Penalties {
+    PlainAlgorithm::OptimalFit(Penalties {
         nline_penalty: given.nline_penalty,
         overflow_penalty: given.overflow_penalty,
         short_last_line_fraction: given.short_last_line_fraction,
@@ -132,22 +140,12 @@ fn read_algorithm(given: &TextwrapOptions<'_>) -> WrapAlgorithm
 }
 
 /// The splitter that is asked for.
-fn read_splitter(given: &TextwrapOptions<'_>) -> WordSplitter
-    ensures { splitter_view result ≡ Some (splitter_of given.now) }
-{
-    match read_built_in_splitter(given) {
-        BuiltInSplitter::NoHyphenation => WordSplitter::NoHyphenation,
-        BuiltInSplitter::HyphenSplitter => WordSplitter::HyphenSplitter,
-    }
-}
-
-/// The same, as one of the splitters of the library.
-pub(crate) fn read_built_in_splitter(given: &TextwrapOptions<'_>) -> BuiltInSplitter
-    ensures { as_splitter result ≡ splitter_of given.now }
+fn read_splitter(given: &TextwrapOptions<'_>) -> PlainSplitter
+    ensures { splitter_as result ≡ splitter_of given.now }
 {
     if given.split_at_hyphens == 0 {
-        BuiltInSplitter::NoHyphenation
+        PlainSplitter::NoHyphenation
     } else {
-        BuiltInSplitter::HyphenSplitter
+        PlainSplitter::HyphenSplitter
     }
 }

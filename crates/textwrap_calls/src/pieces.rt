@@ -1,11 +1,14 @@
 //! Words, and the pieces that they are split and broken into, by where they stand.
 ghost use Rattle.std.specs.Prelude.{◌≡◌, ◌⊎◌, ◌↔◌, ◌≤◌, [], IfOk, IsUtf8, true, map};
-ghost use Rattle.textwrap_calls.specs.Options.{settings_of, splitter_of, AreKnown, AreTexts};
+ghost use Rattle.textwrap_calls.specs.Options.{separator_of, settings_of, splitter_of};
+ghost use Rattle.textwrap_calls.specs.Options.{AreKnown, AreTexts};
 ghost use Rattle.textwrap_calls.specs.Pieces.{AreOffsets, offsets_past, piece_places};
 ghost use Rattle.textwrap_calls.specs.Room.{WritesText};
 ghost use Rattle.textwrap_calls.specs.Status.{done, not_utf8, too_small, unknown_options, wrong_places};
 ghost use Rattle.textwrap_lines.specs.Options.{settings_view};
-ghost use Rattle.textwrap_lines.specs.Paragraph.{pieces_of};
+ghost use Rattle.textwrap_lines.specs.Paragraph.{pieces_by, pieces_of};
+ghost use Rattle.textwrap_plain.specs.Options as plain;
+ghost use Rattle.textwrap_plain.specs.Options.{words_by};
 ghost use Rattle.textwrap_words.specs.Breaking.{broken_pieces, pieces_left};
 ghost use Rattle.textwrap_words.specs.Pieces.{as_splitter};
 ghost use Rattle.textwrap_words.specs.Units.{stripped};
@@ -13,7 +16,7 @@ ghost use Rattle.textwrap_words.specs.WordOffsets.{words_at};
 ghost use Rattle.textwrap_words.specs.WordSplitters.{hyphen_points};
 ghost use Rattle.textwrap_words.specs.Words.{piece, word_view, Tiles};
 
-use crate::options::{TextwrapOptions, read_built_in_splitter, read_options};
+use crate::options::{TextwrapOptions, read_options};
 use crate::room::put;
 use crate::status::{NOT_UTF8, OUT_OF_MEMORY, WRONG_PLACES};
 use simdutf8::basic::from_utf8;
@@ -23,6 +26,8 @@ use textwrap::word_separators::find_words_at;
 use textwrap::word_splitters::WordSplitter;
 use textwrap::words::{BreakApart, Word, display_width};
 use textwrap_lines::inner::paragraph_pieces;
+use textwrap_plain::placed::paragraph_pieces as paragraph_pieces_by;
+use textwrap_plain::{PlainOptions, PlainSeparator, PlainSplitter};
 use textwrap_words::escapes::State;
 use textwrap_words::inner::BuiltInSplitter;
 
@@ -42,8 +47,8 @@ pub struct TextwrapPiece {
     pub width: usize,
 }
 
-/// Writes the pieces of a paragraph that `textwrap_wrap` divides into lines: its words, between
-/// blanks, split and broken as the options say. With words neither split nor broken these are its
+/// Writes the pieces of a paragraph that `textwrap_wrap` divides into lines: its words, split and broken
+/// as the options say. With words neither split nor broken these are its
 /// words. If words are broken and there is an initial indent, an empty piece stands before them.
 pub fn textwrap_pieces(
     alloc: Global,
@@ -52,15 +57,14 @@ pub fn textwrap_pieces(
     pieces: &mut [TextwrapPiece],
     count: &mut usize,
 ) -> u32
-    ensures pieces { WritesText (λ answer. answer ≡ piece_places 0
-        (pieces_of (settings_of options.now) (splitter_of options.now) paragraph.now))
-        result pieces.old pieces.new count.old count.new }
+    ensures pieces { WritesText (λ answer. answer ≡ piece_places 0 (pieces_by
+        (settings_of options.now) (words_by (separator_of options.now)) (splitter_of options.now)
+        paragraph.now)) result pieces.old pieces.new count.old count.new }
     ensures unknown { result ≡ unknown_options ↔ ¬ AreKnown options.now }
     ensures not_utf8 { result ≡ not_utf8 ↔ AreKnown options.now
         × ¬ (IsUtf8 paragraph.now × AreTexts options.now) }
     ensures statuses { result ≤ unknown_options }
 {
-    let splitter = read_built_in_splitter(options);
     let options = match read_options(options) {
         Ok(options) => options,
         Err(status) => return status,
@@ -68,13 +72,38 @@ pub fn textwrap_pieces(
     let Ok(paragraph) = from_utf8(paragraph) else {
         return NOT_UTF8;
     };
-    match placed_pieces(alloc, paragraph, &options, splitter) {
+    match listed_pieces(alloc, paragraph, &options) {
         Ok(found) => put(&found, pieces, count),
         Err(_) => OUT_OF_MEMORY,
     }
 }
 
 /// The pieces of a paragraph, by where they stand in it.
+fn listed_pieces(
+    alloc: Global,
+    paragraph: &str,
+    options: &PlainOptions<'_>,
+) -> Result<Vec<TextwrapPiece>, AllocError>
+    ensures { IfOk result (λ pieces. pieces.items ≡ piece_places 0 (pieces_by
+        (plain.settings_of options.now) (words_by options.now.word_separator)
+        (plain.splitter_of options.now) paragraph.now)) }
+{
+    match options.word_separator {
+        PlainSeparator::AtBlanks => {
+            let splitter = match options.word_splitter {
+                PlainSplitter::NoHyphenation => BuiltInSplitter::NoHyphenation,
+                PlainSplitter::HyphenSplitter => BuiltInSplitter::HyphenSplitter,
+            };
+            placed_pieces(alloc, paragraph, &options.at_blanks(), splitter)
+        }
+        PlainSeparator::AtBreaks(_) => {
+            let found = paragraph_pieces_by(alloc, paragraph, options)?;
+            place_words(alloc, paragraph, &found)
+        }
+    }
+}
+
+/// The pieces of a paragraph whose words stand between blanks, without a list of these.
 fn placed_pieces(
     alloc: Global,
     paragraph: &str,

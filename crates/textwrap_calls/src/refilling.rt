@@ -1,8 +1,7 @@
 //! Unfilling and refilling a filled text.
 ghost use Rattle.std.specs.Prelude.{◌≡◌, ◌≢◌, ◌≤◌, ◌↔◌, IsUtf8, IfOk};
-ghost use Rattle.textwrap.specs.Paragraph.{DividesAs};
 ghost use Rattle.textwrap.specs.Refilling.{IsRefilled, unfilled_settings};
-ghost use Rattle.textwrap_calls.specs.Options.{settings_of, splitter_of, algorithm_of, AreKnown};
+ghost use Rattle.textwrap_calls.specs.Options.{settings_of, AreKnown, Divides};
 ghost use Rattle.textwrap_calls.specs.Options.{AreTexts};
 ghost use Rattle.textwrap_calls.specs.Refilling.{unfilled_parts, IsLayout};
 ghost use Rattle.textwrap_calls.specs.Room.{WritesText};
@@ -13,7 +12,8 @@ use crate::room::put;
 use crate::status::{DONE, NOT_UTF8, OUT_OF_MEMORY};
 use simdutf8::basic::from_utf8;
 use std::alloc::{AllocError, Allocator, Global};
-use textwrap::{LineEnding, refill, unfill};
+use textwrap::{LineEnding, unfill};
+use textwrap_plain::refill;
 
 /// Fills a filled text again, with the indents that it has, and writes it as `textwrap_fill` does.
 /// The indents of the options are not used.
@@ -24,8 +24,7 @@ pub fn textwrap_refill(
     room: &mut [u8],
     len: &mut usize,
 ) -> u32
-    ensures refilled { WritesText (IsRefilled (settings_of options.now) (DividesAs
-        (splitter_of options.now) (algorithm_of options.now)) text.now)
+    ensures refilled { WritesText (IsRefilled (settings_of options.now) (Divides options.now) text.now)
         result room.old room.new len.old len.new }
     ensures unknown { result ≡ unknown_options ↔ ¬ AreKnown options.now }
     ensures not_utf8 { result ≡ not_utf8 ↔ AreKnown options.now
@@ -39,7 +38,7 @@ pub fn textwrap_refill(
     let Ok(text) = from_utf8(text) else {
         return NOT_UTF8;
     };
-    match refill(alloc, text, options) {
+    match refill(alloc, text, &options) {
         Ok(refilled) => put(refilled.as_bytes(), room, len),
         Err(_) => OUT_OF_MEMORY,
     }

@@ -49,7 +49,7 @@ pub fn textwrap_pieces_at(
     ensures statuses { (result ≤ unknown_options) ⊎ (result ≡ wrong_places) }
 {
     let options = match read_options(options) {
-        Ok(options) => options,
+        Ok(options) => options.at_blanks(),
         Err(status) => return status,
     };
     let Ok(paragraph) = from_utf8(paragraph) else {
@@ -130,7 +130,7 @@ pub fn textwrap_lines_at(
         return UNKNOWN_OPTIONS;
     }
     let options = match read_options(options) {
-        Ok(options) => options,
+        Ok(options) => options.at_blanks(),
         Err(status) => return status,
     };
     let Ok(paragraph) = from_utf8(paragraph) else {

@@ -7,7 +7,8 @@ ghost use Rattle.textwrap_calls.specs.Tables.{AreTableTexts, HasTexts, IsKnownCo
 ghost use Rattle.textwrap_calls.specs.Tables.{parts_of_column, row_gaps};
 ghost use Rattle.textwrap_calls.specs.Texts.{bytes_of, IsText};
 ghost use Rattle.textwrap_calls.specs.Wrapping.{WritesLines};
-ghost use Rattle.textwrap_display.specs.Tables.{gaps_view, HaveParts, IsTableOf};
+ghost use Rattle.textwrap_display.specs.Tables.{gaps_view};
+ghost use Rattle.textwrap_plain.specs.Tables.{IsPlainTable, plain_parts};
 
 use crate::columns::{TextwrapGaps, are_known_gaps, place_rows};
 use crate::display::read_alignment;
@@ -18,8 +19,9 @@ use crate::texts::{TextwrapText, are_utf8, strs_of};
 use simdutf8::basic::from_utf8;
 use std::alloc::{AllocError, Global};
 use textwrap::WrapError;
-use textwrap_display::{Column, Gaps, table};
+use textwrap_display::Gaps;
 use textwrap_lines::placed::PlacedLines;
+use textwrap_plain::{PlainColumn, table};
 
 /// A column of a table.
 #[repr(C)]
@@ -46,7 +48,7 @@ pub fn textwrap_table(
     room: &mut [u8],
     len: &mut usize,
 ) -> u32
-    ensures table { WritesLines (λ lines _. AreRows (IsTableOf (map parts_of_column columns.now)
+    ensures table { WritesLines (λ lines _. AreRows (IsPlainTable (map parts_of_column columns.now)
         (row_gaps gaps.now) (bytes_of cells.now)) lines)
         [] result rows.old rows.new count.old count.new room.old room.new len.old len.new }
     ensures unknown { result ≡ unknown_options
@@ -133,7 +135,7 @@ fn place_table(
     requires texts { All HasTexts columns.now }
     requires cells { All IsText cells.now }
     ensures { IfOk result (λ placed. (rows : List (List ℕ))
-        × IsTableOf (map parts_of_column columns.now) (gaps_view gaps.now) (bytes_of cells.now) rows
+        × IsPlainTable (map parts_of_column columns.now) (gaps_view gaps.now) (bytes_of cells.now) rows
         × ArePlacedRows rows placed.places.items placed.built.items) }
 {
     let texts = strs_of(alloc, cells)?;
@@ -146,10 +148,11 @@ fn place_table(
 fn read_columns<'a>(
     alloc: Global,
     given: &[TextwrapColumn<'a>],
-) -> Result<Vec<Column<'a>>, AllocError>
+) -> Result<Vec<PlainColumn<'a>>, AllocError>
     requires known { All IsKnownColumn given.now }
     requires texts { All HasTexts given.now }
-    ensures { IfOk result (λ columns. HaveParts columns.items (map parts_of_column given.now)) }
+    ensures { IfOk result (λ columns.
+        map plain_parts columns.items ≡ map parts_of_column given.now) }
 {
     let mut columns = Vec::with_capacity(alloc, given.len())?;
     for column in given {
@@ -159,7 +162,7 @@ fn read_columns<'a>(
         let Some(alignment) = read_alignment(column.alignment) else {
             unreachable!();
         };
-        columns.push(Column { options, alignment })?;
+        columns.push(PlainColumn { options, alignment })?;
     }
     Ok(columns)
 }

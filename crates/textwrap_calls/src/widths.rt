@@ -1,11 +1,14 @@
-//! The columns of a text.
+//! The columns of a text, and the text without its escape sequences.
 ghost use Rattle.std.specs.Prelude.{◌≡◌, ◌≢◌, ◌≤◌, ◌↔◌, IsUtf8};
-ghost use Rattle.textwrap.specs.Units.{text_width};
-ghost use Rattle.textwrap_calls.specs.Status.{done, not_utf8};
+ghost use Rattle.textwrap.specs.Units.{stripped, text_width};
+ghost use Rattle.textwrap_calls.specs.Room.{WritesText};
+ghost use Rattle.textwrap_calls.specs.Status.{done, not_utf8, too_small};
 
-use crate::status::{DONE, NOT_UTF8};
+use crate::room::put;
+use crate::status::{DONE, NOT_UTF8, OUT_OF_MEMORY};
 use simdutf8::basic::from_utf8;
-use textwrap::words::display_width;
+use std::alloc::Global;
+use textwrap::words::{display_width, strip_ansi_escape_sequences};
 
 /// Writes the columns of a text, which are 4 for `Café`. It answers `DONE` or `NOT_UTF8`.
 pub fn textwrap_display_width(text: &[u8], columns: &mut usize) -> u32
@@ -19,4 +22,26 @@ pub fn textwrap_display_width(text: &[u8], columns: &mut usize) -> u32
     };
     *columns = display_width(text);
     DONE
+}
+
+/// Writes the text without its escape sequences, as `textwrap_fill` writes a filled one: `ab` for
+/// `a\x1b[1mb`.
+pub fn textwrap_strip_ansi_escape_sequences(
+    alloc: Global,
+    text: &[u8],
+    room: &mut [u8],
+    len: &mut usize,
+) -> u32
+    ensures stripped { WritesText (λ answer. answer ≡ stripped text.now)
+        result room.old room.new len.old len.new }
+    ensures not_utf8 { result ≡ not_utf8 ↔ ¬ IsUtf8 text.now }
+    ensures statuses { result ≤ too_small }
+{
+    let Ok(text) = from_utf8(text) else {
+        return NOT_UTF8;
+    };
+    match strip_ansi_escape_sequences(alloc, text) {
+        Ok(plain) => put(plain.as_bytes(), room, len),
+        Err(_) => OUT_OF_MEMORY,
+    }
 }

@@ -1,7 +1,6 @@
 //! The lines of a text.
 ghost use Rattle.std.specs.Prelude.{◌≡◌, ◌≤◌, ◌↔◌, IsUtf8};
-ghost use Rattle.textwrap.specs.Paragraph.{DividesAs};
-ghost use Rattle.textwrap_calls.specs.Options.{settings_of, splitter_of, algorithm_of, AreKnown};
+ghost use Rattle.textwrap_calls.specs.Options.{settings_of, AreKnown, Divides};
 ghost use Rattle.textwrap_calls.specs.Options.{AreTexts};
 ghost use Rattle.textwrap_calls.specs.Status.{not_utf8, unknown_options};
 ghost use Rattle.textwrap_calls.specs.Wrapping.{WritesLines};
@@ -13,7 +12,7 @@ use crate::reported::put_lines;
 use crate::status::{NOT_UTF8, OUT_OF_MEMORY};
 use simdutf8::basic::from_utf8;
 use std::alloc::Global;
-use textwrap_lines::placed::place_lines;
+use textwrap_plain::placed::place_lines;
 
 /// Writes where the lines of the text stand, and how many they are to `count`. A line that is a
 /// slice of the text is reported at the place that it was cut from. A line with an indent is a text of
@@ -29,8 +28,7 @@ pub fn textwrap_wrap(
     room: &mut [u8],
     len: &mut usize,
 ) -> u32
-    ensures wrapped { WritesLines (ArePlacedLines (settings_of options.now) (DividesAs
-        (splitter_of options.now) (algorithm_of options.now) (settings_of options.now)) text.now)
+    ensures wrapped { WritesLines (ArePlacedLines (settings_of options.now) (Divides options.now (settings_of options.now)) text.now)
         text.now result lines.old lines.new count.old count.new room.old room.new len.old len.new }
     ensures unknown { result ≡ unknown_options ↔ ¬ AreKnown options.now }
     ensures not_utf8 { result ≡ not_utf8 ↔ AreKnown options.now

@@ -6,10 +6,12 @@ use Rattle.textwrap_base.proofs.Common.{length-map, Bool, true, false}
 use Rattle.std.proofs.lemmas.Nat.{mul-le}
 use Rattle.textwrap_base.proofs.Lists.Parts.{flat}
 use Rattle.textwrap_words.proofs.Common.{Splitter, Algorithm}
-use Rattle.textwrap_lines.proofs.Common.{Settings, LineParts, AreIndented, AreTextLines, Line, DividesAs}
+use Rattle.textwrap_lines.proofs.Common.{Settings, LineParts, AreIndented, AreTextLines, Line, DividesAt}
 use Rattle.textwrap_lines.proofs.Common.{line_bytes, line_from, indent_of}
 use Rattle.textwrap_lines.proofs.Paragraph.Kept.{HasNoHyphen}
-use Rattle.textwrap_lines.proofs.Text.Wrapped.{IsWrapped-from}
+use Rattle.textwrap_plain.proofs.Wrapped.{IsWrapped-at}
+use Rattle.textwrap_plain.specs.Options.{words_by}
+use Rattle.textwrap_plain.specs.declared.options.PlainSeparator.{PlainSeparator}
 use Rattle.textwrap_calls.proofs.Lengths.Columns.{texts_length}
 use Rattle.textwrap.proofs.Text.WholeLines.{bytes_of}
 use Rattle.textwrap_calls.proofs.Lengths.Lines.{count-all, slices-all, slices_length, line-length}
@@ -60,13 +62,14 @@ bounded-parts settings len (p ∷ parts) indented none count slices =
       bytes = omega (arith, bytes-length settings false p parts indented none, product, slices);
     }
 
-pub lines-bounded : (settings : Settings) (splitter : Splitter) (algorithm : Algorithm)
+pub lines-bounded : (settings : Settings) (separator : PlainSeparator) (splitter : Splitter)
+    (algorithm : Algorithm)
     (text : List ℕ) (lines : List Line) → IsUtf8 text
-    → AreTextLines settings (DividesAs splitter algorithm settings) text lines
+    → AreTextLines settings (DividesAt (words_by separator) splitter algorithm settings) text lines
     → AreBounded settings (length text) lines
-lines-bounded settings splitter algorithm text lines utf8 are =
-    let all = IsWrapped-from settings algorithm splitter text lines utf8 are in
+lines-bounded settings separator splitter algorithm text lines utf8 are =
+    let all = IsWrapped-at separator settings algorithm splitter text lines utf8 are in
     subst (AreBounded settings (length text)) (sym all.are.given)
     (bounded-parts settings (length text) (flat all.are.groups) all.adds.indents
-    (all.adds.no_hyphen (λ e. cc)) (count-all settings splitter algorithm text lines utf8 all)
-    (slices-all settings splitter algorithm text lines utf8 all))
+    (all.adds.no_hyphen (λ e. cc)) (count-all settings separator splitter algorithm text lines utf8 all)
+    (slices-all settings separator splitter algorithm text lines utf8 all))

@@ -7,10 +7,12 @@ use Rattle.textwrap_base.proofs.Lists.Parts.{flat}
 use Rattle.textwrap_words.proofs.Common.{Splitter, Algorithm}
 use Rattle.textwrap_lines.proofs.Common.{Settings, LineParts, AreIndented, line_from, line_bytes}
 use Rattle.textwrap_lines.proofs.Common.{join_with, ending_bytes}
-use Rattle.textwrap_lines.proofs.Common.{DividesAs, IsFilled}
+use Rattle.textwrap_lines.proofs.Common.{DividesAt, IsFilled}
 use Rattle.textwrap_lines.proofs.Paragraph.Kept.{HasNoHyphen}
-use Rattle.textwrap_lines.proofs.Text.Wrapped.{IsWrapped-from}
+use Rattle.textwrap_plain.proofs.Wrapped.{IsWrapped-at}
 use Rattle.textwrap.proofs.Text.WholeLines.{bytes_of}
+use Rattle.textwrap_plain.specs.Options.{words_by}
+use Rattle.textwrap_plain.specs.declared.options.PlainSeparator.{PlainSeparator}
 use Rattle.textwrap_calls.specs.Bounds.{capped, fill_bound, ForTextsOf, HoldsEach}
 use Rattle.textwrap_calls.proofs.Lengths.Lines.{count-all, slices-all, slices_length, join-length, line-length, indent-length}
 use Rattle.textwrap_calls.proofs.Lengths.Limit.{within-limit}
@@ -43,19 +45,20 @@ joined-length settings ending indent p (q ∷ parts) within are none =
 -- ---- the filled text
 
 -- a filled text is no longer than its bound
-pub filled-bound : (settings : Settings) (splitter : Splitter) (algorithm : Algorithm)
+pub filled-bound : (settings : Settings) (separator : PlainSeparator) (splitter : Splitter)
+    (algorithm : Algorithm)
     (text filled : List ℕ) → IsUtf8 text
-    → IsFilled settings (DividesAs splitter algorithm settings) text filled
+    → IsFilled settings (DividesAt (words_by separator) splitter algorithm settings) text filled
     → length filled ≤ fill_bound settings (length text)
-filled-bound settings splitter algorithm text filled utf8 (lines, are, is) =
-    let all = IsWrapped-from settings algorithm splitter text lines utf8 are in
+filled-bound settings separator splitter algorithm text filled utf8 (lines, are, is) =
+    let all = IsWrapped-at separator settings algorithm splitter text lines utf8 are in
     let ending = ending_bytes settings.line_ending in
     let given : filled ≡ join_with ending (bytes_of (flat all.are.groups)) =
     is ∙ ap (λ ls. join_with ending (map line_bytes ls)) all.are.given in
     subst (λ l. length l ≤ fill_bound settings (length text)) (sym given)
     (by_case (flat all.are.groups) all.adds.indents (all.adds.no_hyphen (λ e. cc))
-    (count-all settings splitter algorithm text lines utf8 all)
-    (slices-all settings splitter algorithm text lines utf8 all))
+    (count-all settings separator splitter algorithm text lines utf8 all)
+    (slices-all settings separator splitter algorithm text lines utf8 all))
   where
     by_case : (parts : List LineParts) → AreIndented settings false parts → All HasNoHyphen parts
         → length parts ≤ length text + 1 → slices_length parts ≤ length text
@@ -72,11 +75,12 @@ filled-bound settings splitter algorithm text filled utf8 (lines, are, is) =
         ≡ length text + length text * k = omega arith in
         omega (arith, joined, product, spread, slices)
 
-pub filled-fits : (settings : Settings) (splitter : Splitter) (algorithm : Algorithm)
+pub filled-fits : (settings : Settings) (separator : PlainSeparator) (splitter : Splitter)
+    (algorithm : Algorithm)
     (len bound : ℕ) → bound ≡ capped (fill_bound settings len)
     → ForTextsOf len (λ text. HoldsEach
-    (IsFilled settings (DividesAs splitter algorithm settings) text) bound)
-filled-fits settings splitter algorithm len bound is text utf8 len_is filled filled_is =
+    (IsFilled settings (DividesAt (words_by separator) splitter algorithm settings) text) bound)
+filled-fits settings separator splitter algorithm len bound is text utf8 len_is filled filled_is =
     within-limit (length filled) (fill_bound settings len) bound
     (subst (λ n. length filled ≤ fill_bound settings n) len_is
-    (filled-bound settings splitter algorithm text filled utf8 filled_is)) is
+    (filled-bound settings separator splitter algorithm text filled utf8 filled_is)) is

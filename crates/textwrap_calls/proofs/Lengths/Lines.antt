@@ -7,7 +7,7 @@ use Rattle.textwrap_base.proofs.Lists.Parts.{flat}
 use Rattle.textwrap_words.proofs.Common.{WordText, Splitter, Algorithm}
 use Rattle.textwrap_lines.proofs.Common.{Settings, LineParts, line_from, line_bytes}
 use Rattle.textwrap_lines.proofs.Common.{indent_of, join_with, ending_bytes, paragraphs_of, AreGroups}
-use Rattle.textwrap_lines.proofs.Common.{covered_by, AreParagraphParts, DividesAs}
+use Rattle.textwrap_lines.proofs.Common.{covered_by, AreParagraphParts, DividesAt}
 use Rattle.textwrap_lines.proofs.Common.{Line, IsWrapped}
 use Rattle.textwrap_lines.specs.Paragraph.{indent_before}
 use Rattle.textwrap_lines.proofs.Paragraph.Kept.{HasNoHyphen}
@@ -15,6 +15,8 @@ use Rattle.textwrap_lines.proofs.Paragraph.WholeLine.{bytes-assembled}
 use Rattle.textwrap_lines.proofs.Text.EndingTexts.{join-paragraphs_of, paragraphs_of-utf8}
 use Rattle.textwrap_lines.proofs.Text.Endings.{ending_bytes-some}
 use Rattle.textwrap_lines.proofs.Text.Groups.{groups-map}
+use Rattle.textwrap_plain.specs.Options.{words_by}
+use Rattle.textwrap_plain.specs.declared.options.PlainSeparator.{PlainSeparator}
 use Rattle.textwrap_calls.proofs.Lengths.Paragraphs.{count-lines}
 
 -- ---- how many lines a text has
@@ -102,19 +104,20 @@ indent-length settings is_later (w ∷ words) = omega arith
 
 -- ---- the lines of a text by built-in parts
 
-module _ (settings : Settings) (splitter : Splitter) (algorithm : Algorithm) (text : List ℕ)
+module _ (settings : Settings) (separator : PlainSeparator) (splitter : Splitter)
+    (algorithm : Algorithm) (text : List ℕ)
     (lines : List Line) (utf8 : IsUtf8 text)
     (all : IsWrapped settings (Some splitter) (Some algorithm)
-    (DividesAs splitter algorithm settings) text lines) where
+    (DividesAt (words_by separator) splitter algorithm settings) text lines) where
   pub count-all : length (flat all.are.groups) ≤ length text + 1
   count-all =
       let ending = settings.line_ending in
       let paragraphs = paragraphs_of ending text in
       let counted = count-groups (ending_bytes ending) (ending_bytes-some ending) false paragraphs
       all.are.groups
-      (groups-map IsUtf8 (AreParagraphParts settings (DividesAs splitter algorithm settings))
+      (groups-map IsUtf8 (AreParagraphParts settings (DividesAt (words_by separator) splitter algorithm settings))
       (λ is_later paragraph parts. length parts ≤ length paragraph + 1)
-      (count-lines settings splitter algorithm) false paragraphs all.are.groups
+      (count-lines settings separator splitter algorithm) false paragraphs all.are.groups
       (paragraphs_of-utf8 ending text utf8) all.are.defined) in
       omega (arith, counted, ap length (join-paragraphs_of ending text))
 

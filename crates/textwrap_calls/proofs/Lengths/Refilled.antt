@@ -11,7 +11,7 @@ use Rattle.std.proofs.lemmas.Str.{IsUtf8-nil}
 use Rattle.std.proofs.lemmas.Str.Ascii.{IsAscii-cons, IsAscii-nil}
 use Rattle.textwrap_base.proofs.Utf8.{StartsWith-boundary}
 use Rattle.textwrap_words.proofs.Common.{blank, Splitter, Algorithm}
-use Rattle.textwrap_lines.proofs.Common.{Settings, DividesAs, ending_bytes, join_with}
+use Rattle.textwrap_lines.proofs.Common.{Settings, DividesAt, ending_bytes, join_with}
 use Rattle.textwrap.proofs.Common.{EndedLine, nonempty_lines, line_prefix, common_prefix}
 use Rattle.textwrap.proofs.Common.{unfilled_initial, unfilled_subsequent, joined_text, keeps_ending}
 use Rattle.textwrap.specs.Refilling.{added_ending, common_start, detected_ending, ended_lines}
@@ -19,6 +19,8 @@ use Rattle.textwrap.specs.Refilling.{has_text, unfilled_ending, with_indents_of,
 use Rattle.textwrap.specs.Refilling.{IsRefilled}
 use Rattle.textwrap.proofs.Text.Prefixes.{common_start-ascii, line_prefix-ascii}
 use Rattle.textwrap.proofs.Text.Unfilling.{lines-begin, texts_of-ended_lines}
+use Rattle.textwrap_plain.specs.Options.{words_by}
+use Rattle.textwrap_plain.specs.declared.options.PlainSeparator.{PlainSeparator}
 use Rattle.textwrap_calls.specs.Bounds.{capped, refill_bound, ForTextsOf, HoldsEach}
 use Rattle.textwrap_calls.proofs.Lengths.Dedented.{lines-utf8}
 use Rattle.textwrap_calls.proofs.Lengths.Filled.{filled-bound}
@@ -97,19 +99,20 @@ joined-utf8 text utf8 =
 
 -- ---- the refilled text
 
-refilled-bound : (settings : Settings) (splitter : Splitter) (algorithm : Algorithm)
+refilled-bound : (settings : Settings) (separator : PlainSeparator) (splitter : Splitter)
+    (algorithm : Algorithm)
     (text refilled : List ℕ) → IsUtf8 text
-    → IsRefilled settings (DividesAs splitter algorithm) text refilled
+    → IsRefilled settings (DividesAt (words_by separator) splitter algorithm) text refilled
     → length refilled ≤ refill_bound settings (length text)
-refilled-bound settings splitter algorithm text refilled utf8 (filled, are, is) =
+refilled-bound settings separator splitter algorithm text refilled utf8 (filled, are, is) =
     let n = length text in
     let e = length (ending_bytes settings.line_ending) in
     let f = final_feed text in
     let s = length (unfilled_subsequent text) in
     let j = length (joined_text text) in
     let added = added_ending (keeps_ending text) settings.line_ending in
-    let long = filled-bound (with_indents_of text settings) splitter algorithm (joined_text text) filled
-    (joined-utf8 text utf8) are in
+    let long = filled-bound (with_indents_of text settings) separator splitter algorithm
+    (joined_text text) filled (joined-utf8 text utf8) are in
     let indents = indents-length (lines text) in
     let whole = lines-length text in
     let feed = feed-within text in
@@ -131,11 +134,12 @@ refilled-bound settings splitter algorithm text refilled utf8 (filled, are, is) 
       square,
     )
 
-pub refilled-fits : (settings : Settings) (splitter : Splitter) (algorithm : Algorithm)
+pub refilled-fits : (settings : Settings) (separator : PlainSeparator) (splitter : Splitter)
+    (algorithm : Algorithm)
     (len bound : ℕ) → bound ≡ capped (refill_bound settings len)
     → ForTextsOf len (λ text. HoldsEach
-    (IsRefilled settings (DividesAs splitter algorithm) text) bound)
-refilled-fits settings splitter algorithm len bound is text utf8 len_is refilled refilled_is =
+    (IsRefilled settings (DividesAt (words_by separator) splitter algorithm) text) bound)
+refilled-fits settings separator splitter algorithm len bound is text utf8 len_is refilled refilled_is =
     within-limit (length refilled) (refill_bound settings len) bound
     (subst (λ n. length refilled ≤ refill_bound settings n) len_is
-    (refilled-bound settings splitter algorithm text refilled utf8 refilled_is)) is
+    (refilled-bound settings separator splitter algorithm text refilled utf8 refilled_is)) is

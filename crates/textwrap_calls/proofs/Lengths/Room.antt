@@ -8,30 +8,33 @@ use Rattle.std.proofs.lemmas.Nat.{mul-le}
 use Rattle.textwrap_base.proofs.Lists.Parts.{flat}
 use Rattle.textwrap_words.proofs.Common.{Splitter, Algorithm}
 use Rattle.textwrap_lines.proofs.Common.{Settings, LineParts, AreIndented, line_from, line_bytes}
-use Rattle.textwrap_lines.proofs.Common.{indent_of, AreTextLines, Line, Slice, DividesAs}
+use Rattle.textwrap_lines.proofs.Common.{indent_of, AreTextLines, Line, Slice, DividesAt}
 use Rattle.textwrap_lines.proofs.Common.{built_bytes, built_text}
 use Rattle.textwrap_lines.specs.Paragraph.{Built}
 use Rattle.textwrap_lines.proofs.Paragraph.Kept.{HasNoHyphen}
-use Rattle.textwrap_lines.proofs.Text.Wrapped.{IsWrapped-from}
+use Rattle.textwrap_plain.proofs.Wrapped.{IsWrapped-at}
+use Rattle.textwrap_plain.specs.Options.{words_by}
+use Rattle.textwrap_plain.specs.declared.options.PlainSeparator.{PlainSeparator}
 use Rattle.textwrap_calls.specs.Bounds.{capped, ForLinesOf, ForTextsOf, Suffices, wrap_room_bound}
-use Rattle.textwrap_calls.specs.Options.{settings_of, splitter_of, algorithm_of}
+use Rattle.textwrap_calls.specs.Options.{algorithm_of, separator_of, settings_of, splitter_of}
 use Rattle.textwrap_calls.specs.declared.options.TextwrapOptions.{TextwrapOptions}
 use Rattle.textwrap_calls.proofs.Lengths.Lines.{count-all, slices-all, slices_length, line-length, indent-length}
 use Rattle.textwrap_calls.proofs.Lengths.Limit.{within-limit}
 
 -- ---- how many lines
 
-counted-lines : (settings : Settings) (splitter : Splitter) (algorithm : Algorithm)
+counted-lines : (settings : Settings) (separator : PlainSeparator) (splitter : Splitter)
+    (algorithm : Algorithm)
     (text : List ℕ) (lines : List Line) → IsUtf8 text
-    → AreTextLines settings (DividesAs splitter algorithm settings) text lines
+    → AreTextLines settings (DividesAt (words_by separator) splitter algorithm settings) text lines
     → length lines ≤ length text + 1
-counted-lines settings splitter algorithm text lines utf8 are =
-    let all = IsWrapped-from settings algorithm splitter text lines utf8 are in
+counted-lines settings separator splitter algorithm text lines utf8 are =
+    let all = IsWrapped-at separator settings algorithm splitter text lines utf8 are in
     omega (
       arith,
       ap length all.are.given,
       length-map (flat all.are.groups) line_from,
-      count-all settings splitter algorithm text lines utf8 all,
+      count-all settings separator splitter algorithm text lines utf8 all,
     )
 
 pub lines-fit : (options : TextwrapOptions) (len bound : ℕ) → bound ≡ capped (len + 1)
@@ -41,7 +44,8 @@ lines-fit options len bound is text utf8 len_is lines places placed =
     (omega (
       arith,
       len_is,
-      counted-lines (settings_of options) (splitter_of options) (algorithm_of options) text lines
+      counted-lines (settings_of options) (separator_of options) (splitter_of options)
+      (algorithm_of options) text lines
           utf8 placed.are,
     )) is
 
@@ -105,18 +109,19 @@ built-length settings is_later p (q ∷ parts) are none =
       length-append (built_bytes (line_from p)) (built_text (map line_from (q ∷ parts))),
     )
 
-built-bound : (settings : Settings) (splitter : Splitter) (algorithm : Algorithm)
+built-bound : (settings : Settings) (separator : PlainSeparator) (splitter : Splitter)
+    (algorithm : Algorithm)
     (text : List ℕ) (lines : List Line) → IsUtf8 text
-    → AreTextLines settings (DividesAs splitter algorithm settings) text lines
+    → AreTextLines settings (DividesAt (words_by separator) splitter algorithm settings) text lines
     → length (built_text lines) ≤ wrap_room_bound settings (length text)
-built-bound settings splitter algorithm text lines utf8 are =
-    let all = IsWrapped-from settings algorithm splitter text lines utf8 are in
+built-bound settings separator splitter algorithm text lines utf8 are =
+    let all = IsWrapped-at separator settings algorithm splitter text lines utf8 are in
     subst (λ ls. length (built_text ls) ≤ wrap_room_bound settings (length text))
     (sym all.are.given)
     (by_flag ((length settings.initial_indent == 0) && (length settings.subsequent_indent == 0)) refl
     (flat all.are.groups) all.adds.indents (all.adds.no_hyphen (λ e. cc))
-    (count-all settings splitter algorithm text lines utf8 all)
-    (slices-all settings splitter algorithm text lines utf8 all))
+    (count-all settings separator splitter algorithm text lines utf8 all)
+    (slices-all settings separator splitter algorithm text lines utf8 all))
   where
     by_flag : (b : Bool)
         → (length settings.initial_indent == 0) && (length settings.subsequent_indent == 0) ≡ b
@@ -146,5 +151,6 @@ pub room-fits : (options : TextwrapOptions) (len bound : ℕ)
 room-fits options len bound is text utf8 len_is lines places placed =
     within-limit (length (built_text lines)) (wrap_room_bound (settings_of options) len) bound
     (subst (λ n. length (built_text lines) ≤ wrap_room_bound (settings_of options) n) len_is
-    (built-bound (settings_of options) (splitter_of options) (algorithm_of options) text lines utf8
+    (built-bound (settings_of options) (separator_of options) (splitter_of options)
+    (algorithm_of options) text lines utf8
     placed.are)) is

@@ -10,12 +10,12 @@ use Rattle.std.proofs.lemmas.Nat.{mul-le}
 use Rattle.std.proofs.lemmas.List.FromFn.{length-range_with_len}
 use Rattle.textwrap.specs.Columns.{IsInColumns, layout_of, at_column_width, row_count}
 use Rattle.textwrap.specs.Columns.{column_width, inner_width, row_text, cells}
-use Rattle.textwrap_lines.proofs.Common.{Line, DividesAs}
+use Rattle.textwrap_lines.proofs.Common.{Line, DividesAt}
 use Rattle.textwrap_lines.proofs.Common.{line_bytes, built_text}
 use Rattle.textwrap_lines.specs.Paragraph.{Built}
 use Rattle.textwrap_calls.specs.Bounds.{capped, columns_room_bound, rows_bound, Suffices}
 use Rattle.textwrap_calls.specs.Columns.{AreRows}
-use Rattle.textwrap_calls.specs.Options.{settings_of, splitter_of, algorithm_of}
+use Rattle.textwrap_calls.specs.Options.{algorithm_of, Divides, separator_of, settings_of, splitter_of}
 use Rattle.textwrap_calls.specs.declared.columns.TextwrapGaps.{TextwrapGaps}
 use Rattle.textwrap_calls.specs.declared.options.TextwrapOptions.{TextwrapOptions}
 use Rattle.textwrap_calls.proofs.Lengths.Columns.{texts_length, row_room, rows-length}
@@ -67,7 +67,7 @@ built-rows (row ∷ rows) =
 module _ (o : TextwrapOptions) (gaps : TextwrapGaps) (columns : ℕ) (some : 1 ≤ columns)
     (len : ℕ) (text : List ℕ) (utf8 : IsUtf8 text) (len_is : length text ≡ len)
     (lines : List Line) (are : AreRows (IsInColumns (settings_of o)
-    (DividesAs (splitter_of o) (algorithm_of o)) columns text gaps.left.now gaps.middle.now
+    (Divides o) columns text gaps.left.now gaps.middle.now
     gaps.right.now) lines) where
   rows-within : length lines ≤ rows_bound len columns
   rows-within =
@@ -75,7 +75,7 @@ module _ (o : TextwrapOptions) (gaps : TextwrapGaps) (columns : ℕ) (some : 1 �
       let layout = layout_of o.width columns gaps.left.now gaps.middle.now gaps.right.now in
       let narrow = at_column_width (settings_of o) columns gaps.left.now gaps.middle.now
       gaps.right.now in
-      let bounded = lines-bounded narrow (splitter_of o) (algorithm_of o) text shown utf8 shown_are in
+      let bounded = lines-bounded narrow (separator_of o) (splitter_of o) (algorithm_of o) text shown utf8 shown_are in
       let texts = map line_bytes shown in
       let count = row_count texts columns in
       omega (
@@ -98,7 +98,7 @@ module _ (o : TextwrapOptions) (gaps : TextwrapGaps) (columns : ℕ) (some : 1 �
       let narrow = at_column_width (settings_of o) columns gaps.left.now gaps.middle.now
       gaps.right.now in
       let bounded = subst (λ n. AreBounded narrow n shown) len_is
-      (lines-bounded narrow (splitter_of o) (algorithm_of o) text shown utf8 shown_are) in
+      (lines-bounded narrow (separator_of o) (splitter_of o) (algorithm_of o) text shown utf8 shown_are) in
       let texts = map line_bytes shown in
       let room = length gaps.left.now + length gaps.right.now
       + (columns - 1) * length gaps.middle.now + max o.width columns in

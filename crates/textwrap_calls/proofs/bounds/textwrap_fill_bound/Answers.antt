@@ -4,4 +4,4 @@ use Rattle.textwrap_calls.proofs.Lengths.Filled.{filled-fits}
 
 pub returns-clause-enough : goal.returns-clause-enough
 returns-clause-enough c =
-    filled-fits _ _ _ c.args.text_len c.saturating_add.result (search (rules, arith))
+    filled-fits _ _ _ _ c.args.text_len c.saturating_add.result (search (rules, arith))

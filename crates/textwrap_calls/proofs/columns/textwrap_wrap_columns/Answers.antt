@@ -1,19 +1,20 @@
 use Rattle.textwrap_calls.proofs.columns.textwrap_wrap_columns.Goals as goal
 use Rattle.textwrap_base.proofs.Common.{map, refl, string_bytes}
 use Rattle.textwrap.proofs.Common.{Built}
-use Rattle.textwrap_calls.specs.Options.{settings_of, splitter_of, algorithm_of}
+use Rattle.textwrap.specs.Columns.{IsInColumns}
 use Rattle.textwrap_calls.proofs.LineLemmas.{WritesLines-reported}
+use Rattle.textwrap_calls.proofs.ReadOptions.{as-read}
 use Rattle.textwrap_calls.proofs.RowLemmas.{rows-shown}
 
 pub returns-clause-columns : goal.returns-clause-columns
 returns-clause-columns c =
-    let given = c.args.options.now in
     let texts = c.in-Ok-Ok-Ok-Ok in
     let rows = map string_bytes c.in-Ok-wrap_columns.found.items in
     let lines = map Built rows in
     let shows = rows-shown c.args.text.now rows _ _ c.in-Ok-place_rows.ensures in
-    let are = c.in-Ok-wrap_columns.ensures.built_in (settings_of given) (splitter_of given)
-    (algorithm_of given) c.in-Ok.ensures.parts in
+    let are = as-read c.args.options.now c.in-Ok.options c.in-Ok.ensures.read
+    (λ s Divides. IsInColumns s Divides c.args.columns texts.text.now texts.left.now
+    texts.middle.now texts.right.now rows) c.in-Ok-wrap_columns.ensures.rows in
     let here = rw (
       texts.ensures.0,
       texts.ensures'.0,

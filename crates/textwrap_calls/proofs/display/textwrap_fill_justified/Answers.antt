@@ -1,8 +1,14 @@
 use Rattle.textwrap_calls.proofs.display.textwrap_fill_justified.Goals as goal
+use Rattle.textwrap_base.proofs.Common.{string_bytes}
+use Rattle.textwrap_display.specs.JustifiedText.{IsJustifiedText}
+use Rattle.textwrap_calls.proofs.ReadOptions.{as-read}
 use Rattle.textwrap_calls.proofs.RoomLemmas.{WritesText-answer}
 
 pub returns-in-Ok-fill_justified-clause-filled : goal.returns-in-Ok-fill_justified-clause-filled
 returns-in-Ok-fill_justified-clause-filled c =
-    let filled = c.in-Ok-fill_justified.ensures.built_in _ _ _ c.in-Ok.ensures.parts in
+    let text = c.in-Ok-from_utf8.text.now in
+    let filled = as-read c.args.options.now c.in-Ok.options c.in-Ok.ensures.read
+    (λ s Divides. IsJustifiedText s (Divides s) text (string_bytes c.in-Ok-fill_justified.filled))
+    c.in-Ok-fill_justified.ensures.filled in
     WritesText-answer _ _ _ _ _ _ _ (rw c.in-Ok-from_utf8.ensures.0 at filled)
     (rw c.as_bytes.ensures.value at c.put.ensures.text)

@@ -1,5 +1,5 @@
 use Rattle.textwrap_calls.proofs.line_lists.textwrap_carry_styles.Goals as goal
-use Rattle.textwrap_base.proofs.Common.{ℕ, List, [], map, refl, ap, subst}
+use Rattle.textwrap_base.proofs.Common.{ℕ, List, [], map, refl, ap, subst, ◌∙◌}
 use Rattle.textwrap.proofs.Common.{Built}
 use Rattle.textwrap.specs.Paragraph.{line_bytes}
 use Rattle.textwrap_display.specs.Styles.{carried_lines}
@@ -18,6 +18,6 @@ returns-in-Ok-place_carried-clause-carried c =
     let placed = c.in-Ok-place_carried.placed in
     let shows = rows-shown [] rows _ _ (subst
     (λ ls. ArePlacedRows ls placed.places.items placed.built.items)
-    (ap carried c.in-Ok.ensures.parts.settings_are) c.in-Ok-place_carried.ensures) in
+    (ap carried (c.at_blanks-options.ensures.settings_are ∙ c.in-Ok.ensures.read.settings)) c.in-Ok-place_carried.ensures) in
     WritesLines-reported _ _ (map Built rows) _ _ _ _ _ _ _ _ _ _ _ (rows, refl, refl)
     shows.built_is shows.shown c.put_lines.ensures.statuses c.put_lines.ensures.lines

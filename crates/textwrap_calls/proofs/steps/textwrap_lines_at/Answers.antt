@@ -1,5 +1,5 @@
 use Rattle.textwrap_calls.proofs.steps.textwrap_lines_at.Goals as goal
-use Rattle.textwrap_base.proofs.Common.{subst}
+use Rattle.textwrap_base.proofs.Common.{subst, ◌∙◌}
 use Rattle.textwrap_lines.proofs.Common.{settings_view}
 use Rattle.textwrap_calls.specs.Options.{settings_of}
 use Rattle.textwrap_calls.proofs.StepLemmas.{AreStepLines, steps-written}
@@ -14,7 +14,7 @@ returns-in-Ok-find_lines-clause-lines c =
     let places = c.in-Ok-find_lines.placed.places.items in
     let built = c.in-Ok-find_lines.placed.built.items in
     let found = c.in-Ok-find_lines.ensures in
-    let here = subst (λ text. AreStepLines (settings_view c.in-Ok.options) cuts points ends later
+    let here = subst (λ text. AreStepLines (settings_view c.at_blanks-options.result) cuts points ends later
     text places built) c.in-Ok-from_utf8.ensures.0 (record {
       placed = found.placed;
       tile = found.tiles;
@@ -22,7 +22,7 @@ returns-in-Ok-find_lines-clause-lines c =
     }) in
     steps-written settings cuts points ends later c.args.paragraph.now places built
     (subst (λ s. AreStepLines s cuts points ends later c.args.paragraph.now places built)
-    c.in-Ok.ensures.parts.settings_are here) c.put_lines.result c.args.lines.now
+    (c.at_blanks-options.ensures.settings_are ∙ c.in-Ok.ensures.read.settings) here) c.put_lines.result c.args.lines.now
     c.put_lines.new.lines c.args.count.now c.put_lines.new.count c.args.room.now
     c.put_lines.new.room c.args.len.now c.put_lines.new.len c.put_lines.ensures.statuses
     c.put_lines.ensures.lines

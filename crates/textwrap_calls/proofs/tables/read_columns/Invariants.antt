@@ -1,9 +1,9 @@
 use Rattle.textwrap_calls.proofs.tables.read_columns.Given as goal
-use Rattle.textwrap_base.proofs.Common.{map, take}
-use Rattle.textwrap_display.specs.Tables.{HaveParts}
+use Rattle.textwrap_base.proofs.Common.{◌≡◌, map, take}
 use Rattle.textwrap_calls.specs.Tables.{parts_of_column}
+use Rattle.textwrap_plain.specs.Tables.{plain_parts}
 
 -- the columns so far have their parts
 abbrev pub invariant-loop-column : goal.invariant-loop-column
-invariant-loop-column g l =
-    HaveParts l.columns.items (map parts_of_column (take l.column-index l.given))
+invariant-loop-column l =
+    map plain_parts l.columns.items ≡ map parts_of_column (take l.column-index l.given)

@@ -2,17 +2,17 @@
 use super::super::plain::{assert_count, assert_gives, assert_holds};
 use std::alloc::{AllocError, Global};
 use std::process::Abort;
-use textwrap::word_separators::LineCuts;
-use textwrap::{Options, WordSeparator, WrapAlgorithm, WrapError, fill};
+use textwrap::WrapError;
+use textwrap_plain::{PlainAlgorithm, PlainOptions, fill};
 use textwrap_unicode::unicode_cuts;
 
 /// A text filled at a width by first fit, with words cut at its breaks.
 fn filled(alloc: Global, text: &str, width: usize) -> Result<String, WrapError> {
-    let line_cuts = LineCuts::new(alloc, unicode_cuts);
-    let options = Options::new(width)
-        .word_separator(WordSeparator::Custom(line_cuts))
-        .wrap_algorithm(WrapAlgorithm::FirstFit);
-    fill(alloc, text, options)
+    let options = PlainOptions {
+        wrap_algorithm: PlainAlgorithm::FirstFit,
+        ..PlainOptions::new(width)
+    };
+    fill(alloc, text, &options)
 }
 
 /// A text, a width, and the text filled.

@@ -79,6 +79,16 @@ const TEXTS: &[TextRow] = &[
         LINES,
         LEN,
     ),
+    (
+        TextCall::Fill(TextwrapOptions {
+            unicode_breaks: 1,
+            ..AT_80
+        }),
+        LINE,
+        LINES,
+        LEN,
+    ),
+    (TextCall::Strip, LINE, LINES, LEN),
     (TextCall::Unfill, LINE, LINES, LEN),
     (TextCall::Indent(b"> "), LINE, LINES, LEN + 2 * LINES),
     (TextCall::Dedent, LINE, LINES, LEN),
@@ -244,6 +254,15 @@ const PIECES: &[(PiecesCall<'_>, (u32, usize), PiecePlace)] = &[
     (
         PiecesCall::Pieces(AT_80),
         (DONE, 2 * LINES + 1),
+        (LEN - 4, 4, 0, 0, 3),
+    ),
+    // No line feed is part of a word.
+    (
+        PiecesCall::Pieces(TextwrapOptions {
+            unicode_breaks: 1,
+            ..AT_80
+        }),
+        (DONE, 3 * LINES),
         (LEN - 4, 4, 0, 0, 3),
     ),
     // Its lines have 11 columns each.

@@ -22,6 +22,7 @@ use textwrap_calls::refilling::{TextwrapLayout, textwrap_refill, textwrap_unfill
 use textwrap_calls::steps::{textwrap_lines_at, textwrap_pieces_at};
 use textwrap_calls::tables::{TextwrapColumn, textwrap_table};
 use textwrap_calls::texts::TextwrapText;
+use textwrap_calls::widths::textwrap_strip_ansi_escape_sequences;
 use textwrap_calls::wrapping::{TextwrapLine, textwrap_wrap};
 
 /// The library's defaults at 10 columns.
@@ -33,7 +34,7 @@ pub(super) const DEFAULTS: TextwrapOptions<'_> = TextwrapOptions {
     preserve_trailing_space: 0,
     even_paragraphs: 0,
     crlf: 0,
-    reserved: 0,
+    unicode_breaks: 0,
     width: 10,
     initial_indent: b"",
     subsequent_indent: b"",
@@ -146,6 +147,7 @@ pub(super) enum TextCall<'a> {
     Justify(usize),
     FillJustified(TextwrapOptions<'a>),
     Shorten { width: usize, placeholder: &'a [u8] },
+    Strip,
 }
 
 /// Makes the call. Answers the status.
@@ -172,6 +174,7 @@ pub(super) fn write_text(
         TextCall::Shorten { width, placeholder } => {
             textwrap_shorten(alloc, text, width, placeholder, room, len)
         }
+        TextCall::Strip => textwrap_strip_ansi_escape_sequences(alloc, text, room, len),
     }
 }
 

@@ -83,7 +83,7 @@ const UNKNOWN: &[TextRow] = &[
     ),
     (
         TextCall::Fill(TextwrapOptions {
-            reserved: 1,
+            unicode_breaks: 3,
             ..DEFAULTS
         }),
         b"foo",
@@ -117,6 +117,33 @@ const FILLED: &[(TextwrapOptions<'_>, &[u8], &[u8])] = &[
         },
         HAMLET,
         b"To be, or\nnot to be:\nthat is\nthe\nquestion",
+    ),
+    (
+        TextwrapOptions {
+            unicode_breaks: 1,
+            width: 8,
+            ..DEFAULTS
+        },
+        b"see foo/bar.txt",
+        b"see foo/\nbar.txt",
+    ),
+    (
+        TextwrapOptions {
+            unicode_breaks: 1,
+            width: 9,
+            ..DEFAULTS
+        },
+        b"equals .35",
+        b"equals .3\n5",
+    ),
+    (
+        TextwrapOptions {
+            unicode_breaks: 2,
+            width: 9,
+            ..DEFAULTS
+        },
+        b"equals .35",
+        b"equals\n.35",
     ),
     (
         TextwrapOptions {

@@ -1,0 +1,31 @@
+-- What is made by options as the library has them is made by the numbers that they were read from.
+use Rattle.textwrap_base.proofs.Common.{◌≡◌, ℕ, Bool, List, subst}
+use Rattle.textwrap_words.proofs.Common.{WordText}
+use Rattle.textwrap_lines.proofs.Common.{DividesAt, Settings}
+use Rattle.textwrap_calls.specs.Options.{algorithm_of, AreRead, Divides, settings_of, splitter_of}
+use Rattle.textwrap_calls.specs.Display.{alignment_of}
+use Rattle.textwrap_calls.specs.Tables.{parts_of_column}
+use Rattle.textwrap_calls.specs.declared.options.TextwrapOptions.{TextwrapOptions}
+use Rattle.textwrap_calls.specs.declared.tables.TextwrapColumn.{TextwrapColumn}
+use Rattle.textwrap_plain.specs.Options as plain
+use Rattle.textwrap_plain.specs.Options.{DividesPlainly, words_by}
+use Rattle.textwrap_plain.specs.declared.options.PlainOptions.{PlainOptions}
+use Rattle.textwrap_plain.specs.declared.display.PlainColumn.{PlainColumn}
+use Rattle.textwrap_plain.specs.Tables.{plain_parts}
+
+module _ (o : TextwrapOptions) (read : PlainOptions) (are : AreRead o read) where
+  pub as-read : (P : Settings → (Settings → Bool → List ℕ → List (List WordText) → Type 0) → Type 0)
+      → P (plain.settings_of read) (DividesPlainly read) → P (settings_of o) (Divides o)
+  as-read P given =
+      subst (λ s. P s (Divides o)) are.settings
+      (subst (λ w. P (plain.settings_of read)
+      (DividesAt (words_by w) (splitter_of o) (algorithm_of o))) are.separator
+      (subst (λ s. P (plain.settings_of read)
+      (DividesAt (words_by read.word_separator) s (algorithm_of o))) are.splitter
+      (subst (λ a. P (plain.settings_of read)
+      (DividesAt (words_by read.word_separator) (plain.splitter_of read) a)) are.algorithm given)))
+
+pub parts-read : (column : TextwrapColumn) (made : PlainColumn) → AreRead column.options made.options
+    → made.alignment ≡ alignment_of column.alignment → plain_parts made ≡ parts_of_column column
+parts-read column made are alignment =
+    cc (are.settings, are.separator, are.splitter, are.algorithm, alignment)

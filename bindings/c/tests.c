@@ -729,7 +729,7 @@ static void texts_have_line_breaks(void) {
     size_t count = 7;
     CHECK(breaks_at("foo bar\nbaz", 1, "4 8! 11! "));
     CHECK(breaks_at("", 1, ""));
-    CHECK(breaks_at("equals .35", 1, "10! ") && breaks_at("equals .35", 2, "7 10! "));
+    CHECK(breaks_at("equals .35", 1, "10! ") && breaks_at("equals .35", 2, "8 10! "));
     CHECK(textwrap_line_breaks(bytes("a b"), 3, 1, breaks, 1, &count) == TEXTWRAP_TOO_SMALL && count == 2);
     count = 7;
     CHECK(textwrap_line_breaks(bytes("a"), 1, 0, breaks, 1, &count) == TEXTWRAP_UNKNOWN_OPTIONS);
@@ -765,9 +765,9 @@ static void options_may_ask_for_unicode_breaks(void) {
     CHECK(textwrap_pieces(bytes(japanese), strlen(japanese), &o, pieces, 8, &count) == TEXTWRAP_DONE);
     CHECK(count == 7 && pieces[3].offset == 9 && pieces[3].len == 6);
     o.unicode_breaks = 2;
-    o.width = 5;
+    o.width = 9;
     CHECK(textwrap_fill(bytes("equals .35"), 10, &o, room, sizeof room, &len) == TEXTWRAP_DONE);
-    CHECK(len == 12);
+    CHECK(len == 11 && memcmp(room, "equals .\n35", 11) == 0);
 }
 
 static void lines_end_at_unicode_breaks(void) {

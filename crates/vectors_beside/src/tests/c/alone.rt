@@ -42,7 +42,7 @@ const NO_BREAK: TextwrapLineBreak = TextwrapLineBreak {
 fn lines_may_and_must_end(rt: HostRuntime) {
     assert!(rt; has_breaks(rt.alloc(), b"foo bar\nbaz", 1, &[(4, 0), (8, 1), (11, 1)]));
     assert!(rt; has_breaks(rt.alloc(), b"equals .35", 1, &[(10, 1)]));
-    assert!(rt; has_breaks(rt.alloc(), b"equals .35", 2, &[(7, 0), (10, 1)]));
+    assert!(rt; has_breaks(rt.alloc(), b"equals .35", 2, &[(8, 0), (10, 1)]));
     assert!(rt; has_breaks(rt.alloc(), b"", 2, &[]));
 }
 

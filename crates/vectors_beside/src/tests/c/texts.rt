@@ -143,7 +143,7 @@ const FILLED: &[(TextwrapOptions<'_>, &[u8], &[u8])] = &[
             ..DEFAULTS
         },
         b"equals .35",
-        b"equals\n.35",
+        b"equals .\n35",
     ),
     (
         TextwrapOptions {

@@ -231,8 +231,9 @@ static void an_algorithm_is_handed_what_the_indents_leave(void) {
     CHECK(asked.widths[0] == 0 && asked.widths[1] == 0);
 }
 
-/* Whether these places are refused as cuts of "abcd", as points in it, and as ends of its lines. */
-static int are_wrong(size_t places, size_t place, const char *which) {
+/* Whether so many places from this one on get this status, as cuts of "abcd", as points in it, or as
+ * ends of its lines. */
+static int have_status(textwrap_status status, size_t places, size_t place, const char *which) {
     struct asked asked = answering(places, place);
     textwrap_functions functions = textwrap_functions_new(&asked);
     if (strcmp(which, "cuts") == 0) functions.cut = cut;
@@ -240,15 +241,25 @@ static int are_wrong(size_t places, size_t place, const char *which) {
     if (strcmp(which, "ends") == 0) functions.divide = divide;
     textwrap_options o = first_fit(3);
     o.break_words = 0;
-    return strcmp(wrapped(o, functions, "abcd"), textwrap_status_text(TEXTWRAP_WRONG_PLACES)) == 0;
+    return strcmp(wrapped(o, functions, "abcd"), textwrap_status_text(status)) == 0;
+}
+
+static int are_wrong(size_t places, size_t place, const char *which) {
+    return have_status(TEXTWRAP_WRONG_PLACES, places, place, which);
+}
+
+static void a_function_may_run_out_of_memory(void) {
+    CHECK(have_status(TEXTWRAP_OUT_OF_MEMORY, TEXTWRAP_NO_MEMORY, 1, "cuts"));
+    CHECK(have_status(TEXTWRAP_OUT_OF_MEMORY, TEXTWRAP_NO_MEMORY, 1, "points"));
+    CHECK(have_status(TEXTWRAP_OUT_OF_MEMORY, TEXTWRAP_NO_MEMORY, 0, "ends"));
 }
 
 static void wrong_places_are_refused(void) {
     CHECK(!are_wrong(1, 2, "cuts") && !are_wrong(1, 2, "points") && !are_wrong(1, 1, "ends"));
     /* More than there may be, of which those that are written would do. */
     CHECK(are_wrong(5, 1, "cuts") && are_wrong(5, 1, "points") && are_wrong(3, 0, "ends"));
-    CHECK(are_wrong(SIZE_MAX, 1, "cuts") && are_wrong(SIZE_MAX, 1, "points"));
-    CHECK(are_wrong(SIZE_MAX, 0, "ends"));
+    CHECK(are_wrong(SIZE_MAX - 1, 1, "cuts") && are_wrong(SIZE_MAX - 1, 1, "points"));
+    CHECK(are_wrong(SIZE_MAX - 1, 0, "ends"));
     /* At an end, or past it. */
     CHECK(are_wrong(1, 0, "cuts") && are_wrong(1, 0, "points"));
     CHECK(are_wrong(1, 4, "cuts") && are_wrong(1, 4, "points") && are_wrong(1, 2, "ends"));
@@ -275,6 +286,7 @@ int main(void) {
     a_last_line_may_be_empty();
     an_algorithm_is_handed_what_the_indents_leave();
     wrong_places_are_refused();
+    a_function_may_run_out_of_memory();
     a_carriage_return_ends_no_paragraph();
     if (failures == 0) printf("C, functions of the caller: ok\n");
     return failures != 0;

@@ -1,5 +1,8 @@
 //! The function for `LineCuts` that cuts a line into words where it may end.
-ghost use Rattle.std.specs.Prelude.{◌≡◌, IfOk};
+ghost use Rattle.std.specs.Prelude.{◌≡◌, IfOk, chars, drop, IsCharBoundary};
+ghost use Rattle.textwrap_unicode.specs.BreaksLeft.{and};
+ghost use Rattle.textwrap_unicode.specs.Rules.{decide_by, numbers_rule};
+ghost use Rattle.textwrap_words.specs.Escapes.{visible_in};
 ghost use Rattle.textwrap_unicode.specs.Cuts.{cuts_by, may_end, unicode_cuts};
 ghost use Rattle.textwrap_unicode.specs.declared.numbers.Numbers.TheVariants.{ByExpression};
 ghost use Rattle.textwrap_words.specs.Cuts.{AreInnerCuts};
@@ -57,18 +60,41 @@ fn find_cuts(alloc: Global, line: &str, numbers: Numbers) -> Result<Vec<usize>, 
         if is_visible {
             let unit = Unit::of(ch);
             let next_end = at + ch.len_utf8();
-            let verdict = decide_among_visible(line, next_end, next, &before, unit, numbers);
+            let (verdict, after) = step_past(line, next_end, next, before, unit, numbers);
             let is_cut = !is_hyphen & may_end(verdict);
             if is_cut {
                 cuts.push(end)?;
             }
-            before = before.and(unit);
+            before = after;
             end = next_end;
             is_hyphen = is_any_hyphen(ch);
         }
         state = next;
     }
     Ok(cuts)
+}
+
+/// What the rules say of the place before a visible unit of the line, which is read up to its end, and
+/// what they ask of the text with it.
+fn step_past(
+    line: &str,
+    end: usize,
+    state: State,
+    before: Before,
+    unit: Unit,
+    numbers: Numbers,
+) -> (Verdict, Before)
+    requires { IsCharBoundary line.now end }
+    ensures verdict { result.0
+        ≡ decide_by (numbers_rule numbers (visible_in state (chars (drop end line.now)))) before unit }
+    ensures before { result.1 ≡ and before unit }
+{
+    // No line ends between two letters of a word, and the second changes nothing.
+    if before.is_in_word() && unit.is_plain_letter() {
+        return (Verdict::Prohibited, before);
+    }
+    let verdict = decide_among_visible(line, end, state, &before, unit, numbers);
+    (verdict, before.and(unit))
 }
 
 /// Whether a line may or must end there.

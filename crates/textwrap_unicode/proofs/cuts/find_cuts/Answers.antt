@@ -20,8 +20,8 @@ loop-at-init c = IsCutting-start _ _ _ _ _ _ c.utf8.line
     ∙ c.char_indices-at-items.ensures.rest)
     c.new-before.ensures c.new-cuts.ensures.items
 
-pub decide_among_visible-verdict-requires : goal.decide_among_visible-verdict-requires
-decide_among_visible-verdict-requires c =
+pub step_past-verdict-requires : goal.step_past-verdict-requires
+step_past-verdict-requires c =
     let s = c.in-Some.ensures.steps in
     rw (s.0, c.len_utf8.ensures.len)
     (read-boundary _ _ _ c.loop-at.invariant.read c.in-Some.ch _ s.1)
@@ -34,11 +34,11 @@ loop-at-preserved-after-is_cut c =
       c.len_utf8.ensures.len,
       c.of-unit.ensures,
       read-after _ _ _ c.loop-at.invariant.read c.in-Some.ch _ s.1,
-    ) at c.decide_among_visible-verdict.ensures) in
+    ) at c.step_past-verdict.ensures.verdict) in
     IsCutting-step _ _ _ _ _ _ _ _ _ c.in-Some.ch _ c.step-next.result.0 c.step-next.result.1
     c.loop-at.invariant s.1 c.step-next.ensures _ _ _ _ _ s.2
     (rw c.if-is_visible.true
-    (c.and-before.ensures ∙ ap (and c.loop-at.before) c.of-unit.ensures))
+    (c.step_past-verdict.ensures.before ∙ ap (and c.loop-at.before) c.of-unit.ensures))
     (rw (c.if-is_visible.true, s.0, c.len_utf8.ensures.len) refl)
     (rw c.if-is_visible.true c.is_any_hyphen-is_hyphen.ensures)
     (elim c.if-is_cut.branch [

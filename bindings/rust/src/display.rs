@@ -16,7 +16,7 @@
 //!
 //! If memory runs out, a call ends the program, and its twin in [`fallible`] returns
 //! [`OutOfMemory`](crate::OutOfMemory).
-use crate::room::or_abort;
+use crate::out_of_memory::or_abort;
 use crate::sys;
 use crate::Options;
 use alloc::string::String;

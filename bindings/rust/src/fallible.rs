@@ -11,14 +11,14 @@
 //! assert_eq!(shown("foo bar baz"), Ok(String::from("foo bar\nbaz")));
 //! ```
 use crate::display::Gaps;
-use crate::room::{room_for, written, LineText, Reported};
+use crate::room::{reserve, reserve_bytes, room_for, written, LineText, Reported};
 use crate::{columns, custom, guess, sys};
 use crate::{LineEnding, Options};
 use alloc::borrow::Cow;
 use alloc::string::String;
 use alloc::vec::Vec;
 
-pub use crate::room::OutOfMemory;
+pub use crate::out_of_memory::OutOfMemory;
 
 /// [`crate::fill`].
 ///
@@ -105,7 +105,7 @@ pub fn fill_inplace(text: &mut String, width: usize) -> Result<(), OutOfMemory> 
     };
     match status {
         sys::DONE => Ok(()),
-        sys::OUT_OF_MEMORY => Err(OutOfMemory),
+        sys::OUT_OF_MEMORY => Err(OutOfMemory::in_the_library()),
         _ => unreachable!("a String is UTF-8"),
     }
 }
@@ -210,7 +210,7 @@ where
 
 /// Adds to a text.
 pub(crate) fn push(text: &mut String, more: &str) -> Result<(), OutOfMemory> {
-    text.try_reserve(more.len()).map_err(|_| OutOfMemory)?;
+    reserve_bytes(text, more.len())?;
     text.push_str(more);
     Ok(())
 }
@@ -220,7 +220,7 @@ pub(crate) fn push_line<'t>(
     lines: &mut Vec<Cow<'t, str>>,
     line: LineText<'t, '_>,
 ) -> Result<(), OutOfMemory> {
-    lines.try_reserve(1).map_err(|_| OutOfMemory)?;
+    reserve(lines, 1)?;
     lines.push(line.into_cow()?);
     Ok(())
 }

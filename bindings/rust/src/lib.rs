@@ -93,7 +93,7 @@
 
 extern crate alloc;
 
-use crate::room::or_abort;
+use crate::out_of_memory::or_abort;
 use alloc::borrow::Cow;
 use alloc::string::String;
 use alloc::vec::Vec;
@@ -109,6 +109,7 @@ mod guess;
 mod heap;
 mod line_ending;
 mod options;
+mod out_of_memory;
 mod room;
 mod sys;
 mod tables;
@@ -118,7 +119,7 @@ pub mod wrap_algorithms;
 
 pub use crate::line_ending::LineEnding;
 pub use crate::options::Options;
-pub use crate::room::OutOfMemory;
+pub use crate::out_of_memory::OutOfMemory;
 pub use crate::word_separators::WordSeparator;
 pub use crate::word_splitters::WordSplitter;
 pub use crate::wrap_algorithms::WrapAlgorithm;

@@ -3,42 +3,23 @@
 //! The room is not initialised before a call: by the header the library does not read it, and
 //! writes as much to its front as it reports.
 use crate::sys;
-use alloc::alloc::handle_alloc_error;
 use alloc::borrow::Cow;
 use alloc::string::String;
 use alloc::vec::Vec;
-use core::alloc::Layout;
-use core::error::Error;
-use core::fmt;
 
-/// Memory ran out. Nothing was changed.
-#[derive(Clone, Copy, Debug, PartialEq, Eq)]
-pub struct OutOfMemory;
-
-impl fmt::Display for OutOfMemory {
-    fn fmt(&self, f: &mut fmt::Formatter<'_>) -> fmt::Result {
-        f.write_str("out of memory")
-    }
-}
-
-impl Error for OutOfMemory {}
-
-/// The answer, or the end of the program as the standard library ends it if memory runs out.
-pub(crate) fn or_abort<T>(result: Result<T, OutOfMemory>) -> T {
-    result.unwrap_or_else(|_| handle_alloc_error(Layout::new::<u8>()))
-}
+pub(crate) use crate::out_of_memory::OutOfMemory;
 
 /// Why a call gave nothing.
 #[derive(Debug)]
 pub(crate) enum Refusal {
-    OutOfMemory,
+    OutOfMemory(OutOfMemory),
     Overflow,
     WrongPlaces,
 }
 
 impl From<OutOfMemory> for Refusal {
-    fn from(_: OutOfMemory) -> Self {
-        Refusal::OutOfMemory
+    fn from(refused: OutOfMemory) -> Self {
+        Refusal::OutOfMemory(refused)
     }
 }
 
@@ -46,7 +27,7 @@ impl From<OutOfMemory> for Refusal {
 impl From<Refusal> for OutOfMemory {
     fn from(refusal: Refusal) -> Self {
         match refusal {
-            Refusal::OutOfMemory => OutOfMemory,
+            Refusal::OutOfMemory(refused) => refused,
             other => unreachable!("the library refused with {other:?}"),
         }
     }
@@ -57,7 +38,7 @@ fn suffices(status: u32) -> Result<bool, Refusal> {
     match status {
         sys::DONE => Ok(true),
         sys::TOO_SMALL => Ok(false),
-        sys::OUT_OF_MEMORY => Err(Refusal::OutOfMemory),
+        sys::OUT_OF_MEMORY => Err(Refusal::OutOfMemory(OutOfMemory::in_the_library())),
         sys::OVERFLOW => Err(Refusal::Overflow),
         sys::WRONG_PLACES => Err(Refusal::WrongPlaces),
         _ => unreachable!("texts are UTF-8, and the options are known"),
@@ -67,8 +48,22 @@ fn suffices(status: u32) -> Result<bool, Refusal> {
 /// Room for so many items.
 pub(crate) fn room_for<T>(len: usize) -> Result<Vec<T>, OutOfMemory> {
     let mut room = Vec::new();
-    room.try_reserve_exact(len).map_err(|_| OutOfMemory)?;
+    room.try_reserve_exact(len).map_err(|_| OutOfMemory::for_items::<T>(len))?;
     Ok(room)
+}
+
+/// Makes room for so many more items, and for further ones if there is memory for them.
+pub(crate) fn reserve<T>(list: &mut Vec<T>, more: usize) -> Result<(), OutOfMemory> {
+    list.try_reserve(more)
+        .or_else(|_| list.try_reserve_exact(more))
+        .map_err(|_| OutOfMemory::for_items::<T>(list.len().saturating_add(more)))
+}
+
+/// The same for so many bytes of a text.
+pub(crate) fn reserve_bytes(text: &mut String, more: usize) -> Result<(), OutOfMemory> {
+    text.try_reserve(more)
+        .or_else(|_| text.try_reserve_exact(more))
+        .map_err(|_| OutOfMemory::for_items::<u8>(text.len().saturating_add(more)))
 }
 
 /// Room for as many items as is guessed, or for none if there is no memory for a guess.
@@ -142,10 +137,16 @@ impl<'t> LineText<'t, '_> {
     }
 }
 
+/// Room for a text of so many bytes.
+pub(crate) fn text_room(len: usize) -> Result<String, OutOfMemory> {
+    let mut room = String::new();
+    room.try_reserve_exact(len).map_err(|_| OutOfMemory::for_items::<u8>(len))?;
+    Ok(room)
+}
+
 /// A copy of a text.
 pub(crate) fn copied(text: &str) -> Result<String, OutOfMemory> {
-    let mut copy = String::new();
-    copy.try_reserve_exact(text.len()).map_err(|_| OutOfMemory)?;
+    let mut copy = text_room(text.len())?;
     copy.push_str(text);
     Ok(copy)
 }

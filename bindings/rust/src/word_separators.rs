@@ -4,7 +4,8 @@
 //! [`find_words_at`].
 use crate::core::Word;
 use crate::options::Options;
-use crate::room::{listed, or_abort, OutOfMemory, Refusal};
+use crate::out_of_memory::{or_abort, OutOfMemory};
+use crate::room::{listed, Refusal};
 use crate::sys;
 use crate::word_splitters::WordSplitter;
 use alloc::boxed::Box;

@@ -3,7 +3,8 @@
 //! A piece of a word that ends a line ends in a hyphen: one that the word has there, or one that is
 //! added. [`WordSplitter`] says where words may be split, and [`split_words`] splits them.
 use crate::core::{display_width, Word};
-use crate::room::{listed, or_abort, OutOfMemory};
+use crate::out_of_memory::{or_abort, OutOfMemory};
+use crate::room::listed;
 use crate::sys;
 use alloc::vec::Vec;
 use core::iter;

@@ -4,7 +4,8 @@
 //! comes next. [`wrap_optimal_fit`] looks at all lines together, and finds those of the least cost,
 //! which leave the gaps even. First fit is the faster of the two.
 use crate::core::{Fragment, Word};
-use crate::room::{listed, or_abort, OutOfMemory, Refusal};
+use crate::out_of_memory::{or_abort, OutOfMemory};
+use crate::room::{listed, Refusal};
 use crate::sys;
 use alloc::vec::Vec;
 use core::error::Error;

@@ -7,7 +7,8 @@
 //! use textwrap_proved::OutOfMemory;
 //!
 //! assert_eq!(fallible::align("foo", 5, Alignment::Right), Ok(String::from("  foo")));
-//! assert_eq!(fallible::align("foo", usize::MAX, Alignment::Right), Err(OutOfMemory));
+//! let too_wide = fallible::align("foo", usize::MAX, Alignment::Right);
+//! assert_eq!(too_wide, Err(OutOfMemory::default()));
 //! ```
 use super::{Alignment, Column, Gaps};
 use crate::room::{room_for, written, Reported};
@@ -16,7 +17,7 @@ use crate::Options;
 use alloc::string::String;
 use alloc::vec::Vec;
 
-pub use crate::room::OutOfMemory;
+pub use crate::out_of_memory::OutOfMemory;
 
 /// [`crate::display::align`].
 ///

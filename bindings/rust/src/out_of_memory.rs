@@ -1,0 +1,96 @@
+//! What is said where memory runs out, and how a call that has no error ends.
+use alloc::alloc::handle_alloc_error;
+use core::alloc::Layout;
+use core::error::Error;
+use core::fmt;
+
+/// Memory ran out. Nothing was changed.
+///
+/// The error names the size that was asked for, for whoever reads a log. For a program there is one
+/// error: two of them are equal, whatever size they name. So a test compares with
+/// `OutOfMemory::default()`, which names none, and a pattern is `OutOfMemory { .. }`.
+///
+/// # Examples
+///
+/// ```
+/// use textwrap_proved::display::{fallible, Alignment};
+/// use textwrap_proved::OutOfMemory;
+///
+/// let size = isize::MAX as usize;
+/// let refused = fallible::align("foo", size, Alignment::Right);
+/// assert_eq!(refused, Err(OutOfMemory::default()));
+/// assert_eq!(
+///     refused.unwrap_err().to_string(),
+///     format!("out of memory: {size} bytes were asked for")
+/// );
+/// ```
+#[derive(Clone, Copy, Debug, Default)]
+pub struct OutOfMemory {
+    size: Option<usize>,
+}
+
+impl OutOfMemory {
+    /// The error of a request for so many bytes.
+    pub const fn of_size(size: usize) -> Self {
+        OutOfMemory { size: Some(size) }
+    }
+
+    /// The bytes that were asked for at once, if that is known. It is not where a library refused
+    /// that is installed for C, with a heap of its own.
+    ///
+    /// ```
+    /// use textwrap_proved::OutOfMemory;
+    ///
+    /// assert_eq!(OutOfMemory::of_size(4096).size(), Some(4096));
+    /// assert_eq!(OutOfMemory::default().size(), None);
+    /// ```
+    pub const fn size(&self) -> Option<usize> {
+        self.size
+    }
+
+    /// The error of a request for room for so many items.
+    pub(crate) fn for_items<T>(count: usize) -> Self {
+        OutOfMemory::of_size(count.saturating_mul(size_of::<T>()))
+    }
+
+    /// The error of a call of the library, to which its heap refused a block.
+    pub(crate) fn in_the_library() -> Self {
+        #[cfg(library_has_heap)]
+        let size = None;
+        #[cfg(not(library_has_heap))]
+        let size = crate::heap::take_refused();
+        OutOfMemory { size }
+    }
+}
+
+/// All are equal.
+impl PartialEq for OutOfMemory {
+    fn eq(&self, _: &Self) -> bool {
+        true
+    }
+}
+
+impl Eq for OutOfMemory {}
+
+impl fmt::Display for OutOfMemory {
+    fn fmt(&self, f: &mut fmt::Formatter<'_>) -> fmt::Result {
+        match self.size {
+            Some(size) => write!(f, "out of memory: {size} bytes were asked for"),
+            None => f.write_str("out of memory"),
+        }
+    }
+}
+
+impl Error for OutOfMemory {}
+
+/// The answer, or the end of the program as the standard library ends it if memory runs out: it
+/// aborts, and at a size that no allocation can have it panics. Where the size is not known, the
+/// message of the abort names 0 bytes.
+pub(crate) fn or_abort<T>(result: Result<T, OutOfMemory>) -> T {
+    result.unwrap_or_else(|refused| {
+        match Layout::from_size_align(refused.size.unwrap_or(0), 1) {
+            Ok(layout) => handle_alloc_error(layout),
+            Err(_) => panic!("{refused}"),
+        }
+    })
+}

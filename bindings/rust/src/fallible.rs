@@ -24,6 +24,10 @@ pub use crate::out_of_memory::OutOfMemory;
 ///
 /// # Errors
 /// [`OutOfMemory`] if memory runs out.
+///
+/// # Panics
+/// If a function of the caller, in the options, panics or
+/// [gives what it must not](Options#functions-of-the-caller).
 pub fn fill<'a, Opt>(text: &str, width_or_options: Opt) -> Result<String, OutOfMemory>
 where
     Opt: Into<Options<'a>>,
@@ -46,6 +50,10 @@ where
 ///
 /// # Errors
 /// [`OutOfMemory`] if memory runs out.
+///
+/// # Panics
+/// If a function of the caller, in the options, panics or
+/// [gives what it must not](Options#functions-of-the-caller).
 pub fn refill<'a, Opt>(filled_text: &str, new_width_or_options: Opt) -> Result<String, OutOfMemory>
 where
     Opt: Into<Options<'a>>,
@@ -140,6 +148,10 @@ pub fn unfill(text: &str) -> Result<(String, Options<'_>), OutOfMemory> {
 ///
 /// # Errors
 /// [`OutOfMemory`] if memory runs out.
+///
+/// # Panics
+/// If a function of the caller, in the options, panics or
+/// [gives what it must not](Options#functions-of-the-caller).
 pub fn wrap<'a, Opt>(text: &str, width_or_options: Opt) -> Result<Vec<Cow<'_, str>>, OutOfMemory>
 where
     Opt: Into<Options<'a>>,
@@ -173,7 +185,8 @@ where
 /// [`OutOfMemory`] if memory runs out.
 ///
 /// # Panics
-/// Without any columns.
+/// Without any columns, or if a function of the caller, in the options, panics or
+/// [gives what it must not](Options#functions-of-the-caller).
 pub fn wrap_columns<'a, Opt>(
     text: &str,
     columns: usize,

@@ -4,11 +4,14 @@ use core::alloc::Layout;
 use core::error::Error;
 use core::fmt;
 
+/// The most bytes that an allocation can have.
+const MOST: usize = isize::MAX as usize;
+
 /// Memory ran out. Nothing was changed.
 ///
-/// The error names the size that was asked for, for whoever reads a log. For a program there is one
-/// error: two of them are equal, whatever size they name. So a test compares with
-/// `OutOfMemory::default()`, which names none, and a pattern is `OutOfMemory { .. }`.
+/// The error names the size that was asked for, for whoever reads a log. To a program all are one:
+/// two of them are equal, whatever size they name. So a test compares with `OutOfMemory::default()`,
+/// which names none, and a pattern is `OutOfMemory { .. }`.
 ///
 /// # Examples
 ///
@@ -35,8 +38,9 @@ impl OutOfMemory {
         OutOfMemory { size: Some(size) }
     }
 
-    /// The bytes that were asked for at once, if that is known. It is not where a library refused
-    /// that is installed for C, with a heap of its own.
+    /// The bytes that were asked for at once. Any number above `isize::MAX` stands for a size that no
+    /// allocation can have. It is `None` where the size is not known: where a library ran out of
+    /// memory that is installed for C, with a heap of its own.
     ///
     /// ```
     /// use textwrap_proved::OutOfMemory;
@@ -53,12 +57,13 @@ impl OutOfMemory {
         OutOfMemory::of_size(count.saturating_mul(size_of::<T>()))
     }
 
-    /// The error of a call of the library, to which its heap refused a block.
+    /// The error of a call of the library. If its heap refused nothing, it was not asked, since no
+    /// allocation can have the size.
     pub(crate) fn in_the_library() -> Self {
         #[cfg(library_has_heap)]
         let size = None;
         #[cfg(not(library_has_heap))]
-        let size = crate::heap::take_refused();
+        let size = Some(crate::heap::take_refused().unwrap_or(usize::MAX));
         OutOfMemory { size }
     }
 }
@@ -75,6 +80,9 @@ impl Eq for OutOfMemory {}
 impl fmt::Display for OutOfMemory {
     fn fmt(&self, f: &mut fmt::Formatter<'_>) -> fmt::Result {
         match self.size {
+            Some(size) if size > MOST => {
+                write!(f, "out of memory: more than {MOST} bytes were asked for")
+            }
             Some(size) => write!(f, "out of memory: {size} bytes were asked for"),
             None => f.write_str("out of memory"),
         }

@@ -28,7 +28,6 @@ use core::fmt;
 /// assert_eq!(words, [Word::from("apples   "), Word::from("pears")]);
 /// ```
 #[derive(Clone, Copy, Debug)]
-#[non_exhaustive]
 pub enum WordSeparator {
     /// Between a blank (U+0020) and a character that is no blank.
     ///

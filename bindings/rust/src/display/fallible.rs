@@ -52,6 +52,10 @@ pub fn justify(line: &str, width: usize) -> Result<String, OutOfMemory> {
 ///
 /// # Errors
 /// [`OutOfMemory`] if memory runs out.
+///
+/// # Panics
+/// If a function of the caller, in the options, panics or
+/// [gives what it must not](Options#functions-of-the-caller).
 pub fn fill_justified<'a, Opt>(text: &str, width_or_options: Opt) -> Result<String, OutOfMemory>
 where
     Opt: Into<Options<'a>>,
@@ -143,6 +147,10 @@ where
 ///
 /// # Errors
 /// [`OutOfMemory`] if memory runs out.
+///
+/// # Panics
+/// If a function of the caller, in the options of a column, panics or
+/// [gives what it must not](Options#functions-of-the-caller).
 pub fn table<S>(
     cells: &[S],
     columns: &[Column<'_>],

@@ -62,17 +62,19 @@ unsafe extern "C" fn rattle_dealloc(block: *mut c_void) {
 #[cfg(test)]
 mod tests {
     use super::*;
+    use core::hint::black_box;
 
     #[test]
     fn the_size_that_is_refused_is_told_once() {
         let size = isize::MAX as usize;
-        assert!(!rattle_alloc(size, 1).ok);
+        // The compiler may take it that a block which nobody uses is never refused.
+        assert!(!black_box(rattle_alloc(size, 1)).ok);
         assert_eq!(take_refused(), Some(size));
         assert_eq!(take_refused(), None);
-        let block = rattle_alloc(8, 1);
+        let block = black_box(rattle_alloc(8, 1));
         // SAFETY: the block is one of `rattle_alloc`, and stays as it is where more is refused.
         unsafe {
-            assert!(!rattle_realloc(block.at, 8, size - 1, 1).ok);
+            assert!(!black_box(rattle_realloc(block.at, 8, size - 1, 1)).ok);
             rattle_dealloc(block.at);
         }
         assert_eq!(take_refused(), Some(size - 1));

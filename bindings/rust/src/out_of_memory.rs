@@ -19,13 +19,10 @@ const MOST: usize = isize::MAX as usize;
 /// use textwrap_proved::display::{fallible, Alignment};
 /// use textwrap_proved::OutOfMemory;
 ///
-/// let size = isize::MAX as usize;
-/// let refused = fallible::align("foo", size, Alignment::Right);
+/// let refused = fallible::align("foo", usize::MAX, Alignment::Right);
 /// assert_eq!(refused, Err(OutOfMemory::default()));
-/// assert_eq!(
-///     refused.unwrap_err().to_string(),
-///     format!("out of memory: {size} bytes were asked for")
-/// );
+/// let error = OutOfMemory::of_size(4096);
+/// assert_eq!(error.to_string(), "out of memory: 4096 bytes were asked for");
 /// ```
 #[derive(Clone, Copy, Debug, Default)]
 pub struct OutOfMemory {

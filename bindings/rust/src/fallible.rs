@@ -11,6 +11,7 @@
 //! assert_eq!(shown("foo bar baz"), Ok(String::from("foo bar\nbaz")));
 //! ```
 use crate::display::Gaps;
+use crate::out_of_memory::BeforeCall;
 use crate::room::{reserve, reserve_bytes, room_for, written, LineText, Reported};
 use crate::{columns, custom, guess, sys};
 use crate::{LineEnding, Options};
@@ -105,6 +106,7 @@ pub fn dedent(s: &str) -> Result<String, OutOfMemory> {
 // The type is that of the original's call.
 #[allow(clippy::ptr_arg)]
 pub fn fill_inplace(text: &mut String, width: usize) -> Result<(), OutOfMemory> {
+    let before = BeforeCall::now();
     // SAFETY: the bytes of the text, which nothing else borrows. Blanks become line feeds, so they
     // stay UTF-8.
     let status = unsafe {
@@ -113,7 +115,7 @@ pub fn fill_inplace(text: &mut String, width: usize) -> Result<(), OutOfMemory> 
     };
     match status {
         sys::DONE => Ok(()),
-        sys::OUT_OF_MEMORY => Err(OutOfMemory::in_the_library()),
+        sys::OUT_OF_MEMORY => Err(before.out_of_memory()),
         _ => unreachable!("a String is UTF-8"),
     }
 }

@@ -4,14 +4,19 @@ use core::ffi::c_void;
 use core::ptr;
 use core::sync::atomic::{AtomicUsize, Ordering};
 
-/// The size of the last block that was refused and not yet told, or 0. Where several threads run out
-/// of memory at once, one may tell the size that another asked for.
-static REFUSED: AtomicUsize = AtomicUsize::new(0);
+/// How many blocks were refused, and the bytes of the last one.
+static REFUSALS: AtomicUsize = AtomicUsize::new(0);
+static LAST_REFUSED: AtomicUsize = AtomicUsize::new(0);
 
-/// The bytes of the block that was refused to the library, if one was since this was last asked.
-pub(crate) fn take_refused() -> Option<usize> {
-    let size = REFUSED.swap(0, Ordering::Relaxed);
-    (size > 0).then_some(size)
+/// How many blocks were refused so far.
+pub(crate) fn refusals() -> usize {
+    REFUSALS.load(Ordering::Acquire)
+}
+
+/// The bytes of the block that was refused last. Where several threads run out of memory at once, it
+/// may be that of another.
+pub(crate) fn last_refused() -> usize {
+    LAST_REFUSED.load(Ordering::Relaxed)
 }
 
 extern "C" {
@@ -30,7 +35,8 @@ pub struct Block {
 /// The answer to a request of so many bytes, where null refuses it.
 fn block_at(at: *mut c_void, size: usize) -> Block {
     if at.is_null() {
-        REFUSED.store(size, Ordering::Relaxed);
+        LAST_REFUSED.store(size, Ordering::Relaxed);
+        REFUSALS.fetch_add(1, Ordering::Release);
         return Block { ok: false, at: ptr::NonNull::<u128>::dangling().as_ptr().cast() };
     }
     Block { ok: true, at }
@@ -65,18 +71,17 @@ mod tests {
     use core::hint::black_box;
 
     #[test]
-    fn the_size_that_is_refused_is_told_once() {
+    fn the_last_size_that_was_refused_is_told() {
         let size = isize::MAX as usize;
         // The compiler may take it that a block which nobody uses is never refused.
         assert!(!black_box(rattle_alloc(size, 1)).ok);
-        assert_eq!(take_refused(), Some(size));
-        assert_eq!(take_refused(), None);
+        assert_eq!((refusals(), last_refused()), (1, size));
         let block = black_box(rattle_alloc(8, 1));
         // SAFETY: the block is one of `rattle_alloc`, and stays as it is where more is refused.
         unsafe {
             assert!(!black_box(rattle_realloc(block.at, 8, size - 1, 1)).ok);
             rattle_dealloc(block.at);
         }
-        assert_eq!(take_refused(), Some(size - 1));
+        assert_eq!((refusals(), last_refused()), (2, size - 1));
     }
 }

@@ -53,16 +53,6 @@ impl OutOfMemory {
     pub(crate) fn for_items<T>(count: usize) -> Self {
         OutOfMemory::of_size(count.saturating_mul(size_of::<T>()))
     }
-
-    /// The error of a call of the library. If its heap refused nothing, it was not asked, since no
-    /// allocation can have the size.
-    pub(crate) fn in_the_library() -> Self {
-        #[cfg(library_has_heap)]
-        let size = None;
-        #[cfg(not(library_has_heap))]
-        let size = Some(crate::heap::take_refused().unwrap_or(usize::MAX));
-        OutOfMemory { size }
-    }
 }
 
 /// All are equal.
@@ -87,6 +77,36 @@ impl fmt::Display for OutOfMemory {
 }
 
 impl Error for OutOfMemory {}
+
+/// What is known before a call of the library, so that it can be told what the call was refused.
+#[derive(Clone, Copy)]
+pub(crate) struct BeforeCall {
+    #[cfg(not(library_has_heap))]
+    refusals: usize,
+}
+
+impl BeforeCall {
+    pub fn now() -> Self {
+        BeforeCall {
+            #[cfg(not(library_has_heap))]
+            refusals: crate::heap::refusals(),
+        }
+    }
+
+    /// The error of the call, which ran out of memory.
+    #[cfg(library_has_heap)]
+    pub fn out_of_memory(self) -> OutOfMemory {
+        OutOfMemory::default()
+    }
+
+    /// The error of the call, which ran out of memory. If the heap has refused nothing since, it was
+    /// not asked, as no allocation can have the size.
+    #[cfg(not(library_has_heap))]
+    pub fn out_of_memory(self) -> OutOfMemory {
+        let was_asked = crate::heap::refusals() != self.refusals;
+        OutOfMemory::of_size(if was_asked { crate::heap::last_refused() } else { usize::MAX })
+    }
+}
 
 /// The answer, or the end of the program as the standard library ends it if memory runs out: it
 /// aborts, and at a size that no allocation can have it panics. Where the size is not known, the

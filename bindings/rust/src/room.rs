@@ -2,6 +2,7 @@
 //!
 //! The room is not initialised before a call: by the header the library does not read it, and
 //! writes as much to its front as it reports.
+use crate::out_of_memory::BeforeCall;
 use crate::sys;
 use alloc::borrow::Cow;
 use alloc::string::String;
@@ -33,12 +34,12 @@ impl From<Refusal> for OutOfMemory {
     }
 }
 
-/// Whether the room sufficed.
-fn suffices(status: u32) -> Result<bool, Refusal> {
+/// Whether the room sufficed, by the status of a call.
+fn suffices(status: u32, before: BeforeCall) -> Result<bool, Refusal> {
     match status {
         sys::DONE => Ok(true),
         sys::TOO_SMALL => Ok(false),
-        sys::OUT_OF_MEMORY => Err(Refusal::OutOfMemory(OutOfMemory::in_the_library())),
+        sys::OUT_OF_MEMORY => Err(Refusal::OutOfMemory(before.out_of_memory())),
         sys::OVERFLOW => Err(Refusal::Overflow),
         sys::WRONG_PLACES => Err(Refusal::WrongPlaces),
         _ => unreachable!("texts are UTF-8, and the options are known"),
@@ -83,7 +84,8 @@ pub(crate) unsafe fn listed<T>(
 ) -> Result<Vec<T>, Refusal> {
     let mut room = guessed(guess);
     let mut count = 0;
-    while !suffices(call(room.as_mut_ptr(), room.capacity(), &mut count))? {
+    let before = BeforeCall::now();
+    while !suffices(call(room.as_mut_ptr(), room.capacity(), &mut count), before)? {
         room = room_for(count)?;
     }
     // SAFETY: the call has written so many items.
@@ -169,6 +171,7 @@ impl Reported {
         mut call: impl FnMut(&mut LineRoom) -> u32,
     ) -> Result<Reported, OutOfMemory> {
         let (mut places, mut built) = (guessed::<sys::Line>(lines), guessed::<u8>(bytes));
+        let before = BeforeCall::now();
         loop {
             let mut room = LineRoom {
                 lines: places.as_mut_ptr(),
@@ -178,7 +181,7 @@ impl Reported {
                 room_len: built.capacity(),
                 len: 0,
             };
-            let is_done = suffices(call(&mut room))?;
+            let is_done = suffices(call(&mut room), before)?;
             let LineRoom { count, len, .. } = room;
             if is_done {
                 // SAFETY: the call has written so many lines, and so many bytes of UTF-8.

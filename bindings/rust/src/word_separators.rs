@@ -108,9 +108,14 @@ impl WordSeparator {
         }
     }
 
-    /// The words of a line. A line ending in it is taken for a character.
+    /// The words of a line. A line ending in it is taken for a character. Those of a function of the
+    /// caller are returned as they are.
     ///
     /// See [`WordSeparator`] for an example.
+    ///
+    /// # Panics
+    ///
+    /// If the function of a [`Custom`](WordSeparator::Custom) panics.
     pub fn find_words<'a>(&self, line: &'a str) -> Box<dyn Iterator<Item = Word<'a>> + 'a> {
         or_abort(self.words_of(line))
     }

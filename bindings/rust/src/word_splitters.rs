@@ -96,6 +96,10 @@ impl WordSplitter {
     /// The offsets, in bytes, at which a word may be split. Those of a function of the caller, or of
     /// a dictionary, are returned as they are.
     ///
+    /// # Panics
+    ///
+    /// If the function of a [`Custom`](WordSplitter::Custom) panics.
+    ///
     /// # Examples
     ///
     /// ```

@@ -3,6 +3,8 @@
 //! 1. the folder that the variable TEXTWRAP_LIBRARY names;
 //! 2. where `rt lib` builds it, if this crate stands in its repository;
 //! 3. what `make install` of the C binding has installed, if pkg-config knows it.
+//!
+//! Where the variable DOCS_RS is set, nothing is linked: the documentation is built without it.
 use std::env;
 use std::path::{Path, PathBuf};
 use std::process::Command;
@@ -11,8 +13,13 @@ use std::process::Command;
 const ARCHIVES: [(&str, bool); 2] = [("textwrap_c", false), ("textwrap_proved", true)];
 
 fn main() {
-    println!("cargo::rerun-if-env-changed=TEXTWRAP_LIBRARY");
+    for variable in ["DOCS_RS", "TEXTWRAP_LIBRARY"] {
+        println!("cargo::rerun-if-env-changed={variable}");
+    }
     println!("cargo::rustc-check-cfg=cfg(library_has_heap)");
+    if env::var_os("DOCS_RS").is_some() {
+        return;
+    }
     match found() {
         Ok((folder, name, has_heap)) => {
             if has_heap {

@@ -1,6 +1,7 @@
 //! Where a line of text may or must end, by the Unicode line breaking algorithm
 //! ([UAX #14](https://www.unicode.org/reports/tr14/)), with the rules of Unicode 15.0.
-use crate::room::{listed, or_abort, room_for, OutOfMemory};
+use crate::out_of_memory::{or_abort, OutOfMemory};
+use crate::room::{listed, room_for};
 use crate::sys;
 use alloc::vec::Vec;
 

@@ -3,7 +3,7 @@
 use crate::core::display_width;
 use crate::custom;
 use crate::display::Gaps;
-use crate::room::{room_for, OutOfMemory};
+use crate::room::{room_for, text_room, OutOfMemory};
 use crate::Options;
 use alloc::string::String;
 use alloc::vec::Vec;
@@ -29,8 +29,7 @@ pub(crate) fn rows(
     for i in 0..count {
         let cells = (0..columns).map(|k| lines.get(k * count + i).map_or("", |line| line));
         let text_len = lines.iter().skip(i).step_by(count).map(|line| line.len());
-        let mut row = String::new();
-        row.try_reserve_exact(row_len.saturating_add(text_len.sum())).map_err(|_| OutOfMemory)?;
+        let mut row = text_room(row_len.saturating_add(text_len.sum()))?;
         row.push_str(gaps.left);
         for (k, cell) in cells.enumerate() {
             if k > 0 {

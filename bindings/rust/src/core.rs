@@ -24,7 +24,8 @@
 //!     lines.iter().map(|line| line.iter().map(|piece| piece.word).collect()).collect();
 //! assert_eq!(texts, [vec!["A", "foo-"], vec!["bar,"], vec!["unbrea"], vec!["kable"]]);
 //! ```
-use crate::room::{listed, or_abort, written, OutOfMemory};
+use crate::out_of_memory::{or_abort, OutOfMemory};
+use crate::room::{listed, written};
 use crate::sys;
 use alloc::string::String;
 use alloc::vec::Vec;

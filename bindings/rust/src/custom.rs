@@ -6,7 +6,9 @@
 use crate::core::{display_width, Word};
 use crate::display::fallible::justify;
 use crate::fallible::{push, push_line, unfill};
-use crate::room::{listed, room_for, LineText, OutOfMemory, Reported};
+use crate::room::{
+    listed, reserve, room_for, text_room, LineText, OutOfMemory, Reported,
+};
 use crate::word_separators::unicode_cuts;
 use crate::{guess, sys};
 use crate::{Options, WordSeparator, WrapAlgorithm};
@@ -41,8 +43,7 @@ fn joined(
     options: &Options<'_>,
     mut add: impl FnMut(&mut String, &str, Place) -> Result<(), OutOfMemory>,
 ) -> Result<String, OutOfMemory> {
-    let mut filled = String::new();
-    filled.try_reserve(text.len()).map_err(|_| OutOfMemory)?;
+    let mut filled = text_room(text.len())?;
     each_line(text, options, |line, place| {
         if place.is_later {
             push(&mut filled, options.line_ending.as_str())?;
@@ -183,8 +184,8 @@ impl<'o> With<'o> {
                 continue;
             }
             let inside = word_splitter.points_inside(word.word)?;
-            cuts.try_reserve(1).map_err(|_| OutOfMemory)?;
-            points.try_reserve(inside.len()).map_err(|_| OutOfMemory)?;
+            reserve(&mut cuts, 1)?;
+            reserve(&mut points, inside.len())?;
             if start > 0 {
                 cuts.push(start);
             }
@@ -207,7 +208,7 @@ impl<'o> With<'o> {
         for &end in cuts.iter().chain(Some(&paragraph.len())) {
             let word = paragraph[start..end].trim_end_matches(' ');
             let inside = self.options.word_splitter.points_inside(word)?;
-            points.try_reserve(inside.len()).map_err(|_| OutOfMemory)?;
+            reserve(&mut points, inside.len())?;
             points.extend(inside.iter().map(|point| start + point));
             start = end;
         }

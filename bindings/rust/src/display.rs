@@ -14,9 +14,9 @@
 //! assert_eq!(centred, ["   textwrap: a    ", "small library for ", "  wrapping text.  "]);
 //! ```
 //!
-//! If memory runs out, a call ends the program, and its twin in [`fallible`] returns
+//! If memory runs out, a call [ends the program](crate#memory), and its twin in [`fallible`] returns
 //! [`OutOfMemory`](crate::OutOfMemory).
-use crate::room::or_abort;
+use crate::out_of_memory::or_abort;
 use crate::sys;
 use crate::Options;
 use alloc::string::String;
@@ -93,6 +93,10 @@ impl Gaps<'_> {
 
 /// The line with blanks up to a width. A line that is as wide or wider stays as it is.
 ///
+/// # Panics
+///
+/// If the line would take more than `isize::MAX` bytes.
+///
 /// # Examples
 ///
 /// ```
@@ -113,6 +117,10 @@ pub fn align(line: &str, width: usize, alignment: Alignment) -> String {
 /// A gap is the blanks (U+0020) between two words. Each gets the same number of blanks more, and the
 /// first ones get one more of what is left over. A line without gaps stays as it is, and so does one
 /// that is as wide or wider.
+///
+/// # Panics
+///
+/// If the line would take more than `isize::MAX` bytes.
 ///
 /// # Examples
 ///
@@ -135,7 +143,9 @@ pub fn justify(line: &str, width: usize) -> String {
 ///
 /// # Panics
 ///
-/// If a function of the caller, in the options, gives what it must not.
+/// - If a function of the caller, in the options, panics or
+///   [gives what it must not](Options#functions-of-the-caller).
+/// - If the text would take more than `isize::MAX` bytes.
 ///
 /// # Examples
 ///
@@ -241,7 +251,9 @@ where
 ///
 /// # Panics
 ///
-/// If a function of the caller, in the options of a column, gives what it must not.
+/// - If a function of the caller, in the options of a column, panics or
+///   [gives what it must not](Options#functions-of-the-caller).
+/// - If the rows would take more than `isize::MAX` bytes.
 ///
 /// # Examples
 ///

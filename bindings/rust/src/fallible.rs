@@ -11,19 +11,24 @@
 //! assert_eq!(shown("foo bar baz"), Ok(String::from("foo bar\nbaz")));
 //! ```
 use crate::display::Gaps;
-use crate::room::{room_for, written, LineText, Reported};
+use crate::out_of_memory::BeforeCall;
+use crate::room::{reserve, reserve_bytes, room_for, written, LineText, Reported};
 use crate::{columns, custom, guess, sys};
 use crate::{LineEnding, Options};
 use alloc::borrow::Cow;
 use alloc::string::String;
 use alloc::vec::Vec;
 
-pub use crate::room::OutOfMemory;
+pub use crate::out_of_memory::OutOfMemory;
 
 /// [`crate::fill`].
 ///
 /// # Errors
 /// [`OutOfMemory`] if memory runs out.
+///
+/// # Panics
+/// If a function of the caller, in the options, panics or
+/// [gives what it must not](Options#functions-of-the-caller).
 pub fn fill<'a, Opt>(text: &str, width_or_options: Opt) -> Result<String, OutOfMemory>
 where
     Opt: Into<Options<'a>>,
@@ -46,6 +51,10 @@ where
 ///
 /// # Errors
 /// [`OutOfMemory`] if memory runs out.
+///
+/// # Panics
+/// If a function of the caller, in the options, panics or
+/// [gives what it must not](Options#functions-of-the-caller).
 pub fn refill<'a, Opt>(filled_text: &str, new_width_or_options: Opt) -> Result<String, OutOfMemory>
 where
     Opt: Into<Options<'a>>,
@@ -97,6 +106,7 @@ pub fn dedent(s: &str) -> Result<String, OutOfMemory> {
 // The type is that of the original's call.
 #[allow(clippy::ptr_arg)]
 pub fn fill_inplace(text: &mut String, width: usize) -> Result<(), OutOfMemory> {
+    let before = BeforeCall::now();
     // SAFETY: the bytes of the text, which nothing else borrows. Blanks become line feeds, so they
     // stay UTF-8.
     let status = unsafe {
@@ -105,7 +115,7 @@ pub fn fill_inplace(text: &mut String, width: usize) -> Result<(), OutOfMemory> 
     };
     match status {
         sys::DONE => Ok(()),
-        sys::OUT_OF_MEMORY => Err(OutOfMemory),
+        sys::OUT_OF_MEMORY => Err(before.out_of_memory()),
         _ => unreachable!("a String is UTF-8"),
     }
 }
@@ -140,6 +150,10 @@ pub fn unfill(text: &str) -> Result<(String, Options<'_>), OutOfMemory> {
 ///
 /// # Errors
 /// [`OutOfMemory`] if memory runs out.
+///
+/// # Panics
+/// If a function of the caller, in the options, panics or
+/// [gives what it must not](Options#functions-of-the-caller).
 pub fn wrap<'a, Opt>(text: &str, width_or_options: Opt) -> Result<Vec<Cow<'_, str>>, OutOfMemory>
 where
     Opt: Into<Options<'a>>,
@@ -173,7 +187,8 @@ where
 /// [`OutOfMemory`] if memory runs out.
 ///
 /// # Panics
-/// Without any columns.
+/// Without any columns, or if a function of the caller, in the options, panics or
+/// [gives what it must not](Options#functions-of-the-caller).
 pub fn wrap_columns<'a, Opt>(
     text: &str,
     columns: usize,
@@ -210,7 +225,7 @@ where
 
 /// Adds to a text.
 pub(crate) fn push(text: &mut String, more: &str) -> Result<(), OutOfMemory> {
-    text.try_reserve(more.len()).map_err(|_| OutOfMemory)?;
+    reserve_bytes(text, more.len())?;
     text.push_str(more);
     Ok(())
 }
@@ -220,7 +235,7 @@ pub(crate) fn push_line<'t>(
     lines: &mut Vec<Cow<'t, str>>,
     line: LineText<'t, '_>,
 ) -> Result<(), OutOfMemory> {
-    lines.try_reserve(1).map_err(|_| OutOfMemory)?;
+    reserve(lines, 1)?;
     lines.push(line.into_cow()?);
     Ok(())
 }

@@ -7,6 +7,13 @@
 //! textwrap = { package = "textwrap_proved", path = "bindings/rust" }
 //! ```
 //!
+//! For all crates of a tree, such as `clap`, the folder `patch` has it under the original's name:
+//!
+//! ```toml
+//! [patch.crates-io]
+//! textwrap = { path = "bindings/rust/patch" }
+//! ```
+//!
 //! Behind them stands a library written in Rattle, which is linked as an archive. Its contracts,
 //! which are proved, state the exact result of each call. What is written in Rust here is the way
 //! there and back, and what functions of the caller take part in.
@@ -24,7 +31,8 @@
 //! ```
 //!
 //! [`Options`] say how: with which indents, by which algorithm, where words begin and where they
-//! may be split. Functions of the caller may take the place of the last three. [`refill()`] and
+//! may be split. Functions of the caller may take the place of the last three, and a dictionary that
+//! of the last. [`refill()`] and
 //! [`unfill()`] take texts that are filled already, [`wrap_columns()`] lays a text out in columns,
 //! and [`fill_inplace()`] fills a `String` in its own place.
 //!
@@ -64,28 +72,41 @@
 //! - Unicode line breaks are those of UAX #14 at Unicode 15.0, from which the original departs in
 //!   three places. Whoever has another line segmenter gives its offsets to
 //!   [`find_words_at`](word_separators::find_words_at).
-//! - There is no hyphenation by patterns. A [`WordSplitter::Custom`] may give its points.
-//! - There is no `termwidth`, and no `Options::with_termwidth`.
 //! - Widths of a [`Fragment`](core::Fragment) have to be whole numbers from 0 to `usize::MAX`.
 //! - What a `Custom` function gives is checked, and a wrong answer panics with a message that says
-//!   what is wrong.
+//!   [what is wrong](Options#functions-of-the-caller).
 //! - Of divisions that cost the same, the one whose lines start earliest is taken.
 //! - [`Options::even_paragraphs`] and the modules [`display`] and [`fallible`] are new.
+//! - Both algorithms and both separators are there without the features `smawk` and
+//!   `unicode-linebreak` too, so a `match` has an arm for each.
 //!
 //! `docs/DIFFERENCES.md` of the repository has all of them, with those of the library itself.
 //!
 //! # Features
 //!
-//! With `unicode-linebreak`, a default feature, [`WordSeparator::new`] is
-//! [`UnicodeBreakProperties`](WordSeparator::UnicodeBreakProperties), and else
-//! [`AsciiSpace`](WordSeparator::AsciiSpace), as in the original. The features `std`, `smawk` and
-//! `unicode-width` change nothing: they are there so that a line of `Cargo.toml` that names them
-//! stays as it is. The crate needs `alloc`, and the heap of the C library.
+//! They have the names that they have in the original. The first four are on by default.
+//!
+//! | Feature | With it | Without it |
+//! |---|---|---|
+//! | `smawk` | [`WrapAlgorithm::new`], and so [`Options::new`], takes the least cost | it takes first fit |
+//! | `unicode-linebreak` | [`WordSeparator::new`], and so [`Options::new`], cuts at Unicode line breaks | it cuts at blanks |
+//! | `unicode-width` | nothing changes | nothing changes: widths are always those of Unicode, where the original counts 1 for each character that is no emoji |
+//! | `std` | nothing changes | nothing changes: the crate always needs `alloc`, and the heap of the C library |
+//! | `unicode-linebreak-complex` | is `unicode-linebreak` | |
+//! | `terminal_size` | `termwidth` and `Options::with_termwidth` are there, over the crate [terminal_size](https://docs.rs/terminal_size), 0.2.1 to 0.4 | |
+//! | `hyphenation` | `WordSplitter::Hyphenation` is there, over the crate [hyphenation](https://docs.rs/hyphenation), 0.7.1 to 0.8 | |
+//!
+//! By `unicode-linebreak-complex` the original finds words of Thai, Lao, Khmer and Burmese by
+//! dictionaries; here there are none, and text in these scripts is cut only where it has blanks or
+//! other breaks.
 //!
 //! # Memory
 //!
-//! If memory runs out, a call ends the program as the standard library does. Its twin in
-//! [`fallible`], or in [`display::fallible`], returns [`OutOfMemory`] in place of that.
+//! If memory runs out, a call ends the program as the standard library does: it aborts with a message
+//! that names the size that was asked for, or panics if no allocation can have that size, which is
+//! above `isize::MAX`. Its twin in [`fallible`], or in [`display::fallible`], returns [`OutOfMemory`]
+//! in place of both. Where the library is one that is installed for C, it has a heap of its own, and
+//! the message names 0 bytes.
 #![no_std]
 #![deny(missing_docs)]
 #![deny(missing_debug_implementations)]
@@ -93,7 +114,7 @@
 
 extern crate alloc;
 
-use crate::room::or_abort;
+use crate::out_of_memory::or_abort;
 use alloc::borrow::Cow;
 use alloc::string::String;
 use alloc::vec::Vec;
@@ -110,16 +131,21 @@ mod guess;
 mod heap;
 mod line_ending;
 mod options;
+mod out_of_memory;
 mod room;
 mod sys;
 mod tables;
+#[cfg(feature = "terminal_size")]
+mod termwidth;
 pub mod word_separators;
 pub mod word_splitters;
 pub mod wrap_algorithms;
 
 pub use crate::line_ending::LineEnding;
 pub use crate::options::Options;
-pub use crate::room::OutOfMemory;
+pub use crate::out_of_memory::OutOfMemory;
+#[cfg(feature = "terminal_size")]
+pub use crate::termwidth::termwidth;
 pub use crate::word_separators::WordSeparator;
 pub use crate::word_splitters::WordSplitter;
 pub use crate::wrap_algorithms::WrapAlgorithm;
@@ -130,7 +156,8 @@ pub use crate::wrap_algorithms::WrapAlgorithm;
 ///
 /// # Panics
 ///
-/// If a function of the caller, in the options, gives what it must not.
+/// If a function of the caller, in the options, panics or
+/// [gives what it must not](Options#functions-of-the-caller).
 ///
 /// # Examples
 ///
@@ -172,7 +199,8 @@ where
 ///
 /// # Panics
 ///
-/// If a function of the caller, in the options, gives what it must not.
+/// If a function of the caller, in the options, panics or
+/// [gives what it must not](Options#functions-of-the-caller).
 ///
 /// # Examples
 ///
@@ -213,7 +241,10 @@ where
 ///
 /// # Panics
 ///
-/// Without any columns, or if a function of the caller, in the options, gives what it must not.
+/// - Without any columns.
+/// - If a function of the caller, in the options, panics or
+///   [gives what it must not](Options#functions-of-the-caller).
+/// - If the rows would take more than `isize::MAX` bytes, as by a width near `usize::MAX`.
 ///
 /// # Examples
 ///
@@ -247,7 +278,8 @@ where
 ///
 /// # Panics
 ///
-/// If a function of the caller, in the options, gives what it must not.
+/// If a function of the caller, in the options, panics or
+/// [gives what it must not](Options#functions-of-the-caller).
 ///
 /// # Examples
 ///

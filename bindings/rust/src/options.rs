@@ -8,6 +8,20 @@ use crate::{LineEnding, WordSeparator, WordSplitter, WrapAlgorithm};
 ///
 /// Where options are asked for, a width or a reference to options will do too.
 ///
+/// # Functions of the caller
+///
+/// What a function in the options answers is checked. The calls that wrap a text by it panic if
+///
+/// - the words of a [`WordSeparator::Custom`] do not tile the line, or one is not as
+///   [`Word::from`](crate::core::Word::from) makes it;
+/// - the points of a [`WordSplitter::Custom`] decrease, or one is no character boundary of the word;
+/// - the lines of a [`WrapAlgorithm::Custom`] are not the first words in their order;
+/// - the function itself panics.
+///
+/// What is said of the points holds for those of a dictionary of the feature `hyphenation` too. Not
+/// asked is a function for a paragraph that has fewer bytes than the width and a line without an
+/// indent, since that is one line.
+///
 /// # Examples
 ///
 /// ```
@@ -55,7 +69,7 @@ impl<'a> Options<'a> {
     /// assert_eq!(options.line_ending, LineEnding::LF);
     /// assert_eq!((options.initial_indent, options.subsequent_indent), ("", ""));
     /// assert!(options.break_words);
-    /// assert_eq!(options.wrap_algorithm, WrapAlgorithm::new_optimal_fit());
+    /// assert_eq!(options.wrap_algorithm, WrapAlgorithm::new());
     /// assert_eq!(options.word_separator, WordSeparator::new());
     /// assert_eq!(options.word_splitter, WordSplitter::HyphenSplitter);
     /// assert!(!options.preserve_trailing_space && !options.even_paragraphs);
@@ -76,8 +90,9 @@ impl<'a> Options<'a> {
     }
 
     /// Sets [`width`](#structfield.width), in columns.
-    pub const fn width(self, width: usize) -> Self {
-        Options { width, ..self }
+    pub const fn width(mut self, width: usize) -> Self {
+        self.width = width;
+        self
     }
 
     /// Sets [`line_ending`](#structfield.line_ending).
@@ -88,8 +103,9 @@ impl<'a> Options<'a> {
     /// let options = Options::new(10).line_ending(LineEnding::CRLF);
     /// assert_eq!(refill("foo bar\nbaz", options), "foo bar\r\nbaz");
     /// ```
-    pub const fn line_ending(self, line_ending: LineEnding) -> Self {
-        Options { line_ending, ..self }
+    pub const fn line_ending(mut self, line_ending: LineEnding) -> Self {
+        self.line_ending = line_ending;
+        self
     }
 
     /// Sets [`initial_indent`](#structfield.initial_indent).
@@ -101,8 +117,9 @@ impl<'a> Options<'a> {
     /// let lines = wrap("This is a little example.", options);
     /// assert_eq!(lines, ["    This is a", "little example."]);
     /// ```
-    pub const fn initial_indent(self, initial_indent: &'a str) -> Self {
-        Options { initial_indent, ..self }
+    pub const fn initial_indent(mut self, initial_indent: &'a str) -> Self {
+        self.initial_indent = initial_indent;
+        self
     }
 
     /// Sets [`subsequent_indent`](#structfield.subsequent_indent).
@@ -114,8 +131,9 @@ impl<'a> Options<'a> {
     /// let lines = wrap("This is a little example.", options);
     /// assert_eq!(lines, ["* This is", "  a little", "  example."]);
     /// ```
-    pub const fn subsequent_indent(self, subsequent_indent: &'a str) -> Self {
-        Options { subsequent_indent, ..self }
+    pub const fn subsequent_indent(mut self, subsequent_indent: &'a str) -> Self {
+        self.subsequent_indent = subsequent_indent;
+        self
     }
 
     /// Sets [`break_words`](#structfield.break_words).
@@ -126,13 +144,15 @@ impl<'a> Options<'a> {
     /// assert_eq!(wrap("a little", Options::new(4)), ["a", "litt", "le"]);
     /// assert_eq!(wrap("a little", Options::new(4).break_words(false)), ["a", "little"]);
     /// ```
-    pub const fn break_words(self, break_words: bool) -> Self {
-        Options { break_words, ..self }
+    pub const fn break_words(mut self, break_words: bool) -> Self {
+        self.break_words = break_words;
+        self
     }
 
     /// Sets [`word_separator`](#structfield.word_separator).
-    pub const fn word_separator(self, word_separator: WordSeparator) -> Self {
-        Options { word_separator, ..self }
+    pub const fn word_separator(mut self, word_separator: WordSeparator) -> Self {
+        self.word_separator = word_separator;
+        self
     }
 
     /// Sets [`wrap_algorithm`](#structfield.wrap_algorithm).
@@ -146,8 +166,9 @@ impl<'a> Options<'a> {
     /// assert_eq!(lines, ["To be, or", "not to be:", "that is", "the", "question"]);
     /// assert_eq!(wrap(text, 10), ["To be,", "or not to", "be: that", "is the", "question"]);
     /// ```
-    pub const fn wrap_algorithm(self, wrap_algorithm: WrapAlgorithm) -> Self {
-        Options { wrap_algorithm, ..self }
+    pub const fn wrap_algorithm(mut self, wrap_algorithm: WrapAlgorithm) -> Self {
+        self.wrap_algorithm = wrap_algorithm;
+        self
     }
 
     /// Sets [`word_splitter`](#structfield.word_splitter).
@@ -160,8 +181,9 @@ impl<'a> Options<'a> {
     /// assert_eq!(wrap("foo-bar-baz", &whole), ["foo-b", "ar-ba", "z"]);
     /// assert_eq!(wrap("foo-bar-baz", whole.break_words(false)), ["foo-bar-baz"]);
     /// ```
-    pub const fn word_splitter(self, word_splitter: WordSplitter) -> Self {
-        Options { word_splitter, ..self }
+    pub fn word_splitter(mut self, word_splitter: WordSplitter) -> Self {
+        self.word_splitter = word_splitter;
+        self
     }
 
     /// Sets [`preserve_trailing_space`](#structfield.preserve_trailing_space).
@@ -172,8 +194,9 @@ impl<'a> Options<'a> {
     /// let options = Options::new(5).preserve_trailing_space(true);
     /// assert_eq!(wrap("foo  bar", options), ["foo  ", "bar"]);
     /// ```
-    pub const fn preserve_trailing_space(self, preserve_trailing_space: bool) -> Self {
-        Options { preserve_trailing_space, ..self }
+    pub const fn preserve_trailing_space(mut self, preserve_trailing_space: bool) -> Self {
+        self.preserve_trailing_space = preserve_trailing_space;
+        self
     }
 
     /// Sets [`even_paragraphs`](#structfield.even_paragraphs).
@@ -186,15 +209,16 @@ impl<'a> Options<'a> {
     /// let even = options.even_paragraphs(true);
     /// assert_eq!(wrap("aaa\nbbb ccc", even), ["aaa", "    bbb", "    ccc"]);
     /// ```
-    pub const fn even_paragraphs(self, even_paragraphs: bool) -> Self {
-        Options { even_paragraphs, ..self }
+    pub const fn even_paragraphs(mut self, even_paragraphs: bool) -> Self {
+        self.even_paragraphs = even_paragraphs;
+        self
     }
 
     /// Whether a function of the caller takes part: then a text is wrapped paragraph by paragraph.
     pub(crate) fn has_function(&self) -> bool {
         matches!(self.wrap_algorithm, WrapAlgorithm::Custom(_))
             || matches!(self.word_separator, WordSeparator::Custom(_))
-            || matches!(self.word_splitter, WordSplitter::Custom(_))
+            || !self.word_splitter.is_built_in()
     }
 
     /// The same as C has them, without the functions of the caller. They lend the indents.

@@ -2,43 +2,25 @@
 //!
 //! The room is not initialised before a call: by the header the library does not read it, and
 //! writes as much to its front as it reports.
+use crate::out_of_memory::BeforeCall;
 use crate::sys;
-use alloc::alloc::handle_alloc_error;
 use alloc::borrow::Cow;
 use alloc::string::String;
 use alloc::vec::Vec;
-use core::alloc::Layout;
-use core::error::Error;
-use core::fmt;
 
-/// Memory ran out. Nothing was changed.
-#[derive(Clone, Copy, Debug, PartialEq, Eq)]
-pub struct OutOfMemory;
-
-impl fmt::Display for OutOfMemory {
-    fn fmt(&self, f: &mut fmt::Formatter<'_>) -> fmt::Result {
-        f.write_str("out of memory")
-    }
-}
-
-impl Error for OutOfMemory {}
-
-/// The answer, or the end of the program as the standard library ends it if memory runs out.
-pub(crate) fn or_abort<T>(result: Result<T, OutOfMemory>) -> T {
-    result.unwrap_or_else(|_| handle_alloc_error(Layout::new::<u8>()))
-}
+pub(crate) use crate::out_of_memory::OutOfMemory;
 
 /// Why a call gave nothing.
 #[derive(Debug)]
 pub(crate) enum Refusal {
-    OutOfMemory,
+    OutOfMemory(OutOfMemory),
     Overflow,
     WrongPlaces,
 }
 
 impl From<OutOfMemory> for Refusal {
-    fn from(_: OutOfMemory) -> Self {
-        Refusal::OutOfMemory
+    fn from(refused: OutOfMemory) -> Self {
+        Refusal::OutOfMemory(refused)
     }
 }
 
@@ -46,18 +28,18 @@ impl From<OutOfMemory> for Refusal {
 impl From<Refusal> for OutOfMemory {
     fn from(refusal: Refusal) -> Self {
         match refusal {
-            Refusal::OutOfMemory => OutOfMemory,
+            Refusal::OutOfMemory(refused) => refused,
             other => unreachable!("the library refused with {other:?}"),
         }
     }
 }
 
-/// Whether the room sufficed.
-fn suffices(status: u32) -> Result<bool, Refusal> {
+/// Whether the room sufficed, by the status of a call.
+fn suffices(status: u32, before: BeforeCall) -> Result<bool, Refusal> {
     match status {
         sys::DONE => Ok(true),
         sys::TOO_SMALL => Ok(false),
-        sys::OUT_OF_MEMORY => Err(Refusal::OutOfMemory),
+        sys::OUT_OF_MEMORY => Err(Refusal::OutOfMemory(before.out_of_memory())),
         sys::OVERFLOW => Err(Refusal::Overflow),
         sys::WRONG_PLACES => Err(Refusal::WrongPlaces),
         _ => unreachable!("texts are UTF-8, and the options are known"),
@@ -67,8 +49,22 @@ fn suffices(status: u32) -> Result<bool, Refusal> {
 /// Room for so many items.
 pub(crate) fn room_for<T>(len: usize) -> Result<Vec<T>, OutOfMemory> {
     let mut room = Vec::new();
-    room.try_reserve_exact(len).map_err(|_| OutOfMemory)?;
+    room.try_reserve_exact(len).map_err(|_| OutOfMemory::for_items::<T>(len))?;
     Ok(room)
+}
+
+/// Makes room for so many more items, and for further ones if there is memory for them.
+pub(crate) fn reserve<T>(list: &mut Vec<T>, more: usize) -> Result<(), OutOfMemory> {
+    list.try_reserve(more)
+        .or_else(|_| list.try_reserve_exact(more))
+        .map_err(|_| OutOfMemory::for_items::<T>(list.len().saturating_add(more)))
+}
+
+/// The same for so many bytes of a text.
+pub(crate) fn reserve_bytes(text: &mut String, more: usize) -> Result<(), OutOfMemory> {
+    text.try_reserve(more)
+        .or_else(|_| text.try_reserve_exact(more))
+        .map_err(|_| OutOfMemory::for_items::<u8>(text.len().saturating_add(more)))
 }
 
 /// Room for as many items as is guessed, or for none if there is no memory for a guess.
@@ -88,7 +84,8 @@ pub(crate) unsafe fn listed<T>(
 ) -> Result<Vec<T>, Refusal> {
     let mut room = guessed(guess);
     let mut count = 0;
-    while !suffices(call(room.as_mut_ptr(), room.capacity(), &mut count))? {
+    let before = BeforeCall::now();
+    while !suffices(call(room.as_mut_ptr(), room.capacity(), &mut count), before)? {
         room = room_for(count)?;
     }
     // SAFETY: the call has written so many items.
@@ -142,10 +139,16 @@ impl<'t> LineText<'t, '_> {
     }
 }
 
+/// Room for a text of so many bytes.
+pub(crate) fn text_room(len: usize) -> Result<String, OutOfMemory> {
+    let mut room = String::new();
+    room.try_reserve_exact(len).map_err(|_| OutOfMemory::for_items::<u8>(len))?;
+    Ok(room)
+}
+
 /// A copy of a text.
 pub(crate) fn copied(text: &str) -> Result<String, OutOfMemory> {
-    let mut copy = String::new();
-    copy.try_reserve_exact(text.len()).map_err(|_| OutOfMemory)?;
+    let mut copy = text_room(text.len())?;
     copy.push_str(text);
     Ok(copy)
 }
@@ -168,6 +171,7 @@ impl Reported {
         mut call: impl FnMut(&mut LineRoom) -> u32,
     ) -> Result<Reported, OutOfMemory> {
         let (mut places, mut built) = (guessed::<sys::Line>(lines), guessed::<u8>(bytes));
+        let before = BeforeCall::now();
         loop {
             let mut room = LineRoom {
                 lines: places.as_mut_ptr(),
@@ -177,7 +181,7 @@ impl Reported {
                 room_len: built.capacity(),
                 len: 0,
             };
-            let is_done = suffices(call(&mut room))?;
+            let is_done = suffices(call(&mut room), before)?;
             let LineRoom { count, len, .. } = room;
             if is_done {
                 // SAFETY: the call has written so many lines, and so many bytes of UTF-8.

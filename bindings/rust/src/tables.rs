@@ -2,7 +2,7 @@
 use crate::display::fallible::align;
 use crate::display::{Column, Gaps};
 use crate::fallible::{push, wrap};
-use crate::room::{copied, room_for, OutOfMemory};
+use crate::room::{copied, reserve, room_for, OutOfMemory};
 use alloc::borrow::Cow;
 use alloc::string::String;
 use alloc::vec::Vec;
@@ -20,7 +20,7 @@ pub(crate) fn rows<S: AsRef<str>>(
             wrapped.push(wrap(cell.as_ref(), &column.options)?);
         }
         let height = wrapped.iter().map(Vec::len).max().unwrap_or(0);
-        rows.try_reserve(height).map_err(|_| OutOfMemory)?;
+        reserve(&mut rows, height)?;
         for i in 0..height {
             rows.push(row_of(&wrapped, i, columns, gaps)?);
         }

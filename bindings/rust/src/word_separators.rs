@@ -4,7 +4,8 @@
 //! [`find_words_at`].
 use crate::core::Word;
 use crate::options::Options;
-use crate::room::{listed, or_abort, OutOfMemory, Refusal};
+use crate::out_of_memory::{or_abort, OutOfMemory};
+use crate::room::{listed, Refusal};
 use crate::sys;
 use crate::word_splitters::WordSplitter;
 use alloc::boxed::Box;
@@ -27,7 +28,6 @@ use core::fmt;
 /// assert_eq!(words, [Word::from("apples   "), Word::from("pears")]);
 /// ```
 #[derive(Clone, Copy, Debug)]
-#[non_exhaustive]
 pub enum WordSeparator {
     /// Between a blank (U+0020) and a character that is no blank.
     ///
@@ -108,9 +108,14 @@ impl WordSeparator {
         }
     }
 
-    /// The words of a line. A line ending in it is taken for a character.
+    /// The words of a line. A line ending in it is taken for a character. Those of a function of the
+    /// caller are returned as they are.
     ///
     /// See [`WordSeparator`] for an example.
+    ///
+    /// # Panics
+    ///
+    /// If the function of a [`Custom`](WordSeparator::Custom) panics.
     pub fn find_words<'a>(&self, line: &'a str) -> Box<dyn Iterator<Item = Word<'a>> + 'a> {
         or_abort(self.words_of(line))
     }

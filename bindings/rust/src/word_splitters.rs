@@ -3,14 +3,16 @@
 //! A piece of a word that ends a line ends in a hyphen: one that the word has there, or one that is
 //! added. [`WordSplitter`] says where words may be split, and [`split_words`] splits them.
 use crate::core::{display_width, Word};
-use crate::room::{listed, or_abort, OutOfMemory};
+use crate::out_of_memory::{or_abort, OutOfMemory};
+use crate::room::listed;
 use crate::sys;
 use alloc::vec::Vec;
 use core::iter;
+#[cfg(feature = "hyphenation")]
+use hyphenation::Hyphenator;
 
 /// Where words may be split.
 #[derive(Clone, Debug)]
-#[non_exhaustive]
 pub enum WordSplitter {
     /// Nowhere.
     ///
@@ -50,22 +52,53 @@ pub enum WordSplitter {
     /// assert_eq!(wrap("foobar", options), ["foo-", "bar"]);
     /// ```
     Custom(fn(word: &str) -> Vec<usize>),
+
+    /// Where a dictionary of the crate
+    /// [`hyphenation`](https://docs.rs/hyphenation) hyphenates the word, which it finds by the
+    /// patterns of a language. A hyphen is added where a line ends at such a point. It is there by
+    /// the feature `hyphenation`.
+    ///
+    /// The dictionary gets each word with what stands around it, such as quotation marks and commas.
+    /// A word with soft hyphens (U+00AD) it splits before these, and nowhere else. Its points are
+    /// checked as those of a [`Custom`](WordSplitter::Custom) are, since a program may add words to
+    /// it.
+    ///
+    /// ```no_run
+    /// use hyphenation::{Language, Load, Standard};
+    /// use textwrap_proved::{wrap, Options, WordSplitter};
+    ///
+    /// let english = Standard::from_path(Language::EnglishUS, "en-us.standard.bincode").unwrap();
+    /// let options = Options::new(8).word_splitter(WordSplitter::Hyphenation(english));
+    /// let lines = wrap("Oxidation is the loss of electrons.", options);
+    /// assert_eq!(lines, ["Oxida-", "tion is", "the loss", "of elec-", "trons."]);
+    /// ```
+    #[cfg(feature = "hyphenation")]
+    Hyphenation(hyphenation::Standard),
 }
 
-/// A `Custom` equals no value, not even itself, since functions cannot be compared.
+/// A `Custom` equals no value, not even itself, since functions cannot be compared. Two dictionaries
+/// are equal if their languages are.
 impl PartialEq for WordSplitter {
     fn eq(&self, other: &Self) -> bool {
-        matches!(
-            (self, other),
+        match (self, other) {
             (WordSplitter::NoHyphenation, WordSplitter::NoHyphenation)
-                | (WordSplitter::HyphenSplitter, WordSplitter::HyphenSplitter)
-        )
+            | (WordSplitter::HyphenSplitter, WordSplitter::HyphenSplitter) => true,
+            #[cfg(feature = "hyphenation")]
+            (WordSplitter::Hyphenation(one), WordSplitter::Hyphenation(other)) => {
+                one.language == other.language
+            }
+            _ => false,
+        }
     }
 }
 
 impl WordSplitter {
-    /// The offsets, in bytes, at which a word may be split. Those of a function of the caller are
-    /// returned as they are.
+    /// The offsets, in bytes, at which a word may be split. Those of a function of the caller, or of
+    /// a dictionary, are returned as they are.
+    ///
+    /// # Panics
+    ///
+    /// If the function of a [`Custom`](WordSplitter::Custom) panics.
     ///
     /// # Examples
     ///
@@ -87,21 +120,29 @@ impl WordSplitter {
             WordSplitter::NoHyphenation => Ok(Vec::new()),
             WordSplitter::HyphenSplitter => points_at_hyphens(word),
             WordSplitter::Custom(function) => Ok(function(word)),
+            #[cfg(feature = "hyphenation")]
+            WordSplitter::Hyphenation(dictionary) => Ok(dictionary.hyphenate(word).breaks),
         }
+    }
+
+    /// Whether the points are found by the library, which finds right ones.
+    pub(crate) fn is_built_in(&self) -> bool {
+        matches!(self, WordSplitter::NoHyphenation | WordSplitter::HyphenSplitter)
     }
 
     /// The offsets that cut something off, in order.
     ///
     /// # Panics
-    /// If a function of the caller gives wrong ones.
+    /// If a function of the caller, or a dictionary, gives wrong ones.
     pub(crate) fn points_inside(&self, word: &str) -> Result<Vec<usize>, OutOfMemory> {
         let mut points = self.points_of(word)?;
-        if let WordSplitter::Custom(_) = self {
+        if !self.is_built_in() {
+            let name = if matches!(self, WordSplitter::Custom(_)) { "Custom" } else { "Hyphenation" };
             for (i, &point) in points.iter().enumerate() {
                 let before = if i > 0 { points[i - 1] } else { 0 };
                 assert!(
                     before <= point && word.is_char_boundary(point),
-                    "the points of a WordSplitter::Custom must not decrease, and have to be \
+                    "the points of a WordSplitter::{name} must not decrease, and have to be \
                      character boundaries of the word; {point} of {word:?} is not right"
                 );
             }
@@ -134,7 +175,8 @@ fn points_at_hyphens(word: &str) -> Result<Vec<usize>, OutOfMemory> {
 ///
 /// # Panics
 ///
-/// If a [`WordSplitter::Custom`] gives wrong points.
+/// The iterator, at a word for which a [`WordSplitter::Custom`], or a dictionary, gives points that
+/// decrease or are no character boundaries of it, or for which the function itself panics.
 ///
 /// # Examples
 ///

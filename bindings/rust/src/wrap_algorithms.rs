@@ -4,7 +4,8 @@
 //! comes next. [`wrap_optimal_fit`] looks at all lines together, and finds those of the least cost,
 //! which leave the gaps even. First fit is the faster of the two.
 use crate::core::{Fragment, Word};
-use crate::room::{listed, or_abort, OutOfMemory, Refusal};
+use crate::out_of_memory::{or_abort, OutOfMemory};
+use crate::room::{listed, Refusal};
 use crate::sys;
 use alloc::vec::Vec;
 use core::error::Error;
@@ -46,7 +47,7 @@ pub enum WrapAlgorithm {
 /// ```
 /// use textwrap_proved::WrapAlgorithm;
 ///
-/// assert_eq!(WrapAlgorithm::new(), WrapAlgorithm::new_optimal_fit());
+/// assert_eq!(WrapAlgorithm::FirstFit, WrapAlgorithm::FirstFit);
 /// assert_ne!(WrapAlgorithm::Custom(|words, _| vec![words]), WrapAlgorithm::FirstFit);
 /// ```
 impl PartialEq for WrapAlgorithm {
@@ -60,9 +61,14 @@ impl PartialEq for WrapAlgorithm {
 }
 
 impl WrapAlgorithm {
-    /// The default, which is [`new_optimal_fit`](WrapAlgorithm::new_optimal_fit).
+    /// The default: [`new_optimal_fit`](WrapAlgorithm::new_optimal_fit), or
+    /// [`FirstFit`](WrapAlgorithm::FirstFit) without the feature `smawk`.
     pub const fn new() -> Self {
-        WrapAlgorithm::new_optimal_fit()
+        if cfg!(feature = "smawk") {
+            WrapAlgorithm::new_optimal_fit()
+        } else {
+            WrapAlgorithm::FirstFit
+        }
     }
 
     /// [`OptimalFit`](WrapAlgorithm::OptimalFit) with the default penalties.
@@ -75,8 +81,9 @@ impl WrapAlgorithm {
     ///
     /// # Panics
     ///
-    /// By [`OptimalFit`](WrapAlgorithm::OptimalFit) if a cost needs more than 128 bits. Words that
-    /// a text was cut into are never so wide.
+    /// By [`OptimalFit`](WrapAlgorithm::OptimalFit) if all widths together, or a least cost, need
+    /// more than 128 bits, as [`wrap_optimal_fit`] has it. Words that a text was cut into are never so
+    /// wide. By [`Custom`](WrapAlgorithm::Custom) if the function panics.
     ///
     /// # Examples
     ///
@@ -188,8 +195,8 @@ pub struct Penalties {
     /// What a short last line costs. The default is 25, as much as a gap of 5 columns.
     pub short_last_line_penalty: usize,
 
-    /// What a line costs more that ends in an added hyphen. The default is 25. Only a function of
-    /// the caller that splits words adds hyphens.
+    /// What a line costs more that ends in an added hyphen. The default is 25. Hyphens are added
+    /// where a function of the caller, or a dictionary, splits words.
     pub hyphen_penalty: usize,
 }
 

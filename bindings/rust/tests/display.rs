@@ -377,15 +377,15 @@ fn the_twins_return_the_same() {
 
 #[test]
 fn the_twins_return_that_memory_ran_out() {
-    assert_eq!(fallible::align("a", usize::MAX, Alignment::Centre), Err(OutOfMemory));
-    assert_eq!(fallible::justify("a b", usize::MAX), Err(OutOfMemory));
+    assert_eq!(fallible::align("a", usize::MAX, Alignment::Centre), Err(OutOfMemory::default()));
+    assert_eq!(fallible::justify("a b", usize::MAX), Err(OutOfMemory::default()));
     // The words are an empty one before the indent's text, and three.
     let two_lines = WrapAlgorithm::Custom(|words, _| vec![&words[..3], &words[3..]]);
     let wide = Options::new(usize::MAX).initial_indent("*");
     let own = wide.clone().wrap_algorithm(two_lines);
-    assert_eq!(fallible::fill_justified("a b c", own), Err(OutOfMemory));
+    assert_eq!(fallible::fill_justified("a b c", own), Err(OutOfMemory::default()));
     for options in at_breaks_and_at_blanks(&wide) {
         let column = Column { options, alignment: Alignment::Left };
-        assert_eq!(fallible::table(&["a"], &[column], &AROUND), Err(OutOfMemory));
+        assert_eq!(fallible::table(&["a"], &[column], &AROUND), Err(OutOfMemory::default()));
     }
 }

@@ -941,7 +941,7 @@ fn the_twins_with_functions_of_the_caller() {
     assert_eq!(fallible::refill("a,b c,\nd,e", &options).as_deref(), Ok("a,b c,\n d,e"));
     for options in [options, Options::new(6)] {
         let rows = fallible::wrap_columns("a,b", usize::MAX, &options, "", "|", "");
-        assert_eq!(rows, Err(textwrap::OutOfMemory));
+        assert_eq!(rows, Err(textwrap::OutOfMemory::default()));
     }
 }
 

@@ -57,7 +57,7 @@ where
         LEFT.set(Some(refused));
         let answer = call();
         let is_done = LEFT.take().is_some();
-        let is_refusal = !is_done && answer == Err(OutOfMemory);
+        let is_refusal = !is_done && answer == Err(OutOfMemory::default());
         assert!(is_refusal || answer == expected, "{name}: {answer:?}");
         if is_done {
             break;

@@ -7,7 +7,8 @@
 //! use textwrap_proved::OutOfMemory;
 //!
 //! assert_eq!(fallible::align("foo", 5, Alignment::Right), Ok(String::from("  foo")));
-//! assert_eq!(fallible::align("foo", usize::MAX, Alignment::Right), Err(OutOfMemory));
+//! let too_wide = fallible::align("foo", usize::MAX, Alignment::Right);
+//! assert_eq!(too_wide, Err(OutOfMemory::default()));
 //! ```
 use super::{Alignment, Column, Gaps};
 use crate::room::{room_for, written, Reported};
@@ -16,7 +17,7 @@ use crate::Options;
 use alloc::string::String;
 use alloc::vec::Vec;
 
-pub use crate::room::OutOfMemory;
+pub use crate::out_of_memory::OutOfMemory;
 
 /// [`crate::display::align`].
 ///
@@ -51,6 +52,10 @@ pub fn justify(line: &str, width: usize) -> Result<String, OutOfMemory> {
 ///
 /// # Errors
 /// [`OutOfMemory`] if memory runs out.
+///
+/// # Panics
+/// If a function of the caller, in the options, panics or
+/// [gives what it must not](Options#functions-of-the-caller).
 pub fn fill_justified<'a, Opt>(text: &str, width_or_options: Opt) -> Result<String, OutOfMemory>
 where
     Opt: Into<Options<'a>>,
@@ -142,6 +147,10 @@ where
 ///
 /// # Errors
 /// [`OutOfMemory`] if memory runs out.
+///
+/// # Panics
+/// If a function of the caller, in the options of a column, panics or
+/// [gives what it must not](Options#functions-of-the-caller).
 pub fn table<S>(
     cells: &[S],
     columns: &[Column<'_>],

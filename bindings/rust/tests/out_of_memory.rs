@@ -1,0 +1,81 @@
+//! What the calls say where memory runs out. A test of an abort runs this program anew, for that test
+//! alone.
+use std::process::{Command, Output};
+use textwrap_proved::display::{align, fallible, Alignment};
+use textwrap_proved::{wrap_columns, Options, OutOfMemory, WordSplitter};
+
+/// More than the addresses of a process can have.
+const TOO_MUCH: usize = 1 << 47;
+
+/// Is set for the program that runs one test.
+const IS_ALONE: &str = "TEXTWRAP_TEST_OUT_OF_MEMORY";
+
+fn is_alone() -> bool {
+    std::env::var_os(IS_ALONE).is_some()
+}
+
+/// The size in the message of the abort that ends this test, which is run alone.
+fn size_told(test: &str) -> usize {
+    let output: Output = Command::new(std::env::current_exe().unwrap())
+        .args(["--exact", test, "--nocapture"])
+        .env(IS_ALONE, "")
+        .output()
+        .unwrap();
+    assert!(!output.status.success(), "the program has not ended early");
+    let message = String::from_utf8_lossy(&output.stderr);
+    let size = message
+        .split_once("memory allocation of ")
+        .and_then(|(_, rest)| rest.split_once(" bytes failed"))
+        .and_then(|(size, _)| size.parse().ok());
+    size.unwrap_or_else(|| panic!("no size in {message:?}"))
+}
+
+/// Options by which the room for rows is asked for in Rust.
+fn by_a_function(width: usize) -> Options<'static> {
+    Options::new(width).word_splitter(WordSplitter::Custom(|_| vec![]))
+}
+
+#[test]
+fn an_abort_names_the_size_that_was_asked_for() {
+    if is_alone() {
+        wrap_columns("foo", 1, by_a_function(TOO_MUCH), "", "", "");
+        return;
+    }
+    let size = size_told("an_abort_names_the_size_that_was_asked_for");
+    assert!((TOO_MUCH..TOO_MUCH + 10).contains(&size), "{size} bytes were asked for");
+}
+
+#[test]
+fn an_abort_names_the_size_that_was_refused_to_the_library() {
+    if is_alone() {
+        align("foo", TOO_MUCH, Alignment::Right);
+        return;
+    }
+    let size = size_told("an_abort_names_the_size_that_was_refused_to_the_library");
+    assert_eq!(size, if cfg!(library_has_heap) { 0 } else { TOO_MUCH });
+}
+
+#[test]
+#[should_panic(expected = "out of memory: more than 9223372036854775807 bytes were asked for")]
+fn a_size_that_no_allocation_can_have_panics() {
+    wrap_columns("foo", 1, by_a_function(usize::MAX), "", "", "");
+}
+
+#[test]
+#[cfg(not(library_has_heap))]
+#[should_panic(expected = "out of memory: more than 9223372036854775807 bytes were asked for")]
+fn a_size_that_no_allocation_of_the_library_can_have_panics() {
+    align("foo", usize::MAX, Alignment::Right);
+}
+
+#[test]
+fn errors_name_their_size_and_are_equal() {
+    let refused = fallible::align("foo", TOO_MUCH, Alignment::Right).unwrap_err();
+    assert_eq!(refused.size(), if cfg!(library_has_heap) { None } else { Some(TOO_MUCH) });
+    assert_eq!(refused, OutOfMemory::default());
+    assert_eq!(refused, OutOfMemory::of_size(1));
+    assert!(matches!(fallible::align("foo", TOO_MUCH, Alignment::Left), Err(OutOfMemory { .. })));
+    let error = OutOfMemory::of_size(4096);
+    assert_eq!(error.to_string(), "out of memory: 4096 bytes were asked for");
+    assert_eq!(OutOfMemory::default().to_string(), "out of memory");
+}

@@ -1,5 +1,5 @@
 -- What is made by options is made by what they name.
-use Rattle.textwrap_base.proofs.Common.{◌≡◌, ◌≢◌, ℕ, Bool, List, Option, Some, subst}
+use Rattle.textwrap_base.proofs.Common.{◌≡◌, ℕ, Bool, List, Some, subst}
 use Rattle.textwrap_words.proofs.Common.{Algorithm, algorithm_view, Splitter, splitter_view}
 use Rattle.textwrap_words.proofs.Common.{MaySeparate, MaySplit, WordText}
 use Rattle.textwrap_lines.proofs.Common.{ArePrintedWithin, DividesAt, DividesBy, HasPartsAt, IsFilled}

@@ -1,9 +1,8 @@
 -- Columns whose options name their parts, made one after another, and what a table of them shows.
 use Rattle.textwrap_base.proofs.Common.{◌≡◌, ℕ, ◌+◌, ◌<◌, List, [], ◌∷◌, ◌++◌, All, All-cons, All-nil}
-use Rattle.textwrap_base.proofs.Common.{ap, length, get_or, map, None, subst, sym, take}
+use Rattle.textwrap_base.proofs.Common.{ap, length, get_or, map, subst, sym, take}
 use Rattle.std.proofs.lemmas.List.{map_more}
 use Rattle.std.specs.List.{AllZip}
-use Rattle.textwrap_words.proofs.Common.{splitter_view}
 use Rattle.textwrap_lines.proofs.Common.{HasPartsAt, MayOverflow}
 use Rattle.textwrap_display.specs.Tables.{ColumnMakes, IsTable, RowGaps, shape_of}
 use Rattle.textwrap_display.specs.declared.tables.Column.{Column}

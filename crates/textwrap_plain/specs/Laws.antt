@@ -1,5 +1,4 @@
 -- What the laws say.
-use Rattle.std.specs.Prelude.{◌≡◌, ℕ, List}
 use Rattle.textwrap.specs.Filling.{IsFilled}
 use Rattle.textwrap.specs.Laws.{IsUnique}
 use Rattle.textwrap.specs.Text.{AreTextLines}

@@ -1,5 +1,5 @@
 -- Texts in the columns of a table, by options without functions.
-use Rattle.std.specs.Prelude.{◌≡◌, ℕ, List, map}
+use Rattle.std.specs.Prelude.{ℕ, List}
 use Rattle.textwrap.specs.Options.{Settings}
 use Rattle.textwrap.specs.Paragraph.{Line}
 use Rattle.textwrap.specs.Text.{AreTextLines}

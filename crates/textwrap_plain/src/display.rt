@@ -75,7 +75,10 @@ pub fn table(
             }
         };
         let options = column.options.at_blanks().word_separator(word_separator);
-        list.push(Column { options, alignment: column.alignment })?;
+        list.push(Column {
+            options,
+            alignment: column.alignment,
+        })?;
     }
     textwrap_display::table(alloc, cells, &list, gaps)
 }

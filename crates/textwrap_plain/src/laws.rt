@@ -5,5 +5,4 @@ ghost use Rattle.textwrap_plain.specs.Laws.{PlainLinesAreUnique, PlainTextIsUniq
 pub fn plain_lines_are_unique()
     ensures lines { PlainLinesAreUnique }
     ensures text { PlainTextIsUnique }
-{
-}
+{}

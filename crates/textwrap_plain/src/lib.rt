@@ -4,9 +4,9 @@
 //! that its contract names.
 #![tactic(auto)]
 
-mod options;
 pub mod display;
 pub mod laws;
+mod options;
 pub mod placed;
 pub mod texts;
 

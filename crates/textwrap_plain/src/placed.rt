@@ -66,5 +66,9 @@ pub fn paragraph_pieces<'t>(
             WordSeparator::Custom(LineCuts::new(alloc, unicode_cuts_by_expression))
         }
     };
-    find_pieces(alloc, paragraph, &options.at_blanks().word_separator(word_separator))
+    find_pieces(
+        alloc,
+        paragraph,
+        &options.at_blanks().word_separator(word_separator),
+    )
 }

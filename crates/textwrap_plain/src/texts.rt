@@ -54,7 +54,11 @@ pub fn wrap<'t>(
             WordSeparator::Custom(LineCuts::new(alloc, unicode_cuts_by_expression))
         }
     };
-    textwrap::wrap(alloc, text, options.at_blanks().word_separator(word_separator))
+    textwrap::wrap(
+        alloc,
+        text,
+        options.at_blanks().word_separator(word_separator),
+    )
 }
 
 /// Wraps a text and joins its lines by the line ending, as `fill` of `textwrap` does it.
@@ -75,7 +79,11 @@ pub fn fill(alloc: Global, text: &str, options: &PlainOptions<'_>) -> Result<Str
             WordSeparator::Custom(LineCuts::new(alloc, unicode_cuts_by_expression))
         }
     };
-    textwrap::fill(alloc, text, options.at_blanks().word_separator(word_separator))
+    textwrap::fill(
+        alloc,
+        text,
+        options.at_blanks().word_separator(word_separator),
+    )
 }
 
 /// Fills a filled paragraph again, with the indents that it has, as `refill` of `textwrap` does it.
@@ -100,7 +108,11 @@ pub fn refill(
             WordSeparator::Custom(LineCuts::new(alloc, unicode_cuts_by_expression))
         }
     };
-    textwrap::refill(alloc, filled_text, options.at_blanks().word_separator(word_separator))
+    textwrap::refill(
+        alloc,
+        filled_text,
+        options.at_blanks().word_separator(word_separator),
+    )
 }
 
 /// Wraps a text into columns beside one another, as `wrap_columns` of `textwrap` does it.
@@ -132,5 +144,7 @@ pub fn wrap_columns(
         }
     };
     let options = options.at_blanks().word_separator(word_separator);
-    textwrap::wrap_columns(alloc, text, columns, options, left_gap, middle_gap, right_gap)
+    textwrap::wrap_columns(
+        alloc, text, columns, options, left_gap, middle_gap, right_gap,
+    )
 }

@@ -2,7 +2,7 @@ use Rattle.textwrap_plain.proofs.display.table.Goals as goal
 use Rattle.textwrap_base.proofs.Common.{arith, get_or, map, refl, rules, string_bytes, subst, take_all}
 use Rattle.std.proofs.lemmas.Result.{IfOk-weaker}
 use Rattle.textwrap_display.specs.Tables.{gaps_view, texts_in}
-use Rattle.textwrap_plain.proofs.Separators.{parts-separated, Separates, separates-blanks}
+use Rattle.textwrap_plain.proofs.Separators.{parts-separated, separates-blanks}
 use Rattle.textwrap_plain.proofs.Separators.{separates-breaks}
 use Rattle.textwrap_plain.proofs.Tables.{all_zip_next, columns-fit, HaveThese, table-plain}
 use Rattle.textwrap_plain.proofs.display.table.Goals.{in-AtBlanks, in-AtBreaks-ByPairs}

@@ -1,7 +1,6 @@
 use Rattle.textwrap_plain.proofs.texts.fill.Goals as goal
 use Rattle.textwrap_base.proofs.Common.{rules, string_bytes}
 use Rattle.std.proofs.lemmas.Result.{IfOk-weaker}
-use Rattle.textwrap_lines.proofs.Common.{HasPartsAt}
 use Rattle.textwrap_plain.proofs.Parts.{filled-at}
 use Rattle.textwrap_plain.proofs.Separators.{parts-separated, Separates, separates-blanks}
 use Rattle.textwrap_plain.proofs.Separators.{separates-breaks}

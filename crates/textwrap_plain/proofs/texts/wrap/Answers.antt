@@ -2,7 +2,6 @@ use Rattle.textwrap_plain.proofs.texts.wrap.Goals as goal
 use Rattle.textwrap_base.proofs.Common.{map, rules}
 use Rattle.textwrap_lines.proofs.Common.{line_view}
 use Rattle.std.proofs.lemmas.Result.{IfOk-weaker}
-use Rattle.textwrap_lines.proofs.Common.{HasPartsAt}
 use Rattle.textwrap_plain.proofs.Parts.{even-at, printed-at, wrapped-at}
 use Rattle.textwrap_plain.proofs.Separators.{parts-separated, Separates, separates-blanks}
 use Rattle.textwrap_plain.proofs.Separators.{separates-breaks}

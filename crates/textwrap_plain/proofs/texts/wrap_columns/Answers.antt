@@ -1,7 +1,6 @@
 use Rattle.textwrap_plain.proofs.texts.wrap_columns.Goals as goal
 use Rattle.textwrap_base.proofs.Common.{map, rules, string_bytes}
 use Rattle.std.proofs.lemmas.Result.{IfOk-weaker}
-use Rattle.textwrap_lines.proofs.Common.{HasPartsAt}
 use Rattle.textwrap_plain.proofs.Parts.{columns-at}
 use Rattle.textwrap_plain.proofs.Separators.{parts-separated, Separates, separates-blanks}
 use Rattle.textwrap_plain.proofs.Separators.{separates-breaks}

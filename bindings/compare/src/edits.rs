@@ -21,8 +21,14 @@ pub const EDITS: &[Edit] = &[
     Edit {
         name: "the separator is ignored where nothing else is a function",
         file: "src/options.rs",
-        old: "|| !matches!(self.word_separator, WordSeparator::AsciiSpace)",
+        old: "|| matches!(self.word_separator, WordSeparator::Custom(_))",
         new: "",
+    },
+    Edit {
+        name: "words stand between blanks, also where Unicode line breaks are asked for",
+        file: "src/options.rs",
+        old: "unicode_breaks: (self.word_separator == WordSeparator::UnicodeBreakProperties).into(),",
+        new: "unicode_breaks: 0,",
     },
     Edit {
         name: "CRLF is taken for LF",

@@ -57,8 +57,8 @@ pub const EDITS: &[Edit] = &[
     Edit {
         name: "an empty line has a word",
         file: "src/word_separators.rs",
-        old: "Ok(Box::new(words.filter(|_| !line.is_empty())))",
-        new: "Ok(Box::new(words))",
+        old: "Box::new(words.filter(|_| !line.is_empty()))",
+        new: "Box::new(words)",
     },
     Edit {
         name: "words with one hyphen are not split",

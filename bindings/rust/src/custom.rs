@@ -1,5 +1,4 @@
-//! Wrapping in which functions of the caller take part, or Unicode line breaks, paragraph by
-//! paragraph.
+//! Wrapping in which functions of the caller take part, paragraph by paragraph.
 //!
 //! The functions give the words, the points or the lines. What they give is checked here, and the
 //! library makes the pieces and the lines of it.
@@ -9,9 +8,8 @@ use crate::fallible::{push, push_line, unfill};
 use crate::room::{
     listed, reserve, room_for, text_room, LineText, OutOfMemory, Reported,
 };
-use crate::word_separators::unicode_cuts;
 use crate::{guess, sys};
-use crate::{Options, WordSeparator, WrapAlgorithm};
+use crate::{Options, WrapAlgorithm};
 use alloc::borrow::Cow;
 use alloc::string::String;
 use alloc::vec::Vec;
@@ -166,38 +164,8 @@ impl<'o> With<'o> {
 
     /// Where the words of a paragraph stand, and their points.
     fn places_in(&self, paragraph: &str) -> Result<Places, OutOfMemory> {
-        let Options { word_separator, word_splitter, .. } = self.options;
-        if matches!(word_separator, WordSeparator::UnicodeBreakProperties) {
-            let cuts = unicode_cuts(paragraph)?;
-            let points = self.points_between(&cuts, paragraph)?;
-            return Ok(Places { cuts, points });
-        }
-        let is_custom = matches!(word_separator, WordSeparator::Custom(_));
-        let (mut cuts, mut points) = (Vec::new(), Vec::new());
-        let mut start = 0;
-        for word in word_separator.words_of(paragraph)? {
-            let end = start + word.word.len() + word.whitespace.len();
-            if is_custom {
-                assert_stands_at(&word, start, paragraph);
-            }
-            if start == end {
-                continue;
-            }
-            let inside = word_splitter.points_inside(word.word)?;
-            reserve(&mut cuts, 1)?;
-            reserve(&mut points, inside.len())?;
-            if start > 0 {
-                cuts.push(start);
-            }
-            points.extend(inside.iter().map(|point| start + point));
-            start = end;
-        }
-        assert!(
-            start == paragraph.len(),
-            "the words of a WordSeparator::Custom have to tile the line; the rest {:?} of \
-             {paragraph:?} is in no word",
-            &paragraph[start..]
-        );
+        let cuts = self.options.word_separator.cuts_of(paragraph)?;
+        let points = self.points_between(&cuts, paragraph)?;
         Ok(Places { cuts, points })
     }
 
@@ -205,7 +173,9 @@ impl<'o> With<'o> {
     fn points_between(&self, cuts: &[usize], paragraph: &str) -> Result<Vec<usize>, OutOfMemory> {
         let mut points = Vec::new();
         let mut start = 0;
-        for &end in cuts.iter().chain(Some(&paragraph.len())) {
+        // An empty paragraph has no word.
+        let last = Some(paragraph.len()).filter(|&len| len > 0);
+        for end in cuts.iter().copied().chain(last) {
             let word = paragraph[start..end].trim_end_matches(' ');
             let inside = self.options.word_splitter.points_inside(word)?;
             reserve(&mut points, inside.len())?;
@@ -259,22 +229,6 @@ impl<'o> With<'o> {
         }));
         algorithm.ends_of(&fragments, line_widths)
     }
-}
-
-/// Panics unless a word is what `Word::from` makes of the part of the line at this place.
-fn assert_stands_at(word: &Word<'_>, start: usize, line: &str) {
-    let Word { word: text, whitespace, penalty, .. } = *word;
-    let rest = line.get(start..).and_then(|rest| rest.strip_prefix(text));
-    assert!(
-        rest.is_some_and(|rest| rest.starts_with(whitespace)),
-        "the words of a WordSeparator::Custom have to tile the line; {text:?} and {whitespace:?} \
-         do not stand at byte {start} of {line:?}"
-    );
-    assert!(
-        !text.ends_with(' ') && whitespace.trim_end_matches(' ').is_empty() && penalty.is_empty(),
-        "the words of a WordSeparator::Custom have to be as Word::from makes them, with the blanks \
-         at their end for whitespace and without a penalty; {word:?} is not"
-    );
 }
 
 /// Where lines of words end that a function of the caller gave.

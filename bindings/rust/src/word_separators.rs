@@ -5,7 +5,7 @@
 use crate::core::Word;
 use crate::options::Options;
 use crate::out_of_memory::{or_abort, OutOfMemory};
-use crate::room::{listed, Refusal};
+use crate::room::{listed, reserve, room_for, Refusal};
 use crate::sys;
 use crate::word_splitters::WordSplitter;
 use alloc::boxed::Box;
@@ -117,32 +117,34 @@ impl WordSeparator {
     ///
     /// If the function of a [`Custom`](WordSeparator::Custom) panics.
     pub fn find_words<'a>(&self, line: &'a str) -> Box<dyn Iterator<Item = Word<'a>> + 'a> {
-        or_abort(self.words_of(line))
+        if let WordSeparator::Custom(function) = self {
+            return function(line);
+        }
+        let cuts = or_abort(self.cuts_of(line));
+        let mut start = 0;
+        let words = cuts.into_iter().chain(Some(line.len())).map(move |end| {
+            let part = &line[start..end];
+            start = end;
+            Word::from(part)
+        });
+        // An empty line has no word, and no cut is at its end.
+        Box::new(words.filter(|_| !line.is_empty()))
     }
 
-    /// The same, with running out of memory as an error.
-    pub(crate) fn words_of<'a>(
-        &self,
-        line: &'a str,
-    ) -> Result<Box<dyn Iterator<Item = Word<'a>> + 'a>, OutOfMemory> {
+    /// Where a line is cut into its words.
+    ///
+    /// # Panics
+    /// If a function of the caller gives other words than those of the line.
+    pub(crate) fn cuts_of(&self, line: &str) -> Result<Vec<usize>, OutOfMemory> {
         match self {
             WordSeparator::AsciiSpace => {
                 let places = words_between_blanks(line)?;
-                Ok(Box::new(places.into_iter().map(move |place| Word::at(line, &place))))
+                let mut cuts = room_for(places.len())?;
+                cuts.extend(places.iter().skip(1).map(|place| place.offset));
+                Ok(cuts)
             }
-            WordSeparator::UnicodeBreakProperties => {
-                let cuts = unicode_cuts(line)?;
-                let ends = cuts.into_iter().chain(Some(line.len()));
-                let mut start = 0;
-                let words = ends.map(move |end| {
-                    let part = &line[start..end];
-                    start = end;
-                    Word::from(part)
-                });
-                // An empty line has no word, and no cut is at its end.
-                Ok(Box::new(words.filter(|_| !line.is_empty())))
-            }
-            WordSeparator::Custom(function) => Ok(function(line)),
+            WordSeparator::UnicodeBreakProperties => unicode_cuts(line),
+            WordSeparator::Custom(function) => cuts_between(function(line), line),
         }
     }
 }
@@ -151,6 +153,51 @@ impl Default for WordSeparator {
     fn default() -> Self {
         WordSeparator::new()
     }
+}
+
+/// Where a line is cut into these words of a function of the caller. Words without text and without
+/// whitespace are left out.
+///
+/// # Panics
+/// If the words do not tile the line.
+fn cuts_between<'a>(
+    words: impl Iterator<Item = Word<'a>>,
+    line: &str,
+) -> Result<Vec<usize>, OutOfMemory> {
+    let mut cuts = Vec::new();
+    let mut start = 0;
+    for word in words {
+        assert_stands_at(&word, start, line);
+        let len = word.word.len() + word.whitespace.len();
+        if len > 0 && start > 0 {
+            reserve(&mut cuts, 1)?;
+            cuts.push(start);
+        }
+        start += len;
+    }
+    assert!(
+        start == line.len(),
+        "the words of a WordSeparator::Custom have to tile the line; the rest {:?} of {line:?} is in \
+         no word",
+        &line[start..]
+    );
+    Ok(cuts)
+}
+
+/// Panics unless a word is what `Word::from` makes of the part of the line at this place.
+fn assert_stands_at(word: &Word<'_>, start: usize, line: &str) {
+    let Word { word: text, whitespace, penalty, .. } = *word;
+    let rest = line.get(start..).and_then(|rest| rest.strip_prefix(text));
+    assert!(
+        rest.is_some_and(|rest| rest.starts_with(whitespace)),
+        "the words of a WordSeparator::Custom have to tile the line; {text:?} and {whitespace:?} \
+         do not stand at byte {start} of {line:?}"
+    );
+    assert!(
+        !text.ends_with(' ') && whitespace.trim_end_matches(' ').is_empty() && penalty.is_empty(),
+        "the words of a WordSeparator::Custom have to be as Word::from makes them, with the blanks \
+         at their end for whitespace and without a penalty; {word:?} is not"
+    );
 }
 
 /// Where the words between blanks stand: they are the pieces if words are neither split nor broken,

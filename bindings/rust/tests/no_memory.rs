@@ -6,7 +6,7 @@ use std::cell::Cell;
 use std::fmt::Debug;
 use std::ptr::null_mut;
 use textwrap_proved::display::{self, Alignment, Column, Gaps};
-use textwrap_proved::{fallible, Options, OutOfMemory, WordSeparator};
+use textwrap_proved::{fallible, Options, OutOfMemory, WordSeparator, WordSplitter};
 
 /// The heap of the system, but that it refuses an allocation where it is told to.
 struct Refusing;
@@ -67,14 +67,17 @@ where
 
 const TEXT: &str = "To be, or not to-be: that is\n\nthe 日本語 question";
 
-/// Options of each kind that the crate tells apart.
-fn each_options() -> [Options<'static>; 4] {
+/// Options of each kind that the crate tells apart: of the last two a function splits no word.
+fn each_options() -> [Options<'static>; 6] {
     let options = Options::new(9).initial_indent("* ").subsequent_indent("  ");
+    let whole = options.clone().word_splitter(WordSplitter::Custom(|_| Vec::new()));
     [
         Options::new(9).word_separator(WordSeparator::UnicodeBreakProperties),
         options.clone().word_separator(WordSeparator::UnicodeBreakProperties),
         Options::new(9).word_separator(WordSeparator::AsciiSpace),
         options.word_separator(WordSeparator::AsciiSpace),
+        whole.clone().word_separator(WordSeparator::UnicodeBreakProperties),
+        whole.word_separator(WordSeparator::AsciiSpace),
     ]
 }
 

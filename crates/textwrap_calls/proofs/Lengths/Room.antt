@@ -45,7 +45,7 @@ lines-fit options len bound is text utf8 len_is lines places placed =
       arith,
       len_is,
       counted-lines (settings_of options) (separator_of options) (splitter_of options)
-      (algorithm_of options) text lines
+          (algorithm_of options) text lines
           utf8 placed.are,
     )) is
 

@@ -10,7 +10,7 @@ use Rattle.std.proofs.lemmas.Nat.{mul-le}
 use Rattle.std.proofs.lemmas.List.FromFn.{length-range_with_len}
 use Rattle.textwrap.specs.Columns.{IsInColumns, layout_of, at_column_width, row_count}
 use Rattle.textwrap.specs.Columns.{column_width, inner_width, row_text, cells}
-use Rattle.textwrap_lines.proofs.Common.{Line, DividesAt}
+use Rattle.textwrap_lines.proofs.Common.{Line}
 use Rattle.textwrap_lines.proofs.Common.{line_bytes, built_text}
 use Rattle.textwrap_lines.specs.Paragraph.{Built}
 use Rattle.textwrap_calls.specs.Bounds.{capped, columns_room_bound, rows_bound, Suffices}

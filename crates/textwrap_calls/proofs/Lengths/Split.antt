@@ -1,11 +1,11 @@
 -- Words that cover some bytes are split into pieces that each cover some.
-use Rattle.textwrap_base.proofs.Common.{◌≡◌, ◌≢◌, ℕ, zero, suc, ◌+◌, ◌-◌, ◌<◌, ◌≤◌, List, [], ◌∷◌, ◌++◌}
+use Rattle.textwrap_base.proofs.Common.{◌≢◌, ℕ, zero, suc, ◌+◌, ◌-◌, ◌<◌, ◌≤◌, List, [], ◌∷◌}
 use Rattle.textwrap_base.proofs.Common.{All, All-append, All-cons, All-head, All-nil, All-tail, ap}
 use Rattle.textwrap_base.proofs.Common.{arith, drop, length, length-append, length-drop, map}
 use Rattle.std.proofs.lemmas.List.Elements.{All-filter}
 use Rattle.std.proofs.lemmas.List.FromFn.{get_or-range_with_len, length-range_with_len}
 use Rattle.std.proofs.lemmas.List.Kept.{IsStrictlyIncreasing-filter}
-use Rattle.std.specs.List.{filter, range_with_len, slice_range}
+use Rattle.std.specs.List.{range_with_len, slice_range}
 use Rattle.std.specs.List.Sorted.{IsStrictlyIncreasing}
 use Rattle.textwrap_base.proofs.Lists.Parts.{length-slice, some_from_nonempty}
 use Rattle.textwrap_base.proofs.Lists.Ranges.{range-within}

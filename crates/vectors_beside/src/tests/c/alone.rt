@@ -21,7 +21,12 @@ fn columns_are_counted(rt: HostRuntime) {
 }
 
 /// Whether a text has these breaks, each with whether a line must end there.
-fn has_breaks(alloc: Global, text: &[u8], unicode_breaks: u32, expected: &[(usize, usize)]) -> bool {
+fn has_breaks(
+    alloc: Global,
+    text: &[u8],
+    unicode_breaks: u32,
+    expected: &[(usize, usize)],
+) -> bool {
     let mut breaks = [NO_BREAK; 4];
     let mut count = BEFORE;
     let status = textwrap_line_breaks(alloc, text, unicode_breaks, &mut breaks, &mut count);

@@ -362,9 +362,8 @@ typedef struct {
     size_t width;          /* its columns */
 } textwrap_piece;
 
-/* Writes the pieces that textwrap_wrap divides a paragraph into lines of: its words, between blanks,
- * split and broken as the options say. With words neither split nor broken these are its words. If
- * words are broken and there is an initial indent, an empty piece stands before them. A paragraph has
+/* Writes the pieces that textwrap_wrap divides a paragraph into lines of: its words, split and broken
+ * as the options say. With words neither split nor broken these are its words. If words are broken and there is an initial indent, an empty piece stands before them. A paragraph has
  * no line ending; one in it is taken for a character. */
 TEXTWRAP_CHECKED
 textwrap_status textwrap_pieces(const uint8_t *paragraph, size_t paragraph_len,

@@ -363,8 +363,9 @@ typedef struct {
 } textwrap_piece;
 
 /* Writes the pieces that textwrap_wrap divides a paragraph into lines of: its words, split and broken
- * as the options say. With words neither split nor broken these are its words. If words are broken and there is an initial indent, an empty piece stands before them. A paragraph has
- * no line ending; one in it is taken for a character. */
+ * as the options say. With words neither split nor broken these are its words. If words are broken and
+ * there is an initial indent, an empty piece stands before them. A paragraph has no line ending; one
+ * in it is taken for a character. */
 TEXTWRAP_CHECKED
 textwrap_status textwrap_pieces(const uint8_t *paragraph, size_t paragraph_len,
                                 const textwrap_options *options, textwrap_piece *pieces,

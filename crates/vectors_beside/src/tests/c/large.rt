@@ -256,14 +256,14 @@ const PIECES: &[(PiecesCall<'_>, (u32, usize), PiecePlace)] = &[
         (DONE, 2 * LINES + 1),
         (LEN - 4, 4, 0, 0, 3),
     ),
-    // No line feed is part of a word.
+    // A line may end after each line feed, so these are more than there is room for.
     (
         PiecesCall::Pieces(TextwrapOptions {
             unicode_breaks: 1,
             ..AT_80
         }),
-        (DONE, 3 * LINES),
-        (LEN - 4, 4, 0, 0, 3),
+        (TOO_SMALL, 3 * LINES),
+        NO_PLACE,
     ),
     // Its lines have 11 columns each.
     (

@@ -8,9 +8,8 @@ ghost use Rattle.textwrap.specs.declared.LineEnding.TheVariants.{LF};
 
 use std::alloc::Global;
 use std::borrow::CowStr;
-use textwrap::word_separators::LineCuts;
-use textwrap::{LineEnding, Options, WordSeparator, WrapError, wrap};
-use textwrap_unicode::unicode_cuts;
+use textwrap::WrapError;
+use textwrap_plain::{PlainOptions, wrap};
 
 /// The lines of a text at this width, which end where UAX #14 allows it: at 8 columns
 /// `これは「ペン」です。` has the lines `これは`, `「ペン」` and `です。`, none of which begins with the
@@ -27,10 +26,6 @@ pub fn lines_in_any_language<'t>(
         × (map covered_by groups ≡ paragraphs_of LF text.now)
         × All LeavesOffBlanks (flat_map (λ parts. parts) groups)) }
 {
-    let line_cuts = LineCuts::new(alloc, unicode_cuts);
-    let options = Options::new(width)
-        .line_ending(LineEnding::LF)
-        .word_separator(WordSeparator::Custom(line_cuts));
-    let lines = wrap(alloc, text, options)?;
+    let lines = wrap(alloc, text, &PlainOptions::new(width))?;
     Ok(lines)
 }

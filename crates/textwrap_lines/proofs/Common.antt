@@ -5,7 +5,7 @@ pub use Rattle.textwrap_lines.specs.LineEnding.{ending_bytes, join_with, line_fe
 pub use Rattle.textwrap_lines.specs.LineEnding.{parts_past}
 pub use Rattle.textwrap_lines.specs.LineSinks.{Took}
 pub use Rattle.textwrap_lines.specs.Options.{HasParts, HasPartsAt, MayOverflow, Settings}
-pub use Rattle.textwrap_lines.specs.Options.{settings_view}
+pub use Rattle.textwrap_lines.specs.Options.{layout_view, settings_view}
 pub use Rattle.textwrap_lines.specs.Paragraph.{AreDividedParts, AreIndented, AreParagraphParts}
 pub use Rattle.textwrap_lines.specs.Paragraph.{ArePieces, assembled_line, broken_pieces_of, covered}
 pub use Rattle.textwrap_lines.specs.Paragraph.{DividesAs, DividesAt, pieces_by}
@@ -33,7 +33,6 @@ pub use Rattle.textwrap_lines.specs.PieceLines.{with_piece}
 pub use Rattle.textwrap_words.specs.Units.{IsPrintable, IsPrintableByte}
 pub use Rattle.textwrap_base.specs.declared.penalties.Penalties.{Penalties}
 pub use Rattle.textwrap_lines.specs.declared.line_ending.LineEnding.{LineEnding}
-pub use Rattle.textwrap_lines.specs.declared.line_sinks.LineSink.{LineSink}
 pub use Rattle.textwrap_lines.specs.declared.options.Options.{Options}
 pub use Rattle.textwrap_lines.specs.declared.spans.Span.{Span}
 pub use Rattle.textwrap_lines.specs.declared.piece_lines.OpenLine.{OpenLine}

@@ -1,11 +1,8 @@
 -- What is divided without a list of words.
-use Rattle.std.specs.Prelude.{◌≡◌, Some}
-use Rattle.textwrap_words.specs.WordSplitters.{Splitter, splitter_view}
-use Rattle.textwrap_lines.specs.declared.options.Options.{Options}
-use Rattle.textwrap_words.specs.declared.word_separators.WordSeparator.TheVariants.{AsciiSpace}
+use Rattle.textwrap_words.specs.WrapAlgorithms.{Algorithm, Greedy, LeastCost}
+use Rattle.textwrap_lines.specs.declared.any_options.BuiltInAlgorithm as algorithms
 
--- words between blanks, split by this built-in splitter
-pub record IsDirect {E C : Type 0} {e : _} {c : _} (o : Options E C e c) (splitter : Splitter)
-    : Type 0 where
-  pub separator : o.word_separator ≡ AsciiSpace
-  pub splitter_is : splitter_view o.word_splitter ≡ Some splitter
+-- a built-in algorithm as a value of the logic
+abbrev pub as_algorithm : algorithms.BuiltInAlgorithm → Algorithm
+as_algorithm algorithms.TheVariants.FirstFit = Greedy
+as_algorithm (algorithms.TheVariants.LeastCost penalties) = LeastCost penalties

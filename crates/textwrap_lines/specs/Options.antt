@@ -8,6 +8,7 @@ use Rattle.textwrap_words.specs.WordSplitters.{Splitter, AtHyphens, splitter_vie
 use Rattle.textwrap_words.specs.Words.{WordText}
 use Rattle.textwrap_lines.specs.declared.line_ending.LineEnding.{LineEnding}
 use Rattle.textwrap_lines.specs.declared.line_ending.LineEnding.TheVariants.{LF}
+use Rattle.textwrap_lines.specs.declared.layout.Layout.{Layout}
 use Rattle.textwrap_lines.specs.declared.options.Options.{Options}
 use Rattle.textwrap_words.specs.declared.word_separators.WordSeparator.TheVariants.{AsciiSpace}
 
@@ -30,6 +31,18 @@ settings_view o = record {
   break_words = o.break_words;
   preserve_trailing_space = o.preserve_trailing_space;
   even_paragraphs = o.even_paragraphs;
+}
+
+-- the same of options without their methods
+abbrev pub layout_view : Layout → Settings
+layout_view l = record {
+  width = l.width;
+  line_ending = l.line_ending;
+  initial_indent = l.initial_indent.now;
+  subsequent_indent = l.subsequent_indent.now;
+  break_words = l.break_words;
+  preserve_trailing_space = l.preserve_trailing_space;
+  even_paragraphs = l.even_paragraphs;
 }
 
 -- how words are found, split and divided stays as it was

@@ -12,6 +12,7 @@ use Rattle.textwrap_words.specs.WordSplitters.{Splitter}
 use Rattle.textwrap_words.specs.WrapAlgorithms.{Algorithm, Greedy}
 use Rattle.textwrap_lines.specs.Paragraph.{Line, LineParts, line_bytes, line_from, AreParagraphParts}
 use Rattle.textwrap_lines.specs.Paragraph.{IsOneCharacter, MayPass64BitsUnder}
+use Rattle.textwrap_lines.specs.declared.line_ending.LineEnding.{LineEnding}
 use Rattle.textwrap_lines.specs.declared.options.Options.{Options}
 use Rattle.textwrap_lines.specs.Paragraph.{AreIndented, KeepToWidths, KeepsToWidth}
 use Rattle.textwrap_lines.specs.Paragraph.{DividesByDefault}
@@ -34,13 +35,17 @@ pub record AreTextLines (settings : Settings)
       (paragraphs_of settings.line_ending text) groups
   pub given : lines ≡ map line_from (flat_map (λ parts. parts) groups)
 
+-- this holds of some paragraph of the text
+abbrev pub HasParagraphThat : (List ℕ → Type 0) → LineEnding → List ℕ → Type 0
+HasParagraphThat Holds ending text =
+    (before : List (List ℕ)) × (paragraph : List ℕ) × (after : List (List ℕ))
+    × (paragraphs_of ending text ≡ before ++ paragraph ∷ after) × Holds paragraph
+
 -- under these settings some paragraph of the text may have pieces whose widths pass 64 bits together
 abbrev pub SomeMayPass64BitsUnder : {E C : Type 0} {e : _} {c : _} → Options E C e c → Settings
     → List ℕ → Type 0
-SomeMayPass64BitsUnder o settings text =
-    (before : List (List ℕ)) × (paragraph : List ℕ) × (after : List (List ℕ))
-    × (paragraphs_of settings.line_ending text ≡ before ++ paragraph ∷ after)
-    × MayPass64BitsUnder o settings paragraph
+SomeMayPass64BitsUnder o settings =
+    HasParagraphThat (MayPass64BitsUnder o settings) settings.line_ending
 
 abbrev pub SomeMayPass64Bits : {E C : Type 0} {e : _} {c : _} → Options E C e c → List ℕ → Type 0
 SomeMayPass64Bits o = SomeMayPass64BitsUnder o (settings_view o)

@@ -11,15 +11,14 @@ ghost use Rattle.textwrap_words.specs.Pieces.{as_splitter};
 ghost use Rattle.textwrap_words.specs.Words.{WordText, sizes_of};
 ghost use Rattle.textwrap_lines.specs.Cheapest.{SuitSearch};
 ghost use Rattle.textwrap_lines.specs.LineSinks.{Took};
-ghost use Rattle.textwrap_lines.specs.Options.{settings_view};
+ghost use Rattle.textwrap_lines.specs.Options.{layout_view};
 ghost use Rattle.textwrap_lines.specs.Paragraph.{parts_from, pieces_of, widths_of};
 ghost use Rattle.textwrap_lines.specs.Places.{cut_lines};
 ghost use Rattle.textwrap_lines.specs.Spans.{AreSpans, HaveTexts, MayBeLast, span_line, span_lines};
 ghost use Rattle.textwrap_lines.specs.Spans.{span_priced};
 
-use crate::layout::{line_widths, next_indent};
+use crate::layout::{Layout, line_widths, next_indent};
 use crate::line_sinks::LineSink;
-use crate::options::Options;
 use crate::spans::{Span, find_spans};
 use std::alloc::{AllocError, Allocator};
 use textwrap_base::inner::{line_cost, lines_by};
@@ -36,16 +35,16 @@ const LIMIT: usize = 1 << 62;
 /// where a number is too great. `is_later` says that a line stands before it.
 pub(crate) fn suits_search(
     paragraph: &str,
-    options: &Options<'_>,
+    layout: &Layout<'_>,
     is_later: bool,
     penalties: &Penalties,
 ) -> bool
     ensures some { IsTrue result → 0 < length paragraph.now }
     ensures suits { IsTrue result → SuitSearch (length paragraph.now)
-        (widths_of (settings_view options.now) is_later) penalties.now }
+        (widths_of (layout_view layout.now) is_later) penalties.now }
 {
     let none: [Word<'_>; 0] = [];
-    let (first_width, later_width) = line_widths(options, is_later);
+    let (first_width, later_width) = line_widths(layout, is_later);
     0 < paragraph.len()
         && paragraph.len() <= LIMIT
         && is_queue_case(&none, &[first_width, later_width], penalties)
@@ -56,29 +55,30 @@ pub(crate) fn suits_search(
 ///
 /// # Errors
 /// [`AllocError`] where memory runs out.
-pub(crate) fn push_cheapest_lines<'t, A: Allocator + Copy>(
+pub(crate) fn push_cheapest_lines<'t, A: Allocator + Copy, S: LineSink<'t, A>>(
     alloc: A,
     paragraph: &'t str,
-    options: &Options<'_>,
+    layout: &Layout<'_>,
     is_later: bool,
     splitter: BuiltInSplitter,
     penalties: &Penalties,
-    lines: &mut LineSink<'t, A>,
+    lines: &mut S,
 ) -> Result<(), AllocError>
     requires some { 0 < length paragraph.now }
     requires suits { SuitSearch (length paragraph.now)
-        (widths_of (settings_view options.now) is_later) penalties.now }
-    ensures { OnOk result ((division : List (List WordText))
+        (widths_of (layout_view layout.now) is_later) penalties.now }
+    ensures name { S.name lines.new ≡ S.name lines.old }
+    ensures took { OnOk result ((division : List (List WordText))
         × IsByOptimalFit (λ w. priced_at penalties.now (sizes_of w)) penalties.now
-        (widths_of (settings_view options.now) is_later)
-        (pieces_of (settings_view options.now) (as_splitter splitter) paragraph.now) division
-        × Took lines.old lines.new (cut_lines 0
-        (parts_from (settings_view options.now) is_later division))) }
+        (widths_of (layout_view layout.now) is_later)
+        (pieces_of (layout_view layout.now) (as_splitter splitter) paragraph.now) division
+        × Took S.holds lines.old lines.new (cut_lines 0
+        (parts_from (layout_view layout.now) is_later division))) }
 {
-    let spans = find_spans(alloc, paragraph, options, splitter)?;
-    let (first_width, later_width) = line_widths(options, is_later);
+    let spans = find_spans(alloc, paragraph, layout, splitter)?;
+    let (first_width, later_width) = line_widths(layout, is_later);
     let division = cheapest_lines(alloc, &spans, &[first_width, later_width], penalties)?;
-    push_lines(alloc, paragraph, &division, options, is_later, lines)
+    push_lines(alloc, paragraph, &division, layout, is_later, lines)
 }
 
 /// The lines of least cost of some pieces.
@@ -142,23 +142,24 @@ impl CostSource for SpanCosts<'_, '_> {
 }
 
 /// Pushes the line of each list of pieces.
-fn push_lines<'t, A: Allocator + Copy>(
+fn push_lines<'t, A: Allocator + Copy, S: LineSink<'t, A>>(
     alloc: A,
     paragraph: &'t str,
     division: &[&[Span]],
-    options: &Options<'_>,
+    layout: &Layout<'_>,
     is_later: bool,
-    lines: &mut LineSink<'t, A>,
+    lines: &mut S,
 ) -> Result<(), AllocError>
     requires { HaveTexts paragraph.now 0 (map (λ line. line.now) division.now) }
-    ensures { OnOk result (Took lines.old lines.new (span_lines (settings_view options.now)
+    ensures name { S.name lines.new ≡ S.name lines.old }
+    ensures took { OnOk result (Took S.holds lines.old lines.new (span_lines (layout_view layout.now)
         paragraph.now is_later 0 (map (λ line. line.now) division.now))) }
 {
     let mut start = 0;
     let mut has_line = is_later;
     for line in division {
         let last = &line[line.len() - 1];
-        push_line(alloc, paragraph, start, last, options, has_line, lines)?;
+        push_line(alloc, paragraph, start, last, layout, has_line, lines)?;
         start = last.end;
         has_line = true;
     }
@@ -166,24 +167,25 @@ fn push_lines<'t, A: Allocator + Copy>(
 }
 
 /// Pushes the line that begins at `start` and ends with the piece `last`.
-fn push_line<'t, A: Allocator + Copy>(
+fn push_line<'t, A: Allocator + Copy, S: LineSink<'t, A>>(
     alloc: A,
     paragraph: &'t str,
     start: usize,
     last: &Span,
-    options: &Options<'_>,
+    layout: &Layout<'_>,
     is_later: bool,
-    lines: &mut LineSink<'t, A>,
+    lines: &mut S,
 ) -> Result<(), AllocError>
     requires { MayBeLast paragraph.now start last.now }
-    ensures { OnOk result (Took lines.old lines.new
-        (span_line (settings_view options.now) paragraph.now is_later start last.now ∷ [])) }
+    ensures name { S.name lines.new ≡ S.name lines.old }
+    ensures took { OnOk result (Took S.holds lines.old lines.new
+        (span_line (layout_view layout.now) paragraph.now is_later start last.now ∷ [])) }
 {
-    let end = if options.preserve_trailing_space {
+    let end = if layout.preserve_trailing_space {
         last.end
     } else {
         last.word_end
     };
     let slice = &paragraph[start..end];
-    lines.push_line(alloc, next_indent(options, is_later), start, slice, "")
+    lines.push_line(alloc, next_indent(layout, is_later), start, slice, "")
 }

@@ -8,17 +8,17 @@ ghost use Rattle.textwrap_base.specs.Division.{IsGreedy};
 ghost use Rattle.textwrap_words.specs.Pieces.{as_splitter};
 ghost use Rattle.textwrap_words.specs.Units.{IsPrintable};
 ghost use Rattle.textwrap_words.specs.Words.{WordText, sizes_of};
-ghost use Rattle.textwrap_lines.specs.Direct.{IsDirect};
+ghost use Rattle.textwrap_lines.specs.Direct.{as_algorithm};
 ghost use Rattle.textwrap_lines.specs.LineSinks.{Took};
-ghost use Rattle.textwrap_lines.specs.Options.{settings_view};
-ghost use Rattle.textwrap_lines.specs.Paragraph.{DividesBy, later_width, parts_from, pieces_of};
+ghost use Rattle.textwrap_lines.specs.Options.{HasParts, layout_view, settings_view};
+ghost use Rattle.textwrap_lines.specs.Paragraph.{later_width, parts_from, pieces_of};
 ghost use Rattle.textwrap_lines.specs.Paragraph.{widths_of};
 ghost use Rattle.textwrap_lines.specs.Places.{cut_lines};
-ghost use Rattle.textwrap_words.specs.WordSplitters.{splitter_view};
 
+use crate::any_options::{AnyOptions, BuiltInAlgorithm, BuiltInParts};
 use crate::cheapest::{push_cheapest_lines, suits_search};
 use crate::first_line::push_first_line;
-use crate::layout::{later_width, line_widths};
+use crate::layout::{Layout, later_width, line_widths};
 use crate::line_sinks::LineSink;
 use crate::options::Options;
 use crate::piece_lines::push_lines_by_pieces;
@@ -43,65 +43,80 @@ use textwrap_words::wrap_algorithms::WrapAlgorithm;
 ///
 /// # Errors
 /// [`AllocError`] where memory runs out.
-pub(crate) fn push_directly<'t, A: Allocator + Copy>(
+pub(crate) fn push_directly<'t, A: Allocator + Copy, S: LineSink<'t, A>, O: AnyOptions<A>>(
     alloc: A,
     paragraph: &'t str,
-    options: &Options<'_>,
+    options: &O,
     is_later: bool,
-    lines: &mut LineSink<'t, A>,
+    lines: &mut S,
 ) -> Result<bool, AllocError>
+    ensures name { S.name lines.new ≡ S.name lines.old }
     ensures pushed { IfOk result (λ pushed. IsTrue pushed → (division : List (List WordText))
-        × DividesBy options.now is_later paragraph.now division
-        × Took lines.old lines.new (cut_lines 0
-        (parts_from (settings_view options.now) is_later division))) }
+        × O.divides options.now is_later paragraph.now division
+        × Took S.holds lines.old lines.new (cut_lines 0
+        (parts_from (O.settings options.now) is_later division))) }
     ensures kept { IfOk result (λ pushed. pushed ≡ false → lines.new ≡ lines.old) }
 {
-    let Some(splitter) = built_in_splitter(options) else {
+    let Some(
+        BuiltInParts {
+            splitter,
+            algorithm,
+        },
+    ) = options.built_in_parts()
+    else {
         return Ok(false);
     };
-    match options.wrap_algorithm {
-        WrapAlgorithm::FirstFit if can_jump(paragraph, options) => {
-            push_by_jumps(alloc, paragraph, options, is_later, splitter, lines)?;
+    let layout = options.layout();
+    match algorithm {
+        BuiltInAlgorithm::FirstFit if can_jump(paragraph, &layout) => {
+            push_by_jumps(alloc, paragraph, &layout, is_later, splitter, lines)?;
         }
-        WrapAlgorithm::FirstFit => {
-            push_lines_by_pieces(alloc, paragraph, options, is_later, splitter, lines)?;
+        BuiltInAlgorithm::FirstFit => {
+            push_lines_by_pieces(alloc, paragraph, &layout, is_later, splitter, lines)?;
         }
-        WrapAlgorithm::OptimalFit(penalties) => {
-            if !suits_search(paragraph, options, is_later, &penalties) {
+        BuiltInAlgorithm::LeastCost(penalties) => {
+            if !suits_search(paragraph, &layout, is_later, &penalties) {
                 return Ok(false);
             }
             push_cheapest_lines(
-                alloc, paragraph, options, is_later, splitter, &penalties, lines,
+                alloc, paragraph, &layout, is_later, splitter, &penalties, lines,
             )?;
         }
-        WrapAlgorithm::Custom(_) => return Ok(false),
     }
     Ok(true)
 }
 
-/// The built-in splitter of the options, if they have one and words stand between blanks.
-fn built_in_splitter(options: &Options<'_>) -> Option<BuiltInSplitter>
-    ensures { IfSome result (λ splitter. IsDirect options.now (as_splitter splitter)) }
+/// The built-in parts of options, if they have some and words stand between blanks.
+pub(crate) fn built_in_parts(options: &Options<'_>) -> Option<BuiltInParts>
+    ensures { IfSome result (λ parts. HasParts options.now (settings_view options.now)
+        (as_splitter parts.splitter) (as_algorithm parts.algorithm)) }
 {
-    match (options.word_separator, options.word_splitter) {
-        (WordSeparator::AsciiSpace, WordSplitter::NoHyphenation) => {
-            Some(BuiltInSplitter::NoHyphenation)
-        }
+    let splitter = match (options.word_separator, options.word_splitter) {
+        (WordSeparator::AsciiSpace, WordSplitter::NoHyphenation) => BuiltInSplitter::NoHyphenation,
         (WordSeparator::AsciiSpace, WordSplitter::HyphenSplitter) => {
-            Some(BuiltInSplitter::HyphenSplitter)
+            BuiltInSplitter::HyphenSplitter
         }
-        _ => None,
-    }
+        _ => return None,
+    };
+    let algorithm = match options.wrap_algorithm {
+        WrapAlgorithm::FirstFit => BuiltInAlgorithm::FirstFit,
+        WrapAlgorithm::OptimalFit(penalties) => BuiltInAlgorithm::LeastCost(penalties),
+        WrapAlgorithm::Custom(_) => return None,
+    };
+    Some(BuiltInParts {
+        splitter,
+        algorithm,
+    })
 }
 
 /// Whether the lines of a paragraph are found from their starts by their widths: if it is printable
 /// ASCII, not empty, and its later lines have room beside their indent.
-fn can_jump(paragraph: &str, options: &Options<'_>) -> bool
+fn can_jump(paragraph: &str, layout: &Layout<'_>) -> bool
     ensures printable { IsTrue result → IsPrintable paragraph.now }
     ensures some { IsTrue result → 0 < length paragraph.now }
-    ensures room { IsTrue result → 0 < later_width (settings_view options.now) }
+    ensures room { IsTrue result → 0 < later_width (layout_view layout.now) }
 {
-    later_width(options) > 0 && !paragraph.is_empty() && is_printable(paragraph.as_bytes())
+    later_width(layout) > 0 && !paragraph.is_empty() && is_printable(paragraph.as_bytes())
 }
 
 /// Pushes the lines of a printable paragraph by first fit, with words split by the splitter, without
@@ -109,28 +124,29 @@ fn can_jump(paragraph: &str, options: &Options<'_>) -> bool
 ///
 /// # Errors
 /// [`AllocError`] where memory runs out.
-fn push_by_jumps<'t, A: Allocator + Copy>(
+fn push_by_jumps<'t, A: Allocator + Copy, S: LineSink<'t, A>>(
     alloc: A,
     paragraph: &'t str,
-    options: &Options<'_>,
+    layout: &Layout<'_>,
     is_later: bool,
     splitter: BuiltInSplitter,
-    lines: &mut LineSink<'t, A>,
+    lines: &mut S,
 ) -> Result<(), AllocError>
     requires printable { IsPrintable paragraph.now }
     requires some { 0 < length paragraph.now }
-    requires room { 0 < later_width (settings_view options.now) }
-    ensures { OnOk result ((division : List (List WordText))
-        × IsGreedy sizes_of (widths_of (settings_view options.now) is_later)
-        (pieces_of (settings_view options.now) (as_splitter splitter) paragraph.now) division
-        × Took lines.old lines.new (cut_lines 0
-        (parts_from (settings_view options.now) is_later division))) }
+    requires room { 0 < later_width (layout_view layout.now) }
+    ensures name { S.name lines.new ≡ S.name lines.old }
+    ensures took { OnOk result ((division : List (List WordText))
+        × IsGreedy sizes_of (widths_of (layout_view layout.now) is_later)
+        (pieces_of (layout_view layout.now) (as_splitter splitter) paragraph.now) division
+        × Took S.holds lines.old lines.new (cut_lines 0
+        (parts_from (layout_view layout.now) is_later division))) }
 {
-    let (first_width, later_width) = line_widths(options, is_later);
+    let (first_width, later_width) = line_widths(layout, is_later);
     if first_width == later_width {
-        return push_printable_lines(alloc, paragraph, 0, options, is_later, splitter, lines);
+        return push_printable_lines(alloc, paragraph, 0, layout, is_later, splitter, lines);
     }
     // A first line with a width of its own is found piece by piece.
-    let end = push_first_line(alloc, paragraph, options, is_later, splitter, lines)?;
-    push_printable_lines(alloc, paragraph, end, options, true, splitter, lines)
+    let end = push_first_line(alloc, paragraph, layout, is_later, splitter, lines)?;
+    push_printable_lines(alloc, paragraph, end, layout, true, splitter, lines)
 }

@@ -9,7 +9,7 @@ ghost use Rattle.textwrap_lines.specs.Filling.{IsFilled};
 ghost use Rattle.textwrap_lines.specs.Text.{SomeMayPass64Bits};
 
 use crate::line_ending::LineEnding;
-use crate::line_sinks::LineSink;
+use crate::line_sinks::{JoinedLines, ListedLines};
 use crate::options::Options;
 use crate::wrapping::{Way, push_text};
 use std::alloc::{AllocError, Allocator};
@@ -41,9 +41,13 @@ pub fn fill<A: Allocator + Copy>(
 {
     // This is enough but where lines end inside words or have indents, or the ending is CRLF.
     let filled = String::with_capacity(alloc, text.len())?;
-    let mut lines = LineSink::joined(filled, options.line_ending);
+    let mut lines = JoinedLines {
+        text: filled,
+        line_ending: options.line_ending,
+        begun: false,
+    };
     push_text(alloc, text, &options, Way::Shortest, &mut lines)?;
-    Ok(lines.into_text())
+    Ok(lines.text)
 }
 
 /// The same text as [`fill`](crate::fill), always by lists of words, of pieces and of lines, but
@@ -70,9 +74,10 @@ pub fn fill_slow_path<A: Allocator + Copy>(
     ensures no_overflow { ¬ SomeMayPass64Bits options.entry text.now
         → IfErr result (λ error. error ≡ WrapError.Memory alloc_error) }
 {
-    let mut lines = LineSink::listed(alloc);
+    let mut list = Vec::new(alloc);
+    let mut lines = ListedLines { lines: &mut list };
     push_text(alloc, text, &options, Way::ByLists, &mut lines)?;
-    Ok(join_lines(alloc, &lines.into_list(), options.line_ending)?)
+    Ok(join_lines(alloc, &list, options.line_ending)?)
 }
 
 /// The lines with the line ending between each two.

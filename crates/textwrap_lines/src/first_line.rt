@@ -3,13 +3,12 @@
 ghost use Rattle.std.specs.Prelude.{◌≡◌, List, [], ◌∷◌, IsCharBoundary, IfOk};
 ghost use Rattle.textwrap_words.specs.Pieces.{as_splitter};
 ghost use Rattle.textwrap_lines.specs.LineSinks.{Took};
-ghost use Rattle.textwrap_lines.specs.Options.{settings_view};
+ghost use Rattle.textwrap_lines.specs.Options.{layout_view};
 ghost use Rattle.textwrap_lines.specs.Places.{CutLine};
 ghost use Rattle.textwrap_lines.specs.PieceLines.{IsFirstUpTo, line_of, line_so_far};
 
-use crate::layout::{break_limit, has_front, line_widths, next_indent};
+use crate::layout::{Layout, break_limit, has_front, line_widths, next_indent};
 use crate::line_sinks::LineSink;
-use crate::options::Options;
 use crate::piece_lines::OpenLine;
 use std::alloc::{AllocError, Allocator};
 use textwrap_words::inner::{BuiltInSplitter, next_piece};
@@ -19,40 +18,41 @@ use textwrap_words::inner::{BuiltInSplitter, next_piece};
 ///
 /// # Errors
 /// [`AllocError`] where memory runs out.
-pub(crate) fn push_first_line<'t, A: Allocator + Copy>(
+pub(crate) fn push_first_line<'t, A: Allocator + Copy, S: LineSink<'t, A>>(
     alloc: A,
     paragraph: &'t str,
-    options: &Options<'_>,
+    layout: &Layout<'_>,
     is_later: bool,
     splitter: BuiltInSplitter,
-    lines: &mut LineSink<'t, A>,
+    lines: &mut S,
 ) -> Result<usize, AllocError>
+    ensures name { S.name lines.new ≡ S.name lines.old }
     ensures boundary { IfOk result (λ end. IsCharBoundary paragraph.now end) }
-    ensures first { IfOk result (λ end. (line : CutLine) × Took lines.old lines.new (line ∷ [])
-        × IsFirstUpTo (settings_view options.now) (as_splitter splitter) is_later paragraph.now
+    ensures first { IfOk result (λ end. (line : CutLine) × Took S.holds lines.old lines.new (line ∷ [])
+        × IsFirstUpTo (layout_view layout.now) (as_splitter splitter) is_later paragraph.now
         line end) }
 {
-    let line = first_line(paragraph, options, is_later, splitter);
-    line.push_to(alloc, options.preserve_trailing_space, lines)?;
+    let line = first_line(paragraph, layout, is_later, splitter);
+    line.push_to(alloc, layout.preserve_trailing_space, lines)?;
     Ok(line.end)
 }
 
 /// The first line of a paragraph, with all pieces that have room on it.
 fn first_line<'t, 'a>(
     paragraph: &'t str,
-    options: &Options<'a>,
+    layout: &Layout<'a>,
     is_later: bool,
     splitter: BuiltInSplitter,
 ) -> OpenLine<'t, 'a>
     ensures text { result.text.now ≡ paragraph.now }
-    ensures first { IsFirstUpTo (settings_view options.now) (as_splitter splitter) is_later
-        paragraph.now (line_of (settings_view options.now).preserve_trailing_space
+    ensures first { IsFirstUpTo (layout_view layout.now) (as_splitter splitter) is_later
+        paragraph.now (line_of (layout_view layout.now).preserve_trailing_space
         (line_so_far result)) result.end }
 {
-    let (first_width, _) = line_widths(options, is_later);
-    let limit = break_limit(options);
-    let indent = next_indent(options, is_later);
-    let mut line = OpenLine::first(paragraph, first_width, indent, has_front(options));
+    let (first_width, _) = line_widths(layout, is_later);
+    let limit = break_limit(layout);
+    let indent = next_indent(layout, is_later);
+    let mut line = OpenLine::first(paragraph, first_width, indent, has_front(layout));
     while line.end < paragraph.len() {
         let piece = next_piece(paragraph, line.end, limit, splitter);
         if line.is_past(&piece) {

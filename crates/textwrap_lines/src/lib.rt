@@ -8,6 +8,7 @@ pub use line_ending::LineEnding;
 pub use options::Options;
 pub use wrapping::wrap;
 
+mod any_options;
 mod cheapest;
 mod direct;
 mod filling;

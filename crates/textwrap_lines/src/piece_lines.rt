@@ -6,14 +6,13 @@ ghost use Rattle.textwrap_base.specs.Division.{IsGreedy};
 ghost use Rattle.textwrap_words.specs.Pieces.{as_splitter};
 ghost use Rattle.textwrap_words.specs.Words.{WordText, sizes_of};
 ghost use Rattle.textwrap_lines.specs.LineSinks.{Took};
-ghost use Rattle.textwrap_lines.specs.Options.{settings_view};
+ghost use Rattle.textwrap_lines.specs.Options.{layout_view};
 ghost use Rattle.textwrap_lines.specs.Paragraph.{parts_from, pieces_of, text_limit};
 ghost use Rattle.textwrap_lines.specs.Paragraph.{widths_of};
 ghost use Rattle.textwrap_lines.specs.Places.{cut_lines};
 
-use crate::layout::{line_widths, next_indent, paragraph_pieces};
+use crate::layout::{Layout, line_widths, next_indent, paragraph_pieces};
 use crate::line_sinks::LineSink;
-use crate::options::Options;
 use std::alloc::{AllocError, Allocator};
 use textwrap_words::inner::{BuiltInSplitter, Piece};
 
@@ -48,30 +47,31 @@ pub(crate) struct OpenLine<'t, 'a> {
 ///
 /// # Errors
 /// [`AllocError`] where memory runs out.
-pub(crate) fn push_lines_by_pieces<'t, A: Allocator + Copy>(
+pub(crate) fn push_lines_by_pieces<'t, A: Allocator + Copy, S: LineSink<'t, A>>(
     alloc: A,
     paragraph: &'t str,
-    options: &Options<'_>,
+    layout: &Layout<'_>,
     is_later: bool,
     splitter: BuiltInSplitter,
-    lines: &mut LineSink<'t, A>,
+    lines: &mut S,
 ) -> Result<(), AllocError>
-    ensures { OnOk result ((division : List (List WordText))
-        × IsGreedy sizes_of (widths_of (settings_view options.now) is_later)
-        (pieces_of (settings_view options.now) (as_splitter splitter) paragraph.now) division
-        × Took lines.old lines.new (cut_lines 0
-        (parts_from (settings_view options.now) is_later division))) }
+    ensures name { S.name lines.new ≡ S.name lines.old }
+    ensures took { OnOk result ((division : List (List WordText))
+        × IsGreedy sizes_of (widths_of (layout_view layout.now) is_later)
+        (pieces_of (layout_view layout.now) (as_splitter splitter) paragraph.now) division
+        × Took S.holds lines.old lines.new (cut_lines 0
+        (parts_from (layout_view layout.now) is_later division))) }
 {
-    let (first_width, later_width) = line_widths(options, is_later);
-    let mut line = OpenLine::at(paragraph, 0, first_width, next_indent(options, is_later));
-    for piece in paragraph_pieces(paragraph, options, splitter) {
+    let (first_width, later_width) = line_widths(layout, is_later);
+    let mut line = OpenLine::at(paragraph, 0, first_width, next_indent(layout, is_later));
+    for piece in paragraph_pieces(paragraph, layout, splitter) {
         if line.is_past(&piece) {
-            line.push_to(alloc, options.preserve_trailing_space, lines)?;
-            line = OpenLine::at(line.text, line.end, later_width, options.subsequent_indent);
+            line.push_to(alloc, layout.preserve_trailing_space, lines)?;
+            line = OpenLine::at(line.text, line.end, later_width, layout.subsequent_indent);
         }
         line.take(&piece);
     }
-    line.push_to(alloc, options.preserve_trailing_space, lines)
+    line.push_to(alloc, layout.preserve_trailing_space, lines)
 }
 
 impl<'t, 'a> OpenLine<'t, 'a> {
@@ -145,13 +145,14 @@ impl<'t, 'a> OpenLine<'t, 'a> {
     ///
     /// # Errors
     /// [`AllocError`] where memory runs out.
-    pub(crate) fn push_to<A: Allocator + Copy>(
+    pub(crate) fn push_to<A: Allocator + Copy, S: LineSink<'t, A>>(
         &self,
         alloc: A,
         keeps_blanks: bool,
-        lines: &mut LineSink<'t, A>,
+        lines: &mut S,
     ) -> Result<(), AllocError>
-        ensures { OnOk result (Took lines.old lines.new
+        ensures name { S.name lines.new ≡ S.name lines.old }
+        ensures took { OnOk result (Took S.holds lines.old lines.new
             (line_of keeps_blanks (line_so_far self.now) ∷ [])) }
     {
         let indent = if self.begun { self.indent } else { "" };

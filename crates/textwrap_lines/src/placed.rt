@@ -11,6 +11,7 @@ ghost use Rattle.textwrap_words.specs.WordSplitters.{Splitter};
 ghost use Rattle.textwrap_words.specs.Words.{tiled, word_view};
 ghost use Rattle.textwrap_words.specs.WrapAlgorithms.{Algorithm};
 
+use crate::layout::Layout;
 use crate::line_sinks::LineSink;
 use crate::options::Options;
 pub use crate::places::{Place, PlacedLines};
@@ -43,9 +44,9 @@ pub fn place_lines<A: Allocator + Copy>(
     ensures no_overflow { ¬ SomeMayPass64Bits options.now text.now
         → IfErr result (λ error. error ≡ WrapError.Memory alloc_error) }
 {
-    let mut lines = LineSink::placed(alloc);
+    let mut lines = PlacedLines::new(alloc);
     push_text(alloc, text, options, Way::Shortest, &mut lines)?;
-    Ok(lines.into_placed())
+    Ok(lines)
 }
 
 /// The line of each list of pieces, by where it stands in the paragraph. Together the pieces tile the
@@ -66,8 +67,15 @@ pub fn place_division<A: Allocator + Copy>(
         (map (λ line. map word_view line.now) division.now)) placed.places.items
         placed.built.items) }
 {
-    let mut lines = LineSink::placed(alloc);
+    let mut lines = PlacedLines::new(alloc);
     lines.begin_paragraph(0);
-    push_lines(alloc, paragraph, division, options, is_later, &mut lines)?;
-    Ok(lines.into_placed())
+    push_lines(
+        alloc,
+        paragraph,
+        division,
+        &Layout::of(options),
+        is_later,
+        &mut lines,
+    )?;
+    Ok(lines)
 }

@@ -2,6 +2,7 @@
 //! their own.
 ghost use Rattle.std.specs.Prelude.{◌^◌, ◌<◌};
 
+use crate::line_sinks::LineSink;
 use std::alloc::{AllocError, Allocator};
 
 /// Where a line stands.
@@ -35,6 +36,7 @@ impl<A: Allocator + Copy> PlacedLines<A> {
     pub fn new(alloc: A) -> PlacedLines<A>
         ensures places { result.places.items ≡ [] }
         ensures built { result.built.items ≡ [] }
+        ensures offset { result.offset ≡ 0 }
     {
         PlacedLines {
             places: Vec::new(alloc),
@@ -49,21 +51,11 @@ impl<A: Allocator> PlacedLines<A> {
     ghost use Rattle.textwrap_lines.specs.Paragraph.{Built, assembled_line, text_limit};
     ghost use Rattle.textwrap_lines.specs.Places.{built_bytes, place_of};
 
-    /// Goes on to a paragraph that so many bytes of the text come before.
-    pub(crate) fn begin_paragraph(&mut self, offset: usize)
-        requires { offset < text_limit }
-        ensures places { self.new.places ≡ self.old.places }
-        ensures built { self.new.built ≡ self.old.built }
-        ensures offset { self.new.offset ≡ offset }
-    {
-        self.offset = offset;
-    }
-
     /// Adds a line of the paragraph. `start` bytes of it come before the slice.
     ///
     /// # Errors
     /// [`AllocError`] where memory runs out.
-    pub(crate) fn push_line(
+    fn add_line(
         &mut self,
         indent: &str,
         start: usize,
@@ -111,5 +103,32 @@ impl<A: Allocator> PlacedLines<A> {
             is_built: true,
         })?;
         Ok(())
+    }
+}
+
+impl<'t, A: Allocator> LineSink<'t, A> for PlacedLines<A> {
+    ghost use Rattle.textwrap_lines.specs.LineSinks.{HoldsPlaces};
+
+    ghost name = { λ sink. 0 };
+
+    ghost holds = { λ first now start held. HoldsPlaces now start held };
+
+    fn has_line(&self) -> bool {
+        !self.places.is_empty()
+    }
+
+    fn begin_paragraph(&mut self, offset: usize) {
+        self.offset = offset;
+    }
+
+    fn push_line(
+        &mut self,
+        alloc: A,
+        indent: &str,
+        start: usize,
+        slice: &'t str,
+        penalty: &str,
+    ) -> Result<(), AllocError> {
+        self.add_line(indent, start, slice, penalty)
     }
 }

@@ -7,7 +7,7 @@ ghost use Rattle.textwrap_words.specs.Blanks.{trimmed_len};
 ghost use Rattle.textwrap_words.specs.Pieces.{as_splitter, stand_from};
 ghost use Rattle.textwrap_lines.specs.Layout.{break_limit, limit_at};
 ghost use Rattle.textwrap_lines.specs.LineSinks.{Took};
-ghost use Rattle.textwrap_lines.specs.Options.{settings_view};
+ghost use Rattle.textwrap_lines.specs.Options.{layout_view};
 ghost use Rattle.textwrap_lines.specs.Paragraph.{indent_of, later_width};
 ghost use Rattle.textwrap_words.specs.Units.{IsPrintable};
 ghost use Rattle.textwrap_lines.specs.Printable.{IsFirstLine, cut_at};
@@ -15,9 +15,8 @@ ghost use Rattle.textwrap_lines.specs.Printable.{NoCutBetween, byte_before};
 ghost use Rattle.textwrap_lines.specs.Printable.{pieces_after, printable_cut};
 ghost use Rattle.textwrap_lines.specs.PieceLines.{lines_left, no_pieces};
 
-use crate::layout::{later_width, next_indent};
+use crate::layout::{Layout, later_width, next_indent};
 use crate::line_sinks::LineSink;
-use crate::options::Options;
 use std::alloc::{AllocError, Allocator};
 use textwrap_words::blanks::{blanks_end, trimmed_len};
 use textwrap_words::inner::BuiltInSplitter;
@@ -27,35 +26,36 @@ use textwrap_words::inner::BuiltInSplitter;
 ///
 /// # Errors
 /// [`AllocError`] where memory runs out.
-pub(crate) fn push_printable_lines<'t, A: Allocator + Copy>(
+pub(crate) fn push_printable_lines<'t, A: Allocator + Copy, S: LineSink<'t, A>>(
     alloc: A,
     paragraph: &'t str,
     start: usize,
-    options: &Options<'_>,
+    layout: &Layout<'_>,
     is_later: bool,
     splitter: BuiltInSplitter,
-    lines: &mut LineSink<'t, A>,
+    lines: &mut S,
 ) -> Result<(), AllocError>
     requires printable { IsPrintable paragraph.now }
     requires start { IsCharBoundary paragraph.now start }
-    requires room { 0 < later_width (settings_view options.now) }
-    ensures { OnOk result (Took lines.old lines.new (lines_left (settings_view options.now)
-        (no_pieces paragraph.now start (later_width (settings_view options.now))
-        (indent_of (settings_view options.now) is_later)) (stand_from start
+    requires room { 0 < later_width (layout_view layout.now) }
+    ensures name { S.name lines.new ≡ S.name lines.old }
+    ensures took { OnOk result (Took S.holds lines.old lines.new (lines_left (layout_view layout.now)
+        (no_pieces paragraph.now start (later_width (layout_view layout.now))
+        (indent_of (layout_view layout.now) is_later)) (stand_from start
         (pieces_after (printable_cut (as_splitter splitter)) (break_limit
-        (settings_view options.now)) (byte_before 32 paragraph.now start)
+        (layout_view layout.now)) (byte_before 32 paragraph.now start)
         (drop start paragraph.now))))) }
 {
-    let width = later_width(options);
+    let width = later_width(layout);
     let mut rest = &paragraph[start..];
     let mut before = byte_before(paragraph.as_bytes(), b' ', start);
     let mut has_line = is_later;
     while !rest.is_empty() {
         let place = paragraph.len() - rest.len();
         let bytes = rest.as_bytes();
-        let next = line_len(bytes, before, width, splitter, options.break_words);
-        let end = slice_len(bytes, next, options.preserve_trailing_space);
-        let indent = next_indent(options, has_line);
+        let next = line_len(bytes, before, width, splitter, layout.break_words);
+        let end = slice_len(bytes, next, layout.preserve_trailing_space);
+        let indent = next_indent(layout, has_line);
         lines.push_line(alloc, indent, place, &rest[..end], "")?;
         before = bytes[next - 1];
         rest = &rest[next..];

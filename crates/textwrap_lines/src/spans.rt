@@ -1,12 +1,11 @@
 //! Where the pieces of a paragraph stand in it, and what those before them take.
 ghost use Rattle.std.specs.Prelude.{◌≡◌, IfOk};
 ghost use Rattle.textwrap_words.specs.Pieces.{as_splitter};
-ghost use Rattle.textwrap_lines.specs.Options.{settings_view};
+ghost use Rattle.textwrap_lines.specs.Options.{layout_view};
 ghost use Rattle.textwrap_lines.specs.Paragraph.{pieces_of};
 ghost use Rattle.textwrap_lines.specs.Spans.{spans_from, span_priced};
 
-use crate::layout::paragraph_pieces;
-use crate::options::Options;
+use crate::layout::{Layout, paragraph_pieces};
 use std::alloc::{AllocError, Allocator};
 use textwrap_base::inner::Measured;
 use textwrap_words::inner::BuiltInSplitter;
@@ -47,15 +46,15 @@ impl Measured for Span {
 pub(crate) fn find_spans<A: Allocator>(
     alloc: A,
     paragraph: &str,
-    options: &Options<'_>,
+    layout: &Layout<'_>,
     splitter: BuiltInSplitter,
 ) -> Result<Vec<Span, A>, AllocError>
     ensures { IfOk result (λ spans. spans.items ≡ spans_from 0 0
-        (pieces_of (settings_view options.now) (as_splitter splitter) paragraph.now)) }
+        (pieces_of (layout_view layout.now) (as_splitter splitter) paragraph.now)) }
 {
     let mut spans = Vec::new(alloc);
     let mut opens = 0;
-    for piece in paragraph_pieces(paragraph, options, splitter) {
+    for piece in paragraph_pieces(paragraph, layout, splitter) {
         let closes = opens + piece.width;
         spans.push(Span {
             word_end: piece.word_end,

@@ -15,8 +15,8 @@ ghost use Rattle.textwrap_base.specs.declared.penalties.Penalties.{Penalties};
 ghost use Rattle.textwrap_words.specs.declared.wrap_algorithms.WrapAlgorithm.TheVariants.{FirstFit};
 ghost use Rattle.textwrap_lines.specs.Fuzzing.{AppendsLines};
 ghost use Rattle.textwrap_lines.specs.LineEnding.{paragraphs_of};
-ghost use Rattle.textwrap_lines.specs.LineSinks.{Holds, Took, kind_of};
-ghost use Rattle.textwrap_lines.specs.Options.{Settings, settings_view, HasBuiltInParts};
+ghost use Rattle.textwrap_lines.specs.LineSinks.{Took};
+ghost use Rattle.textwrap_lines.specs.Options.{Settings, layout_view, settings_view, HasBuiltInParts};
 ghost use Rattle.textwrap_lines.specs.Options.{HasParts, MayOverflow};
 ghost use Rattle.textwrap_lines.specs.Paragraph.{text_limit, LineParts, line_view};
 ghost use Rattle.textwrap_lines.specs.Paragraph.{broken_pieces_of, covered};
@@ -26,14 +26,15 @@ ghost use Rattle.textwrap_lines.specs.Paragraph.{AreDividedParts, AreParagraphPa
 ghost use Rattle.textwrap_lines.specs.Paragraph.{DividesAs, MayPass64Bits, OnlyCharactersPass};
 ghost use Rattle.textwrap_lines.specs.Places.{AreCutLines, CutLine, cut_lines};
 ghost use Rattle.textwrap_lines.specs.Text.{AreTextLines, IsWrapped, LinesKeepToWidth};
-ghost use Rattle.textwrap_lines.specs.Text.{CanKeepToWidth, ArePrintedWithin, SomeMayPass64Bits};
+ghost use Rattle.textwrap_lines.specs.Text.{CanKeepToWidth, ArePrintedWithin, HasParagraphThat, SomeMayPass64Bits};
 ghost use Rattle.textwrap_words.specs.WordSeparators.{MaySeparate};
 ghost use Rattle.textwrap_words.specs.WordSplitters.{AreSplit, MaySplit, Splitter, splitter_view};
 
-use crate::direct::push_directly;
-use crate::layout::{later_width, line_widths, next_indent};
+use crate::any_options::{AnyOptions, BuiltInParts};
+use crate::direct::{built_in_parts, push_directly};
+use crate::layout::{Layout, later_width, line_widths, next_indent};
 use crate::line_ending::LineEnding;
-use crate::line_sinks::LineSink;
+use crate::line_sinks::{LineSink, ListedLines};
 use crate::options::Options;
 use std::alloc::{AllocError, Allocator};
 use std::borrow::CowStr;
@@ -123,9 +124,10 @@ pub fn wrap_by<'t, A: Allocator + Copy>(
     ensures no_overflow { ¬ SomeMayPass64Bits options.now text.now
         → IfErr result (λ error. error ≡ WrapError.Memory alloc_error) }
 {
-    let mut lines = LineSink::listed(alloc);
+    let mut list = Vec::new(alloc);
+    let mut lines = ListedLines { lines: &mut list };
     push_text(alloc, text, options, Way::Shortest, &mut lines)?;
-    Ok(lines.into_list())
+    Ok(list)
 }
 
 /// How the lines of a paragraph are found that is not one line as a whole.
@@ -141,30 +143,33 @@ pub(crate) enum Way {
 ///
 /// # Errors
 /// Those of [`wrap`].
-pub(crate) fn push_text<'t, A: Allocator + Copy>(
+pub(crate) fn push_text<'t, A: Allocator + Copy, S: LineSink<'t, A>, O: AnyOptions<A>>(
     alloc: A,
     text: &'t str,
-    options: &Options<'_>,
+    options: &O,
     way: Way,
-    lines: &mut LineSink<'t, A>,
+    lines: &mut S,
 ) -> Result<(), WrapError>
-    requires none { Holds lines.now [] }
-    ensures lines { OnOk result ((taken : List CutLine) × AreCutLines (settings_view options.now)
-        (DividesBy options.now) text.now taken × Holds lines.new taken
-        × (kind_of lines.new ≡ kind_of lines.old)) }
-    ensures only_memory { ¬ MayOverflow options.now
+    requires none { S.holds lines.now lines.now 0 [] }
+    ensures name { S.name lines.new ≡ S.name lines.old }
+    ensures lines { OnOk result ((taken : List CutLine) × AreCutLines (O.settings options.now)
+        (O.divides options.now) text.now taken
+        × (end : ℕ) × S.holds lines.old lines.new end taken) }
+    ensures only_memory { ¬ O.may_overflow options.now
         → IfErr result (λ error. error ≡ WrapError.Memory alloc_error) }
-    ensures no_overflow { ¬ SomeMayPass64Bits options.now text.now
+    ensures no_overflow { ¬ HasParagraphThat (O.may_pass options.now)
+        (O.settings options.now).line_ending text.now
         → IfErr result (λ error. error ≡ WrapError.Memory alloc_error) }
 {
+    let line_ending = options.layout().line_ending;
     let mut start = 0;
     let mut rest = Some(text);
     while let Some(text) = rest {
-        let (paragraph, after) = split_paragraph(text, options.line_ending);
+        let (paragraph, after) = split_paragraph(text, line_ending);
         lines.begin_paragraph(start);
         let is_later = lines.has_line();
         push_paragraph(alloc, paragraph, options, is_later, way, lines)?;
-        start += paragraph.len() + options.line_ending.as_str().len();
+        start += paragraph.len() + line_ending.as_str().len();
         rest = after;
     }
     Ok(())
@@ -174,25 +179,27 @@ pub(crate) fn push_text<'t, A: Allocator + Copy>(
 ///
 /// # Errors
 /// Those of [`wrap`].
-fn push_paragraph<'t, A: Allocator + Copy>(
+fn push_paragraph<'t, A: Allocator + Copy, S: LineSink<'t, A>, O: AnyOptions<A>>(
     alloc: A,
     paragraph: &'t str,
-    options: &Options<'_>,
+    options: &O,
     is_later: bool,
     way: Way,
-    lines: &mut LineSink<'t, A>,
+    lines: &mut S,
 ) -> Result<(), WrapError>
+    ensures name { S.name lines.new ≡ S.name lines.old }
     ensures taken { OnOk result ((parts : List LineParts)
-        × AreParagraphParts (settings_view options.now) (DividesBy options.now) is_later
+        × AreParagraphParts (O.settings options.now) (O.divides options.now) is_later
         paragraph.now parts
-        × Took lines.old lines.new (cut_lines 0 parts)) }
-    ensures only_memory { ¬ MayOverflow options.now
+        × Took S.holds lines.old lines.new (cut_lines 0 parts)) }
+    ensures only_memory { ¬ O.may_overflow options.now
         → IfErr result (λ error. error ≡ WrapError.Memory alloc_error) }
-    ensures no_overflow { ¬ MayPass64Bits options.now paragraph.now
+    ensures no_overflow { ¬ O.may_pass options.now paragraph.now
         → IfErr result (λ error. error ≡ WrapError.Memory alloc_error) }
 {
-    if is_one_line(paragraph, options, is_later) {
-        let slice = whole_line(paragraph, options);
+    let layout = options.layout();
+    if is_one_line(paragraph, &layout, is_later) {
+        let slice = whole_line(paragraph, &layout);
         return Ok(lines.push_line(alloc, "", 0, slice, "")?);
     }
     if matches!(way, Way::ByLists) {
@@ -209,25 +216,33 @@ fn push_paragraph<'t, A: Allocator + Copy>(
 ///
 /// # Errors
 /// Those of [`wrap`].
-fn push_divided<'t, A: Allocator + Copy>(
+fn push_divided<'t, A: Allocator + Copy, S: LineSink<'t, A>, O: AnyOptions<A>>(
     alloc: A,
     paragraph: &'t str,
-    options: &Options<'_>,
+    options: &O,
     is_later: bool,
-    lines: &mut LineSink<'t, A>,
+    lines: &mut S,
 ) -> Result<(), WrapError>
+    ensures name { S.name lines.new ≡ S.name lines.old }
     ensures taken { OnOk result ((division : List (List WordText))
-        × DividesBy options.now is_later paragraph.now division
-        × Took lines.old lines.new (cut_lines 0
-        (parts_from (settings_view options.now) is_later division))) }
-    ensures only_memory { ¬ MayOverflow options.now
+        × O.divides options.now is_later paragraph.now division
+        × Took S.holds lines.old lines.new (cut_lines 0
+        (parts_from (O.settings options.now) is_later division))) }
+    ensures only_memory { ¬ O.may_overflow options.now
         → IfErr result (λ error. error ≡ WrapError.Memory alloc_error) }
-    ensures no_overflow { ¬ MayPass64Bits options.now paragraph.now
+    ensures no_overflow { ¬ O.may_pass options.now paragraph.now
         → IfErr result (λ error. error ≡ WrapError.Memory alloc_error) }
 {
-    let pieces = find_pieces(alloc, paragraph, options)?;
-    let division = divide(alloc, &pieces, options, is_later)?;
-    Ok(push_lines(alloc, paragraph, &division, options, is_later, lines)?)
+    let pieces = options.find_pieces(alloc, paragraph)?;
+    let division = options.divide(alloc, &pieces, is_later)?;
+    Ok(push_lines(
+        alloc,
+        paragraph,
+        &division,
+        &options.layout(),
+        is_later,
+        lines,
+    )?)
 }
 
 /// The first paragraph of the text, and what follows its ending, if it has one. Cut at LF, the text
@@ -283,25 +298,25 @@ pub fn wrap_single_line<'t, A: Allocator + Copy>(
 {
     // A list of its own, so that an error leaves the other as it was.
     let is_later = !lines.is_empty();
-    let mut found = LineSink::listed(alloc);
+    let mut own = Vec::new(alloc);
+    let mut found = ListedLines { lines: &mut own };
     push_paragraph(alloc, line, options, is_later, Way::Shortest, &mut found)?;
-    let mut found = found.into_list();
-    Ok(lines.append(&mut found)?)
+    Ok(lines.append(&mut own)?)
 }
 
 /// Whether a paragraph is one line as a whole. `is_later` says that a line stands before it.
-fn is_one_line(paragraph: &str, options: &Options<'_>, is_later: bool) -> bool
-    ensures { result ≡ is_whole (settings_view options.now) is_later paragraph.now }
+fn is_one_line(paragraph: &str, layout: &Layout<'_>, is_later: bool) -> bool
+    ensures { result ≡ is_whole (layout_view layout.now) is_later paragraph.now }
 {
-    next_indent(options, is_later).is_empty() && paragraph.len() < options.width
+    next_indent(layout, is_later).is_empty() && paragraph.len() < layout.width
 }
 
 /// The paragraph as one line.
-fn whole_line<'t>(paragraph: &'t str, options: &Options<'_>) -> &'t str
-    ensures { result.now ≡ (if options.now.preserve_trailing_space then paragraph.now
+fn whole_line<'t>(paragraph: &'t str, layout: &Layout<'_>) -> &'t str
+    ensures { result.now ≡ (if layout.now.preserve_trailing_space then paragraph.now
         else without_final_blanks paragraph.now) }
 {
-    if options.preserve_trailing_space {
+    if layout.preserve_trailing_space {
         return paragraph;
     }
     split_final_blanks(paragraph).0
@@ -342,10 +357,10 @@ pub fn wrap_single_line_slow_path<'t, A: Allocator + Copy>(
         (nat_lt 0 (length lines.old.items))) 0 division) }
 {
     let is_later = !lines.is_empty();
-    let mut found = LineSink::listed(alloc);
+    let mut own = Vec::new(alloc);
+    let mut found = ListedLines { lines: &mut own };
     push_divided(alloc, line, options, is_later, &mut found)?;
-    let mut found = found.into_list();
-    Ok(lines.append(&mut found)?)
+    Ok(lines.append(&mut own)?)
 }
 
 /// The pieces of a paragraph that are divided.
@@ -383,7 +398,7 @@ pub fn break_pieces<'t, A: Allocator + Copy>(
     if !options.break_words {
         return Ok(split);
     }
-    let width = later_width(options);
+    let width = later_width(&Layout::of(options));
     // By reference, since the checker does not cover handing on a list that any allocator made.
     let mut broken = break_words(alloc, split.iter().copied(), width)?;
     if !options.initial_indent.is_empty() {
@@ -425,31 +440,70 @@ fn divide<'a, 'w, A: Allocator + Copy>(
     ensures no_overflow { Fits64Bits (total_width (λ word. sizes_of (word_view word)) pieces.now)
         → ¬ Overflowed result }
 {
-    let (first_width, later_width) = line_widths(options, is_later);
+    let (first_width, later_width) = line_widths(&Layout::of(options), is_later);
     let line_widths = [first_width, later_width];
     options.wrap_algorithm.wrap(alloc, pieces, &line_widths)
 }
 
+impl<A: Allocator + Copy> AnyOptions<A> for Options<'_> {
+    ghost settings = { λ options. settings_view options };
+
+    ghost has_pieces = { λ options. ArePieces (settings_view options)
+        (MaySeparate options.word_separator) (MaySplit options.word_splitter) };
+
+    ghost divides = { λ options. DividesBy options };
+
+    ghost may_overflow = { λ options. MayOverflow options };
+
+    ghost may_pass = { λ options. MayPass64Bits options };
+
+    fn layout(&self) -> Layout<'_> {
+        Layout::of(self)
+    }
+
+    fn built_in_parts(&self) -> Option<BuiltInParts> {
+        built_in_parts(self)
+    }
+
+    fn find_pieces<'t>(
+        &self,
+        alloc: A,
+        paragraph: &'t str,
+    ) -> Result<Vec<Word<'t>, A>, AllocError> {
+        find_pieces(alloc, paragraph, self)
+    }
+
+    fn divide<'a, 'w>(
+        &self,
+        alloc: A,
+        pieces: &'w [Word<'a>],
+        is_later: bool,
+    ) -> Result<Vec<&'w [Word<'a>], A>, WrapError> {
+        divide(alloc, pieces, self, is_later)
+    }
+}
+
 /// Pushes the line of each list of pieces. Together they tile the paragraph, or its beginning.
-pub(crate) fn push_lines<'t, A: Allocator + Copy>(
+pub(crate) fn push_lines<'t, A: Allocator + Copy, S: LineSink<'t, A>>(
     alloc: A,
     paragraph: &'t str,
     division: &[&[Word<'_>]],
-    options: &Options<'_>,
+    layout: &Layout<'_>,
     is_later: bool,
-    lines: &mut LineSink<'t, A>,
+    lines: &mut S,
 ) -> Result<(), AllocError>
     requires { StartsWith paragraph.now
         (flat_map (λ line. tiled (map word_view line.now)) division.now) }
-    ensures { OnOk result (Took lines.old lines.new (cut_lines 0
-        (parts_from (settings_view options.now) is_later
+    ensures name { S.name lines.new ≡ S.name lines.old }
+    ensures took { OnOk result (Took S.holds lines.old lines.new (cut_lines 0
+        (parts_from (layout_view layout.now) is_later
         (map (λ line. map word_view line.now) division.now)))) }
 {
     let mut rest = paragraph;
     let mut has_line = is_later;
     for pieces in division {
         let start = paragraph.len() - rest.len();
-        rest = push_line(alloc, start, rest, pieces, options, has_line, lines)?;
+        rest = push_line(alloc, start, rest, pieces, layout, has_line, lines)?;
         has_line = true;
     }
     Ok(())
@@ -457,19 +511,20 @@ pub(crate) fn push_lines<'t, A: Allocator + Copy>(
 
 /// Pushes the line of the pieces with which the text begins, and returns the text after them.
 /// `start` bytes of the paragraph come before it.
-fn push_line<'t, A: Allocator + Copy>(
+fn push_line<'t, A: Allocator + Copy, S: LineSink<'t, A>>(
     alloc: A,
     start: usize,
     text: &'t str,
     pieces: &[Word<'_>],
-    options: &Options<'_>,
+    layout: &Layout<'_>,
     is_later: bool,
-    lines: &mut LineSink<'t, A>,
+    lines: &mut S,
 ) -> Result<&'t str, AllocError>
     requires begins { StartsWith text.now (tiled (map word_view pieces.now)) }
     requires start { start < text_limit }
-    ensures line { OnOk result (Took lines.old lines.new (cut_lines start
-        (parts_of (settings_view options.now) is_later (map word_view pieces.now) ∷ []))) }
+    ensures name { S.name lines.new ≡ S.name lines.old }
+    ensures line { OnOk result (Took S.holds lines.old lines.new (cut_lines start
+        (parts_of (layout_view layout.now) is_later (map word_view pieces.now) ∷ []))) }
     ensures rest { IfOk result (λ rest. rest.now
         ≡ drop (length (tiled (map word_view pieces.now))) text.now) }
 {
@@ -477,8 +532,8 @@ fn push_line<'t, A: Allocator + Copy>(
         lines.push_line(alloc, "", start, "", "")?;
         return Ok(text);
     };
-    let indent = next_indent(options, is_later);
-    let keeps_whitespace = options.preserve_trailing_space && last.penalty.is_empty();
+    let indent = next_indent(layout, is_later);
+    let keeps_whitespace = layout.preserve_trailing_space && last.penalty.is_empty();
     let (slice, rest) = cut_line(text, front, last, keeps_whitespace);
     lines.push_line(alloc, indent, start, slice, last.penalty)?;
     Ok(rest)

@@ -2,8 +2,8 @@
 use Rattle.textwrap_base.proofs.Common.{◌≡◌, ℕ, Bool, ◌≤◌, List, [], ◌∷◌, length, map, refl, ap}
 use Rattle.textwrap_base.proofs.Common.{All, flat_map, map-append, total_width, rules, arith}
 use Rattle.textwrap_words.proofs.Common.{WordText, word_view, sizes_of, tiled, Tiles, MayDivide}
-use Rattle.textwrap_lines.proofs.Common.{Settings, parts_from, ArePieces, widths_of, IsDividedInto}
-use Rattle.textwrap_lines.proofs.Common.{AreDividedParts, Word}
+use Rattle.textwrap_lines.proofs.Common.{Settings, ArePieces, widths_of, IsDividedInto}
+use Rattle.textwrap_lines.proofs.Common.{Word}
 use Rattle.textwrap_words.specs.declared.wrap_algorithms.WrapAlgorithm.{WrapAlgorithm}
 use Rattle.textwrap_words.proofs.Word.Divisions.{MayDivide-map}
 use Rattle.textwrap_base.proofs.Cost.Measures.{total_width-same}
@@ -24,21 +24,16 @@ views-lines : {D : Type 0} (v : D → List Word) (division : List D)
 views-lines v [] = refl
 views-lines v (line ∷ lines) = ap (λ l. map word_view (v line) ∷ l) (views-lines v lines)
 
--- a division of a paragraph's pieces gives its lines
-pub AreDividedParts-from : {D F : Type 0} {f : _} (v : D → List Word) (settings : Settings)
+-- a division of a paragraph's pieces divides it
+pub divides-from : {D F : Type 0} {f : _} (v : D → List Word) (settings : Settings)
     (Words : List ℕ → List WordText → Type 0) (Points : List ℕ → List ℕ → Type 0)
     (algorithm : WrapAlgorithm F f) (is_later : Bool) (paragraph : List ℕ) (pieces : List Word)
     (division : List D) → ArePieces settings Words Points paragraph (map word_view pieces)
     → MayDivide algorithm word_view (widths_of settings is_later) pieces (map v division)
-    → AreDividedParts settings
-    (IsDividedInto settings Words Points (MayDivide algorithm (λ w. w))) is_later paragraph
-    (parts_from settings is_later (map (λ line. map word_view (v line)) division))
-AreDividedParts-from v settings Words Points algorithm is_later paragraph pieces division are
-    divided = (
-      map (map word_view) (map v division),
-      search (rules, arith, MayDivide-map),
-      ap (parts_from settings is_later) (views-lines v division),
-    )
+    → IsDividedInto settings Words Points (MayDivide algorithm (λ w. w)) is_later paragraph
+    (map (λ line. map word_view (v line)) division)
+divides-from v settings Words Points algorithm is_later paragraph pieces division are divided =
+    rw (views-lines v division) (map word_view pieces, are, search (rules, arith, MayDivide-map))
 
 -- ---- the widths of the pieces
 

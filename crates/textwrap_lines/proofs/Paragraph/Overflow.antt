@@ -9,7 +9,7 @@ use Rattle.textwrap_words.proofs.Common.{word_view, sizes_of, Tiles, LeastCost, 
 use Rattle.textwrap_words.proofs.Common.{MaySeparate, MaySplit, splitter_view}
 use Rattle.textwrap_lines.proofs.Common.{MayOverflow, settings_view, ArePieces, LineParts}
 use Rattle.textwrap_lines.proofs.Common.{line_view, line_from, Penalties, Word, Options}
-use Rattle.std.specs.Prelude.{IsSomeAnd, alloc_error}
+use Rattle.std.specs.Prelude.{IsSomeAnd, IfErr, alloc_error}
 use Rattle.textwrap_base.specs.Errors.{Fits64Bits}
 use Rattle.textwrap_words.specs.WrapAlgorithms.{OverflowsBy}
 use Rattle.textwrap_base.specs.declared.errors.WrapError.{WrapError}
@@ -40,18 +40,21 @@ built_in-or splitters.TheVariants.HyphenSplitter given built_in = built_in (λ i
 built_in-or (splitters.TheVariants.Custom points) given built_in = given refl
 
 module _ {E C : Type 0} {e : _} {c : _} (options : Options E C e c) where
-  pub only-memory : (A : Type 0) (paragraph : List ℕ) (pieces : List Word) (error : WrapError)
+  pub only-memory : (A : Type 0) (paragraph : List ℕ) (pieces : List Word)
+      (result : Result A WrapError)
       → IsUtf8 paragraph → length paragraph < 2 ^ 63
       → ArePieces (settings_view options) (MaySeparate options.word_separator)
       (MaySplit options.word_splitter) paragraph (map word_view pieces)
       → Tiles (map word_view pieces) paragraph
-      → (Overflowed {A = A} (Err error) → (penalties : Penalties)
+      → (Overflowed result → (penalties : Penalties)
       × (algorithm_view options.wrap_algorithm ≡ Some (LeastCost penalties)))
       → (Fits64Bits (total_width (λ word. sizes_of (word_view word)) pieces)
-      → ¬ Overflowed {A = A} (Err error))
-      → ¬ MayOverflow options → error ≡ Memory alloc_error
-  only-memory A paragraph pieces (Memory error) utf8 short are tile overflow_only fits never = refl
-  only-memory A paragraph pieces (Overflow error) utf8 short are tile overflow_only fits never =
+      → ¬ Overflowed result)
+      → ¬ MayOverflow options → IfErr result (λ error. error ≡ Memory alloc_error)
+  only-memory A paragraph pieces (Ok value) utf8 short are tile overflow_only fits never = tt
+  only-memory A paragraph pieces (Err (Memory error)) utf8 short are tile overflow_only fits never =
+      refl
+  only-memory A paragraph pieces (Err (Overflow error)) utf8 short are tile overflow_only fits never =
       absurd (built_in-or options.word_splitter (λ given. never (given, overflow_only tt))
       (λ built_in.
       let bounded = pieces-bounded (settings_view options) (MaySeparate options.word_separator)
@@ -61,14 +64,17 @@ module _ {E C : Type 0} {e : _} {c : _} (options : Options E C e c) where
       search (rules, arith, total_width-pieces)))
 
   -- nor without such pieces
-  pub only-fitting : (A : Type 0) (paragraph : List ℕ) (pieces : List Word) (error : WrapError)
+  pub only-fitting : (A : Type 0) (paragraph : List ℕ) (pieces : List Word)
+      (result : Result A WrapError)
       → ArePieces (settings_view options) (MaySeparate options.word_separator)
       (MaySplit options.word_splitter) paragraph (map word_view pieces)
       → (Fits64Bits (total_width (λ word. sizes_of (word_view word)) pieces)
-      → ¬ Overflowed {A = A} (Err error))
-      → ¬ MayPass64Bits options paragraph → error ≡ Memory alloc_error
-  only-fitting A paragraph pieces (Memory error) are fits never = refl
-  only-fitting A paragraph pieces (Overflow error) are fits never =
+      → ¬ Overflowed result)
+      → ¬ MayPass64Bits options paragraph
+      → IfErr result (λ error. error ≡ Memory alloc_error)
+  only-fitting A paragraph pieces (Ok value) are fits never = tt
+  only-fitting A paragraph pieces (Err (Memory error)) are fits never = refl
+  only-fitting A paragraph pieces (Err (Overflow error)) are fits never =
       let same = total_width-same (λ word. sizes_of (word_view word)) sizes_of pieces
       (map word_view pieces) (sizes-word_view pieces) in
       search (rules, arith)

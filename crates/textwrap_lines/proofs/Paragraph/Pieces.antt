@@ -1,5 +1,4 @@
 -- The built-in parts leave exactly the computed pieces of a paragraph, which tile it.
-use Rattle.textwrap_base.proofs.Common.{arith}
 use Rattle.textwrap_base.proofs.Common.{◌≤◌, length, total_width, subst, ◌≡◌, ◌↔◌, ℕ, Bool}
 use Rattle.textwrap_base.proofs.Common.{List, [], All, refl, sym, ap, ◌∙◌, flat_map, IsUtf8, rules}
 use Rattle.textwrap_words.proofs.Common.{WordText, sizes_of, tiled, word_of, words_of, AreWordsOf}

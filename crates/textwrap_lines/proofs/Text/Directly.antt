@@ -1,19 +1,18 @@
 -- Lemmas on paragraphs that are divided without a list of words.
 use Rattle.textwrap_base.proofs.Common.{◌≡◌, ℕ, ◌<◌, ◌≤◌, ◌==◌, Bool, true, false, cond, List, []}
 use Rattle.textwrap_base.proofs.Common.{◌∷◌, ◌++◌, length, refl, sym, ap, ◌∙◌, subst, arith, IsUtf8}
-use Rattle.textwrap_base.proofs.Common.{le-ltb, Some, Result, Ok, Err, IsErrAnd, drop, rules}
+use Rattle.textwrap_base.proofs.Common.{le-ltb, None, Option, Some, Result, Ok, Err, IsErrAnd, drop, rules}
 use Rattle.textwrap_words.proofs.Common.{WordText, sizes_of, Algorithm}
-use Rattle.textwrap_words.proofs.Common.{IsDividedBy, algorithm_view, Splitter, IsPrintable}
+use Rattle.textwrap_words.proofs.Common.{IsDividedBy, Splitter, IsPrintable}
 use Rattle.textwrap_words.specs.Pieces.{stand_from}
 use Rattle.textwrap_lines.proofs.Common.{Settings, settings_view, CutLine, empty_word, front_of}
 use Rattle.textwrap_lines.proofs.Common.{later_width, lines_from, text_limit}
 use Rattle.textwrap_lines.proofs.Common.{pieces_of, widths_of, DividesBy, pieces_after}
 use Rattle.textwrap_lines.proofs.Common.{printable_cut, HasParts, Options, byte_before, first_width}
 use Rattle.textwrap_lines.proofs.Common.{indent_of}
-use Rattle.std.specs.Prelude.{IfErr, alloc_error}
+use Rattle.std.specs.Prelude.{IfErr, IfSome, alloc_error}
 use Rattle.textwrap_base.specs.declared.errors.WrapError.{WrapError}
 use Rattle.textwrap_base.specs.declared.errors.WrapError.TheVariants.{Memory}
-use Rattle.textwrap_lines.specs.Direct.{IsDirect}
 use Rattle.textwrap_lines.specs.Layout.{break_limit, limit_at}
 use Rattle.textwrap_lines.specs.PieceLines.{IsFirstUpTo, lines_left, no_pieces}
 use Rattle.textwrap_lines.proofs.Paragraph.BuiltIn.{divides}
@@ -77,28 +76,27 @@ lines-after_first settings splitter is_later text line end printable within firs
     (pieces-printable_at splitter (break_limit settings) text end printable within)
     ∙ sym first
 
--- a paragraph whose pieces are divided so by the algorithm of the options
+-- a paragraph whose pieces are divided so by the built-in parts of the options
 pub direct-divided : {E C : Type 0} {e : _} {c : _} (options : Options E C e c)
-    (splitter : Splitter) (direct : IsDirect options splitter) (algorithm : Algorithm)
+    (splitter : Splitter) (algorithm : Algorithm)
+    (built_in : HasParts options (settings_view options) splitter algorithm)
     (is_later : Bool) (paragraph : List ℕ) (division : List (List WordText))
-    → algorithm_view options.wrap_algorithm ≡ Some algorithm
     → IsDividedBy algorithm sizes_of (widths_of (settings_view options) is_later)
     (pieces_of (settings_view options) splitter paragraph) division
     → DividesBy options is_later paragraph division
-direct-divided options splitter direct algorithm is_later paragraph division chosen by =
+direct-divided options splitter algorithm built_in is_later paragraph division by =
     let settings = settings_view options in
-    let built_in : HasParts options settings splitter algorithm = record {
-      settings_are = refl;
-      separator = direct.separator;
-      splitter_is = direct.splitter_is;
-      algorithm_is = chosen;
-    } in
     subst (λ Divides. Divides is_later paragraph division)
     (sym (divides options settings splitter algorithm built_in)) (
       pieces_of settings splitter paragraph,
       ArePieces-computed settings splitter paragraph,
       by,
     )
+
+pub if_some : {X : Type 0} {P Q : X → Type 0} (o : Option X) → ((x : X) → P x → Q x) → IfSome o P
+    → IfSome o Q
+if_some None more none = tt
+if_some (Some x) more is = more x is
 
 -- an error that is passed on
 pub passed-on : {A : Type 0} (result : Result A WrapError) (error : WrapError)

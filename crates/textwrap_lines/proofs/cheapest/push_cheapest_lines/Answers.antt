@@ -1,7 +1,7 @@
 use Rattle.textwrap_lines.proofs.cheapest.push_cheapest_lines.Goals as goal
-use Rattle.textwrap_base.proofs.Common.{List, map, ◌∙◌, subst, Bor, on_ok_weaker}
+use Rattle.textwrap_base.proofs.Common.{List, map, refl, ◌∙◌, subst, Bor, on_ok_weaker}
 use Rattle.textwrap_words.proofs.Common.{as_splitter}
-use Rattle.textwrap_lines.proofs.Common.{Took, settings_view, Span}
+use Rattle.textwrap_lines.proofs.Common.{Took, layout_view, Span}
 use Rattle.textwrap_lines.proofs.PlacedPieces.Cheapest.{are_searched, found-lines}
 use Rattle.textwrap_lines.proofs.PlacedPieces.Cheapest.{FoundLines}
 use Rattle.textwrap_lines.proofs.cheapest.push_cheapest_lines.Goals.{After-deref-2}
@@ -9,7 +9,7 @@ use Rattle.textwrap_lines.proofs.cheapest.push_cheapest_lines.Goals.{After-deref
 pub cheapest_lines-requires : goal.cheapest_lines-requires
 cheapest_lines-requires g c =
     let is = c.deref.ensures.value ∙ c.in_ok-spans.ensures in
-    let searched = are_searched (settings_view c.args.options.now) (as_splitter c.args.splitter)
+    let searched = are_searched (layout_view c.args.layout.now) (as_splitter c.args.splitter)
     c.args.is_later c.args.paragraph.now c.args.penalties.now c.utf8.paragraph c.requires.some
     c.deref.result.now is c.requires.suits in
     record {
@@ -22,7 +22,7 @@ cheapest_lines-requires g c =
     }
 
 -- the lines that the table gives
-lines_found : (g : _) (c : After-deref-2 g) → FoundLines (settings_view c.args.options.now)
+lines_found : (g : _) (c : After-deref-2 g) → FoundLines (layout_view c.args.layout.now)
     (as_splitter c.args.splitter) c.args.is_later c.args.paragraph.now c.args.penalties.now
     c.utf8.paragraph c.requires.some c.deref.result.now
     (c.deref.ensures.value ∙ c.in_ok-spans.ensures)
@@ -35,13 +35,14 @@ lines_found g c = found-lines _ _ _ _ _ _ _ _ _ _
     ) c.in_ok-division.ensures)
 
 pub push_lines-requires : goal.push_lines-requires
-push_lines-requires g c = (lines_found g (goal.at.push_lines-requires g c).After-deref-2).texts
+push_lines-requires g c = λ k.
+    ((refl, tt), (lines_found g (goal.at.push_lines-requires g c).After-deref-2).texts)
 
-pub returns : goal.returns
-returns g c =
-    let found = lines_found g (goal.at.returns g c).After-deref-2 in
+pub returns-clause-took : goal.returns-clause-took
+returns-clause-took g c =
+    let found = lines_found g (goal.at.returns-clause-took g c).After-deref-2 in
     on_ok_weaker c.push_lines.result (λ took. (
       found.division,
       found.optimal,
-      subst (Took c.args.lines.now c.push_lines.new.lines) found.are_lines took,
-    )) c.push_lines.ensures
+      subst (Took g.S.LineSink.holds c.args.lines.now c.push_lines.new.lines) found.are_lines took,
+    )) c.push_lines.ensures.took

@@ -1,25 +1,19 @@
 use Rattle.textwrap_lines.proofs.cheapest.push_lines.Goals as goal
-use Rattle.textwrap_base.proofs.Common.{List, Bor, map, ap, subst, arith, drop_more, drop_all}
-use Rattle.textwrap_lines.proofs.Common.{settings_view, HaveTexts, span_lines, Span}
+use Rattle.textwrap_base.proofs.Common.{List, Bor, map, refl, ap, ◌∙◌, subst, arith, drop_more, drop_all}
+use Rattle.textwrap_lines.proofs.Common.{layout_view, HaveTexts, span_lines, Span}
 use Rattle.textwrap_lines.proofs.Text.Sinks.{HasTaken, HasTaken-end, HasTaken-next, HasTaken-start}
 
 pub loop-line-init : goal.loop-line-init
 loop-line-init g c = record {
   taken = HasTaken-start _ c.args.lines.now;
   texts = c.requires;
+  name = refl;
 }
-
-pub push_line-requires : goal.push_line-requires
-push_line-requires g c =
-    let now : Bor (List Span) → List Span = λ line. line.now in
-    (subst (HaveTexts c.args.paragraph.now c.loop-line.start)
-    (ap (map now) (drop_more c.args.division.now c.loop-line.line-index _ c.loop-line-test.true))
-    c.loop-line.invariant.texts).1
 
 pub loop-line-preserved : goal.loop-line-preserved
 loop-line-preserved g c =
     let now : Bor (List Span) → List Span = λ line. line.now in
-    let settings = settings_view c.args.options.now in
+    let settings = layout_view c.args.layout.now in
     let text = c.args.paragraph.now in
     let start = c.loop-line.start in
     let all = span_lines settings text c.args.is_later 0 (map now c.args.division.now) in
@@ -27,20 +21,21 @@ loop-line-preserved g c =
     (drop_more c.args.division.now c.loop-line.line-index _ c.loop-line-test.true) in
     record {
       taken = HasTaken-next all c.args.lines.now c.loop-line.lines c.push_line.new.lines _ _
-          (subst (λ left. HasTaken all c.args.lines.now c.loop-line.lines
+          (subst (λ left. HasTaken g.S.LineSink.holds all c.args.lines.now c.loop-line.lines
           (span_lines settings text c.loop-line.has_line start left)) more
-          c.loop-line.invariant.taken) c.in_ok-push_line.ensures;
+          c.loop-line.invariant.taken) c.in_ok-push_line.ensures.took;
       texts = (subst (HaveTexts text start) more c.loop-line.invariant.texts).2;
+      name = c.push_line.ensures.name ∙ c.loop-line.invariant.name;
     }
 
-pub returns : goal.returns
-returns g c =
+pub returns-clause-took : goal.returns-clause-took
+returns-clause-took g c =
     let now : Bor (List Span) → List Span = λ line. line.now in
-    let settings = settings_view c.args.options.now in
+    let settings = layout_view c.args.layout.now in
     let text = c.args.paragraph.now in
     let all = span_lines settings text c.args.is_later 0 (map now c.args.division.now) in
     HasTaken-end all c.args.lines.now c.loop-line.lines
-    (subst (λ left. HasTaken all c.args.lines.now c.loop-line.lines
+    (subst (λ left. HasTaken g.S.LineSink.holds all c.args.lines.now c.loop-line.lines
     (span_lines settings text c.loop-line.has_line c.loop-line.start (map now left)))
     (drop_all c.loop-line.line-index c.args.division.now (omega arith))
     c.loop-line.invariant.taken)

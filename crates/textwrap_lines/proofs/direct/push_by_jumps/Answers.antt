@@ -2,16 +2,16 @@ use Rattle.textwrap_lines.proofs.direct.push_by_jumps.Goals as goal
 use Rattle.textwrap_base.proofs.Common.{◌≡◌, [], ◌∷◌, sym, ap, ◌∙◌, subst, arith}
 use Rattle.textwrap_base.proofs.Common.{on_ok_weaker}
 use Rattle.textwrap_words.proofs.Common.{as_splitter}
-use Rattle.textwrap_lines.proofs.Common.{Took, settings_view, indent_of, first_width, later_width}
+use Rattle.textwrap_lines.proofs.Common.{Took, layout_view, indent_of, first_width, later_width}
 use Rattle.textwrap_lines.proofs.Common.{pieces_of}
 use Rattle.textwrap_lines.proofs.Paragraph.Pieces.{pieces_of-no_penalty, pieces_of-tile}
 use Rattle.textwrap_lines.proofs.Text.Directly.{lines-after_first, lines-by_bytes, lines_of_pieces}
 use Rattle.textwrap_lines.proofs.Text.Sinks.{Took-then}
 use Rattle.textwrap_lines.proofs.PieceLines.Joined.{lines-greedy}
 
-pub returns-then-first_width-later_width : goal.returns-then-first_width-later_width
-returns-then-first_width-later_width g c =
-    let settings = settings_view c.args.options.now in
+pub returns-then-first_width-later_width-clause-took : goal.returns-then-first_width-later_width-clause-took
+returns-then-first_width-later_width-clause-took g c =
+    let settings = layout_view c.args.layout.now in
     let splitter = as_splitter c.args.splitter in
     let text = c.args.paragraph.now in
     let pieces = pieces_of settings splitter text in
@@ -28,12 +28,12 @@ returns-then-first_width-later_width g c =
     on_ok_weaker c.push_printable_lines.result (λ took. (
       division,
       greedy,
-      subst (Took c.args.lines.now c.push_printable_lines.new.lines) is took,
-    )) c.push_printable_lines.ensures
+      subst (Took g.S.LineSink.holds c.args.lines.now c.push_printable_lines.new.lines) is took,
+    )) c.push_printable_lines.ensures.took
 
-pub returns : goal.returns
-returns g c =
-    let settings = settings_view c.args.options.now in
+pub returns-clause-took : goal.returns-clause-took
+returns-clause-took g c =
+    let settings = layout_view c.args.layout.now in
     let splitter = as_splitter c.args.splitter in
     let text = c.args.paragraph.now in
     let (division, greedy, found) = lines-greedy settings text c.args.is_later
@@ -45,7 +45,7 @@ returns g c =
     on_ok_weaker c.push_printable_lines-2.result (λ took. (
       division,
       greedy,
-      subst (Took c.args.lines.now c.push_printable_lines-2.new.lines) is
+      subst (Took g.S.LineSink.holds c.args.lines.now c.push_printable_lines-2.new.lines) is
           (Took-then c.args.lines.now c.push_first_line.new.lines
           c.push_printable_lines-2.new.lines (line ∷ []) _ first took),
-    )) c.push_printable_lines-2.ensures
+    )) c.push_printable_lines-2.ensures.took

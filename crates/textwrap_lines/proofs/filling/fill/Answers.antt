@@ -1,21 +1,11 @@
 use Rattle.textwrap_lines.proofs.filling.fill.Goals as goal
-use Rattle.textwrap_base.proofs.Common.{◌∙◌}
 use Rattle.textwrap_lines.proofs.Common.{lines_of}
 use Rattle.textwrap_lines.proofs.Paragraph.BuiltIn.{filled-as}
 
-pub into_text-requires : goal.into_text-requires
-into_text-requires g c =
-    let (taken, are, holds, kind) = c.in_ok-push_text.ensures.lines in
-    (c.args.options.line_ending, kind ∙ c.joined-lines.ensures.kind)
-
 pub returns-clause-filled : goal.returns-clause-filled
 returns-clause-filled g c =
-    let (taken, are, holds, kind) = c.in_ok-push_text.ensures.lines in (
-      lines_of taken,
-      are.are,
-      c.into_text.ensures taken c.args.options.line_ending holds
-          (kind ∙ c.joined-lines.ensures.kind),
-    )
+    let (taken, are, end, holds) = c.in_ok-push_text.ensures.lines in
+    (lines_of taken, are.are, holds.text)
 
 pub returns-clause-built_in : goal.returns-clause-built_in
 returns-clause-built_in g c = λ settings splitter algorithm parts.

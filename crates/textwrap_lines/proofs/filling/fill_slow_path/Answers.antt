@@ -1,22 +1,22 @@
 use Rattle.textwrap_lines.proofs.filling.fill_slow_path.Goals as goal
-use Rattle.textwrap_base.proofs.Common.{map, ap, ◌∙◌}
+use Rattle.textwrap_base.proofs.Common.{map, ap, ◌∙◌, rules}
 use Rattle.textwrap_lines.proofs.Common.{ending_bytes, join_with, line_bytes, line_view, lines_of}
 use Rattle.textwrap_lines.proofs.Paragraph.BuiltIn.{filled-as}
+use Rattle.textwrap_lines.proofs.Text.Directly.{passed-on}
 
-pub into_list-requires : goal.into_list-requires
-into_list-requires g c =
-    let (taken, are, holds, kind) = c.in_ok-push_text.ensures.lines in
-    kind ∙ c.listed-lines.ensures.kind
+pub returns-in_err-push_text-clause-only_memory : goal.returns-in_err-push_text-clause-only_memory
+returns-in_err-push_text-clause-only_memory g c = λ never.
+    passed-on c.from_residual.result c.in_err-push_text.field-0.0 c.from_residual.ensures.1
+    (c.in_err-push_text.ensures.only_memory never)
 
 pub returns-clause-filled : goal.returns-clause-filled
 returns-clause-filled g c =
-    let (taken, are, holds, kind) = c.in_ok-push_text.ensures.lines in
-    let ending = ending_bytes c.args.options.line_ending in (
+    let (taken, are, end, holds) = c.in_ok-push_text.ensures.lines in (
       lines_of taken,
       are.are,
-      c.in_ok-join_lines.ensures ∙ ap (λ ls. join_with ending (map line_bytes (map line_view ls)))
-          c.deref.ensures.value
-          ∙ ap (λ ls. join_with ending (map line_bytes ls)) (c.into_list.ensures taken holds),
+      c.in_ok-join_lines.ensures
+          ∙ ap (λ ls. join_with (ending_bytes c.args.options.line_ending) (map line_bytes ls))
+          (ap (map line_view) c.deref.ensures.value ∙ (search rules ∙ holds)),
     )
 
 pub returns-clause-built_in : goal.returns-clause-built_in

@@ -1,13 +1,13 @@
 use Rattle.textwrap_lines.proofs.first_line.first_line.Goals as goal
 use Rattle.textwrap_base.proofs.Common.{sym, ap, ◌∙◌, subst, arith}
 use Rattle.textwrap_words.proofs.Common.{as_splitter}
-use Rattle.textwrap_lines.proofs.Common.{first_width, settings_view}
+use Rattle.textwrap_lines.proofs.Common.{first_width, layout_view}
 use Rattle.textwrap_lines.specs.PieceLines.{first_so_far}
 use Rattle.textwrap_lines.proofs.PieceLines.First.{HoldsFirst, goes_on-start}
 
 pub loop-line-init : goal.loop-line-init
-loop-line-init g c =
-    let settings = settings_view c.args.options.now in
+loop-line-init c =
+    let settings = layout_view c.args.layout.now in
     let splitter = as_splitter c.args.splitter in
     let text = c.args.paragraph.now in
     let front = c.has_front.result in

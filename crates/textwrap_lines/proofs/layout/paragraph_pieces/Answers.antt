@@ -2,12 +2,12 @@ use Rattle.textwrap_lines.proofs.layout.paragraph_pieces.Goals as goal
 use Rattle.textwrap_base.proofs.Common.{◌++◌, ap, ◌∙◌, arith}
 use Rattle.textwrap_words.proofs.Common.{broken_words, words_of, split_words, as_splitter}
 use Rattle.textwrap_words.specs.Pieces.{stand_from}
-use Rattle.textwrap_lines.proofs.Common.{front_of, settings_view}
+use Rattle.textwrap_lines.proofs.Common.{front_of, layout_view}
 use Rattle.textwrap_lines.proofs.PieceLines.Unbroken.{limited-pieces}
 
 pub returns : goal.returns
-returns g c =
-    let settings = settings_view c.args.options.now in
+returns c =
+    let settings = layout_view c.args.layout.now in
     let text = c.args.paragraph.now in
     let words = split_words (as_splitter c.args.splitter) (words_of text) in
     c.of.ensures

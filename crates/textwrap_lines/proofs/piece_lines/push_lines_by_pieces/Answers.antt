@@ -1,10 +1,10 @@
 use Rattle.textwrap_lines.proofs.piece_lines.push_lines_by_pieces.Goals as goal
-use Rattle.textwrap_base.proofs.Common.{◌≡◌, [], ◌∷◌, cond, ap, ◌∙◌, sym, subst, on_ok_weaker}
+use Rattle.textwrap_base.proofs.Common.{◌≡◌, [], ◌∷◌, cond, refl, ap, ◌∙◌, sym, subst, on_ok_weaker}
 use Rattle.textwrap_base.proofs.Common.{IsCharBoundary-start}
 use Rattle.textwrap_words.proofs.Common.{as_splitter}
 use Rattle.textwrap_words.specs.Pieces.{stand_from}
 use Rattle.textwrap_words.specs.PiecesLeft.{standing_left}
-use Rattle.textwrap_lines.proofs.Common.{Took, settings_view, later_width, first_width, indent_of}
+use Rattle.textwrap_lines.proofs.Common.{Took, layout_view, later_width, first_width, indent_of}
 use Rattle.textwrap_lines.proofs.Common.{pieces_of, line_so_far, lines_from, LineSoFar, line_of}
 use Rattle.textwrap_lines.proofs.Common.{with_piece}
 use Rattle.textwrap_lines.specs.PieceLines.{no_pieces}
@@ -20,7 +20,7 @@ at-line-requires g c = IsCharBoundary-start c.args.paragraph.now c.utf8.paragrap
 
 pub loop-piece-init : goal.loop-piece-init
 loop-piece-init g c =
-    let settings = settings_view c.args.options.now in
+    let settings = layout_view c.args.layout.now in
     let splitter = as_splitter c.args.splitter in
     let paragraph = c.args.paragraph.now in
     let left = standing_left c.into_iter-piece-iterator.result in
@@ -33,11 +33,12 @@ loop-piece-init g c =
           (sym c.at-line.ensures)
           (subst (AllCome paragraph 0) (sym left_is)
           (pieces-come settings splitter paragraph c.utf8.paragraph));
+      name = refl;
     }
 
 pub loop-piece-preserved : goal.loop-piece-preserved
 loop-piece-preserved g c =
-    let settings = settings_view c.args.options.now in
+    let settings = layout_view c.args.layout.now in
     let keeps = settings.preserve_trailing_space in
     let all = lines_from settings (line_so_far c.at-line.result)
     (standing_left c.into_iter-piece-iterator.result) in
@@ -51,7 +52,7 @@ loop-piece-preserved g c =
     let more = with_piece here piece in
     let come = (subst (AllCome here.text here.end) c.in-Some.ensures.steps
     c.loop-piece.invariant.come).1 in
-    let taken = subst (λ ps. HasTaken all before now (lines_from settings here ps))
+    let taken = subst (λ ps. HasTaken g.S.LineSink.holds all before now (lines_from settings here ps))
     c.in-Some.ensures.steps c.loop-piece.invariant.taken in
     elim c.if-is_past.branch [
       | then-is_past+in_ok-push_to w ↦
@@ -60,30 +61,32 @@ loop-piece-preserved g c =
           ∙ ap (λ l. with_piece l piece) w.at-line-then-is_past.ensures
           ∙ ap (λ n. with_piece (no_pieces here.text here.end n settings.subsequent_indent) piece)
           c.line_widths-first_width.ensures.later in
-          let full = subst (λ b. HasTaken all before now (cond b
+          let full = subst (λ b. HasTaken g.S.LineSink.holds all before now (cond b
           (line_of keeps here ∷ lines_from settings next left) (lines_from settings more left)))
           (sym c.is_past.ensures ∙ w.if-is_past.true) taken in
           rw (w.lines-is) (record {
-            taken = subst (λ l. HasTaken all before w.push_to.new.lines (lines_from settings l left))
+            taken = subst (λ l. HasTaken g.S.LineSink.holds all before w.push_to.new.lines (lines_from settings l left))
                 (sym is) (HasTaken-next all before now w.push_to.new.lines (line_of keeps here)
-                (lines_from settings next left) full w.in_ok-push_to.ensures);
+                (lines_from settings next left) full w.in_ok-push_to.ensures.took);
             come = subst (λ (line : LineSoFar). AllCome line.text line.end left) (sym is) come;
+            name = w.push_to.ensures.name ∙ c.loop-piece.invariant.name;
           })
       | else-is_past w ↦
           let is : line_so_far c.take.new.self ≡ more =
           c.take.ensures ∙ ap (λ l. with_piece (line_so_far l) piece) w.line-is in
-          let room = subst (λ b. HasTaken all before now (cond b
+          let room = subst (λ b. HasTaken g.S.LineSink.holds all before now (cond b
           (line_of keeps here ∷ lines_from settings next left) (lines_from settings more left)))
           (sym c.is_past.ensures ∙ w.if-is_past.false) taken in
           rw (w.lines-is) (record {
-            taken = subst (λ l. HasTaken all before now (lines_from settings l left)) (sym is) room;
+            taken = subst (λ l. HasTaken g.S.LineSink.holds all before now (lines_from settings l left)) (sym is) room;
             come = subst (λ (line : LineSoFar). AllCome line.text line.end left) (sym is) come;
+            name = c.loop-piece.invariant.name;
           })
     ]
 
-pub returns : goal.returns
-returns g c =
-    let settings = settings_view c.args.options.now in
+pub returns-clause-took : goal.returns-clause-took
+returns-clause-took g c =
+    let settings = layout_view c.args.layout.now in
     let is_later = c.args.is_later in
     let splitter = as_splitter c.args.splitter in
     let paragraph = c.args.paragraph.now in
@@ -105,16 +108,16 @@ returns g c =
     ∙ ap (λ n. no_pieces paragraph 0 n c.next_indent.result.now)
     c.line_widths-first_width.ensures.first
     ∙ ap (no_pieces paragraph 0 (first_width settings is_later)) c.next_indent.ensures in
-    let taken = subst (λ ps. HasTaken all c.args.lines.now now
+    let taken = subst (λ ps. HasTaken g.S.LineSink.holds all c.args.lines.now now
     (lines_from settings (line_so_far c.loop-piece.line) ps)) c.in-None.ensures.steps.0
     c.loop-piece.invariant.taken in
     on_ok_weaker c.push_to-2.result (λ end. (
       division,
       greedy,
-      subst (Took c.args.lines.now c.push_to-2.new.lines)
+      subst (Took g.S.LineSink.holds c.args.lines.now c.push_to-2.new.lines)
           (ap (λ l. lines_from settings l left) first_is
           ∙ ap (lines_from settings (no_pieces paragraph 0 (first_width settings is_later)
           (indent_of settings is_later))) left_is ∙ found)
           (HasTaken-end all c.args.lines.now c.push_to-2.new.lines
           (HasTaken-next all c.args.lines.now now c.push_to-2.new.lines last [] taken end)),
-    )) c.push_to-2.ensures
+    )) c.push_to-2.ensures.took

@@ -3,18 +3,12 @@ use Rattle.textwrap_base.proofs.Common.{ap, ◌∙◌}
 use Rattle.textwrap_lines.proofs.Common.{lines_of, places_of}
 use Rattle.textwrap_lines.proofs.Paragraph.BuiltIn.{placed-as}
 
-pub into_placed-requires : goal.into_placed-requires
-into_placed-requires g c =
-    let (taken, are, holds, kind) = c.in_ok-push_text.ensures.lines in
-    kind ∙ c.placed-lines.ensures.kind
-
 pub returns-clause-lines : goal.returns-clause-lines
 returns-clause-lines g c =
-    let (taken, are, holds, kind) = c.in_ok-push_text.ensures.lines in
-    let (places, built) = c.into_placed.ensures taken holds in (
+    let (taken, are, end, holds) = c.in_ok-push_text.ensures.lines in (
       lines_of taken,
-      record { are = are.are; places_are = places ∙ ap (places_of 0) are.cuts_are },
-      built,
+      record { are = are.are; places_are = holds.places ∙ ap (places_of 0) are.cuts_are },
+      holds.built,
     )
 
 pub returns-clause-built_in : goal.returns-clause-built_in

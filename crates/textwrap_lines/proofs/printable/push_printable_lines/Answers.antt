@@ -1,10 +1,10 @@
 use Rattle.textwrap_lines.proofs.printable.push_printable_lines.Goals as goal
 use Rattle.textwrap_base.proofs.Common.{◌≡◌, ℕ, zero, suc, ◌+◌, ◌-◌, ◌<◌, ◌≤◌, cond, List, [], ◌∷◌}
-use Rattle.textwrap_base.proofs.Common.{length, take, drop, slice_index, sym, ap, ◌∙◌, subst, arith}
+use Rattle.textwrap_base.proofs.Common.{length, take, drop, slice_index, refl, sym, ap, ◌∙◌, subst, arith}
 use Rattle.textwrap_base.proofs.Common.{All-drop, length-drop, drop-drop, true}
 use Rattle.textwrap_words.proofs.Common.{as_splitter, trimmed_len, IsPrintable, IsPrintableByte}
 use Rattle.textwrap_lines.proofs.Common.{Took, IsFirstLine, byte_before, printable_cut}
-use Rattle.textwrap_lines.proofs.Common.{settings_view, indent_of, later_width, cut_line}
+use Rattle.textwrap_lines.proofs.Common.{layout_view, indent_of, later_width, cut_line}
 use Rattle.textwrap_lines.proofs.Common.{assembled_line}
 use Rattle.textwrap_lines.specs.Layout.{break_limit, limit_at}
 use Rattle.textwrap_lines.proofs.PrintableTexts.Lines.{lines-step}
@@ -20,7 +20,7 @@ byte_before-some a text (suc m) some =
 
 pub loop-rest-init : goal.loop-rest-init
 loop-rest-init g c =
-    let settings = settings_view c.args.options.now in
+    let settings = layout_view c.args.layout.now in
     let splitter = as_splitter c.args.splitter in
     let text = c.args.paragraph.now in
     let start = c.args.start in
@@ -38,7 +38,7 @@ loop-rest-init g c =
       rest_is = after ∙ ap (λ n. drop n text) place;
       within = omega (arith, len);
       utf8 = c.range_from-rest.utf8;
-      taken = subst (HasTaken all c.args.lines.now c.args.lines.now)
+      taken = subst (HasTaken g.S.LineSink.holds all c.args.lines.now c.args.lines.now)
           (ap (λ n. lines_after settings splitter text n c.args.is_later
           (byte_before 32 text start) (drop start text)) place
           ∙ ap (λ b. lines_after settings splitter text (length text - length rest)
@@ -46,11 +46,12 @@ loop-rest-init g c =
           ∙ ap (lines_after settings splitter text (length text - length rest)
           c.args.is_later c.byte_before-before.result) (sym after))
           (HasTaken-start all c.args.lines.now);
+      name = refl;
     }
 
 pub loop-rest-preserved : goal.loop-rest-preserved
 loop-rest-preserved g c =
-    let settings = settings_view c.args.options.now in
+    let settings = layout_view c.args.layout.now in
     let splitter = as_splitter c.args.splitter in
     let cut = printable_cut splitter in
     let limit = break_limit settings in
@@ -67,7 +68,7 @@ loop-rest-preserved g c =
     let left_over = c.range_from-rest-in-loop-rest in
     let first : IsFirstLine cut limit width before rest next =
     subst (λ t. IsFirstLine cut limit width before t next) bytes
-    (subst (λ n. IsFirstLine cut (limit_at c.args.options.now.break_words n) n before
+    (subst (λ n. IsFirstLine cut (limit_at c.args.layout.now.break_words n) n before
     c.as_bytes-bytes.result.now next) c.later_width-width.ensures c.line_len-next.ensures.line)
     in
     let within : next ≤ length rest =
@@ -86,25 +87,26 @@ loop-rest-preserved g c =
     ∙ ap (λ t. take (cond keeps next (trimmed_len (take next t))) rest) bytes in
     let all = lines_after settings splitter text c.args.start c.args.is_later
     (byte_before 32 text c.args.start) (drop c.args.start text) in
-    let took = subst (λ l. Took c.loop-rest.lines c.push_line.new.self (l ∷ []))
+    let took = subst (λ l. Took g.S.LineSink.holds c.loop-rest.lines c.push_line.new.self (l ∷ []))
     (ap (λ i. cut_line start (assembled_line i c.range.result.now [])) c.next_indent-indent.ensures
     ∙ ap (λ s. cut_line start (assembled_line (indent_of settings has_line) s [])) slice)
-    c.in_ok-push_line.ensures in
+    c.in_ok-push_line.ensures.took in
     let step = lines-step settings text cut limit width before start rest next has_line
     so_far.printable so_far.rest_is within first in
     let others = byte_before before rest next in
     let taken = HasTaken-next all c.args.lines.now c.loop-rest.lines c.push_line.new.self _ _
-    (subst (HasTaken all c.args.lines.now c.loop-rest.lines) step so_far.taken) took in
+    (subst (HasTaken g.S.LineSink.holds all c.args.lines.now c.loop-rest.lines) step so_far.taken) took in
     record {
       printable = subst IsPrintable (sym after) (All-drop IsPrintableByte next rest so_far.printable);
       rest_is = after ∙ ap (drop next) so_far.rest_is ∙ drop-drop next start text
           ∙ ap (λ n. drop n text) place;
       within = omega (arith, left, so_far.within);
       utf8 = left_over.utf8;
-      taken = subst (HasTaken all c.args.lines.now c.push_line.new.self)
+      taken = subst (HasTaken g.S.LineSink.holds all c.args.lines.now c.push_line.new.self)
           (ap (λ n. lines_after settings splitter text n true others (drop next rest)) place
           ∙ ap (λ b. lines_after settings splitter text (length text - length left_over.result.now)
           true b (drop next rest)) (sym last)
           ∙ ap (lines_after settings splitter text (length text - length left_over.result.now) true
           (slice_index c.as_bytes-bytes.result.now (next - 1))) (sym after)) taken;
+      name = c.push_line.ensures.name ∙ so_far.name;
     }

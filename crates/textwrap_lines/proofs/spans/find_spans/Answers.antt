@@ -2,14 +2,14 @@ use Rattle.textwrap_lines.proofs.spans.find_spans.Goals as goal
 use Rattle.textwrap_base.proofs.Common.{sym, ap, ◌∙◌, subst, arith}
 use Rattle.textwrap_words.proofs.Common.{as_splitter}
 use Rattle.textwrap_words.specs.PiecesLeft.{standing_left}
-use Rattle.textwrap_lines.proofs.Common.{pieces_of, settings_view}
+use Rattle.textwrap_lines.proofs.Common.{pieces_of, layout_view}
 use Rattle.textwrap_lines.proofs.Paragraph.Pieces.{pieces_of-wide}
 use Rattle.textwrap_lines.proofs.PlacedPieces.Left.{HasLeft, HasNext, Left-start, Left-next, Left-end}
 use Rattle.textwrap_lines.proofs.spans.find_spans.Goals.{In-Some}
 
 pub loop-piece-init : goal.loop-piece-init
 loop-piece-init g c =
-    let all = pieces_of (settings_view c.args.options.now) (as_splitter c.args.splitter)
+    let all = pieces_of (layout_view c.args.layout.now) (as_splitter c.args.splitter)
     c.args.paragraph.now in
     subst (λ spans. HasLeft all spans 0 (standing_left c.into_iter-piece-iterator.result))
     (sym c.new-spans.ensures.items)
@@ -19,11 +19,11 @@ loop-piece-init g c =
 
 -- the piece that the iterator gives, and those after it
 turn : (g : _) (c : In-Some g)
-    → HasNext (pieces_of (settings_view c.args.options.now) (as_splitter c.args.splitter)
+    → HasNext (pieces_of (layout_view c.args.layout.now) (as_splitter c.args.splitter)
     c.args.paragraph.now) c.loop-piece.spans.items c.loop-piece.opens c.in-Some.piece
     (standing_left c.next.new.self)
 turn g c =
-    let all = pieces_of (settings_view c.args.options.now) (as_splitter c.args.splitter)
+    let all = pieces_of (layout_view c.args.layout.now) (as_splitter c.args.splitter)
     c.args.paragraph.now in
     Left-next all c.loop-piece.spans.items c.loop-piece.opens c.in-Some.piece
     (standing_left c.next.new.self)
@@ -39,7 +39,7 @@ overflow_add-closes g c =
     omega (
       arith,
       next.room,
-      pieces_of-wide (settings_view c.args.options.now) (as_splitter c.args.splitter)
+      pieces_of-wide (layout_view c.args.layout.now) (as_splitter c.args.splitter)
           c.args.paragraph.now c.utf8.paragraph,
     )
 
@@ -49,7 +49,7 @@ overflow_add-opens g c =
     omega (
       arith,
       next.room,
-      pieces_of-wide (settings_view c.args.options.now) (as_splitter c.args.splitter)
+      pieces_of-wide (layout_view c.args.layout.now) (as_splitter c.args.splitter)
           c.args.paragraph.now c.utf8.paragraph,
     )
 
@@ -60,7 +60,7 @@ loop-piece-preserved g c =
 
 pub returns : goal.returns
 returns g c =
-    let all = pieces_of (settings_view c.args.options.now) (as_splitter c.args.splitter)
+    let all = pieces_of (layout_view c.args.layout.now) (as_splitter c.args.splitter)
     c.args.paragraph.now in
     Left-end all c.loop-piece.spans.items c.loop-piece.opens
     (subst (HasLeft all c.loop-piece.spans.items c.loop-piece.opens) c.in-None.ensures.steps.0

@@ -30,7 +30,8 @@ returns g c =
     let pieces = broken_words (later_width settings) split in
     let broken : map word_view c.in_ok-broken.broken.items ≡ pieces =
     more.4 ∙ ap (λ ws. broken_words c.later_width-width.result (map word_view ws)) all
-    ∙ ap (λ n. broken_words n split) c.later_width-width.ensures in
+    ∙ ap (λ n. broken_words n split) (c.later_width-width.ensures
+    ∙ ap later_width c.of.ensures) in
     let whole : map word_view c.if-not-is_empty.broken.items ≡ front_pieces settings ++ pieces =
     elim c.if-not-is_empty.branch [
       | then-not-is_empty+in_ok-insert w ↦

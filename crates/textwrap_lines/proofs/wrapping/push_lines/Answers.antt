@@ -1,9 +1,9 @@
 use Rattle.textwrap_lines.proofs.wrapping.push_lines.Goals as goal
-use Rattle.textwrap_base.proofs.Common.{◌≡◌, ℕ, ◌+◌, ◌-◌, ◌≤◌, List, Bor, drop, length, map, rules, subst, sym}
+use Rattle.textwrap_base.proofs.Common.{◌≡◌, ℕ, ◌+◌, ◌-◌, ◌≤◌, List, Bor, drop, length, map, refl, rules, subst, sym}
 use Rattle.textwrap_base.proofs.Common.{ap, arith, ◌∙◌, StartsWith, flat_map, drop_all, drop_more}
 use Rattle.textwrap_base.proofs.Common.{length-drop, length-take}
 use Rattle.textwrap_words.proofs.Common.{word_view, tiled, WordText}
-use Rattle.textwrap_lines.proofs.Common.{cut_lines, parts_from, settings_view, Word}
+use Rattle.textwrap_lines.proofs.Common.{cut_lines, parts_from, layout_view, Word}
 use Rattle.textwrap_base.proofs.Lists.Prefixes.{starts-parts}
 use Rattle.textwrap_lines.proofs.Text.Cuts.{cut_lines-next}
 use Rattle.textwrap_lines.proofs.Text.Sinks.{HasTaken, HasTaken-end, HasTaken-next, HasTaken-start}
@@ -11,21 +11,23 @@ use Rattle.textwrap_lines.proofs.Text.Sinks.{HasTaken, HasTaken-end, HasTaken-ne
 pub loop-pieces-init : goal.loop-pieces-init
 loop-pieces-init g c =
     let none : length c.args.paragraph.now - length c.args.paragraph.now ≡ 0 = omega arith in
-    let all = parts_from (settings_view c.args.options.now) c.args.is_later
+    let all = parts_from (layout_view c.args.layout.now) c.args.is_later
     (map (λ line. map word_view line.now) c.args.division.now) in (
       c.utf8.paragraph,
       c.requires,
       omega arith,
-      subst (λ n. HasTaken (cut_lines 0 all) c.args.lines.now c.args.lines.now (cut_lines n all))
+      subst (λ n. HasTaken g.S.LineSink.holds (cut_lines 0 all) c.args.lines.now c.args.lines.now (cut_lines n all))
           (sym none) (HasTaken-start (cut_lines 0 all) c.args.lines.now),
+      refl,
     )
 
-pub push_line-requires-clause-begins : goal.push_line-requires-clause-begins
-push_line-requires-clause-begins g c =
-    (starts-parts c.loop-pieces.rest.now _ _ (subst (StartsWith c.loop-pieces.rest.now)
+pub push_line-requires : goal.push_line-requires
+push_line-requires g c = λ k.
+    let begins = starts-parts c.loop-pieces.rest.now _ _ (subst (StartsWith c.loop-pieces.rest.now)
     (ap (flat_map (λ line. tiled (map word_view line.now)))
     (drop_more c.args.division.now c.loop-pieces.pieces-index _ c.loop-pieces-test.true))
-    c.loop-pieces.invariant.1)).0
+    c.loop-pieces.invariant.1) in
+    ((refl, tt), (begins.0, omega arith))
 
 -- where the next line begins, after those of the paragraph that stand before it
 next-start : (paragraph rest after here : List ℕ) → StartsWith rest here
@@ -40,7 +42,7 @@ next-start paragraph rest after here begins within is =
 pub loop-pieces-preserved : goal.loop-pieces-preserved
 loop-pieces-preserved g c =
     let words : Bor (List Word) → List WordText = λ line. map word_view line.now in
-    let settings = settings_view c.args.options.now in
+    let settings = layout_view c.args.layout.now in
     let rest = c.loop-pieces.rest.now in
     let after = c.in_ok-rest.rest.now in
     let at = length c.args.paragraph.now - length rest in
@@ -56,20 +58,21 @@ loop-pieces-preserved g c =
           (sym c.in_ok-rest.ensures.rest) begins.1,
       within,
       HasTaken-next all c.args.lines.now c.loop-pieces.lines c.push_line.new.lines _ _
-          (subst (HasTaken all c.args.lines.now c.loop-pieces.lines)
+          (subst (HasTaken g.S.LineSink.holds all c.args.lines.now c.loop-pieces.lines)
           (ap (λ lines. cut_lines at (parts_from settings c.loop-pieces.has_line (map words lines)))
           is ∙ cut_lines-next settings c.loop-pieces.has_line at _ _ (map words left) next)
           c.loop-pieces.invariant.3) c.in_ok-rest.ensures.line,
+      c.push_line.ensures.name ∙ c.loop-pieces.invariant.4,
     )
 
-pub returns : goal.returns
-returns g c =
+pub returns-clause-took : goal.returns-clause-took
+returns-clause-took g c =
     let words : Bor (List Word) → List WordText = λ line. map word_view line.now in
-    let settings = settings_view c.args.options.now in
+    let settings = layout_view c.args.layout.now in
     let at = length c.args.paragraph.now - length c.loop-pieces.rest.now in
     let all = cut_lines 0 (parts_from settings c.args.is_later (map words c.args.division.now)) in
     HasTaken-end all c.args.lines.now c.loop-pieces.lines
-    (subst (λ left. HasTaken all c.args.lines.now c.loop-pieces.lines
+    (subst (λ left. HasTaken g.S.LineSink.holds all c.args.lines.now c.loop-pieces.lines
     (cut_lines at (parts_from settings c.loop-pieces.has_line (map words left))))
     (drop_all c.loop-pieces.pieces-index c.args.division.now (omega arith))
     c.loop-pieces.invariant.3)

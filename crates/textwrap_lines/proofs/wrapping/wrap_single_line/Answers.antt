@@ -1,6 +1,6 @@
 use Rattle.textwrap_lines.proofs.wrapping.wrap_single_line.Goals as goal
 use Rattle.textwrap_base.proofs.Common.{Bool, List, not, nat_lt, length, [], ◌++◌, map, ap, sym}
-use Rattle.textwrap_base.proofs.Common.{◌∙◌, subst, arith}
+use Rattle.textwrap_base.proofs.Common.{◌∙◌, subst, arith, rules}
 use Rattle.textwrap_lines.proofs.Common.{MayOverflow, settings_view, AreParagraphParts, DividesBy}
 use Rattle.textwrap_lines.proofs.Common.{LineParts, cut_lines, line_view}
 use Rattle.textwrap_base.proofs.Numbers.{not_empty}
@@ -27,10 +27,10 @@ returns-clause-appended g c =
     (omega arith) in
     let (parts, are, took) = c.in_ok-push_paragraph.ensures.taken in
     appends-own (MayOverflow options) (Are (nat_lt 0 (length start))) start
-    c.into_list-found.result.items c.append.new.self.items parts c.in_ok-append.field-0
+    _ c.append.new.self.items parts c.in_ok-append.field-0
     (subst (λ b. Are b parts) is_out are)
-    (c.into_list-found.ensures _ (took.held [] 0 (c.listed-found.ensures.place 0)
-    c.listed-found.ensures.held) ∙ lines_of-more [] 0 (cut_lines 0 parts)
+    (search rules ∙ took.held c.push_paragraph.new.lines 0 []
+    (ap (map line_view) c.new-own.ensures.items) ∙ lines_of-more [] 0 (cut_lines 0 parts)
     ∙ lines_of-cut_lines 0 parts)
     c.in_ok-append.ensures.items
 

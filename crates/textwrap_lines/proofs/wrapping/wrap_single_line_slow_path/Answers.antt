@@ -1,8 +1,8 @@
 use Rattle.textwrap_lines.proofs.wrapping.wrap_single_line_slow_path.Goals as goal
-use Rattle.textwrap_base.proofs.Common.{not, nat_lt, length, List, [], ◌++◌, map, ap, refl, ◌∙◌}
-use Rattle.textwrap_base.proofs.Common.{subst, arith}
-use Rattle.textwrap_words.proofs.Common.{algorithm_view, WordText, MaySeparate, MaySplit}
-use Rattle.textwrap_lines.proofs.Common.{Took, cut_lines, MayOverflow, settings_view, AreDividedParts}
+use Rattle.textwrap_base.proofs.Common.{Bool, not, nat_lt, length, List, [], ◌++◌, map, ap, refl, ◌∙◌}
+use Rattle.textwrap_base.proofs.Common.{subst, arith, rules}
+use Rattle.textwrap_words.proofs.Common.{algorithm_view, MaySeparate, MaySplit}
+use Rattle.textwrap_lines.proofs.Common.{LineParts, cut_lines, MayOverflow, settings_view, AreDividedParts}
 use Rattle.textwrap_lines.proofs.Common.{DividesBy, line_from, line_view, parts_from, widths_of}
 use Rattle.textwrap_words.proofs.Word.Divisions.{MayDivide-greedy}
 use Rattle.textwrap_lines.proofs.Paragraph.LongLines.{long_lines}
@@ -24,21 +24,17 @@ returns-clause-appended g c =
     let options = c.args.options.now in
     let settings = settings_view options in
     let start = c.args.lines.now.items in
-    let is_later = nat_lt 0 (length start) in
+    let Are : Bool → List LineParts → Type 0 =
+    λ b. AreDividedParts settings (DividesBy options) b c.args.line.now in
     let is_out = ap not c.is_empty-is_later.ensures ∙ not_empty c.args.lines.now.len (length start)
     (omega arith) in
-    let (division, divides, took) = subst (λ b. (division : List (List WordText))
-    × DividesBy options b c.args.line.now division
-    × Took c.listed-found.result c.push_divided.new.lines
-    (cut_lines 0 (parts_from settings b division)))
-    is_out c.in_ok-push_divided.ensures.taken in
-    let parts = parts_from settings is_later division in
-    appends-own (MayOverflow options)
-    (AreDividedParts settings (DividesBy options) is_later c.args.line.now) start
-    c.into_list-found.result.items c.append.new.self.items parts c.in_ok-append.field-0
-    (division, divides, refl)
-    (c.into_list-found.ensures _ (took.held [] 0 (c.listed-found.ensures.place 0)
-    c.listed-found.ensures.held) ∙ lines_of-more [] 0 (cut_lines 0 parts)
+    let (division, divides, took) = c.in_ok-push_divided.ensures.taken in
+    let parts = parts_from settings (not c.is_empty-is_later.result) division in
+    appends-own (MayOverflow options) (Are (nat_lt 0 (length start))) start _
+    c.append.new.self.items parts c.in_ok-append.field-0
+    (subst (λ b. Are b parts) is_out (division, divides, refl))
+    (search rules ∙ took.held c.push_divided.new.lines 0 []
+    (ap (map line_view) c.new-own.ensures.items) ∙ lines_of-more [] 0 (cut_lines 0 parts)
     ∙ lines_of-cut_lines 0 parts)
     c.in_ok-append.ensures.items
 

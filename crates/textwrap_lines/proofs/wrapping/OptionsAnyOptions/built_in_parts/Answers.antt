@@ -1,0 +1,9 @@
+use Rattle.textwrap_lines.proofs.wrapping.OptionsAnyOptions.built_in_parts.Goals as goal
+use Rattle.textwrap_words.proofs.Common.{as_splitter}
+use Rattle.textwrap_lines.proofs.Text.Directly.{direct-divided, if_some}
+use Rattle.textwrap_lines.specs.Direct.{as_algorithm}
+
+pub returns : goal.returns
+returns g c = if_some c.built_in_parts.result
+    (λ parts. direct-divided c.args.self.now (as_splitter parts.splitter)
+    (as_algorithm parts.algorithm)) c.built_in_parts.ensures

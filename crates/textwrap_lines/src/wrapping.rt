@@ -6,6 +6,7 @@ ghost use Rattle.std.specs.List.{flat_map};
 ghost use Rattle.std.specs.Str.{IsUtf8};
 ghost use Rattle.std.specs.Io.{StartsWith};
 ghost use Rattle.textwrap_words.specs.Blanks.{without_final_blanks};
+ghost use Rattle.textwrap_words.specs.Breaking.{broken_words};
 ghost use Rattle.textwrap_base.specs.Cost.{total_width};
 ghost use Rattle.textwrap_base.specs.Errors.{Fits64Bits, Overflowed};
 ghost use Rattle.textwrap_words.specs.WrapAlgorithms.{Algorithm, algorithm_view, Greedy, LeastCost};
@@ -39,7 +40,8 @@ use crate::options::Options;
 use std::alloc::{AllocError, Allocator};
 use std::borrow::CowStr;
 use textwrap_words::blanks::split_final_blanks;
-use textwrap_words::inner::push_measured;
+use textwrap_words::inner::{push_measured, split_at_cuts, stay_whole};
+use textwrap_words::word_separators::WordSeparator;
 use textwrap_words::words::{Word, break_words, display_width};
 use textwrap_words::wrap_algorithms::WrapError;
 
@@ -399,12 +401,29 @@ pub fn break_pieces<'t, A: Allocator + Copy>(
         return Ok(split);
     }
     let width = later_width(&Layout::of(options));
-    // By reference, since the checker does not cover handing on a list that any allocator made.
-    let mut broken = break_words(alloc, split.iter().copied(), width)?;
+    let mut broken = break_wide(alloc, split, width)?;
     if !options.initial_indent.is_empty() {
         // Where the first word has no room beside the indent, the first line is the indent alone.
         broken.insert(0, Word::from(""))?;
     }
+    Ok(broken)
+}
+
+/// The words, each that is wider than the line replaced by its pieces.
+fn break_wide<'t, A: Allocator + Copy>(
+    alloc: A,
+    words: Vec<Word<'t>, A>,
+    line_width: usize,
+) -> Result<Vec<Word<'t>, A>, AllocError>
+    ensures { IfOk result (λ pieces. map word_view pieces.items
+        ≡ broken_words line_width (map word_view words.entry.items)) }
+{
+    // Most words are narrow, and then the list is not copied.
+    if stay_whole(&words, line_width) {
+        return Ok(words);
+    }
+    // By reference, since the checker does not cover handing on a list that any allocator made.
+    let broken = break_words(alloc, words.iter().copied(), line_width)?;
     Ok(broken)
 }
 
@@ -418,6 +437,10 @@ fn find_split_words<'t, A: Allocator + Copy>(
         × MaySeparate options.now.word_separator paragraph.now words
         × AreSplit (MaySplit options.now.word_splitter) words (map word_view pieces.items)) }
 {
+    if let WordSeparator::Custom(line_cuts) = options.word_separator {
+        let pieces = split_at_cuts(alloc, paragraph, line_cuts, &options.word_splitter)?;
+        return Ok(pieces);
+    }
     let mut pieces = Vec::new(alloc);
     for word in options.word_separator.find_words(alloc, paragraph)? {
         push_measured(alloc, &mut pieces, word, &options.word_splitter)?;

@@ -14,6 +14,7 @@ use Rattle.textwrap_unicode.specs.Breaks.{break_at, breaks_from}
 use Rattle.textwrap_unicode.specs.BreaksLeft.{and, breaks_after}
 use Rattle.textwrap_unicode.specs.Classes.{unit_of}
 use Rattle.textwrap_unicode.specs.Rules.{decide_by, numbers_rule}
+use Rattle.textwrap_unicode.specs.WordStarts.{plain_letter}
 use Rattle.textwrap_unicode.specs.declared.numbers.Numbers.{Numbers}
 use Rattle.textwrap_unicode.specs.declared.numbers.Numbers.TheVariants.{ByPairs, ByExpression}
 use Rattle.textwrap_unicode.specs.declared.rules.Verdict.{Verdict}
@@ -122,9 +123,6 @@ in_word = record {
   is_in_number = false;
   is_past_number = false;
 }
-
-abbrev pub plain_letter : Unit
-plain_letter = record { class = Alphabetic; is_wide = false; is_unassigned_pictograph = false }
 
 -- a letter more changes nothing
 pub letter-step : (numbers : Numbers) (back : List ℕ) (before : Before) (unit : Unit)

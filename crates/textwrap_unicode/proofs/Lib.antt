@@ -16,3 +16,4 @@ pub mod ReadPlaces
 pub mod RuleOrder
 pub mod TextBreaks
 pub mod Verdicts
+pub mod WordCuts

@@ -5,4 +5,5 @@ pub mod Rules
 pub mod Breaks
 pub mod BreaksLeft
 pub mod Cuts
+pub mod WordStarts
 pub mod Laws

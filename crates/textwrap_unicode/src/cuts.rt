@@ -1,19 +1,25 @@
 //! The function for `LineCuts` that cuts a line into words where it may end.
-ghost use Rattle.std.specs.Prelude.{◌≡◌, IfOk, chars, drop, IsCharBoundary};
+ghost use Rattle.std.specs.Prelude.{◌≡◌, ℕ, ◌+◌, ◌^◌, ◌<◌, ◌≤◌, ◌++◌, true, IfOk, chars, drop};
+ghost use Rattle.std.specs.Prelude.{if◌then◌else◌, length, slice_index, IsCharBoundary};
 ghost use Rattle.textwrap_unicode.specs.BreaksLeft.{and};
 ghost use Rattle.textwrap_unicode.specs.Rules.{decide_by, numbers_rule};
 ghost use Rattle.textwrap_words.specs.Escapes.{visible_in};
 ghost use Rattle.textwrap_unicode.specs.Cuts.{cuts_by, may_end, unicode_cuts};
+ghost use Rattle.textwrap_unicode.specs.WordStarts.{IsPlainLetter, IsWordByte, is_behind_blank};
+ghost use Rattle.textwrap_unicode.specs.WordStarts.{word_starts};
+ghost use Rattle.unicode.specs.declared.properties.LineBreak.TheVariants.{Space};
 ghost use Rattle.textwrap_unicode.specs.declared.numbers.Numbers.TheVariants.{ByExpression};
 ghost use Rattle.textwrap_words.specs.Cuts.{AreInnerCuts};
 ghost use Rattle.textwrap_words.specs.WordOffsets.{is_any_hyphen};
 
+use crate::ascii::CLASSES;
 use crate::before::Before;
 use crate::classes::Unit;
 use crate::numbers::{Numbers, decide_among_visible};
 use crate::rules::Verdict;
 use std::alloc::{AllocError, Global};
 use textwrap_words::escapes::State;
+use unicode::properties::LineBreak;
 
 /// Where a line is cut into words, by the Unicode line breaking algorithm
 /// ([UAX #14](https://www.unicode.org/reports/tr14/)): at the places of
@@ -50,28 +56,92 @@ fn find_cuts(alloc: Global, line: &str, numbers: Numbers) -> Result<Vec<usize>, 
     ensures inner { IfOk result (λ cuts. AreInnerCuts line.now cuts.items) }
 {
     let mut cuts = Vec::new(alloc);
+    let mut at = 0;
     let mut state = State::Text;
     let mut before = Before::new();
     // Where the last visible character ends, and whether it is a hyphen.
     let mut end = 0;
     let mut is_hyphen = false;
-    for (at, ch) in line.char_indices() {
+    while let Some(ch) = line[at..].chars().next() {
         let (next, is_visible) = state.step(ch);
+        at += ch.len_utf8();
         if is_visible {
             let unit = Unit::of(ch);
-            let next_end = at + ch.len_utf8();
-            let (verdict, after) = step_past(line, next_end, next, before, unit, numbers);
+            let (verdict, after) = step_past(line, at, next, before, unit, numbers);
             let is_cut = !is_hyphen & may_end(verdict);
             if is_cut {
                 cuts.push(end)?;
             }
             before = after;
-            end = next_end;
+            end = at;
             is_hyphen = is_any_hyphen(ch);
         }
         state = next;
+        if end == at && !is_hyphen && matches!(state, State::Text) && before.is_in_word() {
+            let rest = line[at..].as_bytes();
+            let len = push_words(rest, at, &mut cuts)?;
+            before = after_words(rest, len, before);
+            at += len;
+            end = at;
+        }
     }
     Ok(cuts)
+}
+
+/// Goes over the letters and blanks that a rest of a line begins with, behind a letter of a word, and
+/// adds where a word begins among them. Returns how many they are.
+///
+/// # Errors
+/// [`AllocError`] where memory runs out.
+fn push_words(rest: &[u8], at: usize, cuts: &mut Vec<usize>) -> Result<usize, AllocError>
+    requires { at + length rest.now < 2 ^ 64 }
+    ensures within { IfOk result (λ len. len ≤ length rest.now) }
+    ensures words { IfOk result (λ len. (k : ℕ) → k < len → IsWordByte (slice_index rest.now k)) }
+    ensures cuts { IfOk result (λ len. cuts.new.items
+        ≡ cuts.old.items ++ word_starts at rest.now len) }
+{
+    let mut len = 0;
+    let mut is_behind_blank = false;
+    while len < rest.len() && is_word_byte(rest[len]) {
+        let is_blank = rest[len] == b' ';
+        let is_start = is_behind_blank & !is_blank;
+        if is_start {
+            cuts.push(at + len)?;
+        }
+        is_behind_blank = is_blank;
+        len += 1;
+    }
+    Ok(len)
+}
+
+/// Whether a byte is a blank or a plain letter.
+fn is_word_byte(byte: u8) -> bool
+    ensures { result ≡ true → IsWordByte byte }
+{
+    byte == b' ' || is_plain_letter(byte)
+}
+
+/// Whether a byte is a character of ASCII of which the rules ask nothing more than that it is a
+/// letter.
+fn is_plain_letter(byte: u8) -> bool
+    ensures { result ≡ true → IsPlainLetter byte }
+{
+    byte < 128 && matches!(CLASSES[byte as usize], LineBreak::Alphabetic)
+}
+
+/// What stands before the place behind so many letters and blanks, which follow a letter of a word.
+fn after_words(rest: &[u8], len: usize, before: Before) -> Before
+    requires { len ≤ length rest.now }
+    ensures { result ≡ (if is_behind_blank rest.now len then record before { class = Space } else before) }
+{
+    if len > 0 && rest[len - 1] == b' ' {
+        Before {
+            class: LineBreak::Space,
+            ..before
+        }
+    } else {
+        before
+    }
 }
 
 /// What the rules say of the place before a visible unit of the line, which is read up to its end, and

@@ -14,7 +14,7 @@ use std::alloc::{AllocError, Allocator};
 pub use textwrap_base::Fragment;
 use textwrap_base::Penalties;
 
-mod breaking;
+pub(crate) mod breaking;
 
 /// The width of a text in terminal columns. Each visible character counts as it would alone, by its
 /// East Asian width (Unicode Standard Annex #11): most take one column, wide ones two, and control

@@ -1,5 +1,5 @@
 -- The pieces of a word as words: they tile it.
-use Rattle.textwrap_base.proofs.Common.{◌≡◌, ◌≢◌, ℕ, ◌<◌, List, [], ◌∷◌, ◌++◌, refl, sym, ap, ◌∙◌}
+use Rattle.textwrap_base.proofs.Common.{◌≡◌, ◌≢◌, ℕ, ◌≤◌, false, nat_lt, nat_tests, ◌<◌, List, [], ◌∷◌, ◌++◌, refl, sym, ap, ◌∙◌}
 use Rattle.textwrap_base.proofs.Common.{length, take, drop, All, IsUtf8, flat_map}
 use Rattle.textwrap_base.proofs.Common.{nil_from_length, append-nil, append_assoc}
 use Rattle.textwrap_base.proofs.Common.{flat_map-append, All-head, All-tail, arith}
@@ -82,3 +82,11 @@ tiled-broken_words limit (w ∷ words) utf8 some =
     ∙ ap (λ l. tile_of w ++ l)
     (tiled-broken_words limit words (All-tail (λ v. IsUtf8 v.word) w words utf8)
     (All-tail (λ v. limit < v.width → v.word ≢ []) w words some))
+
+-- ---- words that stay whole
+
+pub broken_words-whole : (limit : ℕ) (w : WordText) (words : List WordText) → w.width ≤ limit
+    → broken_words limit words ≡ words → broken_words limit (w ∷ words) ≡ w ∷ words
+broken_words-whole limit w words fits rest =
+    let narrow : nat_lt limit w.width ≡ false = grind (arith, nat_tests, fits) in
+    rw narrow (ap (λ ws. w ∷ ws) rest)

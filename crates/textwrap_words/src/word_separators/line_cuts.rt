@@ -19,7 +19,7 @@ pub type CutFunction = fn(Global, &str) -> Result<Vec<usize>, AllocError>;
 pub struct LineCuts {
     /// The function.
     pub function: CutFunction,
-    pub(super) alloc: Global,
+    pub(crate) alloc: Global,
     ghost callable: { IsAlwaysCallable function },
     ghost answers: { (alloc : _) (line : _) (answer : _) → IsUtf8 line.now
         → post function alloc line answer

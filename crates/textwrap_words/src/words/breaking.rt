@@ -1,5 +1,5 @@
 //! Breaking words that are too wide for a line.
-ghost use Rattle.std.specs.Prelude.{◌≡◌, ◌≢◌, ℕ, List, [], ◌∷◌, take, drop, map, IfOk, OnOk, ◌++◌};
+ghost use Rattle.std.specs.Prelude.{◌≡◌, ◌≢◌, ℕ, true, List, [], ◌∷◌, take, drop, map, IfOk, OnOk, ◌++◌};
 ghost use Rattle.std.specs.Prelude.{IsCharBoundary, IsUtf8};
 ghost use Rattle.std.specs.Iterator.{IsFiniteIterable, Drains};
 ghost use Rattle.textwrap_words.specs.Breaking.{broken_texts, broken_word, broken_words};
@@ -123,6 +123,20 @@ pub fn break_words<'a, A: Allocator + Copy, I: IntoIterator<Item = Word<'a>>>(
         push_broken(&mut pieces, word, line_width)?;
     }
     Ok(pieces)
+}
+
+/// Whether no word is wider than the line, so that [`break_words`] gives the words as they are: those of
+/// `"ab cd"` at 2 columns. The call always succeeds.
+pub fn stay_whole(words: &[Word<'_>], line_width: usize) -> bool
+    ensures { result ≡ true → broken_words line_width (map word_view words.now)
+        ≡ map word_view words.now }
+{
+    for word in words {
+        if word.width > line_width {
+            return false;
+        }
+    }
+    true
 }
 
 /// Appends a word, or its pieces where it is wider than the line.

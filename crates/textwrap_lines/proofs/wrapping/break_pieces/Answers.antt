@@ -1,12 +1,7 @@
 use Rattle.textwrap_lines.proofs.wrapping.break_pieces.Goals as goal
 use Rattle.textwrap_base.proofs.Common.{◌≡◌, [], ◌∷◌, ◌++◌, cond, map, sym, ap, ◌∙◌}
 use Rattle.textwrap_words.proofs.Common.{broken_words, word_view}
-use Rattle.textwrap_lines.proofs.Common.{settings_view, empty_word, front_pieces, later_width, Word}
-use Rattle.std.proofs.Common.{Iter}
-use Rattle.std.specs.Iterator.Adapters.{copied_source}
-use Rattle.std.specs.Slice.Iter.{iter_rest}
-use Rattle.std.specs.declared.iter.Copied.{Copied}
-use Rattle.textwrap_base.proofs.Lists.Maps.{given-copied}
+use Rattle.textwrap_lines.proofs.Common.{settings_view, empty_word, front_pieces, later_width}
 use Rattle.textwrap_lines.proofs.Paragraph.Pieces.{word_of-nil}
 use Rattle.textwrap_lines.proofs.wrapping.break_pieces.Goals.{then-not-is_empty+in_ok-insert}
 use Rattle.textwrap_lines.proofs.wrapping.break_pieces.Goals.{else-not-is_empty}
@@ -22,15 +17,9 @@ pub returns : goal.returns
 returns g c =
     let settings = settings_view c.args.options.now in
     let split = map word_view c.args.split.items in
-    let more = c.in_ok-broken.ensures.pieces in
-    let given : iter_rest (copied_source more.0) ≡ c.args.split.items =
-    ap (λ (it : Copied (Iter Word)). iter_rest (copied_source it)) more.2
-    ∙ ap iter_rest c.copied.ensures.source ∙ c.iter.ensures.rest ∙ c.deref.ensures.value in
-    let all = given-copied more.0 c.args.split.items more.1 given more.3 in
     let pieces = broken_words (later_width settings) split in
     let broken : map word_view c.in_ok-broken.broken.items ≡ pieces =
-    more.4 ∙ ap (λ ws. broken_words c.later_width-width.result (map word_view ws)) all
-    ∙ ap (λ n. broken_words n split) (c.later_width-width.ensures
+    c.in_ok-broken.ensures ∙ ap (λ n. broken_words n split) (c.later_width-width.ensures
     ∙ ap later_width c.of.ensures) in
     let whole : map word_view c.if-not-is_empty.broken.items ≡ front_pieces settings ++ pieces =
     elim c.if-not-is_empty.branch [

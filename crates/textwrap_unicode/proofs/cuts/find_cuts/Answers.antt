@@ -1,62 +1,123 @@
-use Rattle.textwrap_base.proofs.Common.{append-nil, char_indices_offset, ap, ◌∙◌, sym, subst}
-use Rattle.textwrap_base.proofs.Common.{refl}
-use Rattle.std.specs.Str.Iter.{char_indices_rest}
+use Rattle.textwrap_base.proofs.Common.{◌≡◌, ℕ, ◌<◌, slice_index, ◌+◌, ◌++◌, drop, length, append-nil, ap, ◌∙◌, sym, subst}
+use Rattle.textwrap_base.proofs.Common.{refl, arith, drop-drop, true≢false}
+use Rattle.std.specs.Prelude.{encode_utf8}
+use Rattle.std.specs.Str.Iter.{chars_rest}
+use Rattle.std.proofs.lemmas.Str.{IsCharBoundary-from_drop}
 use Rattle.textwrap_words.specs.Cuts.{AreInnerCuts}
+use Rattle.textwrap_words.specs.Units.{stripped}
+use Rattle.textwrap_words.specs.declared.escapes.State.TheVariants.{Text}
 use Rattle.textwrap_unicode.specs.Breaks.{breaks_by}
 use Rattle.textwrap_unicode.specs.BreaksLeft.{and}
 use Rattle.textwrap_unicode.specs.Cuts.{may_end, offsets_of}
-use Rattle.textwrap_unicode.proofs.cuts.find_cuts.Goals as goal
-use Rattle.textwrap_unicode.proofs.cuts.find_cuts.Goals.{then-is_cut+in_ok-push, else-is_cut}
-use Rattle.textwrap_unicode.proofs.CuttingLemmas.{IsCutting-start, IsCutting-step, IsCutting-end}
+use Rattle.textwrap_unicode.specs.WordStarts.{IsWordByte}
+use Rattle.textwrap_unicode.proofs.CuttingLemmas.{IsCutting, IsCutting-start, IsCutting-step, IsCutting-end}
 use Rattle.textwrap_unicode.proofs.InnerCuts.{cuts_at-AreInnerCuts}
-use Rattle.textwrap_words.specs.Units.{stripped}
 use Rattle.textwrap_unicode.proofs.ReadPlaces.{read-after, read-boundary}
+use Rattle.textwrap_unicode.proofs.WordCuts.{past-words}
+use Rattle.textwrap_unicode.proofs.cuts.find_cuts.Goals as goal
+use Rattle.textwrap_unicode.proofs.cuts.find_cuts.Goals.{In-Some, Joined-is_visible}
+use Rattle.textwrap_unicode.proofs.cuts.find_cuts.Goals.{then-is_visible, else-is_visible, then-is_cut+in_ok-push, else-is_cut}
+use Rattle.textwrap_unicode.proofs.cuts.find_cuts.Goals.{in-Text, in_default-matches}
 
-pub loop-at-init : goal.loop-at-init
-loop-at-init c = IsCutting-start _ _ _ _ _ _ c.utf8.line
-    (ap char_indices_offset c.into_iter-at-iterator.ensures.into_iter_gives
-    ∙ c.char_indices-at-items.ensures.offset)
-    (ap char_indices_rest c.into_iter-at-iterator.ensures.into_iter_gives
-    ∙ c.char_indices-at-items.ensures.rest)
-    c.new-before.ensures c.new-cuts.ensures.items
+pub loop-ch-init : goal.loop-ch-init
+loop-ch-init c = IsCutting-start _ _ _ _ _ _ c.utf8.line refl refl c.new-before.ensures
+    c.new-cuts.ensures.items
+
+pub range_from-requires : goal.range_from-requires
+range_from-requires c = λ _.
+    let read = c.loop-ch.invariant.read in
+    IsCharBoundary-from_drop c.args.line.now c.loop-ch.at read.within read.utf8
+
+-- the character that is read
+here : (c : In-Some) → drop c.loop-ch.at c.args.line.now ≡ encode_utf8 c.in-Some.ch ++ chars_rest c.next.new.self
+here c = sym c.range_from.ensures.value ∙ sym c.chars.ensures.rest ∙ c.in-Some.ensures.steps.0
 
 pub step_past-verdict-requires : goal.step_past-verdict-requires
 step_past-verdict-requires c =
-    let s = c.in-Some.ensures.steps in
-    rw (s.0, c.len_utf8.ensures.len)
-    (read-boundary _ _ _ c.loop-at.invariant.read c.in-Some.ch _ s.1)
+    rw c.len_utf8-at.ensures.len
+    (read-boundary _ _ _ c.loop-ch.invariant.read c.in-Some.ch _ (here (goal.at.step_past-verdict-requires c).In-Some))
 
-pub loop-at-preserved-after-is_cut : goal.loop-at-preserved-after-is_cut
-loop-at-preserved-after-is_cut c =
-    let s = c.in-Some.ensures.steps in
-    let may = c.may_end.ensures ∙ ap may_end (rw (
-      s.0,
-      c.len_utf8.ensures.len,
-      c.of-unit.ensures,
-      read-after _ _ _ c.loop-at.invariant.read c.in-Some.ch _ s.1,
-    ) at c.step_past-verdict.ensures.verdict) in
-    IsCutting-step _ _ _ _ _ _ _ _ _ c.in-Some.ch _ c.step-next.result.0 c.step-next.result.1
-    c.loop-at.invariant s.1 c.step-next.ensures _ _ _ _ _ s.2
-    (rw c.if-is_visible.true
-    (c.step_past-verdict.ensures.before ∙ ap (and c.loop-at.before) c.of-unit.ensures))
-    (rw (c.if-is_visible.true, s.0, c.len_utf8.ensures.len) refl)
-    (rw c.if-is_visible.true c.is_any_hyphen-is_hyphen.ensures)
-    (elim c.if-is_cut.branch [
-      | then-is_cut+in_ok-push w ↦ rw (c.if-is_visible.true, ← may, w.if-is_cut.true)
-          (ap (λ v. v.items) w.cuts-is ∙ w.in_ok-push.ensures.items)
-      | else-is_cut w ↦ rw (c.if-is_visible.true, ← may, w.if-is_cut.false)
-          (ap (λ v. v.items) w.cuts-is ∙ sym (append-nil c.loop-at.cuts.items))
+-- the reader past the character
+past : (c : Joined-is_visible)
+    → drop c.loop-ch.at c.args.line.now ≡ encode_utf8 c.in-Some.ch ++ chars_rest c.next.new.self
+    → IsCutting c.args.numbers c.args.line.now (c.loop-ch.at + c.len_utf8-at.result)
+    (drop (c.loop-ch.at + c.len_utf8-at.result) c.args.line.now) c.step-next.result.0 c.if-is_visible.before
+    c.if-is_visible.end c.if-is_visible.is_hyphen c.if-is_visible.cuts.items
+past c is =
+    let line = c.args.line.now in
+    let ch = c.in-Some.ch in
+    let after = read-after _ _ _ c.loop-ch.invariant.read ch _ is in
+    rw (c.len_utf8-at.ensures.len, after) (elim c.if-is_visible.branch [
+      | then-is_visible w ↦
+          let shown = w.if-is_visible.true in
+          let may = w.may_end.ensures ∙ ap may_end (rw (
+            c.len_utf8-at.ensures.len,
+            w.of-unit.ensures,
+            after,
+          ) at w.step_past-verdict.ensures.verdict) in
+          IsCutting-step _ _ _ _ _ _ _ _ _ ch _ c.step-next.result.0 c.step-next.result.1
+          c.loop-ch.invariant is c.step-next.ensures _ _ _ _ _ refl
+          (rw shown (w.before-is ∙ w.step_past-verdict.ensures.before
+          ∙ ap (and c.loop-ch.before) w.of-unit.ensures))
+          (rw shown (w.end-is ∙ ap (λ n. c.loop-ch.at + n) c.len_utf8-at.ensures.len))
+          (rw shown (w.is_hyphen-is ∙ w.is_any_hyphen-is_hyphen.ensures))
+          (elim w.if-is_cut.branch [
+            | then-is_cut+in_ok-push v ↦ rw (shown, ← may, v.if-is_cut.true)
+                (ap (λ v. v.items) (w.cuts-is ∙ v.cuts-is) ∙ v.in_ok-push.ensures.items)
+            | else-is_cut v ↦ rw (shown, ← may, v.if-is_cut.false)
+                (ap (λ v. v.items) (w.cuts-is ∙ v.cuts-is) ∙ sym (append-nil c.loop-ch.cuts.items))
+          ])
+      | else-is_visible w ↦
+          let hidden = w.if-is_visible.false in
+          IsCutting-step _ _ _ _ _ _ _ _ _ ch _ c.step-next.result.0 c.step-next.result.1
+          c.loop-ch.invariant is c.step-next.ensures _ _ _ _ _ refl (rw hidden w.before-is)
+          (rw hidden w.end-is) (rw hidden w.is_hyphen-is) (rw hidden (ap (λ v. v.items) w.cuts-is))
     ])
 
-pub loop-at-preserved : goal.loop-at-preserved
-loop-at-preserved c =
-    let s = c.in-Some.ensures.steps in
-    IsCutting-step _ _ _ _ _ _ _ _ _ _ _ c.step-next.result.0 c.step-next.result.1
-    c.loop-at.invariant s.1 c.step-next.ensures _ _ _ _ _ s.2 (rw c.if-is_visible.false refl)
-    (rw c.if-is_visible.false refl) (rw c.if-is_visible.false refl) (rw c.if-is_visible.false refl)
+pub loop-ch-preserved : goal.loop-ch-preserved
+loop-ch-preserved c =
+    let at = goal.at.loop-ch-preserved c in past at.Joined-is_visible (here at.In-Some)
+
+pub loop-ch-preserved-then-is_in_word : goal.loop-ch-preserved-then-is_in_word
+loop-ch-preserved-then-is_in_word c =
+    let at = goal.at.loop-ch-preserved-then-is_in_word c in
+    let line = c.args.line.now in
+    let place = c.loop-ch.at + c.len_utf8-at.result in
+    let text : c.step-next.result.0 ≡ Text = elim c.match-matches.branch [
+      | in-Text w ↦ w.in-Text.is
+      | in_default-matches w ↦ absurd (true≢false (sym c.if-matches.true ∙ w.matches-is))
+    ] in
+    let word = c.is_in_word.ensures c.if-is_in_word.true in
+    let h = rw (text, word, c.if-end-at.true, c.if-not-is_hyphen.true)
+    at (past at.Joined-is_visible (here at.In-Some)) in
+    let bytes = c.as_bytes-rest.ensures.value ∙ c.range_from-then-is_in_word.ensures.value in
+    let len = c.in_ok-len.len in
+    let found = c.in_ok-len.ensures in
+    let words : (k : ℕ) → k < len → IsWordByte (slice_index (drop place line) k) =
+    λ k below. subst (λ bs. IsWordByte (slice_index bs k)) bytes (found.words k below) in
+    rw (
+      sym (drop-drop len place line),
+      text,
+      c.if-not-is_hyphen.true,
+      found.cuts,
+      c.after_words-before.ensures,
+      word,
+      bytes,
+    )
+    (past-words c.args.numbers line place (drop place line) c.if-is_visible.cuts.items h len
+    (omega (arith, found.within, ap length bytes)) words)
+
+pub range_from-requires-then-is_in_word : goal.range_from-requires-then-is_in_word
+range_from-requires-then-is_in_word c = λ _.
+    let at = goal.at.range_from-requires-then-is_in_word c in
+    let read = (past at.Joined-is_visible (here at.In-Some)).read in
+    IsCharBoundary-from_drop c.args.line.now _ read.within read.utf8
 
 pub returns-clause-cuts : goal.returns-clause-cuts
-returns-clause-cuts c = IsCutting-end _ _ _ _ _ _ _ _ _ c.loop-at.invariant c.in-None.ensures.steps.0
+returns-clause-cuts c =
+    IsCutting-end _ _ _ _ _ _ _ _ _ c.loop-ch.invariant
+    (ap length (sym c.range_from.ensures.value ∙ sym c.chars.ensures.rest)
+    ∙ c.in_default.ensures.steps.0.0)
 
 pub returns-clause-inner : goal.returns-clause-inner
 returns-clause-inner c =

@@ -1,8 +1,10 @@
-use Rattle.textwrap_base.proofs.Common.{char_indices_offset}
-use Rattle.std.specs.Str.Iter.{char_indices_rest}
+use Rattle.textwrap_base.proofs.Common.{◌-◌, drop, length}
 use Rattle.textwrap_unicode.proofs.cuts.find_cuts.Given as goal
 use Rattle.textwrap_unicode.proofs.CuttingLemmas.{IsCutting}
 
-abbrev pub invariant-loop-at : goal.invariant-loop-at
-invariant-loop-at l = IsCutting l.numbers l.line (char_indices_offset l.at-iterator)
-    (char_indices_rest l.at-iterator) l.state l.before l.end l.is_hyphen l.cuts.items
+abbrev pub invariant-loop-ch : goal.invariant-loop-ch
+invariant-loop-ch l = IsCutting l.numbers l.line l.at (drop l.at l.line) l.state l.before l.end
+    l.is_hyphen l.cuts.items
+
+abbrev pub decreases-loop-ch : goal.decreases-loop-ch
+decreases-loop-ch l = length l.line - l.at

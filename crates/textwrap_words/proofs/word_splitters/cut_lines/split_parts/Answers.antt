@@ -1,0 +1,52 @@
+use Rattle.textwrap_base.proofs.Common.{◌≡◌, ◌==◌, false, length, drop_all, if◌then◌else◌, [], ◌∷◌, ◌++◌, ◌+◌, arith, drop, drop_more, map, subst, sym, ap, ◌∙◌}
+use Rattle.textwrap_base.proofs.Common.{append_assoc, slice_range, get_or}
+use Rattle.textwrap_words.proofs.Common.{AreSplit, MaySplit, word_of, word_view}
+use Rattle.textwrap_words.specs.Cuts.{parts_between, parts_from}
+use Rattle.textwrap_words.proofs.Word.SplitTiling.{AreSplit-push}
+use Rattle.textwrap_words.proofs.word_splitters.cut_lines.split_parts.Goals as goal
+
+pub loop-cut-preserved : goal.loop-cut-preserved
+loop-cut-preserved g c =
+    let line = c.args.line.now in
+    let cuts = c.args.cuts.now in
+    let i = c.loop-cut.cut-index in
+    let start = c.loop-cut.start in
+    let cut = get_or cuts i 0 in
+    let Points = MaySplit c.args.word_splitter.now in
+    let pieces = map word_view c.loop-cut.pieces.items in
+    let word = word_of (slice_range line start cut) in
+    let rest = map word_of (parts_from cut (drop (i + 1) cuts) line) in
+    let (words, are, split) = c.loop-cut.invariant.words in
+    let (points, may, pushed) = rw c.range.ensures.value at c.in_ok-push_part.ensures in
+    record {
+      words = (
+        words ++ word ∷ [],
+        append_assoc words (word ∷ []) rest
+            ∙ ap (λ cs. words ++ map word_of (parts_from start cs line))
+            (sym (drop_more cuts i 0 c.loop-cut-test.true)) ∙ are,
+        subst (AreSplit Points (words ++ word ∷ [])) (sym pushed)
+            (AreSplit-push Points words pieces word points split may),
+      );
+      boundary = λ _. c.requires.between i 0 c.loop-cut-test.true;
+      before = λ k from below. c.requires.in_order i k 0 (omega (arith, from)) below;
+    }
+
+pub returns : goal.returns
+returns g c =
+    let line = c.args.line.now in
+    let cuts = c.args.cuts.now in
+    let i = c.loop-cut.cut-index in
+    let start = c.loop-cut.start in
+    let Points = MaySplit c.args.word_splitter.now in
+    let pieces = map word_view c.loop-cut.pieces.items in
+    let word = word_of (drop start line) in
+    let (words, are, split) = c.loop-cut.invariant.words in
+    let (points, may, pushed) = rw c.range_from.ensures.value at c.in_ok-push_part-2.ensures in
+    let some : (length line == 0) ≡ false = sym c.is_empty.ensures ∙ c.if-is_empty.false in
+    let none : drop i cuts ≡ [] = drop_all i cuts (omega (arith, c.loop-cut-test.false)) in
+    let all : words ++ word ∷ [] ≡ map word_of (parts_between cuts line) =
+    ap (λ cs. words ++ map word_of (parts_from start cs line)) (sym none) ∙ are
+    ∙ ap (λ b. map word_of (if b then [] else parts_from 0 cuts line)) (sym some) in
+    subst (λ ws. AreSplit Points ws (map word_view c.push_part-2.new.pieces.items)) all
+    (subst (AreSplit Points (words ++ word ∷ [])) (sym pushed)
+    (AreSplit-push Points words pieces word points split may))

@@ -13,6 +13,8 @@ PROVED(wrap);
 PROVED(wrap_room_bound);
 PROVED(wrap_columns);
 PROVED(wrap_columns_room_bound);
+PROVED(column_width);
+PROVED(rows_of_lines);
 PROVED(refill);
 PROVED(refill_bound);
 PROVED(unfill);
@@ -25,6 +27,7 @@ PROVED(shorten);
 PROVED(shorten_lines);
 PROVED(carry_styles);
 PROVED(table);
+PROVED(table_of_lines);
 PROVED(wrap_first_fit);
 PROVED(wrap_optimal_fit);
 PROVED(pieces);
@@ -43,6 +46,7 @@ static union {
     textwrap_piece piece;
     textwrap_fragment fragment;
     textwrap_column column;
+    textwrap_cell cell;
 } nothing;
 
 /* The pointer and the length of an array, as the archive wants them. */
@@ -124,6 +128,21 @@ size_t textwrap_wrap_columns_room_bound(size_t text_len, size_t columns,
     return proved_wrap_columns_room_bound(text_len, columns, &some, &around);
 }
 
+textwrap_status textwrap_column_width(size_t width, size_t columns, const textwrap_gaps *gaps,
+                                      size_t *column_width) {
+    textwrap_gaps around = some_gaps(gaps);
+    return proved_column_width(width, columns, &around, column_width);
+}
+
+textwrap_status textwrap_rows_of_lines(const textwrap_text *lines, size_t lines_len, size_t columns,
+                                       size_t width, const textwrap_gaps *gaps, textwrap_line *rows,
+                                       size_t rows_len, size_t *count, uint8_t *room,
+                                       size_t room_len, size_t *len) {
+    textwrap_gaps around = some_gaps(gaps);
+    return proved_rows_of_lines(ARRAY(lines, lines_len), columns, width, &around,
+                                ARRAY(rows, rows_len), count, ARRAY(room, room_len), len);
+}
+
 textwrap_status textwrap_refill(const uint8_t *text, size_t text_len,
                                 const textwrap_options *options, uint8_t *room, size_t room_len,
                                 size_t *len) {
@@ -202,6 +221,16 @@ textwrap_status textwrap_table(const textwrap_text *cells, size_t cells_len,
     textwrap_gaps around = some_gaps(gaps);
     return proved_table(ARRAY(cells, cells_len), ARRAY(columns, columns_len), &around,
                         ARRAY(rows, rows_len), count, ARRAY(room, room_len), len);
+}
+
+textwrap_status textwrap_table_of_lines(const textwrap_cell *cells, size_t cells_len,
+                                        const textwrap_column *columns, size_t columns_len,
+                                        const textwrap_gaps *gaps, textwrap_line *rows,
+                                        size_t rows_len, size_t *count, uint8_t *room,
+                                        size_t room_len, size_t *len) {
+    textwrap_gaps around = some_gaps(gaps);
+    return proved_table_of_lines(ARRAY(cells, cells_len), ARRAY(columns, columns_len), &around,
+                                 ARRAY(rows, rows_len), count, ARRAY(room, room_len), len);
 }
 
 textwrap_status textwrap_wrap_first_fit(const textwrap_fragment *fragments, size_t fragments_len,

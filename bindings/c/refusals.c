@@ -102,6 +102,13 @@ static textwrap_status in_columns(struct lent *lent) {
                                  &lent->count, lent->room, 256, &lent->len);
 }
 
+static textwrap_status lines_in_columns(struct lent *lent) {
+    const textwrap_gaps gaps = textwrap_gaps_new(text_of("|"), text_of("|"), text_of("|"));
+    const textwrap_text lines[3] = {text_of("foo"), text_of("bar"), text_of("baz")};
+    return textwrap_rows_of_lines(lines, 3, 2, 20, &gaps, lent->lines, 16, &lent->count, lent->room,
+                                  256, &lent->len);
+}
+
 static textwrap_status refilled(struct lent *lent) {
     textwrap_options o = options_of(1, 0);
     return textwrap_refill(bytes("* foo\n  bar\n"), 12, &o, lent->room, 256, &lent->len);
@@ -164,6 +171,16 @@ static textwrap_status in_a_table(struct lent *lent) {
                                         {options_of(1, 0), TEXTWRAP_RIGHT, 0}};
     return textwrap_table(cells, 3, columns, 2, &gaps, lent->lines, 16, &lent->count, lent->room,
                           256, &lent->len);
+}
+
+static textwrap_status lines_in_a_table(struct lent *lent) {
+    const textwrap_gaps gaps = textwrap_gaps_new(text_of("|"), text_of("|"), text_of("|"));
+    const textwrap_text lines[2] = {text_of("foo"), text_of("bar")};
+    const textwrap_cell cells[3] = {{lines, 2}, {lines, 1}, {lines, 1}};
+    const textwrap_column columns[2] = {{options_of(0, 1), TEXTWRAP_LEFT, 0},
+                                        {options_of(1, 0), TEXTWRAP_RIGHT, 0}};
+    return textwrap_table_of_lines(cells, 3, columns, 2, &gaps, lent->lines, 16, &lent->count,
+                                   lent->room, 256, &lent->len);
 }
 
 static const textwrap_fragment FRAGMENTS[3] = {{4, 1, 0, 0}, {4, 1, 0, 30}, {4, 1, 0, 0}};
@@ -317,6 +334,7 @@ static const struct call {
     {"fill by optimal fit, with an indent", by_optimal_fit_indented},
     {"wrap", wrapped},
     {"wrap_columns", in_columns},
+    {"rows_of_lines", lines_in_columns},
     {"refill", refilled},
     {"unfill", unfilled},
     {"indent", indented},
@@ -330,6 +348,7 @@ static const struct call {
     {"shorten_lines", lines_shortened},
     {"carry_styles", styles_carried},
     {"table", in_a_table},
+    {"table_of_lines", lines_in_a_table},
     {"wrap_first_fit", greedily},
     {"wrap_optimal_fit", at_least_cost},
     {"pieces", in_pieces},

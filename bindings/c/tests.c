@@ -426,6 +426,59 @@ static void tables_are_written(void) {
     CHECK(count == 0 && len == 0);
 }
 
+static void rows_of_lines_are_written(void) {
+    const textwrap_text lines[4] = {text_of("Foo"), text_of("Bar"), text_of("Baz"), text_of("Quux")};
+    const textwrap_text wrong = text_of("\xff");
+    const textwrap_gaps gaps = textwrap_gaps_new(text_of("|"), text_of("|"), text_of("|"));
+    const textwrap_gaps wrong_gaps = textwrap_gaps_new(gaps.left, wrong, gaps.right);
+    textwrap_line rows[2];
+    uint8_t room[48] = "...";
+    size_t width = 7, count = 7, len = 7;
+    CHECK(textwrap_column_width(24, 0, &gaps, &width) == TEXTWRAP_UNKNOWN_OPTIONS && width == 7);
+    CHECK(textwrap_column_width(24, 4, &wrong_gaps, &width) == TEXTWRAP_NOT_UTF8 && width == 7);
+    CHECK(textwrap_column_width(24, 4, &gaps, &width) == TEXTWRAP_DONE && width == 4);
+    CHECK(textwrap_rows_of_lines(lines, 4, 0, 24, &gaps, rows, 2, &count, room, 48, &len)
+          == TEXTWRAP_UNKNOWN_OPTIONS);
+    CHECK(textwrap_rows_of_lines(&wrong, 1, 4, 24, &gaps, rows, 2, &count, room, 48, &len)
+          == TEXTWRAP_NOT_UTF8);
+    CHECK(textwrap_rows_of_lines(lines, 4, 4, 24, &wrong_gaps, rows, 2, &count, room, 48, &len)
+          == TEXTWRAP_NOT_UTF8);
+    CHECK(count == 7 && len == 7 && memcmp(room, "...", 4) == 0);
+    CHECK(textwrap_rows_of_lines(lines, 4, 3, 24, &gaps, rows, 1, &count, room, 48, &len)
+          == TEXTWRAP_TOO_SMALL);
+    CHECK(count == 2 && len == 48 && memcmp(room, "...", 4) == 0);
+    CHECK(textwrap_rows_of_lines(lines, 4, 3, 24, &gaps, rows, 2, &count, room, 48, &len)
+          == TEXTWRAP_DONE);
+    CHECK(are_lines(rows, count, room, len,
+                    "|Foo   |Baz   |        |\n"
+                    "|Bar   |Quux  |        |\n"));
+}
+
+static void tables_of_lines_are_written(void) {
+    const textwrap_text lines[2] = {text_of("one"), text_of("two")};
+    const textwrap_text number = text_of("1.50"), wrong = text_of("\xff");
+    const textwrap_cell cells[3] = {{lines, 2}, {&number, 1}, {lines, 0}};
+    const textwrap_cell wrong_cells[2] = {{lines, 2}, {&wrong, 1}};
+    textwrap_column columns[2] = {column_of(4, TEXTWRAP_LEFT), column_of(6, TEXTWRAP_RIGHT)};
+    const textwrap_gaps gaps = textwrap_gaps_new(text_of("["), text_of("|"), text_of("]"));
+    textwrap_line rows[2];
+    uint8_t room[26] = "...";
+    size_t count = 7, len = 7;
+    CHECK(textwrap_table_of_lines(wrong_cells, 2, columns, 2, &gaps, rows, 2, &count, room, 26, &len)
+          == TEXTWRAP_NOT_UTF8);
+    CHECK(count == 7 && len == 7 && memcmp(room, "...", 4) == 0);
+    CHECK(textwrap_table_of_lines(cells, 3, columns, 2, &gaps, rows, 1, &count, room, 26, &len)
+          == TEXTWRAP_TOO_SMALL);
+    CHECK(count == 2 && len == 26 && memcmp(room, "...", 4) == 0);
+    CHECK(textwrap_table_of_lines(cells, 3, columns, 2, &gaps, rows, 2, &count, room, 26, &len)
+          == TEXTWRAP_DONE);
+    /* The last cell, which has no lines, takes no row. */
+    CHECK(are_lines(rows, count, room, len, "[one |  1.50]\n[two |      ]\n"));
+    columns[1].alignment = 3;
+    CHECK(textwrap_table_of_lines(wrong_cells, 2, columns, 2, &gaps, rows, 2, &count, room, 26, &len)
+          == TEXTWRAP_UNKNOWN_OPTIONS);
+}
+
 static void wrong_tables_are_refused(void) {
     const textwrap_text cells[2] = {text_of("a"), text_of("b")};
     const textwrap_text wrong[2] = {text_of("a"), text_of("\xff")};
@@ -835,6 +888,7 @@ static void what_is_in_reserve_is_refused(void) {
     textwrap_options o = textwrap_options_new(24);
     const textwrap_text bar = text_of("|");
     const textwrap_fragment card = {4, 1, 0, 0};
+    const textwrap_cell cell = {&bar, 1};
     const textwrap_column column = column_of(4, TEXTWRAP_LEFT);
     const size_t nine = 9;
     textwrap_line lines[1];
@@ -846,6 +900,11 @@ static void what_is_in_reserve_is_refused(void) {
         CHECK(textwrap_wrap_columns(bytes("foo"), 3, 1, &o, &gaps, lines, 1, &count, room, 24, &len)
               == TEXTWRAP_UNKNOWN_OPTIONS);
         CHECK(textwrap_table(&bar, 1, &column, 1, &gaps, lines, 1, &count, room, 24, &len)
+              == TEXTWRAP_UNKNOWN_OPTIONS);
+        CHECK(textwrap_column_width(24, 1, &gaps, &end) == TEXTWRAP_UNKNOWN_OPTIONS);
+        CHECK(textwrap_rows_of_lines(&bar, 1, 1, 24, &gaps, lines, 1, &count, room, 24, &len)
+              == TEXTWRAP_UNKNOWN_OPTIONS);
+        CHECK(textwrap_table_of_lines(&cell, 1, &column, 1, &gaps, lines, 1, &count, room, 24, &len)
               == TEXTWRAP_UNKNOWN_OPTIONS);
         textwrap_penalties penalties = textwrap_penalties_of(&o);
         penalties.reserved_sizes[i] = 1;
@@ -923,6 +982,10 @@ static void a_pointer_to_nothing_may_be_null(void) {
     CHECK(textwrap_wrap_columns(NULL, 0, 1, &o, &gaps, NULL, 0, &count, NULL, 0, &len)
           == TEXTWRAP_TOO_SMALL);
     CHECK(textwrap_wrap_columns_room_bound(0, 1, &o, &gaps) == 10);
+    CHECK(textwrap_column_width(10, 1, &gaps, &count) == TEXTWRAP_DONE && count == 10);
+    CHECK(textwrap_rows_of_lines(NULL, 0, 1, 10, &gaps, NULL, 0, &count, NULL, 0, &len)
+          == TEXTWRAP_DONE);
+    CHECK(count == 0 && len == 0);
     CHECK(textwrap_refill(NULL, 0, &o, NULL, 0, &len) == TEXTWRAP_DONE && len == 0);
     CHECK(textwrap_unfill(NULL, 0, NULL, 0, &len, &layout) == TEXTWRAP_DONE && len == 0);
     CHECK(textwrap_indent(NULL, 0, NULL, 0, NULL, 0, &len) == TEXTWRAP_DONE && len == 0);
@@ -941,6 +1004,9 @@ static void a_pointer_to_nothing_may_be_null(void) {
     CHECK(textwrap_carry_styles(NULL, 0, &o, NULL, 0, &count, NULL, 0, &len) == TEXTWRAP_DONE);
     CHECK(count == 0 && len == 0);
     CHECK(textwrap_table(NULL, 0, NULL, 0, &gaps, NULL, 0, &count, NULL, 0, &len) == TEXTWRAP_DONE);
+    CHECK(count == 0 && len == 0);
+    CHECK(textwrap_table_of_lines(NULL, 0, NULL, 0, &gaps, NULL, 0, &count, NULL, 0, &len)
+          == TEXTWRAP_DONE);
     CHECK(count == 0 && len == 0);
     CHECK(textwrap_wrap_first_fit(NULL, 0, NULL, 0, end, 1, &count) == TEXTWRAP_DONE && count == 1);
     CHECK(textwrap_wrap_first_fit(NULL, 0, NULL, 0, NULL, 0, &count) == TEXTWRAP_TOO_SMALL);
@@ -985,6 +1051,8 @@ int main(void) {
     styles_are_carried();
     carrying_styles_is_refused();
     tables_are_written();
+    rows_of_lines_are_written();
+    tables_of_lines_are_written();
     wrong_tables_are_refused();
     fragments_are_divided();
     pieces_are_places();

@@ -6,7 +6,8 @@
  * A text is a pointer and a length in bytes, in UTF-8. A pointer is aligned as its type asks, and is
  * not null, but for that of an array of length 0. (null.c sees to these. A program that links the
  * bare archive without it hands in no null pointer.) Within an array no pointer is null, even that
- * of a text without a byte: not in a list of texts, and not in the indents of a table's columns.
+ * of a text without a byte: not in a list of texts or of cells, and not in the indents of a table's
+ * columns.
  * What a call gives is written into room that the caller hands in and owns; the library keeps no
  * pointer and leaves nothing allocated behind. The room may be uninitialised. It overlaps nothing
  * else that is handed to the same call, and `count` and `len` are two places. A call that does not
@@ -41,7 +42,7 @@ typedef enum {
     TEXTWRAP_OUT_OF_MEMORY = 2,   /* memory ran out */
     TEXTWRAP_TOO_SMALL = 3,       /* the room is too small, and what suffices is reported */
     TEXTWRAP_UNKNOWN_OPTIONS = 4, /* another version, a number that means nothing, one in reserve that
-                                   * is not 0, or wrap_columns without columns */
+                                   * is not 0, or a text in no columns */
     TEXTWRAP_OVERFLOW = 5,        /* a sum of widths or a cost needs more than 128 bits */
     TEXTWRAP_WRONG_PLACES = 6,    /* offsets that do not increase, or are no places to cut at */
 } textwrap_status;
@@ -189,6 +190,20 @@ textwrap_status textwrap_wrap_columns(const uint8_t *text, size_t text_len, size
                                       textwrap_line *rows, size_t rows_len, size_t *count,
                                       uint8_t *room, size_t room_len, size_t *len);
 
+/* For a caller who wraps the text by functions of their own: writes the width that
+ * textwrap_wrap_columns wraps it at, where a row has this one. DONE, NOT_UTF8 or UNKNOWN_OPTIONS. */
+TEXTWRAP_CHECKED
+textwrap_status textwrap_column_width(size_t width, size_t columns, const textwrap_gaps *gaps,
+                                      size_t *column_width);
+
+/* Writes the rows of that width that these lines have in so many columns, at least 1, as
+ * textwrap_wrap_columns does. */
+TEXTWRAP_CHECKED
+textwrap_status textwrap_rows_of_lines(const textwrap_text *lines, size_t lines_len, size_t columns,
+                                       size_t width, const textwrap_gaps *gaps, textwrap_line *rows,
+                                       size_t rows_len, size_t *count, uint8_t *room,
+                                       size_t room_len, size_t *len);
+
 /* Fills a filled text again, with the indents that it has; those of the options are not used. */
 TEXTWRAP_CHECKED
 textwrap_status textwrap_refill(const uint8_t *text, size_t text_len,
@@ -291,6 +306,21 @@ textwrap_status textwrap_table(const textwrap_text *cells, size_t cells_len,
                                const textwrap_column *columns, size_t columns_len,
                                const textwrap_gaps *gaps, textwrap_line *rows, size_t rows_len,
                                size_t *count, uint8_t *room, size_t room_len, size_t *len);
+
+/* The lines of a cell, for a caller who wraps the texts by functions of their own. */
+typedef struct {
+    const textwrap_text *lines;
+    size_t lines_len;
+} textwrap_cell;
+
+/* Writes the rows of a table whose cells have these lines. Of the options of a column only the width
+ * is used, but they have to be known. */
+TEXTWRAP_CHECKED
+textwrap_status textwrap_table_of_lines(const textwrap_cell *cells, size_t cells_len,
+                                        const textwrap_column *columns, size_t columns_len,
+                                        const textwrap_gaps *gaps, textwrap_line *rows,
+                                        size_t rows_len, size_t *count, uint8_t *room,
+                                        size_t room_len, size_t *len);
 
 /* ---- Fragments of the caller's own, and the two algorithms */
 

@@ -57,7 +57,7 @@ pub struct Column<'a> {
 
 impl Column<'_> {
     /// The same as C has it, without the functions of the caller. It lends the indents.
-    fn to_sys(&self) -> sys::Column {
+    pub(crate) fn to_sys(&self) -> sys::Column {
         let Column { options, alignment } = self;
         sys::Column { options: options.to_sys(), alignment: alignment.to_sys(), reserved: 0 }
     }
@@ -84,10 +84,10 @@ impl Gaps<'_> {
         }
     }
 
-    /// What they take together in a row of so many columns, of which there is at least one.
-    pub(crate) fn together(&self, columns: usize, measure: impl Fn(&str) -> usize) -> usize {
-        let ends = measure(self.left) + measure(self.right);
-        measure(self.middle).saturating_mul(columns - 1).saturating_add(ends)
+    /// Their bytes in a row of so many columns, of which there is at least one.
+    pub(crate) fn bytes_in(&self, columns: usize) -> usize {
+        let ends = self.left.len() + self.right.len();
+        self.middle.len().saturating_mul(columns - 1).saturating_add(ends)
     }
 }
 

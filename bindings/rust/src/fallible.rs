@@ -209,7 +209,7 @@ where
     let with = options.to_sys();
     let around = gaps.to_sys();
     let (rows, bytes) = guess::rows(text, &options, columns);
-    let bytes = bytes.saturating_add(gaps.together(columns, str::len).saturating_mul(rows));
+    let bytes = bytes.saturating_add(gaps.bytes_in(columns).saturating_mul(rows));
     // SAFETY: as in `fill`.
     let found = unsafe {
         Reported::by(rows, bytes, |r| {

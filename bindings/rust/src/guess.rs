@@ -3,6 +3,7 @@
 use crate::core::display_width;
 use crate::display::{Column, Gaps};
 use crate::options::Options;
+use alloc::vec::Vec;
 
 /// How many lines the line feeds of a text make.
 fn lines_of(text: &str) -> usize {
@@ -91,6 +92,18 @@ pub(crate) fn carried<S: AsRef<str>>(lines: &[S]) -> usize {
     bytes_of(lines).saturating_add(styles)
 }
 
+/// The rows that so many lines have in columns, and their bytes. There is a column.
+pub(crate) fn rows_of_lines<S: AsRef<str>>(
+    lines: &[S],
+    columns: usize,
+    width: usize,
+    gaps: &Gaps<'_>,
+) -> (usize, usize) {
+    let rows = lines.len().div_ceil(columns);
+    let row_len = gaps.bytes_in(columns).saturating_add(width);
+    (rows, rows.saturating_mul(row_len).saturating_add(bytes_of(lines)))
+}
+
 /// The rows of a table, and their bytes. There is a column.
 pub(crate) fn table<S: AsRef<str>>(
     cells: &[S],
@@ -102,7 +115,25 @@ pub(crate) fn table<S: AsRef<str>>(
         .chunks(columns.len())
         .map(|row| row.iter().zip(columns).map(lines).max().unwrap_or(0));
     let rows = heights.fold(0, usize::saturating_add);
+    (rows, table_bytes(rows, columns, gaps).saturating_add(bytes_of(cells)))
+}
+
+/// The same of a table whose cells have these lines.
+pub(crate) fn table_of_lines<S: AsRef<str>>(
+    cells: &[Vec<S>],
+    columns: &[Column<'_>],
+    gaps: &Gaps<'_>,
+) -> (usize, usize) {
+    let heights =
+        cells.chunks(columns.len()).map(|row| row.iter().map(Vec::len).max().unwrap_or(0));
+    let rows = heights.sum();
+    let texts = cells.iter().map(|lines| bytes_of(lines)).fold(0, usize::saturating_add);
+    (rows, table_bytes(rows, columns, gaps).saturating_add(texts))
+}
+
+/// The bytes of so many rows of a table, without those of its texts.
+fn table_bytes(rows: usize, columns: &[Column<'_>], gaps: &Gaps<'_>) -> usize {
     let widths = columns.iter().map(|column| column.options.width);
-    let row_len = widths.fold(gaps.together(columns.len(), str::len), usize::saturating_add);
-    (rows, rows.saturating_mul(row_len).saturating_add(bytes_of(cells)))
+    let row_len = widths.fold(gaps.bytes_in(columns.len()), usize::saturating_add);
+    rows.saturating_mul(row_len)
 }

@@ -53,6 +53,18 @@ pub(crate) fn room_for<T>(len: usize) -> Result<Vec<T>, OutOfMemory> {
     Ok(room)
 }
 
+/// What is made of each of the items.
+pub(crate) fn mapped<T, U>(items: &[T], make: impl Fn(&T) -> U) -> Result<Vec<U>, OutOfMemory> {
+    let mut list = room_for(items.len())?;
+    list.extend(items.iter().map(make));
+    Ok(list)
+}
+
+/// The texts as C has them.
+pub(crate) fn texts_of<S: AsRef<str>>(texts: &[S]) -> Result<Vec<sys::Text>, OutOfMemory> {
+    mapped(texts, |text| sys::Text::from(text.as_ref()))
+}
+
 /// Makes room for so many more items, and for further ones if there is memory for them.
 pub(crate) fn reserve<T>(list: &mut Vec<T>, more: usize) -> Result<(), OutOfMemory> {
     list.try_reserve(more)

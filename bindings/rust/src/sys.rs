@@ -76,6 +76,18 @@ pub struct Column {
 }
 
 #[repr(C)]
+pub struct Cell {
+    lines: *const Text,
+    lines_len: usize,
+}
+
+impl From<&[Text]> for Cell {
+    fn from(lines: &[Text]) -> Cell {
+        Cell { lines: lines.as_ptr(), lines_len: lines.len() }
+    }
+}
+
+#[repr(C)]
 #[derive(Default)]
 pub struct Layout {
     pub width: usize,
@@ -149,6 +161,27 @@ extern "C" {
         text_len: usize,
         columns: usize,
         options: *const Options,
+        gaps: *const Gaps,
+        rows: *mut Line,
+        rows_len: usize,
+        count: *mut usize,
+        room: *mut u8,
+        room_len: usize,
+        len: *mut usize,
+    ) -> u32;
+
+    pub fn textwrap_column_width(
+        width: usize,
+        columns: usize,
+        gaps: *const Gaps,
+        column_width: *mut usize,
+    ) -> u32;
+
+    pub fn textwrap_rows_of_lines(
+        lines: *const Text,
+        lines_len: usize,
+        columns: usize,
+        width: usize,
         gaps: *const Gaps,
         rows: *mut Line,
         rows_len: usize,
@@ -264,6 +297,20 @@ extern "C" {
 
     pub fn textwrap_table(
         cells: *const Text,
+        cells_len: usize,
+        columns: *const Column,
+        columns_len: usize,
+        gaps: *const Gaps,
+        rows: *mut Line,
+        rows_len: usize,
+        count: *mut usize,
+        room: *mut u8,
+        room_len: usize,
+        len: *mut usize,
+    ) -> u32;
+
+    pub fn textwrap_table_of_lines(
+        cells: *const Cell,
         cells_len: usize,
         columns: *const Column,
         columns_len: usize,

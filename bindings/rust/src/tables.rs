@@ -1,9 +1,9 @@
-//! A table, where functions of the caller take part. Otherwise the library makes the rows.
-use crate::display::fallible::align;
+//! A table, where functions of the caller take part. They wrap the cells, and the library makes the
+//! rows of their lines.
 use crate::display::{Column, Gaps};
-use crate::fallible::{push, wrap};
-use crate::room::{copied, reserve, room_for, OutOfMemory};
-use alloc::borrow::Cow;
+use crate::fallible::wrap;
+use crate::room::{mapped, room_for, texts_of, OutOfMemory, Reported};
+use crate::{guess, sys};
 use alloc::string::String;
 use alloc::vec::Vec;
 
@@ -13,36 +13,26 @@ pub(crate) fn rows<S: AsRef<str>>(
     columns: &[Column<'_>],
     gaps: &Gaps<'_>,
 ) -> Result<Vec<String>, OutOfMemory> {
-    let mut rows = Vec::new();
-    for row in cells.chunks(columns.len()) {
-        let mut wrapped = room_for(columns.len())?;
-        for (cell, column) in row.iter().zip(columns) {
-            wrapped.push(wrap(cell.as_ref(), &column.options)?);
-        }
-        let height = wrapped.iter().map(Vec::len).max().unwrap_or(0);
-        reserve(&mut rows, height)?;
-        for i in 0..height {
-            rows.push(row_of(&wrapped, i, columns, gaps)?);
-        }
+    let mut wrapped = room_for(cells.len())?;
+    let mut texts = room_for(cells.len())?;
+    for (cell, column) in cells.iter().zip(columns.iter().cycle()) {
+        let lines = wrap(cell.as_ref(), &column.options)?;
+        texts.push(texts_of(&lines)?);
+        wrapped.push(lines);
     }
-    Ok(rows)
-}
-
-/// The row of the lines at this place of each cell.
-fn row_of(
-    wrapped: &[Vec<Cow<'_, str>>],
-    i: usize,
-    columns: &[Column<'_>],
-    gaps: &Gaps<'_>,
-) -> Result<String, OutOfMemory> {
-    let mut row = copied(gaps.left)?;
-    for (k, column) in columns.iter().enumerate() {
-        if k > 0 {
-            push(&mut row, gaps.middle)?;
-        }
-        let line = wrapped.get(k).and_then(|lines| lines.get(i)).map_or("", |line| line);
-        push(&mut row, &align(line, column.options.width, column.alignment)?)?;
-    }
-    push(&mut row, gaps.right)?;
-    Ok(row)
+    let cells = mapped(&texts, |lines| sys::Cell::from(&lines[..]))?;
+    let with = mapped(columns, Column::to_sys)?;
+    let around = gaps.to_sys();
+    let (rows, bytes) = guess::table_of_lines(&wrapped, columns, gaps);
+    // SAFETY: each pointer is that of a list or of room with its length, or of a value; what is
+    // written to is borrowed by nothing else, and the call writes what it reports, in UTF-8.
+    let found = unsafe {
+        Reported::by(rows, bytes, |r| {
+            sys::textwrap_table_of_lines(
+                cells.as_ptr(), cells.len(), with.as_ptr(), with.len(), &around, r.lines,
+                r.lines_len, &mut r.count, r.room, r.room_len, &mut r.len,
+            )
+        })?
+    };
+    found.texts()
 }

@@ -2,7 +2,7 @@
 ghost use Rattle.std.specs.Prelude.{◌≡◌, ◌+◌, ◌-◌, ◌*◌, ◌<◌, ◌≤◌, ◌++◌, [], length, map, alloc_error};
 ghost use Rattle.std.specs.Prelude.{string_bytes, IfOk, IfErr, IfSome, IfNone, SomeIff, OnOk, ◌⊎◌, ◌^◌};
 ghost use Rattle.std.specs.List.{range_with_len, repeat};
-ghost use Rattle.textwrap.specs.Columns.{blanks, inner_width, column_width, layout_view, cell};
+ghost use Rattle.textwrap.specs.Columns.{blanks, inner_width, layout_of, layout_view, cell};
 ghost use Rattle.textwrap.specs.Columns.{cells, padded, gapped, row_text, table_rows, IsInColumns};
 ghost use Rattle.textwrap.specs.Columns.{at_column_width};
 ghost use Rattle.textwrap_lines.specs.Options.{Settings, settings_view, HasParts, MayOverflow};
@@ -20,19 +20,46 @@ use textwrap_words::blanks::push_blanks;
 
 /// What the rows of a table have in common.
 #[derive(Drop)]
-struct Table<'a> {
+pub struct Table<'a> {
     /// How many cells a row has.
-    columns: usize,
+    pub columns: usize,
     /// The columns of a cell.
-    column_width: usize,
+    pub column_width: usize,
     /// The blanks after the last cell.
-    spare_width: usize,
+    pub spare_width: usize,
     /// What stands before the first cell.
-    left_gap: &'a str,
+    pub left_gap: &'a str,
     /// What stands between each two cells.
-    middle_gap: &'a str,
+    pub middle_gap: &'a str,
     /// What stands after the spare blanks.
-    right_gap: &'a str,
+    pub right_gap: &'a str,
+}
+
+impl<'a> Table<'a> {
+    /// What the rows of this width have in common: what the gaps leave of it is divided evenly, at
+    /// least 1 to a column, and the rest is spare.
+    pub fn new(
+        columns: usize,
+        width: usize,
+        left_gap: &'a str,
+        middle_gap: &'a str,
+        right_gap: &'a str,
+    ) -> Table<'a>
+        requires { 1 ≤ columns }
+        ensures { layout_view result
+            ≡ layout_of width columns left_gap.now middle_gap.now right_gap.now }
+    {
+        let inner = inner_width(width, columns, left_gap, middle_gap, right_gap);
+        let column_width = (inner / columns).max(1);
+        Table {
+            columns,
+            column_width,
+            spare_width: inner.saturating_sub(columns.saturating_mul(column_width)),
+            left_gap,
+            middle_gap,
+            right_gap,
+        }
+    }
 }
 
 /// Wraps a text into columns beside one another, and returns the rows.
@@ -78,17 +105,8 @@ pub fn wrap_columns<A: Allocator + Copy>(
         (settings_view options.entry) columns left_gap.now middle_gap.now right_gap.now) text.now
         → IfErr result (λ error. error ≡ WrapError.Memory alloc_error) }
 {
-    let inner = inner_width(options.width, columns, left_gap, middle_gap, right_gap);
-    let column_width = column_width(inner, columns);
-    let lines = wrap(alloc, text, options.width(column_width))?;
-    let table = Table {
-        columns,
-        column_width,
-        spare_width: inner.saturating_sub(columns.saturating_mul(column_width)),
-        left_gap,
-        middle_gap,
-        right_gap,
-    };
+    let table = Table::new(columns, options.width, left_gap, middle_gap, right_gap);
+    let lines = wrap(alloc, text, options.width(table.column_width))?;
     Ok(table_rows(alloc, &lines, &table)?)
 }
 
@@ -111,16 +129,8 @@ fn inner_width(
     width.saturating_sub(gaps)
 }
 
-/// The width of each column.
-fn column_width(inner: usize, columns: usize) -> usize
-    requires { 1 ≤ columns }
-    ensures { result ≡ column_width inner columns }
-{
-    (inner / columns).max(1)
-}
-
-/// The rows of a table of these lines.
-fn table_rows<A: Allocator + Copy>(
+/// The rows of a table of these lines, which fill its columns one after another.
+pub fn table_rows<A: Allocator + Copy>(
     alloc: A,
     lines: &[CowStr<'_, A>],
     table: &Table<'_>,

@@ -23,6 +23,7 @@ pub use wrap_algorithms::{WrapAlgorithm, WrapError};
 
 mod columns;
 mod indentation;
+pub mod inner;
 mod inplace;
 pub mod laws;
 mod refilling;

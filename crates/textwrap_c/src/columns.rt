@@ -1,16 +1,18 @@
 //! A text in columns beside one another.
-ghost use Rattle.std.specs.Prelude.{◌≡◌, ◌≤◌, ◌<◌, ◌↔◌, ◌⊎◌, IsUtf8};
-ghost use Rattle.textwrap.specs.Columns.{IsInColumns};
+ghost use Rattle.std.specs.Prelude.{◌≡◌, ◌≢◌, ◌≤◌, ◌<◌, ◌↔◌, ◌⊎◌, [], IsUtf8, All};
+ghost use Rattle.textwrap.specs.Columns.{IsInColumns, layout_of, table_rows};
 ghost use Rattle.textwrap_calls.specs.Columns.{AreKnownGaps, AreTextGaps, AreRows};
 ghost use Rattle.textwrap_calls.specs.Options.{settings_of, AreKnown, Divides};
 ghost use Rattle.textwrap_calls.specs.Options.{AreTexts};
-ghost use Rattle.textwrap_calls.specs.Status.{not_utf8, unknown_options};
+ghost use Rattle.textwrap_calls.specs.Status.{done, not_utf8, unknown_options};
+ghost use Rattle.textwrap_calls.specs.Texts.{bytes_of, IsText};
 ghost use Rattle.textwrap_calls.specs.Wrapping.{WritesLines};
 
 use std::alloc::Global;
 use textwrap_calls::columns;
 use textwrap_calls::columns::TextwrapGaps;
 use textwrap_calls::options::TextwrapOptions;
+use textwrap_calls::texts::TextwrapText;
 use textwrap_calls::wrapping::TextwrapLine;
 
 /// Exports [`textwrap_calls::columns::textwrap_wrap_columns`].
@@ -38,4 +40,47 @@ pub extern "C" fn textwrap_wrap_columns(
     ensures statuses { result ≤ unknown_options }
 {
     columns::textwrap_wrap_columns(alloc, text, columns, options, gaps, rows, count, room, len)
+}
+
+/// Exports [`textwrap_calls::columns::textwrap_column_width`].
+#[unsafe(no_mangle)]
+pub extern "C" fn textwrap_column_width(
+    width: usize,
+    columns: usize,
+    gaps: &TextwrapGaps<'_>,
+    column_width: &mut usize,
+) -> u32
+    ensures written { result ≡ done → column_width.new ≡ (layout_of width columns
+        gaps.now.left.now gaps.now.middle.now gaps.now.right.now).column_width }
+    ensures done { result ≡ done ↔ (1 ≤ columns) × AreKnownGaps gaps.now × AreTextGaps gaps.now }
+    ensures unknown { result ≡ unknown_options ↔ (columns < 1) ⊎ (¬ AreKnownGaps gaps.now) }
+    ensures not_utf8 { result ≡ not_utf8 ↔ (1 ≤ columns) × AreKnownGaps gaps.now
+        × ¬ AreTextGaps gaps.now }
+    ensures kept { result ≢ done → column_width.new ≡ column_width.old }
+{
+    columns::textwrap_column_width(width, columns, gaps, column_width)
+}
+
+/// Exports [`textwrap_calls::columns::textwrap_rows_of_lines`].
+#[unsafe(no_mangle)]
+pub extern "C" fn textwrap_rows_of_lines(
+    alloc: Global,
+    lines: &[TextwrapText<'_>],
+    columns: usize,
+    width: usize,
+    gaps: &TextwrapGaps<'_>,
+    rows: &mut [TextwrapLine],
+    count: &mut usize,
+    room: &mut [u8],
+    len: &mut usize,
+) -> u32
+    ensures rows { WritesLines (λ answer _. AreRows (λ rows. rows ≡ table_rows (layout_of width
+        columns gaps.now.left.now gaps.now.middle.now gaps.now.right.now) (bytes_of lines.now)) answer)
+        [] result rows.old rows.new count.old count.new room.old room.new len.old len.new }
+    ensures unknown { result ≡ unknown_options ↔ (columns < 1) ⊎ (¬ AreKnownGaps gaps.now) }
+    ensures not_utf8 { result ≡ not_utf8 ↔ (1 ≤ columns) × AreKnownGaps gaps.now
+        × ¬ (All IsText lines.now × AreTextGaps gaps.now) }
+    ensures statuses { result ≤ unknown_options }
+{
+    columns::textwrap_rows_of_lines(alloc, lines, columns, width, gaps, rows, count, room, len)
 }

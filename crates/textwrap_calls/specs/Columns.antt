@@ -3,6 +3,7 @@ use Rattle.std.specs.Prelude.{◌≡◌, ℕ, List, [], ◌∷◌, map, IsUtf8}
 use Rattle.textwrap.specs.Paragraph.{Line, Built}
 use Rattle.textwrap_lines.specs.Places.{CutLine, built_text, cut_line, lines_of, places_of}
 use Rattle.textwrap_lines.specs.declared.places.Place.{Place}
+use Rattle.textwrap_display.specs.Tables.{RowGaps}
 use Rattle.textwrap_calls.specs.declared.columns.TextwrapGaps.{TextwrapGaps}
 
 -- the numbers in reserve are 0
@@ -14,6 +15,14 @@ pub record AreTextGaps (gaps : TextwrapGaps) : Type 0 where
   pub left : IsUtf8 gaps.left.now
   pub middle : IsUtf8 gaps.middle.now
   pub right : IsUtf8 gaps.right.now
+
+-- the gaps, as those of a table
+abbrev pub row_gaps : TextwrapGaps → RowGaps
+row_gaps gaps = record {
+  left = gaps.left.now;
+  middle = gaps.middle.now;
+  right = gaps.right.now;
+}
 
 -- lines of their own, which are such rows
 abbrev pub AreRows : (List (List ℕ) → Type 0) → List Line → Type 0

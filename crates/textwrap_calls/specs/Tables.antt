@@ -1,14 +1,15 @@
 -- The texts of a table and its columns, as C has them.
-use Rattle.std.specs.Prelude.{◌≡◌, ◌≤◌, List, All}
+use Rattle.std.specs.Prelude.{◌≡◌, ℕ, ◌≤◌, List, All, map}
 use Rattle.textwrap_calls.specs.Columns.{AreTextGaps}
 use Rattle.textwrap_calls.specs.Display.{alignment_of}
 use Rattle.textwrap_calls.specs.Options.{AreKnown, AreTexts, settings_of, splitter_of}
 use Rattle.textwrap_calls.specs.Options.{algorithm_of, separator_of}
-use Rattle.textwrap_calls.specs.Texts.{IsText}
+use Rattle.textwrap_calls.specs.Texts.{bytes_of, IsText}
 use Rattle.textwrap_calls.specs.declared.columns.TextwrapGaps.{TextwrapGaps}
+use Rattle.textwrap_calls.specs.declared.tables.TextwrapCell.{TextwrapCell}
 use Rattle.textwrap_calls.specs.declared.tables.TextwrapColumn.{TextwrapColumn}
 use Rattle.textwrap_calls.specs.declared.texts.TextwrapText.{TextwrapText}
-use Rattle.textwrap_display.specs.Tables.{RowGaps}
+use Rattle.textwrap_display.specs.Tables.{Shape}
 use Rattle.textwrap_plain.specs.Options.{words_by}
 use Rattle.textwrap_plain.specs.Tables.{PlainParts}
 
@@ -39,9 +40,19 @@ pub record AreTableTexts (cells : List TextwrapText) (columns : List TextwrapCol
   pub columns_are : All HasTexts columns
   pub gaps_are : AreTextGaps gaps
 
-abbrev pub row_gaps : TextwrapGaps → RowGaps
-row_gaps gaps = record {
-  left = gaps.left.now;
-  middle = gaps.middle.now;
-  right = gaps.right.now;
+-- ---- cells that have their lines
+
+-- how wide a column is, and where a line stands in it
+abbrev pub shape_of_column : TextwrapColumn → Shape
+shape_of_column column = record {
+  width = column.options.width;
+  alignment = alignment_of column.alignment;
 }
+
+-- the bytes of the lines of each cell
+abbrev pub lines_in : List TextwrapCell → List (List (List ℕ))
+lines_in cells = map (λ cell. bytes_of cell.lines.now) cells
+
+-- its lines are texts
+pub record HasTextLines (cell : TextwrapCell) : Type 0 where
+  pub lines : All IsText cell.lines.now

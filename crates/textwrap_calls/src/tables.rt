@@ -1,25 +1,26 @@
 //! Texts in the columns of a table.
-ghost use Rattle.std.specs.Prelude.{◌≡◌, ◌≤◌, ◌↔◌, ℕ, true, [], List, map, All, IfNone, IfOk};
-ghost use Rattle.std.specs.Prelude.{IfSome};
+ghost use Rattle.std.specs.Prelude.{◌≡◌, ◌≤◌, ◌↔◌, ℕ, true, [], List, map, All, IfOk};
 ghost use Rattle.textwrap_calls.specs.Columns.{AreKnownGaps, ArePlacedRows, AreRows, AreTextGaps};
+ghost use Rattle.textwrap_calls.specs.Columns.{row_gaps};
 ghost use Rattle.textwrap_calls.specs.Status.{not_utf8, unknown_options};
-ghost use Rattle.textwrap_calls.specs.Tables.{AreTableTexts, HasTexts, IsKnownColumn};
-ghost use Rattle.textwrap_calls.specs.Tables.{parts_of_column, row_gaps};
+ghost use Rattle.textwrap_calls.specs.Tables.{AreTableTexts, HasTextLines, HasTexts, IsKnownColumn};
+ghost use Rattle.textwrap_calls.specs.Tables.{lines_in, parts_of_column, shape_of_column};
 ghost use Rattle.textwrap_calls.specs.Texts.{bytes_of, IsText};
 ghost use Rattle.textwrap_calls.specs.Wrapping.{WritesLines};
-ghost use Rattle.textwrap_display.specs.Tables.{gaps_view};
+ghost use Rattle.textwrap_display.specs.Tables.{cell_texts, gaps_view, rows_of_cells, shape_of};
 ghost use Rattle.textwrap_plain.specs.Tables.{IsPlainTable, plain_parts};
 
-use crate::columns::{TextwrapGaps, are_known_gaps, place_rows};
+use crate::columns::{TextwrapGaps, are_known_gaps, place_rows, read_gaps};
 use crate::display::read_alignment;
 use crate::options::{TextwrapOptions, are_known, read_options};
 use crate::reported::{TextwrapLine, put_lines};
 use crate::status::{NOT_UTF8, OUT_OF_MEMORY, UNKNOWN_OPTIONS};
-use crate::texts::{TextwrapText, are_utf8, strs_of};
+use crate::texts::{TextwrapText, are_utf8, lines_of, strs_of};
 use simdutf8::basic::from_utf8;
 use std::alloc::{AllocError, Global};
-use textwrap::WrapError;
-use textwrap_display::Gaps;
+use std::borrow::CowStr;
+use textwrap::{Options, WrapError};
+use textwrap_display::{Column, Gaps, table_of_lines};
 use textwrap_lines::placed::PlacedLines;
 use textwrap_plain::{PlainColumn, table};
 
@@ -33,6 +34,14 @@ pub struct TextwrapColumn<'a> {
     pub alignment: u32,
     /// 0. A later version may give it a meaning, in which 0 will change nothing.
     pub reserved: u32,
+}
+
+/// A cell of a table whose texts are wrapped already.
+#[repr(C)]
+#[derive(Clone, Copy)]
+pub struct TextwrapCell<'a> {
+    /// Its lines.
+    pub lines: &'a [TextwrapText<'a>],
 }
 
 /// Wraps the cells in the columns, as many beside one another as there are columns, and writes the
@@ -67,6 +76,43 @@ pub fn textwrap_table(
         return NOT_UTF8;
     };
     match place_table(alloc, cells, columns, &gaps) {
+        Ok(placed) => put_lines(&placed, rows, count, room, len),
+        Err(_) => OUT_OF_MEMORY,
+    }
+}
+
+/// Writes the rows of a table whose cells have these lines, as `textwrap_table` writes those of the
+/// lines of its texts. Of a column only its width and its alignment matter. One that is not known is
+/// `UNKNOWN_OPTIONS`, and so are such gaps.
+pub fn textwrap_table_of_lines(
+    alloc: Global,
+    cells: &[TextwrapCell<'_>],
+    columns: &[TextwrapColumn<'_>],
+    gaps: &TextwrapGaps<'_>,
+    rows: &mut [TextwrapLine],
+    count: &mut usize,
+    room: &mut [u8],
+    len: &mut usize,
+) -> u32
+    ensures table { WritesLines (λ lines _. AreRows (λ rows. rows ≡ rows_of_cells
+        (row_gaps gaps.now) (map shape_of_column columns.now) (lines_in cells.now)) lines)
+        [] result rows.old rows.new count.old count.new room.old room.new len.old len.new }
+    ensures unknown { result ≡ unknown_options
+        ↔ ¬ (All IsKnownColumn columns.now × AreKnownGaps gaps.now) }
+    ensures not_utf8 { result ≡ not_utf8 ↔ All IsKnownColumn columns.now × AreKnownGaps gaps.now
+        × ¬ (All HasTextLines cells.now × AreTextGaps gaps.now) }
+    ensures statuses { result ≤ unknown_options }
+{
+    if !are_known_columns(columns) || !are_known_gaps(gaps) {
+        return UNKNOWN_OPTIONS;
+    }
+    if !have_text_lines(cells) {
+        return NOT_UTF8;
+    }
+    let Some(gaps) = read_gaps(gaps) else {
+        return NOT_UTF8;
+    };
+    match place_cells(alloc, cells, columns, &gaps) {
         Ok(placed) => put_lines(&placed, rows, count, room, len),
         Err(_) => OUT_OF_MEMORY,
     }
@@ -111,19 +157,6 @@ fn has_texts(column: &TextwrapColumn<'_>) -> bool
     from_utf8(options.initial_indent).is_ok() && from_utf8(options.subsequent_indent).is_ok()
 }
 
-/// The gaps as the library has them, if they are UTF-8.
-fn read_gaps<'a>(given: &TextwrapGaps<'a>) -> Option<Gaps<'a>>
-    ensures gaps { IfSome result (λ gaps. gaps_view gaps ≡ row_gaps given.now) }
-    ensures some { IfSome result (λ _. AreTextGaps given.now) }
-    ensures none { IfNone result (¬ AreTextGaps given.now) }
-{
-    Some(Gaps {
-        left: from_utf8(given.left).ok()?,
-        middle: from_utf8(given.middle).ok()?,
-        right: from_utf8(given.right).ok()?,
-    })
-}
-
 /// The rows of the table, placed.
 fn place_table(
     alloc: Global,
@@ -165,4 +198,57 @@ fn read_columns<'a>(
         columns.push(PlainColumn { options, alignment })?;
     }
     Ok(columns)
+}
+
+/// Whether the lines of all cells are UTF-8.
+fn have_text_lines(cells: &[TextwrapCell<'_>]) -> bool
+    ensures { result ≡ true ↔ All HasTextLines cells.now }
+{
+    for cell in cells {
+        if !are_utf8(cell.lines) {
+            return false;
+        }
+    }
+    true
+}
+
+/// The rows of these cells, placed.
+fn place_cells(
+    alloc: Global,
+    cells: &[TextwrapCell<'_>],
+    columns: &[TextwrapColumn<'_>],
+    gaps: &Gaps<'_>,
+) -> Result<PlacedLines<Global>, AllocError>
+    requires known { All IsKnownColumn columns.now }
+    requires cells { All HasTextLines cells.now }
+    ensures { IfOk result (λ placed. ArePlacedRows (rows_of_cells (gaps_view gaps.now)
+        (map shape_of_column columns.now) (lines_in cells.now))
+        placed.places.items placed.built.items) }
+{
+    let cells = read_cells(alloc, cells)?;
+    let mut shapes = Vec::with_capacity(alloc, columns.len())?;
+    for column in columns {
+        let Some(alignment) = read_alignment(column.alignment) else {
+            unreachable!();
+        };
+        let options = Options::new(column.options.width);
+        shapes.push(Column { options, alignment })?;
+    }
+    place_rows(alloc, table_of_lines(alloc, &cells, &shapes, gaps)?)
+}
+
+/// The cells as the library has them.
+fn read_cells<'t>(
+    alloc: Global,
+    given: &[TextwrapCell<'t>],
+) -> Result<Vec<Vec<CowStr<'t>>>, AllocError>
+    requires { All HasTextLines given.now }
+    ensures { IfOk result (λ cells. cell_texts cells.items ≡ lines_in given.now) }
+{
+    let mut cells = Vec::with_capacity(alloc, given.len())?;
+    for cell in given {
+        let lines = lines_of(alloc, cell.lines)?;
+        cells.push(lines)?;
+    }
+    Ok(cells)
 }

@@ -32,6 +32,7 @@ pub mod TableCells
 pub mod TableFits
 pub mod TableRows
 pub mod TableGroups
+pub mod CellRows
 pub mod TableParts
 pub mod TableLaws
 pub mod ShownLines

@@ -51,21 +51,22 @@ count-less total count some more = elim (cases_lt count total) [
 
 -- ---- the first group, and the others
 
-chunk-more : (texts : List (List ℕ)) (count at : ℕ)
+chunk-more : {X : Type 0} (texts : List X) (count at : ℕ)
     → slice_chunk texts count (at + 1) ≡ slice_chunk (drop count texts) count at
 chunk-more texts count at =
     let place : (at + 1) * count ≡ count + at * count = omega arith in
     ap (λ n. take count (drop n texts)) place
     ∙ ap (take count) (sym (drop-drop (at * count) count texts))
 
-chunks-more : (texts : List (List ℕ)) (count at more : ℕ)
+chunks-more : {X : Type 0} (texts : List X) (count at more : ℕ)
     → map (slice_chunk texts count) (range_with_len (at + 1) more)
     ≡ map (slice_chunk (drop count texts) count) (range_with_len at more)
 chunks-more texts count at zero = refl
 chunks-more texts count at (suc more) =
     rw (chunk-more texts count at, chunks-more texts count (at + 1) more) refl
 
-pub groups-more : (count : ℕ) (front rest : List (List ℕ)) → 0 < count → 0 < length (front ++ rest)
+pub groups-more : {X : Type 0} (count : ℕ) (front rest : List X) → 0 < count
+    → 0 < length (front ++ rest)
     → length front ≡ min count (length (front ++ rest))
     → groups_of count (front ++ rest) ≡ front ∷ groups_of count rest
 groups-more count front rest some more is =

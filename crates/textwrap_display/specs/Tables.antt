@@ -82,10 +82,15 @@ module _ (gaps : RowGaps) (columns : List Shape) where
 
 -- ---- a table
 
--- the texts, so many at a time; the last ones may be fewer
-abbrev pub groups_of : ℕ → List (List ℕ) → List (List (List ℕ))
-groups_of count texts =
-    map (slice_chunk texts count) (range_with_len 0 (chunk_count (length texts) count))
+-- the texts or the cells, so many at a time; the last ones may be fewer
+abbrev pub groups_of : {X : Type 0} → ℕ → List X → List (List X)
+groups_of count items =
+    map (slice_chunk items count) (range_with_len 0 (chunk_count (length items) count))
+
+-- as many cells as there are columns stand beside one another
+abbrev pub rows_of_cells : RowGaps → List Shape → List (List (List ℕ)) → List (List ℕ)
+rows_of_cells gaps columns cells =
+    flat_map (group_rows gaps columns) (groups_of (length columns) cells)
 
 -- where a relation says which lines a column makes of a text
 module _ {X : Type 0} (Makes : X → List ℕ → List Line → Type 0) where

@@ -13,7 +13,7 @@ pub use filling::fill_justified;
 pub use justifying::justify;
 pub use shortening::{shorten, shorten_lines};
 pub use styles::carry_styles;
-pub use tables::{Column, Gaps, table};
+pub use tables::{Column, Gaps, table, table_of_lines};
 
 mod alignment;
 mod filling;

@@ -6,7 +6,7 @@ ghost use Rattle.textwrap_display.specs.Tables.{AllFit64Bits, AreCells, ColumnMa
 ghost use Rattle.textwrap_display.specs.Tables.{HaveParts, groups_of};
 ghost use Rattle.textwrap_display.specs.Tables.{IsTable, IsTableOf, cell_line, cell_texts};
 ghost use Rattle.textwrap_display.specs.Tables.{gap_before, gaps_view, group_rows, height};
-ghost use Rattle.textwrap_display.specs.Tables.{row_text, shape_of, texts_in};
+ghost use Rattle.textwrap_display.specs.Tables.{row_text, rows_of_cells, shape_of, texts_in};
 ghost use Rattle.textwrap_lines.specs.Options.{MayOverflow};
 
 use crate::alignment::{Alignment, aligned_len, push_aligned};
@@ -88,6 +88,32 @@ pub fn table<A: Allocator + Copy>(
     for texts in cells.chunks(columns.len()) {
         let group = wrap_cells(alloc, texts, columns)?;
         push_rows(alloc, &mut rows, &group, columns, gaps)?;
+    }
+    Ok(rows)
+}
+
+/// The rows of a table whose cells have these lines, from the top down.
+///
+/// They are the rows that [`table`] makes of the lines of its texts. Of a column only its width and
+/// its alignment matter.
+///
+/// # Errors
+/// [`AllocError`] where memory runs out, also for a row that is longer than 64 bits can say.
+pub fn table_of_lines<A: Allocator + Copy>(
+    alloc: A,
+    cells: &[Vec<CowStr<'_, A>, A>],
+    columns: &[Column<'_>],
+    gaps: &Gaps<'_>,
+) -> Result<Vec<String<A>, A>, AllocError>
+    ensures { IfOk result (λ rows. map string_bytes rows.items
+        ≡ rows_of_cells (gaps_view gaps.now) (map shape_of columns.now) (cell_texts cells.now)) }
+{
+    let mut rows = Vec::new(alloc);
+    if columns.is_empty() {
+        return Ok(rows);
+    }
+    for group in cells.chunks(columns.len()) {
+        push_rows(alloc, &mut rows, group, columns, gaps)?;
     }
     Ok(rows)
 }

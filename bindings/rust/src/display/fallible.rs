@@ -11,7 +11,7 @@
 //! assert_eq!(too_wide, Err(OutOfMemory::default()));
 //! ```
 use super::{Alignment, Column, Gaps};
-use crate::room::{room_for, written, Reported};
+use crate::room::{mapped, texts_of, written, Reported};
 use crate::{custom, guess, sys, tables};
 use crate::Options;
 use alloc::string::String;
@@ -102,7 +102,7 @@ pub fn shorten_lines<S>(
 where
     S: AsRef<str>,
 {
-    let texts = to_sys(lines)?;
+    let texts = texts_of(lines)?;
     let kept = &lines[..most.min(lines.len())];
     // SAFETY: as in `align`.
     let found = unsafe {
@@ -128,7 +128,7 @@ where
     S: AsRef<str>,
     Opt: Into<Options<'a>>,
 {
-    let texts = to_sys(lines)?;
+    let texts = texts_of(lines)?;
     let options = width_or_options.into();
     let with = options.to_sys();
     // SAFETY: as in `align`.
@@ -165,9 +165,8 @@ where
     if columns.iter().any(|column| column.options.has_function()) {
         return tables::rows(cells, columns, gaps);
     }
-    let texts = to_sys(cells)?;
-    let mut with = room_for(columns.len())?;
-    with.extend(columns.iter().map(Column::to_sys));
+    let texts = texts_of(cells)?;
+    let with = mapped(columns, Column::to_sys)?;
     let around = gaps.to_sys();
     let (rows, bytes) = guess::table(cells, columns, gaps);
     // SAFETY: as in `align`.
@@ -180,11 +179,4 @@ where
         })?
     };
     found.texts()
-}
-
-/// The texts as C has them.
-fn to_sys<S: AsRef<str>>(texts: &[S]) -> Result<Vec<sys::Text>, OutOfMemory> {
-    let mut list = room_for(texts.len())?;
-    list.extend(texts.iter().map(|text| sys::Text::from(text.as_ref())));
-    Ok(list)
 }

@@ -1,0 +1,2 @@
+//! What the crates above need beside the public calls.
+pub use crate::columns::{Table, table_rows};

@@ -1,0 +1,9 @@
+use Rattle.textwrap_calls.proofs.tables.place_cells.Given as goal
+use Rattle.textwrap_base.proofs.Common.{◌≡◌, map, take}
+use Rattle.textwrap_calls.specs.Tables.{shape_of_column}
+use Rattle.textwrap_display.specs.Tables.{shape_of}
+
+-- the columns so far have their shapes
+abbrev pub invariant-loop-column : goal.invariant-loop-column
+invariant-loop-column l =
+    map shape_of l.shapes.items ≡ map shape_of_column (take l.column-index l.columns)

@@ -1,0 +1,51 @@
+use Rattle.textwrap_calls.proofs.tables.textwrap_table_of_lines.Goals as goal
+use Rattle.textwrap_base.proofs.Common.{[], arith, map, refl, subst}
+use Rattle.textwrap.proofs.Common.{Built}
+use Rattle.textwrap_display.specs.Tables.{rows_of_cells}
+use Rattle.textwrap_calls.specs.Columns.{ArePlacedRows, row_gaps}
+use Rattle.textwrap_calls.specs.Tables.{lines_in, shape_of_column}
+use Rattle.textwrap_calls.proofs.LineLemmas.{WritesLines-reported}
+use Rattle.textwrap_calls.proofs.RowLemmas.{rows-shown}
+use Rattle.textwrap_calls.proofs.TableLemmas.{written-apart}
+
+pub place_cells-requires-clause-cells : goal.place_cells-requires-clause-cells
+place_cells-requires-clause-cells c = c.if-not-have_text_lines.ensures.0 refl
+
+pub returns-in-Ok-clause-table : goal.returns-in-Ok-clause-table
+returns-in-Ok-clause-table c =
+    let columns = map shape_of_column c.args.columns.now in
+    let cells = lines_in c.args.cells.now in
+    let rows = rows_of_cells (row_gaps c.args.gaps.now) columns cells in
+    let placed = c.in-Ok.placed in
+    let shows = rows-shown [] rows _ _ (subst
+    (λ gaps. ArePlacedRows (rows_of_cells gaps columns cells) placed.places.items
+    placed.built.items) c.in-Some.ensures.gaps c.in-Ok.ensures) in
+    WritesLines-reported _ _ (map Built rows) _ _ _ _ _ _ _ _ _ _ _ (rows, refl, refl)
+    shows.built_is shows.shown c.put_lines.ensures.statuses c.put_lines.ensures.lines
+
+pub returns-in-Ok-clause-unknown : goal.returns-in-Ok-clause-unknown
+returns-in-Ok-clause-unknown c = (
+  λ is _. (written-apart c.put_lines.result c.put_lines.ensures.statuses).1 is,
+  λ unknown. absurd (unknown (
+    c.if-not-are_known_columns.ensures.0 refl,
+    c.if-not-are_known_gaps.ensures.0 refl,
+  )),
+)
+
+pub returns-in-Ok-clause-not_utf8 : goal.returns-in-Ok-clause-not_utf8
+returns-in-Ok-clause-not_utf8 c = (
+  λ is. absurd ((written-apart c.put_lines.result c.put_lines.ensures.statuses).0 is),
+  λ (_, _, wrong). absurd (wrong (
+    c.if-not-have_text_lines.ensures.0 refl,
+    c.in-Some.ensures.some,
+  )),
+)
+
+pub returns-in-Err-clause-not_utf8 : goal.returns-in-Err-clause-not_utf8
+returns-in-Err-clause-not_utf8 c = (
+  λ is. let no : ⊥ = omega (arith, is) in absurd no,
+  λ (_, _, wrong). absurd (wrong (
+    c.if-not-have_text_lines.ensures.0 refl,
+    c.in-Some.ensures.some,
+  )),
+)

@@ -1,0 +1,50 @@
+use Rattle.textwrap_display.proofs.tables.table_of_lines.Goals as goal
+use Rattle.textwrap_base.proofs.Common.{◌≡◌, ◌++◌, ◌∙◌, ap, append-nil, arith, length, length-map}
+use Rattle.textwrap_base.proofs.Common.{map, map-append, rules, string_bytes, sym}
+use Rattle.std.specs.Slice.Iter.{chunks_rest, chunks_size}
+use Rattle.textwrap_display.specs.Shortening.{texts_of}
+use Rattle.textwrap_display.specs.Tables.{cell_texts, gaps_view, group_rows, rows_of_cells, shape_of}
+use Rattle.textwrap_display.proofs.CellRows.{cells-rows-more, cells-rows-none}
+use Rattle.textwrap_display.proofs.TableGroups.{rows-more}
+
+pub loop-group-init : goal.loop-group-init
+loop-group-init g c =
+    let left = c.into_iter-group-iterator.result in
+    let size : chunks_size left ≡ length c.args.columns.now = search rules in
+    let cells : chunks_rest left ≡ c.args.cells.now = search rules in
+    (size, rw cells search rules)
+
+pub loop-group-preserved : goal.loop-group-preserved
+loop-group-preserved g c =
+    let (size, (whole, front, some)) = c.in-Some.ensures.steps in
+    let columns = map shape_of c.args.columns.now in
+    let gaps = gaps_view c.args.gaps.now in
+    let left = chunks_rest c.loop-group.group-iterator in
+    let rest = chunks_rest c.next.new.self in
+    let first = c.in-Some.group.now in
+    let before = map string_bytes c.loop-group.rows.items in
+    let count = length-map left (λ lines. texts_of lines.items) in
+    let first_count = length-map first (λ lines. texts_of lines.items) in
+    let shapes = length-map c.args.columns.now shape_of in (
+      size ∙ c.loop-group.invariant.0,
+      rows-more before (map string_bytes c.push_rows.new.rows.items)
+          (group_rows gaps columns (cell_texts first)) (rows_of_cells gaps columns (cell_texts rest))
+          c.in_ok-push_rows.ensures
+          ∙ ap (λ rows. before ++ rows) (sym (cells-rows-more gaps columns (cell_texts left)
+          (cell_texts first) (cell_texts rest)
+          (omega (arith, shapes, c.loop-group.iterator.0, c.loop-group.invariant.0))
+          (ap cell_texts whole ∙ map-append (λ lines. texts_of lines.items) first rest)
+          (omega (arith, shapes, first_count, count, front, c.loop-group.invariant.0))
+          (omega (arith, count, some))))
+          ∙ c.loop-group.invariant.1,
+    )
+
+pub returns : goal.returns
+returns g c =
+    let rows = map string_bytes c.loop-group.rows.items in
+    let left = chunks_rest c.loop-group.group-iterator in
+    sym (append-nil rows)
+    ∙ ap (λ others. rows ++ others) (sym (cells-rows-none (gaps_view c.args.gaps.now)
+    (map shape_of c.args.columns.now) (cell_texts left)
+    (length-map left (λ lines. texts_of lines.items) ∙ c.in-None.ensures.steps.1.0)))
+    ∙ c.loop-group.invariant.1

@@ -60,14 +60,18 @@ pub fn fill_justified<'a, Opt>(text: &str, width_or_options: Opt) -> Result<Stri
 where
     Opt: Into<Options<'a>>,
 {
-    let options = width_or_options.into();
+    justified(text, &width_or_options.into())
+}
+
+/// The same by borrowed options.
+fn justified(text: &str, options: &Options<'_>) -> Result<String, OutOfMemory> {
     if options.has_function() {
-        return custom::justified(text, &options);
+        return custom::justified(text, options);
     }
     let with = options.to_sys();
     // SAFETY: as in `align`.
     unsafe {
-        written(guess::justified(text, &options), |room, room_len, len| {
+        written(guess::justified(text, options), |room, room_len, len| {
             sys::textwrap_fill_justified(text.as_ptr(), text.len(), &with, room, room_len, len)
         })
     }

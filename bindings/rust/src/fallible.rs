@@ -72,9 +72,11 @@ fn refilled(text: &str, options: &Options<'_>) -> Result<String, OutOfMemory> {
         return custom::refilled(text, options);
     }
     let with = options.to_sys();
+    // The indents of the text may be shown more often than in it.
+    let guess = guess::filled(text, options).saturating_add(text.len() / 4);
     // SAFETY: as in `filled`.
     unsafe {
-        written(guess::refilled(text, options), |room, room_len, len| {
+        written(guess, |room, room_len, len| {
             sys::textwrap_refill(text.as_ptr(), text.len(), &with, room, room_len, len)
         })
     }
@@ -179,7 +181,7 @@ fn wrapped<'t>(
         return custom::wrapped(text, options);
     }
     let with = options.to_sys();
-    let lines = guess::wrapped_lines(text, options);
+    let lines = guess::lines(text, options.width, options);
     let bytes = guess::built(text, options, lines, false);
     // SAFETY: as in `filled`.
     let found = unsafe {
@@ -233,8 +235,9 @@ fn rows(
     }
     let with = options.to_sys();
     let around = gaps.to_sys();
-    let (rows, bytes) = guess::rows(text, options, columns);
-    let bytes = bytes.saturating_add(gaps.together(columns, str::len).saturating_mul(rows));
+    let rows = guess::lines(text, options.width / columns, options) / columns + 1;
+    let row_len = options.width.saturating_add(gaps.together(columns, str::len));
+    let bytes = guess::with_more(text.len(), rows, row_len);
     // SAFETY: as in `filled`.
     let found = unsafe {
         Reported::by(rows, bytes, |r| {

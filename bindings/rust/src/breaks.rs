@@ -1,7 +1,7 @@
 //! Where a line of text may or must end, by the Unicode line breaking algorithm
 //! ([UAX #14](https://www.unicode.org/reports/tr14/)), with the rules of Unicode 15.0.
 use crate::out_of_memory::{or_abort, OutOfMemory};
-use crate::room::{listed, room_for};
+use crate::room::{in_place, listed};
 use crate::{guess, sys};
 use alloc::vec::Vec;
 
@@ -60,11 +60,7 @@ pub fn try_line_breaks(text: &str, numbers: Numbers) -> Result<Vec<LineBreak>, O
             )
         })
     };
-    let found = found?;
-    let mut breaks = room_for(found.len())?;
-    breaks.extend(found.into_iter().map(|place| LineBreak {
-        offset: place.offset,
-        is_mandatory: place.is_mandatory != 0,
-    }));
-    Ok(breaks)
+    in_place(found?, |sys::LineBreak { offset, is_mandatory }| {
+        Ok(LineBreak { offset, is_mandatory: is_mandatory != 0 })
+    })
 }

@@ -12,7 +12,7 @@
 //! ```
 use crate::display::Gaps;
 use crate::out_of_memory::BeforeCall;
-use crate::room::{reserve, reserve_bytes, room_for, written, LineText, Reported};
+use crate::room::{reserve, reserve_bytes, written, LineText, Reported};
 use crate::{columns, custom, guess, sys};
 use crate::{LineEnding, Options};
 use alloc::borrow::Cow;
@@ -192,11 +192,7 @@ fn wrapped<'t>(
             )
         })?
     };
-    let mut texts = room_for(found.len())?;
-    for line in found.lines(text) {
-        texts.push(line.into_cow()?);
-    }
-    Ok(texts)
+    found.cows(text)
 }
 
 /// [`crate::wrap_columns`].

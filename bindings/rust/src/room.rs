@@ -228,6 +228,7 @@ impl Reported {
 }
 
 /// The line at a place of the text that was wrapped, or of what was built.
+#[inline]
 fn line_at<'t, 'r>(line: sys::Line, text: &'t str, built: &'r str) -> LineText<'t, 'r> {
     let place = line.offset..line.offset + line.len;
     if line.is_built == 0 {
@@ -258,4 +259,22 @@ pub(crate) fn in_place<S: Copy, T>(
         }
     }
     Ok(made)
+}
+
+#[cfg(test)]
+mod tests {
+    use super::*;
+    use alloc::rc::Rc;
+
+    #[test]
+    fn what_was_made_is_dropped_where_making_fails() {
+        let shared = Rc::new(());
+        let made = in_place(Vec::from([0, 1, 2_usize]), |item| {
+            if item < 2 { Ok(shared.clone()) } else { Err(OutOfMemory::default()) }
+        });
+        assert_eq!(made, Err(OutOfMemory::default()));
+        assert_eq!(Rc::strong_count(&shared), 1);
+        let made = in_place(Vec::from([0, 1, 2_usize]), |_| Ok(shared.clone()));
+        assert_eq!(made.map(|list| list.len()), Ok(3));
+    }
 }

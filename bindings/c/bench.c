@@ -76,6 +76,16 @@ static textwrap_status wrap_indented(work *w) {
     return wrap(w);
 }
 
+static textwrap_status fill_at_breaks(work *w) {
+    w->options.unicode_breaks = 1;
+    return fill(w);
+}
+
+static textwrap_status wrap_at_breaks(work *w) {
+    w->options.unicode_breaks = 1;
+    return wrap(w);
+}
+
 static textwrap_status wrap_columns(work *w) {
     const uint8_t bar[] = "|";
     textwrap_gaps gaps = textwrap_gaps_new(text_of(bar), text_of(bar), text_of(bar));
@@ -194,6 +204,8 @@ static const named_call calls[] = {
     {"fill_unbroken", fill_unbroken},
     {"wrap", wrap},
     {"wrap_indented", wrap_indented},
+    {"fill_at_breaks", fill_at_breaks},
+    {"wrap_at_breaks", wrap_at_breaks},
     {"wrap_columns", wrap_columns},
     {"refill", refill},
     {"unfill", unfill},

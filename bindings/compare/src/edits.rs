@@ -112,7 +112,7 @@ pub const EDITS: &[Edit] = &[
     Edit {
         name: "rows past 1,000 are lost",
         file: "src/room.rs",
-        old: "for line in self.lines(\"\") {",
-        new: "for line in self.lines(\"\").take(1_000) {",
+        old: "    Ok(made)",
+        new: "    made.truncate(1_000);\n    Ok(made)",
     },
 ];

@@ -1,8 +1,8 @@
 //! Where a line of text may or must end, by the Unicode line breaking algorithm
 //! ([UAX #14](https://www.unicode.org/reports/tr14/)), with the rules of Unicode 15.0.
 use crate::out_of_memory::{or_abort, OutOfMemory};
-use crate::room::{listed, room_for};
-use crate::sys;
+use crate::room::{in_place, listed};
+use crate::{guess, sys};
 use alloc::vec::Vec;
 
 /// How numbers are kept together: the two forms of a rule in the annex.
@@ -52,21 +52,15 @@ pub fn try_line_breaks(text: &str, numbers: Numbers) -> Result<Vec<LineBreak>, O
         Numbers::ByPairs => 1,
         Numbers::ByExpression => 2,
     };
-    // As many as the text has blanks and characters outside ASCII, or a few more.
-    let likely = text.bytes().filter(|&byte| byte == b' ' || byte >= 0xC0).count() + 4;
     // SAFETY: a text with its length, and room with its length; the call writes what it reports.
     let found = unsafe {
-        listed(likely, |breaks: *mut sys::LineBreak, breaks_len, count| {
+        listed(guess::breaks(text), |breaks: *mut sys::LineBreak, breaks_len, count| {
             sys::textwrap_line_breaks(
                 text.as_ptr(), text.len(), unicode_breaks, breaks, breaks_len, count,
             )
         })
     };
-    let found = found?;
-    let mut breaks = room_for(found.len())?;
-    breaks.extend(found.into_iter().map(|place| LineBreak {
-        offset: place.offset,
-        is_mandatory: place.is_mandatory != 0,
-    }));
-    Ok(breaks)
+    in_place(found?, |sys::LineBreak { offset, is_mandatory }| {
+        Ok(LineBreak { offset, is_mandatory: is_mandatory != 0 })
+    })
 }

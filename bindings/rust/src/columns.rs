@@ -22,7 +22,9 @@ pub(crate) fn rows(
     assert_eq!(status, sys::DONE, "there is a column, and a str is UTF-8");
     let wrapped = custom::wrapped(text, &options.clone().width(column_width))?;
     let lines = texts_of(&wrapped)?;
-    let (rows, bytes) = guess::rows_of_lines(&wrapped, columns, width, gaps);
+    let rows = wrapped.len().div_ceil(columns);
+    let row_len = width.saturating_add(gaps.bytes_in(columns));
+    let bytes = guess::with_more(guess::bytes_of(&wrapped, 0), rows, row_len);
     // SAFETY: each pointer is that of a list or of room with its length, or of a value; what is
     // written to is borrowed by nothing else, and the call writes what it reports, in UTF-8.
     let found = unsafe {

@@ -12,7 +12,7 @@
 //! ```
 use crate::display::Gaps;
 use crate::out_of_memory::BeforeCall;
-use crate::room::{reserve, reserve_bytes, room_for, written, LineText, Reported};
+use crate::room::{reserve, reserve_bytes, written, LineText, Reported};
 use crate::{columns, custom, guess, sys};
 use crate::{LineEnding, Options};
 use alloc::borrow::Cow;
@@ -33,15 +33,19 @@ pub fn fill<'a, Opt>(text: &str, width_or_options: Opt) -> Result<String, OutOfM
 where
     Opt: Into<Options<'a>>,
 {
-    let options = width_or_options.into();
+    filled(text, &width_or_options.into())
+}
+
+/// The same by borrowed options. What does not depend on their type is compiled once, and here.
+fn filled(text: &str, options: &Options<'_>) -> Result<String, OutOfMemory> {
     if options.has_function() {
-        return custom::filled(text, &options);
+        return custom::filled(text, options);
     }
     let with = options.to_sys();
     // SAFETY: each pointer is that of a text or of room with its length, or of a value; what is
     // written to is borrowed by nothing else, and the call writes the UTF-8 that it reports.
     unsafe {
-        written(guess::filled(text, &options), |room, room_len, len| {
+        written(guess::filled(text, options), |room, room_len, len| {
             sys::textwrap_fill(text.as_ptr(), text.len(), &with, room, room_len, len)
         })
     }
@@ -59,14 +63,20 @@ pub fn refill<'a, Opt>(filled_text: &str, new_width_or_options: Opt) -> Result<S
 where
     Opt: Into<Options<'a>>,
 {
-    let options = new_width_or_options.into();
+    refilled(filled_text, &new_width_or_options.into())
+}
+
+/// The same by borrowed options.
+fn refilled(text: &str, options: &Options<'_>) -> Result<String, OutOfMemory> {
     if options.has_function() {
-        return custom::refilled(filled_text, &options);
+        return custom::refilled(text, options);
     }
-    let (text, with) = (filled_text, options.to_sys());
-    // SAFETY: as in `fill`.
+    let with = options.to_sys();
+    // The indents of the text may be shown more often than in it.
+    let guess = guess::filled(text, options).saturating_add(text.len() / 4);
+    // SAFETY: as in `filled`.
     unsafe {
-        written(guess::refilled(text, &options), |room, room_len, len| {
+        written(guess, |room, room_len, len| {
             sys::textwrap_refill(text.as_ptr(), text.len(), &with, room, room_len, len)
         })
     }
@@ -77,7 +87,7 @@ where
 /// # Errors
 /// [`OutOfMemory`] if memory runs out.
 pub fn indent(s: &str, prefix: &str) -> Result<String, OutOfMemory> {
-    // SAFETY: as in `fill`.
+    // SAFETY: as in `filled`.
     unsafe {
         written(guess::indented(s, prefix), |room, room_len, len| {
             let (before, before_len) = (prefix.as_ptr(), prefix.len());
@@ -91,7 +101,7 @@ pub fn indent(s: &str, prefix: &str) -> Result<String, OutOfMemory> {
 /// # Errors
 /// [`OutOfMemory`] if memory runs out.
 pub fn dedent(s: &str) -> Result<String, OutOfMemory> {
-    // SAFETY: as in `fill`.
+    // SAFETY: as in `filled`.
     unsafe {
         written(s.len(), |room, room_len, len| {
             sys::textwrap_dedent(s.as_ptr(), s.len(), room, room_len, len)
@@ -124,11 +134,12 @@ pub fn fill_inplace(text: &mut String, width: usize) -> Result<(), OutOfMemory> 
 ///
 /// # Errors
 /// [`OutOfMemory`] if memory runs out.
+#[inline]
 pub fn unfill(text: &str) -> Result<(String, Options<'_>), OutOfMemory> {
     let mut layout = sys::Layout::default();
     // The joined text and the indents mostly stand in the text, with a line ending at each line.
     let guess = text.len() + LineEnding::CRLF.as_str().len();
-    // SAFETY: as in `fill`.
+    // SAFETY: as in `filled`.
     let mut parts = unsafe {
         written(guess, |room, room_len, len| {
             sys::textwrap_unfill(text.as_ptr(), text.len(), room, room_len, len, &mut layout)
@@ -158,14 +169,21 @@ pub fn wrap<'a, Opt>(text: &str, width_or_options: Opt) -> Result<Vec<Cow<'_, st
 where
     Opt: Into<Options<'a>>,
 {
-    let options = width_or_options.into();
+    wrapped(text, &width_or_options.into())
+}
+
+/// The same by borrowed options.
+fn wrapped<'t>(
+    text: &'t str,
+    options: &Options<'_>,
+) -> Result<Vec<Cow<'t, str>>, OutOfMemory> {
     if options.has_function() {
-        return custom::wrapped(text, &options);
+        return custom::wrapped(text, options);
     }
     let with = options.to_sys();
-    let lines = guess::wrapped_lines(text, &options);
-    let bytes = guess::built(text, &options, lines, false);
-    // SAFETY: as in `fill`.
+    let lines = guess::lines(text, options.width, options);
+    let bytes = guess::built(text, options, lines, false);
+    // SAFETY: as in `filled`.
     let found = unsafe {
         Reported::by(lines, bytes, |r| {
             let (at, count) = (text.as_ptr(), &mut r.count);
@@ -174,11 +192,7 @@ where
             )
         })?
     };
-    let mut texts = room_for(found.len())?;
-    for line in found.lines(text) {
-        texts.push(line.into_cow()?);
-    }
-    Ok(texts)
+    found.cows(text)
 }
 
 /// [`crate::wrap_columns`].
@@ -201,16 +215,26 @@ where
     Opt: Into<Options<'a>>,
 {
     assert!(columns > 0, "there has to be a column");
-    let options = total_width_or_options.into();
     let gaps = Gaps { left: left_gap, middle: middle_gap, right: right_gap };
+    rows(text, columns, &total_width_or_options.into(), &gaps)
+}
+
+/// The same by borrowed options.
+fn rows(
+    text: &str,
+    columns: usize,
+    options: &Options<'_>,
+    gaps: &Gaps<'_>,
+) -> Result<Vec<String>, OutOfMemory> {
     if options.has_function() {
-        return columns::rows(text, columns, &options, &gaps);
+        return columns::rows(text, columns, options, gaps);
     }
     let with = options.to_sys();
     let around = gaps.to_sys();
-    let (rows, bytes) = guess::rows(text, &options, columns);
-    let bytes = bytes.saturating_add(gaps.bytes_in(columns).saturating_mul(rows));
-    // SAFETY: as in `fill`.
+    let rows = guess::lines(text, options.width / columns, options) / columns + 1;
+    let row_len = options.width.saturating_add(gaps.bytes_in(columns));
+    let bytes = guess::with_more(text.len(), rows, row_len);
+    // SAFETY: as in `filled`.
     let found = unsafe {
         Reported::by(rows, bytes, |r| {
             let (at, count) = (text.as_ptr(), &mut r.count);

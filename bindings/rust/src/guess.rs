@@ -3,34 +3,51 @@
 use crate::core::display_width;
 use crate::display::{Column, Gaps};
 use crate::options::Options;
-use alloc::vec::Vec;
 
-/// How many lines the line feeds of a text make.
-fn lines_of(text: &str) -> usize {
-    text.bytes().filter(|&byte| byte == b'\n').count() + 1
+/// How many bytes of a text are of a kind.
+pub(crate) fn count(text: &str, is_counted: impl Fn(u8) -> bool) -> usize {
+    // In parts whose count a byte holds, so that the processor looks at many bytes at once.
+    let in_part = |part: &[u8]| part.iter().map(|&byte| u8::from(is_counted(byte))).sum::<u8>();
+    text.as_bytes().chunks(192).map(|part| usize::from(in_part(part))).sum()
 }
 
-/// The lines of a wrapped text, as if each was filled half.
-pub(crate) fn wrapped_lines(text: &str, options: &Options<'_>) -> usize {
-    let columns = options.width.saturating_sub(options.subsequent_indent.len());
-    let filled_half = (text.len() / (columns / 2).max(1)).min(text.len());
-    lines_of(text).saturating_add(filled_half)
+fn line_feeds(text: &str) -> usize {
+    count(text, |byte| byte == b'\n')
 }
 
-/// The bytes of so many lines of a text with their indents and their endings, and a hyphen for
-/// each.
-fn lines_bytes(text: &str, options: &Options<'_>, lines: usize) -> usize {
-    let Options { initial_indent, subsequent_indent, line_ending, .. } = options;
-    let around = subsequent_indent.len() + line_ending.as_str().len();
-    lines
-        .saturating_mul(around)
-        .saturating_add(text.len())
-        .saturating_add(initial_indent.len())
+/// The places of a text where a line may end: at blanks and beside characters outside ASCII, and at
+/// a few others.
+pub(crate) fn breaks(text: &str) -> usize {
+    count(text, |byte| byte == b' ' || byte >= 0xC0) + 4
 }
 
-/// The bytes of a filled text.
+/// The lines of a paragraph at a width, as if each was filled half after its indent.
+fn paragraph_lines(text: &str, width: usize, indent: &str) -> usize {
+    text.len() / (width.saturating_sub(indent.len()) / 2).max(1) + 1
+}
+
+/// The lines of a text at a width.
+pub(crate) fn lines(text: &str, width: usize, options: &Options<'_>) -> usize {
+    line_feeds(text) + paragraph_lines(text, width, options.subsequent_indent)
+}
+
+/// So many bytes, and so many more for each line.
+pub(crate) fn with_more(bytes: usize, lines: usize, more: usize) -> usize {
+    lines.saturating_mul(more).saturating_add(bytes)
+}
+
+/// The bytes of a text with an indent and a line ending, or a hyphen, for each of these lines.
+fn with_lines(text: &str, options: &Options<'_>, lines: usize) -> usize {
+    let more = options.subsequent_indent.len() + options.line_ending.as_str().len();
+    with_more(text.len() + options.initial_indent.len(), lines, more)
+}
+
+/// The bytes of a filled text. The line endings that it had are counted in it, so its line feeds
+/// matter only if indents follow them.
 pub(crate) fn filled(text: &str, options: &Options<'_>) -> usize {
-    lines_bytes(text, options, wrapped_lines(text, options))
+    let indent = options.subsequent_indent;
+    let indented = if indent.is_empty() { 0 } else { line_feeds(text) };
+    with_lines(text, options, indented + paragraph_lines(text, options.width, indent))
 }
 
 /// The bytes of so many lines that are texts of their own, because they have an indent or, if the
@@ -40,33 +57,12 @@ pub(crate) fn built(text: &str, options: &Options<'_>, lines: usize, has_hyphens
     if initial_indent.is_empty() && subsequent_indent.is_empty() && !has_hyphens {
         return 0;
     }
-    lines_bytes(text, options, lines)
-}
-
-/// The bytes of a filled text with justified lines. The blanks that are added are hardly ever more
-/// than half of its bytes.
-pub(crate) fn justified(text: &str, options: &Options<'_>) -> usize {
-    filled(text, options).saturating_add(text.len() / 2)
-}
-
-/// The bytes of a filled text that is filled again. Its indents are not known, and may be shown
-/// more often.
-pub(crate) fn refilled(text: &str, options: &Options<'_>) -> usize {
-    let without_indents = options.clone().initial_indent("").subsequent_indent("");
-    text.len() / 4 + filled(text, &without_indents)
+    with_lines(text, options, lines)
 }
 
 /// The bytes of a text with a prefix before each line. There are hardly ever more.
 pub(crate) fn indented(text: &str, prefix: &str) -> usize {
-    lines_of(text).saturating_mul(prefix.len()).saturating_add(text.len())
-}
-
-/// The rows of a text in columns, and their bytes without what surrounds the cells.
-pub(crate) fn rows(text: &str, options: &Options<'_>, columns: usize) -> (usize, usize) {
-    let cell = options.clone().width(options.width / columns);
-    let rows = wrapped_lines(text, &cell) / columns + 1;
-    let bytes = lines_bytes(text, options, rows).saturating_add(rows.saturating_mul(options.width));
-    (rows, bytes)
+    with_more(text.len(), line_feeds(text) + 1, prefix.len())
 }
 
 /// The bytes of a line with blanks added up to a width.
@@ -74,66 +70,22 @@ pub(crate) fn widened(line: &str, width: usize) -> usize {
     width.saturating_sub(display_width(line)).saturating_add(line.len())
 }
 
-/// The bytes of texts together.
-fn bytes_of<S: AsRef<str>>(texts: &[S]) -> usize {
-    texts.iter().map(|text| text.as_ref().len()).fold(0, usize::saturating_add)
+/// The bytes of texts, with so many more for each.
+pub(crate) fn bytes_of<S: AsRef<str>>(texts: &[S], more: usize) -> usize {
+    texts.iter().map(|text| text.as_ref().len() + more).fold(0, usize::saturating_add)
 }
 
-/// The bytes of lines of which the last may be cut, and ends in a placeholder. There are no more.
-pub(crate) fn shortened<S: AsRef<str>>(lines: &[S], placeholder: &str) -> usize {
-    bytes_of(lines).saturating_add(placeholder.len())
+/// The rows of a table. There is a column.
+pub(crate) fn table_rows<S: AsRef<str>>(cells: &[S], columns: &[Column<'_>]) -> usize {
+    let lines_of = |(cell, column): (&S, &Column<'_>)| {
+        lines(cell.as_ref(), column.options.width, &column.options)
+    };
+    let height = |row: &[S]| row.iter().zip(columns).map(lines_of).max().unwrap_or(0);
+    cells.chunks(columns.len()).map(height).fold(0, usize::saturating_add)
 }
 
-/// The bytes of lines whose styles are carried on. To set a colour and to take it back takes 23 at
-/// most.
-pub(crate) fn carried<S: AsRef<str>>(lines: &[S]) -> usize {
-    let is_styled = lines.iter().any(|line| line.as_ref().contains('\u{1b}'));
-    let styles = if is_styled { lines.len().saturating_mul(23) } else { 0 };
-    bytes_of(lines).saturating_add(styles)
-}
-
-/// The rows that so many lines have in columns, and their bytes. There is a column.
-pub(crate) fn rows_of_lines<S: AsRef<str>>(
-    lines: &[S],
-    columns: usize,
-    width: usize,
-    gaps: &Gaps<'_>,
-) -> (usize, usize) {
-    let rows = lines.len().div_ceil(columns);
-    let row_len = gaps.bytes_in(columns).saturating_add(width);
-    (rows, rows.saturating_mul(row_len).saturating_add(bytes_of(lines)))
-}
-
-/// The rows of a table, and their bytes. There is a column.
-pub(crate) fn table<S: AsRef<str>>(
-    cells: &[S],
-    columns: &[Column<'_>],
-    gaps: &Gaps<'_>,
-) -> (usize, usize) {
-    let lines = |(cell, column): (&S, &Column<'_>)| wrapped_lines(cell.as_ref(), &column.options);
-    let heights = cells
-        .chunks(columns.len())
-        .map(|row| row.iter().zip(columns).map(lines).max().unwrap_or(0));
-    let rows = heights.fold(0, usize::saturating_add);
-    (rows, table_bytes(rows, columns, gaps).saturating_add(bytes_of(cells)))
-}
-
-/// The same of a table whose cells have these lines.
-pub(crate) fn table_of_lines<S: AsRef<str>>(
-    cells: &[Vec<S>],
-    columns: &[Column<'_>],
-    gaps: &Gaps<'_>,
-) -> (usize, usize) {
-    let heights =
-        cells.chunks(columns.len()).map(|row| row.iter().map(Vec::len).max().unwrap_or(0));
-    let rows = heights.sum();
-    let texts = cells.iter().map(|lines| bytes_of(lines)).fold(0, usize::saturating_add);
-    (rows, table_bytes(rows, columns, gaps).saturating_add(texts))
-}
-
-/// The bytes of so many rows of a table, without those of its texts.
-fn table_bytes(rows: usize, columns: &[Column<'_>], gaps: &Gaps<'_>) -> usize {
+/// The bytes of a row of a table, without those of its texts. There is a column.
+pub(crate) fn table_row(columns: &[Column<'_>], gaps: &Gaps<'_>) -> usize {
     let widths = columns.iter().map(|column| column.options.width);
-    let row_len = widths.fold(gaps.bytes_in(columns.len()), usize::saturating_add);
-    rows.saturating_mul(row_len)
+    widths.fold(gaps.bytes_in(columns.len()), usize::saturating_add)
 }

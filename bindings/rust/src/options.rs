@@ -250,12 +250,14 @@ impl<'a> Options<'a> {
 }
 
 impl From<usize> for Options<'_> {
+    #[inline]
     fn from(width: usize) -> Self {
         Options::new(width)
     }
 }
 
 impl<'a> From<&Options<'a>> for Options<'a> {
+    #[inline]
     fn from(options: &Options<'a>) -> Self {
         options.clone()
     }

@@ -4,9 +4,12 @@
 //! writes as much to its front as it reports.
 use crate::out_of_memory::BeforeCall;
 use crate::sys;
+use alloc::alloc::alloc;
 use alloc::borrow::Cow;
 use alloc::string::String;
 use alloc::vec::Vec;
+use core::alloc::Layout;
+use core::mem::ManuallyDrop;
 
 pub(crate) use crate::out_of_memory::OutOfMemory;
 
@@ -46,11 +49,21 @@ fn suffices(status: u32, before: BeforeCall) -> Result<bool, Refusal> {
     }
 }
 
-/// Room for so many items.
+/// Room for so many items. (`try_reserve_exact` makes it too, but takes longer, since it also makes
+/// lists longer that have items.)
 pub(crate) fn room_for<T>(len: usize) -> Result<Vec<T>, OutOfMemory> {
-    let mut room = Vec::new();
-    room.try_reserve_exact(len).map_err(|_| OutOfMemory::for_items::<T>(len))?;
-    Ok(room)
+    let refused = || OutOfMemory::for_items::<T>(len);
+    let layout = Layout::array::<T>(len).map_err(|_| refused())?;
+    if layout.size() == 0 {
+        return Ok(Vec::new());
+    }
+    // SAFETY: the layout has bytes.
+    let room = unsafe { alloc(layout) };
+    if room.is_null() {
+        return Err(refused());
+    }
+    // SAFETY: it is a block for so many items, and has none yet.
+    Ok(unsafe { Vec::from_raw_parts(room.cast(), 0, len) })
 }
 
 /// What is made of each of the items.
@@ -153,9 +166,8 @@ impl<'t> LineText<'t, '_> {
 
 /// Room for a text of so many bytes.
 pub(crate) fn text_room(len: usize) -> Result<String, OutOfMemory> {
-    let mut room = String::new();
-    room.try_reserve_exact(len).map_err(|_| OutOfMemory::for_items::<u8>(len))?;
-    Ok(room)
+    // No bytes are UTF-8.
+    Ok(String::from_utf8(room_for(len)?).unwrap_or_default())
 }
 
 /// A copy of a text.
@@ -212,23 +224,69 @@ impl Reported {
     }
 
     /// The lines of a call whose lines are all texts of their own.
-    pub fn texts(&self) -> Result<Vec<String>, OutOfMemory> {
-        let mut texts = room_for(self.len())?;
-        for line in self.lines("") {
-            texts.push(copied(line.as_str())?);
-        }
-        Ok(texts)
+    pub fn texts(self) -> Result<Vec<String>, OutOfMemory> {
+        in_place(self.places, |line| copied(line_at(line, "", &self.built).as_str()))
+    }
+
+    /// The lines of this text, which borrow nothing else.
+    pub fn cows(self, text: &str) -> Result<Vec<Cow<'_, str>>, OutOfMemory> {
+        in_place(self.places, |line| line_at(line, text, &self.built).into_cow())
     }
 
     /// The lines of this text.
     pub fn lines<'t, 'r>(&'r self, text: &'t str) -> impl Iterator<Item = LineText<'t, 'r>> {
-        self.places.iter().map(move |line| {
-            let place = line.offset..line.offset + line.len;
-            if line.is_built == 0 {
-                LineText::Borrowed(&text[place])
-            } else {
-                LineText::Built(&self.built[place])
-            }
-        })
+        self.places.iter().map(move |&line| line_at(line, text, &self.built))
+    }
+}
+
+/// The line at a place of the text that was wrapped, or of what was built.
+#[inline]
+fn line_at<'t, 'r>(line: sys::Line, text: &'t str, built: &'r str) -> LineText<'t, 'r> {
+    let place = line.offset..line.offset + line.len;
+    if line.is_built == 0 {
+        LineText::Borrowed(&text[place])
+    } else {
+        LineText::Built(&built[place])
+    }
+}
+
+/// What is made of each item, in the room of the items. So nothing is asked for but what is made of
+/// them; `collect` mostly does the same, but does not promise it, and aborts if memory runs out.
+pub(crate) fn in_place<S: Copy, T>(
+    items: Vec<S>,
+    mut make: impl FnMut(S) -> Result<T, OutOfMemory>,
+) -> Result<Vec<T>, OutOfMemory> {
+    const { assert!(size_of::<S>() == size_of::<T>() && align_of::<S>() == align_of::<T>()) };
+    let mut items = ManuallyDrop::new(items);
+    let (start, len) = (items.as_mut_ptr(), items.len());
+    // SAFETY: it is the room of a list that is not dropped, and both kinds of items have one layout.
+    let mut made = unsafe { Vec::from_raw_parts(start.cast::<T>(), 0, items.capacity()) };
+    for i in 0..len {
+        // SAFETY: the items from this place on are as they were.
+        let item = make(unsafe { start.add(i).read() })?;
+        // SAFETY: the room has this place, and what was made stands before it.
+        unsafe {
+            start.cast::<T>().add(i).write(item);
+            made.set_len(i + 1);
+        }
+    }
+    Ok(made)
+}
+
+#[cfg(test)]
+mod tests {
+    use super::*;
+    use alloc::rc::Rc;
+
+    #[test]
+    fn what_was_made_is_dropped_where_making_fails() {
+        let shared = Rc::new(());
+        let made = in_place(Vec::from([0, 1, 2_usize]), |item| {
+            if item < 2 { Ok(shared.clone()) } else { Err(OutOfMemory::default()) }
+        });
+        assert_eq!(made, Err(OutOfMemory::default()));
+        assert_eq!(Rc::strong_count(&shared), 1);
+        let made = in_place(Vec::from([0, 1, 2_usize]), |_| Ok(shared.clone()));
+        assert_eq!(made.map(|list| list.len()), Ok(3));
     }
 }

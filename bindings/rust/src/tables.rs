@@ -23,7 +23,11 @@ pub(crate) fn rows<S: AsRef<str>>(
     let cells = mapped(&texts, |lines| sys::Cell::from(&lines[..]))?;
     let with = mapped(columns, Column::to_sys)?;
     let around = gaps.to_sys();
-    let (rows, bytes) = guess::table_of_lines(&wrapped, columns, gaps);
+    let heights = wrapped.chunks(columns.len()).map(|row| row.iter().map(Vec::len).max());
+    let rows = heights.map(Option::unwrap_or_default).sum();
+    let texts = wrapped.iter().map(|lines| guess::bytes_of(lines, 0));
+    let bytes = texts.fold(0, usize::saturating_add);
+    let bytes = guess::with_more(bytes, rows, guess::table_row(columns, gaps));
     // SAFETY: each pointer is that of a list or of room with its length, or of a value; what is
     // written to is borrowed by nothing else, and the call writes what it reports, in UTF-8.
     let found = unsafe {

@@ -6,8 +6,8 @@ use crate::core::Word;
 use crate::options::Options;
 use crate::out_of_memory::{or_abort, OutOfMemory};
 use crate::room::{listed, reserve, room_for, Refusal};
-use crate::sys;
 use crate::word_splitters::WordSplitter;
+use crate::{guess, sys};
 use alloc::boxed::Box;
 use alloc::vec::Vec;
 use core::error::Error;
@@ -208,12 +208,10 @@ fn words_between_blanks(line: &str) -> Result<Vec<sys::Piece>, OutOfMemory> {
         .break_words(false)
         .word_splitter(WordSplitter::NoHyphenation)
         .to_sys();
-    let at_blanks = line.as_bytes().windows(2).filter(|two| two[0] == b' ' && two[1] != b' ');
-    let count_of_words = at_blanks.count() + 1;
     // SAFETY: a text with its length, the options, and room with its length; the call writes what
     // it reports.
     let places = unsafe {
-        listed(count_of_words, |places, places_len, count| {
+        listed(guess::count(line, |byte| byte == b' ') + 1, |places, places_len, count| {
             sys::textwrap_pieces(
                 line.as_ptr(), line.len(), &options, places, places_len, count,
             )
@@ -222,13 +220,11 @@ fn words_between_blanks(line: &str) -> Result<Vec<sys::Piece>, OutOfMemory> {
     Ok(places?)
 }
 
-/// Where a line is cut by its Unicode line breaks: in as many places as it has blanks and characters
-/// outside ASCII, or a few more.
+/// Where a line is cut by its Unicode line breaks.
 pub(crate) fn unicode_cuts(line: &str) -> Result<Vec<usize>, OutOfMemory> {
-    let likely = line.bytes().filter(|&byte| byte == b' ' || byte >= 0xC0).count() + 4;
     // SAFETY: a text with its length, and room with its length; the call writes what it reports.
     let cuts = unsafe {
-        listed(likely, |cuts, cuts_len, count| {
+        listed(guess::breaks(line), |cuts, cuts_len, count| {
             sys::textwrap_unicode_cuts(line.as_ptr(), line.len(), cuts, cuts_len, count)
         })
     };

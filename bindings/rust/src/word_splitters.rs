@@ -5,7 +5,7 @@
 use crate::core::{display_width, Word};
 use crate::out_of_memory::{or_abort, OutOfMemory};
 use crate::room::listed;
-use crate::sys;
+use crate::{guess, sys};
 use alloc::vec::Vec;
 use core::iter;
 #[cfg(feature = "hyphenation")]
@@ -155,7 +155,7 @@ impl WordSplitter {
 
 /// The offsets after the hyphens between letters or digits. They are no more than the hyphens.
 fn points_at_hyphens(word: &str) -> Result<Vec<usize>, OutOfMemory> {
-    let hyphens = word.bytes().filter(|&byte| byte == b'-').count();
+    let hyphens = guess::count(word, |byte| byte == b'-');
     if hyphens == 0 {
         return Ok(Vec::new());
     }

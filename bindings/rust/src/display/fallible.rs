@@ -60,14 +60,20 @@ pub fn fill_justified<'a, Opt>(text: &str, width_or_options: Opt) -> Result<Stri
 where
     Opt: Into<Options<'a>>,
 {
-    let options = width_or_options.into();
+    justified(text, &width_or_options.into())
+}
+
+/// The same by borrowed options.
+fn justified(text: &str, options: &Options<'_>) -> Result<String, OutOfMemory> {
     if options.has_function() {
-        return custom::justified(text, &options);
+        return custom::justified(text, options);
     }
     let with = options.to_sys();
+    // The blanks that are added are hardly ever more than half of the bytes.
+    let guess = guess::filled(text, options).saturating_add(text.len() / 2);
     // SAFETY: as in `align`.
     unsafe {
-        written(guess::justified(text, &options), |room, room_len, len| {
+        written(guess, |room, room_len, len| {
             sys::textwrap_fill_justified(text.as_ptr(), text.len(), &with, room, room_len, len)
         })
     }
@@ -80,7 +86,7 @@ where
 pub fn shorten(line: &str, width: usize, placeholder: &str) -> Result<String, OutOfMemory> {
     // SAFETY: as in `align`.
     unsafe {
-        written(guess::shortened(&[line], placeholder), |room, room_len, len| {
+        written(guess::bytes_of(&[line], placeholder.len()), |room, room_len, len| {
             sys::textwrap_shorten(
                 line.as_ptr(), line.len(), width, placeholder.as_ptr(), placeholder.len(), room,
                 room_len, len,
@@ -106,7 +112,7 @@ where
     let kept = &lines[..most.min(lines.len())];
     // SAFETY: as in `align`.
     let found = unsafe {
-        Reported::by(kept.len(), guess::shortened(kept, placeholder), |r| {
+        Reported::by(kept.len(), guess::bytes_of(kept, placeholder.len()), |r| {
             sys::textwrap_shorten_lines(
                 texts.as_ptr(), texts.len(), most, width, placeholder.as_ptr(), placeholder.len(),
                 r.lines, r.lines_len, &mut r.count, r.room, r.room_len, &mut r.len,
@@ -131,9 +137,11 @@ where
     let texts = texts_of(lines)?;
     let options = width_or_options.into();
     let with = options.to_sys();
+    // To set a colour and to take it back takes so many bytes at most.
+    let bytes = guess::bytes_of(lines, 23);
     // SAFETY: as in `align`.
     let found = unsafe {
-        Reported::by(lines.len(), guess::carried(lines), |r| {
+        Reported::by(lines.len(), bytes, |r| {
             sys::textwrap_carry_styles(
                 texts.as_ptr(), texts.len(), &with, r.lines, r.lines_len, &mut r.count, r.room,
                 r.room_len, &mut r.len,
@@ -168,7 +176,9 @@ where
     let texts = texts_of(cells)?;
     let with = mapped(columns, Column::to_sys)?;
     let around = gaps.to_sys();
-    let (rows, bytes) = guess::table(cells, columns, gaps);
+    let rows = guess::table_rows(cells, columns);
+    let row_len = guess::table_row(columns, gaps);
+    let bytes = guess::with_more(guess::bytes_of(cells, 0), rows, row_len);
     // SAFETY: as in `align`.
     let found = unsafe {
         Reported::by(rows, bytes, |r| {

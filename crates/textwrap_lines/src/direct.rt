@@ -8,6 +8,7 @@ ghost use Rattle.textwrap_base.specs.Division.{IsGreedy};
 ghost use Rattle.textwrap_words.specs.Pieces.{as_splitter};
 ghost use Rattle.textwrap_words.specs.Units.{IsPrintable};
 ghost use Rattle.textwrap_words.specs.Words.{WordText, sizes_of};
+ghost use Rattle.textwrap_words.specs.WrapAlgorithms.{IsDividedBy};
 ghost use Rattle.textwrap_lines.specs.Direct.{as_algorithm};
 ghost use Rattle.textwrap_lines.specs.LineSinks.{Took};
 ghost use Rattle.textwrap_lines.specs.Options.{HasParts, layout_view, settings_view};
@@ -15,7 +16,7 @@ ghost use Rattle.textwrap_lines.specs.Paragraph.{later_width, parts_from, pieces
 ghost use Rattle.textwrap_lines.specs.Paragraph.{widths_of};
 ghost use Rattle.textwrap_lines.specs.Places.{cut_lines};
 
-use crate::any_options::{AnyOptions, BuiltInAlgorithm, BuiltInParts};
+use crate::any_options::{BuiltInAlgorithm, BuiltInParts};
 use crate::cheapest::{push_cheapest_lines, suits_search};
 use crate::first_line::push_first_line;
 use crate::layout::{Layout, later_width, line_widths};
@@ -29,57 +30,51 @@ use textwrap_words::word_separators::WordSeparator;
 use textwrap_words::word_splitters::WordSplitter;
 use textwrap_words::wrap_algorithms::WrapAlgorithm;
 
-/// Pushes the lines of a paragraph that is not one line as a whole, and returns whether it has; if
+/// Pushes the lines of the pieces of a paragraph by built-in parts, and returns whether it has; if
 /// not, it has pushed none. `is_later` says that a line stands before it.
 ///
 /// This is where the way of a paragraph is chosen. What comes first in the table is taken:
 ///
-/// | Algorithm | Separator and splitter | Paragraph | Way |
-/// |---|---|---|---|
-/// | first fit | built in | printable, with room beside the indent | [`push_by_jumps`] |
-/// | first fit | built in | any | [`push_lines_by_pieces`] |
-/// | least cost | built in | not empty, no number too great | [`push_cheapest_lines`] |
-/// | any | any | any | not here: by lists of its words and pieces |
+/// | Algorithm | Paragraph | Way |
+/// |---|---|---|
+/// | first fit | printable, with room beside the indent | [`push_by_jumps`] |
+/// | first fit | any | [`push_lines_by_pieces`] |
+/// | least cost | not empty, no number too great | [`push_cheapest_lines`] |
+/// | least cost | any | not here: by lists of its words and pieces |
 ///
 /// # Errors
 /// [`AllocError`] where memory runs out.
-pub(crate) fn push_directly<'t, A: Allocator + Copy, S: LineSink<'t, A>, O: AnyOptions<A>>(
+pub(crate) fn push_directly<'t, A: Allocator + Copy, S: LineSink<'t, A>>(
     alloc: A,
     paragraph: &'t str,
-    options: &O,
+    layout: &Layout<'_>,
     is_later: bool,
+    parts: BuiltInParts,
     lines: &mut S,
 ) -> Result<bool, AllocError>
     ensures name { S.name lines.new ≡ S.name lines.old }
     ensures pushed { IfOk result (λ pushed. IsTrue pushed → (division : List (List WordText))
-        × O.divides options.now is_later paragraph.now division
+        × IsDividedBy (as_algorithm parts.algorithm) sizes_of
+        (widths_of (layout_view layout.now) is_later)
+        (pieces_of (layout_view layout.now) (as_splitter parts.splitter) paragraph.now) division
         × Took S.holds lines.old lines.new (cut_lines 0
-        (parts_from (O.settings options.now) is_later division))) }
+        (parts_from (layout_view layout.now) is_later division))) }
     ensures kept { IfOk result (λ pushed. pushed ≡ false → lines.new ≡ lines.old) }
 {
-    let Some(
-        BuiltInParts {
-            splitter,
-            algorithm,
-        },
-    ) = options.built_in_parts()
-    else {
-        return Ok(false);
-    };
-    let layout = options.layout();
-    match algorithm {
-        BuiltInAlgorithm::FirstFit if can_jump(paragraph, &layout) => {
-            push_by_jumps(alloc, paragraph, &layout, is_later, splitter, lines)?;
+    let splitter = parts.splitter;
+    match parts.algorithm {
+        BuiltInAlgorithm::FirstFit if can_jump(paragraph, layout) => {
+            push_by_jumps(alloc, paragraph, layout, is_later, splitter, lines)?;
         }
         BuiltInAlgorithm::FirstFit => {
-            push_lines_by_pieces(alloc, paragraph, &layout, is_later, splitter, lines)?;
+            push_lines_by_pieces(alloc, paragraph, layout, is_later, splitter, lines)?;
         }
         BuiltInAlgorithm::LeastCost(penalties) => {
-            if !suits_search(paragraph, &layout, is_later, &penalties) {
+            if !suits_search(paragraph, layout, is_later, &penalties) {
                 return Ok(false);
             }
             push_cheapest_lines(
-                alloc, paragraph, &layout, is_later, splitter, &penalties, lines,
+                alloc, paragraph, layout, is_later, splitter, &penalties, lines,
             )?;
         }
     }

@@ -28,9 +28,9 @@ pub(crate) fn push_first_line<'t, A: Allocator + Copy, S: LineSink<'t, A>>(
 ) -> Result<usize, AllocError>
     ensures name { S.name lines.new ≡ S.name lines.old }
     ensures boundary { IfOk result (λ end. IsCharBoundary paragraph.now end) }
-    ensures first { IfOk result (λ end. (line : CutLine) × Took S.holds lines.old lines.new (line ∷ [])
-        × IsFirstUpTo (layout_view layout.now) (as_splitter splitter) is_later paragraph.now
-        line end) }
+    ensures first { IfOk result (λ end. (line : CutLine)
+        × Took S.holds lines.old lines.new (line ∷ []) × IsFirstUpTo (layout_view layout.now)
+        (as_splitter splitter) is_later paragraph.now line end) }
 {
     let line = first_line(paragraph, layout, is_later, splitter);
     line.push_to(alloc, layout.preserve_trailing_space, lines)?;

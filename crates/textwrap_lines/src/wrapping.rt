@@ -27,7 +27,8 @@ ghost use Rattle.textwrap_lines.specs.Paragraph.{AreDividedParts, AreParagraphPa
 ghost use Rattle.textwrap_lines.specs.Paragraph.{DividesAs, MayPass64Bits, OnlyCharactersPass};
 ghost use Rattle.textwrap_lines.specs.Places.{AreCutLines, CutLine, cut_lines};
 ghost use Rattle.textwrap_lines.specs.Text.{AreTextLines, IsWrapped, LinesKeepToWidth};
-ghost use Rattle.textwrap_lines.specs.Text.{CanKeepToWidth, ArePrintedWithin, HasParagraphThat, SomeMayPass64Bits};
+ghost use Rattle.textwrap_lines.specs.Text.{CanKeepToWidth, ArePrintedWithin};
+ghost use Rattle.textwrap_lines.specs.Text.{HasParagraphThat, SomeMayPass64Bits};
 ghost use Rattle.textwrap_words.specs.WordSeparators.{MaySeparate};
 ghost use Rattle.textwrap_words.specs.WordSplitters.{AreSplit, MaySplit, Splitter, splitter_view};
 
@@ -204,17 +205,46 @@ fn push_paragraph<'t, A: Allocator + Copy, S: LineSink<'t, A>, O: AnyOptions<A>>
         let slice = whole_line(paragraph, &layout);
         return Ok(lines.push_line(alloc, "", 0, slice, "")?);
     }
+    push_pieces(alloc, paragraph, options, is_later, way, lines)
+}
+
+/// Pushes the lines of the pieces of a paragraph, in this way.
+///
+/// # Errors
+/// Those of [`wrap`].
+fn push_pieces<'t, A: Allocator + Copy, S: LineSink<'t, A>, O: AnyOptions<A>>(
+    alloc: A,
+    paragraph: &'t str,
+    options: &O,
+    is_later: bool,
+    way: Way,
+    lines: &mut S,
+) -> Result<(), WrapError>
+    ensures name { S.name lines.new ≡ S.name lines.old }
+    ensures taken { OnOk result ((division : List (List WordText))
+        × O.divides options.now is_later paragraph.now division
+        × Took S.holds lines.old lines.new (cut_lines 0
+        (parts_from (O.settings options.now) is_later division))) }
+    ensures only_memory { ¬ O.may_overflow options.now
+        → IfErr result (λ error. error ≡ WrapError.Memory alloc_error) }
+    ensures no_overflow { ¬ O.may_pass options.now paragraph.now
+        → IfErr result (λ error. error ≡ WrapError.Memory alloc_error) }
+{
     if matches!(way, Way::ByLists) {
         return push_divided(alloc, paragraph, options, is_later, lines);
     }
-    let pushed = push_directly(alloc, paragraph, options, is_later, lines)?;
+    let Some(parts) = options.built_in_parts() else {
+        return push_divided(alloc, paragraph, options, is_later, lines);
+    };
+    let layout = options.layout();
+    let pushed = push_directly(alloc, paragraph, &layout, is_later, parts, lines)?;
     if pushed {
         return Ok(());
     }
     push_divided(alloc, paragraph, options, is_later, lines)
 }
 
-/// Pushes the lines of the pieces of a paragraph, however short it is.
+/// The same by lists of its words and pieces.
 ///
 /// # Errors
 /// Those of [`wrap`].

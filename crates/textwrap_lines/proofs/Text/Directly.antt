@@ -1,7 +1,8 @@
 -- Lemmas on paragraphs that are divided without a list of words.
 use Rattle.textwrap_base.proofs.Common.{◌≡◌, ℕ, ◌<◌, ◌≤◌, ◌==◌, Bool, true, false, cond, List, []}
 use Rattle.textwrap_base.proofs.Common.{◌∷◌, ◌++◌, length, refl, sym, ap, ◌∙◌, subst, arith, IsUtf8}
-use Rattle.textwrap_base.proofs.Common.{le-ltb, None, Option, Some, Result, Ok, Err, IsErrAnd, drop, rules}
+use Rattle.textwrap_base.proofs.Common.{le-ltb, None, Option, Some, Result, Ok, Err, IsErrAnd}
+use Rattle.textwrap_base.proofs.Common.{drop, rules}
 use Rattle.textwrap_words.proofs.Common.{WordText, sizes_of, Algorithm}
 use Rattle.textwrap_words.proofs.Common.{IsDividedBy, Splitter, IsPrintable}
 use Rattle.textwrap_words.specs.Pieces.{stand_from}

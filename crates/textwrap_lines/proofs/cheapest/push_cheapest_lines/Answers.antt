@@ -44,5 +44,5 @@ returns-clause-took g c =
     on_ok_weaker c.push_lines.result (λ took. (
       found.division,
       found.optimal,
-      subst (Took g.S.LineSink.holds c.args.lines.now c.push_lines.new.lines) found.are_lines took,
+      subst (Took _ c.args.lines.now c.push_lines.new.lines) found.are_lines took,
     )) c.push_lines.ensures.took

@@ -28,7 +28,8 @@ returns-clause-took g c =
       | else-layout w ↦ rw (w.end-is, w.if-layout.false) refl
     ] in
     on_ok_weaker c.push_line.result (λ took.
-    subst (λ l. Took g.S.LineSink.holds c.args.lines.now c.push_line.new.self (cut_line c.args.start l ∷ []))
+    subst (λ l. Took g.S.LineSink.holds c.args.lines.now c.push_line.new.self
+    (cut_line c.args.start l ∷ []))
     (ap (λ i. assembled_line i c.range-slice.result.now []) c.next_indent.ensures
     ∙ ap (λ t. assembled_line (indent_of (layout_view c.args.layout.now) c.args.is_later) t [])
     (c.range-slice.ensures.value ∙ ap (slice_range c.args.paragraph.now c.args.start) end)) took)

@@ -28,7 +28,7 @@ returns-then-first_width-later_width-clause-took g c =
     on_ok_weaker c.push_printable_lines.result (λ took. (
       division,
       greedy,
-      subst (Took g.S.LineSink.holds c.args.lines.now c.push_printable_lines.new.lines) is took,
+      subst (Took _ c.args.lines.now c.push_printable_lines.new.lines) is took,
     )) c.push_printable_lines.ensures.took
 
 pub returns-clause-took : goal.returns-clause-took
@@ -45,7 +45,7 @@ returns-clause-took g c =
     on_ok_weaker c.push_printable_lines-2.result (λ took. (
       division,
       greedy,
-      subst (Took g.S.LineSink.holds c.args.lines.now c.push_printable_lines-2.new.lines) is
+      subst (Took _ c.args.lines.now c.push_printable_lines-2.new.lines) is
           (Took-then c.args.lines.now c.push_first_line.new.lines
           c.push_printable_lines-2.new.lines (line ∷ []) _ first took),
     )) c.push_printable_lines-2.ensures.took

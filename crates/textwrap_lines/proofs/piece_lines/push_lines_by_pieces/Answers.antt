@@ -40,6 +40,7 @@ pub loop-piece-preserved : goal.loop-piece-preserved
 loop-piece-preserved g c =
     let settings = layout_view c.args.layout.now in
     let keeps = settings.preserve_trailing_space in
+    let Holds = g.S.LineSink.holds in
     let all = lines_from settings (line_so_far c.at-line.result)
     (standing_left c.into_iter-piece-iterator.result) in
     let before = c.args.lines.now in
@@ -52,7 +53,7 @@ loop-piece-preserved g c =
     let more = with_piece here piece in
     let come = (subst (AllCome here.text here.end) c.in-Some.ensures.steps
     c.loop-piece.invariant.come).1 in
-    let taken = subst (λ ps. HasTaken g.S.LineSink.holds all before now (lines_from settings here ps))
+    let taken = subst (λ ps. HasTaken Holds all before now (lines_from settings here ps))
     c.in-Some.ensures.steps c.loop-piece.invariant.taken in
     elim c.if-is_past.branch [
       | then-is_past+in_ok-push_to w ↦
@@ -61,12 +62,13 @@ loop-piece-preserved g c =
           ∙ ap (λ l. with_piece l piece) w.at-line-then-is_past.ensures
           ∙ ap (λ n. with_piece (no_pieces here.text here.end n settings.subsequent_indent) piece)
           c.line_widths-first_width.ensures.later in
-          let full = subst (λ b. HasTaken g.S.LineSink.holds all before now (cond b
+          let full = subst (λ b. HasTaken Holds all before now (cond b
           (line_of keeps here ∷ lines_from settings next left) (lines_from settings more left)))
           (sym c.is_past.ensures ∙ w.if-is_past.true) taken in
           rw (w.lines-is) (record {
-            taken = subst (λ l. HasTaken g.S.LineSink.holds all before w.push_to.new.lines (lines_from settings l left))
-                (sym is) (HasTaken-next all before now w.push_to.new.lines (line_of keeps here)
+            taken = subst (λ l. HasTaken Holds all before w.push_to.new.lines
+                (lines_from settings l left)) (sym is)
+                (HasTaken-next all before now w.push_to.new.lines (line_of keeps here)
                 (lines_from settings next left) full w.in_ok-push_to.ensures.took);
             come = subst (λ (line : LineSoFar). AllCome line.text line.end left) (sym is) come;
             name = w.push_to.ensures.name ∙ c.loop-piece.invariant.name;
@@ -74,11 +76,12 @@ loop-piece-preserved g c =
       | else-is_past w ↦
           let is : line_so_far c.take.new.self ≡ more =
           c.take.ensures ∙ ap (λ l. with_piece (line_so_far l) piece) w.line-is in
-          let room = subst (λ b. HasTaken g.S.LineSink.holds all before now (cond b
+          let room = subst (λ b. HasTaken Holds all before now (cond b
           (line_of keeps here ∷ lines_from settings next left) (lines_from settings more left)))
           (sym c.is_past.ensures ∙ w.if-is_past.false) taken in
           rw (w.lines-is) (record {
-            taken = subst (λ l. HasTaken g.S.LineSink.holds all before now (lines_from settings l left)) (sym is) room;
+            taken = subst (λ l. HasTaken Holds all before now (lines_from settings l left))
+                (sym is) room;
             come = subst (λ (line : LineSoFar). AllCome line.text line.end left) (sym is) come;
             name = c.loop-piece.invariant.name;
           })
@@ -114,7 +117,7 @@ returns-clause-took g c =
     on_ok_weaker c.push_to-2.result (λ end. (
       division,
       greedy,
-      subst (Took g.S.LineSink.holds c.args.lines.now c.push_to-2.new.lines)
+      subst (Took _ c.args.lines.now c.push_to-2.new.lines)
           (ap (λ l. lines_from settings l left) first_is
           ∙ ap (lines_from settings (no_pieces paragraph 0 (first_width settings is_later)
           (indent_of settings is_later))) left_is ∙ found)

@@ -8,8 +8,8 @@ use Rattle.textwrap_lines.proofs.PieceLines.Coming.{AllCome}
 -- the lines before the last one were taken, and the pieces that are left come after it
 abbrev pub invariant-loop-piece : goal.invariant-loop-piece
 invariant-loop-piece g l = record {
-  taken : HasTaken g.S.LineSink.holds (lines_from (layout_view l.layout) (line_so_far l.initial.line)
-      (standing_left l.initial.piece-iterator)) l.initial.lines l.lines
+  taken : HasTaken g.S.LineSink.holds (lines_from (layout_view l.layout)
+      (line_so_far l.initial.line) (standing_left l.initial.piece-iterator)) l.initial.lines l.lines
       (lines_from (layout_view l.layout) (line_so_far l.line) (standing_left l.piece-iterator));
   come : AllCome l.line.text.now l.line.end (standing_left l.piece-iterator);
   name : g.S.LineSink.name l.lines ≡ g.S.LineSink.name l.initial.lines;

@@ -14,6 +14,8 @@ returns g c =
       built = c.new-lines.ensures.built;
       offset = c.new-lines.ensures.offset;
     }) in
-    let held = subst (HoldsPlaces c.push_lines.new.lines 0) (ap (λ s. map (further 0) (cut_lines 0 (parts_from s c.args.is_later lines))) c.of.ensures
-    ∙ further-cut_lines 0 0 parts) (c.in_ok-push_lines.ensures.took.held c.new-lines.result 0 [] none) in
+    let held = subst (HoldsPlaces c.push_lines.new.lines 0)
+    (ap (λ s. map (further 0) (cut_lines 0 (parts_from s c.args.is_later lines))) c.of.ensures
+    ∙ further-cut_lines 0 0 parts)
+    (c.in_ok-push_lines.ensures.took.held c.new-lines.result 0 [] none) in
     (held.places, held.built)

@@ -1,7 +1,7 @@
 use Rattle.textwrap_lines.proofs.printable.push_printable_lines.Goals as goal
 use Rattle.textwrap_base.proofs.Common.{◌≡◌, ℕ, zero, suc, ◌+◌, ◌-◌, ◌<◌, ◌≤◌, cond, List, [], ◌∷◌}
-use Rattle.textwrap_base.proofs.Common.{length, take, drop, slice_index, refl, sym, ap, ◌∙◌, subst, arith}
-use Rattle.textwrap_base.proofs.Common.{All-drop, length-drop, drop-drop, true}
+use Rattle.textwrap_base.proofs.Common.{length, take, drop, slice_index, refl, sym, ap, ◌∙◌, subst}
+use Rattle.textwrap_base.proofs.Common.{arith, All-drop, length-drop, drop-drop, true}
 use Rattle.textwrap_words.proofs.Common.{as_splitter, trimmed_len, IsPrintable, IsPrintableByte}
 use Rattle.textwrap_lines.proofs.Common.{Took, IsFirstLine, byte_before, printable_cut}
 use Rattle.textwrap_lines.proofs.Common.{layout_view, indent_of, later_width, cut_line}
@@ -38,7 +38,7 @@ loop-rest-init g c =
       rest_is = after ∙ ap (λ n. drop n text) place;
       within = omega (arith, len);
       utf8 = c.range_from-rest.utf8;
-      taken = subst (HasTaken g.S.LineSink.holds all c.args.lines.now c.args.lines.now)
+      taken = subst (HasTaken _ all c.args.lines.now c.args.lines.now)
           (ap (λ n. lines_after settings splitter text n c.args.is_later
           (byte_before 32 text start) (drop start text)) place
           ∙ ap (λ b. lines_after settings splitter text (length text - length rest)
@@ -95,14 +95,14 @@ loop-rest-preserved g c =
     so_far.printable so_far.rest_is within first in
     let others = byte_before before rest next in
     let taken = HasTaken-next all c.args.lines.now c.loop-rest.lines c.push_line.new.self _ _
-    (subst (HasTaken g.S.LineSink.holds all c.args.lines.now c.loop-rest.lines) step so_far.taken) took in
+    (subst (HasTaken _ all c.args.lines.now c.loop-rest.lines) step so_far.taken) took in
     record {
       printable = subst IsPrintable (sym after) (All-drop IsPrintableByte next rest so_far.printable);
       rest_is = after ∙ ap (drop next) so_far.rest_is ∙ drop-drop next start text
           ∙ ap (λ n. drop n text) place;
       within = omega (arith, left, so_far.within);
       utf8 = left_over.utf8;
-      taken = subst (HasTaken g.S.LineSink.holds all c.args.lines.now c.push_line.new.self)
+      taken = subst (HasTaken _ all c.args.lines.now c.push_line.new.self)
           (ap (λ n. lines_after settings splitter text n true others (drop next rest)) place
           ∙ ap (λ b. lines_after settings splitter text (length text - length left_over.result.now)
           true b (drop next rest)) (sym last)

@@ -20,8 +20,9 @@ invariant-loop-rest g l = record {
   rest_is : l.rest ≡ drop (length l.paragraph - length l.rest) l.paragraph;
   within : length l.rest ≤ length l.paragraph;
   utf8 : shadow (Utf8 l.rest);
-  taken : HasTaken g.S.LineSink.holds (lines_after (layout_view l.layout) (as_splitter l.splitter) l.paragraph
-      l.start l.is_later (byte_before 32 l.paragraph l.start) (drop l.start l.paragraph))
+  taken : HasTaken g.S.LineSink.holds (lines_after (layout_view l.layout)
+      (as_splitter l.splitter) l.paragraph l.start l.is_later
+      (byte_before 32 l.paragraph l.start) (drop l.start l.paragraph))
       l.initial.lines l.lines (lines_after (layout_view l.layout) (as_splitter l.splitter)
       l.paragraph (length l.paragraph - length l.rest) l.has_line l.before l.rest);
   name : g.S.LineSink.name l.lines ≡ g.S.LineSink.name l.initial.lines;

@@ -15,7 +15,8 @@ returns-clause-line g c =
       | else-layout w ↦ w.keeps_whitespace-is ∙ w.if-layout.false
           ∙ sym (ap (λ b. b && (length c.in-Some.last.now.penalty.now == 0)) w.if-layout.false)
     ] in
-    subst (λ line. Took g.S.LineSink.holds c.args.lines.now c.push_line-2.new.self (cut_line c.args.start line ∷ []))
+    subst (λ line. Took g.S.LineSink.holds c.args.lines.now c.push_line-2.new.self
+    (cut_line c.args.start line ∷ []))
     (line_from-parts_of (layout_view c.args.layout.now) c.args.is_later c.args.pieces.now
     c.in-Some.front.now c.in-Some.last.now c.next_indent-indent.result.now
     c.cut_line.result.0.now c.if-layout.keeps_whitespace

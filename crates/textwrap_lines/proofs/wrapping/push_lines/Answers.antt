@@ -1,7 +1,7 @@
 use Rattle.textwrap_lines.proofs.wrapping.push_lines.Goals as goal
-use Rattle.textwrap_base.proofs.Common.{◌≡◌, ℕ, ◌+◌, ◌-◌, ◌≤◌, List, Bor, drop, length, map, refl, rules, subst, sym}
-use Rattle.textwrap_base.proofs.Common.{ap, arith, ◌∙◌, StartsWith, flat_map, drop_all, drop_more}
-use Rattle.textwrap_base.proofs.Common.{length-drop, length-take}
+use Rattle.textwrap_base.proofs.Common.{◌≡◌, ℕ, ◌+◌, ◌-◌, ◌≤◌, List, Bor, drop, length, map, refl}
+use Rattle.textwrap_base.proofs.Common.{rules, subst, sym, ap, arith, ◌∙◌, StartsWith}
+use Rattle.textwrap_base.proofs.Common.{flat_map, drop_all, drop_more, length-drop, length-take}
 use Rattle.textwrap_words.proofs.Common.{word_view, tiled, WordText}
 use Rattle.textwrap_lines.proofs.Common.{cut_lines, parts_from, layout_view, Word}
 use Rattle.textwrap_base.proofs.Lists.Prefixes.{starts-parts}
@@ -16,7 +16,8 @@ loop-pieces-init g c =
       c.utf8.paragraph,
       c.requires,
       omega arith,
-      subst (λ n. HasTaken g.S.LineSink.holds (cut_lines 0 all) c.args.lines.now c.args.lines.now (cut_lines n all))
+      subst (λ n. HasTaken g.S.LineSink.holds (cut_lines 0 all) c.args.lines.now
+          c.args.lines.now (cut_lines n all))
           (sym none) (HasTaken-start (cut_lines 0 all) c.args.lines.now),
       refl,
     )
@@ -58,7 +59,7 @@ loop-pieces-preserved g c =
           (sym c.in_ok-rest.ensures.rest) begins.1,
       within,
       HasTaken-next all c.args.lines.now c.loop-pieces.lines c.push_line.new.lines _ _
-          (subst (HasTaken g.S.LineSink.holds all c.args.lines.now c.loop-pieces.lines)
+          (subst (HasTaken _ all c.args.lines.now c.loop-pieces.lines)
           (ap (λ lines. cut_lines at (parts_from settings c.loop-pieces.has_line (map words lines)))
           is ∙ cut_lines-next settings c.loop-pieces.has_line at _ _ (map words left) next)
           c.loop-pieces.invariant.3) c.in_ok-rest.ensures.line,

@@ -1,7 +1,7 @@
 use Rattle.textwrap_lines.proofs.wrapping.push_paragraph.Goals as goal
 use Rattle.textwrap_base.proofs.Common.{[], ◌∷◌, cond, ap, sym, refl, ◌∙◌, subst, on_ok_weaker}
 use Rattle.textwrap_words.proofs.Common.{word_of, without_final_blanks}
-use Rattle.textwrap_lines.proofs.Common.{Took, cut_line, cut_lines, is_whole, Slice, parts_of}
+use Rattle.textwrap_lines.proofs.Common.{Took, cut_line, is_whole, Slice, parts_of}
 use Rattle.textwrap_lines.proofs.Common.{parts_from}
 use Rattle.textwrap_lines.proofs.Paragraph.WholeLine.{line_from-whole, AreParagraphParts-whole}
 use Rattle.textwrap_lines.proofs.Paragraph.WholeLine.{AreParagraphParts-divided}
@@ -14,36 +14,26 @@ returns-then-is_one_line-clause-taken g c =
     let whole = ap (λ s. is_whole s is_later paragraph) (sym c.layout-layout.ensures)
     ∙ sym c.is_one_line.ensures ∙ c.if-is_one_line.true in (
       parts_of settings is_later (word_of paragraph ∷ []) ∷ [],
-      AreParagraphParts-whole settings (g.O.AnyOptions.divides c.args.options.now) is_later paragraph whole,
-      subst (λ line. Took g.S.LineSink.holds c.args.lines.now c.push_line.new.self (cut_line 0 line ∷ []))
+      AreParagraphParts-whole settings (g.O.AnyOptions.divides c.args.options.now) is_later
+          paragraph whole,
+      subst (λ line. Took g.S.LineSink.holds c.args.lines.now c.push_line.new.self
+          (cut_line 0 line ∷ []))
           (ap Slice (c.whole_line-slice.ensures
           ∙ ap (λ s. cond s.preserve_trailing_space paragraph (without_final_blanks paragraph))
           c.layout-layout.ensures) ∙ sym (line_from-whole settings is_later paragraph whole))
           c.in_ok-push_line.ensures.took,
     )
 
-pub returns-then-pushed-clause-taken : goal.returns-then-pushed-clause-taken
-returns-then-pushed-clause-taken g c =
-    let settings = g.O.AnyOptions.settings c.args.options.now in
-    let (division, divides, took) = c.in_ok-pushed.ensures.pushed c.if-pushed.true in (
-      parts_from settings c.args.is_later division,
-      AreParagraphParts-divided settings (g.O.AnyOptions.divides c.args.options.now) c.args.is_later
-          c.args.paragraph.now (parts_from settings c.args.is_later division)
-          (ap (λ s. is_whole s c.args.is_later c.args.paragraph.now)
-          (sym c.layout-layout.ensures) ∙ sym c.is_one_line.ensures ∙ c.if-is_one_line.false) (division, divides, refl),
-      took,
-    )
-
 pub returns-clause-taken : goal.returns-clause-taken
 returns-clause-taken g c =
     let settings = g.O.AnyOptions.settings c.args.options.now in
-    let same = c.in_ok-pushed.ensures.kept c.if-pushed.false in
-    on_ok_weaker c.push_divided-2.result (λ (division, divides, took). (
-      parts_from settings c.args.is_later division,
-      AreParagraphParts-divided settings (g.O.AnyOptions.divides c.args.options.now) c.args.is_later
-          c.args.paragraph.now (parts_from settings c.args.is_later division)
-          (ap (λ s. is_whole s c.args.is_later c.args.paragraph.now)
-          (sym c.layout-layout.ensures) ∙ sym c.is_one_line.ensures ∙ c.if-is_one_line.false) (division, divides, refl),
-      subst (λ sink. Took g.S.LineSink.holds sink c.push_divided-2.new.lines
-          (cut_lines 0 (parts_from settings c.args.is_later division))) same took,
-    )) c.push_divided-2.ensures.taken
+    let is_later = c.args.is_later in
+    let paragraph = c.args.paragraph.now in
+    on_ok_weaker c.push_pieces.result (λ (division, divides, took). (
+      parts_from settings is_later division,
+      AreParagraphParts-divided settings (g.O.AnyOptions.divides c.args.options.now) is_later
+          paragraph (parts_from settings is_later division)
+          (ap (λ s. is_whole s is_later paragraph) (sym c.layout-layout.ensures)
+          ∙ sym c.is_one_line.ensures ∙ c.if-is_one_line.false) (division, divides, refl),
+      took,
+    )) c.push_pieces.ensures.taken

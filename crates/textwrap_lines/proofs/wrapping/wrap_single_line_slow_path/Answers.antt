@@ -2,8 +2,8 @@ use Rattle.textwrap_lines.proofs.wrapping.wrap_single_line_slow_path.Goals as go
 use Rattle.textwrap_base.proofs.Common.{Bool, not, nat_lt, length, List, [], ◌++◌, map, ap, refl, ◌∙◌}
 use Rattle.textwrap_base.proofs.Common.{subst, arith, rules}
 use Rattle.textwrap_words.proofs.Common.{algorithm_view, MaySeparate, MaySplit}
-use Rattle.textwrap_lines.proofs.Common.{LineParts, cut_lines, MayOverflow, settings_view, AreDividedParts}
-use Rattle.textwrap_lines.proofs.Common.{DividesBy, line_from, line_view, parts_from, widths_of}
+use Rattle.textwrap_lines.proofs.Common.{cut_lines, MayOverflow, settings_view, AreDividedParts}
+use Rattle.textwrap_lines.proofs.Common.{LineParts, DividesBy, line_from, line_view, parts_from, widths_of}
 use Rattle.textwrap_words.proofs.Word.Divisions.{MayDivide-greedy}
 use Rattle.textwrap_lines.proofs.Paragraph.LongLines.{long_lines}
 use Rattle.textwrap_base.proofs.Numbers.{not_empty}

@@ -38,6 +38,11 @@ PROVED(unicode_cuts);
 PROVED(break_apart);
 PROVED(pieces_at);
 PROVED(lines_at);
+PROVED(ends_at);
+PROVED(paragraphs);
+PROVED(paragraph_widths);
+PROVED(wrap_at);
+PROVED(fill_at);
 
 /* Where an array of length 0 may lie, whatever it is of. Nothing is read here or written. */
 static union {
@@ -47,6 +52,8 @@ static union {
     textwrap_fragment fragment;
     textwrap_column column;
     textwrap_cell cell;
+    textwrap_paragraph paragraph;
+    textwrap_steps steps;
 } nothing;
 
 /* The pointer and the length of an array, as the archive wants them. */
@@ -303,4 +310,45 @@ textwrap_status textwrap_lines_at(const uint8_t *paragraph, size_t paragraph_len
     return proved_lines_at(ARRAY(paragraph, paragraph_len), ARRAY(cuts, cuts_len),
                            ARRAY(points, points_len), ARRAY(ends, ends_len), &some, is_later,
                            ARRAY(lines, lines_len), count, ARRAY(room, room_len), len);
+}
+
+textwrap_status textwrap_ends_at(const uint8_t *paragraph, size_t paragraph_len, const size_t *cuts,
+                                 size_t cuts_len, const size_t *points, size_t points_len,
+                                 const textwrap_options *options, size_t is_later, size_t *ends,
+                                 size_t ends_len, size_t *count) {
+    textwrap_options some = some_options(options);
+    return proved_ends_at(ARRAY(paragraph, paragraph_len), ARRAY(cuts, cuts_len),
+                          ARRAY(points, points_len), &some, is_later, ARRAY(ends, ends_len), count);
+}
+
+textwrap_status textwrap_paragraphs(const uint8_t *text, size_t text_len,
+                                    const textwrap_options *options,
+                                    textwrap_paragraph *paragraphs, size_t paragraphs_len,
+                                    size_t *count) {
+    textwrap_options some = some_options(options);
+    return proved_paragraphs(ARRAY(text, text_len), &some, ARRAY(paragraphs, paragraphs_len), count);
+}
+
+textwrap_status textwrap_paragraph_widths(const uint8_t *paragraph, size_t paragraph_len,
+                                          const textwrap_options *options, size_t is_later,
+                                          textwrap_widths *widths) {
+    textwrap_options some = some_options(options);
+    return proved_paragraph_widths(ARRAY(paragraph, paragraph_len), &some, is_later, widths);
+}
+
+textwrap_status textwrap_wrap_at(const uint8_t *text, size_t text_len, const textwrap_steps *steps,
+                                 size_t steps_len, const textwrap_options *options,
+                                 textwrap_line *lines, size_t lines_len, size_t *count,
+                                 uint8_t *room, size_t room_len, size_t *len) {
+    textwrap_options some = some_options(options);
+    return proved_wrap_at(ARRAY(text, text_len), ARRAY(steps, steps_len), &some,
+                          ARRAY(lines, lines_len), count, ARRAY(room, room_len), len);
+}
+
+textwrap_status textwrap_fill_at(const uint8_t *text, size_t text_len, const textwrap_steps *steps,
+                                 size_t steps_len, const textwrap_options *options, uint8_t *room,
+                                 size_t room_len, size_t *len) {
+    textwrap_options some = some_options(options);
+    return proved_fill_at(ARRAY(text, text_len), ARRAY(steps, steps_len), &some,
+                          ARRAY(room, room_len), len);
 }

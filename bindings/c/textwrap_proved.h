@@ -465,6 +465,70 @@ textwrap_status textwrap_lines_at(const uint8_t *paragraph, size_t paragraph_len
                                   textwrap_line *lines, size_t lines_len, size_t *count,
                                   uint8_t *room, size_t room_len, size_t *len);
 
+/* Writes where the lines of these pieces end by the algorithm of the options: how many of the pieces
+ * stand before each end. There are no more lines than pieces, and one. `is_later` as in
+ * textwrap_lines_at, OVERFLOW as in textwrap_wrap_optimal_fit. */
+TEXTWRAP_CHECKED
+textwrap_status textwrap_ends_at(const uint8_t *paragraph, size_t paragraph_len, const size_t *cuts,
+                                 size_t cuts_len, const size_t *points, size_t points_len,
+                                 const textwrap_options *options, size_t is_later, size_t *ends,
+                                 size_t ends_len, size_t *count);
+
+/* Where a paragraph of a text stands. */
+typedef struct {
+    size_t offset; /* the bytes of the text before it */
+    size_t len;    /* its bytes, without the line ending after it */
+} textwrap_paragraph;
+
+/* Writes where the paragraphs of a text stand: what is between its line endings. There is at least
+ * one. */
+TEXTWRAP_CHECKED
+textwrap_status textwrap_paragraphs(const uint8_t *text, size_t text_len,
+                                    const textwrap_options *options,
+                                    textwrap_paragraph *paragraphs, size_t paragraphs_len,
+                                    size_t *count);
+
+/* How a paragraph is laid out. */
+typedef struct {
+    size_t is_whole; /* 1 where it is one line as a whole, whatever its words are; else 0 */
+    size_t first;    /* the columns of its first line, without the indent */
+    size_t later;    /* the columns of its other lines, without the indent */
+} textwrap_widths;
+
+/* Writes how a paragraph is laid out. `is_later` is 1 if a line of the text stands before it, and else
+ * 0; another number is UNKNOWN_OPTIONS. DONE, NOT_UTF8 or UNKNOWN_OPTIONS. */
+TEXTWRAP_CHECKED
+textwrap_status textwrap_paragraph_widths(const uint8_t *paragraph, size_t paragraph_len,
+                                          const textwrap_options *options, size_t is_later,
+                                          textwrap_widths *widths);
+
+/* What a caller found of a paragraph: where it is cut into words, where these are split, and before how
+ * many of the pieces each line ends. No pointer may be null. */
+typedef struct {
+    const size_t *cuts;
+    size_t cuts_len;
+    const size_t *points;
+    size_t points_len;
+    const size_t *ends;
+    size_t ends_len;
+} textwrap_steps;
+
+/* Writes the lines of a text as textwrap_wrap does, each paragraph of which is cut, split and divided at
+ * the steps that are given for it. Offsets are those of the paragraph; the steps of one that is one line as
+ * a whole are not used. WRONG_PLACES where textwrap_lines_at says so, or if there are not as many steps
+ * as paragraphs. */
+TEXTWRAP_CHECKED
+textwrap_status textwrap_wrap_at(const uint8_t *text, size_t text_len, const textwrap_steps *steps,
+                                 size_t steps_len, const textwrap_options *options,
+                                 textwrap_line *lines, size_t lines_len, size_t *count,
+                                 uint8_t *room, size_t room_len, size_t *len);
+
+/* Writes these lines joined by the line ending, as textwrap_fill writes a filled text. */
+TEXTWRAP_CHECKED
+textwrap_status textwrap_fill_at(const uint8_t *text, size_t text_len, const textwrap_steps *steps,
+                                 size_t steps_len, const textwrap_options *options, uint8_t *room,
+                                 size_t room_len, size_t *len);
+
 /* What a function of the caller returns if memory runs out: the call that asked it then returns
  * TEXTWRAP_OUT_OF_MEMORY. */
 #define TEXTWRAP_NO_MEMORY SIZE_MAX

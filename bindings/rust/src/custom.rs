@@ -1,13 +1,12 @@
-//! Wrapping in which functions of the caller take part, paragraph by paragraph.
+//! Texts in which functions of the caller take part.
 //!
-//! The functions give the words, the points or the lines. What they give is checked here, and the
-//! library makes the pieces and the lines of it.
+//! The functions give the words of a paragraph, their points or its lines. What they give is checked
+//! here, and the library makes the lines of it.
 use crate::core::{display_width, Word};
 use crate::display::fallible::justify;
 use crate::fallible::{push, push_line, unfill};
-use crate::room::{
-    listed, reserve, room_for, text_room, LineText, OutOfMemory, Reported,
-};
+use crate::room::{listed, reserve, room_for, text_room, written, OutOfMemory, Refusal, Reported};
+use crate::wrap_algorithms::OverflowError;
 use crate::{guess, sys};
 use crate::{Options, WrapAlgorithm};
 use alloc::borrow::Cow;
@@ -16,39 +15,17 @@ use alloc::vec::Vec;
 
 /// The filled text.
 pub(crate) fn filled(text: &str, options: &Options<'_>) -> Result<String, OutOfMemory> {
-    joined(text, options, |filled, line, _| push(filled, line))
-}
-
-/// The filled text, with all lines but the last of each paragraph justified after their indents.
-pub(crate) fn justified(text: &str, options: &Options<'_>) -> Result<String, OutOfMemory> {
-    joined(text, options, |filled, line, place| {
-        let indent = indent_of(options, place.is_later);
-        match line.strip_prefix(indent) {
-            Some(rest) if !place.is_last => {
-                let width = options.width.saturating_sub(display_width(indent));
-                push(filled, indent)?;
-                push(filled, &justify(rest, width)?)
-            }
-            // The last line of a paragraph, or one without words, which has no indent.
-            _ => push(filled, line),
-        }
-    })
-}
-
-/// The lines of the text, each of them added in this way, with line endings between them.
-fn joined(
-    text: &str,
-    options: &Options<'_>,
-    mut add: impl FnMut(&mut String, &str, Place) -> Result<(), OutOfMemory>,
-) -> Result<String, OutOfMemory> {
-    let mut filled = text_room(text.len())?;
-    each_line(text, options, |line, place| {
-        if place.is_later {
-            push(&mut filled, options.line_ending.as_str())?;
-        }
-        add(&mut filled, line.as_str(), place)
-    })?;
-    Ok(filled)
+    let found = steps_of(text, options)?;
+    let (steps, with) = (as_sys(&found)?, options.to_sys());
+    // SAFETY: a text and steps with their lengths, the options, and room with its length; the call
+    // writes what it reports.
+    unsafe {
+        written(guess::filled(text, options), |room, room_len, len| {
+            sys::textwrap_fill_at(
+                text.as_ptr(), text.len(), steps.as_ptr(), steps.len(), &with, room, room_len, len,
+            )
+        })
+    }
 }
 
 /// The lines of the text.
@@ -56,9 +33,35 @@ pub(crate) fn wrapped<'t>(
     text: &'t str,
     options: &Options<'_>,
 ) -> Result<Vec<Cow<'t, str>>, OutOfMemory> {
-    let mut lines = Vec::new();
-    each_line(text, options, |line, _| push_line(&mut lines, line))?;
+    let reported = lines_at(text, &steps_of(text, options)?, options)?;
+    let mut lines = room_for(reported.len())?;
+    reported.lines(text).try_for_each(|line| push_line(&mut lines, line))?;
     Ok(lines)
+}
+
+/// The filled text, with all lines but the last of each paragraph justified after their indents.
+pub(crate) fn justified(text: &str, options: &Options<'_>) -> Result<String, OutOfMemory> {
+    let found = steps_of(text, options)?;
+    let reported = lines_at(text, &found, options)?;
+    let is_last = found.iter().flat_map(|steps| (0..steps.ends.len()).rev().map(|left| left == 0));
+    let mut filled = text_room(text.len())?;
+    let mut indent = options.initial_indent;
+    for (number, (line, is_last)) in reported.lines(text).zip(is_last).enumerate() {
+        if number > 0 {
+            push(&mut filled, options.line_ending.as_str())?;
+        }
+        match line.as_str().strip_prefix(indent) {
+            Some(rest) if !is_last => {
+                let width = options.width.saturating_sub(display_width(indent));
+                push(&mut filled, indent)?;
+                push(&mut filled, &justify(rest, width)?)?;
+            }
+            // The last line of a paragraph, or one without words, which has no indent.
+            _ => push(&mut filled, line.as_str())?,
+        }
+        indent = options.subsequent_indent;
+    }
+    Ok(filled)
 }
 
 /// The filled text, filled again with the indents that it has.
@@ -74,109 +77,110 @@ pub(crate) fn refilled(filled_text: &str, options: &Options<'_>) -> Result<Strin
     Ok(refilled)
 }
 
-/// Where a line stands.
-struct Place {
-    /// Whether a line stands before it, of its paragraph or of another.
-    is_later: bool,
-    /// Whether it is the last one of its paragraph.
-    is_last: bool,
-}
-
-/// The indent of a line, if it has one.
-fn indent_of<'o>(options: &Options<'o>, is_later: bool) -> &'o str {
-    if is_later { options.subsequent_indent } else { options.initial_indent }
-}
-
-/// Hands each line of the text on, in order, and where it stands.
-fn each_line<'t>(
-    text: &'t str,
-    options: &Options<'_>,
-    mut hand_on: impl FnMut(LineText<'t, '_>, Place) -> Result<(), OutOfMemory>,
-) -> Result<(), OutOfMemory> {
-    let with = With::new(options);
-    // Whether a line stands before, of this paragraph or of another.
-    let mut is_later = false;
-    for paragraph in text.split(options.line_ending.as_str()) {
-        if indent_of(options, is_later).is_empty() && paragraph.len() < options.width {
-            let blanks_off = paragraph.trim_end_matches(' ');
-            let kept = if options.preserve_trailing_space { paragraph } else { blanks_off };
-            hand_on(LineText::Borrowed(kept), Place { is_later, is_last: true })?;
-            is_later = true;
-            continue;
-        }
-        let lines = with.lines_of(paragraph, is_later)?;
-        for (i, line) in lines.lines(paragraph).enumerate() {
-            hand_on(line, Place { is_later, is_last: i + 1 == lines.len() })?;
-            is_later = true;
-        }
-    }
-    Ok(())
-}
-
-/// The options, and what is the same for each paragraph.
-struct With<'o> {
-    options: &'o Options<'o>,
-    with: sys::Options,
-    first_width: usize,
-    later_width: usize,
-}
-
-/// Where a paragraph is cut into words, and where these are split: offsets of the paragraph.
-struct Places {
+/// What is found of a paragraph: offsets at which it is cut into words, and at which these are split,
+/// and before how many of the pieces each line ends.
+#[derive(Default)]
+struct Steps {
     cuts: Vec<usize>,
     points: Vec<usize>,
+    ends: Vec<usize>,
 }
 
-impl<'o> With<'o> {
-    fn new(options: &'o Options<'_>) -> Self {
-        let beside = |indent: &str| options.width.saturating_sub(display_width(indent));
-        With {
-            options,
-            with: options.to_sys(),
-            first_width: beside(options.initial_indent),
-            later_width: beside(options.subsequent_indent),
-        }
-    }
+/// The steps, as they are handed to a call.
+fn as_sys(found: &[Steps]) -> Result<Vec<sys::Steps>, OutOfMemory> {
+    let mut steps = room_for(found.len())?;
+    steps.extend(found.iter().map(|Steps { cuts, points, ends }| sys::Steps {
+        cuts: cuts.as_ptr(),
+        cuts_len: cuts.len(),
+        points: points.as_ptr(),
+        points_len: points.len(),
+        ends: ends.as_ptr(),
+        ends_len: ends.len(),
+    }));
+    Ok(steps)
+}
 
-    /// The lines of a paragraph that is divided.
-    fn lines_of(&self, paragraph: &str, is_later: bool) -> Result<Reported, OutOfMemory> {
-        let places = self.places_in(paragraph)?;
-        let pieces = self.pieces_at(paragraph, &places)?;
-        let is_even = self.options.even_paragraphs && is_later;
-        let first_width = if is_even { self.later_width } else { self.first_width };
-        let ends = self.ends_of(paragraph, &pieces, &[first_width, self.later_width])?;
-        let has_hyphens = pieces.iter().any(|piece| piece.penalty_len > 0);
-        let bytes = guess::built(paragraph, self.options, ends.len(), has_hyphens);
-        let Places { cuts, points } = places;
-        // SAFETY: texts and lists with their lengths, the options, and room with its lengths; the
-        // call writes what it reports.
-        unsafe {
-            Reported::by(ends.len(), bytes, |r| {
-                sys::textwrap_lines_at(
-                    paragraph.as_ptr(), paragraph.len(), cuts.as_ptr(), cuts.len(),
-                    points.as_ptr(), points.len(), ends.as_ptr(), ends.len(), &self.with,
-                    is_later.into(), r.lines, r.lines_len, &mut r.count, r.room, r.room_len,
-                    &mut r.len,
-                )
-            })
-        }
+/// The lines of a text at these steps of its paragraphs.
+fn lines_at(text: &str, found: &[Steps], options: &Options<'_>) -> Result<Reported, OutOfMemory> {
+    let (steps, with) = (as_sys(found)?, options.to_sys());
+    let lines = found.iter().map(|steps| steps.ends.len()).sum();
+    let bytes = guess::built(text, options, lines);
+    // SAFETY: as in `filled`.
+    unsafe {
+        Reported::by(lines, bytes, |r| {
+            sys::textwrap_wrap_at(
+                text.as_ptr(), text.len(), steps.as_ptr(), steps.len(), &with, r.lines, r.lines_len,
+                &mut r.count, r.room, r.room_len, &mut r.len,
+            )
+        })
     }
+}
 
-    /// Where the words of a paragraph stand, and their points.
-    fn places_in(&self, paragraph: &str) -> Result<Places, OutOfMemory> {
-        let cuts = self.options.word_separator.cuts_of(paragraph)?;
-        let points = self.points_between(&cuts, paragraph)?;
-        Ok(Places { cuts, points })
+/// The steps of each paragraph of a text.
+fn steps_of(text: &str, options: &Options<'_>) -> Result<Vec<Steps>, OutOfMemory> {
+    let with = options.to_sys();
+    let (at, len) = (text.as_ptr(), text.len());
+    // SAFETY: as in `filled`.
+    let paragraphs = unsafe {
+        listed(1, |paragraphs, paragraphs_len, count| {
+            sys::textwrap_paragraphs(at, len, &with, paragraphs, paragraphs_len, count)
+        })
+    };
+    let paragraphs: Vec<sys::Paragraph> = paragraphs?;
+    let mut steps: Vec<Steps> = room_for(paragraphs.len())?;
+    let mut is_later = false;
+    for sys::Paragraph { offset, len } in paragraphs {
+        let text = &text[offset..offset + len];
+        steps.push(Paragraph { text, options, with: &with, is_later }.steps()?);
+        is_later = is_later || steps.last().is_some_and(|found| !found.ends.is_empty());
+    }
+    Ok(steps)
+}
+
+/// A paragraph, and whether a line stands before it.
+struct Paragraph<'p> {
+    text: &'p str,
+    options: &'p Options<'p>,
+    with: &'p sys::Options,
+    is_later: bool,
+}
+
+impl Paragraph<'_> {
+    /// What the functions find of it. Where it is one line as a whole they are not asked.
+    fn steps(&self) -> Result<Steps, OutOfMemory> {
+        let mut widths = sys::Widths::default();
+        let (at, len) = (self.text.as_ptr(), self.text.len());
+        // SAFETY: as in `filled`.
+        let status = unsafe {
+            sys::textwrap_paragraph_widths(at, len, self.with, self.is_later.into(), &mut widths)
+        };
+        debug_assert_eq!(status, sys::DONE, "texts are UTF-8, and the options are known");
+        if widths.is_whole != 0 {
+            return Ok(Steps { ends: one_line()?, ..Steps::default() });
+        }
+        let cuts = self.options.word_separator.cuts_of(self.text)?;
+        let points = self.points_between(&cuts)?;
+        let found = Steps { cuts, points, ends: Vec::new() };
+        let ends = match self.options.wrap_algorithm {
+            WrapAlgorithm::Custom(function) => {
+                let pieces = self.pieces_at(&found, widths.later)?;
+                let mut words = room_for(pieces.len())?;
+                words.extend(pieces.iter().map(|piece| Word::at(self.text, piece)));
+                ends_between(&words, &function(&words, &[widths.first, widths.later]))?
+            }
+            _ => self.ends_at(&found, widths.later)?,
+        };
+        Ok(Steps { ends, ..found })
     }
 
     /// The points of the words between cuts.
-    fn points_between(&self, cuts: &[usize], paragraph: &str) -> Result<Vec<usize>, OutOfMemory> {
+    fn points_between(&self, cuts: &[usize]) -> Result<Vec<usize>, OutOfMemory> {
         let mut points = Vec::new();
         let mut start = 0;
         // An empty paragraph has no word.
-        let last = Some(paragraph.len()).filter(|&len| len > 0);
+        let last = Some(self.text.len()).filter(|&len| len > 0);
         for end in cuts.iter().copied().chain(last) {
-            let word = paragraph[start..end].trim_end_matches(' ');
+            let word = self.text[start..end].trim_end_matches(' ');
             let inside = self.options.word_splitter.points_inside(word)?;
             reserve(&mut points, inside.len())?;
             points.extend(inside.iter().map(|point| start + point));
@@ -185,50 +189,57 @@ impl<'o> With<'o> {
         Ok(points)
     }
 
-    /// The pieces that a paragraph is divided into lines of.
-    fn pieces_at(&self, paragraph: &str, at: &Places) -> Result<Vec<sys::Piece>, OutOfMemory> {
-        let Places { cuts, points } = at;
-        let broken = if self.options.break_words {
-            (paragraph.len() / self.later_width.max(1)).saturating_mul(2)
-        } else {
-            0
-        };
-        // The first word, and the empty one before it.
-        let guess = (cuts.len() + points.len() + 2).saturating_add(broken);
-        // SAFETY: as in `lines_of`.
+    /// How many pieces there mostly are: the first word, the empty one before it, and what stands
+    /// between places. Two for each line that broken words fill.
+    fn pieces_guess(&self, found: &Steps, later_width: usize) -> usize {
+        let broken = if self.options.break_words { self.text.len() / later_width.max(1) } else { 0 };
+        (found.cuts.len() + found.points.len() + 2).saturating_add(broken.saturating_mul(2))
+    }
+
+    /// The pieces that it is divided into lines of.
+    fn pieces_at(&self, found: &Steps, later_width: usize) -> Result<Vec<sys::Piece>, OutOfMemory> {
+        let Steps { cuts, points, .. } = found;
+        let (at, len) = (self.text.as_ptr(), self.text.len());
+        // SAFETY: as in `filled`.
         let pieces = unsafe {
-            listed(guess, |pieces, pieces_len, count| {
+            listed(self.pieces_guess(found, later_width), |pieces, pieces_len, count| {
                 sys::textwrap_pieces_at(
-                    paragraph.as_ptr(), paragraph.len(), cuts.as_ptr(), cuts.len(),
-                    points.as_ptr(), points.len(), &self.with, pieces, pieces_len, count,
+                    at, len, cuts.as_ptr(), cuts.len(), points.as_ptr(), points.len(), self.with,
+                    pieces, pieces_len, count,
                 )
             })
         };
         Ok(pieces?)
     }
 
-    /// Where the lines end: how many pieces stand before each end.
-    fn ends_of(
-        &self,
-        paragraph: &str,
-        pieces: &[sys::Piece],
-        line_widths: &[usize; 2],
-    ) -> Result<Vec<usize>, OutOfMemory> {
-        let algorithm = self.options.wrap_algorithm;
-        if let WrapAlgorithm::Custom(function) = algorithm {
-            let mut words = room_for(pieces.len())?;
-            words.extend(pieces.iter().map(|piece| Word::at(paragraph, piece)));
-            return ends_between(&words, &function(&words, line_widths));
+    /// Where its lines end by a built-in algorithm.
+    ///
+    /// # Panics
+    /// If a cost needs more than 128 bits.
+    fn ends_at(&self, found: &Steps, later_width: usize) -> Result<Vec<usize>, OutOfMemory> {
+        let Steps { cuts, points, .. } = found;
+        let (at, len) = (self.text.as_ptr(), self.text.len());
+        // SAFETY: as in `filled`.
+        let ends = unsafe {
+            listed(self.pieces_guess(found, later_width), |ends, ends_len, count| {
+                sys::textwrap_ends_at(
+                    at, len, cuts.as_ptr(), cuts.len(), points.as_ptr(), points.len(), self.with,
+                    self.is_later.into(), ends, ends_len, count,
+                )
+            })
+        };
+        match ends {
+            Err(Refusal::Overflow) => panic!("{OverflowError}"),
+            ends => Ok(ends?),
         }
-        let mut fragments = room_for(pieces.len())?;
-        fragments.extend(pieces.iter().map(|piece| sys::Fragment {
-            width: piece.width,
-            whitespace_width: piece.whitespace_len,
-            penalty_width: piece.penalty_len,
-            break_penalty: algorithm.break_penalty(piece.penalty_len > 0),
-        }));
-        algorithm.ends_of(&fragments, line_widths)
     }
+}
+
+/// The end of a single line.
+fn one_line() -> Result<Vec<usize>, OutOfMemory> {
+    let mut ends = room_for(1)?;
+    ends.push(0);
+    Ok(ends)
 }
 
 /// Where lines of words end that a function of the caller gave.

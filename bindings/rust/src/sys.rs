@@ -55,6 +55,32 @@ pub struct Line {
 
 #[repr(C)]
 #[derive(Clone, Copy)]
+pub struct Paragraph {
+    pub offset: usize,
+    pub len: usize,
+}
+
+#[repr(C)]
+#[derive(Clone, Copy, Default)]
+pub struct Widths {
+    pub is_whole: usize,
+    pub first: usize,
+    pub later: usize,
+}
+
+#[repr(C)]
+#[derive(Clone, Copy)]
+pub struct Steps {
+    pub cuts: *const usize,
+    pub cuts_len: usize,
+    pub points: *const usize,
+    pub points_len: usize,
+    pub ends: *const usize,
+    pub ends_len: usize,
+}
+
+#[repr(C)]
+#[derive(Clone, Copy)]
 pub struct LineBreak {
     pub offset: usize,
     pub is_mandatory: usize,
@@ -424,6 +450,62 @@ extern "C" {
         lines: *mut Line,
         lines_len: usize,
         count: *mut usize,
+        room: *mut u8,
+        room_len: usize,
+        len: *mut usize,
+    ) -> u32;
+
+    pub fn textwrap_ends_at(
+        paragraph: *const u8,
+        paragraph_len: usize,
+        cuts: *const usize,
+        cuts_len: usize,
+        points: *const usize,
+        points_len: usize,
+        options: *const Options,
+        is_later: usize,
+        ends: *mut usize,
+        ends_len: usize,
+        count: *mut usize,
+    ) -> u32;
+
+    pub fn textwrap_paragraphs(
+        text: *const u8,
+        text_len: usize,
+        options: *const Options,
+        paragraphs: *mut Paragraph,
+        paragraphs_len: usize,
+        count: *mut usize,
+    ) -> u32;
+
+    pub fn textwrap_paragraph_widths(
+        paragraph: *const u8,
+        paragraph_len: usize,
+        options: *const Options,
+        is_later: usize,
+        widths: *mut Widths,
+    ) -> u32;
+
+    pub fn textwrap_wrap_at(
+        text: *const u8,
+        text_len: usize,
+        steps: *const Steps,
+        steps_len: usize,
+        options: *const Options,
+        lines: *mut Line,
+        lines_len: usize,
+        count: *mut usize,
+        room: *mut u8,
+        room_len: usize,
+        len: *mut usize,
+    ) -> u32;
+
+    pub fn textwrap_fill_at(
+        text: *const u8,
+        text_len: usize,
+        steps: *const Steps,
+        steps_len: usize,
+        options: *const Options,
         room: *mut u8,
         room_len: usize,
         len: *mut usize,

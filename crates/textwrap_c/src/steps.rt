@@ -1,10 +1,16 @@
 //! A paragraph in steps, for a caller who finds words, points or lines in another way.
 ghost use Rattle.std.specs.Prelude.{◌≡◌, ◌≢◌, ◌≤◌, ◌<◌, ◌↔◌, ◌⊎◌, IsUtf8};
+ghost use Rattle.textwrap_lines.specs.Paragraph.{widths_of};
 ghost use Rattle.textwrap_steps.specs.Steps.{pieces_at};
-ghost use Rattle.textwrap_calls.specs.Options.{settings_of, AreKnown, AreTexts};
+ghost use Rattle.textwrap_words.specs.Words.{sizes_of};
+ghost use Rattle.textwrap_words.specs.WrapAlgorithms.{IsDividedBy, OverflowsBy};
+ghost use Rattle.textwrap_calls.specs.Fragments.{AreEndsOf};
+ghost use Rattle.textwrap_calls.specs.Options.{algorithm_of, settings_of, says_yes};
+ghost use Rattle.textwrap_calls.specs.Options.{AreKnown, AreTexts};
 ghost use Rattle.textwrap_calls.specs.Pieces.{piece_places};
 ghost use Rattle.textwrap_calls.specs.Room.{WritesText};
-ghost use Rattle.textwrap_calls.specs.Status.{not_utf8, out_of_memory, unknown_options, wrong_places};
+ghost use Rattle.textwrap_calls.specs.Status.{done, not_utf8, out_of_memory, overflow, too_small};
+ghost use Rattle.textwrap_calls.specs.Status.{unknown_options, wrong_places};
 ghost use Rattle.textwrap_calls.specs.Steps.{AreSteps, AreLineSteps, ArePlacedCuts, step_cuts};
 ghost use Rattle.textwrap_calls.specs.Wrapping.{WritesLines};
 
@@ -37,6 +43,40 @@ pub extern "C" fn textwrap_pieces_at(
     ensures statuses { (result ≤ unknown_options) ⊎ (result ≡ wrong_places) }
 {
     steps::textwrap_pieces_at(alloc, paragraph, cuts, points, options, pieces, count)
+}
+
+/// Exports [`textwrap_calls::steps::textwrap_ends_at`].
+#[unsafe(no_mangle)]
+pub extern "C" fn textwrap_ends_at(
+    alloc: Global,
+    paragraph: &[u8],
+    cuts: &[usize],
+    points: &[usize],
+    options: &TextwrapOptions<'_>,
+    is_later: usize,
+    ends: &mut [usize],
+    count: &mut usize,
+) -> u32
+    ensures ends { WritesText (AreEndsOf (IsDividedBy (algorithm_of options.now) sizes_of
+        (widths_of (settings_of options.now) (says_yes is_later))
+        (pieces_at (settings_of options.now) cuts.now points.now paragraph.now)))
+        result ends.old ends.new count.old count.new }
+    ensures overflow { result ≡ overflow → OverflowsBy (algorithm_of options.now) sizes_of
+        (widths_of (settings_of options.now) (says_yes is_later))
+        (pieces_at (settings_of options.now) cuts.now points.now paragraph.now) }
+    ensures written_only { (result ≡ done) ⊎ (result ≡ too_small)
+        → ¬ OverflowsBy (algorithm_of options.now) sizes_of
+        (widths_of (settings_of options.now) (says_yes is_later))
+        (pieces_at (settings_of options.now) cuts.now points.now paragraph.now) }
+    ensures unknown { result ≡ unknown_options ↔ (1 < is_later) ⊎ (¬ AreKnown options.now) }
+    ensures not_utf8 { result ≡ not_utf8 ↔ (is_later ≤ 1) × AreKnown options.now
+        × ¬ (IsUtf8 paragraph.now × AreTexts options.now) }
+    ensures wrong_places { result ≡ wrong_places ↔ (is_later ≤ 1) × AreKnown options.now
+        × (IsUtf8 paragraph.now × AreTexts options.now)
+        × ¬ AreSteps cuts.now points.now paragraph.now }
+    ensures statuses { result ≤ wrong_places }
+{
+    steps::textwrap_ends_at(alloc, paragraph, cuts, points, options, is_later, ends, count)
 }
 
 /// Exports [`textwrap_calls::steps::textwrap_lines_at`].

@@ -1,8 +1,11 @@
+pub mod EndLemmas
 pub mod GroupLemmas
+pub mod JoinLemmas
 pub mod Lengths
 pub mod LineLemmas
 pub mod LineListLemmas
 pub mod Offsets
+pub mod ParagraphLemmas
 pub mod PieceLemmas
 pub mod PlaceLemmas
 pub mod ReadOptions
@@ -11,3 +14,4 @@ pub mod RowLemmas
 pub mod StepLemmas
 pub mod TableLemmas
 pub mod TextLemmas
+pub mod TextStepLemmas

@@ -4,6 +4,7 @@ pub mod Columns
 pub mod Display
 pub mod Fragments
 pub mod Options
+pub mod Paragraphs
 pub mod Pieces
 pub mod Refilling
 pub mod Room
@@ -11,5 +12,6 @@ pub mod Status
 pub mod Texts
 pub mod Steps
 pub mod Tables
+pub mod TextSteps
 pub mod Reported
 pub mod Wrapping

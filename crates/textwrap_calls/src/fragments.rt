@@ -164,10 +164,10 @@ fn are_known_penalties(penalties: &TextwrapPenalties) -> bool
 }
 
 /// Where lines end that fragments were divided into.
-fn line_ends(
+pub(crate) fn line_ends<T>(
     alloc: Global,
-    fragments: &[TextwrapFragment],
-    lines: &[&[TextwrapFragment]],
+    fragments: &[T],
+    lines: &[&[T]],
 ) -> Result<Vec<usize>, AllocError>
     requires { IsDivision fragments.now (map (λ line. line.now) lines.now) }
     ensures { IfOk result (λ ends. ends.items ≡ ends_of (map (λ line. line.now) lines.now)) }

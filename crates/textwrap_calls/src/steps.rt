@@ -1,28 +1,49 @@
 //! A paragraph in steps, for a caller who finds words, points or lines in another way.
-ghost use Rattle.std.specs.Prelude.{◌≡◌, ◌≢◌, ◌≤◌, ◌<◌, ◌↔◌, ◌⊎◌, IsUtf8, IfOk, IfErr, map};
+ghost use Rattle.std.specs.Prelude.{◌≡◌, ◌≢◌, ◌≤◌, ◌<◌, ◌↔◌, ◌⊎◌, IsUtf8, IfOk, IfErr, OnOk, map};
 ghost use Rattle.textwrap.specs.LineEnds.{lines_between};
 ghost use Rattle.textwrap.specs.Options.{settings_view};
 ghost use Rattle.textwrap.specs.Words.{Tiles, word_view};
-ghost use Rattle.textwrap_lines.specs.Places.{ArePlacesOf, division_cuts};
+ghost use Rattle.textwrap.specs.WrapAlgorithms.{IsDividedBy, OverflowsBy};
+ghost use Rattle.textwrap_words.specs.Words.{sizes_of};
+ghost use Rattle.textwrap_calls.specs.Fragments.{AreEndsOf};
+ghost use Rattle.textwrap_lines.specs.Paragraph.{text_limit, widths_of};
+ghost use Rattle.textwrap_lines.specs.Places.{HasPlacesMore, division_cuts, further};
 ghost use Rattle.textwrap_steps.specs.Steps.{pieces_at};
-ghost use Rattle.textwrap_calls.specs.Options.{settings_of, AreKnown, AreTexts};
+ghost use Rattle.textwrap_calls.specs.Options.{algorithm_of, settings_of, says_yes};
+ghost use Rattle.textwrap_calls.specs.Options.{AreKnown, AreTexts};
 ghost use Rattle.textwrap_calls.specs.Pieces.{piece_places};
 ghost use Rattle.textwrap_calls.specs.Room.{WritesText};
-ghost use Rattle.textwrap_calls.specs.Status.{not_utf8, out_of_memory, unknown_options, wrong_places};
+ghost use Rattle.textwrap_calls.specs.Status.{done, not_utf8, out_of_memory, overflow, too_small};
+ghost use Rattle.textwrap_calls.specs.Status.{unknown_options, wrong_places};
 ghost use Rattle.textwrap_calls.specs.Steps.{AreSteps, AreLineSteps, ArePlacedCuts, step_cuts};
 ghost use Rattle.textwrap_calls.specs.Wrapping.{WritesLines};
 
+use crate::fragments::line_ends;
 use crate::options::{TextwrapOptions, read_options};
 use crate::pieces::{TextwrapPiece, place_words};
 use crate::reported::{TextwrapLine, put_lines};
 use crate::room::put;
-use crate::status::{NOT_UTF8, OUT_OF_MEMORY, UNKNOWN_OPTIONS, WRONG_PLACES};
+use crate::status::{NOT_UTF8, OUT_OF_MEMORY, OVERFLOW, UNKNOWN_OPTIONS, WRONG_PLACES};
 use simdutf8::basic::from_utf8;
 use std::alloc::Global;
-use textwrap::Options;
 use textwrap::words::Word;
+use textwrap::{Options, WrapError};
+use textwrap_lines::inner::line_widths;
 use textwrap_lines::placed::PlacedLines;
-use textwrap_steps::steps::{are_ends, are_inner_cuts, lines_at, pieces_at};
+use textwrap_steps::steps::{are_ends, are_inner_cuts, pieces_at, push_lines_at};
+
+/// What a caller found of a paragraph: where it is cut into words, where these are split, and where its
+/// lines end.
+#[repr(C)]
+#[derive(Clone, Copy)]
+pub struct TextwrapSteps<'a> {
+    /// The offsets at which it is cut.
+    pub cuts: &'a [usize],
+    /// The offsets at which its words may be split.
+    pub points: &'a [usize],
+    /// How many of the pieces stand before the end of each line.
+    pub ends: &'a [usize],
+}
 
 /// Writes the pieces of a paragraph that is cut into words at these offsets, whose words may be
 /// split at these points, and are broken as the options say. Both are offsets of the paragraph,
@@ -93,6 +114,65 @@ fn find_pieces<'t>(
     }
 }
 
+/// Writes where the lines of these pieces end by the algorithm of the options: how many of the pieces
+/// stand before each end. `is_later` is as in `textwrap_lines_at`. `OVERFLOW` as in
+/// `textwrap_wrap_optimal_fit`.
+pub fn textwrap_ends_at(
+    alloc: Global,
+    paragraph: &[u8],
+    cuts: &[usize],
+    points: &[usize],
+    options: &TextwrapOptions<'_>,
+    is_later: usize,
+    ends: &mut [usize],
+    count: &mut usize,
+) -> u32
+    ensures ends { WritesText (AreEndsOf (IsDividedBy (algorithm_of options.now) sizes_of
+        (widths_of (settings_of options.now) (says_yes is_later))
+        (pieces_at (settings_of options.now) cuts.now points.now paragraph.now)))
+        result ends.old ends.new count.old count.new }
+    ensures overflow { result ≡ overflow → OverflowsBy (algorithm_of options.now) sizes_of
+        (widths_of (settings_of options.now) (says_yes is_later))
+        (pieces_at (settings_of options.now) cuts.now points.now paragraph.now) }
+    ensures written_only { (result ≡ done) ⊎ (result ≡ too_small)
+        → ¬ OverflowsBy (algorithm_of options.now) sizes_of
+        (widths_of (settings_of options.now) (says_yes is_later))
+        (pieces_at (settings_of options.now) cuts.now points.now paragraph.now) }
+    ensures unknown { result ≡ unknown_options ↔ (1 < is_later) ⊎ (¬ AreKnown options.now) }
+    ensures not_utf8 { result ≡ not_utf8 ↔ (is_later ≤ 1) × AreKnown options.now
+        × ¬ (IsUtf8 paragraph.now × AreTexts options.now) }
+    ensures wrong_places { result ≡ wrong_places ↔ (is_later ≤ 1) × AreKnown options.now
+        × (IsUtf8 paragraph.now × AreTexts options.now)
+        × ¬ AreSteps cuts.now points.now paragraph.now }
+    ensures statuses { result ≤ wrong_places }
+{
+    if is_later > 1 {
+        return UNKNOWN_OPTIONS;
+    }
+    let options = match read_options(options) {
+        Ok(options) => options.at_blanks(),
+        Err(status) => return status,
+    };
+    let Ok(paragraph) = from_utf8(paragraph) else {
+        return NOT_UTF8;
+    };
+    let pieces = match find_pieces(alloc, paragraph, cuts, points, &options) {
+        Ok(pieces) => pieces,
+        Err(status) => return status,
+    };
+    let (first_width, later_width) = line_widths(&options, is_later != 0);
+    let line_widths = [first_width, later_width];
+    let division = match options.wrap_algorithm.wrap(alloc, &pieces, &line_widths) {
+        Ok(division) => division,
+        Err(WrapError::Memory(_)) => return OUT_OF_MEMORY,
+        Err(WrapError::Overflow(_)) => return OVERFLOW,
+    };
+    match line_ends(alloc, &pieces, &division) {
+        Ok(found) => put(&found, ends, count),
+        Err(_) => OUT_OF_MEMORY,
+    }
+}
+
 /// Writes the lines of these pieces as `textwrap_wrap` writes lines: each ends before so many of the
 /// pieces. `is_later` is 1 if a line stands before them and else 0; any other number is
 /// `UNKNOWN_OPTIONS`. The ends do not decrease, and are no more than the pieces; else the call answers
@@ -136,45 +216,60 @@ pub fn textwrap_lines_at(
     let Ok(paragraph) = from_utf8(paragraph) else {
         return NOT_UTF8;
     };
-    let is_later = is_later != 0;
-    match find_lines(alloc, paragraph, cuts, points, ends, &options, is_later) {
-        Ok(placed) => put_lines(&placed, lines, count, room, len),
+    let steps = TextwrapSteps { cuts, points, ends };
+    let mut found = PlacedLines::new(alloc);
+    match push_step_lines(
+        alloc,
+        &mut found,
+        0,
+        paragraph,
+        &steps,
+        &options,
+        is_later != 0,
+    ) {
+        Ok(()) => put_lines(&found, lines, count, room, len),
         Err(status) => status,
     }
 }
 
-/// The lines of a paragraph at these cuts, points and ends.
+/// Adds the lines of a paragraph at these steps, by where they stand in a text. `start` bytes of it
+/// come before the paragraph.
 ///
 /// # Errors
 /// The status `WRONG_PLACES` or `OUT_OF_MEMORY`.
-fn find_lines(
+pub(crate) fn push_step_lines(
     alloc: Global,
+    lines: &mut PlacedLines<Global>,
+    start: usize,
     paragraph: &str,
-    cuts: &[usize],
-    points: &[usize],
-    ends: &[usize],
+    steps: &TextwrapSteps<'_>,
     options: &Options<'_>,
     is_later: bool,
-) -> Result<PlacedLines<Global>, u32>
-    ensures placed { IfOk result (λ placed. ArePlacesOf (division_cuts (settings_view options.now)
-        is_later (lines_between ends.now (pieces_at (settings_view options.now) cuts.now points.now
-        paragraph.now))) placed.places.items placed.built.items) }
-    ensures tiles { IfOk result (λ _. Tiles (pieces_at (settings_view options.now) cuts.now
-        points.now paragraph.now) paragraph.now) }
-    ensures steps { IfOk result (λ _. AreLineSteps (settings_view options.now) cuts.now points.now
-        ends.now paragraph.now) }
+) -> Result<(), u32>
+    requires { start < text_limit }
+    ensures placed { OnOk result (HasPlacesMore lines.old lines.new (map (further start)
+        (division_cuts (settings_view options.now) is_later (lines_between steps.now.ends.now
+        (pieces_at (settings_view options.now) steps.now.cuts.now steps.now.points.now
+        paragraph.now))))) }
+    ensures tiles { IfOk result (λ _. Tiles (pieces_at (settings_view options.now)
+        steps.now.cuts.now steps.now.points.now paragraph.now) paragraph.now) }
+    ensures steps { IfOk result (λ _. AreLineSteps (settings_view options.now) steps.now.cuts.now
+        steps.now.points.now steps.now.ends.now paragraph.now) }
     ensures refused { IfErr result (λ status. ((status ≡ wrong_places)
-        × ¬ AreLineSteps (settings_view options.now) cuts.now points.now ends.now paragraph.now)
-        ⊎ (status ≡ out_of_memory)) }
+        × ¬ AreLineSteps (settings_view options.now) steps.now.cuts.now steps.now.points.now
+        steps.now.ends.now paragraph.now) ⊎ (status ≡ out_of_memory)) }
 {
-    let pieces = match find_pieces(alloc, paragraph, cuts, points, options) {
+    let pieces = match find_pieces(alloc, paragraph, steps.cuts, steps.points, options) {
         Ok(pieces) => pieces,
         Err(status) => return Err(status),
     };
-    if !are_ends(&pieces, ends) {
+    if !are_ends(&pieces, steps.ends) {
         return Err(WRONG_PLACES);
     }
-    match lines_at(alloc, paragraph, &pieces, ends, options, is_later) {
+    let ends = steps.ends;
+    match push_lines_at(
+        alloc, lines, start, paragraph, &pieces, ends, options, is_later,
+    ) {
         Ok(placed) => Ok(placed),
         Err(_) => Err(OUT_OF_MEMORY),
     }

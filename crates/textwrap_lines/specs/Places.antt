@@ -7,6 +7,7 @@ use Rattle.textwrap_lines.specs.Options.{Settings}
 use Rattle.textwrap_lines.specs.Paragraph.{Line, Slice, Built, LineParts, line_from, parts_from}
 use Rattle.textwrap_lines.specs.Text.{AreTextLines}
 use Rattle.textwrap_lines.specs.declared.places.Place.{Place}
+use Rattle.textwrap_lines.specs.declared.places.PlacedLines.{PlacedLines}
 
 -- ---- the place that a line was cut from
 
@@ -86,3 +87,12 @@ pub record ArePlacedLines (settings : Settings)
   pub are : AreTextLines settings Divides text lines
   pub places_are : places ≡ places_of 0 (text_cuts (length (ending_bytes settings.line_ending)) 0
       (paragraphs_of settings.line_ending text) are.groups)
+
+-- they are listed so
+abbrev pub HasPlaces : {Z : Type 0} → PlacedLines Z → List CutLine → Type 0
+HasPlaces placed cuts = ArePlacesOf cuts placed.places.items placed.built.items
+
+-- and after them, these were
+abbrev pub HasPlacesMore : {Z : Type 0} → PlacedLines Z → PlacedLines Z → List CutLine → Type 0
+HasPlacesMore old new more =
+    (before : List CutLine) → HasPlaces old before → HasPlaces new (before ++ more)

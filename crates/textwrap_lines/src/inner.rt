@@ -1,13 +1,16 @@
 //! What the crates above need beside the public calls, which `textwrap` does not pass on.
-ghost use Rattle.std.specs.Prelude.{◌≡◌};
+ghost use Rattle.std.specs.Prelude.{◌≡◌, if◌then◌else◌};
+ghost use Rattle.textwrap_words.specs.Blanks.{without_final_blanks};
 ghost use Rattle.textwrap_words.specs.Pieces.{as_splitter, stand_from};
 ghost use Rattle.textwrap_words.specs.PiecesLeft.{standing_left};
 ghost use Rattle.textwrap_lines.specs.Options.{settings_view};
-ghost use Rattle.textwrap_lines.specs.Paragraph.{indent_of, pieces_of};
+ghost use Rattle.textwrap_lines.specs.Paragraph.{first_width, indent_of, is_whole, later_width};
+ghost use Rattle.textwrap_lines.specs.Paragraph.{pieces_of};
 
 use crate::layout::{self, Layout};
 pub use crate::options::DEFAULTS;
 use crate::options::Options;
+use crate::wrapping;
 pub use crate::wrapping::{break_pieces, find_pieces, wrap_by};
 use textwrap_words::inner::{BuiltInSplitter, Pieces};
 
@@ -28,4 +31,28 @@ pub fn paragraph_pieces<'t>(
         (pieces_of (settings_view options.now) (as_splitter splitter) paragraph.now) }
 {
     layout::paragraph_pieces(paragraph, &Layout::of(options), splitter)
+}
+
+/// The width of a paragraph's first line, and that of its others. `is_later` says that a line stands
+/// before it.
+pub fn line_widths(options: &Options<'_>, is_later: bool) -> (usize, usize)
+    ensures first { result.0 ≡ first_width (settings_view options.now) is_later }
+    ensures later { result.1 ≡ later_width (settings_view options.now) }
+{
+    layout::line_widths(&Layout::of(options), is_later)
+}
+
+/// Whether a paragraph is one line as a whole. `is_later` says that a line stands before it.
+pub fn is_one_line(paragraph: &str, options: &Options<'_>, is_later: bool) -> bool
+    ensures { result ≡ is_whole (settings_view options.now) is_later paragraph.now }
+{
+    wrapping::is_one_line(paragraph, &Layout::of(options), is_later)
+}
+
+/// The line of a paragraph that is one as a whole.
+pub fn whole_line<'t>(paragraph: &'t str, options: &Options<'_>) -> &'t str
+    ensures { result.now ≡ (if options.now.preserve_trailing_space then paragraph.now
+        else without_final_blanks paragraph.now) }
+{
+    wrapping::whole_line(paragraph, &Layout::of(options))
 }

@@ -1,11 +1,12 @@
 //! The lines of a text by where they stand, for the calls from C. The crate `textwrap` does not
 //! re-export this module.
-ghost use Rattle.std.specs.Prelude.{◌≡◌, List, alloc_error, map, IfOk, IfErr};
+ghost use Rattle.std.specs.Prelude.{◌≡◌, ◌<◌, [], ◌∷◌, List, alloc_error, map, IfOk, IfErr, OnOk};
 ghost use Rattle.std.specs.Io.{StartsWith};
 ghost use Rattle.std.specs.List.{flat_map};
 ghost use Rattle.textwrap_lines.specs.Options.{Settings, settings_view, HasParts, MayOverflow};
-ghost use Rattle.textwrap_lines.specs.Paragraph.{DividesAs, DividesBy, Line};
-ghost use Rattle.textwrap_lines.specs.Places.{ArePlacedLines, ArePlacesOf, built_text, division_cuts};
+ghost use Rattle.textwrap_lines.specs.Paragraph.{DividesAs, DividesBy, Line, Slice, text_limit};
+ghost use Rattle.textwrap_lines.specs.Places.{ArePlacedLines, HasPlacesMore, built_text, cut_line};
+ghost use Rattle.textwrap_lines.specs.Places.{division_cuts, further};
 ghost use Rattle.textwrap_lines.specs.Text.{SomeMayPass64Bits};
 ghost use Rattle.textwrap_words.specs.WordSplitters.{Splitter};
 ghost use Rattle.textwrap_words.specs.Words.{tiled, word_view};
@@ -49,33 +50,47 @@ pub fn place_lines<A: Allocator + Copy>(
     Ok(lines)
 }
 
-/// The line of each list of pieces, by where it stands in the paragraph. Together the pieces tile the
-/// paragraph, or its beginning. `is_later` says that a line stands before them.
+/// Adds the line of each list of pieces, by where it stands in the text. Together the pieces tile the
+/// paragraph, or its beginning; `start` bytes of the text come before it. `is_later` says that a line
+/// stands before them.
 ///
 /// # Errors
 /// [`AllocError`] where memory runs out.
-pub fn place_division<A: Allocator + Copy>(
+pub fn push_division<A: Allocator + Copy>(
     alloc: A,
+    lines: &mut PlacedLines<A>,
+    start: usize,
     paragraph: &str,
     division: &[&[Word<'_>]],
     options: &Options<'_>,
     is_later: bool,
-) -> Result<PlacedLines<A>, AllocError>
-    requires { StartsWith paragraph.now
+) -> Result<(), AllocError>
+    requires begins { StartsWith paragraph.now
         (flat_map (λ line. tiled (map word_view line.now)) division.now) }
-    ensures { IfOk result (λ placed. ArePlacesOf (division_cuts (settings_view options.now) is_later
-        (map (λ line. map word_view line.now) division.now)) placed.places.items
-        placed.built.items) }
+    requires start { start < text_limit }
+    ensures { OnOk result (HasPlacesMore lines.old lines.new (map (further start)
+        (division_cuts (settings_view options.now) is_later
+        (map (λ line. map word_view line.now) division.now)))) }
 {
-    let mut lines = PlacedLines::new(alloc);
-    lines.begin_paragraph(0);
-    push_lines(
-        alloc,
-        paragraph,
-        division,
-        &Layout::of(options),
-        is_later,
-        &mut lines,
-    )?;
-    Ok(lines)
+    lines.begin_paragraph(start);
+    let layout = Layout::of(options);
+    push_lines(alloc, paragraph, division, &layout, is_later, lines)
+}
+
+/// Adds a slice of the text that so many bytes come before, as a line.
+///
+/// # Errors
+/// [`AllocError`] where memory runs out.
+pub fn push_slice<A: Allocator>(
+    alloc: A,
+    lines: &mut PlacedLines<A>,
+    start: usize,
+    slice: &str,
+) -> Result<(), AllocError>
+    requires { start < text_limit }
+    ensures { OnOk result
+        (HasPlacesMore lines.old lines.new (cut_line start (Slice slice.now) ∷ [])) }
+{
+    lines.begin_paragraph(start);
+    lines.push_line(alloc, "", 0, slice, "")
 }

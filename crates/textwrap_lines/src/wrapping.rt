@@ -337,14 +337,14 @@ pub fn wrap_single_line<'t, A: Allocator + Copy>(
 }
 
 /// Whether a paragraph is one line as a whole. `is_later` says that a line stands before it.
-fn is_one_line(paragraph: &str, layout: &Layout<'_>, is_later: bool) -> bool
+pub(crate) fn is_one_line(paragraph: &str, layout: &Layout<'_>, is_later: bool) -> bool
     ensures { result ≡ is_whole (layout_view layout.now) is_later paragraph.now }
 {
     next_indent(layout, is_later).is_empty() && paragraph.len() < layout.width
 }
 
-/// The paragraph as one line.
-fn whole_line<'t>(paragraph: &'t str, layout: &Layout<'_>) -> &'t str
+/// The line of a paragraph that is one as a whole.
+pub(crate) fn whole_line<'t>(paragraph: &'t str, layout: &Layout<'_>) -> &'t str
     ensures { result.now ≡ (if layout.now.preserve_trailing_space then paragraph.now
         else without_final_blanks paragraph.now) }
 {

@@ -1,12 +1,12 @@
 //! The steps of `textwrap::wrap` on one paragraph, over data: pieces at cuts and points, and lines at
 //! ends. Offsets count bytes.
-ghost use Rattle.std.specs.Prelude.{◌≡◌, ◌↔◌, IfOk, map, true};
+ghost use Rattle.std.specs.Prelude.{◌≡◌, ◌<◌, ◌↔◌, IfOk, OnOk, map, true};
 ghost use Rattle.textwrap_words.specs.Cuts.{AreCuts, AreInnerCuts, parts_between};
 ghost use Rattle.textwrap_words.specs.LineEnds.{AreEnds, lines_between};
 ghost use Rattle.textwrap_words.specs.Words.{Tiles, word_of, word_view};
 ghost use Rattle.textwrap_lines.specs.Options.{settings_view};
-ghost use Rattle.textwrap_lines.specs.Paragraph.{ArePieces};
-ghost use Rattle.textwrap_lines.specs.Places.{ArePlacesOf, division_cuts};
+ghost use Rattle.textwrap_lines.specs.Paragraph.{ArePieces, text_limit};
+ghost use Rattle.textwrap_lines.specs.Places.{ArePlacesOf, HasPlacesMore, division_cuts, further};
 ghost use Rattle.textwrap_steps.specs.Offsets.{IsNextCut, IsNextEnd};
 ghost use Rattle.textwrap_steps.specs.Steps.{AreWordsBetween, pieces_at, split_at};
 
@@ -14,7 +14,7 @@ use crate::points::points_within;
 use std::alloc::{AllocError, Allocator};
 use textwrap_lines::Options;
 use textwrap_lines::inner::break_pieces;
-use textwrap_lines::placed::{PlacedLines, place_division};
+use textwrap_lines::placed::{PlacedLines, push_division};
 use textwrap_words::inner::{lines_between, push_split, words_between};
 use textwrap_words::words::Word;
 
@@ -139,7 +139,35 @@ pub fn lines_at<A: Allocator + Copy>(
         (lines_between ends.now (map word_view pieces.now))) placed.places.items
         placed.built.items) }
 {
+    let mut lines = PlacedLines::new(alloc);
+    push_lines_at(
+        alloc, &mut lines, 0, paragraph, pieces, ends, options, is_later,
+    )?;
+    Ok(lines)
+}
+
+/// Adds the lines that [`lines_at`] finds to those of the paragraphs before, by where they stand in a
+/// text. `start` bytes of it come before the paragraph.
+///
+/// # Errors
+/// [`AllocError`] where memory runs out.
+pub fn push_lines_at<A: Allocator + Copy>(
+    alloc: A,
+    lines: &mut PlacedLines<A>,
+    start: usize,
+    paragraph: &str,
+    pieces: &[Word<'_>],
+    ends: &[usize],
+    options: &Options<'_>,
+    is_later: bool,
+) -> Result<(), AllocError>
+    requires start { start < text_limit }
+    requires tiles { Tiles (map word_view pieces.now) paragraph.now }
+    requires ends { AreEnds pieces.now ends.now }
+    ensures { OnOk result (HasPlacesMore lines.old lines.new (map (further start)
+        (division_cuts (settings_view options.now) is_later
+        (lines_between ends.now (map word_view pieces.now))))) }
+{
     let division = lines_between(alloc, pieces, ends)?;
-    let placed = place_division(alloc, paragraph, &division, options, is_later)?;
-    Ok(placed)
+    push_division(alloc, lines, start, paragraph, &division, options, is_later)
 }

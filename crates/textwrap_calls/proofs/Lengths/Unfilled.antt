@@ -42,7 +42,7 @@ ends_with-feed text ending ends =
     ∙ ap (λ b. cond (b == 10) 1 0) (last-append (take place text) bytes (ending_bytes-some ending)
     ∙ last-ending ending)
 
-ending-length : (ending : LineEnding) → length (ending_bytes ending) ≤ 2
+pub ending-length : (ending : LineEnding) → length (ending_bytes ending) ≤ 2
 ending-length LF = omega arith
 ending-length CRLF = omega arith
 

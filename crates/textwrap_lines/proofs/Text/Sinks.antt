@@ -8,6 +8,7 @@ use Rattle.textwrap_lines.proofs.Common.{ending_bytes, join_with, Took, Line, li
 use Rattle.textwrap_lines.proofs.Common.{further, assembled_line, CutLine, cut_line}
 use Rattle.textwrap_lines.proofs.Common.{built_bytes, lines_of, place_of}
 use Rattle.textwrap_lines.specs.LineSinks.{HasOneMore, HoldsPlaces, HoldsText}
+use Rattle.textwrap_lines.specs.Places.{HasPlacesMore}
 use Rattle.textwrap_lines.specs.declared.line_sinks.JoinedLines.{JoinedLines}
 use Rattle.textwrap_lines.specs.declared.places.PlacedLines.{PlacedLines}
 use Rattle.textwrap_lines.proofs.Text.Cuts.{built_text-push, lines_of-more, places_of-push}
@@ -20,7 +21,7 @@ on_ok_both (Err error) joins one two = tt
 
 -- ---- a text with one more line
 
-joined-more : (separator text bytes : List ℕ) (begun : Bool) (before : List Line) (line : Line)
+pub joined-more : (separator text bytes : List ℕ) (begun : Bool) (before : List Line) (line : Line)
     → text ≡ join_with separator (map line_bytes before) → begun ≡ nat_lt 0 (length before)
     → bytes ≡ line_bytes line
     → cond begun (text ++ separator ++ bytes) (text ++ bytes)
@@ -117,3 +118,16 @@ nothing_added (i ∷ indent) slice penalty none = absurd (omega (arith, none))
 pub assembled-bytes : (indent slice penalty : List ℕ)
     → indent ++ slice ++ penalty ≡ line_bytes (assembled_line indent slice penalty)
 assembled-bytes indent slice penalty = grind (arith, nothing_added, eqb-true)
+
+-- ---- where lines stand
+
+-- lines of a paragraph that were taken came after those that stood there
+pub HasPlaces-took : {Z : Type 0} (old begun new : PlacedLines Z) (start : ℕ)
+    (lines : List CutLine) → ((first : PlacedLines Z) (at : ℕ) (held : List CutLine)
+    → HoldsPlaces old at held → HoldsPlaces begun start held)
+    → Took (λ (first : PlacedLines Z) now at held. HoldsPlaces now at held) begun new lines
+    → HasPlacesMore old new (map (further start) lines)
+HasPlaces-took old begun new start lines begins took = λ before (places, built).
+    let held = took.held old start before (begins old old.offset before
+    (record { places = places; built = built; offset = refl })) in
+    (held.places, held.built)

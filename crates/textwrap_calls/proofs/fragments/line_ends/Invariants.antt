@@ -6,7 +6,7 @@ use Rattle.textwrap_calls.specs.Fragments.{ends_from, ends_of}
 -- the ends so far, and those of the lines that follow, are those of all lines; these have no more
 -- fragments than there are
 abbrev pub invariant-loop-line : goal.invariant-loop-line
-invariant-loop-line l = record {
+invariant-loop-line g l = record {
   ends : l.ends.items ++ ends_from l.end (map (λ line. line.now) (drop l.line-index l.lines))
       ≡ ends_of (map (λ line. line.now) l.lines);
   room : l.end + length (flat (map (λ line. line.now) (drop l.line-index l.lines)))

@@ -1,22 +1,29 @@
 use Rattle.textwrap_calls.proofs.steps.textwrap_lines_at.Goals as goal
-use Rattle.textwrap_base.proofs.Common.{subst, ◌∙◌}
-use Rattle.textwrap_lines.proofs.Common.{settings_view}
-use Rattle.textwrap_calls.specs.Options.{settings_of}
+use Rattle.textwrap_base.proofs.Common.{[], subst, ◌∙◌}
+use Rattle.textwrap_words.specs.LineEnds.{lines_between}
+use Rattle.textwrap_lines.proofs.Common.{parts_from, settings_view}
+use Rattle.textwrap_lines.proofs.Text.Cuts.{further-cut_lines}
+use Rattle.textwrap_lines.specs.Places.{HasPlaces}
+use Rattle.textwrap_steps.specs.Steps.{pieces_at}
+use Rattle.textwrap_calls.specs.Options.{says_yes, settings_of}
 use Rattle.textwrap_calls.proofs.StepLemmas.{AreStepLines, steps-written}
 
-pub returns-in-Ok-find_lines-clause-lines : goal.returns-in-Ok-find_lines-clause-lines
-returns-in-Ok-find_lines-clause-lines c =
+pub returns-in-Ok-push_step_lines-clause-lines : goal.returns-in-Ok-push_step_lines-clause-lines
+returns-in-Ok-push_step_lines-clause-lines c =
     let settings = settings_of c.args.options.now in
     let cuts = c.args.cuts.now in
     let points = c.args.points.now in
     let ends = c.args.ends.now in
     let later = c.args.is_later in
-    let places = c.in-Ok-find_lines.placed.places.items in
-    let built = c.in-Ok-find_lines.placed.built.items in
-    let found = c.in-Ok-find_lines.ensures in
+    let places = c.push_step_lines.new.lines.places.items in
+    let built = c.push_step_lines.new.lines.built.items in
+    let found = c.in-Ok-push_step_lines.ensures in
+    let parts = parts_from (settings_view c.at_blanks-options.result) (says_yes later) (lines_between ends
+    (pieces_at (settings_view c.at_blanks-options.result) cuts points c.in-Ok-from_utf8.paragraph.now)) in
     let here = subst (λ text. AreStepLines (settings_view c.at_blanks-options.result) cuts points ends later
     text places built) c.in-Ok-from_utf8.ensures.0 (record {
-      placed = found.placed;
+      placed = subst (HasPlaces c.push_step_lines.new.lines) (further-cut_lines 0 0 parts)
+          (found.placed [] (c.new-found.ensures.places, c.new-found.ensures.built));
       tile = found.tiles;
       ends_are = found.steps.ends_are;
     }) in

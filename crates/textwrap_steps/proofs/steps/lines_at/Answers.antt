@@ -1,49 +1,14 @@
 use Rattle.textwrap_steps.proofs.steps.lines_at.Goals as goal
-use Rattle.textwrap_base.proofs.Common.{◌≡◌, ◌++◌, ◌∙◌, ap, map, map-append, refl, subst, sym, List, [], ◌∷◌, Bor}
-use Rattle.textwrap_base.proofs.Common.{StartsWith, flat_map, starts_with_of_append}
-use Rattle.textwrap_base.proofs.Lists.Parts.{flat}
-use Rattle.textwrap_words.proofs.Common.{tiled, word_view}
-use Rattle.textwrap_words.proofs.Word.Tiling.{tiled-append}
+use Rattle.textwrap_base.proofs.Common.{[], map, subst}
+use Rattle.textwrap_words.proofs.Common.{word_view}
 use Rattle.textwrap_words.specs.LineEnds.{lines_between}
-use Rattle.textwrap_lines.proofs.Common.{settings_view, Word}
-use Rattle.textwrap_lines.proofs.Paragraph.Lines.{tiled-lines}
-use Rattle.textwrap_lines.specs.Places.{ArePlacesOf, division_cuts}
-use Rattle.textwrap_steps.proofs.LineLemmas.{lines_between-begin, lines_between-map}
-
-pub place_division-requires : goal.place_division-requires
-place_division-requires g c =
-    let pieces = c.args.pieces.now in
-    let lines = lines_between c.args.ends.now pieces in
-    let (rest, is) = lines_between-begin pieces c.args.ends.now c.requires.ends in
-    let covered : flat_map (λ line. tiled (map word_view line.now)) c.deref.result.now
-    ≡ tiled (map word_view (flat lines)) =
-    ap (flat_map (λ line. tiled (map word_view line.now))) c.deref.ensures.value
-    ∙ tiled-lines (λ line. line.now) c.in_ok-division.division.items
-    ∙ ap (λ ls. tiled (map word_view (flat ls))) c.in_ok-division.ensures.lines in
-    let whole : c.args.paragraph.now
-    ≡ tiled (map word_view (flat lines)) ++ tiled (map word_view rest) =
-    sym (ap (λ ws. tiled (map word_view ws)) is ∙ c.requires.tiles)
-    ∙ ap tiled (map-append word_view (flat lines) rest)
-    ∙ tiled-append (map word_view (flat lines)) (map word_view rest) in
-    subst (StartsWith c.args.paragraph.now) (sym covered)
-    (starts_with_of_append c.args.paragraph.now (tiled (map word_view (flat lines)))
-    (tiled (map word_view rest)) whole)
-
--- the same lines, seen by their words
-viewed : (division : List (Bor (List Word)))
-    → map (λ line. map word_view line.now) division
-    ≡ map (map word_view) (map (λ line. line.now) division)
-viewed [] = refl
-viewed (line ∷ lines) = ap (λ ls. map word_view line.now ∷ ls) (viewed lines)
+use Rattle.textwrap_lines.proofs.Common.{parts_from, settings_view}
+use Rattle.textwrap_lines.proofs.Text.Cuts.{further-cut_lines}
+use Rattle.textwrap_lines.specs.Places.{HasPlaces}
 
 pub returns : goal.returns
 returns g c =
-    let division = c.in_ok-division.division.items in
-    let same : map (λ line. map word_view line.now) c.deref.result.now
-    ≡ lines_between c.args.ends.now (map word_view c.args.pieces.now) =
-    ap (map (λ line. map word_view line.now)) c.deref.ensures.value ∙ viewed division
-    ∙ ap (map (map word_view)) c.in_ok-division.ensures.lines
-    ∙ lines_between-map word_view c.args.pieces.now c.args.ends.now in
-    subst (λ ls. ArePlacesOf (division_cuts (settings_view c.args.options.now) c.args.is_later ls)
-    c.in_ok-placed.placed.places.items c.in_ok-placed.placed.built.items) same
-    c.in_ok-placed.ensures
+    let parts = parts_from (settings_view c.args.options.now) c.args.is_later
+    (lines_between c.args.ends.now (map word_view c.args.pieces.now)) in
+    subst (HasPlaces c.push_lines_at.new.lines) (further-cut_lines 0 0 parts)
+    (c.in_ok-push_lines_at.ensures [] (c.new-lines.ensures.places, c.new-lines.ensures.built))

@@ -1,0 +1,52 @@
+//! The paragraphs of a text, each of which is wrapped by itself.
+ghost use Rattle.std.specs.Prelude.{◌≡◌, ◌≢◌, ◌≤◌, ◌<◌, ◌↔◌, ◌⊎◌, IsUtf8, length};
+ghost use Rattle.textwrap_calls.specs.Options.{settings_of, AreKnown, AreTexts, says_yes};
+ghost use Rattle.textwrap_calls.specs.Paragraphs.{paragraph_places, widths_view};
+ghost use Rattle.textwrap_calls.specs.Room.{WritesText};
+ghost use Rattle.textwrap_calls.specs.Status.{done, not_utf8, unknown_options};
+ghost use Rattle.textwrap_lines.specs.LineEnding.{ending_bytes, paragraphs_of};
+
+use std::alloc::Global;
+use textwrap_calls::options::TextwrapOptions;
+use textwrap_calls::paragraphs;
+use textwrap_calls::paragraphs::{TextwrapParagraph, TextwrapWidths};
+
+/// Exports [`textwrap_calls::paragraphs::textwrap_paragraphs`].
+#[unsafe(no_mangle)]
+pub extern "C" fn textwrap_paragraphs(
+    alloc: Global,
+    text: &[u8],
+    options: &TextwrapOptions<'_>,
+    paragraphs: &mut [TextwrapParagraph],
+    count: &mut usize,
+) -> u32
+    ensures paragraphs { WritesText (λ answer. answer
+        ≡ paragraph_places (length (ending_bytes (settings_of options.now).line_ending)) 0
+        (paragraphs_of (settings_of options.now).line_ending text.now))
+        result paragraphs.old paragraphs.new count.old count.new }
+    ensures unknown { result ≡ unknown_options ↔ ¬ AreKnown options.now }
+    ensures not_utf8 { result ≡ not_utf8 ↔ AreKnown options.now
+        × ¬ (IsUtf8 text.now × AreTexts options.now) }
+    ensures statuses { result ≤ unknown_options }
+{
+    paragraphs::textwrap_paragraphs(alloc, text, options, paragraphs, count)
+}
+
+/// Exports [`textwrap_calls::paragraphs::textwrap_paragraph_widths`].
+#[unsafe(no_mangle)]
+pub extern "C" fn textwrap_paragraph_widths(
+    paragraph: &[u8],
+    options: &TextwrapOptions<'_>,
+    is_later: usize,
+    widths: &mut TextwrapWidths,
+) -> u32
+    ensures written { result ≡ done
+        → widths.new ≡ widths_view (settings_of options.now) (says_yes is_later) paragraph.now }
+    ensures unknown { result ≡ unknown_options ↔ (1 < is_later) ⊎ (¬ AreKnown options.now) }
+    ensures not_utf8 { result ≡ not_utf8 ↔ (is_later ≤ 1) × AreKnown options.now
+        × ¬ (IsUtf8 paragraph.now × AreTexts options.now) }
+    ensures kept { result ≢ done → widths.new ≡ widths.old }
+    ensures statuses { (result ≡ done) ⊎ (result ≡ not_utf8) ⊎ (result ≡ unknown_options) }
+{
+    paragraphs::textwrap_paragraph_widths(paragraph, options, is_later, widths)
+}

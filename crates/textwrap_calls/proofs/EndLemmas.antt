@@ -1,0 +1,40 @@
+-- Where lines end that a built-in algorithm finds of pieces, seen by their words.
+use Rattle.textwrap_base.proofs.Common.{◌≡◌, ℕ, ◌+◌, ◌≤◌, ◌⊎◌, List, [], ◌∷◌, length, map, refl, sym}
+use Rattle.textwrap_base.proofs.Common.{ap, ◌∙◌, length-map, subst, arith, PricedSizes, Sizes}
+use Rattle.textwrap_base.proofs.Common.{fragments_table, priced_at, total_width, TableOverflows}
+use Rattle.std.proofs.lemmas.Simd.{map-map}
+use Rattle.textwrap_base.specs.Algorithms.{Algorithm, Greedy, LeastCost, OverflowsBy}
+use Rattle.textwrap_base.specs.Errors.{Passes128Bits}
+use Rattle.textwrap_base.specs.Table.{entry_at}
+use Rattle.textwrap_base.specs.declared.penalties.Penalties.{Penalties}
+use Rattle.textwrap_base.proofs.Cost.Map.{fragments_table-map}
+use Rattle.textwrap_base.proofs.Cost.Measures.{total_width-same}
+use Rattle.textwrap_calls.specs.Fragments.{ends_from, ends_of}
+
+module _ {X Y : Type 0} (f : X → Y) where
+  ends_from-map : (at : ℕ) (lines : List (List X))
+      → ends_from at (map (map f) lines) ≡ ends_from at lines
+  ends_from-map at [] = refl
+  ends_from-map at (line ∷ lines) =
+      rw (length-map line f)
+      (ap (λ es. (at + length line) ∷ es) (ends_from-map (at + length line) lines))
+
+  pub ends_of-map : (lines : List (List X)) → ends_of (map (map f) lines) ≡ ends_of lines
+  ends_of-map lines = ends_from-map 0 lines
+
+  -- the algorithm refuses both or none
+  pub OverflowsBy-map : (algorithm : Algorithm) (sizes : Y → Sizes) (widths : List ℕ) (xs : List X)
+      → OverflowsBy algorithm (λ x. sizes (f x)) widths xs
+      ≡ OverflowsBy algorithm sizes widths (map f xs)
+  OverflowsBy-map Greedy sizes widths xs = refl
+  OverflowsBy-map (LeastCost penalties) sizes widths xs =
+      let priced = λ (y : Y). priced_at penalties (sizes y) in
+      let wide = total_width-same (λ (x : X). sizes (f x)) sizes xs (map f xs) (sym (map-map sizes f xs)) in
+      let entries = fragments_table (λ (x : X). priced (f x)) penalties widths xs in
+      ap (λ w. Passes128Bits w ⊎ ((j : ℕ) × (j ≤ length xs)
+      × Passes128Bits (entry_at entries j).cost)) wide
+      ∙ ap (λ n. Passes128Bits (total_width sizes (map f xs)) ⊎ ((j : ℕ) × (j ≤ n)
+      × Passes128Bits (entry_at entries j).cost)) (sym (length-map xs f))
+      ∙ ap (λ table. Passes128Bits (total_width sizes (map f xs))
+      ⊎ ((j : ℕ) × (j ≤ length (map f xs)) × Passes128Bits (entry_at table j).cost))
+      (fragments_table-map f priced penalties widths xs)

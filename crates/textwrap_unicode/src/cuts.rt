@@ -163,6 +163,10 @@ fn step_past(
     if before.is_in_word() && unit.is_plain_letter() {
         return (Verdict::Prohibited, before);
     }
+    // A line may end between two ideographs, and the second changes nothing.
+    if before.is_behind_ideograph() && unit.is_wide_ideograph() {
+        return (Verdict::Allowed, before);
+    }
     let verdict = decide_among_visible(line, end, state, &before, unit, numbers);
     (verdict, before.and(unit))
 }

@@ -2,7 +2,7 @@
 ghost use Rattle.std.specs.Prelude.{◌≡◌, true, false};
 ghost use Rattle.unicode.specs.declared.properties.LineBreak.TheVariants.{Alphabetic, Ideographic};
 ghost use Rattle.textwrap_unicode.specs.Before.{as_letter, before_of, nothing};
-ghost use Rattle.textwrap_unicode.specs.BreaksLeft.{and};
+ghost use Rattle.textwrap_unicode.specs.BreaksLeft.{and, and_words};
 
 use crate::class_sets::{
     is_closing, is_hebrew, is_inside_number, is_mark, is_number, is_regional_indicator, is_space,
@@ -81,6 +81,28 @@ impl Before {
             is_joined,
             is_in_number,
             is_past_number: is_in_number | (is_closing(unit.class) & self.is_in_number),
+        }
+    }
+
+    /// What stands there behind a letter of a word, and more letters, blanks and signs, of which the
+    /// last, and the last that is no blank, are of these kinds.
+    pub(crate) fn and_words(self, is_behind_blank: bool, is_behind_sign: bool) -> Before
+        ensures { result ≡ and_words self is_behind_blank is_behind_sign }
+    {
+        let past_spaces = if is_behind_sign {
+            LineBreak::InfixNumeric
+        } else {
+            LineBreak::Alphabetic
+        };
+        let class = if is_behind_blank {
+            LineBreak::Space
+        } else {
+            past_spaces
+        };
+        Before {
+            class,
+            past_spaces,
+            ..self
         }
     }
 

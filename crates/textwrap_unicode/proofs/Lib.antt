@@ -17,3 +17,5 @@ pub mod RuleOrder
 pub mod TextBreaks
 pub mod Verdicts
 pub mod WordCuts
+pub mod WordLetters
+pub mod WordVerdicts

@@ -1,6 +1,7 @@
 -- What the iterator over breaks goes on from.
 use Rattle.std.specs.Prelude.{ℕ, ◌+◌, Bool, true, false, not, ◌&&◌, ◌||◌, List, [], ◌∷◌, ◌++◌}
 use Rattle.std.specs.Prelude.{length, encode_utf8, if◌then◌else◌}
+use Rattle.unicode.specs.declared.properties.LineBreak.TheVariants.{Alphabetic, InfixNumeric, Space}
 use Rattle.textwrap_unicode.specs.declared.before.Before.{Before}
 use Rattle.textwrap_unicode.specs.declared.breaks.LineBreak.{LineBreak}
 use Rattle.textwrap_unicode.specs.declared.classes.Unit.{Unit}
@@ -36,6 +37,13 @@ and before next =
     if is_mark next.class && not before.is_start && not (takes_no_mark before.class)
     then record before { is_joined = is_zwj next.class }
     else and_letter before (as_letter next) (is_zwj next.class)
+
+-- the same behind letters, blanks and signs, of which the last is a blank or not, and the last that is
+-- no blank a sign or not
+abbrev pub and_words : Before → Bool → Bool → Before
+and_words before blank sign =
+    let past = if sign then InfixNumeric else Alphabetic in
+    record before { class = if blank then Space else past; past_spaces = past }
 
 abbrev pub breaks_after : Numbers → Before → ℕ → List ℕ → List LineBreak
 breaks_after numbers before at [] =

@@ -1,8 +1,8 @@
 //! What stands before a place.
 ghost use Rattle.std.specs.Prelude.{◌≡◌, true, false};
-ghost use Rattle.unicode.specs.declared.properties.LineBreak.TheVariants.{Alphabetic};
+ghost use Rattle.unicode.specs.declared.properties.LineBreak.TheVariants.{Alphabetic, Ideographic};
 ghost use Rattle.textwrap_unicode.specs.Before.{as_letter, before_of, nothing};
-ghost use Rattle.textwrap_unicode.specs.BreaksLeft.{and};
+ghost use Rattle.textwrap_unicode.specs.BreaksLeft.{and, and_words};
 
 use crate::class_sets::{
     is_closing, is_hebrew, is_inside_number, is_mark, is_number, is_regional_indicator, is_space,
@@ -84,6 +84,28 @@ impl Before {
         }
     }
 
+    /// What stands there behind a letter of a word, and more letters, blanks and signs, of which the
+    /// last, and the last that is no blank, are of these kinds.
+    pub(crate) fn and_words(self, is_behind_blank: bool, is_behind_sign: bool) -> Before
+        ensures { result ≡ and_words self is_behind_blank is_behind_sign }
+    {
+        let past_spaces = if is_behind_sign {
+            LineBreak::InfixNumeric
+        } else {
+            LineBreak::Alphabetic
+        };
+        let class = if is_behind_blank {
+            LineBreak::Space
+        } else {
+            past_spaces
+        };
+        Before {
+            class,
+            past_spaces,
+            ..self
+        }
+    }
+
     /// Whether a letter of a word stands there, and nothing else that a rule asks for: then one
     /// more letter changes nothing.
     #[inline]
@@ -105,6 +127,31 @@ impl Before {
             & matches!(self.past_spaces, LineBreak::Alphabetic)
             & !(self.is_start | self.follows_hebrew | self.is_half_flag)
             & !(self.is_wide | self.is_unassigned_pictograph | self.is_joined)
+            & !(self.is_in_number | self.is_past_number)
+    }
+
+    /// Whether a wide ideograph stands there, and nothing else that a rule asks for: then one more
+    /// such ideograph changes nothing.
+    #[inline]
+    pub(crate) fn is_behind_ideograph(&self) -> bool
+        ensures { result ≡ true → self.now ≡ record {
+          is_start = false;
+          class = Ideographic;
+          past_spaces = Ideographic;
+          follows_hebrew = false;
+          is_half_flag = false;
+          is_wide = true;
+          is_unassigned_pictograph = false;
+          is_joined = false;
+          is_in_number = false;
+          is_past_number = false;
+        } }
+    {
+        matches!(self.class, LineBreak::Ideographic)
+            & matches!(self.past_spaces, LineBreak::Ideographic)
+            & self.is_wide
+            & !(self.is_start | self.follows_hebrew | self.is_half_flag)
+            & !(self.is_unassigned_pictograph | self.is_joined)
             & !(self.is_in_number | self.is_past_number)
     }
 }

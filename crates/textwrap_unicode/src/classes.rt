@@ -2,7 +2,7 @@
 ghost use Rattle.std.specs.Prelude.{◌≡◌, ◌&&◌, true, false};
 ghost use Rattle.unicode.specs.Binary.{is_extended_pictographic};
 ghost use Rattle.unicode.specs.GeneralCategory.{general_category};
-ghost use Rattle.unicode.specs.declared.properties.LineBreak.TheVariants.{Alphabetic};
+ghost use Rattle.unicode.specs.declared.properties.LineBreak.TheVariants.{Alphabetic, Ideographic};
 ghost use Rattle.textwrap_unicode.specs.Classes.{class_of, is_unassigned, is_wide, resolve};
 ghost use Rattle.textwrap_unicode.specs.Classes.{resolve_complex, unit_of};
 
@@ -60,6 +60,18 @@ impl Unit {
         } }
     {
         matches!(self.class, LineBreak::Alphabetic) & !self.is_wide & !self.is_unassigned_pictograph
+    }
+
+    /// Whether the rules ask nothing more of it than that it is an ideograph, and a wide one.
+    #[inline]
+    pub(crate) fn is_wide_ideograph(self) -> bool
+        ensures { result ≡ true → self ≡ record {
+          class = Ideographic;
+          is_wide = true;
+          is_unassigned_pictograph = false;
+        } }
+    {
+        matches!(self.class, LineBreak::Ideographic) & self.is_wide & !self.is_unassigned_pictograph
     }
 }
 

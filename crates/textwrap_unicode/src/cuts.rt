@@ -5,15 +5,17 @@ ghost use Rattle.textwrap_unicode.specs.BreaksLeft.{and};
 ghost use Rattle.textwrap_unicode.specs.Rules.{decide_by, numbers_rule};
 ghost use Rattle.textwrap_words.specs.Escapes.{visible_in};
 ghost use Rattle.textwrap_unicode.specs.Cuts.{cuts_by, may_end, unicode_cuts};
-ghost use Rattle.textwrap_unicode.specs.WordStarts.{IsPlainLetter, IsWordByte, is_behind_blank};
-ghost use Rattle.textwrap_unicode.specs.WordStarts.{word_starts};
-ghost use Rattle.unicode.specs.declared.properties.LineBreak.TheVariants.{Space};
+ghost use Rattle.textwrap_unicode.specs.WordStarts.{IsPlainLetter, IsWordByte, IsWordClass};
+ghost use Rattle.textwrap_unicode.specs.WordStarts.{is_behind_blank, is_behind_sign, word_starts};
+ghost use Rattle.textwrap_unicode.specs.ClassSets.{is_infix, is_letter, is_space};
+ghost use Rattle.textwrap_unicode.specs.Classes.{class_of};
 ghost use Rattle.textwrap_unicode.specs.declared.numbers.Numbers.TheVariants.{ByExpression};
 ghost use Rattle.textwrap_words.specs.Cuts.{AreInnerCuts};
 ghost use Rattle.textwrap_words.specs.WordOffsets.{is_any_hyphen};
 
 use crate::ascii::CLASSES;
 use crate::before::Before;
+use crate::class_sets::{is_letter, is_space};
 use crate::classes::Unit;
 use crate::numbers::{Numbers, decide_among_visible};
 use crate::rules::Verdict;
@@ -79,69 +81,119 @@ fn find_cuts(alloc: Global, line: &str, numbers: Numbers) -> Result<Vec<usize>, 
         state = next;
         if end == at && !is_hyphen && matches!(state, State::Text) && before.is_in_word() {
             let rest = line[at..].as_bytes();
-            let len = push_words(rest, at, &mut cuts)?;
-            before = after_words(rest, len, before);
-            at += len;
+            let passed = push_words(rest, at, &mut cuts)?;
+            before = before.and_words(passed.is_behind_blank, passed.is_behind_sign);
+            at += passed.len;
             end = at;
         }
     }
     Ok(cuts)
 }
 
-/// Goes over the letters and blanks that a rest of a line begins with, behind a letter of a word, and
-/// adds where a word begins among them. Returns how many they are.
+/// Letters, blanks and signs such as commas, which stand behind a letter of a word.
+#[derive(Clone, Copy)]
+struct Passed {
+    /// How many they are.
+    len: usize,
+    /// Whether the last is a blank.
+    is_behind_blank: bool,
+    /// Whether the last that is no blank is a sign.
+    is_behind_sign: bool,
+}
+
+/// Goes over the letters, blanks and signs that a rest of a line begins with, behind a letter of a
+/// word, and adds where a word begins among them.
 ///
 /// # Errors
 /// [`AllocError`] where memory runs out.
-fn push_words(rest: &[u8], at: usize, cuts: &mut Vec<usize>) -> Result<usize, AllocError>
+fn push_words(rest: &[u8], at: usize, cuts: &mut Vec<usize>) -> Result<Passed, AllocError>
     requires { at + length rest.now < 2 ^ 64 }
-    ensures within { IfOk result (λ len. len ≤ length rest.now) }
-    ensures words { IfOk result (λ len. (k : ℕ) → k < len → IsWordByte (slice_index rest.now k)) }
-    ensures cuts { IfOk result (λ len. cuts.new.items
-        ≡ cuts.old.items ++ word_starts at rest.now len) }
+    ensures within { IfOk result (λ passed. passed.len ≤ length rest.now) }
+    ensures words { IfOk result (λ passed. (k : ℕ) → k < passed.len
+        → IsWordByte (slice_index rest.now k)) }
+    ensures blank { IfOk result (λ passed. passed.is_behind_blank
+        ≡ is_behind_blank rest.now passed.len) }
+    ensures sign { IfOk result (λ passed. passed.is_behind_sign
+        ≡ is_behind_sign rest.now passed.len) }
+    ensures cuts { IfOk result (λ passed. cuts.new.items
+        ≡ cuts.old.items ++ word_starts at rest.now passed.len) }
 {
     let mut len = 0;
     let mut is_behind_blank = false;
+    let mut is_behind_sign = false;
     while len < rest.len() && is_word_byte(rest[len]) {
-        let is_blank = rest[len] == b' ';
-        let is_start = is_behind_blank & !is_blank;
+        let class = ascii_class(rest[len]);
+        let is_start = is_behind_blank & is_letter(class);
         if is_start {
             cuts.push(at + len)?;
         }
-        is_behind_blank = is_blank;
+        is_behind_blank = is_space(class);
+        is_behind_sign = is_sign_behind(class, is_behind_sign);
+        len += 1;
+        len += letters_len(rest, len, is_behind_blank | is_behind_sign);
+    }
+    Ok(Passed {
+        len,
+        is_behind_blank,
+        is_behind_sign,
+    })
+}
+
+/// How many letters come from a place on, behind a letter. Behind anything else none are counted.
+fn letters_len(rest: &[u8], from: usize, is_behind_other: bool) -> usize
+    requires { from ≤ length rest.now }
+    ensures none { is_behind_other ≡ true → result ≡ 0 }
+    ensures within { from + result ≤ length rest.now }
+    ensures letters { (k : ℕ) → k < result → IsPlainLetter (slice_index rest.now (from + k)) }
+{
+    let mut len = 0;
+    while !is_behind_other && from + len < rest.len() && is_plain_letter(rest[from + len]) {
         len += 1;
     }
-    Ok(len)
+    len
 }
 
-/// Whether a byte is a blank or a plain letter.
-fn is_word_byte(byte: u8) -> bool
-    ensures { result ≡ true → IsWordByte byte }
-{
-    byte == b' ' || is_plain_letter(byte)
-}
-
-/// Whether a byte is a character of ASCII of which the rules ask nothing more than that it is a
-/// letter.
+/// Whether a byte is a letter of ASCII: AL.
 fn is_plain_letter(byte: u8) -> bool
     ensures { result ≡ true → IsPlainLetter byte }
 {
     byte < 128 && matches!(CLASSES[byte as usize], LineBreak::Alphabetic)
 }
 
-/// What stands before the place behind so many letters and blanks, which follow a letter of a word.
-fn after_words(rest: &[u8], len: usize, before: Before) -> Before
-    requires { len ≤ length rest.now }
-    ensures { result ≡ (if is_behind_blank rest.now len then record before { class = Space } else before) }
+/// Whether a sign is the last that is no blank, with one character more of this class.
+fn is_sign_behind(class: LineBreak, is_before: bool) -> bool
+    ensures { result ≡ (if is_space class then is_before else is_infix class) }
 {
-    if len > 0 && rest[len - 1] == b' ' {
-        Before {
-            class: LineBreak::Space,
-            ..before
-        }
+    if is_space(class) {
+        is_before
     } else {
-        before
+        matches!(class, LineBreak::InfixNumeric)
     }
+}
+
+/// Whether a byte is a letter of ASCII, a blank or a sign such as a comma: AL, SP or IS.
+fn is_word_byte(byte: u8) -> bool
+    ensures { result ≡ true → IsWordByte byte }
+{
+    byte < 128 && is_word_class(ascii_class(byte))
+}
+
+/// AL, SP or IS.
+fn is_word_class(class: LineBreak) -> bool
+    ensures { result ≡ true → IsWordClass class }
+{
+    matches!(
+        class,
+        LineBreak::Alphabetic | LineBreak::Space | LineBreak::InfixNumeric
+    )
+}
+
+/// The class of a character of ASCII.
+fn ascii_class(byte: u8) -> LineBreak
+    requires { byte < 128 }
+    ensures { result ≡ class_of byte }
+{
+    CLASSES[byte as usize]
 }
 
 /// What the rules say of the place before a visible unit of the line, which is read up to its end, and
@@ -162,6 +214,10 @@ fn step_past(
     // No line ends between two letters of a word, and the second changes nothing.
     if before.is_in_word() && unit.is_plain_letter() {
         return (Verdict::Prohibited, before);
+    }
+    // A line may end between two ideographs, and the second changes nothing.
+    if before.is_behind_ideograph() && unit.is_wide_ideograph() {
+        return (Verdict::Allowed, before);
     }
     let verdict = decide_among_visible(line, end, state, &before, unit, numbers);
     (verdict, before.and(unit))

@@ -131,7 +131,7 @@ const ON_TEXTS: &[(Given<'_>, usize)] = &[
         ),
         14,
     ),
-    (Given(FillSlowly(10, INDENTED), TEXT, FILLED), 41),
+    (Given(FillSlowly(10, INDENTED), TEXT, FILLED), 37),
     // What indents, refills, makes columns or strips.
     (
         Given(Indent("    "), "foo\n\nbar\n", "    foo\n\n    bar\n"),
@@ -430,9 +430,9 @@ fn appends(heap: &Heap, slowly: bool) -> Result<bool, WrapError> {
 }
 
 const ON_OTHERS: &[(OnOthers, usize)] = &[
-    (OnOthers::WrapAtPoints, 35),
+    (OnOthers::WrapAtPoints, 33),
     (OnOthers::Append { slowly: false }, 22),
-    (OnOthers::Append { slowly: true }, 29),
+    (OnOthers::Append { slowly: true }, 26),
 ];
 
 /// What gives lines otherwise is out of memory too wherever one of its lists or texts cannot grow.

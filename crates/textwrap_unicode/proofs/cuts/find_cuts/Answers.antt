@@ -91,8 +91,9 @@ loop-ch-preserved-then-is_in_word c =
     let h = rw (text, word, c.if-end-at.true, c.if-not-is_hyphen.true)
     at (past at.Joined-is_visible (here at.In-Some)) in
     let bytes = c.as_bytes-rest.ensures.value ∙ c.range_from-then-is_in_word.ensures.value in
-    let len = c.in_ok-len.len in
-    let found = c.in_ok-len.ensures in
+    let passed = c.in_ok-passed.passed in
+    let len = passed.len in
+    let found = c.in_ok-passed.ensures in
     let words : (k : ℕ) → k < len → IsWordByte (slice_index (drop place line) k) =
     λ k below. subst (λ bs. IsWordByte (slice_index bs k)) bytes (found.words k below) in
     rw (
@@ -100,7 +101,9 @@ loop-ch-preserved-then-is_in_word c =
       text,
       c.if-not-is_hyphen.true,
       found.cuts,
-      c.after_words-before.ensures,
+      c.and_words-before.ensures,
+      found.blank,
+      found.sign,
       word,
       bytes,
     )

@@ -1,34 +1,78 @@
-use Rattle.textwrap_base.proofs.Common.{◌++◌, ◌+◌, inl, inr, [], ◌∷◌, sym, ap, ◌∙◌, refl}
-use Rattle.textwrap_base.proofs.Common.{subst, arith, add-one, append-nil, append_assoc, slice_index}
+use Rattle.textwrap_base.proofs.Common.{◌≡◌, ℕ, ◌++◌, ◌+◌, ◌-◌, ◌<◌, ◌||◌, Bool, true, false, inl, inr}
+use Rattle.textwrap_base.proofs.Common.{[], ◌∷◌, sym, ap, ◌∙◌, refl, subst, arith, add-one, append-nil}
+use Rattle.textwrap_base.proofs.Common.{append_assoc, slice_index, if◌then◌else◌, cases_lt}
 use Rattle.std.proofs.lemmas.Bool.{cases_eq}
-use Rattle.textwrap_unicode.specs.WordStarts.{IsWordByte, word_starts}
+use Rattle.textwrap_unicode.specs.ClassSets.{is_infix, is_letter, is_space}
+use Rattle.textwrap_unicode.specs.Classes.{class_of}
+use Rattle.textwrap_unicode.specs.WordStarts.{IsPlainLetter, IsWordByte, is_behind_blank}
+use Rattle.textwrap_unicode.specs.WordStarts.{is_behind_sign, word_starts}
+use Rattle.textwrap_unicode.proofs.WordLetters.{letters-same}
 use Rattle.textwrap_unicode.proofs.cuts.push_words.Goals as goal
 use Rattle.textwrap_unicode.proofs.cuts.push_words.Goals.{then-is_start+in_ok-push, else-is_start}
 
 pub loop-len-init : goal.loop-len-init
-loop-len-init c = (omega arith, λ k below. absurd (omega (arith, below)), refl, sym (append-nil _))
+loop-len-init c = record {
+  within = omega arith;
+  words = λ k below. absurd (omega (arith, below));
+  blank = refl;
+  sign = refl;
+  cuts = sym (append-nil _);
+}
+
+none-behind : (blank sign : Bool) (k : ℕ) → ((blank || sign) ≡ true → k ≡ 0) → 0 < k
+    → (blank ≡ false) × (sign ≡ false)
+none-behind true sign k none some = absurd (omega (arith, none refl, some))
+none-behind false true k none some = absurd (omega (arith, none refl, some))
+none-behind false false k none some = (refl, refl)
+
+of-letter : (c : ℕ) → IsPlainLetter c → IsWordByte c
+of-letter c letter = record { ascii = letter.ascii; class = inl letter.class }
 
 pub loop-len-preserved : goal.loop-len-preserved
 loop-len-preserved c =
-    let (within, words, flag, cuts) = c.loop-len.invariant in
+    let h = c.loop-len.invariant in
     let rest = c.args.rest.now in
+    let at = c.args.at in
     let len = c.loop-len.len in
+    let old = c.args.cuts.now.items in
     let found = c.is_word_byte.ensures c.if-is_word_byte.true in
-    let starts = word_starts c.args.at rest len in
-    rw (add-one len) (
-      omega (arith, c.loop-len-test.true),
-      λ k below. elim (cases_eq k len) [
-        | inl same ↦ subst (λ j. IsWordByte (slice_index rest j)) (sym same) found
-        | inr other ↦ words k (omega (arith, below, other))
-      ],
-      refl,
-      elim c.if-is_start.branch [
-        | then-is_start+in_ok-push w ↦ rw (← flag, w.if-is_start.true)
-            (ap (λ v. v.items) w.cuts-is ∙ w.in_ok-push.ensures.items
-            ∙ ap (λ l. l ++ (c.args.at + len) ∷ []) cuts
-            ∙ append_assoc c.args.cuts.now.items starts ((c.args.at + len) ∷ []))
-        | else-is_start w ↦ rw (← flag, w.if-is_start.false)
-            (ap (λ v. v.items) w.cuts-is ∙ cuts
-            ∙ ap (λ l. c.args.cuts.now.items ++ l) (sym (append-nil starts)))
-      ],
-    )
+    let class = c.ascii_class-class.ensures in
+    let starts = word_starts at rest len in
+    let blank : c.is_space-is_behind_blank.result ≡ is_behind_blank rest (len + 1) =
+    rw (add-one len) (c.is_space-is_behind_blank.ensures ∙ ap is_space class) in
+    let sign : c.is_sign_behind-is_behind_sign.result ≡ is_behind_sign rest (len + 1) =
+    rw (add-one len) (c.is_sign_behind-is_behind_sign.ensures
+    ∙ ap (λ v. if is_space v then c.loop-len.is_behind_sign else is_infix v) class
+    ∙ ap (λ b. if is_space (class_of (slice_index rest len)) then b
+    else is_infix (class_of (slice_index rest len))) h.sign) in
+    let letter = c.is_letter.ensures ∙ ap is_letter class in
+    let cuts : c.if-is_start.cuts.items ≡ old ++ word_starts at rest (len + 1) =
+    rw (add-one len) (elim c.if-is_start.branch [
+      | then-is_start+in_ok-push w ↦ rw (← h.blank, ← letter, w.if-is_start.true)
+          (ap (λ v. v.items) w.cuts-is ∙ w.in_ok-push.ensures.items
+          ∙ ap (λ l. l ++ (at + len) ∷ []) h.cuts
+          ∙ append_assoc old starts ((at + len) ∷ []))
+      | else-is_start w ↦ rw (← h.blank, ← letter, w.if-is_start.false)
+          (ap (λ v. v.items) w.cuts-is ∙ h.cuts ∙ ap (λ l. old ++ l) (sym (append-nil starts)))
+    ]) in
+    let more = c.letters_len-len.ensures in
+    let k = c.letters_len-len.result in
+    let same = letters-same at rest (len + 1) k
+    (λ some. let (no_blank, no_sign) = none-behind _ _ k more.none some in
+    (sym blank ∙ no_blank, sym sign ∙ no_sign)) more.letters in
+    record {
+      within = more.within;
+      words = λ j below. elim (cases_lt j len) [
+        | inl before ↦ h.words j before
+        | inr from ↦ elim (cases_eq j len) [
+          | inl here ↦ subst (λ i. IsWordByte (slice_index rest i)) (sym here) found
+          | inr other ↦
+              let place : len + 1 + (j - (len + 1)) ≡ j = omega (arith, from, other) in
+              subst (λ i. IsWordByte (slice_index rest i)) place
+              (of-letter _ (more.letters (j - (len + 1)) (omega (arith, below, from, other))))
+        ]
+      ];
+      blank = blank ∙ sym same.blank;
+      sign = sign ∙ sym same.sign;
+      cuts = cuts ∙ ap (λ l. old ++ l) (sym same.starts);
+    }

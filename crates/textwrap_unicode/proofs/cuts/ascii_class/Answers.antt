@@ -1,0 +1,6 @@
+use Rattle.textwrap_base.proofs.Common.{ap}
+use Rattle.textwrap_unicode.proofs.CharacterLemmas.{ascii-unit}
+use Rattle.textwrap_unicode.proofs.cuts.ascii_class.Goals as goal
+
+pub returns : goal.returns
+returns c = ap (λ u. u.class) (ascii-unit c.args.byte c.requires)

@@ -1,6 +1,6 @@
 -- Where the paragraphs of a text stand, one after another.
 use Rattle.textwrap_base.proofs.Common.{◌≡◌, ℕ, ◌+◌, ◌<◌, ◌≤◌, List, [], ◌∷◌, ◌++◌, length}
-use Rattle.textwrap_base.proofs.Common.{refl, ap, ◌∙◌, arith, append_assoc}
+use Rattle.textwrap_base.proofs.Common.{ap, ◌∙◌, arith, append_assoc}
 use Rattle.textwrap_lines.proofs.Common.{ending_bytes, join_with, paragraphs_of}
 use Rattle.textwrap_lines.specs.declared.line_ending.LineEnding.{LineEnding}
 use Rattle.textwrap_lines.proofs.Text.EndingTexts.{join-paragraphs_of}

@@ -15,7 +15,7 @@ use Rattle.textwrap_steps.proofs.LineLemmas.{lines_between-begin}
 use Rattle.textwrap_lines.specs.Places.{division_cuts}
 use Rattle.textwrap_base.proofs.Numbers.{is_later-or}
 use Rattle.textwrap_lines.proofs.Common.{CutLine, cut_lines, ending_bytes, join_with, line_from}
-use Rattle.textwrap_lines.proofs.Common.{covered_by, LineParts, paragraphs_of, Settings, text_cuts}
+use Rattle.textwrap_lines.proofs.Common.{covered_by, paragraphs_of, Settings, text_cuts}
 use Rattle.textwrap_lines.proofs.Common.{further, is_whole, lines_of, parts_from}
 use Rattle.textwrap_lines.proofs.Paragraph.LeftOff.{covered_by-parts_from}
 use Rattle.textwrap_lines.proofs.Text.Cuts.{further-cut_lines, length-places_of, lines_of-cut_lines}

@@ -1,5 +1,5 @@
 use Rattle.textwrap_calls.proofs.text_steps.place_text.Goals as goal
-use Rattle.textwrap_base.proofs.Common.{◌+◌, ◌<◌, ◌∷◌, [], ap, arith, drop, drop_more, inl, inr, length, length-drop}
+use Rattle.textwrap_base.proofs.Common.{◌+◌, ◌<◌, ◌∷◌, ap, arith, drop, drop_more, inl, inr, length, length-drop}
 use Rattle.textwrap_base.proofs.Common.{refl, subst, sym, ◌∙◌}
 use Rattle.textwrap_lines.proofs.Common.{settings_view}
 use Rattle.textwrap_lines.proofs.Text.Lines.{paragraphs_left, paragraphs_left-split}

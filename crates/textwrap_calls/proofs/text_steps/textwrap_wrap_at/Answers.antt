@@ -1,5 +1,5 @@
 use Rattle.textwrap_calls.proofs.text_steps.textwrap_wrap_at.Goals as goal
-use Rattle.textwrap_base.proofs.Common.{◌++◌, subst, ◌∙◌, ℕ, List}
+use Rattle.textwrap_base.proofs.Common.{◌++◌, subst, ◌∙◌}
 use Rattle.textwrap_lines.proofs.Common.{settings_view}
 use Rattle.textwrap_calls.specs.Options.{settings_of}
 use Rattle.textwrap_calls.specs.TextSteps.{text_step_cuts}

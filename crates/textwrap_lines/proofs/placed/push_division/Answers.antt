@@ -1,5 +1,5 @@
 use Rattle.textwrap_lines.proofs.placed.push_division.Goals as goal
-use Rattle.textwrap_base.proofs.Common.{map, ap, on_ok_weaker, subst}
+use Rattle.textwrap_base.proofs.Common.{map, on_ok_weaker, subst}
 use Rattle.textwrap_words.proofs.Common.{word_view}
 use Rattle.textwrap_lines.proofs.Common.{cut_lines, further, parts_from}
 use Rattle.textwrap_lines.proofs.Text.Sinks.{HasPlaces-took}

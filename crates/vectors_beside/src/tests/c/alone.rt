@@ -1,7 +1,8 @@
 //! Calls that write into what they are given, or a number.
-use super::plain::{BEFORE, NO_LAYOUT, assert_told};
+use super::plain::{BARS, BEFORE, NO_LAYOUT, UNKNOWN_GAPS, assert_told};
 use std::alloc::Global;
 use textwrap_calls::breaks::{TextwrapLineBreak, textwrap_line_breaks};
+use textwrap_calls::columns::{TextwrapGaps, textwrap_column_width};
 use textwrap_calls::filling::textwrap_fill_inplace;
 use textwrap_calls::refilling::textwrap_unfill;
 use textwrap_calls::status::{DONE, NOT_UTF8, TOO_SMALL, UNKNOWN_OPTIONS};
@@ -18,6 +19,48 @@ pub(super) fn told_width(text: &[u8]) -> (u32, usize) {
 fn columns_are_counted(rt: HostRuntime) {
     assert_told(&rt, 0, told_width("Café".as_bytes()), (DONE, 4));
     assert_told(&rt, 1, told_width(b"Caf\xe9"), (NOT_UTF8, BEFORE));
+}
+
+/// A width, so many columns with these gaps, and the status and the width of a column.
+type ColumnWidthRow<'a> = (usize, usize, TextwrapGaps<'a>, (u32, usize));
+
+/// The width that texts in columns are wrapped at. What is not known is refused before a gap that is no
+/// text.
+const COLUMN_WIDTHS: &[ColumnWidthRow<'_>] = &[
+    (24, 4, BARS, (DONE, 4)),
+    (24, 1, BARS, (DONE, 22)),
+    // The gaps leave no room.
+    (3, 2, BARS, (DONE, 1)),
+    (0, usize::MAX, BARS, (DONE, 1)),
+    (24, 0, BARS, (UNKNOWN_OPTIONS, BEFORE)),
+    (24, 4, UNKNOWN_GAPS, (UNKNOWN_OPTIONS, BEFORE)),
+    (
+        24,
+        4,
+        TextwrapGaps {
+            right: b"\xff",
+            ..BARS
+        },
+        (NOT_UTF8, BEFORE),
+    ),
+    (
+        24,
+        0,
+        TextwrapGaps {
+            right: b"\xff",
+            ..BARS
+        },
+        (UNKNOWN_OPTIONS, BEFORE),
+    ),
+];
+
+#[test]
+fn columns_have_a_width(rt: HostRuntime) {
+    for (row, &(width, columns, gaps, expected)) in COLUMN_WIDTHS.iter().enumerate() {
+        let mut column_width = BEFORE;
+        let status = textwrap_column_width(width, columns, &gaps, &mut column_width);
+        assert_told(&rt, row, (status, column_width), expected);
+    }
 }
 
 /// Whether a text has these breaks, each with whether a line must end there.

@@ -13,7 +13,7 @@ use textwrap_calls::options::TextwrapOptions;
 use textwrap_calls::pieces::TextwrapPiece;
 use textwrap_calls::status::{DONE, TOO_SMALL};
 use textwrap_calls::steps::{textwrap_lines_at, textwrap_pieces_at};
-use textwrap_calls::tables::TextwrapColumn;
+use textwrap_calls::tables::{TextwrapCell, TextwrapColumn, textwrap_table_of_lines};
 use textwrap_calls::texts::TextwrapText;
 use textwrap_calls::wrapping::TextwrapLine;
 
@@ -93,6 +93,39 @@ fn table(alloc: Global) -> Result<Told, AllocError> {
     write_lines_twice(alloc, call, b"", HALF)
 }
 
+/// The lines in two columns of a row of 25, with a bar beside each.
+fn rows_of_lines(alloc: Global) -> Result<Told, AllocError> {
+    let lines = vec![in alloc; TEXT; LINES]?;
+    let call = LinesCall::RowsOfLines {
+        lines: &lines,
+        columns: 2,
+        width: 25,
+        gaps: BARS,
+    };
+    write_lines_twice(alloc, call, b"", HALF)
+}
+
+/// What is told of the same lines as those of two cells. They are of two lifetimes, so the call is
+/// made here.
+fn table_of_lines(alloc: Global) -> Result<(u32, usize, usize), AllocError> {
+    let lines = vec![in alloc; TEXT; HALF]?;
+    let cell = TextwrapCell { lines: &lines };
+    let mut rows = vec![in alloc; NOWHERE; HALF]?;
+    let mut room = vec![in alloc; b'.'; 25 * HALF]?;
+    let (mut count, mut len) = (BEFORE, BEFORE);
+    let status = textwrap_table_of_lines(
+        alloc,
+        &[cell, cell],
+        COLUMNS,
+        &BARS,
+        &mut rows,
+        &mut count,
+        &mut room,
+        &mut len,
+    );
+    Ok((status, count, len))
+}
+
 /// Two rows of 200 columns, with a bar beside each.
 fn wide_table(alloc: Global) -> Result<Told, AllocError> {
     let cells = vec![in alloc; TEXT; 400]?;
@@ -115,6 +148,10 @@ fn a_large_list_is_shortened_carried_and_laid_out(rt: HostRuntime) {
     assert_told_twice(&rt, 2, told, 25 * HALF);
     let told = wide_table(rt.alloc()).expect(&rt, "cells");
     assert_told_twice(&rt, 3, told, 2 * (200 * 11 + 201));
+    let told = rows_of_lines(rt.alloc()).expect(&rt, "lines");
+    assert_told_twice(&rt, 4, told, 25 * HALF);
+    let told = table_of_lines(rt.alloc()).expect(&rt, "cells");
+    assert_eq!(rt; told, (DONE, HALF, 25 * HALF));
 }
 
 /// The first so many multiples of a number.

@@ -1,9 +1,10 @@
 //! Lines and rows: where they stand in the text or in the room.
 use super::places::{LinesRow, NONE, assert_lines};
 use super::plain::{AT_4, AT_5, AT_6, BARS, BEFORE, DEFAULTS, LinesCall, UNKNOWN_GAPS};
+use textwrap_calls::columns::TextwrapGaps;
 use textwrap_calls::options::TextwrapOptions;
 use textwrap_calls::status::{DONE, NOT_UTF8, TOO_SMALL, UNKNOWN_OPTIONS};
-use textwrap_calls::tables::TextwrapColumn;
+use textwrap_calls::tables::{TextwrapCell, TextwrapColumn};
 use textwrap_calls::texts::TextwrapText;
 
 /// A line is a slice of the text, or with an indent a text of its own in the room. Where the lines are
@@ -310,6 +311,262 @@ const TABLES: &[LinesRow] = &[
     ),
 ];
 
+/// Lines of which the last column has fewer.
+const FEW_LINES: &[TextwrapText<'_>] = &[
+    TextwrapText { bytes: b"Foo" },
+    TextwrapText { bytes: b"Bar" },
+    TextwrapText { bytes: b"Baz" },
+];
+
+/// Gaps of which one is no text.
+const NO_TEXT_GAPS: TextwrapGaps<'_> = TextwrapGaps {
+    middle: b"\xff",
+    ..BARS
+};
+
+/// Lines in columns are the rows of the text that has these lines. What is not known is refused before
+/// a line that is no text.
+const ROWS_OF_LINES: &[LinesRow] = &[
+    (
+        LinesCall::RowsOfLines {
+            lines: &[
+                TextwrapText { bytes: b"Foo" },
+                TextwrapText { bytes: b"Bar" },
+                TextwrapText { bytes: b"Baz" },
+                TextwrapText { bytes: b"Quux" },
+            ],
+            columns: 4,
+            width: 24,
+            gaps: BARS,
+        },
+        b"",
+        (DONE, 1, 24),
+        &[(0, 24, 1), NONE],
+        b"|Foo |Bar |Baz |Quux   |________",
+    ),
+    // The first column is filled first, and the width that is left over stands at the end.
+    (
+        LinesCall::RowsOfLines {
+            lines: FEW_LINES,
+            columns: 2,
+            width: 12,
+            gaps: BARS,
+        },
+        b"",
+        (DONE, 2, 24),
+        &[(0, 12, 1), (12, 12, 1)],
+        b"|Foo |Baz  ||Bar |     |",
+    ),
+    (
+        LinesCall::RowsOfLines {
+            lines: FEW_LINES,
+            columns: 2,
+            width: 12,
+            gaps: BARS,
+        },
+        b"",
+        (TOO_SMALL, 2, 24),
+        &[NONE, NONE],
+        b"_______________________",
+    ),
+    // Gaps that leave no room leave a width of 1, and lines are not cut.
+    (
+        LinesCall::RowsOfLines {
+            lines: FEW_LINES,
+            columns: 2,
+            width: 0,
+            gaps: BARS,
+        },
+        b"",
+        (DONE, 2, 16),
+        &[(0, 9, 1), (9, 7, 1)],
+        b"|Foo|Baz||Bar| |",
+    ),
+    (
+        LinesCall::RowsOfLines {
+            lines: &[],
+            columns: usize::MAX,
+            width: 24,
+            gaps: BARS,
+        },
+        b"",
+        (DONE, 0, 0),
+        &[NONE],
+        b"____",
+    ),
+    (
+        LinesCall::RowsOfLines {
+            lines: NO_TEXT,
+            columns: 0,
+            width: 24,
+            gaps: BARS,
+        },
+        b"",
+        (UNKNOWN_OPTIONS, BEFORE, BEFORE),
+        &[NONE],
+        b"____",
+    ),
+    (
+        LinesCall::RowsOfLines {
+            lines: NO_TEXT,
+            columns: 1,
+            width: 24,
+            gaps: UNKNOWN_GAPS,
+        },
+        b"",
+        (UNKNOWN_OPTIONS, BEFORE, BEFORE),
+        &[NONE],
+        b"____",
+    ),
+    (
+        LinesCall::RowsOfLines {
+            lines: NO_TEXT,
+            columns: 1,
+            width: 24,
+            gaps: BARS,
+        },
+        b"",
+        (NOT_UTF8, BEFORE, BEFORE),
+        &[NONE],
+        b"____",
+    ),
+    (
+        LinesCall::RowsOfLines {
+            lines: FEW_LINES,
+            columns: 1,
+            width: 24,
+            gaps: NO_TEXT_GAPS,
+        },
+        b"",
+        (NOT_UTF8, BEFORE, BEFORE),
+        &[NONE],
+        b"____",
+    ),
+];
+
+/// The lines of the texts in two columns, the last of them alone.
+const WRAPPED_CELLS: &[TextwrapCell<'_>] = &[
+    TextwrapCell {
+        lines: &[
+            TextwrapText { bytes: b"foo" },
+            TextwrapText { bytes: b"bar" },
+        ],
+    },
+    TextwrapCell {
+        lines: &[TextwrapText { bytes: b"1.5" }],
+    },
+    TextwrapCell {
+        lines: &[TextwrapText { bytes: b"baz" }],
+    },
+];
+
+/// A cell of which the last line is no text.
+const NO_TEXT_CELLS: &[TextwrapCell<'_>] = &[
+    TextwrapCell { lines: &[] },
+    TextwrapCell {
+        lines: &[
+            TextwrapText { bytes: b"foo" },
+            TextwrapText { bytes: b"\xff" },
+        ],
+    },
+];
+
+/// A table of lines is that of the texts that have these lines.
+const TABLES_OF_LINES: &[LinesRow] = &[
+    (
+        LinesCall::TableOfLines {
+            cells: WRAPPED_CELLS,
+            columns: COLUMNS,
+            gaps: BARS,
+        },
+        b"",
+        (DONE, 3, 36),
+        &[(0, 12, 1), (12, 12, 1), (24, 12, 1)],
+        b"|foo |  1.5||bar |     ||baz |     |",
+    ),
+    (
+        LinesCall::TableOfLines {
+            cells: WRAPPED_CELLS,
+            columns: COLUMNS,
+            gaps: BARS,
+        },
+        b"",
+        (TOO_SMALL, 3, 36),
+        &[NONE, NONE],
+        b"____________________________________",
+    ),
+    // A cell without lines takes no row, and there are none without columns.
+    (
+        LinesCall::TableOfLines {
+            cells: &[TextwrapCell { lines: &[] }],
+            columns: COLUMNS,
+            gaps: BARS,
+        },
+        b"",
+        (DONE, 0, 0),
+        &[NONE],
+        b"____",
+    ),
+    (
+        LinesCall::TableOfLines {
+            cells: WRAPPED_CELLS,
+            columns: &[],
+            gaps: BARS,
+        },
+        b"",
+        (DONE, 0, 0),
+        &[NONE],
+        b"____",
+    ),
+    (
+        LinesCall::TableOfLines {
+            cells: NO_TEXT_CELLS,
+            columns: &[TextwrapColumn {
+                alignment: 3,
+                ..LEFT
+            }],
+            gaps: BARS,
+        },
+        b"",
+        (UNKNOWN_OPTIONS, BEFORE, BEFORE),
+        &[NONE],
+        b"____",
+    ),
+    (
+        LinesCall::TableOfLines {
+            cells: NO_TEXT_CELLS,
+            columns: COLUMNS,
+            gaps: UNKNOWN_GAPS,
+        },
+        b"",
+        (UNKNOWN_OPTIONS, BEFORE, BEFORE),
+        &[NONE],
+        b"____",
+    ),
+    (
+        LinesCall::TableOfLines {
+            cells: NO_TEXT_CELLS,
+            columns: COLUMNS,
+            gaps: BARS,
+        },
+        b"",
+        (NOT_UTF8, BEFORE, BEFORE),
+        &[NONE],
+        b"____",
+    ),
+    (
+        LinesCall::TableOfLines {
+            cells: WRAPPED_CELLS,
+            columns: COLUMNS,
+            gaps: NO_TEXT_GAPS,
+        },
+        b"",
+        (NOT_UTF8, BEFORE, BEFORE),
+        &[NONE],
+        b"____",
+    ),
+];
+
 #[test]
 fn lines_and_rows_are_places_in_the_text_or_in_the_room(rt: HostRuntime) {
     assert_lines(&rt, PLACES);
@@ -317,4 +574,6 @@ fn lines_and_rows_are_places_in_the_text_or_in_the_room(rt: HostRuntime) {
     assert_lines(&rt, IN_COLUMNS);
     assert_lines(&rt, LISTS);
     assert_lines(&rt, TABLES);
+    assert_lines(&rt, ROWS_OF_LINES);
+    assert_lines(&rt, TABLES_OF_LINES);
 }

@@ -3,7 +3,7 @@
 use std::alloc::Global;
 use std::process::Abort;
 use textwrap_calls::breaks::textwrap_unicode_cuts;
-use textwrap_calls::columns::{TextwrapGaps, textwrap_wrap_columns};
+use textwrap_calls::columns::{TextwrapGaps, textwrap_rows_of_lines, textwrap_wrap_columns};
 use textwrap_calls::display::{
     textwrap_align, textwrap_fill_justified, textwrap_justify, textwrap_shorten,
 };
@@ -20,7 +20,9 @@ use textwrap_calls::pieces::{
 };
 use textwrap_calls::refilling::{TextwrapLayout, textwrap_refill, textwrap_unfill};
 use textwrap_calls::steps::{textwrap_lines_at, textwrap_pieces_at};
-use textwrap_calls::tables::{TextwrapColumn, textwrap_table};
+use textwrap_calls::tables::{
+    TextwrapCell, TextwrapColumn, textwrap_table, textwrap_table_of_lines,
+};
 use textwrap_calls::texts::TextwrapText;
 use textwrap_calls::widths::textwrap_strip_ansi_escape_sequences;
 use textwrap_calls::wrapping::{TextwrapLine, textwrap_wrap};
@@ -209,6 +211,17 @@ pub(super) enum LinesCall<'a> {
         columns: &'a [TextwrapColumn<'a>],
         gaps: TextwrapGaps<'a>,
     },
+    RowsOfLines {
+        lines: &'a [TextwrapText<'a>],
+        columns: usize,
+        width: usize,
+        gaps: TextwrapGaps<'a>,
+    },
+    TableOfLines {
+        cells: &'a [TextwrapCell<'a>],
+        columns: &'a [TextwrapColumn<'a>],
+        gaps: TextwrapGaps<'a>,
+    },
     LinesAt {
         cuts: &'a [usize],
         points: &'a [usize],
@@ -264,6 +277,17 @@ pub(super) fn write_lines(
             columns,
             gaps,
         } => textwrap_table(alloc, cells, columns, &gaps, lines, count, room, len),
+        LinesCall::RowsOfLines {
+            lines: given,
+            columns,
+            width,
+            gaps,
+        } => textwrap_rows_of_lines(alloc, given, columns, width, &gaps, lines, count, room, len),
+        LinesCall::TableOfLines {
+            cells,
+            columns,
+            gaps,
+        } => textwrap_table_of_lines(alloc, cells, columns, &gaps, lines, count, room, len),
         LinesCall::LinesAt {
             cuts,
             points,

@@ -76,7 +76,9 @@ pub extern "C" fn textwrap_ends_at(
         × ¬ AreSteps cuts.now points.now paragraph.now }
     ensures statuses { result ≤ wrong_places }
 {
-    steps::textwrap_ends_at(alloc, paragraph, cuts, points, options, is_later, ends, count)
+    steps::textwrap_ends_at(
+        alloc, paragraph, cuts, points, options, is_later, ends, count,
+    )
 }
 
 /// Exports [`textwrap_calls::steps::textwrap_lines_at`].

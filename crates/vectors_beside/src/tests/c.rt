@@ -10,4 +10,5 @@ mod pieces;
 mod places;
 mod plain;
 mod steps;
+mod text_steps;
 mod texts;

@@ -19,10 +19,13 @@ use textwrap_calls::pieces::{
     textwrap_split_points,
 };
 use textwrap_calls::refilling::{TextwrapLayout, textwrap_refill, textwrap_unfill};
-use textwrap_calls::steps::{textwrap_lines_at, textwrap_pieces_at};
+use textwrap_calls::steps::{
+    TextwrapSteps, textwrap_ends_at, textwrap_lines_at, textwrap_pieces_at,
+};
 use textwrap_calls::tables::{
     TextwrapCell, TextwrapColumn, textwrap_table, textwrap_table_of_lines,
 };
+use textwrap_calls::text_steps::{textwrap_fill_at, textwrap_wrap_at};
 use textwrap_calls::texts::TextwrapText;
 use textwrap_calls::widths::textwrap_strip_ansi_escape_sequences;
 use textwrap_calls::wrapping::{TextwrapLine, textwrap_wrap};
@@ -145,11 +148,21 @@ pub(super) enum TextCall<'a> {
     Unfill,
     Indent(&'a [u8]),
     Dedent,
-    Align { width: usize, alignment: u32 },
+    Align {
+        width: usize,
+        alignment: u32,
+    },
     Justify(usize),
     FillJustified(TextwrapOptions<'a>),
-    Shorten { width: usize, placeholder: &'a [u8] },
+    Shorten {
+        width: usize,
+        placeholder: &'a [u8],
+    },
     Strip,
+    FillAt {
+        steps: &'a [TextwrapSteps<'a>],
+        options: TextwrapOptions<'a>,
+    },
 }
 
 /// Makes the call. Answers the status.
@@ -177,6 +190,9 @@ pub(super) fn write_text(
             textwrap_shorten(alloc, text, width, placeholder, room, len)
         }
         TextCall::Strip => textwrap_strip_ansi_escape_sequences(alloc, text, room, len),
+        TextCall::FillAt { steps, options } => {
+            textwrap_fill_at(alloc, text, steps, &options, room, len)
+        }
     }
 }
 
@@ -228,6 +244,10 @@ pub(super) enum LinesCall<'a> {
         ends: &'a [usize],
         options: TextwrapOptions<'a>,
         is_later: usize,
+    },
+    WrapAt {
+        steps: &'a [TextwrapSteps<'a>],
+        options: TextwrapOptions<'a>,
     },
 }
 
@@ -297,6 +317,9 @@ pub(super) fn write_lines(
         } => textwrap_lines_at(
             alloc, text, cuts, points, ends, &options, is_later, lines, count, room, len,
         ),
+        LinesCall::WrapAt { steps, options } => {
+            textwrap_wrap_at(alloc, text, steps, &options, lines, count, room, len)
+        }
     }
 }
 
@@ -349,6 +372,13 @@ pub(super) enum OffsetsCall<'a> {
         line_widths: &'a [usize],
         penalties: TextwrapPenalties,
     },
+    EndsAt {
+        paragraph: &'a [u8],
+        cuts: &'a [usize],
+        points: &'a [usize],
+        options: TextwrapOptions<'a>,
+        is_later: usize,
+    },
 }
 
 /// Makes the call. Answers the status.
@@ -370,6 +400,15 @@ pub(super) fn write_offsets(
             line_widths,
             penalties,
         } => textwrap_wrap_optimal_fit(alloc, fragments, line_widths, &penalties, offsets, count),
+        OffsetsCall::EndsAt {
+            paragraph,
+            cuts,
+            points,
+            options,
+            is_later,
+        } => textwrap_ends_at(
+            alloc, paragraph, cuts, points, &options, is_later, offsets, count,
+        ),
     }
 }
 

@@ -7,13 +7,13 @@ use textwrap_calls::options::TextwrapOptions;
 use textwrap_calls::status::{DONE, NOT_UTF8, TOO_SMALL, UNKNOWN_OPTIONS};
 
 /// A call and a text; the status, the length that is told, and the room afterwards.
-type TextRow = (TextCall<'static>, &'static [u8], u32, usize, &'static [u8]);
+pub(super) type TextRow = (TextCall<'static>, &'static [u8], u32, usize, &'static [u8]);
 
 /// How much room the longest row has.
 const MOST: usize = 64;
 
 /// Asserts what each row says.
-fn assert_texts(rt: &(impl Abort + AllocGlobal), rows: &[TextRow]) {
+pub(super) fn assert_texts(rt: &(impl Abort + AllocGlobal), rows: &[TextRow]) {
     for (row, &(call, text, status, len, expected)) in rows.iter().enumerate() {
         let mut room = [BLANK; MOST];
         let room = &mut room[..expected.len().min(MOST)];

@@ -269,6 +269,37 @@ static textwrap_status in_lines_at_ends(struct lent *lent) {
                              &lent->count, lent->room, 256, &lent->len);
 }
 
+static textwrap_status ends_of_lines(struct lent *lent) {
+    textwrap_options o = options_of(1, 0);
+    return textwrap_ends_at(bytes("foo bar"), 7, &CUT, 1, &POINT, 1, &o, 0, lent->places, 16,
+                            &lent->count);
+}
+
+static textwrap_status in_paragraphs(struct lent *lent) {
+    textwrap_options o = options_of(0, 0);
+    textwrap_paragraph paragraphs[2];
+    textwrap_status status = textwrap_paragraphs(bytes("foo\nbar"), 7, &o, paragraphs, 2, &lent->count);
+    for (size_t i = 0; status == TEXTWRAP_DONE && i < lent->count; i++)
+        lent->places[i] = paragraphs[i].offset;
+    return status;
+}
+
+/* A paragraph that is one line as a whole, and one that is cut, split and divided. */
+static const textwrap_steps STEPS[2] = {{&CUT, 0, &POINT, 0, ENDS, 0}, {&CUT, 1, &POINT, 1, ENDS, 2}};
+
+static textwrap_status wrapped_in_steps(struct lent *lent) {
+    textwrap_options o = options_of(0, 0);
+    o.width = 5;
+    return textwrap_wrap_at(bytes("foo\nfoo bar"), 11, STEPS, 2, &o, lent->lines, 16, &lent->count,
+                            lent->room, 256, &lent->len);
+}
+
+static textwrap_status filled_in_steps(struct lent *lent) {
+    textwrap_options o = options_of(0, 0);
+    o.width = 5;
+    return textwrap_fill_at(bytes("foo\nfoo bar"), 11, STEPS, 2, &o, lent->room, 256, &lent->len);
+}
+
 /* Cuts before each byte but the first. */
 static size_t cut_everywhere(void *context, const uint8_t *paragraph, size_t len, size_t *cuts) {
     (void)context;
@@ -363,6 +394,10 @@ static const struct call {
     {"break_apart", broken},
     {"pieces_at", in_pieces_at_cuts},
     {"lines_at", in_lines_at_ends},
+    {"ends_at", ends_of_lines},
+    {"paragraphs", in_paragraphs},
+    {"wrap_at", wrapped_in_steps},
+    {"fill_at", filled_in_steps},
     {"wrap_by", by_no_functions},
     {"wrap_by at least cost", by_no_functions_at_least_cost},
     {"wrap_by a function", by_a_function},

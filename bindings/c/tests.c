@@ -103,6 +103,10 @@ static void texts_that_are_not_utf8_are_refused(void) {
         textwrap_pieces_at(wrong, 3, &place, 1, &place, 1, &o, pieces, 3, &count),
         textwrap_lines_at(wrong, 3, &place, 1, &place, 1, &place, 1, &o, 0, lines, 3, &count, room, 32,
                           &len),
+        textwrap_ends_at(wrong, 3, &place, 1, &place, 1, &o, 0, places, 3, &count),
+        textwrap_paragraphs(wrong, 3, &o, NULL, 0, &count),
+        textwrap_wrap_at(wrong, 3, NULL, 0, &o, lines, 3, &count, room, 32, &len),
+        textwrap_fill_at(wrong, 3, NULL, 0, &o, room, 32, &len),
     };
     for (size_t i = 0; i < sizeof statuses / sizeof *statuses; i++)
         CHECK(statuses[i] == TEXTWRAP_NOT_UTF8);
@@ -572,6 +576,33 @@ static void pieces_are_places(void) {
     CHECK(count == 3 && stands(pieces[2], 6, 1, 0, 1));
     o.version = 0;
     CHECK(textwrap_pieces(bytes("foo"), 3, &o, pieces, 4, &count) == TEXTWRAP_UNKNOWN_OPTIONS);
+}
+
+static void a_text_has_lines_in_steps(void) {
+    const size_t cut = 4, point = 2, words[2] = {1, 2}, pieces[2] = {1, 3};
+    textwrap_steps steps[3] = {
+        {&cut, 1, &point, 0, words, 2}, {&cut, 0, &point, 0, words, 0}, {&cut, 1, &point, 1, pieces, 2}};
+    textwrap_options o = textwrap_options_new(5);
+    textwrap_paragraph paragraphs[3];
+    textwrap_widths widths;
+    textwrap_line lines[5];
+    uint8_t room[32];
+    size_t ends[3], count = 0, len = 0;
+    const uint8_t *text = bytes("foo bar\n\nbaz qux");
+    CHECK(textwrap_paragraphs(text, 16, &o, paragraphs, 3, &count) == TEXTWRAP_DONE && count == 3);
+    CHECK(paragraphs[2].offset == 9 && paragraphs[2].len == 7);
+    CHECK(textwrap_paragraph_widths(text, 7, &o, 0, &widths) == TEXTWRAP_DONE);
+    CHECK(widths.is_whole == 0 && widths.first == 5 && widths.later == 5);
+    CHECK(textwrap_ends_at(text, 7, &cut, 1, &point, 0, &o, 0, ends, 3, &count) == TEXTWRAP_DONE);
+    CHECK(count == 2 && ends[0] == 1 && ends[1] == 2);
+    CHECK(textwrap_wrap_at(text, 16, steps, 3, &o, lines, 5, &count, room, 32, &len) == TEXTWRAP_DONE);
+    CHECK(count == 5 && len == 3 && memcmp(room, "ba-", 3) == 0);
+    CHECK(lines[3].is_built == 1 && lines[4].offset == 11 && lines[4].len == 5);
+    CHECK(textwrap_fill_at(text, 16, steps, 3, &o, room, 32, &len) == TEXTWRAP_DONE);
+    CHECK(len == 18 && memcmp(room, "foo\nbar\n\nba-\nz qux", 18) == 0);
+    CHECK(textwrap_fill_at(text, 16, steps, 2, &o, room, 32, &len) == TEXTWRAP_WRONG_PLACES);
+    CHECK(textwrap_wrap_at(text, 16, steps, 2, &o, lines, 5, &count, room, 32, &len)
+          == TEXTWRAP_WRONG_PLACES);
 }
 
 static void words_are_cut_split_and_broken(void) {
@@ -1056,6 +1087,7 @@ int main(void) {
     wrong_tables_are_refused();
     fragments_are_divided();
     pieces_are_places();
+    a_text_has_lines_in_steps();
     words_are_cut_split_and_broken();
     a_paragraph_is_laid_out_in_steps();
     a_word_may_have_many_points();

@@ -55,6 +55,24 @@ pub const EDITS: &[Edit] = &[
         new: "subsequent_indent: self.initial_indent.into(),",
     },
     Edit {
+        name: "a line stands before the first paragraph",
+        file: "src/custom.rs",
+        old: "let mut is_later = false;",
+        new: "let mut is_later = true;",
+    },
+    Edit {
+        name: "the points of a word are taken for those of its paragraph",
+        file: "src/custom.rs",
+        old: "points.extend(inside.iter().map(|point| start + point));",
+        new: "points.extend(inside.iter().map(|point| start.min(1) + point));",
+    },
+    Edit {
+        name: "a function of the caller is given the first width for all lines",
+        file: "src/custom.rs",
+        old: "&[widths.first, widths.later]",
+        new: "&[widths.first, widths.first]",
+    },
+    Edit {
         name: "an empty line has a word",
         file: "src/word_separators.rs",
         old: "Box::new(words.filter(|_| !line.is_empty()))",

@@ -86,6 +86,14 @@ struct Steps {
     ends: Vec<usize>,
 }
 
+impl Steps {
+    /// How many pieces there are where none is broken: the first, the empty one of an indent before it,
+    /// and one after each place.
+    fn pieces_guess(&self) -> usize {
+        self.cuts.len() + self.points.len() + 2
+    }
+}
+
 /// The steps, as they are handed to a call.
 fn as_sys(found: &[Steps]) -> Result<Vec<sys::Steps>, OutOfMemory> {
     let mut steps = room_for(found.len())?;
@@ -104,7 +112,8 @@ fn as_sys(found: &[Steps]) -> Result<Vec<sys::Steps>, OutOfMemory> {
 fn lines_at(text: &str, found: &[Steps], options: &Options<'_>) -> Result<Reported, OutOfMemory> {
     let (steps, with) = (as_sys(found)?, options.to_sys());
     let lines = found.iter().map(|steps| steps.ends.len()).sum();
-    let bytes = guess::built(text, options, lines);
+    let has_points = found.iter().any(|steps| !steps.points.is_empty());
+    let bytes = guess::built(text, options, lines, has_points);
     // SAFETY: as in `filled`.
     unsafe {
         Reported::by(lines, bytes, |r| {
@@ -163,12 +172,12 @@ impl Paragraph<'_> {
         let found = Steps { cuts, points, ends: Vec::new() };
         let ends = match self.options.wrap_algorithm {
             WrapAlgorithm::Custom(function) => {
-                let pieces = self.pieces_at(&found, widths.later)?;
+                let pieces = self.pieces_at(&found)?;
                 let mut words = room_for(pieces.len())?;
                 words.extend(pieces.iter().map(|piece| Word::at(self.text, piece)));
                 ends_between(&words, &function(&words, &[widths.first, widths.later]))?
             }
-            _ => self.ends_at(&found, widths.later)?,
+            _ => self.ends_at(&found)?,
         };
         Ok(Steps { ends, ..found })
     }
@@ -189,20 +198,13 @@ impl Paragraph<'_> {
         Ok(points)
     }
 
-    /// How many pieces there mostly are: the first word, the empty one before it, and what stands
-    /// between places. Two for each line that broken words fill.
-    fn pieces_guess(&self, found: &Steps, later_width: usize) -> usize {
-        let broken = if self.options.break_words { self.text.len() / later_width.max(1) } else { 0 };
-        (found.cuts.len() + found.points.len() + 2).saturating_add(broken.saturating_mul(2))
-    }
-
     /// The pieces that it is divided into lines of.
-    fn pieces_at(&self, found: &Steps, later_width: usize) -> Result<Vec<sys::Piece>, OutOfMemory> {
+    fn pieces_at(&self, found: &Steps) -> Result<Vec<sys::Piece>, OutOfMemory> {
         let Steps { cuts, points, .. } = found;
         let (at, len) = (self.text.as_ptr(), self.text.len());
         // SAFETY: as in `filled`.
         let pieces = unsafe {
-            listed(self.pieces_guess(found, later_width), |pieces, pieces_len, count| {
+            listed(found.pieces_guess(), |pieces, pieces_len, count| {
                 sys::textwrap_pieces_at(
                     at, len, cuts.as_ptr(), cuts.len(), points.as_ptr(), points.len(), self.with,
                     pieces, pieces_len, count,
@@ -216,12 +218,12 @@ impl Paragraph<'_> {
     ///
     /// # Panics
     /// If a cost needs more than 128 bits.
-    fn ends_at(&self, found: &Steps, later_width: usize) -> Result<Vec<usize>, OutOfMemory> {
+    fn ends_at(&self, found: &Steps) -> Result<Vec<usize>, OutOfMemory> {
         let Steps { cuts, points, .. } = found;
         let (at, len) = (self.text.as_ptr(), self.text.len());
         // SAFETY: as in `filled`.
         let ends = unsafe {
-            listed(self.pieces_guess(found, later_width), |ends, ends_len, count| {
+            listed(found.pieces_guess(), |ends, ends_len, count| {
                 sys::textwrap_ends_at(
                     at, len, cuts.as_ptr(), cuts.len(), points.as_ptr(), points.len(), self.with,
                     self.is_later.into(), ends, ends_len, count,

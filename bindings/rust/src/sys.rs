@@ -436,25 +436,6 @@ extern "C" {
         count: *mut usize,
     ) -> u32;
 
-    pub fn textwrap_lines_at(
-        paragraph: *const u8,
-        paragraph_len: usize,
-        cuts: *const usize,
-        cuts_len: usize,
-        points: *const usize,
-        points_len: usize,
-        ends: *const usize,
-        ends_len: usize,
-        options: *const Options,
-        is_later: usize,
-        lines: *mut Line,
-        lines_len: usize,
-        count: *mut usize,
-        room: *mut u8,
-        room_len: usize,
-        len: *mut usize,
-    ) -> u32;
-
     pub fn textwrap_ends_at(
         paragraph: *const u8,
         paragraph_len: usize,

@@ -4,8 +4,10 @@
 //! here, and the library makes the lines of it.
 use crate::core::{display_width, Word};
 use crate::display::fallible::justify;
-use crate::fallible::{push, push_line, unfill};
-use crate::room::{listed, reserve, room_for, text_room, written, OutOfMemory, Refusal, Reported};
+use crate::fallible::{push, unfill};
+use crate::room::{
+    listed, mapped, reserve, room_for, text_room, written, OutOfMemory, Refusal, Reported,
+};
 use crate::wrap_algorithms::OverflowError;
 use crate::{guess, sys};
 use crate::{Options, WrapAlgorithm};
@@ -16,7 +18,7 @@ use alloc::vec::Vec;
 /// The filled text.
 pub(crate) fn filled(text: &str, options: &Options<'_>) -> Result<String, OutOfMemory> {
     let found = steps_of(text, options)?;
-    let (steps, with) = (as_sys(&found)?, options.to_sys());
+    let (steps, with) = (mapped(&found, Steps::to_sys)?, options.to_sys());
     // SAFETY: a text and steps with their lengths, the options, and room with its length; the call
     // writes what it reports.
     unsafe {
@@ -33,10 +35,7 @@ pub(crate) fn wrapped<'t>(
     text: &'t str,
     options: &Options<'_>,
 ) -> Result<Vec<Cow<'t, str>>, OutOfMemory> {
-    let reported = lines_at(text, &steps_of(text, options)?, options)?;
-    let mut lines = room_for(reported.len())?;
-    reported.lines(text).try_for_each(|line| push_line(&mut lines, line))?;
-    Ok(lines)
+    lines_at(text, &steps_of(text, options)?, options)?.cows(text)
 }
 
 /// The filled text, with all lines but the last of each paragraph justified after their indents.
@@ -92,25 +91,23 @@ impl Steps {
     fn pieces_guess(&self) -> usize {
         self.cuts.len() + self.points.len() + 2
     }
-}
 
-/// The steps, as they are handed to a call.
-fn as_sys(found: &[Steps]) -> Result<Vec<sys::Steps>, OutOfMemory> {
-    let mut steps = room_for(found.len())?;
-    steps.extend(found.iter().map(|Steps { cuts, points, ends }| sys::Steps {
-        cuts: cuts.as_ptr(),
-        cuts_len: cuts.len(),
-        points: points.as_ptr(),
-        points_len: points.len(),
-        ends: ends.as_ptr(),
-        ends_len: ends.len(),
-    }));
-    Ok(steps)
+    fn to_sys(&self) -> sys::Steps {
+        let Steps { cuts, points, ends } = self;
+        sys::Steps {
+            cuts: cuts.as_ptr(),
+            cuts_len: cuts.len(),
+            points: points.as_ptr(),
+            points_len: points.len(),
+            ends: ends.as_ptr(),
+            ends_len: ends.len(),
+        }
+    }
 }
 
 /// The lines of a text at these steps of its paragraphs.
 fn lines_at(text: &str, found: &[Steps], options: &Options<'_>) -> Result<Reported, OutOfMemory> {
-    let (steps, with) = (as_sys(found)?, options.to_sys());
+    let (steps, with) = (mapped(found, Steps::to_sys)?, options.to_sys());
     let lines = found.iter().map(|steps| steps.ends.len()).sum();
     let has_points = found.iter().any(|steps| !steps.points.is_empty());
     let bytes = guess::built(text, options, lines, has_points);
@@ -165,7 +162,10 @@ impl Paragraph<'_> {
         };
         debug_assert_eq!(status, sys::DONE, "texts are UTF-8, and the options are known");
         if widths.is_whole != 0 {
-            return Ok(Steps { ends: one_line()?, ..Steps::default() });
+            let mut ends = room_for(1)?;
+            // One line. The library does not look where it ends.
+            ends.push(0);
+            return Ok(Steps { ends, ..Steps::default() });
         }
         let cuts = self.options.word_separator.cuts_of(self.text)?;
         let points = self.points_between(&cuts)?;
@@ -235,13 +235,6 @@ impl Paragraph<'_> {
             ends => Ok(ends?),
         }
     }
-}
-
-/// The end of a single line.
-fn one_line() -> Result<Vec<usize>, OutOfMemory> {
-    let mut ends = room_for(1)?;
-    ends.push(0);
-    Ok(ends)
 }
 
 /// Where lines of words end that a function of the caller gave.

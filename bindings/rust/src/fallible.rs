@@ -12,7 +12,7 @@
 //! ```
 use crate::display::Gaps;
 use crate::out_of_memory::BeforeCall;
-use crate::room::{reserve, reserve_bytes, written, LineText, Reported};
+use crate::room::{reserve_bytes, written, Reported};
 use crate::{columns, custom, guess, sys};
 use crate::{LineEnding, Options};
 use alloc::borrow::Cow;
@@ -173,7 +173,7 @@ where
 }
 
 /// The same by borrowed options.
-fn wrapped<'t>(
+pub(crate) fn wrapped<'t>(
     text: &'t str,
     options: &Options<'_>,
 ) -> Result<Vec<Cow<'t, str>>, OutOfMemory> {
@@ -251,15 +251,5 @@ fn rows(
 pub(crate) fn push(text: &mut String, more: &str) -> Result<(), OutOfMemory> {
     reserve_bytes(text, more.len())?;
     text.push_str(more);
-    Ok(())
-}
-
-/// Adds a line to a list.
-pub(crate) fn push_line<'t>(
-    lines: &mut Vec<Cow<'t, str>>,
-    line: LineText<'t, '_>,
-) -> Result<(), OutOfMemory> {
-    reserve(lines, 1)?;
-    lines.push(line.into_cow()?);
     Ok(())
 }

@@ -219,10 +219,6 @@ impl Reported {
         }
     }
 
-    pub fn len(&self) -> usize {
-        self.places.len()
-    }
-
     /// The lines of a call whose lines are all texts of their own.
     pub fn texts(self) -> Result<Vec<String>, OutOfMemory> {
         in_place(self.places, |line| copied(line_at(line, "", &self.built).as_str()))

@@ -4,16 +4,15 @@
 
 #include "textwrap_proved.h"
 
-/* What a call works on, and what is found of all paragraphs: each list goes on where the one of the
- * paragraph before it ends. */
+/* What a call works on. What is found of one paragraph after another, its cuts, its points and its ends,
+ * stands in one list of places. */
 typedef struct {
     const textwrap_options *options;
     const textwrap_functions *functions;
     textwrap_paragraph *paragraphs;
     textwrap_steps *steps;
     size_t count;
-    size_t *cuts, *points, *ends;
-    size_t cuts_len, points_len, ends_len;
+    size_t *places, *next; /* all of them, and where the next ones go */
     textwrap_piece *pieces;
     size_t pieces_room;
     size_t is_later; /* whether a line stands before the paragraph */
@@ -35,17 +34,16 @@ static textwrap_status told(size_t count, size_t most) {
 
 /* Finds the cuts of a paragraph: by the caller's function, or before the words that the options name. */
 static textwrap_status find_cuts(work *w, const uint8_t *paragraph, size_t len, textwrap_steps *s) {
-    size_t *cuts = w->cuts + w->cuts_len, words = 0;
-    s->cuts = cuts;
+    size_t words = 0;
     if (w->functions->cut != NULL) {
-        s->cuts_len = w->functions->cut(w->functions->context, paragraph, len, cuts);
+        s->cuts_len = w->functions->cut(w->functions->context, paragraph, len, w->next);
         return told(s->cuts_len, len);
     }
     textwrap_options whole = whole_words(w->options);
     textwrap_status status =
         textwrap_pieces(paragraph, len, &whole, w->pieces, w->pieces_room, &words);
     for (size_t i = 1; status == TEXTWRAP_DONE && i < words; i++)
-        cuts[s->cuts_len++] = w->pieces[i].offset;
+        w->next[s->cuts_len++] = w->pieces[i].offset;
     return status;
 }
 
@@ -53,7 +51,7 @@ static textwrap_status find_cuts(work *w, const uint8_t *paragraph, size_t len, 
 static textwrap_status find_word_points(work *w, const uint8_t *paragraph, const textwrap_piece *word,
                                         textwrap_steps *s) {
     const uint8_t *at = paragraph + word->offset;
-    size_t *points = w->points + w->points_len + s->points_len, count = 0;
+    size_t *points = w->next + s->points_len, count = 0;
     textwrap_status status;
     if (w->functions->split != NULL) {
         count = w->functions->split(w->functions->context, at, word->len, points);
@@ -61,20 +59,18 @@ static textwrap_status find_word_points(work *w, const uint8_t *paragraph, const
     } else {
         status = textwrap_split_points(at, word->len, points, word->len, &count);
     }
-    if (status != TEXTWRAP_DONE) return status;
-    for (size_t i = 0; i < count; i++) {
+    for (size_t i = 0; status == TEXTWRAP_DONE && i < count; i++) {
         if (points[i] == 0 || points[i] >= word->len) return TEXTWRAP_WRONG_PLACES;
         points[i] += word->offset;
     }
     s->points_len += count;
-    return TEXTWRAP_DONE;
+    return status;
 }
 
 /* Finds the points of all words of a paragraph that is cut at its cuts. */
 static textwrap_status find_points(work *w, const uint8_t *paragraph, size_t len, textwrap_steps *s) {
     textwrap_options whole = whole_words(w->options);
     size_t words = 0;
-    s->points = w->points + w->points_len;
     if (w->functions->split == NULL && w->options->split_at_hyphens == 0) return TEXTWRAP_DONE;
     textwrap_status status = textwrap_pieces_at(paragraph, len, s->cuts, s->cuts_len, s->points, 0,
                                                 &whole, w->pieces, w->pieces_room, &words);
@@ -87,40 +83,39 @@ static textwrap_status find_points(work *w, const uint8_t *paragraph, size_t len
  * options. */
 static textwrap_status find_ends(work *w, const uint8_t *paragraph, size_t len,
                                  const textwrap_widths *widths, textwrap_steps *s) {
-    size_t *ends = w->ends + w->ends_len, pieces = 0;
     const size_t line_widths[2] = {widths->first, widths->later};
-    s->ends = ends;
+    size_t pieces = 0;
     if (w->functions->divide == NULL)
         return textwrap_ends_at(paragraph, len, s->cuts, s->cuts_len, s->points, s->points_len,
-                                w->options, w->is_later, ends, len + 2, &s->ends_len);
+                                w->options, w->is_later, w->next, len + 2, &s->ends_len);
     textwrap_status status =
         textwrap_pieces_at(paragraph, len, s->cuts, s->cuts_len, s->points, s->points_len, w->options,
                            w->pieces, w->pieces_room, &pieces);
     if (status != TEXTWRAP_DONE) return status;
     s->ends_len =
-        w->functions->divide(w->functions->context, w->pieces, pieces, line_widths, ends);
+        w->functions->divide(w->functions->context, w->pieces, pieces, line_widths, w->next);
     return told(s->ends_len, pieces + 1);
 }
 
 /* Finds the steps of a paragraph. One that is a line as a whole has none. */
 static textwrap_status find_steps(work *w, const uint8_t *paragraph, size_t len, textwrap_steps *s) {
     textwrap_widths widths;
-    textwrap_steps none = {w->cuts, 0, w->points, 0, w->ends, 0};
-    *s = none;
     textwrap_status status =
         textwrap_paragraph_widths(paragraph, len, w->options, w->is_later, &widths);
-    if (status == TEXTWRAP_DONE && widths.is_whole) {
-        w->is_later = 1;
-        return TEXTWRAP_DONE;
-    }
-    if (status == TEXTWRAP_DONE) status = find_cuts(w, paragraph, len, s);
-    if (status == TEXTWRAP_DONE) status = find_points(w, paragraph, len, s);
-    if (status == TEXTWRAP_DONE) status = find_ends(w, paragraph, len, &widths, s);
+    s->cuts = s->points = s->ends = w->next;
     if (status != TEXTWRAP_DONE) return status;
-    w->cuts_len += s->cuts_len;
-    w->points_len += s->points_len;
-    w->ends_len += s->ends_len;
-    if (s->ends_len > 0) w->is_later = 1;
+    if (!widths.is_whole) {
+        status = find_cuts(w, paragraph, len, s);
+        if (status != TEXTWRAP_DONE) return status;
+        s->points = w->next += s->cuts_len;
+        status = find_points(w, paragraph, len, s);
+        if (status != TEXTWRAP_DONE) return status;
+        s->ends = w->next += s->points_len;
+        status = find_ends(w, paragraph, len, &widths, s);
+        if (status != TEXTWRAP_DONE) return status;
+        w->next += s->ends_len;
+    }
+    if (widths.is_whole || s->ends_len > 0) w->is_later = 1;
     return TEXTWRAP_DONE;
 }
 
@@ -139,21 +134,18 @@ static textwrap_status find_paragraphs(work *w, const uint8_t *text, size_t text
 static textwrap_status make_room(work *w, size_t text_len) {
     for (size_t i = 0; i < w->count; i++)
         if (w->pieces_room < w->paragraphs[i].len + 1) w->pieces_room = w->paragraphs[i].len + 1;
+    if (text_len > SIZE_MAX / 8) return TEXTWRAP_OUT_OF_MEMORY;
     w->steps = (textwrap_steps *)calloc(w->count, sizeof *w->steps);
-    w->cuts = (size_t *)calloc(text_len + 1, sizeof *w->cuts);
-    w->points = (size_t *)calloc(text_len + 1, sizeof *w->points);
-    w->ends = (size_t *)calloc(text_len + 2 * w->count, sizeof *w->ends);
+    w->places = (size_t *)calloc(3 * text_len + 2 * w->count, sizeof *w->places);
     w->pieces = (textwrap_piece *)calloc(w->pieces_room, sizeof *w->pieces);
-    int has_all = w->steps && w->cuts && w->points && w->ends && w->pieces;
-    return has_all ? TEXTWRAP_DONE : TEXTWRAP_OUT_OF_MEMORY;
+    w->next = w->places;
+    return w->steps && w->places && w->pieces ? TEXTWRAP_DONE : TEXTWRAP_OUT_OF_MEMORY;
 }
 
 static void end(work *w) {
     free(w->paragraphs);
     free(w->steps);
-    free(w->cuts);
-    free(w->points);
-    free(w->ends);
+    free(w->places);
     free(w->pieces);
 }
 

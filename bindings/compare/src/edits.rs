@@ -2,7 +2,8 @@
 //! comparison has to notice it. The old text has to stand there exactly once.
 //!
 //! Faults in what finds the line breaks have no place here: breaks are given to the original, or are
-//! counted where it has others.
+//! counted where it has others. Nor have those in the module `wrap_algorithms`, which no call on a text
+//! goes through; its examples are tests.
 
 /// A wrong line in place of a right one.
 pub struct Edit {
@@ -95,30 +96,6 @@ pub const EDITS: &[Edit] = &[
         file: "src/word_splitters.rs",
         old: "points.dedup();",
         new: "points.truncate(3);",
-    },
-    Edit {
-        name: "first fit has the later width for the first line",
-        file: "src/wrap_algorithms.rs",
-        old: "WrapAlgorithm::FirstFit => Ok(first_fit_ends(fragments, line_widths)?),",
-        new: "WrapAlgorithm::FirstFit => Ok(first_fit_ends(fragments, &line_widths[1..])?),",
-    },
-    Edit {
-        name: "a hyphen costs what it does by default",
-        file: "src/wrap_algorithms.rs",
-        old: "WrapAlgorithm::OptimalFit(penalties) if has_hyphen => penalties.hyphen_penalty,",
-        new: "WrapAlgorithm::OptimalFit(_) if has_hyphen => Penalties::new().hyphen_penalty,",
-    },
-    Edit {
-        name: "an overflow costs something even if its penalty is 0",
-        file: "src/wrap_algorithms.rs",
-        old: "overflow_penalty: penalties.overflow_penalty,",
-        new: "overflow_penalty: penalties.overflow_penalty.max(1),",
-    },
-    Edit {
-        name: "the fraction 0 is taken for 1",
-        file: "src/wrap_algorithms.rs",
-        old: "short_last_line_fraction: penalties.short_last_line_fraction,",
-        new: "short_last_line_fraction: penalties.short_last_line_fraction.max(1),",
     },
     Edit {
         name: "an empty line is a text of its own",

@@ -32,14 +32,24 @@ impl<'a> Layout<'a> {
     pub(crate) fn of(options: &Options<'a>) -> Layout<'a>
         ensures { layout_view result ≡ settings_view options.now }
     {
+        let Options {
+            width,
+            line_ending,
+            initial_indent,
+            subsequent_indent,
+            break_words,
+            preserve_trailing_space,
+            even_paragraphs,
+            ..
+        } = *options;
         Layout {
-            width: options.width,
-            line_ending: options.line_ending,
-            initial_indent: options.initial_indent,
-            subsequent_indent: options.subsequent_indent,
-            break_words: options.break_words,
-            preserve_trailing_space: options.preserve_trailing_space,
-            even_paragraphs: options.even_paragraphs,
+            width,
+            line_ending,
+            initial_indent,
+            subsequent_indent,
+            break_words,
+            preserve_trailing_space,
+            even_paragraphs,
         }
     }
 }

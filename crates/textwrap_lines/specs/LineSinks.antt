@@ -1,10 +1,12 @@
 -- What takes the lines of a text.
 use Rattle.std.specs.Prelude.{◌≡◌, ℕ, true, nat_lt, List, ◌++◌, length, map, if◌then◌else◌}
 use Rattle.std.specs.String.{string_bytes}
+use Rattle.textwrap_words.specs.LentText.{IsLent}
 use Rattle.textwrap_lines.specs.LineEnding.{ending_bytes, join_with}
 use Rattle.textwrap_lines.specs.Paragraph.{line_bytes, line_view}
 use Rattle.textwrap_lines.specs.Places.{CutLine, built_text, further, lines_of, places_of}
 use Rattle.textwrap_lines.specs.declared.line_sinks.JoinedLines.{JoinedLines}
+use Rattle.textwrap_lines.specs.declared.line_sinks.LentLines.{LentLines}
 use Rattle.textwrap_lines.specs.declared.line_sinks.ListedLines.{ListedLines}
 use Rattle.textwrap_lines.specs.declared.places.PlacedLines.{PlacedLines}
 
@@ -25,6 +27,14 @@ pub record HoldsText {Z : Type 0} (first now : JoinedLines Z) (held : List CutLi
   pub ending : now.line_ending ≡ first.line_ending
   pub begun : now.begun ≡ nat_lt 0 (length held)
 
+-- the room that it began with was written over by the text of these lines
+pub record HoldsLent (first now : LentLines) (held : List CutLine) : Type 0 where
+  pub same : now.text.now.room.ghost_name ≡ first.text.now.room.ghost_name
+  pub text : IsLent now.text.now (join_with (ending_bytes first.line_ending)
+      (map line_bytes (lines_of held))) first.text.now.room.now
+  pub ending : now.line_ending ≡ first.line_ending
+  pub begun : now.begun ≡ nat_lt 0 (length held)
+
 -- the lines stand at these places, and its paragraph begins here
 pub record HoldsPlaces {Z : Type 0} (placed : PlacedLines Z) (start : ℕ) (held : List CutLine)
     : Type 0 where
@@ -37,5 +47,14 @@ pub record HasOneMore {Z : Type 0} (old new : JoinedLines Z) (line : List ℕ) :
   pub text : string_bytes new.text ≡ (if old.begun
       then string_bytes old.text ++ ending_bytes old.line_ending ++ line
       else string_bytes old.text ++ line)
+  pub ending : new.line_ending ≡ old.line_ending
+  pub begun : new.begun ≡ true
+
+-- the same in lent room
+pub record LentOneMore (old new : LentLines) (line : List ℕ) : Type 0 where
+  pub same : new.text.now.room.ghost_name ≡ old.text.now.room.ghost_name
+  pub text : (text before : List ℕ) → IsLent old.text.now text before
+      → IsLent new.text.now (if old.begun then text ++ ending_bytes old.line_ending ++ line
+      else text ++ line) before
   pub ending : new.line_ending ≡ old.line_ending
   pub begun : new.begun ≡ true

@@ -24,7 +24,7 @@ pub(crate) struct BuiltInParts {
 /// What the lines of a text are found by, beside the text.
 pub(crate) trait AnyOptions<A: Allocator> {
     ghost use Rattle.std.specs.Prelude.{◌≡◌, ◌<◌, ◌^◌, ℕ, Bool, List, map, length};
-    ghost use Rattle.std.specs.Prelude.{IfOk, IfErr, IfSome, alloc_error};
+    ghost use Rattle.std.specs.Prelude.{IfOk, IfErr, IfSome, IsSomeAnd, alloc_error};
     ghost use Rattle.std.specs.Io.{StartsWith};
     ghost use Rattle.std.specs.List.{flat_map};
     ghost use Rattle.std.specs.Str.{IsUtf8};
@@ -49,17 +49,22 @@ pub(crate) trait AnyOptions<A: Allocator> {
 
     ghost may_pass: { Self → List ℕ → Type 0 };
 
+    // Whether their parts are built in, and lines are found by first fit.
+    ghost is_direct: { Self → Type 0 };
+
     /// What they say, but for the algorithm, the separator and the splitter.
     fn layout(&self) -> Layout<'_>
         ensures { layout_view result ≡ settings self.now };
 
     /// The algorithm and the splitter, if they are built in and words stand between blanks.
     fn built_in_parts(&self) -> Option<BuiltInParts>
-        ensures { IfSome result (λ parts. (is_later : Bool) (paragraph : List ℕ)
+        ensures parts { IfSome result (λ parts. (is_later : Bool) (paragraph : List ℕ)
             (division : List (List WordText)) → IsDividedBy (as_algorithm parts.algorithm) sizes_of
             (widths_of (settings self.now) is_later)
             (pieces_of (settings self.now) (as_splitter parts.splitter) paragraph) division
-            → divides self.now is_later paragraph division) };
+            → divides self.now is_later paragraph division) }
+        ensures first_fit { is_direct self.now
+            → IsSomeAnd result (λ parts. parts.algorithm ≡ BuiltInAlgorithm.FirstFit) };
 
     /// The pieces of a paragraph that are divided.
     ///

@@ -2,14 +2,14 @@
 //!
 //! By first fit a paragraph of printable ASCII is divided line by line, and any other piece by piece.
 //! By least cost a paragraph is divided by where its pieces stand.
-ghost use Rattle.std.specs.Prelude.{◌≡◌, ◌<◌, map, IsTrue, IfOk, IfSome, OnOk, false};
+ghost use Rattle.std.specs.Prelude.{◌≡◌, ◌<◌, map, IsTrue, IfOk, IfSome, OnOk, false, true, IsOk, IsOkAnd, IsSomeAnd};
 ghost use Rattle.std.specs.Prelude.{Some, List, length};
 ghost use Rattle.textwrap_base.specs.Division.{IsGreedy};
 ghost use Rattle.textwrap_words.specs.Pieces.{as_splitter};
 ghost use Rattle.textwrap_words.specs.Units.{IsPrintable};
 ghost use Rattle.textwrap_words.specs.Words.{WordText, sizes_of};
 ghost use Rattle.textwrap_words.specs.WrapAlgorithms.{IsDividedBy};
-ghost use Rattle.textwrap_lines.specs.Direct.{as_algorithm};
+ghost use Rattle.textwrap_lines.specs.Direct.{IsDirect, as_algorithm};
 ghost use Rattle.textwrap_lines.specs.LineSinks.{Took};
 ghost use Rattle.textwrap_lines.specs.Options.{HasParts, layout_view, settings_view};
 ghost use Rattle.textwrap_lines.specs.Paragraph.{later_width, parts_from, pieces_of};
@@ -53,6 +53,8 @@ pub(crate) fn push_directly<'t, A: Allocator + Copy, S: LineSink<'t, A>>(
     lines: &mut S,
 ) -> Result<bool, AllocError>
     ensures name { S.name lines.new ≡ S.name lines.old }
+    ensures done { S.never_fails → parts.algorithm ≡ BuiltInAlgorithm.FirstFit
+        → IsOkAnd result (λ pushed. pushed ≡ true) }
     ensures pushed { IfOk result (λ pushed. IsTrue pushed → (division : List (List WordText))
         × IsDividedBy (as_algorithm parts.algorithm) sizes_of
         (widths_of (layout_view layout.now) is_later)
@@ -83,8 +85,10 @@ pub(crate) fn push_directly<'t, A: Allocator + Copy, S: LineSink<'t, A>>(
 
 /// The built-in parts of options, if they have some and words stand between blanks.
 pub(crate) fn built_in_parts(options: &Options<'_>) -> Option<BuiltInParts>
-    ensures { IfSome result (λ parts. HasParts options.now (settings_view options.now)
+    ensures parts { IfSome result (λ parts. HasParts options.now (settings_view options.now)
         (as_splitter parts.splitter) (as_algorithm parts.algorithm)) }
+    ensures first_fit { IsDirect options.now
+        → IsSomeAnd result (λ parts. parts.algorithm ≡ BuiltInAlgorithm.FirstFit) }
 {
     let splitter = match (options.word_separator, options.word_splitter) {
         (WordSeparator::AsciiSpace, WordSplitter::NoHyphenation) => BuiltInSplitter::NoHyphenation,
@@ -131,6 +135,7 @@ fn push_by_jumps<'t, A: Allocator + Copy, S: LineSink<'t, A>>(
     requires some { 0 < length paragraph.now }
     requires room { 0 < later_width (layout_view layout.now) }
     ensures name { S.name lines.new ≡ S.name lines.old }
+    ensures done { S.never_fails → IsOk result }
     ensures took { OnOk result ((division : List (List WordText))
         × IsGreedy sizes_of (widths_of (layout_view layout.now) is_later)
         (pieces_of (layout_view layout.now) (as_splitter splitter) paragraph.now) division

@@ -1,5 +1,8 @@
 //! Filling: a wrapped text as one text.
-ghost use Rattle.std.specs.Prelude.{◌≡◌, alloc_error, map, string_bytes, IfOk, IfErr};
+ghost use Rattle.std.specs.Prelude.{◌≡◌, ℕ, List, length, alloc_error, map, string_bytes};
+ghost use Rattle.std.specs.Prelude.{IfOk, IfErr, IsOk};
+ghost use Rattle.textwrap_lines.specs.Direct.{IsDirect};
+ghost use Rattle.textwrap_words.specs.LentText.{as_len, written_over};
 ghost use Rattle.textwrap_lines.specs.LineEnding.{ending_bytes, join_with};
 ghost use Rattle.textwrap_lines.specs.Options.{Settings, settings_view, HasParts, MayOverflow};
 ghost use Rattle.textwrap_words.specs.WordSplitters.{Splitter};
@@ -9,11 +12,12 @@ ghost use Rattle.textwrap_lines.specs.Filling.{IsFilled};
 ghost use Rattle.textwrap_lines.specs.Text.{SomeMayPass64Bits};
 
 use crate::line_ending::LineEnding;
-use crate::line_sinks::{JoinedLines, ListedLines};
+use crate::line_sinks::{JoinedLines, LentLines, ListedLines};
 use crate::options::Options;
 use crate::wrapping::{Way, push_text};
 use std::alloc::{AllocError, Allocator};
 use std::borrow::CowStr;
+use textwrap_words::inner::LentText;
 use textwrap_words::wrap_algorithms::WrapError;
 
 /// The lines of [`wrap`](crate::wrap), joined by the line ending. At 10 columns `foo bar baz` becomes `foo bar`,
@@ -48,6 +52,39 @@ pub fn fill<A: Allocator + Copy>(
     };
     push_text(alloc, text, &options, Way::Shortest, &mut lines)?;
     Ok(lines.text)
+}
+
+/// Writes the text that [`fill`](crate::fill) makes into lent room, as much of it as there is room
+/// for, and returns how many bytes it has, or the greatest number if they are more. The rest of the
+/// room stays as it was. At 10 columns `foo bar baz` leaves `foo b` in room of 5 bytes, and 11 is
+/// returned.
+///
+/// # Errors
+/// Those of [`wrap`](crate::wrap).
+pub fn fill_into<A: Allocator + Copy>(
+    alloc: A,
+    text: &str,
+    options: &Options<'_>,
+    room: &mut [u8],
+) -> Result<usize, WrapError>
+    ensures filled { IfOk result (λ len. (filled : List ℕ) × IsFilled (settings_view options.now)
+        (DividesBy options.now) text.now filled × (len ≡ as_len (length filled))
+        × (room.new ≡ written_over room.old filled)) }
+    // By first fit and built-in parts no memory is needed.
+    ensures done { IsDirect options.now → IsOk result }
+    ensures only_memory { ¬ MayOverflow options.now
+        → IfErr result (λ error. error ≡ WrapError.Memory alloc_error) }
+    ensures no_overflow { ¬ SomeMayPass64Bits options.now text.now
+        → IfErr result (λ error. error ≡ WrapError.Memory alloc_error) }
+{
+    let mut filled = LentText::new(room);
+    let mut lines = LentLines {
+        text: &mut filled,
+        line_ending: options.line_ending,
+        begun: false,
+    };
+    push_text(alloc, text, options, Way::Shortest, &mut lines)?;
+    Ok(filled.len())
 }
 
 /// The same text as [`fill`](crate::fill), always by lists of words, of pieces and of lines, but

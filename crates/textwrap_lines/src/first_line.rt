@@ -1,6 +1,6 @@
 //! The first line of a paragraph by first fit, found piece by piece, and where it ends. The pieces
 //! after it do not depend on it, so the other lines can be found in another way.
-ghost use Rattle.std.specs.Prelude.{◌≡◌, List, [], ◌∷◌, IsCharBoundary, IfOk};
+ghost use Rattle.std.specs.Prelude.{◌≡◌, List, [], ◌∷◌, IsCharBoundary, IfOk, IsOk};
 ghost use Rattle.textwrap_words.specs.Pieces.{as_splitter};
 ghost use Rattle.textwrap_lines.specs.LineSinks.{Took};
 ghost use Rattle.textwrap_lines.specs.Options.{layout_view};
@@ -27,6 +27,7 @@ pub(crate) fn push_first_line<'t, A: Allocator + Copy, S: LineSink<'t, A>>(
     lines: &mut S,
 ) -> Result<usize, AllocError>
     ensures name { S.name lines.new ≡ S.name lines.old }
+    ensures done { S.never_fails → IsOk result }
     ensures boundary { IfOk result (λ end. IsCharBoundary paragraph.now end) }
     ensures first { IfOk result (λ end. (line : CutLine)
         × Took S.holds lines.old lines.new (line ∷ []) × IsFirstUpTo (layout_view layout.now)

@@ -7,6 +7,7 @@ ghost use Rattle.textwrap_lines.specs.Options.{settings_view};
 ghost use Rattle.textwrap_lines.specs.Paragraph.{first_width, indent_of, is_whole, later_width};
 ghost use Rattle.textwrap_lines.specs.Paragraph.{pieces_of};
 
+pub use crate::filling::fill_into;
 use crate::layout::{self, Layout};
 pub use crate::options::DEFAULTS;
 use crate::options::Options;

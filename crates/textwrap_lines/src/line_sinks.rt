@@ -6,16 +6,20 @@ ghost use Rattle.textwrap_lines.specs.Paragraph.{assembled_line, line_view};
 use crate::line_ending::LineEnding;
 use std::alloc::{AllocError, Allocator};
 use std::borrow::CowStr;
+use textwrap_words::inner::LentText;
 
 /// What takes lines, one after another.
 pub(crate) trait LineSink<'t, A: Allocator> {
-    ghost use Rattle.std.specs.Prelude.{◌≡◌, ◌<◌, ◌++◌, ℕ, [], ◌∷◌, List, length, nat_lt, OnOk};
+    ghost use Rattle.std.specs.Prelude.{◌≡◌, ◌<◌, ◌++◌, ℕ, [], ◌∷◌, List, length, nat_lt, OnOk, IsOk};
     ghost use Rattle.textwrap_lines.specs.LineSinks.{Took};
     ghost use Rattle.textwrap_lines.specs.Paragraph.{assembled_line, text_limit};
     ghost use Rattle.textwrap_lines.specs.Places.{CutLine, cut_line};
 
     // The reference that it writes through, if it has one.
     ghost name: { Self → ℕ };
+
+    // That memory never runs out for it, as it needs none.
+    ghost never_fails: { Type 0 };
 
     // Since it was the first of these it took some lines, and is now the second. Its next lines are
     // those of a paragraph that so many bytes of the text come before. If it does not keep that
@@ -49,6 +53,7 @@ pub(crate) trait LineSink<'t, A: Allocator> {
     ) -> Result<(), AllocError>
         requires { start < text_limit }
         ensures name { name self.new ≡ name self.old }
+        ensures done { never_fails → IsOk result }
         ensures took { OnOk result (Took holds self.old self.new
             (cut_line start (assembled_line indent.now slice.now penalty.now) ∷ [])) };
 }
@@ -64,6 +69,8 @@ impl<'l, 't, A: Allocator> LineSink<'t, A> for ListedLines<'l, 't, A> {
     ghost use Rattle.textwrap_lines.specs.LineSinks.{HoldsList};
 
     ghost name = { λ sink. sink.lines.ghost_name };
+
+    ghost never_fails = { ⊥ };
 
     ghost holds = { λ first now start held. HoldsList now held };
 
@@ -99,6 +106,8 @@ impl<'t, A: Allocator> LineSink<'t, A> for JoinedLines<A> {
     ghost use Rattle.textwrap_lines.specs.LineSinks.{HoldsText};
 
     ghost name = { λ sink. 0 };
+
+    ghost never_fails = { ⊥ };
 
     ghost holds = { λ first now start held. HoldsText first now held };
 
@@ -143,6 +152,63 @@ impl<A: Allocator> JoinedLines<A> {
         self.text.push_str(indent)?;
         self.text.push_str(slice)?;
         self.text.push_str(penalty)
+    }
+}
+
+/// A text of lines in lent room, with the line ending between each two.
+#[derive(Drop)]
+pub(crate) struct LentLines<'l, 'r> {
+    pub(crate) text: &'l mut LentText<'r>,
+    pub(crate) line_ending: LineEnding,
+    /// Whether it has a line.
+    pub(crate) begun: bool,
+}
+
+impl<'t, 'l, 'r, A: Allocator> LineSink<'t, A> for LentLines<'l, 'r> {
+    ghost use Rattle.std.specs.Prelude.{⊤};
+    ghost use Rattle.textwrap_lines.specs.LineSinks.{HoldsLent};
+
+    ghost name = { λ sink. sink.text.ghost_name };
+
+    ghost never_fails = { ⊤ };
+
+    ghost holds = { λ first now start held. HoldsLent first now held };
+
+    fn has_line(&self) -> bool {
+        self.begun
+    }
+
+    fn begin_paragraph(&mut self, offset: usize) {}
+
+    fn push_line(
+        &mut self,
+        alloc: A,
+        indent: &str,
+        start: usize,
+        slice: &'t str,
+        penalty: &str,
+    ) -> Result<(), AllocError> {
+        self.add_line(indent, slice, penalty);
+        Ok(())
+    }
+}
+
+impl LentLines<'_, '_> {
+    ghost use Rattle.std.specs.Prelude.{◌++◌};
+    ghost use Rattle.textwrap_lines.specs.LineSinks.{LentOneMore};
+
+    /// Writes a line, and the ending before it where one stands there.
+    fn add_line(&mut self, indent: &str, slice: &str, penalty: &str)
+        ensures same { self.new.text.ghost_name ≡ self.old.text.ghost_name }
+        ensures more { LentOneMore self.old self.new (indent.now ++ slice.now ++ penalty.now) }
+    {
+        if self.begun {
+            self.text.push(self.line_ending.as_str().as_bytes());
+        }
+        self.begun = true;
+        self.text.push(indent.as_bytes());
+        self.text.push(slice.as_bytes());
+        self.text.push(penalty.as_bytes());
     }
 }
 

@@ -1,7 +1,7 @@
 //! Lines by first fit that are found piece by piece: of the line that takes the next piece, a few
 //! numbers are kept, and no list of words.
 ghost use Rattle.std.specs.Prelude.{◌≡◌, ℕ, ◌*◌, ◌^◌, ◌+◌, ◌<◌, ◌≤◌, List, [], ◌∷◌, length};
-ghost use Rattle.std.specs.Prelude.{IsCharBoundary, OnOk};
+ghost use Rattle.std.specs.Prelude.{IsCharBoundary, OnOk, IsOk};
 ghost use Rattle.textwrap_base.specs.Division.{IsGreedy};
 ghost use Rattle.textwrap_words.specs.Pieces.{as_splitter};
 ghost use Rattle.textwrap_words.specs.Words.{WordText, sizes_of};
@@ -56,6 +56,7 @@ pub(crate) fn push_lines_by_pieces<'t, A: Allocator + Copy, S: LineSink<'t, A>>(
     lines: &mut S,
 ) -> Result<(), AllocError>
     ensures name { S.name lines.new ≡ S.name lines.old }
+    ensures done { S.never_fails → IsOk result }
     ensures took { OnOk result ((division : List (List WordText))
         × IsGreedy sizes_of (widths_of (layout_view layout.now) is_later)
         (pieces_of (layout_view layout.now) (as_splitter splitter) paragraph.now) division
@@ -152,6 +153,7 @@ impl<'t, 'a> OpenLine<'t, 'a> {
         lines: &mut S,
     ) -> Result<(), AllocError>
         ensures name { S.name lines.new ≡ S.name lines.old }
+        ensures done { S.never_fails → IsOk result }
         ensures took { OnOk result (Took S.holds lines.old lines.new
             (line_of keeps_blanks (line_so_far self.now) ∷ [])) }
     {

@@ -111,6 +111,8 @@ impl<'t, A: Allocator> LineSink<'t, A> for PlacedLines<A> {
 
     ghost name = { λ sink. 0 };
 
+    ghost never_fails = { ⊥ };
+
     ghost holds = { λ first now start held. HoldsPlaces now start held };
 
     fn has_line(&self) -> bool {

@@ -2,7 +2,7 @@
 //! list of words: a line goes up to its width, and from there back to the last place where the text
 //! is cut.
 ghost use Rattle.std.specs.Prelude.{◌≡◌, ◌<◌, ◌≤◌, ◌-◌, true, length, take, drop};
-ghost use Rattle.std.specs.Prelude.{IsCharBoundary, OnOk, if◌then◌else◌};
+ghost use Rattle.std.specs.Prelude.{IsCharBoundary, OnOk, IsOk, if◌then◌else◌};
 ghost use Rattle.textwrap_words.specs.Blanks.{trimmed_len};
 ghost use Rattle.textwrap_words.specs.Pieces.{as_splitter, stand_from};
 ghost use Rattle.textwrap_lines.specs.Layout.{break_limit, limit_at};
@@ -39,6 +39,7 @@ pub(crate) fn push_printable_lines<'t, A: Allocator + Copy, S: LineSink<'t, A>>(
     requires start { IsCharBoundary paragraph.now start }
     requires room { 0 < later_width (layout_view layout.now) }
     ensures name { S.name lines.new ≡ S.name lines.old }
+    ensures done { S.never_fails → IsOk result }
     ensures took { OnOk result (Took S.holds lines.old lines.new (lines_left (layout_view layout.now)
         (no_pieces paragraph.now start (later_width (layout_view layout.now))
         (indent_of (layout_view layout.now) is_later)) (stand_from start

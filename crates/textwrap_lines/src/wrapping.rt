@@ -1,7 +1,8 @@
 //! Wrapping a text into lines.
 ghost use Rattle.std.specs.Prelude.{◌≡◌, ℕ, List, ◌∷◌, [], ◌++◌, ◌^◌, ◌<◌, length, take, drop, map};
 ghost use Rattle.std.specs.Prelude.{nat_lt, if◌then◌else◌, alloc_error, true, IfOk, IfErr, IfSome};
-ghost use Rattle.std.specs.Prelude.{◌≢◌, OnOk, MatchOption, Some, None};
+ghost use Rattle.std.specs.Prelude.{◌≢◌, OnOk, IsOk, MatchOption, Some, None};
+ghost use Rattle.textwrap_lines.specs.Direct.{IsDirect};
 ghost use Rattle.std.specs.List.{flat_map};
 ghost use Rattle.std.specs.Str.{IsUtf8};
 ghost use Rattle.std.specs.Io.{StartsWith};
@@ -155,6 +156,7 @@ pub(crate) fn push_text<'t, A: Allocator + Copy, S: LineSink<'t, A>, O: AnyOptio
 ) -> Result<(), WrapError>
     requires none { S.holds lines.now lines.now 0 [] }
     ensures name { S.name lines.new ≡ S.name lines.old }
+    ensures done { S.never_fails → O.is_direct options.now → way ≡ Way.Shortest → IsOk result }
     ensures lines { OnOk result ((taken : List CutLine) × AreCutLines (O.settings options.now)
         (O.divides options.now) text.now taken
         × (end : ℕ) × S.holds lines.old lines.new end taken) }
@@ -191,6 +193,7 @@ fn push_paragraph<'t, A: Allocator + Copy, S: LineSink<'t, A>, O: AnyOptions<A>>
     lines: &mut S,
 ) -> Result<(), WrapError>
     ensures name { S.name lines.new ≡ S.name lines.old }
+    ensures done { S.never_fails → O.is_direct options.now → way ≡ Way.Shortest → IsOk result }
     ensures taken { OnOk result ((parts : List LineParts)
         × AreParagraphParts (O.settings options.now) (O.divides options.now) is_later
         paragraph.now parts
@@ -221,6 +224,7 @@ fn push_pieces<'t, A: Allocator + Copy, S: LineSink<'t, A>, O: AnyOptions<A>>(
     lines: &mut S,
 ) -> Result<(), WrapError>
     ensures name { S.name lines.new ≡ S.name lines.old }
+    ensures done { S.never_fails → O.is_direct options.now → way ≡ Way.Shortest → IsOk result }
     ensures taken { OnOk result ((division : List (List WordText))
         × O.divides options.now is_later paragraph.now division
         × Took S.holds lines.old lines.new (cut_lines 0
@@ -509,6 +513,8 @@ impl<A: Allocator + Copy> AnyOptions<A> for Options<'_> {
     ghost may_overflow = { λ options. MayOverflow options };
 
     ghost may_pass = { λ options. MayPass64Bits options };
+
+    ghost is_direct = { λ options. IsDirect options };
 
     fn layout(&self) -> Layout<'_> {
         Layout::of(self)

@@ -3,6 +3,7 @@ pub mod Breaking
 pub mod Cuts
 pub mod Escapes
 pub mod Laws
+pub mod LentText
 pub mod LineEnds
 pub mod PieceCuts
 pub mod Pieces

@@ -8,6 +8,7 @@ mod characters;
 pub mod escapes;
 pub mod inner;
 pub mod laws;
+mod lent_text;
 mod pieces;
 mod printable;
 pub mod word_separators;

@@ -7,9 +7,12 @@ use Rattle.textwrap_base.proofs.Common.{Err}
 use Rattle.textwrap_lines.proofs.Common.{ending_bytes, join_with, Took, Line, line_bytes}
 use Rattle.textwrap_lines.proofs.Common.{further, assembled_line, CutLine, cut_line}
 use Rattle.textwrap_lines.proofs.Common.{built_bytes, lines_of, place_of}
-use Rattle.textwrap_lines.specs.LineSinks.{HasOneMore, HoldsPlaces, HoldsText}
+use Rattle.textwrap_words.specs.LentText.{IsLent}
+use Rattle.textwrap_lines.specs.LineSinks.{HasOneMore, HoldsLent, HoldsPlaces, HoldsText}
+use Rattle.textwrap_lines.specs.LineSinks.{LentOneMore}
 use Rattle.textwrap_lines.specs.Places.{HasPlacesMore}
 use Rattle.textwrap_lines.specs.declared.line_sinks.JoinedLines.{JoinedLines}
+use Rattle.textwrap_lines.specs.declared.line_sinks.LentLines.{LentLines}
 use Rattle.textwrap_lines.specs.declared.places.PlacedLines.{PlacedLines}
 use Rattle.textwrap_lines.proofs.Text.Cuts.{built_text-push, lines_of-more, places_of-push}
 use Rattle.textwrap_lines.proofs.Text.Lines.{join-push}
@@ -68,6 +71,25 @@ module _ {Z : Type 0} where
           offset = offset ∙ given.offset;
         };
   }
+
+pub Took-lent : (old new : LentLines) (bytes : List ℕ) (at : ℕ) (line : Line)
+    → bytes ≡ line_bytes line → LentOneMore old new bytes
+    → Took (λ first now start. HoldsLent first now) old new (cut_line at line ∷ [])
+Took-lent old new bytes at line is more = record {
+  held = λ first start before given. record {
+    same = more.same ∙ given.same;
+    text = subst (λ text. IsLent new.text.now text first.text.now.room.now)
+        (cc (
+          joined-more (ending_bytes first.line_ending) _ bytes old.begun (lines_of before) line
+              refl (given.begun
+              ∙ ap (nat_lt 0) (sym (length-map before (λ (c : CutLine). c.line)))) is,
+          lines_of-more before start (cut_line at line ∷ []),
+          given.ending,
+        )) (more.text _ first.text.now.room.now given.text);
+    ending = more.ending ∙ given.ending;
+    begun = search (rules, arith, lt-ltb, length_push);
+  };
+}
 
 -- some of all lines were taken, and these are left
 pub record HasTaken {S : Type 0} (Holds : S → S → ℕ → List CutLine → Type 0)

@@ -14,7 +14,7 @@ returns-then-pushed-clause-taken g c =
     × Took g.S.LineSink.holds c.args.lines.now c.push_directly.new.lines
     (cut_lines 0 (parts_from s c.args.is_later division))) c.layout-layout.ensures
     (c.in_ok-pushed.ensures.pushed c.if-pushed.true) in
-    (division, c.in-Some.ensures c.args.is_later paragraph division divided, took)
+    (division, c.in-Some.ensures.parts c.args.is_later paragraph division divided, took)
 
 pub returns-clause-taken : goal.returns-clause-taken
 returns-clause-taken g c =

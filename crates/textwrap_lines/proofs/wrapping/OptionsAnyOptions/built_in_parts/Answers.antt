@@ -3,7 +3,7 @@ use Rattle.textwrap_words.proofs.Common.{as_splitter}
 use Rattle.textwrap_lines.proofs.Text.Directly.{direct-divided, if_some}
 use Rattle.textwrap_lines.specs.Direct.{as_algorithm}
 
-pub returns : goal.returns
-returns g c = if_some c.built_in_parts.result
+pub returns-clause-parts : goal.returns-clause-parts
+returns-clause-parts g c = if_some c.built_in_parts.result
     (λ parts. direct-divided c.args.self.now (as_splitter parts.splitter)
-    (as_algorithm parts.algorithm)) c.built_in_parts.ensures
+    (as_algorithm parts.algorithm)) c.built_in_parts.ensures.parts

@@ -43,6 +43,7 @@ PROVED(paragraphs);
 PROVED(paragraph_widths);
 PROVED(wrap_at);
 PROVED(fill_at);
+PROVED(fill_justified_at);
 
 /* Where an array of length 0 may lie, whatever it is of. Nothing is read here or written. */
 static union {
@@ -351,4 +352,13 @@ textwrap_status textwrap_fill_at(const uint8_t *text, size_t text_len, const tex
     textwrap_options some = some_options(options);
     return proved_fill_at(ARRAY(text, text_len), ARRAY(steps, steps_len), &some,
                           ARRAY(room, room_len), len);
+}
+
+textwrap_status textwrap_fill_justified_at(const uint8_t *text, size_t text_len,
+                                           const textwrap_steps *steps, size_t steps_len,
+                                           const textwrap_options *options, uint8_t *room,
+                                           size_t room_len, size_t *len) {
+    textwrap_options some = some_options(options);
+    return proved_fill_justified_at(ARRAY(text, text_len), ARRAY(steps, steps_len), &some,
+                                    ARRAY(room, room_len), len);
 }

@@ -300,6 +300,12 @@ static textwrap_status filled_in_steps(struct lent *lent) {
     return textwrap_fill_at(bytes("foo\nfoo bar"), 11, STEPS, 2, &o, lent->room, 256, &lent->len);
 }
 
+static textwrap_status justified_in_steps(struct lent *lent) {
+    textwrap_options o = options_of(0, 0);
+    o.width = 5;
+    return textwrap_fill_justified_at(bytes("foo\nfoo bar"), 11, STEPS, 2, &o, lent->room, 256, &lent->len);
+}
+
 /* Cuts before each byte but the first. */
 static size_t cut_everywhere(void *context, const uint8_t *paragraph, size_t len, size_t *cuts) {
     (void)context;
@@ -398,6 +404,7 @@ static const struct call {
     {"paragraphs", in_paragraphs},
     {"wrap_at", wrapped_in_steps},
     {"fill_at", filled_in_steps},
+    {"fill_justified_at", justified_in_steps},
     {"wrap_by", by_no_functions},
     {"wrap_by at least cost", by_no_functions_at_least_cost},
     {"wrap_by a function", by_a_function},

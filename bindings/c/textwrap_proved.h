@@ -529,6 +529,14 @@ textwrap_status textwrap_fill_at(const uint8_t *text, size_t text_len, const tex
                                  size_t steps_len, const textwrap_options *options, uint8_t *room,
                                  size_t room_len, size_t *len);
 
+/* The same with all lines but the last of each paragraph justified after their indents, as
+ * textwrap_fill_justified writes them. */
+TEXTWRAP_CHECKED
+textwrap_status textwrap_fill_justified_at(const uint8_t *text, size_t text_len,
+                                           const textwrap_steps *steps, size_t steps_len,
+                                           const textwrap_options *options, uint8_t *room,
+                                           size_t room_len, size_t *len);
+
 /* What a function of the caller returns if memory runs out: the call that asked it then returns
  * TEXTWRAP_OUT_OF_MEMORY. */
 #define TEXTWRAP_NO_MEMORY SIZE_MAX

@@ -2,11 +2,10 @@
 //!
 //! The functions give the words of a paragraph, their points or its lines. What they give is checked
 //! here, and the library makes the lines of it.
-use crate::core::{display_width, Word};
-use crate::display::fallible::justify;
+use crate::core::Word;
 use crate::fallible::{push, unfill};
 use crate::room::{
-    listed, mapped, reserve, room_for, text_room, written, OutOfMemory, Refusal, Reported,
+    listed, mapped, reserve, room_for, written, OutOfMemory, Refusal, Reported,
 };
 use crate::wrap_algorithms::OverflowError;
 use crate::{guess, sys};
@@ -17,15 +16,41 @@ use alloc::vec::Vec;
 
 /// The filled text.
 pub(crate) fn filled(text: &str, options: &Options<'_>) -> Result<String, OutOfMemory> {
+    written_at(sys::textwrap_fill_at, guess::filled(text, options), text, options)
+}
+
+/// The filled text, with all lines but the last of each paragraph justified after their indents.
+pub(crate) fn justified(text: &str, options: &Options<'_>) -> Result<String, OutOfMemory> {
+    let guess = guess::justified(text, options);
+    written_at(sys::textwrap_fill_justified_at, guess, text, options)
+}
+
+/// A call that writes what it makes of a text at its steps.
+type WriteAt = unsafe extern "C" fn(
+    text: *const u8,
+    text_len: usize,
+    steps: *const sys::Steps,
+    steps_len: usize,
+    options: *const sys::Options,
+    room: *mut u8,
+    room_len: usize,
+    len: *mut usize,
+) -> u32;
+
+/// What a call writes of a text, with room for so many bytes.
+fn written_at(
+    call: WriteAt,
+    guess: usize,
+    text: &str,
+    options: &Options<'_>,
+) -> Result<String, OutOfMemory> {
     let found = steps_of(text, options)?;
     let (steps, with) = (mapped(&found, Steps::to_sys)?, options.to_sys());
     // SAFETY: a text and steps with their lengths, the options, and room with its length; the call
     // writes what it reports.
     unsafe {
-        written(guess::filled(text, options), |room, room_len, len| {
-            sys::textwrap_fill_at(
-                text.as_ptr(), text.len(), steps.as_ptr(), steps.len(), &with, room, room_len, len,
-            )
+        written(guess, |room, room_len, len| {
+            call(text.as_ptr(), text.len(), steps.as_ptr(), steps.len(), &with, room, room_len, len)
         })
     }
 }
@@ -36,31 +61,6 @@ pub(crate) fn wrapped<'t>(
     options: &Options<'_>,
 ) -> Result<Vec<Cow<'t, str>>, OutOfMemory> {
     lines_at(text, &steps_of(text, options)?, options)?.cows(text)
-}
-
-/// The filled text, with all lines but the last of each paragraph justified after their indents.
-pub(crate) fn justified(text: &str, options: &Options<'_>) -> Result<String, OutOfMemory> {
-    let found = steps_of(text, options)?;
-    let reported = lines_at(text, &found, options)?;
-    let is_last = found.iter().flat_map(|steps| (0..steps.ends.len()).rev().map(|left| left == 0));
-    let mut filled = text_room(text.len())?;
-    let mut indent = options.initial_indent;
-    for (number, (line, is_last)) in reported.lines(text).zip(is_last).enumerate() {
-        if number > 0 {
-            push(&mut filled, options.line_ending.as_str())?;
-        }
-        match line.as_str().strip_prefix(indent) {
-            Some(rest) if !is_last => {
-                let width = options.width.saturating_sub(display_width(indent));
-                push(&mut filled, indent)?;
-                push(&mut filled, &justify(rest, width)?)?;
-            }
-            // The last line of a paragraph, or one without words, which has no indent.
-            _ => push(&mut filled, line.as_str())?,
-        }
-        indent = options.subsequent_indent;
-    }
-    Ok(filled)
 }
 
 /// The filled text, filled again with the indents that it has.
@@ -111,7 +111,7 @@ fn lines_at(text: &str, found: &[Steps], options: &Options<'_>) -> Result<Report
     let lines = found.iter().map(|steps| steps.ends.len()).sum();
     let has_points = found.iter().any(|steps| !steps.points.is_empty());
     let bytes = guess::built(text, options, lines, has_points);
-    // SAFETY: as in `filled`.
+    // SAFETY: as in `written_at`.
     unsafe {
         Reported::by(lines, bytes, |r| {
             sys::textwrap_wrap_at(
@@ -126,7 +126,7 @@ fn lines_at(text: &str, found: &[Steps], options: &Options<'_>) -> Result<Report
 fn steps_of(text: &str, options: &Options<'_>) -> Result<Vec<Steps>, OutOfMemory> {
     let with = options.to_sys();
     let (at, len) = (text.as_ptr(), text.len());
-    // SAFETY: as in `filled`.
+    // SAFETY: as in `written_at`.
     let paragraphs = unsafe {
         listed(1, |paragraphs, paragraphs_len, count| {
             sys::textwrap_paragraphs(at, len, &with, paragraphs, paragraphs_len, count)
@@ -156,7 +156,7 @@ impl Paragraph<'_> {
     fn steps(&self) -> Result<Steps, OutOfMemory> {
         let mut widths = sys::Widths::default();
         let (at, len) = (self.text.as_ptr(), self.text.len());
-        // SAFETY: as in `filled`.
+        // SAFETY: as in `written_at`.
         let status = unsafe {
             sys::textwrap_paragraph_widths(at, len, self.with, self.is_later.into(), &mut widths)
         };
@@ -202,7 +202,7 @@ impl Paragraph<'_> {
     fn pieces_at(&self, found: &Steps) -> Result<Vec<sys::Piece>, OutOfMemory> {
         let Steps { cuts, points, .. } = found;
         let (at, len) = (self.text.as_ptr(), self.text.len());
-        // SAFETY: as in `filled`.
+        // SAFETY: as in `written_at`.
         let pieces = unsafe {
             listed(found.pieces_guess(), |pieces, pieces_len, count| {
                 sys::textwrap_pieces_at(
@@ -221,7 +221,7 @@ impl Paragraph<'_> {
     fn ends_at(&self, found: &Steps) -> Result<Vec<usize>, OutOfMemory> {
         let Steps { cuts, points, .. } = found;
         let (at, len) = (self.text.as_ptr(), self.text.len());
-        // SAFETY: as in `filled`.
+        // SAFETY: as in `written_at`.
         let ends = unsafe {
             listed(found.pieces_guess(), |ends, ends_len, count| {
                 sys::textwrap_ends_at(

@@ -50,6 +50,12 @@ pub(crate) fn filled(text: &str, options: &Options<'_>) -> usize {
     with_lines(text, options, indented + paragraph_lines(text, options.width, indent))
 }
 
+/// The bytes of a filled text whose lines are justified. The blanks that are added are hardly ever more
+/// than half of the bytes.
+pub(crate) fn justified(text: &str, options: &Options<'_>) -> usize {
+    filled(text, options).saturating_add(text.len() / 2)
+}
+
 /// The bytes of so many lines that are texts of their own, because they have an indent or, if the
 /// words have hyphens added, may have one of these.
 pub(crate) fn built(text: &str, options: &Options<'_>, lines: usize, has_hyphens: bool) -> usize {

@@ -491,4 +491,15 @@ extern "C" {
         room_len: usize,
         len: *mut usize,
     ) -> u32;
+
+    pub fn textwrap_fill_justified_at(
+        text: *const u8,
+        text_len: usize,
+        steps: *const Steps,
+        steps_len: usize,
+        options: *const Options,
+        room: *mut u8,
+        room_len: usize,
+        len: *mut usize,
+    ) -> u32;
 }

@@ -2,6 +2,8 @@
 ghost use Rattle.std.specs.Prelude.{◌≡◌, ◌≢◌, ◌≤◌, ◌<◌, ◌↔◌, ◌⊎◌, IsUtf8};
 ghost use Rattle.textwrap_lines.specs.Paragraph.{widths_of};
 ghost use Rattle.textwrap_steps.specs.Steps.{pieces_at};
+ghost use Rattle.textwrap_base.specs.Cost.{total_width};
+ghost use Rattle.textwrap_base.specs.Errors.{Fits64Bits};
 ghost use Rattle.textwrap_words.specs.Words.{sizes_of};
 ghost use Rattle.textwrap_words.specs.WrapAlgorithms.{IsDividedBy, OverflowsBy};
 ghost use Rattle.textwrap_calls.specs.Fragments.{AreEndsOf};
@@ -68,6 +70,10 @@ pub extern "C" fn textwrap_ends_at(
         → ¬ OverflowsBy (algorithm_of options.now) sizes_of
         (widths_of (settings_of options.now) (says_yes is_later))
         (pieces_at (settings_of options.now) cuts.now points.now paragraph.now) }
+    // Overflow needs pieces that are together wider than 64 bits can say.
+    ensures no_overflow { Fits64Bits (total_width sizes_of
+        (pieces_at (settings_of options.now) cuts.now points.now paragraph.now))
+        → result ≢ overflow }
     ensures unknown { result ≡ unknown_options ↔ (1 < is_later) ⊎ (¬ AreKnown options.now) }
     ensures not_utf8 { result ≡ not_utf8 ↔ (is_later ≤ 1) × AreKnown options.now
         × ¬ (IsUtf8 paragraph.now × AreTexts options.now) }

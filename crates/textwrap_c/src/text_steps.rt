@@ -1,5 +1,6 @@
 //! A whole text in steps: each of its paragraphs comes with what a caller found of it.
 ghost use Rattle.std.specs.Prelude.{◌≡◌, ◌≢◌, ◌≤◌, ◌↔◌, ◌⊎◌, IsUtf8, false};
+ghost use Rattle.textwrap_calls.specs.JustifiedSteps.{justified_at};
 ghost use Rattle.textwrap_calls.specs.Options.{settings_of, AreKnown, AreTexts};
 ghost use Rattle.textwrap_calls.specs.Room.{WritesText};
 ghost use Rattle.textwrap_calls.specs.Status.{not_utf8, out_of_memory, unknown_options, wrong_places};
@@ -9,6 +10,7 @@ ghost use Rattle.textwrap_calls.specs.Wrapping.{WritesLines};
 ghost use Rattle.textwrap_lines.specs.LineEnding.{paragraphs_of};
 
 use std::alloc::Global;
+use textwrap_calls::justified_steps;
 use textwrap_calls::options::TextwrapOptions;
 use textwrap_calls::steps::TextwrapSteps;
 use textwrap_calls::text_steps;
@@ -73,4 +75,33 @@ pub extern "C" fn textwrap_fill_at(
     ensures statuses { (result ≤ unknown_options) ⊎ (result ≡ wrong_places) }
 {
     text_steps::textwrap_fill_at(alloc, text, steps, options, room, len)
+}
+
+/// Exports [`textwrap_calls::justified_steps::textwrap_fill_justified_at`].
+#[unsafe(no_mangle)]
+pub extern "C" fn textwrap_fill_justified_at(
+    alloc: Global,
+    text: &[u8],
+    steps: &[TextwrapSteps<'_>],
+    options: &TextwrapOptions<'_>,
+    room: &mut [u8],
+    len: &mut usize,
+) -> u32
+    ensures filled { WritesText (λ answer. answer ≡ justified_at (settings_of options.now) steps.now
+        text.now) result room.old room.new len.old len.new }
+    ensures unknown { result ≡ unknown_options ↔ ¬ AreKnown options.now }
+    ensures not_utf8 { result ≡ not_utf8 ↔ AreKnown options.now
+        × ¬ (IsUtf8 text.now × AreTexts options.now) }
+    // As in `textwrap_wrap_at`.
+    ensures wrong_places { result ≡ wrong_places → AreKnown options.now
+        × (IsUtf8 text.now × AreTexts options.now)
+        × ¬ AreTextSteps (settings_of options.now) false
+        (paragraphs_of (settings_of options.now).line_ending text.now) steps.now }
+    ensures right_places { result ≢ wrong_places → result ≢ out_of_memory → AreKnown options.now
+        → IsUtf8 text.now × AreTexts options.now
+        → AreTextSteps (settings_of options.now) false
+        (paragraphs_of (settings_of options.now).line_ending text.now) steps.now }
+    ensures statuses { (result ≤ unknown_options) ⊎ (result ≡ wrong_places) }
+{
+    justified_steps::textwrap_fill_justified_at(alloc, text, steps, options, room, len)
 }

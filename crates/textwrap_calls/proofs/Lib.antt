@@ -1,6 +1,7 @@
 pub mod EndLemmas
 pub mod GroupLemmas
 pub mod JoinLemmas
+pub mod JustifiedStepLemmas
 pub mod Lengths
 pub mod LineLemmas
 pub mod LineListLemmas

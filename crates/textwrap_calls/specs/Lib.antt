@@ -3,6 +3,7 @@ pub mod Breaks
 pub mod Columns
 pub mod Display
 pub mod Fragments
+pub mod JustifiedSteps
 pub mod Options
 pub mod Paragraphs
 pub mod Pieces

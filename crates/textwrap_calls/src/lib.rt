@@ -13,6 +13,7 @@ pub mod display;
 pub mod filling;
 pub mod fragments;
 pub mod indentation;
+pub mod justified_steps;
 pub mod line_lists;
 pub mod options;
 pub mod paragraphs;

@@ -1,12 +1,15 @@
 //! A paragraph in steps, for a caller who finds words, points or lines in another way.
 ghost use Rattle.std.specs.Prelude.{◌≡◌, ◌≢◌, ◌≤◌, ◌<◌, ◌↔◌, ◌⊎◌, IsUtf8, IfOk, IfErr, OnOk, map};
-ghost use Rattle.textwrap.specs.LineEnds.{lines_between};
+ghost use Rattle.textwrap.specs.LineEnds.{AreEnds, lines_between};
 ghost use Rattle.textwrap.specs.Options.{settings_view};
 ghost use Rattle.textwrap.specs.Words.{Tiles, word_view};
 ghost use Rattle.textwrap.specs.WrapAlgorithms.{IsDividedBy, OverflowsBy};
+ghost use Rattle.textwrap_base.specs.Cost.{total_width};
+ghost use Rattle.textwrap_base.specs.Errors.{Fits64Bits};
 ghost use Rattle.textwrap_words.specs.Words.{sizes_of};
 ghost use Rattle.textwrap_calls.specs.Fragments.{AreEndsOf};
-ghost use Rattle.textwrap_lines.specs.Paragraph.{text_limit, widths_of};
+ghost use Rattle.textwrap_lines.specs.Paragraph.{line_from, line_view, parts_from, text_limit};
+ghost use Rattle.textwrap_lines.specs.Paragraph.{widths_of};
 ghost use Rattle.textwrap_lines.specs.Places.{HasPlacesMore, division_cuts, further};
 ghost use Rattle.textwrap_steps.specs.Steps.{pieces_at};
 ghost use Rattle.textwrap_calls.specs.Options.{algorithm_of, settings_of, says_yes};
@@ -26,11 +29,12 @@ use crate::room::put;
 use crate::status::{NOT_UTF8, OUT_OF_MEMORY, OVERFLOW, UNKNOWN_OPTIONS, WRONG_PLACES};
 use simdutf8::basic::from_utf8;
 use std::alloc::Global;
+use std::borrow::CowStr;
 use textwrap::words::Word;
 use textwrap::{Options, WrapError};
 use textwrap_lines::inner::line_widths;
 use textwrap_lines::placed::PlacedLines;
-use textwrap_steps::steps::{are_ends, are_inner_cuts, pieces_at, push_lines_at};
+use textwrap_steps::steps::{are_ends, are_inner_cuts, list_lines_at, pieces_at, push_lines_at};
 
 /// What a caller found of a paragraph: where it is cut into words, where these are split, and where its
 /// lines end.
@@ -138,6 +142,10 @@ pub fn textwrap_ends_at(
         → ¬ OverflowsBy (algorithm_of options.now) sizes_of
         (widths_of (settings_of options.now) (says_yes is_later))
         (pieces_at (settings_of options.now) cuts.now points.now paragraph.now) }
+    // Overflow needs pieces that are together wider than 64 bits can say.
+    ensures no_overflow { Fits64Bits (total_width sizes_of
+        (pieces_at (settings_of options.now) cuts.now points.now paragraph.now))
+        → result ≢ overflow }
     ensures unknown { result ≡ unknown_options ↔ (1 < is_later) ⊎ (¬ AreKnown options.now) }
     ensures not_utf8 { result ≡ not_utf8 ↔ (is_later ≤ 1) × AreKnown options.now
         × ¬ (IsUtf8 paragraph.now × AreTexts options.now) }
@@ -259,13 +267,10 @@ pub(crate) fn push_step_lines(
         × ¬ AreLineSteps (settings_view options.now) steps.now.cuts.now steps.now.points.now
         steps.now.ends.now paragraph.now) ⊎ (status ≡ out_of_memory)) }
 {
-    let pieces = match find_pieces(alloc, paragraph, steps.cuts, steps.points, options) {
+    let pieces = match find_step_pieces(alloc, paragraph, steps, options) {
         Ok(pieces) => pieces,
         Err(status) => return Err(status),
     };
-    if !are_ends(&pieces, steps.ends) {
-        return Err(WRONG_PLACES);
-    }
     let ends = steps.ends;
     match push_lines_at(
         alloc, lines, start, paragraph, &pieces, ends, options, is_later,
@@ -273,4 +278,65 @@ pub(crate) fn push_step_lines(
         Ok(placed) => Ok(placed),
         Err(_) => Err(OUT_OF_MEMORY),
     }
+}
+
+/// The lines of a paragraph at these steps, as a list.
+///
+/// # Errors
+/// The status `WRONG_PLACES` or `OUT_OF_MEMORY`.
+pub(crate) fn list_step_lines<'t>(
+    alloc: Global,
+    paragraph: &'t str,
+    steps: &TextwrapSteps<'_>,
+    options: &Options<'_>,
+    is_later: bool,
+) -> Result<Vec<CowStr<'t, Global>>, u32>
+    ensures lines { IfOk result (λ lines. map line_view lines.items
+        ≡ map line_from (parts_from (settings_view options.now) is_later (lines_between
+        steps.now.ends.now (pieces_at (settings_view options.now) steps.now.cuts.now
+        steps.now.points.now paragraph.now)))) }
+    ensures steps { IfOk result (λ _. AreLineSteps (settings_view options.now) steps.now.cuts.now
+        steps.now.points.now steps.now.ends.now paragraph.now) }
+    ensures refused { IfErr result (λ status. ((status ≡ wrong_places)
+        × ¬ AreLineSteps (settings_view options.now) steps.now.cuts.now steps.now.points.now
+        steps.now.ends.now paragraph.now) ⊎ (status ≡ out_of_memory)) }
+{
+    let pieces = match find_step_pieces(alloc, paragraph, steps, options) {
+        Ok(pieces) => pieces,
+        Err(status) => return Err(status),
+    };
+    match list_lines_at(alloc, paragraph, &pieces, steps.ends, options, is_later) {
+        Ok(lines) => Ok(lines),
+        Err(_) => Err(OUT_OF_MEMORY),
+    }
+}
+
+/// The pieces of a paragraph at these steps, if its lines may end as the steps say.
+///
+/// # Errors
+/// The status `WRONG_PLACES` or `OUT_OF_MEMORY`.
+fn find_step_pieces<'t>(
+    alloc: Global,
+    paragraph: &'t str,
+    steps: &TextwrapSteps<'_>,
+    options: &Options<'_>,
+) -> Result<Vec<Word<'t>>, u32>
+    ensures pieces { IfOk result (λ pieces. map word_view pieces.items ≡ pieces_at
+        (settings_view options.now) steps.now.cuts.now steps.now.points.now paragraph.now) }
+    ensures tiles { IfOk result (λ pieces. Tiles (map word_view pieces.items) paragraph.now) }
+    ensures ends { IfOk result (λ pieces. AreEnds pieces.items steps.now.ends.now) }
+    ensures steps { IfOk result (λ _. AreLineSteps (settings_view options.now) steps.now.cuts.now
+        steps.now.points.now steps.now.ends.now paragraph.now) }
+    ensures refused { IfErr result (λ status. ((status ≡ wrong_places)
+        × ¬ AreLineSteps (settings_view options.now) steps.now.cuts.now steps.now.points.now
+        steps.now.ends.now paragraph.now) ⊎ (status ≡ out_of_memory)) }
+{
+    let pieces = match find_pieces(alloc, paragraph, steps.cuts, steps.points, options) {
+        Ok(pieces) => pieces,
+        Err(status) => return Err(status),
+    };
+    if !are_ends(&pieces, steps.ends) {
+        return Err(WRONG_PLACES);
+    }
+    Ok(pieces)
 }

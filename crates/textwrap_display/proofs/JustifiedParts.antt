@@ -2,12 +2,12 @@
 -- parts.
 use Rattle.textwrap_base.proofs.Common.{◌≡◌, ℕ, ◌-◌, ◌||◌, nat_lt, suc, Bool, true, false, List, []}
 use Rattle.textwrap_base.proofs.Common.{◌∷◌, ◌++◌, length, map, refl, sym, ap, ◌∙◌, arith}
-use Rattle.textwrap_base.proofs.Common.{append_assoc, append-nil, cases_Bool, drop_all, drop_at}
+use Rattle.textwrap_base.proofs.Common.{append_assoc, append-nil, cases_Bool, drop_all, drop_at, flat_map}
 use Rattle.textwrap_base.proofs.Common.{take_all, take_at}
 use Rattle.textwrap_base.proofs.Lists.Prefixes.{starts_with-true}
 use Rattle.textwrap_base.proofs.Numbers.{or_false, some_later}
 use Rattle.textwrap_words.proofs.Common.{text_width, WordText}
-use Rattle.textwrap_lines.proofs.Common.{indent_of, join_with, line_bytes, line_from}
+use Rattle.textwrap_lines.proofs.Common.{ending_bytes, indent_of, join_with, line_bytes, line_from}
 use Rattle.textwrap_lines.proofs.Common.{LineParts, parts_from, parts_of, Settings}
 use Rattle.textwrap_lines.proofs.Text.Sinks.{assembled-bytes}
 use Rattle.textwrap_display.specs.Justifying.{justified}
@@ -74,3 +74,28 @@ pub joined_on-append : (ending : List ℕ) (is_later : Bool) (xs ys : List (List
 joined_on-append ending is_later [] ys = ap (λ b. joined_on ending b ys) (sym (or_false is_later))
 joined_on-append ending is_later (x ∷ xs) ys =
     grind (arith, append_assoc, some_later, joined_on-append ending true xs ys)
+
+module _ (settings : Settings) where
+  -- the lines of groups in a row
+  abbrev pub rows : Bool → List (List LineParts) → List ℕ
+  rows is_later groups =
+      joined_on (ending_bytes settings.line_ending) is_later
+      (flat_map (justified_lines settings.width) groups)
+
+  -- those of one more group
+  pub rows-more : (filled new : List ℕ) (is_later then_later : Bool) (division : List (List WordText))
+      (groups : List (List LineParts))
+      → new ≡ filled ++ joined_on (ending_bytes settings.line_ending) is_later
+      (justified_after_indents settings is_later
+      (map line_from (parts_from settings is_later division)))
+      → then_later ≡ is_later || nat_lt 0 (length (parts_from settings is_later division))
+      → filled ++ rows is_later (parts_from settings is_later division ∷ groups)
+      ≡ new ++ rows then_later groups
+  rows-more filled new is_later then_later division groups is later =
+      grind (
+        arith,
+        append_assoc,
+        joined_on-append,
+        justified-length,
+        parts-justified settings is_later division,
+      )

@@ -16,8 +16,7 @@ use Rattle.std.specs.declared.borrow.CowStr.{CowStr}
 use Rattle.std.proofs.lemmas.List.{drop_at, drop-map}
 use Rattle.textwrap_display.specs.JustifiedText.{IsJustifiedText, joined_on}
 use Rattle.textwrap_display.specs.JustifiedText.{justified_after_indents, justified_lines}
-use Rattle.textwrap_display.proofs.JustifiedParts.{join-on, joined_on-append, justified-length}
-use Rattle.textwrap_display.proofs.JustifiedParts.{parts-justified}
+use Rattle.textwrap_display.proofs.JustifiedParts.{join-on, rows, rows-more}
 
 -- whether any stands before, where one is kept
 kept-some : {X : Type 0} (xs : List X) → nat_lt 0 (length (take 1 xs)) ≡ nat_lt 0 (length xs)
@@ -25,12 +24,6 @@ kept-some [] = refl
 kept-some (x ∷ xs) = sym (some_later false (length xs))
 
 module _ (settings : Settings) (Divides : Bool → List ℕ → List (List WordText) → Type 0) where
-  -- the lines of groups in a row
-  abbrev rows : Bool → List (List LineParts) → List ℕ
-  rows is_later groups =
-      joined_on (ending_bytes settings.line_ending) is_later
-      (flat_map (justified_lines settings.width) groups)
-
   -- with right lines of the paragraphs that are left, it is the whole
   pub record IsJustifiedSoFar (text filled : List ℕ) (is_later : Bool) (left : List (List ℕ))
       : Type 0 where
@@ -38,7 +31,7 @@ module _ (settings : Settings) (Divides : Bool → List ℕ → List (List WordT
     pub paragraphs : paragraphs_of settings.line_ending text ≡ done ++ left
     pub whole : (groups : List (List LineParts))
         → AreGroups (AreParagraphParts settings Divides) is_later left groups
-        → IsJustifiedText settings Divides text (filled ++ rows is_later groups)
+        → IsJustifiedText settings Divides text (filled ++ rows settings is_later groups)
 
   pub so_far-start : (text filled : List ℕ) → filled ≡ []
       → IsJustifiedSoFar text filled false (paragraphs_of settings.line_ending text)
@@ -48,7 +41,7 @@ module _ (settings : Settings) (Divides : Bool → List ℕ → List (List WordT
     whole = λ groups are. record {
       groups = groups;
       defined = are;
-      joined = ap (λ l. l ++ rows false groups) none
+      joined = ap (λ l. l ++ rows settings false groups) none
           ∙ sym (join-on (ending_bytes settings.line_ending)
           (flat_map (justified_lines settings.width) groups));
     };
@@ -68,24 +61,12 @@ module _ (settings : Settings) (Divides : Bool → List ℕ → List (List WordT
         done = so_far.done ++ paragraph ∷ [];
         paragraphs = so_far.paragraphs ∙ sym (append_assoc so_far.done (paragraph ∷ []) after);
         whole = λ groups rest.
-            subst (IsJustifiedText settings Divides text) (same groups)
+            let (division, laid_out, are_parts) = are in
+            subst (IsJustifiedText settings Divides text)
+            (rw are_parts (rows-more settings filled new is_later then_later division groups
+            (rw are_parts at is) (rw are_parts at later)))
             (so_far.whole (parts ∷ groups) (are, rw later at rest));
       }
-    where
-      lines : List (List ℕ)
-      lines = justified_lines settings.width parts
-
-      same : (groups : List (List LineParts))
-          → filled ++ rows is_later (parts ∷ groups) ≡ new ++ rows then_later groups
-      same groups =
-          let (division, laid_out, are_parts) = are in
-          grind (
-            arith,
-            append_assoc,
-            joined_on-append,
-            justified-length,
-            parts-justified settings is_later division,
-          )
 
   pub so_far-more : {Z : Type 0} (text filled new : List ℕ)
       (items kept found slice : List (CowStr Z)) (start : ℕ) (paragraph : List ℕ) (after : List (List ℕ))

@@ -55,15 +55,18 @@ pub fn fill_justified<A: Allocator + Copy>(
         lines.truncate(1);
         let start = lines.len();
         wrap_single_line(alloc, paragraph, &options, &mut lines)?;
-        push_paragraph(&mut filled, &lines[start..], &options, start > 0)?;
+        push_justified_lines(&mut filled, &lines[start..], &options, start > 0)?;
         rest = after;
     }
     Ok(filled)
 }
 
-/// Adds the lines of a paragraph, all but the last justified. `is_later` says that a line stands
-/// before them.
-fn push_paragraph<A: Allocator>(
+/// Adds the lines of a paragraph, all but the last justified, each after the line ending where a line
+/// stands before it. `is_later` says that one stands before the first of them.
+///
+/// # Errors
+/// [`AllocError`] where memory runs out.
+pub fn push_justified_lines<A: Allocator>(
     text: &mut String<A>,
     lines: &[CowStr<'_, A>],
     options: &Options<'_>,

@@ -18,6 +18,7 @@ pub use tables::{Column, Gaps, table, table_of_lines};
 mod alignment;
 mod filling;
 mod indents;
+pub mod inner;
 mod justifying;
 pub mod laws;
 mod shortening;

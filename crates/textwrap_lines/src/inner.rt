@@ -1,19 +1,26 @@
 //! What the crates above need beside the public calls, which `textwrap` does not pass on.
-ghost use Rattle.std.specs.Prelude.{◌≡◌, if◌then◌else◌};
+ghost use Rattle.std.specs.Prelude.{◌≡◌, if◌then◌else◌, map, IfOk};
+ghost use Rattle.std.specs.Io.{StartsWith};
+ghost use Rattle.std.specs.List.{flat_map};
 ghost use Rattle.textwrap_words.specs.Blanks.{without_final_blanks};
 ghost use Rattle.textwrap_words.specs.Pieces.{as_splitter, stand_from};
 ghost use Rattle.textwrap_words.specs.PiecesLeft.{standing_left};
+ghost use Rattle.textwrap_words.specs.Words.{tiled, word_view};
 ghost use Rattle.textwrap_lines.specs.Options.{settings_view};
 ghost use Rattle.textwrap_lines.specs.Paragraph.{first_width, indent_of, is_whole, later_width};
-ghost use Rattle.textwrap_lines.specs.Paragraph.{pieces_of};
+ghost use Rattle.textwrap_lines.specs.Paragraph.{line_from, line_view, parts_from, pieces_of};
 
 pub use crate::filling::fill_into;
 use crate::layout::{self, Layout};
+use crate::line_sinks::ListedLines;
 pub use crate::options::DEFAULTS;
 use crate::options::Options;
 use crate::wrapping;
 pub use crate::wrapping::{break_pieces, find_pieces, wrap_by};
+use std::alloc::{AllocError, Allocator};
+use std::borrow::CowStr;
 use textwrap_words::inner::{BuiltInSplitter, Pieces};
+use textwrap_words::words::Word;
 
 /// The indent of the next line. `is_later` says that a line stands before it.
 pub fn next_indent<'a>(options: &Options<'a>, is_later: bool) -> &'a str
@@ -56,4 +63,29 @@ pub fn whole_line<'t>(paragraph: &'t str, options: &Options<'_>) -> &'t str
         else without_final_blanks paragraph.now) }
 {
     wrapping::whole_line(paragraph, &Layout::of(options))
+}
+
+/// The line of each list of pieces, as [`wrap`](crate::wrap) lists lines. Together the pieces tile the
+/// paragraph, or its beginning. `is_later` says that a line stands before them.
+///
+/// # Errors
+/// [`AllocError`] where memory runs out.
+pub fn list_division<'t, A: Allocator + Copy>(
+    alloc: A,
+    paragraph: &'t str,
+    division: &[&[Word<'_>]],
+    options: &Options<'_>,
+    is_later: bool,
+) -> Result<Vec<CowStr<'t, A>, A>, AllocError>
+    requires { StartsWith paragraph.now
+        (flat_map (λ line. tiled (map word_view line.now)) division.now) }
+    ensures { IfOk result (λ lines. map line_view lines.items
+        ≡ map line_from (parts_from (settings_view options.now) is_later
+        (map (λ line. map word_view line.now) division.now))) }
+{
+    let layout = Layout::of(options);
+    let mut list = Vec::new(alloc);
+    let mut lines = ListedLines { lines: &mut list };
+    wrapping::push_lines(alloc, paragraph, division, &layout, is_later, &mut lines)?;
+    Ok(list)
 }

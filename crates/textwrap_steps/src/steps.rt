@@ -1,19 +1,23 @@
 //! The steps of `textwrap::wrap` on one paragraph, over data: pieces at cuts and points, and lines at
 //! ends. Offsets count bytes.
 ghost use Rattle.std.specs.Prelude.{◌≡◌, ◌<◌, ◌↔◌, IfOk, OnOk, map, true};
+ghost use Rattle.std.specs.Io.{StartsWith};
+ghost use Rattle.std.specs.List.{flat_map};
 ghost use Rattle.textwrap_words.specs.Cuts.{AreCuts, AreInnerCuts, parts_between};
 ghost use Rattle.textwrap_words.specs.LineEnds.{AreEnds, lines_between};
-ghost use Rattle.textwrap_words.specs.Words.{Tiles, word_of, word_view};
+ghost use Rattle.textwrap_words.specs.Words.{Tiles, tiled, word_of, word_view};
 ghost use Rattle.textwrap_lines.specs.Options.{settings_view};
-ghost use Rattle.textwrap_lines.specs.Paragraph.{ArePieces, text_limit};
+ghost use Rattle.textwrap_lines.specs.Paragraph.{ArePieces, line_from, line_view, parts_from};
+ghost use Rattle.textwrap_lines.specs.Paragraph.{text_limit};
 ghost use Rattle.textwrap_lines.specs.Places.{ArePlacesOf, HasPlacesMore, division_cuts, further};
 ghost use Rattle.textwrap_steps.specs.Offsets.{IsNextCut, IsNextEnd};
 ghost use Rattle.textwrap_steps.specs.Steps.{AreWordsBetween, pieces_at, split_at};
 
 use crate::points::points_within;
 use std::alloc::{AllocError, Allocator};
+use std::borrow::CowStr;
 use textwrap_lines::Options;
-use textwrap_lines::inner::break_pieces;
+use textwrap_lines::inner::{break_pieces, list_division};
 use textwrap_lines::placed::{PlacedLines, push_division};
 use textwrap_words::inner::{lines_between, push_split, words_between};
 use textwrap_words::words::Word;
@@ -168,6 +172,45 @@ pub fn push_lines_at<A: Allocator + Copy>(
         (division_cuts (settings_view options.now) is_later
         (lines_between ends.now (map word_view pieces.now))))) }
 {
-    let division = lines_between(alloc, pieces, ends)?;
+    let division = division_at(alloc, paragraph, pieces, ends)?;
     push_division(alloc, lines, start, paragraph, &division, options, is_later)
+}
+
+/// The lines that [`lines_at`] finds, as `textwrap::wrap` lists lines.
+///
+/// # Errors
+/// [`AllocError`] where memory runs out.
+pub fn list_lines_at<'t, A: Allocator + Copy>(
+    alloc: A,
+    paragraph: &'t str,
+    pieces: &[Word<'_>],
+    ends: &[usize],
+    options: &Options<'_>,
+    is_later: bool,
+) -> Result<Vec<CowStr<'t, A>, A>, AllocError>
+    requires tiles { Tiles (map word_view pieces.now) paragraph.now }
+    requires ends { AreEnds pieces.now ends.now }
+    ensures { IfOk result (λ lines. map line_view lines.items
+        ≡ map line_from (parts_from (settings_view options.now) is_later
+        (lines_between ends.now (map word_view pieces.now)))) }
+{
+    let division = division_at(alloc, paragraph, pieces, ends)?;
+    list_division(alloc, paragraph, &division, options, is_later)
+}
+
+/// The pieces of each line.
+fn division_at<'p, 't, A: Allocator + Copy>(
+    alloc: A,
+    paragraph: &str,
+    pieces: &'p [Word<'t>],
+    ends: &[usize],
+) -> Result<Vec<&'p [Word<'t>], A>, AllocError>
+    requires tiles { Tiles (map word_view pieces.now) paragraph.now }
+    requires ends { AreEnds pieces.now ends.now }
+    ensures begins { IfOk result (λ division. StartsWith paragraph.now
+        (flat_map (λ line. tiled (map word_view line.now)) division.items)) }
+    ensures lines { IfOk result (λ division. map (λ line. map word_view line.now) division.items
+        ≡ lines_between ends.now (map word_view pieces.now)) }
+{
+    lines_between(alloc, pieces, ends)
 }

@@ -69,11 +69,9 @@ fn justified(text: &str, options: &Options<'_>) -> Result<String, OutOfMemory> {
         return custom::justified(text, options);
     }
     let with = options.to_sys();
-    // The blanks that are added are hardly ever more than half of the bytes.
-    let guess = guess::filled(text, options).saturating_add(text.len() / 2);
     // SAFETY: as in `align`.
     unsafe {
-        written(guess, |room, room_len, len| {
+        written(guess::justified(text, options), |room, room_len, len| {
             sys::textwrap_fill_justified(text.as_ptr(), text.len(), &with, room, room_len, len)
         })
     }

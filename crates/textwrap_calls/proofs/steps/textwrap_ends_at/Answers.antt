@@ -1,6 +1,9 @@
 use Rattle.textwrap_calls.proofs.steps.textwrap_ends_at.Goals as goal
 use Rattle.textwrap_base.proofs.Common.{◌≡◌, ◌∷◌, [], ap, map, subst, sym, ◌∙◌, Some}
 use Rattle.textwrap_words.proofs.Common.{sizes_of, word_view}
+use Rattle.textwrap_base.proofs.Common.{total_width}
+use Rattle.textwrap_base.proofs.Cost.Measures.{total_width-same}
+use Rattle.textwrap_lines.proofs.Paragraph.Lines.{sizes-word_view}
 use Rattle.std.specs.Prelude.{IsSomeAnd}
 use Rattle.textwrap_words.specs.WrapAlgorithms.{algorithm_view, IsDividedBy, OverflowsBy}
 use Rattle.textwrap_words.proofs.Word.Divisions.{MayDivide-map}
@@ -62,6 +65,21 @@ returns-in-Err-Overflow-clause-overflow c = λ same.
     let overflows = c.in-Err-Overflow.ensures.overflow_only (rw c.in-Err-Overflow.field-0-is tt) in
     subst (λ P. P) (refuses here) (subst (λ found. IsSomeAnd found (λ a. OverflowsBy a
     (λ word. sizes_of (word_view word)) widths c.deref.result.now)) (algorithm-is here) overflows)
+
+-- their widths are those of the words
+widths-same : (c : After-wrap) → total_width (λ word. sizes_of (word_view word)) c.deref.result.now
+    ≡ total_width sizes_of (pieces_at (settings_of c.args.options.now) c.args.cuts.now
+    c.args.points.now c.args.paragraph.now)
+widths-same c =
+    total_width-same (λ word. sizes_of (word_view word)) sizes_of c.deref.result.now
+    (map word_view c.deref.result.now) (sizes-word_view c.deref.result.now)
+    ∙ ap (total_width sizes_of) (pieces-are c)
+
+pub returns-in-Err-Overflow-clause-no_overflow : goal.returns-in-Err-Overflow-clause-no_overflow
+returns-in-Err-Overflow-clause-no_overflow c = λ fits same.
+    let here = (goal.at.returns-in-Err-Overflow-clause-no_overflow c).After-wrap in
+    c.in-Err-Overflow.ensures.no_overflow (rw (widths-same here) fits)
+    (rw c.in-Err-Overflow.field-0-is tt)
 
 pub returns-in-Ok-line_ends-clause-ends : goal.returns-in-Ok-line_ends-clause-ends
 returns-in-Ok-line_ends-clause-ends c =

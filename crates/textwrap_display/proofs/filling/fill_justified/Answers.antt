@@ -19,7 +19,7 @@ loop-rest-preserved g c =
     let paragraph = c.split_paragraph.result.0.now in
     let after = c.split_paragraph.result.1 in
     so_far-more (settings_view options) (DividesBy options) c.args.text.now
-    (string_bytes c.loop-rest.filled) (string_bytes c.push_paragraph.new.text)
+    (string_bytes c.loop-rest.filled) (string_bytes c.push_justified_lines.new.text)
     c.loop-rest.lines.items c.truncate.new.self.items c.wrap_single_line.new.lines.items _
     c.len-start.result paragraph (paragraphs_left options.line_ending after)
     (rw (
@@ -29,7 +29,7 @@ loop-rest-preserved g c =
     ) at c.loop-rest.invariant)
     c.truncate.ensures.items (omega arith) c.in_ok-wrap_single_line.ensures.appended.lines
     (between_to_end c.deref.result.now c.len-start.result (length c.deref.result.now) (omega arith)
-    ∙ ap (drop c.len-start.result) c.deref.ensures.value) c.in_ok-push_paragraph.ensures
+    ∙ ap (drop c.len-start.result) c.deref.ensures.value) c.in_ok-push_justified_lines.ensures
 
 pub returns-clause-filled : goal.returns-clause-filled
 returns-clause-filled g c =

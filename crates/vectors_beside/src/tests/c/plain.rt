@@ -12,6 +12,7 @@ use textwrap_calls::fragments::{
     TextwrapFragment, TextwrapPenalties, textwrap_wrap_first_fit, textwrap_wrap_optimal_fit,
 };
 use textwrap_calls::indentation::{textwrap_dedent, textwrap_indent};
+use textwrap_calls::justified_steps::textwrap_fill_justified_at;
 use textwrap_calls::line_lists::{textwrap_carry_styles, textwrap_shorten_lines};
 use textwrap_calls::options::{TextwrapOptions, VERSION};
 use textwrap_calls::pieces::{
@@ -163,6 +164,10 @@ pub(super) enum TextCall<'a> {
         steps: &'a [TextwrapSteps<'a>],
         options: TextwrapOptions<'a>,
     },
+    JustifyAt {
+        steps: &'a [TextwrapSteps<'a>],
+        options: TextwrapOptions<'a>,
+    },
 }
 
 /// Makes the call. Answers the status.
@@ -192,6 +197,9 @@ pub(super) fn write_text(
         TextCall::Strip => textwrap_strip_ansi_escape_sequences(alloc, text, room, len),
         TextCall::FillAt { steps, options } => {
             textwrap_fill_at(alloc, text, steps, &options, room, len)
+        }
+        TextCall::JustifyAt { steps, options } => {
+            textwrap_fill_justified_at(alloc, text, steps, &options, room, len)
         }
     }
 }

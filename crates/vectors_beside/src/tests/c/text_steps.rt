@@ -262,6 +262,83 @@ fn a_text_is_filled_where_the_caller_says(rt: HostRuntime) {
     assert_texts(&rt, FILLED);
 }
 
+/// 8 columns, with an indent before the first line.
+const AT_8: TextwrapOptions<'_> = TextwrapOptions {
+    width: 8,
+    initial_indent: b"> ",
+    ..DEFAULTS
+};
+
+/// Three lines of a paragraph, before one that is a line as a whole. The empty piece of the indent stands
+/// in the first line.
+const WORDS: &[TextwrapSteps<'_>] = &[
+    TextwrapSteps {
+        cuts: &[2, 4, 7, 9],
+        points: &[],
+        ends: &[3, 5, 6],
+    },
+    NO_STEPS,
+];
+
+/// All lines but the last of each paragraph are justified, the first of them after its indent.
+const JUSTIFIED: &[TextRow] = &[
+    (
+        TextCall::JustifyAt {
+            steps: WORDS,
+            options: AT_8,
+        },
+        b"a b cd e f\ngh i jk",
+        DONE,
+        27,
+        b"> a    b\ncd     e\nf\ngh i jk__",
+    ),
+    (
+        TextCall::JustifyAt {
+            steps: WORDS,
+            options: AT_8,
+        },
+        b"a b cd e f\ngh i jk",
+        TOO_SMALL,
+        27,
+        b"__________________________",
+    ),
+    (
+        TextCall::JustifyAt {
+            steps: LONG,
+            options: AT_5,
+        },
+        b"foo bar",
+        WRONG_PLACES,
+        BEFORE,
+        b"____",
+    ),
+    (
+        TextCall::JustifyAt {
+            steps: LONG,
+            options: AT_5,
+        },
+        b"foo\xff",
+        NOT_UTF8,
+        BEFORE,
+        b"____",
+    ),
+    (
+        TextCall::JustifyAt {
+            steps: LONG,
+            options: TextwrapOptions { version: 0, ..AT_5 },
+        },
+        b"foo\xff",
+        UNKNOWN_OPTIONS,
+        BEFORE,
+        b"____",
+    ),
+];
+
+#[test]
+fn a_text_is_justified_where_the_caller_says(rt: HostRuntime) {
+    assert_texts(&rt, JUSTIFIED);
+}
+
 /// First fit at 9 columns.
 const FIRST_FIT: TextwrapOptions<'_> = TextwrapOptions {
     width: 9,
@@ -457,13 +534,13 @@ const MANY: usize = 10_000;
 /// What is told of lines and of room.
 type Told = (u32, usize, usize);
 
-/// What is told of a text of many paragraphs, each one line as a whole, as lines and filled.
-fn many_paragraphs(alloc: Global) -> Result<(Told, (u32, usize)), AllocError> {
+/// What is told of a text of many paragraphs, each one line as a whole: as lines, filled, and justified.
+fn many_paragraphs(alloc: Global) -> Result<(Told, (u32, usize), (u32, usize)), AllocError> {
     let text = "ab\n".repeat(alloc, MANY - 1)?;
     let steps = vec![in alloc; NO_STEPS; MANY]?;
     let mut lines = vec![in alloc; NOWHERE; MANY]?;
     let mut room = vec![in alloc; 0; 3 * MANY]?;
-    let (mut count, mut len, mut filled_len) = (BEFORE, BEFORE, BEFORE);
+    let (mut count, mut len) = (BEFORE, BEFORE);
     let wrap = LinesCall::WrapAt {
         steps: &steps,
         options: DEFAULTS,
@@ -472,17 +549,28 @@ fn many_paragraphs(alloc: Global) -> Result<(Told, (u32, usize)), AllocError> {
         steps: &steps,
         options: DEFAULTS,
     };
+    let justify = TextCall::JustifyAt {
+        steps: &steps,
+        options: DEFAULTS,
+    };
     let bytes = text.as_bytes();
     let wrapped = write_lines(
         alloc, wrap, bytes, &mut lines, &mut count, &mut room, &mut len,
     );
+    let (mut filled_len, mut justified_len) = (BEFORE, BEFORE);
     let filled = write_text(alloc, fill, bytes, &mut room, &mut filled_len);
-    Ok(((wrapped, count, len), (filled, filled_len)))
+    let justified = write_text(alloc, justify, bytes, &mut room, &mut justified_len);
+    Ok((
+        (wrapped, count, len),
+        (filled, filled_len),
+        (justified, justified_len),
+    ))
 }
 
 #[test]
 fn a_text_of_many_paragraphs_has_lines_in_steps(rt: HostRuntime) {
-    let (wrapped, filled) = many_paragraphs(rt.alloc()).expect(&rt, "room");
+    let (wrapped, filled, justified) = many_paragraphs(rt.alloc()).expect(&rt, "room");
     assert_eq!(rt; wrapped, (DONE, MANY, 0));
     assert_told(&rt, 0, filled, (DONE, 3 * (MANY - 1)));
+    assert_told(&rt, 1, justified, (DONE, 3 * (MANY - 1)));
 }

@@ -1,4 +1,4 @@
-use Rattle.textwrap_display.proofs.filling.push_paragraph.Given as goal
+use Rattle.textwrap_display.proofs.filling.push_justified_lines.Given as goal
 use Rattle.textwrap_base.proofs.Common.{◌≡◌, ◌++◌, ◌∷◌, [], drop, string_bytes}
 use Rattle.textwrap_lines.proofs.Common.{settings_view}
 use Rattle.textwrap_display.proofs.JustifiedLines.{added}

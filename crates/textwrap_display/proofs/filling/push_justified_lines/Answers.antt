@@ -1,4 +1,4 @@
-use Rattle.textwrap_display.proofs.filling.push_paragraph.Goals as goal
+use Rattle.textwrap_display.proofs.filling.push_justified_lines.Goals as goal
 use Rattle.textwrap_base.proofs.Common.{◌+◌, ◌++◌, ◌∷◌, [], sym, ap, ◌∙◌, drop, drop_more}
 use Rattle.textwrap_base.proofs.Common.{string_bytes}
 use Rattle.textwrap_lines.proofs.Common.{settings_view}

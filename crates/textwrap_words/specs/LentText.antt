@@ -2,9 +2,9 @@
 use Rattle.std.specs.Prelude.{◌≡◌, ℕ, ◌^◌, ◌-◌, List, ◌++◌, take, drop, length, min}
 use Rattle.textwrap_words.specs.declared.lent_text.LentText.{LentText}
 
--- what is in room that held `before` when as much of the text was written over it as has room
-abbrev pub written_over : List ℕ → List ℕ → List ℕ
-written_over before text = take (length before) text ++ drop (length text) before
+-- what is in room that held `before` when as many of the items were written over it as have room
+abbrev pub written_over : {X : Type 0} → List X → List X → List X
+written_over before items = take (length before) items ++ drop (length items) before
 
 -- a length as a number of the program, the greatest one if it is more
 abbrev pub as_len : ℕ → ℕ

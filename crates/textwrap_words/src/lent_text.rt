@@ -33,6 +33,11 @@ impl<'r> LentText<'r> {
             → IsLent self.new (text ++ part.now) before }
     {
         let end = self.len.saturating_add(part.len());
+        if self.len >= self.room.len() {
+            // There is no room for any of it.
+            self.len = end;
+            return;
+        }
         if end > self.room.len() {
             // Copied at once, what has no room would have to be cut off first.
             return self.push_bytes(part);

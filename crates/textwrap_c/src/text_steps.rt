@@ -10,11 +10,10 @@ ghost use Rattle.textwrap_calls.specs.Wrapping.{WritesLines};
 ghost use Rattle.textwrap_lines.specs.LineEnding.{paragraphs_of};
 
 use std::alloc::Global;
-use textwrap_calls::justified_steps;
 use textwrap_calls::options::TextwrapOptions;
 use textwrap_calls::steps::TextwrapSteps;
-use textwrap_calls::text_steps;
 use textwrap_calls::wrapping::TextwrapLine;
+use textwrap_calls::{justified_steps, text_steps};
 
 /// Exports [`textwrap_calls::text_steps::textwrap_wrap_at`].
 #[unsafe(no_mangle)]

@@ -142,6 +142,10 @@ added_ending keeps ending = if keeps then ending_bytes ending else []
 abbrev pub unfilled_text : List ℕ → List ℕ
 unfilled_text text = joined_text text ++ added_ending (keeps_ending text) (unfilled_ending text)
 
+-- the unfilled text, and after it the initial indent and the subsequent one
+abbrev pub unfilled_parts : List ℕ → List ℕ
+unfilled_parts text = unfilled_text text ++ unfilled_initial text ++ unfilled_subsequent text
+
 -- these settings, with the indents of the text
 abbrev pub with_indents_of : List ℕ → Settings → Settings
 with_indents_of text settings = record settings {

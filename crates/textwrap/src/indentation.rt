@@ -1,10 +1,13 @@
 //! Indenting and dedenting a text.
-ghost use Rattle.std.specs.Prelude.{◌≡◌, false, chars, string_bytes, IfOk};
+ghost use Rattle.std.specs.Prelude.{◌≡◌, [], false, chars, length, string_bytes, IfOk, IsOk, OnOk};
 ghost use Rattle.std.specs.Io.{StartsWith};
 ghost use Rattle.textwrap.specs.Indentation.{is_blank_line, indented, leading_whitespace, narrowed};
 ghost use Rattle.textwrap.specs.Indentation.{margin_of, without_margin, dedented};
+ghost use Rattle.textwrap_words.specs.LentText.{as_len, written_over};
 
+use crate::text_sinks::TextSink;
 use std::alloc::{AllocError, Allocator};
+use textwrap_words::inner::LentText;
 
 /// Puts a prefix before each line of a text.
 ///
@@ -18,7 +21,6 @@ use std::alloc::{AllocError, Allocator};
 pub fn indent<A: Allocator + Copy>(alloc: A, s: &str, prefix: &str) -> Result<String<A>, AllocError>
     ensures indented { IfOk result (λ text. string_bytes text ≡ indented prefix.now s.now) }
 {
-    let bare_prefix = prefix.trim_end();
     // A text of one line grows no more. An empty text needs no memory, and asks for none.
     let room = if s.is_empty() {
         0
@@ -26,16 +28,44 @@ pub fn indent<A: Allocator + Copy>(alloc: A, s: &str, prefix: &str) -> Result<St
         s.len() + prefix.len()
     };
     let mut text = String::with_capacity(alloc, room)?;
+    push_indented(s, prefix, &mut text)?;
+    Ok(text)
+}
+
+/// Writes the text of [`indent`] into lent room, as much of it as there is room for, and returns how
+/// many bytes it has, or the greatest number if they are more. The rest of the room stays as it was.
+pub fn indent_into(s: &str, prefix: &str, room: &mut [u8]) -> usize
+    ensures len { result ≡ as_len (length (indented prefix.now s.now)) }
+    ensures room { room.new ≡ written_over room.old (indented prefix.now s.now) }
+{
+    let mut text = LentText::new(room);
+    match push_indented(s, prefix, &mut text) {
+        Ok(()) => text.len(),
+        Err(_) => unreachable!(),
+    }
+}
+
+/// Pushes the text with a prefix before each line to what has taken nothing.
+///
+/// # Errors
+/// [`AllocError`] where memory runs out.
+fn push_indented<S: TextSink>(s: &str, prefix: &str, text: &mut S) -> Result<(), AllocError>
+    requires none { S.holds text.now text.now [] }
+    ensures name { S.name text.new ≡ S.name text.old }
+    ensures done { S.never_fails → IsOk result }
+    ensures indented { OnOk result (S.holds text.old text.new (indented prefix.now s.now)) }
+{
+    let bare_prefix = prefix.trim_end();
     for part in s.split_inclusive('\n') {
         let indent = if is_blank_line(part) {
             bare_prefix
         } else {
             prefix
         };
-        text.push_str(indent)?;
-        text.push_str(part)?;
+        text.push_part(indent)?;
+        text.push_part(part)?;
     }
-    Ok(text)
+    Ok(())
 }
 
 /// Removes the whitespace that all lines of a text begin with, its margin.
@@ -51,21 +81,48 @@ pub fn indent<A: Allocator + Copy>(alloc: A, s: &str, prefix: &str) -> Result<St
 pub fn dedent<A: Allocator + Copy>(alloc: A, s: &str) -> Result<String<A>, AllocError>
     ensures dedented { IfOk result (λ text. string_bytes text ≡ dedented s.now) }
 {
-    let margin = margin_of(s);
     // No dedented text is longer than the text. Of blanks alone nothing may be left, and then no
     // memory is needed.
     let room = if is_blank_line(s) { 0 } else { s.len() };
     let mut text = String::with_capacity(alloc, room)?;
+    push_dedented(s, &mut text)?;
+    Ok(text)
+}
+
+/// Writes the text of [`dedent`] into lent room, as much of it as there is room for, and returns how
+/// many bytes it has. The rest of the room stays as it was.
+pub fn dedent_into(s: &str, room: &mut [u8]) -> usize
+    ensures len { result ≡ as_len (length (dedented s.now)) }
+    ensures room { room.new ≡ written_over room.old (dedented s.now) }
+{
+    let mut text = LentText::new(room);
+    match push_dedented(s, &mut text) {
+        Ok(()) => text.len(),
+        Err(_) => unreachable!(),
+    }
+}
+
+/// Pushes the text without its margin to what has taken nothing.
+///
+/// # Errors
+/// [`AllocError`] where memory runs out.
+fn push_dedented<S: TextSink>(s: &str, text: &mut S) -> Result<(), AllocError>
+    requires none { S.holds text.now text.now [] }
+    ensures name { S.name text.new ≡ S.name text.old }
+    ensures done { S.never_fails → IsOk result }
+    ensures dedented { OnOk result (S.holds text.old text.new (dedented s.now)) }
+{
+    let margin = margin_of(s);
     for (i, line) in s.lines().enumerate() {
         if i > 0 {
-            text.push('\n')?;
+            text.push_part("\n")?;
         }
-        text.push_str(without_margin(line, margin))?;
+        text.push_part(without_margin(line, margin))?;
     }
     if s.ends_with('\n') {
-        text.push('\n')?;
+        text.push_part("\n")?;
     }
-    Ok(text)
+    Ok(())
 }
 
 /// Whether a text is whitespace alone, or empty.

@@ -27,3 +27,4 @@ pub mod inner;
 mod inplace;
 pub mod laws;
 mod refilling;
+mod text_sinks;

@@ -1,6 +1,6 @@
 //! Unfilling, which joins the lines of a filled text, and refilling, which fills them again.
 ghost use Rattle.std.specs.Prelude.{◌≡◌, [], ◌∷◌, ◌++◌, length, drop, alloc_error, IfOk, IfErr};
-ghost use Rattle.std.specs.Prelude.{IfSome, string_bytes, map, option_to_list};
+ghost use Rattle.std.specs.Prelude.{IfSome, IsOk, OnOk, string_bytes, map, option_to_list};
 ghost use Rattle.std.specs.Io.{StartsWith};
 ghost use Rattle.std.specs.Str.{IsAscii};
 ghost use Rattle.textwrap_base.specs.Penalties.{default_penalties};
@@ -16,17 +16,20 @@ ghost use Rattle.textwrap.specs.Refilling.{unfilled_text, unfilled_settings, joi
 ghost use Rattle.textwrap.specs.Refilling.{keeps_ending, IsRefilled, HasDefaultMethods};
 ghost use Rattle.textwrap.specs.Refilling.{layout_settings};
 ghost use Rattle.textwrap.specs.Refilling.{unfilled_width, unfilled_initial, unfilled_subsequent};
-ghost use Rattle.textwrap.specs.Refilling.{with_indents_of};
+ghost use Rattle.textwrap.specs.Refilling.{unfilled_parts, with_indents_of};
 ghost use Rattle.textwrap.specs.Refilling.{detected_among, detected_ending, common_prefix};
+ghost use Rattle.textwrap_words.specs.LentText.{as_len, written_over};
 ghost use Rattle.textwrap_words.specs.declared.word_separators.WordSeparator.TheVariants.{AsciiSpace};
 ghost use Rattle.textwrap_words.specs.declared.word_splitters.WordSplitter.TheVariants.{HyphenSplitter};
 
+use crate::text_sinks::TextSink;
 use crate::words::display_width;
 use crate::wrap_algorithms::WrapError;
 use lines::NonEmptyLines;
 use std::alloc::{AllocError, Allocator};
 use textwrap_lines::inner::DEFAULTS;
 use textwrap_lines::{LineEnding, Options, fill};
+use textwrap_words::inner::LentText;
 
 mod lines;
 
@@ -56,11 +59,49 @@ pub fn unfill<'t, A: Allocator + Copy>(
     ensures separator { IfOk result (λ unfilled. unfilled.1.word_separator ≡ AsciiSpace) }
     ensures splitter { IfOk result (λ unfilled. unfilled.1.word_splitter ≡ HyphenSplitter) }
 {
-    let (mut unfilled, layout, keeps_ending) = join_lines(alloc, text)?;
-    if keeps_ending {
-        unfilled.push_str(layout.line_ending.as_str())?;
-    }
+    let mut unfilled = String::new(alloc);
+    let layout = push_unfilled(text, &mut unfilled)?;
     Ok((unfilled, with_layout(layout)))
+}
+
+/// Writes the text of [`unfill`] into lent room, and after it the initial indent and the subsequent
+/// one, as much of these as there is room for. Returns how many bytes they have together, and the
+/// options. The rest of the room stays as it was. Of `"* foo\n  bar\n"` it writes `"foo bar\n*   "`.
+pub fn unfill_into<'t>(text: &'t str, room: &mut [u8]) -> (usize, Options<'t>)
+    ensures len { result.0 ≡ as_len (length (unfilled_parts text.now)) }
+    ensures room { room.new ≡ written_over room.old (unfilled_parts text.now) }
+    ensures settings { settings_view result.1 ≡ unfilled_settings text.now }
+{
+    let mut parts = LentText::new(room);
+    match push_unfilled(text, &mut parts) {
+        Ok(layout) => {
+            parts.push(layout.initial_indent.as_bytes());
+            parts.push(layout.subsequent_indent.as_bytes());
+            (parts.len(), with_layout(layout))
+        }
+        Err(_) => unreachable!(),
+    }
+}
+
+/// Pushes the unfilled text to what has taken nothing, and returns its layout.
+///
+/// # Errors
+/// [`AllocError`] where memory runs out.
+fn push_unfilled<'t, S: TextSink>(
+    text: &'t str,
+    unfilled: &mut S,
+) -> Result<TextLayout<'t>, AllocError>
+    requires none { S.holds unfilled.now unfilled.now [] }
+    ensures name { S.name unfilled.new ≡ S.name unfilled.old }
+    ensures done { S.never_fails → IsOk result }
+    ensures unfilled { OnOk result (S.holds unfilled.old unfilled.new (unfilled_text text.now)) }
+    ensures layout { IfOk result (λ layout. layout_settings layout ≡ unfilled_settings text.now) }
+{
+    let (layout, keeps_ending) = push_joined(text, unfilled)?;
+    if keeps_ending {
+        unfilled.push_part(layout.line_ending.as_str())?;
+    }
+    Ok(layout)
 }
 
 /// Fills a filled paragraph again, with the indents that it has.
@@ -144,22 +185,38 @@ fn join_lines<'t, A: Allocator>(
         ≡ unfilled_settings text.now) }
     ensures keeps { IfOk result (λ unfilled. unfilled.2 ≡ keeps_ending text.now) }
 {
+    let mut joined = String::new(alloc);
+    let (layout, keeps_ending) = push_joined(text, &mut joined)?;
+    Ok((joined, layout, keeps_ending))
+}
+
+/// Pushes the joined lines of the text without an ending to what has taken nothing, and returns its
+/// layout, and whether it ends in the line ending of that.
+///
+/// # Errors
+/// [`AllocError`] where memory runs out.
+fn push_joined<'t, S: TextSink>(
+    text: &'t str,
+    joined: &mut S,
+) -> Result<(TextLayout<'t>, bool), AllocError>
+    requires none { S.holds joined.now joined.now [] }
+    ensures name { S.name joined.new ≡ S.name joined.old }
+    ensures done { S.never_fails → IsOk result }
+    ensures joined { OnOk result (S.holds joined.old joined.new (joined_text text.now)) }
+    ensures layout { IfOk result (λ found. layout_settings found.0 ≡ unfilled_settings text.now) }
+    ensures keeps { IfOk result (λ found. found.1 ≡ keeps_ending text.now) }
+{
     let layout = find_layout(text);
-    let (joined, detected) = join_without_indents(
-        alloc,
-        text,
-        layout.initial_indent,
-        layout.subsequent_indent,
-    )?;
-    let Some(ending) = detected else {
-        return Ok((joined, layout, false));
+    let (initial, subsequent) = (layout.initial_indent, layout.subsequent_indent);
+    let Some(ending) = push_without_indents(text, initial, subsequent, joined)? else {
+        return Ok((layout, false));
     };
     let keeps_ending = text.ends_with(ending.as_str());
     let layout = TextLayout {
         line_ending: ending,
         ..layout
     };
-    Ok((joined, layout, keeps_ending))
+    Ok((layout, keeps_ending))
 }
 
 /// The width and the indents of the text, and LF.
@@ -182,36 +239,41 @@ fn find_layout(text: &str) -> TextLayout<'_>
     }
 }
 
-/// The lines of the text that are not empty, without its indents and joined by blanks, and the
-/// ending that is detected among them.
-fn join_without_indents<A: Allocator>(
-    alloc: A,
+/// Pushes the lines of the text that are not empty, without its indents and joined by blanks, to what
+/// has taken nothing, and returns the ending that is detected among them.
+///
+/// # Errors
+/// [`AllocError`] where memory runs out.
+fn push_without_indents<S: TextSink>(
     text: &str,
     initial_indent: &str,
     subsequent_indent: &str,
-) -> Result<(String<A>, Option<LineEnding>), AllocError>
+    joined: &mut S,
+) -> Result<Option<LineEnding>, AllocError>
     requires initial { initial_indent.now ≡ unfilled_initial text.now }
     requires subsequent { subsequent_indent.now ≡ unfilled_subsequent text.now }
-    ensures joined { IfOk result (λ unfilled. string_bytes unfilled.0 ≡ joined_text text.now) }
-    ensures detected { IfOk result (λ unfilled. unfilled.1 ≡ detected_ending text.now) }
+    requires none { S.holds joined.now joined.now [] }
+    ensures name { S.name joined.new ≡ S.name joined.old }
+    ensures done { S.never_fails → IsOk result }
+    ensures joined { OnOk result (S.holds joined.old joined.new (joined_text text.now)) }
+    ensures detected { IfOk result (λ detected. detected ≡ detected_ending text.now) }
 {
     let mut lines = NonEmptyLines(text);
     let Some((first, ending)) = lines.next() else {
-        return Ok((String::new(alloc), None));
+        return Ok(None);
     };
     let first = without_indent(first, initial_indent);
     // No unfilled text is longer than the text. Of an indent alone nothing may be left, and then no
     // memory is needed.
-    let room = if first.is_empty() { 0 } else { text.len() };
-    let mut joined = String::with_capacity(alloc, room)?;
-    joined.push_str(first)?;
+    joined.reserve_bytes(if first.is_empty() { 0 } else { text.len() })?;
+    joined.push_part(first)?;
     let mut detected = ending;
     for (line, ending) in lines {
-        joined.push_str(" ")?;
-        joined.push_str(without_indent(line, subsequent_indent))?;
+        joined.push_part(" ")?;
+        joined.push_part(without_indent(line, subsequent_indent))?;
         detected = stronger_ending(detected, ending);
     }
-    Ok((joined, detected))
+    Ok(detected)
 }
 
 /// The line without the indent that it begins with.

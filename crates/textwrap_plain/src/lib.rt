@@ -12,4 +12,4 @@ pub mod texts;
 
 pub use display::{PlainColumn, fill_justified, table};
 pub use options::{PlainAlgorithm, PlainOptions, PlainSeparator, PlainSplitter};
-pub use texts::{fill, refill, wrap, wrap_columns};
+pub use texts::{fill, fill_into, refill, wrap, wrap_columns};

@@ -1,8 +1,8 @@
 //! How a text is wrapped, by built-in parts alone.
-ghost use Rattle.std.specs.Prelude.{◌≡◌, Some};
+ghost use Rattle.std.specs.Prelude.{◌≡◌, ◌↔◌, IsTrue, Some};
 ghost use Rattle.textwrap.specs.Options.{HasParts};
 ghost use Rattle.textwrap.specs.WordSplitters.{splitter_view};
-ghost use Rattle.textwrap.specs.WrapAlgorithms.{algorithm_view};
+ghost use Rattle.textwrap.specs.WrapAlgorithms.{algorithm_view, Greedy};
 ghost use Rattle.textwrap_plain.specs.Options.{algorithm_of, AreDefaults, settings_of, splitter_of};
 
 use textwrap::wrap_algorithms::Penalties;
@@ -86,6 +86,8 @@ impl PlainOptions<'static> {
 }
 
 impl<'a> PlainOptions<'a> {
+    ghost use Rattle.textwrap_plain.specs.declared.options.PlainSeparator.TheVariants.{AtBlanks};
+
     /// The options of `textwrap` that say the same, but that words stand between blanks.
     pub fn at_blanks(&self) -> Options<'a>
         ensures { HasParts result (settings_of self.now) (splitter_of self.now)
@@ -102,6 +104,18 @@ impl<'a> PlainOptions<'a> {
             preserve_trailing_space: self.preserve_trailing_space,
             even_paragraphs: self.even_paragraphs,
             ..DEFAULTS
+        }
+    }
+
+    /// Whether words stand between blanks, and each line takes as many of them as fit. Then a text is
+    /// filled without a list.
+    pub(crate) fn are_direct(&self) -> bool
+        ensures { IsTrue result ↔ (self.now.word_separator ≡ AtBlanks)
+            × (algorithm_of self.now ≡ Greedy) }
+    {
+        match (self.word_separator, self.wrap_algorithm) {
+            (PlainSeparator::AtBlanks, PlainAlgorithm::FirstFit) => true,
+            _ => false,
         }
     }
 

@@ -1,5 +1,6 @@
 //! Texts, wrapped and filled by options without functions.
-ghost use Rattle.std.specs.Prelude.{◌≡◌, ◌≤◌, Some, IfErr, IfOk, alloc_error, map, string_bytes, true};
+ghost use Rattle.std.specs.Prelude.{◌≡◌, ◌≤◌, ℕ, List, length, Some, IfErr, IfOk, IsOk, alloc_error, map};
+ghost use Rattle.std.specs.Prelude.{string_bytes, true};
 ghost use Rattle.textwrap.specs.Columns.{IsInColumns};
 ghost use Rattle.textwrap.specs.Filling.{IsFilled};
 ghost use Rattle.textwrap.specs.Paragraph.{line_view};
@@ -7,6 +8,8 @@ ghost use Rattle.textwrap.specs.Refilling.{IsRefilled};
 ghost use Rattle.textwrap.specs.Text.{ArePrintedWithin, CanKeepToWidth, IsWrapped, LinesKeepToWidth};
 ghost use Rattle.textwrap.specs.WrapAlgorithms.{Greedy};
 ghost use Rattle.textwrap_plain.specs.Options.{algorithm_of, DividesPlainly, settings_of, splitter_of};
+ghost use Rattle.textwrap_plain.specs.declared.options.PlainSeparator.TheVariants.{AtBlanks};
+ghost use Rattle.textwrap_words.specs.LentText.{as_len, written_over};
 
 use crate::options::{PlainOptions, PlainSeparator};
 use std::alloc::Global;
@@ -14,6 +17,7 @@ use std::borrow::CowStr;
 use textwrap::word_separators::LineCuts;
 use textwrap::{WordSeparator, WrapError};
 use textwrap_unicode::{Numbers, unicode_cuts, unicode_cuts_by_expression};
+use textwrap_words::inner::LentText;
 
 /// Wraps a text and returns its lines, as `wrap` of `textwrap` does it.
 ///
@@ -84,6 +88,35 @@ pub fn fill(alloc: Global, text: &str, options: &PlainOptions<'_>) -> Result<Str
         text,
         options.at_blanks().word_separator(word_separator),
     )
+}
+
+/// Writes the text of [`fill`] into lent room, as much of it as there is room for, and returns how many
+/// bytes it has, or the greatest number if they are more. The rest of the room stays as it was. At
+/// blanks and by first fit nothing is allocated.
+///
+/// # Errors
+/// [`WrapError::Memory`] where memory runs out. Then the room is as it was.
+pub fn fill_into(
+    alloc: Global,
+    text: &str,
+    options: &PlainOptions<'_>,
+    room: &mut [u8],
+) -> Result<usize, WrapError>
+    ensures filled { IfOk result (λ len. (filled : List ℕ) × IsFilled (settings_of options.now)
+        (DividesPlainly options.now (settings_of options.now)) text.now filled
+        × (len ≡ as_len (length filled)) × (room.new ≡ written_over room.old filled)) }
+    ensures done { options.now.word_separator ≡ AtBlanks → algorithm_of options.now ≡ Greedy
+        → IsOk result }
+    ensures kept { IfErr result (λ _. room.new ≡ room.old) }
+    ensures only_memory { IfErr result (λ error. error ≡ WrapError.Memory alloc_error) }
+{
+    if options.are_direct() {
+        return textwrap_lines::inner::fill_into(alloc, text, &options.at_blanks(), room);
+    }
+    let filled = fill(alloc, text, options)?;
+    let mut written = LentText::new(room);
+    written.push(filled.as_bytes());
+    Ok(written.len())
 }
 
 /// Fills a filled paragraph again, with the indents that it has, as `refill` of `textwrap` does it.

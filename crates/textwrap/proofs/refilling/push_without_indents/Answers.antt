@@ -1,6 +1,6 @@
-use Rattle.textwrap.proofs.refilling.join_without_indents.Goals as goal
-use Rattle.textwrap_base.proofs.Common.{◌≡◌, ◌∷◌, ◌++◌, length, drop, map, subst, sym, ap, ◌∙◌}
-use Rattle.textwrap_base.proofs.Common.{append_assoc, StartsWith, string_bytes, All-head, All-tail}
+use Rattle.textwrap.proofs.refilling.push_without_indents.Goals as goal
+use Rattle.textwrap_base.proofs.Common.{[], ◌∷◌, ◌++◌, map, subst, sym, ap, ◌∙◌}
+use Rattle.textwrap_base.proofs.Common.{append-nil, append_assoc, StartsWith, All-head, All-tail}
 use Rattle.textwrap_words.proofs.Common.{blank}
 use Rattle.textwrap.proofs.Common.{detected_among}
 use Rattle.textwrap.specs.Refilling.{ended_line_view}
@@ -18,14 +18,16 @@ loop-line-init g c =
     let first = ended_line_view (c.in-Some.first, c.in-Some.ending) in
     let steps = c.in-Some.ensures.steps in
     let left = c.into_iter-line-iterator.ensures.into_iter_gives in
-    let piece = c.without_indent-first.result.now in
-    let pushed : string_bytes c.push_str.new.self ≡ drop (length c.args.initial_indent.now)
-    c.in-Some.first.now = c.in_ok-push_str.ensures.bytes
-    ∙ ap (λ l. l ++ piece) c.in_ok-joined.ensures.bytes ∙ c.without_indent-first.ensures in
+    let reserved = c.in_ok-reserve_bytes.ensures.held c.args.joined.now [] c.requires.none in
     record {
-      joined = rw (pushed, left) (joined_text-some text c.args.initial_indent.now
-          c.args.subsequent_indent.now first c.next.new.self c.requires.initial
-          c.requires.subsequent steps);
+      joined = (
+        c.without_indent-first.result.now,
+        c.in_ok-push_part.ensures.took c.args.joined.now [] reserved,
+        rw (c.without_indent-first.ensures, left) (joined_text-some text c.args.initial_indent.now
+            c.args.subsequent_indent.now first c.next.new.self c.requires.initial
+            c.requires.subsequent steps),
+      );
+      name = c.push_part.ensures.name ∙ c.reserve_bytes.ensures.name;
       begins = rw (left, c.requires.subsequent)
           (lines-begin text first c.next.new.self steps).1;
       detected = ap (λ es. detected_among (c.in-Some.ending ∷ map (λ e. e.ending) es)) left
@@ -44,14 +46,17 @@ loop-line-preserved g c =
     let line = ended_line_view (c.in-Some-2.line, c.in-Some-2.ending) in
     let left = c.next-in-loop-line.new.self in
     let steps = c.in-Some-2.ensures.steps in
-    let before = string_bytes c.loop-line.joined in
-    let n = length c.args.subsequent_indent.now in
-    let piece = drop n c.in-Some-2.line.now in
-    let pushed : string_bytes c.push_str-in-loop-line-2.new.self ≡ before ++ blank ∷ piece =
-    c.in_ok-push_str-3.ensures.bytes
-    ∙ rw (c.in_ok-push_str-2.ensures.bytes, c.without_indent.ensures, append_assoc) in
+    let (before, held, joined) = c.loop-line.invariant.joined in
+    let piece = c.without_indent.result.now in
+    let blank_pushed = c.in_ok-push_part-2.ensures.took c.args.joined.now before held in
     record {
-      joined = rw (pushed, append_assoc) (rw steps at c.loop-line.invariant.joined);
+      joined = (
+        (before ++ blank ∷ []) ++ piece,
+        c.in_ok-push_part-3.ensures.took c.args.joined.now (before ++ blank ∷ []) blank_pushed,
+        rw (c.without_indent.ensures, append_assoc, append_assoc) (rw steps at joined),
+      );
+      name = c.push_part-in-loop-line-2.ensures.name ∙ c.push_part-in-loop-line.ensures.name
+          ∙ c.loop-line.invariant.name;
       begins = All-tail (λ e. StartsWith e.line c.args.subsequent_indent.now) line left
           (rw steps at c.loop-line.invariant.begins);
       detected = ap (λ d. detected_among (d ∷ map (λ e. e.ending) left))
@@ -61,3 +66,10 @@ loop-line-preserved g c =
           ∙ ap (λ es. detected_among (c.loop-line.detected ∷ map (λ e. e.ending) es)) (sym steps)
           ∙ c.loop-line.invariant.detected;
     }
+
+pub returns-clause-joined : goal.returns-clause-joined
+returns-clause-joined g c =
+    let (so_far, held, joined) = c.loop-line.invariant.joined in
+    subst (g.S.TextSink.holds c.args.joined.now c.loop-line.joined)
+    (sym (append-nil so_far)
+    ∙ (rw c.in-None.ensures.steps.0 at joined)) held

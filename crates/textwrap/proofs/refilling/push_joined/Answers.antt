@@ -1,4 +1,4 @@
-use Rattle.textwrap.proofs.refilling.join_lines.Goals as goal
+use Rattle.textwrap.proofs.refilling.push_joined.Goals as goal
 use Rattle.textwrap_base.proofs.Common.{nat_eq, sym, ap, ◌∙◌, ends_with}
 use Rattle.std.proofs.lemmas.Str.Pattern.{ends_text}
 use Rattle.textwrap.proofs.Text.Unfilling.{keeps_ending-some}
@@ -10,4 +10,4 @@ returns-clause-keeps g c =
     c.ends_with-keeps_ending.ensures.cases
     ∙ ap (ends_with nat_eq text) c.as_str.ensures
     ∙ sym (keeps_ending-some text c.in-Some.ending
-    (sym c.in_ok-joined.ensures.detected ∙ c.in-Some.is))
+    (sym c.in_ok-ending.ensures.detected ∙ c.in-Some.is))

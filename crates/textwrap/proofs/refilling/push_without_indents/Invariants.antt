@@ -1,5 +1,5 @@
-use Rattle.textwrap.proofs.refilling.join_without_indents.Given as goal
-use Rattle.textwrap_base.proofs.Common.{◌≡◌, ◌∷◌, ◌++◌, length, map, All, StartsWith, string_bytes}
+use Rattle.textwrap.proofs.refilling.push_without_indents.Given as goal
+use Rattle.textwrap_base.proofs.Common.{◌≡◌, ◌∷◌, ◌++◌, ℕ, List, length, map, All, StartsWith}
 use Rattle.textwrap.proofs.Common.{joined_text, detected_among, detected_ending}
 use Rattle.textwrap.proofs.Text.Unfilling.{added_lines}
 
@@ -7,8 +7,10 @@ use Rattle.textwrap.proofs.Text.Unfilling.{added_lines}
 -- their indent; and the ending so far stands for those that came
 abbrev pub invariant-loop-line : goal.invariant-loop-line
 invariant-loop-line g l = record {
-  joined : string_bytes l.joined ++ added_lines (length l.subsequent_indent) l.line-iterator
-      ≡ joined_text l.text;
+  joined : (so_far : List ℕ) × g.S.TextSink.holds l.fn.joined l.joined so_far
+      × (so_far ++ added_lines (length l.subsequent_indent) l.line-iterator
+      ≡ joined_text l.text);
+  name : g.S.TextSink.name l.joined ≡ g.S.TextSink.name l.fn.joined;
   begins : All (λ e. StartsWith e.line l.subsequent_indent) l.line-iterator;
   detected : detected_among (l.detected ∷ map (λ e. e.ending) l.line-iterator)
       ≡ detected_ending l.text;

@@ -1,0 +1,21 @@
+use Rattle.textwrap_plain.proofs.texts.fill_into.Goals as goal
+use Rattle.textwrap_base.proofs.Common.{refl}
+use Rattle.std.proofs.lemmas.Result.{IfOk-weaker}
+use Rattle.textwrap_plain.proofs.Parts.{filled-at}
+use Rattle.textwrap_plain.proofs.Separators.{parts-separated, separates-blanks}
+use Rattle.textwrap_plain.specs.Options.{algorithm_of, settings_of, splitter_of, words_by}
+
+pub returns-then-are_direct-clause-filled : goal.returns-then-are_direct-clause-filled
+returns-then-are_direct-clause-filled c =
+    let o = c.args.options.now in
+    let options = c.at_blanks.result in
+    let blanks = (c.are_direct.ensures.0 c.if-are_direct.true).0 in
+    let parts = parts-separated o options options options.word_separator c.at_blanks.ensures refl refl
+    refl refl (separates-blanks _ _ c.at_blanks.ensures.separator blanks) in
+    IfOk-weaker c.fill_into.result _ _ (λ len (filled, is, len_is, room). (
+      filled,
+      filled-at options (words_by o.word_separator) (settings_of o) (splitter_of o)
+          (algorithm_of o) parts c.args.text.now filled is,
+      len_is,
+      room,
+    )) c.fill_into.ensures.filled

@@ -1,6 +1,6 @@
 //! A whole text in steps, with its lines justified.
-ghost use Rattle.std.specs.Prelude.{◌≡◌, ◌≢◌, ◌≤◌, ◌↔◌, ◌⊎◌, false, IfErr, IfOk, IsUtf8, map};
-ghost use Rattle.std.specs.Prelude.{◌∷◌, [], string_bytes};
+ghost use Rattle.std.specs.Prelude.{◌≡◌, ◌≢◌, ◌≤◌, ◌↔◌, ◌⊎◌, ◌||◌, false, IfErr, IfOk, IsUtf8, length};
+ghost use Rattle.std.specs.Prelude.{◌∷◌, [], map, nat_lt, string_bytes};
 ghost use Rattle.textwrap_calls.specs.JustifiedSteps.{justified_at};
 ghost use Rattle.textwrap_calls.specs.Options.{settings_of, AreKnown, AreTexts};
 ghost use Rattle.textwrap_calls.specs.Room.{WritesText};
@@ -98,7 +98,7 @@ fn justify_text(
             Ok(()) => {}
             Err(_) => return Err(OUT_OF_MEMORY),
         }
-        is_later = is_later || !lines.is_empty();
+        is_later = has_line(is_later, &lines);
         number += 1;
         rest = after;
     }
@@ -106,6 +106,13 @@ fn justify_text(
         return Err(WRONG_PLACES);
     }
     Ok(filled)
+}
+
+/// Whether a line stands after these lines, where `is_later` says that one stands before them.
+fn has_line(is_later: bool, lines: &Vec<CowStr<'_, Global>>) -> bool
+    ensures { result ≡ is_later || nat_lt 0 (length lines.now.items) }
+{
+    is_later || !lines.is_empty()
 }
 
 /// The lines of a paragraph, as a whole or at these steps.

@@ -1,8 +1,8 @@
 use Rattle.textwrap_calls.proofs.justified_steps.justify_text.Goals as goal
 use Rattle.textwrap_base.proofs.Common.{◌+◌, ◌<◌, ◌∷◌, arith, drop, drop_more, inl, inr, length, length-drop}
-use Rattle.textwrap_base.proofs.Common.{refl, string_bytes, subst, sym, ◌∙◌, ap, ◌||◌, nat_lt, not}
-use Rattle.textwrap_base.proofs.Numbers.{not_empty}
-use Rattle.textwrap_lines.proofs.Common.{settings_view}
+use Rattle.textwrap_base.proofs.Common.{◌++◌, ap, map, refl, string_bytes, subst, ◌∙◌}
+use Rattle.textwrap_display.specs.JustifiedText.{joined_on, justified_after_indents}
+use Rattle.textwrap_lines.proofs.Common.{ending_bytes, line_view, settings_view}
 use Rattle.textwrap_lines.proofs.Text.Lines.{paragraphs_left, paragraphs_left-split}
 use Rattle.textwrap_calls.proofs.JustifiedStepLemmas.{IsJustifiedTo, justified-end, justified-many}
 use Rattle.textwrap_calls.proofs.JustifiedStepLemmas.{justified-more, justified-start, justified-wrong}
@@ -57,10 +57,14 @@ loop-rest-preserved g c =
       paragraphs_left-split options.line_ending c.in-Some.text.now after paragraph
           c.split_paragraph.ensures.paragraphs,
     ) at c.loop-rest.invariant.so_far) in
+    let added = c.in-Ok-push_justified_lines.ensures
+    ∙ ap (λ ls. string_bytes c.loop-rest.filled ++ joined_on (ending_bytes options.line_ending)
+    c.loop-rest.is_later (justified_after_indents settings c.loop-rest.is_later (map line_view ls)))
+    c.deref.ensures.value in
     record {
       so_far = justified-more settings steps text (string_bytes c.loop-rest.filled) _
-          c.loop-rest.is_later _ paragraph left _ others c.in-Ok.lines.items so_far
-          c.in-Ok.ensures.lines _ _ c.in-Ok.ensures.steps;
+          c.loop-rest.is_later c.has_line-is_later.result paragraph left _ others c.in-Ok.lines.items
+          so_far c.in-Ok.ensures.lines added c.has_line-is_later.ensures c.in-Ok.ensures.steps;
       within = omega (arith, within);
     }
 

@@ -1,8 +1,8 @@
 /* Each call of the library as it is installed, with each of its allocations refused in turn: a refused
- * call is out of memory, changes nothing and leaves nothing allocated. What comes after the refused
- * allocation is allowed again, so a call that overlooks the refusal is done, which is a fault. The
- * library is linked with --wrap, so that its malloc, calloc, realloc and free are those of this
- * file. */
+ * call is out of memory, changes nothing and leaves nothing allocated. Some calls allocate nothing.
+ * What comes after the refused allocation is allowed again, so a call that overlooks the refusal is
+ * done, which is a fault. The library is linked with --wrap, so that its malloc, calloc, realloc and
+ * free are those of this file. */
 #include <stdbool.h>
 #include <stdio.h>
 #include <stdlib.h>
@@ -361,21 +361,27 @@ static textwrap_status cut_by_the_function(struct lent *lent) {
     return TEXTWRAP_DONE;
 }
 
-static const struct call {
+struct call {
     const char *name;
     textwrap_status (*call)(struct lent *);
-} CALLS[] = {
+};
+
+/* These allocate nothing. */
+static const struct call DIRECT[] = {
     {"fill by first fit", by_first_fit},
     {"fill by first fit, with an indent", by_first_fit_indented},
+    {"unfill", unfilled},
+    {"indent", indented},
+    {"dedent", dedented},
+};
+
+static const struct call CALLS[] = {
     {"fill by optimal fit", by_optimal_fit},
     {"fill by optimal fit, with an indent", by_optimal_fit_indented},
     {"wrap", wrapped},
     {"wrap_columns", in_columns},
     {"rows_of_lines", lines_in_columns},
     {"refill", refilled},
-    {"unfill", unfilled},
-    {"indent", indented},
-    {"dedent", dedented},
     {"fill_inplace", in_place},
     {"display_width", measured},
     {"align", aligned},
@@ -434,6 +440,14 @@ static long refusals_of(const struct call *call) {
 
 int main(void) {
     int failures = 0;
+    for (size_t i = 0; i < sizeof DIRECT / sizeof DIRECT[0]; i++) {
+        if (refusals_of(&DIRECT[i]) == 0) {
+            printf("%s: no allocations\n", DIRECT[i].name);
+        } else {
+            printf("%s: FAULT\n", DIRECT[i].name);
+            failures++;
+        }
+    }
     for (size_t i = 0; i < sizeof CALLS / sizeof CALLS[0]; i++) {
         long refusals = refusals_of(&CALLS[i]);
         if (refusals < 0) {

@@ -119,14 +119,56 @@ static void columns_are_counted(void) {
     CHECK(textwrap_display_width(bytes("Caf\xe9"), 4, &columns) == TEXTWRAP_NOT_UTF8 && columns == 4);
 }
 
-static void room_that_is_too_small_is_reported(void) {
+/* Calls that write a text. */
+static textwrap_status filled_greedily(uint8_t *room, size_t room_len, size_t *len) {
     textwrap_options o = textwrap_options_new(10);
-    uint8_t room[11];
-    size_t len = 0;
-    CHECK(textwrap_fill(bytes("foo bar baz"), 11, &o, room, 10, &len) == TEXTWRAP_TOO_SMALL);
-    CHECK(len == 11);
-    CHECK(textwrap_fill(bytes("foo bar baz"), 11, &o, room, 11, &len) == TEXTWRAP_DONE);
-    CHECK(memcmp(room, "foo bar\nbaz", 11) == 0);
+    o.optimal_fit = 0;
+    o.subsequent_indent = text_of("> ");
+    return textwrap_fill(bytes("foo bar baz"), 11, &o, room, room_len, len);
+}
+
+static textwrap_status filled_at_least_cost(uint8_t *room, size_t room_len, size_t *len) {
+    const textwrap_options o = textwrap_options_new(10);
+    return textwrap_fill(bytes("foo bar baz"), 11, &o, room, room_len, len);
+}
+
+static textwrap_status indented(uint8_t *room, size_t room_len, size_t *len) {
+    return textwrap_indent(bytes("a\n\nb\n"), 5, bytes("> "), 2, room, room_len, len);
+}
+
+static textwrap_status dedented(uint8_t *room, size_t room_len, size_t *len) {
+    return textwrap_dedent(bytes("  a\n\n    b\n"), 11, room, room_len, len);
+}
+
+static textwrap_status unfilled(uint8_t *room, size_t room_len, size_t *len) {
+    textwrap_layout layout;
+    return textwrap_unfill(bytes("* foo\n  bar\n"), 12, room, room_len, len, &layout);
+}
+
+/* Room of each length: it holds as much of the text as there is room for, and the rest of it and what
+ * stands after it are not touched. */
+static void holds_the_beginning(textwrap_status (*call)(uint8_t *, size_t, size_t *), const char *text) {
+    const size_t text_len = strlen(text);
+    for (size_t has = 0; has < text_len + 3; has++) {
+        uint8_t room[32], expected[32];
+        size_t len = 0;
+        memset(room, '_', sizeof room);
+        memset(expected, '_', sizeof expected);
+        memcpy(expected, text, has < text_len ? has : text_len);
+        CHECK(call(room, has, &len) == (has < text_len ? TEXTWRAP_TOO_SMALL : TEXTWRAP_DONE));
+        CHECK(len == text_len && memcmp(room, expected, sizeof room) == 0);
+    }
+}
+
+static void room_that_is_too_small_is_reported(void) {
+    holds_the_beginning(filled_greedily, "foo bar\n> baz");
+    holds_the_beginning(filled_at_least_cost, "foo bar\nbaz");
+    holds_the_beginning(indented, "> a\n>\n> b\n");
+    holds_the_beginning(dedented, "a\n\n  b\n");
+    holds_the_beginning(unfilled, "foo bar\n*   ");
+    textwrap_options o = textwrap_options_new(10);
+    uint8_t room[1];
+    size_t len = 7;
     CHECK(textwrap_fill(bytes(""), 0, &o, room, 0, &len) == TEXTWRAP_DONE && len == 0);
 }
 
@@ -171,7 +213,8 @@ static void filled_texts_are_unfilled_and_refilled(void) {
     memset(&layout, 7, sizeof layout);
     const textwrap_layout old = layout;
     CHECK(textwrap_unfill(bytes(text), 12, room, 11, &len, &layout) == TEXTWRAP_TOO_SMALL);
-    CHECK(len == 12 && memcmp(&layout, &old, sizeof layout) == 0);
+    CHECK(len == 12 && memcmp(room, "foo bar\n*  ", 11) == 0);
+    CHECK(memcmp(&layout, &old, sizeof layout) == 0);
     CHECK(textwrap_unfill(bytes(text), 12, room, sizeof room, &len, &layout) == TEXTWRAP_DONE);
     CHECK(len == 12 && memcmp(room, "foo bar\n*   ", 12) == 0);
     CHECK(layout.width == 5 && layout.crlf == 0);
@@ -224,8 +267,8 @@ static void lines_are_aligned(void) {
     CHECK(textwrap_align(bytes("a\xff"), 2, 5, TEXTWRAP_LEFT, room, sizeof room, &len)
           == TEXTWRAP_NOT_UTF8);
     CHECK(len == 7 && memcmp(room, "...", 4) == 0);
-    CHECK(textwrap_align(bytes("ab"), 2, 5, TEXTWRAP_LEFT, room, 4, &len) == TEXTWRAP_TOO_SMALL);
-    CHECK(len == 5 && memcmp(room, "...", 4) == 0);
+    CHECK(textwrap_align(bytes("ab"), 2, 5, TEXTWRAP_LEFT, room, 2, &len) == TEXTWRAP_TOO_SMALL);
+    CHECK(len == 5 && memcmp(room, "ab.", 4) == 0);
     for (uint32_t i = 0; i < 3; i++) {
         CHECK(textwrap_align(bytes("ab"), 2, 5, i, room, 5, &len) == TEXTWRAP_DONE);
         CHECK(is_text(room, len, aligned[i]));
@@ -244,7 +287,7 @@ static void lines_are_justified(void) {
     CHECK(textwrap_justify(bytes("a \xff"), 3, 9, room, sizeof room, &len) == TEXTWRAP_NOT_UTF8);
     CHECK(len == 7 && memcmp(room, "...", 4) == 0);
     CHECK(textwrap_justify(bytes("a few words"), 11, 14, room, 13, &len) == TEXTWRAP_TOO_SMALL);
-    CHECK(len == 14 && memcmp(room, "...", 4) == 0);
+    CHECK(len == 14 && memcmp(room, "a   few  word", 14) == 0);
     CHECK(textwrap_justify(bytes("a few words"), 11, 14, room, 14, &len) == TEXTWRAP_DONE);
     CHECK(is_text(room, len, "a   few  words"));
     CHECK(textwrap_justify(bytes("  a b c"), 7, 9, room, sizeof room, &len) == TEXTWRAP_DONE);
@@ -265,9 +308,9 @@ static void texts_are_filled_and_justified(void) {
           == TEXTWRAP_UNKNOWN_OPTIONS);
     o.version = TEXTWRAP_VERSION;
     CHECK(len == 7 && memcmp(room, "...", 4) == 0);
-    CHECK(textwrap_fill_justified(bytes(HAMLET), strlen(HAMLET), &o, room, 46, &len)
+    CHECK(textwrap_fill_justified(bytes(HAMLET), strlen(HAMLET), &o, room, 2, &len)
           == TEXTWRAP_TOO_SMALL);
-    CHECK(len == 47 && memcmp(room, "...", 4) == 0);
+    CHECK(len == 47 && memcmp(room, "To.", 4) == 0);
     CHECK(textwrap_fill_justified(bytes(HAMLET), strlen(HAMLET), &o, room, 47, &len)
           == TEXTWRAP_DONE);
     CHECK(is_text(room, len, "To   be,  or\nnot  to  be:\nthat  is the\nquestion"));
@@ -289,9 +332,9 @@ static void lines_are_shortened(void) {
     CHECK(textwrap_shorten(bytes("ab"), 2, 1, bytes("\xff"), 1, room, sizeof room, &len)
           == TEXTWRAP_NOT_UTF8);
     CHECK(len == 7 && memcmp(room, "...", 4) == 0);
-    CHECK(textwrap_shorten(bytes("Hello world"), 11, 10, bytes("***"), 3, room, 7, &len)
+    CHECK(textwrap_shorten(bytes("Hello world"), 11, 10, bytes("***"), 3, room, 2, &len)
           == TEXTWRAP_TOO_SMALL);
-    CHECK(len == 8 && memcmp(room, "...", 4) == 0);
+    CHECK(len == 8 && memcmp(room, "He.", 4) == 0);
     CHECK(textwrap_shorten(bytes("Hello world"), 11, 10, bytes("***"), 3, room, 8, &len)
           == TEXTWRAP_DONE);
     CHECK(is_text(room, len, "Hello***"));
@@ -513,8 +556,9 @@ static void fragments_are_divided(void) {
     size_t ends[4] = {9, 9, 9, 9}, count = 7;
     CHECK(textwrap_wrap_first_fit(four, 4, widths, 2, ends, 4, &count) == TEXTWRAP_DONE);
     CHECK(count == 3 && ends[0] == 2 && ends[1] == 3 && ends[2] == 4 && ends[3] == 9);
+    ends[0] = ends[1] = ends[2] = 9;
     CHECK(textwrap_wrap_first_fit(four, 4, widths, 2, ends, 2, &count) == TEXTWRAP_TOO_SMALL);
-    CHECK(count == 3 && ends[0] == 2);
+    CHECK(count == 3 && ends[0] == 2 && ends[1] == 3 && ends[2] == 9);
     CHECK(textwrap_wrap_first_fit(four, 0, widths, 2, ends, 4, &count) == TEXTWRAP_DONE);
     CHECK(count == 1 && ends[0] == 0);
     /* To end a line costs 30 after the second of the last three, and nothing after the others. */
@@ -573,7 +617,7 @@ static void pieces_are_places(void) {
     CHECK(count == 3 && stands(pieces[0], 0, 0, 0, 0) && stands(pieces[1], 0, 6, 0, 4)
           && stands(pieces[2], 6, 1, 0, 1));
     CHECK(textwrap_pieces(bytes("foo bar"), 7, &o, pieces, 2, &count) == TEXTWRAP_TOO_SMALL);
-    CHECK(count == 3 && stands(pieces[2], 6, 1, 0, 1));
+    CHECK(count == 3 && stands(pieces[1], 0, 3, 1, 3) && stands(pieces[2], 6, 1, 0, 1));
     o.version = 0;
     CHECK(textwrap_pieces(bytes("foo"), 3, &o, pieces, 4, &count) == TEXTWRAP_UNKNOWN_OPTIONS);
 }
@@ -875,7 +919,7 @@ static void lines_end_at_unicode_breaks(void) {
     o.crlf = 1;
     CHECK(textwrap_fill_by(bytes("\xe6\x97\xa5\xe6\x9c\xac\xe3\x80\x82"), 9, &o, &breaks, room, 10, &len)
           == TEXTWRAP_TOO_SMALL);
-    CHECK(len == 11);
+    CHECK(len == 11 && memcmp(room, "\xe6\x97\xa5\r\n\xe6\x9c\xac\xe3\x80", 10) == 0);
     CHECK(textwrap_fill_by(bytes("\xe6\x97\xa5\xe6\x9c\xac\xe3\x80\x82"), 9, &o, &breaks, room, 16, &len)
           == TEXTWRAP_DONE);
     CHECK(len == 11 && memcmp(room, "\xe6\x97\xa5\r\n\xe6\x9c\xac\xe3\x80\x82", 11) == 0);

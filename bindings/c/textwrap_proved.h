@@ -10,9 +10,11 @@
  * columns.
  * What a call gives is written into room that the caller hands in and owns; the library keeps no
  * pointer and leaves nothing allocated behind. The room may be uninitialised. It overlaps nothing
- * else that is handed to the same call, and `count` and `len` are two places. A call that does not
- * return TEXTWRAP_DONE leaves the room as it was. If that is too small, TEXTWRAP_TOO_SMALL reports
- * the length that suffices, for a second call.
+ * else that is handed to the same call, and `count` and `len` are two places. If the room is too small,
+ * TEXTWRAP_TOO_SMALL reports the length that suffices, for a second call, or SIZE_MAX where that is
+ * more. The room then holds the beginning of the answer, as much of it as has room; it may end inside
+ * a character. A call that writes lines and their texts writes neither then. But for TEXTWRAP_DONE and
+ * TEXTWRAP_TOO_SMALL a call leaves the room as it was. Nothing past the answer is touched.
  *
  * The library has no state, so calls may run on several threads at once, if the heap's functions may.
  * It allocates by three of them, rattle_alloc, rattle_realloc and rattle_dealloc. heap.c has them over
@@ -140,7 +142,7 @@ textwrap_status textwrap_strip_ansi_escape_sequences(const uint8_t *text, size_t
                                                      uint8_t *room, size_t room_len, size_t *len);
 
 /* Writes the filled text to the front of the room, and its length. At 10 columns "foo bar baz" is
- * "foo bar\nbaz". */
+ * "foo bar\nbaz", and room of 5 bytes holds "foo b". By first fit at blanks it allocates nothing. */
 TEXTWRAP_CHECKED
 textwrap_status textwrap_fill(const uint8_t *text, size_t text_len, const textwrap_options *options,
                               uint8_t *room, size_t room_len, size_t *len);
@@ -220,17 +222,18 @@ typedef struct {
 } textwrap_layout;
 
 /* Joins the lines of a filled text. The room gets the joined text, and after it the initial indent
- * and the subsequent one; `len` is that of all three. */
+ * and the subsequent one; `len` is that of all three. If the room is too small, the layout stays as
+ * it was. Allocates nothing. */
 TEXTWRAP_CHECKED
 textwrap_status textwrap_unfill(const uint8_t *text, size_t text_len, uint8_t *room,
                                 size_t room_len, size_t *len, textwrap_layout *layout);
 
-/* Writes the text with a prefix before each line. */
+/* Writes the text with a prefix before each line. Allocates nothing. */
 TEXTWRAP_CHECKED
 textwrap_status textwrap_indent(const uint8_t *text, size_t text_len, const uint8_t *prefix,
                                 size_t prefix_len, uint8_t *room, size_t room_len, size_t *len);
 
-/* Writes the text without the whitespace that all its lines begin with. */
+/* Writes the text without the whitespace that all its lines begin with. Allocates nothing. */
 TEXTWRAP_CHECKED
 textwrap_status textwrap_dedent(const uint8_t *text, size_t text_len, uint8_t *room,
                                 size_t room_len, size_t *len);

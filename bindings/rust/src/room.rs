@@ -1,7 +1,7 @@
 //! Room that the library writes to, and what it says if it does not.
 //!
-//! The room is not initialised before a call: by the header the library does not read it, and
-//! writes as much to its front as it reports.
+//! The room is not initialised before a call: by the header the library does not read it, and if it
+//! is done, it has written as much to its front as it reports.
 use crate::out_of_memory::BeforeCall;
 use crate::sys;
 use alloc::alloc::alloc;

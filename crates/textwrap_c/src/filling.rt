@@ -25,6 +25,8 @@ pub extern "C" fn textwrap_fill(
     ensures unknown { result ≡ unknown_options ↔ ¬ AreKnown options.now }
     ensures not_utf8 { result ≡ not_utf8 ↔ AreKnown options.now
         × ¬ (IsUtf8 text.now × AreTexts options.now) }
+    ensures no_memory { options.now.unicode_breaks ≡ 0 → options.now.optimal_fit ≡ 0
+        → result ≢ out_of_memory }
     ensures statuses { result ≤ unknown_options }
 {
     filling::textwrap_fill(alloc, text, options, room, len)

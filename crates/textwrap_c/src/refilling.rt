@@ -1,11 +1,12 @@
 //! Unfilling and refilling a filled text.
 ghost use Rattle.std.specs.Prelude.{◌≡◌, ◌≢◌, ◌≤◌, ◌↔◌, IsUtf8};
-ghost use Rattle.textwrap.specs.Refilling.{IsRefilled, unfilled_settings};
+ghost use Rattle.textwrap.specs.Refilling.{IsRefilled, unfilled_parts, unfilled_settings};
 ghost use Rattle.textwrap_calls.specs.Options.{settings_of, AreKnown, Divides};
 ghost use Rattle.textwrap_calls.specs.Options.{AreTexts};
-ghost use Rattle.textwrap_calls.specs.Refilling.{unfilled_parts, IsLayout};
+ghost use Rattle.textwrap_calls.specs.Refilling.{IsLayout};
 ghost use Rattle.textwrap_calls.specs.Room.{WritesText};
-ghost use Rattle.textwrap_calls.specs.Status.{done, not_utf8, too_small, unknown_options};
+ghost use Rattle.textwrap_calls.specs.Status.{done, not_utf8, out_of_memory, too_small};
+ghost use Rattle.textwrap_calls.specs.Status.{unknown_options};
 
 use std::alloc::Global;
 use textwrap_calls::options::TextwrapOptions;
@@ -34,7 +35,6 @@ pub extern "C" fn textwrap_refill(
 /// Exports [`textwrap_calls::refilling::textwrap_unfill`].
 #[unsafe(no_mangle)]
 pub extern "C" fn textwrap_unfill(
-    alloc: Global,
     text: &[u8],
     room: &mut [u8],
     len: &mut usize,
@@ -45,7 +45,8 @@ pub extern "C" fn textwrap_unfill(
     ensures layout { result ≡ done → IsLayout (unfilled_settings text.now) layout.new }
     ensures kept { result ≢ done → layout.new ≡ layout.old }
     ensures not_utf8 { result ≡ not_utf8 ↔ ¬ IsUtf8 text.now }
+    ensures no_memory { result ≢ out_of_memory }
     ensures statuses { result ≤ too_small }
 {
-    refilling::textwrap_unfill(alloc, text, room, len, layout)
+    refilling::textwrap_unfill(text, room, len, layout)
 }

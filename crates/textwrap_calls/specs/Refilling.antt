@@ -1,16 +1,9 @@
--- What is written of an unfilled text.
-use Rattle.std.specs.Prelude.{◌≡◌, ℕ, List, [], ◌∷◌, ◌++◌, length}
+-- What is reported of an unfilled text.
+use Rattle.std.specs.Prelude.{◌≡◌, ℕ, [], ◌∷◌, length}
 use Rattle.textwrap.specs.Options.{Settings}
-use Rattle.textwrap.specs.Refilling.{unfilled_text, unfilled_settings}
 use Rattle.textwrap_lines.specs.declared.line_ending.LineEnding.{LineEnding}
 use Rattle.textwrap_lines.specs.declared.line_ending.LineEnding.TheVariants.{LF, CRLF}
 use Rattle.textwrap_calls.specs.declared.refilling.TextwrapLayout.{TextwrapLayout}
-
--- the unfilled text, the initial indent and the subsequent one
-abbrev pub unfilled_parts : List ℕ → List ℕ
-unfilled_parts text =
-    let settings = unfilled_settings text in
-    unfilled_text text ++ settings.initial_indent ++ settings.subsequent_indent
 
 -- the number of a line ending
 abbrev pub ending_number : LineEnding → ℕ

@@ -3,12 +3,11 @@
 ghost use Rattle.std.specs.Prelude.{◌≡◌, ◌≤◌, ◌+◌, ◌-◌, ◌*◌, max, length};
 ghost use Rattle.textwrap.specs.Filling.{IsFilled};
 ghost use Rattle.textwrap.specs.Indentation.{dedented, indented};
-ghost use Rattle.textwrap.specs.Refilling.{IsRefilled};
+ghost use Rattle.textwrap.specs.Refilling.{IsRefilled, unfilled_parts};
 ghost use Rattle.textwrap_calls.specs.Bounds.{ForLinesOf, ForTextsOf, HoldsEach, Suffices, capped};
 ghost use Rattle.textwrap_calls.specs.Bounds.{ForRowsOf, columns_room_bound, fill_bound, indent_bound};
 ghost use Rattle.textwrap_calls.specs.Bounds.{refill_bound, rows_bound, wrap_room_bound};
 ghost use Rattle.textwrap_calls.specs.Options.{settings_of, Divides};
-ghost use Rattle.textwrap_calls.specs.Refilling.{unfilled_parts};
 ghost use Rattle.textwrap_calls.specs.declared.columns.TextwrapGaps.{TextwrapGaps};
 ghost use Rattle.textwrap_calls.specs.declared.options.TextwrapOptions.{TextwrapOptions};
 ghost use Rattle.textwrap_lines.specs.Places.{built_text};

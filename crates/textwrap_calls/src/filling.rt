@@ -8,15 +8,16 @@ ghost use Rattle.textwrap_calls.specs.Room.{WritesText};
 ghost use Rattle.textwrap_calls.specs.Status.{done, not_utf8, out_of_memory, unknown_options};
 
 use crate::options::{TextwrapOptions, read_options};
-use crate::room::put;
+use crate::room::report;
 use crate::status::{DONE, NOT_UTF8, OUT_OF_MEMORY};
 use simdutf8::basic::from_utf8;
 use std::alloc::Global;
 use textwrap::fill_inplace;
-use textwrap_plain::fill;
+use textwrap_plain::fill_into;
 
 /// Writes the filled text to the front of the room, and its length to `len`. Where the room is too
-/// short the length alone is written, so that a second call can bring the room.
+/// short it holds the beginning of the text, and `len` says what room a second call has to bring. At
+/// blanks and by first fit nothing is allocated.
 pub fn textwrap_fill(
     alloc: Global,
     text: &[u8],
@@ -29,6 +30,8 @@ pub fn textwrap_fill(
     ensures unknown { result ≡ unknown_options ↔ ¬ AreKnown options.now }
     ensures not_utf8 { result ≡ not_utf8 ↔ AreKnown options.now
         × ¬ (IsUtf8 text.now × AreTexts options.now) }
+    ensures no_memory { options.now.unicode_breaks ≡ 0 → options.now.optimal_fit ≡ 0
+        → result ≢ out_of_memory }
     ensures statuses { result ≤ unknown_options }
 {
     let options = match read_options(options) {
@@ -38,8 +41,8 @@ pub fn textwrap_fill(
     let Ok(text) = from_utf8(text) else {
         return NOT_UTF8;
     };
-    match fill(alloc, text, &options) {
-        Ok(filled) => put(filled.as_bytes(), room, len),
+    match fill_into(alloc, text, &options, room) {
+        Ok(answer) => report(answer, room.len(), len),
         Err(_) => OUT_OF_MEMORY,
     }
 }

@@ -2,8 +2,9 @@
 //!
 //! Each takes bytes as a slice, which C has as a pointer and a length, and answers a status, one of
 //! those of [`status`]. What it gives is written into room that the caller lends, and nothing that was
-//! allocated is left behind. A call that does not answer `DONE` leaves the room as it was.
-//! `textwrap_c` exports each call under its name.
+//! allocated is left behind. Room that is too small holds the beginning of a text or a list; lines that
+//! come with their texts are not written then. A call that answers neither `DONE` nor `TOO_SMALL`
+//! leaves the room as it was. `textwrap_c` exports each call under its name.
 #![tactic(auto)]
 
 pub mod bounds;

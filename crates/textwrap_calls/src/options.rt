@@ -1,5 +1,5 @@
 //! How a text is wrapped, as C has it.
-ghost use Rattle.std.specs.Prelude.{◌≡◌, ◌⊎◌, ◌↔◌, true, IfOk, IfErr};
+ghost use Rattle.std.specs.Prelude.{◌≡◌, ◌⊎◌, ◌↔◌, true, IfOk, IfErr, IsUtf8, MatchOption};
 ghost use Rattle.textwrap_calls.specs.Options.{algorithm_of, AreKnown, AreRead, AreTexts};
 ghost use Rattle.textwrap_calls.specs.Options.{separator_of, splitter_of};
 ghost use Rattle.textwrap_calls.specs.Status.{not_utf8, unknown_options};
@@ -73,9 +73,9 @@ pub(crate) fn read_options<'a>(given: &TextwrapOptions<'a>) -> Result<PlainOptio
     if !are_known(given) {
         return Err(UNKNOWN_OPTIONS);
     }
-    let (Ok(initial_indent), Ok(subsequent_indent)) = (
-        from_utf8(given.initial_indent),
-        from_utf8(given.subsequent_indent),
+    let (Some(initial_indent), Some(subsequent_indent)) = (
+        read_indent(given.initial_indent),
+        read_indent(given.subsequent_indent),
     ) else {
         return Err(NOT_UTF8);
     };
@@ -95,6 +95,20 @@ pub(crate) fn read_options<'a>(given: &TextwrapOptions<'a>) -> Result<PlainOptio
         preserve_trailing_space: given.preserve_trailing_space != 0,
         even_paragraphs: given.even_paragraphs != 0,
     })
+}
+
+/// The text of an indent, if it is one. Most indents are empty.
+fn read_indent(indent: &[u8]) -> Option<&str>
+    ensures { MatchOption result (¬ IsUtf8 indent.now)
+        (λ text. (text.now ≡ indent.now) × IsUtf8 indent.now) }
+{
+    if indent.is_empty() {
+        return Some("");
+    }
+    match from_utf8(indent) {
+        Ok(text) => Some(text),
+        Err(_) => None,
+    }
 }
 
 /// Whether the version is known, and each number means something.

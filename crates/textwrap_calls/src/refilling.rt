@@ -1,18 +1,21 @@
 //! Unfilling and refilling a filled text.
-ghost use Rattle.std.specs.Prelude.{◌≡◌, ◌≢◌, ◌≤◌, ◌↔◌, IsUtf8, IfOk};
-ghost use Rattle.textwrap.specs.Refilling.{IsRefilled, unfilled_settings};
+ghost use Rattle.std.specs.Prelude.{◌≡◌, ◌≢◌, ◌≤◌, ◌↔◌, IsUtf8};
+ghost use Rattle.textwrap.specs.Options.{settings_view};
+ghost use Rattle.textwrap.specs.Refilling.{IsRefilled, unfilled_parts, unfilled_settings};
 ghost use Rattle.textwrap_calls.specs.Options.{settings_of, AreKnown, Divides};
 ghost use Rattle.textwrap_calls.specs.Options.{AreTexts};
-ghost use Rattle.textwrap_calls.specs.Refilling.{unfilled_parts, IsLayout};
+ghost use Rattle.textwrap_calls.specs.Refilling.{IsLayout};
 ghost use Rattle.textwrap_calls.specs.Room.{WritesText};
-ghost use Rattle.textwrap_calls.specs.Status.{done, not_utf8, too_small, unknown_options};
+ghost use Rattle.textwrap_calls.specs.Status.{done, not_utf8, out_of_memory, too_small};
+ghost use Rattle.textwrap_calls.specs.Status.{unknown_options};
 
 use crate::options::{TextwrapOptions, read_options};
-use crate::room::put;
+use crate::room::{put, report};
 use crate::status::{DONE, NOT_UTF8, OUT_OF_MEMORY};
 use simdutf8::basic::from_utf8;
-use std::alloc::{AllocError, Allocator, Global};
-use textwrap::{LineEnding, unfill};
+use std::alloc::Global;
+use textwrap::inner::unfill_into;
+use textwrap::{LineEnding, Options};
 use textwrap_plain::refill;
 
 /// Fills a filled text again, with the indents that it has, and writes it as `textwrap_fill` does.
@@ -61,9 +64,9 @@ pub struct TextwrapLayout {
 }
 
 /// Joins the lines of a filled text, and finds out how it was filled. The room gets the joined text,
-/// and after it the initial indent and the subsequent one; `len` is that of all three.
+/// and after it the initial indent and the subsequent one; `len` is that of all three. It allocates
+/// nothing.
 pub fn textwrap_unfill(
-    alloc: Global,
     text: &[u8],
     room: &mut [u8],
     len: &mut usize,
@@ -74,36 +77,25 @@ pub fn textwrap_unfill(
     ensures layout { result ≡ done → IsLayout (unfilled_settings text.now) layout.new }
     ensures kept { result ≢ done → layout.new ≡ layout.old }
     ensures not_utf8 { result ≡ not_utf8 ↔ ¬ IsUtf8 text.now }
+    ensures no_memory { result ≢ out_of_memory }
     ensures statuses { result ≤ too_small }
 {
     let Ok(text) = from_utf8(text) else {
         return NOT_UTF8;
     };
-    match unfilled_parts(alloc, text) {
-        Ok((parts, found)) => {
-            let status = put(&parts, room, len);
-            if status == DONE {
-                *layout = found;
-            }
-            status
-        }
-        Err(_) => OUT_OF_MEMORY,
+    let (answer, options) = unfill_into(text, room);
+    let status = report(answer, room.len(), len);
+    if status == DONE {
+        *layout = layout_of(&options);
     }
+    status
 }
 
-/// The joined text with both indents after it, and the layout.
-fn unfilled_parts<A: Allocator + Copy>(
-    alloc: A,
-    text: &str,
-) -> Result<(Vec<u8, A>, TextwrapLayout), AllocError>
-    ensures parts { IfOk result (λ unfilled. unfilled.0.items ≡ unfilled_parts text.now) }
-    ensures layout { IfOk result (λ unfilled. IsLayout (unfilled_settings text.now) unfilled.1) }
+/// What is reported of the options by which a text seems to have been filled.
+fn layout_of(options: &Options<'_>) -> TextwrapLayout
+    ensures { IsLayout (settings_view options.now) result }
 {
-    let (unfilled, options) = unfill(alloc, text)?;
-    let mut parts = unfilled.into_bytes();
-    parts.extend_from_slice(options.initial_indent.as_bytes())?;
-    parts.extend_from_slice(options.subsequent_indent.as_bytes())?;
-    let layout = TextwrapLayout {
+    TextwrapLayout {
         width: options.width,
         crlf: match options.line_ending {
             LineEnding::LF => 0,
@@ -112,6 +104,5 @@ fn unfilled_parts<A: Allocator + Copy>(
         initial_indent_len: options.initial_indent.len(),
         subsequent_indent_len: options.subsequent_indent.len(),
         reserved_sizes: [0; 4],
-    };
-    Ok((parts, layout))
+    }
 }

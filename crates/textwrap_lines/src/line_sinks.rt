@@ -203,9 +203,16 @@ impl LentLines<'_, '_> {
         ensures more { LentOneMore self.old self.new (indent.now ++ slice.now ++ penalty.now) }
     {
         if self.begun {
-            self.text.push(self.line_ending.as_str().as_bytes());
+            match self.line_ending {
+                LineEnding::LF => self.text.push_byte(b'\n'),
+                LineEnding::CRLF => self.text.push(b"\r\n"),
+            }
         }
         self.begun = true;
+        // Most lines are the slice alone.
+        if indent.is_empty() && penalty.is_empty() {
+            return self.text.push(slice.as_bytes());
+        }
         self.text.push(indent.as_bytes());
         self.text.push(slice.as_bytes());
         self.text.push(penalty.as_bytes());

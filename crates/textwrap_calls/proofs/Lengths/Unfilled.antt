@@ -20,7 +20,7 @@ use Rattle.textwrap.specs.Refilling.{unfilled_text, detected_ending}
 use Rattle.textwrap.proofs.Text.CommonPrefixes.{common_prefix-begins}
 use Rattle.textwrap.proofs.Text.Prefixes.{line_prefix-begins}
 use Rattle.textwrap_calls.specs.Bounds.{capped, ForTextsOf, Suffices}
-use Rattle.textwrap_calls.specs.Refilling.{unfilled_parts}
+use Rattle.textwrap.specs.Refilling.{unfilled_parts}
 use Rattle.textwrap_calls.proofs.Lengths.TextLines.{ended_length, final_feed, lines-length, feed-within}
 use Rattle.textwrap_calls.proofs.Lengths.Limit.{within-limit}
 use Rattle.textwrap_calls.proofs.Lengths.Joined.{one_more, joined-length}

@@ -1,14 +1,30 @@
 use Rattle.textwrap_calls.proofs.filling.textwrap_fill.Goals as goal
-use Rattle.textwrap_base.proofs.Common.{string_bytes}
+use Rattle.textwrap_base.proofs.Common.{◌≡◌, ◌<◌, ◌↔◌, ◌∙◌, arith, length, rules}
 use Rattle.textwrap_lines.proofs.Common.{IsFilled}
+use Rattle.textwrap_calls.specs.Status.{too_small}
 use Rattle.textwrap_calls.proofs.ReadOptions.{as-read}
-use Rattle.textwrap_calls.proofs.RoomLemmas.{WritesText-answer}
+use Rattle.textwrap_calls.proofs.RoomLemmas.{short-reported}
 
-pub returns-in-Ok-fill-clause-filled : goal.returns-in-Ok-fill-clause-filled
-returns-in-Ok-fill-clause-filled c =
+pub returns-in-Ok-fill_into-clause-filled : goal.returns-in-Ok-fill_into-clause-filled
+returns-in-Ok-fill_into-clause-filled c =
+    let (filled, are, len, room) = c.in-Ok-fill_into.ensures.filled in
     let text = c.in-Ok-from_utf8.text.now in
-    let filled = as-read c.args.options.now c.in-Ok.options c.in-Ok.ensures.read
-    (λ s Divides. IsFilled s (Divides s) text (string_bytes c.in-Ok-fill.filled))
-    c.in-Ok-fill.ensures.filled in
-    WritesText-answer _ _ _ _ _ _ _ (rw c.in-Ok-from_utf8.ensures.0 at filled)
-    (rw c.as_bytes.ensures.value at c.put.ensures.text)
+    let is = as-read c.args.options.now c.in-Ok.options c.in-Ok.ensures.read
+    (λ s Divides. IsFilled s (Divides s) text filled) are in
+    let same : length c.fill_into.new.room ≡ length c.args.room.now = search rules in
+    let passed = short-reported (length c.args.room.now) (length filled) (omega arith) in
+    let small : c.report.result ≡ too_small ↔ length c.args.room.now < length filled = (
+      λ short. passed.0 (rw (same, len) at (c.report.ensures.small.0 short)),
+      λ passes. c.report.ensures.small.1 (rw (same, len) (passed.1 passes)),
+    ) in
+    record {
+      written = λ answered. (
+        filled,
+        rw c.in-Ok-from_utf8.ensures.0 at is,
+        c.report.ensures.len ∙ len,
+        room,
+        small,
+      );
+      kept = λ other short. search rules;
+      kept_len = λ other short. search rules;
+    }

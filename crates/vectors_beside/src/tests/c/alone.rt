@@ -125,7 +125,7 @@ fn a_filled_text_has_a_layout(rt: HostRuntime) {
     let mut len = BEFORE;
     let mut layout = NO_LAYOUT;
     let text = b"* foo\n  bar\n";
-    let status = textwrap_unfill(rt.alloc(), text, &mut room, &mut len, &mut layout);
+    let status = textwrap_unfill(text, &mut room, &mut len, &mut layout);
     assert_told(&rt, 0, (status, len), (DONE, 12));
     assert_eq!(rt; (layout.width, layout.crlf), (5, 0));
     assert_eq!(rt;

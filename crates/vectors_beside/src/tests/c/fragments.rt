@@ -51,7 +51,7 @@ const FIRST_FIT: &[OffsetsRow] = &[
             line_widths: &[5],
         },
         (TOO_SMALL, 4),
-        &[NO_OFFSET, NO_OFFSET],
+        &[1, 2],
     ),
     (
         OffsetsCall::FirstFit {

@@ -263,7 +263,7 @@ const PIECES: &[(PiecesCall<'_>, (u32, usize), PiecePlace)] = &[
             ..AT_80
         }),
         (TOO_SMALL, 3 * LINES),
-        NO_PLACE,
+        (2 * LINES / 3 * 12 + 8, 4, 0, 0, 3),
     ),
     // Its lines have 11 columns each.
     (

@@ -48,7 +48,7 @@ const PIECES: &[PiecesRow] = &[
         PiecesCall::Pieces(AT_4),
         b"a b",
         (TOO_SMALL, 2),
-        &[NO_PLACE],
+        &[(0, 1, 1, 0, 1)],
     ),
 ];
 
@@ -144,11 +144,7 @@ const OFFSETS: &[OffsetsRow] = &[
         (DONE, 2),
         &[8, 11, NO_OFFSET],
     ),
-    (
-        OffsetsCall::UnicodeCuts(UNICODE),
-        (TOO_SMALL, 2),
-        &[NO_OFFSET],
-    ),
+    (OffsetsCall::UnicodeCuts(UNICODE), (TOO_SMALL, 2), &[8]),
     (
         OffsetsCall::UnicodeCuts(b"a \xff"),
         (NOT_UTF8, BEFORE),

@@ -181,9 +181,9 @@ pub(super) fn write_text(
     match call {
         TextCall::Fill(options) => textwrap_fill(alloc, text, &options, room, len),
         TextCall::Refill(options) => textwrap_refill(alloc, text, &options, room, len),
-        TextCall::Unfill => write_unfilled(alloc, text, room, len),
-        TextCall::Indent(prefix) => textwrap_indent(alloc, text, prefix, room, len),
-        TextCall::Dedent => textwrap_dedent(alloc, text, room, len),
+        TextCall::Unfill => write_unfilled(text, room, len),
+        TextCall::Indent(prefix) => textwrap_indent(text, prefix, room, len),
+        TextCall::Dedent => textwrap_dedent(text, room, len),
         TextCall::Align { width, alignment } => {
             textwrap_align(alloc, text, width, alignment, room, len)
         }
@@ -205,9 +205,9 @@ pub(super) fn write_text(
 }
 
 /// Unfills the text, without a layout.
-fn write_unfilled(alloc: Global, text: &[u8], room: &mut [u8], len: &mut usize) -> u32 {
+fn write_unfilled(text: &[u8], room: &mut [u8], len: &mut usize) -> u32 {
     let mut layout = NO_LAYOUT;
-    textwrap_unfill(alloc, text, room, len, &mut layout)
+    textwrap_unfill(text, room, len, &mut layout)
 }
 
 /// A call that writes lines and their room, and what it is given beside a text. Those that take a

@@ -175,7 +175,7 @@ const REFUSED: &[PiecesRow] = &[
         },
         OTHER,
         (TOO_SMALL, 2),
-        &[NO_PLACE],
+        &[(0, 3, 1, 0, 3)],
     ),
 ];
 

@@ -213,7 +213,7 @@ const FILLED: &[TextRow] = &[
         TEXT,
         TOO_SMALL,
         18,
-        b"_________________",
+        b"foo\nbar\n\nba-\nz qu",
     ),
     (
         TextCall::FillAt {
@@ -385,7 +385,7 @@ const ENDS: &[OffsetsRow] = &[
             is_later: 0,
         },
         (TOO_SMALL, 2),
-        &[NO_OFFSET],
+        &[2],
     ),
     (
         OffsetsCall::EndsAt {
@@ -430,12 +430,13 @@ type ParagraphsRow = (
     &'static [(usize, usize)],
 );
 
-/// What is between the line endings. There is always a paragraph.
+/// What is between the line endings. There is always a paragraph, and the first ones are written where
+/// there is no room for all.
 const PARAGRAPHS: &[ParagraphsRow] = &[
     (DEFAULTS, b"a\n\nbc", (DONE, 3), &[(0, 1), (2, 0), (3, 2)]),
     (DEFAULTS, b"", (DONE, 1), &[(0, 0), (99, 99)]),
     (AT_3, b"a\nb\r\n", (DONE, 2), &[(0, 3), (5, 0)]),
-    (DEFAULTS, b"a\nb", (TOO_SMALL, 2), &[(99, 99)]),
+    (DEFAULTS, b"a\nb", (TOO_SMALL, 2), &[(0, 1)]),
     (DEFAULTS, b"\xff", (NOT_UTF8, BEFORE), &[(99, 99)]),
     (
         TextwrapOptions {

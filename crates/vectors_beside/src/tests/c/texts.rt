@@ -24,7 +24,28 @@ pub(super) fn assert_texts(rt: &(impl Abort + AllocGlobal), rows: &[TextRow]) {
     }
 }
 
-/// Where the room is too short the length alone is told, and a text that is none changes nothing.
+/// Asserts of each row that shorter room holds the beginning of what the row's room holds.
+fn assert_beginnings(rt: &(impl Abort + AllocGlobal), rows: &[TextRow]) {
+    for (row, &(call, text, _status, len, expected)) in rows.iter().enumerate() {
+        for has in 0..len.min(expected.len()).min(MOST) {
+            let mut room = [BLANK; MOST];
+            let room = &mut room[..has];
+            let mut told = BEFORE;
+            let answer = write_text(rt.alloc(), call, text, room, &mut told);
+            assert_told(rt, row, (answer, told), (TOO_SMALL, len));
+            assert_room(rt, row, room, &expected[..has]);
+        }
+    }
+}
+
+/// The defaults by first fit.
+const BY_FIRST_FIT: TextwrapOptions<'_> = TextwrapOptions {
+    optimal_fit: 0,
+    ..DEFAULTS
+};
+
+/// Room that is too short holds the beginning, which may end inside a character, and a text that is
+/// none changes nothing.
 const ROOM: &[TextRow] = &[
     (
         TextCall::Fill(DEFAULTS),
@@ -38,7 +59,14 @@ const ROOM: &[TextRow] = &[
         b"foo bar baz",
         TOO_SMALL,
         11,
-        b"__________",
+        b"foo bar\nba",
+    ),
+    (
+        TextCall::Fill(BY_FIRST_FIT),
+        b"foo bar \xc3\xa9",
+        TOO_SMALL,
+        10,
+        b"foo bar \xc3",
     ),
     (
         TextCall::Fill(DEFAULTS),
@@ -280,6 +308,7 @@ fn each_option_reaches_the_library(rt: HostRuntime) {
     for &(options, text, filled) in FILLED {
         let row = (TextCall::Fill(options), text, DONE, filled.len(), filled);
         assert_texts(&rt, &[row]);
+        assert_beginnings(&rt, &[row]);
     }
 }
 
@@ -388,7 +417,7 @@ const ALIGNED: &[TextRow] = &[
         b"ab",
         TOO_SMALL,
         7,
-        b"______",
+        b"ab    ",
     ),
 ];
 
@@ -429,4 +458,11 @@ fn texts_are_written_where_there_is_room_and_options_are_known(rt: HostRuntime) 
     assert_texts(&rt, UNFILLED);
     assert_texts(&rt, ALIGNED);
     assert_texts(&rt, WIDENED);
+}
+
+#[test]
+fn shorter_room_holds_the_beginning(rt: HostRuntime) {
+    assert_beginnings(&rt, INDENTED);
+    assert_beginnings(&rt, UNFILLED);
+    assert_beginnings(&rt, WIDENED);
 }

@@ -15,11 +15,15 @@ pub(crate) fn breaks(text: &str) -> usize {
     count(text, |byte| byte == b' ' || byte >= 0xC0) + 4
 }
 
-/// The lines of a text at a width: those that it has, and as many as if each was filled half after
-/// its indent.
-pub(crate) fn lines(text: &str, width: usize, options: &Options<'_>) -> usize {
+/// The lines of a paragraph at a width, as if each was filled half after its indent.
+fn paragraph_lines(text: &str, width: usize, options: &Options<'_>) -> usize {
     let half = width.saturating_sub(options.subsequent_indent.len()) / 2;
-    count(text, |byte| byte == b'\n') + text.len() / half.max(1) + 1
+    text.len() / half.max(1) + 1
+}
+
+/// The lines of a text at a width.
+pub(crate) fn lines(text: &str, width: usize, options: &Options<'_>) -> usize {
+    count(text, |byte| byte == b'\n') + paragraph_lines(text, width, options)
 }
 
 /// So many bytes, and so many more for each line.
@@ -33,9 +37,11 @@ fn indented(text: &str, options: &Options<'_>, lines: usize) -> usize {
     with_more(text.len() + options.initial_indent.len(), lines, more)
 }
 
-/// The bytes of a filled text.
+/// The bytes of a filled text. The line endings that it had are counted in it, so its line feeds
+/// matter only if indents follow them.
 pub(crate) fn filled(text: &str, options: &Options<'_>) -> usize {
-    indented(text, options, lines(text, options.width, options))
+    let lines_of = if options.subsequent_indent.is_empty() { paragraph_lines } else { lines };
+    indented(text, options, lines_of(text, options.width, options))
 }
 
 /// The bytes of so many lines that are texts of their own because they have an indent.

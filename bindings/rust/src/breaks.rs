@@ -1,7 +1,7 @@
 //! Where a line of text may or must end, by the Unicode line breaking algorithm
 //! ([UAX #14](https://www.unicode.org/reports/tr14/)), with the rules of Unicode 15.0.
 use crate::out_of_memory::{or_abort, OutOfMemory};
-use crate::room::{in_place, listed};
+use crate::room::{in_place, list_by};
 use crate::{guess, sys};
 use alloc::vec::Vec;
 
@@ -52,15 +52,8 @@ pub fn try_line_breaks(text: &str, numbers: Numbers) -> Result<Vec<LineBreak>, O
         Numbers::ByPairs => 1,
         Numbers::ByExpression => 2,
     };
-    // SAFETY: a text with its length, and room with its length; the call writes what it reports.
-    let found = unsafe {
-        listed(guess::breaks(text), |breaks: *mut sys::LineBreak, breaks_len, count| {
-            sys::textwrap_line_breaks(
-                text.as_ptr(), text.len(), unicode_breaks, breaks, breaks_len, count,
-            )
-        })
-    };
-    in_place(found?, |sys::LineBreak { offset, is_mandatory }| {
+    let found = list_by!(guess::breaks(text), textwrap_line_breaks(text; unicode_breaks))?;
+    in_place(found, |sys::LineBreak { offset, is_mandatory }| {
         Ok(LineBreak { offset, is_mandatory: is_mandatory != 0 })
     })
 }

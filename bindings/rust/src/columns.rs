@@ -1,9 +1,8 @@
 //! A text in columns beside one another, where functions of the caller take part. They wrap it, and
 //! the library makes the rows of its lines.
 use crate::display::Gaps;
-use crate::room::{texts_of, OutOfMemory, Reported};
-use crate::{custom, guess, sys};
-use crate::Options;
+use crate::room::{lines_by, texts_of, OutOfMemory};
+use crate::{custom, sys, Options};
 use alloc::string::String;
 use alloc::vec::Vec;
 
@@ -22,18 +21,5 @@ pub(crate) fn rows(
     assert_eq!(status, sys::DONE, "there is a column, and a str is UTF-8");
     let wrapped = custom::wrapped(text, &options.clone().width(column_width))?;
     let lines = texts_of(&wrapped)?;
-    let rows = wrapped.len().div_ceil(columns);
-    let row_len = width.saturating_add(gaps.bytes_in(columns));
-    let bytes = guess::with_more(guess::bytes_of(&wrapped, 0), rows, row_len);
-    // SAFETY: each pointer is that of a list or of room with its length, or of a value; what is
-    // written to is borrowed by nothing else, and the call writes what it reports, in UTF-8.
-    let found = unsafe {
-        Reported::by(rows, bytes, |r| {
-            sys::textwrap_rows_of_lines(
-                lines.as_ptr(), lines.len(), columns, width, &around, r.lines, r.lines_len,
-                &mut r.count, r.room, r.room_len, &mut r.len,
-            )
-        })?
-    };
-    found.texts()
+    lines_by!(0, 0, textwrap_rows_of_lines(lines; columns, width, &around))?.texts()
 }

@@ -25,7 +25,7 @@
 //! assert_eq!(texts, [vec!["A", "foo-"], vec!["bar,"], vec!["unbrea"], vec!["kable"]]);
 //! ```
 use crate::out_of_memory::{or_abort, OutOfMemory};
-use crate::room::{listed, written};
+use crate::room::{list_by, text_by};
 use crate::sys;
 use alloc::string::String;
 use alloc::vec::Vec;
@@ -66,12 +66,7 @@ pub fn display_width(text: &str) -> usize {
 /// assert_eq!(strip_ansi_escape_sequences("\u{1b}[32mgrün\u{1b}[0m"), "grün");
 /// ```
 pub fn strip_ansi_escape_sequences(text: &str) -> String {
-    // SAFETY: a text with its length, and room with its length; the call writes UTF-8.
-    or_abort(unsafe {
-        written(text.len(), |room, room_len, len| {
-            sys::textwrap_strip_ansi_escape_sequences(text.as_ptr(), text.len(), room, room_len, len)
-        })
-    })
+    or_abort(text_by!(text.len(), textwrap_strip_ansi_escape_sequences(text)))
 }
 
 /// An item that is placed on a line and never cut.
@@ -188,16 +183,7 @@ impl<'a> Word<'a> {
     fn broken(&self, line_width: usize) -> Result<Vec<sys::Piece>, OutOfMemory> {
         let word = self.word;
         let guess = (self.width / line_width.max(1)).saturating_add(2).min(word.len());
-        // SAFETY: a text with its length, and room with its length; the call writes what it
-        // reports.
-        let pieces = unsafe {
-            listed(guess, |pieces, pieces_len, count| {
-                sys::textwrap_break_apart(
-                    word.as_ptr(), word.len(), line_width, pieces, pieces_len, count,
-                )
-            })
-        };
-        Ok(pieces?)
+        Ok(list_by!(guess, textwrap_break_apart(word; line_width))?)
     }
 
     /// What stands at this place of a text.

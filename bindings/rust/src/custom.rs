@@ -5,54 +5,28 @@
 use crate::core::Word;
 use crate::fallible::{push, unfill};
 use crate::room::{
-    listed, mapped, reserve, room_for, written, OutOfMemory, Refusal, Reported,
+    lines_by, list_by, mapped, reserve, room_for, text_by, OutOfMemory, Refusal,
 };
 use crate::wrap_algorithms::OverflowError;
 use crate::{guess, sys};
-use crate::{Options, WrapAlgorithm};
+use crate::{Options, WordSplitter, WrapAlgorithm};
 use alloc::borrow::Cow;
 use alloc::string::String;
 use alloc::vec::Vec;
 
 /// The filled text.
 pub(crate) fn filled(text: &str, options: &Options<'_>) -> Result<String, OutOfMemory> {
-    written_at(sys::textwrap_fill_at, guess::filled(text, options), text, options)
+    let found = steps_of(text, options)?;
+    let steps = mapped(&found, Steps::to_sys)?;
+    text_by!(guess::filled(text, options), textwrap_fill_at(text, steps; &options.to_sys()))
 }
 
 /// The filled text, with all lines but the last of each paragraph justified after their indents.
 pub(crate) fn justified(text: &str, options: &Options<'_>) -> Result<String, OutOfMemory> {
-    let guess = guess::justified(text, options);
-    written_at(sys::textwrap_fill_justified_at, guess, text, options)
-}
-
-/// A call that writes what it makes of a text at its steps.
-type WriteAt = unsafe extern "C" fn(
-    text: *const u8,
-    text_len: usize,
-    steps: *const sys::Steps,
-    steps_len: usize,
-    options: *const sys::Options,
-    room: *mut u8,
-    room_len: usize,
-    len: *mut usize,
-) -> u32;
-
-/// What a call writes of a text, with room for so many bytes.
-fn written_at(
-    call: WriteAt,
-    guess: usize,
-    text: &str,
-    options: &Options<'_>,
-) -> Result<String, OutOfMemory> {
     let found = steps_of(text, options)?;
-    let (steps, with) = (mapped(&found, Steps::to_sys)?, options.to_sys());
-    // SAFETY: a text and steps with their lengths, the options, and room with its length; the call
-    // writes what it reports.
-    unsafe {
-        written(guess, |room, room_len, len| {
-            call(text.as_ptr(), text.len(), steps.as_ptr(), steps.len(), &with, room, room_len, len)
-        })
-    }
+    let steps = mapped(&found, Steps::to_sys)?;
+    let guess = guess::justified(text, options);
+    text_by!(guess, textwrap_fill_justified_at(text, steps; &options.to_sys()))
 }
 
 /// The lines of the text.
@@ -60,7 +34,11 @@ pub(crate) fn wrapped<'t>(
     text: &'t str,
     options: &Options<'_>,
 ) -> Result<Vec<Cow<'t, str>>, OutOfMemory> {
-    lines_at(text, &steps_of(text, options)?, options)?.cows(text)
+    let found = steps_of(text, options)?;
+    let steps = mapped(&found, Steps::to_sys)?;
+    let lines = found.iter().map(|steps| steps.ends.len()).sum();
+    let bytes = guess::built(text, options, lines);
+    lines_by!(lines, bytes, textwrap_wrap_at(text, steps; &options.to_sys()))?.cows(text)
 }
 
 /// The filled text, filled again with the indents that it has.
@@ -86,12 +64,6 @@ struct Steps {
 }
 
 impl Steps {
-    /// How many pieces there are where none is broken: the first, the empty one of an indent before it,
-    /// and one after each place.
-    fn pieces_guess(&self) -> usize {
-        self.cuts.len() + self.points.len() + 2
-    }
-
     fn to_sys(&self) -> sys::Steps {
         let Steps { cuts, points, ends } = self;
         sys::Steps {
@@ -105,136 +77,75 @@ impl Steps {
     }
 }
 
-/// The lines of a text at these steps of its paragraphs.
-fn lines_at(text: &str, found: &[Steps], options: &Options<'_>) -> Result<Reported, OutOfMemory> {
-    let (steps, with) = (mapped(found, Steps::to_sys)?, options.to_sys());
-    let lines = found.iter().map(|steps| steps.ends.len()).sum();
-    let has_points = found.iter().any(|steps| !steps.points.is_empty());
-    let bytes = guess::built(text, options, lines, has_points);
-    // SAFETY: as in `written_at`.
-    unsafe {
-        Reported::by(lines, bytes, |r| {
-            sys::textwrap_wrap_at(
-                text.as_ptr(), text.len(), steps.as_ptr(), steps.len(), &with, r.lines, r.lines_len,
-                &mut r.count, r.room, r.room_len, &mut r.len,
-            )
-        })
-    }
-}
-
 /// The steps of each paragraph of a text.
 fn steps_of(text: &str, options: &Options<'_>) -> Result<Vec<Steps>, OutOfMemory> {
-    let with = options.to_sys();
-    let (at, len) = (text.as_ptr(), text.len());
-    // SAFETY: as in `written_at`.
-    let paragraphs = unsafe {
-        listed(1, |paragraphs, paragraphs_len, count| {
-            sys::textwrap_paragraphs(at, len, &with, paragraphs, paragraphs_len, count)
-        })
-    };
-    let paragraphs: Vec<sys::Paragraph> = paragraphs?;
+    let paragraphs: Vec<sys::Paragraph> =
+        list_by!(1, textwrap_paragraphs(text; &options.to_sys()))?;
     let mut steps: Vec<Steps> = room_for(paragraphs.len())?;
     let mut is_later = false;
     for sys::Paragraph { offset, len } in paragraphs {
-        let text = &text[offset..offset + len];
-        steps.push(Paragraph { text, options, with: &with, is_later }.steps()?);
+        steps.push(paragraph_steps(&text[offset..offset + len], options, is_later)?);
         is_later = is_later || steps.last().is_some_and(|found| !found.ends.is_empty());
     }
     Ok(steps)
 }
 
-/// A paragraph, and whether a line stands before it.
-struct Paragraph<'p> {
-    text: &'p str,
-    options: &'p Options<'p>,
-    with: &'p sys::Options,
+/// What the functions find of a paragraph, before which a line stands or not. Where it is one line as
+/// a whole they are not asked.
+///
+/// # Panics
+/// If a function gives what it must not, or a cost needs more than 128 bits.
+fn paragraph_steps(
+    text: &str,
+    options: &Options<'_>,
     is_later: bool,
+) -> Result<Steps, OutOfMemory> {
+    let (with, is_later) = (options.to_sys(), is_later.into());
+    let mut widths = sys::Widths::default();
+    // SAFETY: a text with its length, the options, and widths that nothing else borrows.
+    let status = unsafe {
+        sys::textwrap_paragraph_widths(text.as_ptr(), text.len(), &with, is_later, &mut widths)
+    };
+    debug_assert_eq!(status, sys::DONE, "texts are UTF-8, and the options are known");
+    if widths.is_whole != 0 {
+        // One line. The library does not look where it ends.
+        return Ok(Steps { ends: mapped(&[0], usize::clone)?, ..Steps::default() });
+    }
+    let cuts = options.word_separator.cuts_of(text)?;
+    let points = points_between(&cuts, text, &options.word_splitter)?;
+    // The first piece, the empty one of an indent before it, and one after each place.
+    let guess = cuts.len() + points.len() + 2;
+    let ends = if let WrapAlgorithm::Custom(function) = options.wrap_algorithm {
+        let pieces = list_by!(guess, textwrap_pieces_at(text, cuts, points; &with))?;
+        let words = mapped(&pieces, |piece| Word::at(text, piece))?;
+        ends_between(&words, &function(&words, &[widths.first, widths.later]))?
+    } else {
+        match list_by!(guess, textwrap_ends_at(text, cuts, points; &with, is_later)) {
+            Err(Refusal::Overflow) => panic!("{OverflowError}"),
+            ends => ends?,
+        }
+    };
+    Ok(Steps { cuts, points, ends })
 }
 
-impl Paragraph<'_> {
-    /// What the functions find of it. Where it is one line as a whole they are not asked.
-    fn steps(&self) -> Result<Steps, OutOfMemory> {
-        let mut widths = sys::Widths::default();
-        let (at, len) = (self.text.as_ptr(), self.text.len());
-        // SAFETY: as in `written_at`.
-        let status = unsafe {
-            sys::textwrap_paragraph_widths(at, len, self.with, self.is_later.into(), &mut widths)
-        };
-        debug_assert_eq!(status, sys::DONE, "texts are UTF-8, and the options are known");
-        if widths.is_whole != 0 {
-            let mut ends = room_for(1)?;
-            // One line. The library does not look where it ends.
-            ends.push(0);
-            return Ok(Steps { ends, ..Steps::default() });
-        }
-        let cuts = self.options.word_separator.cuts_of(self.text)?;
-        let points = self.points_between(&cuts)?;
-        let found = Steps { cuts, points, ends: Vec::new() };
-        let ends = match self.options.wrap_algorithm {
-            WrapAlgorithm::Custom(function) => {
-                let pieces = self.pieces_at(&found)?;
-                let mut words = room_for(pieces.len())?;
-                words.extend(pieces.iter().map(|piece| Word::at(self.text, piece)));
-                ends_between(&words, &function(&words, &[widths.first, widths.later]))?
-            }
-            _ => self.ends_at(&found)?,
-        };
-        Ok(Steps { ends, ..found })
+/// The points of the words between cuts of a paragraph.
+fn points_between(
+    cuts: &[usize],
+    text: &str,
+    splitter: &WordSplitter,
+) -> Result<Vec<usize>, OutOfMemory> {
+    let mut points = Vec::new();
+    let mut start = 0;
+    // An empty paragraph has no word.
+    let last = Some(text.len()).filter(|&len| len > 0);
+    for end in cuts.iter().copied().chain(last) {
+        let word = text[start..end].trim_end_matches(' ');
+        let inside = splitter.points_inside(word)?;
+        reserve(&mut points, inside.len())?;
+        points.extend(inside.iter().map(|point| start + point));
+        start = end;
     }
-
-    /// The points of the words between cuts.
-    fn points_between(&self, cuts: &[usize]) -> Result<Vec<usize>, OutOfMemory> {
-        let mut points = Vec::new();
-        let mut start = 0;
-        // An empty paragraph has no word.
-        let last = Some(self.text.len()).filter(|&len| len > 0);
-        for end in cuts.iter().copied().chain(last) {
-            let word = self.text[start..end].trim_end_matches(' ');
-            let inside = self.options.word_splitter.points_inside(word)?;
-            reserve(&mut points, inside.len())?;
-            points.extend(inside.iter().map(|point| start + point));
-            start = end;
-        }
-        Ok(points)
-    }
-
-    /// The pieces that it is divided into lines of.
-    fn pieces_at(&self, found: &Steps) -> Result<Vec<sys::Piece>, OutOfMemory> {
-        let Steps { cuts, points, .. } = found;
-        let (at, len) = (self.text.as_ptr(), self.text.len());
-        // SAFETY: as in `written_at`.
-        let pieces = unsafe {
-            listed(found.pieces_guess(), |pieces, pieces_len, count| {
-                sys::textwrap_pieces_at(
-                    at, len, cuts.as_ptr(), cuts.len(), points.as_ptr(), points.len(), self.with,
-                    pieces, pieces_len, count,
-                )
-            })
-        };
-        Ok(pieces?)
-    }
-
-    /// Where its lines end by a built-in algorithm.
-    ///
-    /// # Panics
-    /// If a cost needs more than 128 bits.
-    fn ends_at(&self, found: &Steps) -> Result<Vec<usize>, OutOfMemory> {
-        let Steps { cuts, points, .. } = found;
-        let (at, len) = (self.text.as_ptr(), self.text.len());
-        // SAFETY: as in `written_at`.
-        let ends = unsafe {
-            listed(found.pieces_guess(), |ends, ends_len, count| {
-                sys::textwrap_ends_at(
-                    at, len, cuts.as_ptr(), cuts.len(), points.as_ptr(), points.len(), self.with,
-                    self.is_later.into(), ends, ends_len, count,
-                )
-            })
-        };
-        match ends {
-            Err(Refusal::Overflow) => panic!("{OverflowError}"),
-            ends => Ok(ends?),
-        }
-    }
+    Ok(points)
 }
 
 /// Where lines of words end that a function of the caller gave.

@@ -12,7 +12,7 @@
 //! ```
 use crate::display::Gaps;
 use crate::out_of_memory::BeforeCall;
-use crate::room::{reserve_bytes, written, Reported};
+use crate::room::{lines_by, reserve_bytes, text_by, written};
 use crate::{columns, custom, guess, sys};
 use crate::{LineEnding, Options};
 use alloc::borrow::Cow;
@@ -41,14 +41,7 @@ fn filled(text: &str, options: &Options<'_>) -> Result<String, OutOfMemory> {
     if options.has_function() {
         return custom::filled(text, options);
     }
-    let with = options.to_sys();
-    // SAFETY: each pointer is that of a text or of room with its length, or of a value; what is
-    // written to is borrowed by nothing else, and the call writes the UTF-8 that it reports.
-    unsafe {
-        written(guess::filled(text, options), |room, room_len, len| {
-            sys::textwrap_fill(text.as_ptr(), text.len(), &with, room, room_len, len)
-        })
-    }
+    text_by!(guess::filled(text, options), textwrap_fill(text; &options.to_sys()))
 }
 
 /// [`crate::refill`].
@@ -71,15 +64,9 @@ fn refilled(text: &str, options: &Options<'_>) -> Result<String, OutOfMemory> {
     if options.has_function() {
         return custom::refilled(text, options);
     }
-    let with = options.to_sys();
     // The indents of the text may be shown more often than in it.
     let guess = guess::filled(text, options).saturating_add(text.len() / 4);
-    // SAFETY: as in `filled`.
-    unsafe {
-        written(guess, |room, room_len, len| {
-            sys::textwrap_refill(text.as_ptr(), text.len(), &with, room, room_len, len)
-        })
-    }
+    text_by!(guess, textwrap_refill(text; &options.to_sys()))
 }
 
 /// [`crate::indent`].
@@ -87,13 +74,8 @@ fn refilled(text: &str, options: &Options<'_>) -> Result<String, OutOfMemory> {
 /// # Errors
 /// [`OutOfMemory`] if memory runs out.
 pub fn indent(s: &str, prefix: &str) -> Result<String, OutOfMemory> {
-    // SAFETY: as in `filled`.
-    unsafe {
-        written(guess::indented(s, prefix), |room, room_len, len| {
-            let (before, before_len) = (prefix.as_ptr(), prefix.len());
-            sys::textwrap_indent(s.as_ptr(), s.len(), before, before_len, room, room_len, len)
-        })
-    }
+    let lines = guess::count(s, |byte| byte == b'\n') + 1;
+    text_by!(guess::with_more(s.len(), lines, prefix.len()), textwrap_indent(s, prefix))
 }
 
 /// [`crate::dedent`].
@@ -101,12 +83,7 @@ pub fn indent(s: &str, prefix: &str) -> Result<String, OutOfMemory> {
 /// # Errors
 /// [`OutOfMemory`] if memory runs out.
 pub fn dedent(s: &str) -> Result<String, OutOfMemory> {
-    // SAFETY: as in `filled`.
-    unsafe {
-        written(s.len(), |room, room_len, len| {
-            sys::textwrap_dedent(s.as_ptr(), s.len(), room, room_len, len)
-        })
-    }
+    text_by!(s.len(), textwrap_dedent(s))
 }
 
 /// [`crate::fill_inplace`].
@@ -139,7 +116,8 @@ pub fn unfill(text: &str) -> Result<(String, Options<'_>), OutOfMemory> {
     let mut layout = sys::Layout::default();
     // The joined text and the indents mostly stand in the text, with a line ending at each line.
     let guess = text.len() + LineEnding::CRLF.as_str().len();
-    // SAFETY: as in `filled`.
+    // SAFETY: a text with its length, room with its length, and a layout, of which nothing else borrows
+    // what is written to; the call writes what it reports, in UTF-8.
     let mut parts = unsafe {
         written(guess, |room, room_len, len| {
             sys::textwrap_unfill(text.as_ptr(), text.len(), room, room_len, len, &mut layout)
@@ -180,19 +158,9 @@ pub(crate) fn wrapped<'t>(
     if options.has_function() {
         return custom::wrapped(text, options);
     }
-    let with = options.to_sys();
     let lines = guess::lines(text, options.width, options);
-    let bytes = guess::built(text, options, lines, false);
-    // SAFETY: as in `filled`.
-    let found = unsafe {
-        Reported::by(lines, bytes, |r| {
-            let (at, count) = (text.as_ptr(), &mut r.count);
-            sys::textwrap_wrap(
-                at, text.len(), &with, r.lines, r.lines_len, count, r.room, r.room_len, &mut r.len,
-            )
-        })?
-    };
-    found.cows(text)
+    let bytes = guess::built(text, options, lines);
+    lines_by!(lines, bytes, textwrap_wrap(text; &options.to_sys()))?.cows(text)
 }
 
 /// [`crate::wrap_columns`].
@@ -229,22 +197,11 @@ fn rows(
     if options.has_function() {
         return columns::rows(text, columns, options, gaps);
     }
-    let with = options.to_sys();
-    let around = gaps.to_sys();
+    let (with, around) = (options.to_sys(), gaps.to_sys());
     let rows = guess::lines(text, options.width / columns, options) / columns + 1;
     let row_len = options.width.saturating_add(gaps.bytes_in(columns));
     let bytes = guess::with_more(text.len(), rows, row_len);
-    // SAFETY: as in `filled`.
-    let found = unsafe {
-        Reported::by(rows, bytes, |r| {
-            let (at, count) = (text.as_ptr(), &mut r.count);
-            sys::textwrap_wrap_columns(
-                at, text.len(), columns, &with, &around, r.lines, r.lines_len, count, r.room,
-                r.room_len, &mut r.len,
-            )
-        })?
-    };
-    found.texts()
+    lines_by!(rows, bytes, textwrap_wrap_columns(text; columns, &with, &around))?.texts()
 }
 
 /// Adds to a text.

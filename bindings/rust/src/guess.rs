@@ -1,7 +1,5 @@
 //! How much room an answer mostly needs, so that one call suffices. Where a guess is too small, the
 //! call says how much it is, and is made again.
-use crate::core::display_width;
-use crate::display::{Column, Gaps};
 use crate::options::Options;
 
 /// How many bytes of a text are of a kind.
@@ -11,10 +9,6 @@ pub(crate) fn count(text: &str, is_counted: impl Fn(u8) -> bool) -> usize {
     text.as_bytes().chunks(192).map(|part| usize::from(in_part(part))).sum()
 }
 
-fn line_feeds(text: &str) -> usize {
-    count(text, |byte| byte == b'\n')
-}
-
 /// The places of a text where a line may end: at blanks and beside characters outside ASCII, and at
 /// a few others.
 pub(crate) fn breaks(text: &str) -> usize {
@@ -22,13 +16,14 @@ pub(crate) fn breaks(text: &str) -> usize {
 }
 
 /// The lines of a paragraph at a width, as if each was filled half after its indent.
-fn paragraph_lines(text: &str, width: usize, indent: &str) -> usize {
-    text.len() / (width.saturating_sub(indent.len()) / 2).max(1) + 1
+fn paragraph_lines(text: &str, width: usize, options: &Options<'_>) -> usize {
+    let half = width.saturating_sub(options.subsequent_indent.len()) / 2;
+    text.len() / half.max(1) + 1
 }
 
 /// The lines of a text at a width.
 pub(crate) fn lines(text: &str, width: usize, options: &Options<'_>) -> usize {
-    line_feeds(text) + paragraph_lines(text, width, options.subsequent_indent)
+    count(text, |byte| byte == b'\n') + paragraph_lines(text, width, options)
 }
 
 /// So many bytes, and so many more for each line.
@@ -36,8 +31,8 @@ pub(crate) fn with_more(bytes: usize, lines: usize, more: usize) -> usize {
     lines.saturating_mul(more).saturating_add(bytes)
 }
 
-/// The bytes of a text with an indent and a line ending, or a hyphen, for each of these lines.
-fn with_lines(text: &str, options: &Options<'_>, lines: usize) -> usize {
+/// The bytes of so many lines of a text, each with an indent and a line ending, or a hyphen.
+fn indented(text: &str, options: &Options<'_>, lines: usize) -> usize {
     let more = options.subsequent_indent.len() + options.line_ending.as_str().len();
     with_more(text.len() + options.initial_indent.len(), lines, more)
 }
@@ -45,9 +40,8 @@ fn with_lines(text: &str, options: &Options<'_>, lines: usize) -> usize {
 /// The bytes of a filled text. The line endings that it had are counted in it, so its line feeds
 /// matter only if indents follow them.
 pub(crate) fn filled(text: &str, options: &Options<'_>) -> usize {
-    let indent = options.subsequent_indent;
-    let indented = if indent.is_empty() { 0 } else { line_feeds(text) };
-    with_lines(text, options, indented + paragraph_lines(text, options.width, indent))
+    let lines_of = if options.subsequent_indent.is_empty() { paragraph_lines } else { lines };
+    indented(text, options, lines_of(text, options.width, options))
 }
 
 /// The bytes of a filled text whose lines are justified. The blanks that are added are hardly ever more
@@ -56,42 +50,11 @@ pub(crate) fn justified(text: &str, options: &Options<'_>) -> usize {
     filled(text, options).saturating_add(text.len() / 2)
 }
 
-/// The bytes of so many lines that are texts of their own, because they have an indent or, if the
-/// words have hyphens added, may have one of these.
-pub(crate) fn built(text: &str, options: &Options<'_>, lines: usize, has_hyphens: bool) -> usize {
-    let Options { initial_indent, subsequent_indent, .. } = options;
-    if initial_indent.is_empty() && subsequent_indent.is_empty() && !has_hyphens {
-        return 0;
+/// The bytes of so many lines that are texts of their own because they have an indent.
+pub(crate) fn built(text: &str, options: &Options<'_>, lines: usize) -> usize {
+    if options.initial_indent.is_empty() && options.subsequent_indent.is_empty() {
+        0
+    } else {
+        indented(text, options, lines)
     }
-    with_lines(text, options, lines)
-}
-
-/// The bytes of a text with a prefix before each line. There are hardly ever more.
-pub(crate) fn indented(text: &str, prefix: &str) -> usize {
-    with_more(text.len(), line_feeds(text) + 1, prefix.len())
-}
-
-/// The bytes of a line with blanks added up to a width.
-pub(crate) fn widened(line: &str, width: usize) -> usize {
-    width.saturating_sub(display_width(line)).saturating_add(line.len())
-}
-
-/// The bytes of texts, with so many more for each.
-pub(crate) fn bytes_of<S: AsRef<str>>(texts: &[S], more: usize) -> usize {
-    texts.iter().map(|text| text.as_ref().len() + more).fold(0, usize::saturating_add)
-}
-
-/// The rows of a table. There is a column.
-pub(crate) fn table_rows<S: AsRef<str>>(cells: &[S], columns: &[Column<'_>]) -> usize {
-    let lines_of = |(cell, column): (&S, &Column<'_>)| {
-        lines(cell.as_ref(), column.options.width, &column.options)
-    };
-    let height = |row: &[S]| row.iter().zip(columns).map(lines_of).max().unwrap_or(0);
-    cells.chunks(columns.len()).map(height).fold(0, usize::saturating_add)
-}
-
-/// The bytes of a row of a table, without those of its texts. There is a column.
-pub(crate) fn table_row(columns: &[Column<'_>], gaps: &Gaps<'_>) -> usize {
-    let widths = columns.iter().map(|column| column.options.width);
-    widths.fold(gaps.bytes_in(columns.len()), usize::saturating_add)
 }

@@ -130,6 +130,49 @@ pub(crate) unsafe fn written(
     unsafe { Ok(String::from_utf8_unchecked(listed(guess, call)?)) }
 }
 
+/// What a call of the library writes to room at its end, by a guess of how much that is:
+/// `list_by!(guess, call(lists; what else it takes))`. Each list, or text, is handed over as its pointer
+/// and its length. So `list_by` gives items, `text_by` a text, and `lines_by` lines, for which a guess of
+/// the bytes of built ones follows that of the lines.
+macro_rules! list_by {
+    ($guess:expr, $call:ident($($list:expr),+ $(; $($other:expr),+)?)) => {
+        // SAFETY: each list and the room are handed over with their lengths, nothing else borrows what is
+        // written to, and by the header the call writes what it reports.
+        unsafe {
+            $crate::room::listed($guess, |room, room_len, count| {
+                $crate::sys::$call($($list.as_ptr(), $list.len(),)+ $($($other,)+)? room, room_len, count)
+            })
+        }
+    };
+}
+
+macro_rules! text_by {
+    ($guess:expr, $call:ident($($list:expr),+ $(; $($other:expr),+)?)) => {
+        // SAFETY: as in `list_by`, and by the header what the call writes is UTF-8.
+        unsafe {
+            $crate::room::written($guess, |room, room_len, len| {
+                $crate::sys::$call($($list.as_ptr(), $list.len(),)+ $($($other,)+)? room, room_len, len)
+            })
+        }
+    };
+}
+
+macro_rules! lines_by {
+    ($lines:expr, $bytes:expr, $call:ident($($list:expr),+ $(; $($other:expr),+)?)) => {
+        // SAFETY: as in `text_by`.
+        unsafe {
+            $crate::room::Reported::by($lines, $bytes, |r| {
+                $crate::sys::$call(
+                    $($list.as_ptr(), $list.len(),)+ $($($other,)+)? r.lines, r.lines_len,
+                    &mut r.count, r.room, r.room_len, &mut r.len,
+                )
+            })
+        }
+    };
+}
+
+pub(crate) use {lines_by, list_by, text_by};
+
 /// Room for lines, as it is handed to a call.
 pub(crate) struct LineRoom {
     pub lines: *mut sys::Line,

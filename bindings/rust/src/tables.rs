@@ -2,8 +2,8 @@
 //! rows of their lines.
 use crate::display::{Column, Gaps};
 use crate::fallible::wrapped;
-use crate::room::{mapped, room_for, texts_of, OutOfMemory, Reported};
-use crate::{guess, sys};
+use crate::room::{lines_by, mapped, room_for, texts_of, OutOfMemory};
+use crate::sys;
 use alloc::string::String;
 use alloc::vec::Vec;
 
@@ -21,22 +21,6 @@ pub(crate) fn rows<S: AsRef<str>>(
         lines_of_cells.push(lines);
     }
     let cells = mapped(&texts, |lines| sys::Cell::from(&lines[..]))?;
-    let with = mapped(columns, Column::to_sys)?;
-    let around = gaps.to_sys();
-    let heights = lines_of_cells.chunks(columns.len()).map(|row| row.iter().map(Vec::len).max());
-    let rows = heights.map(Option::unwrap_or_default).sum();
-    let texts = lines_of_cells.iter().map(|lines| guess::bytes_of(lines, 0));
-    let bytes = texts.fold(0, usize::saturating_add);
-    let bytes = guess::with_more(bytes, rows, guess::table_row(columns, gaps));
-    // SAFETY: each pointer is that of a list or of room with its length, or of a value; what is
-    // written to is borrowed by nothing else, and the call writes what it reports, in UTF-8.
-    let found = unsafe {
-        Reported::by(rows, bytes, |r| {
-            sys::textwrap_table_of_lines(
-                cells.as_ptr(), cells.len(), with.as_ptr(), with.len(), &around, r.lines,
-                r.lines_len, &mut r.count, r.room, r.room_len, &mut r.len,
-            )
-        })?
-    };
-    found.texts()
+    let columns = mapped(columns, Column::to_sys)?;
+    lines_by!(0, 0, textwrap_table_of_lines(cells, columns; &gaps.to_sys()))?.texts()
 }

@@ -5,7 +5,7 @@
 use crate::core::Word;
 use crate::options::Options;
 use crate::out_of_memory::{or_abort, OutOfMemory};
-use crate::room::{listed, reserve, room_for, Refusal};
+use crate::room::{list_by, reserve, room_for, Refusal};
 use crate::word_splitters::WordSplitter;
 use crate::{guess, sys};
 use alloc::boxed::Box;
@@ -208,27 +208,13 @@ fn words_between_blanks(line: &str) -> Result<Vec<sys::Piece>, OutOfMemory> {
         .break_words(false)
         .word_splitter(WordSplitter::NoHyphenation)
         .to_sys();
-    // SAFETY: a text with its length, the options, and room with its length; the call writes what
-    // it reports.
-    let places = unsafe {
-        listed(guess::count(line, |byte| byte == b' ') + 1, |places, places_len, count| {
-            sys::textwrap_pieces(
-                line.as_ptr(), line.len(), &options, places, places_len, count,
-            )
-        })
-    };
-    Ok(places?)
+    let guess = guess::count(line, |byte| byte == b' ') + 1;
+    Ok(list_by!(guess, textwrap_pieces(line; &options))?)
 }
 
 /// Where a line is cut by its Unicode line breaks.
 pub(crate) fn unicode_cuts(line: &str) -> Result<Vec<usize>, OutOfMemory> {
-    // SAFETY: a text with its length, and room with its length; the call writes what it reports.
-    let cuts = unsafe {
-        listed(guess::breaks(line), |cuts, cuts_len, count| {
-            sys::textwrap_unicode_cuts(line.as_ptr(), line.len(), cuts, cuts_len, count)
-        })
-    };
-    Ok(cuts?)
+    Ok(list_by!(guess::breaks(line), textwrap_unicode_cuts(line))?)
 }
 
 /// Offsets that do not increase, or are no character boundaries of the line.
@@ -265,16 +251,7 @@ impl Error for WrongPlaces {}
 /// assert_eq!(find_words_at("你好", &[1]), Err(WrongPlaces));
 /// ```
 pub fn find_words_at<'a>(line: &'a str, offsets: &[usize]) -> Result<Vec<Word<'a>>, WrongPlaces> {
-    // SAFETY: a text and offsets with their lengths, and room with its length; the call writes what
-    // it reports.
-    let places = unsafe {
-        listed(offsets.len() + 1, |places, places_len, count| {
-            sys::textwrap_find_words_at(
-                line.as_ptr(), line.len(), offsets.as_ptr(), offsets.len(), places, places_len, count,
-            )
-        })
-    };
-    match places {
+    match list_by!(offsets.len() + 1, textwrap_find_words_at(line, offsets)) {
         Err(Refusal::WrongPlaces) => Err(WrongPlaces),
         places => {
             let places: Vec<sys::Piece> = or_abort(places.map_err(OutOfMemory::from));

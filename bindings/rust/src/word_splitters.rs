@@ -3,9 +3,9 @@
 //! A piece of a word that ends a line ends in a hyphen: one that the word has there, or one that is
 //! added. [`WordSplitter`] says where words may be split, and [`split_words`] splits them.
 use crate::core::{display_width, Word};
+use crate::guess;
 use crate::out_of_memory::{or_abort, OutOfMemory};
-use crate::room::listed;
-use crate::{guess, sys};
+use crate::room::list_by;
 use alloc::vec::Vec;
 use core::iter;
 #[cfg(feature = "hyphenation")]
@@ -159,13 +159,7 @@ fn points_at_hyphens(word: &str) -> Result<Vec<usize>, OutOfMemory> {
     if hyphens == 0 {
         return Ok(Vec::new());
     }
-    // SAFETY: a text with its length, and room with its length; the call writes what it reports.
-    let points = unsafe {
-        listed(hyphens, |points, points_len, count| {
-            sys::textwrap_split_points(word.as_ptr(), word.len(), points, points_len, count)
-        })
-    };
-    Ok(points?)
+    Ok(list_by!(hyphens, textwrap_split_points(word))?)
 }
 
 /// The words, each of them split at all its points, whatever its width.

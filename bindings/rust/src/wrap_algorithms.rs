@@ -5,7 +5,7 @@
 //! which leave the gaps even. First fit is the faster of the two.
 use crate::core::{Fragment, Word};
 use crate::out_of_memory::{or_abort, OutOfMemory};
-use crate::room::{listed, Refusal};
+use crate::room::{list_by, Refusal};
 use crate::sys;
 use alloc::vec::Vec;
 use core::error::Error;
@@ -403,16 +403,7 @@ fn first_fit_ends(
     fragments: &[sys::Fragment],
     line_widths: &[usize],
 ) -> Result<Vec<usize>, Refusal> {
-    // SAFETY: two lists with their lengths, and room with its length; the call writes what it
-    // reports.
-    unsafe {
-        listed(most_lines(fragments), |ends, ends_len, count| {
-            sys::textwrap_wrap_first_fit(
-                fragments.as_ptr(), fragments.len(), line_widths.as_ptr(), line_widths.len(), ends,
-                ends_len, count,
-            )
-        })
-    }
+    list_by!(most_lines(fragments), textwrap_wrap_first_fit(fragments, line_widths))
 }
 
 /// The same by least cost.
@@ -429,15 +420,7 @@ fn optimal_fit_ends(
         short_last_line_penalty: penalties.short_last_line_penalty,
         reserved_sizes: [0; 4],
     };
-    // SAFETY: as in `first_fit_ends`.
-    unsafe {
-        listed(most_lines(fragments), |ends, ends_len, count| {
-            sys::textwrap_wrap_optimal_fit(
-                fragments.as_ptr(), fragments.len(), line_widths.as_ptr(), line_widths.len(),
-                &penalties, ends, ends_len, count,
-            )
-        })
-    }
+    list_by!(most_lines(fragments), textwrap_wrap_optimal_fit(fragments, line_widths; &penalties))
 }
 
 /// The items between each two ends, and before the first.

@@ -11,8 +11,8 @@
 //! assert_eq!(too_wide, Err(OutOfMemory::default()));
 //! ```
 use super::{Alignment, Column, Gaps};
-use crate::room::{mapped, texts_of, written, Reported};
-use crate::{custom, guess, sys, tables};
+use crate::room::{lines_by, mapped, text_by, texts_of};
+use crate::{custom, guess, tables};
 use crate::Options;
 use alloc::string::String;
 use alloc::vec::Vec;
@@ -24,15 +24,7 @@ pub use crate::out_of_memory::OutOfMemory;
 /// # Errors
 /// [`OutOfMemory`] if memory runs out.
 pub fn align(line: &str, width: usize, alignment: Alignment) -> Result<String, OutOfMemory> {
-    let alignment = alignment.to_sys();
-    // SAFETY: each pointer is that of a text, of a list or of room with its length, or of a value;
-    // what is written to is borrowed by nothing else, and the call writes what it reports, in UTF-8.
-    unsafe {
-        written(guess::widened(line, width), |room, room_len, len| {
-            let (at, line_len) = (line.as_ptr(), line.len());
-            sys::textwrap_align(at, line_len, width, alignment, room, room_len, len)
-        })
-    }
+    text_by!(line.len().max(width), textwrap_align(line; width, alignment.to_sys()))
 }
 
 /// [`crate::display::justify`].
@@ -40,12 +32,7 @@ pub fn align(line: &str, width: usize, alignment: Alignment) -> Result<String, O
 /// # Errors
 /// [`OutOfMemory`] if memory runs out.
 pub fn justify(line: &str, width: usize) -> Result<String, OutOfMemory> {
-    // SAFETY: as in `align`.
-    unsafe {
-        written(guess::widened(line, width), |room, room_len, len| {
-            sys::textwrap_justify(line.as_ptr(), line.len(), width, room, room_len, len)
-        })
-    }
+    text_by!(line.len().max(width), textwrap_justify(line; width))
 }
 
 /// [`crate::display::fill_justified`].
@@ -68,13 +55,8 @@ fn justified(text: &str, options: &Options<'_>) -> Result<String, OutOfMemory> {
     if options.has_function() {
         return custom::justified(text, options);
     }
-    let with = options.to_sys();
-    // SAFETY: as in `align`.
-    unsafe {
-        written(guess::justified(text, options), |room, room_len, len| {
-            sys::textwrap_fill_justified(text.as_ptr(), text.len(), &with, room, room_len, len)
-        })
-    }
+    let guess = guess::justified(text, options);
+    text_by!(guess, textwrap_fill_justified(text; &options.to_sys()))
 }
 
 /// [`crate::display::shorten`].
@@ -82,15 +64,8 @@ fn justified(text: &str, options: &Options<'_>) -> Result<String, OutOfMemory> {
 /// # Errors
 /// [`OutOfMemory`] if memory runs out.
 pub fn shorten(line: &str, width: usize, placeholder: &str) -> Result<String, OutOfMemory> {
-    // SAFETY: as in `align`.
-    unsafe {
-        written(guess::bytes_of(&[line], placeholder.len()), |room, room_len, len| {
-            sys::textwrap_shorten(
-                line.as_ptr(), line.len(), width, placeholder.as_ptr(), placeholder.len(), room,
-                room_len, len,
-            )
-        })
-    }
+    let (end, end_len) = (placeholder.as_ptr(), placeholder.len());
+    text_by!(line.len() + end_len, textwrap_shorten(line; width, end, end_len))
 }
 
 /// [`crate::display::shorten_lines`].
@@ -107,17 +82,8 @@ where
     S: AsRef<str>,
 {
     let texts = texts_of(lines)?;
-    let kept = &lines[..most.min(lines.len())];
-    // SAFETY: as in `align`.
-    let found = unsafe {
-        Reported::by(kept.len(), guess::bytes_of(kept, placeholder.len()), |r| {
-            sys::textwrap_shorten_lines(
-                texts.as_ptr(), texts.len(), most, width, placeholder.as_ptr(), placeholder.len(),
-                r.lines, r.lines_len, &mut r.count, r.room, r.room_len, &mut r.len,
-            )
-        })?
-    };
-    found.texts()
+    let (end, end_len) = (placeholder.as_ptr(), placeholder.len());
+    lines_by!(0, 0, textwrap_shorten_lines(texts; most, width, end, end_len))?.texts()
 }
 
 /// [`crate::display::carry_styles`].
@@ -134,19 +100,7 @@ where
 {
     let texts = texts_of(lines)?;
     let options = width_or_options.into();
-    let with = options.to_sys();
-    // To set a colour and to take it back takes so many bytes at most.
-    let bytes = guess::bytes_of(lines, 23);
-    // SAFETY: as in `align`.
-    let found = unsafe {
-        Reported::by(lines.len(), bytes, |r| {
-            sys::textwrap_carry_styles(
-                texts.as_ptr(), texts.len(), &with, r.lines, r.lines_len, &mut r.count, r.room,
-                r.room_len, &mut r.len,
-            )
-        })?
-    };
-    found.texts()
+    lines_by!(0, 0, textwrap_carry_styles(texts; &options.to_sys()))?.texts()
 }
 
 /// [`crate::display::table`].
@@ -171,20 +125,6 @@ where
     if columns.iter().any(|column| column.options.has_function()) {
         return tables::rows(cells, columns, gaps);
     }
-    let texts = texts_of(cells)?;
-    let with = mapped(columns, Column::to_sys)?;
-    let around = gaps.to_sys();
-    let rows = guess::table_rows(cells, columns);
-    let row_len = guess::table_row(columns, gaps);
-    let bytes = guess::with_more(guess::bytes_of(cells, 0), rows, row_len);
-    // SAFETY: as in `align`.
-    let found = unsafe {
-        Reported::by(rows, bytes, |r| {
-            sys::textwrap_table(
-                texts.as_ptr(), texts.len(), with.as_ptr(), with.len(), &around, r.lines,
-                r.lines_len, &mut r.count, r.room, r.room_len, &mut r.len,
-            )
-        })?
-    };
-    found.texts()
+    let (texts, columns) = (texts_of(cells)?, mapped(columns, Column::to_sys)?);
+    lines_by!(0, 0, textwrap_table(texts, columns; &gaps.to_sys()))?.texts()
 }

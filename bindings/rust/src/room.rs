@@ -271,11 +271,6 @@ impl Reported {
     pub fn cows(self, text: &str) -> Result<Vec<Cow<'_, str>>, OutOfMemory> {
         in_place(self.places, |line| line_at(line, text, &self.built).into_cow())
     }
-
-    /// The lines of this text.
-    pub fn lines<'t, 'r>(&'r self, text: &'t str) -> impl Iterator<Item = LineText<'t, 'r>> {
-        self.places.iter().map(move |&line| line_at(line, text, &self.built))
-    }
 }
 
 /// The line at a place of the text that was wrapped, or of what was built.

@@ -1,13 +1,46 @@
 /* textwrap: word wrapping and paragraph filling, proved.
+ * SPDX-License-Identifier: MIT AND Unicode-3.0
  *
- * The library is libtextwrap_c.a, written in Rattle and proved. This header is written by hand;
- * tools/headers compares it with the library, and the tests beside it use each declaration once.
+ * A width counts columns of a terminal: most characters take one, wide ones such as 好 two, and escape
+ * sequences none. Words end at blanks, which are spaces (U+0020) and nothing else, or where Unicode lets
+ * a line end. A paragraph is what stands between two line feeds, so each line of a mail is one;
+ * textwrap_refill joins such lines first. A whole program, which prints the lines of a text:
  *
- * A text is a pointer and a length in bytes, in UTF-8. A pointer is aligned as its type asks, and is
- * not null, but for that of an array of length 0. (null.c sees to these. A program that links the
- * bare archive without it hands in no null pointer.) Within an array no pointer is null, even that
- * of a text without a byte: not in a list of texts or of cells, and not in the indents of a table's
- * columns.
+ *     #include <stdio.h>
+ *     #include <stdlib.h>
+ *     #include <textwrap_proved.h>
+ *
+ *     int main(void) {
+ *         static const uint8_t text[] = "textwrap: a small library for wrapping text.";
+ *         size_t text_len = sizeof text - 1, count, len;
+ *         textwrap_options options = textwrap_options_new(18);
+ *         options.initial_indent = (textwrap_text){(const uint8_t *)"* ", 2};
+ *         // Without room nothing is written, and what suffices is told.
+ *         textwrap_status status =
+ *             textwrap_wrap(text, text_len, &options, NULL, 0, &count, NULL, 0, &len);
+ *         if (status != TEXTWRAP_TOO_SMALL) return 1;
+ *         textwrap_line *lines = malloc(count * sizeof *lines);
+ *         uint8_t *room = malloc(len);
+ *         if (lines == NULL || room == NULL) return 1;
+ *         status = textwrap_wrap(text, text_len, &options, lines, count, &count, room, len, &len);
+ *         if (status != TEXTWRAP_DONE) return 1;
+ *         for (size_t i = 0; i < count; i++) {
+ *             const uint8_t *from = lines[i].is_built ? room : text;
+ *             printf("%.*s\n", (int)lines[i].len, (const char *)from + lines[i].offset);
+ *         }
+ *         free(lines);
+ *         free(room);
+ *         return 0;
+ *     }
+ *
+ * A call returns TEXTWRAP_DONE, NOT_UTF8 if a text is not UTF-8, OUT_OF_MEMORY, TOO_SMALL as above, or
+ * UNKNOWN_OPTIONS; those by fragments or places have OVERFLOW or WRONG_PLACES too. If it returns fewer,
+ * its comment says which.
+ *
+ * A text is a pointer and a length in bytes. A pointer is aligned as its type asks, and is not null, but
+ * for that of an array of length 0. (null.c sees to these. A program that links the library without it
+ * hands in no null pointer.) Within an array no pointer is null, even that of a text without a byte: not
+ * in a list of texts or of cells, and not in the indents of a table's columns.
  * What a call gives is written into room that the caller hands in and owns; the library keeps no
  * pointer and leaves nothing allocated behind. The room may be uninitialised. It overlaps nothing
  * else that is handed to the same call, and `count` and `len` are two places. If the room is too small,
@@ -17,8 +50,10 @@
  * TEXTWRAP_TOO_SMALL a call leaves the room as it was. Nothing past the answer is touched.
  *
  * The library has no state, so calls may run on several threads at once, if the heap's functions may.
- * It allocates by three of them, rattle_alloc, rattle_realloc and rattle_dealloc. heap.c has them over
- * malloc, and says what each returns.
+ * It allocates by three of them, which textwrap_heap.h declares and heap.c has over malloc.
+ *
+ * This header is written by hand. tools/headers compares it with the library, and the tests beside it
+ * use each declaration.
  */
 #ifndef TEXTWRAP_PROVED_H
 #define TEXTWRAP_PROVED_H

@@ -14,9 +14,9 @@
 //! textwrap = { path = "bindings/rust/patch" }
 //! ```
 //!
-//! Behind them stands a library written in Rattle, which is linked as an archive. Its contracts,
-//! which are proved, state the exact result of each call. What is written in Rust here is the way
-//! there and back, and what functions of the caller take part in.
+//! Behind them stands a library written in Rattle, which this crate has within it as assembly for
+//! x86-64 Linux. Its contracts, which are proved, state the exact result of each call. What is
+//! written in Rust here is the way there and back, and what functions of the caller take part in.
 //!
 //! # Lines of a width
 //!
@@ -91,7 +91,7 @@
 //! | `smawk` | [`WrapAlgorithm::new`], and so [`Options::new`], takes the least cost | it takes first fit |
 //! | `unicode-linebreak` | [`WordSeparator::new`], and so [`Options::new`], cuts at Unicode line breaks | it cuts at blanks |
 //! | `unicode-width` | nothing changes | nothing changes: widths are always those of Unicode, where the original counts 1 for each character that is no emoji |
-//! | `std` | nothing changes | nothing changes: the crate always needs `alloc`, and the heap of the C library |
+//! | `std` | nothing changes | nothing changes: the crate always needs `alloc`, and no more |
 //! | `unicode-linebreak-complex` | is `unicode-linebreak` | |
 //! | `terminal_size` | `termwidth` and `Options::with_termwidth` are there, over the crate [terminal_size](https://docs.rs/terminal_size), 0.2.1 to 0.4 | |
 //! | `hyphenation` | `WordSplitter::Hyphenation` is there, over the crate [hyphenation](https://docs.rs/hyphenation), 0.7.1 to 0.8 | |
@@ -105,8 +105,9 @@
 //! If memory runs out, a call ends the program as the standard library does: it aborts with a message
 //! that names the size that was asked for, or panics if no allocation can have that size, which is
 //! above `isize::MAX`. Its twin in [`fallible`], or in [`display::fallible`], returns [`OutOfMemory`]
-//! in place of both. Where the library is one that is installed for C, it has a heap of its own, and
-//! the message names 0 bytes.
+//! in place of both. What the library allocates comes from Rust's allocator too, but where
+//! `TEXTWRAP_LIBRARY` names an archive that is installed for C: this has a heap of its own, and the
+//! message names 0 bytes.
 #![no_std]
 #![deny(missing_docs)]
 #![deny(missing_debug_implementations)]
@@ -129,6 +130,7 @@ mod guess;
 // An archive that is installed for C has its heap in it.
 #[cfg(not(library_has_heap))]
 mod heap;
+mod library;
 mod line_ending;
 mod options;
 mod out_of_memory;

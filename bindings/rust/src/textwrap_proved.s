@@ -1,0 +1,1 @@
+../../../dist/textwrap_proved.s

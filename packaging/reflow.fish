@@ -1,0 +1,12 @@
+# Completions of reflow for fish.
+complete -c reflow -s w -l width -x -d 'Columns of a line'
+complete -c reflow -l first-fit -d 'Fill each line with as many words as fit'
+complete -c reflow -l least-cost -d 'Choose the least ragged lines'
+complete -c reflow -l justify -d 'Widen the gaps of lines to the width'
+complete -c reflow -l crlf -d 'End lines with CR LF'
+complete -c reflow -l prefix -x -d 'Fill only paragraphs whose prefix begins with a text'
+complete -c reflow -l keep-code -d 'Leave fenced and indented code as it is'
+complete -c reflow -l check -d 'Print the names of files that would change'
+complete -c reflow -l in-place -d 'Replace each file'
+complete -c reflow -l help -d 'Print the options'
+complete -c reflow -l version -d 'Print the version'

@@ -1,7 +1,7 @@
 use Rattle.textwrap_steps.proofs.steps.division_at.Goals as goal
 use Rattle.std.proofs.lemmas.Result.{IfOk-weaker}
 use Rattle.textwrap_base.proofs.Common.{◌≡◌, ◌++◌, ◌∙◌, ap, map, map-append, refl, subst, sym, List, [], ◌∷◌, Bor}
-use Rattle.textwrap_base.proofs.Common.{StartsWith, flat_map, starts_with_of_append}
+use Rattle.textwrap_base.proofs.Common.{StartsWith, starts_with_of_append}
 use Rattle.textwrap_base.proofs.Lists.Parts.{flat}
 use Rattle.textwrap_words.proofs.Common.{tiled, word_view}
 use Rattle.textwrap_words.proofs.Word.Tiling.{tiled-append}

@@ -1,9 +1,9 @@
 use Rattle.textwrap_steps.proofs.steps.list_lines_at.Goals as goal
 use Rattle.std.proofs.lemmas.Result.{IfOk-weaker}
-use Rattle.textwrap_base.proofs.Common.{◌≡◌, ◌∙◌, ap, map, sym}
+use Rattle.textwrap_base.proofs.Common.{◌∙◌, ap, map, sym}
 use Rattle.textwrap_base.proofs.Common.{StartsWith, flat_map, subst}
 use Rattle.textwrap_words.proofs.Common.{tiled, word_view}
-use Rattle.textwrap_lines.proofs.Common.{line_from, line_view, parts_from, settings_view}
+use Rattle.textwrap_lines.proofs.Common.{line_from, parts_from, settings_view}
 
 pub list_division-requires : goal.list_division-requires
 list_division-requires g c =

@@ -107,6 +107,7 @@ static void texts_that_are_not_utf8_are_refused(void) {
         textwrap_paragraphs(wrong, 3, &o, NULL, 0, &count),
         textwrap_wrap_at(wrong, 3, NULL, 0, &o, lines, 3, &count, room, 32, &len),
         textwrap_fill_at(wrong, 3, NULL, 0, &o, room, 32, &len),
+        textwrap_fill_justified_at(wrong, 3, NULL, 0, &o, room, 32, &len),
     };
     for (size_t i = 0; i < sizeof statuses / sizeof *statuses; i++)
         CHECK(statuses[i] == TEXTWRAP_NOT_UTF8);
@@ -649,6 +650,20 @@ static void a_text_has_lines_in_steps(void) {
           == TEXTWRAP_WRONG_PLACES);
 }
 
+static void a_text_in_steps_is_justified(void) {
+    const size_t cuts[4] = {2, 4, 7, 9}, ends[3] = {2, 4, 5};
+    const textwrap_steps steps = {cuts, 4, cuts, 0, ends, 3};
+    textwrap_options o = textwrap_options_new(8);
+    uint8_t room[32] = "...................";
+    size_t len = 0;
+    const uint8_t *text = bytes("a b cd e f");
+    CHECK(textwrap_fill_justified_at(text, 10, &steps, 1, &o, room, 18, &len) == TEXTWRAP_TOO_SMALL);
+    CHECK(len == 19 && memcmp(room, "a      b\ncd     e\n.", 19) == 0);
+    CHECK(textwrap_fill_justified_at(text, 10, &steps, 1, &o, room, 19, &len) == TEXTWRAP_DONE);
+    CHECK(len == 19 && memcmp(room, "a      b\ncd     e\nf", 19) == 0);
+    CHECK(textwrap_fill_justified_at(text, 10, &steps, 0, &o, room, 19, &len) == TEXTWRAP_WRONG_PLACES);
+}
+
 static void words_are_cut_split_and_broken(void) {
     textwrap_piece words[4];
     size_t points[3], count = 0;
@@ -1132,6 +1147,7 @@ int main(void) {
     fragments_are_divided();
     pieces_are_places();
     a_text_has_lines_in_steps();
+    a_text_in_steps_is_justified();
     words_are_cut_split_and_broken();
     a_paragraph_is_laid_out_in_steps();
     a_word_may_have_many_points();

@@ -300,7 +300,7 @@ const JUSTIFIED: &[TextRow] = &[
         b"a b cd e f\ngh i jk",
         TOO_SMALL,
         27,
-        b"__________________________",
+        b"> a    b\ncd     e\nf\ngh i j",
     ),
     (
         TextCall::JustifyAt {

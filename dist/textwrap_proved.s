@@ -4,7 +4,7 @@
 # proved and compiled with: rattle-kit-13f logic dac8208d650f15bf
 # crates: textwrap_base textwrap_words textwrap_lines textwrap textwrap_steps textwrap_unicode textwrap_display textwrap_plain textwrap_calls textwrap_c
 # sum of their sources: 70bf1a457c82978038970a0353f4096fc3a733a44d38f6b6590eadf1ab53290a
-# sum of the lines below: abf39417df2d60865c6f4bf6f7b1163ace222ecd020ba4d125df91f676be20b3
+# sum of the lines below: ed7e5daef5465d6d805556d35ddc0baa9ecf34ea8e6053c9ef810f9fbfbc1dd8
 	.section	.rodata.cst16,"aM",@progbits,16
 	.p2align	4, 0x0
 .Ltextwrap_CPI0_0:
@@ -8827,7 +8827,7 @@
 .Ltextwrap_BB51_15:
 	movb	%dl, 18(%rsp)
 	movw	%si, 19(%rsp)
-	leaq	".Lswitch.table.textwrap_unicode::rules::decide"(%rip), %rcx
+	leaq	".Ltextwrap_switch.table.textwrap_unicode::rules::decide"(%rip), %rcx
 	movzbl	(%rax,%rcx), %eax
 .Ltextwrap_BB51_16:
 	movzbl	1(%rdi), %ecx
@@ -42223,11 +42223,11 @@ textwrap_wrap_room_bound:
 .Ltextwrap_static.29:
 	.byte	10
 	.size	.Ltextwrap_static.29, 1
-	.type	".Lswitch.table.textwrap_unicode::rules::decide",@object
+	.type	".Ltextwrap_switch.table.textwrap_unicode::rules::decide",@object
 	.section	".rodata..Lswitch.table.textwrap_unicode::rules::decide","a",@progbits
-".Lswitch.table.textwrap_unicode::rules::decide":
+".Ltextwrap_switch.table.textwrap_unicode::rules::decide":
 	.ascii	"\000\001\002\003\004\005\006\007\b\t\n\013\002\r\016\017\020\021\022\023\024\025\026\027\030\031\032\033\034\035\036\037 !\"#$%&'()*+,-./\002"
-	.size	".Lswitch.table.textwrap_unicode::rules::decide", 49
+	.size	".Ltextwrap_switch.table.textwrap_unicode::rules::decide", 49
 	.ident	"rattle logic=dac8208d650f15bf3e2dc313a14fa4c783a3acf887bdfab66e1714b038d9e11b"
 	.section	".note.GNU-stack","",@progbits
 	.text

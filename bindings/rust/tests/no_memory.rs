@@ -1,6 +1,6 @@
-//! Each call of `fallible`, with each of the allocations that it makes in Rust refused in turn: it
-//! has to return that memory ran out. One that aborts ends the test. What the library allocates is
-//! refused by the tests in C.
+//! Each call of `fallible`, with each of its allocations refused in turn, those of the library too: it
+//! has to return that memory ran out. One that aborts ends the test. A library that has a heap of its
+//! own is tested so in C.
 use std::alloc::{GlobalAlloc, Layout, System};
 use std::cell::Cell;
 use std::fmt::Debug;

@@ -1,5 +1,6 @@
 //! How much room an answer mostly needs, so that one call suffices. Where a guess is too small, the
 //! call says how much it is, and is made again.
+use crate::display::{Column, Gaps};
 use crate::options::Options;
 
 /// How many bytes of a text are of a kind.
@@ -57,4 +58,25 @@ pub(crate) fn built(text: &str, options: &Options<'_>, lines: usize) -> usize {
     } else {
         indented(text, options, lines)
     }
+}
+
+/// The bytes of texts, with so many more for each.
+pub(crate) fn bytes_of<S: AsRef<str>>(texts: &[S], more: usize) -> usize {
+    texts.iter().map(|text| text.as_ref().len() + more).fold(0, usize::saturating_add)
+}
+
+/// The rows of a table, and their bytes. There is a column.
+pub(crate) fn table<S: AsRef<str>>(
+    cells: &[S],
+    columns: &[Column<'_>],
+    gaps: &Gaps<'_>,
+) -> (usize, usize) {
+    let lines_of = |(cell, Column { options, .. }): (&S, &Column<'_>)| {
+        lines(cell.as_ref(), options.width, options)
+    };
+    let height = |row: &[S]| row.iter().zip(columns).map(lines_of).max().unwrap_or(0);
+    let rows = cells.chunks(columns.len()).map(height).fold(0, usize::saturating_add);
+    let widths = columns.iter().map(|column| column.options.width);
+    let row_len = widths.fold(gaps.bytes_in(columns.len()), usize::saturating_add);
+    (rows, with_more(bytes_of(cells, 0), rows, row_len))
 }

@@ -1,6 +1,6 @@
 -- A text at steps whose lines are justified, one paragraph after another.
 use Rattle.textwrap_base.proofs.Common.{◌≡◌, ℕ, ◌<◌, ◌||◌, nat_lt, Bool, false, List, [], ◌∷◌, ◌++◌}
-use Rattle.textwrap_base.proofs.Common.{length, map, refl, sym, ap, subst, ◌∙◌, arith, append-nil}
+use Rattle.textwrap_base.proofs.Common.{length, map, sym, ap, subst, ◌∙◌, arith, append-nil}
 use Rattle.textwrap_base.proofs.Common.{length-map}
 use Rattle.std.specs.declared.borrow.CowStr.{CowStr}
 use Rattle.textwrap_lines.proofs.Common.{ending_bytes, is_whole, line_from, line_view, paragraphs_of}

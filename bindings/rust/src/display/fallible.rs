@@ -83,7 +83,9 @@ where
 {
     let texts = texts_of(lines)?;
     let (end, end_len) = (placeholder.as_ptr(), placeholder.len());
-    lines_by!(0, 0, textwrap_shorten_lines(texts; most, width, end, end_len))?.texts()
+    let kept = &lines[..most.min(lines.len())];
+    let bytes = guess::bytes_of(kept, end_len);
+    lines_by!(kept.len(), bytes, textwrap_shorten_lines(texts; most, width, end, end_len))?.texts()
 }
 
 /// [`crate::display::carry_styles`].
@@ -100,7 +102,9 @@ where
 {
     let texts = texts_of(lines)?;
     let options = width_or_options.into();
-    lines_by!(0, 0, textwrap_carry_styles(texts; &options.to_sys()))?.texts()
+    // To set a colour and to take it back takes so many bytes at most.
+    let bytes = guess::bytes_of(lines, 23);
+    lines_by!(lines.len(), bytes, textwrap_carry_styles(texts; &options.to_sys()))?.texts()
 }
 
 /// [`crate::display::table`].
@@ -125,6 +129,7 @@ where
     if columns.iter().any(|column| column.options.has_function()) {
         return tables::rows(cells, columns, gaps);
     }
+    let (rows, bytes) = guess::table(cells, columns, gaps);
     let (texts, columns) = (texts_of(cells)?, mapped(columns, Column::to_sys)?);
-    lines_by!(0, 0, textwrap_table(texts, columns; &gaps.to_sys()))?.texts()
+    lines_by!(rows, bytes, textwrap_table(texts, columns; &gaps.to_sys()))?.texts()
 }

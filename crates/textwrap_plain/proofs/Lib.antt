@@ -1,3 +1,4 @@
+pub mod OnlyLine
 pub mod Parts
 pub mod Separators
 pub mod Tables

@@ -1,21 +1,26 @@
 //! Texts, wrapped and filled by options without functions.
-ghost use Rattle.std.specs.Prelude.{◌≡◌, ◌≤◌, ℕ, List, length, Some, IfErr, IfOk, IsOk, alloc_error, map};
-ghost use Rattle.std.specs.Prelude.{string_bytes, true};
+ghost use Rattle.std.specs.Prelude.{◌≡◌, ◌≤◌, ◌∷◌, [], ℕ, List, length, Some, IfErr, IfOk, IfSome, IsOk};
+ghost use Rattle.std.specs.Prelude.{alloc_error, false, if◌then◌else◌, map, string_bytes, true};
 ghost use Rattle.textwrap.specs.Columns.{IsInColumns};
 ghost use Rattle.textwrap.specs.Filling.{IsFilled};
-ghost use Rattle.textwrap.specs.Paragraph.{line_view};
+ghost use Rattle.textwrap.specs.Options.{settings_view};
+ghost use Rattle.textwrap.specs.Paragraph.{is_whole, line_view};
 ghost use Rattle.textwrap.specs.Refilling.{IsRefilled};
 ghost use Rattle.textwrap.specs.Text.{ArePrintedWithin, CanKeepToWidth, IsWrapped, LinesKeepToWidth};
 ghost use Rattle.textwrap.specs.WrapAlgorithms.{Greedy};
 ghost use Rattle.textwrap_plain.specs.Options.{algorithm_of, DividesPlainly, settings_of, splitter_of};
 ghost use Rattle.textwrap_plain.specs.declared.options.PlainSeparator.TheVariants.{AtBlanks};
+ghost use Rattle.textwrap_lines.specs.LineEnding.{paragraphs_of};
+ghost use Rattle.textwrap_words.specs.Blanks.{without_final_blanks};
 ghost use Rattle.textwrap_words.specs.LentText.{as_len, written_over};
 
 use crate::options::{PlainOptions, PlainSeparator};
 use std::alloc::Global;
 use std::borrow::CowStr;
 use textwrap::word_separators::LineCuts;
-use textwrap::{WordSeparator, WrapError};
+use textwrap::{Options, WordSeparator, WrapError};
+use textwrap_lines::inner::{is_one_line, whole_line};
+use textwrap_lines::parts::split_paragraph;
 use textwrap_unicode::{Numbers, unicode_cuts, unicode_cuts_by_expression};
 use textwrap_words::inner::LentText;
 
@@ -92,7 +97,7 @@ pub fn fill(alloc: Global, text: &str, options: &PlainOptions<'_>) -> Result<Str
 
 /// Writes the text of [`fill`] into lent room, as much of it as there is room for, and returns how many
 /// bytes it has, or the greatest number if they are more. The rest of the room stays as it was. At
-/// blanks and by first fit nothing is allocated.
+/// blanks and by first fit nothing is allocated, and of a text that is one line as a whole neither.
 ///
 /// # Errors
 /// [`WrapError::Memory`] where memory runs out. Then the room is as it was.
@@ -110,13 +115,44 @@ pub fn fill_into(
     ensures kept { IfErr result (λ _. room.new ≡ room.old) }
     ensures only_memory { IfErr result (λ error. error ≡ WrapError.Memory alloc_error) }
 {
+    let at_blanks = options.at_blanks();
+    if let Some(line) = only_line(text, &at_blanks) {
+        return Ok(write_over(room, line));
+    }
     if options.are_direct() {
-        return textwrap_lines::inner::fill_into(alloc, text, &options.at_blanks(), room);
+        return textwrap_lines::inner::fill_into(alloc, text, &at_blanks, room);
     }
     let filled = fill(alloc, text, options)?;
+    Ok(write_over(room, &filled))
+}
+
+/// The line of a text that is one as a whole. What its words are makes no difference then.
+fn only_line<'t>(text: &'t str, options: &Options<'_>) -> Option<&'t str>
+    ensures one { IfSome result (λ _.
+        paragraphs_of options.now.line_ending text.now ≡ text.now ∷ []) }
+    ensures whole { IfSome result (λ _. is_whole (settings_view options.now) false text.now ≡ true) }
+    ensures line { IfSome result (λ line. line.now ≡ (if options.now.preserve_trailing_space
+        then text.now else without_final_blanks text.now)) }
+{
+    // A long text is told by its length.
+    if !is_one_line(text, options, false) {
+        return None;
+    }
+    let (_, after) = split_paragraph(text, options.line_ending);
+    match after {
+        Some(_) => None,
+        None => Some(whole_line(text, options)),
+    }
+}
+
+/// Writes a text over the front of the room, as much of it as there is room for. Returns its bytes.
+fn write_over(room: &mut [u8], text: &str) -> usize
+    ensures len { result ≡ as_len (length text.now) }
+    ensures room { room.new ≡ written_over room.old text.now }
+{
     let mut written = LentText::new(room);
-    written.push(filled.as_bytes());
-    Ok(written.len())
+    written.push(text.as_bytes());
+    written.len()
 }
 
 /// Fills a filled paragraph again, with the indents that it has, as `refill` of `textwrap` does it.

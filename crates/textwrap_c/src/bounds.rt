@@ -4,7 +4,7 @@ ghost use Rattle.std.specs.Prelude.{◌≡◌, ◌≤◌, ◌+◌, ◌-◌, ◌*
 ghost use Rattle.textwrap.specs.Filling.{IsFilled};
 ghost use Rattle.textwrap.specs.Indentation.{dedented, indented};
 ghost use Rattle.textwrap.specs.Refilling.{IsRefilled, unfilled_parts};
-ghost use Rattle.textwrap_calls.specs.Bounds.{ForLinesOf, ForTextsOf, HoldsEach, Suffices, capped};
+ghost use Rattle.textwrap_calls.specs.Bounds.{ForLinesOf, ForTextsOf, HoldsEach, Suffices, as_len};
 ghost use Rattle.textwrap_calls.specs.Bounds.{ForRowsOf, columns_room_bound, fill_bound, indent_bound};
 ghost use Rattle.textwrap_calls.specs.Bounds.{refill_bound, rows_bound, wrap_room_bound};
 ghost use Rattle.textwrap_calls.specs.Options.{settings_of, Divides};
@@ -19,7 +19,7 @@ use textwrap_calls::options::TextwrapOptions;
 /// Exports [`textwrap_calls::bounds::textwrap_fill_bound`].
 #[unsafe(no_mangle)]
 pub extern "C" fn textwrap_fill_bound(text_len: usize, options: &TextwrapOptions<'_>) -> usize
-    ensures value { result ≡ capped (fill_bound (settings_of options.now) text_len) }
+    ensures value { result ≡ as_len (fill_bound (settings_of options.now) text_len) }
     ensures enough { ForTextsOf text_len (λ text. HoldsEach (IsFilled (settings_of options.now)
         (Divides options.now (settings_of options.now))
         text) result) }
@@ -30,7 +30,7 @@ pub extern "C" fn textwrap_fill_bound(text_len: usize, options: &TextwrapOptions
 /// Exports [`textwrap_calls::bounds::textwrap_refill_bound`].
 #[unsafe(no_mangle)]
 pub extern "C" fn textwrap_refill_bound(text_len: usize, options: &TextwrapOptions<'_>) -> usize
-    ensures value { result ≡ capped (refill_bound (settings_of options.now) text_len) }
+    ensures value { result ≡ as_len (refill_bound (settings_of options.now) text_len) }
     ensures enough { ForTextsOf text_len (λ text. HoldsEach (IsRefilled (settings_of options.now)
         (Divides options.now) text) result) }
 {
@@ -40,7 +40,7 @@ pub extern "C" fn textwrap_refill_bound(text_len: usize, options: &TextwrapOptio
 /// Exports [`textwrap_calls::bounds::textwrap_wrap_lines_bound`].
 #[unsafe(no_mangle)]
 pub extern "C" fn textwrap_wrap_lines_bound(text_len: usize) -> usize
-    ensures value { result ≡ capped (text_len + 1) }
+    ensures value { result ≡ as_len (text_len + 1) }
     ensures enough { (options : TextwrapOptions) → ForTextsOf text_len (λ text.
         ForLinesOf options text (λ lines. Suffices result (length lines))) }
 {
@@ -50,7 +50,7 @@ pub extern "C" fn textwrap_wrap_lines_bound(text_len: usize) -> usize
 /// Exports [`textwrap_calls::bounds::textwrap_wrap_room_bound`].
 #[unsafe(no_mangle)]
 pub extern "C" fn textwrap_wrap_room_bound(text_len: usize, options: &TextwrapOptions<'_>) -> usize
-    ensures value { result ≡ capped (wrap_room_bound (settings_of options.now) text_len) }
+    ensures value { result ≡ as_len (wrap_room_bound (settings_of options.now) text_len) }
     ensures enough { ForTextsOf text_len (λ text. ForLinesOf options.now text
         (λ lines. Suffices result (length (built_text lines)))) }
 {
@@ -60,7 +60,7 @@ pub extern "C" fn textwrap_wrap_room_bound(text_len: usize, options: &TextwrapOp
 /// Exports [`textwrap_calls::bounds::textwrap_wrap_columns_rows_bound`].
 #[unsafe(no_mangle)]
 pub extern "C" fn textwrap_wrap_columns_rows_bound(text_len: usize, columns: usize) -> usize
-    ensures value { result ≡ capped (rows_bound text_len columns) }
+    ensures value { result ≡ as_len (rows_bound text_len columns) }
     ensures enough { 1 ≤ columns → (options : TextwrapOptions) (gaps : TextwrapGaps)
         → ForTextsOf text_len (λ text. ForRowsOf options gaps columns text
         (λ rows. Suffices result (length rows))) }
@@ -76,7 +76,7 @@ pub extern "C" fn textwrap_wrap_columns_room_bound(
     options: &TextwrapOptions<'_>,
     gaps: &TextwrapGaps<'_>,
 ) -> usize
-    ensures value { result ≡ capped (columns_room_bound options.now gaps.now text_len columns) }
+    ensures value { result ≡ as_len (columns_room_bound options.now gaps.now text_len columns) }
     ensures enough { 1 ≤ columns → ForTextsOf text_len (λ text. ForRowsOf options.now gaps.now
         columns text (λ rows. Suffices result (length (built_text rows)))) }
 {
@@ -86,7 +86,7 @@ pub extern "C" fn textwrap_wrap_columns_room_bound(
 /// Exports [`textwrap_calls::bounds::textwrap_indent_bound`].
 #[unsafe(no_mangle)]
 pub extern "C" fn textwrap_indent_bound(text_len: usize, prefix_len: usize) -> usize
-    ensures value { result ≡ capped (indent_bound text_len prefix_len) }
+    ensures value { result ≡ as_len (indent_bound text_len prefix_len) }
     ensures enough { ForTextsOf prefix_len (λ prefix. ForTextsOf text_len (λ text.
         Suffices result (length (indented prefix text)))) }
 {
@@ -105,7 +105,7 @@ pub extern "C" fn textwrap_dedent_bound(text_len: usize) -> usize
 /// Exports [`textwrap_calls::bounds::textwrap_unfill_bound`].
 #[unsafe(no_mangle)]
 pub extern "C" fn textwrap_unfill_bound(text_len: usize) -> usize
-    ensures value { result ≡ capped (2 * text_len) }
+    ensures value { result ≡ as_len (2 * text_len) }
     ensures enough { ForTextsOf text_len (λ text. Suffices result (length (unfilled_parts text))) }
 {
     bounds::textwrap_unfill_bound(text_len)

@@ -1,5 +1,5 @@
 -- How much room answers take at most, by the lengths of the texts.
-use Rattle.std.specs.Prelude.{◌≡◌, ℕ, ◌+◌, ◌-◌, ◌*◌, ◌/◌, ◌^◌, ◌≤◌, ◌⊎◌, min, max, ◌==◌, ◌&&◌, List}
+use Rattle.std.specs.Prelude.{◌≡◌, ℕ, ◌+◌, ◌-◌, ◌*◌, ◌/◌, ◌^◌, ◌≤◌, ◌⊎◌, max, ◌==◌, ◌&&◌, List}
 use Rattle.std.specs.Prelude.{length, IsUtf8, if◌then◌else◌}
 use Rattle.textwrap.specs.Options.{Settings}
 use Rattle.textwrap.specs.Paragraph.{Line}
@@ -11,14 +11,11 @@ use Rattle.textwrap_calls.specs.declared.options.TextwrapOptions.{TextwrapOption
 use Rattle.textwrap_lines.specs.LineEnding.{ending_bytes}
 use Rattle.textwrap_lines.specs.Places.{ArePlacedLines}
 use Rattle.textwrap_lines.specs.declared.places.Place.{Place}
+pub use Rattle.textwrap_words.specs.LentText.{as_len}
 
 -- the greatest length that a number holds
 abbrev pub greatest : ℕ
 greatest = 2 ^ 64 - 1
-
--- this many, or the greatest length where they are more
-abbrev pub capped : ℕ → ℕ
-capped n = min n greatest
 
 -- so many are enough for so many, if a number holds how many are needed
 abbrev pub Suffices : ℕ → ℕ → Type 0

@@ -4,7 +4,7 @@ ghost use Rattle.std.specs.Prelude.{◌≡◌, ◌≤◌, ◌+◌, ◌-◌, ◌*
 ghost use Rattle.textwrap.specs.Filling.{IsFilled};
 ghost use Rattle.textwrap.specs.Indentation.{dedented, indented};
 ghost use Rattle.textwrap.specs.Refilling.{IsRefilled, unfilled_parts};
-ghost use Rattle.textwrap_calls.specs.Bounds.{ForLinesOf, ForTextsOf, HoldsEach, Suffices, capped};
+ghost use Rattle.textwrap_calls.specs.Bounds.{ForLinesOf, ForTextsOf, HoldsEach, Suffices, as_len};
 ghost use Rattle.textwrap_calls.specs.Bounds.{ForRowsOf, columns_room_bound, fill_bound, indent_bound};
 ghost use Rattle.textwrap_calls.specs.Bounds.{refill_bound, rows_bound, wrap_room_bound};
 ghost use Rattle.textwrap_calls.specs.Options.{settings_of, Divides};
@@ -18,7 +18,7 @@ use crate::options::TextwrapOptions;
 /// How many bytes `textwrap_fill` writes at most for a text of so many bytes: 13 for a text of 5 with
 /// indents of 3 and 0 bytes.
 pub fn textwrap_fill_bound(text_len: usize, options: &TextwrapOptions<'_>) -> usize
-    ensures value { result ≡ capped (fill_bound (settings_of options.now) text_len) }
+    ensures value { result ≡ as_len (fill_bound (settings_of options.now) text_len) }
     ensures enough { ForTextsOf text_len (λ text. HoldsEach (IsFilled (settings_of options.now)
         (Divides options.now (settings_of options.now))
         text) result) }
@@ -35,7 +35,7 @@ pub fn textwrap_fill_bound(text_len: usize, options: &TextwrapOptions<'_>) -> us
 /// grows with the square of the length, as an indent of the text may be half of it, and stand before
 /// each byte of the other half. So two calls are cheaper for a long text.
 pub fn textwrap_refill_bound(text_len: usize, options: &TextwrapOptions<'_>) -> usize
-    ensures value { result ≡ capped (refill_bound (settings_of options.now) text_len) }
+    ensures value { result ≡ as_len (refill_bound (settings_of options.now) text_len) }
     ensures enough { ForTextsOf text_len (λ text. HoldsEach (IsRefilled (settings_of options.now)
         (Divides options.now) text) result) }
 {
@@ -47,7 +47,7 @@ pub fn textwrap_refill_bound(text_len: usize, options: &TextwrapOptions<'_>) -> 
 /// How many lines `textwrap_wrap` reports at most of a text of so many bytes, under any options: one
 /// more than it has bytes.
 pub fn textwrap_wrap_lines_bound(text_len: usize) -> usize
-    ensures value { result ≡ capped (text_len + 1) }
+    ensures value { result ≡ as_len (text_len + 1) }
     ensures enough { (options : TextwrapOptions) → ForTextsOf text_len (λ text.
         ForLinesOf options text (λ lines. Suffices result (length lines))) }
 {
@@ -57,7 +57,7 @@ pub fn textwrap_wrap_lines_bound(text_len: usize) -> usize
 /// How many bytes `textwrap_wrap` writes at most to the room for a text of so many bytes: none without
 /// indents, and 18 for a text of 5 with indents of 3 and 2 bytes.
 pub fn textwrap_wrap_room_bound(text_len: usize, options: &TextwrapOptions<'_>) -> usize
-    ensures value { result ≡ capped (wrap_room_bound (settings_of options.now) text_len) }
+    ensures value { result ≡ as_len (wrap_room_bound (settings_of options.now) text_len) }
     ensures enough { ForTextsOf text_len (λ text. ForLinesOf options.now text
         (λ lines. Suffices result (length (built_text lines)))) }
 {
@@ -70,7 +70,7 @@ pub fn textwrap_wrap_room_bound(text_len: usize, options: &TextwrapOptions<'_>) 
 /// How many rows `textwrap_wrap_columns` writes at most of a text of so many bytes, in so many columns:
 /// 4 of 7 in 2. No columns have no rows.
 pub fn textwrap_wrap_columns_rows_bound(text_len: usize, columns: usize) -> usize
-    ensures value { result ≡ capped (rows_bound text_len columns) }
+    ensures value { result ≡ as_len (rows_bound text_len columns) }
     ensures enough { 1 ≤ columns → (options : TextwrapOptions) (gaps : TextwrapGaps)
         → ForTextsOf text_len (λ text. ForRowsOf options gaps columns text
         (λ rows. Suffices result (length rows))) }
@@ -89,7 +89,7 @@ pub fn textwrap_wrap_columns_room_bound(
     options: &TextwrapOptions<'_>,
     gaps: &TextwrapGaps<'_>,
 ) -> usize
-    ensures value { result ≡ capped (columns_room_bound options.now gaps.now text_len columns) }
+    ensures value { result ≡ as_len (columns_room_bound options.now gaps.now text_len columns) }
     ensures enough { 1 ≤ columns → ForTextsOf text_len (λ text. ForRowsOf options.now gaps.now
         columns text (λ rows. Suffices result (length (built_text rows)))) }
 {
@@ -100,7 +100,7 @@ pub fn textwrap_wrap_columns_room_bound(
 
 /// The gaps of a row, and the columns that its cells are filled up to.
 fn gaps_and_columns(columns: usize, width: usize, gaps: &TextwrapGaps<'_>) -> usize
-    ensures { result ≡ capped (length gaps.now.left.now + length gaps.now.right.now
+    ensures { result ≡ as_len (length gaps.now.left.now + length gaps.now.right.now
         + (columns - 1) * length gaps.now.middle.now + max width columns) }
 {
     columns
@@ -113,7 +113,7 @@ fn gaps_and_columns(columns: usize, width: usize, gaps: &TextwrapGaps<'_>) -> us
 
 /// The bytes of a text, each on a line of its own, and the indents of all these lines.
 fn bytes_and_indents(text_len: usize, options: &TextwrapOptions<'_>) -> usize
-    ensures { result ≡ capped (length options.now.initial_indent.now
+    ensures { result ≡ as_len (length options.now.initial_indent.now
         + text_len * (1 + length options.now.subsequent_indent.now)) }
 {
     let line = 1_usize.saturating_add(options.subsequent_indent.len());
@@ -125,7 +125,7 @@ fn bytes_and_indents(text_len: usize, options: &TextwrapOptions<'_>) -> usize
 /// How many bytes `textwrap_indent` writes at most for a text and a prefix of so many bytes: 15 for 5
 /// and 2.
 pub fn textwrap_indent_bound(text_len: usize, prefix_len: usize) -> usize
-    ensures value { result ≡ capped (indent_bound text_len prefix_len) }
+    ensures value { result ≡ as_len (indent_bound text_len prefix_len) }
     ensures enough { ForTextsOf prefix_len (λ prefix. ForTextsOf text_len (λ text.
         Suffices result (length (indented prefix text)))) }
 {
@@ -143,7 +143,7 @@ pub fn textwrap_dedent_bound(text_len: usize) -> usize
 /// How many bytes `textwrap_unfill` writes at most for a text of so many bytes, the indents among them:
 /// twice as many. Of 10 for a line feed and four blanks, it writes 8.
 pub fn textwrap_unfill_bound(text_len: usize) -> usize
-    ensures value { result ≡ capped (2 * text_len) }
+    ensures value { result ≡ as_len (2 * text_len) }
     ensures enough { ForTextsOf text_len (λ text. Suffices result (length (unfilled_parts text))) }
 {
     text_len.saturating_mul(2)

@@ -13,7 +13,7 @@ use Rattle.textwrap_plain.proofs.Wrapped.{IsWrapped-at}
 use Rattle.textwrap.proofs.Text.WholeLines.{bytes_of}
 use Rattle.textwrap_plain.specs.Options.{words_by}
 use Rattle.textwrap_plain.specs.declared.options.PlainSeparator.{PlainSeparator}
-use Rattle.textwrap_calls.specs.Bounds.{capped, fill_bound, ForTextsOf, HoldsEach}
+use Rattle.textwrap_calls.specs.Bounds.{as_len, fill_bound, ForTextsOf, HoldsEach}
 use Rattle.textwrap_calls.proofs.Lengths.Lines.{count-all, slices-all, slices_length, join-length, line-length, indent-length}
 use Rattle.textwrap_calls.proofs.Lengths.Limit.{within-limit}
 
@@ -77,7 +77,7 @@ filled-bound settings separator splitter algorithm text filled utf8 (lines, are,
 
 pub filled-fits : (settings : Settings) (separator : PlainSeparator) (splitter : Splitter)
     (algorithm : Algorithm)
-    (len bound : ℕ) → bound ≡ capped (fill_bound settings len)
+    (len bound : ℕ) → bound ≡ as_len (fill_bound settings len)
     → ForTextsOf len (λ text. HoldsEach
     (IsFilled settings (DividesAt (words_by separator) splitter algorithm settings) text) bound)
 filled-fits settings separator splitter algorithm len bound is text utf8 len_is filled filled_is =

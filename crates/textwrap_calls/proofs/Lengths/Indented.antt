@@ -8,7 +8,7 @@ use Rattle.textwrap_base.proofs.Lists.Parts.{flat, flat-onto_first, onto_first-l
 use Rattle.textwrap_base.proofs.Whitespace.{trim_end-front}
 use Rattle.textwrap.proofs.Common.{ended_parts}
 use Rattle.textwrap.specs.Indentation.{indent_of_part, indented, indented_part, is_blank_line}
-use Rattle.textwrap_calls.specs.Bounds.{capped, ForTextsOf, indent_bound, Suffices}
+use Rattle.textwrap_calls.specs.Bounds.{as_len, ForTextsOf, indent_bound, Suffices}
 use Rattle.textwrap_calls.proofs.Lengths.Limit.{within-limit}
 
 -- a text has no more parts than bytes
@@ -56,7 +56,7 @@ indented-parts prefix (part ∷ parts) utf8 =
     )
 
 pub indented-fits : (len prefix_len bound : ℕ)
-    → bound ≡ capped (indent_bound len prefix_len)
+    → bound ≡ as_len (indent_bound len prefix_len)
     → ForTextsOf prefix_len (λ prefix. ForTextsOf len (λ text. Suffices bound
     (length (indented prefix text))))
 indented-fits len prefix_len bound is prefix prefix_utf8 prefix_is text utf8 len_is =

@@ -21,7 +21,7 @@ use Rattle.textwrap.proofs.Text.Prefixes.{common_start-ascii, line_prefix-ascii}
 use Rattle.textwrap.proofs.Text.Unfilling.{lines-begin, texts_of-ended_lines}
 use Rattle.textwrap_plain.specs.Options.{words_by}
 use Rattle.textwrap_plain.specs.declared.options.PlainSeparator.{PlainSeparator}
-use Rattle.textwrap_calls.specs.Bounds.{capped, refill_bound, ForTextsOf, HoldsEach}
+use Rattle.textwrap_calls.specs.Bounds.{as_len, refill_bound, ForTextsOf, HoldsEach}
 use Rattle.textwrap_calls.proofs.Lengths.Dedented.{lines-utf8}
 use Rattle.textwrap_calls.proofs.Lengths.Filled.{filled-bound}
 use Rattle.textwrap_calls.proofs.Lengths.Joined.{joined-length}
@@ -136,7 +136,7 @@ refilled-bound settings separator splitter algorithm text refilled utf8 (filled,
 
 pub refilled-fits : (settings : Settings) (separator : PlainSeparator) (splitter : Splitter)
     (algorithm : Algorithm)
-    (len bound : ℕ) → bound ≡ capped (refill_bound settings len)
+    (len bound : ℕ) → bound ≡ as_len (refill_bound settings len)
     → ForTextsOf len (λ text. HoldsEach
     (IsRefilled settings (DividesAt (words_by separator) splitter algorithm) text) bound)
 refilled-fits settings separator splitter algorithm len bound is text utf8 len_is refilled refilled_is =

@@ -15,7 +15,7 @@ use Rattle.textwrap_lines.proofs.Paragraph.Kept.{HasNoHyphen}
 use Rattle.textwrap_plain.proofs.Wrapped.{IsWrapped-at}
 use Rattle.textwrap_plain.specs.Options.{words_by}
 use Rattle.textwrap_plain.specs.declared.options.PlainSeparator.{PlainSeparator}
-use Rattle.textwrap_calls.specs.Bounds.{capped, ForLinesOf, ForTextsOf, Suffices, wrap_room_bound}
+use Rattle.textwrap_calls.specs.Bounds.{as_len, ForLinesOf, ForTextsOf, Suffices, wrap_room_bound}
 use Rattle.textwrap_calls.specs.Options.{algorithm_of, separator_of, settings_of, splitter_of}
 use Rattle.textwrap_calls.specs.declared.options.TextwrapOptions.{TextwrapOptions}
 use Rattle.textwrap_calls.proofs.Lengths.Lines.{count-all, slices-all, slices_length, line-length, indent-length}
@@ -37,7 +37,7 @@ counted-lines settings separator splitter algorithm text lines utf8 are =
       count-all settings separator splitter algorithm text lines utf8 all,
     )
 
-pub lines-fit : (options : TextwrapOptions) (len bound : ℕ) → bound ≡ capped (len + 1)
+pub lines-fit : (options : TextwrapOptions) (len bound : ℕ) → bound ≡ as_len (len + 1)
     → ForTextsOf len (λ text. ForLinesOf options text (λ lines. Suffices bound (length lines)))
 lines-fit options len bound is text utf8 len_is lines places placed =
     within-limit (length lines) (len + 1) bound
@@ -145,7 +145,7 @@ built-bound settings separator splitter algorithm text lines utf8 are =
         omega (arith, built-length settings false p parts indented none, product, slices)
 
 pub room-fits : (options : TextwrapOptions) (len bound : ℕ)
-    → bound ≡ capped (wrap_room_bound (settings_of options) len)
+    → bound ≡ as_len (wrap_room_bound (settings_of options) len)
     → ForTextsOf len (λ text. ForLinesOf options text (λ lines. Suffices bound
     (length (built_text lines))))
 room-fits options len bound is text utf8 len_is lines places placed =

@@ -13,7 +13,7 @@ use Rattle.textwrap.specs.Columns.{column_width, inner_width, row_text, cells}
 use Rattle.textwrap_lines.proofs.Common.{Line}
 use Rattle.textwrap_lines.proofs.Common.{line_bytes, built_text}
 use Rattle.textwrap_lines.specs.Paragraph.{Built}
-use Rattle.textwrap_calls.specs.Bounds.{capped, columns_room_bound, rows_bound, Suffices}
+use Rattle.textwrap_calls.specs.Bounds.{as_len, columns_room_bound, rows_bound, Suffices}
 use Rattle.textwrap_calls.specs.Columns.{AreRows}
 use Rattle.textwrap_calls.specs.Options.{algorithm_of, Divides, separator_of, settings_of, splitter_of}
 use Rattle.textwrap_calls.specs.declared.columns.TextwrapGaps.{TextwrapGaps}
@@ -116,11 +116,11 @@ module _ (o : TextwrapOptions) (gaps : TextwrapGaps) (columns : ℕ) (some : 1 �
         bounded.bytes,
       )
 
-  pub rows-fit : (bound : ℕ) → bound ≡ capped (rows_bound len columns)
+  pub rows-fit : (bound : ℕ) → bound ≡ as_len (rows_bound len columns)
       → Suffices bound (length lines)
   rows-fit bound is = within-limit (length lines) (rows_bound len columns) bound rows-within is
 
-  pub rows_room-fits : (bound : ℕ) → bound ≡ capped (columns_room_bound o gaps len columns)
+  pub rows_room-fits : (bound : ℕ) → bound ≡ as_len (columns_room_bound o gaps len columns)
       → Suffices bound (length (built_text lines))
   rows_room-fits bound is =
       within-limit (length (built_text lines)) (columns_room_bound o gaps len columns) bound

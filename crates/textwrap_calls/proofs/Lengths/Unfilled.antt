@@ -19,7 +19,7 @@ use Rattle.textwrap.specs.Refilling.{added_ending, unfilled_ending}
 use Rattle.textwrap.specs.Refilling.{unfilled_text, detected_ending}
 use Rattle.textwrap.proofs.Text.CommonPrefixes.{common_prefix-begins}
 use Rattle.textwrap.proofs.Text.Prefixes.{line_prefix-begins}
-use Rattle.textwrap_calls.specs.Bounds.{capped, ForTextsOf, Suffices}
+use Rattle.textwrap_calls.specs.Bounds.{as_len, ForTextsOf, Suffices}
 use Rattle.textwrap.specs.Refilling.{unfilled_parts}
 use Rattle.textwrap_calls.proofs.Lengths.TextLines.{ended_length, final_feed, lines-length, feed-within}
 use Rattle.textwrap_calls.proofs.Lengths.Limit.{within-limit}
@@ -104,7 +104,7 @@ unfilled-length text =
       length-append (unfilled_text text ++ initial) subsequent,
     )
 
-pub unfilled-fits : (len bound : ℕ) → bound ≡ capped (2 * len)
+pub unfilled-fits : (len bound : ℕ) → bound ≡ as_len (2 * len)
     → ForTextsOf len (λ text. Suffices bound (length (unfilled_parts text)))
 unfilled-fits len bound is text utf8 len_is =
     within-limit (length (unfilled_parts text)) (2 * len) bound

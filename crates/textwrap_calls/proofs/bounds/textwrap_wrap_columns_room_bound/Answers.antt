@@ -1,10 +1,10 @@
 use Rattle.textwrap_calls.proofs.bounds.textwrap_wrap_columns_room_bound.Goals as goal
-use Rattle.textwrap_calls.proofs.Lengths.Limit.{sum-capped}
+use Rattle.textwrap_calls.proofs.Lengths.Limit.{sum-as_len}
 use Rattle.textwrap_calls.proofs.Lengths.Rows.{rows_room-fits}
 
 pub returns-clause-value : goal.returns-clause-value
 returns-clause-value c =
-    sum-capped _ _ _ _ _ _ _ _ c.textwrap_wrap_columns_rows_bound.ensures.value
+    sum-as_len _ _ _ _ _ _ _ _ c.textwrap_wrap_columns_rows_bound.ensures.value
     c.gaps_and_columns.ensures c.bytes_and_indents.ensures c.saturating_mul.ensures
     c.saturating_add.ensures
 

@@ -3,7 +3,6 @@ ghost use Rattle.std.specs.Prelude.{◌≡◌, ◌≤◌, ◌∷◌, [], ℕ, Li
 ghost use Rattle.std.specs.Prelude.{alloc_error, false, if◌then◌else◌, map, string_bytes, true};
 ghost use Rattle.textwrap.specs.Columns.{IsInColumns};
 ghost use Rattle.textwrap.specs.Filling.{IsFilled};
-ghost use Rattle.textwrap.specs.Options.{settings_view};
 ghost use Rattle.textwrap.specs.Paragraph.{is_whole, line_view};
 ghost use Rattle.textwrap.specs.Refilling.{IsRefilled};
 ghost use Rattle.textwrap.specs.Text.{ArePrintedWithin, CanKeepToWidth, IsWrapped, LinesKeepToWidth};
@@ -18,11 +17,11 @@ use crate::options::{PlainOptions, PlainSeparator};
 use std::alloc::Global;
 use std::borrow::CowStr;
 use textwrap::word_separators::LineCuts;
-use textwrap::{Options, WordSeparator, WrapError};
-use textwrap_lines::inner::{is_one_line, whole_line};
+use textwrap::{LineEnding, WordSeparator, WrapError};
 use textwrap_lines::parts::split_paragraph;
 use textwrap_unicode::{Numbers, unicode_cuts, unicode_cuts_by_expression};
-use textwrap_words::inner::LentText;
+use textwrap_words::blanks::split_final_blanks;
+use textwrap_words::inner::{LentText, is_printable};
 
 /// Wraps a text and returns its lines, as `wrap` of `textwrap` does it.
 ///
@@ -115,33 +114,48 @@ pub fn fill_into(
     ensures kept { IfErr result (λ _. room.new ≡ room.old) }
     ensures only_memory { IfErr result (λ error. error ≡ WrapError.Memory alloc_error) }
 {
-    let at_blanks = options.at_blanks();
-    if let Some(line) = only_line(text, &at_blanks) {
+    if let Some(line) = only_line(text, options) {
         return Ok(write_over(room, line));
     }
     if options.are_direct() {
-        return textwrap_lines::inner::fill_into(alloc, text, &at_blanks, room);
+        return textwrap_lines::inner::fill_into(alloc, text, &options.at_blanks(), room);
     }
     let filled = fill(alloc, text, options)?;
     Ok(write_over(room, &filled))
 }
 
 /// The line of a text that is one as a whole. What its words are makes no difference then.
-fn only_line<'t>(text: &'t str, options: &Options<'_>) -> Option<&'t str>
+fn only_line<'t>(text: &'t str, options: &PlainOptions<'_>) -> Option<&'t str>
     ensures one { IfSome result (λ _.
         paragraphs_of options.now.line_ending text.now ≡ text.now ∷ []) }
-    ensures whole { IfSome result (λ _. is_whole (settings_view options.now) false text.now ≡ true) }
+    ensures whole { IfSome result (λ _. is_whole (settings_of options.now) false text.now ≡ true) }
     ensures line { IfSome result (λ line. line.now ≡ (if options.now.preserve_trailing_space
         then text.now else without_final_blanks text.now)) }
 {
-    // A long text is told by its length.
-    if !is_one_line(text, options, false) {
+    if !options.initial_indent.is_empty() || text.len() >= options.width {
         return None;
     }
-    let (_, after) = split_paragraph(text, options.line_ending);
+    if !is_one_paragraph(text, options.line_ending) {
+        return None;
+    }
+    if options.preserve_trailing_space {
+        return Some(text);
+    }
+    Some(split_final_blanks(text).0)
+}
+
+/// Whether a text has no line ending.
+fn is_one_paragraph(text: &str, line_ending: LineEnding) -> bool
+    ensures { result ≡ true → paragraphs_of line_ending text.now ≡ text.now ∷ [] }
+{
+    // Printable ASCII has none, and is told many bytes at a time.
+    if is_printable(text.as_bytes()) {
+        return true;
+    }
+    let (_, after) = split_paragraph(text, line_ending);
     match after {
-        Some(_) => None,
-        None => Some(whole_line(text, options)),
+        Some(_) => false,
+        None => true,
     }
 }
 

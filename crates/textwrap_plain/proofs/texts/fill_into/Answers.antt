@@ -1,6 +1,5 @@
 use Rattle.textwrap_plain.proofs.texts.fill_into.Goals as goal
-use Rattle.textwrap_base.proofs.Common.{refl, subst}
-use Rattle.textwrap_lines.proofs.Common.{IsFilled, settings_view}
+use Rattle.textwrap_base.proofs.Common.{refl}
 use Rattle.textwrap_plain.proofs.OnlyLine.{only-filled}
 use Rattle.std.proofs.lemmas.Result.{IfOk-weaker}
 use Rattle.textwrap_plain.proofs.Parts.{filled-at}
@@ -14,9 +13,8 @@ returns-in-Some-clause-filled c =
     let text = c.args.text.now in
     let line = c.in-Some.line.now in (
       line,
-      subst (λ s. IsFilled s Divides text line) c.at_blanks-at_blanks.ensures.settings_are
-          (only-filled (settings_view c.at_blanks-at_blanks.result) Divides text line
-          c.in-Some.ensures.one c.in-Some.ensures.whole c.in-Some.ensures.line),
+      only-filled (settings_of o) Divides text line c.in-Some.ensures.one c.in-Some.ensures.whole
+          c.in-Some.ensures.line,
       c.write_over.ensures.len,
       c.write_over.ensures.room,
     )
@@ -24,10 +22,10 @@ returns-in-Some-clause-filled c =
 pub returns-then-are_direct-clause-filled : goal.returns-then-are_direct-clause-filled
 returns-then-are_direct-clause-filled c =
     let o = c.args.options.now in
-    let options = c.at_blanks-at_blanks.result in
+    let options = c.at_blanks.result in
     let blanks = (c.are_direct.ensures.0 c.if-are_direct.true).0 in
-    let parts = parts-separated o options options options.word_separator c.at_blanks-at_blanks.ensures refl refl
-    refl refl (separates-blanks _ _ c.at_blanks-at_blanks.ensures.separator blanks) in
+    let parts = parts-separated o options options options.word_separator c.at_blanks.ensures refl refl
+    refl refl (separates-blanks _ _ c.at_blanks.ensures.separator blanks) in
     IfOk-weaker c.fill_into.result _ _ (λ len (filled, is, len_is, room). (
       filled,
       filled-at options (words_by o.word_separator) (settings_of o) (splitter_of o)

@@ -1,7 +1,7 @@
 //! What is written for a caller in C.
 ghost use Rattle.textwrap.specs.Filling.{IsFilled};
 ghost use Rattle.textwrap_calls.specs.Options.{Divides, settings_of};
-ghost use Rattle.textwrap_calls.specs.Room.{WritesText};
+ghost use Rattle.textwrap_calls.specs.Room.{WritesLong};
 ghost use Rattle.textwrap_calls.specs.Wrapping.{WritesLines};
 ghost use Rattle.textwrap_lines.specs.Places.{ArePlacedLines};
 
@@ -18,7 +18,7 @@ pub fn written_text(
     room: &mut [u8],
     len: &mut usize,
 ) -> u32
-    ensures filled { WritesText (IsFilled (settings_of options.now) (Divides options.now (settings_of options.now)) text.now)
+    ensures filled { WritesLong (IsFilled (settings_of options.now) (Divides options.now (settings_of options.now)) text.now)
         result room.old room.new len.old len.new }
 {
     textwrap_fill(alloc, text, options, room, len)

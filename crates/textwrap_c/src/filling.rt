@@ -4,7 +4,7 @@ ghost use Rattle.textwrap.specs.Filling.{IsFilled};
 ghost use Rattle.textwrap.specs.InPlace.{IsFilledInPlace};
 ghost use Rattle.textwrap_calls.specs.Options.{settings_of, AreKnown, Divides};
 ghost use Rattle.textwrap_calls.specs.Options.{AreTexts};
-ghost use Rattle.textwrap_calls.specs.Room.{WritesText};
+ghost use Rattle.textwrap_calls.specs.Room.{WritesLong};
 ghost use Rattle.textwrap_calls.specs.Status.{done, not_utf8, out_of_memory, unknown_options};
 
 use std::alloc::Global;
@@ -20,7 +20,7 @@ pub extern "C" fn textwrap_fill(
     room: &mut [u8],
     len: &mut usize,
 ) -> u32
-    ensures filled { WritesText (IsFilled (settings_of options.now) (Divides options.now (settings_of options.now)) text.now)
+    ensures filled { WritesLong (IsFilled (settings_of options.now) (Divides options.now (settings_of options.now)) text.now)
         result room.old room.new len.old len.new }
     ensures unknown { result ≡ unknown_options ↔ ¬ AreKnown options.now }
     ensures not_utf8 { result ≡ not_utf8 ↔ AreKnown options.now

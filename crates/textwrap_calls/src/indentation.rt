@@ -1,7 +1,7 @@
 //! Indenting and dedenting a text.
 ghost use Rattle.std.specs.Prelude.{◌≡◌, ◌≢◌, ◌≤◌, ◌↔◌, IsUtf8};
 ghost use Rattle.textwrap.specs.Indentation.{indented, dedented};
-ghost use Rattle.textwrap_calls.specs.Room.{WritesText};
+ghost use Rattle.textwrap_calls.specs.Room.{WritesLong, WritesText};
 ghost use Rattle.textwrap_calls.specs.Status.{not_utf8, out_of_memory, too_small};
 
 use crate::room::report;
@@ -12,7 +12,7 @@ use textwrap::inner::{dedent_into, indent_into};
 /// Writes the text with a prefix before each line, as `textwrap_fill` writes a filled one. It allocates
 /// nothing.
 pub fn textwrap_indent(text: &[u8], prefix: &[u8], room: &mut [u8], len: &mut usize) -> u32
-    ensures indented { WritesText (λ answer. answer ≡ indented prefix.now text.now)
+    ensures indented { WritesLong (λ answer. answer ≡ indented prefix.now text.now)
         result room.old room.new len.old len.new }
     ensures not_utf8 { result ≡ not_utf8 ↔ ¬ (IsUtf8 text.now × IsUtf8 prefix.now) }
     ensures no_memory { result ≢ out_of_memory }

@@ -83,7 +83,7 @@ indents-length (l ∷ m ∷ ls) =
 
 -- ---- all of it
 
-unfilled-length : (text : List ℕ) → length (unfilled_parts text) ≤ 2 * length text
+pub unfilled-length : (text : List ℕ) → length (unfilled_parts text) ≤ 2 * length text
 unfilled-length text =
     let initial = unfilled_initial text in
     let subsequent = unfilled_subsequent text in

@@ -1,0 +1,16 @@
+use Rattle.textwrap_calls.proofs.indentation.textwrap_dedent.Goals as goal
+use Rattle.textwrap_base.proofs.Common.{ap, arith, length, rules}
+use Rattle.textwrap.specs.Indentation.{dedented}
+use Rattle.textwrap_calls.proofs.Lengths.Dedented.{dedented-length}
+use Rattle.textwrap_calls.proofs.RoomLemmas.{written-exactly}
+
+pub returns-clause-dedented : goal.returns-clause-dedented
+returns-clause-dedented c =
+    let text = c.in-Ok.text.now in
+    let into = c.dedent_into-answer in
+    let same = ap length c.in-Ok.ensures.0 in
+    let short = dedented-length text (rw c.in-Ok.ensures.0 c.in-Ok.ensures.1) in
+    rw c.in-Ok.ensures.0 at (written-exactly (dedented text) c.report.result c.args.room.now
+    into.new.room c.args.len.now c.report.new.len (length into.new.room) into.result
+    (omega (arith, short, same)) into.ensures.len into.ensures.room (search rules)
+    c.report.ensures.len c.report.ensures.small c.report.ensures.statuses)

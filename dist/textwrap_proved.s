@@ -3,7 +3,7 @@
 # Made by tools/dist; what the calls are, bindings/c/textwrap_proved.h says.
 # proved and compiled with: rattle-kit-13f logic dac8208d650f15bf
 # crates: textwrap_base textwrap_words textwrap_lines textwrap textwrap_steps textwrap_unicode textwrap_display textwrap_plain textwrap_calls textwrap_c
-# sum of their sources: 3fe5103b9495800d7466af323af6920345bc731758c224846119523289648c98
+# sum of their sources: 42826b15e801db676e51d98115100509068050703db58b4a9371e0ec437b8d43
 # sum of the lines below: c5da3eab9efa25a20b7332091a1fd520315caaf7ac6d0550e103d0384f7693dc
 	.section	.rodata.cst16,"aM",@progbits,16
 	.p2align	4, 0x0

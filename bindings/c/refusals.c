@@ -239,6 +239,11 @@ static textwrap_status filled_at_breaks(struct lent *lent) {
     return textwrap_fill(bytes("foo bar baz"), 11, &o, lent->room, sizeof lent->room, &lent->len);
 }
 
+static textwrap_status one_line_at_breaks(struct lent *lent) {
+    textwrap_options o = at_breaks(80);
+    return textwrap_fill(bytes("foo bar baz"), 11, &o, lent->room, sizeof lent->room, &lent->len);
+}
+
 static textwrap_status wrapped_at_breaks(struct lent *lent) {
     textwrap_options o = at_breaks(5);
     o.optimal_fit = 0;
@@ -370,6 +375,7 @@ struct call {
 static const struct call DIRECT[] = {
     {"fill by first fit", by_first_fit},
     {"fill by first fit, with an indent", by_first_fit_indented},
+    {"fill of one line at Unicode line breaks", one_line_at_breaks},
     {"unfill", unfilled},
     {"indent", indented},
     {"dedent", dedented},

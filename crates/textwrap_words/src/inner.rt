@@ -8,7 +8,7 @@ pub use crate::pieces::{BuiltInSplitter, Piece, Pieces, next_piece};
 pub use crate::printable::is_printable;
 use crate::word_separators::Words;
 pub use crate::word_separators::words::{first_chunk, words_between};
-pub use crate::word_splitters::cut_lines::split_at_cuts;
+pub use crate::word_splitters::cut_lines::{given_cuts, split_at_cuts};
 pub use crate::word_splitters::pieces::{push_measured, push_split};
 pub use crate::words::breaking::stay_whole;
 pub use crate::wrap_algorithms::at_ends::lines_between;

@@ -1,7 +1,7 @@
 //! The words of a line that a function of the caller cuts, split, without a list of the words.
 ghost use Rattle.std.specs.Prelude.{◌≡◌, ℕ, List, ◌++◌, map, IfOk, OnOk};
-ghost use Rattle.textwrap_words.specs.Cuts.{AreCuts, parts_between};
-ghost use Rattle.textwrap_words.specs.WordSeparators.{MaySeparate};
+ghost use Rattle.textwrap_words.specs.Cuts.{AreCuts, AreInnerCuts, parts_between};
+ghost use Rattle.textwrap_words.specs.WordSeparators.{MayCut, MaySeparate};
 ghost use Rattle.textwrap_words.specs.WordSplitters.{AreSplit, MaySplit, split_pieces};
 ghost use Rattle.textwrap_words.specs.declared.word_separators.WordSeparator.TheVariants.{Custom};
 ghost use Rattle.textwrap_words.specs.Words.{WordText, word_of, word_view};
@@ -11,6 +11,18 @@ use super::pieces::push_measured;
 use crate::word_separators::LineCuts;
 use crate::words::Word;
 use std::alloc::{AllocError, Allocator};
+
+/// Where the function of a caller cuts a line.
+///
+/// # Errors
+/// [`AllocError`] where memory runs out, or the function says so.
+pub fn given_cuts(line_cuts: LineCuts, line: &str) -> Result<Vec<usize>, AllocError>
+    ensures given { IfOk result (λ cuts. MayCut line_cuts line.now cuts.items) }
+    ensures inner { IfOk result (λ cuts. AreInnerCuts line.now cuts.items) }
+{
+    let cuts = (line_cuts.function)(line_cuts.alloc, line)?;
+    Ok(cuts)
+}
 
 /// The pieces of a line: its words where the caller's function cuts it, split.
 ///
@@ -26,7 +38,7 @@ pub fn split_at_cuts<'a, A: Allocator + Copy>(
         × MaySeparate (Custom line_cuts) line.now words
         × AreSplit (MaySplit word_splitter.now) words (map word_view pieces.items)) }
 {
-    let cuts = (line_cuts.function)(line_cuts.alloc, line)?;
+    let cuts = given_cuts(line_cuts, line)?;
     let pieces = split_parts(alloc, line, &cuts, word_splitter)?;
     Ok(pieces)
 }

@@ -1,27 +1,20 @@
 use Rattle.textwrap_words.proofs.word_splitters.cut_lines.split_at_cuts.Goals as goal
 use Rattle.textwrap_base.proofs.Common.{refl, map, sym, subst}
 use Rattle.textwrap_words.proofs.Common.{word_view, word_of, AreCuts, AreSplit, MaySplit, parts_between}
-use Rattle.textwrap_words.proofs.Word.GivenCuts.{MayCut-cuts}
 use Rattle.textwrap_words.proofs.Word.Parts.{inner-cuts}
 
 pub split_parts-requires : goal.split_parts-requires
 split_parts-requires g c =
     let line = c.args.line.now in
     subst (AreCuts line) (sym c.deref.ensures.value)
-    (inner-cuts line c.in_ok-cuts.cuts.items
-    (MayCut-cuts c.args.line_cuts line c.in_ok-cuts.cuts.items c.utf8.line
-    (c.args.line_cuts.alloc, c.args.line, c.in_ok-cuts.cuts, refl, refl, c.in_ok-cuts.ensures.0)))
+    (inner-cuts line c.in_ok-cuts.cuts.items c.in_ok-cuts.ensures.inner)
 
 pub returns : goal.returns
 returns g c =
     let cuts = c.in_ok-cuts.cuts in
     let line = c.args.line.now in (
       map word_of (parts_between cuts.items line),
-      (
-        cuts.items,
-        (c.args.line_cuts.alloc, c.args.line, cuts, refl, refl, c.in_ok-cuts.ensures.0),
-        refl,
-      ),
+      (cuts.items, c.in_ok-cuts.ensures.given, refl),
       subst (λ places. AreSplit (MaySplit c.args.word_splitter.now)
           (map word_of (parts_between places line)) (map word_view c.in_ok-pieces.pieces.items))
           c.deref.ensures.value c.in_ok-pieces.ensures,

@@ -8,7 +8,7 @@ pub use Rattle.textwrap_lines.specs.Options.{HasParts, HasPartsAt, MayOverflow, 
 pub use Rattle.textwrap_lines.specs.Options.{layout_view, settings_view}
 pub use Rattle.textwrap_lines.specs.Paragraph.{AreDividedParts, AreIndented, AreParagraphParts}
 pub use Rattle.textwrap_lines.specs.Paragraph.{ArePieces, assembled_line, broken_pieces_of, covered}
-pub use Rattle.textwrap_lines.specs.Paragraph.{DividesAs, DividesAt, pieces_by}
+pub use Rattle.textwrap_lines.specs.Paragraph.{DividesAs, DividesAt, pieces_by, pieces_from}
 pub use Rattle.textwrap_lines.specs.Paragraph.{DividesBy, empty_word, first_width, front_pieces}
 pub use Rattle.textwrap_lines.specs.Paragraph.{indent_of, is_whole, IsDividedInto, IsOneCharacter}
 pub use Rattle.textwrap_lines.specs.Paragraph.{keeps_whitespace, KeepsToWidth, KeepToWidths}

@@ -1,5 +1,6 @@
 pub mod BuiltIn
 pub mod Covered
+pub mod CutPieces
 pub mod EndingLine
 pub mod EndsAs
 pub mod EvenLines

@@ -1,9 +1,16 @@
 -- What is divided without a list of words.
-use Rattle.std.specs.Prelude.{◌≡◌, ◌≢◌, None}
-use Rattle.textwrap_words.specs.WordSplitters.{splitter_view}
-use Rattle.textwrap_words.specs.WrapAlgorithms.{Algorithm, Greedy, LeastCost}
+use Rattle.std.specs.Prelude.{◌≡◌, ◌≢◌, ℕ, IfSome, List, None, Option, Some, map}
+use Rattle.std.specs.Option.{option_map}
+use Rattle.textwrap_words.specs.Cuts.{AreInnerCuts, parts_between}
+use Rattle.textwrap_words.specs.Pieces.{as_splitter}
+use Rattle.textwrap_words.specs.WordSplitters.{Splitter, splitter_view}
+use Rattle.textwrap_words.specs.Words.{WordText, word_of, words_of}
+use Rattle.textwrap_words.specs.WrapAlgorithms.{Algorithm, Greedy, LeastCost, algorithm_view}
+use Rattle.textwrap_lines.specs.Options.{Settings}
+use Rattle.textwrap_lines.specs.Paragraph.{pieces_from}
 use Rattle.textwrap_lines.specs.declared.any_options.BuiltInAlgorithm as algorithms
 use Rattle.textwrap_lines.specs.declared.options.Options.{Options}
+use Rattle.textwrap_lines.specs.declared.layout.Cuts.{Cuts}
 use Rattle.textwrap_words.specs.declared.word_separators.WordSeparator.TheVariants.{AsciiSpace}
 use Rattle.textwrap_words.specs.declared.wrap_algorithms.WrapAlgorithm.TheVariants.{FirstFit}
 
@@ -17,3 +24,28 @@ pub record IsDirect {E C : Type 0} {e : _} {c : _} (o : Options E C e c) : Type 
   pub separator : o.word_separator ≡ AsciiSpace
   pub splitter : splitter_view o.word_splitter ≢ None
   pub algorithm : o.wrap_algorithm ≡ FirstFit
+
+-- ---- where a paragraph is cut
+
+-- its words: between these cuts, or between blanks where none are given
+abbrev pub words_cut : Option (List ℕ) → List ℕ → List WordText
+words_cut None paragraph = words_of paragraph
+words_cut (Some cuts) paragraph = map word_of (parts_between cuts paragraph)
+
+-- the paragraph can be cut there
+abbrev pub CanBeCut : Option (List ℕ) → List ℕ → Type 0
+CanBeCut cuts paragraph = IfSome cuts (AreInnerCuts paragraph)
+
+abbrev pub places_of : Cuts → Option (List ℕ)
+places_of cuts = option_map (λ places. places.now) cuts.words
+
+-- its pieces
+abbrev pub pieces_cut : Settings → Cuts → List ℕ → List WordText
+pieces_cut settings cuts paragraph =
+    pieces_from settings (as_splitter cuts.splitter) (words_cut (places_of cuts) paragraph)
+
+-- these are the splitter and the algorithm, both built in
+pub record HasMethods {E C : Type 0} {e : _} {c : _} (o : Options E C e c) (splitter : Splitter)
+    (algorithm : Algorithm) : Type 0 where
+  pub splitter_is : splitter_view o.word_splitter ≡ Some splitter
+  pub algorithm_is : algorithm_view o.wrap_algorithm ≡ Some algorithm

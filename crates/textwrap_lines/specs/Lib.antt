@@ -8,6 +8,7 @@ pub mod LineEnding
 pub mod LineSinks
 pub mod Options
 pub mod Paragraph
+pub mod PiecesLeft
 pub mod Places
 pub mod Printable
 pub mod Spans

@@ -13,8 +13,8 @@ pub(crate) enum BuiltInAlgorithm {
     LeastCost(Penalties),
 }
 
-/// How a paragraph is divided, where its words stand between blanks and no function of a caller
-/// says where they are split or lines end.
+/// How a paragraph is divided, where no function of a caller says where its words are split or its
+/// lines end.
 #[derive(Clone, Copy)]
 pub(crate) struct BuiltInParts {
     pub(crate) splitter: BuiltInSplitter,
@@ -23,20 +23,24 @@ pub(crate) struct BuiltInParts {
 
 /// What the lines of a text are found by, beside the text.
 pub(crate) trait AnyOptions<A: Allocator> {
-    ghost use Rattle.std.specs.Prelude.{◌≡◌, ◌<◌, ◌^◌, ℕ, Bool, List, map, length};
-    ghost use Rattle.std.specs.Prelude.{IfOk, IfErr, IfSome, IsSomeAnd, alloc_error};
+    ghost use Rattle.std.specs.Prelude.{◌≡◌, ◌<◌, ◌^◌, ℕ, Bool, List, None, map, length};
+    ghost use Rattle.std.specs.Prelude.{IfOk, IsOkAnd, IfErr, IfSome, IsSomeAnd, alloc_error};
+    ghost use Rattle.std.specs.Option.{option_map};
     ghost use Rattle.std.specs.Io.{StartsWith};
     ghost use Rattle.std.specs.List.{flat_map};
     ghost use Rattle.std.specs.Str.{IsUtf8};
     ghost use Rattle.textwrap_words.specs.Pieces.{as_splitter};
     ghost use Rattle.textwrap_words.specs.WrapAlgorithms.{IsDividedBy};
     ghost use Rattle.textwrap_words.specs.Words.{WordText, Tiles, sizes_of, tiled, word_view};
-    ghost use Rattle.textwrap_lines.specs.Direct.{as_algorithm};
+    ghost use Rattle.textwrap_lines.specs.Direct.{CanBeCut, as_algorithm, words_cut};
     ghost use Rattle.textwrap_lines.specs.Options.{Settings, layout_view};
-    ghost use Rattle.textwrap_lines.specs.Paragraph.{pieces_of, widths_of};
+    ghost use Rattle.textwrap_lines.specs.Paragraph.{pieces_from, widths_of};
 
     // What they say, but for the algorithm, the separator and the splitter.
     ghost settings: { Self → Settings };
+
+    // The words that they may cut a paragraph into.
+    ghost may_separate: { Self → List ℕ → List WordText → Type 0 };
 
     // The pieces that they may cut a paragraph into.
     ghost has_pieces: { Self → List ℕ → List WordText → Type 0 };
@@ -49,22 +53,35 @@ pub(crate) trait AnyOptions<A: Allocator> {
 
     ghost may_pass: { Self → List ℕ → Type 0 };
 
-    // Whether their parts are built in, and lines are found by first fit.
+    // Whether their parts are built in, words stand between blanks, and lines are found by first fit.
     ghost is_direct: { Self → Type 0 };
 
     /// What they say, but for the algorithm, the separator and the splitter.
     fn layout(&self) -> Layout<'_>
         ensures { layout_view result ≡ settings self.now };
 
-    /// The algorithm and the splitter, if they are built in and words stand between blanks.
+    /// The algorithm and the splitter, if they are built in.
     fn built_in_parts(&self) -> Option<BuiltInParts>
         ensures parts { IfSome result (λ parts. (is_later : Bool) (paragraph : List ℕ)
-            (division : List (List WordText)) → IsDividedBy (as_algorithm parts.algorithm) sizes_of
+            (words : List WordText) (division : List (List WordText))
+            → may_separate self.now paragraph words
+            → IsDividedBy (as_algorithm parts.algorithm) sizes_of
             (widths_of (settings self.now) is_later)
-            (pieces_of (settings self.now) (as_splitter parts.splitter) paragraph) division
+            (pieces_from (settings self.now) (as_splitter parts.splitter) words) division
             → divides self.now is_later paragraph division) }
         ensures first_fit { is_direct self.now
             → IsSomeAnd result (λ parts. parts.algorithm ≡ BuiltInAlgorithm.FirstFit) };
+
+    /// Where the words of a paragraph end but the last, if they do not stand between blanks.
+    ///
+    /// # Errors
+    /// [`AllocError`] where memory runs out, or a function of the caller says so.
+    fn word_cuts(&self, paragraph: &str) -> Result<Option<Vec<usize>>, AllocError>
+        ensures words { IfOk result (λ found. may_separate self.now paragraph.now
+            (words_cut (option_map (λ cuts. cuts.items) found) paragraph.now)) }
+        ensures cuts { IfOk result (λ found. CanBeCut (option_map (λ cuts. cuts.items) found)
+            paragraph.now) }
+        ensures direct { is_direct self.now → IsOkAnd result (λ found. found ≡ None) };
 
     /// The pieces of a paragraph that are divided.
     ///

@@ -7,23 +7,22 @@ ghost use Rattle.textwrap_base.specs.Division.{IsDivision};
 ghost use Rattle.textwrap_base.specs.OptimalFit.{IsByOptimalFit};
 ghost use Rattle.textwrap_base.specs.Queue.{SuitQueue};
 ghost use Rattle.textwrap_base.specs.Table.{fragment_costs, FollowStarts, IsByTable};
-ghost use Rattle.textwrap_words.specs.Pieces.{as_splitter};
 ghost use Rattle.textwrap_words.specs.Words.{WordText, sizes_of};
 ghost use Rattle.textwrap_lines.specs.Cheapest.{SuitSearch};
+ghost use Rattle.textwrap_lines.specs.Direct.{CanBeCut, pieces_cut, places_of};
 ghost use Rattle.textwrap_lines.specs.LineSinks.{Took};
 ghost use Rattle.textwrap_lines.specs.Options.{layout_view};
-ghost use Rattle.textwrap_lines.specs.Paragraph.{parts_from, pieces_of, widths_of};
+ghost use Rattle.textwrap_lines.specs.Paragraph.{parts_from, widths_of};
 ghost use Rattle.textwrap_lines.specs.Places.{cut_lines};
 ghost use Rattle.textwrap_lines.specs.Spans.{AreSpans, HaveTexts, MayBeLast, span_line, span_lines};
 ghost use Rattle.textwrap_lines.specs.Spans.{span_priced};
 
-use crate::layout::{Layout, line_widths, next_indent};
+use crate::layout::{Cuts, Layout, line_widths, next_indent};
 use crate::line_sinks::LineSink;
 use crate::spans::{Span, find_spans};
 use std::alloc::{AllocError, Allocator};
 use textwrap_base::inner::{line_cost, lines_by};
 use textwrap_base::minima::{CostSource, is_queue_case, queue_search};
-use textwrap_words::inner::BuiltInSplitter;
 use textwrap_words::words::Word;
 use textwrap_words::wrap_algorithms::Penalties;
 
@@ -50,8 +49,8 @@ pub(crate) fn suits_search(
         && is_queue_case(&none, &[first_width, later_width], penalties)
 }
 
-/// Pushes the lines of least cost of a paragraph, with words split by the splitter. `is_later` says
-/// that a line stands before it.
+/// Pushes the lines of least cost of a paragraph that is cut there. `is_later` says that a line stands
+/// before it.
 ///
 /// # Errors
 /// [`AllocError`] where memory runs out.
@@ -60,10 +59,11 @@ pub(crate) fn push_cheapest_lines<'t, A: Allocator + Copy, S: LineSink<'t, A>>(
     paragraph: &'t str,
     layout: &Layout<'_>,
     is_later: bool,
-    splitter: BuiltInSplitter,
+    cuts: &Cuts<'_>,
     penalties: &Penalties,
     lines: &mut S,
 ) -> Result<(), AllocError>
+    requires cuts { CanBeCut (places_of cuts.now) paragraph.now }
     requires some { 0 < length paragraph.now }
     requires suits { SuitSearch (length paragraph.now)
         (widths_of (layout_view layout.now) is_later) penalties.now }
@@ -71,11 +71,11 @@ pub(crate) fn push_cheapest_lines<'t, A: Allocator + Copy, S: LineSink<'t, A>>(
     ensures took { OnOk result ((division : List (List WordText))
         × IsByOptimalFit (λ w. priced_at penalties.now (sizes_of w)) penalties.now
         (widths_of (layout_view layout.now) is_later)
-        (pieces_of (layout_view layout.now) (as_splitter splitter) paragraph.now) division
+        (pieces_cut (layout_view layout.now) cuts.now paragraph.now) division
         × Took S.holds lines.old lines.new (cut_lines 0
         (parts_from (layout_view layout.now) is_later division))) }
 {
-    let spans = find_spans(alloc, paragraph, layout, splitter)?;
+    let spans = find_spans(alloc, paragraph, layout, cuts)?;
     let (first_width, later_width) = line_widths(layout, is_later);
     let division = cheapest_lines(alloc, &spans, &[first_width, later_width], penalties)?;
     push_lines(alloc, paragraph, &division, layout, is_later, lines)

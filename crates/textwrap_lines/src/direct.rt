@@ -9,9 +9,10 @@ ghost use Rattle.textwrap_words.specs.Pieces.{as_splitter};
 ghost use Rattle.textwrap_words.specs.Units.{IsPrintable};
 ghost use Rattle.textwrap_words.specs.Words.{WordText, sizes_of};
 ghost use Rattle.textwrap_words.specs.WrapAlgorithms.{IsDividedBy};
-ghost use Rattle.textwrap_lines.specs.Direct.{IsDirect, as_algorithm};
+ghost use Rattle.textwrap_lines.specs.Direct.{CanBeCut, HasMethods, IsDirect, as_algorithm, pieces_cut};
+ghost use Rattle.textwrap_lines.specs.Direct.{places_of};
 ghost use Rattle.textwrap_lines.specs.LineSinks.{Took};
-ghost use Rattle.textwrap_lines.specs.Options.{HasParts, layout_view, settings_view};
+ghost use Rattle.textwrap_lines.specs.Options.{layout_view};
 ghost use Rattle.textwrap_lines.specs.Paragraph.{later_width, parts_from, pieces_of};
 ghost use Rattle.textwrap_lines.specs.Paragraph.{widths_of};
 ghost use Rattle.textwrap_lines.specs.Places.{cut_lines};
@@ -19,25 +20,24 @@ ghost use Rattle.textwrap_lines.specs.Places.{cut_lines};
 use crate::any_options::{BuiltInAlgorithm, BuiltInParts};
 use crate::cheapest::{push_cheapest_lines, suits_search};
 use crate::first_line::push_first_line;
-use crate::layout::{Layout, later_width, line_widths};
+use crate::layout::{Cuts, Layout, later_width, line_widths};
 use crate::line_sinks::LineSink;
 use crate::options::Options;
 use crate::piece_lines::push_lines_by_pieces;
 use crate::printable::push_printable_lines;
 use std::alloc::{AllocError, Allocator};
 use textwrap_words::inner::{BuiltInSplitter, is_printable};
-use textwrap_words::word_separators::WordSeparator;
 use textwrap_words::word_splitters::WordSplitter;
 use textwrap_words::wrap_algorithms::WrapAlgorithm;
 
-/// Pushes the lines of the pieces of a paragraph by built-in parts, and returns whether it has; if
-/// not, it has pushed none. `is_later` says that a line stands before it.
+/// Pushes the lines of a paragraph that is cut there, by a built-in algorithm, and returns whether it
+/// has; if not, it has pushed none. `is_later` says that a line stands before it.
 ///
 /// This is where the way of a paragraph is chosen. What comes first in the table is taken:
 ///
 /// | Algorithm | Paragraph | Way |
 /// |---|---|---|
-/// | first fit | printable, with room beside the indent | [`push_by_jumps`] |
+/// | first fit | printable, cut at blanks, with room beside the indent | [`push_by_jumps`] |
 /// | first fit | any | [`push_lines_by_pieces`] |
 /// | least cost | not empty, no number too great | [`push_cheapest_lines`] |
 /// | least cost | any | not here: by lists of its words and pieces |
@@ -49,53 +49,52 @@ pub(crate) fn push_directly<'t, A: Allocator + Copy, S: LineSink<'t, A>>(
     paragraph: &'t str,
     layout: &Layout<'_>,
     is_later: bool,
-    parts: BuiltInParts,
+    cuts: &Cuts<'_>,
+    algorithm: BuiltInAlgorithm,
     lines: &mut S,
 ) -> Result<bool, AllocError>
+    requires { CanBeCut (places_of cuts.now) paragraph.now }
     ensures name { S.name lines.new ≡ S.name lines.old }
-    ensures done { S.never_fails → parts.algorithm ≡ BuiltInAlgorithm.FirstFit
+    ensures done { S.never_fails → algorithm ≡ BuiltInAlgorithm.FirstFit
         → IsOkAnd result (λ pushed. pushed ≡ true) }
     ensures pushed { IfOk result (λ pushed. IsTrue pushed → (division : List (List WordText))
-        × IsDividedBy (as_algorithm parts.algorithm) sizes_of
+        × IsDividedBy (as_algorithm algorithm) sizes_of
         (widths_of (layout_view layout.now) is_later)
-        (pieces_of (layout_view layout.now) (as_splitter parts.splitter) paragraph.now) division
+        (pieces_cut (layout_view layout.now) cuts.now paragraph.now) division
         × Took S.holds lines.old lines.new (cut_lines 0
         (parts_from (layout_view layout.now) is_later division))) }
     ensures kept { IfOk result (λ pushed. pushed ≡ false → lines.new ≡ lines.old) }
 {
-    let splitter = parts.splitter;
-    match parts.algorithm {
-        BuiltInAlgorithm::FirstFit if can_jump(paragraph, layout) => {
-            push_by_jumps(alloc, paragraph, layout, is_later, splitter, lines)?;
+    match algorithm {
+        BuiltInAlgorithm::FirstFit if cuts.words.is_none() && can_jump(paragraph, layout) => {
+            push_by_jumps(alloc, paragraph, layout, is_later, cuts.splitter, lines)?;
         }
         BuiltInAlgorithm::FirstFit => {
-            push_lines_by_pieces(alloc, paragraph, layout, is_later, splitter, lines)?;
+            push_lines_by_pieces(alloc, paragraph, layout, is_later, cuts, lines)?;
         }
         BuiltInAlgorithm::LeastCost(penalties) => {
             if !suits_search(paragraph, layout, is_later, &penalties) {
                 return Ok(false);
             }
             push_cheapest_lines(
-                alloc, paragraph, layout, is_later, splitter, &penalties, lines,
+                alloc, paragraph, layout, is_later, cuts, &penalties, lines,
             )?;
         }
     }
     Ok(true)
 }
 
-/// The built-in parts of options, if they have some and words stand between blanks.
+/// The splitter and the algorithm of options, if they are built in.
 pub(crate) fn built_in_parts(options: &Options<'_>) -> Option<BuiltInParts>
-    ensures parts { IfSome result (λ parts. HasParts options.now (settings_view options.now)
+    ensures parts { IfSome result (λ parts. HasMethods options.now
         (as_splitter parts.splitter) (as_algorithm parts.algorithm)) }
     ensures first_fit { IsDirect options.now
         → IsSomeAnd result (λ parts. parts.algorithm ≡ BuiltInAlgorithm.FirstFit) }
 {
-    let splitter = match (options.word_separator, options.word_splitter) {
-        (WordSeparator::AsciiSpace, WordSplitter::NoHyphenation) => BuiltInSplitter::NoHyphenation,
-        (WordSeparator::AsciiSpace, WordSplitter::HyphenSplitter) => {
-            BuiltInSplitter::HyphenSplitter
-        }
-        _ => return None,
+    let splitter = match options.word_splitter {
+        WordSplitter::NoHyphenation => BuiltInSplitter::NoHyphenation,
+        WordSplitter::HyphenSplitter => BuiltInSplitter::HyphenSplitter,
+        WordSplitter::Custom(_) => return None,
     };
     let algorithm = match options.wrap_algorithm {
         WrapAlgorithm::FirstFit => BuiltInAlgorithm::FirstFit,

@@ -1,6 +1,8 @@
 //! The widths and the indents that the lines of a paragraph have, where its words are broken, and its
 //! pieces.
 ghost use Rattle.std.specs.Prelude.{◌≡◌, [], if◌then◌else◌};
+ghost use Rattle.textwrap_lines.specs.Direct.{CanBeCut, pieces_cut, places_of};
+ghost use Rattle.textwrap_lines.specs.PiecesLeft.{left_standing};
 ghost use Rattle.textwrap_words.specs.Pieces.{as_splitter, empty_front, stand_from};
 ghost use Rattle.textwrap_words.specs.PiecesLeft.{standing_left};
 ghost use Rattle.textwrap_lines.specs.Layout.{break_limit, front_of};
@@ -10,7 +12,8 @@ ghost use Rattle.textwrap_lines.specs.Paragraph.{pieces_of};
 
 use crate::line_ending::LineEnding;
 use crate::options::Options;
-use textwrap_words::inner::{BuiltInSplitter, Pieces};
+use crate::cut_pieces::CutPieces;
+use textwrap_words::inner::{BuiltInSplitter, Piece, Pieces};
 use textwrap_words::words::display_width;
 
 /// The options but for the algorithm, the separator and the splitter. It holds no function.
@@ -123,4 +126,62 @@ pub(crate) fn has_front(layout: &Layout<'_>) -> bool
     ensures { (if result then empty_front else []) ≡ front_of (layout_view layout.now) }
 {
     layout.break_words && !layout.initial_indent.is_empty()
+}
+
+/// Where a paragraph is cut into pieces by built-in parts.
+#[derive(Clone, Copy)]
+pub(crate) struct Cuts<'c> {
+    /// Where its words end but the last, if they do not stand between blanks.
+    pub(crate) words: Option<&'c [usize]>,
+    /// Where they are split.
+    pub(crate) splitter: BuiltInSplitter,
+}
+
+/// The pieces of a paragraph, one after another.
+#[derive(Drop)]
+pub(crate) enum ParagraphPieces<'t, 'c> {
+    /// Of words between blanks.
+    AtBlanks(Pieces<'t>),
+    /// Of words between cuts.
+    AtCuts(CutPieces<'t, 'c>),
+}
+
+impl<'t, 'c> Iterator for ParagraphPieces<'t, 'c> {
+    ghost use Rattle.std.specs.Iterator.{YieldsFirstBy, item_count};
+    ghost use Rattle.textwrap_lines.specs.PiecesLeft.{left_standing};
+
+    type Item = Piece;
+
+    ghost next_gives = { YieldsFirstBy (λ piece. piece) left_standing };
+
+    ghost remaining = { item_count left_standing };
+
+    fn next(&mut self) -> Option<Piece> {
+        match self {
+            ParagraphPieces::AtBlanks(pieces) => pieces.next(),
+            ParagraphPieces::AtCuts(pieces) => pieces.next(),
+        }
+    }
+}
+
+/// The pieces that the lines of a paragraph are made of, where it is cut there.
+pub(crate) fn cut_paragraph<'t, 'c>(
+    paragraph: &'t str,
+    layout: &Layout<'_>,
+    cuts: &Cuts<'c>,
+) -> ParagraphPieces<'t, 'c>
+    requires { CanBeCut (places_of cuts.now) paragraph.now }
+    ensures { left_standing result
+        ≡ stand_from 0 (pieces_cut (layout_view layout.now) cuts.now paragraph.now) }
+{
+    let Some(words) = cuts.words else {
+        return ParagraphPieces::AtBlanks(paragraph_pieces(paragraph, layout, cuts.splitter));
+    };
+    ParagraphPieces::AtCuts(CutPieces::of(
+        paragraph,
+        words,
+        break_limit(layout),
+        cuts.splitter,
+        has_front(layout),
+    ))
 }

@@ -3,18 +3,18 @@
 ghost use Rattle.std.specs.Prelude.{◌≡◌, ℕ, ◌*◌, ◌^◌, ◌+◌, ◌<◌, ◌≤◌, List, [], ◌∷◌, length};
 ghost use Rattle.std.specs.Prelude.{IsCharBoundary, OnOk, IsOk};
 ghost use Rattle.textwrap_base.specs.Division.{IsGreedy};
-ghost use Rattle.textwrap_words.specs.Pieces.{as_splitter};
 ghost use Rattle.textwrap_words.specs.Words.{WordText, sizes_of};
+ghost use Rattle.textwrap_lines.specs.Direct.{CanBeCut, pieces_cut, places_of};
 ghost use Rattle.textwrap_lines.specs.LineSinks.{Took};
 ghost use Rattle.textwrap_lines.specs.Options.{layout_view};
-ghost use Rattle.textwrap_lines.specs.Paragraph.{parts_from, pieces_of, text_limit};
+ghost use Rattle.textwrap_lines.specs.Paragraph.{parts_from, text_limit};
 ghost use Rattle.textwrap_lines.specs.Paragraph.{widths_of};
 ghost use Rattle.textwrap_lines.specs.Places.{cut_lines};
 
-use crate::layout::{Layout, line_widths, next_indent, paragraph_pieces};
+use crate::layout::{Cuts, Layout, cut_paragraph, line_widths, next_indent};
 use crate::line_sinks::LineSink;
 use std::alloc::{AllocError, Allocator};
-use textwrap_words::inner::{BuiltInSplitter, Piece};
+use textwrap_words::inner::Piece;
 
 /// The line that takes the next piece.
 #[derive(Clone, Copy)]
@@ -42,8 +42,8 @@ pub(crate) struct OpenLine<'t, 'a> {
     ghost bounded: { columns ≤ end },
 }
 
-/// Pushes the lines of a paragraph by first fit, with words split by the splitter. `is_later` says
-/// that a line stands before it.
+/// Pushes the lines of a paragraph by first fit, where it is cut there. `is_later` says that a line
+/// stands before it.
 ///
 /// # Errors
 /// [`AllocError`] where memory runs out.
@@ -52,20 +52,21 @@ pub(crate) fn push_lines_by_pieces<'t, A: Allocator + Copy, S: LineSink<'t, A>>(
     paragraph: &'t str,
     layout: &Layout<'_>,
     is_later: bool,
-    splitter: BuiltInSplitter,
+    cuts: &Cuts<'_>,
     lines: &mut S,
 ) -> Result<(), AllocError>
+    requires { CanBeCut (places_of cuts.now) paragraph.now }
     ensures name { S.name lines.new ≡ S.name lines.old }
     ensures done { S.never_fails → IsOk result }
     ensures took { OnOk result ((division : List (List WordText))
         × IsGreedy sizes_of (widths_of (layout_view layout.now) is_later)
-        (pieces_of (layout_view layout.now) (as_splitter splitter) paragraph.now) division
+        (pieces_cut (layout_view layout.now) cuts.now paragraph.now) division
         × Took S.holds lines.old lines.new (cut_lines 0
         (parts_from (layout_view layout.now) is_later division))) }
 {
     let (first_width, later_width) = line_widths(layout, is_later);
     let mut line = OpenLine::at(paragraph, 0, first_width, next_indent(layout, is_later));
-    for piece in paragraph_pieces(paragraph, layout, splitter) {
+    for piece in cut_paragraph(paragraph, layout, cuts) {
         if line.is_past(&piece) {
             line.push_to(alloc, layout.preserve_trailing_space, lines)?;
             line = OpenLine::at(line.text, line.end, later_width, layout.subsequent_indent);

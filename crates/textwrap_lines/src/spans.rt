@@ -1,14 +1,12 @@
 //! Where the pieces of a paragraph stand in it, and what those before them take.
 ghost use Rattle.std.specs.Prelude.{◌≡◌, IfOk};
-ghost use Rattle.textwrap_words.specs.Pieces.{as_splitter};
+ghost use Rattle.textwrap_lines.specs.Direct.{CanBeCut, pieces_cut, places_of};
 ghost use Rattle.textwrap_lines.specs.Options.{layout_view};
-ghost use Rattle.textwrap_lines.specs.Paragraph.{pieces_of};
 ghost use Rattle.textwrap_lines.specs.Spans.{spans_from, span_priced};
 
-use crate::layout::{Layout, paragraph_pieces};
+use crate::layout::{Cuts, Layout, cut_paragraph};
 use std::alloc::{AllocError, Allocator};
 use textwrap_base::inner::Measured;
-use textwrap_words::inner::BuiltInSplitter;
 
 /// Where a piece of a text ends, and what it takes.
 #[derive(Clone, Copy)]
@@ -39,7 +37,7 @@ impl Measured for Span {
     }
 }
 
-/// The pieces of a paragraph by built-in parts.
+/// The pieces of a paragraph that is cut there.
 ///
 /// # Errors
 /// [`AllocError`] where memory runs out.
@@ -47,14 +45,15 @@ pub(crate) fn find_spans<A: Allocator>(
     alloc: A,
     paragraph: &str,
     layout: &Layout<'_>,
-    splitter: BuiltInSplitter,
+    cuts: &Cuts<'_>,
 ) -> Result<Vec<Span, A>, AllocError>
+    requires { CanBeCut (places_of cuts.now) paragraph.now }
     ensures { IfOk result (λ spans. spans.items ≡ spans_from 0 0
-        (pieces_of (layout_view layout.now) (as_splitter splitter) paragraph.now)) }
+        (pieces_cut (layout_view layout.now) cuts.now paragraph.now)) }
 {
     let mut spans = Vec::new(alloc);
     let mut opens = 0;
-    for piece in paragraph_pieces(paragraph, layout, splitter) {
+    for piece in cut_paragraph(paragraph, layout, cuts) {
         let closes = opens + piece.width;
         spans.push(Span {
             word_end: piece.word_end,

@@ -35,14 +35,14 @@ ghost use Rattle.textwrap_words.specs.WordSplitters.{AreSplit, MaySplit, Splitte
 
 use crate::any_options::{AnyOptions, BuiltInParts};
 use crate::direct::{built_in_parts, push_directly};
-use crate::layout::{Layout, later_width, line_widths, next_indent};
+use crate::layout::{Cuts, Layout, later_width, line_widths, next_indent};
 use crate::line_ending::LineEnding;
 use crate::line_sinks::{LineSink, ListedLines};
 use crate::options::Options;
 use std::alloc::{AllocError, Allocator};
 use std::borrow::CowStr;
 use textwrap_words::blanks::split_final_blanks;
-use textwrap_words::inner::{push_measured, split_at_cuts, stay_whole};
+use textwrap_words::inner::{given_cuts, push_measured, split_at_cuts, stay_whole};
 use textwrap_words::word_separators::WordSeparator;
 use textwrap_words::words::{Word, break_words, display_width};
 use textwrap_words::wrap_algorithms::WrapError;
@@ -137,7 +137,7 @@ pub fn wrap_by<'t, A: Allocator + Copy>(
 /// How the lines of a paragraph are found that is not one line as a whole.
 #[derive(Clone, Copy)]
 pub(crate) enum Way {
-    /// Without a list of its words, where its parts are built in.
+    /// Without a list of its words, where its splitter and its algorithm are built in.
     Shortest,
     /// By lists of its words and pieces, whatever the parts are.
     ByLists,
@@ -240,8 +240,21 @@ fn push_pieces<'t, A: Allocator + Copy, S: LineSink<'t, A>, O: AnyOptions<A>>(
     let Some(parts) = options.built_in_parts() else {
         return push_divided(alloc, paragraph, options, is_later, lines);
     };
+    let found = options.word_cuts(paragraph)?;
+    let cuts = Cuts {
+        words: found.as_deref(),
+        splitter: parts.splitter,
+    };
     let layout = options.layout();
-    let pushed = push_directly(alloc, paragraph, &layout, is_later, parts, lines)?;
+    let pushed = push_directly(
+        alloc,
+        paragraph,
+        &layout,
+        is_later,
+        &cuts,
+        parts.algorithm,
+        lines,
+    )?;
     if pushed {
         return Ok(());
     }
@@ -505,6 +518,8 @@ fn divide<'a, 'w, A: Allocator + Copy>(
 impl<A: Allocator + Copy> AnyOptions<A> for Options<'_> {
     ghost settings = { λ options. settings_view options };
 
+    ghost may_separate = { λ options. MaySeparate options.word_separator };
+
     ghost has_pieces = { λ options. ArePieces (settings_view options)
         (MaySeparate options.word_separator) (MaySplit options.word_splitter) };
 
@@ -522,6 +537,13 @@ impl<A: Allocator + Copy> AnyOptions<A> for Options<'_> {
 
     fn built_in_parts(&self) -> Option<BuiltInParts> {
         built_in_parts(self)
+    }
+
+    fn word_cuts(&self, paragraph: &str) -> Result<Option<Vec<usize>>, AllocError> {
+        match self.word_separator {
+            WordSeparator::AsciiSpace => Ok(None),
+            WordSeparator::Custom(line_cuts) => Ok(Some(given_cuts(line_cuts, paragraph)?)),
+        }
     }
 
     fn find_pieces<'t>(

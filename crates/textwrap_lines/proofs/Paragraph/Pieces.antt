@@ -4,15 +4,16 @@ use Rattle.textwrap_base.proofs.Common.{List, [], All, refl, sym, ap, ◌∙◌,
 use Rattle.textwrap_words.proofs.Common.{WordText, sizes_of, tiled, word_of, words_of, AreWordsOf}
 use Rattle.textwrap_words.proofs.Common.{Algorithm, Splitter, ArePoints}
 use Rattle.textwrap_lines.proofs.Common.{Settings, empty_word, ArePieces, pieces_of, widths_of}
-use Rattle.textwrap_lines.proofs.Common.{DividesAs, pieces_by, broken_pieces_of}
+use Rattle.textwrap_lines.proofs.Common.{DividesAs, pieces_by, pieces_from, broken_pieces_of}
 use Rattle.textwrap_words.proofs.Common.{split_words}
 use Rattle.textwrap_base.proofs.Division.Map.{IsDividedBy-whole}
 use Rattle.textwrap_words.proofs.Word.Bounds.{IsNarrowWord-measured, total_width-narrow}
 use Rattle.textwrap_words.proofs.Word.Words.{words_unique}
 use Rattle.textwrap_words.proofs.Word.Measured.{IsMeasured, HasNoPenalty, text_width-nil}
 use Rattle.textwrap_words.proofs.Word.Pieces.{split_pieces_of, AreSplit-is, AreSplit-computed}
-use Rattle.textwrap_words.proofs.Word.Pieces.{AreTexts-words, ArePoints-cuts, ArePoints-hyphens}
-use Rattle.textwrap_words.proofs.Word.SplitPieces.{split-measured}
+use Rattle.textwrap_words.proofs.Word.Pieces.{AreTexts, AreTexts-words, ArePoints-cuts}
+use Rattle.textwrap_words.proofs.Word.Pieces.{ArePoints-hyphens}
+use Rattle.textwrap_words.proofs.Word.SplitPieces.{AreSplit-no_penalty, split-measured}
 use Rattle.textwrap_lines.proofs.Paragraph.GivenPieces.{pieces-tile, pieces-measured}
 use Rattle.textwrap_lines.proofs.Paragraph.GivenPieces.{pieces-no_penalty}
 
@@ -61,45 +62,75 @@ ArePieces-unique settings splitter paragraph pieces = (
       (ArePieces-computed settings splitter paragraph),
 )
 
--- ---- the pieces of such words, at any points where they may be cut
+-- ---- the pieces of words that are texts and tile a paragraph
 
-module _ (settings : Settings) (splitter : Splitter) (paragraph : List ℕ) where
-  pub split_pieces_of-measured : IsUtf8 paragraph
-      → All IsMeasured (split_pieces_of splitter paragraph)
-  split_pieces_of-measured utf8 =
-      split-measured AreWordsOf (ArePoints splitter) AreTexts-words
-      (ArePoints-cuts splitter) paragraph (split_pieces_of splitter paragraph) utf8 (
-        words_of paragraph,
-        (words_unique paragraph (words_of paragraph)).1 refl,
-        AreSplit-computed splitter (words_of paragraph),
-      )
+module _ (settings : Settings) (splitter : Splitter) (paragraph : List ℕ) (words : List WordText)
+    (utf8 : IsUtf8 paragraph) (texts : AreTexts paragraph words) where
+  are : ArePieces settings AreTexts (ArePoints splitter) paragraph
+      (pieces_from settings splitter words)
+  are = (words, split_words splitter words, texts, AreSplit-computed splitter words, refl)
 
-  pub pieces_of-tile : IsUtf8 paragraph → tiled (pieces_of settings splitter paragraph) ≡ paragraph
-  pieces_of-tile utf8 =
-      pieces-tile settings AreWordsOf (ArePoints splitter) AreTexts-words (ArePoints-cuts splitter)
-      paragraph (pieces_of settings splitter paragraph) utf8
-      (ArePieces-computed settings splitter paragraph)
+  pub split_words-measured : All IsMeasured (split_words splitter words)
+  split_words-measured =
+      split-measured AreTexts (ArePoints splitter) (λ line ws whole given. given)
+      (ArePoints-cuts splitter) paragraph (split_words splitter words) utf8
+      (words, texts, AreSplit-computed splitter words)
 
-  pub pieces_of-measured : IsUtf8 paragraph
-      → All IsMeasured (pieces_of settings splitter paragraph)
-  pieces_of-measured utf8 =
-      pieces-measured settings AreWordsOf (ArePoints splitter) AreTexts-words
-      (ArePoints-cuts splitter) paragraph (pieces_of settings splitter paragraph) utf8
-      (ArePieces-computed settings splitter paragraph)
+  pub split_words-no_penalty : All HasNoPenalty (split_words splitter words)
+  split_words-no_penalty =
+      AreSplit-no_penalty (ArePoints splitter) (ArePoints-hyphens splitter) words
+      (split_words splitter words) texts.plain (AreSplit-computed splitter words)
 
-  pub pieces_of-no_penalty : IsUtf8 paragraph
-      → All HasNoPenalty (pieces_of settings splitter paragraph)
-  pieces_of-no_penalty utf8 =
-      pieces-no_penalty settings AreWordsOf (ArePoints splitter) AreTexts-words
+  pub pieces_from-tile : tiled (pieces_from settings splitter words) ≡ paragraph
+  pieces_from-tile =
+      pieces-tile settings AreTexts (ArePoints splitter) (λ line ws whole given. given)
+      (ArePoints-cuts splitter) paragraph (pieces_from settings splitter words) utf8 are
+
+  pub pieces_from-measured : All IsMeasured (pieces_from settings splitter words)
+  pieces_from-measured =
+      pieces-measured settings AreTexts (ArePoints splitter) (λ line ws whole given. given)
+      (ArePoints-cuts splitter) paragraph (pieces_from settings splitter words) utf8 are
+
+  pub pieces_from-no_penalty : All HasNoPenalty (pieces_from settings splitter words)
+  pieces_from-no_penalty =
+      pieces-no_penalty settings AreTexts (ArePoints splitter) (λ line ws whole given. given)
       (ArePoints-cuts splitter) (ArePoints-hyphens splitter) paragraph
-      (pieces_of settings splitter paragraph) utf8 (ArePieces-computed settings splitter paragraph)
+      (pieces_from settings splitter words) utf8 are
 
   -- all of them together are at most as wide as the bytes of the paragraph
-  pub pieces_of-wide : IsUtf8 paragraph
-      → total_width sizes_of (pieces_of settings splitter paragraph) ≤ length paragraph
-  pieces_of-wide utf8 =
-      let measured = pieces_of-measured utf8 in
-      search (rules, pieces_of-no_penalty, pieces_of-tile, total_width-narrow, IsNarrowWord-measured)
+  pub pieces_from-wide : total_width sizes_of (pieces_from settings splitter words)
+      ≤ length paragraph
+  pieces_from-wide =
+      let measured = pieces_from-measured in
+      search (rules, pieces_from-no_penalty, pieces_from-tile, total_width-narrow,
+      IsNarrowWord-measured)
+
+-- ---- those of words between blanks
+
+module _ (paragraph : List ℕ) (utf8 : IsUtf8 paragraph) where
+  pub words_of-texts : AreTexts paragraph (words_of paragraph)
+  words_of-texts = AreTexts-words paragraph (words_of paragraph) utf8
+      ((words_unique paragraph (words_of paragraph)).1 refl)
+
+module _ (settings : Settings) (splitter : Splitter) (paragraph : List ℕ)
+    (utf8 : IsUtf8 paragraph) where
+  abbrev texts : AreTexts paragraph (words_of paragraph)
+  texts = words_of-texts paragraph utf8
+
+  pub split_pieces_of-measured : All IsMeasured (split_pieces_of splitter paragraph)
+  split_pieces_of-measured =
+      split_words-measured settings splitter paragraph (words_of paragraph) utf8 texts
+
+  pub pieces_of-tile : tiled (pieces_of settings splitter paragraph) ≡ paragraph
+  pieces_of-tile = pieces_from-tile settings splitter paragraph (words_of paragraph) utf8 texts
+
+  pub pieces_of-measured : All IsMeasured (pieces_of settings splitter paragraph)
+  pieces_of-measured =
+      pieces_from-measured settings splitter paragraph (words_of paragraph) utf8 texts
+
+  pub pieces_of-no_penalty : All HasNoPenalty (pieces_of settings splitter paragraph)
+  pieces_of-no_penalty =
+      pieces_from-no_penalty settings splitter paragraph (words_of paragraph) utf8 texts
 
 module _ (settings : Settings) (algorithm : Algorithm) (splitter : Splitter) where
   pub IsDividedInto-whole : (is_later : Bool) (paragraph : List ℕ) (division : List (List WordText))

@@ -1,5 +1,5 @@
 -- The pieces of a text that stand after a place.
-use Rattle.textwrap_base.proofs.Common.{rules, ◌≡◌, ℕ, ◌+◌, List, [], ◌∷◌, All, length, drop, refl}
+use Rattle.textwrap_base.proofs.Common.{rules, ◌≡◌, ℕ, ◌+◌, List, [], ◌∷◌, All, length, drop, refl, sym}
 use Rattle.textwrap_base.proofs.Common.{arith, IsUtf8, IsCharBoundary, All-head, All-tail}
 use Rattle.textwrap_base.proofs.Common.{IsCharBoundary-start, ⊤}
 use Rattle.textwrap_words.proofs.Common.{WordText, tiled, Splitter}
@@ -7,10 +7,11 @@ use Rattle.textwrap_words.specs.Pieces.{stand_from}
 use Rattle.textwrap_words.specs.declared.pieces.Piece.{Piece}
 use Rattle.textwrap_words.proofs.Units.Narrow.{text_width-le}
 use Rattle.textwrap_words.proofs.Word.Measured.{IsMeasured}
-use Rattle.textwrap_lines.proofs.Common.{Settings, pieces_of}
+use Rattle.textwrap_words.proofs.Word.Pieces.{AreTexts}
+use Rattle.textwrap_lines.proofs.Common.{Settings, pieces_from}
 use Rattle.textwrap_lines.specs.PieceLines.{ComesAt}
 use Rattle.textwrap_lines.proofs.Paragraph.OneLine.{blanks-utf8}
-use Rattle.textwrap_lines.proofs.Paragraph.Pieces.{pieces_of-measured, pieces_of-tile}
+use Rattle.textwrap_lines.proofs.Paragraph.Pieces.{pieces_from-measured, pieces_from-tile}
 use Rattle.textwrap_lines.proofs.PieceLines.Line.{piece-ends, place-after, slice-ends, utf8-after}
 
 module _ (text : List ℕ) where
@@ -46,6 +47,10 @@ module _ (text : List ℕ) where
       )
 
 pub pieces-come : (settings : Settings) (splitter : Splitter) (paragraph : List ℕ)
-    → IsUtf8 paragraph → AllCome paragraph 0 (stand_from 0 (pieces_of settings splitter paragraph))
-pieces-come settings splitter paragraph utf8 =
-    search (rules, arith, all-come, pieces_of-tile, IsCharBoundary-start, pieces_of-measured)
+    (words : List WordText) → IsUtf8 paragraph → AreTexts paragraph words
+    → AllCome paragraph 0 (stand_from 0 (pieces_from settings splitter words))
+pieces-come settings splitter paragraph words utf8 texts =
+    all-come paragraph 0 (pieces_from settings splitter words)
+    (sym (pieces_from-tile settings splitter paragraph words utf8 texts))
+    (IsCharBoundary-start paragraph utf8) utf8
+    (pieces_from-measured settings splitter paragraph words utf8 texts)

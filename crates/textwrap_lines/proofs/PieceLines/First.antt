@@ -1,7 +1,7 @@
 -- The first line of a paragraph, found piece by piece, and the place that it goes up to.
 use Rattle.textwrap_base.proofs.Common.{◌≡◌, ℕ, ◌<◌, Bool, true, false, cond, List, []}
 use Rattle.textwrap_base.proofs.Common.{◌++◌, length, refl, sym, ap, ◌∙◌, subst, IsUtf8}
-use Rattle.textwrap_words.proofs.Common.{WordText, Splitter}
+use Rattle.textwrap_words.proofs.Common.{WordText, Splitter, words_of}
 use Rattle.textwrap_words.specs.PieceCuts.{pieces_at}
 use Rattle.textwrap_words.specs.Pieces.{empty_front, stand_from}
 use Rattle.textwrap_words.specs.declared.pieces.Piece.{Piece}
@@ -10,6 +10,7 @@ use Rattle.textwrap_lines.proofs.Common.{Settings, first_width, front_of, indent
 use Rattle.textwrap_lines.proofs.Common.{lines_from, LineSoFar, pieces_of, text_limit}
 use Rattle.textwrap_lines.specs.Layout.{break_limit}
 use Rattle.textwrap_lines.specs.PieceLines.{first_so_far}
+use Rattle.textwrap_lines.proofs.Paragraph.Pieces.{words_of-texts}
 use Rattle.textwrap_lines.proofs.PieceLines.Coming.{AllCome, pieces-come}
 use Rattle.textwrap_lines.proofs.PieceLines.Unbroken.{limited-pieces}
 
@@ -49,7 +50,7 @@ module _ (settings : Settings) (splitter : Splitter) (text : List ℕ) where
     goes_on-start front utf8 short front_is =
         let rest = pieces_at splitter (break_limit settings) text 0 in
         let are : pieces_of settings splitter text ≡ cond front empty_front [] ++ rest =
-        sym (limited-pieces settings splitter text utf8 short)
+        sym (limited-pieces settings splitter text (words_of text) utf8 (words_of-texts text utf8) short)
         ∙ ap (λ ws. front_of settings ++ ws)
         (sym (pieces-start splitter text (break_limit settings) utf8))
         ∙ ap (λ ws. ws ++ rest) (sym front_is) in
@@ -59,5 +60,5 @@ module _ (settings : Settings) (splitter : Splitter) (text : List ℕ) where
               ∙ front-lines front rest;
           come = front-come front rest
               (subst (λ ws. AllCome text 0 (stand_from 0 ws)) are
-              (pieces-come settings splitter text utf8));
+              (pieces-come settings splitter text (words_of text) utf8 (words_of-texts text utf8)));
         }

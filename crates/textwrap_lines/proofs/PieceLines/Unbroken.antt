@@ -3,12 +3,13 @@ use Rattle.textwrap_base.proofs.Common.{◌≡◌, ℕ, ◌<◌, ◌≤◌, cond
 use Rattle.textwrap_base.proofs.Common.{List, [], ◌∷◌, ◌++◌, All, length, refl, ap, ◌∙◌, arith}
 use Rattle.textwrap_base.proofs.Common.{length-append, IsUtf8, le-ltb, All-head, All-tail}
 use Rattle.textwrap_words.proofs.Common.{broken_words, broken_pieces, WordText, tile_of, tiled}
-use Rattle.textwrap_words.proofs.Common.{words_of, Splitter, split_words}
-use Rattle.textwrap_lines.proofs.Common.{front_of, Settings, pieces_of, text_limit}
+use Rattle.textwrap_words.proofs.Common.{Splitter, split_words}
+use Rattle.textwrap_lines.proofs.Common.{front_of, Settings, pieces_from, text_limit}
 use Rattle.textwrap_words.proofs.Word.Bounds.{IsNarrowWord, IsNarrowWord-measured}
 use Rattle.textwrap_lines.specs.Layout.{break_limit}
-use Rattle.textwrap_lines.proofs.Paragraph.Pieces.{pieces_of-tile, split_pieces_of-measured}
-use Rattle.textwrap_words.proofs.Word.Pieces.{split_pieces_of-no_penalty}
+use Rattle.textwrap_lines.proofs.Paragraph.Pieces.{pieces_from-tile, split_words-measured}
+use Rattle.textwrap_lines.proofs.Paragraph.Pieces.{split_words-no_penalty}
+use Rattle.textwrap_words.proofs.Word.Pieces.{AreTexts}
 
 unbroken : (limit : ℕ) (ws : List WordText) → All IsNarrowWord ws → length (tiled ws) ≤ limit
     → broken_words limit ws ≡ ws
@@ -24,16 +25,16 @@ unbroken limit (w ∷ ws) bounded within =
 
 -- whether words are broken or not, these are the pieces
 pub limited-pieces : (settings : Settings) (splitter : Splitter) (paragraph : List ℕ)
-    → IsUtf8 paragraph → length paragraph < text_limit
-    → front_of settings
-    ++ broken_words (break_limit settings) (split_words splitter (words_of paragraph))
-    ≡ pieces_of settings splitter paragraph
-limited-pieces settings splitter paragraph utf8 short =
+    (words : List WordText) → IsUtf8 paragraph → AreTexts paragraph words
+    → length paragraph < text_limit
+    → front_of settings ++ broken_words (break_limit settings) (split_words splitter words)
+    ≡ pieces_from settings splitter words
+limited-pieces settings splitter paragraph words utf8 texts short =
     grind (
       arith,
-      split_pieces_of-measured,
-      split_pieces_of-no_penalty,
+      split_words-measured,
+      split_words-no_penalty,
       IsNarrowWord-measured,
-      pieces_of-tile,
+      pieces_from-tile,
       unbroken,
     )

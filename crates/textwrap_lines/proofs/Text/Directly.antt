@@ -4,20 +4,24 @@ use Rattle.textwrap_base.proofs.Common.{◌∷◌, ◌++◌, length, refl, sym, 
 use Rattle.textwrap_base.proofs.Common.{le-ltb, None, Option, Some, Result, Ok, Err, IsErrAnd}
 use Rattle.textwrap_base.proofs.Common.{drop, rules}
 use Rattle.textwrap_words.proofs.Common.{WordText, sizes_of, Algorithm}
-use Rattle.textwrap_words.proofs.Common.{IsDividedBy, Splitter, IsPrintable}
+use Rattle.textwrap_words.proofs.Common.{ArePoints, IsDividedBy, Splitter, IsPrintable, words_of}
+use Rattle.textwrap_words.proofs.Common.{MayDivide, MaySeparate, split_words}
+use Rattle.textwrap_words.proofs.Word.Pieces.{AreSplit-computed}
 use Rattle.textwrap_words.specs.Pieces.{stand_from}
 use Rattle.textwrap_lines.proofs.Common.{Settings, settings_view, CutLine, empty_word, front_of}
 use Rattle.textwrap_lines.proofs.Common.{later_width, lines_from, text_limit}
-use Rattle.textwrap_lines.proofs.Common.{pieces_of, widths_of, DividesBy, pieces_after}
-use Rattle.textwrap_lines.proofs.Common.{printable_cut, HasParts, Options, byte_before, first_width}
+use Rattle.textwrap_lines.proofs.Common.{pieces_from, pieces_of, widths_of, DividesBy, pieces_after}
+use Rattle.textwrap_lines.proofs.Common.{IsDividedInto}
+use Rattle.textwrap_lines.proofs.Common.{printable_cut, Options, byte_before, first_width}
 use Rattle.textwrap_lines.proofs.Common.{indent_of}
 use Rattle.std.specs.Prelude.{IfErr, IfSome, alloc_error}
 use Rattle.textwrap_base.specs.declared.errors.WrapError.{WrapError}
 use Rattle.textwrap_base.specs.declared.errors.WrapError.TheVariants.{Memory}
+use Rattle.textwrap_lines.specs.Direct.{HasMethods}
 use Rattle.textwrap_lines.specs.Layout.{break_limit, limit_at}
 use Rattle.textwrap_lines.specs.PieceLines.{IsFirstUpTo, lines_left, no_pieces}
-use Rattle.textwrap_lines.proofs.Paragraph.BuiltIn.{divides}
-use Rattle.textwrap_lines.proofs.Paragraph.Pieces.{ArePieces-computed}
+use Rattle.textwrap_lines.proofs.Paragraph.BuiltIn.{division-as, points-as}
+use Rattle.textwrap_lines.proofs.Paragraph.Pieces.{words_of-texts}
 use Rattle.textwrap_lines.proofs.PrintableTexts.Bridge.{pieces-printable, pieces-printable_at}
 use Rattle.textwrap_lines.proofs.PrintableTexts.FirstPiece.{begins_narrow}
 use Rattle.textwrap_lines.proofs.PieceLines.Unbroken.{limited-pieces}
@@ -57,7 +61,7 @@ lines-by_bytes settings splitter indent text utf8 printable some short room =
     ∙ ap (lines_of_pieces settings text width indent)
     (ap (λ ps. front_of settings ++ ps)
     (sym found.are ∙ pieces-printable splitter limit text printable)
-    ∙ limited-pieces settings splitter text utf8 short)
+    ∙ limited-pieces settings splitter text (words_of text) utf8 (words_of-texts text utf8) short)
   where
     limited : 0 < break_limit settings
     limited = search (rules, arith)
@@ -79,20 +83,24 @@ lines-after_first settings splitter is_later text line end printable within firs
 
 -- a paragraph whose pieces are divided so by the built-in parts of the options
 pub direct-divided : {E C : Type 0} {e : _} {c : _} (options : Options E C e c)
-    (splitter : Splitter) (algorithm : Algorithm)
-    (built_in : HasParts options (settings_view options) splitter algorithm)
-    (is_later : Bool) (paragraph : List ℕ) (division : List (List WordText))
+    (splitter : Splitter) (algorithm : Algorithm) (built_in : HasMethods options splitter algorithm)
+    (is_later : Bool) (paragraph : List ℕ) (words : List WordText)
+    (division : List (List WordText)) → MaySeparate options.word_separator paragraph words
     → IsDividedBy algorithm sizes_of (widths_of (settings_view options) is_later)
-    (pieces_of (settings_view options) splitter paragraph) division
+    (pieces_from (settings_view options) splitter words) division
     → DividesBy options is_later paragraph division
-direct-divided options splitter algorithm built_in is_later paragraph division by =
+direct-divided options splitter algorithm built_in is_later paragraph words division separate by =
     let settings = settings_view options in
-    subst (λ Divides. Divides is_later paragraph division)
-    (sym (divides options settings splitter algorithm built_in)) (
-      pieces_of settings splitter paragraph,
-      ArePieces-computed settings splitter paragraph,
+    subst (λ Points. IsDividedInto settings (MaySeparate options.word_separator) Points
+    (MayDivide options.wrap_algorithm (λ w. w)) is_later paragraph division)
+    (sym (points-as options.word_splitter splitter built_in.splitter_is))
+    (subst (λ Lines. IsDividedInto settings (MaySeparate options.word_separator)
+    (ArePoints splitter) Lines is_later paragraph division)
+    (sym (division-as options.wrap_algorithm algorithm built_in.algorithm_is)) (
+      pieces_from settings splitter words,
+      (words, split_words splitter words, separate, AreSplit-computed splitter words, refl),
       by,
-    )
+    ))
 
 pub if_some : {X : Type 0} {P Q : X → Type 0} (o : Option X) → ((x : X) → P x → Q x) → IfSome o P
     → IfSome o Q

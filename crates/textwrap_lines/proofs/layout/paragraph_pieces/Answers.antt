@@ -3,6 +3,7 @@ use Rattle.textwrap_base.proofs.Common.{◌++◌, ap, ◌∙◌, arith}
 use Rattle.textwrap_words.proofs.Common.{broken_words, words_of, split_words, as_splitter}
 use Rattle.textwrap_words.specs.Pieces.{stand_from}
 use Rattle.textwrap_lines.proofs.Common.{front_of, layout_view}
+use Rattle.textwrap_lines.proofs.Paragraph.Pieces.{words_of-texts}
 use Rattle.textwrap_lines.proofs.PieceLines.Unbroken.{limited-pieces}
 
 pub returns : goal.returns
@@ -14,4 +15,5 @@ returns c =
     ∙ ap (λ ws. stand_from 0 (ws ++ broken_words c.break_limit.result words)) c.has_front.ensures
     ∙ ap (λ n. stand_from 0 (front_of settings ++ broken_words n words)) c.break_limit.ensures
     ∙ ap (stand_from 0)
-    (limited-pieces settings (as_splitter c.args.splitter) text c.utf8.paragraph (omega arith))
+    (limited-pieces settings (as_splitter c.args.splitter) text (words_of text) c.utf8.paragraph
+    (words_of-texts text c.utf8.paragraph) (omega arith))

@@ -3,12 +3,14 @@ use Rattle.textwrap_base.proofs.Common.{◌≡◌, [], ◌∷◌, cond, refl, ap
 use Rattle.textwrap_base.proofs.Common.{IsCharBoundary-start}
 use Rattle.textwrap_words.proofs.Common.{as_splitter}
 use Rattle.textwrap_words.specs.Pieces.{stand_from}
-use Rattle.textwrap_words.specs.PiecesLeft.{standing_left}
+use Rattle.textwrap_lines.specs.PiecesLeft.{left_standing}
+use Rattle.textwrap_lines.specs.Direct.{pieces_cut, places_of, words_cut}
 use Rattle.textwrap_lines.proofs.Common.{Took, layout_view, later_width, first_width, indent_of}
-use Rattle.textwrap_lines.proofs.Common.{pieces_of, line_so_far, lines_from, LineSoFar, line_of}
+use Rattle.textwrap_lines.proofs.Common.{line_so_far, lines_from, LineSoFar, line_of}
 use Rattle.textwrap_lines.proofs.Common.{with_piece}
 use Rattle.textwrap_lines.specs.PieceLines.{no_pieces}
-use Rattle.textwrap_lines.proofs.Paragraph.Pieces.{pieces_of-no_penalty, pieces_of-tile}
+use Rattle.textwrap_lines.proofs.Paragraph.CutPieces.{words_cut-texts}
+use Rattle.textwrap_lines.proofs.Paragraph.Pieces.{pieces_from-no_penalty, pieces_from-tile}
 use Rattle.textwrap_lines.proofs.Text.Sinks.{HasTaken, HasTaken-end, HasTaken-next, HasTaken-start}
 use Rattle.textwrap_lines.proofs.PieceLines.Coming.{AllCome, pieces-come}
 use Rattle.textwrap_lines.proofs.PieceLines.Joined.{lines-greedy}
@@ -21,18 +23,19 @@ at-line-requires g c = IsCharBoundary-start c.args.paragraph.now c.utf8.paragrap
 pub loop-piece-init : goal.loop-piece-init
 loop-piece-init g c =
     let settings = layout_view c.args.layout.now in
-    let splitter = as_splitter c.args.splitter in
+    let cuts = c.args.cuts.now in
     let paragraph = c.args.paragraph.now in
-    let left = standing_left c.into_iter-piece-iterator.result in
-    let left_is : left ≡ stand_from 0 (pieces_of settings splitter paragraph) =
-    ap standing_left c.into_iter-piece-iterator.ensures.into_iter_gives
-    ∙ c.paragraph_pieces-piece-items.ensures in
+    let left = left_standing c.into_iter-piece-iterator.result in
+    let left_is : left ≡ stand_from 0 (pieces_cut settings cuts paragraph) =
+    ap left_standing c.into_iter-piece-iterator.ensures.into_iter_gives
+    ∙ c.cut_paragraph-piece-items.ensures in
     record {
       taken = HasTaken-start _ c.args.lines.now;
       come = subst (λ (line : LineSoFar). AllCome line.text line.end left)
           (sym c.at-line.ensures)
           (subst (AllCome paragraph 0) (sym left_is)
-          (pieces-come settings splitter paragraph c.utf8.paragraph));
+          (pieces-come settings (as_splitter cuts.splitter) paragraph (words_cut (places_of cuts) paragraph)
+            c.utf8.paragraph (words_cut-texts (places_of cuts) paragraph c.utf8.paragraph c.requires)));
       name = refl;
     }
 
@@ -42,12 +45,12 @@ loop-piece-preserved g c =
     let keeps = settings.preserve_trailing_space in
     let Holds = g.S.LineSink.holds in
     let all = lines_from settings (line_so_far c.at-line.result)
-    (standing_left c.into_iter-piece-iterator.result) in
+    (left_standing c.into_iter-piece-iterator.result) in
     let before = c.args.lines.now in
     let now = c.loop-piece.lines in
     let here = line_so_far c.loop-piece.line in
     let piece = c.in-Some.piece in
-    let left = standing_left c.next.new.self in
+    let left = left_standing c.next.new.self in
     let next = with_piece (no_pieces here.text here.end (later_width settings)
     settings.subsequent_indent) piece in
     let more = with_piece here piece in
@@ -91,20 +94,23 @@ pub returns-clause-took : goal.returns-clause-took
 returns-clause-took g c =
     let settings = layout_view c.args.layout.now in
     let is_later = c.args.is_later in
-    let splitter = as_splitter c.args.splitter in
+    let cuts = c.args.cuts.now in
     let paragraph = c.args.paragraph.now in
-    let pieces = pieces_of settings splitter paragraph in
-    let left = standing_left c.into_iter-piece-iterator.result in
+    let pieces = pieces_cut settings cuts paragraph in
+    let texts = words_cut-texts (places_of cuts) paragraph c.utf8.paragraph c.requires in
+    let left = left_standing c.into_iter-piece-iterator.result in
     let first = c.at-line.result in
     let all = lines_from settings (line_so_far first) left in
     let now = c.loop-piece.lines in
     let last = line_of settings.preserve_trailing_space (line_so_far c.loop-piece.line) in
     let (division, greedy, found) = lines-greedy settings paragraph is_later pieces
-    (pieces_of-tile settings splitter paragraph c.utf8.paragraph)
-    (pieces_of-no_penalty settings splitter paragraph c.utf8.paragraph) in
+    (pieces_from-tile settings (as_splitter cuts.splitter) paragraph
+    (words_cut (places_of cuts) paragraph) c.utf8.paragraph texts)
+    (pieces_from-no_penalty settings (as_splitter cuts.splitter) paragraph
+    (words_cut (places_of cuts) paragraph) c.utf8.paragraph texts) in
     let left_is : left ≡ stand_from 0 pieces =
-    ap standing_left c.into_iter-piece-iterator.ensures.into_iter_gives
-    ∙ c.paragraph_pieces-piece-items.ensures in
+    ap left_standing c.into_iter-piece-iterator.ensures.into_iter_gives
+    ∙ c.cut_paragraph-piece-items.ensures in
     let first_is : line_so_far first
     ≡ no_pieces paragraph 0 (first_width settings is_later) (indent_of settings is_later) =
     c.at-line.ensures

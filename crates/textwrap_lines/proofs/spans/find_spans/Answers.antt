@@ -1,32 +1,31 @@
 use Rattle.textwrap_lines.proofs.spans.find_spans.Goals as goal
 use Rattle.textwrap_base.proofs.Common.{sym, ap, ◌∙◌, subst, arith}
 use Rattle.textwrap_words.proofs.Common.{as_splitter}
-use Rattle.textwrap_words.specs.PiecesLeft.{standing_left}
-use Rattle.textwrap_lines.proofs.Common.{pieces_of, layout_view}
-use Rattle.textwrap_lines.proofs.Paragraph.Pieces.{pieces_of-wide}
+use Rattle.textwrap_lines.specs.PiecesLeft.{left_standing}
+use Rattle.textwrap_lines.proofs.Common.{layout_view}
+use Rattle.textwrap_lines.specs.Direct.{pieces_cut, places_of, words_cut}
+use Rattle.textwrap_lines.proofs.Paragraph.CutPieces.{words_cut-texts}
+use Rattle.textwrap_lines.proofs.Paragraph.Pieces.{pieces_from-wide}
 use Rattle.textwrap_lines.proofs.PlacedPieces.Left.{HasLeft, HasNext, Left-start, Left-next, Left-end}
 use Rattle.textwrap_lines.proofs.spans.find_spans.Goals.{In-Some}
 
 pub loop-piece-init : goal.loop-piece-init
 loop-piece-init g c =
-    let all = pieces_of (layout_view c.args.layout.now) (as_splitter c.args.splitter)
-    c.args.paragraph.now in
-    subst (λ spans. HasLeft all spans 0 (standing_left c.into_iter-piece-iterator.result))
+    let all = pieces_cut (layout_view c.args.layout.now) c.args.cuts.now c.args.paragraph.now in
+    subst (λ spans. HasLeft all spans 0 (left_standing c.into_iter-piece-iterator.result))
     (sym c.new-spans.ensures.items)
-    (Left-start all (standing_left c.into_iter-piece-iterator.result)
-    (ap standing_left c.into_iter-piece-iterator.ensures.into_iter_gives
-    ∙ c.paragraph_pieces-piece-items.ensures))
+    (Left-start all (left_standing c.into_iter-piece-iterator.result)
+    (ap left_standing c.into_iter-piece-iterator.ensures.into_iter_gives
+    ∙ c.cut_paragraph-piece-items.ensures))
 
 -- the piece that the iterator gives, and those after it
 turn : (g : _) (c : In-Some g)
-    → HasNext (pieces_of (layout_view c.args.layout.now) (as_splitter c.args.splitter)
-    c.args.paragraph.now) c.loop-piece.spans.items c.loop-piece.opens c.in-Some.piece
-    (standing_left c.next.new.self)
+    → HasNext (pieces_cut (layout_view c.args.layout.now) c.args.cuts.now c.args.paragraph.now) c.loop-piece.spans.items c.loop-piece.opens c.in-Some.piece
+    (left_standing c.next.new.self)
 turn g c =
-    let all = pieces_of (layout_view c.args.layout.now) (as_splitter c.args.splitter)
-    c.args.paragraph.now in
+    let all = pieces_cut (layout_view c.args.layout.now) c.args.cuts.now c.args.paragraph.now in
     Left-next all c.loop-piece.spans.items c.loop-piece.opens c.in-Some.piece
-    (standing_left c.next.new.self)
+    (left_standing c.next.new.self)
     (subst (HasLeft all c.loop-piece.spans.items c.loop-piece.opens) c.in-Some.ensures.steps
     c.loop-piece.invariant)
 
@@ -39,8 +38,9 @@ overflow_add-closes g c =
     omega (
       arith,
       next.room,
-      pieces_of-wide (layout_view c.args.layout.now) (as_splitter c.args.splitter)
-          c.args.paragraph.now c.utf8.paragraph,
+      pieces_from-wide (layout_view c.args.layout.now) (as_splitter c.args.cuts.now.splitter)
+          c.args.paragraph.now (words_cut (places_of c.args.cuts.now) c.args.paragraph.now) c.utf8.paragraph
+          (words_cut-texts (places_of c.args.cuts.now) c.args.paragraph.now c.utf8.paragraph c.requires),
     )
 
 pub overflow_add-opens : goal.overflow_add-opens
@@ -49,8 +49,9 @@ overflow_add-opens g c =
     omega (
       arith,
       next.room,
-      pieces_of-wide (layout_view c.args.layout.now) (as_splitter c.args.splitter)
-          c.args.paragraph.now c.utf8.paragraph,
+      pieces_from-wide (layout_view c.args.layout.now) (as_splitter c.args.cuts.now.splitter)
+          c.args.paragraph.now (words_cut (places_of c.args.cuts.now) c.args.paragraph.now) c.utf8.paragraph
+          (words_cut-texts (places_of c.args.cuts.now) c.args.paragraph.now c.utf8.paragraph c.requires),
     )
 
 pub loop-piece-preserved : goal.loop-piece-preserved
@@ -60,8 +61,7 @@ loop-piece-preserved g c =
 
 pub returns : goal.returns
 returns g c =
-    let all = pieces_of (layout_view c.args.layout.now) (as_splitter c.args.splitter)
-    c.args.paragraph.now in
+    let all = pieces_cut (layout_view c.args.layout.now) c.args.cuts.now c.args.paragraph.now in
     Left-end all c.loop-piece.spans.items c.loop-piece.opens
     (subst (HasLeft all c.loop-piece.spans.items c.loop-piece.opens) c.in-None.ensures.steps.0
     c.loop-piece.invariant)

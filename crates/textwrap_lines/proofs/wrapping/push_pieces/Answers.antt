@@ -1,8 +1,14 @@
 use Rattle.textwrap_lines.proofs.wrapping.push_pieces.Goals as goal
-use Rattle.textwrap_base.proofs.Common.{List, subst, on_ok_weaker}
+use Rattle.textwrap_base.proofs.Common.{List, Option, ℕ, refl, subst, sym, on_ok_weaker}
+use Rattle.std.specs.Option.{option_map}
 use Rattle.textwrap_words.proofs.Common.{IsDividedBy, WordText, as_splitter, sizes_of}
-use Rattle.textwrap_lines.proofs.Common.{Took, cut_lines, parts_from, pieces_of, widths_of}
-use Rattle.textwrap_lines.specs.Direct.{as_algorithm}
+use Rattle.textwrap_lines.proofs.Common.{Took, cut_lines, parts_from, pieces_from, widths_of}
+use Rattle.textwrap_lines.specs.Direct.{CanBeCut, as_algorithm, words_cut}
+
+pub push_directly-requires : goal.push_directly-requires
+push_directly-requires g c = λ k. ((refl, tt), subst (λ (places : Option (List ℕ)).
+    CanBeCut places c.args.paragraph.now) (sym c.as_deref.ensures.value)
+    c.in_ok-found.ensures.cuts)
 
 pub returns-then-pushed-clause-taken : goal.returns-then-pushed-clause-taken
 returns-then-pushed-clause-taken g c =
@@ -10,11 +16,18 @@ returns-then-pushed-clause-taken g c =
     let parts = c.in-Some.parts in
     let (division, divided, took) = subst (λ s. (division : List (List WordText))
     × IsDividedBy (as_algorithm parts.algorithm) sizes_of (widths_of s c.args.is_later)
-    (pieces_of s (as_splitter parts.splitter) paragraph) division
+    (pieces_from s (as_splitter parts.splitter)
+    (words_cut (option_map (λ places. places.now) c.as_deref.result) paragraph)) division
     × Took g.S.LineSink.holds c.args.lines.now c.push_directly.new.lines
     (cut_lines 0 (parts_from s c.args.is_later division))) c.layout-layout.ensures
-    (c.in_ok-pushed.ensures.pushed c.if-pushed.true) in
-    (division, c.in-Some.ensures.parts c.args.is_later paragraph division divided, took)
+    (c.in_ok-pushed.ensures.pushed c.if-pushed.true) in (
+      division,
+      c.in-Some.ensures.parts c.args.is_later paragraph _ division
+          (subst (λ (places : Option (List ℕ)). g.O.AnyOptions.may_separate c.args.options.now
+          paragraph (words_cut places paragraph)) (sym c.as_deref.ensures.value)
+          c.in_ok-found.ensures.words) divided,
+      took,
+    )
 
 pub returns-clause-taken : goal.returns-clause-taken
 returns-clause-taken g c =

@@ -26,7 +26,6 @@ pub mod PieceBoundaries
 pub mod PieceCuts
 pub mod PieceEnds
 pub mod PieceFronts
-pub mod PieceStops
 pub mod PieceTexts
 pub mod Pieces
 pub mod PointsApart
@@ -35,6 +34,7 @@ pub mod Rows
 pub mod ScannedCuts
 pub mod ScannedEnds
 pub mod ScannedLetters
+pub mod ScannedParts
 pub mod ScannedWords
 pub mod SplitParts
 pub mod SplitPieces

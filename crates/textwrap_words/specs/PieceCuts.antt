@@ -41,11 +41,11 @@ pieces_within splitter limit text at = pieces_by (is_point splitter text) limit 
 -- ---- where a part ends, and the word in it
 
 -- a part of the text goes from the one place to the other: up to the first cut, or to the end
-pub record IsPart (splitter : Splitter) (text : List ℕ) (at end : ℕ) : Type 0 where
+pub record IsPart (test : ℕ → Bool) (text : List ℕ) (at end : ℕ) : Type 0 where
   pub some : at < end
   pub within : end ≤ length text
-  pub uncut : (k : ℕ) → at < k → k < end → is_piece_cut splitter text k ≡ false
-  pub ends : end < length text → is_piece_cut splitter text end ≡ true
+  pub uncut : (k : ℕ) → at < k → k < end → test k ≡ false
+  pub ends : end < length text → test end ≡ true
 
 -- blanks alone follow the place, up to the end of the part
 pub record AreFinalBlanks (text : List ℕ) (at word_end end : ℕ) : Type 0 where

@@ -47,4 +47,5 @@ pub mod Tiling
 pub mod Trimmed
 pub mod VisibleEnds
 pub mod WideParts
+pub mod WithinWords
 pub mod Words

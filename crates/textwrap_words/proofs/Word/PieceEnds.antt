@@ -15,7 +15,7 @@ use Rattle.textwrap_words.proofs.Word.FirstPlaces.{end-from}
 
 -- ---- no cut stands before a blank, and one does after the last of them
 
-point-none : (splitter : Splitter) (text : List ℕ) (place : ℕ) → place < length text
+pub point-none : (splitter : Splitter) (text : List ℕ) (place : ℕ) → place < length text
     → is_blank (get_or text place 0) ≡ true → is_point splitter text place ≡ false
 point-none Whole text place inside blank = refl
 point-none AtHyphens text place inside blank = point-blank text place inside blank

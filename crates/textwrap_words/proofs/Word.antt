@@ -8,6 +8,7 @@ pub mod BrokenTexts
 pub mod CharactersAhead
 pub mod ChunkParts
 pub mod ChunksUnique
+pub mod CutWords
 pub mod Divisions
 pub mod FirstPlaces
 pub mod FirstUnits

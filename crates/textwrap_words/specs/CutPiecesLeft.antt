@@ -1,5 +1,5 @@
 -- The pieces that an iterator over them has still to give, where words end at cuts.
-use Rattle.std.specs.Prelude.{ℕ, ◌-◌, List, [], ◌++◌, if◌then◌else◌, map, slice_range}
+use Rattle.std.specs.Prelude.{◌-◌, List, [], ◌++◌, if◌then◌else◌, map, slice_range}
 use Rattle.textwrap_words.specs.Breaking.{broken_words}
 use Rattle.textwrap_words.specs.Cuts.{parts_after}
 use Rattle.textwrap_words.specs.PieceCuts.{pieces_within}

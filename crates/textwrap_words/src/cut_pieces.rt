@@ -1,10 +1,11 @@
 //! The pieces of a text whose words end at given cuts, by where they stand in it, without a list of
 //! words.
-ghost use Rattle.std.specs.Prelude.{◌≡◌, ◌-◌, ◌<◌, ◌≤◌, ◌++◌, [], length, map, slice_range};
+ghost use Rattle.std.specs.Prelude.{◌≡◌, ◌-◌, ◌<◌, ◌≤◌, false, ◌++◌, [], ◌∷◌, length, map, slice_range};
 ghost use Rattle.std.specs.Prelude.{if◌then◌else◌, IsCharBoundary};
 ghost use Rattle.textwrap_words.specs.Blanks.{trimmed_len};
 ghost use Rattle.textwrap_words.specs.Breaking.{broken_words};
-ghost use Rattle.textwrap_words.specs.Cuts.{AreInnerCuts, AreLaterCuts, parts_between};
+ghost use Rattle.textwrap_words.specs.Cuts.{AreInnerCuts, AreLaterCuts, parts_after};
+ghost use Rattle.textwrap_words.specs.Cuts.{parts_between};
 ghost use Rattle.textwrap_words.specs.Pieces.{as_splitter, empty_front, stand_from, IsFirstWithin};
 ghost use Rattle.textwrap_words.specs.WordSplitters.{split_words};
 ghost use Rattle.textwrap_words.specs.Words.{word_of};
@@ -80,19 +81,31 @@ impl<'t, 'c> CutPieces<'t, 'c> {
         requires inside { self.old.end < length self.old.text.now }
         ensures inside { self.new.at < self.new.end }
         ensures left { cut_standing_left self.new ≡ cut_standing_left self.old }
-        ensures has_front { self.new.has_front ≡ self.old.has_front }
+        ensures no_front { self.new.has_front ≡ self.old.has_front }
     {
         let start = self.end;
-        let end = match self.cuts.split_first() {
-            Some((cut, later)) => {
-                self.cuts = later;
-                *cut
-            }
-            None => self.text.as_bytes().len(),
-        };
+        let (end, later) = next_end(self.text, start, self.cuts);
         self.word_len = trimmed_len(&self.text.as_bytes()[start..end]);
         self.start = start;
         self.end = end;
+        self.cuts = later;
+    }
+
+    /// The next piece of the word.
+    fn take_piece(&mut self) -> Piece
+        requires inside { self.old.at < self.old.end }
+        requires no_front { self.old.has_front ≡ false }
+        ensures { cut_standing_left self.old ≡ result ∷ cut_standing_left self.new }
+    {
+        let word = &self.text[self.start..self.end];
+        let place = self.at - self.start;
+        let piece = next_within(word, self.word_len, place, self.limit, self.splitter);
+        self.at = self.start + piece.end;
+        Piece {
+            word_end: self.start + piece.word_end,
+            end: self.at,
+            width: piece.width,
+        }
     }
 }
 
@@ -121,20 +134,23 @@ impl<'t, 'c> Iterator for CutPieces<'t, 'c> {
             }
             self.begin_word();
         }
-        let word = &self.text[self.start..self.end];
-        let piece = next_within(
-            word,
-            self.word_len,
-            self.at - self.start,
-            self.limit,
-            self.splitter,
-        );
-        self.at = self.start + piece.end;
-        Some(Piece {
-            word_end: self.start + piece.word_end,
-            end: self.at,
-            width: piece.width,
-        })
+        Some(self.take_piece())
+    }
+}
+
+/// Where the word of a text ends that begins at a place, and the cuts after that.
+fn next_end<'c>(text: &str, start: usize, cuts: &'c [usize]) -> (usize, &'c [usize])
+    requires inside { start < length text.now }
+    requires cuts { AreLaterCuts start text.now cuts.now }
+    ensures some { start < result.0 }
+    ensures boundary { IsCharBoundary text.now result.0 }
+    ensures later { AreLaterCuts result.0 text.now result.1.now }
+    ensures parts { parts_after start cuts.now text.now
+        ≡ slice_range text.now start result.0 ∷ parts_after result.0 result.1.now text.now }
+{
+    match cuts.split_first() {
+        Some((cut, later)) => (*cut, later),
+        None => (text.len(), cuts),
     }
 }
 

@@ -2,11 +2,11 @@
 use Rattle.textwrap_base.proofs.Common.{inl, inr, ◌≡◌, ℕ, ◌-◌, ◌<◌, ◌≤◌, true, false, not, ◌&&◌}
 use Rattle.textwrap_base.proofs.Common.{◌||◌, List, [], ◌∷◌, length, get_or, refl, sym, ap}
 use Rattle.textwrap_base.proofs.Common.{◌∙◌, arith, cases_lt, IsUtf8, le-ltb, cond}
-use Rattle.textwrap_base.proofs.Common.{and_right, slice_range, IsCharBoundary, IsUtf8-between}
+use Rattle.textwrap_base.proofs.Common.{and_right}
 use Rattle.std.proofs.lemmas.Bool.{not-false, not-true}
 use Rattle.textwrap_words.proofs.Common.{is_blank, words_of, WordText, Splitter, Whole}
 use Rattle.textwrap_words.proofs.Common.{AtHyphens, split_words, broken_words, broken_word}
-use Rattle.textwrap_words.proofs.Common.{broken_pieces, broken_texts, piece, text_width}
+use Rattle.textwrap_words.proofs.Common.{broken_pieces}
 use Rattle.textwrap_words.specs.PieceCuts.{is_point, is_piece_cut, pieces_at, IsPart}
 use Rattle.textwrap_words.specs.PieceCuts.{AreFinalBlanks, IsPartWord}
 use Rattle.textwrap_words.proofs.Word.PointsApart.{point-blank}

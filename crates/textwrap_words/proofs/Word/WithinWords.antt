@@ -1,6 +1,6 @@
 -- Where the reader stops in a word with its blanks. The word may have blanks inside.
-use Rattle.textwrap_base.proofs.Common.{inl, inr, ◌≡◌, ℕ, ◌+◌, ◌-◌, ◌<◌, ◌≤◌, Bool, true, false}
-use Rattle.textwrap_base.proofs.Common.{List, ◌++◌, length, drop, get_or, sym, ap, ◌∙◌, subst, arith}
+use Rattle.textwrap_base.proofs.Common.{inl, inr, ◌≡◌, ℕ, ◌+◌, ◌<◌, ◌≤◌, Bool, true, false}
+use Rattle.textwrap_base.proofs.Common.{List, ◌++◌, length, drop, sym, ap, ◌∙◌, subst, arith}
 use Rattle.textwrap_base.proofs.Common.{cases_lt, IsUtf8, IsCharBoundary, true≢false}
 use Rattle.textwrap_words.proofs.Common.{is_blank, trimmed_len, Visible, is_due, Splitter}
 use Rattle.std.specs.Prelude.{encode_utf8}

@@ -1,5 +1,5 @@
 use Rattle.textwrap_words.proofs.cut_pieces.next_within.Goals as goal
-use Rattle.textwrap_base.proofs.Common.{◌≡◌, ℕ, ◌+◌, ◌-◌, ◌<◌, ◌≤◌, true, false, ◌&&◌, nat_lt, ◌++◌, length}
+use Rattle.textwrap_base.proofs.Common.{◌≡◌, ◌+◌, ◌<◌, ◌≤◌, true, false, ◌&&◌, nat_lt, ◌++◌, length}
 use Rattle.textwrap_base.proofs.Common.{take, drop, get_or, sym, ap, ◌∙◌, subst, arith, slice_range}
 use Rattle.textwrap_base.proofs.Common.{append_assoc, char_indices_offset, true≢false, and_parts}
 use Rattle.textwrap_base.proofs.Common.{lt-ltb, ltb-true, length-append, length-drop, drop_split, get_or-take}

@@ -12,7 +12,6 @@ use Rattle.textwrap_words.specs.declared.escapes.State.TheVariants.{Text}
 use Rattle.textwrap_words.proofs.Units.States.{IsStep}
 use Rattle.textwrap_words.proofs.Units.Narrow.{columns-le}
 use Rattle.textwrap_words.proofs.Word.Breaking.{due-true, due-false}
-use Rattle.textwrap_base.proofs.Characters.{some-bytes}
 use Rattle.textwrap_words.proofs.Word.CharactersAhead.{ascii-here, ends-within, left-after, starts-within}
 use Rattle.textwrap_words.proofs.Word.CharactersAhead.{plain-before, uncut-after}
 use Rattle.textwrap_words.proofs.Word.FirstUnits.{added}

@@ -16,6 +16,13 @@ pub record AreInnerCuts (text cuts : List ℕ) : Type 0 where
   pub before_end : All (λ cut. cut < length text) cuts
   pub between : All (IsCharBoundary text) cuts
 
+-- a text may be cut at these offsets after another one, into parts that are not empty
+pub record AreLaterCuts (start : ℕ) (text cuts : List ℕ) : Type 0 where
+  pub in_order : IsStrictlyIncreasing cuts
+  pub after_start : All (λ cut. start < cut) cuts
+  pub before_end : All (λ cut. cut < length text) cuts
+  pub between : All (IsCharBoundary text) cuts
+
 -- the parts of what follows an offset, between later cuts
 abbrev pub parts_from : ℕ → List ℕ → List ℕ → List (List ℕ)
 parts_from start [] text = drop start text ∷ []
@@ -25,3 +32,7 @@ parts_from start (cut ∷ cuts) text = slice_range text start cut ∷ parts_from
 -- text has no parts
 abbrev pub parts_between : List ℕ → List ℕ → List (List ℕ)
 parts_between cuts text = if length text == 0 then [] else parts_from 0 cuts text
+
+-- the parts of what follows an offset, between later cuts; nothing has no parts
+abbrev pub parts_after : ℕ → List ℕ → List ℕ → List (List ℕ)
+parts_after start cuts text = if length text == start then [] else parts_from start cuts text

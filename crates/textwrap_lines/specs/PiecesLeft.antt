@@ -1,6 +1,6 @@
 -- The pieces of a paragraph that are still to come.
 use Rattle.std.specs.Prelude.{List}
-use Rattle.textwrap_lines.specs.CutPiecesLeft.{cut_standing_left}
+use Rattle.textwrap_words.specs.CutPiecesLeft.{cut_standing_left}
 use Rattle.textwrap_words.specs.PiecesLeft.{standing_left}
 use Rattle.textwrap_words.specs.declared.pieces.Piece.{Piece}
 use Rattle.textwrap_lines.specs.declared.layout.ParagraphPieces.{ParagraphPieces}

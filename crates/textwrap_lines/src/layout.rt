@@ -12,8 +12,7 @@ ghost use Rattle.textwrap_lines.specs.Paragraph.{pieces_of};
 
 use crate::line_ending::LineEnding;
 use crate::options::Options;
-use crate::cut_pieces::CutPieces;
-use textwrap_words::inner::{BuiltInSplitter, Piece, Pieces};
+use textwrap_words::inner::{BuiltInSplitter, CutPieces, Piece, Pieces};
 use textwrap_words::words::display_width;
 
 /// The options but for the algorithm, the separator and the splitter. It holds no function.

@@ -2,23 +2,22 @@
 use Rattle.textwrap_base.proofs.Common.{◌≡◌, ℕ, ◌<◌, ◌≤◌, ◌==◌, Bool, true, false, cond, List, []}
 use Rattle.textwrap_base.proofs.Common.{◌∷◌, ◌++◌, length, refl, sym, ap, ◌∙◌, subst, arith, IsUtf8}
 use Rattle.textwrap_base.proofs.Common.{le-ltb, None, Option, Some, Result, Ok, Err, IsErrAnd}
-use Rattle.textwrap_base.proofs.Common.{drop, rules}
-use Rattle.textwrap_words.proofs.Common.{WordText, sizes_of, Algorithm}
+use Rattle.textwrap_base.proofs.Common.{rules}
+use Rattle.textwrap_words.proofs.Common.{WordText, sizes_of, Algorithm, broken_words}
+use Rattle.textwrap_words.proofs.Word.PieceCuts.{split_words-parts}
+use Rattle.textwrap_words.specs.PieceCuts.{is_piece_cut, pieces_at}
 use Rattle.textwrap_words.proofs.Common.{IsDividedBy, Splitter, IsPrintable}
 use Rattle.textwrap_words.specs.Pieces.{stand_from}
 use Rattle.textwrap_lines.proofs.Common.{Settings, settings_view, CutLine, empty_word, front_of}
 use Rattle.textwrap_lines.proofs.Common.{later_width, lines_from, text_limit}
-use Rattle.textwrap_lines.proofs.Common.{pieces_of, widths_of, DividesBy, pieces_after}
-use Rattle.textwrap_lines.proofs.Common.{printable_cut, HasParts, Options, byte_before, first_width}
-use Rattle.textwrap_lines.proofs.Common.{indent_of}
+use Rattle.textwrap_lines.proofs.Common.{pieces_of, widths_of, DividesBy, HasParts, Options}
 use Rattle.std.specs.Prelude.{IfErr, IfSome, alloc_error}
 use Rattle.textwrap_base.specs.declared.errors.WrapError.{WrapError}
 use Rattle.textwrap_base.specs.declared.errors.WrapError.TheVariants.{Memory}
 use Rattle.textwrap_lines.specs.Layout.{break_limit, limit_at}
-use Rattle.textwrap_lines.specs.PieceLines.{IsFirstUpTo, lines_left, no_pieces}
+use Rattle.textwrap_lines.specs.PieceLines.{lines_left, no_pieces}
 use Rattle.textwrap_lines.proofs.Paragraph.BuiltIn.{divides}
 use Rattle.textwrap_lines.proofs.Paragraph.Pieces.{ArePieces-computed}
-use Rattle.textwrap_lines.proofs.PrintableTexts.Bridge.{pieces-printable, pieces-printable_at}
 use Rattle.textwrap_lines.proofs.PrintableTexts.FirstPiece.{begins_narrow}
 use Rattle.textwrap_lines.proofs.PieceLines.Unbroken.{limited-pieces}
 
@@ -42,40 +41,24 @@ pub lines-by_bytes : (settings : Settings) (splitter : Splitter) (indent text : 
     → IsUtf8 text → IsPrintable text → 0 < length text → length text < text_limit
     → 0 < later_width settings
     → lines_left settings (no_pieces text 0 (later_width settings) indent)
-    (stand_from 0 (pieces_after (printable_cut splitter) (break_limit settings) 32 text))
+    (stand_from 0 (pieces_at splitter (break_limit settings) text 0))
     ≡ lines_of_pieces settings text (later_width settings) indent
     (pieces_of settings splitter text)
 lines-by_bytes settings splitter indent text utf8 printable some short room =
     let width = later_width settings in
     let limit = break_limit settings in
     let here = no_pieces text 0 width indent in
-    let found = begins_narrow (printable_cut splitter) limit 32 text printable limited some in
-    let pieces = found.first ∷ found.others in
+    let found = begins_narrow (is_piece_cut splitter text) limit text printable 0 some limited in
     ap (λ ps. lines_left settings here (stand_from 0 ps)) found.are
     ∙ sym (without_front settings text width indent found.first found.others settings.break_words
     (length settings.initial_indent == 0) found.narrow)
     ∙ ap (lines_of_pieces settings text width indent)
     (ap (λ ps. front_of settings ++ ps)
-    (sym found.are ∙ pieces-printable splitter limit text printable)
+    (sym found.are ∙ ap (broken_words limit) (sym (split_words-parts splitter text utf8)))
     ∙ limited-pieces settings splitter text utf8 short)
   where
     limited : 0 < break_limit settings
     limited = search (rules, arith)
-
--- the first line is found piece by piece, and those after it by their bytes
-pub lines-after_first : (settings : Settings) (splitter : Splitter) (is_later : Bool)
-    (text : List ℕ) (line : CutLine) (end : ℕ) → IsPrintable text → end ≤ length text
-    → IsFirstUpTo settings splitter is_later text line end
-    → line ∷ lines_left settings (no_pieces text end (later_width settings)
-    settings.subsequent_indent) (stand_from end (pieces_after (printable_cut splitter)
-    (break_limit settings) (byte_before 32 text end) (drop end text)))
-    ≡ lines_of_pieces settings text (first_width settings is_later) (indent_of settings is_later)
-    (pieces_of settings splitter text)
-lines-after_first settings splitter is_later text line end printable within first =
-    ap (λ ps. line ∷ lines_left settings (no_pieces text end (later_width settings)
-    settings.subsequent_indent) (stand_from end ps))
-    (pieces-printable_at splitter (break_limit settings) text end printable within)
-    ∙ sym first
 
 -- a paragraph whose pieces are divided so by the built-in parts of the options
 pub direct-divided : {E C : Type 0} {e : _} {c : _} (options : Options E C e c)

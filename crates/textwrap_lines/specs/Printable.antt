@@ -1,21 +1,43 @@
 -- The lines of first fit that a text is cut into wherever a test of its places says so.
-use Rattle.std.specs.Prelude.{◌≡◌, ℕ, ◌<◌, ◌≤◌, Bool, false, List, ◌∷◌, ◌++◌, [], length, map, drop}
-use Rattle.std.specs.Prelude.{slice_range, if◌then◌else◌}
+use Rattle.std.specs.Prelude.{◌≡◌, ℕ, ◌-◌, ◌<◌, ◌≤◌, Bool, true, false, ◌||◌, List, ◌∷◌, ◌++◌, []}
+use Rattle.std.specs.Prelude.{length, map, drop, slice_index, slice_range, if◌then◌else◌}
+use Rattle.std.specs.Char.{is_ascii_alphanumeric}
 use Rattle.textwrap_base.specs.Division.{Fits, closed_width}
-use Rattle.textwrap_words.specs.Blanks.{without_final_blanks}
+use Rattle.textwrap_words.specs.Blanks.{is_blank, without_final_blanks}
 use Rattle.textwrap_words.specs.Breaking.{broken_words}
-use Rattle.textwrap_words.specs.PieceCuts.{parts_by}
+use Rattle.textwrap_words.specs.PieceCuts.{is_point, parts_by}
+use Rattle.textwrap_words.specs.WordSplitters.{Splitter, hyphen}
 use Rattle.textwrap_words.specs.Words.{WordText, sizes_of, word_of}
 use Rattle.textwrap_lines.specs.Paragraph.{covered}
+
+-- ---- where a text is cut
+
+-- between its words: no word but the first begins with a blank
+abbrev pub BeforeOthers : (ℕ → Bool) → List ℕ → Type 0
+BeforeOthers test text = (place : ℕ) → 0 < place → place < length text → test place ≡ true
+    → is_blank (slice_index text place) ≡ false
+
+-- none begins with a hyphen that stands after a letter or a digit
+abbrev pub BeforeNoPoints : (ℕ → Bool) → List ℕ → Type 0
+BeforeNoPoints test text = (place : ℕ) → 0 < place → place < length text → test place ≡ true
+    → slice_index text place ≡ hyphen
+    → is_ascii_alphanumeric (slice_index text (place - 1)) ≡ false
+
+-- whether a text is cut there: between two words, as a test of places says, or at a point of the
+-- splitter
+abbrev pub is_cut_by : (ℕ → Bool) → Splitter → List ℕ → ℕ → Bool
+is_cut_by cuts splitter text place = cuts place || is_point splitter text place
+
+-- the text is cut at no place after the one, up to the other
+abbrev pub NoCutBetween : (ℕ → Bool) → ℕ → ℕ → Type 0
+NoCutBetween test from to = (k : ℕ) → from < k → k ≤ to → test k ≡ false
+
+-- ---- pieces and lines
 
 -- the pieces of what follows a place: its parts as words, broken at the limit
 abbrev pub pieces_from : (ℕ → Bool) → ℕ → List ℕ → ℕ → List WordText
 pieces_from test limit text at =
     broken_words limit (map word_of (parts_by test at (drop at text)))
-
--- the text is cut at no place after the one, up to the other
-abbrev pub NoCutBetween : (ℕ → Bool) → ℕ → ℕ → Type 0
-NoCutBetween test from to = (k : ℕ) → from < k → k ≤ to → test k ≡ false
 
 -- a part of a text, or that without its final blanks
 abbrev pub line_slice : List ℕ → ℕ → ℕ → Bool → List ℕ

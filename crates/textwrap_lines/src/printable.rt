@@ -3,18 +3,20 @@
 //! is cut.
 ghost use Rattle.std.specs.Prelude.{◌≡◌, ◌<◌, ◌≤◌, ◌-◌, length, slice_range, true};
 ghost use Rattle.std.specs.Prelude.{OnOk, IsOk};
-ghost use Rattle.textwrap_words.specs.PieceCuts.{is_piece_cut, is_point};
+ghost use Rattle.textwrap_words.specs.PieceCuts.{is_point};
 ghost use Rattle.textwrap_words.specs.Pieces.{as_splitter, stand_from};
 ghost use Rattle.textwrap_lines.specs.Layout.{break_limit, limit_at};
 ghost use Rattle.textwrap_lines.specs.LineSinks.{Took};
 ghost use Rattle.textwrap_lines.specs.Options.{layout_view};
 ghost use Rattle.textwrap_lines.specs.Paragraph.{indent_of, later_width};
 ghost use Rattle.textwrap_words.specs.Units.{IsPrintable};
-ghost use Rattle.textwrap_lines.specs.Printable.{IsFirstLine, NoCutBetween, line_slice, pieces_from};
+ghost use Rattle.textwrap_lines.specs.Printable.{IsFirstLine, NoCutBetween, is_cut_by, line_slice};
+ghost use Rattle.textwrap_lines.specs.Printable.{pieces_from};
 ghost use Rattle.textwrap_lines.specs.PieceLines.{lines_left, no_pieces};
 
 use crate::layout::{Layout, later_width, next_indent};
 use crate::line_sinks::LineSink;
+use crate::printable_cuts::PrintableCuts;
 use std::alloc::{AllocError, Allocator};
 use textwrap_words::blanks::{blanks_end, trimmed_len};
 use textwrap_words::inner::BuiltInSplitter;
@@ -24,12 +26,13 @@ use textwrap_words::inner::BuiltInSplitter;
 ///
 /// # Errors
 /// [`AllocError`] where memory runs out.
-pub(crate) fn push_printable_lines<'t, A: Allocator + Copy, S: LineSink<'t, A>>(
+pub(crate) fn push_printable_lines<'t, A: Allocator + Copy, C: PrintableCuts, S: LineSink<'t, A>>(
     alloc: A,
     paragraph: &'t str,
     start: usize,
     layout: &Layout<'_>,
     is_later: bool,
+    cuts: &C,
     splitter: BuiltInSplitter,
     lines: &mut S,
 ) -> Result<(), AllocError>
@@ -41,15 +44,15 @@ pub(crate) fn push_printable_lines<'t, A: Allocator + Copy, S: LineSink<'t, A>>(
     ensures took { OnOk result (Took S.holds lines.old lines.new (lines_left (layout_view layout.now)
         (no_pieces paragraph.now start (later_width (layout_view layout.now))
         (indent_of (layout_view layout.now) is_later)) (stand_from start
-        (pieces_from (is_piece_cut (as_splitter splitter) paragraph.now)
-        (break_limit (layout_view layout.now)) paragraph.now start)))) }
+        (pieces_from (is_cut_by (C.cuts cuts.now paragraph.now) (as_splitter splitter)
+        paragraph.now) (break_limit (layout_view layout.now)) paragraph.now start)))) }
 {
     let width = later_width(layout);
     let text = paragraph.as_bytes();
     let mut at = start;
     let mut has_line = is_later;
     while at < text.len() {
-        let (next, goes_on) = line_end(text, at, width, splitter, layout.break_words);
+        let (next, goes_on) = line_end(text, at, width, cuts, splitter, layout.break_words);
         let end = slice_end(text, at, next, goes_on || layout.preserve_trailing_space);
         let indent = next_indent(layout, has_line);
         lines.push_line(alloc, indent, at, &paragraph[at..end], "")?;
@@ -78,17 +81,18 @@ fn slice_end(text: &[u8], at: usize, next: usize, keeps_blanks: bool) -> usize
 /// `breaks` says that words wider than a line are broken. If the text is cut behind the blanks at the
 /// width, the line ends there; else at the last cut before the width. Without one its first word is
 /// too wide: it is broken at the width, or goes on to its end.
-fn line_end(
+fn line_end<C: PrintableCuts>(
     text: &[u8],
     at: usize,
     width: usize,
+    cuts: &C,
     splitter: BuiltInSplitter,
     breaks: bool,
 ) -> (usize, bool)
     requires printable { IsPrintable text.now }
     requires inside { at < length text.now }
     requires width { 0 < width }
-    ensures line { IsFirstLine (is_piece_cut (as_splitter splitter) text.now) (limit_at breaks width)
+    ensures line { IsFirstLine (is_cut_by (C.cuts cuts.now text.now) (as_splitter splitter) text.now) (limit_at breaks width)
         width text.now at result.0 result.1 }
     ensures some { at < result.0 }
     ensures within { result.0 ≤ length text.now }
@@ -98,65 +102,81 @@ fn line_end(
     }
     let limit = at + width;
     let past = blanks_end(text, limit);
-    if past == text.len() || is_cut_at(text, past, splitter) {
+    if past == text.len() || is_cut_at(text, past, cuts, splitter) {
         return (past, false);
     }
-    let cut = last_cut(text, at, limit - 1, splitter);
+    let cut = last_cut(text, at, limit - 1, cuts, splitter);
     if cut > at {
         return (cut, false);
     }
     if breaks {
         return (limit, true);
     }
-    (next_cut(text, past + 1, splitter), false)
+    (next_cut(text, past + 1, cuts, splitter), false)
 }
 
 /// The last place after the start up to the end at which a printable text is cut, the start where
 /// there is none.
-fn last_cut(text: &[u8], start: usize, end: usize, splitter: BuiltInSplitter) -> usize
+fn last_cut<C: PrintableCuts>(
+    text: &[u8],
+    start: usize,
+    end: usize,
+    cuts: &C,
+    splitter: BuiltInSplitter,
+) -> usize
     requires printable { IsPrintable text.now }
     requires order { start ≤ end }
     requires inside { end < length text.now }
     ensures from { start ≤ result }
     ensures within { result ≤ end }
     ensures cut { start < result
-        → is_piece_cut (as_splitter splitter) text.now result ≡ true }
-    ensures last { NoCutBetween (is_piece_cut (as_splitter splitter) text.now) result end }
+        → is_cut_by (C.cuts cuts.now text.now) (as_splitter splitter) text.now result ≡ true }
+    ensures last { NoCutBetween (is_cut_by (C.cuts cuts.now text.now) (as_splitter splitter) text.now) result end }
 {
     let mut place = end;
-    while place > start && !is_cut_at(text, place, splitter) {
+    while place > start && !is_cut_at(text, place, cuts, splitter) {
         place -= 1;
     }
     place
 }
 
 /// The first place from the start on at which a printable text is cut, its end where there is none.
-fn next_cut(text: &[u8], start: usize, splitter: BuiltInSplitter) -> usize
+fn next_cut<C: PrintableCuts>(
+    text: &[u8],
+    start: usize,
+    cuts: &C,
+    splitter: BuiltInSplitter,
+) -> usize
     requires printable { IsPrintable text.now }
     requires after_start { 0 < start }
     requires within { start ≤ length text.now }
     ensures from { start ≤ result }
     ensures within { result ≤ length text.now }
     ensures cut { result < length text.now
-        → is_piece_cut (as_splitter splitter) text.now result ≡ true }
-    ensures first { NoCutBetween (is_piece_cut (as_splitter splitter) text.now) (start - 1)
+        → is_cut_by (C.cuts cuts.now text.now) (as_splitter splitter) text.now result ≡ true }
+    ensures first { NoCutBetween (is_cut_by (C.cuts cuts.now text.now) (as_splitter splitter) text.now) (start - 1)
         (result - 1) }
 {
     let mut place = start;
-    while place < text.len() && !is_cut_at(text, place, splitter) {
+    while place < text.len() && !is_cut_at(text, place, cuts, splitter) {
         place += 1;
     }
     place
 }
 
 /// Whether a printable text is cut before the byte at a place: between two words, or by the splitter.
-fn is_cut_at(text: &[u8], place: usize, splitter: BuiltInSplitter) -> bool
+fn is_cut_at<C: PrintableCuts>(
+    text: &[u8],
+    place: usize,
+    cuts: &C,
+    splitter: BuiltInSplitter,
+) -> bool
     requires printable { IsPrintable text.now }
     requires after_start { 0 < place }
     requires inside { place < length text.now }
-    ensures { result ≡ is_piece_cut (as_splitter splitter) text.now place }
+    ensures { result ≡ is_cut_by (C.cuts cuts.now text.now) (as_splitter splitter) text.now place }
 {
-    text[place - 1] == b' ' && text[place] != b' ' || is_point(text, place, splitter)
+    cuts.is_cut(text, place) || is_point(text, place, splitter)
 }
 
 /// Whether the splitter splits a printable text at a place: after a hyphen between letters or digits.

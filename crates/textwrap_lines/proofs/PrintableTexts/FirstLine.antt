@@ -6,11 +6,11 @@ use Rattle.textwrap_base.proofs.Common.{open_width, Fits}
 use Rattle.textwrap_words.proofs.Common.{is_blank, piece, WordText, sizes_of, IsPrintable, trimmed_len}
 use Rattle.textwrap_words.proofs.Common.{broken_words, word_of}
 use Rattle.textwrap_words.specs.PieceCuts.{parts_by}
-use Rattle.textwrap_lines.proofs.Common.{pieces_from, NoCutBetween, IsFirstLine}
+use Rattle.textwrap_lines.proofs.Common.{BeforeOthers, pieces_from, NoCutBetween, IsFirstLine}
 use Rattle.textwrap_base.proofs.Division.Widths.{closed_width-push}
 use Rattle.textwrap_base.proofs.Lists.Parts.{length-slice}
 use Rattle.textwrap_words.proofs.Units.Widths.{printable-width}
-use Rattle.textwrap_lines.proofs.Paragraph.LastWord.{BeforeOthers, others-slice}
+use Rattle.textwrap_lines.proofs.Paragraph.LastWord.{others-slice}
 use Rattle.textwrap_lines.proofs.PrintableTexts.Exact.{open-exact}
 use Rattle.textwrap_lines.proofs.PrintableTexts.BrokenFront.{BeginsWide}
 use Rattle.textwrap_lines.proofs.PrintableTexts.FirstPiece.{pieces-split, begins_wide, one_piece}

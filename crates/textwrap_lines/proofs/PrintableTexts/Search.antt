@@ -4,10 +4,9 @@ use Rattle.textwrap_base.proofs.Common.{length, drop, sym, ap, ◌∙◌, arith,
 use Rattle.textwrap_base.proofs.Common.{false≢true, false_from_ne_true, slice_range, get_or-take}
 use Rattle.textwrap_base.proofs.Common.{get_or-drop}
 use Rattle.textwrap_words.proofs.Common.{BlanksBetween, is_blank, trimmed_len}
-use Rattle.textwrap_lines.proofs.Common.{NoCutBetween}
+use Rattle.textwrap_lines.proofs.Common.{BeforeOthers, NoCutBetween}
 use Rattle.textwrap_base.proofs.Lists.Parts.{length-slice}
 use Rattle.textwrap_words.proofs.Word.Trimmed.{trimmed-le}
-use Rattle.textwrap_lines.proofs.Paragraph.LastWord.{BeforeOthers}
 
 -- a slice whose end is blanks from a place on is trimmed to what comes before
 pub blanks-keep : (text : List ℕ) (at width end : ℕ) → end ≤ length text
@@ -31,7 +30,7 @@ module _ (test : ℕ → Bool) where
         | inr on ↦ elim (cases_lt k past) [
           | inl inside ↦
               false_from_ne_true (test k) (λ is.
-              false≢true (sym (before k (omega (arith, inside, within)) is) ∙ blanks k on inside))
+              false≢true (sym (before k (omega (arith, after)) (omega (arith, inside, within)) is) ∙ blanks k on inside))
           | inr here ↦
               let same : past ≡ k = omega (arith, here, up_to) in
               ap test (sym same) ∙ end

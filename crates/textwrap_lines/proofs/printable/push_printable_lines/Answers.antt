@@ -3,8 +3,7 @@ use Rattle.textwrap_lines.proofs.printable.push_printable_lines.Goals.{then-goes
 use Rattle.textwrap_base.proofs.Common.{◌≡◌, ◌≤◌, ◌||◌, [], ◌∷◌, length, refl, sym, ap}
 use Rattle.textwrap_base.proofs.Common.{◌∙◌, subst, slice_range}
 use Rattle.textwrap_words.proofs.Common.{as_splitter}
-use Rattle.textwrap_words.specs.PieceCuts.{is_piece_cut}
-use Rattle.textwrap_lines.proofs.Common.{Took, IsFirstLine, line_slice, layout_view, indent_of}
+use Rattle.textwrap_lines.proofs.Common.{is_cut_by, Took, IsFirstLine, line_slice, layout_view, indent_of}
 use Rattle.textwrap_lines.proofs.Common.{later_width, cut_line, assembled_line}
 use Rattle.textwrap_lines.specs.Layout.{break_limit, limit_at}
 use Rattle.textwrap_lines.proofs.PrintableTexts.Lines.{lines-step}
@@ -14,8 +13,9 @@ use Rattle.textwrap_lines.proofs.printable.push_printable_lines.Invariants.{line
 pub loop-at-init : goal.loop-at-init
 loop-at-init g c = record {
   within = c.requires.start;
-  taken = HasTaken-start (lines_after (layout_view c.args.layout.now) (as_splitter c.args.splitter)
-      c.args.paragraph.now c.args.start c.args.is_later) c.args.lines.now;
+  taken = HasTaken-start (lines_after (layout_view c.args.layout.now)
+      (is_cut_by (g.C.PrintableCuts.cuts c.args.cuts.now c.args.paragraph.now)
+      (as_splitter c.args.splitter) c.args.paragraph.now) c.args.paragraph.now c.args.start c.args.is_later) c.args.lines.now;
   name = refl;
 }
 
@@ -24,7 +24,8 @@ loop-at-preserved g c =
     let settings = layout_view c.args.layout.now in
     let splitter = as_splitter c.args.splitter in
     let text = c.args.paragraph.now in
-    let test = is_piece_cut splitter text in
+    let cuts = g.C.PrintableCuts.cuts c.args.cuts.now in
+    let test = is_cut_by (cuts text) splitter text in
     let limit = break_limit settings in
     let width = later_width settings in
     let at = c.loop-at.at in
@@ -35,8 +36,8 @@ loop-at-preserved g c =
     let within : next ≤ length text =
     subst (λ t. next ≤ length t) bytes c.line_end-next.ensures.within in
     let first : IsFirstLine test limit width text at next goes_on =
-    subst (λ t. IsFirstLine (is_piece_cut splitter t) limit width t at next goes_on) bytes
-    (subst (λ n. IsFirstLine (is_piece_cut splitter c.as_bytes-text.result.now)
+    subst (λ t. IsFirstLine (is_cut_by (cuts t) splitter t) limit width t at next goes_on) bytes
+    (subst (λ n. IsFirstLine (is_cut_by (cuts c.as_bytes-text.result.now) splitter c.as_bytes-text.result.now)
     (limit_at c.args.layout.now.break_words n) n c.as_bytes-text.result.now at next goes_on)
     c.later_width-width.ensures c.line_end-next.ensures.line) in
     let keeps_blanks = settings.preserve_trailing_space in
@@ -51,7 +52,7 @@ loop-at-preserved g c =
     ∙ subst (λ t. slice_range t at c.slice_end-end.result ≡ line_slice t at next c.if-goes_on.slice_end)
     bytes c.slice_end-end.ensures.slice
     ∙ ap (line_slice text at next) keeps in
-    let all = lines_after settings splitter text c.args.start c.args.is_later in
+    let all = lines_after settings test text c.args.start c.args.is_later in
     let took = subst (λ l. Took g.S.LineSink.holds c.loop-at.lines c.push_line.new.self (l ∷ []))
     (ap (λ i. cut_line at (assembled_line i c.range.result.now [])) c.next_indent-indent.ensures
     ∙ ap (λ s. cut_line at (assembled_line (indent_of settings c.loop-at.has_line) s [])) slice)

@@ -1,25 +1,26 @@
 use Rattle.textwrap_lines.proofs.printable.push_printable_lines.Given as goal
 use Rattle.textwrap_base.proofs.Common.{◌≡◌, ◌-◌, ◌≤◌, ℕ, Bool, List, length}
-use Rattle.textwrap_words.proofs.Common.{as_splitter, Splitter}
-use Rattle.textwrap_words.specs.PieceCuts.{is_piece_cut}
-use Rattle.textwrap_lines.proofs.Common.{Settings, layout_view, later_width, CutLine, pieces_from}
+use Rattle.textwrap_words.proofs.Common.{as_splitter}
+use Rattle.textwrap_lines.proofs.Common.{is_cut_by, Settings, layout_view, later_width, CutLine}
+use Rattle.textwrap_lines.proofs.Common.{pieces_from}
 use Rattle.textwrap_lines.specs.Layout.{break_limit}
 use Rattle.textwrap_lines.proofs.PrintableTexts.Lines.{lines_at}
 use Rattle.textwrap_lines.proofs.Text.Sinks.{HasTaken}
 
 -- the lines of what follows a place
-abbrev pub lines_after : Settings → Splitter → List ℕ → ℕ → Bool → List CutLine
-lines_after settings splitter text at is_later =
+abbrev pub lines_after : Settings → (ℕ → Bool) → List ℕ → ℕ → Bool → List CutLine
+lines_after settings test text at is_later =
     lines_at settings text at (later_width settings) is_later
-    (pieces_from (is_piece_cut splitter text) (break_limit settings) text at)
+    (pieces_from test (break_limit settings) text at)
 
 -- the lines of what comes before the place were taken, and those after it are left
 abbrev pub invariant-loop-at : goal.invariant-loop-at
 invariant-loop-at g l = record {
   within : l.at ≤ length l.paragraph;
   taken : HasTaken g.S.LineSink.holds (lines_after (layout_view l.layout)
-      (as_splitter l.splitter) l.paragraph l.start l.is_later)
-      l.initial.lines l.lines (lines_after (layout_view l.layout) (as_splitter l.splitter)
+      (is_cut_by (g.C.PrintableCuts.cuts l.cuts l.paragraph) (as_splitter l.splitter) l.paragraph)
+      l.paragraph l.start l.is_later) l.initial.lines l.lines (lines_after (layout_view l.layout)
+      (is_cut_by (g.C.PrintableCuts.cuts l.cuts l.paragraph) (as_splitter l.splitter) l.paragraph)
       l.paragraph l.at l.has_line);
   name : g.S.LineSink.name l.lines ≡ g.S.LineSink.name l.initial.lines;
 }

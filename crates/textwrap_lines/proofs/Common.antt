@@ -8,7 +8,7 @@ pub use Rattle.textwrap_lines.specs.Options.{HasParts, HasPartsAt, MayOverflow, 
 pub use Rattle.textwrap_lines.specs.Options.{layout_view, settings_view}
 pub use Rattle.textwrap_lines.specs.Paragraph.{AreDividedParts, AreIndented, AreParagraphParts}
 pub use Rattle.textwrap_lines.specs.Paragraph.{ArePieces, assembled_line, broken_pieces_of, covered}
-pub use Rattle.textwrap_lines.specs.Paragraph.{DividesAs, DividesAt, pieces_by, pieces_from}
+pub use Rattle.textwrap_lines.specs.Paragraph.{DividesAs, DividesAt, pieces_by, pieces_of_words}
 pub use Rattle.textwrap_lines.specs.Paragraph.{DividesBy, empty_word, first_width, front_pieces}
 pub use Rattle.textwrap_lines.specs.Paragraph.{indent_of, is_whole, IsDividedInto, IsOneCharacter}
 pub use Rattle.textwrap_lines.specs.Paragraph.{keeps_whitespace, KeepsToWidth, KeepToWidths}
@@ -19,9 +19,8 @@ pub use Rattle.textwrap_lines.specs.Paragraph.{last_space, widths_of}
 pub use Rattle.textwrap_lines.specs.Places.{AreCutLines, built_bytes, built_text, cut_line}
 pub use Rattle.textwrap_lines.specs.Places.{cut_lines, CutLine, further, lines_of, place_of}
 pub use Rattle.textwrap_lines.specs.Places.{places_of, text_cuts}
-pub use Rattle.textwrap_lines.specs.Printable.{byte_before, cut_at, CutTest}
-pub use Rattle.textwrap_lines.specs.Printable.{IsFirstLine}
-pub use Rattle.textwrap_lines.specs.Printable.{NoCutBetween, parts, pieces_after, printable_cut}
+pub use Rattle.textwrap_lines.specs.Printable.{BeforeNoPoints, BeforeOthers, is_cut_by, IsFirstLine}
+pub use Rattle.textwrap_lines.specs.Printable.{line_slice, NoCutBetween, pieces_from}
 pub use Rattle.textwrap_lines.specs.Spans.{AreSpans, HaveTexts, last_span, no_span, span_lines}
 pub use Rattle.textwrap_lines.specs.Spans.{span_of, span_priced, spans_from}
 pub use Rattle.textwrap_lines.specs.Text.{AreGroups, AreTextLines, covered_by, IsWrapped}

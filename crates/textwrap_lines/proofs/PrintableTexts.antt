@@ -1,15 +1,12 @@
 pub mod Breaking
 pub mod Bridge
 pub mod BrokenFront
-pub mod Cuts
 pub mod Exact
 pub mod FirstLine
-pub mod FirstPart
 pub mod FirstPiece
 pub mod Lines
 pub mod Parts
-pub mod PieceCuts
 pub mod Pieces
+pub mod Points
 pub mod Search
-pub mod SearchOn
 pub mod Texts

@@ -7,7 +7,7 @@ use Rattle.textwrap_words.specs.WordSplitters.{Splitter, splitter_view}
 use Rattle.textwrap_words.specs.Words.{WordText, word_of, words_of}
 use Rattle.textwrap_words.specs.WrapAlgorithms.{Algorithm, Greedy, LeastCost, algorithm_view}
 use Rattle.textwrap_lines.specs.Options.{Settings}
-use Rattle.textwrap_lines.specs.Paragraph.{pieces_from}
+use Rattle.textwrap_lines.specs.Paragraph.{pieces_of_words}
 use Rattle.textwrap_lines.specs.declared.any_options.BuiltInAlgorithm as algorithms
 use Rattle.textwrap_lines.specs.declared.options.Options.{Options}
 use Rattle.textwrap_lines.specs.declared.layout.Cuts.{Cuts}
@@ -42,7 +42,7 @@ places_of cuts = option_map (λ places. places.now) cuts.words
 -- its pieces
 abbrev pub pieces_cut : Settings → Cuts → List ℕ → List WordText
 pieces_cut settings cuts paragraph =
-    pieces_from settings (as_splitter cuts.splitter) (words_cut (places_of cuts) paragraph)
+    pieces_of_words settings (as_splitter cuts.splitter) (words_cut (places_of cuts) paragraph)
 
 -- these are the splitter and the algorithm, both built in
 pub record HasMethods {E C : Type 0} {e : _} {c : _} (o : Options E C e c) (splitter : Splitter)

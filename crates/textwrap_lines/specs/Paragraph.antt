@@ -89,12 +89,12 @@ module _ (settings : Settings) where
       if settings.break_words then front_pieces ++ broken_words later_width split else split
 
   -- the pieces of these words: split and broken
-  abbrev pub pieces_from : Splitter → List WordText → List WordText
-  pieces_from splitter words = broken_pieces_of (split_words splitter words)
+  abbrev pub pieces_of_words : Splitter → List WordText → List WordText
+  pieces_of_words splitter words = broken_pieces_of (split_words splitter words)
 
   -- those of a paragraph whose words this function names
   abbrev pub pieces_by : (List ℕ → List WordText) → Splitter → List ℕ → List WordText
-  pieces_by words splitter paragraph = pieces_from splitter (words paragraph)
+  pieces_by words splitter paragraph = pieces_of_words splitter (words paragraph)
 
   -- the same of words between blanks
   abbrev pub pieces_of : Splitter → List ℕ → List WordText

@@ -1,68 +1,59 @@
--- Printable texts, which are of printable ASCII alone, and the lines of first fit that they are cut
--- into.
-use Rattle.std.specs.Prelude.{◌≡◌, ℕ, ◌+◌, ◌<◌, ◌≤◌, Bool, false, ◌&&◌, ◌||◌, ◌==◌, List, []}
-use Rattle.std.specs.Prelude.{◌∷◌, ◌++◌, length, map, take, drop, slice_index, if◌then◌else◌}
+-- The lines of first fit that a text is cut into wherever a test of its places says so.
+use Rattle.std.specs.Prelude.{◌≡◌, ℕ, ◌-◌, ◌<◌, ◌≤◌, Bool, true, false, ◌||◌, List, ◌∷◌, ◌++◌, []}
+use Rattle.std.specs.Prelude.{length, map, drop, slice_index, slice_range, if◌then◌else◌}
 use Rattle.std.specs.Char.{is_ascii_alphanumeric}
-use Rattle.std.specs.List.{onto_first}
-use Rattle.textwrap_words.specs.Blanks.{without_final_blanks}
-use Rattle.textwrap_words.specs.Breaking.{broken_words}
 use Rattle.textwrap_base.specs.Division.{Fits, closed_width}
-use Rattle.textwrap_words.specs.Words.{WordText, is_cut, sizes_of, word_of}
+use Rattle.textwrap_words.specs.Blanks.{is_blank, without_final_blanks}
+use Rattle.textwrap_words.specs.Breaking.{broken_words}
+use Rattle.textwrap_words.specs.PieceCuts.{is_point, parts_by}
+use Rattle.textwrap_words.specs.WordSplitters.{Splitter, hyphen}
+use Rattle.textwrap_words.specs.Words.{WordText, sizes_of, word_of}
 use Rattle.textwrap_lines.specs.Paragraph.{covered}
-use Rattle.textwrap_words.specs.WordSplitters.{hyphen, Splitter, Whole, AtHyphens}
 
--- ---- the parts that a text is cut into, and its pieces
+-- ---- where a text is cut
 
--- whether a text is cut between the second of three bytes in a row and the third
-abbrev pub CutTest : Type 0
-CutTest = ℕ → ℕ → ℕ → Bool
+-- between its words: no word but the first begins with a blank
+abbrev pub BeforeOthers : (ℕ → Bool) → List ℕ → Type 0
+BeforeOthers test text = (place : ℕ) → 0 < place → place < length text → test place ≡ true
+    → is_blank (slice_index text place) ≡ false
 
--- the parts of a text, where `a` stands before it
-abbrev pub parts : CutTest → ℕ → List ℕ → List (List ℕ)
-parts cut a [] = []
-parts cut a (b ∷ []) = (b ∷ []) ∷ []
-parts cut a (b ∷ c ∷ cs) =
-    if cut a b c then (b ∷ []) ∷ parts cut b (c ∷ cs) else onto_first b (parts cut b (c ∷ cs))
+-- none begins with a hyphen that stands after a letter or a digit
+abbrev pub BeforeNoPoints : (ℕ → Bool) → List ℕ → Type 0
+BeforeNoPoints test text = (place : ℕ) → 0 < place → place < length text → test place ≡ true
+    → slice_index text place ≡ hyphen
+    → is_ascii_alphanumeric (slice_index text (place - 1)) ≡ false
 
--- the pieces of a text, where `a` stands before it: its parts as words, broken at the limit
-abbrev pub pieces_after : CutTest → ℕ → ℕ → List ℕ → List WordText
-pieces_after cut limit a text = broken_words limit (map word_of (parts cut a text))
+-- whether a text is cut there: between two words, as a test of places says, or at a point of the
+-- splitter
+abbrev pub is_cut_by : (ℕ → Bool) → Splitter → List ℕ → ℕ → Bool
+is_cut_by cuts splitter text place = cuts place || is_point splitter text place
 
--- whether the text is cut between the bytes at m and m + 1, where `a` stands before it
-abbrev pub cut_at : CutTest → ℕ → List ℕ → ℕ → Bool
-cut_at cut a text m =
-    cut (slice_index (a ∷ text) m) (slice_index text m) (slice_index text (m + 1))
+-- the text is cut at no place after the one, up to the other
+abbrev pub NoCutBetween : (ℕ → Bool) → ℕ → ℕ → Type 0
+NoCutBetween test from to = (k : ℕ) → from < k → k ≤ to → test k ≡ false
 
--- the byte before what follows n bytes, where `a` stands before the text
-abbrev pub byte_before : ℕ → List ℕ → ℕ → ℕ
-byte_before a text n = slice_index (a ∷ text) n
+-- ---- pieces and lines
 
--- a printable text is split nowhere, or after hyphens between letters or digits
-abbrev pub printable_point : Splitter → CutTest
-printable_point Whole a b c = false
-printable_point AtHyphens a b c =
-    (b == hyphen) && is_ascii_alphanumeric a && is_ascii_alphanumeric c
+-- the pieces of what follows a place: its parts as words, broken at the limit
+abbrev pub pieces_from : (ℕ → Bool) → ℕ → List ℕ → ℕ → List WordText
+pieces_from test limit text at =
+    broken_words limit (map word_of (parts_by test at (drop at text)))
 
--- it is cut into words, and these are split
-abbrev pub printable_cut : Splitter → CutTest
-printable_cut splitter a b c = is_cut b c || printable_point splitter a b c
+-- a part of a text, or that without its final blanks
+abbrev pub line_slice : List ℕ → ℕ → ℕ → Bool → List ℕ
+line_slice text at end keeps_blanks =
+    if keeps_blanks then slice_range text at end
+    else without_final_blanks (slice_range text at end)
 
--- the text is not cut after the bytes from one place on up to another
-abbrev pub NoCutBetween : CutTest → ℕ → List ℕ → ℕ → ℕ → Type 0
-NoCutBetween cut a text from to = (k : ℕ) → from ≤ k → k < to → cut_at cut a text k ≡ false
-
--- ---- lines
-
--- these pieces are the first line of first fit: the others are those of what follows `next` bytes,
--- and the first of these has no room. Words are broken past `limit` columns
-pub record IsFirstLine (cut : CutTest) (limit width a : ℕ) (text : List ℕ) (next : ℕ)
-    : Type 0 where
+-- the pieces from the one place up to the other are the first line of first fit: the first of the
+-- others has no room. If a word goes on after the line, it keeps its blanks there. Words are broken
+-- past `limit` columns
+pub record IsFirstLine (test : ℕ → Bool) (limit width : ℕ) (text : List ℕ) (at end : ℕ)
+    (goes_on : Bool) : Type 0 where
   pub line : List WordText
   pub some : 0 < length line
-  pub are : pieces_after cut limit a text
-      ≡ line ++ pieces_after cut limit (byte_before a text next) (drop next text)
-  pub covers : covered line ≡ without_final_blanks (take next text)
+  pub are : pieces_from test limit text at ≡ line ++ pieces_from test limit text end
+  pub covers : covered line ≡ line_slice text at end goes_on
   pub fits : Fits sizes_of width line
-  pub full : (w : WordText) (ws : List WordText)
-      → pieces_after cut limit (byte_before a text next) (drop next text) ≡ w ∷ ws
+  pub full : (w : WordText) (ws : List WordText) → pieces_from test limit text end ≡ w ∷ ws
       → width < closed_width sizes_of (line ++ w ∷ [])

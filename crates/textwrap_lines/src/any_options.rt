@@ -34,7 +34,7 @@ pub(crate) trait AnyOptions<A: Allocator> {
     ghost use Rattle.textwrap_words.specs.Words.{WordText, Tiles, sizes_of, tiled, word_view};
     ghost use Rattle.textwrap_lines.specs.Direct.{CanBeCut, as_algorithm, words_cut};
     ghost use Rattle.textwrap_lines.specs.Options.{Settings, layout_view};
-    ghost use Rattle.textwrap_lines.specs.Paragraph.{pieces_from, widths_of};
+    ghost use Rattle.textwrap_lines.specs.Paragraph.{pieces_of_words, widths_of};
 
     // What they say, but for the algorithm, the separator and the splitter.
     ghost settings: { Self → Settings };
@@ -67,7 +67,7 @@ pub(crate) trait AnyOptions<A: Allocator> {
             → may_separate self.now paragraph words
             → IsDividedBy (as_algorithm parts.algorithm) sizes_of
             (widths_of (settings self.now) is_later)
-            (pieces_from (settings self.now) (as_splitter parts.splitter) words) division
+            (pieces_of_words (settings self.now) (as_splitter parts.splitter) words) division
             → divides self.now is_later paragraph division) }
         ensures first_fit { is_direct self.now
             → IsSomeAnd result (λ parts. parts.algorithm ≡ BuiltInAlgorithm.FirstFit) };

@@ -25,6 +25,7 @@ use crate::line_sinks::LineSink;
 use crate::options::Options;
 use crate::piece_lines::push_lines_by_pieces;
 use crate::printable::push_printable_lines;
+use crate::printable_cuts::BlankCuts;
 use std::alloc::{AllocError, Allocator};
 use textwrap_words::inner::{BuiltInSplitter, is_printable};
 use textwrap_words::word_splitters::WordSplitter;
@@ -143,9 +144,27 @@ fn push_by_jumps<'t, A: Allocator + Copy, S: LineSink<'t, A>>(
 {
     let (first_width, later_width) = line_widths(layout, is_later);
     if first_width == later_width {
-        return push_printable_lines(alloc, paragraph, 0, layout, is_later, splitter, lines);
+        return push_printable_lines(
+            alloc,
+            paragraph,
+            0,
+            layout,
+            is_later,
+            &BlankCuts {},
+            splitter,
+            lines,
+        );
     }
     // A first line with a width of its own is found piece by piece.
     let end = push_first_line(alloc, paragraph, layout, is_later, splitter, lines)?;
-    push_printable_lines(alloc, paragraph, end, layout, true, splitter, lines)
+    push_printable_lines(
+        alloc,
+        paragraph,
+        end,
+        layout,
+        true,
+        &BlankCuts {},
+        splitter,
+        lines,
+    )
 }

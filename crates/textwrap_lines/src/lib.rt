@@ -25,5 +25,6 @@ mod piece_lines;
 pub mod placed;
 mod places;
 mod printable;
+mod printable_cuts;
 mod spans;
 mod wrapping;

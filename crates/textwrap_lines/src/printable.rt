@@ -1,22 +1,22 @@
 //! Lines of a printable text, one of printable ASCII alone. They are found by its bytes, without a
 //! list of words: a line goes up to its width, and from there back to the last place where the text
 //! is cut.
-ghost use Rattle.std.specs.Prelude.{◌≡◌, ◌<◌, ◌≤◌, ◌-◌, true, length, take, drop};
-ghost use Rattle.std.specs.Prelude.{IsCharBoundary, OnOk, IsOk, if◌then◌else◌};
-ghost use Rattle.textwrap_words.specs.Blanks.{trimmed_len};
+ghost use Rattle.std.specs.Prelude.{◌≡◌, ◌<◌, ◌≤◌, ◌-◌, length, slice_range, true};
+ghost use Rattle.std.specs.Prelude.{OnOk, IsOk};
+ghost use Rattle.textwrap_words.specs.PieceCuts.{is_point};
 ghost use Rattle.textwrap_words.specs.Pieces.{as_splitter, stand_from};
 ghost use Rattle.textwrap_lines.specs.Layout.{break_limit, limit_at};
 ghost use Rattle.textwrap_lines.specs.LineSinks.{Took};
 ghost use Rattle.textwrap_lines.specs.Options.{layout_view};
 ghost use Rattle.textwrap_lines.specs.Paragraph.{indent_of, later_width};
 ghost use Rattle.textwrap_words.specs.Units.{IsPrintable};
-ghost use Rattle.textwrap_lines.specs.Printable.{IsFirstLine, cut_at};
-ghost use Rattle.textwrap_lines.specs.Printable.{NoCutBetween, byte_before};
-ghost use Rattle.textwrap_lines.specs.Printable.{pieces_after, printable_cut};
+ghost use Rattle.textwrap_lines.specs.Printable.{IsFirstLine, NoCutBetween, is_cut_by, line_slice};
+ghost use Rattle.textwrap_lines.specs.Printable.{pieces_from};
 ghost use Rattle.textwrap_lines.specs.PieceLines.{lines_left, no_pieces};
 
 use crate::layout::{Layout, later_width, next_indent};
 use crate::line_sinks::LineSink;
+use crate::printable_cuts::PrintableCuts;
 use std::alloc::{AllocError, Allocator};
 use textwrap_words::blanks::{blanks_end, trimmed_len};
 use textwrap_words::inner::BuiltInSplitter;
@@ -26,149 +26,169 @@ use textwrap_words::inner::BuiltInSplitter;
 ///
 /// # Errors
 /// [`AllocError`] where memory runs out.
-pub(crate) fn push_printable_lines<'t, A: Allocator + Copy, S: LineSink<'t, A>>(
+pub(crate) fn push_printable_lines<'t, A: Allocator + Copy, C: PrintableCuts, S: LineSink<'t, A>>(
     alloc: A,
     paragraph: &'t str,
     start: usize,
     layout: &Layout<'_>,
     is_later: bool,
+    cuts: &C,
     splitter: BuiltInSplitter,
     lines: &mut S,
 ) -> Result<(), AllocError>
     requires printable { IsPrintable paragraph.now }
-    requires start { IsCharBoundary paragraph.now start }
+    requires start { start ≤ length paragraph.now }
     requires room { 0 < later_width (layout_view layout.now) }
     ensures name { S.name lines.new ≡ S.name lines.old }
     ensures done { S.never_fails → IsOk result }
     ensures took { OnOk result (Took S.holds lines.old lines.new (lines_left (layout_view layout.now)
         (no_pieces paragraph.now start (later_width (layout_view layout.now))
         (indent_of (layout_view layout.now) is_later)) (stand_from start
-        (pieces_after (printable_cut (as_splitter splitter)) (break_limit
-        (layout_view layout.now)) (byte_before 32 paragraph.now start)
-        (drop start paragraph.now))))) }
+        (pieces_from (is_cut_by (C.cuts cuts.now paragraph.now) (as_splitter splitter)
+        paragraph.now) (break_limit (layout_view layout.now)) paragraph.now start)))) }
 {
     let width = later_width(layout);
-    let mut rest = &paragraph[start..];
-    let mut before = byte_before(paragraph.as_bytes(), b' ', start);
+    let text = paragraph.as_bytes();
+    let mut at = start;
     let mut has_line = is_later;
-    while !rest.is_empty() {
-        let place = paragraph.len() - rest.len();
-        let bytes = rest.as_bytes();
-        let next = line_len(bytes, before, width, splitter, layout.break_words);
-        let end = slice_len(bytes, next, layout.preserve_trailing_space);
+    while at < text.len() {
+        let (next, goes_on) = line_end(text, at, width, cuts, splitter, layout.break_words);
+        let end = slice_end(text, at, next, goes_on || layout.preserve_trailing_space);
         let indent = next_indent(layout, has_line);
-        lines.push_line(alloc, indent, place, &rest[..end], "")?;
-        before = bytes[next - 1];
-        rest = &rest[next..];
+        lines.push_line(alloc, indent, at, &paragraph[at..end], "")?;
+        at = next;
         has_line = true;
     }
     Ok(())
 }
 
-/// How many bytes of a line are its slice: all up to the next line, or those without the blanks at
-/// their end.
-fn slice_len(text: &[u8], next: usize, keeps_blanks: bool) -> usize
-    requires { next ≤ length text.now }
-    ensures value { result
-        ≡ (if keeps_blanks then next else trimmed_len (take next text.now)) }
+/// Where the slice of a line ends that goes from the one place to the other: there, or before the
+/// blanks at its end.
+fn slice_end(text: &[u8], at: usize, next: usize, keeps_blanks: bool) -> usize
+    requires order { at ≤ next }
+    requires inside { next ≤ length text.now }
+    ensures slice { slice_range text.now at result ≡ line_slice text.now at next keeps_blanks }
+    ensures from { at ≤ result }
     ensures within { result ≤ next }
 {
     if keeps_blanks {
         return next;
     }
-    trimmed_len(&text[..next])
+    at + trimmed_len(&text[at..next])
 }
 
-/// How many bytes of a printable text come before its second line, where `before` is the byte before
-/// the text, and `breaks` says that words wider than a line are broken. Blanks that stand from the
-/// width on belong to the first line; where none stands there, it ends at the last cut up to the
-/// width. Without one its first word is too wide: it is broken at the width, or goes on to its end.
-fn line_len(text: &[u8], before: u8, width: usize, splitter: BuiltInSplitter, breaks: bool) -> usize
+/// Where the line ends of a printable text that begins at a place, and whether a word goes on there;
+/// `breaks` says that words wider than a line are broken. If the text is cut behind the blanks at the
+/// width, the line ends there; else at the last cut before the width. Without one its first word is
+/// too wide: it is broken at the width, or goes on to its end.
+fn line_end<C: PrintableCuts>(
+    text: &[u8],
+    at: usize,
+    width: usize,
+    cuts: &C,
+    splitter: BuiltInSplitter,
+    breaks: bool,
+) -> (usize, bool)
     requires printable { IsPrintable text.now }
-    requires some { 0 < length text.now }
+    requires inside { at < length text.now }
     requires width { 0 < width }
-    ensures line { IsFirstLine (printable_cut (as_splitter splitter)) (limit_at breaks width)
-        width before text.now result }
-    ensures some { 0 < result }
-    ensures within { result ≤ length text.now }
+    ensures line { IsFirstLine (is_cut_by (C.cuts cuts.now text.now) (as_splitter splitter) text.now) (limit_at breaks width)
+        width text.now at result.0 result.1 }
+    ensures some { at < result.0 }
+    ensures within { result.0 ≤ length text.now }
 {
-    if text.len() <= width {
-        return text.len();
+    if text.len() - at <= width {
+        return (text.len(), false);
     }
-    if text[width] == b' ' {
-        return blanks_end(text, width);
+    let limit = at + width;
+    let past = blanks_end(text, limit);
+    if past == text.len() || is_cut_at(text, past, cuts, splitter) {
+        return (past, false);
     }
-    let cut = last_cut(text, before, width, splitter);
-    if cut > 0 {
-        return cut;
+    let cut = last_cut(text, at, limit - 1, cuts, splitter);
+    if cut > at {
+        return (cut, false);
     }
     if breaks {
-        return width;
+        return (limit, true);
     }
-    next_cut(text, before, width + 1, splitter)
+    (next_cut(text, past + 1, cuts, splitter), false)
 }
 
-/// The last place up to the end at which a printable text is cut, 0 where there is none.
-fn last_cut(text: &[u8], before: u8, end: usize, splitter: BuiltInSplitter) -> usize
-    requires { end < length text.now }
+/// The last place after the start up to the end at which a printable text is cut, the start where
+/// there is none.
+fn last_cut<C: PrintableCuts>(
+    text: &[u8],
+    start: usize,
+    end: usize,
+    cuts: &C,
+    splitter: BuiltInSplitter,
+) -> usize
+    requires printable { IsPrintable text.now }
+    requires order { start ≤ end }
+    requires inside { end < length text.now }
+    ensures from { start ≤ result }
     ensures within { result ≤ end }
-    ensures cut { 0 < result
-        → cut_at (printable_cut (as_splitter splitter)) before text.now (result - 1) ≡ true }
-    ensures last { NoCutBetween (printable_cut (as_splitter splitter)) before text.now result end }
+    ensures cut { start < result
+        → is_cut_by (C.cuts cuts.now text.now) (as_splitter splitter) text.now result ≡ true }
+    ensures last { NoCutBetween (is_cut_by (C.cuts cuts.now text.now) (as_splitter splitter) text.now) result end }
 {
     let mut place = end;
-    while place > 0 && !is_cut_at(text, before, place, splitter) {
+    while place > start && !is_cut_at(text, place, cuts, splitter) {
         place -= 1;
     }
     place
 }
 
 /// The first place from the start on at which a printable text is cut, its end where there is none.
-fn next_cut(text: &[u8], before: u8, start: usize, splitter: BuiltInSplitter) -> usize
+fn next_cut<C: PrintableCuts>(
+    text: &[u8],
+    start: usize,
+    cuts: &C,
+    splitter: BuiltInSplitter,
+) -> usize
+    requires printable { IsPrintable text.now }
     requires after_start { 0 < start }
     requires within { start ≤ length text.now }
     ensures from { start ≤ result }
     ensures within { result ≤ length text.now }
     ensures cut { result < length text.now
-        → cut_at (printable_cut (as_splitter splitter)) before text.now (result - 1) ≡ true }
-    ensures first { NoCutBetween (printable_cut (as_splitter splitter)) before text.now (start - 1)
+        → is_cut_by (C.cuts cuts.now text.now) (as_splitter splitter) text.now result ≡ true }
+    ensures first { NoCutBetween (is_cut_by (C.cuts cuts.now text.now) (as_splitter splitter) text.now) (start - 1)
         (result - 1) }
 {
     let mut place = start;
-    while place < text.len() && !is_cut_at(text, before, place, splitter) {
+    while place < text.len() && !is_cut_at(text, place, cuts, splitter) {
         place += 1;
     }
     place
 }
 
-/// Whether a printable text is cut before the byte at a place.
-pub(crate) fn is_cut_at(text: &[u8], before: u8, place: usize, splitter: BuiltInSplitter) -> bool
+/// Whether a printable text is cut before the byte at a place: between two words, or by the splitter.
+fn is_cut_at<C: PrintableCuts>(
+    text: &[u8],
+    place: usize,
+    cuts: &C,
+    splitter: BuiltInSplitter,
+) -> bool
+    requires printable { IsPrintable text.now }
     requires after_start { 0 < place }
-    requires before_end { place < length text.now }
-    ensures { result ≡ cut_at (printable_cut (as_splitter splitter)) before text.now (place - 1) }
+    requires inside { place < length text.now }
+    ensures { result ≡ is_cut_by (C.cuts cuts.now text.now) (as_splitter splitter) text.now place }
 {
-    let front = byte_before(text, before, place - 1);
-    is_cut(front, text[place - 1], text[place], splitter)
+    cuts.is_cut(text, place) || is_point(text, place, splitter)
 }
 
-/// The byte before a place.
-fn byte_before(text: &[u8], before: u8, place: usize) -> u8
-    requires { place ≤ length text.now }
-    ensures { result ≡ byte_before before text.now place }
+/// Whether the splitter splits a printable text at a place: after a hyphen between letters or digits.
+fn is_point(text: &[u8], place: usize, splitter: BuiltInSplitter) -> bool
+    requires printable { IsPrintable text.now }
+    requires after_start { 0 < place }
+    requires inside { place < length text.now }
+    ensures { result ≡ is_point (as_splitter splitter) text.now place }
 {
-    if place == 0 {
-        return before;
-    }
-    text[place - 1]
-}
-
-/// Whether a printable text is cut between two bytes, where a third stands before them.
-fn is_cut(front: u8, before: u8, after: u8, splitter: BuiltInSplitter) -> bool
-    ensures { result ≡ printable_cut (as_splitter splitter) front before after }
-{
-    before == b' ' && after != b' '
-        || before == b'-'
-            && matches!(splitter, BuiltInSplitter::HyphenSplitter)
-            && front.is_ascii_alphanumeric()
-            && after.is_ascii_alphanumeric()
+    text[place - 1] == b'-'
+        && matches!(splitter, BuiltInSplitter::HyphenSplitter)
+        && place > 1
+        && text[place - 2].is_ascii_alphanumeric()
+        && text[place].is_ascii_alphanumeric()
 }

@@ -4,7 +4,7 @@ use Rattle.textwrap_base.proofs.Common.{List, [], All, refl, sym, ap, ◌∙◌,
 use Rattle.textwrap_words.proofs.Common.{WordText, sizes_of, tiled, word_of, words_of, AreWordsOf}
 use Rattle.textwrap_words.proofs.Common.{Algorithm, Splitter, ArePoints}
 use Rattle.textwrap_lines.proofs.Common.{Settings, empty_word, ArePieces, pieces_of, widths_of}
-use Rattle.textwrap_lines.proofs.Common.{DividesAs, pieces_by, pieces_from, broken_pieces_of}
+use Rattle.textwrap_lines.proofs.Common.{DividesAs, pieces_by, pieces_of_words, broken_pieces_of}
 use Rattle.textwrap_words.proofs.Common.{split_words}
 use Rattle.textwrap_base.proofs.Division.Map.{IsDividedBy-whole}
 use Rattle.textwrap_words.proofs.Word.Bounds.{IsNarrowWord-measured, total_width-narrow}
@@ -67,7 +67,7 @@ ArePieces-unique settings splitter paragraph pieces = (
 module _ (settings : Settings) (splitter : Splitter) (paragraph : List ℕ) (words : List WordText)
     (utf8 : IsUtf8 paragraph) (texts : AreTexts paragraph words) where
   are : ArePieces settings AreTexts (ArePoints splitter) paragraph
-      (pieces_from settings splitter words)
+      (pieces_of_words settings splitter words)
   are = (words, split_words splitter words, texts, AreSplit-computed splitter words, refl)
 
   pub split_words-measured : All IsMeasured (split_words splitter words)
@@ -81,28 +81,28 @@ module _ (settings : Settings) (splitter : Splitter) (paragraph : List ℕ) (wor
       AreSplit-no_penalty (ArePoints splitter) (ArePoints-hyphens splitter) words
       (split_words splitter words) texts.plain (AreSplit-computed splitter words)
 
-  pub pieces_from-tile : tiled (pieces_from settings splitter words) ≡ paragraph
-  pieces_from-tile =
+  pub pieces_of_words-tile : tiled (pieces_of_words settings splitter words) ≡ paragraph
+  pieces_of_words-tile =
       pieces-tile settings AreTexts (ArePoints splitter) (λ line ws whole given. given)
-      (ArePoints-cuts splitter) paragraph (pieces_from settings splitter words) utf8 are
+      (ArePoints-cuts splitter) paragraph (pieces_of_words settings splitter words) utf8 are
 
-  pub pieces_from-measured : All IsMeasured (pieces_from settings splitter words)
-  pieces_from-measured =
+  pub pieces_of_words-measured : All IsMeasured (pieces_of_words settings splitter words)
+  pieces_of_words-measured =
       pieces-measured settings AreTexts (ArePoints splitter) (λ line ws whole given. given)
-      (ArePoints-cuts splitter) paragraph (pieces_from settings splitter words) utf8 are
+      (ArePoints-cuts splitter) paragraph (pieces_of_words settings splitter words) utf8 are
 
-  pub pieces_from-no_penalty : All HasNoPenalty (pieces_from settings splitter words)
-  pieces_from-no_penalty =
+  pub pieces_of_words-no_penalty : All HasNoPenalty (pieces_of_words settings splitter words)
+  pieces_of_words-no_penalty =
       pieces-no_penalty settings AreTexts (ArePoints splitter) (λ line ws whole given. given)
       (ArePoints-cuts splitter) (ArePoints-hyphens splitter) paragraph
-      (pieces_from settings splitter words) utf8 are
+      (pieces_of_words settings splitter words) utf8 are
 
   -- all of them together are at most as wide as the bytes of the paragraph
-  pub pieces_from-wide : total_width sizes_of (pieces_from settings splitter words)
+  pub pieces_of_words-wide : total_width sizes_of (pieces_of_words settings splitter words)
       ≤ length paragraph
-  pieces_from-wide =
-      let measured = pieces_from-measured in
-      search (rules, pieces_from-no_penalty, pieces_from-tile, total_width-narrow,
+  pieces_of_words-wide =
+      let measured = pieces_of_words-measured in
+      search (rules, pieces_of_words-no_penalty, pieces_of_words-tile, total_width-narrow,
       IsNarrowWord-measured)
 
 -- ---- those of words between blanks
@@ -122,15 +122,15 @@ module _ (settings : Settings) (splitter : Splitter) (paragraph : List ℕ)
       split_words-measured settings splitter paragraph (words_of paragraph) utf8 texts
 
   pub pieces_of-tile : tiled (pieces_of settings splitter paragraph) ≡ paragraph
-  pieces_of-tile = pieces_from-tile settings splitter paragraph (words_of paragraph) utf8 texts
+  pieces_of-tile = pieces_of_words-tile settings splitter paragraph (words_of paragraph) utf8 texts
 
   pub pieces_of-measured : All IsMeasured (pieces_of settings splitter paragraph)
   pieces_of-measured =
-      pieces_from-measured settings splitter paragraph (words_of paragraph) utf8 texts
+      pieces_of_words-measured settings splitter paragraph (words_of paragraph) utf8 texts
 
   pub pieces_of-no_penalty : All HasNoPenalty (pieces_of settings splitter paragraph)
   pieces_of-no_penalty =
-      pieces_from-no_penalty settings splitter paragraph (words_of paragraph) utf8 texts
+      pieces_of_words-no_penalty settings splitter paragraph (words_of paragraph) utf8 texts
 
 module _ (settings : Settings) (algorithm : Algorithm) (splitter : Splitter) where
   pub IsDividedInto-whole : (is_later : Bool) (paragraph : List ℕ) (division : List (List WordText))

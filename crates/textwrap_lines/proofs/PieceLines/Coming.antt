@@ -8,10 +8,10 @@ use Rattle.textwrap_words.specs.declared.pieces.Piece.{Piece}
 use Rattle.textwrap_words.proofs.Units.Narrow.{text_width-le}
 use Rattle.textwrap_words.proofs.Word.Measured.{IsMeasured}
 use Rattle.textwrap_words.proofs.Word.Pieces.{AreTexts}
-use Rattle.textwrap_lines.proofs.Common.{Settings, pieces_from}
+use Rattle.textwrap_lines.proofs.Common.{Settings, pieces_of_words}
 use Rattle.textwrap_lines.specs.PieceLines.{ComesAt}
 use Rattle.textwrap_lines.proofs.Paragraph.OneLine.{blanks-utf8}
-use Rattle.textwrap_lines.proofs.Paragraph.Pieces.{pieces_from-measured, pieces_from-tile}
+use Rattle.textwrap_lines.proofs.Paragraph.Pieces.{pieces_of_words-measured, pieces_of_words-tile}
 use Rattle.textwrap_lines.proofs.PieceLines.Line.{piece-ends, place-after, slice-ends, utf8-after}
 
 module _ (text : List ℕ) where
@@ -48,9 +48,9 @@ module _ (text : List ℕ) where
 
 pub pieces-come : (settings : Settings) (splitter : Splitter) (paragraph : List ℕ)
     (words : List WordText) → IsUtf8 paragraph → AreTexts paragraph words
-    → AllCome paragraph 0 (stand_from 0 (pieces_from settings splitter words))
+    → AllCome paragraph 0 (stand_from 0 (pieces_of_words settings splitter words))
 pieces-come settings splitter paragraph words utf8 texts =
-    all-come paragraph 0 (pieces_from settings splitter words)
-    (sym (pieces_from-tile settings splitter paragraph words utf8 texts))
+    all-come paragraph 0 (pieces_of_words settings splitter words)
+    (sym (pieces_of_words-tile settings splitter paragraph words utf8 texts))
     (IsCharBoundary-start paragraph utf8) utf8
-    (pieces_from-measured settings splitter paragraph words utf8 texts)
+    (pieces_of_words-measured settings splitter paragraph words utf8 texts)

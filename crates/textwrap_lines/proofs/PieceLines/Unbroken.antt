@@ -4,10 +4,10 @@ use Rattle.textwrap_base.proofs.Common.{List, [], ◌∷◌, ◌++◌, All, leng
 use Rattle.textwrap_base.proofs.Common.{length-append, IsUtf8, le-ltb, All-head, All-tail}
 use Rattle.textwrap_words.proofs.Common.{broken_words, broken_pieces, WordText, tile_of, tiled}
 use Rattle.textwrap_words.proofs.Common.{Splitter, split_words}
-use Rattle.textwrap_lines.proofs.Common.{front_of, Settings, pieces_from, text_limit}
+use Rattle.textwrap_lines.proofs.Common.{front_of, Settings, pieces_of_words, text_limit}
 use Rattle.textwrap_words.proofs.Word.Bounds.{IsNarrowWord, IsNarrowWord-measured}
 use Rattle.textwrap_lines.specs.Layout.{break_limit}
-use Rattle.textwrap_lines.proofs.Paragraph.Pieces.{pieces_from-tile, split_words-measured}
+use Rattle.textwrap_lines.proofs.Paragraph.Pieces.{pieces_of_words-tile, split_words-measured}
 use Rattle.textwrap_lines.proofs.Paragraph.Pieces.{split_words-no_penalty}
 use Rattle.textwrap_words.proofs.Word.Pieces.{AreTexts}
 
@@ -28,13 +28,13 @@ pub limited-pieces : (settings : Settings) (splitter : Splitter) (paragraph : Li
     (words : List WordText) → IsUtf8 paragraph → AreTexts paragraph words
     → length paragraph < text_limit
     → front_of settings ++ broken_words (break_limit settings) (split_words splitter words)
-    ≡ pieces_from settings splitter words
+    ≡ pieces_of_words settings splitter words
 limited-pieces settings splitter paragraph words utf8 texts short =
     grind (
       arith,
       split_words-measured,
       split_words-no_penalty,
       IsNarrowWord-measured,
-      pieces_from-tile,
+      pieces_of_words-tile,
       unbroken,
     )

@@ -4,7 +4,7 @@ use Rattle.textwrap_base.proofs.Common.{subst, arith, Bool, IsUtf8, IsCharBounda
 use Rattle.textwrap_base.proofs.Common.{PricedSizes, priced_at, SuitQueue, IsByTable}
 use Rattle.textwrap_base.proofs.Common.{fragment_costs, fragments_table}
 use Rattle.textwrap_words.proofs.Common.{WordText, sizes_of, tiled, Splitter}
-use Rattle.textwrap_lines.proofs.Common.{cut_lines, Settings, parts_from, pieces_from, widths_of}
+use Rattle.textwrap_lines.proofs.Common.{cut_lines, Settings, parts_from, pieces_of_words, widths_of}
 use Rattle.textwrap_lines.proofs.Common.{first_width, later_width, HaveTexts, span_lines}
 use Rattle.textwrap_lines.proofs.Common.{span_priced, spans_from, Penalties, AreSpans, Span}
 use Rattle.textwrap_base.specs.OptimalFit.{IsByOptimalFit}
@@ -17,8 +17,8 @@ use Rattle.textwrap_words.proofs.Word.Bounds.{IsNarrowWord-measured}
 use Rattle.textwrap_words.proofs.Word.Measured.{HasNoPenalty, IsMeasured}
 use Rattle.textwrap_words.proofs.Word.Pieces.{AreTexts}
 use Rattle.textwrap_lines.specs.Cheapest.{SuitSearch}
-use Rattle.textwrap_lines.proofs.Paragraph.Pieces.{pieces_from-measured, pieces_from-no_penalty}
-use Rattle.textwrap_lines.proofs.Paragraph.Pieces.{pieces_from-tile}
+use Rattle.textwrap_lines.proofs.Paragraph.Pieces.{pieces_of_words-measured, pieces_of_words-no_penalty}
+use Rattle.textwrap_lines.proofs.Paragraph.Pieces.{pieces_of_words-tile}
 use Rattle.textwrap_lines.proofs.PlacedPieces.Costs.{AreSpans-from, priced-spans, spans-case}
 use Rattle.textwrap_lines.proofs.PlacedPieces.Stand.{Stand, Stand-follow, Stand-some, stand}
 use Rattle.textwrap_lines.proofs.PlacedPieces.Lines.{lines-found}
@@ -76,16 +76,16 @@ module _ (settings : Settings) (splitter : Splitter) (is_later : Bool) (text : L
     (words : List WordText) (penalties : Penalties) (utf8 : IsUtf8 text)
     (whole : AreTexts text words) (some : 0 < length text) where
   abbrev pub pieces : List WordText
-  pieces = pieces_from settings splitter words
+  pieces = pieces_of_words settings splitter words
 
   tile : tiled pieces ≡ text
-  tile = pieces_from-tile settings splitter text words utf8 whole
+  tile = pieces_of_words-tile settings splitter text words utf8 whole
 
   measured : All IsMeasured pieces
-  measured = pieces_from-measured settings splitter text words utf8 whole
+  measured = pieces_of_words-measured settings splitter text words utf8 whole
 
   none : All HasNoPenalty pieces
-  none = pieces_from-no_penalty settings splitter text words utf8 whole
+  none = pieces_of_words-no_penalty settings splitter text words utf8 whole
 
   module _ (all : List Span) (are : all ≡ spans_from 0 0 pieces) where
     -- there are spans, they are measured, and what lines of them cost suits the search

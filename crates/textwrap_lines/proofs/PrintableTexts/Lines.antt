@@ -1,16 +1,15 @@
 -- The lines of a printable paragraph, one after the other.
-use Rattle.textwrap_base.proofs.Common.{◌≡◌, ℕ, ◌+◌, ◌<◌, ◌≤◌, Bool, true, false, cond, List, []}
-use Rattle.textwrap_base.proofs.Common.{◌∷◌, ◌++◌, All, length, take, drop, refl, sym, ap, ◌∙◌, subst}
-use Rattle.textwrap_base.proofs.Common.{arith, append-nil, append_assoc, add-zero, take-take, drop-drop}
-use Rattle.textwrap_base.proofs.Common.{drop_at, length-take-le, All-weaker, closed_width, Fits}
-use Rattle.textwrap_words.proofs.Common.{WordText, sizes_of, tiled, trimmed_len, IsPrintable}
-use Rattle.textwrap_words.proofs.Common.{without_final_blanks}
+use Rattle.textwrap_base.proofs.Common.{◌≡◌, ℕ, ◌+◌, ◌<◌, ◌≤◌, Bool, true, false, ◌||◌, cond, List}
+use Rattle.textwrap_base.proofs.Common.{[], ◌∷◌, ◌++◌, All, length, drop, refl, sym, ap, ◌∙◌, subst}
+use Rattle.textwrap_base.proofs.Common.{arith, append-nil, append_assoc, add-zero, drop-drop, drop_at}
+use Rattle.textwrap_base.proofs.Common.{slice_range, All-drop, All-weaker, closed_width, Fits}
+use Rattle.textwrap_words.proofs.Common.{WordText, sizes_of, tiled, IsPrintable, IsPrintableByte}
 use Rattle.textwrap_words.specs.Pieces.{stand_from}
-use Rattle.textwrap_lines.proofs.Common.{Settings, covered, pieces_after, byte_before, CutTest}
-use Rattle.textwrap_lines.proofs.Common.{IsFirstLine, cut_line, CutLine, cut_lines, assembled_line}
+use Rattle.textwrap_lines.proofs.Common.{Settings, covered, pieces_from, line_slice, IsFirstLine}
+use Rattle.textwrap_lines.proofs.Common.{cut_line, CutLine, cut_lines, assembled_line}
 use Rattle.textwrap_lines.proofs.Common.{indent_of, later_width, line_from, parts_from, parts_of}
 use Rattle.textwrap_base.proofs.Division.Grown.{grown, grown-full, grown-room, prefix-closes}
-use Rattle.textwrap_base.proofs.Lists.Parts.{all-left, all-right}
+use Rattle.textwrap_base.proofs.Lists.Parts.{all-left, all-right, length-slice}
 use Rattle.textwrap_words.proofs.Word.Measured.{HasNoPenalty}
 use Rattle.textwrap_words.proofs.Word.Tiling.{tiled-append}
 use Rattle.textwrap_lines.specs.PieceLines.{lines_left, no_pieces}
@@ -96,47 +95,41 @@ module _ (settings : Settings) (text : List ℕ) where
           (sym (lines-divided after later true v others next
           (all-right HasNoPenalty line (v ∷ others) none)))
 
-  -- the lines of a printable rest of the text, of which the first is found
-  module _ (cut : CutTest) (limit width before start : ℕ) (rest : List ℕ) (next : ℕ)
-      (is_later : Bool) (printable : IsPrintable rest) (rest_is : rest ≡ drop start text)
-      (within : next ≤ length rest) where
-    abbrev pub others : List WordText
-    others = pieces_after cut limit (byte_before before rest next) (drop next rest)
+  -- the lines from a place on, of which the first is found
+  module _ (test : ℕ → Bool) (limit width at end : ℕ) (goes_on is_later : Bool)
+      (printable : IsPrintable text) (from : at < end) (within : end ≤ length text) where
+    slice-is : (line : List WordText) → tiled line ≡ slice_range text at end → (on keeps : Bool)
+        → covered line ≡ line_slice text at end on
+        → cond keeps (tiled line) (covered line) ≡ line_slice text at end (on || keeps)
+    slice-is line tiles true true covers = tiles
+    slice-is line tiles true false covers = covers
+    slice-is line tiles false true covers = tiles
+    slice-is line tiles false false covers = covers
 
-    -- what the first line covers
-    abbrev pub slice : Bool → List ℕ
-    slice keeps = take (cond keeps next (trimmed_len (take next rest))) rest
-
-    slice-is : (line : List WordText) → tiled line ≡ take next rest
-        → covered line ≡ without_final_blanks (take next rest) → (keeps : Bool)
-        → cond keeps (tiled line) (covered line) ≡ slice keeps
-    slice-is line tiles covers true = tiles
-    slice-is line tiles covers false =
-        let end = trimmed_len (take next rest) in
-        covers ∙ take-take end next rest (omega (arith, trimmed_within))
-      where
-        trimmed_within : trimmed_len (take next rest) ≤ next
-        trimmed_within = let len = length-take-le next rest within in omega (arith, len)
-
-    pub lines-step : (first : IsFirstLine cut limit width before rest next)
-        → lines_at start width is_later (pieces_after cut limit before rest)
-        ≡ cut_line start (assembled_line (indent_of settings is_later)
-        (slice settings.preserve_trailing_space) [])
-        ∷ lines_at (start + next) (later_width settings) true others
+    pub lines-step : (first : IsFirstLine test limit width text at end goes_on)
+        → lines_at at width is_later (pieces_from test limit text at)
+        ≡ cut_line at (assembled_line (indent_of settings is_later)
+        (line_slice text at end (goes_on || settings.preserve_trailing_space)) [])
+        ∷ lines_at end (later_width settings) true (pieces_from test limit text end)
     lines-step first =
         let line = first.line in
-        let keeps = settings.preserve_trailing_space in
-        let tiles = first-tiles cut limit width before rest next first printable within in
-        let len : length (tiled line) ≡ next = ap length tiles ∙ length-take-le next rest within in
-        ap (lines_at start width is_later) first.are
-        ∙ lines-next start width is_later line others
-        (sym rest_is ∙ sym (pieces-tile cut limit before rest printable) ∙ ap tiled first.are)
+        let rest = drop at text in
+        let others = pieces_from test limit text end in
+        let rest_printable = All-drop IsPrintableByte at text printable in
+        let tiles = first-tiles test limit width text at end goes_on first printable
+        (omega (arith, from)) within in
+        let len : at + length (tiled line) ≡ end =
+        omega (arith, ap length tiles, length-slice text at end within, from) in
+        let tile = pieces-tile test limit at rest rest_printable in
+        ap (lines_at at width is_later) first.are
+        ∙ lines-next at width is_later line others (sym tile ∙ ap tiled first.are)
         (subst (All HasNoPenalty) first.are
         (All-weaker IsExact HasNoPenalty (λ w exact. exact.penalty) _
-        (pieces-exact cut limit before rest printable)))
+        (pieces-exact test limit at rest rest_printable)))
         first.some first.fits first.full
-        ∙ ap (λ s. cut_line start (assembled_line (indent_of settings is_later) s [])
-        ∷ lines_at (start + length (tiled line)) (later_width settings) true others)
-        (slice-is line tiles first.covers keeps)
-        ∙ ap (λ n. cut_line start (assembled_line (indent_of settings is_later) (slice keeps) [])
-        ∷ lines_at (start + n) (later_width settings) true others) len
+        ∙ ap (λ s. cut_line at (assembled_line (indent_of settings is_later) s [])
+        ∷ lines_at (at + length (tiled line)) (later_width settings) true others)
+        (slice-is line tiles goes_on settings.preserve_trailing_space first.covers)
+        ∙ ap (λ n. cut_line at (assembled_line (indent_of settings is_later)
+        (line_slice text at end (goes_on || settings.preserve_trailing_space)) [])
+        ∷ lines_at n (later_width settings) true others) len

@@ -1,73 +1,123 @@
--- Lemmas on the parts that a printable text is cut into.
-use Rattle.textwrap_base.proofs.Common.{◌≡◌, ℕ, zero, suc, ◌+◌, ◌<◌, ◌≤◌, Bool, true, false, cond}
-use Rattle.textwrap_base.proofs.Common.{List, [], ◌∷◌, ◌++◌, length, take, drop, get_or, refl, ap}
-use Rattle.textwrap_base.proofs.Common.{◌∙◌, arith, add-one, onto_first}
-use Rattle.textwrap_lines.proofs.Common.{CutTest, parts, cut_at}
-use Rattle.textwrap_base.proofs.Lists.Parts.{flat, flat-onto_first, onto_front, onto_first-some}
-use Rattle.textwrap_base.proofs.Lists.Parts.{onto_first-append}
+-- The parts that a text is cut into wherever a test of its places says so.
+use Rattle.textwrap_base.proofs.Common.{inl, inr, ◌≡◌, ℕ, zero, suc, ◌+◌, ◌-◌, ◌<◌, ◌≤◌, Bool, true}
+use Rattle.textwrap_base.proofs.Common.{false, List, [], ◌∷◌, ◌++◌, length, take, drop, refl, sym, ap}
+use Rattle.textwrap_base.proofs.Common.{◌∙◌, arith, append-nil, cases_lt, drop_all, take_all}
+use Rattle.textwrap_base.proofs.Common.{drop-drop, length-drop, onto_first, slice_range}
+use Rattle.textwrap_words.specs.PieceCuts.{parts_by}
+use Rattle.textwrap_base.proofs.Lists.Parts.{flat, flat-onto_first, onto_first-append}
+use Rattle.textwrap_words.proofs.Word.FirstPlaces.{HasEnd, end-from}
+use Rattle.textwrap_words.proofs.Word.PartsBy.{next_by, parts_by-some, parts_by-front}
+use Rattle.textwrap_lines.specs.Printable.{NoCutBetween}
 
--- one step, where the answer of the test is named
-abbrev pub next_parts : CutTest → Bool → ℕ → List ℕ → List (List ℕ)
-next_parts cut here b rest =
-    cond here ((b ∷ []) ∷ parts cut b rest) (onto_first b (parts cut b rest))
-
-module _ (cut : CutTest) where
-  pub parts-some : (a b : ℕ) (cs : List ℕ) → 0 < length (parts cut a (b ∷ cs))
-  parts-some a b [] = omega arith
-  parts-some a b (c ∷ cs) = elim (cut a b c) as (λ t. 0 < length (next_parts cut t b (c ∷ cs)))
-      [ true ↦ omega arith | false ↦ onto_first-some b (parts cut b (c ∷ cs)) ]
-
-  pub flat-parts : (a : ℕ) (text : List ℕ) → flat (parts cut a text) ≡ text
-  flat-parts a [] = refl
-  flat-parts a (b ∷ []) = refl
-  flat-parts a (b ∷ c ∷ cs) =
-      elim (cut a b c) as (λ t. flat (next_parts cut t b (c ∷ cs)) ≡ b ∷ c ∷ cs) [
-        | true ↦ ap (λ l. b ∷ l) (flat-parts b (c ∷ cs))
-        | false ↦ flat-onto_first b (parts cut b (c ∷ cs)) ∙ ap (λ l. b ∷ l) (flat-parts b (c ∷ cs))
+module _ (test : ℕ → Bool) where
+  pub flat-parts : (at : ℕ) (rest : List ℕ) → flat (parts_by test at rest) ≡ rest
+  flat-parts at [] = refl
+  flat-parts at (b ∷ []) = refl
+  flat-parts at (b ∷ c ∷ cs) =
+      let others = flat-parts (at + 1) (c ∷ cs) in
+      elim (test (at + 1)) as (λ t. flat (next_by test t at b (c ∷ cs)) ≡ b ∷ c ∷ cs) [
+        | true ↦ ap (λ l. b ∷ l) others
+        | false ↦ flat-onto_first b (parts_by test (at + 1) (c ∷ cs)) ∙ ap (λ l. b ∷ l) others
       ]
 
-  next_parts-append : (here : Bool) (b c : ℕ) (cs : List ℕ) (qs : List (List ℕ)) (all : List ℕ)
-      → parts cut b all ≡ parts cut b (c ∷ cs) ++ qs
-      → next_parts cut here b all ≡ next_parts cut here b (c ∷ cs) ++ qs
-  next_parts-append true b c cs qs all e = ap (λ ps. (b ∷ []) ∷ ps) e
-  next_parts-append false b c cs qs all e =
-      ap (onto_first b) e ∙ onto_first-append b (parts cut b (c ∷ cs)) qs (parts-some b c cs)
+  -- ---- at a cut
 
-  -- at a cut the parts are those before it and those after it
-  pub parts-at_cut : (a : ℕ) (text : List ℕ) (m : ℕ) → m + 1 < length text
-      → cut_at cut a text m ≡ true
-      → parts cut a text ≡ parts cut a (take (suc m) text)
-      ++ parts cut (get_or text m 0) (drop (suc m) text)
-  parts-at_cut a [] m within is = absurd (omega arith)
-  parts-at_cut a (b ∷ []) m within is = absurd (omega arith)
-  parts-at_cut a (b ∷ c ∷ cs) zero within is = ap (λ t. next_parts cut t b (c ∷ cs)) is
-  parts-at_cut a (b ∷ c ∷ cs) (suc m) within is =
-      next_parts-append (cut a b c) b c (take m cs)
-      (parts cut (get_or (c ∷ cs) m 0) (drop (suc m) (c ∷ cs))) (c ∷ cs)
-      (parts-at_cut b (c ∷ cs) m (omega arith) (rw add-one (rw (add-one) at is)))
+  next-append : (here : Bool) (at b c : ℕ) (cs all : List ℕ) (qs : List (List ℕ))
+      → parts_by test (at + 1) all ≡ parts_by test (at + 1) (c ∷ cs) ++ qs
+      → next_by test here at b all ≡ next_by test here at b (c ∷ cs) ++ qs
+  next-append true at b c cs all qs e = ap (λ ps. (b ∷ []) ∷ ps) e
+  next-append false at b c cs all qs e =
+      ap (onto_first b) e
+      ∙ onto_first-append b (parts_by test (at + 1) (c ∷ cs)) qs (parts_by-some test (at + 1) c cs)
 
-  -- where there is no cut up to a place, the first part goes past it
-  pub parts-no_cut : (a : ℕ) (text : List ℕ) (m : ℕ) → m + 1 < length text
-      → ((k : ℕ) → k ≤ m → cut_at cut a text k ≡ false)
-      → parts cut a text ≡ onto_front (take (suc m) text)
-      (parts cut (get_or text m 0) (drop (suc m) text))
-  parts-no_cut a [] m within none = absurd (omega arith)
-  parts-no_cut a (b ∷ []) m within none = absurd (omega arith)
-  parts-no_cut a (b ∷ c ∷ cs) zero within none =
-      ap (λ t. next_parts cut t b (c ∷ cs)) (none 0 (omega arith))
-      ∙ first (parts cut b (c ∷ cs)) (parts-some b c cs)
-    where
-      first : (ps : List (List ℕ)) → 0 < length ps → onto_first b ps ≡ onto_front (b ∷ []) ps
-      first [] some = absurd (omega arith)
-      first (p ∷ ps) some = refl
-  parts-no_cut a (b ∷ c ∷ cs) (suc m) within none =
-      ap (λ t. next_parts cut t b (c ∷ cs)) (none 0 (omega arith))
-      ∙ ap (onto_first b)
-      (parts-no_cut b (c ∷ cs) m (omega arith)
-      (λ k le. rw add-one (rw (add-one) at (none (suc k) (omega (arith, le))))))
-      ∙ first (take (suc m) (c ∷ cs)) (parts cut (get_or (c ∷ cs) m 0) (drop (suc m) (c ∷ cs)))
-    where
-      first : (front : List ℕ) (ps : List (List ℕ))
-          → onto_first b (onto_front front ps) ≡ onto_front (b ∷ front) ps
-      first front [] = refl
-      first front (p ∷ ps) = refl
+  parts-at_cut : (rest : List ℕ) (at n : ℕ) → 0 < n → n < length rest → test (at + n) ≡ true
+      → parts_by test at rest
+      ≡ parts_by test at (take n rest) ++ parts_by test (at + n) (drop n rest)
+  parts-at_cut rest at zero some within is = absurd (omega arith)
+  parts-at_cut [] at (suc n) some within is = absurd (omega arith)
+  parts-at_cut (b ∷ []) at (suc n) some within is = absurd (omega (arith, within))
+  parts-at_cut (b ∷ c ∷ cs) at (suc zero) some within is = ap (λ t. next_by test t at b (c ∷ cs)) is
+  parts-at_cut (b ∷ c ∷ cs) at (suc (suc n)) some within is =
+      let place : at + suc (suc n) ≡ at + 1 + suc n = omega arith in
+      next-append (test (at + 1)) at b c (take n cs) (c ∷ cs)
+      (parts_by test (at + 1 + suc n) (drop (suc n) (c ∷ cs)))
+      (parts-at_cut (c ∷ cs) (at + 1) (suc n) (omega arith) (omega (arith, within))
+      (ap test (sym place) ∙ is))
+      ∙ ap (λ m. parts_by test at (take (suc (suc n)) (b ∷ c ∷ cs))
+      ++ parts_by test m (drop (suc n) (c ∷ cs))) (sym place)
+
+  module _ (text : List ℕ) where
+    -- the parts up to a place where the text is cut, or ends, and those from there on
+    pub parts-split : (at end : ℕ) → at < end → end ≤ length text
+        → (end < length text → test end ≡ true)
+        → parts_by test at (drop at text)
+        ≡ parts_by test at (slice_range text at end) ++ parts_by test end (drop end text)
+    parts-split at end some within ends =
+        let rest = drop at text in
+        let n = end - at in
+        let left = length-drop at text in
+        let place : at + n ≡ end = omega (arith, some) in
+        elim (cases_lt end (length text)) [
+          | inl inside ↦
+              parts-at_cut rest at n (omega (arith, some)) (omega (arith, left, inside, some))
+              (ap test place ∙ ends inside)
+              ∙ ap (λ l. parts_by test at (slice_range text at end) ++ parts_by test (at + n) l)
+              (drop-drop n at text)
+              ∙ ap (λ k. parts_by test at (slice_range text at end) ++ parts_by test k (drop k text))
+              place
+          | inr past ↦
+              ap (parts_by test at) (sym (take_all n rest (omega (arith, left, past))))
+              ∙ sym (append-nil (parts_by test at (slice_range text at end)))
+              ∙ ap (λ l. parts_by test at (slice_range text at end) ++ parts_by test end l)
+              (sym (drop_all end text past))
+        ]
+
+    -- ---- the first part
+
+    -- a part goes from the one place to the other
+    pub record IsPart (at end : ℕ) : Type 0 where
+      pub some : at < end
+      pub within : end ≤ length text
+      pub uncut : (k : ℕ) → at < k → k < end → test k ≡ false
+      pub ends : end < length text → test end ≡ true
+
+    pub parts-front : (at end : ℕ) → IsPart at end
+        → parts_by test at (drop at text)
+        ≡ slice_range text at end ∷ parts_by test end (drop end text)
+    parts-front at end part =
+        let n = end - at in
+        let some = part.some in
+        let within = part.within in
+        let place : at + n ≡ end = omega (arith, some) in
+        let left = length-drop at text in
+        parts_by-front test (drop at text) at n (omega (arith, some)) (omega (arith, left, within))
+        (λ k first below. part.uncut (at + k) (omega (arith, first)) (omega (arith, below)))
+        (λ inside. ap test place ∙ part.ends (omega (arith, inside, left, some)))
+        ∙ ap (λ l. slice_range text at end ∷ parts_by test (at + n) l) (drop-drop n at text)
+        ∙ ap (λ k. slice_range text at end ∷ parts_by test k (drop k text)) place
+
+    -- it goes past the places where the text is not cut
+    pub record HasPart (at place : ℕ) : Type 0 where
+      pub end : ℕ
+      pub part : IsPart at end
+      pub past : place < end
+
+    pub first-part : (at place : ℕ) → at ≤ place → place < length text
+        → NoCutBetween test at place → HasPart at place
+    first-part at place from inside none =
+        let found : HasEnd test (length text) (place + 1) =
+        end-from test (length text) (place + 1) (omega (arith, inside)) in
+        let up_to = found.from in
+        record {
+          end = found.end;
+          part = record {
+            some = omega (arith, from, up_to);
+            within = found.within;
+            uncut = λ k after before. elim (cases_lt place k) [
+              | inl later ↦ found.uncut k (omega (arith, later)) before
+              | inr up ↦ none k after up
+            ];
+            ends = found.ends;
+          };
+          past = omega (arith, up_to);
+        }

@@ -1,21 +1,19 @@
 -- The pieces of a printable text: they tile it.
-use Rattle.textwrap_base.proofs.Common.{◌≡◌, ◌≢◌, ℕ, ◌<◌, List, [], ◌∷◌, All, length, map, refl}
-use Rattle.textwrap_base.proofs.Common.{sym, ap, ◌∙◌, subst, arith, IsUtf8, All-map, All-weaker}
-use Rattle.textwrap_base.proofs.Common.{◌≤◌, ◌++◌, take, drop, All-drop, length-append}
-use Rattle.textwrap_base.proofs.Common.{length-drop, take_at, length-take-le, Fits}
-use Rattle.textwrap_lines.proofs.Common.{byte_before, IsFirstLine}
-use Rattle.textwrap_words.proofs.Common.{IsPrintableByte}
-use Rattle.textwrap_lines.proofs.Common.{covered, CutTest, parts, pieces_after}
-use Rattle.textwrap_words.proofs.Common.{IsPrintable}
+use Rattle.textwrap_base.proofs.Common.{◌≡◌, ◌≢◌, ℕ, ◌<◌, ◌≤◌, Bool, List, [], ◌∷◌, ◌++◌, All, length}
+use Rattle.textwrap_base.proofs.Common.{map, drop, refl, sym, ap, ◌∙◌, subst, arith, IsUtf8, All-map}
+use Rattle.textwrap_base.proofs.Common.{All-weaker, All-take, All-drop, length-append, take_at, Fits}
+use Rattle.textwrap_base.proofs.Common.{◌-◌, length-drop, length-take-le, slice_range, take}
+use Rattle.textwrap_words.proofs.Common.{IsPrintable, IsPrintableByte, WordText, tiled, sizes_of}
+use Rattle.textwrap_words.proofs.Common.{word_of, broken_word, broken_words, trimmed_len}
+use Rattle.textwrap_words.proofs.Common.{without_final_blanks}
+use Rattle.textwrap_words.specs.PieceCuts.{parts_by}
+use Rattle.textwrap_lines.proofs.Common.{covered, pieces_from, IsFirstLine}
 use Rattle.textwrap_words.proofs.Word.Tiling.{tiled-append, tiled-map}
-use Rattle.textwrap_words.proofs.Common.{without_final_blanks, broken_word, WordText, tiled}
-use Rattle.textwrap_words.proofs.Common.{sizes_of, trimmed_len}
-use Rattle.textwrap_words.proofs.Common.{word_of}
 use Rattle.textwrap_words.proofs.Word.Measured.{IsMeasured, HasNoPenalty, word_of-measured}
 use Rattle.textwrap_words.proofs.Word.BrokenPieces.{tiled-broken_words}
 use Rattle.textwrap_words.proofs.Word.BrokenTexts.{broken_words-measured, broken_words-no_penalty}
 use Rattle.textwrap_lines.proofs.Paragraph.EndsAs.{flat_map-space, broken_words-ends}
-use Rattle.textwrap_lines.proofs.Paragraph.LastWord.{CutsBeforeOthers, parts-space}
+use Rattle.textwrap_lines.proofs.Paragraph.LastWord.{CutsBeforeOthers, last-part}
 use Rattle.textwrap_lines.proofs.Paragraph.LastBlanks.{covered-tiled}
 use Rattle.textwrap_lines.proofs.Paragraph.GivenPieces.{wide-some}
 use Rattle.textwrap_lines.proofs.PrintableTexts.Texts.{printable-utf8, flat-printable}
@@ -24,21 +22,21 @@ use Rattle.textwrap_lines.proofs.PrintableTexts.Exact.{IsExact, exact-words, Fit
 
 -- ---- the pieces of a text
 
-module _ (cut : CutTest) (limit a : ℕ) (text : List ℕ) (printable : IsPrintable text) where
+module _ (test : ℕ → Bool) (limit at : ℕ) (text : List ℕ) (printable : IsPrintable text) where
   abbrev words : List WordText
-  words = map word_of (parts cut a text)
+  words = map word_of (parts_by test at text)
 
   abbrev pub pieces : List WordText
-  pieces = pieces_after cut limit a text
+  pieces = broken_words limit words
 
   words-measured : All IsMeasured words
   words-measured =
-      All-map IsMeasured word_of (parts cut a text)
+      All-map IsMeasured word_of (parts_by test at text)
       (All-weaker IsPrintable (λ b. IsMeasured (word_of b)) (λ b p. word_of-measured b
       (printable-utf8 b p))
-      (parts cut a text)
-      (flat-printable (parts cut a text) (subst IsPrintable (sym
-      (flat-parts cut a text)) printable)))
+      (parts_by test at text)
+      (flat-printable (parts_by test at text) (subst IsPrintable (sym
+      (flat-parts test at text)) printable)))
 
   pub pieces-tile : tiled pieces ≡ text
   pieces-tile =
@@ -46,7 +44,7 @@ module _ (cut : CutTest) (limit a : ℕ) (text : List ℕ) (printable : IsPrinta
       (All-weaker IsMeasured (λ w. IsUtf8 w.word) (λ w m. m.utf8) words words-measured)
       (All-weaker IsMeasured (λ w. limit < w.width → w.word ≢ []) (λ w m. wide-some limit w m)
       words words-measured)
-      ∙ tiled-map (parts cut a text) ∙ flat-parts cut a text
+      ∙ tiled-map (parts_by test at text) ∙ flat-parts test at text
 
   pub pieces-some : 0 < length text → 0 < length pieces
   pieces-some some = by pieces pieces-tile
@@ -59,52 +57,53 @@ module _ (cut : CutTest) (limit a : ℕ) (text : List ℕ) (printable : IsPrinta
   pieces-exact =
       exact-words pieces (broken_words-measured limit words words-measured)
       (broken_words-no_penalty limit words
-      (All-map HasNoPenalty word_of (parts cut a text) (λ k d lt. refl)))
+      (All-map HasNoPenalty word_of (parts_by test at text) (λ k d lt. refl)))
       (subst IsPrintable (sym pieces-tile) printable)
 
+  -- ---- the blanks at the end
+
+  module _ (before : CutsBeforeOthers test at text) where
+    -- the pieces cover the text without the blanks at its end
+    pub pieces-cover : covered pieces ≡ without_final_blanks text
+    pieces-cover =
+        covered-tiled pieces text
+        (flat_map-space (broken_word limit) words (broken_words-ends limit words words-measured)
+        ∙ last-part test at text before)
+        pieces-tile
+
+    -- a text that keeps to the width fits one line
+    pub pieces-fit : (width : ℕ) → trimmed_len text ≤ width → Fits sizes_of width pieces
+    pieces-fit width keeps =
+        let len = length-take-le (trimmed_len text) text (omega arith) in
+        let covers = ap length pieces-cover in
+        Fits-exact width pieces pieces-exact (omega (arith, len, covers, keeps))
+
+pub printable-slice : (text : List ℕ) (i j : ℕ) → IsPrintable text → IsPrintable (slice_range text i j)
+printable-slice text i j printable =
+    All-take IsPrintableByte (j - i) (drop i text) (All-drop IsPrintableByte i text printable)
+
 -- the pieces of the first line tile the text before the next
-pub first-tiles : (cut : CutTest) (limit width a : ℕ) (text : List ℕ) (next : ℕ)
-    → (first : IsFirstLine cut limit width a text next) → IsPrintable text → next ≤ length text
-    → tiled first.line ≡ take next text
-first-tiles cut limit width a text next first printable within =
+pub first-tiles : (test : ℕ → Bool) (limit width : ℕ) (text : List ℕ) (at end : ℕ) (goes_on : Bool)
+    → (first : IsFirstLine test limit width text at end goes_on) → IsPrintable text → at ≤ end
+    → end ≤ length text → tiled first.line ≡ slice_range text at end
+first-tiles test limit width text at end goes_on first printable from within =
     let line = first.line in
-    let back = drop next text in
-    let others = pieces_after cut limit (byte_before a text next) back in
+    let rest = drop at text in
+    let back = drop end text in
+    let others = pieces_from test limit text end in
     let left : tiled others ≡ back =
-    pieces-tile cut limit (byte_before a text next) back
-    (All-drop IsPrintableByte next text printable) in
-    let whole : tiled line ++ back ≡ text =
+    pieces-tile test limit end back (All-drop IsPrintableByte end text printable) in
+    let whole : tiled line ++ back ≡ rest =
     ap (λ t. tiled line ++ t) (sym left) ∙ sym (tiled-append line others)
-    ∙ ap tiled (sym first.are) ∙ pieces-tile cut limit a text printable in
-    let len : length (tiled line) ≡ next = omega (
+    ∙ ap tiled (sym first.are)
+    ∙ pieces-tile test limit at rest (All-drop IsPrintableByte at text printable) in
+    let len : length (tiled line) ≡ end - at = omega (
       arith,
+      from,
       within,
       ap length whole,
       length-append (tiled line) back,
-      length-drop next text,
+      length-drop end text,
+      length-drop at text,
     ) in
-    sym (take_at (tiled line) back next len) ∙ ap (take next) whole
-
--- ---- the blanks at the end
-
-module _ (cut : CutTest) (before_others : CutsBeforeOthers cut) where
-  -- the pieces cover the text without the blanks at its end
-  pub pieces-cover : (limit a : ℕ) (text : List ℕ) → IsPrintable text
-      → covered (pieces_after cut limit a text) ≡ without_final_blanks text
-  pieces-cover limit a text printable =
-      let ps = pieces_after cut limit a text in
-      let words = map word_of (parts cut a text) in
-      covered-tiled ps text
-      (flat_map-space (broken_word limit) words
-      (broken_words-ends limit words (words-measured cut limit a text printable))
-      ∙ parts-space cut before_others a text)
-      (pieces-tile cut limit a text printable)
-
-  -- a text that keeps to the width fits one line
-  pub pieces-fit : (limit width a : ℕ) (text : List ℕ) → IsPrintable text
-      → trimmed_len text ≤ width → Fits sizes_of width (pieces_after cut limit a text)
-  pieces-fit limit width a text printable keeps =
-      let len = length-take-le (trimmed_len text) text (omega arith) in
-      let covers = ap length (pieces-cover limit a text printable) in
-      Fits-exact width (pieces_after cut limit a text) (pieces-exact cut limit a text printable)
-      (omega (arith, len, covers, keeps))
+    sym (take_at (tiled line) back (end - at) len) ∙ ap (take (end - at)) whole

@@ -2,27 +2,26 @@
 use Rattle.textwrap_base.proofs.Common.{◌≡◌, ℕ, ◌<◌, ◌≤◌, ◌==◌, Bool, true, false, cond, List, []}
 use Rattle.textwrap_base.proofs.Common.{◌∷◌, ◌++◌, length, refl, sym, ap, ◌∙◌, subst, arith, IsUtf8}
 use Rattle.textwrap_base.proofs.Common.{le-ltb, None, Option, Some, Result, Ok, Err, IsErrAnd}
-use Rattle.textwrap_base.proofs.Common.{drop, rules}
-use Rattle.textwrap_words.proofs.Common.{WordText, sizes_of, Algorithm}
-use Rattle.textwrap_words.proofs.Common.{ArePoints, IsDividedBy, Splitter, IsPrintable, words_of}
+use Rattle.textwrap_base.proofs.Common.{rules}
+use Rattle.textwrap_words.proofs.Common.{WordText, sizes_of, Algorithm, broken_words, words_of}
+use Rattle.textwrap_words.proofs.Word.PieceCuts.{split_words-parts}
+use Rattle.textwrap_words.specs.PieceCuts.{is_piece_cut, pieces_at}
+use Rattle.textwrap_words.proofs.Common.{ArePoints, IsDividedBy, Splitter, IsPrintable}
 use Rattle.textwrap_words.proofs.Common.{MayDivide, MaySeparate, split_words}
 use Rattle.textwrap_words.proofs.Word.Pieces.{AreSplit-computed}
 use Rattle.textwrap_words.specs.Pieces.{stand_from}
 use Rattle.textwrap_lines.proofs.Common.{Settings, settings_view, CutLine, empty_word, front_of}
 use Rattle.textwrap_lines.proofs.Common.{later_width, lines_from, text_limit}
-use Rattle.textwrap_lines.proofs.Common.{pieces_from, pieces_of, widths_of, DividesBy, pieces_after}
-use Rattle.textwrap_lines.proofs.Common.{IsDividedInto}
-use Rattle.textwrap_lines.proofs.Common.{printable_cut, Options, byte_before, first_width}
-use Rattle.textwrap_lines.proofs.Common.{indent_of}
+use Rattle.textwrap_lines.proofs.Common.{pieces_of, pieces_of_words, widths_of, DividesBy}
+use Rattle.textwrap_lines.proofs.Common.{IsDividedInto, Options}
 use Rattle.std.specs.Prelude.{IfErr, IfSome, alloc_error}
 use Rattle.textwrap_base.specs.declared.errors.WrapError.{WrapError}
 use Rattle.textwrap_base.specs.declared.errors.WrapError.TheVariants.{Memory}
 use Rattle.textwrap_lines.specs.Direct.{HasMethods}
 use Rattle.textwrap_lines.specs.Layout.{break_limit, limit_at}
-use Rattle.textwrap_lines.specs.PieceLines.{IsFirstUpTo, lines_left, no_pieces}
+use Rattle.textwrap_lines.specs.PieceLines.{lines_left, no_pieces}
 use Rattle.textwrap_lines.proofs.Paragraph.BuiltIn.{division-as, points-as}
 use Rattle.textwrap_lines.proofs.Paragraph.Pieces.{words_of-texts}
-use Rattle.textwrap_lines.proofs.PrintableTexts.Bridge.{pieces-printable, pieces-printable_at}
 use Rattle.textwrap_lines.proofs.PrintableTexts.FirstPiece.{begins_narrow}
 use Rattle.textwrap_lines.proofs.PieceLines.Unbroken.{limited-pieces}
 
@@ -46,40 +45,24 @@ pub lines-by_bytes : (settings : Settings) (splitter : Splitter) (indent text : 
     → IsUtf8 text → IsPrintable text → 0 < length text → length text < text_limit
     → 0 < later_width settings
     → lines_left settings (no_pieces text 0 (later_width settings) indent)
-    (stand_from 0 (pieces_after (printable_cut splitter) (break_limit settings) 32 text))
+    (stand_from 0 (pieces_at splitter (break_limit settings) text 0))
     ≡ lines_of_pieces settings text (later_width settings) indent
     (pieces_of settings splitter text)
 lines-by_bytes settings splitter indent text utf8 printable some short room =
     let width = later_width settings in
     let limit = break_limit settings in
     let here = no_pieces text 0 width indent in
-    let found = begins_narrow (printable_cut splitter) limit 32 text printable limited some in
-    let pieces = found.first ∷ found.others in
+    let found = begins_narrow (is_piece_cut splitter text) limit text printable 0 some limited in
     ap (λ ps. lines_left settings here (stand_from 0 ps)) found.are
     ∙ sym (without_front settings text width indent found.first found.others settings.break_words
     (length settings.initial_indent == 0) found.narrow)
     ∙ ap (lines_of_pieces settings text width indent)
     (ap (λ ps. front_of settings ++ ps)
-    (sym found.are ∙ pieces-printable splitter limit text printable)
+    (sym found.are ∙ ap (broken_words limit) (sym (split_words-parts splitter text utf8)))
     ∙ limited-pieces settings splitter text (words_of text) utf8 (words_of-texts text utf8) short)
   where
     limited : 0 < break_limit settings
     limited = search (rules, arith)
-
--- the first line is found piece by piece, and those after it by their bytes
-pub lines-after_first : (settings : Settings) (splitter : Splitter) (is_later : Bool)
-    (text : List ℕ) (line : CutLine) (end : ℕ) → IsPrintable text → end ≤ length text
-    → IsFirstUpTo settings splitter is_later text line end
-    → line ∷ lines_left settings (no_pieces text end (later_width settings)
-    settings.subsequent_indent) (stand_from end (pieces_after (printable_cut splitter)
-    (break_limit settings) (byte_before 32 text end) (drop end text)))
-    ≡ lines_of_pieces settings text (first_width settings is_later) (indent_of settings is_later)
-    (pieces_of settings splitter text)
-lines-after_first settings splitter is_later text line end printable within first =
-    ap (λ ps. line ∷ lines_left settings (no_pieces text end (later_width settings)
-    settings.subsequent_indent) (stand_from end ps))
-    (pieces-printable_at splitter (break_limit settings) text end printable within)
-    ∙ sym first
 
 -- a paragraph whose pieces are divided so by the built-in parts of the options
 pub direct-divided : {E C : Type 0} {e : _} {c : _} (options : Options E C e c)
@@ -87,7 +70,7 @@ pub direct-divided : {E C : Type 0} {e : _} {c : _} (options : Options E C e c)
     (is_later : Bool) (paragraph : List ℕ) (words : List WordText)
     (division : List (List WordText)) → MaySeparate options.word_separator paragraph words
     → IsDividedBy algorithm sizes_of (widths_of (settings_view options) is_later)
-    (pieces_from (settings_view options) splitter words) division
+    (pieces_of_words (settings_view options) splitter words) division
     → DividesBy options is_later paragraph division
 direct-divided options splitter algorithm built_in is_later paragraph words division separate by =
     let settings = settings_view options in
@@ -97,7 +80,7 @@ direct-divided options splitter algorithm built_in is_later paragraph words divi
     (subst (λ Lines. IsDividedInto settings (MaySeparate options.word_separator)
     (ArePoints splitter) Lines is_later paragraph division)
     (sym (division-as options.wrap_algorithm algorithm built_in.algorithm_is)) (
-      pieces_from settings splitter words,
+      pieces_of_words settings splitter words,
       (words, split_words splitter words, separate, AreSplit-computed splitter words, refl),
       by,
     ))

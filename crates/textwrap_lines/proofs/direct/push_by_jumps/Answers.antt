@@ -5,7 +5,7 @@ use Rattle.textwrap_words.proofs.Common.{as_splitter}
 use Rattle.textwrap_lines.proofs.Common.{Took, layout_view, indent_of, first_width, later_width}
 use Rattle.textwrap_lines.proofs.Common.{pieces_of}
 use Rattle.textwrap_lines.proofs.Paragraph.Pieces.{pieces_of-no_penalty, pieces_of-tile}
-use Rattle.textwrap_lines.proofs.Text.Directly.{lines-after_first, lines-by_bytes, lines_of_pieces}
+use Rattle.textwrap_lines.proofs.Text.Directly.{lines-by_bytes, lines_of_pieces}
 use Rattle.textwrap_lines.proofs.Text.Sinks.{Took-then}
 use Rattle.textwrap_lines.proofs.PieceLines.Joined.{lines-greedy}
 
@@ -40,8 +40,7 @@ returns-clause-took g c =
     (pieces_of settings splitter text) (pieces_of-tile settings splitter text c.utf8.paragraph)
     (pieces_of-no_penalty settings splitter text c.utf8.paragraph) in
     let (line, first, begins) = c.in_ok-end.ensures.first in
-    let is = lines-after_first settings splitter c.args.is_later text line c.in_ok-end.end c.requires.printable
-    c.in_ok-end.ensures.boundary.0 begins ∙ found in
+    let is = sym begins ∙ found in
     on_ok_weaker c.push_printable_lines-2.result (λ took. (
       division,
       greedy,

@@ -10,7 +10,7 @@ use Rattle.textwrap_lines.proofs.Common.{line_so_far, lines_from, LineSoFar, lin
 use Rattle.textwrap_lines.proofs.Common.{with_piece}
 use Rattle.textwrap_lines.specs.PieceLines.{no_pieces}
 use Rattle.textwrap_lines.proofs.Paragraph.CutPieces.{words_cut-texts}
-use Rattle.textwrap_lines.proofs.Paragraph.Pieces.{pieces_from-no_penalty, pieces_from-tile}
+use Rattle.textwrap_lines.proofs.Paragraph.Pieces.{pieces_of_words-no_penalty, pieces_of_words-tile}
 use Rattle.textwrap_lines.proofs.Text.Sinks.{HasTaken, HasTaken-end, HasTaken-next, HasTaken-start}
 use Rattle.textwrap_lines.proofs.PieceLines.Coming.{AllCome, pieces-come}
 use Rattle.textwrap_lines.proofs.PieceLines.Joined.{lines-greedy}
@@ -104,9 +104,9 @@ returns-clause-took g c =
     let now = c.loop-piece.lines in
     let last = line_of settings.preserve_trailing_space (line_so_far c.loop-piece.line) in
     let (division, greedy, found) = lines-greedy settings paragraph is_later pieces
-    (pieces_from-tile settings (as_splitter cuts.splitter) paragraph
+    (pieces_of_words-tile settings (as_splitter cuts.splitter) paragraph
     (words_cut (places_of cuts) paragraph) c.utf8.paragraph texts)
-    (pieces_from-no_penalty settings (as_splitter cuts.splitter) paragraph
+    (pieces_of_words-no_penalty settings (as_splitter cuts.splitter) paragraph
     (words_cut (places_of cuts) paragraph) c.utf8.paragraph texts) in
     let left_is : left ≡ stand_from 0 pieces =
     ap left_standing c.into_iter-piece-iterator.ensures.into_iter_gives

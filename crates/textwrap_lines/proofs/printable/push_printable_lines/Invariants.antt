@@ -1,32 +1,29 @@
 use Rattle.textwrap_lines.proofs.printable.push_printable_lines.Given as goal
-use Rattle.textwrap_base.proofs.Common.{◌≡◌, ◌-◌, ◌≤◌, ℕ, Bool, List, length, drop, shadow, Utf8}
-use Rattle.textwrap_words.proofs.Common.{as_splitter, IsPrintable, Splitter}
-use Rattle.textwrap_lines.proofs.Common.{Settings, layout_view, byte_before, later_width, CutLine}
-use Rattle.textwrap_lines.proofs.Common.{pieces_after, printable_cut}
+use Rattle.textwrap_base.proofs.Common.{◌≡◌, ◌-◌, ◌≤◌, ℕ, Bool, List, length}
+use Rattle.textwrap_words.proofs.Common.{as_splitter}
+use Rattle.textwrap_lines.proofs.Common.{is_cut_by, Settings, layout_view, later_width, CutLine}
+use Rattle.textwrap_lines.proofs.Common.{pieces_from}
 use Rattle.textwrap_lines.specs.Layout.{break_limit}
 use Rattle.textwrap_lines.proofs.PrintableTexts.Lines.{lines_at}
 use Rattle.textwrap_lines.proofs.Text.Sinks.{HasTaken}
 
--- the lines of what follows a place, where a byte stands before it
-abbrev pub lines_after : Settings → Splitter → List ℕ → ℕ → Bool → ℕ → List ℕ → List CutLine
-lines_after settings splitter text at is_later before rest =
+-- the lines of what follows a place
+abbrev pub lines_after : Settings → (ℕ → Bool) → List ℕ → ℕ → Bool → List CutLine
+lines_after settings test text at is_later =
     lines_at settings text at (later_width settings) is_later
-    (pieces_after (printable_cut splitter) (break_limit settings) before rest)
+    (pieces_from test (break_limit settings) text at)
 
--- the lines of what comes before the rest were taken, and the lines of the rest are left
-abbrev pub invariant-loop-rest : goal.invariant-loop-rest
-invariant-loop-rest g l = record {
-  printable : IsPrintable l.rest;
-  rest_is : l.rest ≡ drop (length l.paragraph - length l.rest) l.paragraph;
-  within : length l.rest ≤ length l.paragraph;
-  utf8 : shadow (Utf8 l.rest);
+-- the lines of what comes before the place were taken, and those after it are left
+abbrev pub invariant-loop-at : goal.invariant-loop-at
+invariant-loop-at g l = record {
+  within : l.at ≤ length l.paragraph;
   taken : HasTaken g.S.LineSink.holds (lines_after (layout_view l.layout)
-      (as_splitter l.splitter) l.paragraph l.start l.is_later
-      (byte_before 32 l.paragraph l.start) (drop l.start l.paragraph))
-      l.initial.lines l.lines (lines_after (layout_view l.layout) (as_splitter l.splitter)
-      l.paragraph (length l.paragraph - length l.rest) l.has_line l.before l.rest);
+      (is_cut_by (g.C.PrintableCuts.cuts l.cuts l.paragraph) (as_splitter l.splitter) l.paragraph)
+      l.paragraph l.start l.is_later) l.initial.lines l.lines (lines_after (layout_view l.layout)
+      (is_cut_by (g.C.PrintableCuts.cuts l.cuts l.paragraph) (as_splitter l.splitter) l.paragraph)
+      l.paragraph l.at l.has_line);
   name : g.S.LineSink.name l.lines ≡ g.S.LineSink.name l.initial.lines;
 }
 
-abbrev pub decreases-loop-rest : goal.decreases-loop-rest
-decreases-loop-rest g l = length l.rest
+abbrev pub decreases-loop-at : goal.decreases-loop-at
+decreases-loop-at g l = length l.paragraph - l.at

@@ -5,7 +5,7 @@ use Rattle.textwrap_lines.specs.PiecesLeft.{left_standing}
 use Rattle.textwrap_lines.proofs.Common.{layout_view}
 use Rattle.textwrap_lines.specs.Direct.{pieces_cut, places_of, words_cut}
 use Rattle.textwrap_lines.proofs.Paragraph.CutPieces.{words_cut-texts}
-use Rattle.textwrap_lines.proofs.Paragraph.Pieces.{pieces_from-wide}
+use Rattle.textwrap_lines.proofs.Paragraph.Pieces.{pieces_of_words-wide}
 use Rattle.textwrap_lines.proofs.PlacedPieces.Left.{HasLeft, HasNext, Left-start, Left-next, Left-end}
 use Rattle.textwrap_lines.proofs.spans.find_spans.Goals.{In-Some}
 
@@ -38,7 +38,7 @@ overflow_add-closes g c =
     omega (
       arith,
       next.room,
-      pieces_from-wide (layout_view c.args.layout.now) (as_splitter c.args.cuts.now.splitter)
+      pieces_of_words-wide (layout_view c.args.layout.now) (as_splitter c.args.cuts.now.splitter)
           c.args.paragraph.now (words_cut (places_of c.args.cuts.now) c.args.paragraph.now) c.utf8.paragraph
           (words_cut-texts (places_of c.args.cuts.now) c.args.paragraph.now c.utf8.paragraph c.requires),
     )
@@ -49,7 +49,7 @@ overflow_add-opens g c =
     omega (
       arith,
       next.room,
-      pieces_from-wide (layout_view c.args.layout.now) (as_splitter c.args.cuts.now.splitter)
+      pieces_of_words-wide (layout_view c.args.layout.now) (as_splitter c.args.cuts.now.splitter)
           c.args.paragraph.now (words_cut (places_of c.args.cuts.now) c.args.paragraph.now) c.utf8.paragraph
           (words_cut-texts (places_of c.args.cuts.now) c.args.paragraph.now c.utf8.paragraph c.requires),
     )

@@ -2,7 +2,7 @@ use Rattle.textwrap_lines.proofs.wrapping.push_pieces.Goals as goal
 use Rattle.textwrap_base.proofs.Common.{List, Option, ℕ, refl, subst, sym, on_ok_weaker}
 use Rattle.std.specs.Option.{option_map}
 use Rattle.textwrap_words.proofs.Common.{IsDividedBy, WordText, as_splitter, sizes_of}
-use Rattle.textwrap_lines.proofs.Common.{Took, cut_lines, parts_from, pieces_from, widths_of}
+use Rattle.textwrap_lines.proofs.Common.{Took, cut_lines, parts_from, pieces_of_words, widths_of}
 use Rattle.textwrap_lines.specs.Direct.{CanBeCut, as_algorithm, words_cut}
 
 pub push_directly-requires : goal.push_directly-requires
@@ -16,7 +16,7 @@ returns-then-pushed-clause-taken g c =
     let parts = c.in-Some.parts in
     let (division, divided, took) = subst (λ s. (division : List (List WordText))
     × IsDividedBy (as_algorithm parts.algorithm) sizes_of (widths_of s c.args.is_later)
-    (pieces_from s (as_splitter parts.splitter)
+    (pieces_of_words s (as_splitter parts.splitter)
     (words_cut (option_map (λ places. places.now) c.as_deref.result) paragraph)) division
     × Took g.S.LineSink.holds c.args.lines.now c.push_directly.new.lines
     (cut_lines 0 (parts_from s c.args.is_later division))) c.layout-layout.ensures

@@ -1,0 +1,51 @@
+//! Where the words of a printable text are cut, told from its bytes.
+ghost use Rattle.std.specs.Prelude.{◌≡◌, ◌<◌, ℕ, Bool, List, length};
+ghost use Rattle.textwrap_words.specs.Units.{IsPrintable};
+ghost use Rattle.textwrap_lines.specs.Printable.{BeforeNoPoints, BeforeOthers};
+
+/// Where the words of printable texts are cut.
+pub(crate) trait PrintableCuts {
+    // Whether the words of a text are cut at a place.
+    ghost cuts: { Self → List ℕ → ℕ → Bool };
+
+    /// Whether the words of a printable text are cut at a place inside it.
+    fn is_cut(&self, text: &[u8], place: usize) -> bool
+        requires printable { IsPrintable text.now }
+        requires after_start { 0 < place }
+        requires inside { place < length text.now }
+        ensures { result ≡ cuts self.now text.now place };
+
+    // Blanks stay with the word before them.
+    ghost before_others: { (words : Self) (text : List ℕ) → IsPrintable text
+        → BeforeOthers (cuts words text) text };
+
+    // So a hyphen at which a word is split has what stands before it in the same word.
+    ghost before_no_points: { (words : Self) (text : List ℕ) → IsPrintable text
+        → BeforeNoPoints (cuts words text) text };
+}
+
+/// Words between blanks.
+#[derive(Drop)]
+pub(crate) struct BlankCuts {}
+
+impl PrintableCuts for BlankCuts {
+    ghost use Rattle.std.specs.Prelude.{◌-◌, slice_index};
+    ghost use Rattle.std.specs.Char.{is_ascii_alphanumeric};
+    ghost use Rattle.std.proofs.Common.{ap};
+    ghost use Rattle.std.proofs.lemmas.Bool.{and_parts, eqb-true, not-true};
+    ghost use Rattle.textwrap_words.specs.Blanks.{is_blank};
+    ghost use Rattle.textwrap_words.specs.Words.{is_cut};
+
+    ghost cuts = { λ words text place. is_cut (slice_index text (place - 1)) (slice_index text place) };
+
+    ghost before_others = { λ words text printable place after inside cut.
+        not-true _ (and_parts _ _ cut).1 };
+
+    ghost before_no_points = { λ words text printable place after inside cut next.
+        ap is_ascii_alphanumeric (eqb-true (slice_index text (place - 1)) 32
+        (and_parts (is_blank (slice_index text (place - 1))) _ cut).0) };
+
+    fn is_cut(&self, text: &[u8], place: usize) -> bool {
+        text[place - 1] == b' ' && text[place] != b' '
+    }
+}

@@ -1,12 +1,13 @@
 -- Words that stay whole are broken past a limit that none reaches.
-use Rattle.textwrap_base.proofs.Common.{◌≡◌, ℕ, ◌<◌, ◌≤◌, cond}
+use Rattle.textwrap_base.proofs.Common.{◌≡◌, ℕ, ◌-◌, ◌^◌, ◌<◌, ◌≤◌, true, false, cond}
 use Rattle.textwrap_base.proofs.Common.{List, [], ◌∷◌, ◌++◌, All, length, refl, ap, ◌∙◌, arith}
 use Rattle.textwrap_base.proofs.Common.{length-append, IsUtf8, le-ltb, All-head, All-tail}
 use Rattle.textwrap_words.proofs.Common.{broken_words, broken_pieces, WordText, tile_of, tiled}
 use Rattle.textwrap_words.proofs.Common.{words_of, Splitter, split_words}
 use Rattle.textwrap_lines.proofs.Common.{front_of, Settings, pieces_of, text_limit}
+use Rattle.textwrap_lines.proofs.Common.{broken_pieces_of, front_pieces, later_width}
 use Rattle.textwrap_words.proofs.Word.Bounds.{IsNarrowWord, IsNarrowWord-measured}
-use Rattle.textwrap_lines.specs.Layout.{break_limit}
+use Rattle.textwrap_lines.specs.Layout.{break_limit, limit_at}
 use Rattle.textwrap_lines.proofs.Paragraph.Pieces.{pieces_of-tile, split_pieces_of-measured}
 use Rattle.textwrap_words.proofs.Word.Pieces.{split_pieces_of-no_penalty}
 
@@ -23,6 +24,17 @@ unbroken limit (w ∷ ws) bounded within =
     (omega (arith, within, len)))
 
 -- whether words are broken or not, these are the pieces
+pub limited-words : (settings : Settings) (split : List WordText) → All IsNarrowWord split
+    → length (tiled split) < text_limit
+    → front_of settings ++ broken_words (break_limit settings) split
+    ≡ broken_pieces_of settings split
+limited-words settings split bounded short = elim settings.break_words as (λ b.
+    cond b (front_pieces settings) [] ++ broken_words (limit_at b (later_width settings)) split
+    ≡ cond b (front_pieces settings ++ broken_words (later_width settings) split) split) [
+      | true ↦ refl
+      | false ↦ unbroken (2 ^ 64 - 1) split bounded (omega (arith, short))
+    ]
+
 pub limited-pieces : (settings : Settings) (splitter : Splitter) (paragraph : List ℕ)
     → IsUtf8 paragraph → length paragraph < text_limit
     → front_of settings
@@ -35,5 +47,5 @@ limited-pieces settings splitter paragraph utf8 short =
       split_pieces_of-no_penalty,
       IsNarrowWord-measured,
       pieces_of-tile,
-      unbroken,
+      limited-words,
     )

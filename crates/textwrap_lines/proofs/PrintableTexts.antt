@@ -9,4 +9,5 @@ pub mod Parts
 pub mod Pieces
 pub mod Points
 pub mod Search
+pub mod SplitWords
 pub mod Texts

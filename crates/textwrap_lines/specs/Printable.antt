@@ -6,7 +6,7 @@ use Rattle.textwrap_base.specs.Division.{Fits, closed_width}
 use Rattle.textwrap_words.specs.Blanks.{is_blank, without_final_blanks}
 use Rattle.textwrap_words.specs.Breaking.{broken_words}
 use Rattle.textwrap_words.specs.PieceCuts.{is_point, parts_by}
-use Rattle.textwrap_words.specs.WordSplitters.{Splitter, hyphen}
+use Rattle.textwrap_words.specs.WordSplitters.{Splitter}
 use Rattle.textwrap_words.specs.Words.{WordText, sizes_of, word_of}
 use Rattle.textwrap_lines.specs.Paragraph.{covered}
 
@@ -17,10 +17,9 @@ abbrev pub BeforeOthers : (ℕ → Bool) → List ℕ → Type 0
 BeforeOthers test text = (place : ℕ) → 0 < place → place < length text → test place ≡ true
     → is_blank (slice_index text place) ≡ false
 
--- none begins with a hyphen that stands after a letter or a digit
-abbrev pub BeforeNoPoints : (ℕ → Bool) → List ℕ → Type 0
-BeforeNoPoints test text = (place : ℕ) → 0 < place → place < length text → test place ≡ true
-    → slice_index text place ≡ hyphen
+-- and none but the last ends in a letter or a digit
+abbrev pub AfterOthers : (ℕ → Bool) → List ℕ → Type 0
+AfterOthers test text = (place : ℕ) → 0 < place → place < length text → test place ≡ true
     → is_ascii_alphanumeric (slice_index text (place - 1)) ≡ false
 
 -- whether a text is cut there: between two words, as a test of places says, or at a point of the

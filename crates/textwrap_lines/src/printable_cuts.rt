@@ -1,7 +1,7 @@
 //! Where the words of a printable text are cut, told from its bytes.
 ghost use Rattle.std.specs.Prelude.{◌≡◌, ◌<◌, ℕ, Bool, List, length};
 ghost use Rattle.textwrap_words.specs.Units.{IsPrintable};
-ghost use Rattle.textwrap_lines.specs.Printable.{BeforeNoPoints, BeforeOthers};
+ghost use Rattle.textwrap_lines.specs.Printable.{AfterOthers, BeforeOthers};
 
 /// Where the words of printable texts are cut.
 pub(crate) trait PrintableCuts {
@@ -19,9 +19,9 @@ pub(crate) trait PrintableCuts {
     ghost before_others: { (words : Self) (text : List ℕ) → IsPrintable text
         → BeforeOthers (cuts words text) text };
 
-    // So a hyphen at which a word is split has what stands before it in the same word.
-    ghost before_no_points: { (words : Self) (text : List ℕ) → IsPrintable text
-        → BeforeNoPoints (cuts words text) text };
+    // So a hyphen between letters or digits has them in its own word.
+    ghost after_others: { (words : Self) (text : List ℕ) → IsPrintable text
+        → AfterOthers (cuts words text) text };
 }
 
 /// Words between blanks.
@@ -41,7 +41,7 @@ impl PrintableCuts for BlankCuts {
     ghost before_others = { λ words text printable place after inside cut.
         not-true _ (and_parts _ _ cut).1 };
 
-    ghost before_no_points = { λ words text printable place after inside cut next.
+    ghost after_others = { λ words text printable place after inside cut.
         ap is_ascii_alphanumeric (eqb-true (slice_index text (place - 1)) 32
         (and_parts (is_blank (slice_index text (place - 1))) _ cut).0) };
 

@@ -13,7 +13,7 @@ use Rattle.textwrap_words.proofs.Word.Measured.{IsMeasured, HasNoPenalty, text_w
 use Rattle.textwrap_words.proofs.Word.Pieces.{split_pieces_of, AreSplit-is, AreSplit-computed}
 use Rattle.textwrap_words.proofs.Word.Pieces.{AreTexts, AreTexts-words, ArePoints-cuts}
 use Rattle.textwrap_words.proofs.Word.Pieces.{ArePoints-hyphens}
-use Rattle.textwrap_words.proofs.Word.SplitPieces.{AreSplit-no_penalty, split-measured}
+use Rattle.textwrap_words.proofs.Word.SplitPieces.{AreSplit-no_penalty, split-measured, split-tile}
 use Rattle.textwrap_lines.proofs.Paragraph.GivenPieces.{pieces-tile, pieces-measured}
 use Rattle.textwrap_lines.proofs.Paragraph.GivenPieces.{pieces-no_penalty}
 
@@ -80,6 +80,12 @@ module _ (settings : Settings) (splitter : Splitter) (paragraph : List ℕ) (wor
   split_words-no_penalty =
       AreSplit-no_penalty (ArePoints splitter) (ArePoints-hyphens splitter) words
       (split_words splitter words) texts.plain (AreSplit-computed splitter words)
+
+  pub split_words-tile : tiled (split_words splitter words) ≡ paragraph
+  split_words-tile =
+      split-tile AreTexts (ArePoints splitter) (λ line ws whole given. given)
+      (ArePoints-cuts splitter) paragraph (split_words splitter words) utf8
+      (words, texts, AreSplit-computed splitter words)
 
   pub pieces_of_words-tile : tiled (pieces_of_words settings splitter words) ≡ paragraph
   pieces_of_words-tile =

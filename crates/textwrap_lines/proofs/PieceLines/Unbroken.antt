@@ -1,14 +1,15 @@
 -- Words that stay whole are broken past a limit that none reaches.
-use Rattle.textwrap_base.proofs.Common.{◌≡◌, ℕ, ◌<◌, ◌≤◌, cond}
+use Rattle.textwrap_base.proofs.Common.{◌≡◌, ℕ, ◌-◌, ◌^◌, ◌<◌, ◌≤◌, true, false, cond}
 use Rattle.textwrap_base.proofs.Common.{List, [], ◌∷◌, ◌++◌, All, length, refl, ap, ◌∙◌, arith}
 use Rattle.textwrap_base.proofs.Common.{length-append, IsUtf8, le-ltb, All-head, All-tail}
 use Rattle.textwrap_words.proofs.Common.{broken_words, broken_pieces, WordText, tile_of, tiled}
 use Rattle.textwrap_words.proofs.Common.{Splitter, split_words}
 use Rattle.textwrap_lines.proofs.Common.{front_of, Settings, pieces_of_words, text_limit}
+use Rattle.textwrap_lines.proofs.Common.{broken_pieces_of, front_pieces, later_width}
 use Rattle.textwrap_words.proofs.Word.Bounds.{IsNarrowWord, IsNarrowWord-measured}
-use Rattle.textwrap_lines.specs.Layout.{break_limit}
+use Rattle.textwrap_lines.specs.Layout.{break_limit, limit_at}
 use Rattle.textwrap_lines.proofs.Paragraph.Pieces.{pieces_of_words-tile, split_words-measured}
-use Rattle.textwrap_lines.proofs.Paragraph.Pieces.{split_words-no_penalty}
+use Rattle.textwrap_lines.proofs.Paragraph.Pieces.{split_words-no_penalty, split_words-tile}
 use Rattle.textwrap_words.proofs.Word.Pieces.{AreTexts}
 
 unbroken : (limit : ℕ) (ws : List WordText) → All IsNarrowWord ws → length (tiled ws) ≤ limit
@@ -24,17 +25,25 @@ unbroken limit (w ∷ ws) bounded within =
     (omega (arith, within, len)))
 
 -- whether words are broken or not, these are the pieces
+pub limited-words : (settings : Settings) (split : List WordText) → All IsNarrowWord split
+    → length (tiled split) < text_limit
+    → front_of settings ++ broken_words (break_limit settings) split
+    ≡ broken_pieces_of settings split
+limited-words settings split bounded short = elim settings.break_words as (λ b.
+    cond b (front_pieces settings) [] ++ broken_words (limit_at b (later_width settings)) split
+    ≡ cond b (front_pieces settings ++ broken_words (later_width settings) split) split) [
+      | true ↦ refl
+      | false ↦ unbroken (2 ^ 64 - 1) split bounded (omega (arith, short))
+    ]
+
 pub limited-pieces : (settings : Settings) (splitter : Splitter) (paragraph : List ℕ)
     (words : List WordText) → IsUtf8 paragraph → AreTexts paragraph words
     → length paragraph < text_limit
     → front_of settings ++ broken_words (break_limit settings) (split_words splitter words)
     ≡ pieces_of_words settings splitter words
 limited-pieces settings splitter paragraph words utf8 texts short =
-    grind (
-      arith,
-      split_words-measured,
-      split_words-no_penalty,
-      IsNarrowWord-measured,
-      pieces_of_words-tile,
-      unbroken,
-    )
+    let measured = split_words-measured settings splitter paragraph words utf8 texts in
+    let plain = split_words-no_penalty settings splitter paragraph words utf8 texts in
+    let tile = ap length (split_words-tile settings splitter paragraph words utf8 texts) in
+    limited-words settings (split_words splitter words)
+    (λ k d lt. IsNarrowWord-measured _ (measured k d lt) (plain k d lt)) (omega (arith, tile, short))

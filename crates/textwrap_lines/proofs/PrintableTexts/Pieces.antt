@@ -10,6 +10,7 @@ use Rattle.textwrap_words.specs.PieceCuts.{parts_by}
 use Rattle.textwrap_lines.proofs.Common.{covered, pieces_from, IsFirstLine}
 use Rattle.textwrap_words.proofs.Word.Tiling.{tiled-append, tiled-map}
 use Rattle.textwrap_words.proofs.Word.Measured.{IsMeasured, HasNoPenalty, word_of-measured}
+use Rattle.textwrap_words.proofs.Word.Bounds.{IsNarrowWord, IsNarrowWord-measured}
 use Rattle.textwrap_words.proofs.Word.BrokenPieces.{tiled-broken_words}
 use Rattle.textwrap_words.proofs.Word.BrokenTexts.{broken_words-measured, broken_words-no_penalty}
 use Rattle.textwrap_lines.proofs.Paragraph.EndsAs.{flat_map-space, broken_words-ends}
@@ -29,14 +30,23 @@ module _ (test : ℕ → Bool) (limit at : ℕ) (text : List ℕ) (printable : I
   abbrev pub pieces : List WordText
   pieces = broken_words limit words
 
-  words-measured : All IsMeasured words
-  words-measured =
-      All-map IsMeasured word_of (parts_by test at text)
-      (All-weaker IsPrintable (λ b. IsMeasured (word_of b)) (λ b p. word_of-measured b
-      (printable-utf8 b p))
-      (parts_by test at text)
+  words-all : (P : WordText → Type 0) → ((part : List ℕ) → IsPrintable part → P (word_of part))
+      → All P words
+  words-all P each =
+      All-map P word_of (parts_by test at text)
+      (All-weaker IsPrintable (λ b. P (word_of b)) each (parts_by test at text)
       (flat-printable (parts_by test at text) (subst IsPrintable (sym
       (flat-parts test at text)) printable)))
+
+  words-measured : All IsMeasured words
+  words-measured = words-all IsMeasured (λ b p. word_of-measured b (printable-utf8 b p))
+
+  pub words-narrow : All IsNarrowWord words
+  words-narrow = words-all IsNarrowWord (λ b p.
+      IsNarrowWord-measured (word_of b) (word_of-measured b (printable-utf8 b p)) refl)
+
+  pub words-tile : tiled words ≡ text
+  words-tile = tiled-map (parts_by test at text) ∙ flat-parts test at text
 
   pub pieces-tile : tiled pieces ≡ text
   pieces-tile =
@@ -44,7 +54,7 @@ module _ (test : ℕ → Bool) (limit at : ℕ) (text : List ℕ) (printable : I
       (All-weaker IsMeasured (λ w. IsUtf8 w.word) (λ w m. m.utf8) words words-measured)
       (All-weaker IsMeasured (λ w. limit < w.width → w.word ≢ []) (λ w m. wide-some limit w m)
       words words-measured)
-      ∙ tiled-map (parts_by test at text) ∙ flat-parts test at text
+      ∙ words-tile
 
   pub pieces-some : 0 < length text → 0 < length pieces
   pieces-some some = by pieces pieces-tile
@@ -56,8 +66,7 @@ module _ (test : ℕ → Bool) (limit at : ℕ) (text : List ℕ) (printable : I
   pub pieces-exact : All IsExact pieces
   pieces-exact =
       exact-words pieces (broken_words-measured limit words words-measured)
-      (broken_words-no_penalty limit words
-      (All-map HasNoPenalty word_of (parts_by test at text) (λ k d lt. refl)))
+      (broken_words-no_penalty limit words (words-all HasNoPenalty (λ b p. refl)))
       (subst IsPrintable (sym pieces-tile) printable)
 
   -- ---- the blanks at the end

@@ -33,7 +33,7 @@ begins-printable c cs printable =
     ∙ alphanumeric-printable c (All-head IsPrintableByte c cs printable)
 
 -- whether a text ends so, by the last of its first bytes
-ends-printable : (text : List ℕ) (n : ℕ) → IsPrintable text → n < length text
+pub ends-printable : (text : List ℕ) (n : ℕ) → IsPrintable text → n < length text
     → begins_alphanumeric (reverse (chars (take n text)))
     ≡ (nat_lt 0 n && is_ascii_alphanumeric (get_or text (n - 1) 0))
 ends-printable text zero printable inside = ends-none [] refl

@@ -1,7 +1,9 @@
 use Rattle.textwrap_lines.proofs.direct.push_by_jumps.Goals as goal
 use Rattle.textwrap_base.proofs.Common.{◌≡◌, [], ◌∷◌, sym, ap, ◌∙◌, subst, arith}
 use Rattle.textwrap_base.proofs.Common.{on_ok_weaker}
-use Rattle.textwrap_words.proofs.Common.{as_splitter}
+use Rattle.textwrap_words.proofs.Common.{as_splitter, split_words, words_of}
+use Rattle.textwrap_words.proofs.Word.PieceCuts.{split_words-parts}
+use Rattle.textwrap_words.specs.PieceCuts.{is_piece_cut}
 use Rattle.textwrap_lines.proofs.Common.{Took, layout_view, indent_of, first_width, later_width}
 use Rattle.textwrap_lines.proofs.Common.{pieces_of}
 use Rattle.textwrap_lines.proofs.Paragraph.Pieces.{pieces_of-no_penalty, pieces_of-tile}
@@ -22,8 +24,10 @@ returns-then-first_width-later_width-clause-took g c =
     let (division, greedy, found) = lines-greedy settings text c.args.is_later pieces
     (pieces_of-tile settings splitter text c.utf8.paragraph)
     (pieces_of-no_penalty settings splitter text c.utf8.paragraph) in
-    let is = lines-by_bytes settings splitter indent text c.utf8.paragraph c.requires.printable
-    c.requires.some (omega arith) c.requires.room
+    let is = lines-by_bytes settings (is_piece_cut splitter text)
+    (split_words splitter (words_of text)) indent text
+    (split_words-parts splitter text c.utf8.paragraph) c.requires.printable c.requires.some
+    (omega arith) c.requires.room
     ∙ ap (λ width. lines_of_pieces settings text width indent pieces) (sym first) ∙ found in
     on_ok_weaker c.push_printable_lines.result (λ took. (
       division,

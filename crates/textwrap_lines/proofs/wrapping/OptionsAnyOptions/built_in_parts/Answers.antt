@@ -1,9 +1,10 @@
 use Rattle.textwrap_lines.proofs.wrapping.OptionsAnyOptions.built_in_parts.Goals as goal
-use Rattle.textwrap_words.proofs.Common.{as_splitter}
+use Rattle.textwrap_words.proofs.Common.{MaySeparate, as_splitter}
 use Rattle.textwrap_lines.proofs.Text.Directly.{direct-divided, if_some}
 use Rattle.textwrap_lines.specs.Direct.{as_algorithm}
 
 pub returns-clause-parts : goal.returns-clause-parts
 returns-clause-parts g c = if_some c.built_in_parts.result
-    (λ parts. direct-divided c.args.self.now (as_splitter parts.splitter)
+    (λ parts. direct-divided c.args.self.now (MaySeparate c.args.self.now.word_separator)
+    (as_splitter parts.splitter)
     (as_algorithm parts.algorithm)) c.built_in_parts.ensures.parts

@@ -1,3 +1,4 @@
+pub mod BlankWords
 pub mod Breaking
 pub mod Bridge
 pub mod BrokenFront

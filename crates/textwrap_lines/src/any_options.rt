@@ -1,6 +1,7 @@
 //! Options as a bound. A function that has a bound with a lifetime, as whatever takes lines has one,
 //! may not name a type that holds function pointers, as options do.
 use crate::layout::Layout;
+use crate::printable_cuts::PrintableCuts;
 use std::alloc::{AllocError, Allocator};
 use textwrap_words::inner::BuiltInSplitter;
 use textwrap_words::words::Word;
@@ -23,6 +24,9 @@ pub(crate) struct BuiltInParts {
 
 /// What the lines of a text are found by, beside the text.
 pub(crate) trait AnyOptions<A: Allocator> {
+    /// Where printable paragraphs are cut into words.
+    type Words: PrintableCuts + Copy;
+
     ghost use Rattle.std.specs.Prelude.{◌≡◌, ◌<◌, ◌^◌, ℕ, Bool, List, None, map, length};
     ghost use Rattle.std.specs.Prelude.{IfOk, IsOkAnd, IfErr, IfSome, IsSomeAnd, alloc_error};
     ghost use Rattle.std.specs.Option.{option_map};
@@ -30,8 +34,10 @@ pub(crate) trait AnyOptions<A: Allocator> {
     ghost use Rattle.std.specs.List.{flat_map};
     ghost use Rattle.std.specs.Str.{IsUtf8};
     ghost use Rattle.textwrap_words.specs.Pieces.{as_splitter};
+    ghost use Rattle.textwrap_words.specs.PieceCuts.{parts_by};
+    ghost use Rattle.textwrap_words.specs.Units.{IsPrintable};
     ghost use Rattle.textwrap_words.specs.WrapAlgorithms.{IsDividedBy};
-    ghost use Rattle.textwrap_words.specs.Words.{WordText, Tiles, sizes_of, tiled, word_view};
+    ghost use Rattle.textwrap_words.specs.Words.{WordText, Tiles, sizes_of, tiled, word_of, word_view};
     ghost use Rattle.textwrap_lines.specs.Direct.{CanBeCut, as_algorithm, words_cut};
     ghost use Rattle.textwrap_lines.specs.Options.{Settings, layout_view};
     ghost use Rattle.textwrap_lines.specs.Paragraph.{pieces_of_words, widths_of};
@@ -71,6 +77,12 @@ pub(crate) trait AnyOptions<A: Allocator> {
             → divides self.now is_later paragraph division) }
         ensures first_fit { is_direct self.now
             → IsSomeAnd result (λ parts. parts.algorithm ≡ BuiltInAlgorithm.FirstFit) };
+
+    /// Where printable paragraphs are cut into words, if that is told from their bytes.
+    fn printable_cuts(&self) -> Option<Self::Words>
+        ensures { IfSome result (λ told. (paragraph : List ℕ) → IsPrintable paragraph
+            → may_separate self.now paragraph
+            (map word_of (parts_by (Self.Words.cuts told paragraph) 0 paragraph))) };
 
     /// Where the words of a paragraph end but the last, if they do not stand between blanks.
     ///

@@ -5,19 +5,20 @@
 ghost use Rattle.std.specs.Prelude.{◌≡◌, ◌<◌, map, IsTrue, IfOk, IfSome, OnOk, false, true, IsOk, IsOkAnd, IsSomeAnd};
 ghost use Rattle.std.specs.Prelude.{Some, List, length};
 ghost use Rattle.textwrap_base.specs.Division.{IsGreedy};
+ghost use Rattle.textwrap_words.specs.PieceCuts.{parts_by};
 ghost use Rattle.textwrap_words.specs.Pieces.{as_splitter};
 ghost use Rattle.textwrap_words.specs.Units.{IsPrintable};
-ghost use Rattle.textwrap_words.specs.Words.{WordText, sizes_of};
+ghost use Rattle.textwrap_words.specs.Words.{WordText, sizes_of, word_of};
 ghost use Rattle.textwrap_words.specs.WrapAlgorithms.{IsDividedBy};
 ghost use Rattle.textwrap_lines.specs.Direct.{CanBeCut, HasMethods, IsDirect, as_algorithm, pieces_cut};
 ghost use Rattle.textwrap_lines.specs.Direct.{places_of};
 ghost use Rattle.textwrap_lines.specs.LineSinks.{Took};
 ghost use Rattle.textwrap_lines.specs.Options.{layout_view};
-ghost use Rattle.textwrap_lines.specs.Paragraph.{later_width, parts_from, pieces_of};
-ghost use Rattle.textwrap_lines.specs.Paragraph.{widths_of};
+ghost use Rattle.textwrap_lines.specs.Paragraph.{first_width, later_width, parts_from};
+ghost use Rattle.textwrap_lines.specs.Paragraph.{pieces_of, pieces_of_words, widths_of};
 ghost use Rattle.textwrap_lines.specs.Places.{cut_lines};
 
-use crate::any_options::{BuiltInAlgorithm, BuiltInParts};
+use crate::any_options::{AnyOptions, BuiltInAlgorithm, BuiltInParts};
 use crate::cheapest::{push_cheapest_lines, suits_search};
 use crate::first_line::push_first_line;
 use crate::layout::{Cuts, Layout, later_width, line_widths};
@@ -25,7 +26,7 @@ use crate::line_sinks::LineSink;
 use crate::options::Options;
 use crate::piece_lines::push_lines_by_pieces;
 use crate::printable::push_printable_lines;
-use crate::printable_cuts::BlankCuts;
+use crate::printable_cuts::{BlankCuts, PrintableCuts};
 use std::alloc::{AllocError, Allocator};
 use textwrap_words::inner::{BuiltInSplitter, is_printable};
 use textwrap_words::word_splitters::WordSplitter;
@@ -34,11 +35,12 @@ use textwrap_words::wrap_algorithms::WrapAlgorithm;
 /// Pushes the lines of a paragraph that is cut there, by a built-in algorithm, and returns whether it
 /// has; if not, it has pushed none. `is_later` says that a line stands before it.
 ///
-/// This is where the way of a paragraph is chosen. What comes first in the table is taken:
+/// This is where the way of a paragraph is chosen. What comes first in the table is taken; before all of
+/// these comes [`push_by_jumps`], wherever [`jump_cuts`] finds how:
 ///
 /// | Algorithm | Paragraph | Way |
 /// |---|---|---|
-/// | first fit | printable, cut at blanks, with room beside the indent | [`push_by_jumps`] |
+/// | first fit | printable, cut at blanks, with room beside the indent | [`push_after_first`] |
 /// | first fit | any | [`push_lines_by_pieces`] |
 /// | least cost | not empty, no number too great | [`push_cheapest_lines`] |
 /// | least cost | any | not here: by lists of its words and pieces |
@@ -68,7 +70,7 @@ pub(crate) fn push_directly<'t, A: Allocator + Copy, S: LineSink<'t, A>>(
 {
     match algorithm {
         BuiltInAlgorithm::FirstFit if cuts.words.is_none() && can_jump(paragraph, layout) => {
-            push_by_jumps(alloc, paragraph, layout, is_later, cuts.splitter, lines)?;
+            push_after_first(alloc, paragraph, layout, is_later, cuts.splitter, lines)?;
         }
         BuiltInAlgorithm::FirstFit => {
             push_lines_by_pieces(alloc, paragraph, layout, is_later, cuts, lines)?;
@@ -118,12 +120,73 @@ fn can_jump(paragraph: &str, layout: &Layout<'_>) -> bool
     later_width(layout) > 0 && !paragraph.is_empty() && is_printable(paragraph.as_bytes())
 }
 
-/// Pushes the lines of a printable paragraph by first fit, with words split by the splitter, without
-/// a look at each word. `is_later` says that a line stands before it.
+/// Where a paragraph is cut into words, if its lines are found from there: by first fit, where it is
+/// printable and all its lines have one width. `is_later` says that a line stands before it.
+pub(crate) fn jump_cuts<A: Allocator, O: AnyOptions<A>>(
+    options: &O,
+    algorithm: BuiltInAlgorithm,
+    paragraph: &str,
+    layout: &Layout<'_>,
+    is_later: bool,
+) -> Option<O::Words>
+    ensures words { IfSome result (λ cuts. O.may_separate options.now paragraph.now
+        (map word_of (parts_by (O.Words.cuts cuts paragraph.now) 0 paragraph.now))) }
+    ensures first_fit { IfSome result (λ _. algorithm ≡ BuiltInAlgorithm.FirstFit) }
+    ensures printable { IfSome result (λ _. IsPrintable paragraph.now) }
+    ensures some { IfSome result (λ _. 0 < length paragraph.now) }
+    ensures room { IfSome result (λ _. 0 < later_width (layout_view layout.now)) }
+    ensures even { IfSome result (λ _. first_width (layout_view layout.now) is_later
+        ≡ later_width (layout_view layout.now)) }
+{
+    if !matches!(algorithm, BuiltInAlgorithm::FirstFit) || !can_jump(paragraph, layout) {
+        return None;
+    }
+    let (first_width, later_width) = line_widths(layout, is_later);
+    if first_width != later_width {
+        return None;
+    }
+    options.printable_cuts()
+}
+
+/// Pushes the lines of a printable paragraph by first fit, where it is cut there and words are split
+/// by the splitter, without a look at each word. All its lines have one width. `is_later` says that a
+/// line stands before it.
 ///
 /// # Errors
 /// [`AllocError`] where memory runs out.
-fn push_by_jumps<'t, A: Allocator + Copy, S: LineSink<'t, A>>(
+pub(crate) fn push_by_jumps<'t, A: Allocator + Copy, C: PrintableCuts, S: LineSink<'t, A>>(
+    alloc: A,
+    paragraph: &'t str,
+    layout: &Layout<'_>,
+    is_later: bool,
+    cuts: &C,
+    splitter: BuiltInSplitter,
+    lines: &mut S,
+) -> Result<(), AllocError>
+    requires printable { IsPrintable paragraph.now }
+    requires some { 0 < length paragraph.now }
+    requires room { 0 < later_width (layout_view layout.now) }
+    requires even { first_width (layout_view layout.now) is_later
+        ≡ later_width (layout_view layout.now) }
+    ensures name { S.name lines.new ≡ S.name lines.old }
+    ensures done { S.never_fails → IsOk result }
+    ensures took { OnOk result ((division : List (List WordText))
+        × IsGreedy sizes_of (widths_of (layout_view layout.now) is_later)
+        (pieces_of_words (layout_view layout.now) (as_splitter splitter)
+        (map word_of (parts_by (C.cuts cuts.now paragraph.now) 0 paragraph.now))) division
+        × Took S.holds lines.old lines.new (cut_lines 0
+        (parts_from (layout_view layout.now) is_later division))) }
+{
+    push_printable_lines(alloc, paragraph, 0, layout, is_later, cuts, splitter, lines)
+}
+
+/// Pushes the lines of a printable paragraph by first fit, with words between blanks, which are split
+/// by the splitter. The first line, which has a width of its own, is found piece by piece. `is_later`
+/// says that a line stands before it.
+///
+/// # Errors
+/// [`AllocError`] where memory runs out.
+fn push_after_first<'t, A: Allocator + Copy, S: LineSink<'t, A>>(
     alloc: A,
     paragraph: &'t str,
     layout: &Layout<'_>,
@@ -132,7 +195,6 @@ fn push_by_jumps<'t, A: Allocator + Copy, S: LineSink<'t, A>>(
     lines: &mut S,
 ) -> Result<(), AllocError>
     requires printable { IsPrintable paragraph.now }
-    requires some { 0 < length paragraph.now }
     requires room { 0 < later_width (layout_view layout.now) }
     ensures name { S.name lines.new ≡ S.name lines.old }
     ensures done { S.never_fails → IsOk result }
@@ -142,29 +204,7 @@ fn push_by_jumps<'t, A: Allocator + Copy, S: LineSink<'t, A>>(
         × Took S.holds lines.old lines.new (cut_lines 0
         (parts_from (layout_view layout.now) is_later division))) }
 {
-    let (first_width, later_width) = line_widths(layout, is_later);
-    if first_width == later_width {
-        return push_printable_lines(
-            alloc,
-            paragraph,
-            0,
-            layout,
-            is_later,
-            &BlankCuts {},
-            splitter,
-            lines,
-        );
-    }
-    // A first line with a width of its own is found piece by piece.
     let end = push_first_line(alloc, paragraph, layout, is_later, splitter, lines)?;
-    push_printable_lines(
-        alloc,
-        paragraph,
-        end,
-        layout,
-        true,
-        &BlankCuts {},
-        splitter,
-        lines,
-    )
+    let cuts = BlankCuts {};
+    push_printable_lines(alloc, paragraph, end, layout, true, &cuts, splitter, lines)
 }

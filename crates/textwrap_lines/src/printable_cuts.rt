@@ -1,10 +1,15 @@
 //! Where the words of a printable text are cut, told from its bytes.
-ghost use Rattle.std.specs.Prelude.{◌≡◌, ◌<◌, ℕ, Bool, List, length};
+ghost use Rattle.std.specs.Prelude.{◌≡◌, ◌<◌, ℕ, Bool, IsTrue, List, length, map};
+ghost use Rattle.textwrap_words.specs.PieceCuts.{parts_by};
 ghost use Rattle.textwrap_words.specs.Units.{IsPrintable};
+ghost use Rattle.textwrap_words.specs.Words.{WordText, word_of};
 ghost use Rattle.textwrap_lines.specs.Printable.{AfterOthers, BeforeOthers};
 
 /// Where the words of printable texts are cut.
-pub(crate) trait PrintableCuts {
+pub trait PrintableCuts {
+    // The words of a text.
+    ghost words: { Self → List ℕ → List WordText };
+
     // Whether the words of a text are cut at a place.
     ghost cuts: { Self → List ℕ → ℕ → Bool };
 
@@ -14,6 +19,11 @@ pub(crate) trait PrintableCuts {
         requires after_start { 0 < place }
         requires inside { place < length text.now }
         ensures { result ≡ cuts self.now text.now place };
+
+    /// Whether the words of each printable text are its parts between these places.
+    fn are_told(&self) -> bool
+        ensures { IsTrue result → (text : List ℕ) → IsPrintable text
+            → words self.now text ≡ map word_of (parts_by (cuts self.now text) 0 text) };
 
     // Blanks stay with the word before them.
     ghost before_others: { (words : Self) (text : List ℕ) → IsPrintable text
@@ -25,7 +35,7 @@ pub(crate) trait PrintableCuts {
 }
 
 /// Words between blanks.
-#[derive(Drop)]
+#[derive(Clone, Copy)]
 pub(crate) struct BlankCuts {}
 
 impl PrintableCuts for BlankCuts {
@@ -34,7 +44,9 @@ impl PrintableCuts for BlankCuts {
     ghost use Rattle.std.proofs.Common.{ap};
     ghost use Rattle.std.proofs.lemmas.Bool.{and_parts, eqb-true, not-true};
     ghost use Rattle.textwrap_words.specs.Blanks.{is_blank};
-    ghost use Rattle.textwrap_words.specs.Words.{is_cut};
+    ghost use Rattle.textwrap_words.specs.Words.{is_cut, words_of};
+
+    ghost words = { λ words. words_of };
 
     ghost cuts = { λ words text place. is_cut (slice_index text (place - 1)) (slice_index text place) };
 
@@ -47,5 +59,9 @@ impl PrintableCuts for BlankCuts {
 
     fn is_cut(&self, text: &[u8], place: usize) -> bool {
         text[place - 1] == b' ' && text[place] != b' '
+    }
+
+    fn are_told(&self) -> bool {
+        true
     }
 }

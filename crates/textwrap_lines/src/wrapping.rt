@@ -34,11 +34,12 @@ ghost use Rattle.textwrap_words.specs.WordSeparators.{MaySeparate};
 ghost use Rattle.textwrap_words.specs.WordSplitters.{AreSplit, MaySplit, Splitter, splitter_view};
 
 use crate::any_options::{AnyOptions, BuiltInParts};
-use crate::direct::{built_in_parts, push_directly};
+use crate::direct::{built_in_parts, jump_cuts, push_by_jumps, push_directly};
 use crate::layout::{Cuts, Layout, later_width, line_widths, next_indent};
 use crate::line_ending::LineEnding;
 use crate::line_sinks::{LineSink, ListedLines};
 use crate::options::Options;
+use crate::printable_cuts::BlankCuts;
 use std::alloc::{AllocError, Allocator};
 use std::borrow::CowStr;
 use textwrap_words::blanks::split_final_blanks;
@@ -240,12 +241,18 @@ fn push_pieces<'t, A: Allocator + Copy, S: LineSink<'t, A>, O: AnyOptions<A>>(
     let Some(parts) = options.built_in_parts() else {
         return push_divided(alloc, paragraph, options, is_later, lines);
     };
+    let layout = options.layout();
+    if let Some(cuts) = jump_cuts(options, parts.algorithm, paragraph, &layout, is_later) {
+        let splitter = parts.splitter;
+        return Ok(push_by_jumps(
+            alloc, paragraph, &layout, is_later, &cuts, splitter, lines,
+        )?);
+    }
     let found = options.word_cuts(paragraph)?;
     let cuts = Cuts {
         words: found.as_deref(),
         splitter: parts.splitter,
     };
-    let layout = options.layout();
     let pushed = push_directly(
         alloc,
         paragraph,
@@ -516,6 +523,8 @@ fn divide<'a, 'w, A: Allocator + Copy>(
 }
 
 impl<A: Allocator + Copy> AnyOptions<A> for Options<'_> {
+    type Words = BlankCuts;
+
     ghost settings = { λ options. settings_view options };
 
     ghost may_separate = { λ options. MaySeparate options.word_separator };
@@ -537,6 +546,13 @@ impl<A: Allocator + Copy> AnyOptions<A> for Options<'_> {
 
     fn built_in_parts(&self) -> Option<BuiltInParts> {
         built_in_parts(self)
+    }
+
+    fn printable_cuts(&self) -> Option<BlankCuts> {
+        match self.word_separator {
+            WordSeparator::AsciiSpace => Some(BlankCuts {}),
+            WordSeparator::Custom(_) => None,
+        }
     }
 
     fn word_cuts(&self, paragraph: &str) -> Result<Option<Vec<usize>>, AllocError> {

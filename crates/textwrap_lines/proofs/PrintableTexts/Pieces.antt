@@ -11,6 +11,7 @@ use Rattle.textwrap_lines.proofs.Common.{covered, pieces_from, IsFirstLine}
 use Rattle.textwrap_words.proofs.Word.Tiling.{tiled-append, tiled-map}
 use Rattle.textwrap_words.proofs.Word.Measured.{IsMeasured, HasNoPenalty, word_of-measured}
 use Rattle.textwrap_words.proofs.Word.Bounds.{IsNarrowWord, IsNarrowWord-measured}
+use Rattle.textwrap_words.proofs.Word.Pieces.{AreTexts}
 use Rattle.textwrap_words.proofs.Word.BrokenPieces.{tiled-broken_words}
 use Rattle.textwrap_words.proofs.Word.BrokenTexts.{broken_words-measured, broken_words-no_penalty}
 use Rattle.textwrap_lines.proofs.Paragraph.EndsAs.{flat_map-space, broken_words-ends}
@@ -48,6 +49,9 @@ module _ (test : ℕ → Bool) (limit at : ℕ) (text : List ℕ) (printable : I
   pub words-tile : tiled words ≡ text
   words-tile = tiled-map (parts_by test at text) ∙ flat-parts test at text
 
+  words-plain : All HasNoPenalty words
+  words-plain = words-all HasNoPenalty (λ b p. refl)
+
   pub pieces-tile : tiled pieces ≡ text
   pieces-tile =
       tiled-broken_words limit words
@@ -66,7 +70,7 @@ module _ (test : ℕ → Bool) (limit at : ℕ) (text : List ℕ) (printable : I
   pub pieces-exact : All IsExact pieces
   pieces-exact =
       exact-words pieces (broken_words-measured limit words words-measured)
-      (broken_words-no_penalty limit words (words-all HasNoPenalty (λ b p. refl)))
+      (broken_words-no_penalty limit words words-plain)
       (subst IsPrintable (sym pieces-tile) printable)
 
   -- ---- the blanks at the end
@@ -86,6 +90,14 @@ module _ (test : ℕ → Bool) (limit at : ℕ) (text : List ℕ) (printable : I
         let len = length-take-le (trimmed_len text) text (omega arith) in
         let covers = ap length pieces-cover in
         Fits-exact width pieces pieces-exact (omega (arith, len, covers, keeps))
+
+pub words-texts : (test : ℕ → Bool) (at : ℕ) (text : List ℕ) → IsPrintable text
+    → AreTexts text (map word_of (parts_by test at text))
+words-texts test at text printable = record {
+  tile = words-tile test 0 at text printable;
+  measured = words-measured test 0 at text printable;
+  plain = words-plain test 0 at text printable;
+}
 
 pub printable-slice : (text : List ℕ) (i j : ℕ) → IsPrintable text → IsPrintable (slice_range text i j)
 printable-slice text i j printable =

@@ -18,7 +18,7 @@ use Rattle.textwrap_lines.proofs.PrintableTexts.Points.{ends-printable}
 use Rattle.textwrap_lines.proofs.PrintableTexts.Texts.{printable-utf8}
 
 -- bytes are cut alike by tests that agree inside them
-parts-same : (one other : ℕ → Bool) (rest : List ℕ) (at : ℕ)
+pub parts-same : (one other : ℕ → Bool) (rest : List ℕ) (at : ℕ)
     → ((k : ℕ) → at < k → k < at + length rest → one k ≡ other k)
     → parts_by one at rest ≡ parts_by other at rest
 parts-same one other [] at same = refl

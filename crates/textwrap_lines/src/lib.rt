@@ -20,6 +20,7 @@ mod layout;
 mod line_ending;
 mod line_sinks;
 mod options;
+mod options_with;
 pub mod parts;
 mod piece_lines;
 pub mod placed;

@@ -1,8 +1,10 @@
 //! Wrapping a text into lines.
 ghost use Rattle.std.specs.Prelude.{◌≡◌, ℕ, List, ◌∷◌, [], ◌++◌, ◌^◌, ◌<◌, length, take, drop, map};
 ghost use Rattle.std.specs.Prelude.{nat_lt, if◌then◌else◌, alloc_error, true, IfOk, IfErr, IfSome};
-ghost use Rattle.std.specs.Prelude.{◌≢◌, OnOk, IsOk, MatchOption, Some, None};
-ghost use Rattle.textwrap_lines.specs.Direct.{IsDirect};
+ghost use Rattle.std.specs.Prelude.{◌≢◌, OnOk, IsOk, IsOkAnd, MatchOption, Some, None};
+ghost use Rattle.std.specs.Option.{option_map};
+ghost use Rattle.textwrap_lines.specs.Direct.{CanBeCut, IsDirect, words_cut};
+ghost use Rattle.textwrap_words.specs.declared.word_separators.WordSeparator.TheVariants.{AsciiSpace};
 ghost use Rattle.std.specs.List.{flat_map};
 ghost use Rattle.std.specs.Str.{IsUtf8};
 ghost use Rattle.std.specs.Io.{StartsWith};
@@ -419,6 +421,27 @@ pub fn wrap_single_line_slow_path<'t, A: Allocator + Copy>(
     Ok(lines.append(&mut own)?)
 }
 
+/// Where the words of a paragraph end but the last, if they do not stand between blanks.
+///
+/// # Errors
+/// [`AllocError`] where memory runs out, or a function of the caller says so.
+pub(crate) fn word_cuts(
+    paragraph: &str,
+    options: &Options<'_>,
+) -> Result<Option<Vec<usize>>, AllocError>
+    ensures words { IfOk result (λ found. MaySeparate options.now.word_separator paragraph.now
+        (words_cut (option_map (λ cuts. cuts.items) found) paragraph.now)) }
+    ensures cuts { IfOk result (λ found. CanBeCut (option_map (λ cuts. cuts.items) found)
+        paragraph.now) }
+    ensures direct { options.now.word_separator ≡ AsciiSpace
+        → IsOkAnd result (λ found. found ≡ None) }
+{
+    match options.word_separator {
+        WordSeparator::AsciiSpace => Ok(None),
+        WordSeparator::Custom(line_cuts) => Ok(Some(given_cuts(line_cuts, paragraph)?)),
+    }
+}
+
 /// The pieces of a paragraph that are divided.
 ///
 /// # Errors
@@ -503,7 +526,7 @@ fn find_split_words<'t, A: Allocator + Copy>(
 }
 
 /// The pieces divided by the algorithm of the options.
-fn divide<'a, 'w, A: Allocator + Copy>(
+pub(crate) fn divide<'a, 'w, A: Allocator + Copy>(
     alloc: A,
     pieces: &'w [Word<'a>],
     options: &Options<'_>,
@@ -556,10 +579,7 @@ impl<A: Allocator + Copy> AnyOptions<A> for Options<'_> {
     }
 
     fn word_cuts(&self, paragraph: &str) -> Result<Option<Vec<usize>>, AllocError> {
-        match self.word_separator {
-            WordSeparator::AsciiSpace => Ok(None),
-            WordSeparator::Custom(line_cuts) => Ok(Some(given_cuts(line_cuts, paragraph)?)),
-        }
+        word_cuts(paragraph, self)
     }
 
     fn find_pieces<'t>(

@@ -10,11 +10,13 @@ ghost use Rattle.textwrap_lines.specs.Options.{settings_view};
 ghost use Rattle.textwrap_lines.specs.Paragraph.{first_width, indent_of, is_whole, later_width};
 ghost use Rattle.textwrap_lines.specs.Paragraph.{line_from, line_view, parts_from, pieces_of};
 
-pub use crate::filling::fill_into;
+pub use crate::filling::{fill_into, fill_with};
 use crate::layout::{self, Layout};
 use crate::line_sinks::ListedLines;
 pub use crate::options::DEFAULTS;
 use crate::options::Options;
+pub use crate::placed::place_lines_with;
+pub use crate::printable_cuts::PrintableCuts;
 use crate::wrapping;
 pub use crate::wrapping::{break_pieces, find_pieces, wrap_by};
 use std::alloc::{AllocError, Allocator};

@@ -17,6 +17,7 @@ use textwrap_words::words::Word;
 use textwrap_words::wrap_algorithms::WrapError;
 
 /// Options whose words are also told from the bytes of printable texts.
+#[derive(Clone, Copy)]
 pub(crate) struct OptionsWith<'o, 'a, W: PrintableCuts + Copy> {
     pub(crate) options: &'o Options<'a>,
     pub(crate) words: W,
@@ -59,8 +60,10 @@ impl<A: Allocator + Copy, W: PrintableCuts + Copy> AnyOptions<A> for OptionsWith
     }
 
     fn word_cuts(&self, paragraph: &str) -> Result<Option<Vec<usize>>, AllocError> {
-        let cuts = word_cuts(paragraph, self.options)?;
-        Ok(cuts)
+        if self.words.stand_between_blanks(paragraph) {
+            return Ok(None);
+        }
+        word_cuts(paragraph, self.options)
     }
 
     fn find_pieces<'t>(

@@ -2,10 +2,10 @@
 ghost use Rattle.std.specs.Prelude.{◌≡◌, ◌<◌, ℕ, Bool, IsTrue, List, length, map};
 ghost use Rattle.textwrap_words.specs.PieceCuts.{parts_by};
 ghost use Rattle.textwrap_words.specs.Units.{IsPrintable};
-ghost use Rattle.textwrap_words.specs.Words.{WordText, word_of};
+ghost use Rattle.textwrap_words.specs.Words.{WordText, word_of, words_of};
 ghost use Rattle.textwrap_lines.specs.Printable.{AfterOthers, BeforeOthers};
 
-/// Where the words of printable texts are cut.
+/// Where the words of printable texts are cut, told from their bytes.
 pub trait PrintableCuts {
     // The words of a text.
     ghost words: { Self → List ℕ → List WordText };
@@ -24,6 +24,10 @@ pub trait PrintableCuts {
     fn are_told(&self) -> bool
         ensures { IsTrue result → (text : List ℕ) → IsPrintable text
             → words self.now text ≡ map word_of (parts_by (cuts self.now text) 0 text) };
+
+    /// Whether the words of a text stand between its blanks. If not, false says nothing.
+    fn stand_between_blanks(&self, text: &str) -> bool
+        ensures { IsTrue result → words self.now text.now ≡ words_of text.now };
 
     // Blanks stay with the word before them.
     ghost before_others: { (words : Self) (text : List ℕ) → IsPrintable text
@@ -44,7 +48,7 @@ impl PrintableCuts for BlankCuts {
     ghost use Rattle.std.proofs.Common.{ap};
     ghost use Rattle.std.proofs.lemmas.Bool.{and_parts, eqb-true, not-true};
     ghost use Rattle.textwrap_words.specs.Blanks.{is_blank};
-    ghost use Rattle.textwrap_words.specs.Words.{is_cut, words_of};
+    ghost use Rattle.textwrap_words.specs.Words.{is_cut};
 
     ghost words = { λ words. words_of };
 
@@ -62,6 +66,10 @@ impl PrintableCuts for BlankCuts {
     }
 
     fn are_told(&self) -> bool {
+        true
+    }
+
+    fn stand_between_blanks(&self, _text: &str) -> bool {
         true
     }
 }

@@ -1,0 +1,12 @@
+use Rattle.textwrap_lines.proofs.filling.joined_lines.Goals as goal
+use Rattle.textwrap_base.proofs.Common.{map, ap, ◌∙◌}
+use Rattle.textwrap_lines.proofs.Common.{Settings, ending_bytes, join_with, line_bytes, lines_of}
+
+pub returns-clause-filled : goal.returns-clause-filled
+returns-clause-filled g c =
+    let (taken, are, end, holds) = c.in_ok-push_text.ensures.lines in (
+      lines_of taken,
+      are.are,
+      holds.text ∙ ap (λ (s : Settings). join_with (ending_bytes s.line_ending)
+          (map line_bytes (lines_of taken))) c.layout.ensures,
+    )

@@ -1,0 +1,11 @@
+use Rattle.textwrap_lines.proofs.placed.placed_lines.Goals as goal
+use Rattle.textwrap_base.proofs.Common.{ap, ◌∙◌}
+use Rattle.textwrap_lines.proofs.Common.{lines_of, places_of}
+
+pub returns-clause-lines : goal.returns-clause-lines
+returns-clause-lines g c =
+    let (taken, are, end, holds) = c.in_ok-push_text.ensures.lines in (
+      lines_of taken,
+      record { are = are.are; places_are = holds.places ∙ ap (places_of 0) are.cuts_are },
+      holds.built,
+    )

@@ -1,8 +1,7 @@
 -- Parts that go up to the last of the blanks after a word, and the pieces of a text.
 use Rattle.textwrap_base.proofs.Common.{inl, inr, ◌≡◌, ℕ, ◌-◌, ◌<◌, ◌≤◌, true, false, not, ◌&&◌}
 use Rattle.textwrap_base.proofs.Common.{◌||◌, List, [], ◌∷◌, length, get_or, refl, sym, ap}
-use Rattle.textwrap_base.proofs.Common.{◌∙◌, arith, cases_lt, IsUtf8, le-ltb, cond}
-use Rattle.textwrap_base.proofs.Common.{and_right}
+use Rattle.textwrap_base.proofs.Common.{◌∙◌, arith, cases_lt, IsUtf8, le-ltb, cond, and_right}
 use Rattle.std.proofs.lemmas.Bool.{not-false, not-true}
 use Rattle.textwrap_words.proofs.Common.{is_blank, words_of, WordText, Splitter, Whole}
 use Rattle.textwrap_words.proofs.Common.{AtHyphens, split_words, broken_words, broken_word}

@@ -1,9 +1,9 @@
 -- The pieces of a text from a place on: those of the part that begins there, and those from its end
 -- on; and where the first of them stops inside the part.
-use Rattle.textwrap_base.proofs.Common.{inl, inr, ◌≡◌, ◌≢◌, ℕ, Bool, sym, IsUtf8, ◌+◌, ◌-◌, ◌<◌, ◌≤◌, List, [], ◌∷◌, ◌++◌}
-use Rattle.textwrap_base.proofs.Common.{length, map, take, drop, get_or, ap, ◌∙◌, arith}
-use Rattle.textwrap_base.proofs.Common.{slice_range, cases_lt, length-drop, drop-drop, take-take}
-use Rattle.textwrap_base.proofs.Common.{get_or-take, get_or-drop}
+use Rattle.textwrap_base.proofs.Common.{inl, inr, ◌≡◌, ◌≢◌, ℕ, ◌+◌, ◌-◌, ◌<◌, ◌≤◌, Bool, List, []}
+use Rattle.textwrap_base.proofs.Common.{◌∷◌, ◌++◌, length, map, take, drop, get_or, sym, ap, ◌∙◌}
+use Rattle.textwrap_base.proofs.Common.{arith, slice_range, cases_lt, length-drop, drop-drop}
+use Rattle.textwrap_base.proofs.Common.{take-take, get_or-take, get_or-drop, IsUtf8}
 use Rattle.textwrap_words.proofs.Common.{trimmed_len, without_final_blanks}
 use Rattle.textwrap_words.proofs.Common.{word_of, piece, broken_word, broken_words, broken_texts}
 use Rattle.textwrap_words.proofs.Common.{text_width}

@@ -1,6 +1,6 @@
 -- Where the reader stops in a word with its blanks. The word may have blanks inside.
-use Rattle.textwrap_base.proofs.Common.{inl, inr, ◌≡◌, ℕ, ◌+◌, ◌<◌, ◌≤◌, Bool, true, false}
-use Rattle.textwrap_base.proofs.Common.{List, ◌++◌, length, drop, sym, ap, ◌∙◌, subst, arith}
+use Rattle.textwrap_base.proofs.Common.{inl, inr, ◌≡◌, ℕ, ◌+◌, ◌-◌, ◌<◌, ◌≤◌, Bool, true, false}
+use Rattle.textwrap_base.proofs.Common.{List, ◌++◌, length, drop, get_or, sym, ap, ◌∙◌, subst, arith}
 use Rattle.textwrap_base.proofs.Common.{cases_lt, IsUtf8, IsCharBoundary, true≢false}
 use Rattle.textwrap_words.proofs.Common.{is_blank, trimmed_len, Visible, is_due, Splitter}
 use Rattle.std.specs.Prelude.{encode_utf8}
@@ -26,46 +26,21 @@ module _ (splitter : Splitter) (limit : ℕ) (text : List ℕ) (utf8 : IsUtf8 te
       → ((k : ℕ) → at < k → k < place → test k ≡ false) → test place ≡ true
       → IsPart test text at place × AreFinalBlanks text at place place
   point-part place some inside uncut is =
-      let byte = point-hyphen splitter text place (omega (arith, some)) inside is in (
-        record { some = some; within = omega (arith, inside); uncut = uncut; ends = λ _. is },
-        record {
-          from = omega (arith, some);
-          up_to = omega arith;
-          other = λ _. ap is_blank byte;
-          blanks = λ k from below. absurd (omega (arith, from, below));
-        },
-      )
+      let byte = point-hyphen splitter text place (omega (arith, some)) inside is in
+      let other : is_blank (get_or text (place - 1) 0) ≡ false = ap is_blank byte in
+      (grind arith, grind arith)
 
   -- the last part ends with the blanks
   last-part : at < length text → ((k : ℕ) → at < k → k < trimmed_len text → test k ≡ false)
       → IsPart test text at (length text) × AreFinalBlanks text at (trimmed_len text) (length text)
-  last-part inside uncut = (
-    record {
-      some = inside;
-      within = omega arith;
-      uncut = λ k past below. elim (cases_lt k (trimmed_len text)) [
-        | inl early ↦ uncut k past early
-        | inr late ↦ point-none splitter text k below (trimmed-blank text k 0 late below)
-      ];
-      ends = λ more. absurd (omega (arith, more));
-    },
-    record {
-      from = before;
-      up_to = omega arith;
-      other = λ some. trimmed-other text (omega (arith, some));
-      blanks = λ k from below. trimmed-blank text k 0 from below;
-    },
-  )
+  last-part inside uncut =
+      (grind (arith, cases_lt, point-none, trimmed-blank), grind (arith, trimmed-other, trimmed-blank))
 
   -- a point stands before the blanks
   point-early : (place : ℕ) → 0 < place → place < length text → test place ≡ true
       → place ≤ trimmed_len text
-  point-early place some inside is = elim (cases_lt (trimmed_len text) place) [
-    | inr early ↦ early
-    | inl late ↦
-        absurd (true≢false (sym is
-        ∙ point-none splitter text place inside (trimmed-blank text place 0 (omega (arith, late)) inside)))
-  ]
+  point-early place some inside is =
+      grind (arith, cases_lt, true≢false, point-none, trimmed-blank)
 
   -- it stops at a point of the splitter, and at the end of the word
   pub within-point : (place : ℕ) (state : State) (width : ℕ)

@@ -142,17 +142,14 @@ returns-then-width-columns c =
       c.requires.trimmed,
       ends-within text place ch _ is,
     ) in
+    let here_is : place ≡ start + c.in-Some.after = omega (arith, s.0) in
     subst (IsFirstWithin splitter c.args.limit text c.args.at)
-    (ap (λ k. record { word_end = k; end = k; width = c.loop-after.width }) place_is
+    (ap (λ k. record { word_end = k; end = k; width = c.loop-after.width }) here_is
     ∙ sym c.piece_before.ensures)
     (within-cut splitter c.args.limit text c.utf8.text c.args.at c.requires.boundary
     (omega (arith, c.requires.before_blanks, c.requires.trimmed)) place ch _ c.loop-after.state
     c.step-next.result.0 c.loop-after.width c.loop-after.invariant.0 c.loop-after.invariant.1 is early
     step c.if-width-gt0.true due)
-  where
-    place_is : c.args.at + c.letters_len-width.result + char_indices_offset c.loop-after.after-iterator
-        ≡ c.args.at + c.letters_len-width.result + c.in-Some.after
-    place_is = omega (arith, c.in-Some.ensures.steps.0)
 
 -- the reader is past the character
 past : (c : Joined-is_visible)

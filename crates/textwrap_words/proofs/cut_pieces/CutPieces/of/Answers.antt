@@ -9,12 +9,7 @@ invariant_of-result c =
       starts = here;
       ends = here;
       order = omega arith;
-      later = record {
-        in_order = c.requires.in_order;
-        after_start = c.requires.after_start;
-        before_end = c.requires.before_end;
-        between = c.requires.between;
-      };
+      later = c.requires;
       from = omega arith;
       boundary = IsCharBoundary-end [];
       trimmed = refl;

@@ -12,6 +12,8 @@ pub mod InnerCuts
 pub mod NumberLemmas
 pub mod OffsetsAmong
 pub mod OnePlace
+pub mod PrintableBytes
+pub mod PrintableVerdicts
 pub mod ReadPlaces
 pub mod RuleOrder
 pub mod TextBreaks

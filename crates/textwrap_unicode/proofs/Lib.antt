@@ -12,7 +12,10 @@ pub mod InnerCuts
 pub mod NumberLemmas
 pub mod OffsetsAmong
 pub mod OnePlace
+pub mod PastBlanks
+pub mod PlaceParts
 pub mod PrintableBytes
+pub mod PrintableCuts
 pub mod PrintableVerdicts
 pub mod ReadPlaces
 pub mod RuleOrder

@@ -1,0 +1,2 @@
+-- The class before blanks.
+use Rattle.textwrap_base.proofs.Common.{◌≡◌, ℕ}

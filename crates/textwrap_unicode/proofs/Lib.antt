@@ -13,6 +13,7 @@ pub mod NumberLemmas
 pub mod OffsetsAmong
 pub mod OnePlace
 pub mod PastBlanks
+pub mod PlaceCuts
 pub mod PlaceParts
 pub mod PrintableBytes
 pub mod PrintableCuts

@@ -1,6 +1,7 @@
 -- What the rules say between printable bytes, by their classes.
 use Rattle.textwrap_base.proofs.Common.{◌≡◌, ℕ, ◌<◌, ◌==◌, ◌&&◌, ◌||◌, Bool, true, false, not}
 use Rattle.textwrap_base.proofs.Common.{if◌then◌else◌, List, [], ◌∷◌, refl, sym, ap, ◌∙◌, arith, list_all}
+use Rattle.textwrap_base.proofs.Common.{cases_Bool, inl, inr}
 use Rattle.std.proofs.Common.{slice_index_or}
 use Rattle.std.specs.Prelude.{bit_and}
 use Rattle.unicode.specs.declared.properties.LineBreak.{LineBreak}
@@ -75,6 +76,13 @@ cut-classes past b c first next =
     ∙ ap (λ u. not (is_hyphen_class class) && may_end (decide (behind_classes past class) u))
     (ascii-is c (omega (arith, next.1)))
 
+unusual-classes : (b c : ℕ) → IsPrintableByte b → IsPrintableByte c
+    → unusual_behind (class_of b) (class_of c) ≡ is_unusual b c
+unusual-classes b c first next =
+    ap (λ cut. if is_space (class_of b) then is_after_text (class_of c) || is_opening (class_of c)
+    else (is_opening (class_of b) && is_space (class_of c)) || cut)
+    (sym (cut-classes (class_of b) b c first next))
+
 pub unusual-bits : (b c : ℕ) → IsPrintableByte b → IsPrintableByte c
     → not (bit_and (slice_index_or UNUSUAL_AFTER b 0) (slice_index_or KINDS c 0) == 0)
     ≡ is_unusual b c
@@ -82,7 +90,30 @@ unusual-bits b c first next =
     let one = told b first in
     let other = told c next in
     rw (one.unusual, other.kind)
-    (bits-unusual (class_of b) (class_of c) one.class other.class
-    ∙ ap (λ cut. if is_space (class_of b) then is_after_text (class_of c) || is_opening (class_of c)
-    else (is_opening (class_of b) && is_space (class_of c)) || cut)
-    (sym (cut-classes (class_of b) b c first next)))
+    (bits-unusual (class_of b) (class_of c) one.class other.class ∙ unusual-classes b c first next)
+
+class-space : (v : LineBreak) → is_space v ≡ true → v ≡ Space
+class-space Space e = refl
+class-space v e = cc
+
+-- a place is cut between bytes of which the first is no blank if it is unusual, and behind blanks by what
+-- stands before them
+pub cut-behind : (past : LineBreak) (b c : ℕ) → IsPrintableByte b → IsPrintableByte c
+    → is_among past_classes past ≡ true → (is_blank b ≡ false → past ≡ class_of b)
+    → is_cut_behind past b c
+    ≡ not (is_blank c) && (if is_blank b then may_follow_blanks past (class_of c) else is_unusual b c)
+cut-behind past b c first next among word =
+    let one = told b first in
+    let other = told c next in
+    elim (cases_Bool (is_blank b)) [
+      | inl blank ↦
+          let space = class-space (class_of b) (sym one.blank ∙ blank) in
+          rw (blank, other.blank) (cut-classes past b c first next
+          ∙ ap (λ v. cut_behind past v (class_of c)) space
+          ∙ cut-blanks past (class_of c) among other.class)
+      | inr none ↦
+          rw (none, other.blank) (ap (λ p. is_cut_behind p b c) (word none)
+          ∙ cut-classes (class_of b) b c first next
+          ∙ cut-words (class_of b) (class_of c) one.class other.class (sym one.blank ∙ none)
+          ∙ ap (λ u. not (is_space (class_of c)) && u) (unusual-classes b c first next))
+    ]

@@ -18,6 +18,7 @@ pub mod PlaceParts
 pub mod PrintableBytes
 pub mod PrintableCuts
 pub mod PrintableVerdicts
+pub mod PrintableWords
 pub mod ReadPlaces
 pub mod RuleOrder
 pub mod TextBreaks

@@ -2,14 +2,37 @@
 use Rattle.textwrap_base.proofs.Common.{◌≡◌, ℕ, zero, suc, ◌-◌, ◌<◌, ◌≤◌, ◌&&◌, ◌||◌, true, false, not}
 use Rattle.textwrap_base.proofs.Common.{Bool, if◌then◌else◌, List, length, get_or, refl, sym, ap, ◌∙◌}
 use Rattle.textwrap_base.proofs.Common.{arith, cases_Bool, inl, inr, true≢false}
+use Rattle.std.proofs.Math.Bool.{beq}
 use Rattle.textwrap_words.proofs.Common.{is_blank, is_cut, IsPrintable}
-use Rattle.textwrap_unicode.specs.ClassSets.{is_opening, is_space}
+use Rattle.textwrap_unicode.specs.ClassSets.{is_after_text, is_opening, is_quotation, is_space}
 use Rattle.textwrap_unicode.specs.Classes.{class_of}
 use Rattle.textwrap_unicode.specs.Pairs.{at_breaks, class_past_blanks, is_unusual, may_follow_blanks}
 use Rattle.textwrap_unicode.specs.Pairs.{IsUsual}
 use Rattle.textwrap_unicode.proofs.PastBlanks.{past-among, past-blank, past-byte, space-at}
 use Rattle.textwrap_unicode.proofs.PrintableCuts.{breaks-cut}
-use Rattle.textwrap_unicode.proofs.PrintableVerdicts.{cut-behind}
+use Rattle.textwrap_unicode.proofs.PrintableVerdicts.{class-space, cut-behind}
+
+and-none : (b : Bool) → b && false ≡ false
+and-none true = refl
+and-none false = refl
+
+and-all : (b : Bool) → b && true ≡ b
+and-all true = refl
+and-all false = refl
+
+and-first : (a b : Bool) → b ≡ true → a && b ≡ false → a ≡ false
+and-first true b is none = absurd (true≢false (sym is ∙ none))
+and-first false b is none = refl
+
+pub beq-same : (a b : Bool) → beq a b ≡ true → a ≡ b
+beq-same true true e = refl
+beq-same true false e = cc
+beq-same false true e = cc
+beq-same false false e = refl
+
+or-parts : (a b : Bool) → a || b ≡ false → (a ≡ false) × (b ≡ false)
+or-parts true b e = cc
+or-parts false b e = (refl, e)
 
 module _ (text : List ℕ) (printable : IsPrintable text) where
   pub cut-told : (place : ℕ) → 0 < place → place < length text
@@ -28,16 +51,12 @@ module _ (text : List ℕ) (printable : IsPrintable text) where
 
   -- ---- cut at blanks
 
-  cut-at-blanks : (place : ℕ) → 0 < place → place < length text
+  pub cut-at-blanks : (place : ℕ) → 0 < place → place < length text
       → is_blank (get_or text place 0) ≡ true
       → at_breaks text place ≡ is_cut (get_or text (place - 1) 0) (get_or text place 0)
   cut-at-blanks place start inside blank =
       let told = cut-told place start inside in
       rw blank at told ∙ sym (rw blank (and-none (is_blank (get_or text (place - 1) 0))))
-    where
-      and-none : (b : Bool) → b && false ≡ false
-      and-none true = refl
-      and-none false = refl
 
   -- no bracket that opens stands before the blanks there
   past-closed : (n : ℕ) → n < length text → ((k : ℕ) → 0 < k → k < suc n → IsUsual text k)
@@ -57,7 +76,63 @@ module _ (text : List ℕ) (printable : IsPrintable text) where
             (ap (λ k. is_opening (class_of (get_or text k 0)) && is_space (class_of (get_or text (suc n) 0)))
             (sym back) ∙ (usual (suc n) (omega arith) (omega arith)).unopened))
       ]
-    where
-      and-first : (a b : Bool) → b ≡ true → a && b ≡ false → a ≡ false
-      and-first true b is none = absurd (true≢false (sym is ∙ none))
-      and-first false b is none = refl
+
+  module _ (place : ℕ) (start : 0 < place) (inside : place < length text) where
+    abbrev before : ℕ
+    before = get_or text (place - 1) 0
+
+    abbrev after : ℕ
+    after = get_or text place 0
+
+    last : suc (place - 1) ≡ place
+    last = omega (arith, start)
+
+    space-before : is_space (class_of before) ≡ is_blank before
+    space-before = space-at text printable (place - 1) (omega (arith, start, inside))
+
+    -- behind a blank
+    usual-blank : ((k : ℕ) → 0 < k → k < place → IsUsual text k) → is_blank before ≡ true
+        → is_unusual before after ≡ false → IsUsual text place
+    usual-blank usual blank none =
+        let space = space-before ∙ blank in
+        let (follows, opens) = or-parts (is_after_text (class_of after)) (is_opening (class_of after))
+        (rw space at none) in
+        let past : is_opening (class_past_blanks text place) ≡ false =
+        ap (λ k. is_opening (class_past_blanks text k)) (sym last)
+        ∙ ap is_opening (past-blank text printable (place - 1) (omega (arith, start, inside)) blank)
+        ∙ past-closed (place - 1) (omega (arith, start, inside))
+        (λ k some below. usual k some (omega (arith, below, last))) space in
+        let may : may_follow_blanks (class_past_blanks text place) (class_of after) ≡ true =
+        rw (follows, opens, past) (ap not (and-none (is_quotation (class_past_blanks text place)))) in
+        let told = cut-told place start inside in
+        record {
+          cut = rw (blank, may) at told ∙ and-all (not (is_blank after)) ∙ sym (rw blank refl);
+          unopened = ap (λ v. is_opening v && is_space (class_of after)) (class-space (class_of before) space);
+        }
+
+    usual-word : is_blank before ≡ false → is_unusual before after ≡ false → IsUsual text place
+    usual-word other none =
+        let told = cut-told place start inside in
+        record {
+          cut = rw (other, none) at told ∙ and-none (not (is_blank after)) ∙ sym (rw other refl);
+          unopened = (or-parts (is_opening (class_of before) && is_space (class_of after)) _
+              (rw (space-before ∙ other) at none)).0;
+        }
+
+    pub usual-pair : ((k : ℕ) → 0 < k → k < place → IsUsual text k)
+        → is_unusual before after ≡ false → IsUsual text place
+    usual-pair usual none = elim (cases_Bool (is_blank before)) [
+      | inl blank ↦ usual-blank usual blank none
+      | inr other ↦ usual-word other none
+    ]
+
+    -- a word begins there as if between blanks
+    pub usual-cut : is_blank after ≡ false → at_breaks text place ≡ is_blank before
+        → IsUsual text place
+    usual-cut other cut =
+        let space : is_space (class_of after) ≡ false = space-at text printable place inside ∙ other in
+        record {
+          cut = cut ∙ sym (rw other (and-all (is_blank before)));
+          unopened = ap (λ b. is_opening (class_of before) && b) space
+              ∙ and-none (is_opening (class_of before));
+        }

@@ -92,7 +92,7 @@ unusual-bits b c first next =
     rw (one.unusual, other.kind)
     (bits-unusual (class_of b) (class_of c) one.class other.class ∙ unusual-classes b c first next)
 
-class-space : (v : LineBreak) → is_space v ≡ true → v ≡ Space
+pub class-space : (v : LineBreak) → is_space v ≡ true → v ≡ Space
 class-space Space e = refl
 class-space v e = cc
 

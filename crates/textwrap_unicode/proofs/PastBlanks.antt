@@ -1,15 +1,15 @@
 -- The class of the last byte before blanks.
-use Rattle.textwrap_base.proofs.Common.{◌≡◌, ℕ, zero, suc, ◌+◌, ◌-◌, ◌<◌, ◌≤◌, ◌&&◌, ◌||◌, true, false}
-use Rattle.textwrap_base.proofs.Common.{if◌then◌else◌, inl, inr, List, length, take, drop, get_or, refl}
-use Rattle.textwrap_base.proofs.Common.{sym, ap, ◌∙◌, subst, arith, add-one, add-zero, cases_Bool}
+use Rattle.textwrap_base.proofs.Common.{◌≡◌, ℕ, zero, suc, ◌+◌, ◌-◌, ◌<◌, ◌≤◌, ◌||◌, true, false}
+use Rattle.textwrap_base.proofs.Common.{if◌then◌else◌, inl, inr, List, length, take, get_or, refl}
+use Rattle.textwrap_base.proofs.Common.{sym, ap, ◌∙◌, arith, add-zero, cases_Bool}
 use Rattle.textwrap_base.proofs.Common.{get_or-drop, get_or-take, length-drop, length-take-le}
 use Rattle.unicode.specs.declared.properties.LineBreak.TheVariants.{Unknown}
 use Rattle.textwrap_words.proofs.Common.{is_blank, IsPrintable, trimmed_len}
 use Rattle.textwrap_words.proofs.Word.Texts.{final_blanks-blank, trimmed-other}
-use Rattle.textwrap_unicode.specs.ClassSets.{is_opening, is_space}
+use Rattle.textwrap_unicode.specs.ClassSets.{is_space}
 use Rattle.textwrap_unicode.specs.Classes.{class_of}
 use Rattle.textwrap_unicode.specs.Pairs.{class_past_blanks}
-use Rattle.textwrap_unicode.proofs.PrintableBytes.{is_among, printable_classes, told}
+use Rattle.textwrap_unicode.proofs.PrintableBytes.{is_among, told}
 use Rattle.textwrap_unicode.proofs.PrintableVerdicts.{past_classes}
 
 module _ (text : List ℕ) (printable : IsPrintable text) where

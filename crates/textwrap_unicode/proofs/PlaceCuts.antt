@@ -1,5 +1,5 @@
 -- Whether a printable text is cut at a place, as the code tells it, and whether that is as at its blanks.
-use Rattle.textwrap_base.proofs.Common.{◌≡◌, ℕ, zero, suc, ◌-◌, ◌<◌, ◌≤◌, ◌&&◌, ◌||◌, true, false, not}
+use Rattle.textwrap_base.proofs.Common.{◌≡◌, ℕ, zero, suc, ◌-◌, ◌<◌, ◌&&◌, ◌||◌, true, false, not}
 use Rattle.textwrap_base.proofs.Common.{Bool, if◌then◌else◌, List, length, get_or, refl, sym, ap, ◌∙◌}
 use Rattle.textwrap_base.proofs.Common.{arith, cases_Bool, inl, inr, true≢false}
 use Rattle.std.proofs.Math.Bool.{beq}

@@ -1,10 +1,9 @@
 -- Places that a test tells, and the parts of a text between them.
-use Rattle.textwrap_base.proofs.Common.{◌≡◌, ◌≢◌, ℕ, suc, ◌+◌, ◌-◌, ◌<◌, ◌≤◌, ◌==◌, ◌&&◌, ◌||◌, Bool}
-use Rattle.textwrap_base.proofs.Common.{true, false, cond, if◌then◌else◌, inl, inr, List, [], ◌∷◌, ◌++◌}
+use Rattle.textwrap_base.proofs.Common.{◌≡◌, ◌≢◌, ℕ, suc, ◌+◌, ◌-◌, ◌<◌, ◌==◌, Bool}
+use Rattle.textwrap_base.proofs.Common.{true, false, if◌then◌else◌, inl, inr, List, [], ◌∷◌, ◌++◌}
 use Rattle.textwrap_base.proofs.Common.{length, take, drop, get_or, refl, sym, ap, ◌∙◌, arith, All}
 use Rattle.textwrap_base.proofs.Common.{All-nil, All-cons, All-weaker, drop-drop, get_or-drop, list_any}
 use Rattle.textwrap_base.proofs.Common.{add-zero, cases_eq, length-drop, nat_tests, onto_first}
-use Rattle.std.proofs.lemmas.List.Folds.{list_any-append}
 use Rattle.textwrap_words.proofs.Common.{chunks, is_cut, parts_between}
 use Rattle.textwrap_words.specs.Cuts.{parts_from}
 use Rattle.textwrap_words.specs.PieceCuts.{parts_by}

@@ -1,6 +1,6 @@
 -- The class of a printable byte, which is one of fourteen, and what the code tells from it.
-use Rattle.textwrap_base.proofs.Common.{◌≡◌, ℕ, ◌<◌, ◌≤◌, ◌==◌, ◌&&◌, ◌||◌, Bool, true, false, not}
-use Rattle.textwrap_base.proofs.Common.{if◌then◌else◌, List, [], ◌∷◌, get_or, refl, sym, ap, ◌∙◌}
+use Rattle.textwrap_base.proofs.Common.{◌≡◌, ℕ, ◌≤◌, ◌==◌, ◌&&◌, ◌||◌, Bool, true, false, not}
+use Rattle.textwrap_base.proofs.Common.{if◌then◌else◌, List, [], ◌∷◌, refl, sym, ap, ◌∙◌}
 use Rattle.textwrap_base.proofs.Common.{arith, nat_lt, nat_tests, eqb-true, cases_Bool, inl, inr}
 use Rattle.textwrap_base.proofs.Common.{and_parts, list_all, list_any}
 use Rattle.std.proofs.Common.{slice_index_or}

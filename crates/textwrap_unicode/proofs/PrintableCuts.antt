@@ -1,20 +1,18 @@
 -- A printable text is cut where its bytes say so.
-use Rattle.textwrap_base.proofs.Common.{◌≡◌, ℕ, ◌+◌, ◌-◌, ◌<◌, ◌≤◌, ◌&&◌, ◌||◌, Bool, true, false, not}
+use Rattle.textwrap_base.proofs.Common.{◌≡◌, ℕ, ◌+◌, ◌-◌, ◌<◌, ◌&&◌, ◌||◌, Bool, true, false, not}
 use Rattle.textwrap_base.proofs.Common.{if◌then◌else◌, List, [], ◌∷◌, ◌++◌, length, drop, get_or, map}
 use Rattle.textwrap_base.proofs.Common.{refl, sym, ap, ◌∙◌, subst, arith, add-one, list_all, not-true}
 use Rattle.textwrap_base.proofs.Common.{◌==◌, chars-IsAscii, IsUtf8-from_ascii, list_any}
-use Rattle.std.specs.Str.{chars}
 use Rattle.std.proofs.lemmas.Str.{encode_ascii}
 use lib.Utf8.{encode}
 use Rattle.unicode.specs.declared.properties.LineBreak.{LineBreak}
 use Rattle.unicode.specs.declared.properties.LineBreak.TheVariants.{Unknown}
-use Rattle.textwrap_words.proofs.Common.{ends_from, IsPrintable, IsPrintableByte, units, Visible}
+use Rattle.textwrap_words.proofs.Common.{ends_from, IsPrintable, IsPrintableByte, Visible}
 use Rattle.textwrap_words.proofs.Units.Widths.{printable-ascii, units-printable}
 use Rattle.textwrap_words.proofs.Word.VisibleEnds.{ends_in}
 use Rattle.textwrap_words.specs.WordOffsets.{is_any_hyphen}
 use Rattle.textwrap_words.specs.declared.escapes.State.TheVariants.{Text}
 use Rattle.textwrap_unicode.specs.declared.before.Before.{Before}
-use Rattle.textwrap_unicode.specs.declared.classes.Unit.{Unit}
 use Rattle.textwrap_unicode.specs.declared.numbers.Numbers.TheVariants.{ByPairs}
 use Rattle.textwrap_unicode.specs.Before.{before_of, nothing}
 use Rattle.textwrap_unicode.specs.BreaksLeft.{and}

@@ -1,13 +1,12 @@
 -- What the rules say between printable bytes, by their classes.
-use Rattle.textwrap_base.proofs.Common.{◌≡◌, ℕ, ◌<◌, ◌==◌, ◌&&◌, ◌||◌, Bool, true, false, not}
-use Rattle.textwrap_base.proofs.Common.{if◌then◌else◌, List, [], ◌∷◌, refl, sym, ap, ◌∙◌, arith, list_all}
+use Rattle.textwrap_base.proofs.Common.{◌≡◌, ℕ, ◌==◌, ◌&&◌, ◌||◌, Bool, true, false, not}
+use Rattle.textwrap_base.proofs.Common.{if◌then◌else◌, List, ◌∷◌, refl, sym, ap, ◌∙◌, arith, list_all}
 use Rattle.textwrap_base.proofs.Common.{cases_Bool, inl, inr}
 use Rattle.std.proofs.Common.{slice_index_or}
 use Rattle.std.specs.Prelude.{bit_and}
 use Rattle.unicode.specs.declared.properties.LineBreak.{LineBreak}
 use Rattle.unicode.specs.declared.properties.LineBreak.TheVariants.{Space, Unknown}
 use Rattle.textwrap_words.proofs.Common.{is_blank, IsPrintableByte}
-use Rattle.textwrap_words.specs.WordOffsets.{is_any_hyphen}
 use Rattle.textwrap_unicode.specs.declared.pairs.TheConstants.{KINDS, UNUSUAL_AFTER}
 use Rattle.textwrap_unicode.specs.ClassSets.{is_after_text, is_opening, is_space}
 use Rattle.textwrap_unicode.specs.Classes.{class_of, unit_of}
@@ -15,7 +14,7 @@ use Rattle.textwrap_unicode.specs.Cuts.{may_end}
 use Rattle.textwrap_unicode.specs.Pairs.{behind_classes, is_cut_behind, is_unusual, may_follow_blanks}
 use Rattle.textwrap_unicode.specs.Rules.{decide}
 use Rattle.textwrap_unicode.proofs.PrintableBytes.{agree, agree-same, is_among, is_hyphen_class}
-use Rattle.textwrap_unicode.proofs.PrintableBytes.{IsTold, kind_of, passes-among, past-first, printable_classes}
+use Rattle.textwrap_unicode.proofs.PrintableBytes.{kind_of, passes-among, past-first, printable_classes}
 use Rattle.textwrap_unicode.proofs.PrintableBytes.{told, unusual_after}
 use Rattle.textwrap_unicode.proofs.WordVerdicts.{ascii-is, unit_with}
 

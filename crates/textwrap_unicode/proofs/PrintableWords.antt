@@ -31,7 +31,7 @@ module _ (text : List ℕ) (printable : IsPrintable text)
 
   pub words-same : map word_of (parts_between (unicode_cuts text) text) ≡ words_of text
   words-same = ap (map word_of) (
-    ap (λ cuts. parts_between cuts text) (cuts-places text printable)
-    ∙ parts_between-places (printable_cut text) text
-    ∙ parts-chunks (printable_cut text) text text 0 refl cut-same
-  )
+      ap (λ cuts. parts_between cuts text) (cuts-places text printable)
+      ∙ parts_between-places (printable_cut text) text
+      ∙ parts-chunks (printable_cut text) text text 0 refl cut-same
+      )

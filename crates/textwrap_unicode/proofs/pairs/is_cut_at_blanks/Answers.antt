@@ -1,4 +1,4 @@
-use Rattle.textwrap_base.proofs.Common.{◌≡◌, ◌<◌, ℕ, true, sym, ap, ◌∙◌, subst, arith}
+use Rattle.textwrap_base.proofs.Common.{ap, ◌∙◌, subst, arith}
 use Rattle.textwrap_words.proofs.Common.{IsPrintable, trimmed_len}
 use Rattle.textwrap_unicode.specs.Pairs.{IsUsual}
 use Rattle.textwrap_unicode.proofs.PrintableWords.{words-same}

@@ -3,6 +3,7 @@ pub mod BeforeLemmas
 pub mod BreakLemmas
 pub mod BreakOrder
 pub mod CharacterLemmas
+pub mod ClosedBlanks
 pub mod ClassFacts
 pub mod CutLemmas
 pub mod CuttingLemmas

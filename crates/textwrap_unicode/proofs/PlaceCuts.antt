@@ -1,5 +1,5 @@
 -- Whether a printable text is cut at a place, as the code tells it, and whether that is as at its blanks.
-use Rattle.textwrap_base.proofs.Common.{◌≡◌, ℕ, zero, suc, ◌-◌, ◌<◌, ◌&&◌, ◌||◌, true, false, not}
+use Rattle.textwrap_base.proofs.Common.{◌≡◌, ℕ, zero, suc, ◌-◌, ◌<◌, ◌&&◌, ◌||◌, ◌↔◌, true, false, not}
 use Rattle.textwrap_base.proofs.Common.{Bool, if◌then◌else◌, List, length, get_or, refl, sym, ap, ◌∙◌}
 use Rattle.textwrap_base.proofs.Common.{arith, cases_Bool, inl, inr, true≢false}
 use Rattle.std.proofs.Math.Bool.{beq}
@@ -10,9 +10,9 @@ use Rattle.textwrap_unicode.specs.Pairs.{at_breaks, class_past_blanks, is_unusua
 use Rattle.textwrap_unicode.specs.Pairs.{IsUsual}
 use Rattle.textwrap_unicode.proofs.PastBlanks.{past-among, past-blank, past-byte, space-at}
 use Rattle.textwrap_unicode.proofs.PrintableCuts.{breaks-cut}
-use Rattle.textwrap_unicode.proofs.PrintableVerdicts.{class-space, cut-behind}
+use Rattle.textwrap_unicode.proofs.PrintableVerdicts.{class-space, cut-behind, unusual-space}
 
-and-none : (b : Bool) → b && false ≡ false
+pub and-none : (b : Bool) → b && false ≡ false
 and-none true = refl
 and-none false = refl
 
@@ -24,11 +24,11 @@ and-first : (a b : Bool) → b ≡ true → a && b ≡ false → a ≡ false
 and-first true b is none = absurd (true≢false (sym is ∙ none))
 and-first false b is none = refl
 
-pub beq-same : (a b : Bool) → beq a b ≡ true → a ≡ b
-beq-same true true e = refl
-beq-same true false e = cc
-beq-same false true e = cc
-beq-same false false e = refl
+pub beq-same : (a b : Bool) → (beq a b ≡ true) ↔ (a ≡ b)
+beq-same true true = (λ e. refl, λ e. refl)
+beq-same true false = (λ e. cc, λ e. cc)
+beq-same false true = (λ e. cc, λ e. cc)
+beq-same false false = (λ e. refl, λ e. refl)
 
 or-parts : (a b : Bool) → a || b ≡ false → (a ≡ false) × (b ≡ false)
 or-parts true b e = cc
@@ -126,13 +126,26 @@ module _ (text : List ℕ) (printable : IsPrintable text) where
       | inr other ↦ usual-word other none
     ]
 
-    -- a word begins there as if between blanks
-    pub usual-cut : is_blank after ≡ false → at_breaks text place ≡ is_blank before
+    cut-usual : is_blank after ≡ false → at_breaks text place ≡ is_blank before
         → IsUsual text place
-    usual-cut other cut =
+    cut-usual other cut =
         let space : is_space (class_of after) ≡ false = space-at text printable place inside ∙ other in
         record {
           cut = cut ∙ sym (rw other (and-all (is_blank before)));
           unopened = ap (λ b. is_opening (class_of before) && b) space
               ∙ and-none (is_opening (class_of before));
         }
+
+    -- before a byte that is no blank
+    pub usual-cut : is_blank after ≡ false
+        → (at_breaks text place ≡ is_blank before) ↔ IsUsual text place
+    usual-cut other = (λ cut. cut-usual other cut, λ usual. usual.cut ∙ (rw other (and-all (is_blank before))))
+
+    -- nothing unusual is a blank
+    pub unusual-blank : is_blank after ≡ true → is_unusual before after ≡ true
+        → IsUsual text place → ⊥
+    unusual-blank blank is usual =
+        let first = printable (place - 1) 0 (omega (arith, start, inside)) in
+        let opens = sym (unusual-space before after first (printable place 0 inside) blank) ∙ is in
+        true≢false (sym opens ∙ and-first _ _ (space-at text printable place inside ∙ blank)
+        usual.unopened)

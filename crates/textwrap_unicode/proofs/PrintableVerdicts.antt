@@ -116,3 +116,12 @@ cut-behind past b c first next among word =
           ∙ cut-words (class_of b) (class_of c) one.class other.class (sym one.blank ∙ none)
           ∙ ap (λ u. not (is_space (class_of c)) && u) (unusual-classes b c first next))
     ]
+
+-- a blank is unusual behind what opens alone
+pub unusual-space : (b c : ℕ) → IsPrintableByte b → IsPrintableByte c → is_blank c ≡ true
+    → is_unusual b c ≡ is_opening (class_of b)
+unusual-space b c first next blank =
+    sym (unusual-classes b c first next)
+    ∙ ap (unusual_behind (class_of b)) (class-space (class_of c) (sym (told c next).blank ∙ blank))
+    ∙ agree-same _ _ (passes-among (λ v. agree (unusual_behind v Space) (is_opening v))
+    printable_classes refl (class_of b) (told b first).class)

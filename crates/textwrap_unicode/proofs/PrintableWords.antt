@@ -5,7 +5,7 @@ use Rattle.textwrap_words.proofs.Common.{is_blank, is_cut, IsPrintable, parts_be
 use Rattle.textwrap_words.proofs.Common.{word_of, words_of}
 use Rattle.textwrap_words.proofs.Word.Texts.{final_blanks-blank}
 use Rattle.textwrap_unicode.specs.Cuts.{unicode_cuts}
-use Rattle.textwrap_unicode.specs.Pairs.{IsUsual, printable_cut}
+use Rattle.textwrap_unicode.specs.Pairs.{IsCutAtBlanks, IsUsual, printable_cut}
 use Rattle.textwrap_unicode.proofs.PlaceCuts.{cut-at-blanks}
 use Rattle.textwrap_unicode.proofs.PlaceParts.{parts-chunks, parts_between-places}
 use Rattle.textwrap_unicode.proofs.PrintableCuts.{breaks-cut, cuts-places}
@@ -20,18 +20,20 @@ module _ (text : List ℕ) (printable : IsPrintable text)
       ∙ ap is_blank (sym (get_or-drop end text (k - end) 0))
       ∙ final_blanks-blank text (k - end) 0 (omega (arith, length-drop end text, from, inside))
 
-  cut-same : (k : ℕ) → 0 < k → k < length text
-      → printable_cut text k ≡ is_cut (get_or text (k - 1) 0) (get_or text k 0)
-  cut-same k start inside =
-      sym (breaks-cut text printable k start inside)
-      ∙ elim (cases_lt k (trimmed_len text)) [
-        | inl before ↦ (usual k start before).cut
-        | inr from ↦ cut-at-blanks text printable k start inside (last-blank k from inside)
-      ]
+  pub usual-blanks : IsCutAtBlanks text
+  usual-blanks = record {
+    printable = printable;
+    cuts = λ k start inside. elim (cases_lt k (trimmed_len text)) [
+      | inl before ↦ (usual k start before).cut
+      | inr from ↦ cut-at-blanks text printable k start inside (last-blank k from inside)
+    ];
+  }
 
-  pub words-same : map word_of (parts_between (unicode_cuts text) text) ≡ words_of text
-  words-same = ap (map word_of) (
-      ap (λ cuts. parts_between cuts text) (cuts-places text printable)
-      ∙ parts_between-places (printable_cut text) text
-      ∙ parts-chunks (printable_cut text) text text 0 refl cut-same
-      )
+pub words-same : (text : List ℕ) → IsCutAtBlanks text
+    → map word_of (parts_between (unicode_cuts text) text) ≡ words_of text
+words-same text h = ap (map word_of) (
+  ap (λ cuts. parts_between cuts text) (cuts-places text h.printable)
+  ∙ parts_between-places (printable_cut text) text
+  ∙ parts-chunks (printable_cut text) text text 0 refl (λ k start inside.
+  sym (breaks-cut text h.printable k start inside) ∙ h.cuts k start inside)
+)

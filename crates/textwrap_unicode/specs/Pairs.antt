@@ -1,9 +1,10 @@
 -- Where a printable text is cut into words at its Unicode line breaks, told from its bytes.
-use Rattle.std.specs.Prelude.{◌≡◌, ℕ, zero, suc, ◌-◌, Bool, false, not, ◌==◌, ◌&&◌, ◌||◌, List}
-use Rattle.std.specs.Prelude.{slice_index, if◌then◌else◌}
+use Rattle.std.specs.Prelude.{◌≡◌, ℕ, zero, suc, ◌-◌, ◌<◌, Bool, false, not, ◌==◌, ◌&&◌, ◌||◌}
+use Rattle.std.specs.Prelude.{List, length, slice_index, if◌then◌else◌}
 use Rattle.std.specs.List.{list_any}
 use Rattle.unicode.specs.declared.properties.LineBreak.{LineBreak}
 use Rattle.unicode.specs.declared.properties.LineBreak.TheVariants.{Unknown}
+use Rattle.textwrap_words.specs.Units.{IsPrintable}
 use Rattle.textwrap_words.specs.WordOffsets.{is_any_hyphen}
 use Rattle.textwrap_words.specs.Words.{is_cut}
 use Rattle.textwrap_unicode.specs.declared.before.Before.{Before}
@@ -54,13 +55,19 @@ printable_cut text place =
 
 -- ---- texts that are cut at their blanks
 
--- LB13 to LB15: what does not keep a byte with what stands before the blanks
+-- the text is printable, and cut where words between blanks begin, and nowhere else
+pub record IsCutAtBlanks (text : List ℕ) : Type 0 where
+  pub printable : IsPrintable text
+  pub cuts : (place : ℕ) → 0 < place → place < length text → at_breaks text place
+      ≡ is_cut (slice_index text (place - 1)) (slice_index text place)
+
+-- LB13 to LB15: nothing keeps a byte with what stands before the blanks
 abbrev pub may_follow_blanks : LineBreak → LineBreak → Bool
 may_follow_blanks past class =
     not (is_after_text class) && not (is_opening past || (is_quotation past && is_opening class))
 
--- a byte is unusual behind another: behind a blank if it may be kept with what stands before that, as a
--- blank if it is kept with what comes behind it, and else if the text is cut between the two
+-- a byte is unusual behind another: behind a blank if it may be kept with what stands before blanks, as
+-- a blank if it is kept with what comes behind blanks, and else if the text is cut between the two
 abbrev pub is_unusual : ℕ → ℕ → Bool
 is_unusual before after =
     let first = class_of before in
@@ -68,8 +75,7 @@ is_unusual before after =
     if is_space first then is_after_text next || is_opening next
     else (is_opening first && is_space next) || is_cut_behind first before after
 
--- the text is cut there if a word between blanks begins, and no blank stands there behind a bracket that
--- opens
+-- the text is cut there if a word between blanks begins, and no bracket opens before a blank
 pub record IsUsual (text : List ℕ) (place : ℕ) : Type 0 where
   pub cut : at_breaks text place ≡ is_cut (slice_index text (place - 1)) (slice_index text place)
   pub unopened : is_opening (class_of (slice_index text (place - 1)))

@@ -1,13 +1,12 @@
 //! Where a printable text is cut into words at Unicode line breaks, told from the bytes before and
 //! behind a place, and where the first is a blank, from the last byte before the blanks.
-ghost use Rattle.std.specs.Prelude.{◌≡◌, ℕ, ◌<◌, ◌≤◌, ◌-◌, true, length, map, slice_index};
+ghost use Rattle.std.specs.Prelude.{◌≡◌, ◌↔◌, ℕ, ◌<◌, ◌≤◌, true, length, map, IsTrue};
 ghost use Rattle.textwrap_words.specs.Cuts.{parts_between};
 ghost use Rattle.textwrap_words.specs.Units.{IsPrintable, IsPrintableByte};
 ghost use Rattle.textwrap_words.specs.Words.{word_of, words_of};
-ghost use Rattle.textwrap_unicode.specs.Classes.{class_of};
 ghost use Rattle.textwrap_unicode.specs.Cuts.{unicode_cuts};
 ghost use Rattle.textwrap_unicode.specs.Pairs.{at_breaks, class_past_blanks, is_unusual};
-ghost use Rattle.textwrap_unicode.specs.Pairs.{may_follow_blanks, IsUsual};
+ghost use Rattle.textwrap_unicode.specs.Pairs.{may_follow_blanks, IsCutAtBlanks, IsUsual};
 
 use crate::ascii::CLASSES;
 use crate::class_sets::{is_after_text, is_opening};
@@ -16,32 +15,41 @@ use textwrap_words::inner::is_printable;
 use unicode::properties::LineBreak;
 
 /// The kind of each printable byte, as a bit: 1 a blank, 2 what closes (EX, CL, CP, IS and SY), 4 a
-/// letter (AL), 8 what stands by a number (PR and PO), 16 what opens (OP), 32 a digit (NU). Others
-/// are of no kind.
+/// letter (AL), 8 what stands beside a number (PR and PO), 16 what opens (OP), 32 a digit (NU). All
+/// others are of no kind: a quotation mark, a hyphen and a bar begin a word behind blanks alone.
+#[rattlefmt::skip]
 static KINDS: [u8; 128] = [
-    0, 0, 0, 0, 0, 0, 0, 0, 0, 0, 0, 0, 0, 0, 0, 0, 0, 0, 0, 0, 0, 0, 0, 0, 0, 0, 0, 0, 0, 0, 0, 0,
-    1, 2, 0, 4, 8, 8, 4, 0, 16, 2, 4, 8, 2, 0, 2, 2, 32, 32, 32, 32, 32, 32, 32, 32, 32, 32, 2, 2,
-    4, 4, 4, 2, 4, 4, 4, 4, 4, 4, 4, 4, 4, 4, 4, 4, 4, 4, 4, 4, 4, 4, 4, 4, 4, 4, 4, 4, 4, 4, 4,
-    16, 8, 2, 4, 4, 4, 4, 4, 4, 4, 4, 4, 4, 4, 4, 4, 4, 4, 4, 4, 4, 4, 4, 4, 4, 4, 4, 4, 4, 4, 4,
-    4, 16, 0, 2, 4, 0,
+    0, 0, 0, 0, 0, 0, 0, 0, 0, 0, 0, 0, 0, 0, 0, 0,
+    0, 0, 0, 0, 0, 0, 0, 0, 0, 0, 0, 0, 0, 0, 0, 0,
+    1, 2, 0, 4, 8, 8, 4, 0, 16, 2, 4, 8, 2, 0, 2, 2,
+    32, 32, 32, 32, 32, 32, 32, 32, 32, 32, 2, 2, 4, 4, 4, 2,
+    4, 4, 4, 4, 4, 4, 4, 4, 4, 4, 4, 4, 4, 4, 4, 4,
+    4, 4, 4, 4, 4, 4, 4, 4, 4, 4, 4, 16, 8, 2, 4, 4,
+    4, 4, 4, 4, 4, 4, 4, 4, 4, 4, 4, 4, 4, 4, 4, 4,
+    4, 4, 4, 4, 4, 4, 4, 4, 4, 4, 4, 16, 0, 2, 4, 0,
 ];
 
-/// The kinds that are unusual behind each printable byte. Behind a blank these are the kinds before which
-/// a text may be kept together, behind what opens it is a blank, and else the kinds before which a text
-/// is cut.
+/// The kinds that are unusual behind each printable byte, in a text that is cut at its blanks: behind a
+/// blank those that may be kept with what stands before it, behind what opens a blank, behind all others
+/// those before which the text is cut.
+#[rattlefmt::skip]
 static UNUSUAL_AFTER: [u8; 128] = [
-    0, 0, 0, 0, 0, 0, 0, 0, 0, 0, 0, 0, 0, 0, 0, 0, 0, 0, 0, 0, 0, 0, 0, 0, 0, 0, 0, 0, 0, 0, 0, 0,
-    18, 60, 0, 0, 8, 8, 0, 0, 1, 16, 0, 8, 24, 0, 24, 28, 0, 0, 0, 0, 0, 0, 0, 0, 0, 0, 24, 24, 0,
-    0, 0, 60, 0, 0, 0, 0, 0, 0, 0, 0, 0, 0, 0, 0, 0, 0, 0, 0, 0, 0, 0, 0, 0, 0, 0, 0, 0, 0, 0, 1,
-    8, 16, 0, 0, 0, 0, 0, 0, 0, 0, 0, 0, 0, 0, 0, 0, 0, 0, 0, 0, 0, 0, 0, 0, 0, 0, 0, 0, 0, 0, 0,
-    1, 60, 52, 0, 0,
+    0, 0, 0, 0, 0, 0, 0, 0, 0, 0, 0, 0, 0, 0, 0, 0,
+    0, 0, 0, 0, 0, 0, 0, 0, 0, 0, 0, 0, 0, 0, 0, 0,
+    18, 60, 0, 0, 8, 8, 0, 0, 1, 16, 0, 8, 24, 0, 24, 28,
+    0, 0, 0, 0, 0, 0, 0, 0, 0, 0, 24, 24, 0, 0, 0, 60,
+    0, 0, 0, 0, 0, 0, 0, 0, 0, 0, 0, 0, 0, 0, 0, 0,
+    0, 0, 0, 0, 0, 0, 0, 0, 0, 0, 0, 1, 8, 16, 0, 0,
+    0, 0, 0, 0, 0, 0, 0, 0, 0, 0, 0, 0, 0, 0, 0, 0,
+    0, 0, 0, 0, 0, 0, 0, 0, 0, 0, 0, 1, 60, 52, 0, 0,
 ];
 
 /// Whether the words of a text are those between its blanks: whether it is printable ASCII, and cut by
 /// [`unicode_cuts`](crate::unicode_cuts) before each byte that is no blank and follows one, and nowhere
 /// else. The call always succeeds.
 pub fn is_cut_at_blanks(text: &str) -> bool
-    ensures { result ≡ true
+    ensures exact { IsTrue result ↔ IsCutAtBlanks text.now }
+    ensures words { result ≡ true
         → map word_of (parts_between (unicode_cuts text.now) text.now) ≡ words_of text.now }
 {
     let bytes = text.as_bytes();
@@ -97,28 +105,15 @@ fn is_unusual(before: u8, after: u8) -> bool
     UNUSUAL_AFTER[before as usize] & KINDS[after as usize] != 0
 }
 
-/// Whether a printable text is cut at its blanks alone, but perhaps behind a place.
-fn is_usual_up_to(text: &[u8], end: usize) -> bool
-    requires printable { IsPrintable text.now }
-    requires within { end ≤ length text.now }
-    ensures { result ≡ true → (k : ℕ) → 0 < k → k < end → IsUsual text.now k }
-{
-    for place in 1..end {
-        if !is_usual(text, place) {
-            return false;
-        }
-    }
-    true
-}
-
-/// Whether a printable text, which is cut at its blanks alone up to a place, is so at that place.
+/// Whether a printable text, which is so at each place before this one, is there cut as at its blanks,
+/// with no blank behind a bracket that opens.
 #[inline]
 fn is_usual(text: &[u8], place: usize) -> bool
     requires printable { IsPrintable text.now }
     requires after_start { 0 < place }
     requires inside { place < length text.now }
     requires earlier { (k : ℕ) → 0 < k → k < place → IsUsual text.now k }
-    ensures { result ≡ true → IsUsual text.now place }
+    ensures { IsTrue result ↔ IsUsual text.now place }
 {
     let before = text[place - 1];
     let after = text[place];
@@ -126,4 +121,18 @@ fn is_usual(text: &[u8], place: usize) -> bool
         return true;
     }
     after != b' ' && is_cut_between(text, place) == (before == b' ')
+}
+
+/// Whether a printable text is so at each place before this one.
+fn is_usual_up_to(text: &[u8], end: usize) -> bool
+    requires printable { IsPrintable text.now }
+    requires within { end ≤ length text.now }
+    ensures { IsTrue result ↔ ((k : ℕ) → 0 < k → k < end → IsUsual text.now k) }
+{
+    for place in 1..end {
+        if !is_usual(text, place) {
+            return false;
+        }
+    }
+    true
 }

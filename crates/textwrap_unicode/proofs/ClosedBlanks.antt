@@ -1,15 +1,15 @@
 -- In a text that is cut at its blanks alone no blank stands behind a bracket that opens, but at its end.
-use Rattle.textwrap_base.proofs.Common.{◌≡◌, ℕ, zero, suc, ◌+◌, ◌-◌, ◌<◌, ◌&&◌, ◌||◌, Bool, true, false}
-use Rattle.textwrap_base.proofs.Common.{not, if◌then◌else◌, inl, inr, List, length, get_or, refl, sym, ap}
+use Rattle.textwrap_base.proofs.Common.{◌≡◌, ℕ, zero, suc, ◌+◌, ◌-◌, ◌<◌, ◌&&◌, true, false}
+use Rattle.textwrap_base.proofs.Common.{not, inl, inr, List, length, get_or, refl, sym, ap}
 use Rattle.textwrap_base.proofs.Common.{◌∙◌, arith, add-zero, cases_Bool, true≢false}
 use Rattle.unicode.specs.declared.properties.LineBreak.{LineBreak}
 use Rattle.unicode.specs.declared.properties.LineBreak.TheVariants.{OpenPunctuation}
-use Rattle.textwrap_words.proofs.Common.{is_blank, is_cut, IsPrintable, trimmed_len}
+use Rattle.textwrap_words.proofs.Common.{is_blank, trimmed_len}
 use Rattle.textwrap_words.proofs.Word.Texts.{trimmed-other}
-use Rattle.textwrap_unicode.specs.ClassSets.{is_after_text, is_opening, is_quotation, is_space}
+use Rattle.textwrap_unicode.specs.ClassSets.{is_after_text, is_opening, is_space}
 use Rattle.textwrap_unicode.specs.Classes.{class_of}
-use Rattle.textwrap_unicode.specs.Pairs.{at_breaks, class_past_blanks, IsCutAtBlanks, IsUsual}
-use Rattle.textwrap_unicode.specs.Pairs.{is_unusual, may_follow_blanks}
+use Rattle.textwrap_unicode.specs.Pairs.{class_past_blanks, IsCutAtBlanks, IsUsual}
+use Rattle.textwrap_unicode.specs.Pairs.{may_follow_blanks}
 use Rattle.textwrap_unicode.proofs.PastBlanks.{past-blank, past-byte, space-at}
 use Rattle.textwrap_unicode.proofs.PlaceCuts.{and-none, cut-told}
 

@@ -1,7 +1,7 @@
 -- A printable text that is cut at its blanks alone has the words between these.
 use Rattle.textwrap_base.proofs.Common.{◌≡◌, ℕ, ◌+◌, ◌-◌, ◌<◌, ◌≤◌, true, inl, inr, List, length, map}
 use Rattle.textwrap_base.proofs.Common.{get_or, refl, sym, ap, ◌∙◌, arith, cases_lt, get_or-drop, length-drop}
-use Rattle.textwrap_words.proofs.Common.{is_blank, is_cut, IsPrintable, parts_between, trimmed_len}
+use Rattle.textwrap_words.proofs.Common.{is_blank, IsPrintable, parts_between, trimmed_len}
 use Rattle.textwrap_words.proofs.Common.{word_of, words_of}
 use Rattle.textwrap_words.proofs.Word.Texts.{final_blanks-blank}
 use Rattle.textwrap_unicode.specs.Cuts.{unicode_cuts}

@@ -1,6 +1,5 @@
-use Rattle.textwrap_base.proofs.Common.{ap, arith, subst, sym, true, ◌<◌, ◌∙◌, ◌≡◌}
-use Rattle.textwrap_words.proofs.Common.{IsPrintable, trimmed_len}
-use Rattle.textwrap_unicode.specs.Pairs.{IsCutAtBlanks, IsUsual}
+use Rattle.textwrap_base.proofs.Common.{arith, subst, sym, true, ◌≡◌}
+use Rattle.textwrap_unicode.specs.Pairs.{IsCutAtBlanks}
 use Rattle.textwrap_unicode.proofs.ClosedBlanks.{all-usual}
 use Rattle.textwrap_unicode.proofs.PrintableWords.{usual-blanks, words-same}
 use Rattle.textwrap_unicode.proofs.pairs.is_cut_at_blanks.Goals as goal

@@ -2,6 +2,7 @@
 use Rattle.textwrap_base.proofs.Common.{◌≡◌, ℕ, zero, suc, ◌+◌, ◌-◌, ◌<◌, ◌&&◌, true, false}
 use Rattle.textwrap_base.proofs.Common.{not, inl, inr, List, length, get_or, refl, sym, ap}
 use Rattle.textwrap_base.proofs.Common.{◌∙◌, arith, add-zero, cases_Bool, true≢false}
+use Rattle.std.proofs.Math.Bool.{and-false}
 use Rattle.unicode.specs.declared.properties.LineBreak.{LineBreak}
 use Rattle.unicode.specs.declared.properties.LineBreak.TheVariants.{OpenPunctuation}
 use Rattle.textwrap_words.proofs.Common.{is_blank, trimmed_len}
@@ -11,14 +12,14 @@ use Rattle.textwrap_unicode.specs.Classes.{class_of}
 use Rattle.textwrap_unicode.specs.Pairs.{class_past_blanks, IsCutAtBlanks, IsUsual}
 use Rattle.textwrap_unicode.specs.Pairs.{may_follow_blanks}
 use Rattle.textwrap_unicode.proofs.PastBlanks.{past-blank, past-byte, space-at}
-use Rattle.textwrap_unicode.proofs.PlaceCuts.{and-none, cut-told}
+use Rattle.textwrap_unicode.proofs.PlaceCuts.{cut-told}
 
 open-other : (v : LineBreak) → is_opening v ≡ true → is_space v ≡ false
 open-other OpenPunctuation e = refl
 open-other v e = cc
 
 kept-open : (past class : LineBreak) → is_opening past ≡ true → may_follow_blanks past class ≡ false
-kept-open past class opens = rw opens (and-none (not (is_after_text class)))
+kept-open past class opens = rw opens (and-false (not (is_after_text class)))
 
 module _ (text : List ℕ) (h : IsCutAtBlanks text) where
   abbrev byte : ℕ → ℕ
@@ -41,7 +42,7 @@ module _ (text : List ℕ) (h : IsCutAtBlanks text) where
         ap is_opening (past-blank text h.printable k (omega (arith, inside)) blank
             ∙ ap (class_past_blanks text) (sym last)
             ∙ past-byte text h.printable (k - 1) before other)
-        ∙ opens,
+            ∙ opens,
       )
   blanks-on k start opens blank (suc n) below =
       let next : suc (k + n) ≡ k + suc n = omega arith in
@@ -72,7 +73,7 @@ module _ (text : List ℕ) (h : IsCutAtBlanks text) where
         | inl opens ↦ elim (cases_Bool (is_blank (byte k))) [
           | inr other ↦
               rw (space-at text h.printable k (within k below) ∙ other)
-              (and-none (is_opening (class_of (byte (k - 1)))))
+              (and-false (is_opening (class_of (byte (k - 1)))))
           | inl blank ↦
               let n = trimmed_len text - 1 - k in
               let last : k + n ≡ trimmed_len text - 1 = omega (arith, below) in

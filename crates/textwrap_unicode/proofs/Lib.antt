@@ -1,5 +1,6 @@
 pub mod Ahead
 pub mod BeforeLemmas
+pub mod BehindBytes
 pub mod BreakLemmas
 pub mod BreakOrder
 pub mod CharacterLemmas
@@ -23,6 +24,7 @@ pub mod PrintableWords
 pub mod ReadPlaces
 pub mod RuleOrder
 pub mod TextBreaks
+pub mod UsualPlaces
 pub mod Verdicts
 pub mod WordCuts
 pub mod WordLetters

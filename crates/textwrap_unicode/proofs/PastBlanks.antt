@@ -1,8 +1,9 @@
 -- The class of the last byte before blanks.
-use Rattle.textwrap_base.proofs.Common.{◌≡◌, ℕ, zero, suc, ◌+◌, ◌-◌, ◌<◌, ◌≤◌, ◌||◌, true, false}
+use Rattle.textwrap_base.proofs.Common.{◌≡◌, ℕ, zero, suc, ◌+◌, ◌-◌, ◌<◌, ◌≤◌, true, false}
 use Rattle.textwrap_base.proofs.Common.{if◌then◌else◌, inl, inr, List, length, take, get_or, refl}
 use Rattle.textwrap_base.proofs.Common.{sym, ap, ◌∙◌, arith, add-zero, cases_Bool}
 use Rattle.textwrap_base.proofs.Common.{get_or-drop, get_or-take, length-drop, length-take-le}
+use Rattle.std.proofs.lemmas.Bool.{or_right}
 use Rattle.unicode.specs.declared.properties.LineBreak.TheVariants.{Unknown}
 use Rattle.textwrap_words.proofs.Common.{is_blank, IsPrintable, trimmed_len}
 use Rattle.textwrap_words.proofs.Word.Texts.{final_blanks-blank, trimmed-other}
@@ -49,12 +50,8 @@ module _ (text : List ℕ) (printable : IsPrintable text) where
         | inl blank ↦ rw (past-blank n within blank) (past-among n (omega (arith, within)))
         | inr other ↦
             rw (past-byte n within other)
-            (or-second _ _ (told (get_or text n 0) (printable n 0 within)).class)
+            (or_right _ _ (told (get_or text n 0) (printable n 0 within)).class)
       ]
-    where
-      or-second : (a b : _) → b ≡ true → a || b ≡ true
-      or-second true b e = refl
-      or-second false b e = e
 
   -- ---- the blanks at the end of what comes before a place
 

@@ -1,38 +1,20 @@
--- Whether a printable text is cut at a place, as the code tells it, and whether that is as at its blanks.
-use Rattle.textwrap_base.proofs.Common.{◌≡◌, ℕ, zero, suc, ◌-◌, ◌<◌, ◌&&◌, ◌||◌, ◌↔◌, true, false, not}
-use Rattle.textwrap_base.proofs.Common.{Bool, if◌then◌else◌, List, length, get_or, refl, sym, ap, ◌∙◌}
-use Rattle.textwrap_base.proofs.Common.{arith, cases_Bool, inl, inr, true≢false}
-use Rattle.std.proofs.Math.Bool.{beq}
-use Rattle.textwrap_words.proofs.Common.{is_blank, is_cut, IsPrintable}
-use Rattle.textwrap_unicode.specs.ClassSets.{is_after_text, is_opening, is_quotation, is_space}
+-- Whether a printable text is cut at a place, as the code tells it.
+use Rattle.textwrap_base.proofs.Common.{◌≡◌, ℕ, suc, ◌-◌, ◌<◌, ◌&&◌, true, false, not}
+use Rattle.textwrap_base.proofs.Common.{if◌then◌else◌, List, length, get_or, sym, ap, ◌∙◌}
+use Rattle.textwrap_base.proofs.Common.{arith}
+use Rattle.std.proofs.Math.Bool.{and-false}
+use Rattle.std.proofs.lemmas.Bool.{and_left}
+use Rattle.textwrap_words.proofs.Common.{is_blank, is_cut, IsPrintable, parts_between}
+use Rattle.textwrap_words.specs.PieceCuts.{parts_by}
+use Rattle.textwrap_words.specs.WordOffsets.{is_any_hyphen}
 use Rattle.textwrap_unicode.specs.Classes.{class_of}
 use Rattle.textwrap_unicode.specs.Pairs.{at_breaks, class_past_blanks, is_unusual, may_follow_blanks}
-use Rattle.textwrap_unicode.specs.Pairs.{IsUsual}
-use Rattle.textwrap_unicode.proofs.PastBlanks.{past-among, past-blank, past-byte, space-at}
-use Rattle.textwrap_unicode.proofs.PrintableCuts.{breaks-cut}
-use Rattle.textwrap_unicode.proofs.PrintableVerdicts.{class-space, cut-behind, unusual-space}
-
-pub and-none : (b : Bool) → b && false ≡ false
-and-none true = refl
-and-none false = refl
-
-and-all : (b : Bool) → b && true ≡ b
-and-all true = refl
-and-all false = refl
-
-and-first : (a b : Bool) → b ≡ true → a && b ≡ false → a ≡ false
-and-first true b is none = absurd (true≢false (sym is ∙ none))
-and-first false b is none = refl
-
-pub beq-same : (a b : Bool) → (beq a b ≡ true) ↔ (a ≡ b)
-beq-same true true = (λ e. refl, λ e. refl)
-beq-same true false = (λ e. cc, λ e. cc)
-beq-same false true = (λ e. cc, λ e. cc)
-beq-same false false = (λ e. refl, λ e. refl)
-
-or-parts : (a b : Bool) → a || b ≡ false → (a ≡ false) × (b ≡ false)
-or-parts true b e = cc
-or-parts false b e = (refl, e)
+use Rattle.textwrap_unicode.specs.Cuts.{unicode_cuts}
+use Rattle.textwrap_unicode.specs.Pairs.{printable_cut}
+use Rattle.textwrap_unicode.proofs.PastBlanks.{past-among, past-byte}
+use Rattle.textwrap_unicode.proofs.PlaceParts.{parts_between-places, parts-same}
+use Rattle.textwrap_unicode.proofs.PrintableCuts.{breaks-cut, cuts-places}
+use Rattle.textwrap_unicode.proofs.PrintableVerdicts.{cut-behind}
 
 module _ (text : List ℕ) (printable : IsPrintable text) where
   pub cut-told : (place : ℕ) → 0 < place → place < length text
@@ -49,103 +31,24 @@ module _ (text : List ℕ) (printable : IsPrintable text) where
       (λ other. ap (class_past_blanks text) (sym last)
       ∙ past-byte text printable (place - 1) (omega (arith, start, inside)) other)
 
-  -- ---- cut at blanks
-
+  -- as at blanks: nowhere before a blank
   pub cut-at-blanks : (place : ℕ) → 0 < place → place < length text
       → is_blank (get_or text place 0) ≡ true
       → at_breaks text place ≡ is_cut (get_or text (place - 1) 0) (get_or text place 0)
   cut-at-blanks place start inside blank =
       let told = cut-told place start inside in
-      rw blank at told ∙ sym (rw blank (and-none (is_blank (get_or text (place - 1) 0))))
+      rw blank at told ∙ sym (rw blank (and-false (is_blank (get_or text (place - 1) 0))))
 
-  -- no bracket that opens stands before the blanks there
-  past-closed : (n : ℕ) → n < length text → ((k : ℕ) → 0 < k → k < suc n → IsUsual text k)
-      → is_space (class_of (get_or text n 0)) ≡ true → is_opening (class_past_blanks text n) ≡ false
-  past-closed zero inside usual space = refl
-  past-closed (suc n) inside usual space =
-      let before = get_or text n 0 in
-      let back : suc n - 1 ≡ n = omega arith in
-      elim (cases_Bool (is_blank before)) [
-        | inl blank ↦
-            rw (past-blank text printable n (omega (arith, inside)) blank)
-            (past-closed n (omega (arith, inside)) (λ k some below. usual k some (omega (arith, below)))
-            (space-at text printable n (omega (arith, inside)) ∙ blank))
-        | inr other ↦
-            rw (past-byte text printable n (omega (arith, inside)) other)
-            (and-first _ _ space
-            (ap (λ k. is_opening (class_of (get_or text k 0)) && is_space (class_of (get_or text (suc n) 0)))
-            (sym back) ∙ (usual (suc n) (omega arith) (omega arith)).unopened))
-      ]
+  -- and not directly after a hyphen
+  pub uncut-hyphen : (place : ℕ) → 0 < place → place < length text
+      → is_any_hyphen (get_or text (place - 1) 0) ≡ true → at_breaks text place ≡ false
+  uncut-hyphen place start inside hyphen =
+      breaks-cut text printable place start inside ∙ and_left _ _ (ap not hyphen)
 
-  module _ (place : ℕ) (start : 0 < place) (inside : place < length text) where
-    abbrev before : ℕ
-    before = get_or text (place - 1) 0
-
-    abbrev after : ℕ
-    after = get_or text place 0
-
-    last : suc (place - 1) ≡ place
-    last = omega (arith, start)
-
-    space-before : is_space (class_of before) ≡ is_blank before
-    space-before = space-at text printable (place - 1) (omega (arith, start, inside))
-
-    -- behind a blank
-    usual-blank : ((k : ℕ) → 0 < k → k < place → IsUsual text k) → is_blank before ≡ true
-        → is_unusual before after ≡ false → IsUsual text place
-    usual-blank usual blank none =
-        let space = space-before ∙ blank in
-        let (follows, opens) = or-parts (is_after_text (class_of after)) (is_opening (class_of after))
-        (rw space at none) in
-        let past : is_opening (class_past_blanks text place) ≡ false =
-        ap (λ k. is_opening (class_past_blanks text k)) (sym last)
-        ∙ ap is_opening (past-blank text printable (place - 1) (omega (arith, start, inside)) blank)
-        ∙ past-closed (place - 1) (omega (arith, start, inside))
-        (λ k some below. usual k some (omega (arith, below, last))) space in
-        let may : may_follow_blanks (class_past_blanks text place) (class_of after) ≡ true =
-        rw (follows, opens, past) (ap not (and-none (is_quotation (class_past_blanks text place)))) in
-        let told = cut-told place start inside in
-        record {
-          cut = rw (blank, may) at told ∙ and-all (not (is_blank after)) ∙ sym (rw blank refl);
-          unopened = ap (λ v. is_opening v && is_space (class_of after)) (class-space (class_of before) space);
-        }
-
-    usual-word : is_blank before ≡ false → is_unusual before after ≡ false → IsUsual text place
-    usual-word other none =
-        let told = cut-told place start inside in
-        record {
-          cut = rw (other, none) at told ∙ and-none (not (is_blank after)) ∙ sym (rw other refl);
-          unopened = (or-parts (is_opening (class_of before) && is_space (class_of after)) _
-              (rw (space-before ∙ other) at none)).0;
-        }
-
-    pub usual-pair : ((k : ℕ) → 0 < k → k < place → IsUsual text k)
-        → is_unusual before after ≡ false → IsUsual text place
-    usual-pair usual none = elim (cases_Bool (is_blank before)) [
-      | inl blank ↦ usual-blank usual blank none
-      | inr other ↦ usual-word other none
-    ]
-
-    cut-usual : is_blank after ≡ false → at_breaks text place ≡ is_blank before
-        → IsUsual text place
-    cut-usual other cut =
-        let space : is_space (class_of after) ≡ false = space-at text printable place inside ∙ other in
-        record {
-          cut = cut ∙ sym (rw other (and-all (is_blank before)));
-          unopened = ap (λ b. is_opening (class_of before) && b) space
-              ∙ and-none (is_opening (class_of before));
-        }
-
-    -- before a byte that is no blank
-    pub usual-cut : is_blank after ≡ false
-        → (at_breaks text place ≡ is_blank before) ↔ IsUsual text place
-    usual-cut other = (λ cut. cut-usual other cut, λ usual. usual.cut ∙ (rw other (and-all (is_blank before))))
-
-    -- nothing unusual is a blank
-    pub unusual-blank : is_blank after ≡ true → is_unusual before after ≡ true
-        → IsUsual text place → ⊥
-    unusual-blank blank is usual =
-        let first = printable (place - 1) 0 (omega (arith, start, inside)) in
-        let opens = sym (unusual-space before after first (printable place 0 inside) blank) ∙ is in
-        true≢false (sym opens ∙ and-first _ _ (space-at text printable place inside ∙ blank)
-        usual.unopened)
+  -- its words are the parts between its cuts
+  pub parts-cut : parts_between (unicode_cuts text) text ≡ parts_by (at_breaks text) 0 text
+  parts-cut =
+      ap (λ cuts. parts_between cuts text) (cuts-places text printable)
+      ∙ parts_between-places (printable_cut text) text
+      ∙ parts-same (printable_cut text) (at_breaks text) text 0
+      (λ k start inside. sym (breaks-cut text printable k start (omega (arith, inside))))

@@ -37,6 +37,19 @@ module _ (text : List ℕ) (at b : ℕ) (rest : List ℕ) (is : drop at text ≡
       (ap (λ l. take (cut - at) l) is ∙ ap (λ n. take n (b ∷ rest)) more
       ∙ ap (λ l. b ∷ take (cut - (at + 1)) l) (sym bytes-after))
 
+-- tests that agree have the same parts
+pub parts-same : (test other : ℕ → Bool) (rest : List ℕ) (at : ℕ)
+    → ((k : ℕ) → at < k → k < at + length rest → test k ≡ other k)
+    → parts_by test at rest ≡ parts_by other at rest
+parts-same test other [] at same = refl
+parts-same test other (b ∷ []) at same = refl
+parts-same test other (b ∷ c ∷ cs) at same =
+    ap (λ t. if t then (b ∷ []) ∷ parts_by test (at + 1) (c ∷ cs)
+    else onto_first b (parts_by test (at + 1) (c ∷ cs))) (same (at + 1) (omega arith) (omega arith))
+    ∙ ap (λ ps. if other (at + 1) then (b ∷ []) ∷ ps else onto_first b ps)
+    (parts-same test other (c ∷ cs) (at + 1)
+    (λ k from below. same k (omega (arith, from)) (omega (arith, below))))
+
 module _ (test : ℕ → Bool) where
   places-above : (at : ℕ) (bytes : List ℕ) → All (λ place. at < place) (places_by test at bytes)
   places-above at [] = All-nil (λ place. at < place)

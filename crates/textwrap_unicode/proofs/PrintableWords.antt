@@ -5,10 +5,9 @@ use Rattle.textwrap_words.proofs.Common.{is_blank, IsPrintable, parts_between, t
 use Rattle.textwrap_words.proofs.Common.{word_of, words_of}
 use Rattle.textwrap_words.proofs.Word.Texts.{final_blanks-blank}
 use Rattle.textwrap_unicode.specs.Cuts.{unicode_cuts}
-use Rattle.textwrap_unicode.specs.Pairs.{IsCutAtBlanks, IsUsual, printable_cut}
-use Rattle.textwrap_unicode.proofs.PlaceCuts.{cut-at-blanks}
-use Rattle.textwrap_unicode.proofs.PlaceParts.{parts-chunks, parts_between-places}
-use Rattle.textwrap_unicode.proofs.PrintableCuts.{breaks-cut, cuts-places}
+use Rattle.textwrap_unicode.specs.Pairs.{at_breaks, IsCutAtBlanks, IsUsual}
+use Rattle.textwrap_unicode.proofs.PlaceCuts.{cut-at-blanks, parts-cut}
+use Rattle.textwrap_unicode.proofs.PlaceParts.{parts-chunks}
 
 module _ (text : List ℕ) (printable : IsPrintable text)
     (usual : (k : ℕ) → 0 < k → k < trimmed_len text → IsUsual text k) where
@@ -31,9 +30,6 @@ module _ (text : List ℕ) (printable : IsPrintable text)
 
 pub words-same : (text : List ℕ) → IsCutAtBlanks text
     → map word_of (parts_between (unicode_cuts text) text) ≡ words_of text
-words-same text h = ap (map word_of) (
-  ap (λ cuts. parts_between cuts text) (cuts-places text h.printable)
-  ∙ parts_between-places (printable_cut text) text
-  ∙ parts-chunks (printable_cut text) text text 0 refl (λ k start inside.
-  sym (breaks-cut text h.printable k start inside) ∙ h.cuts k start inside)
-)
+words-same text h =
+    ap (map word_of)
+    (parts-cut text h.printable ∙ parts-chunks (at_breaks text) text text 0 refl h.cuts)

@@ -1,6 +1,7 @@
 use Rattle.textwrap_base.proofs.Common.{sym, ◌∙◌, ◌≡◌, true, ap, refl, ne_eqb, false≢true, get_or, not}
+use Rattle.std.specs.Cmp.{booleans_Decides}
 use Rattle.textwrap_words.proofs.Common.{is_blank}
-use Rattle.textwrap_unicode.proofs.PlaceCuts.{beq-same, unusual-blank, usual-cut, usual-pair}
+use Rattle.textwrap_unicode.proofs.UsualPlaces.{unusual-blank, usual-cut, usual-pair}
 use Rattle.textwrap_unicode.proofs.pairs.is_usual.Goals as goal
 
 pub returns-then-not-is_unusual : goal.returns-then-not-is_unusual
@@ -14,8 +15,8 @@ pub returns-then-after-ne32 : goal.returns-then-after-ne32
 returns-then-after-ne32 c =
     let both = usual-cut c.args.text.now c.requires.printable c.args.place c.requires.after_start
     c.requires.inside (ne_eqb _ 32 c.if-after-ne32.true) in (
-      λ same. both.0 (sym c.is_cut_between.ensures ∙ (beq-same _ _).0 same),
-      λ usual. (beq-same _ _).1 (c.is_cut_between.ensures ∙ both.1 usual),
+      λ same. both.0 (sym c.is_cut_between.ensures ∙ (booleans_Decides _ _).0 same),
+      λ usual. (booleans_Decides _ _).1 (c.is_cut_between.ensures ∙ both.1 usual),
     )
 
 pub returns-else-after-ne32 : goal.returns-else-after-ne32

@@ -1,7 +1,7 @@
 -- Places of a printable text where it is cut as at its blanks, told from two bytes.
 use Rattle.textwrap_base.proofs.Common.{◌≡◌, ℕ, zero, suc, ◌-◌, ◌<◌, ◌&&◌, ◌↔◌, true, false, not}
 use Rattle.textwrap_base.proofs.Common.{Bool, List, length, get_or, refl, sym, ap, ◌∙◌}
-use Rattle.textwrap_base.proofs.Common.{arith, cases_Bool, inl, inr, true≢false}
+use Rattle.textwrap_base.proofs.Common.{◌+◌, ◌≤◌, arith, cases_Bool, cases_lt, inl, inr, subst, true≢false}
 use Rattle.std.proofs.Math.Bool.{and-false, and-true}
 use Rattle.std.proofs.lemmas.Bool.{or_parts}
 use Rattle.textwrap_words.proofs.Common.{is_blank, IsPrintable}
@@ -110,3 +110,23 @@ module _ (text : List ℕ) (printable : IsPrintable text) where
         let opens = sym (unusual-space before after first (printable place 0 inside) blank) ∙ is in
         true≢false (sym opens ∙ and-first _ _ (space-at text printable place inside ∙ blank)
         usual.unopened)
+
+  -- one after another
+  pub usual-run : (from n : ℕ) → 0 < from → from + n ≤ length text
+      → ((k : ℕ) → 0 < k → k < from → IsUsual text k)
+      → ((k : ℕ) → from ≤ k → k < from + n
+      → is_unusual (get_or text (k - 1) 0) (get_or text k 0) ≡ false)
+      → (k : ℕ) → 0 < k → k < from + n → IsUsual text k
+  usual-run from zero start within usual none = λ k some below.
+      usual k some (omega (arith, below))
+  usual-run from (suc n) start within usual none =
+      let before = usual-run from n start (omega (arith, within)) usual
+      (λ k at below. none k at (omega (arith, below))) in
+      let here = usual-pair (from + n) (omega (arith, start)) (omega (arith, within)) before
+      (none (from + n) (omega arith) (omega arith)) in
+      λ k some below. elim (cases_lt k (from + n)) [
+        | inl less ↦ before k some less
+        | inr at ↦
+            let same : from + n ≡ k = omega (arith, at, below) in
+            subst (IsUsual text) same here
+      ]

@@ -1,6 +1,7 @@
 //! Where a printable text is cut into words at Unicode line breaks, told from the bytes before and
 //! behind a place, and where the first is a blank, from the last byte before the blanks.
-ghost use Rattle.std.specs.Prelude.{◌≡◌, ◌↔◌, ℕ, ◌<◌, ◌≤◌, true, length, map, IsTrue};
+ghost use Rattle.std.specs.Prelude.{◌≡◌, ◌↔◌, ℕ, ◌+◌, ◌-◌, ◌<◌, ◌≤◌, true, false, IsTrue};
+ghost use Rattle.std.specs.Prelude.{length, map, slice_index};
 ghost use Rattle.textwrap_words.specs.Cuts.{parts_between};
 ghost use Rattle.textwrap_words.specs.Units.{IsPrintable, IsPrintableByte};
 ghost use Rattle.textwrap_words.specs.Words.{word_of, words_of};
@@ -13,6 +14,9 @@ use crate::class_sets::{is_after_text, is_opening};
 use textwrap_words::blanks::trimmed_len;
 use textwrap_words::inner::is_printable;
 use unicode::properties::LineBreak;
+
+/// How many bytes are looked at together.
+const BLOCK: usize = 8;
 
 /// The kind of each printable byte, as a bit: 1 a blank, 2 what closes (EX, CL, CP, IS and SY), 4 a
 /// letter (AL), 8 what stands beside a number (PR and PO), 16 what opens (OP), 32 a digit (NU). All
@@ -129,10 +133,32 @@ fn is_usual_up_to(text: &[u8], end: usize) -> bool
     requires within { end ≤ length text.now }
     ensures { IsTrue result ↔ ((k : ℕ) → 0 < k → k < end → IsUsual text.now k) }
 {
-    for place in 1..end {
-        if !is_usual(text, place) {
+    let mut place = 1;
+    while place < end {
+        if end - place >= BLOCK && is_block_usual(text, place) {
+            place += BLOCK;
+        } else if is_usual(text, place) {
+            place += 1;
+        } else {
             return false;
         }
     }
     true
+}
+
+/// Whether none of the bytes from a place on, as many as are looked at together, is unusual behind the
+/// one before it.
+fn is_block_usual(text: &[u8], from: usize) -> bool
+    requires printable { IsPrintable text.now }
+    requires after_start { 0 < from }
+    requires within { from + 8 ≤ length text.now }
+    ensures { result ≡ true → (k : ℕ) → from ≤ k → k < from + 8
+        → is_unusual (slice_index text.now (k - 1)) (slice_index text.now k) ≡ false }
+{
+    // Without a stop at the first that is, the processor can look at many bytes at once.
+    let mut all = true;
+    for place in from..from + BLOCK {
+        all &= !is_unusual(text[place - 1], text[place]);
+    }
+    all
 }

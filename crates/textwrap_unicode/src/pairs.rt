@@ -157,7 +157,8 @@ fn is_block_usual(text: &[u8], from: usize) -> bool
 {
     // Without a stop at the first that is, the processor can look at many bytes at once.
     let mut all = true;
-    for place in from..from + BLOCK {
+    for offset in 0..BLOCK {
+        let place = from + offset;
         all &= !is_unusual(text[place - 1], text[place]);
     }
     all

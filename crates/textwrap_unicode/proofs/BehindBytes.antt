@@ -1,5 +1,5 @@
--- What stands before a place of a printable text: the class of the last byte, and of the last that is no
--- blank.
+-- What stands before a place of a printable text: the class of the last byte, and that of the last
+-- that is no blank.
 use Rattle.textwrap_base.proofs.Common.{◌≡◌, ℕ, ◌+◌, ◌&&◌, ◌||◌, Bool, true, false, not}
 use Rattle.textwrap_base.proofs.Common.{if◌then◌else◌, List, get_or}
 use Rattle.textwrap_base.proofs.Common.{refl, sym, ap, ◌∙◌, subst, arith, add-one, list_all, not-true}

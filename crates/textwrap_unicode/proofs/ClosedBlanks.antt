@@ -1,4 +1,5 @@
--- In a text that is cut at its blanks alone no blank stands behind a bracket that opens, but at its end.
+-- In a text that is cut at its blanks alone no blank stands behind a bracket that opens, but at the
+-- end.
 use Rattle.textwrap_base.proofs.Common.{◌≡◌, ℕ, zero, suc, ◌+◌, ◌-◌, ◌<◌, ◌&&◌, true, false}
 use Rattle.textwrap_base.proofs.Common.{not, inl, inr, List, length, get_or, refl, sym, ap}
 use Rattle.textwrap_base.proofs.Common.{◌∙◌, arith, add-zero, cases_Bool, true≢false}
@@ -58,7 +59,8 @@ module _ (text : List ℕ) (h : IsCutAtBlanks text) where
             (blank, ap is_opening (past-blank text h.printable (suc q) inside blank) ∙ past)
         | inr other ↦
             let back : suc q - 1 ≡ q = omega arith in
-            let first : is_blank (byte (suc q - 1)) ≡ true = ap (λ j. is_blank (byte j)) back ∙ before in
+            let first : is_blank (byte (suc q - 1)) ≡ true =
+            ap (λ j. is_blank (byte j)) back ∙ before in
             let told = cut-told text h.printable (suc q) (omega arith) inside in
             let cut = h.cuts (suc q) (omega arith) inside in
             let kept = kept-open (class_past_blanks text (suc q)) (class_of (byte (suc q))) past in

@@ -95,8 +95,8 @@ pub class-space : (v : LineBreak) → is_space v ≡ true → v ≡ Space
 class-space Space e = refl
 class-space v e = cc
 
--- a place is cut between bytes of which the first is no blank if it is unusual, and behind blanks by what
--- stands before them
+-- a text is cut behind a byte that is no blank where that is unusual, and behind blanks by what stands
+-- before them
 pub cut-behind : (past : LineBreak) (b c : ℕ) → IsPrintableByte b → IsPrintableByte c
     → is_among past_classes past ≡ true → (is_blank b ≡ false → past ≡ class_of b)
     → is_cut_behind past b c

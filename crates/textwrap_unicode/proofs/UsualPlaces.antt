@@ -34,7 +34,8 @@ module _ (text : List ℕ) (printable : IsPrintable text) where
         | inr other ↦
             rw (past-byte text printable n (omega (arith, inside)) other)
             (and-first _ _ space
-            (ap (λ k. is_opening (class_of (get_or text k 0)) && is_space (class_of (get_or text (suc n) 0)))
+            (ap (λ k. is_opening (class_of (get_or text k 0))
+            && is_space (class_of (get_or text (suc n) 0)))
             (sym back) ∙ (usual (suc n) (omega arith) (omega arith)).unopened))
       ]
 
@@ -68,7 +69,8 @@ module _ (text : List ℕ) (printable : IsPrintable text) where
         let told = cut-told text printable place start inside in
         record {
           cut = rw (blank, may) at told ∙ and-true (not (is_blank after)) ∙ sym (rw blank refl);
-          unopened = ap (λ v. is_opening v && is_space (class_of after)) (class-space (class_of before) space);
+          unopened = ap (λ v. is_opening v && is_space (class_of after))
+              (class-space (class_of before) space);
         }
 
     usual-word : is_blank before ≡ false → is_unusual before after ≡ false → IsUsual text place
@@ -100,7 +102,8 @@ module _ (text : List ℕ) (printable : IsPrintable text) where
     -- before a byte that is no blank
     pub usual-cut : is_blank after ≡ false
         → (at_breaks text place ≡ is_blank before) ↔ IsUsual text place
-    usual-cut other = (λ cut. cut-usual other cut, λ usual. usual.cut ∙ (rw other (and-true (is_blank before))))
+    usual-cut other =
+        (cut-usual other, λ usual. usual.cut ∙ (rw other (and-true (is_blank before))))
 
     -- nothing unusual is a blank
     pub unusual-blank : is_blank after ≡ true → is_unusual before after ≡ true

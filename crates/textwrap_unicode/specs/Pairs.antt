@@ -26,7 +26,8 @@ class_past_blanks text (suc n) =
     let class = class_of (slice_index text n) in
     if is_space class then class_past_blanks text n else class
 
--- what the rules ask behind printable bytes: the class of the last that is no blank, and of the last
+-- what the rules ask behind printable bytes, by the class of the last that is no blank, and that of
+-- the last
 abbrev pub behind_classes : LineBreak → LineBreak → Before
 behind_classes past class = record {
   is_start = false;
@@ -66,8 +67,8 @@ abbrev pub may_follow_blanks : LineBreak → LineBreak → Bool
 may_follow_blanks past class =
     not (is_after_text class) && not (is_opening past || (is_quotation past && is_opening class))
 
--- a byte is unusual behind another: behind a blank if it may be kept with what stands before blanks, as
--- a blank if it is kept with what comes behind blanks, and else if the text is cut between the two
+-- a byte is unusual behind another: behind a blank if it may be kept with what stands before that, a
+-- blank if that is kept with what comes behind it, and else if the text is cut between the two
 abbrev pub is_unusual : ℕ → ℕ → Bool
 is_unusual before after =
     let first = class_of before in

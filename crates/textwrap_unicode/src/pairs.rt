@@ -33,9 +33,9 @@ static KINDS: [u8; 128] = [
     4, 4, 4, 4, 4, 4, 4, 4, 4, 4, 4, 16, 0, 2, 4, 0,
 ];
 
-/// The kinds that are unusual behind each printable byte, in a text that is cut at its blanks: behind a
-/// blank those that may be kept with what stands before it, behind what opens a blank, behind all others
-/// those before which the text is cut.
+/// The kinds that are unusual behind each printable byte, in a text that is cut at its blanks: behind
+/// a blank those that may be kept with what stands before it, behind what opens a blank, behind all
+/// others those before which the text is cut.
 #[rattlefmt::skip]
 static UNUSUAL_AFTER: [u8; 128] = [
     0, 0, 0, 0, 0, 0, 0, 0, 0, 0, 0, 0, 0, 0, 0, 0,
@@ -48,9 +48,9 @@ static UNUSUAL_AFTER: [u8; 128] = [
     0, 0, 0, 0, 0, 0, 0, 0, 0, 0, 0, 1, 60, 52, 0, 0,
 ];
 
-/// Whether the words of a text are those between its blanks: whether it is printable ASCII, and cut by
-/// [`unicode_cuts`](crate::unicode_cuts) before each byte that is no blank and follows one, and nowhere
-/// else. The call always succeeds.
+/// Whether the words of a text are those between its blanks: whether it is printable ASCII, and cut
+/// by [`unicode_cuts`](crate::unicode_cuts) before each byte that is no blank and follows one, and
+/// nowhere else. The call always succeeds.
 pub fn is_cut_at_blanks(text: &str) -> bool
     ensures exact { IsTrue result ↔ IsCutAtBlanks text.now }
     ensures words { result ≡ true
@@ -109,8 +109,8 @@ fn is_unusual(before: u8, after: u8) -> bool
     UNUSUAL_AFTER[before as usize] & KINDS[after as usize] != 0
 }
 
-/// Whether a printable text, which is so at each place before this one, is there cut as at its blanks,
-/// with no blank behind a bracket that opens.
+/// Whether a printable text is cut at a place as at its blanks, and has no blank there behind a
+/// bracket that opens, if both hold at each place before.
 #[inline]
 fn is_usual(text: &[u8], place: usize) -> bool
     requires printable { IsPrintable text.now }
@@ -127,7 +127,8 @@ fn is_usual(text: &[u8], place: usize) -> bool
     after != b' ' && is_cut_between(text, place) == (before == b' ')
 }
 
-/// Whether a printable text is so at each place before this one.
+/// Whether a printable text is cut as at its blanks at each place before this one, and has no blank
+/// behind a bracket that opens there.
 fn is_usual_up_to(text: &[u8], end: usize) -> bool
     requires printable { IsPrintable text.now }
     requires within { end ≤ length text.now }
@@ -146,13 +147,13 @@ fn is_usual_up_to(text: &[u8], end: usize) -> bool
     true
 }
 
-/// Whether none of the bytes from a place on, as many as are looked at together, is unusual behind the
-/// one before it.
+/// Whether none of the bytes from a place on, as many as are looked at together, is unusual behind
+/// the one before it.
 fn is_block_usual(text: &[u8], from: usize) -> bool
     requires printable { IsPrintable text.now }
     requires after_start { 0 < from }
-    requires within { from + 8 ≤ length text.now }
-    ensures { result ≡ true → (k : ℕ) → from ≤ k → k < from + 8
+    requires within { from + BLOCK ≤ length text.now }
+    ensures { result ≡ true → (k : ℕ) → from ≤ k → k < from + BLOCK
         → is_unusual (slice_index text.now (k - 1)) (slice_index text.now k) ≡ false }
 {
     // Without a stop at the first that is, the processor can look at many bytes at once.

@@ -19,8 +19,8 @@ returns-then-is_printable c = record {
   exact = (
     so-cut c,
     λ h. c.is_usual_up_to.ensures.1 (λ k start below.
-        all-usual c.as_bytes-bytes.result.now (subst IsCutAtBlanks (sym c.as_bytes-bytes.ensures.value) h) k
-        start (omega (arith, below, c.trimmed_len.ensures.value))),
+        all-usual c.as_bytes-bytes.result.now
+        (subst IsCutAtBlanks (sym c.as_bytes-bytes.ensures.value) h) k start (omega (arith, below, c.trimmed_len.ensures.value))),
   );
   words = λ usual. words-same c.args.text.now (so-cut c usual);
 }

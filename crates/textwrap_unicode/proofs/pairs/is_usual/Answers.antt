@@ -21,7 +21,8 @@ returns-then-after-ne32 c =
 
 pub returns-else-after-ne32 : goal.returns-else-after-ne32
 returns-else-after-ne32 c =
-    let blank : is_blank (get_or c.args.text.now c.args.place 0) ≡ true = ap is_blank c.if-after-ne32.false in (
+    let blank : is_blank (get_or c.args.text.now c.args.place 0) ≡ true =
+    ap is_blank c.if-after-ne32.false in (
       λ same. absurd (false≢true (sym (ap not blank) ∙ same)),
       λ usual. absurd (unusual-blank c.args.text.now c.requires.printable c.args.place
           c.requires.after_start c.requires.inside blank

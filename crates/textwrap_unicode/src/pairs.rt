@@ -153,8 +153,8 @@ fn is_block_usual(text: &[u8], from: usize) -> bool
     requires printable { IsPrintable text.now }
     requires after_start { 0 < from }
     requires within { from + BLOCK ≤ length text.now }
-    ensures { result ≡ true → (k : ℕ) → from ≤ k → k < from + BLOCK
-        → is_unusual (slice_index text.now (k - 1)) (slice_index text.now k) ≡ false }
+    ensures { IsTrue result ↔ ((k : ℕ) → from ≤ k → k < from + BLOCK
+        → is_unusual (slice_index text.now (k - 1)) (slice_index text.now k) ≡ false) }
 {
     // Without a stop at the first that is, the processor can look at many bytes at once.
     let mut all = true;

@@ -8,5 +8,5 @@ loop-place-preserved-then-is_block_usual c =
       omega arith,
       usual-run c.args.text.now c.requires.printable c.loop-place.place 8 some
           (omega (arith, c.if-end-place-ge-BLOCK.true)) usual
-          (c.is_block_usual.ensures c.if-is_block_usual.true),
+          (c.is_block_usual.ensures.0 c.if-is_block_usual.true),
     )

@@ -31,7 +31,7 @@ wide_at c = is_wide (east_asian_width c)
 abbrev unassigned_at : ℕ → Bool
 unassigned_at c = is_extended_pictographic c && is_unassigned (general_category c)
 
-abbrev class_stepped : Stepped class_of
+abbrev pub class_stepped : Stepped class_of
 class_stepped =
     zip_stepped resolve line_break general_category line_break_stepped general_category_stepped
 

@@ -47,7 +47,7 @@ any-below s (o ∷ os) rest below =
     let differs : o ≢ s = λ e. omega (arith, here, e) in
     rw (other o s differs) (any-below s os rest (All-tail (λ o. o < s) o os below))
 
-any-above : (s : ℕ) (os : List ℕ) → All (λ o. s < o) os → list_any (λ o. o == s) os ≡ false
+pub any-above : (s : ℕ) (os : List ℕ) → All (λ o. s < o) os → list_any (λ o. o == s) os ≡ false
 any-above s [] above = refl
 any-above s (o ∷ os) above =
     let here = All-head (λ o. s < o) o os above in

@@ -5,5 +5,6 @@ pub mod Rules
 pub mod Breaks
 pub mod BreaksLeft
 pub mod Cuts
+pub mod Pairs
 pub mod WordStarts
 pub mod Laws

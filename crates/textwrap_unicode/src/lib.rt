@@ -13,8 +13,10 @@ pub mod breaks;
 mod class_sets;
 mod classes;
 pub mod cuts;
+pub mod inner;
 pub mod laws;
 mod numbers;
+mod pairs;
 mod rules;
 
 pub use breaks::{LineBreak, LineBreaks, line_breaks, line_breaks_by};

@@ -1,0 +1,8 @@
+use Rattle.textwrap_base.proofs.Common.{◌+◌, ◌-◌, ◌<◌, ◌↔◌, ◌≡◌, ◌≤◌, false, slice_index, true, ℕ}
+use Rattle.textwrap_unicode.specs.Pairs.{is_unusual}
+use Rattle.textwrap_unicode.proofs.pairs.is_block_usual.Given as goal
+
+abbrev pub invariant-loop-offset : goal.invariant-loop-offset
+invariant-loop-offset l =
+    (l.all ≡ true) ↔ ((k : ℕ) → l.from ≤ k → k < l.from + l.offset
+    → is_unusual (slice_index l.text (k - 1)) (slice_index l.text k) ≡ false)

@@ -31,7 +31,7 @@ past-byte text at place end from before within other =
     ∙ get_or-drop at text k 0 ∙ ap (λ n. get_or text n 0) here) ∙ other)
 
 -- the word of a printable part has as many columns as bytes
-word-width : (part : List ℕ) → IsPrintable part → (word_of part).width ≡ trimmed_len part
+pub word-width : (part : List ℕ) → IsPrintable part → (word_of part).width ≡ trimmed_len part
 word-width part printable =
     printable-width (word_of part).word (All-take IsPrintableByte (trimmed_len part) part printable)
     ∙ length-take-le (trimmed_len part) part (omega arith)

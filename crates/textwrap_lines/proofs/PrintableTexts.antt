@@ -6,6 +6,7 @@ pub mod Exact
 pub mod FirstLine
 pub mod FirstPiece
 pub mod Lines
+pub mod NextPiece
 pub mod Parts
 pub mod Pieces
 pub mod Points

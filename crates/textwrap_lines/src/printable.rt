@@ -92,8 +92,8 @@ fn line_end<C: PrintableCuts>(
     requires printable { IsPrintable text.now }
     requires inside { at < length text.now }
     requires width { 0 < width }
-    ensures line { IsFirstLine (is_cut_by (C.cuts cuts.now text.now) (as_splitter splitter) text.now) (limit_at breaks width)
-        width text.now at result.0 result.1 }
+    ensures line { IsFirstLine (is_cut_by (C.cuts cuts.now text.now) (as_splitter splitter)
+        text.now) (limit_at breaks width) width text.now at result.0 result.1 }
     ensures some { at < result.0 }
     ensures within { result.0 ≤ length text.now }
 {
@@ -131,7 +131,8 @@ fn last_cut<C: PrintableCuts>(
     ensures within { result ≤ end }
     ensures cut { start < result
         → is_cut_by (C.cuts cuts.now text.now) (as_splitter splitter) text.now result ≡ true }
-    ensures last { NoCutBetween (is_cut_by (C.cuts cuts.now text.now) (as_splitter splitter) text.now) result end }
+    ensures last { NoCutBetween (is_cut_by (C.cuts cuts.now text.now) (as_splitter splitter)
+        text.now) result end }
 {
     let mut place = end;
     while place > start && !is_cut_at(text, place, cuts, splitter) {
@@ -154,8 +155,8 @@ fn next_cut<C: PrintableCuts>(
     ensures within { result ≤ length text.now }
     ensures cut { result < length text.now
         → is_cut_by (C.cuts cuts.now text.now) (as_splitter splitter) text.now result ≡ true }
-    ensures first { NoCutBetween (is_cut_by (C.cuts cuts.now text.now) (as_splitter splitter) text.now) (start - 1)
-        (result - 1) }
+    ensures first { NoCutBetween (is_cut_by (C.cuts cuts.now text.now) (as_splitter splitter)
+        text.now) (start - 1) (result - 1) }
 {
     let mut place = start;
     while place < text.len() && !is_cut_at(text, place, cuts, splitter) {

@@ -1,122 +1,90 @@
 -- The whitespace of the last part of a text, and of the last word of a line.
-use Rattle.textwrap_base.proofs.Common.{◌≡◌, ◌≢◌, ℕ, suc, ◌+◌, ◌-◌, ◌<◌, ◌≤◌, Bool, true, false}
-use Rattle.textwrap_base.proofs.Common.{◌||◌, List, [], ◌∷◌, ◌++◌, All, length, map, drop}
-use Rattle.textwrap_base.proofs.Common.{get_or, refl, sym, ap, ◌∙◌, arith, subst, append-nil}
-use Rattle.textwrap_base.proofs.Common.{onto_first, All-nil, All-cons, All-head, All-tail, cond_both}
-use Rattle.textwrap_base.proofs.Common.{slice_range, get_or-take, get_or-drop, and_parts, not-true}
-use Rattle.textwrap_base.proofs.Common.{false≢true, false_from_ne_true, zero-add}
-use Rattle.textwrap_words.proofs.Common.{chunks, word_of, words_of, is_blank, trimmed_len, is_cut}
+use Rattle.textwrap_base.proofs.Common.{inl, inr, ◌≡◌, ◌≢◌, ℕ, zero, suc, ◌+◌, ◌-◌, ◌<◌, ◌≤◌, Bool}
+use Rattle.textwrap_base.proofs.Common.{true, false, ◌||◌, List, [], ◌∷◌, ◌++◌, All, length, map}
+use Rattle.textwrap_base.proofs.Common.{drop, get_or, refl, sym, ap, ◌∙◌, arith, subst, append-nil}
+use Rattle.textwrap_base.proofs.Common.{All-head, All-tail, slice_range, get_or-drop, add-zero}
+use Rattle.textwrap_base.proofs.Common.{and_parts, not-true, false≢true, false_from_ne_true, cases_lt}
+use Rattle.textwrap_base.proofs.Common.{length-drop, length-map, drop_all, drop_more}
+use Rattle.textwrap_words.proofs.Common.{chunks, word_of, words_of, is_blank, is_cut}
 use Rattle.textwrap_words.proofs.Common.{final_blanks, Splitter, Whole, AtHyphens}
 use Rattle.textwrap_words.specs.PieceCuts.{is_piece_cut, is_point, parts_by}
 use Rattle.textwrap_lines.proofs.Common.{BeforeOthers, is_cut_by, last_space}
-use Rattle.textwrap_base.proofs.Lists.Parts.{flat, length-slice, some_from_nonempty}
-use Rattle.textwrap_words.proofs.Word.PartsBy.{next_by, parts_by-whole, parts_within}
+use Rattle.textwrap_base.proofs.Lists.Parts.{some_from_nonempty}
+use Rattle.textwrap_words.proofs.Word.PartsBy.{parts_by-some, parts_by-whole, parts_within}
 use Rattle.textwrap_words.proofs.Word.PartsBy.{parts_by-chunks}
 use Rattle.textwrap_words.proofs.Word.PieceCuts.{piece_cut-at}
 use Rattle.textwrap_words.proofs.Word.PointsApart.{point-blank}
 use Rattle.textwrap_words.proofs.Word.Texts.{trimmed-past}
 use Rattle.textwrap_words.proofs.Word.Trimmed.{trimmed-front}
 use Rattle.textwrap_words.proofs.Word.Words.{AreChunks-chunks}
-use Rattle.textwrap_lines.proofs.PrintableTexts.Parts.{flat-parts}
+use Rattle.textwrap_lines.proofs.Paragraph.EndsAs.{last_space-append}
+use Rattle.textwrap_lines.proofs.PrintableTexts.Parts.{first-part, parts-front, slice-rest}
 
--- ---- parts of which only the first may be blanks alone
+-- ---- a text that is cut only before bytes that are no blanks
 
-abbrev IsOther : List ℕ → Type 0
-IsOther part = 0 < trimmed_len part
+module _ (test : ℕ → Bool) (text : List ℕ) (before : BeforeOthers test text) where
+  abbrev parts_at : ℕ → List (List ℕ)
+  parts_at at = parts_by test at (drop at text)
 
-abbrev pub AreOthersAfter : List (List ℕ) → Type 0
-AreOthersAfter [] = All IsOther []
-AreOthersAfter (p ∷ ps) = All IsOther ps
+  abbrev HasSpace : ℕ → Type 0
+  HasSpace at = last_space (map word_of (parts_at at)) ≡ final_blanks (drop at text)
 
-others-space : (p : List ℕ) (ps : List (List ℕ)) → All IsOther (p ∷ ps)
-    → (last_space (map word_of (p ∷ ps)) ≡ final_blanks (flat (p ∷ ps)))
-    × (0 < trimmed_len (flat (p ∷ ps)))
-others-space p [] all =
-    let whole = append-nil p in (
-      ap final_blanks (sym whole),
-      subst (λ l. 0 < trimmed_len l) (sym whole) (All-head IsOther p [] all),
-    )
-others-space p (q ∷ qs) all =
-    let rest = others-space q qs (All-tail IsOther p (q ∷ qs) all) in
-    let both = trimmed-front p (flat (q ∷ qs)) rest.1 in
-    (rest.0 ∙ sym both.1, omega (arith, both.0, rest.1))
+  space-end : (at : ℕ) → length text ≤ at → HasSpace at
+  space-end at past = subst (λ l. last_space (map word_of (parts_by test at l)) ≡ final_blanks l)
+      (sym (drop_all at text past)) refl
 
-parts-space : (ps : List (List ℕ)) → AreOthersAfter ps
-    → last_space (map word_of ps) ≡ final_blanks (flat ps)
-parts-space [] all = refl
-parts-space (p ∷ []) all = ap final_blanks (sym (append-nil p))
-parts-space (p ∷ q ∷ qs) all =
-    let rest = others-space q qs all in
-    rest.0 ∙ sym (trimmed-front p (flat (q ∷ qs)) rest.1).1
+  parts-some : (at : ℕ) → at < length text → 0 < length (map word_of (parts_at at))
+  parts-some at inside =
+      let more = drop_more text at 0 inside in
+      subst (λ l. 0 < length (map word_of (parts_by test at l))) (sym more)
+      (omega (
+        arith,
+        parts_by-some test at (get_or text at 0) (drop (at + 1) text),
+        length-map (parts_by test at (get_or text at 0 ∷ drop (at + 1) text)) word_of,
+      ))
 
--- ---- the parts of a text that is cut only before bytes that are no blanks
+  space-from : (n at : ℕ) → length text ≤ at + n → HasSpace at
+  space-from zero at short = space-end at (omega (arith, short))
+  space-from (suc n) at short = elim (cases_lt at (length text)) [
+    | inr past ↦ space-end at past
+    | inl inside ↦
+        let found = first-part test text at at (omega arith) inside
+        (λ k from to. absurd (omega (arith, from, to))) in
+        let end = found.end in
+        let some = found.part.some in
+        let q = slice_range text at end in
+        let back = drop end text in
+        let whole = slice-rest text at end (omega (arith, some)) in
+        let parts = ap (λ ps. last_space (map word_of ps)) (parts-front test text at end found.part) in
+        let rest = space-from n end (omega (arith, short, some)) in
+        elim (cases_lt end (length text)) [
+          | inl more ↦
+              let byte = get_or-drop end text 0 0 ∙ ap (λ k. get_or text k 0) (add-zero end) in
+              let other = trimmed-past back 0 (omega (arith, length-drop end text, more))
+              (ap is_blank byte
+              ∙ before end (omega (arith, some)) more (found.part.ends more)) in
+              parts
+              ∙ last_space-append (word_of q ∷ []) (map word_of (parts_at end)) (parts-some end more)
+              ∙ rest ∙ sym (trimmed-front q back other).1 ∙ ap final_blanks whole
+          | inr last ↦
+              let none = drop_all end text last in
+              parts ∙ ap (λ l. last_space (word_of q ∷ map word_of (parts_by test end l))) none
+              ∙ ap final_blanks (sym (append-nil q) ∙ ap (λ l. q ++ l) (sym none) ∙ whole)
+        ]
+  ]
 
--- it is not cut before its blanks
-abbrev pub CutsBeforeOthers : (ℕ → Bool) → ℕ → List ℕ → Type 0
-CutsBeforeOthers test at rest =
-    (k : ℕ) → 0 < k → k < length rest → test (at + k) ≡ true → is_blank (get_or rest k 0) ≡ false
-
--- a first part begins with the first byte
-record BeginsWith (c : ℕ) (ps : List (List ℕ)) : Type 0 where
-  part : List ℕ
-  others : List (List ℕ)
-  are : ps ≡ (c ∷ part) ∷ others
-
-onto_first-begins : (c : ℕ) (ps : List (List ℕ)) → BeginsWith c (onto_first c ps)
-onto_first-begins c [] = record { part = []; others = []; are = refl }
-onto_first-begins c (p ∷ ps) = record { part = p; others = ps; are = refl }
-
-parts-begin : (test : ℕ → Bool) (at c : ℕ) (cs : List ℕ) → BeginsWith c (parts_by test at (c ∷ cs))
-parts-begin test at c [] = record { part = []; others = []; are = refl }
-parts-begin test at c (d ∷ ds) =
-    let rest = parts_by test (at + 1) (d ∷ ds) in
-    elim (test (at + 1)) as (λ t. BeginsWith c (next_by test t at c (d ∷ ds))) [
-      | true ↦ record { part = []; others = rest; are = refl }
-      | false ↦ onto_first-begins c rest
-    ]
-
-pub others-after : (test : ℕ → Bool) (at : ℕ) (rest : List ℕ) → CutsBeforeOthers test at rest
-    → AreOthersAfter (parts_by test at rest)
-others-after test at [] before = All-nil IsOther
-others-after test at (b ∷ []) before = All-nil IsOther
-others-after test at (b ∷ c ∷ cs) before =
-    let first = parts-begin test (at + 1) c cs in
-    let p = c ∷ first.part in
-    let others = first.others in
-    let all : All IsOther others = subst AreOthersAfter first.are
-    (others-after test (at + 1) (c ∷ cs) (λ k some within is.
-    let place : at + 1 + k ≡ at + suc k = omega arith in
-    before (suc k) (omega arith) (omega (arith, within)) (ap test (sym place) ∙ is))) in
-    subst (λ ps. AreOthersAfter (next_by test (test (at + 1)) at b (c ∷ cs))) first.are
-    (cond_both (test (at + 1)) ((b ∷ []) ∷ parts_by test (at + 1) (c ∷ cs))
-    (onto_first b (parts_by test (at + 1) (c ∷ cs))) AreOthersAfter
-    (λ is. subst (All IsOther) (sym first.are)
-    (All-cons IsOther p others (trimmed-past p 0 (omega arith) (before 1 (omega arith) (omega arith) is)) all))
-    (λ _. subst (λ ps. AreOthersAfter (onto_first b ps)) (sym first.are) all))
-
--- the last part has the blanks at the end of the text
-pub last-part : (test : ℕ → Bool) (at : ℕ) (rest : List ℕ) → CutsBeforeOthers test at rest
-    → last_space (map word_of (parts_by test at rest)) ≡ final_blanks rest
-last-part test at rest before =
-    parts-space (parts_by test at rest) (others-after test at rest before)
-    ∙ ap final_blanks (flat-parts test at rest)
+  -- the last part from a place on has the blanks at the end of the text
+  pub last-part : (at : ℕ) → HasSpace at
+  last-part at = space-from (length text) at (omega arith)
 
 -- ---- a text whose words are cut so, and by a splitter
-
-pub others-slice : (test : ℕ → Bool) (text : List ℕ) (at end : ℕ) → BeforeOthers test text
-    → end ≤ length text → CutsBeforeOthers test at (slice_range text at end)
-others-slice test text at end before within k some inside is =
-    let len = length-slice text at end within in
-    ap is_blank (get_or-take (end - at) (drop at text) k 0 (omega (arith, inside, len))
-    ∙ get_or-drop at text k 0)
-    ∙ before (at + k) (omega (arith, some)) (omega (arith, inside, len, within)) is
 
 no_point : (splitter : Splitter) (text : List ℕ) (k : ℕ) → k < length text
     → is_blank (get_or text k 0) ≡ true → is_point splitter text k ≡ false
 no_point Whole text k inside blank = refl
 no_point AtHyphens text k inside blank = point-blank text k inside blank
 
--- nor do the points of a splitter stand before blanks
+-- the points of a splitter do not stand before blanks
 pub cut_by-others : (cuts : ℕ → Bool) (splitter : Splitter) (text : List ℕ)
     → BeforeOthers cuts text → BeforeOthers (is_cut_by cuts splitter text) text
 cut_by-others cuts splitter text before k some inside is =
@@ -148,6 +116,4 @@ words_of-space line =
     parts_by-chunks line test (λ k. false) (piece_cut-at Whole line) line [] 0 refl refl
     ∙ chunks-whole 0 (chunks line) (AreChunks-chunks line).nonempty in
     ap (λ ps. last_space (map word_of ps)) (sym same)
-    ∙ last-part test 0 line (λ k some inside is.
-    cut_by-others blank_cut Whole line others k some inside
-    (ap test (sym (zero-add k)) ∙ is))
+    ∙ last-part test line (cut_by-others blank_cut Whole line others) 0

@@ -1,21 +1,21 @@
 -- The first line of a printable text, found by its bytes.
 use Rattle.textwrap_base.proofs.Common.{◌≡◌, ℕ, ◌+◌, ◌-◌, ◌<◌, ◌≤◌, Bool, true, false, List, []}
-use Rattle.textwrap_base.proofs.Common.{◌∷◌, length, get_or, refl, sym, ap, ◌∙◌, arith}
-use Rattle.textwrap_base.proofs.Common.{inl, inr, cases_lt, slice_range, drop_all, subst, map}
-use Rattle.textwrap_base.proofs.Common.{open_width, Fits}
+use Rattle.textwrap_base.proofs.Common.{◌∷◌, length, map, take, get_or, refl, sym, ap, ◌∙◌}
+use Rattle.textwrap_base.proofs.Common.{arith, subst, slice_range, drop_all, length-take}
+use Rattle.textwrap_base.proofs.Common.{length-take-le, get_or-take, All-take, open_width, Fits}
 use Rattle.textwrap_words.proofs.Common.{is_blank, piece, WordText, sizes_of, IsPrintable, trimmed_len}
-use Rattle.textwrap_words.proofs.Common.{broken_words, word_of}
+use Rattle.textwrap_words.proofs.Common.{broken_words, word_of, without_final_blanks, IsPrintableByte}
 use Rattle.textwrap_words.specs.PieceCuts.{parts_by}
 use Rattle.textwrap_lines.proofs.Common.{BeforeOthers, pieces_from, NoCutBetween, IsFirstLine}
 use Rattle.textwrap_base.proofs.Division.Widths.{closed_width-push}
 use Rattle.textwrap_base.proofs.Lists.Parts.{length-slice}
 use Rattle.textwrap_words.proofs.Units.Widths.{printable-width}
-use Rattle.textwrap_lines.proofs.Paragraph.LastWord.{others-slice}
 use Rattle.textwrap_lines.proofs.PrintableTexts.Exact.{open-exact}
 use Rattle.textwrap_lines.proofs.PrintableTexts.BrokenFront.{BeginsWide}
 use Rattle.textwrap_lines.proofs.PrintableTexts.FirstPiece.{pieces-split, begins_wide, one_piece}
 use Rattle.textwrap_lines.proofs.PrintableTexts.FirstPiece.{pieces-broken}
-use Rattle.textwrap_lines.proofs.PrintableTexts.Pieces.{pieces, pieces-tile, pieces-exact, pieces-some}
+use Rattle.textwrap_lines.proofs.PrintableTexts.Parts.{front-slice}
+use Rattle.textwrap_lines.proofs.PrintableTexts.Pieces.{pieces-tile, pieces-exact, pieces-some}
 use Rattle.textwrap_lines.proofs.PrintableTexts.Pieces.{pieces-cover, pieces-fit, printable-slice}
 
 -- the first of these pieces has as many columns
@@ -29,56 +29,57 @@ wide-first limit n vs wide w ws is =
 
 module _ (test : ℕ → Bool) (limit width : ℕ) (text : List ℕ) (printable : IsPrintable text)
     (before : BeforeOthers test text) where
+  others-front : (n : ℕ) → BeforeOthers test (take n text)
+  others-front n k some inside is =
+      let len = length-take n text in
+      ap is_blank (get_or-take n text k 0 (omega (arith, inside, len)))
+      ∙ before k some (omega (arith, inside, len)) is
+
   -- a line up to a place where the text is cut, or ends
   ends_at : (at end : ℕ) → at < end → end ≤ length text → (end < length text → test end ≡ true)
-      → Fits sizes_of width (pieces test limit at (slice_range text at end)
-      (printable-slice text at end printable))
-      → ((w : WordText) (ws : List WordText) → end < length text
-      → pieces_from test limit text end ≡ w ∷ ws → width < end - at + w.width)
+      → Fits sizes_of width (pieces_from test limit (take end text) at)
+      → ((w : WordText) (ws : List WordText) → pieces_from test limit text end ≡ w ∷ ws
+      → width < end - at + w.width)
       → IsFirstLine test limit width text at end false
   ends_at at end some within ends fits past =
-      let slice = slice_range text at end in
-      let slice_printable = printable-slice text at end printable in
-      let line = pieces test limit at slice slice_printable in
-      let len = length-slice text at end within in
+      let front = take end text in
+      let front_printable = All-take IsPrintableByte end text printable in
+      let line = pieces_from test limit front at in
+      let len = length-take-le end text within in
+      let slice = front-slice text at end (omega (arith, some)) in
       let opened : open_width sizes_of line ≡ end - at =
-      open-exact line (pieces-exact test limit at slice slice_printable)
-      ∙ ap length (pieces-tile test limit at slice slice_printable) ∙ len in
+      open-exact line (pieces-exact test limit front front_printable at)
+      ∙ ap length (pieces-tile test limit front front_printable at ∙ slice)
+      ∙ length-slice text at end within in
       record {
         line = line;
-        some = pieces-some test limit at slice slice_printable (omega (arith, len, some));
+        some = pieces-some test limit front front_printable at (omega (arith, len, some));
         are = pieces-split test limit text printable at end some within ends;
-        covers = pieces-cover test limit at slice slice_printable
-            (others-slice test text at end before within);
+        covers = pieces-cover test limit front front_printable at (others-front end)
+            ∙ ap without_final_blanks slice;
         fits = fits;
-        full = λ w ws is. (let over = past w ws (inside w ws is) is in
+        full = λ w ws is. (let over = past w ws is in
             omega (arith, opened, over, closed_width-push sizes_of line w));
       }
-    where
-      inside : (w : WordText) (ws : List WordText) → pieces_from test limit text end ≡ w ∷ ws
-          → end < length text
-      inside w ws is = elim (cases_lt end (length text)) [
-        | inl less ↦ less
-        | inr past ↦
-            let none : pieces_from test limit text end ≡ [] =
-            ap (λ l. broken_words limit (map word_of (parts_by test end l))) (drop_all end text past) in
-            absurd (let len = ap length (sym none ∙ is) in omega (arith, len))
-      ]
 
-  keeps : (at end : ℕ) → end ≤ length text → trimmed_len (slice_range text at end) ≤ width
-      → Fits sizes_of width (pieces test limit at (slice_range text at end)
-      (printable-slice text at end printable))
-  keeps at end within most =
-      pieces-fit test limit at (slice_range text at end) (printable-slice text at end printable)
-      (others-slice test text at end before within) width most
+  keeps : (at end : ℕ) → at < end → trimmed_len (slice_range text at end) ≤ width
+      → Fits sizes_of width (pieces_from test limit (take end text) at)
+  keeps at end some most =
+      pieces-fit test limit (take end text) (All-take IsPrintableByte end text printable) at
+      (others-front end) width
+      (subst (λ l. trimmed_len l ≤ width) (sym (front-slice text at end (omega (arith, some)))) most)
 
   -- all of the text keeps to the width
   pub line-all : (at : ℕ) → at < length text
       → trimmed_len (slice_range text at (length text)) ≤ width
       → IsFirstLine test limit width text at (length text) false
   line-all at some most =
-      ends_at at (length text) some (omega arith) (λ inside. absurd (omega (arith, inside)))
-      (keeps at (length text) (omega arith) most) (λ w ws inside. absurd (omega (arith, inside)))
+      let n = length text in
+      ends_at at n some (omega arith) (λ inside. absurd (omega (arith, inside)))
+      (keeps at n some most) (λ w ws is.
+      let none : pieces_from test limit text n ≡ [] =
+      ap (λ l. broken_words limit (map word_of (parts_by test n l))) (drop_all n text (omega arith)) in
+      absurd (let len = ap length (sym none ∙ is) in omega (arith, len)))
 
   -- what comes before a cut keeps to the width, and what follows passes it before the next
   pub line-cut : (at end place : ℕ) → 0 < width → width ≤ limit → at < end → end ≤ place
@@ -90,8 +91,8 @@ module _ (test : ℕ → Bool) (limit width : ℕ) (text : List ℕ) (printable 
       let wide = begins_wide test limit text printable end place n from inside none other
       (omega (arith, room, order)) (omega (arith, some, order)) (omega (arith, from, past)) in
       ends_at at end some (omega (arith, from, inside)) (λ _. is)
-      (keeps at end (omega (arith, from, inside)) most)
-      (λ w ws _ e. let here = wide-first limit n (pieces_from test limit text end) wide w ws e in
+      (keeps at end some most)
+      (λ w ws e. let here = wide-first limit n (pieces_from test limit text end) wide w ws e in
       omega (arith, here, some))
 
   -- a first word that is wider than the width, and goes on to its end
@@ -102,7 +103,7 @@ module _ (test : ℕ → Bool) (limit width : ℕ) (text : List ℕ) (printable 
       ends_at at end (omega (arith, past)) within ends
       (subst (Fits sizes_of width) (sym (one_piece test limit text printable at end
       (omega (arith, past)) within short none)) (λ k two le. absurd (omega (arith, two, le))))
-      (λ w ws _ e. omega (arith, past))
+      (λ w ws e. omega (arith, past))
 
 -- a first word that is broken at the width
 pub line-broken : (test : ℕ → Bool) (limit : ℕ) (text : List ℕ) (printable : IsPrintable text)

@@ -3,7 +3,7 @@ use Rattle.textwrap_base.proofs.Common.{◌≡◌, ℕ, ◌+◌, ◌-◌, ◌<�
 use Rattle.textwrap_base.proofs.Common.{[], ◌∷◌, ◌++◌, length, map, drop, get_or, sym, ap}
 use Rattle.textwrap_base.proofs.Common.{◌∙◌, subst, arith, length-take-le, map-append, cond, le-ltb}
 use Rattle.textwrap_base.proofs.Common.{get_or-take, get_or-drop, flat_map-append, slice_range}
-use Rattle.textwrap_base.proofs.Common.{All-take}
+use Rattle.textwrap_base.proofs.Common.{All-take, take}
 use Rattle.textwrap_words.proofs.Common.{is_blank, trimmed_len, broken_pieces, broken_word}
 use Rattle.textwrap_words.proofs.Common.{broken_words, piece, word_of}
 use Rattle.textwrap_words.proofs.Common.{IsPrintable, IsPrintableByte}
@@ -16,8 +16,8 @@ use Rattle.textwrap_words.proofs.Word.Texts.{trimmed-past}
 use Rattle.textwrap_words.proofs.Units.Widths.{printable-width}
 use Rattle.textwrap_lines.proofs.PrintableTexts.BrokenFront.{BeginsWide, begins_wide-step}
 use Rattle.textwrap_lines.proofs.PrintableTexts.BrokenFront.{broken-front}
-use Rattle.textwrap_lines.proofs.PrintableTexts.Parts.{parts-split, parts-front, first-part, IsPart}
-use Rattle.textwrap_lines.proofs.PrintableTexts.Pieces.{pieces, printable-slice}
+use Rattle.textwrap_lines.proofs.PrintableTexts.Parts.{front-slice, parts-split, parts-front, first-part, IsPart}
+use Rattle.textwrap_lines.proofs.PrintableTexts.Pieces.{printable-slice}
 
 -- a slice goes past a byte that is no blank
 past-byte : (text : List ℕ) (at place end : ℕ) → at ≤ place → place < end → end ≤ length text
@@ -31,7 +31,7 @@ past-byte text at place end from before within other =
     ∙ get_or-drop at text k 0 ∙ ap (λ n. get_or text n 0) here) ∙ other)
 
 -- the word of a printable part has as many columns as bytes
-word-width : (part : List ℕ) → IsPrintable part → (word_of part).width ≡ trimmed_len part
+pub word-width : (part : List ℕ) → IsPrintable part → (word_of part).width ≡ trimmed_len part
 word-width part printable =
     printable-width (word_of part).word (All-take IsPrintableByte (trimmed_len part) part printable)
     ∙ length-take-le (trimmed_len part) part (omega arith)
@@ -41,14 +41,15 @@ module _ (test : ℕ → Bool) (limit : ℕ) (text : List ℕ) (printable : IsPr
   pub pieces-split : (at end : ℕ) → at < end → end ≤ length text
       → (end < length text → test end ≡ true)
       → pieces_from test limit text at
-      ≡ pieces test limit at (slice_range text at end) (printable-slice text at end printable)
-      ++ pieces_from test limit text end
+      ≡ pieces_from test limit (take end text) at ++ pieces_from test limit text end
   pieces-split at end some within ends =
       let front = parts_by test at (slice_range text at end) in
       let back = parts_by test end (drop end text) in
       ap (λ ps. broken_words limit (map word_of ps)) (parts-split test text at end some within ends)
       ∙ ap (broken_words limit) (map-append word_of front back)
       ∙ flat_map-append (broken_word limit) (map word_of front) (map word_of back)
+      ∙ ap (λ l. broken_words limit (map word_of (parts_by test at l))
+      ++ pieces_from test limit text end) (sym (front-slice text at end (omega (arith, some))))
 
   -- the first piece of a text that is not cut up to a byte, which is no blank
   pub begins_wide : (at place n : ℕ) → at ≤ place → place < length text → NoCutBetween test at place
@@ -87,14 +88,15 @@ module _ (test : ℕ → Bool) (limit : ℕ) (text : List ℕ) (printable : IsPr
   -- a part that keeps to the limit is one piece
   pub one_piece : (at end : ℕ) → at < end → end ≤ length text → length text ≤ limit
       → NoCutBetween test at (end - 1)
-      → pieces test limit at (slice_range text at end) (printable-slice text at end printable)
-      ≡ word_of (slice_range text at end) ∷ []
+      → pieces_from test limit (take end text) at ≡ word_of (slice_range text at end) ∷ []
   one_piece at end some within short none =
       let part = slice_range text at end in
       let w = word_of part in
       let width = word-width part (printable-slice text at end printable) in
       let len = length-slice text at end within in
-      ap (λ ps. broken_words limit (map word_of ps))
+      ap (λ l. broken_words limit (map word_of (parts_by test at l)))
+      (front-slice text at end (omega (arith, some)))
+      ∙ ap (λ ps. broken_words limit (map word_of ps))
       (parts_by-whole test part at (omega (arith, len, some))
       (λ k from inside. none (at + k) (omega (arith, from)) (omega (arith, inside, len))))
       ∙ ap (λ b. cond b (broken_pieces limit w) (w ∷ []) ++ [])

@@ -2,8 +2,8 @@
 use Rattle.textwrap_base.proofs.Common.{◌≡◌, ℕ, ◌+◌, ◌<◌, ◌≤◌, Bool, true, false, ◌||◌, cond, List}
 use Rattle.textwrap_base.proofs.Common.{[], ◌∷◌, ◌++◌, All, length, drop, refl, sym, ap, ◌∙◌, subst}
 use Rattle.textwrap_base.proofs.Common.{arith, append-nil, append_assoc, add-zero, drop-drop, drop_at}
-use Rattle.textwrap_base.proofs.Common.{slice_range, All-drop, All-weaker, closed_width, Fits}
-use Rattle.textwrap_words.proofs.Common.{WordText, sizes_of, tiled, IsPrintable, IsPrintableByte}
+use Rattle.textwrap_base.proofs.Common.{slice_range, All-weaker, closed_width, Fits}
+use Rattle.textwrap_words.proofs.Common.{WordText, sizes_of, tiled, IsPrintable}
 use Rattle.textwrap_words.specs.Pieces.{stand_from}
 use Rattle.textwrap_lines.proofs.Common.{Settings, covered, pieces_from, line_slice, IsFirstLine}
 use Rattle.textwrap_lines.proofs.Common.{cut_line, CutLine, cut_lines, assembled_line}
@@ -113,19 +113,17 @@ module _ (settings : Settings) (text : List ℕ) where
         ∷ lines_at end (later_width settings) true (pieces_from test limit text end)
     lines-step first =
         let line = first.line in
-        let rest = drop at text in
         let others = pieces_from test limit text end in
-        let rest_printable = All-drop IsPrintableByte at text printable in
         let tiles = first-tiles test limit width text at end goes_on first printable
         (omega (arith, from)) within in
         let len : at + length (tiled line) ≡ end =
         omega (arith, ap length tiles, length-slice text at end within, from) in
-        let tile = pieces-tile test limit at rest rest_printable in
+        let tile = pieces-tile test limit text printable at in
         ap (lines_at at width is_later) first.are
         ∙ lines-next at width is_later line others (sym tile ∙ ap tiled first.are)
         (subst (All HasNoPenalty) first.are
         (All-weaker IsExact HasNoPenalty (λ w exact. exact.penalty) _
-        (pieces-exact test limit at rest rest_printable)))
+        (pieces-exact test limit text printable at)))
         first.some first.fits first.full
         ∙ ap (λ s. cut_line at (assembled_line (indent_of settings is_later) s [])
         ∷ lines_at (at + length (tiled line)) (later_width settings) true others)

@@ -1,13 +1,33 @@
 -- The parts that a text is cut into wherever a test of its places says so.
 use Rattle.textwrap_base.proofs.Common.{inl, inr, ◌≡◌, ℕ, zero, suc, ◌+◌, ◌-◌, ◌<◌, ◌≤◌, Bool, true}
 use Rattle.textwrap_base.proofs.Common.{false, List, [], ◌∷◌, ◌++◌, length, take, drop, refl, sym, ap}
-use Rattle.textwrap_base.proofs.Common.{◌∙◌, arith, append-nil, cases_lt, drop_all, take_all}
+use Rattle.textwrap_base.proofs.Common.{◌∙◌, arith, take-append-drop, append-nil, cases_lt, drop_all, take_all}
 use Rattle.textwrap_base.proofs.Common.{drop-drop, length-drop, onto_first, slice_range}
+use Rattle.std.proofs.lemmas.List.{drop-take}
 use Rattle.textwrap_words.specs.PieceCuts.{parts_by}
 use Rattle.textwrap_base.proofs.Lists.Parts.{flat, flat-onto_first, onto_first-append}
 use Rattle.textwrap_words.proofs.Word.FirstPlaces.{HasEnd, end-from}
 use Rattle.textwrap_words.proofs.Word.PartsBy.{next_by, parts_by-some, parts_by-front}
 use Rattle.textwrap_lines.specs.Printable.{NoCutBetween}
+
+-- ---- slices, and what follows them
+
+pub slice-rest : (text : List ℕ) (at end : ℕ) → at ≤ end
+    → slice_range text at end ++ drop end text ≡ drop at text
+slice-rest text at end from =
+    let place : at + (end - at) ≡ end = omega (arith, from) in
+    ap (λ l. slice_range text at end ++ l) (ap (λ k. drop k text) (sym place)
+    ∙ sym (drop-drop (end - at) at text))
+    ∙ take-append-drop (end - at) (drop at text)
+
+-- the front of a text from a place on
+pub front-slice : (text : List ℕ) (at end : ℕ) → at ≤ end
+    → drop at (take end text) ≡ slice_range text at end
+front-slice text at end from =
+    let place : at + (end - at) ≡ end = omega (arith, from) in
+    ap (λ k. drop at (take k text)) (sym place) ∙ drop-take at (end - at) text
+
+-- ---- parts
 
 module _ (test : ℕ → Bool) where
   pub flat-parts : (at : ℕ) (rest : List ℕ) → flat (parts_by test at rest) ≡ rest

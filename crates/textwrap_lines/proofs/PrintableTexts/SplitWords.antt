@@ -1,8 +1,8 @@
 -- The words of a printable text, split by a splitter, are its parts where it is cut by both.
-use Rattle.textwrap_base.proofs.Common.{inl, inr, ◌≡◌, ℕ, zero, suc, ◌+◌, ◌-◌, ◌<◌, ◌≤◌, Bool, true}
+use Rattle.textwrap_base.proofs.Common.{inl, inr, ◌≡◌, ℕ, zero, suc, ◌+◌, ◌<◌, ◌≤◌, Bool, true}
 use Rattle.textwrap_base.proofs.Common.{false, ◌&&◌, ◌||◌, List, [], ◌∷◌, ◌++◌, length, map, take, drop}
 use Rattle.textwrap_base.proofs.Common.{refl, sym, ap, ◌∙◌, arith, cases_lt, drop_all}
-use Rattle.textwrap_base.proofs.Common.{All-take, drop-drop, length-take-le, map-append, nat_lt, cond}
+use Rattle.textwrap_base.proofs.Common.{All-take, length-take-le, map-append, nat_lt, cond}
 use Rattle.textwrap_base.proofs.Common.{slice_range, take-append-drop, onto_first, and_right}
 use Rattle.textwrap_words.proofs.Common.{IsPrintable, IsPrintableByte, Splitter, split_word}
 use Rattle.textwrap_words.proofs.Common.{split_words, word_of}
@@ -12,7 +12,7 @@ use Rattle.textwrap_base.proofs.Lists.Parts.{length-slice}
 use Rattle.textwrap_words.proofs.Word.ChunkParts.{split-word}
 use Rattle.textwrap_words.proofs.Word.PartsBy.{next_by}
 use Rattle.textwrap_words.proofs.Word.PointsApart.{EndsPlain}
-use Rattle.textwrap_lines.proofs.PrintableTexts.Parts.{first-part, parts-front, parts-split}
+use Rattle.textwrap_lines.proofs.PrintableTexts.Parts.{first-part, parts-front, parts-split, slice-rest}
 use Rattle.textwrap_lines.proofs.PrintableTexts.Pieces.{printable-slice}
 use Rattle.textwrap_lines.proofs.PrintableTexts.Points.{ends-printable}
 use Rattle.textwrap_lines.proofs.PrintableTexts.Texts.{printable-utf8}
@@ -66,12 +66,8 @@ module _ (cuts : ℕ → Bool) (splitter : Splitter) (text : List ℕ) (printabl
         let some = part.some in
         let within = part.within in
         let len = length-slice text at end within in
-        let back_is : drop (end - at) (drop at text) ≡ back =
-        drop-drop (end - at) at text ∙ (let e : at + (end - at) ≡ end = omega (arith, some) in
-        ap (λ k. drop k text) e) in
         let whole : before ++ (q ++ back) ≡ text =
-        ap (λ l. before ++ (q ++ l)) (sym back_is)
-        ∙ ap (λ l. before ++ l) (take-append-drop (end - at) (drop at text))
+        ap (λ l. before ++ l) (slice-rest text at end (omega (arith, some)))
         ∙ take-append-drop at text in
         let place : length before ≡ at = length-take-le at text (omega (arith, inside)) in
         let word = split-word before q back

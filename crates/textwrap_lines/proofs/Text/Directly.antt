@@ -52,14 +52,14 @@ lines-by_bytes settings test split indent text are printable some short room =
     let limit = break_limit settings in
     let here = no_pieces text 0 width indent in
     let found = begins_narrow test limit text printable 0 some limited in
-    let tile = ap length (words-tile test limit 0 text printable) in
+    let tile = ap length (words-tile test limit text printable 0) in
     ap (λ ps. lines_left settings here (stand_from 0 ps)) found.are
     ∙ sym (without_front settings text width indent found.first found.others settings.break_words
     (length settings.initial_indent == 0) found.narrow)
     ∙ ap (lines_of_pieces settings text width indent)
     (ap (λ ps. front_of settings ++ ps) (sym found.are)
     ∙ limited-words settings (map word_of (parts_by test 0 text))
-    (words-narrow test limit 0 text printable) (omega (arith, tile, short))
+    (words-narrow test limit text printable 0) (omega (arith, tile, short))
     ∙ ap (broken_pieces_of settings) (sym are))
   where
     limited : 0 < break_limit settings

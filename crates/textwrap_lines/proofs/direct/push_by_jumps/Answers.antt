@@ -19,7 +19,7 @@ returns-clause-took g c =
     let words = map word_of (parts_by cuts 0 text) in
     let pieces = pieces_of_words settings splitter words in
     let indent = indent_of settings c.args.is_later in
-    let texts = words-texts cuts 0 text printable in
+    let texts = words-texts cuts text printable in
     let (division, greedy, found) = lines-greedy settings text c.args.is_later pieces
     (pieces_of_words-tile settings splitter text words c.utf8.paragraph texts)
     (pieces_of_words-no_penalty settings splitter text words c.utf8.paragraph texts) in

@@ -8,6 +8,7 @@ pub mod BrokenTexts
 pub mod CharactersAhead
 pub mod ChunkParts
 pub mod ChunksUnique
+pub mod CutWords
 pub mod Divisions
 pub mod FirstPlaces
 pub mod FirstUnits
@@ -26,7 +27,6 @@ pub mod PieceBoundaries
 pub mod PieceCuts
 pub mod PieceEnds
 pub mod PieceFronts
-pub mod PieceStops
 pub mod PieceTexts
 pub mod Pieces
 pub mod PointsApart
@@ -35,6 +35,7 @@ pub mod Rows
 pub mod ScannedCuts
 pub mod ScannedEnds
 pub mod ScannedLetters
+pub mod ScannedParts
 pub mod ScannedWords
 pub mod SplitParts
 pub mod SplitPieces
@@ -47,4 +48,5 @@ pub mod Tiling
 pub mod Trimmed
 pub mod VisibleEnds
 pub mod WideParts
+pub mod WithinWords
 pub mod Words

@@ -1,5 +1,6 @@
 pub mod Blanks
 pub mod Breaking
+pub mod CutPiecesLeft
 pub mod Cuts
 pub mod Escapes
 pub mod Laws

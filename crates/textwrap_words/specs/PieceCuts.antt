@@ -27,18 +27,25 @@ parts_by test at (b ∷ c ∷ cs) =
     else onto_first b (parts_by test (at + 1) (c ∷ cs))
 
 -- the pieces of what follows a place: the parts as words, broken at the limit
+abbrev pub pieces_by : (ℕ → Bool) → ℕ → List ℕ → ℕ → List WordText
+pieces_by test limit text at = broken_words limit (map word_of (parts_by test at (drop at text)))
+
+-- the same of a text with words between blanks
 abbrev pub pieces_at : Splitter → ℕ → List ℕ → ℕ → List WordText
-pieces_at splitter limit text at =
-    broken_words limit (map word_of (parts_by (is_piece_cut splitter text) at (drop at text)))
+pieces_at splitter limit text at = pieces_by (is_piece_cut splitter text) limit text at
+
+-- the same of a text that is one word with its blanks
+abbrev pub pieces_within : Splitter → ℕ → List ℕ → ℕ → List WordText
+pieces_within splitter limit text at = pieces_by (is_point splitter text) limit text at
 
 -- ---- where a part ends, and the word in it
 
 -- a part of the text goes from the one place to the other: up to the first cut, or to the end
-pub record IsPart (splitter : Splitter) (text : List ℕ) (at end : ℕ) : Type 0 where
+pub record IsPart (test : ℕ → Bool) (text : List ℕ) (at end : ℕ) : Type 0 where
   pub some : at < end
   pub within : end ≤ length text
-  pub uncut : (k : ℕ) → at < k → k < end → is_piece_cut splitter text k ≡ false
-  pub ends : end < length text → is_piece_cut splitter text end ≡ true
+  pub uncut : (k : ℕ) → at < k → k < end → test k ≡ false
+  pub ends : end < length text → test end ≡ true
 
 -- blanks alone follow the place, up to the end of the part
 pub record AreFinalBlanks (text : List ℕ) (at word_end end : ℕ) : Type 0 where

@@ -1,8 +1,8 @@
 -- Pieces by where they stand in a text, and how the first of them is found.
 use Rattle.std.specs.Prelude.{◌≡◌, ◌≢◌, ℕ, ◌+◌, ◌<◌, ◌≤◌, false, List, [], ◌∷◌}
 use Rattle.std.specs.Prelude.{length, slice_index, slice_range, IsCharBoundary}
-use Rattle.textwrap_words.specs.Blanks.{blank, is_blank, BlanksBetween}
-use Rattle.textwrap_words.specs.PieceCuts.{pieces_at}
+use Rattle.textwrap_words.specs.Blanks.{blank, is_blank, BlanksBetween, trimmed_len}
+use Rattle.textwrap_words.specs.PieceCuts.{pieces_at, pieces_within}
 use Rattle.textwrap_words.specs.Units.{IsPrintableByte}
 use Rattle.textwrap_words.specs.WordSplitters.{hyphen, Splitter, Whole, AtHyphens}
 use Rattle.textwrap_words.specs.Words.{WordText}
@@ -52,3 +52,19 @@ pub record IsFirstWord (splitter : Splitter) (limit : ℕ) (text : List ℕ)
         width = width;
       }
       ∷ pieces_at splitter limit text end
+
+-- the first piece of a word with its blanks, from the place on
+pub record IsFirstWithin (splitter : Splitter) (limit : ℕ) (text : List ℕ) (at : ℕ)
+    (piece : Piece) : Type 0 where
+  pub from : at ≤ piece.word_end
+  pub up_to : piece.word_end ≤ piece.end
+  pub boundary : IsCharBoundary text piece.end
+  pub before_blanks : piece.end < length text → piece.end ≤ trimmed_len text
+  pub first : pieces_within splitter limit text at
+      ≡ record {
+        word = slice_range text at piece.word_end;
+        whitespace = slice_range text piece.word_end piece.end;
+        penalty = [];
+        width = piece.width;
+      }
+      ∷ pieces_within splitter limit text piece.end

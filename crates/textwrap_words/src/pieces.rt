@@ -150,7 +150,7 @@ fn first_word(text: &str, at: usize, limit: usize, splitter: BuiltInSplitter) ->
 
 /// How many letters stand from a place on, at most so many. A letter is printable ASCII, and neither
 /// a blank nor a hyphen.
-fn letters_len(text: &[u8], at: usize, most: usize) -> usize
+pub(crate) fn letters_len(text: &[u8], at: usize, most: usize) -> usize
     requires { at ≤ length text.now }
     ensures within { at + result ≤ length text.now }
     ensures most { result ≤ most }
@@ -172,7 +172,7 @@ fn is_letter(byte: u8) -> bool
 }
 
 /// Whether a text is split at a place, after a hyphen.
-fn is_point(text: &str, place: usize, splitter: BuiltInSplitter) -> bool
+pub(crate) fn is_point(text: &str, place: usize, splitter: BuiltInSplitter) -> bool
     requires { 0 < place }
     ensures { result ≡ (nat_lt place (length text.now)
         && is_point (as_splitter splitter) text.now place) }

@@ -1,6 +1,7 @@
 //! In tables by what they are about. Each row has the rule that it shows.
 mod breaks;
 mod c;
+mod cut_pieces;
 mod display;
 mod plain;
 mod program;

@@ -12,7 +12,6 @@ use Rattle.std.proofs.lemmas.Str.{encode_ascii, IsCharBoundary-before_ascii}
 use Rattle.textwrap_words.specs.PieceCuts.{is_point, is_piece_cut}
 use Rattle.textwrap_base.proofs.Characters.{one-byte, some-bytes}
 use Rattle.textwrap_base.proofs.Lists.Parts.{length-slice}
-use Rattle.textwrap_words.proofs.Word.Splitting.{after-hyphen_byte}
 use Rattle.textwrap_words.proofs.Word.PieceBoundaries.{point-hyphen}
 
 module _ (text : List ℕ) (place c : ℕ) (after : List ℕ)
@@ -102,28 +101,38 @@ module _ (text : List ℕ) (utf8 : IsUtf8 text) (place c : ℕ) (after : List �
         grind (arith, first-character, length-slice, get_or-take, get_or-drop, one-byte)
   ]
 
+  -- the splitter has a point after it only where it is a hyphen
+  pub point-after : (splitter : Splitter) (k : ℕ) → k ≡ place + length (encode_utf8 c)
+      → k < length text → (c ≡ 45 → is_point splitter text k ≡ false)
+      → is_point splitter text k ≡ false
+  point-after splitter k end inside point = elim (cases_Bool (is_point splitter text k)) [
+    | inr none ↦ none
+    | inl is ↦
+        let some = some-bytes c in
+        let byte = point-hyphen splitter text k (omega (arith, end, some)) inside is in
+        point (ascii-byte (k - 1) 45 (omega (arith, end, some)) (omega (arith, end, some))
+        (omega (arith, inside)) byte (omega arith)).1
+  ]
+
   module _ (other : c ≢ 32) where
     pub plain-bytes : (k : ℕ) → place ≤ k → k < place + length (encode_utf8 c) → k < length text
         → is_blank (get_or text k 0) ≡ false
     plain-bytes k from below inside = grind (arith, cases_Bool, ascii-byte, eqb-true)
 
-    -- no piece ends in it, nor after it, unless the splitter has a point there
-    pub uncut-bytes : (splitter : Splitter) (k : ℕ) → place < k
-        → k ≤ place + length (encode_utf8 c) → k < length text
-        → (k ≡ place + length (encode_utf8 c) → c ≡ 45 → is_point splitter text k ≡ false)
+    -- the last byte of it
+    pub plain-before : (k : ℕ) → k ≡ place + length (encode_utf8 c)
+        → is_blank (get_or text (k - 1) 0) ≡ false
+    plain-before k end =
+        let some = some-bytes c in
+        let within = ends-within text place c after is in
+        plain-bytes (k - 1) (omega (arith, end, some)) (omega (arith, end, some))
+        (omega (arith, end, some, within))
+
+    -- no piece ends after it, unless the splitter has a point there
+    pub uncut-after : (splitter : Splitter) (k : ℕ) → k ≡ place + length (encode_utf8 c)
+        → k < length text → (c ≡ 45 → is_point splitter text k ≡ false)
         → is_piece_cut splitter text k ≡ false
-    uncut-bytes splitter k past most inside point =
+    uncut-after splitter k end inside point =
         let here = get_or text k 0 in
-        let plain = plain-bytes (k - 1) (omega (arith, past)) (omega (arith, past, most))
-        (omega (arith, inside)) in
-        let none : is_point splitter text k ≡ false = elim (cases_Bool (is_point splitter text k)) [
-          | inr none ↦ none
-          | inl is ↦
-              let byte = point-hyphen splitter text k (omega (arith, past)) inside is in
-              let first = ascii-byte (k - 1) 45 (omega (arith, past)) (omega (arith, past, most))
-              (omega (arith, inside)) byte (omega arith) in
-              let end = character-within k past (after-hyphen_byte text k utf8 (omega (arith, past))
-              inside byte) in
-              point (omega (arith, end, most)) first.1
-        ] in
-        ap (λ t. (t && not (is_blank here)) || is_point splitter text k) plain ∙ none
+        ap (λ t. (t && not (is_blank here)) || is_point splitter text k) (plain-before k end)
+        ∙ point-after splitter k end inside point

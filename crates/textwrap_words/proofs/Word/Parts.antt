@@ -9,8 +9,9 @@ use Rattle.textwrap_words.proofs.Common.{tiled, word_of, AreCuts, AreInnerCuts, 
 use Rattle.std.proofs.lemmas.List.Sorted.{IsNonDecreasingBy-from_default}
 use Rattle.textwrap_base.proofs.Lists.Parts.{flat}
 use Rattle.textwrap_words.proofs.Word.Tiling.{tiled-map}
-use Rattle.textwrap_words.specs.Cuts.{parts_from}
-use Rattle.textwrap_base.proofs.Lists.Rising.{increasing-le}
+use Rattle.textwrap_words.specs.Cuts.{AreLaterCuts, parts_from}
+use Rattle.textwrap_base.proofs.Lists.Rising.{increasing-le, increasing-rising, rising-increasing}
+use Rattle.std.proofs.lemmas.List.Elements.{All-from_get_or}
 
 -- ---- the parts are the line
 
@@ -61,3 +62,18 @@ inner-cuts text cuts are = record {
   in_range = are.before_end;
   between = are.between;
 }
+
+-- ---- the cuts after one
+
+pub later-cuts : (start cut : ℕ) (text cuts : List ℕ) → AreLaterCuts start text (cut ∷ cuts)
+    → AreLaterCuts cut text cuts
+later-cuts start cut text cuts are =
+    let rising = increasing-rising (cut ∷ cuts) are.in_order in
+    record {
+      in_order = rising-increasing cuts
+          (λ i j less within. rising (suc i) (suc j) (omega (arith, less)) (omega (arith, within)));
+      after_start = All-from_get_or (λ c. cut < c) cuts 0
+          (λ i within. rising 0 (suc i) (omega arith) (omega (arith, within)));
+      before_end = All-tail (λ c. c < length text) cut cuts are.before_end;
+      between = All-tail (IsCharBoundary text) cut cuts are.between;
+    }

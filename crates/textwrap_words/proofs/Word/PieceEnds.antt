@@ -2,20 +2,20 @@
 use Rattle.textwrap_base.proofs.Common.{inl, inr, ◌≡◌, ℕ, ◌-◌, ◌<◌, ◌≤◌, true, false, not, ◌&&◌}
 use Rattle.textwrap_base.proofs.Common.{◌||◌, List, [], ◌∷◌, length, get_or, refl, sym, ap}
 use Rattle.textwrap_base.proofs.Common.{◌∙◌, arith, cases_lt, IsUtf8, le-ltb, cond}
-use Rattle.textwrap_base.proofs.Common.{and_right, slice_range, IsCharBoundary, IsUtf8-between}
+use Rattle.textwrap_base.proofs.Common.{and_right}
+use Rattle.std.proofs.lemmas.Bool.{not-false, not-true}
 use Rattle.textwrap_words.proofs.Common.{is_blank, words_of, WordText, Splitter, Whole}
 use Rattle.textwrap_words.proofs.Common.{AtHyphens, split_words, broken_words, broken_word}
-use Rattle.textwrap_words.proofs.Common.{broken_pieces, broken_texts, piece, text_width}
+use Rattle.textwrap_words.proofs.Common.{broken_pieces}
 use Rattle.textwrap_words.specs.PieceCuts.{is_point, is_piece_cut, pieces_at, IsPart}
 use Rattle.textwrap_words.specs.PieceCuts.{AreFinalBlanks, IsPartWord}
 use Rattle.textwrap_words.proofs.Word.PointsApart.{point-blank}
 use Rattle.textwrap_words.proofs.Word.PieceCuts.{split_words-parts}
-use Rattle.textwrap_words.proofs.Word.PieceBoundaries.{word-boundary, stop-boundary}
-use Rattle.textwrap_words.proofs.Word.PieceStops.{pieces-stop}
+use Rattle.textwrap_words.proofs.Word.FirstPlaces.{end-from}
 
 -- ---- no cut stands before a blank, and one does after the last of them
 
-point-none : (splitter : Splitter) (text : List ℕ) (place : ℕ) → place < length text
+pub point-none : (splitter : Splitter) (text : List ℕ) (place : ℕ) → place < length text
     → is_blank (get_or text place 0) ≡ true → is_point splitter text place ≡ false
 point-none Whole text place inside blank = refl
 point-none AtHyphens text place inside blank = point-blank text place inside blank
@@ -37,7 +37,7 @@ module _ (splitter : Splitter) (text : List ℕ) where
       → end ≤ length text
       → ((k : ℕ) → word_end ≤ k → k < end → is_blank (get_or text k 0) ≡ true)
       → (end < length text → is_blank (get_or text end 0) ≡ false)
-      → IsPart splitter text at end × AreFinalBlanks text at word_end end
+      → IsPart (is_piece_cut splitter text) text at end × AreFinalBlanks text at word_end end
   word-part at word_end end word up_to within blanks other = (
     record {
       some = omega (arith, word.some, up_to);
@@ -62,8 +62,20 @@ module _ (splitter : Splitter) (text : List ℕ) where
   pub blanks-part : (at end : ℕ) → at < end → end ≤ length text
       → ((k : ℕ) → at ≤ k → k < end → is_blank (get_or text k 0) ≡ true)
       → (end < length text → is_blank (get_or text end 0) ≡ false)
-      → IsPart splitter text at end × AreFinalBlanks text at at end
+      → IsPart (is_piece_cut splitter text) text at end × AreFinalBlanks text at at end
   blanks-part at end some within blanks other = grind (arith, uncut-blank, cut-after_blank)
+
+  -- a word has a part
+  pub part-of_word : (at word_end : ℕ) → IsPartWord splitter text at word_end
+      → (end : ℕ) × IsPart (is_piece_cut splitter text) text at end
+      × AreFinalBlanks text at word_end end
+  part-of_word at word_end word =
+      let other = λ (k : ℕ). not (is_blank (get_or text k 0)) in
+      let found = end-from other (length text) word_end word.within in
+      let part = word-part at word_end found.end word found.from found.within
+      (λ k from below. not-false (is_blank (get_or text k 0)) (found.uncut k from below))
+      (λ inside. not-true (is_blank (get_or text found.end 0)) (found.ends inside)) in
+      (found.end, part.0, part.1)
 
   module _ (limit : ℕ) where
     -- all pieces of a text
@@ -71,22 +83,6 @@ module _ (splitter : Splitter) (text : List ℕ) where
         → pieces_at splitter limit text 0
         ≡ broken_words limit (split_words splitter (words_of text))
     pieces-start utf8 = ap (broken_words limit) (sym (split_words-parts splitter text utf8))
-
-    -- the first piece of a word that is broken, in a text
-    pub pieces-stop_in : (at stop word_end : ℕ) → IsUtf8 text → IsCharBoundary text at
-        → IsPartWord splitter text at word_end → at < stop → stop < word_end
-        → limit < text_width (slice_range text at word_end)
-        → broken_texts limit (slice_range text at word_end)
-        ≡ slice_range text at stop ∷ broken_texts limit (slice_range text stop word_end)
-        → pieces_at splitter limit text at
-        ≡ piece (slice_range text at stop) [] [] ∷ pieces_at splitter limit text stop
-    pieces-stop_in at stop word_end utf8 start word after inside wide texts =
-        let here =
-        stop-boundary splitter text utf8 limit at stop word_end (omega (arith, after))
-        (omega (arith, inside)) start word texts in
-        pieces-stop splitter text at word_end word limit stop after inside
-        (IsUtf8-between text stop word_end utf8 (omega (arith, inside)) here
-        (word-boundary splitter text utf8 at word_end word)) wide texts
 
 -- a word within the limit is one piece
 pub broken_word-narrow : (limit : ℕ) (w : WordText) → w.width ≤ limit

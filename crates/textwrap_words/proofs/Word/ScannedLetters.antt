@@ -1,8 +1,7 @@
 -- Letters of printable ASCII, which the reader goes over all at once.
 use Rattle.textwrap_base.proofs.Common.{◌≡◌, ℕ, zero, suc, ◌+◌, ◌<◌, ◌≤◌, List, ◌++◌, length}
 use Rattle.textwrap_base.proofs.Common.{drop, get_or, sym, ap, ◌∙◌, subst, arith, drop_more, IsUtf8}
-use Rattle.textwrap_base.proofs.Common.{IsCharBoundary, true}
-use Rattle.textwrap_words.proofs.Common.{Splitter}
+use Rattle.textwrap_base.proofs.Common.{Bool, IsCharBoundary, true}
 use Rattle.std.proofs.lemmas.Str.{encode_ascii}
 use Rattle.std.specs.Prelude.{encode_utf8}
 use Rattle.textwrap_words.specs.Pieces.{IsLetter}
@@ -10,16 +9,16 @@ use Rattle.textwrap_words.specs.declared.escapes.State.TheVariants.{Text}
 use Rattle.textwrap_words.proofs.Units.States.{shown-step}
 use Rattle.textwrap_words.proofs.Units.Widths.{columns-printable, printable-no_escape}
 use Rattle.textwrap_words.proofs.Word.Breaking.{due-false}
-use Rattle.textwrap_words.proofs.Word.CharactersAhead.{uncut-bytes}
-use Rattle.textwrap_words.proofs.Word.ScannedWords.{IsScanned, IsWithinWord, scanned-start, scanned-step}
+use Rattle.textwrap_words.proofs.Word.PieceBoundaries.{HoldsAfterOthers, HoldsBetween}
+use Rattle.textwrap_words.proofs.Word.ScannedWords.{IsScanned, GoesOn, scanned-start, scanned-step}
 
-module _ (splitter : Splitter) (limit : ℕ) (text : List ℕ) (utf8 : IsUtf8 text) (at : ℕ)
-    (start : IsCharBoundary text at) where
-  letter-step : (place width : ℕ) → IsScanned splitter limit text at place Text width
-      → IsWithinWord splitter text at place → place < length text → width < limit
+module _ (test : ℕ → Bool) (limit : ℕ) (text : List ℕ) (utf8 : IsUtf8 text) (at : ℕ)
+    (start : IsCharBoundary text at) (stands : HoldsBetween test text)
+    (others : HoldsAfterOthers test text) where
+  letter-step : (place width : ℕ) → IsScanned test limit text at place Text width
+      → GoesOn test text at place → place < length text → width < limit
       → IsLetter (get_or text place 0)
-      → IsScanned splitter limit text at (place + 1) Text (width + 1)
-      × IsWithinWord splitter text at (place + 1)
+      → IsScanned test limit text at (place + 1) Text (width + 1) × GoesOn test text at (place + 1)
   letter-step place width h on inside narrow letter =
       let c = get_or text place 0 in
       let after = drop (place + 1) text in
@@ -27,21 +26,21 @@ module _ (splitter : Splitter) (limit : ℕ) (text : List ℕ) (utf8 : IsUtf8 te
       let is : drop place text ≡ encode_utf8 c ++ after =
       drop_more text place 0 inside ∙ sym (ap (λ bs. bs ++ after) one) in
       let columns = columns-printable c letter.printable in
-      let next = scanned-step splitter limit text utf8 at start place c after Text Text width true h on
-      is letter.not_blank (shown-step c (printable-no_escape c letter.printable))
+      let next = scanned-step test limit text utf8 at start place c after Text Text width true stands
+      h on is (shown-step c (printable-no_escape c letter.printable))
       (λ _. due-false limit width c (λ _. omega (
         arith,
         columns,
         narrow,
-      ))) in grind (arith, uncut-bytes)
+      ))) in grind (arith, others)
 
   pub scanned-letters : (n : ℕ) → n ≤ limit → at + n ≤ length text
       → ((k : ℕ) → k < n → IsLetter (get_or text (at + k) 0))
-      → IsScanned splitter limit text at (at + n) Text n × IsWithinWord splitter text at (at + n)
+      → IsScanned test limit text at (at + n) Text n × GoesOn test text at (at + n)
   scanned-letters zero narrow within letters =
       let same : at ≡ at + zero = omega arith in (
-        subst (λ k. IsScanned splitter limit text at k Text 0) same
-            (scanned-start splitter limit text utf8 at start),
+        subst (λ k. IsScanned test limit text at k Text 0) same
+            (scanned-start test limit text utf8 at start),
         λ past. absurd (omega (arith, past)),
       )
   scanned-letters (suc n) narrow within letters =

@@ -1,53 +1,50 @@
--- The reader of the first piece from a place on that finds the end of its word in the same pass: what
--- it has seen of the word, whatever characters follow.
-use Rattle.textwrap_base.proofs.Common.{inl, inr, ◌≡◌, ◌≢◌, ℕ, ◌+◌, ◌-◌, ◌<◌, ◌≤◌, Bool, true}
-use Rattle.textwrap_base.proofs.Common.{false, List, [], ◌∷◌, ◌++◌, length, drop, get_or, sym}
-use Rattle.textwrap_base.proofs.Common.{ap, ◌∙◌, subst, arith, slice_range, cases_lt, append_assoc}
+-- The reader of the first piece from a place on: what it has seen of it, whatever characters follow.
+use Rattle.textwrap_base.proofs.Common.{inl, inr, ◌≡◌, ℕ, ◌+◌, ◌-◌, ◌<◌, ◌≤◌, Bool, true}
+use Rattle.textwrap_base.proofs.Common.{false, List, [], ◌∷◌, ◌++◌, length, drop, sym}
+use Rattle.textwrap_base.proofs.Common.{cases_Bool, ap, ◌∙◌, subst, arith, slice_range, cases_lt, append_assoc}
 use Rattle.textwrap_base.proofs.Common.{append-nil, IsUtf8, IsCharBoundary, IsUtf8-between}
 use Rattle.textwrap_base.proofs.Common.{IsUtf8-drop, IsUtf8-past_char, chars-append}
 use Rattle.textwrap_base.proofs.Common.{chars_past_char, chars-nil, take_at}
-use Rattle.textwrap_words.proofs.Common.{is_blank, Visible, is_due, Splitter}
+use Rattle.textwrap_words.proofs.Common.{Visible, is_due}
 use Rattle.std.specs.Prelude.{chars, encode_utf8}
 use Rattle.std.proofs.lemmas.Str.{IsCharBoundary-from_drop}
-use Rattle.textwrap_words.specs.PieceCuts.{is_piece_cut}
 use Rattle.textwrap_words.specs.declared.escapes.State.{State}
 use Rattle.textwrap_words.specs.declared.escapes.State.TheVariants.{Text}
 use Rattle.textwrap_base.proofs.Lists.Parts.{length-slice}
 use Rattle.textwrap_base.proofs.Lists.Slices.{slices_joined, slice_after, slice-nil}
 use Rattle.textwrap_words.proofs.Units.States.{IsStep}
-use Rattle.textwrap_words.proofs.Word.CharactersAhead.{ends-within, left-after, plain-bytes}
+use Rattle.textwrap_words.proofs.Word.CharactersAhead.{character-within, ends-within, left-after}
 use Rattle.textwrap_words.proofs.Word.CharactersAhead.{starts-within}
-use Rattle.textwrap_words.proofs.Word.CharactersAhead.{uncut-bytes}
 use Rattle.textwrap_words.proofs.Word.FirstUnits.{IsInFirst, IsInFirst-start, added, IsInFirst-step}
+use Rattle.textwrap_words.proofs.Word.PieceBoundaries.{HoldsBetween}
 use Rattle.textwrap_words.proofs.Word.ReadPieces.{IsReading, added-le}
 
-pub record IsScanned (splitter : Splitter) (limit : ℕ) (text : List ℕ) (at place : ℕ)
+pub record IsScanned (test : ℕ → Bool) (limit : ℕ) (text : List ℕ) (at place : ℕ)
     (state : State) (width : ℕ) : Type 0 where
   pub from : at ≤ place
   pub boundary : IsCharBoundary text place
-  pub plain : (k : ℕ) → at ≤ k → k < place → is_blank (get_or text k 0) ≡ false
-  pub uncut : (k : ℕ) → at < k → k < place → is_piece_cut splitter text k ≡ false
+  pub uncut : (k : ℕ) → at < k → k < place → test k ≡ false
   pub bound : width ≤ place - at
   pub reads : (more : List ℕ)
       → IsInFirst limit (chars (slice_range text at place) ++ more) state width more
 
--- the word goes on at the place, unless it begins there
-abbrev pub IsWithinWord : Splitter → List ℕ → ℕ → ℕ → Type 0
-IsWithinWord splitter text at place =
-    at < place → place < length text → is_piece_cut splitter text place ≡ false
+-- the text is not cut at the place, unless the piece begins there
+abbrev pub GoesOn : (ℕ → Bool) → List ℕ → ℕ → ℕ → Type 0
+GoesOn test text at place = at < place → place < length text → test place ≡ false
 
-module _ (splitter : Splitter) (limit : ℕ) (text : List ℕ) (utf8 : IsUtf8 text) (at : ℕ)
+module _ (test : ℕ → Bool) (limit : ℕ) (text : List ℕ) (utf8 : IsUtf8 text) (at : ℕ)
     (start : IsCharBoundary text at) where
-  pub scanned-start : IsScanned splitter limit text at at Text 0
+  pub scanned-start : IsScanned test limit text at at Text 0
   scanned-start = grind (arith, slice-nil, chars-nil, IsInFirst-start)
 
   -- the reader goes over a character
   pub scanned-step : (place c : ℕ) (after : List ℕ) (state next : State) (width : ℕ) (flag : Bool)
-      → IsScanned splitter limit text at place state width → IsWithinWord splitter text at place
-      → drop place text ≡ encode_utf8 c ++ after → c ≢ 32 → IsStep state c next flag
+      → HoldsBetween test text → IsScanned test limit text at place state width
+      → GoesOn test text at place → drop place text ≡ encode_utf8 c ++ after
+      → IsStep state c next flag
       → (flag ≡ true → is_due limit width (Visible c) ≡ false)
-      → IsScanned splitter limit text at (place + length (encode_utf8 c)) next (width + added flag c)
-  scanned-step place c after state next width flag h on is other step room =
+      → IsScanned test limit text at (place + length (encode_utf8 c)) next (width + added flag c)
+  scanned-step place c after state next width flag stands h on is step room =
       let len = length (encode_utf8 c) in
       let end = place + len in
       let from = h.from in
@@ -73,22 +70,19 @@ module _ (splitter : Splitter) (limit : ℕ) (text : List ℕ) (utf8 : IsUtf8 te
       record {
         from = omega (arith, from);
         boundary = cut;
-        plain = λ k after_start below. elim (cases_lt k place) [
-          | inl before ↦ h.plain k after_start before
-          | inr past ↦
-              plain-bytes text utf8 place c after h.boundary is other k past below
-              (omega (arith, below, within))
-        ];
         uncut = λ k past below. elim (cases_lt place k) [
-          | inl later ↦
-              uncut-bytes text utf8 place c after h.boundary is other splitter k later
-              (omega (arith, below)) (omega (arith, below, within))
-              (λ last. absurd (omega (arith, last, below)))
+          | inl later ↦ elim (cases_Bool (test k)) [
+            | inr none ↦ none
+            | inl cut_there ↦
+                let past_it = character-within text utf8 place c after h.boundary is k later
+                (stands k (omega (arith, later)) (omega (arith, below, within)) cut_there) in
+                absurd (omega (arith, past_it, below))
+          ]
           | inr most ↦ elim (cases_lt k place) [
             | inl before ↦ h.uncut k past before
             | inr least ↦
                 let same : place ≡ k = omega (arith, most, least) in
-                ap (is_piece_cut splitter text) (sym same)
+                ap test (sym same)
                 ∙ on (omega (arith, same, past)) (starts-within text place c after is)
           ]
         ];
@@ -102,7 +96,7 @@ module _ (splitter : Splitter) (limit : ℕ) (text : List ℕ) (utf8 : IsUtf8 te
 
   -- it reads each part that goes on from there, as one that knows where the part ends
   pub scanned-reading : (place v : ℕ) (state : State) (width : ℕ)
-      → IsScanned splitter limit text at place state width → place ≤ v → IsCharBoundary text v
+      → IsScanned test limit text at place state width → place ≤ v → IsCharBoundary text v
       → IsReading limit (slice_range text at v) (place - at) (slice_range text place v) state width
   scanned-reading place v state width h up_to cut =
       let from = h.from in

@@ -53,7 +53,7 @@ chunks-utf8 line utf8 = all_utf8-front (chunks line) (chunks-utf8_from [] line u
 abbrev pub AreBlanks : List ℕ → Type 0
 AreBlanks bytes = All (λ c. is_blank c ≡ true) bytes
 
-trimmed-blank : (bytes : List ℕ) (k d : ℕ) → trimmed_len bytes ≤ k → k < length bytes
+pub trimmed-blank : (bytes : List ℕ) (k d : ℕ) → trimmed_len bytes ≤ k → k < length bytes
     → is_blank (get_or bytes k d) ≡ true
 trimmed-blank bytes k d from within =
     let j = length bytes - 1 - k in
@@ -95,16 +95,19 @@ final_blanks-more c bytes some =
 pub final_blanks-blank : (bytes : List ℕ) → AreBlanks (final_blanks bytes)
 final_blanks-blank bytes = grind (arith, get_or-drop, trimmed-blank, length-drop)
 
-pub without_final_blanks-utf8 : (bytes : List ℕ) → IsUtf8 bytes
-    → IsUtf8 (without_final_blanks bytes)
-without_final_blanks-utf8 bytes utf8 =
+pub trimmed-boundary : (bytes : List ℕ) → IsCharBoundary bytes (trimmed_len bytes)
+trimmed-boundary bytes =
     let n = trimmed_len bytes in
-    let at : IsCharBoundary bytes n = elim (cases_lt n (length bytes)) [
+    elim (cases_lt n (length bytes)) [
       | inl less ↦
           let blank : get_or bytes n 0 ≡ 32 =
           eqb-true (get_or bytes n 0) 32 (trimmed-blank bytes n 0 (omega arith) less) in
           IsCharBoundary-before_ascii bytes n less (omega arith)
       | inr past ↦ let whole : length bytes ≡ n = omega arith in
           subst (IsCharBoundary bytes) whole (IsCharBoundary-end bytes)
-    ] in
-    IsUtf8-take bytes n utf8 at
+    ]
+
+pub without_final_blanks-utf8 : (bytes : List ℕ) → IsUtf8 bytes
+    → IsUtf8 (without_final_blanks bytes)
+without_final_blanks-utf8 bytes utf8 =
+    IsUtf8-take bytes (trimmed_len bytes) utf8 (trimmed-boundary bytes)

@@ -1,25 +1,26 @@
 use Rattle.textwrap_words.proofs.pieces.first_word.Goals as goal
 use Rattle.textwrap_base.proofs.Common.{◌≡◌, ◌+◌, false, length, drop, get_or, sym, ap, subst, ◌++◌}
 use Rattle.textwrap_base.proofs.Common.{◌∙◌, arith, char_indices_offset, true, true≢false, and_parts, lt-ltb}
-use Rattle.textwrap_base.proofs.Common.{length-drop, ◌&&◌, nat_lt}
+use Rattle.textwrap_base.proofs.Common.{length-drop, ltb-true, ◌&&◌, nat_lt, ne_eqb, ℕ, ◌-◌, ◌<◌}
 use Rattle.std.specs.Prelude.{encode_utf8}
 use Rattle.std.specs.Str.Iter.{char_indices_rest}
 use Rattle.std.proofs.lemmas.Str.{encode_ascii}
-use Rattle.textwrap_words.specs.PieceCuts.{is_point}
+use Rattle.textwrap_words.specs.PieceCuts.{is_piece_cut, is_point}
 use Rattle.textwrap_words.proofs.Common.{is_blank, is_due, Visible}
 use Rattle.textwrap_words.specs.Pieces.{as_splitter, IsLetter, IsFirstWord}
 use Rattle.textwrap_words.specs.declared.escapes.State.TheVariants.{Text}
 use Rattle.textwrap_words.proofs.Units.States.{IsStep}
 use Rattle.textwrap_words.proofs.Units.Narrow.{columns-le}
 use Rattle.textwrap_words.proofs.Word.Breaking.{due-true, due-false}
-use Rattle.textwrap_base.proofs.Characters.{some-bytes}
 use Rattle.textwrap_words.proofs.Word.CharactersAhead.{ascii-here, ends-within, left-after, starts-within}
-use Rattle.textwrap_words.proofs.Word.CharactersAhead.{uncut-bytes}
+use Rattle.textwrap_words.proofs.Word.CharactersAhead.{plain-before, uncut-after}
 use Rattle.textwrap_words.proofs.Word.FirstUnits.{added}
 use Rattle.textwrap_words.proofs.Word.ScannedCuts.{scanned-cut}
+use Rattle.textwrap_words.proofs.Word.PieceBoundaries.{cut-boundary, cut-letter}
 use Rattle.textwrap_words.proofs.Word.ScannedEnds.{scanned-blank, scanned-point, scanned-end}
+use Rattle.textwrap_words.proofs.Word.ScannedEnds.{IsAfterOther}
 use Rattle.textwrap_words.proofs.Word.ScannedLetters.{scanned-letters}
-use Rattle.textwrap_words.proofs.Word.ScannedWords.{IsScanned, IsWithinWord, scanned-step}
+use Rattle.textwrap_words.proofs.Word.ScannedWords.{IsScanned, GoesOn, scanned-step}
 use Rattle.textwrap_words.proofs.pieces.first_word.Goals.{After-letters_len-width}
 use Rattle.textwrap_words.proofs.pieces.first_word.Goals.{In-Some, Joined-is_visible}
 use Rattle.textwrap_words.proofs.pieces.first_word.Goals.{then-is_visible+else-width-gt0}
@@ -29,18 +30,35 @@ use Rattle.textwrap_words.proofs.pieces.first_word.Goals.{else-width-gt0-via-the
 use Rattle.textwrap_words.proofs.pieces.first_word.Goals.{else-ch-eq45-via-else-ch-eq45}
 use Rattle.textwrap_words.proofs.pieces.first_word.Goals.{else-ch-eq45-via-then-ch-eq45+else-is_point}
 
-letters : (c : After-letters_len-width)
-    → IsScanned (as_splitter c.args.splitter) c.args.limit c.args.text.now c.args.at
-    (c.args.at + c.letters_len-width.result) Text c.letters_len-width.result
-    × IsWithinWord (as_splitter c.args.splitter) c.args.text.now c.args.at
-    (c.args.at + c.letters_len-width.result)
+-- the reader has gone over the letters
+record IsPastLetters (c : After-letters_len-width) : Type 0 where
+  scanned : IsScanned (is_piece_cut (as_splitter c.args.splitter) c.args.text.now) c.args.limit
+      c.args.text.now c.args.at (c.args.at + c.letters_len-width.result) Text c.letters_len-width.result
+  on : GoesOn (is_piece_cut (as_splitter c.args.splitter) c.args.text.now) c.args.text.now c.args.at
+      (c.args.at + c.letters_len-width.result)
+  other : IsAfterOther c.args.text.now c.args.at (c.args.at + c.letters_len-width.result)
+
+letters : (c : After-letters_len-width) → IsPastLetters c
 letters c =
+    let splitter = as_splitter c.args.splitter in
+    let text = c.args.text.now in
+    let at = c.args.at in
+    let n = c.letters_len-width.result in
     let found = c.letters_len-width.ensures in
     let bytes = c.as_bytes-bytes.ensures.value in
-    scanned-letters (as_splitter c.args.splitter) c.args.limit c.args.text.now c.utf8.text c.args.at
-    c.requires.boundary c.letters_len-width.result found.most
-    (omega (arith, found.within, ap length bytes))
-    (λ k below. subst (λ bs. IsLetter (get_or bs (c.args.at + k) 0)) bytes (found.letters k below))
+    let are = λ (k : ℕ) (below : k < n). subst (λ bs. IsLetter (get_or bs (at + k) 0)) bytes
+    (found.letters k below) in
+    let past = scanned-letters (is_piece_cut splitter text) c.args.limit text c.utf8.text at
+    c.requires.boundary (cut-boundary splitter text c.utf8.text) (cut-letter splitter text) n
+    found.most (omega (arith, found.within, ap length bytes)) are in
+    record {
+      scanned = past.0;
+      on = past.1;
+      other = λ some.
+          let last : at + (n - 1) ≡ at + n - 1 = omega (arith, some) in
+          ne_eqb (get_or text (at + n - 1) 0) 32
+          (subst (λ k. IsLetter (get_or text k 0)) last (are (n - 1) (omega (arith, some)))).not_blank;
+    }
 
 pub returns-then-bytes-start-eq32 : goal.returns-then-bytes-start-eq32
 returns-then-bytes-start-eq32 c =
@@ -48,25 +66,28 @@ returns-then-bytes-start-eq32 c =
     let found = letters (goal.at.returns-then-bytes-start-eq32 c).After-letters_len-width in
     let same = ap (λ bs. get_or bs start 0) c.as_bytes-bytes.ensures.value in
     scanned-blank (as_splitter c.args.splitter) c.args.limit c.args.text.now c.utf8.text c.args.at
-    c.requires.boundary start Text c.letters_len-width.result found.0
+    c.requires.boundary start Text c.letters_len-width.result found.scanned found.other
     (omega (arith, c.if-start-bytes.true, ap length c.as_bytes-bytes.ensures.value))
     (ap is_blank (sym same ∙ c.if-bytes-start-eq32.true))
 
 pub range_from-requires : goal.range_from-requires
-range_from-requires c = λ _. (letters (goal.at.range_from-requires c).After-letters_len-width).0.boundary
+range_from-requires c =
+    λ _. (letters (goal.at.range_from-requires c).After-letters_len-width).scanned.boundary
 
 pub loop-after-init : goal.loop-after-init
 loop-after-init c =
     let found = letters (goal.at.loop-after-init c).After-letters_len-width in
     let start = c.args.at + c.letters_len-width.result in
+    let test = is_piece_cut (as_splitter c.args.splitter) c.args.text.now in
     let items = c.char_indices-after-items.ensures in
     let place : start ≡ start + char_indices_offset c.into_iter-after-iterator.result =
     omega (arith, ap char_indices_offset c.into_iter-after-iterator.ensures.into_iter_gives, items.offset) in (
-      subst (λ k. IsScanned (as_splitter c.args.splitter) c.args.limit c.args.text.now c.args.at k
-          Text c.letters_len-width.result) place found.0,
-      subst (IsWithinWord (as_splitter c.args.splitter) c.args.text.now c.args.at) place found.1,
+      subst (λ k. IsScanned test c.args.limit c.args.text.now c.args.at k Text
+          c.letters_len-width.result) place found.scanned,
+      subst (GoesOn test c.args.text.now c.args.at) place found.on,
       ap (λ k. drop k c.args.text.now) (sym place) ∙ sym c.range_from.ensures.value
           ∙ sym items.rest ∙ ap char_indices_rest (sym c.into_iter-after-iterator.ensures.into_iter_gives),
+      subst (IsAfterOther c.args.text.now c.args.at) place found.other,
     )
 
 -- the character that the iterator gives stands at the place
@@ -88,7 +109,7 @@ returns-then-ch-eq32 c =
     c.loop-after.width) (sym s.0)
     (scanned-blank (as_splitter c.args.splitter) c.args.limit text c.utf8.text c.args.at
     c.requires.boundary place c.loop-after.state c.loop-after.width c.loop-after.invariant.0
-    (starts-within text place c.in-Some.ch _ is) (ap is_blank byte))
+    c.loop-after.invariant.3 (starts-within text place c.in-Some.ch _ is) (ap is_blank byte))
 
 pub overflow_add-width : goal.overflow_add-width
 overflow_add-width c =
@@ -126,11 +147,14 @@ returns-then-width-columns c =
 past : (c : Joined-is_visible)
     → drop (c.args.at + c.letters_len-width.result + char_indices_offset c.loop-after.after-iterator)
     c.args.text.now ≡ encode_utf8 c.in-Some.ch ++ char_indices_rest c.next.new.self
-    → IsScanned (as_splitter c.args.splitter) c.args.limit c.args.text.now c.args.at
+    → IsScanned (is_piece_cut (as_splitter c.args.splitter) c.args.text.now) c.args.limit
+    c.args.text.now c.args.at
     (c.args.at + c.letters_len-width.result + char_indices_offset c.loop-after.after-iterator
     + length (encode_utf8 c.in-Some.ch)) c.step-next.result.0 c.if-is_visible.width
 past c is =
     let limit = c.args.limit in
+    let splitter = as_splitter c.args.splitter in
+    let text = c.args.text.now in
     let width = c.loop-after.width in
     let flag = c.step-next.result.1 in
     let ch = c.in-Some.ch in
@@ -151,11 +175,12 @@ past c is =
             | else-width-gt0-via-else-width-gt0 v ↦ absurd (omega (arith, v.if-width-gt0.false, some))
           ])
     ] in
-    subst (IsScanned (as_splitter c.args.splitter) limit c.args.text.now c.args.at
+    subst (IsScanned (is_piece_cut splitter text) limit text c.args.at
     (place + length (encode_utf8 ch)) c.step-next.result.0) (sym more)
-    (scanned-step (as_splitter c.args.splitter) limit c.args.text.now c.utf8.text c.args.at
-    c.requires.boundary place ch _ c.loop-after.state c.step-next.result.0 width flag
-    c.loop-after.invariant.0 c.loop-after.invariant.1 is c.if-ch-eq32.false c.step-next.ensures room)
+    (scanned-step (is_piece_cut splitter text) limit text c.utf8.text c.args.at c.requires.boundary
+    place ch _ c.loop-after.state c.step-next.result.0 width flag
+    (cut-boundary splitter text c.utf8.text) c.loop-after.invariant.0 c.loop-after.invariant.1 is
+    c.step-next.ensures room)
 
 pub returns-then-is_point : goal.returns-then-is_point
 returns-then-is_point c =
@@ -169,12 +194,14 @@ returns-then-is_point c =
     ap (λ n. length (encode_utf8 n)) c.if-ch-eq45.true ∙ ap length (encode_ascii 45 (omega arith)) in
     let end : place + length (encode_utf8 c.in-Some.ch) ≡ start + c.in-Some.after + 1 =
     omega (arith, one, s.0) in
-    let read = subst (λ k. IsScanned splitter c.args.limit text c.args.at k c.step-next.result.0
-    c.if-is_visible.width) end (past at.Joined-is_visible (here at.In-Some)) in
-    scanned-point splitter c.args.limit text c.utf8.text c.args.at c.requires.boundary
-    (start + c.in-Some.after + 1) c.step-next.result.0 c.if-is_visible.width read
-    (omega (arith, c.loop-after.invariant.0.from, s.0))
-    (and_parts _ _ (sym c.is_point.ensures ∙ c.if-is_point.true)).1
+    let read = subst (λ k. IsScanned (is_piece_cut splitter text) c.args.limit text c.args.at k
+    c.step-next.result.0 c.if-is_visible.width) end (past at.Joined-is_visible (here at.In-Some)) in
+    let point = and_parts _ _ (sym c.is_point.ensures ∙ c.if-is_point.true) in
+    let q = start + c.in-Some.after + 1 in
+    let inside : q < length text = ltb-true q (length text) point.0 in
+    scanned-point splitter c.args.limit text c.utf8.text c.args.at c.requires.boundary q
+    c.step-next.result.0 c.if-is_visible.width read
+    (omega (arith, c.loop-after.invariant.0.from, s.0)) inside point.1
 
 pub loop-after-preserved : goal.loop-after-preserved
 loop-after-preserved c =
@@ -190,13 +217,12 @@ loop-after-preserved c =
     let same : place + length (encode_utf8 ch) ≡ end = omega (arith, s.2) in
     let rest : drop end text ≡ char_indices_rest c.next.new.self =
     ap (λ k. drop k text) (sym same) ∙ left-after text place ch _ is in (
-      subst (λ k. IsScanned splitter c.args.limit text c.args.at k c.step-next.result.0
-          c.if-is_visible.width) same (past at.Joined-is_visible is),
+      subst (λ k. IsScanned (is_piece_cut splitter text) c.args.limit text c.args.at k
+          c.step-next.result.0 c.if-is_visible.width) same (past at.Joined-is_visible is),
       λ _ more.
-          uncut-bytes text c.utf8.text place ch _ c.loop-after.invariant.0.boundary is
-          c.if-ch-eq32.false splitter end
-          (omega (arith, same, some-bytes ch)) (omega (arith, same)) more
-          (λ _ hyphen. elim c.else-ch-eq45.branch [
+          uncut-after text c.utf8.text place ch _ c.loop-after.invariant.0.boundary is
+          c.if-ch-eq32.false splitter end (sym same) more
+          (λ hyphen. elim c.else-ch-eq45.branch [
             | else-ch-eq45-via-else-ch-eq45 w ↦ absurd (w.if-ch-eq45.false hyphen)
             | else-ch-eq45-via-then-ch-eq45+else-is_point w ↦
                 let one : length (encode_utf8 ch) ≡ 1 =
@@ -211,6 +237,9 @@ loop-after-preserved c =
                 ∙ sym w.is_point.ensures ∙ w.if-is_point.false
           ]),
       rest,
+      λ _.
+          plain-before text c.utf8.text place ch _ c.loop-after.invariant.0.boundary is
+          c.if-ch-eq32.false end (sym same),
     )
 
 pub returns : goal.returns
@@ -226,5 +255,5 @@ returns c =
     omega (arith, none, ended, length-drop place text, h.boundary.0) in
     subst (λ k. IsFirstWord splitter c.args.limit text c.args.at k c.loop-after.width) end
     (scanned-end splitter c.args.limit text c.utf8.text c.args.at c.requires.boundary place
-    c.loop-after.state c.loop-after.width h (omega (arith, end, c.requires.inside))
-    (omega (arith, end)))
+    c.loop-after.state c.loop-after.width h c.loop-after.invariant.3
+    (omega (arith, end, c.requires.inside)) (omega (arith, end)))

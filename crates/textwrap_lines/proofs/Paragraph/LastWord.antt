@@ -18,7 +18,8 @@ use Rattle.textwrap_words.proofs.Word.Texts.{trimmed-past}
 use Rattle.textwrap_words.proofs.Word.Trimmed.{trimmed-front}
 use Rattle.textwrap_words.proofs.Word.Words.{AreChunks-chunks}
 use Rattle.textwrap_lines.proofs.Paragraph.EndsAs.{last_space-append}
-use Rattle.textwrap_lines.proofs.PrintableTexts.Parts.{first-part, parts-front, slice-rest}
+use Rattle.textwrap_words.proofs.Word.PieceFronts.{parts-front}
+use Rattle.textwrap_lines.proofs.PrintableTexts.Parts.{first-part, slice-rest}
 
 -- ---- a text that is cut only before bytes that are no blanks
 

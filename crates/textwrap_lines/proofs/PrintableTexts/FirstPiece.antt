@@ -16,7 +16,9 @@ use Rattle.textwrap_words.proofs.Word.Texts.{trimmed-past}
 use Rattle.textwrap_words.proofs.Units.Widths.{printable-width}
 use Rattle.textwrap_lines.proofs.PrintableTexts.BrokenFront.{BeginsWide, begins_wide-step}
 use Rattle.textwrap_lines.proofs.PrintableTexts.BrokenFront.{broken-front}
-use Rattle.textwrap_lines.proofs.PrintableTexts.Parts.{front-slice, parts-split, parts-front, first-part, IsPart}
+use Rattle.textwrap_words.proofs.Word.PieceFronts.{parts-front}
+use Rattle.textwrap_words.specs.PieceCuts.{IsPart}
+use Rattle.textwrap_lines.proofs.PrintableTexts.Parts.{front-slice, parts-split, first-part}
 use Rattle.textwrap_lines.proofs.PrintableTexts.Pieces.{printable-slice}
 
 -- a slice goes past a byte that is no blank

@@ -10,7 +10,8 @@ use Rattle.textwrap_lines.proofs.Common.{pieces_from}
 use Rattle.textwrap_base.proofs.Lists.Parts.{length-slice}
 use Rattle.textwrap_words.proofs.Word.Texts.{trimmed-other}
 use Rattle.textwrap_lines.proofs.PrintableTexts.FirstPiece.{pieces-broken, word-width}
-use Rattle.textwrap_lines.proofs.PrintableTexts.Parts.{first-part, parts-front}
+use Rattle.textwrap_words.proofs.Word.PieceFronts.{parts-front}
+use Rattle.textwrap_lines.proofs.PrintableTexts.Parts.{first-part}
 use Rattle.textwrap_lines.proofs.PrintableTexts.Pieces.{printable-slice}
 
 module _ (test : ℕ → Bool) (limit : ℕ) (text : List ℕ) (printable : IsPrintable text) where

@@ -4,10 +4,10 @@ use Rattle.textwrap_base.proofs.Common.{false, List, [], ◌∷◌, ◌++◌, le
 use Rattle.textwrap_base.proofs.Common.{◌∙◌, arith, take-append-drop, append-nil, cases_lt, drop_all, take_all}
 use Rattle.textwrap_base.proofs.Common.{drop-drop, length-drop, onto_first, slice_range}
 use Rattle.std.proofs.lemmas.List.{drop-take}
-use Rattle.textwrap_words.specs.PieceCuts.{parts_by}
+use Rattle.textwrap_words.specs.PieceCuts.{IsPart, parts_by}
 use Rattle.textwrap_base.proofs.Lists.Parts.{flat, flat-onto_first, onto_first-append}
 use Rattle.textwrap_words.proofs.Word.FirstPlaces.{HasEnd, end-from}
-use Rattle.textwrap_words.proofs.Word.PartsBy.{next_by, parts_by-some, parts_by-front}
+use Rattle.textwrap_words.proofs.Word.PartsBy.{next_by, parts_by-some}
 use Rattle.textwrap_lines.specs.Printable.{NoCutBetween}
 
 -- ---- slices, and what follows them
@@ -94,32 +94,10 @@ module _ (test : ℕ → Bool) where
 
     -- ---- the first part
 
-    -- a part goes from the one place to the other
-    pub record IsPart (at end : ℕ) : Type 0 where
-      pub some : at < end
-      pub within : end ≤ length text
-      pub uncut : (k : ℕ) → at < k → k < end → test k ≡ false
-      pub ends : end < length text → test end ≡ true
-
-    pub parts-front : (at end : ℕ) → IsPart at end
-        → parts_by test at (drop at text)
-        ≡ slice_range text at end ∷ parts_by test end (drop end text)
-    parts-front at end part =
-        let n = end - at in
-        let some = part.some in
-        let within = part.within in
-        let place : at + n ≡ end = omega (arith, some) in
-        let left = length-drop at text in
-        parts_by-front test (drop at text) at n (omega (arith, some)) (omega (arith, left, within))
-        (λ k first below. part.uncut (at + k) (omega (arith, first)) (omega (arith, below)))
-        (λ inside. ap test place ∙ part.ends (omega (arith, inside, left, some)))
-        ∙ ap (λ l. slice_range text at end ∷ parts_by test (at + n) l) (drop-drop n at text)
-        ∙ ap (λ k. slice_range text at end ∷ parts_by test k (drop k text)) place
-
-    -- it goes past the places where the text is not cut
+    -- a part goes past the places where the text is not cut
     pub record HasPart (at place : ℕ) : Type 0 where
       pub end : ℕ
-      pub part : IsPart at end
+      pub part : IsPart test text at end
       pub past : place < end
 
     pub first-part : (at place : ℕ) → at ≤ place → place < length text

@@ -12,7 +12,8 @@ use Rattle.textwrap_base.proofs.Lists.Parts.{length-slice}
 use Rattle.textwrap_words.proofs.Word.ChunkParts.{split-word}
 use Rattle.textwrap_words.proofs.Word.PartsBy.{next_by}
 use Rattle.textwrap_words.proofs.Word.PointsApart.{EndsPlain}
-use Rattle.textwrap_lines.proofs.PrintableTexts.Parts.{first-part, parts-front, parts-split, slice-rest}
+use Rattle.textwrap_words.proofs.Word.PieceFronts.{parts-front}
+use Rattle.textwrap_lines.proofs.PrintableTexts.Parts.{first-part, parts-split, slice-rest}
 use Rattle.textwrap_lines.proofs.PrintableTexts.Pieces.{printable-slice}
 use Rattle.textwrap_lines.proofs.PrintableTexts.Points.{ends-printable}
 use Rattle.textwrap_lines.proofs.PrintableTexts.Texts.{printable-utf8}

@@ -2,6 +2,7 @@ pub mod Ahead
 pub mod BeforeLemmas
 pub mod BehindBytes
 pub mod BreakLemmas
+pub mod BreakSides
 pub mod BreakOrder
 pub mod CharacterLemmas
 pub mod ClosedBlanks

@@ -1,15 +1,15 @@
 -- What is made by options is made by what they name.
 use Rattle.textwrap_base.proofs.Common.{◌≡◌, ℕ, Bool, List, Some, subst}
 use Rattle.textwrap_words.proofs.Common.{Algorithm, algorithm_view, Splitter, splitter_view}
-use Rattle.textwrap_words.proofs.Common.{MaySeparate, MaySplit, WordText}
+use Rattle.textwrap_words.proofs.Common.{AreSplit, MaySeparate, MaySplit, WordText}
 use Rattle.textwrap_lines.proofs.Common.{ArePrintedWithin, DividesAt, DividesBy, HasPartsAt, IsFilled}
 use Rattle.textwrap_lines.proofs.Common.{IsWrapped, Line, LinesKeepToWidth, Settings, settings_view}
-use Rattle.textwrap_lines.proofs.Common.{ArePieces, pieces_by}
-use Rattle.textwrap_lines.proofs.Paragraph.BuiltIn.{points-as}
+use Rattle.textwrap_lines.proofs.Common.{ArePieces, pieces_by, widths_of}
+use Rattle.textwrap_lines.proofs.Paragraph.BuiltIn.{division-as, points-as}
 use Rattle.textwrap_lines.proofs.Paragraph.Pieces.{ArePieces-by}
 use Rattle.textwrap_lines.proofs.Text.Named.{divides-at, divides-under_at, even-map, filled-map}
 use Rattle.textwrap_lines.proofs.Text.Named.{placed-map, printed-map, text-map, wrapped-map}
-use Rattle.textwrap_lines.specs.Paragraph.{DividesUnder}
+use Rattle.textwrap_lines.specs.Paragraph.{DividesUnder, DividesWith}
 use Rattle.textwrap_lines.specs.Places.{ArePlacedLines}
 use Rattle.textwrap_lines.specs.Text.{AreTextLines}
 use Rattle.textwrap_lines.specs.declared.options.Options.{Options}
@@ -72,6 +72,39 @@ module _ {E C : Type 0} {e : _} {c : _} (options : Options E C e c)
       → ArePlacedLines settings Named text lines places
   placed-at text lines places are = placed-map settings (DividesBy options) Named each text lines
       places (subst (λ s. ArePlacedLines s (DividesBy options) text lines places) parts.settings_are are)
+
+  -- the same by words that are told
+  told : (is_later : Bool) (paragraph : List ℕ) (division : List (List WordText))
+      → DividesWith words options is_later paragraph division → Named is_later paragraph division
+  told is_later paragraph division (pieces, (ws, split, are, split_are, is), by) =
+      subst (λ s. DividesAt words splitter algorithm s is_later paragraph division)
+      parts.settings_are (
+        pieces,
+        (
+          ws,
+          split,
+          are,
+          subst (λ Points. AreSplit Points ws split)
+              (points-as options.word_splitter splitter parts.splitter_is) split_are,
+          is,
+        ),
+        subst (λ Lines. Lines (widths_of (settings_view options) is_later) pieces division)
+            (division-as options.wrap_algorithm algorithm parts.algorithm_is) by,
+      )
+
+  pub filled-told : (text filled : List ℕ)
+      → IsFilled (settings_view options) (DividesWith words options) text filled
+      → IsFilled settings Named text filled
+  filled-told text filled is = filled-map settings (DividesWith words options) Named told text filled
+      (subst (λ s. IsFilled s (DividesWith words options) text filled) parts.settings_are is)
+
+  pub placed-told : (text : List ℕ) (lines : List Line) (places : List Place)
+      → ArePlacedLines (settings_view options) (DividesWith words options) text lines places
+      → ArePlacedLines settings Named text lines places
+  placed-told text lines places are =
+      placed-map settings (DividesWith words options) Named told text lines places
+      (subst (λ s. ArePlacedLines s (DividesWith words options) text lines places)
+      parts.settings_are are)
 
   pub justified-at : (text filled : List ℕ)
       → IsJustifiedText (settings_view options) (DividesBy options) text filled

@@ -1,3 +1,4 @@
+pub mod CutSides
 pub mod Laws
 pub mod Options
 pub mod Tables

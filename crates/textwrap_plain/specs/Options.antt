@@ -1,13 +1,14 @@
 -- What options without functions say, and the lines that they name.
-use Rattle.std.specs.Prelude.{◌≡◌, ℕ, Bool, List, map}
+use Rattle.std.specs.Prelude.{◌≡◌, ℕ, ◌-◌, Bool, false, List, map, slice_index}
 use Rattle.textwrap.specs.Cuts.{parts_between}
 use Rattle.textwrap.specs.Options.{default_algorithm, Settings, settings_at}
 use Rattle.textwrap.specs.WordSplitters.{Splitter, Whole, AtHyphens}
-use Rattle.textwrap.specs.Words.{WordText, word_of, words_of}
+use Rattle.textwrap.specs.Words.{WordText, is_cut, word_of, words_of}
 use Rattle.textwrap.specs.WrapAlgorithms.{Algorithm, Greedy, LeastCost}
 use Rattle.textwrap_lines.specs.Paragraph.{DividesAt}
 use Rattle.textwrap_unicode.specs.Cuts.{cuts_by}
-use Rattle.textwrap_unicode.specs.declared.numbers.Numbers.TheVariants.{ByPairs}
+use Rattle.textwrap_unicode.specs.Pairs.{at_breaks}
+use Rattle.textwrap_unicode.specs.declared.numbers.Numbers.TheVariants.{ByExpression, ByPairs}
 use Rattle.textwrap_plain.specs.declared.options.PlainAlgorithm.{PlainAlgorithm}
 use Rattle.textwrap_plain.specs.declared.options.PlainAlgorithm.TheVariants.{FirstFit, OptimalFit}
 use Rattle.textwrap_plain.specs.declared.options.PlainOptions.{PlainOptions}
@@ -20,6 +21,12 @@ use Rattle.textwrap_plain.specs.declared.options.PlainSplitter.TheVariants.{NoHy
 abbrev pub words_by : PlainSeparator → List ℕ → List WordText
 words_by AtBlanks line = words_of line
 words_by (AtBreaks numbers) line = map word_of (parts_between (cuts_by numbers line) line)
+
+-- whether a printable text is cut at a place; by the expression of numbers that is not told
+abbrev pub is_cut_by : PlainSeparator → List ℕ → ℕ → Bool
+is_cut_by AtBlanks text place = is_cut (slice_index text (place - 1)) (slice_index text place)
+is_cut_by (AtBreaks ByPairs) text place = at_breaks text place
+is_cut_by (AtBreaks ByExpression) text place = false
 
 abbrev pub splitter_as : PlainSplitter → Splitter
 splitter_as NoHyphenation = Whole

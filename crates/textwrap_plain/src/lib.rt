@@ -8,6 +8,7 @@ pub mod display;
 pub mod laws;
 mod options;
 pub mod placed;
+mod printable;
 pub mod texts;
 
 pub use display::{PlainColumn, fill_justified, table};

@@ -10,12 +10,11 @@ use std::alloc::{AllocError, Global};
 use textwrap::word_separators::LineCuts;
 use textwrap::words::Word;
 use textwrap::{WordSeparator, WrapError};
-use textwrap_lines::inner::find_pieces;
+use textwrap_lines::inner::{find_pieces, place_lines_with};
 use textwrap_lines::placed::PlacedLines;
 use textwrap_unicode::{Numbers, unicode_cuts, unicode_cuts_by_expression};
 
-/// The lines of [`wrap`](crate::wrap), by where they stand, as `place_lines` of `textwrap_lines` has
-/// them.
+/// The lines of [`wrap`](crate::wrap), by where they stand.
 ///
 /// # Errors
 /// [`WrapError::Memory`] where memory runs out.
@@ -39,8 +38,9 @@ pub fn place_lines(
             WordSeparator::Custom(LineCuts::new(alloc, unicode_cuts_by_expression))
         }
     };
+    let separator = options.word_separator;
     let options = options.at_blanks().word_separator(word_separator);
-    textwrap_lines::placed::place_lines(alloc, text, &options)
+    place_lines_with(alloc, text, &options, separator)
 }
 
 /// The pieces that a paragraph is divided into lines of: its words, split and broken.

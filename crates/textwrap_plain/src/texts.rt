@@ -18,6 +18,7 @@ use std::alloc::Global;
 use std::borrow::CowStr;
 use textwrap::word_separators::LineCuts;
 use textwrap::{LineEnding, WordSeparator, WrapError};
+use textwrap_lines::inner::fill_with;
 use textwrap_lines::parts::split_paragraph;
 use textwrap_unicode::{Numbers, unicode_cuts, unicode_cuts_by_expression};
 use textwrap_words::blanks::split_final_blanks;
@@ -87,11 +88,9 @@ pub fn fill(alloc: Global, text: &str, options: &PlainOptions<'_>) -> Result<Str
             WordSeparator::Custom(LineCuts::new(alloc, unicode_cuts_by_expression))
         }
     };
-    textwrap::fill(
-        alloc,
-        text,
-        options.at_blanks().word_separator(word_separator),
-    )
+    let separator = options.word_separator;
+    let options = options.at_blanks().word_separator(word_separator);
+    fill_with(alloc, text, &options, separator)
 }
 
 /// Writes the text of [`fill`] into lent room, as much of it as there is room for, and returns how many

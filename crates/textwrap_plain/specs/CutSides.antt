@@ -1,0 +1,29 @@
+-- What stands on either side of a cut of a printable text: the laws of such cuts.
+use Rattle.textwrap_base.proofs.Common.{◌≡◌, ℕ, ◌-◌, false≢true, List, ap, get_or}
+use Rattle.std.proofs.lemmas.Bool.{and_parts, eqb-true, not-true}
+use Rattle.std.specs.Char.{is_ascii_alphanumeric}
+use Rattle.textwrap_words.proofs.Common.{IsPrintable, is_blank}
+use Rattle.textwrap_lines.specs.Printable.{AfterOthers, BeforeOthers}
+use Rattle.textwrap_unicode.proofs.BreakSides.{cut-after_other, cut-before_other}
+use Rattle.textwrap_unicode.specs.declared.numbers.Numbers.TheVariants.{ByExpression, ByPairs}
+use Rattle.textwrap_plain.specs.Options.{is_cut_by}
+use Rattle.textwrap_plain.specs.declared.options.PlainSeparator.{PlainSeparator}
+use Rattle.textwrap_plain.specs.declared.options.PlainSeparator.TheVariants.{AtBlanks, AtBreaks}
+
+pub cuts-before_others : (separator : PlainSeparator) (text : List ℕ) → IsPrintable text
+    → BeforeOthers (is_cut_by separator text) text
+cuts-before_others AtBlanks text printable place after inside cut = not-true _ (and_parts _ _ cut).1
+cuts-before_others (AtBreaks ByPairs) text printable place after inside cut =
+    cut-before_other text printable place after inside cut
+cuts-before_others (AtBreaks ByExpression) text printable place after inside cut =
+    absurd (false≢true cut)
+
+pub cuts-after_others : (separator : PlainSeparator) (text : List ℕ) → IsPrintable text
+    → AfterOthers (is_cut_by separator text) text
+cuts-after_others AtBlanks text printable place after inside cut =
+    ap is_ascii_alphanumeric (eqb-true (get_or text (place - 1) 0) 32
+    (and_parts (is_blank (get_or text (place - 1) 0)) _ cut).0)
+cuts-after_others (AtBreaks ByPairs) text printable place after inside cut =
+    cut-after_other text printable place after inside cut
+cuts-after_others (AtBreaks ByExpression) text printable place after inside cut =
+    absurd (false≢true cut)

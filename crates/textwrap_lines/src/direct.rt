@@ -79,9 +79,7 @@ pub(crate) fn push_directly<'t, A: Allocator + Copy, S: LineSink<'t, A>>(
             if !suits_search(paragraph, layout, is_later, &penalties) {
                 return Ok(false);
             }
-            push_cheapest_lines(
-                alloc, paragraph, layout, is_later, cuts, &penalties, lines,
-            )?;
+            push_cheapest_lines(alloc, paragraph, layout, is_later, cuts, &penalties, lines)?;
         }
     }
     Ok(true)

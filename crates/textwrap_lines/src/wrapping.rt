@@ -246,9 +246,7 @@ fn push_pieces<'t, A: Allocator + Copy, S: LineSink<'t, A>, O: AnyOptions<A>>(
     let layout = options.layout();
     if let Some(cuts) = jump_cuts(options, parts.algorithm, paragraph, &layout, is_later) {
         let splitter = parts.splitter;
-        return Ok(push_by_jumps(
-            alloc, paragraph, &layout, is_later, &cuts, splitter, lines,
-        )?);
+        return Ok(push_by_jumps(alloc, paragraph, &layout, is_later, &cuts, splitter, lines)?);
     }
     let found = options.word_cuts(paragraph)?;
     let cuts = Cuts {

@@ -1,5 +1,5 @@
 -- What stands on either side of a cut of a printable text: the laws of such cuts.
-use Rattle.textwrap_base.proofs.Common.{◌≡◌, ℕ, ◌-◌, false≢true, List, ap, get_or}
+use Rattle.textwrap_base.proofs.Common.{ℕ, ◌-◌, false≢true, List, ap, get_or}
 use Rattle.std.proofs.lemmas.Bool.{and_parts, eqb-true, not-true}
 use Rattle.std.specs.Char.{is_ascii_alphanumeric}
 use Rattle.textwrap_words.proofs.Common.{IsPrintable, is_blank}

@@ -1,6 +1,5 @@
 -- The pieces of a paragraph that is cut at cuts or at blanks.
-use Rattle.textwrap_base.proofs.Common.{ℕ, List, None, Option, Some, refl, IsUtf8}
-use Rattle.textwrap_words.proofs.Common.{words_of}
+use Rattle.textwrap_base.proofs.Common.{ℕ, List, None, Option, Some, IsUtf8}
 use Rattle.textwrap_words.proofs.Word.GivenCuts.{parts-texts}
 use Rattle.textwrap_words.proofs.Word.Parts.{inner-cuts}
 use Rattle.textwrap_words.proofs.Word.Pieces.{AreTexts}

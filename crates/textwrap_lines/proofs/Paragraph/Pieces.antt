@@ -108,8 +108,13 @@ module _ (settings : Settings) (splitter : Splitter) (paragraph : List ℕ) (wor
       ≤ length paragraph
   pieces_of_words-wide =
       let measured = pieces_of_words-measured in
-      search (rules, pieces_of_words-no_penalty, pieces_of_words-tile, total_width-narrow,
-      IsNarrowWord-measured)
+      search (
+        rules,
+        pieces_of_words-no_penalty,
+        pieces_of_words-tile,
+        total_width-narrow,
+        IsNarrowWord-measured,
+      )
 
 -- ---- those of words between blanks
 

@@ -8,7 +8,7 @@ use Rattle.textwrap_lines.proofs.Common.{front_of, Settings, pieces_of_words, te
 use Rattle.textwrap_lines.proofs.Common.{broken_pieces_of, front_pieces, later_width}
 use Rattle.textwrap_words.proofs.Word.Bounds.{IsNarrowWord, IsNarrowWord-measured}
 use Rattle.textwrap_lines.specs.Layout.{break_limit, limit_at}
-use Rattle.textwrap_lines.proofs.Paragraph.Pieces.{pieces_of_words-tile, split_words-measured}
+use Rattle.textwrap_lines.proofs.Paragraph.Pieces.{split_words-measured}
 use Rattle.textwrap_lines.proofs.Paragraph.Pieces.{split_words-no_penalty, split_words-tile}
 use Rattle.textwrap_words.proofs.Word.Pieces.{AreTexts}
 

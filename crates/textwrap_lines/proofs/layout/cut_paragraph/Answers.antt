@@ -6,7 +6,7 @@ use Rattle.textwrap_words.proofs.Common.{split_words, word_of}
 use Rattle.textwrap_words.specs.Pieces.{stand_from}
 use Rattle.textwrap_lines.specs.Direct.{CanBeCut, places_of, words_cut}
 use Rattle.textwrap_lines.specs.Layout.{break_limit}
-use Rattle.textwrap_lines.proofs.Common.{front_of, layout_view, pieces_of_words}
+use Rattle.textwrap_lines.proofs.Common.{front_of, layout_view}
 use Rattle.textwrap_lines.proofs.Paragraph.CutPieces.{words_cut-texts}
 use Rattle.textwrap_lines.proofs.PieceLines.Unbroken.{limited-pieces}
 

@@ -35,7 +35,7 @@ loop-piece-init g c =
           (sym c.at-line.ensures)
           (subst (AllCome paragraph 0) (sym left_is)
           (pieces-come settings (as_splitter cuts.splitter) paragraph (words_cut (places_of cuts) paragraph)
-            c.utf8.paragraph (words_cut-texts (places_of cuts) paragraph c.utf8.paragraph c.requires)));
+          c.utf8.paragraph (words_cut-texts (places_of cuts) paragraph c.utf8.paragraph c.requires)));
       name = refl;
     }
 

@@ -6,9 +6,12 @@ use Rattle.textwrap_lines.proofs.Common.{Took, cut_lines, parts_from, pieces_of_
 use Rattle.textwrap_lines.specs.Direct.{CanBeCut, as_algorithm, words_cut}
 
 pub push_directly-requires : goal.push_directly-requires
-push_directly-requires g c = λ k. ((refl, tt), subst (λ (places : Option (List ℕ)).
-    CanBeCut places c.args.paragraph.now) (sym c.as_deref.ensures.value)
-    c.in_ok-found.ensures.cuts)
+push_directly-requires g c = λ k. (
+  (refl, tt),
+  subst (λ (places : Option (List ℕ)).
+      CanBeCut places c.args.paragraph.now) (sym c.as_deref.ensures.value)
+      c.in_ok-found.ensures.cuts,
+)
 
 pub returns-then-pushed-clause-taken : goal.returns-then-pushed-clause-taken
 returns-then-pushed-clause-taken g c =

@@ -1,6 +1,7 @@
 //! The cases are texts with the mark `÷` wherever a line may or must end, as in the official file.
 mod differing;
 mod official;
+mod pairs;
 mod wrapping;
 
 use super::plain::{assert_count, assert_holds};

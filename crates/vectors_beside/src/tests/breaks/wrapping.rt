@@ -46,6 +46,13 @@ const FILLED: &[(&str, usize, &str)] = &[
     ),
     ("foo “bar” baz", 9, "foo “bar”\nbaz"),
     ("$10.00 or 25% off", 9, "$10.00 or\n25% off"),
+    // What closes stays with what it closes, and what opens with what it opens, whatever blanks are
+    // between: so a word may have blanks inside, and where it is broken behind them they stay.
+    ("foo !bar", 4, "foo \n!bar"),
+    ("(   x", 4, "(   \nx"),
+    ("(      xx", 4, "(   \n   x\nx"),
+    ("say \"a\" (b) now", 5, "say\n\"a\" (\nb)\nnow"),
+    ("either/or", 7, "either/\nor"),
     // A space without a width is a place to break, a space that holds is none.
     ("foo\u{200b}bar", 4, "foo\u{200b}\nbar"),
     ("a b\u{a0}c", 3, "a\nb\u{a0}c"),

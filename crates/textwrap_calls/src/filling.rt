@@ -1,9 +1,10 @@
 //! Filling a text.
-ghost use Rattle.std.specs.Prelude.{◌≡◌, ◌≢◌, ◌≤◌, ◌↔◌, ◌⊎◌, [], IsUtf8, IfOk, IfErr, IfSome, IsTrue, length, string_bytes};
+ghost use Rattle.std.specs.Prelude.{◌≡◌, ◌≢◌, ◌≤◌, ◌↔◌, ◌⊎◌, IsUtf8, IfOk, IfErr, IfSome, IsTrue, length, string_bytes};
 ghost use Rattle.textwrap.specs.Filling.{IsFilled};
 ghost use Rattle.textwrap.specs.InPlace.{IsFilledInPlace};
 ghost use Rattle.textwrap_calls.specs.Options.{settings_of, AreKnown, Divides};
 ghost use Rattle.textwrap_calls.specs.Options.{AreTexts};
+ghost use Rattle.textwrap_calls.specs.Printable.{AreWithoutIndents};
 ghost use Rattle.textwrap_calls.specs.Room.{WritesLong};
 ghost use Rattle.textwrap_calls.specs.Status.{done, not_utf8, out_of_memory, unknown_options};
 
@@ -77,9 +78,7 @@ fn only_line<'t>(text: &'t [u8], options: &TextwrapOptions<'_>) -> Option<&'t [u
 
 /// Whether the options are known, and have no indents.
 fn are_without_indents(options: &TextwrapOptions<'_>) -> bool
-    ensures known { IsTrue result → AreKnown options.now }
-    ensures initial { IsTrue result → options.now.initial_indent.now ≡ [] }
-    ensures subsequent { IsTrue result → options.now.subsequent_indent.now ≡ [] }
+    ensures { IsTrue result ↔ AreWithoutIndents options.now }
 {
     options.initial_indent.is_empty() && options.subsequent_indent.is_empty() && are_known(options)
 }

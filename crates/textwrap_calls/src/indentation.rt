@@ -1,6 +1,7 @@
 //! Indenting and dedenting a text.
 ghost use Rattle.std.specs.Prelude.{◌≡◌, ◌≢◌, ◌≤◌, ◌↔◌, ◌++◌, ℕ, List, IsTrue, IsUtf8, length};
 ghost use Rattle.textwrap.specs.Indentation.{indented, dedented};
+ghost use Rattle.textwrap_calls.specs.Printable.{IsFullLine};
 ghost use Rattle.textwrap_calls.specs.Room.{WritesLong, WritesText};
 ghost use Rattle.textwrap_calls.specs.Status.{not_utf8, out_of_memory, too_small};
 ghost use Rattle.textwrap_words.specs.LentText.{as_len, written_over};
@@ -35,6 +36,7 @@ pub fn textwrap_indent(text: &[u8], prefix: &[u8], room: &mut [u8], len: &mut us
 /// Whether a text is printable ASCII that does not begin with a blank. Then it is one line, and no blank
 /// one.
 fn is_full_line(text: &[u8]) -> bool
+    ensures exact { IsTrue result ↔ IsFullLine text.now }
     ensures utf8 { IsTrue result → IsUtf8 text.now }
     ensures line { IsTrue result → (prefix : List ℕ) → indented prefix text.now ≡ prefix ++ text.now }
 {

@@ -10,7 +10,7 @@ pub returns-then-options-ne0-clause-filled : goal.returns-then-options-ne0-claus
 returns-then-options-ne0-clause-filled c =
     let o = c.args.options.now in
     printable-filled o c.args.text.now c.args.text.now
-    (c.are_without_indents.ensures.initial c.if-not-are_without_indents.false) (omega arith)
+    (c.are_without_indents.ensures.0 c.if-not-are_without_indents.false).initial (omega arith)
     (c.is_printable_text.ensures.0 c.if-not-is_printable_text.false)
     (rw (ne_eqb o.preserve_trailing_space 0 c.if-options-ne0.true) refl)
 
@@ -23,6 +23,6 @@ returns-clause-filled c =
     let o = c.args.options.now in
     let text = c.args.text.now in
     printable-filled o text (take c.trimmed_len.result text)
-    (c.are_without_indents.ensures.initial c.if-not-are_without_indents.false) (omega arith)
+    (c.are_without_indents.ensures.0 c.if-not-are_without_indents.false).initial (omega arith)
     (c.is_printable_text.ensures.0 c.if-not-is_printable_text.false)
     (rw c.if-options-ne0.false (ap (λ n. take n text) c.trimmed_len.ensures.value))

@@ -52,10 +52,10 @@ pub(crate) fn filled(text: &str, options: &Options<'_>) -> usize {
     indented(text, options, lines_of(text, options.width, options))
 }
 
-/// The bytes of a text with a prefix before each line. The lines of a short text are not counted, but
-/// taken for short ones.
+/// The bytes of a text with a prefix before each line. Where both are short, the lines are not counted,
+/// but taken for short ones.
 pub(crate) fn prefixed(text: &str, prefix: &str) -> usize {
-    let is_short = text.len() <= 512;
+    let is_short = text.len() <= 512 && prefix.len() <= 16;
     let ends = if is_short { text.len() / 16 } else { count(text, |byte| byte == b'\n') };
     with_more(text.len(), ends + 1, prefix.len())
 }

@@ -107,6 +107,7 @@ fn guessed<T>(guess: usize) -> Vec<T> {
 /// # Safety
 /// If the call returns `DONE`, it has written as many items to the front of the room as it reports,
 /// and these are no more than the room's length.
+// It is compiled anew for each closure as it is.
 #[inline(always)]
 pub(crate) unsafe fn listed<T>(
     guess: usize,

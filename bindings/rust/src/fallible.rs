@@ -41,7 +41,8 @@ fn filled(text: &str, options: &Options<'_>) -> Result<String, OutOfMemory> {
     if options.has_function() {
         return custom::filled(text, options);
     }
-    text_by!(guess::filled(text, options), textwrap_fill(text; &options.to_sys()))
+    let with = options.to_sys();
+    text_by!(guess::filled(text, options), textwrap_fill(text; &with))
 }
 
 /// [`crate::refill`].
@@ -66,7 +67,8 @@ fn refilled(text: &str, options: &Options<'_>) -> Result<String, OutOfMemory> {
     }
     // The indents of the text may be shown more often than in it.
     let guess = guess::filled(text, options).saturating_add(text.len() / 4);
-    text_by!(guess, textwrap_refill(text; &options.to_sys()))
+    let with = options.to_sys();
+    text_by!(guess, textwrap_refill(text; &with))
 }
 
 /// [`crate::indent`].
@@ -74,8 +76,7 @@ fn refilled(text: &str, options: &Options<'_>) -> Result<String, OutOfMemory> {
 /// # Errors
 /// [`OutOfMemory`] if memory runs out.
 pub fn indent(s: &str, prefix: &str) -> Result<String, OutOfMemory> {
-    let lines = guess::count(s, |byte| byte == b'\n') + 1;
-    text_by!(guess::with_more(s.len(), lines, prefix.len()), textwrap_indent(s, prefix))
+    text_by!(guess::prefixed(s, prefix), textwrap_indent(s, prefix))
 }
 
 /// [`crate::dedent`].

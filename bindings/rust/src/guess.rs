@@ -41,8 +41,23 @@ fn indented(text: &str, options: &Options<'_>, lines: usize) -> usize {
 /// The bytes of a filled text. The line endings that it had are counted in it, so its line feeds
 /// matter only if indents follow them.
 pub(crate) fn filled(text: &str, options: &Options<'_>) -> usize {
+    // Each line of it is shorter than the width, so none is added.
+    if text.len() < options.width
+        && options.initial_indent.is_empty()
+        && options.subsequent_indent.is_empty()
+    {
+        return text.len();
+    }
     let lines_of = if options.subsequent_indent.is_empty() { paragraph_lines } else { lines };
     indented(text, options, lines_of(text, options.width, options))
+}
+
+/// The bytes of a text with a prefix before each line. Where both are short, the lines are not counted,
+/// but taken for short ones.
+pub(crate) fn prefixed(text: &str, prefix: &str) -> usize {
+    let is_short = text.len() <= 512 && prefix.len() <= 16;
+    let ends = if is_short { text.len() / 16 } else { count(text, |byte| byte == b'\n') };
+    with_more(text.len(), ends + 1, prefix.len())
 }
 
 /// The bytes of a filled text whose lines are justified. The blanks that are added are hardly ever more

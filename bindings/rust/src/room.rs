@@ -38,9 +38,13 @@ impl From<Refusal> for OutOfMemory {
 }
 
 /// Whether the room sufficed, by the status of a call.
+#[inline]
 fn suffices(status: u32, before: BeforeCall) -> Result<bool, Refusal> {
+    // Mostly it did, and then no table of cases is looked at.
+    if status == sys::DONE {
+        return Ok(true);
+    }
     match status {
-        sys::DONE => Ok(true),
         sys::TOO_SMALL => Ok(false),
         sys::OUT_OF_MEMORY => Err(Refusal::OutOfMemory(before.out_of_memory())),
         sys::OVERFLOW => Err(Refusal::Overflow),
@@ -103,6 +107,8 @@ fn guessed<T>(guess: usize) -> Vec<T> {
 /// # Safety
 /// If the call returns `DONE`, it has written as many items to the front of the room as it reports,
 /// and these are no more than the room's length.
+// It is compiled anew for each closure as it is.
+#[inline(always)]
 pub(crate) unsafe fn listed<T>(
     guess: usize,
     mut call: impl FnMut(*mut T, usize, &mut usize) -> u32,
@@ -122,6 +128,7 @@ pub(crate) unsafe fn listed<T>(
 ///
 /// # Safety
 /// As for `listed`, and what the call writes is UTF-8.
+#[inline(always)]
 pub(crate) unsafe fn written(
     guess: usize,
     call: impl FnMut(*mut u8, usize, &mut usize) -> u32,

@@ -9,6 +9,7 @@ pub mod Offsets
 pub mod ParagraphLemmas
 pub mod PieceLemmas
 pub mod PlaceLemmas
+pub mod PrintableLines
 pub mod ReadOptions
 pub mod RoomLemmas
 pub mod RowLemmas

@@ -7,6 +7,7 @@ pub mod JustifiedSteps
 pub mod Options
 pub mod Paragraphs
 pub mod Pieces
+pub mod Printable
 pub mod Refilling
 pub mod Room
 pub mod Status

@@ -1,13 +1,17 @@
 //! Indenting and dedenting a text.
-ghost use Rattle.std.specs.Prelude.{◌≡◌, ◌≢◌, ◌≤◌, ◌↔◌, IsUtf8};
+ghost use Rattle.std.specs.Prelude.{◌≡◌, ◌≢◌, ◌≤◌, ◌↔◌, ◌++◌, ℕ, List, IsTrue, IsUtf8, length};
 ghost use Rattle.textwrap.specs.Indentation.{indented, dedented};
+ghost use Rattle.textwrap_calls.specs.Printable.{IsFullLine};
 ghost use Rattle.textwrap_calls.specs.Room.{WritesLong, WritesText};
 ghost use Rattle.textwrap_calls.specs.Status.{not_utf8, out_of_memory, too_small};
+ghost use Rattle.textwrap_words.specs.LentText.{as_len, written_over};
 
+use crate::printable::is_printable_text;
 use crate::room::report;
 use crate::status::NOT_UTF8;
 use simdutf8::basic::from_utf8;
 use textwrap::inner::{dedent_into, indent_into};
+use textwrap_words::inner::LentText;
 
 /// Writes the text with a prefix before each line, as `textwrap_fill` writes a filled one. It allocates
 /// nothing.
@@ -18,11 +22,40 @@ pub fn textwrap_indent(text: &[u8], prefix: &[u8], room: &mut [u8], len: &mut us
     ensures no_memory { result ≢ out_of_memory }
     ensures statuses { result ≤ too_small }
 {
+    if is_full_line(text) && is_printable_text(prefix) {
+        let answer = join_over(prefix, text, room);
+        return report(answer, room.len(), len);
+    }
     let (Ok(text), Ok(prefix)) = (from_utf8(text), from_utf8(prefix)) else {
         return NOT_UTF8;
     };
     let answer = indent_into(text, prefix, room);
     report(answer, room.len(), len)
+}
+
+/// Whether a text is printable ASCII that does not begin with a blank. Then it is one line, and no blank
+/// one.
+fn is_full_line(text: &[u8]) -> bool
+    ensures exact { IsTrue result ↔ IsFullLine text.now }
+    ensures utf8 { IsTrue result → IsUtf8 text.now }
+    ensures line { IsTrue result → (prefix : List ℕ) → indented prefix text.now ≡ prefix ++ text.now }
+{
+    if text.is_empty() {
+        return false;
+    }
+    text[0] != b' ' && is_printable_text(text)
+}
+
+/// Writes two texts one after the other over the front of the room, as much of them as there is room for.
+/// Returns their bytes.
+fn join_over(first: &[u8], second: &[u8], room: &mut [u8]) -> usize
+    ensures len { result ≡ as_len (length (first.now ++ second.now)) }
+    ensures room { room.new ≡ written_over room.old (first.now ++ second.now) }
+{
+    let mut written = LentText::new(room);
+    written.push(first);
+    written.push(second);
+    written.len()
 }
 
 /// Writes the text without the whitespace that all its lines begin with, as `textwrap_fill` writes a

@@ -19,6 +19,7 @@ pub mod line_lists;
 pub mod options;
 pub mod paragraphs;
 pub mod pieces;
+mod printable;
 pub mod refilling;
 mod reported;
 mod room;

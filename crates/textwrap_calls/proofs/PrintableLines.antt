@@ -1,0 +1,83 @@
+-- Texts of printable ASCII, block by block, and as lines.
+use Rattle.textwrap_base.proofs.Common.{◌≡◌, ◌≢◌, ℕ, ◌+◌, ◌-◌, ◌<◌, ◌≤◌, ◌∙◌, true, false, List, []}
+use Rattle.textwrap_base.proofs.Common.{◌∷◌, ◌++◌, length, drop, get_or, slice_range, cond, IsUtf8, refl}
+use Rattle.textwrap_base.proofs.Common.{ap, subst, arith, nat_tests, lt-ltb, cases_lt, inl, inr}
+use Rattle.textwrap_base.proofs.Common.{append-nil, get_or-drop, get_or-take, All-drop, All-from_get_or}
+use Rattle.textwrap_base.proofs.Common.{All-head, All-take, All-weaker}
+use Rattle.std.specs.Char.{is_whitespace}
+use Rattle.std.proofs.lemmas.Str.{chars-IsAscii, IsUtf8-from_ascii}
+use Rattle.textwrap_base.proofs.Lists.Parts.{length-slice}
+use Rattle.textwrap_words.proofs.Common.{IsPrintable, IsPrintableByte, without_final_blanks}
+use Rattle.textwrap_words.proofs.Units.Widths.{printable-ascii}
+use Rattle.textwrap_lines.proofs.Common.{is_whole, IsFilled}
+use Rattle.textwrap.specs.Indentation.{HasNoLineFeed, indented}
+use Rattle.textwrap.proofs.Common.{is_blank_line}
+use Rattle.textwrap.proofs.Text.EndedParts.{ended_parts-whole}
+use Rattle.textwrap_plain.proofs.OnlyLine.{only-filled, printable-paragraph}
+use Rattle.textwrap_calls.specs.Options.{Divides, says_yes, settings_of}
+use Rattle.textwrap_calls.specs.declared.options.TextwrapOptions.{TextwrapOptions}
+
+-- a byte of a printable block
+pub byte-in : (text : List ℕ) (from to k : ℕ) → to ≤ length text → from ≤ k → k < to
+    → IsPrintable (slice_range text from to) → IsPrintableByte (get_or text k 0)
+byte-in text from to k within after below printable =
+    let byte = printable (k - from) 0 (omega (arith, below, after, length-slice text from to within)) in
+    let place : from + (k - from) ≡ k = omega (arith, after) in
+    let same : get_or (slice_range text from to) (k - from) 0 ≡ get_or text k 0 =
+    get_or-take (to - from) (drop from text) (k - from) 0 (omega (arith, below, after))
+    ∙ get_or-drop from text (k - from) 0 ∙ ap (λ n. get_or text n 0) place in
+    subst IsPrintableByte same byte
+
+pub printable-slice : (text : List ℕ) (from to : ℕ) → IsPrintable text
+    → IsPrintable (slice_range text from to)
+printable-slice text from to all =
+    All-take IsPrintableByte (to - from) (drop from text) (All-drop IsPrintableByte from text all)
+
+-- two blocks that cover the text
+pub printable-both : (text : List ℕ) (n : ℕ) → n ≤ length text → length text ≤ n + n
+    → IsPrintable (slice_range text 0 n)
+    → IsPrintable (slice_range text (length text - n) (length text))
+    → IsPrintable text
+printable-both text n some covered front back =
+    All-from_get_or IsPrintableByte text 0 (λ k within. elim (cases_lt k n) [
+      | inl before ↦ byte-in text 0 n k some (omega arith) before front
+      | inr from ↦ byte-in text (length text - n) (length text) k (omega arith)
+          (omega (arith, from, covered)) within back
+    ])
+
+pub printable-utf8 : (text : List ℕ) → IsPrintable text → IsUtf8 text
+printable-utf8 text printable = IsUtf8-from_ascii text (printable-ascii text printable)
+
+-- ---- a line
+
+printable-dark : (c : ℕ) → IsPrintableByte c → c ≢ 32 → is_whitespace c ≡ false
+printable-dark c (low, high) other = grind (arith, nat_tests, low, high, other)
+
+printable-free : (text : List ℕ) → IsPrintable text → HasNoLineFeed text
+printable-free text printable =
+    All-weaker IsPrintableByte (λ c. c ≢ 10) (λ c (low, high) is. omega (arith, low, is)) text printable
+
+-- one that does not begin with a blank is indented by the whole prefix
+pub indented-line : (prefix text : List ℕ) → IsPrintable text → length text ≢ 0
+    → get_or text 0 0 ≢ 32 → indented prefix text ≡ prefix ++ text
+indented-line prefix [] printable some dark = absurd (some refl)
+indented-line prefix (c ∷ cs) printable some dark =
+    let whole = ended_parts-whole (c ∷ cs) (printable-free (c ∷ cs) printable)
+    (λ none. cc) in
+    let full : is_blank_line (c ∷ cs) ≡ false =
+    rw (
+      chars-IsAscii (c ∷ cs) (printable-ascii (c ∷ cs) printable),
+      printable-dark c (All-head IsPrintableByte c cs printable) dark,
+    ) in
+    rw (whole, full) (append-nil (prefix ++ c ∷ cs))
+
+-- one without an indent that is shorter than the width is filled as it is, but for its last blanks
+pub printable-filled : (o : TextwrapOptions) (text filled : List ℕ) → o.initial_indent.now ≡ []
+    → length text < o.width → IsPrintable text
+    → filled ≡ cond (says_yes o.preserve_trailing_space) text (without_final_blanks text)
+    → IsFilled (settings_of o) (Divides o (settings_of o)) text filled
+printable-filled o text filled none short printable is =
+    let settings = settings_of o in
+    let whole : is_whole settings false text ≡ true = rw none (lt-ltb (length text) o.width short) in
+    only-filled settings (Divides o settings) text filled
+    (printable-paragraph settings.line_ending text printable) whole is

@@ -1,0 +1,18 @@
+-- Lines of printable ASCII, for which neither the options nor UTF-8 have to be read.
+use Rattle.std.specs.Prelude.{◌≡◌, ◌≢◌, ℕ, List, [], slice_index}
+use Rattle.textwrap_words.specs.Blanks.{blank}
+use Rattle.textwrap_words.specs.Units.{IsPrintable}
+use Rattle.textwrap_calls.specs.Options.{AreKnown}
+use Rattle.textwrap_calls.specs.declared.options.TextwrapOptions.{TextwrapOptions}
+
+-- known options that add nothing to a line
+pub record AreWithoutIndents (o : TextwrapOptions) : Type 0 where
+  pub initial : o.initial_indent.now ≡ []
+  pub subsequent : o.subsequent_indent.now ≡ []
+  pub known : AreKnown o
+
+-- printable characters, of which the first is no blank
+pub record IsFullLine (text : List ℕ) : Type 0 where
+  pub some : text ≢ []
+  pub dark : slice_index text 0 ≢ blank
+  pub printable : IsPrintable text

@@ -1,7 +1,7 @@
 -- Common ideographs behind one, over which a line is read all at once.
 use Rattle.textwrap_base.proofs.Common.{◌≡◌, ℕ, zero, suc, ◌+◌, ◌*◌, ◌<◌, true, false, List, [], ◌∷◌, ◌++◌}
 use Rattle.textwrap_base.proofs.Common.{length, drop, nat_lt, nat_tests, refl, sym, ap, ◌∙◌, subst, arith}
-use Rattle.textwrap_base.proofs.Common.{add-zero, append-nil, append_assoc, eqb, drop-drop}
+use Rattle.textwrap_base.proofs.Common.{add-zero, append-nil, append_assoc, eqb}
 use Rattle.std.specs.Char.{len_utf8}
 use Rattle.std.specs.Str.{chars}
 use Rattle.std.proofs.lemmas.Str.{length-encode}

@@ -1,6 +1,6 @@
 -- What the tables of Unicode give for the signs and syllables of Japanese, which the code does not look up.
-use Rattle.std.proofs.Common.{◌≡◌, ℕ, ◌<◌, ◌≤◌, Bool, true, false, ◌||◌, ◌==◌, ◌-◌}
-use Rattle.std.proofs.Common.{slice_index_or, refl, sym, ◌∙◌, arith, eqb-true}
+use Rattle.std.proofs.Common.{◌≡◌, ℕ, ◌≤◌, Bool, true, false, ◌||◌, ◌==◌, ◌-◌}
+use Rattle.std.proofs.Common.{slice_index_or, refl, sym, arith, eqb-true}
 use Rattle.textwrap_base.proofs.Common.{nat_lt, nat_tests, true≢false}
 use Rattle.unicode.specs.LineBreak.{line_break_number}
 use Rattle.unicode.specs.declared.properties.LineBreak.TheVariants.{Ambiguous}

@@ -80,19 +80,17 @@ fn find_cuts(alloc: Global, line: &str, numbers: Numbers) -> Result<Vec<usize>, 
             is_hyphen = is_any_hyphen(ch);
         }
         state = next;
-        if end == at && !is_hyphen && matches!(state, State::Text) && before.is_in_word() {
-            let rest = line[at..].as_bytes();
-            let passed = push_words(rest, at, &mut cuts)?;
-            before = before.and_words(passed.is_behind_blank, passed.is_behind_sign);
-            at += passed.len;
-            end = at;
-        } else if end == at
-            && !is_hyphen
-            && matches!(state, State::Text)
-            && before.is_behind_ideograph()
-        {
-            at += 3 * push_ideographs(&line[at..], at, &mut cuts)?;
-            end = at;
+        if end == at && !is_hyphen && matches!(state, State::Text) {
+            if before.is_in_word() {
+                let rest = line[at..].as_bytes();
+                let passed = push_words(rest, at, &mut cuts)?;
+                before = before.and_words(passed.is_behind_blank, passed.is_behind_sign);
+                at += passed.len;
+                end = at;
+            } else if before.is_behind_ideograph() {
+                at += 3 * push_ideographs(&line[at..], at, &mut cuts)?;
+                end = at;
+            }
         }
     }
     Ok(cuts)

@@ -1,6 +1,6 @@
-use Rattle.textwrap_base.proofs.Common.{◌≡◌, ℕ, ◌+◌, ◌*◌, ◌++◌, ◌∷◌, [], ◌<◌, ◌≤◌, drop, length, sym, ap, ◌∙◌, subst}
+use Rattle.textwrap_base.proofs.Common.{◌≡◌, ◌+◌, ◌*◌, ◌++◌, ◌∷◌, [], drop, length, sym, ap, ◌∙◌, subst}
 use Rattle.textwrap_base.proofs.Common.{arith, add-one, append_assoc, cases_lt, inl, inr, length-drop}
-use Rattle.textwrap_base.proofs.Common.{length-append, char_indices_offset}
+use Rattle.textwrap_base.proofs.Common.{length-append}
 use Rattle.std.specs.Str.Iter.{char_indices_rest}
 use Rattle.std.proofs.lemmas.Str.{drop_past_char, length-encode}
 use lib.Utf8.{encode}

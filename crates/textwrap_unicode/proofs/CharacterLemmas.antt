@@ -25,7 +25,7 @@ use Rattle.textwrap_unicode.specs.Classes.{class_of, is_unassigned, is_wide, res
 
 -- ---- what is asked of a character, as steps, over which proofs compute
 
-abbrev wide_at : ℕ → Bool
+abbrev pub wide_at : ℕ → Bool
 wide_at c = is_wide (east_asian_width c)
 
 abbrev unassigned_at : ℕ → Bool
@@ -35,7 +35,7 @@ abbrev pub class_stepped : Stepped class_of
 class_stepped =
     zip_stepped resolve line_break general_category line_break_stepped general_category_stepped
 
-abbrev wide_stepped : Stepped wide_at
+abbrev pub wide_stepped : Stepped wide_at
 wide_stepped = map_stepped is_wide east_asian_width east_asian_width_stepped
 
 abbrev unassigned_stepped : Stepped unassigned_at

@@ -30,3 +30,5 @@ pub mod Verdicts
 pub mod WordCuts
 pub mod WordLetters
 pub mod WordVerdicts
+pub mod JapaneseLemmas
+pub mod IdeographCuts

@@ -8,3 +8,4 @@ pub mod Cuts
 pub mod Pairs
 pub mod WordStarts
 pub mod Laws
+pub mod Ideographs

@@ -1,5 +1,6 @@
 //! What the rules of line breaking ask of a character.
-ghost use Rattle.std.specs.Prelude.{◌≡◌, ◌&&◌, true, false};
+ghost use Rattle.std.specs.Prelude.{◌≡◌, ◌≤◌, ◌&&◌, true, false};
+ghost use Rattle.textwrap_unicode.specs.Ideographs.{IsCommonIdeograph};
 ghost use Rattle.unicode.specs.Binary.{is_extended_pictographic};
 ghost use Rattle.unicode.specs.GeneralCategory.{general_category};
 ghost use Rattle.unicode.specs.declared.properties.LineBreak.TheVariants.{Alphabetic, Ideographic};
@@ -7,6 +8,7 @@ ghost use Rattle.textwrap_unicode.specs.Classes.{class_of, is_unassigned, is_wid
 ghost use Rattle.textwrap_unicode.specs.Classes.{resolve_complex, unit_of};
 
 use crate::ascii::CLASSES;
+use crate::japanese::{SYLLABLES, WIDE};
 use unicode::properties::{EastAsianWidth, GeneralCategory, LineBreak, is_extended_pictographic};
 
 /// What the rules ask of a character.
@@ -43,6 +45,9 @@ impl Unit {
                 is_unassigned_pictograph: false,
             };
         }
+        if 0x3000 <= code && code <= 0x30FF {
+            return japanese_unit(code);
+        }
         Unit {
             class: class_of(c),
             is_wide: is_wide(EastAsianWidth::for_char(c)),
@@ -73,6 +78,34 @@ impl Unit {
     {
         matches!(self.class, LineBreak::Ideographic) & self.is_wide & !self.is_unassigned_pictograph
     }
+}
+
+/// What the rules ask of a sign or a syllable of Japanese.
+#[inline]
+fn japanese_unit(code: usize) -> Unit
+    requires from { 0x3000 ≤ code }
+    requires to { code ≤ 0x30FF }
+    ensures { result ≡ unit_of code }
+{
+    // None is a pictograph without an assignment.
+    Unit {
+        class: SYLLABLES[code - 0x3000],
+        is_wide: WIDE[code - 0x3000],
+        is_unassigned_pictograph: false,
+    }
+}
+
+/// Whether this is a common ideograph, or a syllable of Japanese that is like one to the rules. Each of
+/// these takes three bytes.
+#[inline]
+pub(crate) fn is_common_ideograph(c: char) -> bool
+    ensures { result ≡ true → IsCommonIdeograph c }
+{
+    let code = c as usize;
+    if 0x4E00 <= code && code <= 0x9FFF {
+        return true;
+    }
+    0x3000 <= code && code <= 0x30FF && japanese_unit(code).is_wide_ideograph()
 }
 
 /// The class of a character, by LB1. Its category matters for SA alone, so only then is it looked

@@ -1,5 +1,5 @@
 //! The function for `LineCuts` that cuts a line into words where it may end.
-ghost use Rattle.std.specs.Prelude.{◌≡◌, ℕ, ◌+◌, ◌^◌, ◌<◌, ◌≤◌, ◌++◌, true, IfOk, chars, drop};
+ghost use Rattle.std.specs.Prelude.{◌≡◌, ℕ, ◌+◌, ◌*◌, ◌^◌, ◌<◌, ◌≤◌, ◌++◌, true, IfOk, chars, drop};
 ghost use Rattle.std.specs.Prelude.{if◌then◌else◌, length, slice_index, IsCharBoundary};
 ghost use Rattle.textwrap_unicode.specs.BreaksLeft.{and};
 ghost use Rattle.textwrap_unicode.specs.Rules.{decide_by, numbers_rule};
@@ -7,6 +7,7 @@ ghost use Rattle.textwrap_words.specs.Escapes.{visible_in};
 ghost use Rattle.textwrap_unicode.specs.Cuts.{cuts_by, may_end, unicode_cuts};
 ghost use Rattle.textwrap_unicode.specs.WordStarts.{IsPlainLetter, IsWordByte, IsWordClass};
 ghost use Rattle.textwrap_unicode.specs.WordStarts.{is_behind_blank, is_behind_sign, word_starts};
+ghost use Rattle.textwrap_unicode.specs.Ideographs.{IsIdeographAt, ideograph_places};
 ghost use Rattle.textwrap_unicode.specs.ClassSets.{is_infix, is_letter, is_space};
 ghost use Rattle.textwrap_unicode.specs.Classes.{class_of};
 ghost use Rattle.textwrap_unicode.specs.declared.numbers.Numbers.TheVariants.{ByExpression};
@@ -16,7 +17,7 @@ ghost use Rattle.textwrap_words.specs.WordOffsets.{is_any_hyphen};
 use crate::ascii::CLASSES;
 use crate::before::Before;
 use crate::class_sets::{is_letter, is_space};
-use crate::classes::Unit;
+use crate::classes::{Unit, is_common_ideograph};
 use crate::numbers::{Numbers, decide_among_visible};
 use crate::rules::Verdict;
 use std::alloc::{AllocError, Global};
@@ -79,12 +80,17 @@ fn find_cuts(alloc: Global, line: &str, numbers: Numbers) -> Result<Vec<usize>, 
             is_hyphen = is_any_hyphen(ch);
         }
         state = next;
-        if end == at && !is_hyphen && matches!(state, State::Text) && before.is_in_word() {
-            let rest = line[at..].as_bytes();
-            let passed = push_words(rest, at, &mut cuts)?;
-            before = before.and_words(passed.is_behind_blank, passed.is_behind_sign);
-            at += passed.len;
-            end = at;
+        if end == at && !is_hyphen && matches!(state, State::Text) {
+            if before.is_in_word() {
+                let rest = line[at..].as_bytes();
+                let passed = push_words(rest, at, &mut cuts)?;
+                before = before.and_words(passed.is_behind_blank, passed.is_behind_sign);
+                at += passed.len;
+                end = at;
+            } else if before.is_behind_ideograph() {
+                at += 3 * push_ideographs(&line[at..], at, &mut cuts)?;
+                end = at;
+            }
         }
     }
     Ok(cuts)
@@ -194,6 +200,29 @@ fn ascii_class(byte: u8) -> LineBreak
     ensures { result ≡ class_of byte }
 {
     CLASSES[byte as usize]
+}
+
+/// Goes over the common ideographs that a rest of a line begins with, behind such a one, and adds a cut
+/// before each. Gives how many they are, of three bytes each.
+///
+/// # Errors
+/// [`AllocError`] where memory runs out.
+fn push_ideographs(rest: &str, at: usize, cuts: &mut Vec<usize>) -> Result<usize, AllocError>
+    requires { at + length rest.now < 2 ^ 64 }
+    ensures within { IfOk result (λ count. 3 * count ≤ length rest.now) }
+    ensures ideographs { IfOk result (λ count. (k : ℕ) → k < count → IsIdeographAt rest.now (3 * k)) }
+    ensures cuts { IfOk result (λ count. cuts.new.items
+        ≡ cuts.old.items ++ ideograph_places at count) }
+{
+    let mut count = 0;
+    for (after, ch) in rest.char_indices() {
+        if !is_common_ideograph(ch) {
+            return Ok(count);
+        }
+        cuts.push(at + after)?;
+        count += 1;
+    }
+    Ok(count)
 }
 
 /// What the rules say of the place before a visible unit of the line, which is read up to its end, and

@@ -14,6 +14,7 @@ mod class_sets;
 mod classes;
 pub mod cuts;
 pub mod inner;
+mod japanese;
 pub mod laws;
 mod numbers;
 mod pairs;

@@ -1,4 +1,4 @@
-use Rattle.textwrap_base.proofs.Common.{◌≡◌, ℕ, ◌<◌, slice_index, ◌+◌, ◌++◌, drop, length, append-nil, ap, ◌∙◌, sym, subst}
+use Rattle.textwrap_base.proofs.Common.{◌≡◌, ℕ, ◌<◌, ◌*◌, slice_index, ◌+◌, ◌++◌, drop, length, append-nil, ap, ◌∙◌, sym, subst}
 use Rattle.textwrap_base.proofs.Common.{refl, arith, drop-drop, true≢false}
 use Rattle.std.specs.Prelude.{encode_utf8}
 use Rattle.std.specs.Str.Iter.{chars_rest}
@@ -13,7 +13,9 @@ use Rattle.textwrap_unicode.specs.WordStarts.{IsWordByte}
 use Rattle.textwrap_unicode.proofs.CuttingLemmas.{IsCutting, IsCutting-start, IsCutting-step, IsCutting-end}
 use Rattle.textwrap_unicode.proofs.InnerCuts.{cuts_at-AreInnerCuts}
 use Rattle.textwrap_unicode.proofs.ReadPlaces.{read-after, read-boundary}
+use Rattle.textwrap_unicode.proofs.IdeographCuts.{past-ideographs}
 use Rattle.textwrap_unicode.proofs.WordCuts.{past-words}
+use Rattle.textwrap_unicode.specs.Ideographs.{IsIdeographAt}
 use Rattle.textwrap_unicode.proofs.cuts.find_cuts.Goals as goal
 use Rattle.textwrap_unicode.proofs.cuts.find_cuts.Goals.{In-Some, Joined-is_visible}
 use Rattle.textwrap_unicode.proofs.cuts.find_cuts.Goals.{then-is_visible, else-is_visible, then-is_cut+in_ok-push, else-is_cut}
@@ -34,24 +36,24 @@ here c = sym c.range_from.ensures.value ∙ sym c.chars.ensures.rest ∙ c.in-So
 
 pub step_past-verdict-requires : goal.step_past-verdict-requires
 step_past-verdict-requires c =
-    rw c.len_utf8-at.ensures.len
+    rw c.len_utf8.ensures.len
     (read-boundary _ _ _ c.loop-ch.invariant.read c.in-Some.ch _ (here (goal.at.step_past-verdict-requires c).In-Some))
 
 -- the reader past the character
 past : (c : Joined-is_visible)
     → drop c.loop-ch.at c.args.line.now ≡ encode_utf8 c.in-Some.ch ++ chars_rest c.next.new.self
-    → IsCutting c.args.numbers c.args.line.now (c.loop-ch.at + c.len_utf8-at.result)
-    (drop (c.loop-ch.at + c.len_utf8-at.result) c.args.line.now) c.step-next.result.0 c.if-is_visible.before
+    → IsCutting c.args.numbers c.args.line.now (c.loop-ch.at + c.len_utf8.result)
+    (drop (c.loop-ch.at + c.len_utf8.result) c.args.line.now) c.step-next.result.0 c.if-is_visible.before
     c.if-is_visible.end c.if-is_visible.is_hyphen c.if-is_visible.cuts.items
 past c is =
     let line = c.args.line.now in
     let ch = c.in-Some.ch in
     let after = read-after _ _ _ c.loop-ch.invariant.read ch _ is in
-    rw (c.len_utf8-at.ensures.len, after) (elim c.if-is_visible.branch [
+    rw (c.len_utf8.ensures.len, after) (elim c.if-is_visible.branch [
       | then-is_visible w ↦
           let shown = w.if-is_visible.true in
           let may = w.may_end.ensures ∙ ap may_end (rw (
-            c.len_utf8-at.ensures.len,
+            c.len_utf8.ensures.len,
             w.of-unit.ensures,
             after,
           ) at w.step_past-verdict.ensures.verdict) in
@@ -59,7 +61,7 @@ past c is =
           c.loop-ch.invariant is c.step-next.ensures _ _ _ _ _ refl
           (rw shown (w.before-is ∙ w.step_past-verdict.ensures.before
           ∙ ap (and c.loop-ch.before) w.of-unit.ensures))
-          (rw shown (w.end-is ∙ ap (λ n. c.loop-ch.at + n) c.len_utf8-at.ensures.len))
+          (rw shown (w.end-is ∙ ap (λ n. c.loop-ch.at + n) c.len_utf8.ensures.len))
           (rw shown (w.is_hyphen-is ∙ w.is_any_hyphen-is_hyphen.ensures))
           (elim w.if-is_cut.branch [
             | then-is_cut+in_ok-push v ↦ rw (shown, ← may, v.if-is_cut.true)
@@ -78,11 +80,16 @@ pub loop-ch-preserved : goal.loop-ch-preserved
 loop-ch-preserved c =
     let at = goal.at.loop-ch-preserved c in past at.Joined-is_visible (here at.In-Some)
 
-pub loop-ch-preserved-then-is_in_word : goal.loop-ch-preserved-then-is_in_word
-loop-ch-preserved-then-is_in_word c =
-    let at = goal.at.loop-ch-preserved-then-is_in_word c in
+pub loop-ch-preserved-else-is_behind_ideograph : goal.loop-ch-preserved-else-is_behind_ideograph
+loop-ch-preserved-else-is_behind_ideograph c =
+    let at = goal.at.loop-ch-preserved-else-is_behind_ideograph c in
+    past at.Joined-is_visible (here at.In-Some)
+
+pub loop-ch-preserved-in_ok-passed : goal.loop-ch-preserved-in_ok-passed
+loop-ch-preserved-in_ok-passed c =
+    let at = goal.at.loop-ch-preserved-in_ok-passed c in
     let line = c.args.line.now in
-    let place = c.loop-ch.at + c.len_utf8-at.result in
+    let place = c.loop-ch.at + c.len_utf8.result in
     let text : c.step-next.result.0 ≡ Text = elim c.match-matches.branch [
       | in-Text w ↦ w.in-Text.is
       | in_default-matches w ↦ absurd (true≢false (sym c.if-matches.true ∙ w.matches-is))
@@ -113,6 +120,39 @@ loop-ch-preserved-then-is_in_word c =
 pub range_from-requires-then-is_in_word : goal.range_from-requires-then-is_in_word
 range_from-requires-then-is_in_word c = λ _.
     let at = goal.at.range_from-requires-then-is_in_word c in
+    let read = (past at.Joined-is_visible (here at.In-Some)).read in
+    IsCharBoundary-from_drop c.args.line.now _ read.within read.utf8
+
+pub loop-ch-preserved-in_ok-at : goal.loop-ch-preserved-in_ok-at
+loop-ch-preserved-in_ok-at c =
+    let at = goal.at.loop-ch-preserved-in_ok-at c in
+    let line = c.args.line.now in
+    let place = c.loop-ch.at + c.len_utf8.result in
+    let text : c.step-next.result.0 ≡ Text = elim c.match-matches.branch [
+      | in-Text w ↦ w.in-Text.is
+      | in_default-matches w ↦ absurd (true≢false (sym c.if-matches.true ∙ w.matches-is))
+    ] in
+    let ideograph = c.is_behind_ideograph.ensures c.if-is_behind_ideograph.true in
+    let h = rw (text, ideograph, c.if-end-at.true, c.if-not-is_hyphen.true)
+    at (past at.Joined-is_visible (here at.In-Some)) in
+    let bytes = c.range_from-then-is_behind_ideograph.ensures.value in
+    let count = c.in_ok-at.field-0 in
+    let found = c.in_ok-at.ensures in
+    let ideographs : (k : ℕ) → k < count → IsIdeographAt (drop place line) (3 * k) =
+    λ k below. subst (λ bs. IsIdeographAt bs (3 * k)) bytes (found.ideographs k below) in
+    rw (
+      sym (drop-drop (3 * count) place line),
+      text,
+      c.if-not-is_hyphen.true,
+      found.cuts,
+      ideograph,
+    )
+    (past-ideographs c.args.numbers line place (drop place line) c.if-is_visible.cuts.items h count
+    ideographs)
+
+pub range_from-requires-then-is_behind_ideograph : goal.range_from-requires-then-is_behind_ideograph
+range_from-requires-then-is_behind_ideograph c = λ _.
+    let at = goal.at.range_from-requires-then-is_behind_ideograph c in
     let read = (past at.Joined-is_visible (here at.In-Some)).read in
     IsCharBoundary-from_drop c.args.line.now _ read.within read.utf8
 

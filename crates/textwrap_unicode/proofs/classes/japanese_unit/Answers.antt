@@ -1,0 +1,5 @@
+use Rattle.textwrap_unicode.proofs.JapaneseLemmas.{japanese-unit}
+use Rattle.textwrap_unicode.proofs.classes.japanese_unit.Goals as goal
+
+pub returns : goal.returns
+returns c = japanese-unit c.args.code c.requires.from c.requires.to

@@ -1,0 +1,54 @@
+use Rattle.textwrap_base.proofs.Common.{◌≡◌, ◌+◌, ◌*◌, ◌++◌, ◌∷◌, [], drop, length, sym, ap, ◌∙◌, subst}
+use Rattle.textwrap_base.proofs.Common.{arith, add-one, append_assoc, cases_lt, inl, inr, length-drop}
+use Rattle.textwrap_base.proofs.Common.{length-append}
+use Rattle.std.specs.Str.Iter.{char_indices_rest}
+use Rattle.std.proofs.lemmas.Str.{drop_past_char, length-encode}
+use lib.Utf8.{encode}
+use Rattle.textwrap_unicode.specs.Ideographs.{IsIdeographAt, ideograph_places}
+use Rattle.textwrap_unicode.proofs.IdeographCuts.{three-bytes}
+use Rattle.textwrap_unicode.proofs.cuts.push_ideographs.Goals as goal
+
+pub loop-after-preserved : goal.loop-after-preserved
+loop-after-preserved c =
+    let h = c.loop-after.invariant in
+    let s = c.in-Some.ensures.steps in
+    let rest = c.args.rest.now in
+    let at = c.args.at in
+    let n = c.loop-after.count in
+    let ch = c.in-Some.ch in
+    let left = char_indices_rest c.next.new.self in
+    let common = c.is_common_ideograph.ensures c.if-not-is_common_ideograph.false in
+    let three = three-bytes ch common in
+    let is : drop (3 * n) rest ≡ encode ch ++ left = h.left ∙ s.1 in
+    let next : 3 * (n + 1) ≡ 3 * n + 3 = omega arith in
+    let past : drop (3 * n + 3) rest ≡ left =
+    ap (λ k. drop (3 * n + k) rest) (sym three) ∙ drop_past_char rest left (3 * n) ch is in
+    let here : IsIdeographAt rest (3 * n) = record {
+      character = ch;
+      common = common;
+      stands = is ∙ ap (λ bs. encode ch ++ bs) (sym past);
+    } in
+    let place : at + c.in-Some.after ≡ at + 3 * n = omega (arith, s.0, h.place) in
+    record {
+      place = omega (arith, s.2, h.place, length-encode ch, three);
+      left = ap (λ k. drop k rest) next ∙ past;
+      within = omega (
+        arith,
+        h.within,
+        ap length is,
+        length-drop (3 * n) rest,
+        length-append (encode ch) left,
+        length-encode ch,
+        three,
+      );
+      ideographs = λ k below. elim (cases_lt k n) [
+        | inl before ↦ h.ideographs k before
+        | inr from ↦
+            let last : n ≡ k = omega (arith, from, below) in
+            subst (λ i. IsIdeographAt rest (3 * i)) last here
+      ];
+      cuts = rw (add-one n) (c.in_ok-push.ensures.items
+          ∙ ap (λ l. l ++ (at + c.in-Some.after) ∷ []) h.cuts
+          ∙ ap (λ p. (c.args.cuts.now.items ++ ideograph_places at n) ++ p ∷ []) place
+          ∙ append_assoc c.args.cuts.now.items (ideograph_places at n) ((at + 3 * n) ∷ []));
+    }

@@ -1,0 +1,13 @@
+use Rattle.textwrap_base.proofs.Common.{◌≡◌, ℕ, ◌++◌, ◌*◌, ◌<◌, ◌≤◌, drop, length, char_indices_offset}
+use Rattle.std.specs.Str.Iter.{char_indices_rest}
+use Rattle.textwrap_unicode.specs.Ideographs.{IsIdeographAt, ideograph_places}
+use Rattle.textwrap_unicode.proofs.cuts.push_ideographs.Given as goal
+
+abbrev pub invariant-loop-after : goal.invariant-loop-after
+invariant-loop-after l = record {
+  place : char_indices_offset l.after-iterator ≡ 3 * l.count;
+  left : drop (3 * l.count) l.rest ≡ char_indices_rest l.after-iterator;
+  within : 3 * l.count ≤ length l.rest;
+  ideographs : (k : ℕ) → k < l.count → IsIdeographAt l.rest (3 * k);
+  cuts : l.cuts.items ≡ l.fn.cuts.items ++ ideograph_places l.at l.count;
+}

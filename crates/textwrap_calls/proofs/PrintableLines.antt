@@ -1,20 +1,24 @@
 -- Texts of printable ASCII, block by block, and as lines.
 use Rattle.textwrap_base.proofs.Common.{◌≡◌, ◌≢◌, ℕ, ◌+◌, ◌-◌, ◌<◌, ◌≤◌, ◌∙◌, true, false, List, []}
 use Rattle.textwrap_base.proofs.Common.{◌∷◌, ◌++◌, length, drop, get_or, slice_range, cond, IsUtf8, refl}
-use Rattle.textwrap_base.proofs.Common.{ap, subst, arith, nat_tests, lt-ltb, cases_lt, inl, inr}
+use Rattle.textwrap_base.proofs.Common.{sym, ap, subst, arith, nat_tests, lt-ltb, cases_lt, inl, inr}
 use Rattle.textwrap_base.proofs.Common.{append-nil, get_or-drop, get_or-take, All-drop, All-from_get_or}
 use Rattle.textwrap_base.proofs.Common.{All-head, All-take, All-weaker}
 use Rattle.std.specs.Char.{is_whitespace}
 use Rattle.std.proofs.lemmas.Str.{chars-IsAscii, IsUtf8-from_ascii}
 use Rattle.textwrap_base.proofs.Lists.Parts.{length-slice}
 use Rattle.textwrap_words.proofs.Common.{IsPrintable, IsPrintableByte, without_final_blanks}
+use Rattle.textwrap_words.proofs.Common.{word_of}
 use Rattle.textwrap_words.proofs.Units.Widths.{printable-ascii}
-use Rattle.textwrap_lines.proofs.Common.{is_whole, IsFilled}
+use Rattle.textwrap_lines.proofs.Common.{is_whole, parts_of, IsFilled, Slice}
 use Rattle.textwrap.specs.Indentation.{HasNoLineFeed, indented}
 use Rattle.textwrap.proofs.Common.{is_blank_line}
 use Rattle.textwrap.proofs.Text.EndedParts.{ended_parts-whole}
-use Rattle.textwrap_plain.proofs.OnlyLine.{only-filled, printable-paragraph}
+use Rattle.textwrap_lines.proofs.Paragraph.WholeLine.{AreParagraphParts-whole, line_from-whole}
+use Rattle.textwrap_lines.specs.Places.{place_of}
+use Rattle.textwrap_plain.proofs.OnlyLine.{printable-paragraph}
 use Rattle.textwrap_calls.specs.Options.{Divides, says_yes, settings_of}
+use Rattle.textwrap_calls.specs.Printable.{IsOnlyLine}
 use Rattle.textwrap_calls.specs.declared.options.TextwrapOptions.{TextwrapOptions}
 
 -- a byte of a printable block
@@ -71,13 +75,27 @@ indented-line prefix (c ∷ cs) printable some dark =
     ) in
     rw (whole, full) (append-nil (prefix ++ c ∷ cs))
 
--- one without an indent that is shorter than the width is filled as it is, but for its last blanks
-pub printable-filled : (o : TextwrapOptions) (text filled : List ℕ) → o.initial_indent.now ≡ []
+-- one without an indent that is shorter than the width is the line as it is, but for its last blanks
+pub printable-line : (o : TextwrapOptions) (text line : List ℕ) → o.initial_indent.now ≡ []
     → length text < o.width → IsPrintable text
-    → filled ≡ cond (says_yes o.preserve_trailing_space) text (without_final_blanks text)
-    → IsFilled (settings_of o) (Divides o (settings_of o)) text filled
-printable-filled o text filled none short printable is =
+    → line ≡ cond (says_yes o.preserve_trailing_space) text (without_final_blanks text)
+    → IsOnlyLine o text line
+printable-line o text line none short printable is =
     let settings = settings_of o in
     let whole : is_whole settings false text ≡ true = rw none (lt-ltb (length text) o.width short) in
-    only-filled settings (Divides o settings) text filled
-    (printable-paragraph settings.line_ending text printable) whole is
+    let one = printable-paragraph settings.line_ending text printable in
+    let parts = parts_of settings false (word_of text ∷ []) ∷ [] in
+    let same = ap Slice is ∙ sym (line_from-whole settings false text whole) in
+    record {
+      are = record {
+        groups = parts ∷ [];
+        defined = rw one (AreParagraphParts-whole settings (Divides o settings) false text whole, refl);
+        given = ap (λ l. l ∷ []) same;
+      };
+      places_are = rw one (ap (λ l. place_of 0 0 l ∷ []) same);
+    }
+
+-- and that is the filled text
+pub only-line-filled : (o : TextwrapOptions) (text line : List ℕ) → IsOnlyLine o text line
+    → IsFilled (settings_of o) (Divides o (settings_of o)) text line
+only-line-filled o text line only = (Slice line ∷ [], only.are, refl)

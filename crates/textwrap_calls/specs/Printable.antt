@@ -1,8 +1,10 @@
 -- Lines of printable ASCII, for which neither the options nor UTF-8 have to be read.
-use Rattle.std.specs.Prelude.{◌≡◌, ◌≢◌, ℕ, List, [], slice_index}
+use Rattle.std.specs.Prelude.{◌≡◌, ◌≢◌, ℕ, List, [], ◌∷◌, slice_index}
 use Rattle.textwrap_words.specs.Blanks.{blank}
 use Rattle.textwrap_words.specs.Units.{IsPrintable}
-use Rattle.textwrap_calls.specs.Options.{AreKnown}
+use Rattle.textwrap_lines.specs.Paragraph.{Slice}
+use Rattle.textwrap_lines.specs.Places.{ArePlacedLines, place_of}
+use Rattle.textwrap_calls.specs.Options.{settings_of, AreKnown, Divides}
 use Rattle.textwrap_calls.specs.declared.options.TextwrapOptions.{TextwrapOptions}
 
 -- known options that add nothing to a line
@@ -10,6 +12,11 @@ pub record AreWithoutIndents (o : TextwrapOptions) : Type 0 where
   pub initial : o.initial_indent.now ≡ []
   pub subsequent : o.subsequent_indent.now ≡ []
   pub known : AreKnown o
+
+-- the text is this one line, a slice from its beginning
+abbrev pub IsOnlyLine : TextwrapOptions → List ℕ → List ℕ → Type 0
+IsOnlyLine o text line = ArePlacedLines (settings_of o) (Divides o (settings_of o)) text
+    (Slice line ∷ []) (place_of 0 0 (Slice line) ∷ [])
 
 -- printable characters, of which the first is no blank
 pub record IsFullLine (text : List ℕ) : Type 0 where

@@ -1,22 +1,20 @@
 //! Filling a text.
-ghost use Rattle.std.specs.Prelude.{◌≡◌, ◌≢◌, ◌≤◌, ◌↔◌, ◌⊎◌, IsUtf8, IfOk, IfErr, IfSome, IsTrue, length, string_bytes};
+ghost use Rattle.std.specs.Prelude.{◌≡◌, ◌≢◌, ◌≤◌, ◌↔◌, ◌⊎◌, IsUtf8, IfOk, IfErr, length, string_bytes};
 ghost use Rattle.textwrap.specs.Filling.{IsFilled};
 ghost use Rattle.textwrap.specs.InPlace.{IsFilledInPlace};
 ghost use Rattle.textwrap_calls.specs.Options.{settings_of, AreKnown, Divides};
 ghost use Rattle.textwrap_calls.specs.Options.{AreTexts};
-ghost use Rattle.textwrap_calls.specs.Printable.{AreWithoutIndents};
 ghost use Rattle.textwrap_calls.specs.Room.{WritesLong};
 ghost use Rattle.textwrap_calls.specs.Status.{done, not_utf8, out_of_memory, unknown_options};
 
-use crate::options::{TextwrapOptions, are_known, read_options};
-use crate::printable::is_printable_text;
+use crate::options::{TextwrapOptions, read_options};
+use crate::printable::only_line;
 use crate::room::{put, report};
 use crate::status::{DONE, NOT_UTF8, OUT_OF_MEMORY};
 use simdutf8::basic::from_utf8;
 use std::alloc::Global;
 use textwrap::fill_inplace;
 use textwrap_plain::fill_into;
-use textwrap_words::blanks::trimmed_len;
 
 /// Writes the filled text to the front of the room, and its length to `len`. Where the room is too
 /// short it holds the beginning of the text, and `len` says what room a second call has to bring. At
@@ -51,36 +49,6 @@ pub fn textwrap_fill(
         Ok(answer) => report(answer, room.len(), len),
         Err(_) => OUT_OF_MEMORY,
     }
-}
-
-/// The line of a printable text that is one as a whole, by known options without indents. Then neither
-/// the text nor the options have to be read, and most short texts are such.
-fn only_line<'t>(text: &'t [u8], options: &TextwrapOptions<'_>) -> Option<&'t [u8]>
-    ensures known { IfSome result (λ _. AreKnown options.now × AreTexts options.now) }
-    ensures utf8 { IfSome result (λ _. IsUtf8 text.now) }
-    ensures filled { IfSome result (λ line. IsFilled (settings_of options.now)
-        (Divides options.now (settings_of options.now)) text.now line.now) }
-{
-    if text.len() >= options.width {
-        return None;
-    }
-    if !are_without_indents(options) {
-        return None;
-    }
-    if !is_printable_text(text) {
-        return None;
-    }
-    if options.preserve_trailing_space != 0 {
-        return Some(text);
-    }
-    Some(&text[..trimmed_len(text)])
-}
-
-/// Whether the options are known, and have no indents.
-fn are_without_indents(options: &TextwrapOptions<'_>) -> bool
-    ensures { IsTrue result ↔ AreWithoutIndents options.now }
-{
-    options.initial_indent.is_empty() && options.subsequent_indent.is_empty() && are_known(options)
 }
 
 /// Fills a text in its own place: blanks of it become line feeds. It answers `DONE`, `NOT_UTF8` or

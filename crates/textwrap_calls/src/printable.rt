@@ -1,7 +1,12 @@
-//! Texts of printable ASCII, told many bytes at a time.
-ghost use Rattle.std.specs.Prelude.{◌↔◌, ◌≤◌, IsTrue, length};
+//! Texts of printable ASCII, told many bytes at a time, and the line that a short one is.
+ghost use Rattle.std.specs.Prelude.{◌↔◌, ◌≤◌, IfSome, IsTrue, IsUtf8, length};
+ghost use Rattle.textwrap.specs.Filling.{IsFilled};
+ghost use Rattle.textwrap_calls.specs.Options.{settings_of, AreKnown, AreTexts, Divides};
+ghost use Rattle.textwrap_calls.specs.Printable.{AreWithoutIndents, IsOnlyLine};
 ghost use Rattle.textwrap_words.specs.Units.{IsPrintable};
 
+use crate::options::{TextwrapOptions, are_known};
+use textwrap_words::blanks::trimmed_len;
 use textwrap_words::inner::is_printable;
 
 /// How many bytes of a text are looked at together.
@@ -37,4 +42,35 @@ fn is_long_printable(text: &[u8]) -> bool
         end += BLOCK;
     }
     is_printable(&text[text.len() - BLOCK..])
+}
+
+/// The line of a printable text that is one as a whole, by known options without indents. Then neither
+/// the text nor the options have to be read, and most short texts are such.
+pub(crate) fn only_line<'t>(text: &'t [u8], options: &TextwrapOptions<'_>) -> Option<&'t [u8]>
+    ensures known { IfSome result (λ _. AreKnown options.now × AreTexts options.now) }
+    ensures utf8 { IfSome result (λ _. IsUtf8 text.now) }
+    ensures filled { IfSome result (λ line. IsFilled (settings_of options.now)
+        (Divides options.now (settings_of options.now)) text.now line.now) }
+    ensures line { IfSome result (λ line. IsOnlyLine options.now text.now line.now) }
+{
+    if text.len() >= options.width {
+        return None;
+    }
+    if !are_without_indents(options) {
+        return None;
+    }
+    if !is_printable_text(text) {
+        return None;
+    }
+    if options.preserve_trailing_space != 0 {
+        return Some(text);
+    }
+    Some(&text[..trimmed_len(text)])
+}
+
+/// Whether the options are known, and have no indents.
+fn are_without_indents(options: &TextwrapOptions<'_>) -> bool
+    ensures { IsTrue result ↔ AreWithoutIndents options.now }
+{
+    options.initial_indent.is_empty() && options.subsequent_indent.is_empty() && are_known(options)
 }

@@ -38,6 +38,22 @@ pub(crate) fn put_lines(
     ensures statuses { (result ≡ done) ⊎ (result ≡ too_small) }
 {
     let (places, built) = (reported.places.as_slice(), reported.built.as_slice());
+    put_listed(places, built, lines, count, room, len)
+}
+
+/// The same, where the places and the texts of their own are lent.
+pub(crate) fn put_listed(
+    places: &[Place],
+    built: &[u8],
+    lines: &mut [TextwrapLine],
+    count: &mut usize,
+    room: &mut [u8],
+    len: &mut usize,
+) -> u32
+    ensures lines { WritesReported places.now built.now result lines.old lines.new count.new
+        room.old room.new len.new }
+    ensures statuses { (result ≡ done) ⊎ (result ≡ too_small) }
+{
     *count = places.len();
     if lines.len() < places.len() || room.len() < built.len() {
         *len = built.len();

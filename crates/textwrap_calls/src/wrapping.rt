@@ -7,11 +7,13 @@ ghost use Rattle.textwrap_calls.specs.Wrapping.{WritesLines};
 ghost use Rattle.textwrap_lines.specs.Places.{ArePlacedLines};
 
 use crate::options::{TextwrapOptions, read_options};
+use crate::printable::only_line;
 pub use crate::reported::TextwrapLine;
-use crate::reported::put_lines;
+use crate::reported::{put_lines, put_listed};
 use crate::status::{NOT_UTF8, OUT_OF_MEMORY};
 use simdutf8::basic::from_utf8;
 use std::alloc::Global;
+use textwrap_lines::placed::Place;
 use textwrap_plain::placed::place_lines;
 
 /// Writes where the lines of the text stand, and how many they are to `count`. A line that is a
@@ -35,6 +37,14 @@ pub fn textwrap_wrap(
         × ¬ (IsUtf8 text.now × AreTexts options.now) }
     ensures statuses { result ≤ unknown_options }
 {
+    if let Some(line) = only_line(text, options) {
+        let place = Place {
+            offset: 0,
+            len: line.len(),
+            is_built: false,
+        };
+        return put_listed(&[place], &[], lines, count, room, len);
+    }
     let options = match read_options(options) {
         Ok(options) => options,
         Err(status) => return status,

@@ -1,5 +1,6 @@
 -- What stands on either side of a cut of a printable text: the laws of such cuts.
-use Rattle.textwrap_base.proofs.Common.{ℕ, ◌-◌, false≢true, List, ap, get_or}
+use Rattle.std.specs.Prelude.{ℕ, ◌-◌, List, slice_index}
+use Rattle.textwrap_base.proofs.Common.{false≢true, ap}
 use Rattle.std.proofs.lemmas.Bool.{and_parts, eqb-true, not-true}
 use Rattle.std.specs.Char.{is_ascii_alphanumeric}
 use Rattle.textwrap_words.proofs.Common.{IsPrintable, is_blank}
@@ -21,8 +22,8 @@ cuts-before_others (AtBreaks ByExpression) text printable place after inside cut
 pub cuts-after_others : (separator : PlainSeparator) (text : List ℕ) → IsPrintable text
     → AfterOthers (is_cut_by separator text) text
 cuts-after_others AtBlanks text printable place after inside cut =
-    ap is_ascii_alphanumeric (eqb-true (get_or text (place - 1) 0) 32
-    (and_parts (is_blank (get_or text (place - 1) 0)) _ cut).0)
+    ap is_ascii_alphanumeric (eqb-true (slice_index text (place - 1)) 32
+    (and_parts (is_blank (slice_index text (place - 1))) _ cut).0)
 cuts-after_others (AtBreaks ByPairs) text printable place after inside cut =
     cut-after_other text printable place after inside cut
 cuts-after_others (AtBreaks ByExpression) text printable place after inside cut =

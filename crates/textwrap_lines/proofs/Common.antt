@@ -20,7 +20,8 @@ pub use Rattle.textwrap_lines.specs.Places.{AreCutLines, built_bytes, built_text
 pub use Rattle.textwrap_lines.specs.Places.{cut_lines, CutLine, further, lines_of, place_of}
 pub use Rattle.textwrap_lines.specs.Places.{places_of, text_cuts}
 pub use Rattle.textwrap_lines.specs.Printable.{AfterOthers, BeforeOthers, is_cut_by, IsFirstLine}
-pub use Rattle.textwrap_lines.specs.Printable.{line_slice, NoCutBetween, pieces_from}
+pub use Rattle.textwrap_lines.specs.Printable.{line_slice, NoCutBetween}
+pub use Rattle.textwrap_words.specs.PieceCuts.{pieces_from}
 pub use Rattle.textwrap_lines.specs.Spans.{AreSpans, HaveTexts, last_span, no_span, span_lines}
 pub use Rattle.textwrap_lines.specs.Spans.{span_of, span_priced, spans_from}
 pub use Rattle.textwrap_lines.specs.Text.{AreGroups, AreTextLines, covered_by, IsWrapped}

@@ -1,4 +1,3 @@
-pub mod BlankWords
 pub mod Breaking
 pub mod Bridge
 pub mod BrokenFront
@@ -6,7 +5,6 @@ pub mod Exact
 pub mod FirstLine
 pub mod FirstPiece
 pub mod Lines
-pub mod NextPiece
 pub mod Parts
 pub mod Pieces
 pub mod Points

@@ -1,13 +1,12 @@
 -- The lines of first fit that a text is cut into wherever a test of its places says so.
 use Rattle.std.specs.Prelude.{◌≡◌, ℕ, ◌-◌, ◌<◌, ◌≤◌, Bool, true, false, ◌||◌, List, ◌∷◌, ◌++◌, []}
-use Rattle.std.specs.Prelude.{length, map, drop, slice_index, slice_range, if◌then◌else◌}
+use Rattle.std.specs.Prelude.{length, slice_index, slice_range, if◌then◌else◌}
 use Rattle.std.specs.Char.{is_ascii_alphanumeric}
 use Rattle.textwrap_base.specs.Division.{Fits, closed_width}
 use Rattle.textwrap_words.specs.Blanks.{is_blank, without_final_blanks}
-use Rattle.textwrap_words.specs.Breaking.{broken_words}
-use Rattle.textwrap_words.specs.PieceCuts.{is_point, parts_by}
+use Rattle.textwrap_words.specs.PieceCuts.{is_point, pieces_from}
 use Rattle.textwrap_words.specs.WordSplitters.{Splitter}
-use Rattle.textwrap_words.specs.Words.{WordText, sizes_of, word_of}
+use Rattle.textwrap_words.specs.Words.{WordText, sizes_of}
 use Rattle.textwrap_lines.specs.Paragraph.{covered}
 
 -- ---- where a text is cut
@@ -32,11 +31,6 @@ abbrev pub NoCutBetween : (ℕ → Bool) → ℕ → ℕ → Type 0
 NoCutBetween test from to = (k : ℕ) → from < k → k ≤ to → test k ≡ false
 
 -- ---- pieces and lines
-
--- the pieces of what follows a place: its parts as words, broken at the limit
-abbrev pub pieces_from : (ℕ → Bool) → ℕ → List ℕ → ℕ → List WordText
-pieces_from test limit text at =
-    broken_words limit (map word_of (parts_by test at (drop at text)))
 
 -- a part of a text, or that without its final blanks
 abbrev pub line_slice : List ℕ → ℕ → ℕ → Bool → List ℕ

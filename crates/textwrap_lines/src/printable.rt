@@ -3,7 +3,7 @@
 //! is cut.
 ghost use Rattle.std.specs.Prelude.{◌≡◌, ◌<◌, ◌≤◌, ◌-◌, length, slice_range, true};
 ghost use Rattle.std.specs.Prelude.{OnOk, IsOk};
-ghost use Rattle.textwrap_words.specs.PieceCuts.{is_point};
+ghost use Rattle.textwrap_words.specs.PieceCuts.{is_point, pieces_from};
 ghost use Rattle.textwrap_words.specs.Pieces.{as_splitter, stand_from};
 ghost use Rattle.textwrap_lines.specs.Layout.{break_limit, limit_at};
 ghost use Rattle.textwrap_lines.specs.LineSinks.{Took};
@@ -11,7 +11,6 @@ ghost use Rattle.textwrap_lines.specs.Options.{layout_view};
 ghost use Rattle.textwrap_lines.specs.Paragraph.{indent_of, later_width};
 ghost use Rattle.textwrap_words.specs.Units.{IsPrintable};
 ghost use Rattle.textwrap_lines.specs.Printable.{IsFirstLine, NoCutBetween, is_cut_by, line_slice};
-ghost use Rattle.textwrap_lines.specs.Printable.{pieces_from};
 ghost use Rattle.textwrap_lines.specs.PieceLines.{lines_left, no_pieces};
 
 use crate::layout::{Layout, later_width, next_indent};

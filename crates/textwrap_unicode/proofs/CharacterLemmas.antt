@@ -1,8 +1,6 @@
 -- What the tables of Unicode give for the characters that the code does not look up.
-use Rattle.std.proofs.Common.{◌≡◌, ℕ, ◌<◌, ◌≤◌, Bool, true, false, not, ◌&&◌, ◌||◌, ◌==◌, [], ◌∷◌}
+use Rattle.std.proofs.Common.{◌≡◌, ℕ, ◌<◌, ◌≤◌, Bool, true, false, not, ◌&&◌, ◌==◌}
 use Rattle.std.proofs.Common.{slice_index_or, refl, sym, arith, eqb-true}
-use Rattle.std.proofs.lemmas.Bool.{le-leb}
-use Rattle.unicode.specs.Rows.{Range, in_ranges}
 use Rattle.unicode.specs.Binary.{is_extended_pictographic}
 use Rattle.unicode.specs.EastAsianWidth.{east_asian_width}
 use Rattle.unicode.specs.GeneralCategory.{general_category}
@@ -14,11 +12,11 @@ use Rattle.unicode.proofs.CategoryComputing.{ucd_category}
 use Rattle.unicode.proofs.EastAsianComputing.{ucd_east_asian}
 use Rattle.unicode.proofs.EmojiComputing.{ucd_emoji}
 use Rattle.unicode.proofs.EastAsianWidthLemmas.{east_asian_width_stepped}
-use Rattle.unicode.proofs.Facts.{always, Stepped-always, Stepped-below}
+use Rattle.unicode.proofs.Facts.{Stepped-below}
 use Rattle.unicode.proofs.GeneralCategoryLemmas.{general_category_stepped}
 use Rattle.unicode.proofs.LineBreakLemmas.{line_break_stepped, line_break_number_injective}
-use Rattle.unicode.proofs.Stepped.{Stepped, of_ranges, map_stepped, zip_stepped}
-use Rattle.unicode.proofs.StepsLemmas.{rises_from, range_rows}
+use Rattle.unicode.proofs.Stepped.{Stepped, map_stepped, zip_stepped}
+use Rattle.textwrap_words.proofs.Units.WideCharacters.{passes-within}
 use Rattle.textwrap_unicode.specs.declared.ascii.TheConstants.{CLASSES}
 use Rattle.textwrap_unicode.specs.declared.classes.Unit.{Unit}
 use Rattle.textwrap_unicode.specs.Classes.{class_of, is_unassigned, is_wide, resolve, unit_of}
@@ -76,26 +74,6 @@ ascii-unit c below =
     rw (ascii-class c below, ascii-narrow c below, ascii-assigned c below) refl
 
 -- ---- ranges
-
--- what passes at each step within a range passes at each of its characters
-module _ {V : Type 0} (range : Range) (rises : rises_from 0 (range_rows (range ∷ [])) ≡ true)
-    (f : ℕ → V) (steps : Stepped f) (p : V → Bool) where
-  abbrev passes_at : ℕ → Bool
-  passes_at c = not (in_ranges (range ∷ []) c) || p (f c)
-
-  abbrev passes_stepped : Stepped passes_at
-  passes_stepped = zip_stepped (λ within v. not within || p v) (in_ranges (range ∷ [])) f
-      (of_ranges (range ∷ []) rises) steps
-
-  within-range : (c : ℕ) → range.0 ≤ c → c ≤ range.1 → in_ranges (range ∷ []) c ≡ true
-  unfolding in_ranges
-  within-range c low high = rw (le-leb _ _ low, le-leb _ _ high) refl
-
-  passes-within : range.1 ≤ 0x10_FFFF → always passes_at passes_stepped ≡ true
-      → (c : ℕ) → range.0 ≤ c → c ≤ range.1 → p (f c) ≡ true
-  passes-within last ok c low high =
-      rw (within-range c low high)
-      at (Stepped-always passes_at passes_stepped ok c (omega (arith, last, high)))
 
 ideograph-class : (c : ℕ) → 0x4E00 ≤ c → c ≤ 0x9FFF → Ideographic ≡ class_of c
 unfolding ucd_breaks ucd_category

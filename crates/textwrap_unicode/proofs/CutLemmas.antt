@@ -27,8 +27,9 @@ use Rattle.textwrap_unicode.specs.BreaksLeft.{and, breaks_after}
 use Rattle.textwrap_unicode.specs.Classes.{unit_of}
 use Rattle.textwrap_unicode.specs.Cuts.{may_end, offsets_of}
 use Rattle.textwrap_unicode.specs.Rules.{decide_by, numbers_rule}
-use Rattle.textwrap_unicode.proofs.OffsetsAmong.{any-below, any-here, breaks-above, cut_here}
+use Rattle.textwrap_unicode.proofs.OffsetsAmong.{any-below, any-here, breaks-above}
 use Rattle.textwrap_unicode.proofs.OffsetsAmong.{cuts_ahead}
+use Rattle.textwrap_words.proofs.Word.PlaceParts.{cut_here}
 
 -- ---- the cuts at the breaks are those ahead
 

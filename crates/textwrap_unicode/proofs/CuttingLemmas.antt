@@ -27,7 +27,8 @@ use Rattle.textwrap_unicode.specs.Rules.{decide_by, numbers_rule}
 use Rattle.textwrap_unicode.proofs.BreakLemmas.{breaks_after-from}
 use Rattle.textwrap_unicode.proofs.CutLemmas.{ends-characters, start-cuts, visible_among}
 use Rattle.textwrap_unicode.proofs.CutLemmas.{visible-utf8}
-use Rattle.textwrap_unicode.proofs.OffsetsAmong.{cut_here, cuts_ahead}
+use Rattle.textwrap_unicode.proofs.OffsetsAmong.{cuts_ahead}
+use Rattle.textwrap_words.proofs.Word.PlaceParts.{cut_here}
 use Rattle.textwrap_unicode.proofs.ReadPlaces.{IsRead, read-next}
 
 pub record IsCutting (numbers : Numbers) (line : List ℕ) (at : ℕ) (rest : List ℕ) (state : State) (before : Before)

@@ -20,7 +20,7 @@ use Rattle.textwrap_unicode.specs.Ideographs.{IsCommonIdeograph, IsIdeographAt, 
 use Rattle.textwrap_unicode.specs.Ideographs.{wide_ideograph}
 use Rattle.textwrap_unicode.specs.Rules.{decide_by, numbers_rule}
 use Rattle.textwrap_unicode.proofs.CuttingLemmas.{IsCutting, IsCutting-step}
-use Rattle.textwrap_unicode.proofs.OffsetsAmong.{cut_here}
+use Rattle.textwrap_words.proofs.Word.PlaceParts.{cut_here}
 
 -- ---- the characters
 

@@ -9,6 +9,7 @@ use Rattle.std.specs.List.{list_any}
 use lib.Utf8.{encode}
 use Rattle.textwrap_words.proofs.Common.{VisibleEnd}
 use Rattle.textwrap_words.specs.WordOffsets.{is_any_hyphen}
+use Rattle.textwrap_words.proofs.Word.PlaceParts.{cut_here}
 use Rattle.textwrap_unicode.specs.declared.before.Before.{Before}
 use Rattle.textwrap_unicode.specs.declared.numbers.Numbers.{Numbers}
 use Rattle.textwrap_unicode.specs.declared.rules.Verdict.{Verdict}
@@ -21,9 +22,6 @@ use Rattle.textwrap_unicode.specs.Cuts.{may_end, offsets_of}
 use Rattle.textwrap_unicode.specs.Rules.{decide_by, numbers_rule}
 
 -- ---- the cuts that are ahead
-
-abbrev pub cut_here : Bool → ℕ → List ℕ
-cut_here b end = if b then end ∷ [] else []
 
 -- after a last visible character that ends there, and may be a hyphen
 abbrev pub cuts_ahead : Numbers → Before → ℕ → Bool → List VisibleEnd → List ℕ

@@ -3,16 +3,14 @@ use Rattle.textwrap_base.proofs.Common.{◌≡◌, ℕ, suc, ◌-◌, ◌<◌, �
 use Rattle.textwrap_base.proofs.Common.{if◌then◌else◌, List, length, get_or, sym, ap, ◌∙◌}
 use Rattle.textwrap_base.proofs.Common.{arith}
 use Rattle.std.proofs.Math.Bool.{and-false}
-use Rattle.std.proofs.lemmas.Bool.{and_left}
 use Rattle.textwrap_words.proofs.Common.{is_blank, is_cut, IsPrintable, parts_between}
 use Rattle.textwrap_words.specs.PieceCuts.{parts_by}
-use Rattle.textwrap_words.specs.WordOffsets.{is_any_hyphen}
 use Rattle.textwrap_unicode.specs.Classes.{class_of}
 use Rattle.textwrap_unicode.specs.Pairs.{at_breaks, class_past_blanks, is_unusual, may_follow_blanks}
 use Rattle.textwrap_unicode.specs.Cuts.{unicode_cuts}
 use Rattle.textwrap_unicode.specs.Pairs.{printable_cut}
 use Rattle.textwrap_unicode.proofs.PastBlanks.{past-among, past-byte}
-use Rattle.textwrap_unicode.proofs.PlaceParts.{parts_between-places, parts-same}
+use Rattle.textwrap_words.proofs.Word.PlaceParts.{parts_between-places, parts-same}
 use Rattle.textwrap_unicode.proofs.PrintableCuts.{breaks-cut, cuts-places}
 use Rattle.textwrap_unicode.proofs.PrintableVerdicts.{cut-behind}
 
@@ -38,12 +36,6 @@ module _ (text : List ℕ) (printable : IsPrintable text) where
   cut-at-blanks place start inside blank =
       let told = cut-told place start inside in
       rw blank at told ∙ sym (rw blank (and-false (is_blank (get_or text (place - 1) 0))))
-
-  -- and not directly after a hyphen
-  pub uncut-hyphen : (place : ℕ) → 0 < place → place < length text
-      → is_any_hyphen (get_or text (place - 1) 0) ≡ true → at_breaks text place ≡ false
-  uncut-hyphen place start inside hyphen =
-      breaks-cut text printable place start inside ∙ and_left _ _ (ap not hyphen)
 
   -- its words are the parts between its cuts
   pub parts-cut : parts_between (unicode_cuts text) text ≡ parts_by (at_breaks text) 0 text

@@ -22,8 +22,10 @@ use Rattle.textwrap_unicode.specs.Pairs.{printable_cut}
 use Rattle.textwrap_unicode.specs.Rules.{decide}
 use Rattle.textwrap_unicode.proofs.BehindBytes.{byte-first, byte-step, IsBehind, past-more}
 use Rattle.textwrap_unicode.proofs.CuttingLemmas.{IsCutting-start}
-use Rattle.textwrap_unicode.proofs.OffsetsAmong.{cut_here, cuts_ahead}
-use Rattle.textwrap_unicode.proofs.PlaceParts.{byte-here, byte-inside, bytes-after, place-found, places_by}
+use Rattle.textwrap_unicode.proofs.OffsetsAmong.{cuts_ahead}
+use Rattle.textwrap_words.proofs.Word.PlaceParts.{byte-here, byte-inside, bytes-after, cut_here}
+use Rattle.textwrap_words.proofs.Word.PlaceParts.{places_by}
+use Rattle.textwrap_unicode.proofs.PlaceParts.{place-found}
 
 module _ (text : List ℕ) (printable : IsPrintable text) where
   abbrev past : ℕ → LineBreak

@@ -7,7 +7,7 @@ use Rattle.textwrap_words.proofs.Word.Texts.{final_blanks-blank}
 use Rattle.textwrap_unicode.specs.Cuts.{unicode_cuts}
 use Rattle.textwrap_unicode.specs.Pairs.{at_breaks, IsCutAtBlanks, IsUsual}
 use Rattle.textwrap_unicode.proofs.PlaceCuts.{cut-at-blanks, parts-cut}
-use Rattle.textwrap_unicode.proofs.PlaceParts.{parts-chunks}
+use Rattle.textwrap_words.proofs.Word.PlaceParts.{parts-chunks}
 
 module _ (text : List ℕ) (printable : IsPrintable text)
     (usual : (k : ℕ) → 0 < k → k < trimmed_len text → IsUsual text k) where

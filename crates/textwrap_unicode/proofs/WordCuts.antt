@@ -17,7 +17,7 @@ use Rattle.textwrap_unicode.specs.WordStarts.{IsWordByte, is_behind_blank}
 use Rattle.textwrap_unicode.specs.WordStarts.{is_behind_sign, word_starts}
 use Rattle.textwrap_unicode.proofs.BreakLemmas.{in_word}
 use Rattle.textwrap_unicode.proofs.CuttingLemmas.{IsCutting, IsCutting-step}
-use Rattle.textwrap_unicode.proofs.OffsetsAmong.{cut_here}
+use Rattle.textwrap_words.proofs.Word.PlaceParts.{cut_here}
 use Rattle.textwrap_unicode.proofs.WordVerdicts.{ascii-is, behind, ends, no-escape, no-hyphen, said}
 
 module _ (numbers : Numbers) (line : List ℕ) (at : ℕ) (rest : List ℕ) where

@@ -7,4 +7,5 @@ pub mod Sequences
 pub mod States
 pub mod Stripped
 pub mod Unique
+pub mod WideCharacters
 pub mod Widths

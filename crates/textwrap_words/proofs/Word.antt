@@ -29,6 +29,7 @@ pub mod PieceEnds
 pub mod PieceFronts
 pub mod PieceTexts
 pub mod Pieces
+pub mod PlaceParts
 pub mod PointsApart
 pub mod ReadPieces
 pub mod Rows

@@ -27,16 +27,16 @@ parts_by test at (b ∷ c ∷ cs) =
     else onto_first b (parts_by test (at + 1) (c ∷ cs))
 
 -- the pieces of what follows a place: the parts as words, broken at the limit
-abbrev pub pieces_by : (ℕ → Bool) → ℕ → List ℕ → ℕ → List WordText
-pieces_by test limit text at = broken_words limit (map word_of (parts_by test at (drop at text)))
+abbrev pub pieces_from : (ℕ → Bool) → ℕ → List ℕ → ℕ → List WordText
+pieces_from test limit text at = broken_words limit (map word_of (parts_by test at (drop at text)))
 
 -- the same of a text with words between blanks
 abbrev pub pieces_at : Splitter → ℕ → List ℕ → ℕ → List WordText
-pieces_at splitter limit text at = pieces_by (is_piece_cut splitter text) limit text at
+pieces_at splitter limit text at = pieces_from (is_piece_cut splitter text) limit text at
 
 -- the same of a text that is one word with its blanks
 abbrev pub pieces_within : Splitter → ℕ → List ℕ → ℕ → List WordText
-pieces_within splitter limit text at = pieces_by (is_point splitter text) limit text at
+pieces_within splitter limit text at = pieces_from (is_point splitter text) limit text at
 
 -- ---- where a part ends, and the word in it
 

@@ -8,5 +8,13 @@ use unicode_width::UnicodeWidthChar;
 pub fn columns(ch: char) -> usize
     ensures { result ≡ columns ch }
 {
+    let code = ch as u32;
+    // The syllables and the ideographs that most of a Japanese or Chinese text is.
+    if 0x3041 <= code && code <= 0x3096 {
+        return 2;
+    }
+    if 0x4E00 <= code && code <= 0x9FFF {
+        return 2;
+    }
     ch.width().unwrap_or(0)
 }

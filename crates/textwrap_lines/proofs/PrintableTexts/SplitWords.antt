@@ -2,33 +2,21 @@
 use Rattle.textwrap_base.proofs.Common.{inl, inr, ◌≡◌, ℕ, zero, suc, ◌+◌, ◌<◌, ◌≤◌, Bool, true}
 use Rattle.textwrap_base.proofs.Common.{false, ◌&&◌, ◌||◌, List, [], ◌∷◌, ◌++◌, length, map, take, drop}
 use Rattle.textwrap_base.proofs.Common.{refl, sym, ap, ◌∙◌, arith, cases_lt, drop_all}
-use Rattle.textwrap_base.proofs.Common.{All-take, length-take-le, map-append, nat_lt, cond}
-use Rattle.textwrap_base.proofs.Common.{slice_range, take-append-drop, onto_first, and_right}
+use Rattle.textwrap_base.proofs.Common.{All-take, length-take-le, map-append, nat_lt}
+use Rattle.textwrap_base.proofs.Common.{slice_range, take-append-drop, and_right}
 use Rattle.textwrap_words.proofs.Common.{IsPrintable, IsPrintableByte, Splitter, split_word}
 use Rattle.textwrap_words.proofs.Common.{split_words, word_of}
 use Rattle.textwrap_words.specs.PieceCuts.{is_point, parts_by}
 use Rattle.textwrap_lines.proofs.Common.{AfterOthers, is_cut_by}
 use Rattle.textwrap_base.proofs.Lists.Parts.{length-slice}
 use Rattle.textwrap_words.proofs.Word.ChunkParts.{split-word}
-use Rattle.textwrap_words.proofs.Word.PartsBy.{next_by}
+use Rattle.textwrap_words.proofs.Word.PlaceParts.{parts-same}
 use Rattle.textwrap_words.proofs.Word.PointsApart.{EndsPlain}
 use Rattle.textwrap_words.proofs.Word.PieceFronts.{parts-front}
 use Rattle.textwrap_lines.proofs.PrintableTexts.Parts.{first-part, parts-split, slice-rest}
 use Rattle.textwrap_lines.proofs.PrintableTexts.Pieces.{printable-slice}
 use Rattle.textwrap_lines.proofs.PrintableTexts.Points.{ends-printable}
 use Rattle.textwrap_lines.proofs.PrintableTexts.Texts.{printable-utf8}
-
--- bytes are cut alike by tests that agree inside them
-pub parts-same : (one other : ℕ → Bool) (rest : List ℕ) (at : ℕ)
-    → ((k : ℕ) → at < k → k < at + length rest → one k ≡ other k)
-    → parts_by one at rest ≡ parts_by other at rest
-parts-same one other [] at same = refl
-parts-same one other (b ∷ []) at same = refl
-parts-same one other (b ∷ c ∷ cs) at same =
-    ap (λ t. next_by one t at b (c ∷ cs)) (same (at + 1) (omega arith) (omega arith))
-    ∙ ap (λ ps. cond (other (at + 1)) ((b ∷ []) ∷ ps) (onto_first b ps))
-    (parts-same one other (c ∷ cs) (at + 1)
-    (λ k from to. same k (omega (arith, from)) (omega (arith, to))))
 
 module _ (cuts : ℕ → Bool) (splitter : Splitter) (text : List ℕ) (printable : IsPrintable text)
     (after : AfterOthers cuts text) where

@@ -8,7 +8,7 @@ use Rattle.textwrap_words.proofs.Common.{trimmed_len, without_final_blanks}
 use Rattle.textwrap_words.proofs.Common.{word_of, piece, broken_word, broken_words, broken_texts}
 use Rattle.textwrap_words.proofs.Common.{text_width}
 use Rattle.std.proofs.lemmas.List.{drop-take}
-use Rattle.textwrap_words.specs.PieceCuts.{parts_by, pieces_by, IsPart}
+use Rattle.textwrap_words.specs.PieceCuts.{parts_by, pieces_from, IsPart}
 use Rattle.textwrap_words.specs.PieceCuts.{AreFinalBlanks}
 use Rattle.textwrap_base.proofs.Lists.Parts.{length-slice}
 use Rattle.textwrap_words.proofs.Word.Texts.{trimmed-past}
@@ -66,12 +66,12 @@ module _ (test : ℕ → Bool) (text : List ℕ) where
     -- the pieces of the part, and those from its end on
     pub pieces-part : (at word_end end : ℕ) → IsPart test text at end
         → AreFinalBlanks text at word_end end
-        → pieces_by test limit text at
+        → pieces_from test limit text at
         ≡ broken_word limit (piece (slice_range text at word_end) (slice_range text word_end end) [])
-        ++ pieces_by test limit text end
+        ++ pieces_from test limit text end
     pieces-part at word_end end part are =
         ap (λ ps. broken_words limit (map word_of ps)) (parts-front at end part)
-        ∙ ap (λ w. broken_word limit w ++ pieces_by test limit text end)
+        ∙ ap (λ w. broken_word limit w ++ pieces_from test limit text end)
         (word_of-slice text at word_end end part.within are)
 
     -- the part is one piece
@@ -79,12 +79,12 @@ module _ (test : ℕ → Bool) (text : List ℕ) where
         → AreFinalBlanks text at word_end end
         → broken_word limit (piece (slice_range text at word_end) (slice_range text word_end end) [])
         ≡ piece (slice_range text at word_end) (slice_range text word_end end) [] ∷ []
-        → pieces_by test limit text at
+        → pieces_from test limit text at
         ≡ piece (slice_range text at word_end) (slice_range text word_end end) []
-        ∷ pieces_by test limit text end
+        ∷ pieces_from test limit text end
     pieces-whole at word_end end part are one =
         pieces-part at word_end end part are
-        ∙ ap (λ ws. ws ++ pieces_by test limit text end) one
+        ∙ ap (λ ws. ws ++ pieces_from test limit text end) one
 
     -- the first piece of a word that is wider than the limit, and those from where it stops
     pub pieces-stop : (at stop word_end end : ℕ) → IsPart test text at end
@@ -92,8 +92,8 @@ module _ (test : ℕ → Bool) (text : List ℕ) where
         → IsUtf8 (slice_range text stop word_end) → limit < text_width (slice_range text at word_end)
         → broken_texts limit (slice_range text at word_end)
         ≡ slice_range text at stop ∷ broken_texts limit (slice_range text stop word_end)
-        → pieces_by test limit text at
-        ≡ piece (slice_range text at stop) [] [] ∷ pieces_by test limit text stop
+        → pieces_from test limit text at
+        ≡ piece (slice_range text at stop) [] [] ∷ pieces_from test limit text stop
     pieces-stop at stop word_end end part are after inside utf8 wide texts =
         let rest = slice_range text stop word_end in
         let within : word_end ≤ length text = omega (arith, part.within, are.up_to) in
@@ -112,7 +112,7 @@ module _ (test : ℕ → Bool) (text : List ℕ) where
           blanks = are.blanks;
         } in
         pieces-part at word_end end part are
-        ∙ ap (λ ws. ws ++ pieces_by test limit text end)
+        ∙ ap (λ ws. ws ++ pieces_from test limit text end)
         (broken_word-front limit (slice_range text at word_end) (slice_range text at stop) rest
         (slice_range text word_end end) utf8 some wide texts)
         ∙ ap (λ ws. piece (slice_range text at stop) [] [] ∷ ws)

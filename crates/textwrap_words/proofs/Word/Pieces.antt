@@ -12,7 +12,7 @@ use Rattle.textwrap_words.proofs.Common.{words_of, chunks, AreWordsOf}
 use Rattle.std.proofs.lemmas.List.Elements.{filter_passes}
 use Rattle.textwrap_words.specs.WordSplitters.{inner_offsets}
 use Rattle.textwrap_words.proofs.Word.Splitting.{points_of-cuts}
-use Rattle.textwrap_words.proofs.Word.Measured.{IsMeasured, HasNoPenalty, words-measured, All-each}
+use Rattle.textwrap_words.proofs.Word.Measured.{IsMeasured, HasNoPenalty, words-measured}
 use Rattle.textwrap_words.proofs.Word.Tiling.{tiled-words_of}
 use Rattle.textwrap_words.proofs.Word.Texts.{chunks-utf8}
 use Rattle.textwrap_words.proofs.Word.Words.{words_unique}
@@ -81,14 +81,6 @@ split_from-no_penalty w start (point ∷ points) none ends =
     (All-head (λ p. ends_in_hyphen (take p w.word) ≡ true) point points ends))
     (split_from-no_penalty w point points none
     (All-tail (λ p. ends_in_hyphen (take p w.word) ≡ true) point points ends))
-
-pub split_pieces_of-no_penalty : (splitter : Splitter) (paragraph : List ℕ)
-    → All HasNoPenalty (split_pieces_of splitter paragraph)
-split_pieces_of-no_penalty splitter paragraph =
-    All-each HasNoPenalty HasNoPenalty (split_word splitter)
-    (λ w none. split_from-no_penalty w 0 (points_of splitter w.word) none
-    (points_of-hyphens splitter w.word))
-    (words_of paragraph) (All-map HasNoPenalty word_of (chunks paragraph) (λ k d lt. refl))
 
 -- the parts of a line, each taken as a word
 pub AreTexts-parts : (line : List ℕ) (parts : List (List ℕ)) → tiled (map word_of parts) ≡ line

@@ -7,7 +7,7 @@ use Rattle.textwrap_base.proofs.Common.{IsCharBoundary, IsUtf8-between}
 use Rattle.textwrap_words.proofs.Common.{Visible, is_due, piece, text_width, broken_texts}
 use Rattle.textwrap_words.proofs.Common.{broken_word, pieces_with}
 use Rattle.std.specs.Prelude.{encode_utf8}
-use Rattle.textwrap_words.specs.PieceCuts.{pieces_by, IsPart, AreFinalBlanks}
+use Rattle.textwrap_words.specs.PieceCuts.{pieces_from, IsPart, AreFinalBlanks}
 use Rattle.textwrap_words.specs.declared.escapes.State.{State}
 use Rattle.textwrap_base.proofs.Lists.Parts.{length-slice}
 use Rattle.textwrap_base.proofs.Lists.Slices.{slice_before, slice_after, slice-nil}
@@ -42,14 +42,14 @@ module _ (test : ℕ → Bool) (limit : ℕ) (text : List ℕ) (utf8 : IsUtf8 te
 
   -- there is no word before the blanks
   blanks-alone : (end : ℕ) → IsPart test text at end → AreFinalBlanks text at at end
-      → pieces_by test limit text at
+      → pieces_from test limit text at
       ≡ record {
         word = slice_range text at at;
         whitespace = slice_range text at end;
         penalty = [];
         width = 0;
       }
-      ∷ pieces_by test limit text end
+      ∷ pieces_from test limit text end
   blanks-alone end part are =
       let slice = slice_range text at at in
       let none : slice ≡ [] = slice-nil text at in
@@ -60,14 +60,14 @@ module _ (test : ℕ → Bool) (limit : ℕ) (text : List ℕ) (utf8 : IsUtf8 te
   pub part-ends : (place end : ℕ) (state : State) (width : ℕ)
       → IsScanned test limit text at place state width → IsPart test text at end
       → AreFinalBlanks text at place end
-      → pieces_by test limit text at
+      → pieces_from test limit text at
       ≡ record {
         word = slice_range text at place;
         whitespace = slice_range text place end;
         penalty = [];
         width = width;
       }
-      ∷ pieces_by test limit text end
+      ∷ pieces_from test limit text end
   part-ends place end state width h part are = elim (cases_lt at place) [
     | inr none ↦
         let same : at ≡ place = omega (arith, none, h.from) in
@@ -95,14 +95,14 @@ module _ (test : ℕ → Bool) (limit : ℕ) (text : List ℕ) (utf8 : IsUtf8 te
       → IsPart test text at end → AreFinalBlanks text at v end
       → drop place text ≡ encode_utf8 c ++ after → IsStep state c next true → 0 < width
       → is_due limit width (Visible c) ≡ true
-      → pieces_by test limit text at
+      → pieces_from test limit text at
       ≡ record {
         word = slice_range text at place;
         whitespace = slice_range text place place;
         penalty = [];
         width = width;
       }
-      ∷ pieces_by test limit text place
+      ∷ pieces_from test limit text place
   part-stops place v end c after state next width h later cut part are is step wide_some due =
       let some : at < place = omega (arith, wide_some, h.bound) in
       let whole = slice_range text at v in
@@ -124,6 +124,6 @@ module _ (test : ℕ → Bool) (limit : ℕ) (text : List ℕ) (utf8 : IsUtf8 te
       omega (arith, later, length-slice text place v cut.0, ap length none) in
       let past : limit < text_width whole = grind (arith, broken_texts-narrow) in
       pieces-stop test text limit at place v end part are some later rest_utf8 past texts
-      ∙ ap (λ l. piece front l [] ∷ pieces_by test limit text place) (sym (slice-nil text place))
-      ∙ ap (λ w. w ∷ pieces_by test limit text place)
+      ∙ ap (λ l. piece front l [] ∷ pieces_from test limit text place) (sym (slice-nil text place))
+      ∙ ap (λ w. w ∷ pieces_from test limit text place)
       (same-piece front (slice_range text place place) width wide)

@@ -2,10 +2,9 @@ use Rattle.textwrap_lines.proofs.wrapping.OptionsAnyOptions.printable_cuts.Goals
 use Rattle.textwrap_base.proofs.Common.{subst, sym}
 use Rattle.textwrap_words.proofs.Common.{MaySeparate}
 use Rattle.textwrap_words.proofs.Word.Words.{words_unique}
-use Rattle.textwrap_lines.proofs.PrintableTexts.BlankWords.{blank-words}
-use Rattle.textwrap_lines.proofs.PrintableTexts.Texts.{printable-utf8}
+use Rattle.textwrap_words.proofs.Word.PlaceParts.{blank-words}
 
 pub returns-in-AsciiSpace : goal.returns-in-AsciiSpace
 returns-in-AsciiSpace g c = λ paragraph printable.
     subst (λ separator. MaySeparate separator paragraph _) (sym c.in-AsciiSpace.is)
-    ((words_unique paragraph _).1 (sym (blank-words paragraph (printable-utf8 paragraph printable))))
+    ((words_unique paragraph _).1 (sym (blank-words paragraph)))

@@ -2,8 +2,7 @@ use Rattle.textwrap_plain.proofs.printable.PlainSeparatorPrintableCuts.are_told.
 use Rattle.textwrap_base.proofs.Common.{◌≡◌, ap, map, rules, subst, sym}
 use Rattle.textwrap_words.proofs.Common.{word_of}
 use Rattle.textwrap_words.specs.PieceCuts.{parts_by}
-use Rattle.textwrap_lines.proofs.PrintableTexts.BlankWords.{blank-words}
-use Rattle.textwrap_lines.proofs.PrintableTexts.Texts.{printable-utf8}
+use Rattle.textwrap_words.proofs.Word.PlaceParts.{blank-words}
 use Rattle.textwrap_unicode.proofs.PlaceCuts.{parts-cut}
 use Rattle.textwrap_unicode.specs.declared.numbers.Numbers.TheVariants.{ByPairs}
 use Rattle.textwrap_plain.specs.Options.{is_cut_by, words_by}
@@ -13,7 +12,7 @@ pub returns-in-AtBlanks : goal.returns-in-AtBlanks
 returns-in-AtBlanks c = λ _ text printable.
     subst (λ separator. words_by separator text
     ≡ map word_of (parts_by (is_cut_by separator text) 0 text)) (sym c.in-AtBlanks.is)
-    (blank-words text (printable-utf8 text printable))
+    (blank-words text)
 
 pub returns-in-AtBreaks-ByPairs : goal.returns-in-AtBreaks-ByPairs
 returns-in-AtBreaks-ByPairs c = λ _ text printable.

@@ -13,9 +13,7 @@ pub mod InPlaceFits
 pub mod InPlaceLines
 pub mod InPlaceParagraphs
 pub mod InPlaceParts
-pub mod InPlaceRows
 pub mod Indentation
-pub mod IndentationRows
 pub mod IndentsBack
 pub mod JoinedLines
 pub mod Layout
@@ -31,12 +29,10 @@ pub mod PlainUnfilled
 pub mod Prefixes
 pub mod Refilling
 pub mod RefillingIndents
-pub mod RefillingRows
 pub mod RowEndings
 pub mod TableBytes
 pub mod TableColumns
 pub mod TableLaws
 pub mod TableLines
-pub mod TableRows
 pub mod Unfilling
 pub mod WholeLines

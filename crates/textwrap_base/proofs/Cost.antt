@@ -11,7 +11,6 @@ pub mod Measures
 pub mod OneLine
 pub mod Overflow
 pub mod QueueCase
-pub mod QueueRows
 pub mod Reached
 pub mod Reported
 pub mod Results

@@ -2,7 +2,6 @@ pub mod Computed
 pub mod Measuring
 pub mod Narrow
 pub mod Parts
-pub mod Rows
 pub mod Sequences
 pub mod States
 pub mod Stripped

@@ -1,7 +1,6 @@
 pub mod Bounds
 pub mod Breaking
 pub mod BreakingExists
-pub mod BreakingRows
 pub mod BreakingUnique
 pub mod BrokenPieces
 pub mod BrokenTexts
@@ -32,7 +31,6 @@ pub mod Pieces
 pub mod PlaceParts
 pub mod PointsApart
 pub mod ReadPieces
-pub mod Rows
 pub mod ScannedCuts
 pub mod ScannedEnds
 pub mod ScannedLetters
@@ -42,7 +40,6 @@ pub mod SplitParts
 pub mod SplitPieces
 pub mod SplitTiling
 pub mod Splitting
-pub mod SplittingRows
 pub mod StandingPieces
 pub mod Texts
 pub mod Tiling

@@ -1,7 +1,9 @@
--- Worked tables at the default penalties: what their entries start at and cost.
+-- Worked tables at the default penalties: what their entries start at and cost; and line costs that
+-- are not convex.
 use Rattle.textwrap_base.proofs.Common.{◌≡◌, ℕ, List, [], ◌∷◌, map, take, refl, Sizes}
 use Rattle.textwrap_base.proofs.Common.{default_penalties, closed_width, priced_at, division_cost}
-use Rattle.textwrap_base.proofs.Common.{fragments_table}
+use Rattle.textwrap_base.proofs.Common.{fragments_table, fragment_costs, arith}
+use Rattle.textwrap_base.specs.Queue.{AreConvex}
 use Rattle.textwrap_base.proofs.Division.Rows.{sized}
 use Rattle.textwrap_base.specs.Table.{table}
 use Rattle.textwrap_base.specs.declared.minima.table.Entry.{Entry}
@@ -24,6 +26,12 @@ table-falling : starts_and_costs (10 ∷ []) falling ≡ (0, 0) ∷ (0, 1000) �
     (1, 2000) ∷ (4, 3000) ∷ []
 unfolding table
 table-falling = refl
+
+-- the second and third cost 13525, the third and fourth 1025, all three 1000, and the third 1025
+not_convex-falling : ¬ AreConvex (fragment_costs (priced_at default_penalties) default_penalties
+    (10 ∷ []) falling)
+not_convex-falling convex =
+    omega (arith, convex 1 2 3 4 (omega arith) (omega arith) (omega arith) (omega arith) (omega arith))
 
 -- ---- line widths for which three lines of one fragment each cost less than the table's division
 

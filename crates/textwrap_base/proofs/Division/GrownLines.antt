@@ -5,7 +5,6 @@ use Rattle.textwrap_base.proofs.Common.{and_parts, ltb-true, cond_both, All-nil,
 use Rattle.textwrap_base.proofs.Common.{line_width, closed_width, Fits, AllFit, AllFull, IsGreedy}
 use Rattle.textwrap_base.proofs.Division.Grown.{is_full, grown, grown-begins}
 use Rattle.textwrap_base.proofs.Division.Greedy.{Fits-push, IsGreedy-from}
-use Rattle.textwrap_base.proofs.Division.SameWidths.{line_width-one}
 use Rattle.textwrap_base.proofs.Lists.Parts.{flat}
 
 module _ {X : Type 0} (sizes : X → Sizes) (later : ℕ) (widths : List ℕ)
@@ -60,8 +59,3 @@ module _ {X : Type 0} (sizes : X → Sizes) (later : ℕ) (widths : List ℕ)
   grown-greedy first same (x ∷ xs) =
       let lines = are_grown first (x ∷ xs) [] in
       grind (arith, IsGreedy-from, Fits-none)
-
-pub greedy_at : {X : Type 0} (sizes : X → Sizes) (width : ℕ) (xs : List X)
-    → IsGreedy sizes (width ∷ []) xs (grown sizes width width xs [])
-greedy_at sizes width xs = grown-greedy sizes width (width ∷ [])
-    (λ number. line_width-one width (number + 1)) width (line_width-one width 0) xs

@@ -1,9 +1,7 @@
--- Worked rows on the widths of lines, on greedy divisions, and on what lines cost.
-use Rattle.textwrap_base.proofs.Common.{◌≡◌, ◌≢◌, ℕ, ◌<◌, ◌≤◌, List, [], ◌∷◌, refl, arith, All-head}
+-- Worked rows on the widths of lines, on divisions, and on what lines cost.
+use Rattle.textwrap_base.proofs.Common.{◌≡◌, ◌≢◌, ℕ, List, [], ◌∷◌, refl, All-head}
 use Rattle.textwrap_base.proofs.Common.{Sizes, default_penalties, priced_at, division_cost}
-use Rattle.textwrap_base.proofs.Common.{line_width, closed_width, IsDivision, IsGreedy}
-use Rattle.textwrap_base.proofs.Division.GrownLines.{grown-greedy, greedy_at}
-use Rattle.textwrap_base.proofs.Division.SameWidths.{line_width-later}
+use Rattle.textwrap_base.proofs.Common.{line_width, closed_width, IsDivision}
 
 -- ---- the width of a line
 
@@ -57,52 +55,6 @@ IsDivision-not_no_line division = cc
 IsDivision-not_empty_line : IsDivision (sized 5 0 0 ∷ []) ([] ∷ (sized 5 0 0 ∷ []) ∷ []) → ⊥
 IsDivision-not_empty_line division =
     All-head (λ line. line ≢ []) [] ((sized 5 0 0 ∷ []) ∷ []) division.1 refl
-
--- all three close within the width, but the first two do not
-IsGreedy-not_past_penalty : IsGreedy itself (10 ∷ []) (sized 5 0 0 ∷ sized 5 0 5 ∷ sized 0 0 0 ∷ [])
-    ((sized 5 0 0 ∷ sized 5 0 5 ∷ sized 0 0 0 ∷ []) ∷ []) → ⊥
-IsGreedy-not_past_penalty greedy = let two : 15 ≤ 10 =
-    greedy.admissible.fit.0 2 (omega arith) (omega arith) in omega arith
-
--- the first line has room for the second fragment
-IsGreedy-not_room_left : IsGreedy itself (10 ∷ []) (sized 5 0 0 ∷ sized 5 0 0 ∷ [])
-    ((sized 5 0 0 ∷ []) ∷ (sized 5 0 0 ∷ []) ∷ []) → ⊥
-IsGreedy-not_room_left greedy = let full : 10 < 10 = greedy.full.0 in omega arith
-
-IsGreedy-none : (widths : List ℕ) → IsGreedy itself widths [] ([] ∷ [])
-IsGreedy-none widths = record {
-  admissible = record { division = refl; fit = (λ k two none. absurd (omega arith), tt) };
-  full = tt;
-}
-
-IsGreedy-before_penalty : IsGreedy itself (10 ∷ []) (sized 5 0 0 ∷ sized 5 0 5 ∷ sized 0 0 0 ∷ [])
-    ((sized 5 0 0 ∷ []) ∷ (sized 5 0 5 ∷ sized 0 0 0 ∷ []) ∷ [])
-IsGreedy-before_penalty = greedy_at itself 10 _
-
-IsGreedy-exact_fit : IsGreedy itself (11 ∷ []) (sized 5 1 0 ∷ sized 5 9 0 ∷ [])
-    ((sized 5 1 0 ∷ sized 5 9 0 ∷ []) ∷ [])
-IsGreedy-exact_fit = greedy_at itself 11 _
-
-IsGreedy-two_widths : IsGreedy itself (5 ∷ 11 ∷ [])
-    (sized 5 1 0 ∷ sized 5 1 0 ∷ sized 5 1 0 ∷ sized 5 1 0 ∷ [])
-    ((sized 5 1 0 ∷ []) ∷ (sized 5 1 0 ∷ sized 5 1 0 ∷ []) ∷ (sized 5 1 0 ∷ []) ∷ [])
-IsGreedy-two_widths = grown-greedy itself 11 (5 ∷ 11 ∷ []) (λ number. line_width-later 5 11 number) 5 refl _
-
-IsGreedy-wide_fragment : IsGreedy itself (10 ∷ []) (sized 12 1 3 ∷ sized 1 0 0 ∷ [])
-    ((sized 12 1 3 ∷ []) ∷ (sized 1 0 0 ∷ []) ∷ [])
-IsGreedy-wide_fragment = greedy_at itself 10 _
-
-IsGreedy-no_widths : IsGreedy itself [] (sized 0 0 0 ∷ sized 0 0 0 ∷ sized 1 0 0 ∷ [])
-    ((sized 0 0 0 ∷ sized 0 0 0 ∷ []) ∷ (sized 1 0 0 ∷ []) ∷ [])
-IsGreedy-no_widths = grown-greedy itself 0 [] (λ number. refl) 0 refl _
-
--- the largest number of 64 bits
-abbrev largest : Sizes
-largest = sized 0xFFFF_FFFF_FFFF_FFFF 0xFFFF_FFFF_FFFF_FFFF 0xFFFF_FFFF_FFFF_FFFF
-
-IsGreedy-largest : IsGreedy itself (0xFFFF_FFFF_FFFF_FFFF ∷ []) (largest ∷ largest ∷ [])
-    ((largest ∷ []) ∷ (largest ∷ []) ∷ [])
-IsGreedy-largest = greedy_at itself _ _
 
 -- ---- what lines cost
 

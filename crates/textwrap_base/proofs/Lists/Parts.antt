@@ -112,11 +112,6 @@ pub onto_first-append : (c : ℕ) (ps qs : List (List ℕ)) → 0 < length ps
 onto_first-append c [] qs some = absurd (omega arith)
 onto_first-append c (p ∷ ps) qs some = refl
 
-pub length-onto_first : (c : ℕ) (parts : List (List ℕ)) → 1 < length (onto_first c parts)
-    → 1 < length parts
-length-onto_first c [] two = absurd (omega arith)
-length-onto_first c (part ∷ parts) two = two
-
 pub all-left : {X : Type 0} (P : X → Type 0) (xs ys : List X) → All P (xs ++ ys) → All P xs
 all-left P xs ys all = subst (All P) (take_at xs ys (length xs) refl)
     (All-take P (length xs) (xs ++ ys) all)

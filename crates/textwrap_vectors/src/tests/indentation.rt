@@ -36,6 +36,11 @@ const DEDENTED: &[(&str, &str)] = &[
     ("\t  \tfoo\n\t    \tbar", "\tfoo\n  \tbar"),
     // A later blank line of other whitespace narrows the margin.
     ("  a\n\t\n  b", "  a\n\n  b"),
+    // Two spaces whose first bytes are the same.
+    (
+        "\u{2003}\u{2003}a\n\u{2003}\u{2002}b",
+        "\u{2003}a\n\u{2002}b",
+    ),
 ];
 
 /// Each line loses the whitespace that all lines begin with; lines of whitespace alone become

@@ -58,6 +58,11 @@ const VISIBLE_TEXTS: &[(&str, &str)] = &[
     ("\u{1b}]\u{1b}\\a", "a"),
     ("\u{1b}[\u{1b}[1ma", "1ma"),
     ("\u{1b}\u{301}x", "x"),
+    ("a b\u{7}", "a b\u{7}"),
+    // A second `[` is a final character, and a second ESC is none.
+    ("\u{1b}[[a", "a"),
+    ("\u{1b}[3\u{1b}ma", "a"),
+    ("\u{1b}]\u{1b}[31ma\u{7}b", "b"),
 ];
 
 /// Without its escape sequences a text is its visible characters, in order.

@@ -1,18 +1,9 @@
--- Worked rows on the lines of texts: a greedy division, and what lines cost.
+-- Worked rows on what the lines of texts cost.
 use Rattle.textwrap_base.proofs.Common.{◌≡◌, ℕ, List, [], ◌∷◌, length, map, refl, codes, priced_at}
-use Rattle.textwrap_base.proofs.Common.{division_cost, IsGreedy, default_penalties}
+use Rattle.textwrap_base.proofs.Common.{division_cost, default_penalties}
 use Rattle.textwrap_words.proofs.Common.{sizes_of, words_of}
 use Rattle.std.specs.Str.{chars}
 use Rattle.unicode_width.specs.Width.{char_width}
-use Rattle.textwrap_base.proofs.Division.GrownLines.{greedy_at}
-
--- a line of a text, by its words
-IsGreedy-words : IsGreedy sizes_of (10 ∷ [])
-    (words_of (codes "To be, or not to be: that is the question"))
-    (words_of (codes "To be, or ") ∷ words_of (codes "not to be: ") ∷ words_of
-    (codes "that is ") ∷ words_of (codes "the ") ∷ words_of (codes "question") ∷ [])
-unfolding chars char_width
-IsGreedy-words = greedy_at sizes_of 10 _
 
 abbrev words_at : List ℕ → List ℕ → List (List ℕ) → ℕ
 words_at widths text lines =

@@ -2,6 +2,7 @@ pub mod Computed
 pub mod Measuring
 pub mod Narrow
 pub mod Parts
+pub mod ReadPlaces
 pub mod Rows
 pub mod Sequences
 pub mod States

@@ -1,7 +1,7 @@
 -- What the reader has found of a line up to a place: the longest beginning that may be kept.
 use Rattle.textwrap_base.proofs.Common.{◌≡◌, ◌≢◌, ℕ, ◌+◌, ◌≤◌, ◌<◌, ◌⊎◌, Bool, true, false, eqb}
 use Rattle.textwrap_base.proofs.Common.{List, ◌++◌, length, take, drop, refl, sym, ap, subst, ◌∙◌}
-use Rattle.textwrap_base.proofs.Common.{inl, inr, arith, IsUtf8, cases_lt, eqb-true, length-drop}
+use Rattle.textwrap_base.proofs.Common.{inl, inr, arith, IsUtf8, cases_lt, eqb-true}
 use Rattle.std.specs.Prelude.{encode_utf8}
 use Rattle.textwrap_words.proofs.Common.{text_width}
 use Rattle.textwrap_words.specs.declared.escapes.State.{State}
@@ -9,6 +9,7 @@ use Rattle.textwrap_display.specs.Shortening.{IsKept, may_end}
 use Rattle.textwrap_display.proofs.KeptPlaces.{is_after_blank, may_end-boundary, may_end-within}
 use Rattle.textwrap_display.proofs.KeptPlaces.{may_end-here, may_end-other, may_end-past}
 use Rattle.textwrap_display.proofs.KeptPlaces.{may_end-whole, may_end-blanks}
+use Rattle.textwrap_words.proofs.Units.ReadPlaces.{read-all}
 use Rattle.textwrap_display.proofs.KeptReader.{IsReadTo, read-width, read-more}
 
 -- the columns of a beginning have room
@@ -67,13 +68,13 @@ module _ (room : ℕ) (line : List ℕ) (utf8 : IsUtf8 line) (place : ℕ) (rest
   module _ (c : ℕ) (after : List ℕ) (is : rest ≡ encode_utf8 c ++ after) (end : ℕ)
       (past : end ≡ place + length (encode_utf8 c)) where
     whole : drop place line ≡ encode_utf8 c ++ after
-    whole = read.left ∙ is
+    whole = read.read.place ∙ is
 
     -- in the character no beginning ends
     outside : (m : ℕ) → m < end → may_end line m ≡ true → m ≤ place
     outside m before may = elim (cases_lt place m) [
       | inl inside ↦
-          let end_of = may_end-past line utf8 place c after read.boundary whole m inside may in
+          let end_of = may_end-past line utf8 place c after read.read.boundary whole m inside may in
           absurd (omega (arith, before, past, end_of))
       | inr up ↦ up
     ]
@@ -81,7 +82,7 @@ module _ (room : ℕ) (line : List ℕ) (utf8 : IsUtf8 line) (place : ℕ) (rest
     -- one may end before it
     pub found-here : taken ≤ room → c ≡ 32 → after_blank ≡ false → IsFound room line end place
     found-here has blank some = record {
-      ends = may_end-here line utf8 place c after read.boundary whole (ap (λ x. eqb x 32) blank)
+      ends = may_end-here line utf8 place c after read.read.boundary whole (ap (λ x. eqb x 32) blank)
           (sym read.blank ∙ some);
       fits = inr (omega (arith, has, read-width line utf8 place rest state taken after_blank read));
       longest = λ m before may room. outside m before may;
@@ -91,7 +92,7 @@ module _ (room : ℕ) (line : List ℕ) (utf8 : IsUtf8 line) (place : ℕ) (rest
     pub found-on : ((c ≡ 32) × (after_blank ≡ true)) ⊎ (c ≢ 32) → IsFound room line end kept
     found-on other = found-until end (λ m later before may has.
         let here : m ≡ place = omega (arith, later, outside m before may) in
-        here ∙ may_end-other line utf8 place c after read.boundary whole
+        here ∙ may_end-other line utf8 place c after read.read.boundary whole
         (λ blank. sym read.blank ∙ follows (eqb-true c 32 blank) other)
         (subst (λ n. may_end line n ≡ true) here may))
       where
@@ -101,7 +102,7 @@ module _ (room : ℕ) (line : List ℕ) (utf8 : IsUtf8 line) (place : ℕ) (rest
 
   module _ (ended : length rest ≡ 0) where
     at_end : place ≡ length line
-    at_end = omega (arith, read.boundary.0, ap length read.left, length-drop place line, ended)
+    at_end = read-all read.read ended
 
     after_last : after_blank ≡ is_after_blank line (length line)
     after_last = read.blank ∙ ap (is_after_blank line) at_end

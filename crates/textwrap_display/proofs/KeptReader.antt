@@ -1,91 +1,61 @@
 -- The reader that finds how much of a line is kept: where it stands, and the columns before that.
 use Rattle.textwrap_base.proofs.Common.{◌≡◌, ℕ, ◌+◌, ◌≤◌, Bool, true, eqb, List, [], ◌∷◌, ◌++◌}
-use Rattle.textwrap_base.proofs.Common.{length, take, drop, refl, sym, ap, subst, ◌∙◌, arith, zero-add}
+use Rattle.textwrap_base.proofs.Common.{length, take, refl, sym, ap, subst, ◌∙◌, arith, zero-add}
 use Rattle.textwrap_base.proofs.Common.{add-zero, append_assoc, append-nil, length-take-le, take_at}
-use Rattle.textwrap_base.proofs.Common.{slice_range, IsUtf8, IsUtf8-take, IsUtf8-drop}
-use Rattle.textwrap_base.proofs.Common.{IsUtf8-past_char, IsCharBoundary, IsCharBoundary-start}
-use Rattle.textwrap_base.proofs.Common.{encode_utf8_all}
-use Rattle.textwrap_base.proofs.Common.{encodes-append, encodes-chars, chars-nil, chars-append}
-use Rattle.textwrap_base.proofs.Common.{chars_from_encodes}
+use Rattle.textwrap_base.proofs.Common.{slice_range, IsUtf8, IsUtf8-take, IsCharBoundary}
+use Rattle.textwrap_base.proofs.Common.{chars-nil, chars-append}
 use Rattle.textwrap_base.proofs.Lists.Parts.{take_slice}
 use Rattle.std.proofs.Math.Seq.{take-add}
 use Rattle.std.specs.Prelude.{chars, encode_utf8}
-use Rattle.std.proofs.lemmas.Str.{IsCharBoundary-from_drop}
-use Rattle.textwrap_words.proofs.Common.{text_width}
-use Rattle.textwrap_words.proofs.Units.States.{IsStep}
-use Rattle.textwrap_words.proofs.Units.Widths.{columns_in, columns_in-step}
+use Rattle.textwrap_words.proofs.Common.{next_of, text_width}
 use Rattle.textwrap_words.proofs.Units.Narrow.{text_width-le}
-use Rattle.textwrap_words.proofs.Word.CharactersAhead.{ends-within, left-after}
-use Rattle.textwrap_words.proofs.Word.FirstUnits.{added}
+use Rattle.textwrap_words.proofs.Units.ReadPlaces.{chars-push, IsRead, read-next, read-start}
+use Rattle.textwrap_words.proofs.Units.Widths.{added, columns_in, columns_in-step}
 use Rattle.textwrap_words.specs.declared.escapes.State.{State}
 use Rattle.textwrap_words.specs.declared.escapes.State.TheVariants.{Text}
 use Rattle.textwrap_display.proofs.KeptPlaces.{is_after_blank, after_blank-past}
 
--- the reader has read up to the place, and the rest is left: whatever characters follow, these are
--- the columns of those that it has read
+-- whatever characters follow the place, these are the columns of those that the reader has read
 pub record IsReadTo (line : List ℕ) (place : ℕ) (rest : List ℕ) (state : State) (taken : ℕ)
     (after_blank : Bool) : Type 0 where
-  pub boundary : IsCharBoundary line place
-  pub left : drop place line ≡ rest
+  pub read : IsRead line place rest
   pub columns : (ds : List ℕ)
       → columns_in Text (chars (take place line) ++ ds) ≡ taken + columns_in state ds
   pub blank : after_blank ≡ is_after_blank line place
 
--- the characters up to the end of one more
-chars-more : (line : List ℕ) (place c : ℕ) (after : List ℕ) → IsUtf8 line
-    → IsCharBoundary line place → drop place line ≡ encode_utf8 c ++ after
-    → (end : ℕ) → end ≡ place + length (encode_utf8 c) → IsCharBoundary line end
-    → chars (take end line) ≡ chars (take place line) ++ c ∷ []
-chars-more line place c after utf8 here is end past cut =
-    let front = take place line in
-    let own = IsUtf8-take line place utf8 here in
-    let bytes : take end line ≡ front ++ encode_utf8 c =
-    ap (λ n. take n line) past ∙ take-add place (length (encode_utf8 c)) line
-    ∙ ap (λ l. front ++ l) (ap (take (length (encode_utf8 c))) is
-    ∙ take_at (encode_utf8 c) after (length (encode_utf8 c)) refl) in
-    let spelled : encode_utf8_all (chars front ++ c ∷ []) ≡ take end line =
-    encodes-append (chars front) (c ∷ [])
-    ∙ ap (λ l. l ++ encode_utf8_all (c ∷ [])) (encodes-chars front own)
-    ∙ ap (λ l. front ++ l) (append-nil (encode_utf8 c)) ∙ sym bytes in
-    sym (chars_from_encodes (chars front ++ c ∷ []) (take end line)
-    (IsUtf8-take line end utf8 cut) spelled)
-
 module _ (line : List ℕ) (utf8 : IsUtf8 line) where
-  pub read-start : (place : ℕ) (rest : List ℕ) → place ≡ 0 → rest ≡ line
-      → IsReadTo line place rest Text 0 true
-  read-start place rest start all = rw start (record {
-    boundary = IsCharBoundary-start line utf8;
-    left = sym all;
+  pub read_to-start : IsReadTo line 0 line Text 0 true
+  read_to-start = record {
+    read = read-start line utf8;
     columns = λ ds. ap (λ cs. columns_in Text (cs ++ ds)) chars-nil
         ∙ sym (zero-add (columns_in Text ds));
     blank = refl;
-  })
+  }
 
-  pub read-step : (place end c : ℕ) (rest after : List ℕ) (state next : State) (taken : ℕ)
-      (flag after_blank : Bool) → IsReadTo line place rest state taken after_blank
+  pub read_to-step : (place end c : ℕ) (rest after : List ℕ) (state : State) (taken : ℕ)
+      (after_blank : Bool) → IsReadTo line place rest state taken after_blank
       → rest ≡ encode_utf8 c ++ after → end ≡ place + length (encode_utf8 c)
-      → IsStep state c next flag
-      → IsReadTo line end after next (taken + added flag c) (eqb c 32)
-  read-step place end c rest after state next taken flag after_blank h is past step =
-      let whole = h.left ∙ is in
-      let left : drop end line ≡ after =
-      ap (λ k. drop k line) past ∙ left-after line place c after whole in
-      let ahead = IsUtf8-drop line place utf8 h.boundary in
-      let cut = IsCharBoundary-from_drop line end
-      (omega (arith, past, ends-within line place c after whole))
-      (subst IsUtf8 (sym left) (IsUtf8-past_char (drop place line) after c ahead whole)) in
+      → IsReadTo line end after (next_of state c) (taken + added state c) (eqb c 32)
+  read_to-step place end c rest after state taken after_blank h is past =
+      let next = read-next h.read c after is end past in
+      let whole = h.read.place ∙ is in
+      let front = take place line in
+      let bytes : take end line ≡ front ++ encode_utf8 c =
+      ap (λ n. take n line) past ∙ take-add place (length (encode_utf8 c)) line
+      ∙ ap (λ l. front ++ l) (ap (take (length (encode_utf8 c))) whole
+      ∙ take_at (encode_utf8 c) after (length (encode_utf8 c)) refl) in
+      let more = ap chars bytes ∙ chars-push front c (IsUtf8-take line place utf8 h.read.boundary)
+      (subst IsUtf8 bytes (IsUtf8-take line end utf8 next.boundary)) in
       record {
-        boundary = cut;
-        left = left;
-        columns = λ ds.
-            let more = chars-more line place c after utf8 h.boundary whole end past cut in
-            let read : columns_in Text (chars (take end line) ++ ds)
-            ≡ taken + columns_in state (c ∷ ds) =
-            ap (λ cs. columns_in Text (cs ++ ds)) more
-            ∙ ap (columns_in Text) (append_assoc (chars (take place line)) (c ∷ []) ds)
-            ∙ h.columns (c ∷ ds) in
-            omega (arith, read, columns_in-step state next flag c ds step);
-        blank = sym (after_blank-past line utf8 place c after h.boundary whole end past);
+        read = next;
+        columns = λ ds. omega (
+          arith,
+          ap (λ cs. columns_in Text (cs ++ ds)) more
+              ∙ ap (columns_in Text) (append_assoc (chars front) (c ∷ []) ds),
+          h.columns (c ∷ ds),
+          columns_in-step state c ds,
+        );
+        blank = sym (after_blank-past line utf8 place c after h.read.boundary whole end past);
       }
 
   pub read-width : (place : ℕ) (rest : List ℕ) (state : State) (taken : ℕ) (after_blank : Bool)
@@ -100,8 +70,8 @@ module _ (line : List ℕ) (utf8 : IsUtf8 line) where
       omega (
         arith,
         read-width place rest state taken after_blank h,
-        text_width-le (take place line) (IsUtf8-take line place utf8 h.boundary),
-        length-take-le place line h.boundary.0,
+        text_width-le (take place line) (IsUtf8-take line place utf8 h.read.boundary),
+        length-take-le place line h.read.boundary.0,
       )
 
   -- no later beginning has fewer columns
@@ -110,7 +80,7 @@ module _ (line : List ℕ) (utf8 : IsUtf8 line) where
       → IsCharBoundary line m → taken ≤ text_width (take m line)
   read-more place rest state taken after_blank h m later cut =
       let between = slice_range line place m in
-      let own = IsUtf8-take line place utf8 h.boundary in
+      let own = IsUtf8-take line place utf8 h.read.boundary in
       let parts : text_width (take m line) ≡ taken + columns_in state (chars between) =
       ap text_width (take_slice line place m later)
       ∙ ap (columns_in Text) (chars-append (take place line) between own)

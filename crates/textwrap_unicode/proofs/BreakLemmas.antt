@@ -20,7 +20,8 @@ use Rattle.textwrap_unicode.specs.declared.numbers.Numbers.TheVariants.{ByPairs,
 use Rattle.textwrap_unicode.specs.declared.rules.Verdict.{Verdict}
 use Rattle.textwrap_unicode.specs.declared.rules.Verdict.TheVariants.{Prohibited}
 use Rattle.textwrap_unicode.proofs.BeforeLemmas.{and-is}
-use Rattle.textwrap_unicode.proofs.ReadPlaces.{IsRead, read-after, read-next}
+use Rattle.textwrap_words.proofs.Units.ReadPlaces.{IsRead, read-ahead, read-all, read-next, read-none}
+use Rattle.textwrap_words.proofs.Units.ReadPlaces.{read-start}
 
 pub breaks_after-from : (numbers : Numbers) (text : Text) (at : ℕ) (cs : List ℕ)
     → breaks_after numbers (before_of text) at cs ≡ breaks_from numbers text at cs
@@ -50,7 +51,7 @@ pub reading-start : (numbers : Numbers) (rest : List ℕ) (start : ℕ) (first :
     → IsReading numbers rest start first offset ahead before
 reading-start numbers rest start first offset ahead before utf8 none whole same =
     rw (none, whole, same) (record {
-      read = record { utf8 = utf8; place = refl; within = omega arith };
+      read = read-start rest utf8;
       left = ap (λ n. breaks_after numbers first n (chars rest)) (omega arith);
     })
 
@@ -68,12 +69,12 @@ module _ (numbers : Numbers) (rest : List ℕ) (start : ℕ) (first : Before) (o
     here : break_at verdict-here (start + offset)
         ++ breaks_after numbers (and before (unit_of c)) (start + end) (chars after)
         ≡ breaks_after numbers first start (chars rest)
-    here = rw (read-after rest offset ahead h.read c after e)
+    here = rw (read-next h.read c after e _ refl).place
         (ap (λ n. break_at (decide_by (numbers_rule numbers (chars after)) before (unit_of c))
         (start + offset)
         ++ breaks_after numbers (and before (unit_of c)) n (chars after)) (omega arith)
         ∙ ap (λ cs. breaks_after numbers before (start + offset) cs)
-        (sym (chars_past_char ahead after c h.read.utf8 e))
+        (sym (read-ahead h.read c after e))
         ∙ h.left)
 
     -- no line ends before the character
@@ -82,7 +83,7 @@ module _ (numbers : Numbers) (rest : List ℕ) (start : ℕ) (first : Before) (o
         → IsReading numbers rest start first offset' after before'
     reading-step offset' before' prohibited offset_is before_is =
         rw (offset_is, before_is) (record {
-          read = read-next rest offset ahead h.read c after e;
+          read = read-next h.read c after e _ refl;
           left = rw prohibited at here;
         })
 
@@ -93,7 +94,7 @@ module _ (numbers : Numbers) (rest : List ℕ) (start : ℕ) (first : Before) (o
         → breaks_after numbers first start (chars rest)
         ≡ place ∷ breaks_after numbers before' (start + end) (chars (drop end rest))
     reading-break verdict place before' said is before_is =
-        rw (before_is, read-after rest offset ahead h.read c after e)
+        rw (before_is, (read-next h.read c after e _ refl).place)
         (sym (rw (said, is) at here))
 
   -- nothing is ahead
@@ -102,10 +103,7 @@ module _ (numbers : Numbers) (rest : List ℕ) (start : ℕ) (first : Before) (o
       ≡ (if before.is_start then []
       else record { at = start + length rest; is_mandatory = true } ∷ [])
   reading-end none =
-      let ended : chars ahead ≡ [] = ap chars (nil_from_length ahead none) ∙ chars-nil in
-      let whole : start + offset ≡ start + length rest =
-      omega (arith, h.read.within, length-drop offset rest, ap length h.read.place, none) in
-      sym (rw (ended, whole) at h.left)
+      sym (rw (read-none h.read none, read-all h.read none) at h.left)
 
 -- ---- letters of a word
 

@@ -9,9 +9,9 @@ use Rattle.textwrap_base.proofs.Common.{nil_from_length}
 use Rattle.std.specs.Str.{chars}
 use Rattle.std.proofs.lemmas.Str.{chars_from_encodes}
 use lib.Utf8.{encode}
-use Rattle.textwrap_words.proofs.Common.{stripped, units, visible_in}
+use Rattle.textwrap_words.proofs.Common.{next_of, shows, stripped, units, visible_in}
 use Rattle.textwrap_words.proofs.Units.Parts.{units-tile}
-use Rattle.textwrap_words.proofs.Units.States.{IsStep, units_in}
+use Rattle.textwrap_words.proofs.Units.States.{units_in}
 use Rattle.textwrap_words.proofs.Word.VisibleEnds.{ends_in, ends_past, ends-step}
 use Rattle.textwrap_words.specs.WordOffsets.{is_any_hyphen}
 use Rattle.textwrap_words.specs.declared.escapes.State.{State}
@@ -29,7 +29,7 @@ use Rattle.textwrap_unicode.proofs.CutLemmas.{ends-characters, start-cuts, visib
 use Rattle.textwrap_unicode.proofs.CutLemmas.{visible-utf8}
 use Rattle.textwrap_unicode.proofs.OffsetsAmong.{cuts_ahead}
 use Rattle.textwrap_words.proofs.Word.PlaceParts.{cut_here}
-use Rattle.textwrap_unicode.proofs.ReadPlaces.{IsRead, read-next}
+use Rattle.textwrap_words.proofs.Units.ReadPlaces.{IsRead, read-ahead, read-next, read-none, read-start}
 
 pub record IsCutting (numbers : Numbers) (line : List ℕ) (at : ℕ) (rest : List ℕ) (state : State) (before : Before)
     (end : ℕ) (hyphen : Bool) (cuts : List ℕ) : Type 0 where
@@ -58,7 +58,7 @@ pub IsCutting-start : (numbers : Numbers) (line : List ℕ) (at : ℕ) (rest : L
     → IsCutting numbers line at rest Text before 0 false cuts
 IsCutting-start numbers line at rest before cuts utf8 start whole first none =
     rw (start, whole, first, none) (record {
-      read = record { utf8 = utf8; place = refl; within = omega arith };
+      read = read-start line utf8;
       shown = 0;
       found = sym (start-cuts numbers (units (chars line)) 0 (offsets_of (breaks_by numbers (stripped line)))
           (length (stripped line)) (offsets-visible numbers line utf8) refl);
@@ -66,36 +66,37 @@ IsCutting-start numbers line at rest before cuts utf8 start whole first none =
 
 -- a character is read: the line is cut before it if the rules say so and it is visible
 pub IsCutting-step : (numbers : Numbers) (line : List ℕ) (at : ℕ) (rest : List ℕ) (s : State) (before : Before)
-    (end : ℕ) (hyphen : Bool) (cuts : List ℕ) (c : ℕ) (after : List ℕ) (next : State) (flag : Bool)
+    (end : ℕ) (hyphen : Bool) (cuts : List ℕ) (c : ℕ) (after : List ℕ) (p : State × Bool)
     → IsCutting numbers line at rest s before end hyphen cuts → rest ≡ encode c ++ after
-    → IsStep s c next flag → (at' : ℕ) (before' : Before) (end' : ℕ) (hyphen' : Bool)
+    → p ≡ (next_of s c, shows s c) → (at' : ℕ) (before' : Before) (end' : ℕ) (hyphen' : Bool)
     (cuts' : List ℕ) → at' ≡ at + length (encode c)
-    → before' ≡ cond flag (and before (unit_of c)) before
-    → end' ≡ cond flag (at + length (encode c)) end
-    → hyphen' ≡ cond flag (is_any_hyphen c) hyphen
-    → cuts' ≡ cond flag (cuts ++ cut_here (not hyphen
-    && may_end (decide_by (numbers_rule numbers (visible_in next (chars after))) before (unit_of c))) end) cuts
-    → IsCutting numbers line at' after next before' end' hyphen' cuts'
-IsCutting-step numbers line at rest s before end hyphen cuts c after next flag h e step at' before' end'
+    → before' ≡ cond p.1 (and before (unit_of c)) before
+    → end' ≡ cond p.1 (at + length (encode c)) end
+    → hyphen' ≡ cond p.1 (is_any_hyphen c) hyphen
+    → cuts' ≡ cond p.1 (cuts ++ cut_here (not hyphen
+    && may_end (decide_by (numbers_rule numbers (visible_in p.0 (chars after))) before (unit_of c))) end) cuts
+    → IsCutting numbers line at' after p.0 before' end' hyphen' cuts'
+IsCutting-step numbers line at rest s before end hyphen cuts c after p h e step at' before' end'
     hyphen' cuts' at_is before_is end_is hyphen_is cuts_is =
-    let ends : ends_in s at h.shown (chars rest) ≡ ends_past flag next at h.shown c (chars after) =
-    ap (ends_in s at h.shown) (chars_past_char rest after c h.read.utf8 e)
-    ∙ ends-step s at h.shown c (chars after) next flag step in
-    let es = ends_in next (at + length (encode c)) (h.shown + length (encode c)) (chars after) in
-    let behind : map (λ e. e.character) es ≡ visible_in next (chars after) =
-    ends-characters (units_in next (chars after)) _ _ in
+    let ends : ends_in s at h.shown (chars rest) ≡ ends_past p at h.shown c (chars after) =
+    ap (ends_in s at h.shown) (read-ahead h.read c after e)
+    ∙ ends-step s at h.shown c (chars after)
+    ∙ ap (λ p. ends_past p at h.shown c (chars after)) (sym step) in
+    let es = ends_in p.0 (at + length (encode c)) (h.shown + length (encode c)) (chars after) in
+    let behind : map (λ e. e.character) es ≡ visible_in p.0 (chars after) =
+    ends-characters (units_in p.0 (chars after)) _ _ in
     let later = cuts_ahead numbers (and before (unit_of c)) (at + length (encode c))
     (is_any_hyphen c) es in
     let cut_before : List ℕ → List ℕ = λ back. cut_here (not hyphen
     && may_end (decide_by (numbers_rule numbers back) before (unit_of c))) end in
-    let here : cuts ++ cuts_ahead numbers before end hyphen (ends_past flag next at h.shown c (chars after))
+    let here : cuts ++ cuts_ahead numbers before end hyphen (ends_past p at h.shown c (chars after))
     ≡ cuts_by numbers line =
     ap (λ es. cuts ++ cuts_ahead numbers before end hyphen es) (sym ends) ∙ h.found in
     rw (at_is, before_is, end_is, hyphen_is, cuts_is) (record {
-      read = read-next line at rest h.read c after e;
-      shown = cond flag (h.shown + length (encode c)) h.shown;
-      found = elim (cases_Bool flag) [
-        | inl t ↦ rw t (append_assoc cuts (cut_before (visible_in next (chars after))) later
+      read = read-next h.read c after e _ refl;
+      shown = cond p.1 (h.shown + length (encode c)) h.shown;
+      found = elim (cases_Bool p.1) [
+        | inl t ↦ rw t (append_assoc cuts (cut_before (visible_in p.0 (chars after))) later
             ∙ ap (λ back. cuts ++ (cut_before back ++ later)) (sym behind)
             ∙ (rw t at here))
         | inr f ↦ rw f (rw f at here)
@@ -107,5 +108,4 @@ pub IsCutting-end : (numbers : Numbers) (line : List ℕ) (at : ℕ) (rest : Lis
     → IsCutting numbers line at rest s before end hyphen cuts → length rest ≡ 0
     → cuts ≡ cuts_by numbers line
 IsCutting-end numbers line at rest s before end hyphen cuts h none =
-    let ended : chars rest ≡ [] = ap chars (nil_from_length rest none) ∙ chars-nil in
-    sym (append-nil cuts) ∙ (rw ended at h.found)
+    sym (append-nil cuts) ∙ (rw (read-none h.read none) at h.found)

@@ -8,7 +8,7 @@ use Rattle.std.proofs.lemmas.Str.{length-encode}
 use lib.Utf8.{encode}
 use Rattle.unicode.specs.declared.properties.LineBreak.TheVariants.{Ideographic}
 use Rattle.textwrap_words.proofs.Common.{visible_in}
-use Rattle.textwrap_words.proofs.Units.States.{shown-step}
+use Rattle.textwrap_words.proofs.Units.States.{plain-step}
 use Rattle.textwrap_words.specs.WordOffsets.{is_any_hyphen}
 use Rattle.textwrap_words.specs.declared.escapes.State.TheVariants.{Text}
 use Rattle.textwrap_unicode.specs.declared.before.Before.{Before}
@@ -85,7 +85,7 @@ module _ (numbers : Numbers) (line : List ℕ) (at : ℕ) (rest : List ℕ) wher
       subst (λ k. IsCutting numbers line (at + 3 * suc n) (drop k rest) Text behind_ideograph
       (at + 3 * suc n) false (cuts ++ (at + 3 * n) ∷ [])) (sym next)
       (IsCutting-step numbers line (at + 3 * n) (drop (3 * n) rest) Text behind_ideograph (at + 3 * n)
-      false cuts c after Text true h here.stands (shown-step c (no-escape c here.common))
+      false cuts c after (Text, true) h here.stands (plain-step c (no-escape c here.common))
       (at + 3 * suc n) behind_ideograph (at + 3 * suc n) false _ place
       (sym (ap (and behind_ideograph) unit ∙ and_is)) place (sym (no-hyphen c here.common))
       (ap (λ b. cuts ++ cut_here b (at + 3 * n))

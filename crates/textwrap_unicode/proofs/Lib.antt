@@ -22,7 +22,6 @@ pub mod PrintableBytes
 pub mod PrintableCuts
 pub mod PrintableVerdicts
 pub mod PrintableWords
-pub mod ReadPlaces
 pub mod RuleOrder
 pub mod TextBreaks
 pub mod UsualPlaces

@@ -1,6 +1,6 @@
 -- Whether a place is among those that a test tells.
 use Rattle.textwrap_base.proofs.Common.{◌≡◌, ◌≢◌, ℕ, ◌+◌, ◌<◌, ◌==◌, Bool, true, false, inl, inr}
-use Rattle.textwrap_base.proofs.Common.{List, [], ◌∷◌, ◌++◌, length, refl, arith, All, list_any}
+use Rattle.textwrap_base.proofs.Common.{List, [], ◌∷◌, ◌++◌, length, refl, ◌∙◌, arith, All, list_any}
 use Rattle.textwrap_base.proofs.Common.{cases_eq, nat_tests}
 use Rattle.textwrap_words.proofs.Word.PlaceParts.{cut_here, places-above, places_by}
 use Rattle.textwrap_unicode.proofs.OffsetsAmong.{any-above}

@@ -7,7 +7,7 @@ use Rattle.std.specs.Str.{chars}
 use Rattle.std.proofs.lemmas.Str.{encode_ascii}
 use lib.Utf8.{encode}
 use Rattle.textwrap_words.proofs.Common.{visible_in}
-use Rattle.textwrap_words.proofs.Units.States.{shown-step}
+use Rattle.textwrap_words.proofs.Units.States.{plain-step}
 use Rattle.textwrap_words.specs.declared.escapes.State.TheVariants.{Text}
 use Rattle.textwrap_unicode.specs.declared.numbers.Numbers.{Numbers}
 use Rattle.textwrap_unicode.specs.BreaksLeft.{and}
@@ -43,7 +43,7 @@ module _ (numbers : Numbers) (line : List ℕ) (at : ℕ) (rest : List ℕ) wher
       ∙ sym (ap (λ bs. bs ++ after) one) in
       let place : at + suc n ≡ at + n + length (encode c) = omega (arith, ap length one) in
       IsCutting-step numbers line (at + n) (drop n rest) Text (behind blank sign) (at + n) false cuts c
-      after Text true h is (shown-step c (no-escape c word)) (at + suc n)
+      after (Text, true) h is (plain-step c (no-escape c word)) (at + suc n)
       (behind (is_behind_blank rest (suc n)) (is_behind_sign rest (suc n))) (at + suc n) false _
       place (sym (ap (and (behind blank sign)) unit ∙ and_is)) place (sym (no-hyphen c word))
       (ap (λ b. cuts ++ cut_here b (at + n)) (sym (ap (ends numbers back blank sign) unit ∙ ends_is)))

@@ -6,7 +6,7 @@ pub use Rattle.textwrap_words.specs.Breaking.{broken_units, broken_word, broken_
 pub use Rattle.textwrap_words.specs.Breaking.{IsKept, pieces_left, pieces_with, unit_width}
 pub use Rattle.textwrap_words.specs.Breaking.{units_text, units_width}
 pub use Rattle.textwrap_words.specs.Cuts.{AreCuts, AreInnerCuts, parts_between}
-pub use Rattle.textwrap_words.specs.Escapes.{taken_in, visible_in}
+pub use Rattle.textwrap_words.specs.Escapes.{next_of, shows, taken_in, visible_in}
 pub use Rattle.textwrap_words.specs.Pieces.{as_splitter}
 pub use Rattle.textwrap_words.specs.Units.{characters, columns, command_len, ends, escape}
 pub use Rattle.textwrap_words.specs.Units.{escape_len, is_command_end, is_command_start}

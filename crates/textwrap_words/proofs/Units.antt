@@ -2,6 +2,7 @@ pub mod Computed
 pub mod Measuring
 pub mod Narrow
 pub mod Parts
+pub mod ReadPlaces
 pub mod Sequences
 pub mod States
 pub mod Stripped

@@ -4,7 +4,7 @@
 //! an operating system command, which BEL ends, or ESC and `\`. ESC and any other character are a
 //! whole sequence. A sequence without an end goes on to the end of the text. In `"a\x1b[1mb"` the
 //! sequence is `"\x1b[1m"`, and `"ab"` is visible.
-ghost use Rattle.std.specs.Prelude.{◌≡◌, ℕ, List, ◌∷◌, if◌then◌else◌};
+ghost use Rattle.std.specs.Prelude.{◌≡◌};
 
 /// What the next character of a text belongs to. After `"\x1b["` it is `State::Control`.
 #[derive(Clone, Copy, Debug, PartialEq, Eq)]
@@ -20,13 +20,12 @@ pub enum State {
 }
 
 impl State {
-    ghost use Rattle.textwrap_words.specs.Escapes.{visible_in};
+    ghost use Rattle.textwrap_words.specs.Escapes.{next_of, shows};
 
     /// The state after a character, and whether the character is visible. As `m` ends a control
     /// sequence, `State::Control.step('m')` is `(State::Text, false)`.
     pub fn step(self, ch: char) -> (State, bool)
-        ensures { (cs : List ℕ) → visible_in self (ch ∷ cs)
-            ≡ (if result.1 then ch ∷ visible_in result.0 cs else visible_in result.0 cs) }
+        ensures { result ≡ (next_of self ch, shows self ch) }
     {
         match self {
             State::Text if ch == '\x1b' => (State::Escape, false),

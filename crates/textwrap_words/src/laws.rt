@@ -3,7 +3,8 @@
 //!
 //! A law has no example: its statement is all there is to it. A call is written
 //! `units_are_unique();`.
-ghost use Rattle.textwrap_words.specs.Laws.{UnitsAreUnique, WordsAreUnique, WordsAtAreUnique};
+ghost use Rattle.textwrap_words.specs.Laws.{ReaderShowsVisible, UnitsAreUnique};
+ghost use Rattle.textwrap_words.specs.Laws.{WordsAreUnique, WordsAtAreUnique};
 ghost use Rattle.textwrap_words.specs.Laws.{BrokenPiecesAreUnique, BrokenTextsTile};
 ghost use Rattle.textwrap_words.specs.Laws.{BrokenPiecesTile, BrokenWordsTile, PointsAreCuts};
 ghost use Rattle.textwrap_words.specs.Laws.{SplitPiecesTile, SplitWordsTile, TextsAreNarrow};
@@ -17,6 +18,12 @@ pub use textwrap_base::laws::{
 /// without an end. It is what `units` gives.
 pub fn units_are_unique()
     ensures { UnitsAreUnique }
+{}
+
+/// The visible characters of a text are those that `State::step` shows, one after another: from each
+/// state on, the first of them is the next character, or they are those after it.
+pub fn reader_shows_visible()
+    ensures { ReaderShowsVisible }
 {}
 
 /// No character takes more columns than its bytes in UTF-8.

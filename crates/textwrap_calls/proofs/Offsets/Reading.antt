@@ -6,9 +6,9 @@ use Rattle.textwrap_base.proofs.Common.{length-append, at_drop_all}
 use Rattle.std.specs.Str.{chars}
 use Rattle.std.proofs.lemmas.List.{at_drop_more}
 use lib.Utf8.{encode}
-use Rattle.textwrap_words.proofs.Common.{stripped, units, visible_in}
+use Rattle.textwrap_words.proofs.Common.{next_of, shows, stripped, units, visible_in}
 use Rattle.textwrap_words.proofs.Units.Parts.{units-tile}
-use Rattle.textwrap_words.proofs.Units.States.{IsStep}
+use Rattle.textwrap_words.proofs.Units.States.{visible-step}
 use Rattle.textwrap_words.specs.Units.{visible}
 use Rattle.textwrap_words.specs.declared.escapes.State.{State}
 use Rattle.textwrap_words.specs.declared.escapes.State.TheVariants.{Text}
@@ -33,42 +33,42 @@ pub record IsReading (line offsets : List ℕ) (n : ℕ) (state : State) (shown 
 module _ (line offsets : List ℕ) (n : ℕ) (state : State) (shown : ℕ) (left : List ℕ)
     (reading : IsReading line offsets n state shown left) where
   module _ (c : ℕ) (here : (n < length (chars line)) × (c ≡ get_or (chars line) n c))
-      (next : State) (flag : Bool) (step : IsStep state c next flag) where
-    ahead : visible_in state (drop n (chars line))
-        ≡ cond flag (c ∷ visible_in next (drop (n + 1) (chars line)))
-        (visible_in next (drop (n + 1) (chars line)))
-    ahead =
-        let rest = drop (n + 1) (chars line) in
-        at_drop_more (visible_in state) (chars line) n c here.0
-        ∙ ap (λ x. visible_in state (x ∷ rest)) (sym here.1)
-        ∙ step rest
+    where
+      ahead : visible_in state (drop n (chars line))
+          ≡ cond (shows state c) (c ∷ visible_in (next_of state c) (drop (n + 1) (chars line)))
+          (visible_in (next_of state c) (drop (n + 1) (chars line)))
+      ahead =
+          let rest = drop (n + 1) (chars line) in
+          at_drop_more (visible_in state) (chars line) n c here.0
+          ∙ ap (λ x. visible_in state (x ∷ rest)) (sym here.1)
+          ∙ visible-step state c rest
 
-    pub IsReading-room : flag ≡ true → shown + length (encode c) ≤ length (stripped line)
-    IsReading-room shows =
-        let bytes = rw (ahead, shows) at reading.bytes in
-        omega (arith, bytes, length-append {A = ℕ})
+      pub IsReading-room : shows state c ≡ true → shown + length (encode c) ≤ length (stripped line)
+      IsReading-room shown_here =
+          let bytes = rw (ahead, shown_here) at reading.bytes in
+          omega (arith, bytes, length-append {A = ℕ})
 
-    pub IsReading-step : (shown' : ℕ) (left' : List ℕ)
-        → shown' ≡ cond flag (shown + length (encode c)) shown
-        → left' ≡ cond flag (offsets_past (shown + length (encode c)) left) left
-        → IsReading line offsets (n + 1) next shown' left'
-    IsReading-step shown' left' shown_is left_is =
-        elim (cases_Bool flag) [
-          | inl shows ↦
-              let bytes = rw (ahead, shows) at reading.bytes in
-              let passed = rw (ahead, shows) at reading.offsets_left in
-              rw (shown_is, left_is, shows) (record {
-                bytes = omega (arith, bytes, length-append {A = ℕ});
-                offsets_left = passed;
-              })
-          | inr hides ↦
-              let bytes = rw (ahead, hides) at reading.bytes in
-              let passed = rw (ahead, hides) at reading.offsets_left in
-              rw (shown_is, left_is, hides) (record {
-                bytes = bytes;
-                offsets_left = passed;
-              })
-        ]
+      pub IsReading-step : (shown' : ℕ) (left' : List ℕ)
+          → shown' ≡ cond (shows state c) (shown + length (encode c)) shown
+          → left' ≡ cond (shows state c) (offsets_past (shown + length (encode c)) left) left
+          → IsReading line offsets (n + 1) (next_of state c) shown' left'
+      IsReading-step shown' left' shown_is left_is =
+          elim (cases_Bool (shows state c)) [
+            | inl seen ↦
+                let bytes = rw (ahead, seen) at reading.bytes in
+                let passed = rw (ahead, seen) at reading.offsets_left in
+                rw (shown_is, left_is, seen) (record {
+                  bytes = omega (arith, bytes, length-append {A = ℕ});
+                  offsets_left = passed;
+                })
+            | inr hides ↦
+                let bytes = rw (ahead, hides) at reading.bytes in
+                let passed = rw (ahead, hides) at reading.offsets_left in
+                rw (shown_is, left_is, hides) (record {
+                  bytes = bytes;
+                  offsets_left = passed;
+                })
+          ]
 
   pub IsReading-end : IsUtf8 line → length (chars line) ≤ n
       → (left ≡ []) ↔ AreOffsets (stripped line) offsets

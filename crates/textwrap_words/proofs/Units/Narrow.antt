@@ -1,11 +1,12 @@
 -- No character takes more columns than its bytes, so no text does.
-use Rattle.textwrap_base.proofs.Common.{◌≢◌, ℕ, ◌≤◌, false, List, [], ◌∷◌, arith, cases_eq, cases_lt}
+use Rattle.textwrap_base.proofs.Common.{◌≢◌, ℕ, ◌≤◌, false, List, [], ◌∷◌, arith, cases_Bool, cases_eq, cases_lt}
 use Rattle.textwrap_base.proofs.Common.{get_or, inl, inr, length, length-encode, nat_tests, ne_eqb}
 use Rattle.textwrap_base.proofs.Common.{length-append, encodes-chars, IsUtf8, sum_by, sum_by-cons}
 use Rattle.std.specs.Str.{chars}
 use lib.Utf8.{encode, encodes}
 use Rattle.textwrap_words.proofs.Common.{columns, IsNarrow, text_width}
-use Rattle.textwrap_words.proofs.Units.Widths.{columns-ascii, visible-le}
+use Rattle.textwrap_words.specs.declared.escapes.State.{State}
+use Rattle.textwrap_words.proofs.Units.Widths.{added, columns-ascii, visible-le}
 use Rattle.unicode_width.proofs.Rules.{width_or_zero-le}
 use Rattle.unicode_width.specs.Kind.{kind}
 use Rattle.unicode_width.specs.Width.{alone, char_width, of_kind, single}
@@ -43,6 +44,9 @@ columns-le c =
         | inr other ↦ rw length-encode (grind (arith, nat_tests, columns-other c other, high))
       ]
     ]
+
+pub added-le : (s : State) (c : ℕ) → added s c ≤ length (encode c)
+added-le s c = grind (arith, cases_Bool, columns-le c)
 
 pub all-narrow : (text : List ℕ) → IsNarrow text
 all-narrow text = λ k d within. columns-le (get_or (chars text) k d)

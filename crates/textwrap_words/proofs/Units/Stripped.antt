@@ -1,35 +1,35 @@
 -- Lemmas on the text of the visible characters.
-use Rattle.textwrap_base.proofs.Common.{◌≤◌, length-append, ◌≡◌, ◌≢◌, ℕ, zero, suc, ◌+◌, ◌<◌, Bool}
+use Rattle.textwrap_base.proofs.Common.{◌≤◌, length-append, ◌≡◌, ◌≢◌, ℕ, zero, suc, ◌+◌, ◌<◌}
 use Rattle.textwrap_base.proofs.Common.{cond, List, [], ◌∷◌, ◌++◌, length, get_or, drop, sym}
 use Rattle.textwrap_base.proofs.Common.{ap, ◌∙◌, arith, All, append-nil, append_assoc}
-use Rattle.textwrap_base.proofs.Common.{flat_map, encode_utf8_all, cases_Bool, All-nil}
+use Rattle.textwrap_base.proofs.Common.{flat_map, encode_utf8_all, cases_Bool, All-nil, inl, inr, IsUtf8, encodes-chars}
 use Rattle.textwrap_base.proofs.Common.{All-head, All-tail, All-append, All-from_get_or}
 use Rattle.textwrap_words.proofs.Common.{escape, escape_len, units_past, visible_of, stripped}
-use Rattle.textwrap_words.proofs.Common.{taken_in, visible_in}
+use Rattle.textwrap_words.proofs.Common.{next_of, shows, visible_in}
 use Rattle.std.specs.Str.{chars}
 use lib.Utf8.{encode}
 use Rattle.std.proofs.lemmas.List.{at_drop_more}
 use Rattle.std.proofs.lemmas.Str.{inside_one}
 use Rattle.textwrap_words.specs.declared.escapes.State.{State}
-use Rattle.textwrap_words.proofs.Units.States.{IsStep}
+use Rattle.textwrap_words.proofs.Units.States.{visible-step}
 
 -- the text of the visible ones among the characters to come
 abbrev pub text_in : State → List ℕ → List ℕ
 text_in state cs = encode_utf8_all (visible_in state cs)
 
 -- a step over the character at place n moves it from there to the text so far, if it is visible
-pub text_in-step : (state after : State) (is_visible : Bool) (text : List ℕ) (cs : List ℕ) (n c : ℕ)
-    → (n < length cs) × (c ≡ get_or cs n c) → IsStep state c after is_visible
-    → cond is_visible (text ++ encode c) text ++ text_in after (drop (n + 1) cs)
+pub text_in-step : (state : State) (text : List ℕ) (cs : List ℕ) (n c : ℕ)
+    → (n < length cs) × (c ≡ get_or cs n c)
+    → cond (shows state c) (text ++ encode c) text ++ text_in (next_of state c) (drop (n + 1) cs)
     ≡ text ++ text_in state (drop n cs)
-text_in-step state after is_visible text cs n c here step =
+text_in-step state text cs n c here =
     let rest = drop (n + 1) cs in
-    let shown : text_in state (drop n cs)
-    ≡ encode_utf8_all (cond is_visible (c ∷ visible_in after rest) (visible_in after rest)) =
-    at_drop_more (text_in state) cs n c here.0
-    ∙ ap (λ x. text_in state (x ∷ rest)) (sym here.1)
-    ∙ ap encode_utf8_all (step rest) in
-    grind (arith, cases_Bool, append_assoc)
+    let shown = at_drop_more (text_in state) cs n c here.0 ∙ ap (λ x. text_in state (x ∷ rest)) (sym here.1)
+    ∙ ap encode_utf8_all (visible-step state c rest) in
+    elim (cases_Bool (shows state c)) [
+      | inl t ↦ rw t (append_assoc text (encode c) _ ∙ ap (λ l. text ++ l) (sym (rw t at shown)))
+      | inr f ↦ rw f (ap (λ l. text ++ l) (sym (rw f at shown)))
+    ]
 
 -- ---- no escape character is left
 
@@ -69,6 +69,6 @@ visible-short zero (c ∷ cs) =
 visible-short (suc n) (c ∷ cs) =
     omega (arith, visible-short n cs, length-append {A = ℕ})
 
-pub text_in-short : (state : State) (cs : List ℕ)
-    → length (text_in state cs) ≤ length (encode_utf8_all cs)
-text_in-short state cs = visible-short (taken_in state cs) cs
+pub stripped-short : (text : List ℕ) → IsUtf8 text → length (stripped text) ≤ length text
+stripped-short text utf8 =
+    omega (arith, visible-short 0 (chars text), ap length (encodes-chars text utf8))

@@ -1,31 +1,34 @@
 -- Lemmas on the units of a text and their columns.
 use Rattle.textwrap_base.proofs.Common.{inl, inr, cases_Bool, ◌≡◌, ℕ, zero, suc, ◌+◌, ◌<◌, ◌≤◌}
-use Rattle.textwrap_base.proofs.Common.{Bool, false, cond, eqb, List, [], ◌∷◌, length}
+use Rattle.textwrap_base.proofs.Common.{false, cond, eqb, List, [], ◌∷◌, length}
 use Rattle.textwrap_base.proofs.Common.{sym, ap, zero-add, ◌∙◌, arith}
 use Rattle.textwrap_base.proofs.Common.{refl, flat_map, map, sum_by, IsAscii}
 use Rattle.textwrap_base.proofs.Common.{cases_lt, get_or_past, nat_tests, All-head, All-tail, sum_by-cons}
 use Rattle.textwrap_base.proofs.Common.{chars-nil, nil_from_length, sum_by-append, chars-IsAscii}
 use Rattle.textwrap_words.proofs.Common.{Visible, unit_at, taken_at}
 use Rattle.textwrap_words.proofs.Common.{units_past, visible_of, columns, text_width}
-use Rattle.textwrap_words.proofs.Common.{units, IsPrintable, IsPrintableByte, visible_in}
+use Rattle.textwrap_words.proofs.Common.{next_of, shows, units, IsPrintable, IsPrintableByte, visible_in}
 use Rattle.std.specs.Str.{chars}
 use Rattle.unicode_width.specs.Width.{char_width}
 use Rattle.textwrap_words.specs.declared.escapes.State.{State}
-use Rattle.textwrap_words.proofs.Units.States.{IsStep}
+use Rattle.textwrap_words.proofs.Units.States.{visible-step}
 
 -- the columns of the characters to come
 abbrev pub columns_in : State → List ℕ → ℕ
 columns_in state cs = sum_by columns (visible_in state cs)
 
+-- the columns that a character adds
+abbrev pub added : State → ℕ → ℕ
+added state c = cond (shows state c) (columns c) 0
+
 -- one step over a character
-pub columns_in-step : (state after : State) (is_visible : Bool) (c : ℕ) (cs : List ℕ)
-    → IsStep state c after is_visible
-    → columns_in state (c ∷ cs) ≡ cond is_visible (columns c) 0 + columns_in after cs
-columns_in-step state after is_visible c cs step =
-    ap (sum_by columns) (step cs)
-    ∙ elim (cases_Bool is_visible) [
-      | inl t ↦ rw t (sum_by-cons columns c (visible_in after cs))
-      | inr f ↦ rw f (sym (zero-add (columns_in after cs)))
+pub columns_in-step : (state : State) (c : ℕ) (cs : List ℕ)
+    → columns_in state (c ∷ cs) ≡ added state c + columns_in (next_of state c) cs
+columns_in-step state c cs =
+    ap (sum_by columns) (visible-step state c cs)
+    ∙ elim (cases_Bool (shows state c)) [
+      | inl t ↦ rw t (sum_by-cons columns c (visible_in (next_of state c) cs))
+      | inr f ↦ rw f (sym (zero-add (columns_in (next_of state c) cs)))
     ]
 
 -- nothing has no columns

@@ -1,14 +1,14 @@
 -- The units of the first part, one after another.
-use Rattle.textwrap_base.proofs.Common.{cases_Bool, ◌≡◌, ◌≢◌, ℕ, ◌+◌, Bool, true, false}
-use Rattle.textwrap_base.proofs.Common.{cond, eqb, List, [], ◌∷◌, refl, sym, subst}
+use Rattle.textwrap_base.proofs.Common.{cases_Bool, ◌≡◌, ◌≢◌, ℕ, ◌+◌, true, false}
+use Rattle.textwrap_base.proofs.Common.{eqb, List, [], ◌∷◌, refl, sym, subst}
 use Rattle.textwrap_base.proofs.Common.{zero-add, add-zero, arith, not-true, sum_by-cons}
-use Rattle.textwrap_words.proofs.Common.{TextUnit, Visible, columns, unit_at, units, unit_width}
-use Rattle.textwrap_words.proofs.Common.{units_width, is_due}
+use Rattle.textwrap_words.proofs.Common.{TextUnit, Visible, unit_at, units, unit_width}
+use Rattle.textwrap_words.proofs.Common.{units_width, is_due, next_of, shows}
 use Rattle.textwrap_words.specs.declared.escapes.State.{State}
 use Rattle.textwrap_words.specs.declared.escapes.State.TheVariants.{Text, Escape, Control, Command}
 use Rattle.textwrap_words.proofs.Word.Breaking.{taken_units, left_units}
-use Rattle.textwrap_words.proofs.Units.States.{units_in, next_of, shows, IsStep, step-is}
-use Rattle.textwrap_words.proofs.Units.States.{units_in-text, units_in-inside}
+use Rattle.textwrap_words.proofs.Units.States.{units_in, units_in-text, units_in-inside}
+use Rattle.textwrap_words.proofs.Units.Widths.{added}
 
 -- the reader stands in the first piece of `cs`, which has `width` columns up to here, with `rest`
 -- to come
@@ -22,15 +22,11 @@ pub IsInFirst-start : (limit : ℕ) (cs : List ℕ) → IsInFirst limit cs Text 
 IsInFirst-start limit cs =
     record { leaves = refl; wide = sym (zero-add (units_width (taken_units limit 0 (units cs)))) }
 
--- the columns that a character adds
-abbrev pub added : Bool → ℕ → ℕ
-added flag c = cond flag (columns c) 0
-
 -- the reader goes over one unit of the text
 text-unit : (limit width c : ℕ) (cs : List ℕ)
     → (shows Text c ≡ true → is_due limit width (Visible c) ≡ false)
     → (is_due limit width (unit_at c cs) ≡ false)
-    × (unit_width (unit_at c cs) ≡ added (shows Text c) c)
+    × (unit_width (unit_at c cs) ≡ added Text c)
 text-unit limit width c cs room =
     grind (arith, cases_Bool)
 
@@ -59,7 +55,7 @@ goes-inside limit width s c cs inside =
 
 goes-on : (limit width : ℕ) (s : State) (c : ℕ) (cs : List ℕ)
     → (shows s c ≡ true → is_due limit width (Visible c) ≡ false)
-    → TakesUnit limit width (units_in s (c ∷ cs)) (added (shows s c) c) (units_in (next_of s c) cs)
+    → TakesUnit limit width (units_in s (c ∷ cs)) (added s c) (units_in (next_of s c) cs)
 goes-on limit width Text c cs room =
     let both = text-unit limit width c cs room in
     let on = goes-unit limit width (unit_at c cs) (units_in (next_of Text c) cs) both.0 in
@@ -69,12 +65,10 @@ goes-on limit width Control c cs room = goes-inside limit width Control c cs (λ
 goes-on limit width (Command last) c cs room = goes-inside limit width (Command last) c cs (λ e. cc)
 
 pub IsInFirst-step : (limit : ℕ) (cs : List ℕ) (s : State) (width c : ℕ) (rest : List ℕ)
-    (next : State) (flag : Bool) → IsInFirst limit cs s width (c ∷ rest) → IsStep s c next flag
-    → (flag ≡ true → is_due limit width (Visible c) ≡ false)
-    → IsInFirst limit cs next (width + added flag c) rest
-IsInFirst-step limit cs s width c rest next flag h step room =
-    let is = step-is s next flag c step in
-    grind (arith, goes-on)
+    → IsInFirst limit cs s width (c ∷ rest)
+    → (shows s c ≡ true → is_due limit width (Visible c) ≡ false)
+    → IsInFirst limit cs (next_of s c) (width + added s c) rest
+IsInFirst-step limit cs s width c rest h room = grind (arith, goes-on)
 
 -- where the first piece ends and the reader goes no further
 pub record EndsHere (limit : ℕ) (cs : List ℕ) (width : ℕ) (us : List TextUnit) : Type 0 where
@@ -82,17 +76,14 @@ pub record EndsHere (limit : ℕ) (cs : List ℕ) (width : ℕ) (us : List TextU
   pub wide : units_width (taken_units limit 0 (units cs)) ≡ width
 
 pub IsInFirst-cut : (limit : ℕ) (cs : List ℕ) (s : State) (width c : ℕ) (rest : List ℕ)
-    (next : State) → IsInFirst limit cs s width (c ∷ rest) → IsStep s c next true
+    → IsInFirst limit cs s width (c ∷ rest) → shows s c ≡ true
     → is_due limit width (Visible c) ≡ true → EndsHere limit cs width (units (c ∷ rest))
-IsInFirst-cut limit cs Text width c rest next h step due =
-    let plain = not-true (eqb c 27) (sym (step-is Text next true c step).0) in
+IsInFirst-cut limit cs Text width c rest h shown due =
+    let plain = not-true (eqb c 27) shown in
     grind arith
-IsInFirst-cut limit cs Escape width c rest next h step due = let e =
-    (step-is Escape next true c step).0 in cc
-IsInFirst-cut limit cs Control width c rest next h step due = let e =
-    (step-is Control next true c step).0 in cc
-IsInFirst-cut limit cs (Command last) width c rest next h step due = let e =
-    (step-is (Command last) next true c step).0 in cc
+IsInFirst-cut limit cs Escape width c rest h shown due = cc
+IsInFirst-cut limit cs Control width c rest h shown due = cc
+IsInFirst-cut limit cs (Command last) width c rest h shown due = cc
 
 pub IsInFirst-end : (limit : ℕ) (cs : List ℕ) (s : State) (width : ℕ)
     → IsInFirst limit cs s width [] → EndsHere limit cs width (units [])

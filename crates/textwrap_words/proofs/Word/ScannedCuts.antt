@@ -4,13 +4,12 @@ use Rattle.textwrap_base.proofs.Common.{inl, inr, ◌≡◌, ◌≢◌, ℕ, ◌
 use Rattle.textwrap_base.proofs.Common.{List, [], ◌∷◌, ◌++◌, Bool, length, drop, get_or, sym, ap}
 use Rattle.textwrap_base.proofs.Common.{◌∙◌, arith, slice_range, cases_lt, subst}
 use Rattle.textwrap_base.proofs.Common.{IsUtf8, IsCharBoundary, true≢false}
-use Rattle.textwrap_words.proofs.Common.{is_blank, Visible, is_due, Splitter}
+use Rattle.textwrap_words.proofs.Common.{is_blank, Visible, is_due, shows, Splitter}
 use Rattle.std.specs.Prelude.{encode_utf8}
 use Rattle.std.proofs.lemmas.Bool.{or_parts}
 use Rattle.textwrap_words.specs.PieceCuts.{is_piece_cut, IsPartWord, pieces_at}
 use Rattle.textwrap_words.specs.Pieces.{IsFirstWord}
 use Rattle.textwrap_words.specs.declared.escapes.State.{State}
-use Rattle.textwrap_words.proofs.Units.States.{IsStep}
 use Rattle.textwrap_base.proofs.Characters.{some-bytes}
 use Rattle.textwrap_words.proofs.Word.CharactersAhead.{plain-bytes, starts-within}
 use Rattle.textwrap_words.proofs.Word.FirstPlaces.{HasEnd, end-from}
@@ -22,7 +21,7 @@ use Rattle.textwrap_words.proofs.Word.ScannedWords.{IsScanned, GoesOn}
 module _ (splitter : Splitter) (limit : ℕ) (text : List ℕ) (utf8 : IsUtf8 text) (at : ℕ)
     (start : IsCharBoundary text at) where
   -- the word goes on with a character with which the piece would pass the limit
-  module _ (place c : ℕ) (after : List ℕ) (state next : State) (width : ℕ)
+  module _ (place c : ℕ) (after : List ℕ) (state : State) (width : ℕ)
       (h : IsScanned (is_piece_cut splitter text) limit text at place state width)
       (on : GoesOn (is_piece_cut splitter text) text at place)
       (is : drop place text ≡ encode_utf8 c ++ after) (other : c ≢ 32) where
@@ -59,15 +58,15 @@ module _ (splitter : Splitter) (limit : ℕ) (text : List ℕ) (utf8 : IsUtf8 te
           sym (ap (λ t. t || is_piece_cut splitter text found.end) blank) ∙ found.ends before;
     }
 
-    pub scanned-cut : IsStep state c next true → 0 < width
+    pub scanned-cut : shows state c ≡ true → 0 < width
         → is_due limit width (Visible c) ≡ true → IsFirstWord splitter limit text at place width
-    scanned-cut step wide_some due =
+    scanned-cut shown wide_some due =
         let v = found.end in
         let later : place < v = omega (arith, found.from) in
         let part = part-of_word splitter text at v word in
         let stops = part-stops (is_piece_cut splitter text) limit text utf8 at start place v part.0 c
-        after state next width h later (word-boundary splitter text utf8 at v word) part.1 part.2 is
-        step wide_some due in
+        after state width h later (word-boundary splitter text utf8 at v word) part.1 part.2 is
+        shown wide_some due in
         record {
           from = h.from;
           boundary = h.boundary;

@@ -1,12 +1,11 @@
 -- Letters of printable ASCII, which the reader goes over all at once.
 use Rattle.textwrap_base.proofs.Common.{◌≡◌, ℕ, zero, suc, ◌+◌, ◌<◌, ◌≤◌, List, ◌++◌, length}
 use Rattle.textwrap_base.proofs.Common.{drop, get_or, sym, ap, ◌∙◌, subst, arith, drop_more, IsUtf8}
-use Rattle.textwrap_base.proofs.Common.{Bool, IsCharBoundary, true}
+use Rattle.textwrap_base.proofs.Common.{Bool, IsCharBoundary}
 use Rattle.std.proofs.lemmas.Str.{encode_ascii}
 use Rattle.std.specs.Prelude.{encode_utf8}
 use Rattle.textwrap_words.specs.Pieces.{IsLetter}
 use Rattle.textwrap_words.specs.declared.escapes.State.TheVariants.{Text}
-use Rattle.textwrap_words.proofs.Units.States.{shown-step}
 use Rattle.textwrap_words.proofs.Units.Widths.{columns-printable, printable-no_escape}
 use Rattle.textwrap_words.proofs.Word.Breaking.{due-false}
 use Rattle.textwrap_words.proofs.Word.PieceBoundaries.{HoldsAfterOthers, HoldsBetween}
@@ -26,13 +25,10 @@ module _ (test : ℕ → Bool) (limit : ℕ) (text : List ℕ) (utf8 : IsUtf8 te
       let is : drop place text ≡ encode_utf8 c ++ after =
       drop_more text place 0 inside ∙ sym (ap (λ bs. bs ++ after) one) in
       let columns = columns-printable c letter.printable in
-      let next = scanned-step test limit text utf8 at start place c after Text Text width true stands
-      h on is (shown-step c (printable-no_escape c letter.printable))
-      (λ _. due-false limit width c (λ _. omega (
-        arith,
-        columns,
-        narrow,
-      ))) in grind (arith, others)
+      let next = rw (printable-no_escape c letter.printable)
+      at (scanned-step test limit text utf8 at start place c after Text width stands h on is
+      (λ _. due-false limit width c (λ _. omega (arith, columns, narrow)))) in
+      grind (arith, others)
 
   pub scanned-letters : (n : ℕ) → n ≤ limit → at + n ≤ length text
       → ((k : ℕ) → k < n → IsLetter (get_or text (at + k) 0))

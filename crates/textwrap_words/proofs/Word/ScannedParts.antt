@@ -1,23 +1,23 @@
 -- Where the reader stops: at the end of a part, and inside one, before a character with which the
 -- first piece would pass the limit.
 use Rattle.textwrap_base.proofs.Common.{inl, inr, ◌≡◌, ◌≢◌, ℕ, ◌-◌, ◌<◌, ◌≤◌, Bool, true, List, []}
-use Rattle.textwrap_base.proofs.Common.{◌∷◌, ◌++◌, length, drop, take, refl, sym, ap, ◌∙◌, subst, arith}
+use Rattle.textwrap_base.proofs.Common.{◌∷◌, ◌++◌, length, drop, take, sym, ap, ◌∙◌, subst, arith}
 use Rattle.textwrap_base.proofs.Common.{slice_range, cases_lt, take_all, drop_all, IsUtf8}
 use Rattle.textwrap_base.proofs.Common.{IsCharBoundary, IsUtf8-between}
 use Rattle.textwrap_words.proofs.Common.{Visible, is_due, piece, text_width, broken_texts}
-use Rattle.textwrap_words.proofs.Common.{broken_word, pieces_with}
+use Rattle.textwrap_words.proofs.Common.{broken_word, pieces_with, shows}
 use Rattle.std.specs.Prelude.{encode_utf8}
 use Rattle.textwrap_words.specs.PieceCuts.{pieces_from, IsPart, AreFinalBlanks}
 use Rattle.textwrap_words.specs.declared.escapes.State.{State}
 use Rattle.textwrap_base.proofs.Lists.Parts.{length-slice}
 use Rattle.textwrap_base.proofs.Lists.Slices.{slice_before, slice_after, slice-nil}
-use Rattle.textwrap_words.proofs.Units.States.{IsStep}
 use Rattle.textwrap_words.proofs.Word.CharactersAhead.{first-bytes}
 use Rattle.textwrap_words.proofs.Word.Measured.{text_width-nil}
 use Rattle.textwrap_words.proofs.Word.NarrowTexts.{broken_word-texts, broken_texts-narrow}
 use Rattle.textwrap_words.proofs.Word.PieceEnds.{broken_word-narrow}
 use Rattle.textwrap_words.proofs.Word.PieceFronts.{pieces-whole, pieces-stop}
-use Rattle.textwrap_words.proofs.Word.PieceTexts.{broken_texts-nil}
+use Rattle.textwrap_words.proofs.Word.PieceTexts.{broken_texts-nil, IsFirstPiece}
+use Rattle.textwrap_words.proofs.Units.ReadPlaces.{read-all}
 use Rattle.textwrap_words.proofs.Word.ReadPieces.{IsReading-cut, IsReading-end}
 use Rattle.textwrap_words.proofs.Word.ScannedWords.{IsScanned, scanned-reading}
 
@@ -81,8 +81,10 @@ module _ (test : ℕ → Bool) (limit : ℕ) (text : List ℕ) (utf8 : IsUtf8 te
         let full = some-text place some within in
         let read = scanned-reading test limit text utf8 at start place place state width h
         (omega arith) h.boundary in
-        let found = IsReading-end limit slice (place - at) (slice_range text place place) state width
-        own full read (ap length (slice-nil text place)) in
+        let ended = ap length (slice-nil text place) in
+        let found = subst (λ n. IsFirstPiece limit slice n width) (read-all read.read ended)
+        (IsReading-end limit slice (place - at) (slice_range text place place) state width read own
+        full ended) in
         let all : take (length slice) slice ≡ slice = take_all (length slice) slice (omega arith) in
         let one : broken_texts limit slice ≡ slice ∷ [] =
         cc (drop_all (length slice) slice (omega arith), broken_texts-nil limit) in
@@ -90,10 +92,10 @@ module _ (test : ℕ → Bool) (limit : ℕ) (text : List ℕ) (utf8 : IsUtf8 te
   ]
 
   -- the piece would pass the limit with the character at the place
-  pub part-stops : (place v end c : ℕ) (after : List ℕ) (state next : State) (width : ℕ)
+  pub part-stops : (place v end c : ℕ) (after : List ℕ) (state : State) (width : ℕ)
       → IsScanned test limit text at place state width → place < v → IsCharBoundary text v
       → IsPart test text at end → AreFinalBlanks text at v end
-      → drop place text ≡ encode_utf8 c ++ after → IsStep state c next true → 0 < width
+      → drop place text ≡ encode_utf8 c ++ after → shows state c ≡ true → 0 < width
       → is_due limit width (Visible c) ≡ true
       → pieces_from test limit text at
       ≡ record {
@@ -103,7 +105,7 @@ module _ (test : ℕ → Bool) (limit : ℕ) (text : List ℕ) (utf8 : IsUtf8 te
         width = width;
       }
       ∷ pieces_from test limit text place
-  part-stops place v end c after state next width h later cut part are is step wide_some due =
+  part-stops place v end c after state width h later cut part are is shown wide_some due =
       let some : at < place = omega (arith, wide_some, h.bound) in
       let whole = slice_range text at v in
       let front = slice_range text at place in
@@ -114,8 +116,8 @@ module _ (test : ℕ → Bool) (limit : ℕ) (text : List ℕ) (utf8 : IsUtf8 te
       let bytes = first-bytes text utf8 place c after h.boundary is v later cut in
       let read = scanned-reading test limit text utf8 at start place v state width h
       (omega (arith, later)) cut in
-      let found = IsReading-cut limit whole (place - at) rest state width c bytes.0 next true
-      whole_utf8 full read bytes.1 step refl due in
+      let found = IsReading-cut limit whole (place - at) rest state width read c bytes.0 whole_utf8
+      full bytes.1 shown due in
       let texts : broken_texts limit whole ≡ front ∷ broken_texts limit rest =
       grind (arith, slice_before, slice_after) in
       let wide : width ≡ text_width front =

@@ -1,23 +1,25 @@
 -- The reader of the first piece from a place on: what it has seen of it, whatever characters follow.
 use Rattle.textwrap_base.proofs.Common.{inl, inr, ◌≡◌, ℕ, ◌+◌, ◌-◌, ◌<◌, ◌≤◌, Bool, true}
-use Rattle.textwrap_base.proofs.Common.{false, List, [], ◌∷◌, ◌++◌, length, drop, sym}
+use Rattle.textwrap_base.proofs.Common.{false, List, [], ◌∷◌, ◌++◌, length, drop, refl, sym}
 use Rattle.textwrap_base.proofs.Common.{cases_Bool, ap, ◌∙◌, subst, arith, slice_range, cases_lt, append_assoc}
-use Rattle.textwrap_base.proofs.Common.{append-nil, IsUtf8, IsCharBoundary, IsUtf8-between}
-use Rattle.textwrap_base.proofs.Common.{IsUtf8-drop, IsUtf8-past_char, chars-append}
-use Rattle.textwrap_base.proofs.Common.{chars_past_char, chars-nil, take_at}
-use Rattle.textwrap_words.proofs.Common.{Visible, is_due}
+use Rattle.textwrap_base.proofs.Common.{IsUtf8, IsCharBoundary, IsUtf8-between}
+use Rattle.textwrap_base.proofs.Common.{chars-append}
+use Rattle.textwrap_base.proofs.Common.{chars-nil, take_at}
+use Rattle.textwrap_words.proofs.Common.{Visible, is_due, next_of, shows}
 use Rattle.std.specs.Prelude.{chars, encode_utf8}
 use Rattle.std.proofs.lemmas.Str.{IsCharBoundary-from_drop}
 use Rattle.textwrap_words.specs.declared.escapes.State.{State}
 use Rattle.textwrap_words.specs.declared.escapes.State.TheVariants.{Text}
 use Rattle.textwrap_base.proofs.Lists.Parts.{length-slice}
 use Rattle.textwrap_base.proofs.Lists.Slices.{slices_joined, slice_after, slice-nil}
-use Rattle.textwrap_words.proofs.Units.States.{IsStep}
-use Rattle.textwrap_words.proofs.Word.CharactersAhead.{character-within, ends-within, left-after}
+use Rattle.textwrap_words.proofs.Word.CharactersAhead.{character-within}
 use Rattle.textwrap_words.proofs.Word.CharactersAhead.{starts-within}
-use Rattle.textwrap_words.proofs.Word.FirstUnits.{IsInFirst, IsInFirst-start, added, IsInFirst-step}
+use Rattle.textwrap_words.proofs.Word.FirstUnits.{IsInFirst, IsInFirst-start, IsInFirst-step}
 use Rattle.textwrap_words.proofs.Word.PieceBoundaries.{HoldsBetween}
-use Rattle.textwrap_words.proofs.Word.ReadPieces.{IsReading, added-le}
+use Rattle.textwrap_words.proofs.Word.ReadPieces.{IsReading}
+use Rattle.textwrap_words.proofs.Units.Narrow.{added-le}
+use Rattle.textwrap_words.proofs.Units.ReadPlaces.{chars-push, read-at, read-next}
+use Rattle.textwrap_words.proofs.Units.Widths.{added}
 
 pub record IsScanned (test : ℕ → Bool) (limit : ℕ) (text : List ℕ) (at place : ℕ)
     (state : State) (width : ℕ) : Type 0 where
@@ -38,35 +40,24 @@ module _ (test : ℕ → Bool) (limit : ℕ) (text : List ℕ) (utf8 : IsUtf8 te
   scanned-start = grind (arith, slice-nil, chars-nil, IsInFirst-start)
 
   -- the reader goes over a character
-  pub scanned-step : (place c : ℕ) (after : List ℕ) (state next : State) (width : ℕ) (flag : Bool)
+  pub scanned-step : (place c : ℕ) (after : List ℕ) (state : State) (width : ℕ)
       → HoldsBetween test text → IsScanned test limit text at place state width
       → GoesOn test text at place → drop place text ≡ encode_utf8 c ++ after
-      → IsStep state c next flag
-      → (flag ≡ true → is_due limit width (Visible c) ≡ false)
-      → IsScanned test limit text at (place + length (encode_utf8 c)) next (width + added flag c)
-  scanned-step place c after state next width flag stands h on is step room =
-      let len = length (encode_utf8 c) in
-      let end = place + len in
+      → (shows state c ≡ true → is_due limit width (Visible c) ≡ false)
+      → IsScanned test limit text at (place + length (encode_utf8 c)) (next_of state c)
+      (width + added state c)
+  scanned-step place c after state width stands h on is room =
+      let end = place + length (encode_utf8 c) in
       let from = h.from in
-      let rest = IsUtf8-drop text place utf8 h.boundary in
-      let within : end ≤ length text = ends-within text place c after is in
-      let cut = IsCharBoundary-from_drop text end within
-      (subst IsUtf8 (sym (left-after text place c after is))
-      (IsUtf8-past_char (drop place text) after c rest is)) in
+      let cut = (read-next (read-at text place utf8 h.boundary) c after is end refl).boundary in
+      let within = cut.0 in
       let front = slice_range text at place in
       let part : slice_range text place end ≡ encode_utf8 c =
       grind (arith, take_at) in
-      let one : chars (slice_range text place end) ≡ c ∷ [] =
-      ap chars part
-      ∙ chars_past_char (encode_utf8 c) [] c
-      (subst IsUtf8 part (IsUtf8-between text place end utf8 (omega arith) h.boundary cut))
-      (sym (append-nil (encode_utf8 c)))
-      ∙ ap (λ cs. c ∷ cs) chars-nil in
-      let more_chars : chars (slice_range text at end) ≡ chars front ++ c ∷ [] =
-      ap chars (slices_joined text at place end from (omega arith))
-      ∙ chars-append front (slice_range text place end)
-      (IsUtf8-between text at place utf8 from start h.boundary)
-      ∙ ap (λ cs. chars front ++ cs) one in
+      let joined = slices_joined text at place end from (omega arith) ∙ ap (λ l. front ++ l) part in
+      let more_chars = ap chars joined
+      ∙ chars-push front c (IsUtf8-between text at place utf8 from start h.boundary)
+      (subst IsUtf8 joined (IsUtf8-between text at end utf8 (omega (arith, from)) start cut)) in
       record {
         from = omega (arith, from);
         boundary = cut;
@@ -86,12 +77,12 @@ module _ (test : ℕ → Bool) (limit : ℕ) (text : List ℕ) (utf8 : IsUtf8 te
                 ∙ on (omega (arith, same, past)) (starts-within text place c after is)
           ]
         ];
-        bound = omega (arith, h.bound, added-le flag c, from);
+        bound = omega (arith, h.bound, added-le state c, from);
         reads = λ more.
-            subst (λ cs. IsInFirst limit cs next (width + added flag c) more)
+            subst (λ cs. IsInFirst limit cs (next_of state c) (width + added state c) more)
             (sym (ap (λ cs. cs ++ more) more_chars ∙ append_assoc (chars front) (c ∷ []) more))
-            (IsInFirst-step limit (chars front ++ c ∷ more) state width c more next flag
-            (h.reads (c ∷ more)) step room);
+            (IsInFirst-step limit (chars front ++ c ∷ more) state width c more (h.reads (c ∷ more))
+            room);
       }
 
   -- it reads each part that goes on from there, as one that knows where the part ends
@@ -102,10 +93,15 @@ module _ (test : ℕ → Bool) (limit : ℕ) (text : List ℕ) (utf8 : IsUtf8 te
       let from = h.from in
       let front = slice_range text at place in
       let own = IsUtf8-between text place v utf8 up_to h.boundary cut in
+      let place_is = slice_after text at place v from up_to in
       record {
-        utf8 = own;
-        place = slice_after text at place v from up_to;
-        within = omega (arith, length-slice text at v cut.0, up_to, from);
+        read = record {
+          utf8 = own;
+          place = place_is;
+          boundary = IsCharBoundary-from_drop (slice_range text at v) (place - at)
+              (omega (arith, length-slice text at v cut.0, up_to, from))
+              (subst IsUtf8 (sym place_is) own);
+        };
         bound = h.bound;
         inside = subst (λ cs. IsInFirst limit cs state width (chars (slice_range text place v)))
             (sym (ap chars (slices_joined text at place v from up_to)

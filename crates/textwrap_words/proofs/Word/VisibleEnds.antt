@@ -1,13 +1,13 @@
 -- Where the visible characters of a line end.
 use Rattle.textwrap_base.proofs.Common.{inl, inr, cases_Bool, ◌≡◌, ◌≢◌, ℕ, ◌+◌, Bool, cond, eqb}
 use Rattle.textwrap_base.proofs.Common.{List, ◌∷◌, length, take, refl, ap, add-zero}
-use Rattle.textwrap_base.proofs.Common.{encode_utf8_all, arith}
-use Rattle.textwrap_words.proofs.Common.{taken_in, escape_len, units_past, VisibleEnd, ends_from}
+use Rattle.textwrap_base.proofs.Common.{encode_utf8_all}
+use Rattle.textwrap_words.proofs.Common.{ends_from, escape_len, next_of, shows, taken_in, units_past}
+use Rattle.textwrap_words.proofs.Common.{VisibleEnd}
 use lib.Utf8.{encode}
 use Rattle.textwrap_words.specs.declared.escapes.State.{State}
 use Rattle.textwrap_words.specs.declared.escapes.State.TheVariants.{Text, Escape, Control, Command}
-use Rattle.textwrap_words.proofs.Units.States.{units_in, next_of, shows, IsStep, step-is}
-use Rattle.textwrap_words.proofs.Units.States.{taken-step}
+use Rattle.textwrap_words.proofs.Units.States.{taken-step, units_in}
 use Rattle.textwrap_base.proofs.Utf8.{past-one}
 
 -- where a character ends that begins at these places
@@ -21,35 +21,24 @@ ends_in s at shown cs =
     ends_from (at + length (encode_utf8_all (take (taken_in s cs) cs))) shown (units_in s cs)
 
 -- the ends from one more character on, if it is visible or not
-abbrev pub ends_past : Bool → State → ℕ → ℕ → ℕ → List ℕ → List VisibleEnd
-ends_past flag next at shown c cs =
+abbrev pub ends_past : State × Bool → ℕ → ℕ → ℕ → List ℕ → List VisibleEnd
+ends_past (next, flag) at shown c cs =
     cond flag (end_of at shown c ∷ ends_in next (at + length (encode c))
     (shown + length (encode c)) cs) (ends_in next (at + length (encode c)) shown cs)
-
-ends-text : (at shown c : ℕ) (cs : List ℕ)
-    → ends_in Text at shown (c ∷ cs) ≡ ends_past (shows Text c) (next_of Text c) at shown c cs
-ends-text at shown c cs =
-    elim (cases_Bool (eqb c 27)) [
-      | inl t ↦ rw (add-zero at, t) (ap (λ n. ends_from n shown (units_past (escape_len cs) cs))
-          (past-one at c (take (escape_len cs) cs)))
-      | inr f ↦ rw (add-zero at, f, add-zero (at + length (encode c))) refl
-    ]
 
 ends-inside : (s : State) (at shown c : ℕ) (cs : List ℕ) → s ≢ Text
     → ends_in s at shown (c ∷ cs) ≡ ends_in (next_of s c) (at + length (encode c)) shown cs
 ends-inside s at shown c cs inside =
     search (taken-step, past-one)
 
-ends-plain : (s : State) (at shown c : ℕ) (cs : List ℕ)
-    → ends_in s at shown (c ∷ cs) ≡ ends_past (shows s c) (next_of s c) at shown c cs
-ends-plain Text at shown c cs = ends-text at shown c cs
-ends-plain Escape at shown c cs = ends-inside Escape at shown c cs (λ e. cc)
-ends-plain Control at shown c cs = ends-inside Control at shown c cs (λ e. cc)
-ends-plain (Command last) at shown c cs = ends-inside (Command last) at shown c cs (λ e. cc)
-
-pub ends-step : (s : State) (at shown c : ℕ) (cs : List ℕ) (next : State) (flag : Bool)
-    → IsStep s c next flag
-    → ends_in s at shown (c ∷ cs) ≡ ends_past flag next at shown c cs
-ends-step s at shown c cs next flag step =
-    let known = step-is s next flag c step in
-    grind (arith, ends-plain)
+pub ends-step : (s : State) (at shown c : ℕ) (cs : List ℕ)
+    → ends_in s at shown (c ∷ cs) ≡ ends_past (next_of s c, shows s c) at shown c cs
+ends-step Text at shown c cs =
+    elim (cases_Bool (eqb c 27)) [
+      | inl t ↦ rw (add-zero at, t) (ap (λ n. ends_from n shown (units_past (escape_len cs) cs))
+          (past-one at c (take (escape_len cs) cs)))
+      | inr f ↦ rw (add-zero at, f, add-zero (at + length (encode c))) refl
+    ]
+ends-step Escape at shown c cs = ends-inside Escape at shown c cs (λ e. cc)
+ends-step Control at shown c cs = ends-inside Control at shown c cs (λ e. cc)
+ends-step (Command last) at shown c cs = ends-inside (Command last) at shown c cs (λ e. cc)

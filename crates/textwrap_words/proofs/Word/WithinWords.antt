@@ -2,13 +2,12 @@
 use Rattle.textwrap_base.proofs.Common.{inl, inr, ◌≡◌, ℕ, ◌+◌, ◌-◌, ◌<◌, ◌≤◌, Bool, true, false}
 use Rattle.textwrap_base.proofs.Common.{List, ◌++◌, length, drop, get_or, sym, ap, ◌∙◌, subst, arith}
 use Rattle.textwrap_base.proofs.Common.{cases_lt, IsUtf8, IsCharBoundary, true≢false}
-use Rattle.textwrap_words.proofs.Common.{is_blank, trimmed_len, Visible, is_due, Splitter}
+use Rattle.textwrap_words.proofs.Common.{is_blank, trimmed_len, Visible, is_due, shows, Splitter}
 use Rattle.std.specs.Prelude.{encode_utf8}
 use Rattle.std.proofs.lemmas.Str.{IsCharBoundary-end}
 use Rattle.textwrap_words.specs.PieceCuts.{is_point, AreFinalBlanks, IsPart}
 use Rattle.textwrap_words.specs.Pieces.{IsFirstWithin}
 use Rattle.textwrap_words.specs.declared.escapes.State.{State}
-use Rattle.textwrap_words.proofs.Units.States.{IsStep}
 use Rattle.textwrap_words.proofs.Word.FirstPlaces.{HasEnd, end-from}
 use Rattle.textwrap_words.proofs.Word.PieceBoundaries.{point-boundary, point-hyphen}
 use Rattle.textwrap_words.proofs.Word.PieceEnds.{point-none}
@@ -74,7 +73,7 @@ module _ (splitter : Splitter) (limit : ℕ) (text : List ℕ) (utf8 : IsUtf8 te
       }
 
   -- it stops before a character with which the piece would pass the limit
-  module _ (place c : ℕ) (after : List ℕ) (state next : State) (width : ℕ)
+  module _ (place c : ℕ) (after : List ℕ) (state : State) (width : ℕ)
       (h : IsScanned test limit text at place state width) (on : GoesOn test text at place)
       (is : drop place text ≡ encode_utf8 c ++ after) (early : place < trimmed_len text) where
     -- the next point, or the end of the word
@@ -92,16 +91,16 @@ module _ (splitter : Splitter) (limit : ℕ) (text : List ℕ) (utf8 : IsUtf8 te
       ]
     ]
 
-    pub within-cut : IsStep state c next true → 0 < width → is_due limit width (Visible c) ≡ true
+    pub within-cut : shows state c ≡ true → 0 < width → is_due limit width (Visible c) ≡ true
         → IsFirstWithin splitter limit text at
         (record { word_end = place; end = place; width = width })
-    within-cut step wide_some due =
+    within-cut shown wide_some due =
         let v = found.end in
         let later : place < v = omega (arith, found.from) in
         let stops = λ (end : ℕ) (cut : IsCharBoundary text v) (part : IsPart test text at end)
         (are : AreFinalBlanks text at v end).
-        part-stops test limit text utf8 at start place v end c after state next width h later cut part
-        are is step wide_some due in
+        part-stops test limit text utf8 at start place v end c after state width h later cut part
+        are is shown wide_some due in
         record {
           from = h.from;
           up_to = omega arith;

@@ -2,11 +2,11 @@ use Rattle.textwrap_calls.proofs.pieces.are_offsets.Goals as goal
 use Rattle.textwrap_base.proofs.Common.{◌≡◌, ℕ, ◌+◌, ◌<◌, ◌++◌, List, [], ◌∷◌, cond, length, get_or}
 use Rattle.textwrap_base.proofs.Common.{ap, ◌∙◌, sym, arith, refl, nil_from_length, length_push}
 use Rattle.textwrap_base.proofs.Common.{YieldsList-from_chars, YieldsList-turn, YieldsList-end}
-use Rattle.textwrap_base.proofs.Common.{encodes-chars, eqb-true, eq-eqb}
+use Rattle.textwrap_base.proofs.Common.{eqb-true, eq-eqb}
 use Rattle.std.specs.Str.{chars}
 use lib.Utf8.{encode}
-use Rattle.textwrap_words.proofs.Units.Stripped.{text_in-short}
-use Rattle.textwrap_words.specs.declared.escapes.State.TheVariants.{Text}
+use Rattle.textwrap_words.proofs.Units.Stripped.{stripped-short}
+use Rattle.textwrap_words.proofs.Common.{shows}
 use Rattle.textwrap_calls.specs.Pieces.{offsets_past}
 use Rattle.textwrap_calls.proofs.Offsets.Reading.{IsReading, IsReading-room, IsReading-step, IsReading-end}
 use Rattle.textwrap_calls.proofs.pieces.are_offsets.Goals.{After-step-next}
@@ -20,42 +20,43 @@ here c =
 
 -- the line after it
 after : (c : After-step-next) (shown : ℕ) (left : List ℕ)
-    → shown ≡ cond c.step-next.result.1 (c.loop-ch.shown + length (encode c.in-Some.ch)) c.loop-ch.shown
-    → left ≡ cond c.step-next.result.1
+    → shown ≡ cond (shows c.loop-ch.state c.in-Some.ch)
+    (c.loop-ch.shown + length (encode c.in-Some.ch)) c.loop-ch.shown
+    → left ≡ cond (shows c.loop-ch.state c.in-Some.ch)
     (offsets_past (c.loop-ch.shown + length (encode c.in-Some.ch)) c.loop-ch.left.now)
     c.loop-ch.left.now
     → IsReading c.args.line.now c.args.offsets.now
     (length (c.loop-ch.yielded ++ c.in-Some.ch ∷ [])) c.step-next.result.0 shown left
 after c shown left shown_is left_is =
-    rw length_push (IsReading-step _ _ _ _ _ _ c.loop-ch.invariant c.in-Some.ch (here c)
-    c.step-next.result.0 c.step-next.result.1 c.step-next.ensures shown left shown_is left_is)
+    rw (c.step-next.ensures, length_push) (IsReading-step _ _ _ _ _ _ c.loop-ch.invariant
+    c.in-Some.ch (here c) shown left shown_is left_is)
 
 pub overflow_add-shown : goal.overflow_add-shown
 overflow_add-shown c =
     let line = c.args.line.now in
     let room = IsReading-room _ _ _ _ _ _ c.loop-ch.invariant c.in-Some.ch
-    (here (goal.at.overflow_add-shown c).After-step-next) c.step-next.result.0
-    c.step-next.result.1 c.step-next.ensures c.if-is_visible.true in
+    (here (goal.at.overflow_add-shown c).After-step-next)
+    (rw c.step-next.ensures at c.if-is_visible.true) in
     omega (
       arith,
       room,
       c.len_utf8-shown.ensures.len,
-      text_in-short Text (chars line),
-      ap length (encodes-chars line c.utf8.line),
+      stripped-short line c.utf8.line,
     )
 
 pub loop-ch-preserved-then-is_visible : goal.loop-ch-preserved-then-is_visible
 loop-ch-preserved-then-is_visible c =
     let end = ap (λ n. c.loop-ch.shown + n) c.len_utf8-shown.ensures.len in
+    let shown = rw c.step-next.ensures at c.if-is_visible.true in
     after (goal.at.loop-ch-preserved-then-is_visible c).After-step-next _ _
-    (rw c.if-is_visible.true end)
-    (rw c.if-is_visible.true (c.offsets_past-left-then-is_visible.ensures
+    (rw shown end)
+    (rw shown (c.offsets_past-left-then-is_visible.ensures
     ∙ ap (λ place. offsets_past place c.loop-ch.left.now) end))
 
 pub loop-ch-preserved : goal.loop-ch-preserved
 loop-ch-preserved c =
-    after (goal.at.loop-ch-preserved c).After-step-next _ _ (rw c.if-is_visible.false refl)
-    (rw c.if-is_visible.false refl)
+    let hidden = rw c.step-next.ensures at c.if-is_visible.false in
+    after (goal.at.loop-ch-preserved c).After-step-next _ _ (rw hidden refl) (rw hidden refl)
 
 pub returns : goal.returns
 returns c =

@@ -1,11 +1,11 @@
 use Rattle.textwrap_display.proofs.shortening.kept_len.Goals as goal
-use Rattle.textwrap_base.proofs.Common.{◌≡◌, ◌+◌, sym, ap, subst, ◌∙◌, arith, length, eqb, inl, inr}
+use Rattle.textwrap_base.proofs.Common.{◌≡◌, ◌+◌, refl, sym, ap, subst, ◌∙◌, arith, length, eqb, inl, inr}
 use Rattle.textwrap_base.proofs.Common.{char_indices_offset}
 use Rattle.std.specs.Str.Iter.{char_indices_rest}
-use Rattle.textwrap_words.proofs.Word.FirstUnits.{added}
+use Rattle.textwrap_words.proofs.Units.Widths.{added}
 use Rattle.textwrap_display.proofs.KeptFound.{IsFound, found-none, found-kept, found-past, found-here}
 use Rattle.textwrap_display.proofs.KeptFound.{found-on, found-whole, found-blank}
-use Rattle.textwrap_display.proofs.KeptReader.{IsReadTo, read-start, read-step, read-le}
+use Rattle.textwrap_display.proofs.KeptReader.{IsReadTo, read_to-start, read_to-step, read-le}
 use Rattle.textwrap_display.proofs.shortening.kept_len.Goals.{then-ch-eq32+then-not-after_blank}
 use Rattle.textwrap_display.proofs.shortening.kept_len.Goals.{else-ch-eq32}
 use Rattle.textwrap_display.proofs.shortening.kept_len.Goals.{then-is_visible, else-is_visible}
@@ -14,13 +14,11 @@ use Rattle.textwrap_display.proofs.shortening.kept_len.Goals.{Joined-is_visible,
 pub loop-at-init : goal.loop-at-init
 loop-at-init c =
     let items = c.char_indices-at-items.ensures in
-    let same = c.into_iter-at-iterator.ensures.into_iter_gives in
     let line = c.args.line.now in
-    let start = ap char_indices_offset same ∙ items.offset in
-    record {
-      read = read-start line c.utf8.line _ _ start (ap char_indices_rest same ∙ items.rest);
-      found = found-none c.in-Some.room line _ start;
-    }
+    rw (c.into_iter-at-iterator.ensures.into_iter_gives, items.offset, items.rest) (record {
+      read = read_to-start line c.utf8.line;
+      found = found-none c.in-Some.room line 0 refl;
+    })
 
 pub returns-then-taken-room : goal.returns-then-taken-room
 returns-then-taken-room c =
@@ -35,18 +33,14 @@ read : (c : Joined-is_visible)
     (c.loop-at.taken + c.if-is_visible.taken) (eqb c.in-Some-2.ch 32)
 read c =
     let s = c.in-Some-2.ensures.steps in
-    let more : c.loop-at.taken + added c.step-next.result.1 c.in-Some-2.ch
-    ≡ c.loop-at.taken + c.if-is_visible.taken = elim c.if-is_visible.branch [
-      | then-is_visible w ↦ rw w.if-is_visible.true
-          (ap (λ n. c.loop-at.taken + n) (sym (w.taken-is ∙ w.columns.ensures)))
-      | else-is_visible w ↦ rw w.if-is_visible.false
-          (ap (λ n. c.loop-at.taken + n) (sym w.taken-is))
+    let more : added c.loop-at.state c.in-Some-2.ch ≡ c.if-is_visible.taken =
+    elim c.if-is_visible.branch [
+      | then-is_visible w ↦ rw (rw c.step-next.ensures at w.if-is_visible.true)
+          (sym (w.taken-is ∙ w.columns.ensures))
+      | else-is_visible w ↦ rw (rw c.step-next.ensures at w.if-is_visible.false) (sym w.taken-is)
     ] in
-    subst (λ n. IsReadTo c.args.line.now (char_indices_offset c.next.new.self)
-    (char_indices_rest c.next.new.self) c.step-next.result.0 n (eqb c.in-Some-2.ch 32)) more
-    (read-step c.args.line.now c.utf8.line _ _ c.in-Some-2.ch _ _ c.loop-at.state
-    c.step-next.result.0 c.loop-at.taken c.step-next.result.1 c.loop-at.after_blank
-    c.loop-at.invariant.read s.1 (omega (arith, s.2)) c.step-next.ensures)
+    rw (c.step-next.ensures, ← more) (read_to-step c.args.line.now c.utf8.line _ _ c.in-Some-2.ch
+    _ _ c.loop-at.state c.loop-at.taken c.loop-at.after_blank c.loop-at.invariant.read s.1 s.2)
 
 pub overflow_add-taken : goal.overflow_add-taken
 overflow_add-taken c =

@@ -2,7 +2,6 @@ use Rattle.textwrap_base.proofs.Common.{◌≡◌, ℕ, ◌<◌, ◌*◌, slice_
 use Rattle.textwrap_base.proofs.Common.{refl, arith, drop-drop, true≢false}
 use Rattle.std.specs.Prelude.{encode_utf8}
 use Rattle.std.specs.Str.Iter.{chars_rest}
-use Rattle.std.proofs.lemmas.Str.{IsCharBoundary-from_drop}
 use Rattle.textwrap_words.specs.Cuts.{AreInnerCuts}
 use Rattle.textwrap_words.specs.Units.{stripped}
 use Rattle.textwrap_words.specs.declared.escapes.State.TheVariants.{Text}
@@ -12,7 +11,7 @@ use Rattle.textwrap_unicode.specs.Cuts.{may_end, offsets_of}
 use Rattle.textwrap_unicode.specs.WordStarts.{IsWordByte}
 use Rattle.textwrap_unicode.proofs.CuttingLemmas.{IsCutting, IsCutting-start, IsCutting-step, IsCutting-end}
 use Rattle.textwrap_unicode.proofs.InnerCuts.{cuts_at-AreInnerCuts}
-use Rattle.textwrap_unicode.proofs.ReadPlaces.{read-after, read-boundary}
+use Rattle.textwrap_words.proofs.Units.ReadPlaces.{read-next}
 use Rattle.textwrap_unicode.proofs.IdeographCuts.{past-ideographs}
 use Rattle.textwrap_unicode.proofs.WordCuts.{past-words}
 use Rattle.textwrap_unicode.specs.Ideographs.{IsIdeographAt}
@@ -27,8 +26,7 @@ loop-ch-init c = IsCutting-start _ _ _ _ _ _ c.utf8.line refl refl c.new-before.
 
 pub range_from-requires : goal.range_from-requires
 range_from-requires c = λ _.
-    let read = c.loop-ch.invariant.read in
-    IsCharBoundary-from_drop c.args.line.now c.loop-ch.at read.within read.utf8
+    c.loop-ch.invariant.read.boundary
 
 -- the character that is read
 here : (c : In-Some) → drop c.loop-ch.at c.args.line.now ≡ encode_utf8 c.in-Some.ch ++ chars_rest c.next.new.self
@@ -37,7 +35,7 @@ here c = sym c.range_from.ensures.value ∙ sym c.chars.ensures.rest ∙ c.in-So
 pub step_past-verdict-requires : goal.step_past-verdict-requires
 step_past-verdict-requires c =
     rw c.len_utf8.ensures.len
-    (read-boundary _ _ _ c.loop-ch.invariant.read c.in-Some.ch _ (here (goal.at.step_past-verdict-requires c).In-Some))
+    (read-next c.loop-ch.invariant.read _ _ (here (goal.at.step_past-verdict-requires c).In-Some) _ refl).boundary
 
 -- the reader past the character
 past : (c : Joined-is_visible)
@@ -48,7 +46,7 @@ past : (c : Joined-is_visible)
 past c is =
     let line = c.args.line.now in
     let ch = c.in-Some.ch in
-    let after = read-after _ _ _ c.loop-ch.invariant.read ch _ is in
+    let after = (read-next c.loop-ch.invariant.read ch _ is _ refl).place in
     rw (c.len_utf8.ensures.len, after) (elim c.if-is_visible.branch [
       | then-is_visible w ↦
           let shown = w.if-is_visible.true in
@@ -57,8 +55,8 @@ past c is =
             w.of-unit.ensures,
             after,
           ) at w.step_past-verdict.ensures.verdict) in
-          IsCutting-step _ _ _ _ _ _ _ _ _ ch _ c.step-next.result.0 c.step-next.result.1
-          c.loop-ch.invariant is c.step-next.ensures _ _ _ _ _ refl
+          IsCutting-step _ _ _ _ _ _ _ _ _ ch _ c.step-next.result c.loop-ch.invariant
+          is c.step-next.ensures _ _ _ _ _ refl
           (rw shown (w.before-is ∙ w.step_past-verdict.ensures.before
           ∙ ap (and c.loop-ch.before) w.of-unit.ensures))
           (rw shown (w.end-is ∙ ap (λ n. c.loop-ch.at + n) c.len_utf8.ensures.len))
@@ -71,8 +69,8 @@ past c is =
           ])
       | else-is_visible w ↦
           let hidden = w.if-is_visible.false in
-          IsCutting-step _ _ _ _ _ _ _ _ _ ch _ c.step-next.result.0 c.step-next.result.1
-          c.loop-ch.invariant is c.step-next.ensures _ _ _ _ _ refl (rw hidden w.before-is)
+          IsCutting-step _ _ _ _ _ _ _ _ _ ch _ c.step-next.result c.loop-ch.invariant
+          is c.step-next.ensures _ _ _ _ _ refl (rw hidden w.before-is)
           (rw hidden w.end-is) (rw hidden w.is_hyphen-is) (rw hidden (ap (λ v. v.items) w.cuts-is))
     ])
 
@@ -120,8 +118,7 @@ loop-ch-preserved-in_ok-passed c =
 pub range_from-requires-then-is_in_word : goal.range_from-requires-then-is_in_word
 range_from-requires-then-is_in_word c = λ _.
     let at = goal.at.range_from-requires-then-is_in_word c in
-    let read = (past at.Joined-is_visible (here at.In-Some)).read in
-    IsCharBoundary-from_drop c.args.line.now _ read.within read.utf8
+    (past at.Joined-is_visible (here at.In-Some)).read.boundary
 
 pub loop-ch-preserved-in_ok-at : goal.loop-ch-preserved-in_ok-at
 loop-ch-preserved-in_ok-at c =
@@ -153,8 +150,7 @@ loop-ch-preserved-in_ok-at c =
 pub range_from-requires-then-is_behind_ideograph : goal.range_from-requires-then-is_behind_ideograph
 range_from-requires-then-is_behind_ideograph c = λ _.
     let at = goal.at.range_from-requires-then-is_behind_ideograph c in
-    let read = (past at.Joined-is_visible (here at.In-Some)).read in
-    IsCharBoundary-from_drop c.args.line.now _ read.within read.utf8
+    (past at.Joined-is_visible (here at.In-Some)).read.boundary
 
 pub returns-clause-cuts : goal.returns-clause-cuts
 returns-clause-cuts c =

@@ -14,9 +14,8 @@ returns-then-not-is_mark c =
     _ c.loop-c.yielded_by _ _ c.in-Some.c c.in-Some.is c.next.ensures.steps in
     let other = sym (c.is_mark.ensures ∙ ap is_mark c.class_of-class.ensures)
     ∙ c.if-not-is_mark.true in
-    let step = rw (c.if-is_visible.true, other) at (shown-step c.loop-c.state c.step-next.result.0
-    c.step-next.result.1 (chars text) (length c.loop-c.yielded) c.in-Some.c t
-    c.step-next.ensures) in
+    let step = rw (rw c.step-next.ensures at c.if-is_visible.true, other)
+    at (shown-step c.loop-c.state (chars text) (length c.loop-c.yielded) c.in-Some.c t) in
     c.is_number.ensures ∙ ap is_number c.class_of-class.ensures ∙ sym step ∙ c.loop-c.invariant
 
 pub loop-c-preserved-else-not-is_mark : goal.loop-c-preserved-else-not-is_mark
@@ -26,20 +25,18 @@ loop-c-preserved-else-not-is_mark c =
     _ c.loop-c.yielded_by _ _ c.in-Some.c c.in-Some.is c.next.ensures.steps in
     let mark = sym (c.is_mark.ensures ∙ ap is_mark c.class_of-class.ensures)
     ∙ c.if-not-is_mark.false in
-    let step = rw (c.if-is_visible.true, mark) at (shown-step c.loop-c.state c.step-next.result.0
-    c.step-next.result.1 (chars text) (length c.loop-c.yielded) c.in-Some.c t
-    c.step-next.ensures) in
-    rw length_push (sym step ∙ c.loop-c.invariant)
+    let step = rw (rw c.step-next.ensures at c.if-is_visible.true, mark)
+    at (shown-step c.loop-c.state (chars text) (length c.loop-c.yielded) c.in-Some.c t) in
+    rw (c.step-next.ensures, length_push) (sym step ∙ c.loop-c.invariant)
 
 pub loop-c-preserved : goal.loop-c-preserved
 loop-c-preserved c =
     let text = c.args.text.now in
     let t = YieldsList-turn (YieldsList-from_chars text c.utf8.text cc) c.loop-c.yielded
     _ c.loop-c.yielded_by _ _ c.in-Some.c c.in-Some.is c.next.ensures.steps in
-    let step = rw c.if-is_visible.false at (shown-step c.loop-c.state c.step-next.result.0
-    c.step-next.result.1 (chars text) (length c.loop-c.yielded) c.in-Some.c t
-    c.step-next.ensures) in
-    rw length_push (sym step ∙ c.loop-c.invariant)
+    let step = rw (rw c.step-next.ensures at c.if-is_visible.false)
+    at (shown-step c.loop-c.state (chars text) (length c.loop-c.yielded) c.in-Some.c t) in
+    rw (c.step-next.ensures, length_push) (sym step ∙ c.loop-c.invariant)
 
 pub returns : goal.returns
 returns c =

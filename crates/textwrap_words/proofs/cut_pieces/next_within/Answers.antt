@@ -8,15 +8,14 @@ use Rattle.std.specs.Prelude.{encode_utf8}
 use Rattle.std.specs.Str.Iter.{char_indices_rest}
 use Rattle.std.proofs.lemmas.Str.{encode_ascii}
 use Rattle.textwrap_words.specs.PieceCuts.{is_point}
-use Rattle.textwrap_words.proofs.Common.{as_splitter, is_due, trimmed_len, Visible}
+use Rattle.textwrap_words.proofs.Common.{as_splitter, is_due, shows, trimmed_len, Visible}
 use Rattle.textwrap_words.specs.Pieces.{IsLetter, IsFirstWithin}
 use Rattle.textwrap_words.specs.declared.escapes.State.TheVariants.{Text}
-use Rattle.textwrap_words.proofs.Units.States.{IsStep}
 use Rattle.textwrap_words.proofs.Units.Narrow.{columns-le}
 use Rattle.textwrap_words.proofs.Word.Breaking.{due-true, due-false}
 use Rattle.textwrap_base.proofs.Characters.{some-bytes}
 use Rattle.textwrap_words.proofs.Word.CharactersAhead.{ends-within, left-after, point-after}
-use Rattle.textwrap_words.proofs.Word.FirstUnits.{added}
+use Rattle.textwrap_words.proofs.Units.Widths.{added}
 use Rattle.textwrap_words.proofs.Word.PieceBoundaries.{point-boundary, point-letter}
 use Rattle.textwrap_words.proofs.Word.ScannedLetters.{scanned-letters}
 use Rattle.textwrap_words.proofs.Word.ScannedWords.{IsScanned, GoesOn, scanned-step}
@@ -128,8 +127,6 @@ returns-then-width-columns c =
     let past = letters at.After-letters_len-width in
     let due = due-true c.args.limit c.loop-after.width ch c.if-width-gt0.true
     (omega (arith, c.columns-columns.ensures, c.if-width-columns.true)) in
-    let step = subst (IsStep c.loop-after.state ch c.step-next.result.0) c.if-is_visible.true
-    c.step-next.ensures in
     let early : place < trimmed_len text = omega (
       arith,
       ap length is,
@@ -148,8 +145,8 @@ returns-then-width-columns c =
     ∙ sym c.piece_before.ensures)
     (within-cut splitter c.args.limit text c.utf8.text c.args.at c.requires.boundary
     (omega (arith, c.requires.before_blanks, c.requires.trimmed)) place ch _ c.loop-after.state
-    c.step-next.result.0 c.loop-after.width c.loop-after.invariant.0 c.loop-after.invariant.1 is early
-    step c.if-width-gt0.true due)
+    c.loop-after.width c.loop-after.invariant.0 c.loop-after.invariant.1 is early
+    (rw c.step-next.ensures at c.if-is_visible.true) c.if-width-gt0.true due)
 
 -- the reader is past the character
 past : (c : Joined-is_visible)
@@ -166,18 +163,20 @@ past c is =
     let splitter = as_splitter c.args.splitter in
     let text = c.args.text.now in
     let width = c.loop-after.width in
-    let flag = c.step-next.result.1 in
     let ch = c.in-Some.ch in
     let place = c.args.at + c.letters_len-width.result
     + char_indices_offset c.loop-after.after-iterator in
-    let more : c.if-is_visible.width ≡ width + added flag ch = elim c.if-is_visible.branch [
-      | then-is_visible+else-width-gt0 w ↦ rw w.if-is_visible.true
-          (w.width-is ∙ ap (λ n. width + n) w.columns-columns.ensures)
-      | else-is_visible w ↦ rw w.if-is_visible.false (w.width-is ∙ omega arith)
+    let more : width + added c.loop-after.state ch ≡ c.if-is_visible.width =
+    elim c.if-is_visible.branch [
+      | then-is_visible+else-width-gt0 w ↦ rw (rw c.step-next.ensures at w.if-is_visible.true)
+          (sym (w.width-is ∙ ap (λ n. width + n) w.columns-columns.ensures))
+      | else-is_visible w ↦ rw (rw c.step-next.ensures at w.if-is_visible.false)
+          (omega (arith, w.width-is))
     ] in
-    let room : flag ≡ true → is_due limit width (Visible ch) ≡ false =
+    let room : shows c.loop-after.state ch ≡ true → is_due limit width (Visible ch) ≡ false =
     λ shown. elim c.if-is_visible.branch [
-      | else-is_visible w ↦ absurd (true≢false (sym shown ∙ w.if-is_visible.false))
+      | else-is_visible w ↦ absurd (true≢false (sym shown
+          ∙ (rw c.step-next.ensures at w.if-is_visible.false)))
       | then-is_visible+else-width-gt0 w ↦ due-false limit width ch
           (λ some. elim w.else-width-gt0.branch [
             | else-width-gt0-via-then-width-gt0+else-width-columns v ↦ omega
@@ -185,12 +184,10 @@ past c is =
             | else-width-gt0-via-else-width-gt0 v ↦ absurd (omega (arith, v.if-width-gt0.false, some))
           ])
     ] in
-    subst (IsScanned (is_point splitter text) limit text c.args.at
-    (place + length (encode_utf8 ch)) c.step-next.result.0) (sym more)
+    rw (c.step-next.ensures, ← more)
     (scanned-step (is_point splitter text) limit text c.utf8.text c.args.at c.requires.boundary
-    place ch _ c.loop-after.state c.step-next.result.0 width flag
-    (point-boundary splitter text c.utf8.text) c.loop-after.invariant.0 c.loop-after.invariant.1 is
-    c.step-next.ensures room)
+    place ch _ c.loop-after.state width (point-boundary splitter text c.utf8.text)
+    c.loop-after.invariant.0 c.loop-after.invariant.1 is room)
 
 pub returns-then-is_point : goal.returns-then-is_point
 returns-then-is_point c =

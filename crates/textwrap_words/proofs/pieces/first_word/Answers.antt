@@ -6,15 +6,14 @@ use Rattle.std.specs.Prelude.{encode_utf8}
 use Rattle.std.specs.Str.Iter.{char_indices_rest}
 use Rattle.std.proofs.lemmas.Str.{encode_ascii}
 use Rattle.textwrap_words.specs.PieceCuts.{is_piece_cut, is_point}
-use Rattle.textwrap_words.proofs.Common.{is_blank, is_due, Visible}
+use Rattle.textwrap_words.proofs.Common.{is_blank, is_due, shows, Visible}
 use Rattle.textwrap_words.specs.Pieces.{as_splitter, IsLetter, IsFirstWord}
 use Rattle.textwrap_words.specs.declared.escapes.State.TheVariants.{Text}
-use Rattle.textwrap_words.proofs.Units.States.{IsStep}
 use Rattle.textwrap_words.proofs.Units.Narrow.{columns-le}
 use Rattle.textwrap_words.proofs.Word.Breaking.{due-true, due-false}
 use Rattle.textwrap_words.proofs.Word.CharactersAhead.{ascii-here, ends-within, left-after, starts-within}
 use Rattle.textwrap_words.proofs.Word.CharactersAhead.{plain-before, uncut-after}
-use Rattle.textwrap_words.proofs.Word.FirstUnits.{added}
+use Rattle.textwrap_words.proofs.Units.Widths.{added}
 use Rattle.textwrap_words.proofs.Word.ScannedCuts.{scanned-cut}
 use Rattle.textwrap_words.proofs.Word.PieceBoundaries.{cut-boundary, cut-letter}
 use Rattle.textwrap_words.proofs.Word.ScannedEnds.{scanned-blank, scanned-point, scanned-end}
@@ -134,14 +133,12 @@ returns-then-width-columns c =
     let is = here (goal.at.returns-then-width-columns c).In-Some in
     let due = due-true c.args.limit c.loop-after.width c.in-Some.ch c.if-width-gt0.true
     (omega (arith, c.columns-columns.ensures, c.if-width-columns.true)) in
-    let step = subst (IsStep c.loop-after.state c.in-Some.ch c.step-next.result.0)
-    c.if-is_visible.true c.step-next.ensures in
     subst (λ n. IsFirstWord splitter c.args.limit text c.args.at (start + n) c.loop-after.width)
     (sym s.0)
     (scanned-cut splitter c.args.limit text c.utf8.text c.args.at c.requires.boundary place
-    c.in-Some.ch _ c.loop-after.state c.step-next.result.0 c.loop-after.width
-    c.loop-after.invariant.0 c.loop-after.invariant.1 is c.if-ch-eq32.false step c.if-width-gt0.true
-    due)
+    c.in-Some.ch _ c.loop-after.state c.loop-after.width c.loop-after.invariant.0
+    c.loop-after.invariant.1 is c.if-ch-eq32.false (rw c.step-next.ensures at c.if-is_visible.true)
+    c.if-width-gt0.true due)
 
 -- the reader is past the character
 past : (c : Joined-is_visible)
@@ -156,18 +153,20 @@ past c is =
     let splitter = as_splitter c.args.splitter in
     let text = c.args.text.now in
     let width = c.loop-after.width in
-    let flag = c.step-next.result.1 in
     let ch = c.in-Some.ch in
     let place = c.args.at + c.letters_len-width.result
     + char_indices_offset c.loop-after.after-iterator in
-    let more : c.if-is_visible.width ≡ width + added flag ch = elim c.if-is_visible.branch [
-      | then-is_visible+else-width-gt0 w ↦ rw w.if-is_visible.true
-          (w.width-is ∙ ap (λ n. width + n) w.columns-columns.ensures)
-      | else-is_visible w ↦ rw w.if-is_visible.false (w.width-is ∙ omega arith)
+    let more : width + added c.loop-after.state ch ≡ c.if-is_visible.width =
+    elim c.if-is_visible.branch [
+      | then-is_visible+else-width-gt0 w ↦ rw (rw c.step-next.ensures at w.if-is_visible.true)
+          (sym (w.width-is ∙ ap (λ n. width + n) w.columns-columns.ensures))
+      | else-is_visible w ↦ rw (rw c.step-next.ensures at w.if-is_visible.false)
+          (omega (arith, w.width-is))
     ] in
-    let room : flag ≡ true → is_due limit width (Visible ch) ≡ false =
+    let room : shows c.loop-after.state ch ≡ true → is_due limit width (Visible ch) ≡ false =
     λ shown. elim c.if-is_visible.branch [
-      | else-is_visible w ↦ absurd (true≢false (sym shown ∙ w.if-is_visible.false))
+      | else-is_visible w ↦ absurd (true≢false (sym shown
+          ∙ (rw c.step-next.ensures at w.if-is_visible.false)))
       | then-is_visible+else-width-gt0 w ↦ due-false limit width ch
           (λ some. elim w.else-width-gt0.branch [
             | else-width-gt0-via-then-width-gt0+else-width-columns v ↦ omega
@@ -175,12 +174,10 @@ past c is =
             | else-width-gt0-via-else-width-gt0 v ↦ absurd (omega (arith, v.if-width-gt0.false, some))
           ])
     ] in
-    subst (IsScanned (is_piece_cut splitter text) limit text c.args.at
-    (place + length (encode_utf8 ch)) c.step-next.result.0) (sym more)
+    rw (c.step-next.ensures, ← more)
     (scanned-step (is_piece_cut splitter text) limit text c.utf8.text c.args.at c.requires.boundary
-    place ch _ c.loop-after.state c.step-next.result.0 width flag
-    (cut-boundary splitter text c.utf8.text) c.loop-after.invariant.0 c.loop-after.invariant.1 is
-    c.step-next.ensures room)
+    place ch _ c.loop-after.state width (cut-boundary splitter text c.utf8.text)
+    c.loop-after.invariant.0 c.loop-after.invariant.1 is room)
 
 pub returns-then-is_point : goal.returns-then-is_point
 returns-then-is_point c =

@@ -18,7 +18,7 @@ read c =
 
 pub returns-then-printable-gt0-clause-boundary : goal.returns-then-printable-gt0-clause-boundary
 returns-then-printable-gt0-clause-boundary c =
-    (read c).boundary
+    (read c).read.boundary
 
 pub returns-then-printable-gt0-clause-columns : goal.returns-then-printable-gt0-clause-columns
 returns-then-printable-gt0-clause-columns c =

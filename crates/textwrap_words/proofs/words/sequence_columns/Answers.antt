@@ -1,38 +1,34 @@
 use Rattle.textwrap_words.proofs.words.sequence_columns.Goals as goal
-use Rattle.textwrap_base.proofs.Common.{◌≡◌, ◌+◌, sym, ap, subst, ◌∙◌, arith, drop, length, length-drop}
+use Rattle.textwrap_base.proofs.Common.{◌≡◌, ◌+◌, sym, ◌∙◌, arith, drop, length, length-drop}
 use Rattle.textwrap_base.proofs.Common.{char_indices_offset}
 use Rattle.std.specs.Str.Iter.{char_indices_rest}
 use Rattle.textwrap_words.proofs.Units.Measuring.{IsMeasured, measured-le, measured-start, measured-step}
 use Rattle.textwrap_words.specs.declared.escapes.State.TheVariants.{Text}
-use Rattle.textwrap_words.proofs.Units.Widths.{columns_in-empty}
-use Rattle.textwrap_words.proofs.Word.FirstUnits.{added}
+use Rattle.textwrap_words.proofs.Units.Widths.{added, columns_in-empty}
 use Rattle.textwrap_words.proofs.words.sequence_columns.Goals.{Joined-is_visible, then-is_visible, else-is_visible}
 
 pub loop-at-init : goal.loop-at-init
 loop-at-init c =
     let items = c.char_indices-at-items.ensures in
-    let same = c.into_iter-at-iterator.ensures.into_iter_gives in
-    measured-start c.args.text.now c.utf8.text _ _ (ap char_indices_offset same ∙ items.offset)
-    (ap char_indices_rest same ∙ items.rest)
+    rw (c.into_iter-at-iterator.ensures.into_iter_gives, items.offset, items.rest)
+    (measured-start c.args.text.now c.utf8.text)
 
 past : (c : Joined-is_visible)
     → IsMeasured c.args.text.now (char_indices_offset c.next.new.self)
     (char_indices_rest c.next.new.self) c.step-next.result.0 (c.loop-at.width + c.if-is_visible.width)
 past c =
     let s = c.in-Some.ensures.steps in
-    let more : c.loop-at.width + added c.step-next.result.1 c.in-Some.ch
-    ≡ c.loop-at.width + c.if-is_visible.width = elim c.if-is_visible.branch [
-      | then-is_visible w ↦ rw w.if-is_visible.true
-          (ap (λ n. c.loop-at.width + n) (sym (w.width-is ∙ w.columns.ensures)))
-      | else-is_visible w ↦ rw w.if-is_visible.false (ap (λ n. c.loop-at.width + n) (sym w.width-is))
+    let more : added c.loop-at.state c.in-Some.ch ≡ c.if-is_visible.width =
+    elim c.if-is_visible.branch [
+      | then-is_visible w ↦ rw (rw c.step-next.ensures at w.if-is_visible.true)
+          (sym (w.width-is ∙ w.columns.ensures))
+      | else-is_visible w ↦ rw (rw c.step-next.ensures at w.if-is_visible.false) (sym w.width-is)
     ] in
-    subst (IsMeasured c.args.text.now _ _ c.step-next.result.0) more
-    (measured-step c.args.text.now c.utf8.text _ _ c.in-Some.ch _ _ c.loop-at.state
-    c.step-next.result.0 c.loop-at.width c.step-next.result.1 c.loop-at.invariant s.1
-    (omega (arith, s.2)) c.step-next.ensures)
+    rw (c.step-next.ensures, ← more) (measured-step c.args.text.now _ _ c.in-Some.ch _ _
+    c.loop-at.state c.loop-at.width c.loop-at.invariant s.1 s.2)
 
 pub overflow_add-width : goal.overflow_add-width
-overflow_add-width c = omega (arith, measured-le c.args.text.now c.utf8.text _ _ _ _ (past (goal.at.overflow_add-width c).Joined-is_visible))
+overflow_add-width c = omega (arith, measured-le c.args.text.now _ _ _ _ c.utf8.text (past (goal.at.overflow_add-width c).Joined-is_visible))
 
 pub loop-at-preserved : goal.loop-at-preserved
 loop-at-preserved c = past (goal.at.loop-at-preserved c).Joined-is_visible

@@ -1,19 +1,17 @@
 use Rattle.textwrap_words.proofs.words.visible_columns.Goals as goal
-use Rattle.textwrap_base.proofs.Common.{◌≡◌, ◌≢◌, ◌+◌, sym, ap, subst, ◌∙◌, arith, get_or, ne_eqb, true}
+use Rattle.textwrap_base.proofs.Common.{◌≡◌, ◌≢◌, ◌+◌, sym, ap, ◌∙◌, arith, get_or, ne_eqb}
 use Rattle.textwrap_base.proofs.Common.{char_indices_offset}
 use Rattle.std.specs.Str.Iter.{char_indices_rest}
 use Rattle.textwrap_words.proofs.Units.Measuring.{IsMeasured, measured-le, measured-start, measured-step}
 use Rattle.textwrap_words.proofs.Word.CharactersAhead.{ascii-here}
-use Rattle.textwrap_words.proofs.Units.States.{shown-step}
 use Rattle.textwrap_words.specs.declared.escapes.State.TheVariants.{Text}
 use Rattle.textwrap_words.proofs.words.visible_columns.Goals.{else-at-gt0-via-then-at-gt0+else-ch-eq27, else-at-gt0-via-else-at-gt0, After-columns-width}
 
 pub loop-at-init : goal.loop-at-init
 loop-at-init c =
     let items = c.char_indices-at-items.ensures in
-    let same = c.into_iter-at-iterator.ensures.into_iter_gives in
-    measured-start c.args.text.now c.utf8.text _ _ (ap char_indices_offset same ∙ items.offset)
-    (ap char_indices_rest same ∙ items.rest)
+    rw (c.into_iter-at-iterator.ensures.into_iter_gives, items.offset, items.rest)
+    (measured-start c.args.text.now c.utf8.text)
 
 other : (c : After-columns-width) → c.in-Some.ch ≢ 27
 other c is = elim c.else-at-gt0.branch [
@@ -22,7 +20,7 @@ other c is = elim c.else-at-gt0.branch [
       let text = c.args.text.now in
       let place = char_indices_offset c.loop-at.at-iterator in
       let start : place ≡ 0 = omega (arith, s.0, w.if-at-gt0.false) in
-      let byte = ascii-here text place c.in-Some.ch _ (c.loop-at.invariant.left ∙ s.1)
+      let byte = ascii-here text place c.in-Some.ch _ (c.loop-at.invariant.read.place ∙ s.1)
       (omega (arith, is)) in
       c.requires.visible (ap (λ k. get_or text k 0) (sym start) ∙ byte ∙ is)
   | else-at-gt0-via-then-at-gt0+else-ch-eq27 w ↦ w.if-ch-eq27.false.1 is
@@ -33,14 +31,12 @@ past : (c : After-columns-width)
     (char_indices_rest c.next.new.self) Text (c.loop-at.width + c.columns-width.result)
 past c =
     let s = c.in-Some.ensures.steps in
-    subst (IsMeasured c.args.text.now _ _ Text)
-    (ap (λ n. c.loop-at.width + n) (sym c.columns-width.ensures))
-    (measured-step c.args.text.now c.utf8.text _ _ c.in-Some.ch _ _ Text Text c.loop-at.width true
-    c.loop-at.invariant s.1 (omega (arith, s.2))
-    (shown-step c.in-Some.ch (ne_eqb c.in-Some.ch 27 (other c))))
+    rw c.columns-width.ensures (rw (ne_eqb c.in-Some.ch 27 (other c))
+    at (measured-step c.args.text.now _ _ c.in-Some.ch _ _ Text c.loop-at.width
+    c.loop-at.invariant s.1 s.2))
 
 pub overflow_add-width : goal.overflow_add-width
-overflow_add-width c = omega (arith, measured-le c.args.text.now c.utf8.text _ _ _ _ (past c))
+overflow_add-width c = omega (arith, measured-le c.args.text.now _ _ _ _ c.utf8.text (past c))
 
 pub loop-at-preserved : goal.loop-at-preserved
 loop-at-preserved c = past c

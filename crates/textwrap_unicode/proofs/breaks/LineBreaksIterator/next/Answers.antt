@@ -5,7 +5,7 @@ use Rattle.textwrap_unicode.proofs.breaks.LineBreaksIterator.next.Goals as goal
 use Rattle.textwrap_unicode.proofs.BreakLemmas.{reading-start, reading-step, reading-break}
 use Rattle.textwrap_unicode.proofs.BreakLemmas.{reading-end}
 use Rattle.textwrap_unicode.proofs.BreakLemmas.{letter-step, none-left}
-use Rattle.textwrap_unicode.proofs.ReadPlaces.{read-boundary}
+use Rattle.textwrap_words.proofs.Units.ReadPlaces.{read-next}
 use Rattle.textwrap_unicode.specs.declared.breaks.LineBreak.{LineBreak}
 use Rattle.textwrap_unicode.specs.BreaksLeft.{and, breaks_after}
 use Rattle.textwrap_unicode.proofs.breaks.LineBreaksIterator.next.Goals.{in-Allowed, in-Mandatory}
@@ -49,13 +49,13 @@ pub decide_in-verdict-requires : goal.decide_in-verdict-requires
 decide_in-verdict-requires c =
     let s = c.in-Some.ensures.steps in
     rw (s.0, c.len_utf8.ensures.len)
-    (read-boundary _ _ _ c.loop-offset.invariant.0.read c.in-Some.c _ s.1)
+    (read-next c.loop-offset.invariant.0.read _ _ s.1 _ refl).boundary
 
 pub range_from-requires : goal.range_from-requires
 range_from-requires c = λ some.
     let s = c.in-Some.ensures.steps in
     rw (s.0, c.len_utf8.ensures.len)
-    (read-boundary _ _ _ c.loop-offset.invariant.0.read c.in-Some.c _ s.1)
+    (read-next c.loop-offset.invariant.0.read _ _ s.1 _ refl).boundary
 
 pub returns-in-loop-offset-clause-steps : goal.returns-in-loop-offset-clause-steps
 returns-in-loop-offset-clause-steps c =

@@ -1,4 +1,4 @@
--- Texts of printable ASCII, block by block, and as lines.
+-- Texts of printable ASCII, block by block, and texts that are one line.
 use Rattle.textwrap_base.proofs.Common.{◌≡◌, ◌≢◌, ℕ, ◌+◌, ◌-◌, ◌<◌, ◌≤◌, ◌∙◌, true, false, List, []}
 use Rattle.textwrap_base.proofs.Common.{◌∷◌, ◌++◌, length, drop, get_or, slice_range, cond, IsUtf8, refl}
 use Rattle.textwrap_base.proofs.Common.{sym, ap, subst, arith, nat_tests, lt-ltb, cases_lt, inl, inr}
@@ -16,7 +16,7 @@ use Rattle.textwrap.proofs.Common.{is_blank_line}
 use Rattle.textwrap.proofs.Text.EndedParts.{ended_parts-whole}
 use Rattle.textwrap_lines.proofs.Paragraph.WholeLine.{AreParagraphParts-whole, line_from-whole}
 use Rattle.textwrap_lines.specs.Places.{place_of}
-use Rattle.textwrap_plain.proofs.OnlyLine.{printable-paragraph}
+use Rattle.textwrap_lines.proofs.Text.Endings.{one-paragraph, printable-free}
 use Rattle.textwrap_calls.specs.Options.{Divides, says_yes, settings_of}
 use Rattle.textwrap_calls.specs.Printable.{IsOnlyLine}
 use Rattle.textwrap_calls.specs.declared.options.TextwrapOptions.{TextwrapOptions}
@@ -57,10 +57,6 @@ printable-utf8 text printable = IsUtf8-from_ascii text (printable-ascii text pri
 printable-dark : (c : ℕ) → IsPrintableByte c → c ≢ 32 → is_whitespace c ≡ false
 printable-dark c (low, high) other = grind (arith, nat_tests, low, high, other)
 
-printable-free : (text : List ℕ) → IsPrintable text → HasNoLineFeed text
-printable-free text printable =
-    All-weaker IsPrintableByte (λ c. c ≢ 10) (λ c (low, high) is. omega (arith, low, is)) text printable
-
 -- one that does not begin with a blank is indented by the whole prefix
 pub indented-line : (prefix text : List ℕ) → IsPrintable text → length text ≢ 0
     → get_or text 0 0 ≢ 32 → indented prefix text ≡ prefix ++ text
@@ -75,15 +71,20 @@ indented-line prefix (c ∷ cs) printable some dark =
     ) in
     rw (whole, full) (append-nil (prefix ++ c ∷ cs))
 
+pub found-none : (text : List ℕ) → list_any (λ c. c == line_feed) text ≡ false → HasNoLineFeed text
+found-none text none =
+    All-from_get_or (λ c. c ≢ line_feed) text 0 (λ k within is.
+    true≢false (sym (contains-any line_feed text (k, within, is)) ∙ none))
+
 -- one without an indent that is shorter than the width is the line as it is, but for its last blanks
-pub printable-line : (o : TextwrapOptions) (text line : List ℕ) → o.initial_indent.now ≡ []
-    → length text < o.width → IsPrintable text
+pub free-line : (o : TextwrapOptions) (text line : List ℕ) → o.initial_indent.now ≡ []
+    → length text < o.width → HasNoLineFeed text
     → line ≡ cond (says_yes o.preserve_trailing_space) text (without_final_blanks text)
     → IsOnlyLine o text line
-printable-line o text line none short printable is =
+free-line o text line none short free is =
     let settings = settings_of o in
     let whole : is_whole settings false text ≡ true = rw none (lt-ltb (length text) o.width short) in
-    let one = printable-paragraph settings.line_ending text printable in
+    let one = one-paragraph settings.line_ending text free in
     let parts = parts_of settings false (word_of text ∷ []) ∷ [] in
     let same = ap Slice is ∙ sym (line_from-whole settings false text whole) in
     record {

@@ -1,11 +1,13 @@
-//! Texts of printable ASCII, told many bytes at a time, and the line that a short one is.
+//! Texts of printable ASCII, told many bytes at a time, and the line that a short text is.
 ghost use Rattle.std.specs.Prelude.{◌↔◌, ◌≤◌, IfSome, IsTrue, IsUtf8, length};
 ghost use Rattle.textwrap.specs.Filling.{IsFilled};
+ghost use Rattle.textwrap.specs.Indentation.{HasNoLineFeed};
 ghost use Rattle.textwrap_calls.specs.Options.{settings_of, AreKnown, AreTexts, Divides};
 ghost use Rattle.textwrap_calls.specs.Printable.{AreWithoutIndents, IsOnlyLine};
 ghost use Rattle.textwrap_words.specs.Units.{IsPrintable};
 
 use crate::options::{TextwrapOptions, are_known};
+use simdutf8::is_utf8;
 use textwrap_words::blanks::trimmed_len;
 use textwrap_words::inner::is_printable;
 
@@ -44,8 +46,8 @@ fn is_long_printable(text: &[u8]) -> bool
     is_printable(&text[text.len() - BLOCK..])
 }
 
-/// The line of a printable text that is one as a whole, by known options without indents. Then neither
-/// the text nor the options have to be read, and most short texts are such.
+/// The line of a text that is one as a whole, by known options without indents. Then the options have
+/// not to be read, nor has the text character by character, and most short texts are such.
 pub(crate) fn only_line<'t>(text: &'t [u8], options: &TextwrapOptions<'_>) -> Option<&'t [u8]>
     ensures known { IfSome result (λ _. AreKnown options.now × AreTexts options.now) }
     ensures utf8 { IfSome result (λ _. IsUtf8 text.now) }
@@ -59,13 +61,21 @@ pub(crate) fn only_line<'t>(text: &'t [u8], options: &TextwrapOptions<'_>) -> Op
     if !are_without_indents(options) {
         return None;
     }
-    if !is_printable_text(text) {
+    if !is_one_line(text) {
         return None;
     }
     if options.preserve_trailing_space != 0 {
         return Some(text);
     }
     Some(&text[..trimmed_len(text)])
+}
+
+/// Whether a text is UTF-8 without a line feed. Printable ASCII is both, and is told soonest.
+fn is_one_line(text: &[u8]) -> bool
+    ensures utf8 { IsTrue result → IsUtf8 text.now }
+    ensures free { IsTrue result → HasNoLineFeed text.now }
+{
+    is_printable_text(text) || (!text.contains(&b'\n') && is_utf8(text))
 }
 
 /// Whether the options are known, and have no indents.

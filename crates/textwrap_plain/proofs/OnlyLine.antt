@@ -5,7 +5,6 @@ use Rattle.textwrap_words.proofs.Common.{without_final_blanks, word_of, WordText
 use Rattle.textwrap_lines.proofs.Common.{ending_bytes, is_whole, IsFilled, join_with, line_bytes}
 use Rattle.textwrap_lines.proofs.Common.{line_from, paragraphs_of, parts_of, Settings}
 use Rattle.textwrap_lines.proofs.Paragraph.WholeLine.{AreParagraphParts-whole, line_from-whole}
-use Rattle.textwrap_lines.proofs.Text.Endings.{parts_past-none}
 use Rattle.textwrap_lines.proofs.Text.EndingTexts.{join-paragraphs_of}
 use Rattle.textwrap_base.proofs.Common.{◌++◌, All-drop, All-head, subst, arith}
 use Rattle.textwrap_words.proofs.Common.{IsPrintable, IsPrintableByte}
@@ -19,21 +18,6 @@ pub only-paragraph : (ending : LineEnding) (text paragraph : List ℕ)
 only-paragraph ending text paragraph is =
     is ∙ ap (λ p. p ∷ []) (sym (ap (join_with (ending_bytes ending)) is)
     ∙ join-paragraphs_of ending text)
-
--- and so is one of printable characters, since each ending begins with another
-pub printable-paragraph : (ending : LineEnding) (text : List ℕ) → IsPrintable text
-    → paragraphs_of ending text ≡ text ∷ []
-printable-paragraph ending text printable =
-    parts_past-none (ending_bytes ending) text (λ k within others is.
-    begins ending others (subst IsPrintable is (All-drop IsPrintableByte k text printable)))
-  where
-    begins : (ending : LineEnding) (others : List ℕ)
-        → IsPrintable (ending_bytes ending ++ others) → ⊥
-    begins LF others all =
-        let low = (All-head IsPrintableByte line_feed others all).0 in omega (arith, low)
-    begins CRLF others all =
-        let low = (All-head IsPrintableByte carriage_return (line_feed ∷ others) all).0 in
-        omega (arith, low)
 
 -- where the paragraph is a line as a whole, that is the filled text, without its last blanks
 pub only-filled : (settings : Settings)

@@ -10,7 +10,7 @@ use Rattle.textwrap_lines.proofs.Common.{paragraphs_of, parts_from, parts_of, Se
 use Rattle.textwrap_lines.specs.declared.line_ending.LineEnding.{LineEnding}
 use Rattle.textwrap_lines.specs.declared.line_ending.LineEnding.TheVariants.{CRLF, LF}
 use Rattle.textwrap_lines.proofs.Paragraph.WholeLine.{AreParagraphParts-whole}
-use Rattle.textwrap_lines.proofs.Text.Endings.{parts_past-none}
+use Rattle.textwrap_lines.proofs.Text.Endings.{one-paragraph}
 use Rattle.textwrap.proofs.Text.PlainLines.{solid}
 use Rattle.textwrap.proofs.Text.WholeLines.{bytes_of}
 use Rattle.textwrap_reflow.proofs.Common.{hanging, join_with}
@@ -21,21 +21,6 @@ use Rattle.textwrap_reflow.proofs.FilledWords.{one-divides, pieces_in}
 use Rattle.textwrap_reflow.proofs.LinesOfWords.{joined}
 use Rattle.textwrap_reflow.specs.Reflow.{algorithm_of, AreFilledLines, printed}
 use Rattle.textwrap_reflow.specs.declared.options.ReflowOptions.{ReflowOptions}
-
--- a text without line feeds is one paragraph
-one_paragraph : (ending : LineEnding) (text : List ℕ) → All (λ c. c ≢ line_feed) text
-    → paragraphs_of ending text ≡ text ∷ []
-one_paragraph ending text none =
-    parts_past-none (ending_bytes ending) text (λ k within others is.
-    lacks ending others
-    (subst (All (λ c. c ≢ line_feed)) is (All-drop (λ c. c ≢ line_feed) k text none)))
-  where
-    lacks : (ending : LineEnding) (others : List ℕ)
-        → All (λ c. c ≢ line_feed) (ending_bytes ending ++ others) → ⊥
-    lacks LF others all = All-head (λ c. c ≢ line_feed) line_feed others all refl
-    lacks CRLF others all =
-        All-head (λ c. c ≢ line_feed) line_feed others
-        (All-tail (λ c. c ≢ line_feed) 13 (line_feed ∷ others) all) refl
 
 module _ (options : ReflowOptions) (prefix : List ℕ) (words : List (List ℕ))
     (are : ArePrefixed prefix words) where
@@ -111,7 +96,7 @@ module _ (options : ReflowOptions) (prefix : List ℕ) (words : List (List ℕ))
 
   one-group : paragraphs_of options.line_ending text ≡ text ∷ []
   one-group =
-      one_paragraph options.line_ending text (solid text (words, are.some, are.plain, refl)).row.no_feed
+      one-paragraph options.line_ending text (solid text (words, are.some, are.plain, refl)).row.no_feed
 
   from-groups : (filled : List ℕ) (groups : List (List LineParts)) → AreAllGroups (text ∷ []) groups
       → filled ≡ join_with (ending_bytes options.line_ending) (bytes_of (flat groups)) → HasLines filled

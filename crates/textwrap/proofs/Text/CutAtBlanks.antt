@@ -18,7 +18,7 @@ use Rattle.textwrap_lines.specs.declared.line_ending.LineEnding.TheVariants.{LF}
 use Rattle.textwrap_lines.proofs.Paragraph.WholeLine.{line_from-whole, whole_unindented}
 use Rattle.textwrap_lines.proofs.Paragraph.Pieces.{ArePieces-is}
 use Rattle.textwrap_lines.proofs.PrintableTexts.Bridge.{split-whole}
-use Rattle.textwrap_lines.proofs.Text.Endings.{parts_past-none}
+use Rattle.textwrap_lines.proofs.Text.Endings.{one-paragraph}
 use Rattle.textwrap.proofs.Text.JoinedLines.{feed_joined}
 use Rattle.textwrap.proofs.Text.WholeLines.{IsCutAtBlanks, whole_words, bytes_of, filled_of, cut-words}
 
@@ -45,15 +45,8 @@ module _ (initial subsequent : List ℕ) (even : Bool) (width : ℕ) where
         → (filled : List ℕ) → All (λ c. c ≢ line_feed) text
         → IsFilledWhole settings algorithm text filled → Holds filled
     filled-cases Holds whole divided filled none (lines, are, is) =
-        rw (is, are.given) (by_groups are.groups (rw one_paragraph at are.defined))
+        rw (is, are.given) (by_groups are.groups (rw one-paragraph LF text none at are.defined))
       where
-        -- a text without line feeds is one paragraph
-        one_paragraph : paragraphs_of LF text ≡ text ∷ []
-        one_paragraph =
-            parts_past-none (ending_bytes LF) text
-            (λ k within others is. All-head (λ c. c ≢ line_feed) line_feed others
-            (subst (All (λ c. c ≢ line_feed)) is (All-drop (λ c. c ≢ line_feed) k text none)) refl)
-
         by_case : (division : List (List WordText)) (b : Bool)
             → is_whole settings false text ≡ b
             → MatchBool b (division ≡ (word_of text ∷ []) ∷ []) (Divides false text division)

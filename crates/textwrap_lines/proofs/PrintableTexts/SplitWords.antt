@@ -1,6 +1,6 @@
 -- The words of a printable text, split by a splitter, are its parts where it is cut by both.
 use Rattle.textwrap_base.proofs.Common.{inl, inr, ◌≡◌, ℕ, zero, suc, ◌+◌, ◌<◌, ◌≤◌, Bool, true}
-use Rattle.textwrap_base.proofs.Common.{false, ◌&&◌, ◌||◌, List, [], ◌∷◌, ◌++◌, length, map, take, drop}
+use Rattle.textwrap_base.proofs.Common.{false, ◌&&◌, ◌||◌, List, ◌++◌, length, map, take, drop}
 use Rattle.textwrap_base.proofs.Common.{refl, sym, ap, ◌∙◌, arith, cases_lt, drop_all}
 use Rattle.textwrap_base.proofs.Common.{All-take, length-take-le, map-append, nat_lt}
 use Rattle.textwrap_base.proofs.Common.{slice_range, take-append-drop, and_right}

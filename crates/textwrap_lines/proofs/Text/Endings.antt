@@ -7,7 +7,9 @@ use Rattle.textwrap_base.proofs.Common.{add-zero, get_or-drop, drop_more, eqb-tr
 use Rattle.std.proofs.lemmas.List.Sums.{fails_before_first, passes_at_first}
 use Rattle.std.specs.List.{after_first, before_first, position_or_len}
 use Rattle.textwrap_lines.specs.LineEnding.{line_feed}
-use Rattle.textwrap_lines.proofs.Common.{ending_bytes, parts_past, join_with, LineEnding}
+use Rattle.textwrap_base.proofs.Common.{All, All-drop, All-head, All-tail, All-weaker, subst}
+use Rattle.textwrap_words.proofs.Common.{IsPrintable, IsPrintableByte}
+use Rattle.textwrap_lines.proofs.Common.{ending_bytes, paragraphs_of, parts_past, join_with, LineEnding}
 use Rattle.textwrap_lines.specs.declared.line_ending.LineEnding.TheVariants.{CRLF, LF}
 use Rattle.textwrap_base.proofs.Lists.Parts.{onto_first-some}
 use Rattle.textwrap_base.proofs.Lists.Prefixes.{starts_with-true, drop-ending, starts_with-false}
@@ -53,6 +55,26 @@ parts_past-none ending (c ∷ cs) lacks =
     (onto_first c (parts_past ending 0 cs)))
     (starts_with-false ending (c ∷ cs) (lacks 0 (omega arith)))
     ∙ ap (onto_first c) (parts_past-none ending cs (λ k within. lacks (suc k) (omega arith)))
+
+-- each ending has a line feed, so a text without one is one paragraph
+pub one-paragraph : (ending : LineEnding) (text : List ℕ) → All (λ c. c ≢ line_feed) text
+    → paragraphs_of ending text ≡ text ∷ []
+one-paragraph ending text none =
+    parts_past-none (ending_bytes ending) text (λ k within others is.
+    lacks ending others
+    (subst (All (λ c. c ≢ line_feed)) is (All-drop (λ c. c ≢ line_feed) k text none)))
+  where
+    lacks : (ending : LineEnding) (others : List ℕ)
+        → All (λ c. c ≢ line_feed) (ending_bytes ending ++ others) → ⊥
+    lacks LF others all = All-head (λ c. c ≢ line_feed) line_feed others all refl
+    lacks CRLF others all =
+        All-head (λ c. c ≢ line_feed) line_feed others
+        (All-tail (λ c. c ≢ line_feed) 13 (line_feed ∷ others) all) refl
+
+pub printable-free : (text : List ℕ) → IsPrintable text → All (λ c. c ≢ line_feed) text
+printable-free text printable =
+    All-weaker IsPrintableByte (λ c. c ≢ line_feed) (λ c (low, high) is. omega (arith, low, is)) text
+    printable
 
 -- ---- at a line feed
 

@@ -1,17 +1,13 @@
 use Rattle.textwrap_calls.proofs.printable.only_line.Goals as goal
 use Rattle.textwrap_base.proofs.Common.{ap, arith, ne_eqb, refl, take}
-use Rattle.textwrap_calls.proofs.PrintableLines.{only-line-filled, printable-line, printable-utf8}
-
-pub returns-then-options-ne0-clause-utf8 : goal.returns-then-options-ne0-clause-utf8
-returns-then-options-ne0-clause-utf8 c =
-    printable-utf8 c.args.text.now (c.is_printable_text.ensures.0 c.if-not-is_printable_text.false)
+use Rattle.textwrap_calls.proofs.PrintableLines.{free-line, only-line-filled}
 
 pub returns-then-options-ne0-clause-line : goal.returns-then-options-ne0-clause-line
 returns-then-options-ne0-clause-line c =
     let o = c.args.options.now in
-    printable-line o c.args.text.now c.args.text.now
+    free-line o c.args.text.now c.args.text.now
     (c.are_without_indents.ensures.0 c.if-not-are_without_indents.false).initial (omega arith)
-    (c.is_printable_text.ensures.0 c.if-not-is_printable_text.false)
+    (c.is_one_line.ensures.free c.if-not-is_one_line.false)
     (rw (ne_eqb o.preserve_trailing_space 0 c.if-options-ne0.true) refl)
 
 pub returns-then-options-ne0-clause-filled : goal.returns-then-options-ne0-clause-filled
@@ -19,17 +15,13 @@ returns-then-options-ne0-clause-filled c =
     only-line-filled c.args.options.now c.args.text.now c.args.text.now
     (returns-then-options-ne0-clause-line c)
 
-pub returns-clause-utf8 : goal.returns-clause-utf8
-returns-clause-utf8 c =
-    printable-utf8 c.args.text.now (c.is_printable_text.ensures.0 c.if-not-is_printable_text.false)
-
 pub returns-clause-line : goal.returns-clause-line
 returns-clause-line c =
     let o = c.args.options.now in
     let text = c.args.text.now in
-    printable-line o text (take c.trimmed_len.result text)
+    free-line o text (take c.trimmed_len.result text)
     (c.are_without_indents.ensures.0 c.if-not-are_without_indents.false).initial (omega arith)
-    (c.is_printable_text.ensures.0 c.if-not-is_printable_text.false)
+    (c.is_one_line.ensures.free c.if-not-is_one_line.false)
     (rw c.if-options-ne0.false (ap (λ n. take n text) c.trimmed_len.ensures.value))
 
 pub returns-clause-filled : goal.returns-clause-filled

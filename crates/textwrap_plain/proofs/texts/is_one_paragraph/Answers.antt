@@ -1,12 +1,13 @@
 use Rattle.textwrap_plain.proofs.texts.is_one_paragraph.Goals as goal
 use Rattle.textwrap_base.proofs.Common.{subst}
 use Rattle.textwrap_words.proofs.Common.{IsPrintable}
-use Rattle.textwrap_plain.proofs.OnlyLine.{only-paragraph, printable-paragraph}
+use Rattle.textwrap_lines.proofs.Text.Endings.{one-paragraph, printable-free}
+use Rattle.textwrap_plain.proofs.OnlyLine.{only-paragraph}
 
 pub returns-then-is_printable : goal.returns-then-is_printable
 returns-then-is_printable c = λ one.
-    printable-paragraph c.args.line_ending c.args.text.now
-    (subst IsPrintable c.as_bytes.ensures.value (c.is_printable.ensures.0 c.if-is_printable.true))
+    one-paragraph c.args.line_ending c.args.text.now (printable-free c.args.text.now
+    (subst IsPrintable c.as_bytes.ensures.value (c.is_printable.ensures.0 c.if-is_printable.true)))
 
 pub returns-in-None : goal.returns-in-None
 returns-in-None c = λ one.

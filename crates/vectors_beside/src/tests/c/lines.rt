@@ -53,6 +53,21 @@ const PLACES: &[LinesRow] = &[
         &[(0, 3, 0), (6, 0, 0), (7, 0, 0), (10, 3, 0)],
         b"",
     ),
+    // A short text is one line without its last blanks, whether it is printable ASCII or not.
+    (
+        LinesCall::Wrap(DEFAULTS),
+        b"foo  ",
+        (DONE, 1, 0),
+        &[(0, 3, 0), NONE],
+        b"",
+    ),
+    (
+        LinesCall::Wrap(DEFAULTS),
+        b"\xc3\xa9\t ",
+        (DONE, 1, 0),
+        &[(0, 3, 0), NONE],
+        b"",
+    ),
     // A line that is a line feed or a carriage return alone is not the one in the ending before it.
     (
         LinesCall::Wrap(TextwrapOptions {

@@ -75,6 +75,21 @@ const ROOM: &[TextRow] = &[
         BEFORE,
         b"________________",
     ),
+    // A short text is one line without its last blanks, also of characters outside ASCII.
+    (
+        TextCall::Fill(DEFAULTS),
+        b"\xe6\x97\xa5\xe6\x9c\xac  ",
+        DONE,
+        6,
+        b"\xe6\x97\xa5\xe6\x9c\xac__",
+    ),
+    (
+        TextCall::Fill(DEFAULTS),
+        b"a\xc3\xa9\n",
+        DONE,
+        4,
+        b"a\xc3\xa9\n____",
+    ),
 ];
 
 /// Options whose numbers mean nothing.

@@ -2,8 +2,7 @@
 use Rattle.std.proofs.Common.{◌≡◌, ℕ, ◌+◌, true, false, List, [], ◌∷◌, ◌++◌, length, drop}
 use Rattle.std.proofs.Common.{refl, sym, ap, ◌∙◌, arith, if◌then◌else◌}
 use Rattle.std.specs.Str.{chars, IsUtf8}
-use Rattle.std.proofs.lemmas.List.{length-drop, nil_from_length}
-use Rattle.std.proofs.lemmas.Str.{chars-nil, chars_past_char}
+use Rattle.std.proofs.lemmas.Str.{chars-nil}
 use lib.Utf8.{encode}
 use Rattle.unicode.specs.declared.properties.LineBreak.TheVariants.{Alphabetic}
 use Rattle.textwrap_unicode.specs.declared.before.Before.{Before}

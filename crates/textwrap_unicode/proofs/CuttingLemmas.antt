@@ -1,11 +1,9 @@
 -- The code that cuts a line at its breaks.
 use Rattle.textwrap_base.proofs.Common.{◌≡◌, ℕ, ◌+◌, ◌&&◌, Bool, false, not, cond, inl, inr}
 use Rattle.textwrap_base.proofs.Common.{List, [], ◌++◌, length, map, refl, sym, ap, ◌∙◌, subst}
-use Rattle.textwrap_base.proofs.Common.{arith}
 use Rattle.textwrap_base.proofs.Common.{IsUtf8, cases_Bool}
-use Rattle.textwrap_base.proofs.Common.{append-nil, append_assoc, chars-nil, chars_past_char}
+use Rattle.textwrap_base.proofs.Common.{append-nil, append_assoc}
 use Rattle.textwrap_base.proofs.Common.{encode_utf8_all, encodes-chars}
-use Rattle.textwrap_base.proofs.Common.{nil_from_length}
 use Rattle.std.specs.Str.{chars}
 use Rattle.std.proofs.lemmas.Str.{chars_from_encodes}
 use lib.Utf8.{encode}

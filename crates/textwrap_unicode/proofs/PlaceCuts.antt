@@ -1,5 +1,5 @@
 -- Whether a printable text is cut at a place, as the code tells it.
-use Rattle.textwrap_base.proofs.Common.{◌≡◌, ℕ, suc, ◌-◌, ◌<◌, ◌&&◌, true, false, not}
+use Rattle.textwrap_base.proofs.Common.{◌≡◌, ℕ, suc, ◌-◌, ◌<◌, ◌&&◌, true, not}
 use Rattle.textwrap_base.proofs.Common.{if◌then◌else◌, List, length, get_or, sym, ap, ◌∙◌}
 use Rattle.textwrap_base.proofs.Common.{arith}
 use Rattle.std.proofs.Math.Bool.{and-false}

@@ -26,7 +26,7 @@ module _ (test : ℕ → Bool) where
       let rest = places_by test (at + 1) (c ∷ cs) in
       elim (cases_eq place (at + 1)) [
         | inl here ↦
-            rw here (this-place (at + 1) (test (at + 1)) rest (places-above (at + 1) (c ∷ cs)))
+            rw here (this-place (at + 1) (test (at + 1)) rest (places-above test (at + 1) (c ∷ cs)))
         | inr other ↦
             other-place place (at + 1) (test (at + 1)) rest other
             ∙ place-found place (at + 1) (c ∷ cs) (omega (arith, from, other)) (omega (arith, before))

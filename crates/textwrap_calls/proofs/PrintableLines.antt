@@ -3,7 +3,7 @@ use Rattle.textwrap_base.proofs.Common.{◌≡◌, ◌≢◌, ℕ, ◌+◌, ◌-
 use Rattle.textwrap_base.proofs.Common.{◌∷◌, ◌++◌, length, drop, get_or, slice_range, cond, IsUtf8, refl}
 use Rattle.textwrap_base.proofs.Common.{sym, ap, subst, arith, nat_tests, lt-ltb, cases_lt, inl, inr}
 use Rattle.textwrap_base.proofs.Common.{append-nil, get_or-drop, get_or-take, All-drop, All-from_get_or}
-use Rattle.textwrap_base.proofs.Common.{All-head, All-take, All-weaker}
+use Rattle.textwrap_base.proofs.Common.{All-head, All-take}
 use Rattle.std.specs.Char.{is_whitespace}
 use Rattle.std.proofs.lemmas.Str.{chars-IsAscii, IsUtf8-from_ascii}
 use Rattle.textwrap_base.proofs.Lists.Parts.{length-slice}

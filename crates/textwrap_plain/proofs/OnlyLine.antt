@@ -6,11 +6,7 @@ use Rattle.textwrap_lines.proofs.Common.{ending_bytes, is_whole, IsFilled, join_
 use Rattle.textwrap_lines.proofs.Common.{line_from, paragraphs_of, parts_of, Settings}
 use Rattle.textwrap_lines.proofs.Paragraph.WholeLine.{AreParagraphParts-whole, line_from-whole}
 use Rattle.textwrap_lines.proofs.Text.EndingTexts.{join-paragraphs_of}
-use Rattle.textwrap_base.proofs.Common.{◌++◌, All-drop, All-head, subst, arith}
-use Rattle.textwrap_words.proofs.Common.{IsPrintable, IsPrintableByte}
-use Rattle.textwrap_lines.specs.LineEnding.{carriage_return, line_feed}
 use Rattle.textwrap_lines.specs.declared.line_ending.LineEnding.{LineEnding}
-use Rattle.textwrap_lines.specs.declared.line_ending.LineEnding.TheVariants.{CRLF, LF}
 
 -- a text without an ending is one paragraph
 pub only-paragraph : (ending : LineEnding) (text paragraph : List ℕ)

@@ -1,14 +1,12 @@
 -- Words behind a prefix are filled to what their text is, with that as its indents.
-use Rattle.textwrap_base.proofs.Common.{◌≡◌, ◌≢◌, ◌↔◌, ℕ, ◌-◌, [], ◌∷◌, ◌++◌, ◌∙◌, All, All-drop}
-use Rattle.textwrap_base.proofs.Common.{All-head, All-tail, ap, append-nil, Bool, false, length}
+use Rattle.textwrap_base.proofs.Common.{◌≡◌, ◌↔◌, ℕ, ◌-◌, [], ◌∷◌, ◌++◌, ◌∙◌}
+use Rattle.textwrap_base.proofs.Common.{ap, append-nil, Bool, false, length}
 use Rattle.textwrap_base.proofs.Common.{List, map, MatchBool, refl, subst, sym, true}
 use Rattle.textwrap_base.proofs.Lists.Parts.{flat}
 use Rattle.textwrap_words.proofs.Common.{sizes_of, word_of, WordText}
 use Rattle.textwrap_lines.proofs.Common.{AreGroups, AreParagraphParts, ending_bytes, is_whole}
-use Rattle.textwrap_lines.proofs.Common.{IsFilled, line_bytes, line_feed, line_from, LineParts}
+use Rattle.textwrap_lines.proofs.Common.{IsFilled, line_bytes, line_from, LineParts}
 use Rattle.textwrap_lines.proofs.Common.{paragraphs_of, parts_from, parts_of, Settings}
-use Rattle.textwrap_lines.specs.declared.line_ending.LineEnding.{LineEnding}
-use Rattle.textwrap_lines.specs.declared.line_ending.LineEnding.TheVariants.{CRLF, LF}
 use Rattle.textwrap_lines.proofs.Paragraph.WholeLine.{AreParagraphParts-whole}
 use Rattle.textwrap_lines.proofs.Text.Endings.{one-paragraph}
 use Rattle.textwrap.proofs.Text.PlainLines.{solid}

@@ -1,12 +1,12 @@
 -- A text without line feeds is cut at blanks where it is filled with whole words.
 use Rattle.textwrap_base.proofs.Common.{◌≡◌, ◌≢◌, ℕ, Bool, true, false, MatchBool, List, []}
 use Rattle.textwrap_base.proofs.Common.{◌∷◌, ◌++◌, All, refl, sym, ap, ◌∙◌, subst}
-use Rattle.textwrap_base.proofs.Common.{arith, append-nil, All-head, All-drop, IsDivision}
+use Rattle.textwrap_base.proofs.Common.{arith, append-nil, IsDivision}
 use Rattle.textwrap_base.proofs.Common.{Sizes, All-nil}
 use Rattle.textwrap_words.proofs.Common.{without_final_blanks, WordText, sizes_of, tiled, word_of}
 use Rattle.textwrap_words.proofs.Common.{words_of, Algorithm, Greedy, LeastCost}
 use Rattle.textwrap_words.proofs.Common.{IsDividedBy, Whole, chunks}
-use Rattle.textwrap_lines.proofs.Common.{line_feed, ending_bytes, paragraphs_of, LineParts}
+use Rattle.textwrap_lines.proofs.Common.{line_feed, LineParts}
 use Rattle.textwrap_lines.proofs.Common.{line_bytes, is_whole}
 use Rattle.textwrap_lines.proofs.Common.{widths_of, DividesAs, AreParagraphParts, AreGroups}
 use Rattle.textwrap_lines.proofs.Common.{Settings}
@@ -45,7 +45,7 @@ module _ (initial subsequent : List ℕ) (even : Bool) (width : ℕ) where
         → (filled : List ℕ) → All (λ c. c ≢ line_feed) text
         → IsFilledWhole settings algorithm text filled → Holds filled
     filled-cases Holds whole divided filled none (lines, are, is) =
-        rw (is, are.given) (by_groups are.groups (rw one-paragraph LF text none at are.defined))
+        rw (is, are.given) (by_groups are.groups (rw (one-paragraph LF text none) at are.defined))
       where
         by_case : (division : List (List WordText)) (b : Bool)
             → is_whole settings false text ≡ b

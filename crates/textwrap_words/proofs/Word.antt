@@ -33,8 +33,6 @@ pub mod PlaceParts
 pub mod PointsApart
 pub mod ReadPieces
 pub mod Rows
-pub mod ScannedCuts
-pub mod ScannedEnds
 pub mod ScannedLetters
 pub mod ScannedParts
 pub mod ScannedWords
@@ -44,10 +42,12 @@ pub mod SplitTiling
 pub mod Splitting
 pub mod SplittingRows
 pub mod StandingPieces
+pub mod Stops
 pub mod Texts
 pub mod Tiling
 pub mod Trimmed
 pub mod VisibleEnds
 pub mod WideParts
 pub mod WithinWords
+pub mod WordStops
 pub mod Words

@@ -31,8 +31,6 @@ pub mod Pieces
 pub mod PlaceParts
 pub mod PointsApart
 pub mod ReadPieces
-pub mod ScannedCuts
-pub mod ScannedEnds
 pub mod ScannedLetters
 pub mod ScannedParts
 pub mod ScannedWords
@@ -41,10 +39,12 @@ pub mod SplitPieces
 pub mod SplitTiling
 pub mod Splitting
 pub mod StandingPieces
+pub mod Stops
 pub mod Texts
 pub mod Tiling
 pub mod Trimmed
 pub mod VisibleEnds
 pub mod WideParts
 pub mod WithinWords
+pub mod WordStops
 pub mod Words

@@ -1,9 +1,10 @@
 -- Pieces by where they stand in a text, and how the first of them is found.
-use Rattle.std.specs.Prelude.{◌≡◌, ◌≢◌, ℕ, ◌+◌, ◌<◌, ◌≤◌, false, List, [], ◌∷◌}
-use Rattle.std.specs.Prelude.{length, slice_index, slice_range, IsCharBoundary}
+use Rattle.std.specs.Prelude.{◌≡◌, ◌≢◌, ℕ, ◌+◌, ◌<◌, ◌≤◌, Bool, true, false, ◌&&◌, ◌||◌}
+use Rattle.std.specs.Prelude.{List, [], ◌∷◌, length, slice_index, slice_range, IsCharBoundary}
 use Rattle.textwrap_words.specs.Blanks.{blank, is_blank, BlanksBetween, trimmed_len}
-use Rattle.textwrap_words.specs.PieceCuts.{pieces_at, pieces_within}
-use Rattle.textwrap_words.specs.Units.{IsPrintableByte}
+use Rattle.textwrap_words.specs.Breaking.{broken_texts}
+use Rattle.textwrap_words.specs.PieceCuts.{is_point, pieces_at, pieces_within}
+use Rattle.textwrap_words.specs.Units.{IsPrintableByte, text_width}
 use Rattle.textwrap_words.specs.WordSplitters.{hyphen, Splitter, Whole, AtHyphens}
 use Rattle.textwrap_words.specs.Words.{WordText}
 use Rattle.textwrap_words.specs.declared.pieces.BuiltInSplitter.{BuiltInSplitter}
@@ -35,6 +36,28 @@ pub record IsLetter (byte : ℕ) : Type 0 where
   pub printable : IsPrintableByte byte
   pub not_blank : byte ≢ blank
   pub not_hyphen : byte ≢ hyphen
+
+-- a piece stops there: before a blank, if pieces stop at these, or at a point of the splitter
+abbrev pub is_stop : Bool → Splitter → List ℕ → ℕ → Bool
+is_stop at_blanks splitter text place =
+    (at_blanks && is_blank (slice_index text place)) || is_point splitter text place
+
+-- the text from the one place up to its first stop, or up to the end, is broken at the limit: its
+-- first part goes up to the other place, and has so many columns
+pub record IsFirstStop (stops : ℕ → Bool) (limit : ℕ) (text : List ℕ) (at end place width : ℕ) :
+    Type 0 where
+  pub stop : ℕ
+  pub within : stop ≤ end
+  pub cut : IsCharBoundary text stop
+  pub uncut : (k : ℕ) → at < k → k < stop → stops k ≡ false
+  pub ends : stop < end → stops stop ≡ true
+  pub from : at ≤ place
+  pub up_to : place ≤ stop
+  pub some : at < end → at < place
+  pub boundary : IsCharBoundary text place
+  pub first : at < end → broken_texts limit (slice_range text at stop)
+      ≡ slice_range text at place ∷ broken_texts limit (slice_range text place stop)
+  pub wide : width ≡ text_width (slice_range text at place)
 
 -- the first piece from the one place on has the word up to the other, of so many columns, and all
 -- blanks after that

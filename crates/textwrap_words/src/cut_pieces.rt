@@ -11,9 +11,7 @@ ghost use Rattle.textwrap_words.specs.WordSplitters.{split_words};
 ghost use Rattle.textwrap_words.specs.Words.{word_of};
 
 use crate::blanks::trimmed_len;
-use crate::characters::columns;
-use crate::escapes::State;
-use crate::pieces::{BuiltInSplitter, Piece, is_point, letters_len};
+use crate::pieces::{BuiltInSplitter, Piece, letters_len, read_on};
 
 /// The pieces of a text whose words end at given cuts, one after another: its words, split, and broken
 /// where they are wider than a limit. Unlike words between blanks these may have blanks inside.
@@ -169,38 +167,16 @@ fn next_within(
     requires inside { at < length text.now }
     ensures { IsFirstWithin (as_splitter splitter) limit text.now at result }
 {
-    let mut width = letters_len(&text.as_bytes()[..word_len], at, limit);
-    let start = at + width;
-    let mut state = State::Text;
-    for (after, ch) in text[start..word_len].char_indices() {
-        let place = start + after;
-        let (next, is_visible) = state.step(ch);
-        if is_visible {
-            let columns = columns(ch);
-            if width > 0 && width + columns > limit {
-                return piece_before(place, width);
-            }
-            width += columns;
-        }
-        state = next;
-        if ch == '-' && is_point(text, place + 1, splitter) {
-            return piece_before(place + 1, width);
-        }
-    }
+    let letters = letters_len(&text.as_bytes()[..word_len], at, limit);
+    let (word_end, width) = read_on(text, at, letters, word_len, limit, splitter, false);
+    let end = if word_end == word_len {
+        text.len()
+    } else {
+        word_end
+    };
     Piece {
-        word_end: word_len,
-        end: text.len(),
-        width,
-    }
-}
-
-/// A piece without whitespace that ends at a place.
-fn piece_before(place: usize, width: usize) -> Piece
-    ensures { result ≡ record { word_end = place; end = place; width = width } }
-{
-    Piece {
-        word_end: place,
-        end: place,
+        word_end,
+        end,
         width,
     }
 }

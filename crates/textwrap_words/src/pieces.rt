@@ -1,11 +1,11 @@
 //! The pieces of a text by where they stand in it, without a list of words.
 ghost use Rattle.std.specs.Prelude.{◌≡◌, ◌≢◌, ℕ, ◌+◌, ◌<◌, ◌≤◌, true, false, ◌++◌, [], length};
 ghost use Rattle.std.specs.Prelude.{slice_index, nat_lt, ◌&&◌, ◌∷◌, if◌then◌else◌, IsCharBoundary};
-ghost use Rattle.textwrap_words.specs.Blanks.{blank};
+ghost use Rattle.textwrap_words.specs.Blanks.{blank, is_blank};
 ghost use Rattle.textwrap_words.specs.Breaking.{broken_words};
 ghost use Rattle.textwrap_words.specs.PieceCuts.{is_point, pieces_at};
 ghost use Rattle.textwrap_words.specs.Pieces.{as_splitter, stand_from, empty_front};
-ghost use Rattle.textwrap_words.specs.Pieces.{IsFirstWord, IsLetter};
+ghost use Rattle.textwrap_words.specs.Pieces.{is_stop, IsFirstStop, IsFirstWord, IsLetter};
 ghost use Rattle.textwrap_words.specs.WordSplitters.{split_words};
 ghost use Rattle.textwrap_words.specs.Words.{words_of};
 
@@ -120,16 +120,42 @@ fn first_word(text: &str, at: usize, limit: usize, splitter: BuiltInSplitter) ->
     ensures { IsFirstWord (as_splitter splitter) limit text.now at result.0 result.1 }
 {
     let bytes = text.as_bytes();
-    let mut width = letters_len(bytes, at, limit);
+    let width = letters_len(bytes, at, limit);
     let start = at + width;
     // Most words end so, and no character has to be decoded for them.
     if start < bytes.len() && bytes[start] == b' ' {
         return (start, width);
     }
+    read_on(text, at, width, text.len(), limit, splitter, true)
+}
+
+/// Where the first piece from a place on stops, which begins with so many letters, and its columns: at
+/// a point of the splitter, before a blank where it ends at these, or before it is too wide.
+#[inline(always)]
+pub(crate) fn read_on(
+    text: &str,
+    at: usize,
+    letters: usize,
+    end: usize,
+    limit: usize,
+    splitter: BuiltInSplitter,
+    at_blanks: bool,
+) -> (usize, usize)
+    requires boundary { IsCharBoundary text.now at }
+    requires end { IsCharBoundary text.now end }
+    requires within { at + letters ≤ end }
+    requires most { letters ≤ limit }
+    requires letters { (k : ℕ) → k < letters → IsLetter (slice_index text.now (at + k)) }
+    requires other { at_blanks ≡ true → at < end → is_blank (slice_index text.now at) ≡ false }
+    ensures { IsFirstStop (is_stop at_blanks (as_splitter splitter) text.now) limit text.now at end
+        result.0 result.1 }
+{
+    let start = at + letters;
+    let mut width = letters;
     let mut state = State::Text;
-    for (after, ch) in text[start..].char_indices() {
+    for (after, ch) in text[start..end].char_indices() {
         let place = start + after;
-        if ch == ' ' {
+        if at_blanks && ch == ' ' {
             return (place, width);
         }
         let (next, is_visible) = state.step(ch);
@@ -145,7 +171,7 @@ fn first_word(text: &str, at: usize, limit: usize, splitter: BuiltInSplitter) ->
             return (place + 1, width);
         }
     }
-    (text.len(), width)
+    (end, width)
 }
 
 /// How many letters stand from a place on, at most so many. A letter is printable ASCII, and neither
@@ -172,7 +198,7 @@ fn is_letter(byte: u8) -> bool
 }
 
 /// Whether a text is split at a place, after a hyphen.
-pub(crate) fn is_point(text: &str, place: usize, splitter: BuiltInSplitter) -> bool
+fn is_point(text: &str, place: usize, splitter: BuiltInSplitter) -> bool
     requires { 0 < place }
     ensures { result ≡ (nat_lt place (length text.now)
         && is_point (as_splitter splitter) text.now place) }

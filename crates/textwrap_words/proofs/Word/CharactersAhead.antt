@@ -1,6 +1,6 @@
 -- A character that begins at a place of a text: where other characters end, and its bytes.
-use Rattle.textwrap_base.proofs.Common.{inl, inr, ◌≡◌, ◌≢◌, ℕ, ◌+◌, ◌-◌, ◌<◌, ◌≤◌, false, not, ◌&&◌}
-use Rattle.textwrap_base.proofs.Common.{◌||◌, List, [], ◌∷◌, ◌++◌, length, drop, get_or, refl, sym}
+use Rattle.textwrap_base.proofs.Common.{inl, inr, ◌≡◌, ◌≢◌, ℕ, ◌+◌, ◌-◌, ◌<◌, ◌≤◌, false}
+use Rattle.textwrap_base.proofs.Common.{List, [], ◌∷◌, ◌++◌, length, drop, get_or, refl, sym}
 use Rattle.textwrap_base.proofs.Common.{ap, ◌∙◌, arith, slice_range, cases_lt, cases_Bool, eqb-true}
 use Rattle.textwrap_base.proofs.Common.{length-append, drop_split, get_or-take, get_or-drop, IsUtf8}
 use Rattle.textwrap_base.proofs.Common.{IsCharBoundary, IsUtf8-between, IsUtf8-drop, chars-append}
@@ -9,7 +9,7 @@ use Rattle.textwrap_base.proofs.Common.{length-drop, IsCharBoundary-after_ascii,
 use Rattle.textwrap_words.proofs.Common.{is_blank, Splitter}
 use Rattle.std.specs.Prelude.{chars, encode_utf8}
 use Rattle.std.proofs.lemmas.Str.{encode_ascii, IsCharBoundary-before_ascii}
-use Rattle.textwrap_words.specs.PieceCuts.{is_point, is_piece_cut}
+use Rattle.textwrap_words.specs.PieceCuts.{is_point}
 use Rattle.textwrap_base.proofs.Characters.{one-byte, some-bytes}
 use Rattle.textwrap_base.proofs.Lists.Parts.{length-slice}
 use Rattle.textwrap_words.proofs.Word.PieceBoundaries.{point-hyphen}
@@ -114,25 +114,6 @@ module _ (text : List ℕ) (utf8 : IsUtf8 text) (place c : ℕ) (after : List �
         (omega (arith, inside)) byte (omega arith)).1
   ]
 
-  module _ (other : c ≢ 32) where
-    pub plain-bytes : (k : ℕ) → place ≤ k → k < place + length (encode_utf8 c) → k < length text
-        → is_blank (get_or text k 0) ≡ false
-    plain-bytes k from below inside = grind (arith, cases_Bool, ascii-byte, eqb-true)
-
-    -- the last byte of it
-    pub plain-before : (k : ℕ) → k ≡ place + length (encode_utf8 c)
-        → is_blank (get_or text (k - 1) 0) ≡ false
-    plain-before k end =
-        let some = some-bytes c in
-        let within = ends-within text place c after is in
-        plain-bytes (k - 1) (omega (arith, end, some)) (omega (arith, end, some))
-        (omega (arith, end, some, within))
-
-    -- no piece ends after it, unless the splitter has a point there
-    pub uncut-after : (splitter : Splitter) (k : ℕ) → k ≡ place + length (encode_utf8 c)
-        → k < length text → (c ≡ 45 → is_point splitter text k ≡ false)
-        → is_piece_cut splitter text k ≡ false
-    uncut-after splitter k end inside point =
-        let here = get_or text k 0 in
-        ap (λ t. (t && not (is_blank here)) || is_point splitter text k) (plain-before k end)
-        ∙ point-after splitter k end inside point
+  pub plain-bytes : c ≢ 32 → (k : ℕ) → place ≤ k → k < place + length (encode_utf8 c)
+      → k < length text → is_blank (get_or text k 0) ≡ false
+  plain-bytes other k from below inside = grind (arith, cases_Bool, ascii-byte, eqb-true)

@@ -1,0 +1,285 @@
+use Rattle.textwrap_words.proofs.pieces.read_on.Goals as goal
+use Rattle.textwrap_base.proofs.Common.{◌≡◌, ◌+◌, ◌≤◌, true, false, ◌&&◌, nat_lt, ◌++◌, List, ℕ, length, drop}
+use Rattle.textwrap_base.proofs.Common.{get_or, sym, ap, ◌∙◌, subst, arith, append_assoc, true≢false}
+use Rattle.textwrap_base.proofs.Common.{char_indices_offset, and_parts, drop_split, length-append}
+use Rattle.textwrap_base.proofs.Common.{◌||◌, length-drop, lt-ltb, refl, cases_lt, inl, inr}
+use Rattle.std.specs.Prelude.{encode_utf8}
+use Rattle.std.specs.Str.Iter.{char_indices_rest}
+use Rattle.std.proofs.Math.Bool.{or-true}
+use Rattle.std.proofs.lemmas.Str.{encode_ascii}
+use Rattle.textwrap_base.proofs.Characters.{some-bytes}
+use Rattle.textwrap_words.proofs.Common.{as_splitter, is_blank, is_due, shows, Visible}
+use Rattle.textwrap_words.specs.PieceCuts.{is_point}
+use Rattle.textwrap_words.specs.Pieces.{is_stop, IsFirstStop}
+use Rattle.textwrap_words.proofs.Units.Narrow.{columns-le}
+use Rattle.textwrap_words.proofs.Units.Widths.{added}
+use Rattle.textwrap_words.proofs.Word.Breaking.{due-true, due-false}
+use Rattle.textwrap_words.proofs.Word.CharactersAhead.{ascii-here, left-after, plain-bytes, point-after}
+use Rattle.textwrap_words.proofs.Word.ScannedLetters.{scanned-letters}
+use Rattle.textwrap_words.proofs.Word.ScannedWords.{IsScanned, GoesOn, scanned-step}
+use Rattle.textwrap_words.proofs.Word.Stops.{no-stop, stop-full, stop-here, stops-between}
+use Rattle.textwrap_words.proofs.pieces.read_on.Goals.{In-Some, After-step-next, Joined-is_visible}
+use Rattle.textwrap_words.proofs.pieces.read_on.Goals.{else-at_blanks-via-then-at_blanks+else-ch-eq32}
+use Rattle.textwrap_words.proofs.pieces.read_on.Goals.{else-at_blanks-via-else-at_blanks}
+use Rattle.textwrap_words.proofs.pieces.read_on.Goals.{then-is_visible+else-width-gt0, else-is_visible}
+use Rattle.textwrap_words.proofs.pieces.read_on.Goals.{else-width-gt0-via-else-width-gt0}
+use Rattle.textwrap_words.proofs.pieces.read_on.Goals.{else-width-gt0-via-then-width-gt0+else-width-columns}
+use Rattle.textwrap_words.proofs.pieces.read_on.Goals.{else-ch-eq45-via-else-ch-eq45}
+use Rattle.textwrap_words.proofs.pieces.read_on.Goals.{else-ch-eq45-via-then-ch-eq45+else-is_point}
+
+pub range-requires-clause-start_boundary : goal.range-requires-clause-start_boundary
+range-requires-clause-start_boundary c = λ _.
+    let splitter = as_splitter c.args.splitter in
+    let text = c.args.text.now in
+    (scanned-letters c.args.at_blanks splitter c.args.limit text c.utf8.text c.args.at c.requires.boundary
+    (stops-between c.args.at_blanks splitter text c.utf8.text) c.args.letters c.requires.most
+    (omega (arith, c.requires.within, c.requires.end.0)) c.requires.letters).scanned.boundary
+
+pub loop-after-init : goal.loop-after-init
+loop-after-init c =
+    let splitter = as_splitter c.args.splitter in
+    let text = c.args.text.now in
+    let start = c.args.at + c.args.letters in
+    let items = c.char_indices-after-items.ensures in
+    let past = scanned-letters c.args.at_blanks splitter c.args.limit text c.utf8.text c.args.at
+    c.requires.boundary (stops-between c.args.at_blanks splitter text c.utf8.text) c.args.letters
+    c.requires.most (omega (arith, c.requires.within, c.requires.end.0)) c.requires.letters in
+    let same : start + 0 ≡ start = omega arith in
+    rw (c.into_iter-after-iterator.ensures.into_iter_gives, items.offset, items.rest, same, c.range.ensures.value)
+    (record {
+      scanned = past.scanned;
+      on = past.on;
+      left = drop_split text start c.args.end c.requires.within;
+    })
+
+-- the character that the iterator gives stands at the place
+record IsHere (c : In-Some) : Type 0 where
+  stands : drop (c.args.at + c.args.letters + char_indices_offset c.loop-after.after-iterator)
+      c.args.text.now
+      ≡ encode_utf8 c.in-Some.ch ++ (char_indices_rest c.next.new.self ++ drop c.args.end c.args.text.now)
+  within : c.args.at + c.args.letters + char_indices_offset c.loop-after.after-iterator
+      + length (encode_utf8 c.in-Some.ch) ≤ c.args.end
+
+here : (c : In-Some) → IsHere c
+here c =
+    let text = c.args.text.now in
+    let rest = char_indices_rest c.next.new.self in
+    let tail = drop c.args.end text in
+    let place = c.args.at + c.args.letters + char_indices_offset c.loop-after.after-iterator in
+    let stands : drop place text ≡ encode_utf8 c.in-Some.ch ++ (rest ++ tail) =
+    c.loop-after.invariant.left ∙ ap (λ bs. bs ++ tail) c.in-Some.ensures.steps.1
+    ∙ append_assoc (encode_utf8 c.in-Some.ch) rest tail in
+    record {
+      stands = stands;
+      within = omega (
+        arith,
+        ap length stands,
+        length-append (encode_utf8 c.in-Some.ch) (rest ++ tail),
+        length-append rest tail,
+        length-drop c.args.end text,
+        length-drop place text,
+        c.requires.end.0,
+        c.loop-after.invariant.scanned.boundary.0,
+        some-bytes c.in-Some.ch,
+      );
+    }
+
+pub returns-then-ch-eq32 : goal.returns-then-ch-eq32
+returns-then-ch-eq32 c =
+    let s = c.in-Some.ensures.steps in
+    let text = c.args.text.now in
+    let start = c.args.at + c.args.letters in
+    let place = start + char_indices_offset c.loop-after.after-iterator in
+    let splitter = as_splitter c.args.splitter in
+    let h = c.loop-after.invariant.scanned in
+    let is = here (goal.at.returns-then-ch-eq32 c).In-Some in
+    let byte = ascii-here text place c.in-Some.ch _ is.stands (omega (arith, c.if-ch-eq32.true))
+    ∙ c.if-ch-eq32.true in
+    let blank : is_blank (get_or text place 0) ≡ true = ap is_blank byte in
+    let stops : is_stop c.args.at_blanks splitter text place ≡ true =
+    rw (c.if-at_blanks.true, blank) refl in
+    subst (λ n. IsFirstStop (is_stop c.args.at_blanks splitter text) c.args.limit text c.args.at
+    c.args.end (start + n) c.loop-after.width) (sym s.0)
+    (stop-here c.args.at_blanks splitter text c.utf8.text c.args.limit c.args.at c.args.end
+    c.requires.boundary c.requires.end place c.loop-after.state c.loop-after.width h
+    (omega (arith, is.within)) (λ _. stops)
+    (λ inside. elim (cases_lt c.args.at place) [
+      | inl some ↦ some
+      | inr none ↦
+          let same : place ≡ c.args.at = omega (arith, none, h.from) in
+          absurd (true≢false (sym blank ∙ ap (λ k. is_blank (get_or text k 0)) same
+          ∙ c.requires.other c.if-at_blanks.true inside))
+    ]))
+
+pub overflow_add-width : goal.overflow_add-width
+overflow_add-width c =
+    let is = here (goal.at.overflow_add-width c).In-Some in
+    omega (
+      arith,
+      c.columns-columns.ensures,
+      columns-le c.in-Some.ch,
+      c.loop-after.invariant.scanned.bound,
+      is.within,
+      c.ranges.end.fits,
+    )
+
+-- it does not stop there
+on : (c : After-step-next) (after : List ℕ)
+    → drop (c.args.at + c.args.letters + char_indices_offset c.loop-after.after-iterator) c.args.text.now
+    ≡ encode_utf8 c.in-Some.ch ++ after → GoesOn (is_stop c.args.at_blanks (as_splitter c.args.splitter) c.args.text.now)
+    c.args.text.now c.args.at
+    (c.args.at + c.args.letters + char_indices_offset c.loop-after.after-iterator)
+on c after is past inside =
+    let text = c.args.text.now in
+    let place = c.args.at + c.args.letters + char_indices_offset c.loop-after.after-iterator in
+    let ch = c.in-Some.ch in
+    let some = some-bytes ch in
+    let h = c.loop-after.invariant in
+    let plain : c.args.at_blanks ≡ true → is_blank (get_or text place 0) ≡ false =
+    λ at_blanks. elim c.else-at_blanks.branch [
+      | else-at_blanks-via-else-at_blanks w ↦ absurd (true≢false (sym at_blanks ∙ w.if-at_blanks.false))
+      | else-at_blanks-via-then-at_blanks+else-ch-eq32 w ↦ plain-bytes text c.utf8.text place ch _
+          h.scanned.boundary is w.if-ch-eq32.false place (omega arith)
+          (omega (arith, some)) inside
+    ] in
+    no-stop c.args.at_blanks (as_splitter c.args.splitter) text place plain (h.on past inside)
+
+pub returns-then-width-columns : goal.returns-then-width-columns
+returns-then-width-columns c =
+    let s = c.in-Some.ensures.steps in
+    let text = c.args.text.now in
+    let start = c.args.at + c.args.letters in
+    let place = start + char_indices_offset c.loop-after.after-iterator in
+    let splitter = as_splitter c.args.splitter in
+    let ch = c.in-Some.ch in
+    let at = goal.at.returns-then-width-columns c in
+    let is = here at.In-Some in
+    let due = due-true c.args.limit c.loop-after.width ch c.if-width-gt0.true
+    (omega (arith, c.columns-columns.ensures, c.if-width-columns.true)) in
+    subst (λ n. IsFirstStop (is_stop c.args.at_blanks splitter text) c.args.limit text c.args.at
+    c.args.end (start + n) c.loop-after.width) (sym s.0)
+    (stop-full c.args.at_blanks splitter text c.utf8.text c.args.limit c.args.at c.args.end
+    c.requires.boundary c.requires.end place c.loop-after.state c.loop-after.width
+    c.loop-after.invariant.scanned (on at.After-step-next _ is.stands) ch _ is.stands
+    (omega (arith, is.within, some-bytes ch)) (rw c.step-next.ensures at c.if-is_visible.true)
+    c.if-width-gt0.true due)
+
+-- the reader is past the character
+past : (c : Joined-is_visible) (after : List ℕ)
+    → drop (c.args.at + c.args.letters + char_indices_offset c.loop-after.after-iterator) c.args.text.now
+    ≡ encode_utf8 c.in-Some.ch ++ after
+    → GoesOn (is_stop c.args.at_blanks (as_splitter c.args.splitter) c.args.text.now) c.args.text.now
+    c.args.at (c.args.at + c.args.letters + char_indices_offset c.loop-after.after-iterator)
+    → IsScanned (is_stop c.args.at_blanks (as_splitter c.args.splitter) c.args.text.now) c.args.limit
+    c.args.text.now c.args.at
+    (c.args.at + c.args.letters + char_indices_offset c.loop-after.after-iterator
+    + length (encode_utf8 c.in-Some.ch)) c.step-next.result.0 c.if-is_visible.width
+past c after is on =
+    let limit = c.args.limit in
+    let splitter = as_splitter c.args.splitter in
+    let text = c.args.text.now in
+    let width = c.loop-after.width in
+    let ch = c.in-Some.ch in
+    let place = c.args.at + c.args.letters + char_indices_offset c.loop-after.after-iterator in
+    let more : width + added c.loop-after.state ch ≡ c.if-is_visible.width =
+    elim c.if-is_visible.branch [
+      | then-is_visible+else-width-gt0 w ↦ rw (rw c.step-next.ensures at w.if-is_visible.true)
+          (sym (w.width-is ∙ ap (λ n. width + n) w.columns-columns.ensures))
+      | else-is_visible w ↦ rw (rw c.step-next.ensures at w.if-is_visible.false)
+          (omega (arith, w.width-is))
+    ] in
+    let room : shows c.loop-after.state ch ≡ true → is_due limit width (Visible ch) ≡ false =
+    λ shown. elim c.if-is_visible.branch [
+      | else-is_visible w ↦ absurd (true≢false (sym shown
+          ∙ (rw c.step-next.ensures at w.if-is_visible.false)))
+      | then-is_visible+else-width-gt0 w ↦ due-false limit width ch
+          (λ some. elim w.else-width-gt0.branch [
+            | else-width-gt0-via-then-width-gt0+else-width-columns v ↦ omega
+                (arith, w.columns-columns.ensures, v.if-width-columns.false)
+            | else-width-gt0-via-else-width-gt0 v ↦ absurd (omega (arith, v.if-width-gt0.false, some))
+          ])
+    ] in
+    rw (c.step-next.ensures, ← more)
+    (scanned-step (is_stop c.args.at_blanks splitter text) limit text c.utf8.text c.args.at
+    c.requires.boundary place ch after c.loop-after.state width
+    (stops-between c.args.at_blanks splitter text c.utf8.text) c.loop-after.invariant.scanned
+    on is room)
+
+pub returns-then-is_point : goal.returns-then-is_point
+returns-then-is_point c =
+    let s = c.in-Some.ensures.steps in
+    let start = c.args.at + c.args.letters in
+    let place = start + char_indices_offset c.loop-after.after-iterator in
+    let text = c.args.text.now in
+    let splitter = as_splitter c.args.splitter in
+    let at = goal.at.returns-then-is_point c in
+    let is = here at.In-Some in
+    let one : length (encode_utf8 c.in-Some.ch) ≡ 1 =
+    ap (λ n. length (encode_utf8 n)) c.if-ch-eq45.true ∙ ap length (encode_ascii 45 (omega arith)) in
+    let q = start + c.in-Some.after + 1 in
+    let end : place + length (encode_utf8 c.in-Some.ch) ≡ q = omega (arith, one, s.0) in
+    let point = and_parts _ _ (sym c.is_point.ensures ∙ c.if-is_point.true) in
+    let stops : is_stop c.args.at_blanks splitter text q ≡ true =
+    ap (λ p. (c.args.at_blanks && is_blank (get_or text q 0)) || p) point.1 ∙ or-true _ in
+    stop-here c.args.at_blanks splitter text c.utf8.text c.args.limit c.args.at c.args.end
+    c.requires.boundary c.requires.end q c.step-next.result.0 c.if-is_visible.width
+    (rw end at (past at.Joined-is_visible _ is.stands (on at.After-step-next _ is.stands))) (omega (arith, is.within, end)) (λ _. stops)
+    (λ _. omega (arith, c.loop-after.invariant.scanned.from, s.0))
+
+pub loop-after-preserved : goal.loop-after-preserved
+loop-after-preserved c =
+    let s = c.in-Some.ensures.steps in
+    let start = c.args.at + c.args.letters in
+    let place = start + char_indices_offset c.loop-after.after-iterator in
+    let text = c.args.text.now in
+    let splitter = as_splitter c.args.splitter in
+    let ch = c.in-Some.ch in
+    let at = goal.at.loop-after-preserved c in
+    let is = here at.In-Some in
+    let end = start + char_indices_offset c.next.new.self in
+    let same : place + length (encode_utf8 ch) ≡ end = omega (arith, s.2) in
+    record {
+      scanned = rw same at (past at.Joined-is_visible _ is.stands (on at.After-step-next _ is.stands));
+      on = λ _ more.
+          point-after text c.utf8.text place ch _ c.loop-after.invariant.scanned.boundary is.stands
+          splitter end (sym same) more
+          (λ hyphen. elim c.else-ch-eq45.branch [
+            | else-ch-eq45-via-else-ch-eq45 w ↦ absurd (w.if-ch-eq45.false hyphen)
+            | else-ch-eq45-via-then-ch-eq45+else-is_point w ↦
+                let one : length (encode_utf8 ch) ≡ 1 =
+                ap (λ n. length (encode_utf8 n)) hyphen
+                ∙ ap length (encode_ascii 45 (omega arith)) in
+                let q = start + c.in-Some.after + 1 in
+                let next : q ≡ end = omega (arith, same, one, s.0) in
+                let inside : nat_lt q (length text) ≡ true =
+                lt-ltb q (length text) (omega (arith, next, more)) in
+                ap (is_point splitter text) (sym next)
+                ∙ sym (ap (λ t. t && is_point splitter text q) inside)
+                ∙ sym w.is_point.ensures ∙ w.if-is_point.false
+          ]);
+      left = ap (λ k. drop k text) (sym same) ∙ left-after text place ch _ is.stands;
+    }
+
+pub returns : goal.returns
+returns c =
+    let text = c.args.text.now in
+    let place = c.args.at + c.args.letters + char_indices_offset c.loop-after.after-iterator in
+    let rest = char_indices_rest c.loop-after.after-iterator in
+    let splitter = as_splitter c.args.splitter in
+    let h = c.loop-after.invariant.scanned in
+    let end : place ≡ c.args.end = omega (
+      arith,
+      ap length c.loop-after.invariant.left,
+      c.in-None.ensures.steps.0,
+      length-append rest (drop c.args.end text),
+      length-drop place text,
+      length-drop c.args.end text,
+      h.boundary.0,
+      c.requires.end.0,
+    ) in
+    subst (λ k. IsFirstStop (is_stop c.args.at_blanks splitter text) c.args.limit text c.args.at
+    c.args.end k c.loop-after.width) end
+    (stop-here c.args.at_blanks splitter text c.utf8.text c.args.limit c.args.at c.args.end
+    c.requires.boundary c.requires.end place c.loop-after.state c.loop-after.width h
+    (omega (arith, end)) (λ inside. absurd (omega (arith, inside, end)))
+    (λ inside. omega (arith, inside, end)))

@@ -4,6 +4,7 @@ pub mod Filling
 pub mod Fuzzing
 pub mod Laws
 pub mod Layout
+pub mod LentPlaces
 pub mod LineEnding
 pub mod LineSinks
 pub mod Options
@@ -13,6 +14,7 @@ pub mod Places
 pub mod Printable
 pub mod Spans
 pub mod Text
+pub mod Written
 pub mod PieceLines
 pub use Rattle.textwrap_base.specs.Cost
 pub use Rattle.textwrap_base.specs.Division

@@ -2,9 +2,11 @@
 use Rattle.std.specs.Prelude.{◌≡◌, ℕ, true, nat_lt, List, ◌++◌, length, map, if◌then◌else◌}
 use Rattle.std.specs.String.{string_bytes}
 use Rattle.textwrap_words.specs.LentText.{IsLent}
+use Rattle.textwrap_lines.specs.LentPlaces.{ArePlaced}
 use Rattle.textwrap_lines.specs.LineEnding.{ending_bytes, join_with}
 use Rattle.textwrap_lines.specs.Paragraph.{line_bytes, line_view}
 use Rattle.textwrap_lines.specs.Places.{CutLine, built_text, further, lines_of, places_of}
+use Rattle.textwrap_lines.specs.declared.lent_places.LentLinePlaces.{LentLinePlaces}
 use Rattle.textwrap_lines.specs.declared.line_sinks.JoinedLines.{JoinedLines}
 use Rattle.textwrap_lines.specs.declared.line_sinks.LentLines.{LentLines}
 use Rattle.textwrap_lines.specs.declared.line_sinks.ListedLines.{ListedLines}
@@ -41,6 +43,15 @@ pub record HoldsPlaces {Z : Type 0} (placed : PlacedLines Z) (start : ℕ) (held
   pub places : placed.places.items ≡ places_of 0 held
   pub built : placed.built.items ≡ built_text (lines_of held)
   pub offset : placed.offset ≡ start
+
+-- the same in the room that it began with
+pub record HoldsLentPlaces (first now : LentLinePlaces) (start : ℕ) (held : List CutLine)
+    : Type 0 where
+  pub same_lines : now.placed.now.lines.ghost_name ≡ first.placed.now.lines.ghost_name
+  pub same_room : now.placed.now.room.ghost_name ≡ first.placed.now.room.ghost_name
+  pub placed : ArePlaced now.placed.now (places_of 0 held) (built_text (lines_of held))
+      first.placed.now.lines.now first.placed.now.room.now
+  pub offset : now.placed.now.offset ≡ start
 
 -- a text of lines with one more line, after the ending if it has any
 pub record HasOneMore {Z : Type 0} (old new : JoinedLines Z) (line : List ℕ) : Type 0 where

@@ -15,7 +15,7 @@ use crate::layout::{self, Layout};
 use crate::line_sinks::ListedLines;
 pub use crate::options::DEFAULTS;
 use crate::options::Options;
-pub use crate::placed::place_lines_with;
+pub use crate::placed::{place_into, place_lines_with};
 pub use crate::printable_cuts::PrintableCuts;
 use crate::wrapping;
 pub use crate::wrapping::{break_pieces, find_pieces, wrap_by};

@@ -1,8 +1,11 @@
 //! The lines of a text by where they stand, for the calls from C. The crate `textwrap` does not
 //! re-export this module.
 ghost use Rattle.std.specs.Prelude.{◌≡◌, ◌<◌, ℕ, [], ◌∷◌, List, alloc_error, map, IfOk, IfErr, OnOk};
+ghost use Rattle.std.specs.Prelude.{IsOk};
 ghost use Rattle.std.specs.Io.{StartsWith};
 ghost use Rattle.std.specs.List.{flat_map};
+ghost use Rattle.textwrap_lines.specs.Direct.{IsDirect};
+ghost use Rattle.textwrap_lines.specs.LentPlaces.{WritesPlaces, reported_line};
 ghost use Rattle.textwrap_lines.specs.Options.{Settings, settings_view, HasParts, MayOverflow};
 ghost use Rattle.textwrap_lines.specs.Paragraph.{DividesAs, DividesBy, DividesWith, Line, Slice};
 ghost use Rattle.textwrap_lines.specs.Paragraph.{text_limit};
@@ -16,10 +19,12 @@ ghost use Rattle.textwrap_words.specs.WrapAlgorithms.{Algorithm};
 
 use crate::any_options::AnyOptions;
 use crate::layout::Layout;
+pub use crate::lent_places::LineCounts;
+use crate::lent_places::{LentLinePlaces, LentPlaces};
 use crate::line_sinks::LineSink;
 use crate::options::Options;
 use crate::options_with::OptionsWith;
-pub use crate::places::{Place, PlacedLines};
+pub use crate::places::{Place, PlacedLines, TextwrapLine};
 use crate::printable_cuts::PrintableCuts;
 use crate::wrapping::{Way, push_lines, push_text};
 use std::alloc::{AllocError, Allocator};
@@ -97,6 +102,69 @@ fn placed_lines<A: Allocator + Copy, O: AnyOptions<A>>(
     let mut lines = PlacedLines::new(alloc);
     push_text(alloc, text, options, Way::Shortest, &mut lines)?;
     Ok(lines)
+}
+
+/// Writes where the lines stand that [`wrap`](crate::wrap) returns to the front of `lines`, and those
+/// that are no slices of the text to the front of the room, one after another. Of both it writes as much
+/// as has room, and what follows stays as it was. Returns how many lines there are, and how many bytes
+/// for the room. At 5 columns and with the indent `>` before later lines, `foo bar` leaves the slice at
+/// 0 in `lines` that have room for one, and `>b` in a room of 2 bytes; 2 lines and 4 bytes are returned.
+///
+/// # Errors
+/// Those of [`wrap`](crate::wrap).
+pub fn place_into<A: Allocator + Copy>(
+    alloc: A,
+    text: &str,
+    options: &Options<'_>,
+    lines: &mut [TextwrapLine],
+    room: &mut [u8],
+) -> Result<LineCounts, WrapError>
+    ensures lines { IfOk result (λ counts. (placed : List Line) × (places : List Place)
+        × ArePlacedLines (settings_view options.now) (DividesBy options.now) text.now placed places
+        × WritesPlaces places (built_text placed) counts lines.old lines.new room.old room.new) }
+    // By first fit and built-in parts no memory is needed.
+    ensures done { IsDirect options.now → IsOk result }
+    ensures only_memory { ¬ MayOverflow options.now
+        → IfErr result (λ error. error ≡ WrapError.Memory alloc_error) }
+    ensures no_overflow { ¬ SomeMayPass64Bits options.now text.now
+        → IfErr result (λ error. error ≡ WrapError.Memory alloc_error) }
+{
+    let mut placed = LentPlaces::new(lines, room);
+    let mut sink = LentLinePlaces {
+        placed: &mut placed,
+    };
+    push_text(alloc, text, options, Way::Shortest, &mut sink)?;
+    Ok(placed.counts())
+}
+
+/// Writes where lines stand to the front of `lines`, and those that are texts of their own to the front
+/// of the room, as much of them as has room, and returns how long they are. What follows stays as it
+/// was.
+pub fn write_places(
+    places: &[Place],
+    built: &[u8],
+    lines: &mut [TextwrapLine],
+    room: &mut [u8],
+) -> LineCounts
+    ensures { WritesPlaces places.now built.now result lines.old lines.new room.old room.new }
+{
+    let mut placed = LentPlaces::new(lines, room);
+    placed.push_bytes(built);
+    for place in places {
+        placed.push(reported_line(*place));
+    }
+    placed.counts()
+}
+
+/// A place as it is reported.
+fn reported_line(place: Place) -> TextwrapLine
+    ensures { result ≡ reported_line place }
+{
+    TextwrapLine {
+        offset: place.offset,
+        len: place.len,
+        is_built: if place.is_built { 1 } else { 0 },
+    }
 }
 
 /// Adds the line of each list of pieces, by where it stands in the text. Together the pieces tile the

@@ -17,6 +17,19 @@ pub struct Place {
     pub is_built: bool,
 }
 
+/// Where a line stands, as the calls from C report it.
+#[repr(C)]
+#[derive(Clone, Copy)]
+pub struct TextwrapLine {
+    /// How many bytes come before it: in the text before the place that it was cut from, or in the
+    /// room.
+    pub offset: usize,
+    /// How many bytes it has.
+    pub len: usize,
+    /// 1 where it is a line of its own, in the room, and 0 where it is a part of the text.
+    pub is_built: usize,
+}
+
 /// Lines by where they stand.
 #[derive(Drop)]
 pub struct PlacedLines<A: Allocator> {

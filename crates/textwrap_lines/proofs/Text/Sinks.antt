@@ -6,11 +6,13 @@ use Rattle.textwrap_base.proofs.Common.{map-append, length_push, nil_from_length
 use Rattle.textwrap_base.proofs.Common.{Err}
 use Rattle.textwrap_lines.proofs.Common.{ending_bytes, join_with, Took, Line, line_bytes}
 use Rattle.textwrap_lines.proofs.Common.{further, assembled_line, CutLine, cut_line}
-use Rattle.textwrap_lines.proofs.Common.{built_bytes, lines_of, place_of}
+use Rattle.textwrap_lines.proofs.Common.{built_bytes, built_text, lines_of, place_of, places_of}
 use Rattle.textwrap_words.specs.LentText.{IsLent}
-use Rattle.textwrap_lines.specs.LineSinks.{HasOneMore, HoldsLent, HoldsPlaces, HoldsText}
-use Rattle.textwrap_lines.specs.LineSinks.{LentOneMore}
+use Rattle.textwrap_lines.specs.LentPlaces.{AddsPlace}
+use Rattle.textwrap_lines.specs.LineSinks.{HasOneMore, HoldsLent, HoldsLentPlaces, HoldsPlaces}
+use Rattle.textwrap_lines.specs.LineSinks.{HoldsText, LentOneMore}
 use Rattle.textwrap_lines.specs.Places.{HasPlacesMore}
+use Rattle.textwrap_lines.specs.declared.lent_places.LentLinePlaces.{LentLinePlaces}
 use Rattle.textwrap_lines.specs.declared.line_sinks.JoinedLines.{JoinedLines}
 use Rattle.textwrap_lines.specs.declared.line_sinks.LentLines.{LentLines}
 use Rattle.textwrap_lines.specs.declared.places.PlacedLines.{PlacedLines}
@@ -89,6 +91,23 @@ Took-lent old new bytes at line is more = record {
     ending = more.ending ∙ given.ending;
     begun = search (rules, arith, lt-ltb, length_push);
   };
+}
+
+pub Took-lent-places : (old new : LentLinePlaces) (at : ℕ) (line : Line)
+    → AddsPlace old.placed.now new.placed.now (old.placed.now.offset + at) line
+    → Took HoldsLentPlaces old new (cut_line at line ∷ [])
+Took-lent-places old new at line adds = record {
+  held = λ first start before given.
+      let cut = cut_line (start + at) line in
+      let used = length (built_text (lines_of before)) in
+      let more = adds.placed (places_of 0 before) (built_text (lines_of before))
+      first.placed.now.lines.now first.placed.now.room.now given.placed in record {
+        same_lines = adds.keeps.lines ∙ given.same_lines;
+        same_room = adds.keeps.room ∙ given.same_room;
+        placed = rw (places_of-push 0 used before cut (omega arith), built_text-push before cut)
+            (rw given.offset at more);
+        offset = adds.keeps.offset ∙ given.offset;
+      };
 }
 
 -- some of all lines were taken, and these are left

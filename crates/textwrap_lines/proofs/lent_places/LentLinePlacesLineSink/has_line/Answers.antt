@@ -1,0 +1,10 @@
+use Rattle.textwrap_lines.proofs.lent_places.LentLinePlacesLineSink.has_line.Goals as goal
+use Rattle.textwrap_base.proofs.Common.{arith, length-map, nat_tests}
+use Rattle.textwrap_lines.proofs.Common.{places_of}
+use Rattle.textwrap_lines.proofs.Text.Cuts.{length-places_of}
+use Rattle.textwrap_lines.specs.LentPlaces.{reported_line}
+
+pub returns : goal.returns
+returns g c = λ first start held holds.
+    let len = holds.placed.lines.len_is in
+    grind (arith, nat_tests, length-map (places_of 0 held) reported_line, length-places_of 0 held)

@@ -1,0 +1,29 @@
+use Rattle.textwrap_lines.proofs.placed.place_into.Goals as goal
+use Rattle.textwrap_base.proofs.Common.{map, ap, ◌∙◌, rules}
+use Rattle.textwrap_words.specs.LentText.{written_over}
+use Rattle.textwrap_lines.proofs.Common.{built_text, lines_of, places_of}
+use Rattle.textwrap_lines.specs.LentPlaces.{reported_line}
+
+pub returns-clause-lines : goal.returns-clause-lines
+returns-clause-lines g c =
+    let (taken, are, end, holds) = c.in_ok-push_text.ensures.lines in
+    let places = places_of 0 taken in
+    let built = built_text (lines_of taken) in
+    let none = c.new-placed.ensures.none in (
+      lines_of taken,
+      places,
+      record { are = are.are; places_are = ap (places_of 0) are.cuts_are },
+      record {
+        lines = record {
+          room_is = search rules ∙ holds.placed.lines.room_is
+              ∙ ap (λ before. written_over before (map reported_line places))
+              (none.lines.room_is ∙ search rules);
+          len_is = c.counts.ensures.lines ∙ (search rules ∙ holds.placed.lines.len_is);
+        };
+        text = record {
+          room_is = search rules ∙ holds.placed.text.room_is
+              ∙ ap (λ before. written_over before built) (none.text.room_is ∙ search rules);
+          len_is = c.counts.ensures.built ∙ (search rules ∙ holds.placed.text.len_is);
+        };
+      },
+    )

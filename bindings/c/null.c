@@ -16,7 +16,6 @@ PROVED(wrap_columns_room_bound);
 PROVED(column_width);
 PROVED(rows_of_lines);
 PROVED(refill);
-PROVED(refill_bound);
 PROVED(unfill);
 PROVED(indent);
 PROVED(dedent);
@@ -156,11 +155,6 @@ textwrap_status textwrap_refill(const uint8_t *text, size_t text_len,
                                 size_t *len) {
     textwrap_options some = some_options(options);
     return proved_refill(ARRAY(text, text_len), &some, ARRAY(room, room_len), len);
-}
-
-size_t textwrap_refill_bound(size_t text_len, const textwrap_options *options) {
-    textwrap_options some = some_options(options);
-    return proved_refill_bound(text_len, &some);
 }
 
 textwrap_status textwrap_unfill(const uint8_t *text, size_t text_len, uint8_t *room,

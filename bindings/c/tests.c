@@ -1025,11 +1025,6 @@ static void bounds_are_enough(void) {
     CHECK(textwrap_wrap_room_bound(2, &o) == 6);
     CHECK(textwrap_wrap(bytes("ab"), 2, &o, lines, 3, &count, room, 6, &len) == TEXTWRAP_DONE);
     CHECK(count == 3 && len == 6);
-    CHECK(textwrap_indent_bound(2, 1) == 4);
-    CHECK(textwrap_indent(bytes("\n\n"), 2, bytes("#"), 1, room, 4, &len) == TEXTWRAP_DONE);
-    CHECK(len == 4 && memcmp(room, "#\n#\n", 4) == 0);
-    CHECK(textwrap_dedent_bound(5) == 5);
-    CHECK(textwrap_dedent(bytes("a\n b\n"), 5, room, 5, &len) == TEXTWRAP_DONE && len == 5);
     textwrap_gaps gaps = textwrap_gaps_new(text_of(""), text_of(""), text_of(""));
     o = textwrap_options_new(2);
     CHECK(textwrap_wrap_columns_rows_bound(3, 2) == 2);
@@ -1037,10 +1032,6 @@ static void bounds_are_enough(void) {
     CHECK(textwrap_wrap_columns(bytes("\n\n\n"), 3, 2, &o, &gaps, lines, 2, &count, room, 7, &len)
           == TEXTWRAP_DONE);
     CHECK(count == 2 && len == 4);
-    textwrap_layout layout;
-    CHECK(textwrap_unfill_bound(4) == 8);
-    CHECK(textwrap_unfill(bytes("\n > "), 4, room, 8, &len, &layout) == TEXTWRAP_DONE);
-    CHECK(len == 6 && memcmp(room, " >  > ", 6) == 0);
 }
 
 /* Of arrays of length 0 a null pointer does for each argument of each call. */
@@ -1060,7 +1051,6 @@ static void a_pointer_to_nothing_may_be_null(void) {
     CHECK(textwrap_fill(NULL, 0, &o, NULL, 0, &len) == TEXTWRAP_DONE && len == 0);
     CHECK(textwrap_fill(bytes("foo"), 3, &o, NULL, 0, &len) == TEXTWRAP_TOO_SMALL && len == 3);
     CHECK(textwrap_fill_bound(3, &o) == 6);
-    CHECK(textwrap_refill_bound(3, &o) == 18);
     CHECK(textwrap_wrap(NULL, 0, &o, line, 1, &count, NULL, 0, &len) == TEXTWRAP_DONE && count == 1);
     CHECK(textwrap_wrap(NULL, 0, &o, NULL, 0, &count, NULL, 0, &len) == TEXTWRAP_TOO_SMALL);
     CHECK(textwrap_wrap_room_bound(3, &o) == 0);

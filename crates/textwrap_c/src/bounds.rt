@@ -2,11 +2,9 @@
 //! room at the first call. A bound that no number holds is `usize::MAX`.
 ghost use Rattle.std.specs.Prelude.{◌≡◌, ◌≤◌, ◌+◌, ◌-◌, ◌*◌, length};
 ghost use Rattle.textwrap.specs.Filling.{IsFilled};
-ghost use Rattle.textwrap.specs.Indentation.{dedented, indented};
-ghost use Rattle.textwrap.specs.Refilling.{IsRefilled, unfilled_parts};
 ghost use Rattle.textwrap_calls.specs.Bounds.{ForLinesOf, ForTextsOf, HoldsEach, Suffices, as_len};
-ghost use Rattle.textwrap_calls.specs.Bounds.{ForRowsOf, columns_room_bound, fill_bound, indent_bound};
-ghost use Rattle.textwrap_calls.specs.Bounds.{refill_bound, rows_bound, wrap_room_bound};
+ghost use Rattle.textwrap_calls.specs.Bounds.{ForRowsOf, columns_room_bound, fill_bound};
+ghost use Rattle.textwrap_calls.specs.Bounds.{rows_bound, wrap_room_bound};
 ghost use Rattle.textwrap_calls.specs.Options.{settings_of, Divides};
 ghost use Rattle.textwrap_calls.specs.declared.columns.TextwrapGaps.{TextwrapGaps};
 ghost use Rattle.textwrap_calls.specs.declared.options.TextwrapOptions.{TextwrapOptions};
@@ -25,16 +23,6 @@ pub extern "C" fn textwrap_fill_bound(text_len: usize, options: &TextwrapOptions
         text) result) }
 {
     bounds::textwrap_fill_bound(text_len, options)
-}
-
-/// Exports [`textwrap_calls::bounds::textwrap_refill_bound`].
-#[unsafe(no_mangle)]
-pub extern "C" fn textwrap_refill_bound(text_len: usize, options: &TextwrapOptions<'_>) -> usize
-    ensures value { result ≡ as_len (refill_bound (settings_of options.now) text_len) }
-    ensures enough { ForTextsOf text_len (λ text. HoldsEach (IsRefilled (settings_of options.now)
-        (Divides options.now) text) result) }
-{
-    bounds::textwrap_refill_bound(text_len, options)
 }
 
 /// Exports [`textwrap_calls::bounds::textwrap_wrap_lines_bound`].
@@ -81,32 +69,4 @@ pub extern "C" fn textwrap_wrap_columns_room_bound(
         columns text (λ rows. Suffices result (length (built_text rows)))) }
 {
     bounds::textwrap_wrap_columns_room_bound(text_len, columns, options, gaps)
-}
-
-/// Exports [`textwrap_calls::bounds::textwrap_indent_bound`].
-#[unsafe(no_mangle)]
-pub extern "C" fn textwrap_indent_bound(text_len: usize, prefix_len: usize) -> usize
-    ensures value { result ≡ as_len (indent_bound text_len prefix_len) }
-    ensures enough { ForTextsOf prefix_len (λ prefix. ForTextsOf text_len (λ text.
-        Suffices result (length (indented prefix text)))) }
-{
-    bounds::textwrap_indent_bound(text_len, prefix_len)
-}
-
-/// Exports [`textwrap_calls::bounds::textwrap_dedent_bound`].
-#[unsafe(no_mangle)]
-pub extern "C" fn textwrap_dedent_bound(text_len: usize) -> usize
-    ensures value { result ≡ text_len }
-    ensures enough { ForTextsOf text_len (λ text. length (dedented text) ≤ result) }
-{
-    bounds::textwrap_dedent_bound(text_len)
-}
-
-/// Exports [`textwrap_calls::bounds::textwrap_unfill_bound`].
-#[unsafe(no_mangle)]
-pub extern "C" fn textwrap_unfill_bound(text_len: usize) -> usize
-    ensures value { result ≡ as_len (2 * text_len) }
-    ensures enough { ForTextsOf text_len (λ text. Suffices result (length (unfilled_parts text))) }
-{
-    bounds::textwrap_unfill_bound(text_len)
 }

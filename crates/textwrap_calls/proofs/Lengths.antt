@@ -2,13 +2,11 @@ pub mod Bytes
 pub mod Columns
 pub mod Dedented
 pub mod Filled
-pub mod Indented
 pub mod Joined
 pub mod Limit
 pub mod Lines
 pub mod Paragraphs
 pub mod Pieces
-pub mod Refilled
 pub mod Room
 pub mod Rows
 pub mod Split

@@ -49,20 +49,11 @@ fill_bound settings len =
     length settings.initial_indent
     + len * (1 + length settings.subsequent_indent + length (ending_bytes settings.line_ending))
 
--- each byte on a line of its own, after an ending and an indent; no indent of the text is longer than
--- the text
-abbrev pub refill_bound : Settings → ℕ → ℕ
-refill_bound settings len = len * (2 + len + length (ending_bytes settings.line_ending))
-
 -- the lines that have an indent, each byte on a line of its own; without indents there are none
 abbrev pub wrap_room_bound : Settings → ℕ → ℕ
 wrap_room_bound settings len =
     if (length settings.initial_indent == 0) && (length settings.subsequent_indent == 0) then 0
     else length settings.initial_indent + len * (1 + length settings.subsequent_indent)
-
--- each byte on a line of its own, after the prefix
-abbrev pub indent_bound : ℕ → ℕ → ℕ
-indent_bound len prefix_len = len * (1 + prefix_len)
 
 -- each byte on a line of its own, and one line before them, in so many columns; without columns
 -- there are none

@@ -2,11 +2,9 @@
 //! room at the first call. A bound that no number holds is `usize::MAX`.
 ghost use Rattle.std.specs.Prelude.{◌≡◌, ◌≤◌, ◌+◌, ◌-◌, ◌*◌, max, length};
 ghost use Rattle.textwrap.specs.Filling.{IsFilled};
-ghost use Rattle.textwrap.specs.Indentation.{dedented, indented};
-ghost use Rattle.textwrap.specs.Refilling.{IsRefilled, unfilled_parts};
 ghost use Rattle.textwrap_calls.specs.Bounds.{ForLinesOf, ForTextsOf, HoldsEach, Suffices, as_len};
-ghost use Rattle.textwrap_calls.specs.Bounds.{ForRowsOf, columns_room_bound, fill_bound, indent_bound};
-ghost use Rattle.textwrap_calls.specs.Bounds.{refill_bound, rows_bound, wrap_room_bound};
+ghost use Rattle.textwrap_calls.specs.Bounds.{ForRowsOf, columns_room_bound, fill_bound};
+ghost use Rattle.textwrap_calls.specs.Bounds.{rows_bound, wrap_room_bound};
 ghost use Rattle.textwrap_calls.specs.Options.{settings_of, Divides};
 ghost use Rattle.textwrap_calls.specs.declared.columns.TextwrapGaps.{TextwrapGaps};
 ghost use Rattle.textwrap_calls.specs.declared.options.TextwrapOptions.{TextwrapOptions};
@@ -29,19 +27,6 @@ pub fn textwrap_fill_bound(text_len: usize, options: &TextwrapOptions<'_>) -> us
     text_len
         .saturating_mul(line)
         .saturating_add(options.initial_indent.len())
-}
-
-/// How many bytes `textwrap_refill` writes at most for a text of so many bytes: 40 for a text of 5. It
-/// grows with the square of the length, as an indent of the text may be half of it, and stand before
-/// each byte of the other half. So two calls are cheaper for a long text.
-pub fn textwrap_refill_bound(text_len: usize, options: &TextwrapOptions<'_>) -> usize
-    ensures value { result ≡ as_len (refill_bound (settings_of options.now) text_len) }
-    ensures enough { ForTextsOf text_len (λ text. HoldsEach (IsRefilled (settings_of options.now)
-        (Divides options.now) text) result) }
-{
-    // The ending before each byte, the byte, and one of the initial indent; the rest is the later one.
-    let beside_indent: usize = if options.crlf == 0 { 3 } else { 4 };
-    text_len.saturating_mul(text_len.saturating_add(beside_indent))
 }
 
 /// How many lines `textwrap_wrap` reports at most of a text of so many bytes, under any options: one
@@ -120,31 +105,4 @@ fn bytes_and_indents(text_len: usize, options: &TextwrapOptions<'_>) -> usize
     text_len
         .saturating_mul(line)
         .saturating_add(options.initial_indent.len())
-}
-
-/// How many bytes `textwrap_indent` writes at most for a text and a prefix of so many bytes: 15 for 5
-/// and 2.
-pub fn textwrap_indent_bound(text_len: usize, prefix_len: usize) -> usize
-    ensures value { result ≡ as_len (indent_bound text_len prefix_len) }
-    ensures enough { ForTextsOf prefix_len (λ prefix. ForTextsOf text_len (λ text.
-        Suffices result (length (indented prefix text)))) }
-{
-    text_len.saturating_mul(prefix_len.saturating_add(1))
-}
-
-/// How many bytes `textwrap_dedent` writes at most for a text of so many bytes: no more.
-pub fn textwrap_dedent_bound(text_len: usize) -> usize
-    ensures value { result ≡ text_len }
-    ensures enough { ForTextsOf text_len (λ text. length (dedented text) ≤ result) }
-{
-    text_len
-}
-
-/// How many bytes `textwrap_unfill` writes at most for a text of so many bytes, the indents among them:
-/// twice as many. Of 10 for a line feed and four blanks, it writes 8.
-pub fn textwrap_unfill_bound(text_len: usize) -> usize
-    ensures value { result ≡ as_len (2 * text_len) }
-    ensures enough { ForTextsOf text_len (λ text. Suffices result (length (unfilled_parts text))) }
-{
-    text_len.saturating_mul(2)
 }

@@ -67,7 +67,7 @@ lines-each (part ∷ next ∷ parts) utf8 =
     (strip-utf8 part (All-head IsUtf8 part (next ∷ parts) utf8))
     (lines-each (next ∷ parts) (All-tail IsUtf8 part (next ∷ parts) utf8))
 
-pub lines-utf8 : (text : List ℕ) → IsUtf8 text → All IsUtf8 (lines text)
+lines-utf8 : (text : List ℕ) → IsUtf8 text → All IsUtf8 (lines text)
 lines-utf8 text utf8 =
     lines-each (slice_split is_feed text)
     (subst (All IsUtf8) (sym (parts-are text)) (paragraphs_of-utf8 LF text utf8))

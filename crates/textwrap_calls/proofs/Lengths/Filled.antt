@@ -45,7 +45,7 @@ joined-length settings ending indent p (q ∷ parts) within are none =
 -- ---- the filled text
 
 -- a filled text is no longer than its bound
-pub filled-bound : (settings : Settings) (separator : PlainSeparator) (splitter : Splitter)
+filled-bound : (settings : Settings) (separator : PlainSeparator) (splitter : Splitter)
     (algorithm : Algorithm)
     (text filled : List ℕ) → IsUtf8 text
     → IsFilled settings (DividesAt (words_by separator) splitter algorithm settings) text filled

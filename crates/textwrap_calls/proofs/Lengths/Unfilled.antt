@@ -1,7 +1,7 @@
 -- How long an unfilled text is at most, with its ending and its indents.
 use Rattle.textwrap_base.proofs.Common.{◌≡◌, ℕ, ◌+◌, ◌-◌, ◌*◌, ◌≤◌, ◌==◌, Bool, true, false}
 use Rattle.textwrap_base.proofs.Common.{cond, List, [], ◌∷◌, ◌++◌, length, map, drop, refl, sym}
-use Rattle.textwrap_base.proofs.Common.{ap, ◌∙◌, subst, arith, sum_by-cons, All-head, StartsWith}
+use Rattle.textwrap_base.proofs.Common.{ap, ◌∙◌, arith, sum_by-cons, All-head, StartsWith}
 use Rattle.textwrap_base.proofs.Common.{length-append, lines, last, ends_with, nat_eq}
 use Rattle.textwrap_base.proofs.Common.{starts_with_length}
 use Rattle.std.specs.Prelude.{is_some, slice_index_or}
@@ -19,10 +19,8 @@ use Rattle.textwrap.specs.Refilling.{added_ending, unfilled_ending}
 use Rattle.textwrap.specs.Refilling.{unfilled_text, detected_ending}
 use Rattle.textwrap.proofs.Text.CommonPrefixes.{common_prefix-begins}
 use Rattle.textwrap.proofs.Text.Prefixes.{line_prefix-begins}
-use Rattle.textwrap_calls.specs.Bounds.{as_len, ForTextsOf, Suffices}
 use Rattle.textwrap.specs.Refilling.{unfilled_parts}
 use Rattle.textwrap_calls.proofs.Lengths.TextLines.{ended_length, final_feed, lines-length, feed-within}
-use Rattle.textwrap_calls.proofs.Lengths.Limit.{within-limit}
 use Rattle.textwrap_calls.proofs.Lengths.Joined.{one_more, joined-length}
 
 -- ---- its ending
@@ -47,7 +45,7 @@ ending-length LF = omega arith
 ending-length CRLF = omega arith
 
 -- an ending is added only to a text that ends in a line feed
-pub added-length : (text : List ℕ) (detects : Bool) (ending other : LineEnding)
+added-length : (text : List ℕ) (detects : Bool) (ending other : LineEnding)
     → length (added_ending (detects && ends_with nat_eq text (ending_bytes ending)) other)
     ≤ length (ending_bytes other) * final_feed text
 added-length text false ending other = omega arith
@@ -62,7 +60,7 @@ added-length text true ending other =
 prefix-length : (line : List ℕ) → length (line_prefix line) ≤ length line
 prefix-length line = starts_with_length line (line_prefix line) (line_prefix-begins line)
 
-pub indents-length : (ls : List (List ℕ))
+indents-length : (ls : List (List ℕ))
     → length (line_prefix (slice_index_or ls 0 []))
     + length (common_prefix (map line_prefix (drop 1 ls))) ≤ ended_length ls - 1
 indents-length [] = omega arith
@@ -103,9 +101,3 @@ unfilled-length text =
       length-append (unfilled_text text) initial,
       length-append (unfilled_text text ++ initial) subsequent,
     )
-
-pub unfilled-fits : (len bound : ℕ) → bound ≡ as_len (2 * len)
-    → ForTextsOf len (λ text. Suffices bound (length (unfilled_parts text)))
-unfilled-fits len bound is text utf8 len_is =
-    within-limit (length (unfilled_parts text)) (2 * len) bound
-    (subst (λ n. length (unfilled_parts text) ≤ 2 * n) len_is (unfilled-length text)) is

@@ -5,8 +5,7 @@ use super::plain::{
 };
 use std::process::Abort;
 use textwrap_calls::bounds::{
-    textwrap_dedent_bound, textwrap_fill_bound, textwrap_indent_bound, textwrap_refill_bound,
-    textwrap_unfill_bound, textwrap_wrap_columns_room_bound, textwrap_wrap_columns_rows_bound,
+    textwrap_fill_bound, textwrap_wrap_columns_room_bound, textwrap_wrap_columns_rows_bound,
     textwrap_wrap_lines_bound, textwrap_wrap_room_bound,
 };
 use textwrap_calls::options::TextwrapOptions;
@@ -17,18 +16,6 @@ const MOST: usize = 160;
 
 /// How many lines the longest row has.
 const MOST_LINES: usize = 16;
-
-/// The bound of a call for a text of so many bytes, if there is one.
-fn text_bound(call: TextCall<'_>, text_len: usize) -> usize {
-    match call {
-        TextCall::Fill(options) => textwrap_fill_bound(text_len, &options),
-        TextCall::Refill(options) => textwrap_refill_bound(text_len, &options),
-        TextCall::Unfill => textwrap_unfill_bound(text_len),
-        TextCall::Indent(prefix) => textwrap_indent_bound(text_len, prefix.len()),
-        TextCall::Dedent => textwrap_dedent_bound(text_len),
-        _ => BEFORE,
-    }
-}
 
 /// The bounds of the lines and of the room of a call for a text of so many bytes, if there are any.
 fn lines_bounds(call: LinesCall<'_>, text_len: usize) -> (usize, usize) {
@@ -49,55 +36,31 @@ fn lines_bounds(call: LinesCall<'_>, text_len: usize) -> (usize, usize) {
     }
 }
 
-/// A call and a text; how long the answer is, and its bound.
-type TextRow = (TextCall<'static>, &'static [u8], usize, usize);
-
 /// The same with CRLF, which takes a byte more a line.
 const NARROW_CRLF: TextwrapOptions<'_> = TextwrapOptions { crlf: 1, ..NARROW };
 
-const FILLED: &[TextRow] = &[
-    (TextCall::Fill(DEFAULTS), b"", 0, 0),
-    (TextCall::Fill(DEFAULTS), b"\n", 1, 2),
-    (TextCall::Fill(DEFAULTS), HAMLET, 41, 82),
-    (TextCall::Fill(NARROW), b"", 2, 2),
-    (TextCall::Fill(NARROW), b"ab", 8, 8),
-    (TextCall::Fill(NARROW_CRLF), b"ab", 10, 10),
-    (TextCall::Fill(NARROW), b"ab\nc", 13, 14),
+/// Options and a text; how long the filled text is, and its bound.
+const FILLED: &[(TextwrapOptions<'_>, &[u8], usize, usize)] = &[
+    (DEFAULTS, b"", 0, 0),
+    (DEFAULTS, b"\n", 1, 2),
+    (DEFAULTS, HAMLET, 41, 82),
+    (NARROW, b"", 2, 2),
+    (NARROW, b"ab", 8, 8),
+    (NARROW_CRLF, b"ab", 10, 10),
+    (NARROW, b"ab\nc", 13, 14),
 ];
-
-const REFILLED: &[TextRow] = &[
-    (TextCall::Refill(DEFAULTS), b"", 0, 0),
-    (TextCall::Refill(DEFAULTS), b"ab\n", 3, 18),
-    (TextCall::Refill(NARROW), b"a\n>>>>bcd", 19, 108),
-    (TextCall::Refill(NARROW_CRLF), b"a\n>>>>bcd\n", 24, 140),
-];
-
-const OTHERS: &[TextRow] = &[
-    (TextCall::Unfill, b"", 0, 0),
-    (TextCall::Unfill, b"foo\n", 4, 8),
-    (TextCall::Unfill, b"\n > ", 6, 8),
-    (TextCall::Unfill, b"\r\n >\r\n", 6, 12),
-    (TextCall::Indent(b"#"), b"\n\n", 4, 4),
-    (TextCall::Dedent, b"a\n b\n", 5, 5),
-];
-
-/// Asserts that each answer has its bound, and is written where there is so much room.
-fn assert_bounds(rt: &(impl Abort + AllocGlobal), rows: &[TextRow]) {
-    for (row, &(call, text, len, bound)) in rows.iter().enumerate() {
-        assert_told(rt, row, (DONE, text_bound(call, text.len())), (DONE, bound));
-        let mut room = [BLANK; MOST];
-        let mut told = BEFORE;
-        let room = &mut room[..bound.min(MOST)];
-        let status = write_text(rt.alloc(), call, text, room, &mut told);
-        assert_told(rt, row, (status, told), (DONE, len));
-    }
-}
 
 #[test]
 fn a_text_is_no_longer_than_its_bound(rt: HostRuntime) {
-    assert_bounds(&rt, FILLED);
-    assert_bounds(&rt, REFILLED);
-    assert_bounds(&rt, OTHERS);
+    for (row, &(options, text, len, bound)) in FILLED.iter().enumerate() {
+        let most = textwrap_fill_bound(text.len(), &options);
+        assert_told(&rt, row, (DONE, most), (DONE, bound));
+        let mut room = [BLANK; MOST];
+        let mut told = BEFORE;
+        let room = &mut room[..bound.min(MOST)];
+        let status = write_text(rt.alloc(), TextCall::Fill(options), text, room, &mut told);
+        assert_told(&rt, row, (status, told), (DONE, len));
+    }
 }
 
 /// A call and a text; how many lines it has, and their bound; how much room they take, and its bound.
@@ -148,21 +111,20 @@ fn bounds_count_rows_and_gaps(rt: HostRuntime) {
     );
 }
 
-/// Calls and lengths of texts; their bounds. One that no number holds is the greatest.
-const GREATEST: &[(TextCall<'_>, usize, usize)] = &[
-    (TextCall::Fill(DEFAULTS), usize::MAX / 2 + 1, usize::MAX),
-    (TextCall::Fill(DEFAULTS), usize::MAX / 2, usize::MAX - 1),
-    (TextCall::Unfill, usize::MAX, usize::MAX),
+/// Lengths of texts, and the bounds of these filled. One that no number holds is the greatest.
+const GREATEST: &[(usize, usize)] = &[
+    (usize::MAX / 2 + 1, usize::MAX),
+    (usize::MAX / 2, usize::MAX - 1),
 ];
 
 #[test]
 fn a_bound_that_no_number_holds_is_the_greatest(rt: HostRuntime) {
-    for (row, &(call, text_len, bound)) in GREATEST.iter().enumerate() {
-        assert_told(&rt, row, (DONE, text_bound(call, text_len)), (DONE, bound));
+    for (row, &(text_len, bound)) in GREATEST.iter().enumerate() {
+        let most = textwrap_fill_bound(text_len, &DEFAULTS);
+        assert_told(&rt, row, (DONE, most), (DONE, bound));
     }
     let narrow = lines_bounds(LinesCall::Wrap(NARROW), usize::MAX);
     assert_eq!(rt; narrow, (usize::MAX, usize::MAX));
     assert_eq!(rt; textwrap_wrap_room_bound(usize::MAX, &DEFAULTS), 0);
-    assert_eq!(rt; textwrap_indent_bound(usize::MAX, usize::MAX), usize::MAX);
     assert_eq!(rt; textwrap_wrap_columns_rows_bound(usize::MAX, 1), usize::MAX);
 }

@@ -1,6 +1,7 @@
 //! Texts that are written into room: as they are filled, indented and made for display.
 use super::plain::{
-    AT_5, AT_6, BEFORE, BLANK, DEFAULTS, HAMLET, TextCall, assert_room, assert_told, write_text,
+    AT_5, AT_6, BEFORE, BLANK, DEFAULTS, HAMLET, NARROW, TextCall, assert_room, assert_told,
+    write_text,
 };
 use std::process::Abort;
 use textwrap_calls::options::TextwrapOptions;
@@ -346,6 +347,14 @@ const INDENTED: &[TextRow] = &[
         10,
         b"* foo bar\n______",
     ),
+    // Each later line has the indent of the second one, and each ends in CRLF.
+    (
+        TextCall::Refill(TextwrapOptions { crlf: 1, ..NARROW }),
+        b"a\n>>>>bcd\n",
+        DONE,
+        24,
+        b"a\r\n>>>>b\r\n>>>>c\r\n>>>>d\r\n",
+    ),
     (
         TextCall::Indent(b"> "),
         b"a\n\nb\n",
@@ -353,6 +362,7 @@ const INDENTED: &[TextRow] = &[
         10,
         b"> a\n>\n> b\n______",
     ),
+    (TextCall::Indent(b"#"), b"\n\n", DONE, 4, b"#\n#\n"),
     (
         TextCall::Dedent,
         b"  a\n    b\n",
@@ -362,8 +372,8 @@ const INDENTED: &[TextRow] = &[
     ),
 ];
 
-/// The unfilled text with its indents, in as much room as its bound says. In the third the second line
-/// is joined whole, as it is the first that is not empty, and is the later indent too.
+/// The unfilled text with its indents, in twice the room of the text. In the third the second line is
+/// joined whole, as it is the first that is not empty, and is the later indent too.
 const UNFILLED: &[TextRow] = &[
     (TextCall::Unfill, b"", DONE, 0, b""),
     (TextCall::Unfill, b"foo\n", DONE, 4, b"foo\n____"),

@@ -16,18 +16,17 @@ use alloc::vec::Vec;
 type Result<T> = core::result::Result<T, OutOfMemory>;
 
 /// The filled text.
-#[cold]
 pub(crate) fn filled(text: &str, options: Options<'_>) -> Result<String> {
     let (found, with) = (steps_of(text, &options)?, options.to_sys());
     let steps = mapped(&found, Steps::to_sys)?;
-    text_by!(guess::filled(text, &with), textwrap_fill_at(text, steps; &with))
+    text_by!(guess::filled(text, 8, &with), textwrap_fill_at(text, steps; &with))
 }
 
 /// The filled text, with all lines but the last of each paragraph justified after their indents.
 pub(crate) fn justified(text: &str, options: &Options<'_>) -> Result<String> {
     let (found, with) = (steps_of(text, options)?, options.to_sys());
     let steps = mapped(&found, Steps::to_sys)?;
-    text_by!(guess::justified(text, &with), textwrap_fill_justified_at(text, steps; &with))
+    text_by!(guess::filled(text, 2, &with), textwrap_fill_justified_at(text, steps; &with))
 }
 
 /// The lines of the text.

@@ -41,7 +41,7 @@ where
         return custom::filled(text, options);
     }
     let with = options.to_sys();
-    text_by!(guess::filled(text, &with), textwrap_fill(text; &with))
+    text_by!(guess::filled(text, 8, &with), textwrap_fill(text; &with))
 }
 
 /// [`crate::refill`].

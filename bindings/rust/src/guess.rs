@@ -34,21 +34,16 @@ pub(crate) fn with_more(bytes: usize, lines: usize, more: usize) -> usize {
     lines.saturating_mul(more).saturating_add(bytes)
 }
 
-/// The bytes of a filled text. Line endings mostly come in the place of blanks, so few are added, and
-/// lines matter only if indents stand before them.
+/// The bytes of a filled text that grows by one in so many. Line endings mostly come in the place of
+/// blanks, so it grows little, and by hardly ever more than half if it is justified. Lines matter only
+/// if indents stand before them.
 #[inline]
-pub(crate) fn filled(text: &str, options: &sys::Options) -> usize {
-    let bytes = text.len() + text.len() / 16 + options.initial_indent.len;
+pub(crate) fn filled(text: &str, one_in: usize, options: &sys::Options) -> usize {
+    let bytes = text.len() + text.len() / one_in + options.initial_indent.len;
     match options.subsequent_indent.len {
         0 => bytes,
         indent => with_more(bytes, lines(text, options.width), indent),
     }
-}
-
-/// The bytes of a filled text whose lines are justified. The blanks that are added are hardly ever more
-/// than half of the bytes.
-pub(crate) fn justified(text: &str, options: &sys::Options) -> usize {
-    filled(text, options).saturating_add(text.len() / 2)
 }
 
 /// The lines of a text, and the bytes of those that are texts of their own because they have an indent.
@@ -74,6 +69,6 @@ pub(crate) fn table<S: AsRef<str>>(
     let lines_of = |(cell, width): (&S, usize)| lines(cell.as_ref(), width);
     let height = |row: &[S]| row.iter().zip(widths.clone()).map(lines_of).max().unwrap_or(0);
     let rows = cells.chunks(columns.len()).map(height).fold(0, usize::saturating_add);
-    let row_len = widths.clone().fold(gaps.bytes_in(columns.len()), usize::saturating_add);
+    let row_len = widths.fold(gaps.bytes_in(columns.len()), usize::saturating_add);
     (rows, with_more(bytes_of(cells, 0), rows, row_len))
 }

@@ -55,7 +55,7 @@ fn justified(text: &str, options: &Options<'_>) -> Result<String, OutOfMemory> {
         return custom::justified(text, options);
     }
     let with = options.to_sys();
-    text_by!(guess::justified(text, &with), textwrap_fill_justified(text; &with))
+    text_by!(guess::filled(text, 2, &with), textwrap_fill_justified(text; &with))
 }
 
 /// [`crate::display::shorten`].

@@ -38,13 +38,14 @@ pub(crate) fn wrapped<'t>(text: &'t str, options: &Options<'_>) -> Result<Vec<Co
 }
 
 /// The filled text, filled again with the indents that it has.
-pub(crate) fn refilled(filled_text: &str, options: &Options<'_>) -> Result<String> {
+pub(crate) fn refilled(filled_text: &str, options: Options<'_>) -> Result<String> {
     let (text, found) = unfill(filled_text)?;
     let joined = text.strip_suffix(found.line_ending.as_str());
+    let ending = joined.map_or("", |_| options.line_ending.as_str());
     let Options { initial_indent, subsequent_indent, .. } = found;
-    let with = Options { initial_indent, subsequent_indent, ..options.clone() };
+    let with = Options { initial_indent, subsequent_indent, ..options };
     let mut refilled = filled(joined.unwrap_or(&text), with)?;
-    push(&mut refilled, joined.map_or("", |_| options.line_ending.as_str()))?;
+    push(&mut refilled, ending)?;
     Ok(refilled)
 }
 

@@ -52,20 +52,19 @@ where
 /// # Panics
 /// If a function of the caller, in the options, panics or
 /// [gives what it must not](Options#functions-of-the-caller).
+#[inline]
 pub fn refill<'a, Opt>(filled_text: &str, new_width_or_options: Opt) -> Result<String, OutOfMemory>
 where
     Opt: Into<Options<'a>>,
 {
-    refilled(filled_text, &new_width_or_options.into())
-}
-
-/// The same by borrowed options. What does not depend on their type is compiled once, and here.
-fn refilled(text: &str, options: &Options<'_>) -> Result<String, OutOfMemory> {
+    // As in `fill`.
+    let options = new_width_or_options.into();
     if options.has_function() {
-        return custom::refilled(text, options);
+        return custom::refilled(filled_text, options);
     }
     // The indents of the text may be shown more often than in it.
-    text_by!(text.len() + text.len() / 4, textwrap_refill(text; &options.to_sys()))
+    let guess = filled_text.len() + filled_text.len() / 4;
+    text_by!(guess, textwrap_refill(filled_text; &options.to_sys()))
 }
 
 /// [`crate::indent`].
@@ -149,7 +148,7 @@ where
     wrapped(text, &width_or_options.into())
 }
 
-/// The same by borrowed options.
+/// The same by borrowed options. What does not depend on their type is compiled once, and here.
 pub(crate) fn wrapped<'t>(
     text: &'t str,
     options: &Options<'_>,

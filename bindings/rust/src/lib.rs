@@ -291,6 +291,7 @@ where
 /// assert_eq!(refill(mail, 16), "> Shall we meet\n> at noon or at\n> one?\n");
 /// assert_eq!(refill("- a pound of\n  flour\n", 20), "- a pound of flour\n");
 /// ```
+#[inline]
 pub fn refill<'a, Opt>(filled_text: &str, new_width_or_options: Opt) -> String
 where
     Opt: Into<Options<'a>>,

@@ -25,7 +25,7 @@
 //! assert_eq!(texts, [vec!["A", "foo-"], vec!["bar,"], vec!["unbrea"], vec!["kable"]]);
 //! ```
 use crate::out_of_memory::{or_abort, OutOfMemory};
-use crate::room::{list_by, text_by};
+use crate::room::{list_by, text_by, value_by};
 use crate::sys;
 use alloc::string::String;
 use alloc::vec::Vec;
@@ -49,11 +49,7 @@ use core::ops::Deref;
 /// assert_eq!(display_width("你好"), 4);
 /// ```
 pub fn display_width(text: &str) -> usize {
-    let mut columns = 0;
-    // SAFETY: a pointer and a length of one text, and a number that nothing else borrows.
-    let status = unsafe { sys::textwrap_display_width(text.as_ptr(), text.len(), &mut columns) };
-    assert_eq!(status, sys::DONE, "a str is UTF-8");
-    columns
+    value_by!(textwrap_display_width(text))
 }
 
 /// The text without its escape sequences, as those for colours and links.

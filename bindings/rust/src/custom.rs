@@ -1,57 +1,83 @@
 //! Texts in which functions of the caller take part.
 //!
 //! The functions give the words of a paragraph, their points or its lines. What they give is checked
-//! here, and the library makes the lines of it.
+//! here, and the library makes the lines of it, and the rows of these.
 use crate::core::Word;
-use crate::fallible::{push, unfill};
+use crate::display::{Column, Gaps};
+use crate::fallible::{self, unfill};
 use crate::room::{
-    lines_by, list_by, mapped, reserve, room_for, text_by, OutOfMemory, Refusal,
+    lines_by, list_by, mapped, push, reserve, room_for, text_by, texts_of, value_by,
 };
-use crate::wrap_algorithms::OverflowError;
-use crate::{guess, sys};
-use crate::{Options, WordSplitter, WrapAlgorithm};
+use crate::{guess, sys, Options, OutOfMemory, WordSplitter, WrapAlgorithm};
 use alloc::borrow::Cow;
 use alloc::string::String;
 use alloc::vec::Vec;
 
+type Result<T> = core::result::Result<T, OutOfMemory>;
+
 /// The filled text.
-pub(crate) fn filled(text: &str, options: &Options<'_>) -> Result<String, OutOfMemory> {
-    let found = steps_of(text, options)?;
+pub(crate) fn filled(text: &str, options: Options<'_>) -> Result<String> {
+    let (found, with) = (steps_of(text, &options)?, options.to_sys());
     let steps = mapped(&found, Steps::to_sys)?;
-    text_by!(guess::filled(text, options), textwrap_fill_at(text, steps; &options.to_sys()))
+    text_by!(guess::filled(text, 8, &with), textwrap_fill_at(text, steps; &with))
 }
 
 /// The filled text, with all lines but the last of each paragraph justified after their indents.
-pub(crate) fn justified(text: &str, options: &Options<'_>) -> Result<String, OutOfMemory> {
-    let found = steps_of(text, options)?;
+pub(crate) fn justified(text: &str, options: &Options<'_>) -> Result<String> {
+    let (found, with) = (steps_of(text, options)?, options.to_sys());
     let steps = mapped(&found, Steps::to_sys)?;
-    let guess = guess::justified(text, options);
-    text_by!(guess, textwrap_fill_justified_at(text, steps; &options.to_sys()))
+    text_by!(guess::filled(text, 2, &with), textwrap_fill_justified_at(text, steps; &with))
 }
 
 /// The lines of the text.
-pub(crate) fn wrapped<'t>(
-    text: &'t str,
-    options: &Options<'_>,
-) -> Result<Vec<Cow<'t, str>>, OutOfMemory> {
-    let found = steps_of(text, options)?;
+pub(crate) fn wrapped<'t>(text: &'t str, options: &Options<'_>) -> Result<Vec<Cow<'t, str>>> {
+    let (found, with) = (steps_of(text, options)?, options.to_sys());
     let steps = mapped(&found, Steps::to_sys)?;
-    let lines = found.iter().map(|steps| steps.ends.len()).sum();
-    let bytes = guess::built(text, options, lines);
-    lines_by!(lines, bytes, textwrap_wrap_at(text, steps; &options.to_sys()))?.cows(text)
+    let (lines, bytes) = guess::wrapped(text, &with);
+    lines_by!(lines, bytes, textwrap_wrap_at(text, steps; &with))?.cows(text)
 }
 
 /// The filled text, filled again with the indents that it has.
-pub(crate) fn refilled(filled_text: &str, options: &Options<'_>) -> Result<String, OutOfMemory> {
+pub(crate) fn refilled(filled_text: &str, options: Options<'_>) -> Result<String> {
     let (text, found) = unfill(filled_text)?;
     let joined = text.strip_suffix(found.line_ending.as_str());
+    let ending = joined.map_or("", |_| options.line_ending.as_str());
     let Options { initial_indent, subsequent_indent, .. } = found;
-    let options = Options { initial_indent, subsequent_indent, ..options.clone() };
-    let mut refilled = filled(joined.unwrap_or(&text), &options)?;
-    if joined.is_some() {
-        push(&mut refilled, options.line_ending.as_str())?;
-    }
+    let with = Options { initial_indent, subsequent_indent, ..options };
+    let mut refilled = filled(joined.unwrap_or(&text), with)?;
+    push(&mut refilled, ending)?;
     Ok(refilled)
+}
+
+/// The rows of the text in columns. There is a column.
+pub(crate) fn columns(
+    text: &str,
+    columns: usize,
+    options: &Options<'_>,
+    gaps: &Gaps<'_>,
+) -> Result<Vec<String>> {
+    let (width, around) = (options.width, gaps.to_sys());
+    let column_width = value_by!(textwrap_column_width(; width, columns, &around));
+    let wrapped = wrapped(text, &options.clone().width(column_width))?;
+    let lines = texts_of(&wrapped)?;
+    lines_by!(0, 0, textwrap_rows_of_lines(lines; columns, width, &around))?.texts()
+}
+
+/// The rows of a table. There is a column.
+pub(crate) fn table<S: AsRef<str>>(
+    cells: &[S],
+    columns: &[Column<'_>],
+    gaps: &Gaps<'_>,
+) -> Result<Vec<String>> {
+    let (mut lines, mut texts) = (room_for(cells.len())?, room_for(cells.len())?);
+    for (cell, column) in cells.iter().zip(columns.iter().cycle()) {
+        let wrapped = fallible::wrapped(cell.as_ref(), &column.options)?;
+        texts.push(texts_of(&wrapped)?);
+        lines.push(wrapped);
+    }
+    let cells = mapped(&texts, |lines| sys::Cell::from(&lines[..]))?;
+    let columns = mapped(columns, Column::to_sys)?;
+    lines_by!(0, 0, textwrap_table_of_lines(cells, columns; &gaps.to_sys()))?.texts()
 }
 
 /// What is found of a paragraph: offsets at which it is cut into words, and at which these are split,
@@ -65,27 +91,21 @@ struct Steps {
 
 impl Steps {
     fn to_sys(&self) -> sys::Steps {
-        let Steps { cuts, points, ends } = self;
-        sys::Steps {
-            cuts: cuts.as_ptr(),
-            cuts_len: cuts.len(),
-            points: points.as_ptr(),
-            points_len: points.len(),
-            ends: ends.as_ptr(),
-            ends_len: ends.len(),
-        }
+        let [(cuts, cuts_len), (points, points_len), (ends, ends_len)] =
+            [&self.cuts, &self.points, &self.ends].map(|list| (list.as_ptr(), list.len()));
+        sys::Steps { cuts, cuts_len, points, points_len, ends, ends_len }
     }
 }
 
 /// The steps of each paragraph of a text.
-fn steps_of(text: &str, options: &Options<'_>) -> Result<Vec<Steps>, OutOfMemory> {
-    let paragraphs: Vec<sys::Paragraph> =
-        list_by!(1, textwrap_paragraphs(text; &options.to_sys()))?;
-    let mut steps: Vec<Steps> = room_for(paragraphs.len())?;
+fn steps_of(text: &str, options: &Options<'_>) -> Result<Vec<Steps>> {
+    let paragraphs = list_by!(1, textwrap_paragraphs(text; &options.to_sys()))?;
+    let mut steps = room_for(paragraphs.len())?;
     let mut is_later = false;
     for sys::Paragraph { offset, len } in paragraphs {
-        steps.push(paragraph_steps(&text[offset..offset + len], options, is_later)?);
-        is_later = is_later || steps.last().is_some_and(|found| !found.ends.is_empty());
+        let found = paragraph_steps(&text[offset..offset + len], options, is_later)?;
+        is_later = is_later || !found.ends.is_empty();
+        steps.push(found);
     }
     Ok(steps)
 }
@@ -95,18 +115,9 @@ fn steps_of(text: &str, options: &Options<'_>) -> Result<Vec<Steps>, OutOfMemory
 ///
 /// # Panics
 /// If a function gives what it must not, or a cost needs more than 128 bits.
-fn paragraph_steps(
-    text: &str,
-    options: &Options<'_>,
-    is_later: bool,
-) -> Result<Steps, OutOfMemory> {
+fn paragraph_steps(text: &str, options: &Options<'_>, is_later: bool) -> Result<Steps> {
     let (with, is_later) = (options.to_sys(), is_later.into());
-    let mut widths = sys::Widths::default();
-    // SAFETY: a text with its length, the options, and widths that nothing else borrows.
-    let status = unsafe {
-        sys::textwrap_paragraph_widths(text.as_ptr(), text.len(), &with, is_later, &mut widths)
-    };
-    debug_assert_eq!(status, sys::DONE, "texts are UTF-8, and the options are known");
+    let widths: sys::Widths = value_by!(textwrap_paragraph_widths(text; &with, is_later));
     if widths.is_whole != 0 {
         // One line. The library does not look where it ends.
         return Ok(Steps { ends: mapped(&[0], usize::clone)?, ..Steps::default() });
@@ -120,27 +131,19 @@ fn paragraph_steps(
         let words = mapped(&pieces, |piece| Word::at(text, piece))?;
         ends_between(&words, &function(&words, &[widths.first, widths.later]))?
     } else {
-        match list_by!(guess, textwrap_ends_at(text, cuts, points; &with, is_later)) {
-            Err(Refusal::Overflow) => panic!("{OverflowError}"),
-            ends => ends?,
-        }
+        list_by!(guess, textwrap_ends_at(text, cuts, points; &with, is_later))?
     };
     Ok(Steps { cuts, points, ends })
 }
 
 /// The points of the words between cuts of a paragraph.
-fn points_between(
-    cuts: &[usize],
-    text: &str,
-    splitter: &WordSplitter,
-) -> Result<Vec<usize>, OutOfMemory> {
+fn points_between(cuts: &[usize], text: &str, splitter: &WordSplitter) -> Result<Vec<usize>> {
     let mut points = Vec::new();
     let mut start = 0;
     // An empty paragraph has no word.
     let last = Some(text.len()).filter(|&len| len > 0);
     for end in cuts.iter().copied().chain(last) {
-        let word = text[start..end].trim_end_matches(' ');
-        let inside = splitter.points_inside(word)?;
+        let inside = splitter.points_inside(text[start..end].trim_end_matches(' '))?;
         reserve(&mut points, inside.len())?;
         points.extend(inside.iter().map(|point| start + point));
         start = end;
@@ -149,10 +152,7 @@ fn points_between(
 }
 
 /// Where lines of words end that a function of the caller gave.
-fn ends_between<'a>(
-    words: &[Word<'a>],
-    lines: &[&[Word<'a>]],
-) -> Result<Vec<usize>, OutOfMemory> {
+fn ends_between<'a>(words: &[Word<'a>], lines: &[&[Word<'a>]]) -> Result<Vec<usize>> {
     let mut ends = room_for(lines.len())?;
     let mut end = 0;
     for line in lines {

@@ -12,8 +12,8 @@
 //! ```
 use crate::display::Gaps;
 use crate::out_of_memory::BeforeCall;
-use crate::room::{lines_by, reserve_bytes, text_by, written};
-use crate::{columns, custom, guess, sys};
+use crate::room::{lines_by, text_by, written};
+use crate::{custom, guess, sys};
 use crate::{LineEnding, Options};
 use alloc::borrow::Cow;
 use alloc::string::String;
@@ -29,20 +29,19 @@ pub use crate::out_of_memory::OutOfMemory;
 /// # Panics
 /// If a function of the caller, in the options, panics or
 /// [gives what it must not](Options#functions-of-the-caller).
+#[inline]
 pub fn fill<'a, Opt>(text: &str, width_or_options: Opt) -> Result<String, OutOfMemory>
 where
     Opt: Into<Options<'a>>,
 {
-    filled(text, &width_or_options.into())
-}
-
-/// The same by borrowed options. What does not depend on their type is compiled once, and here.
-fn filled(text: &str, options: &Options<'_>) -> Result<String, OutOfMemory> {
+    // A short line takes so little time that it matters how the options get here. This is compiled where
+    // it is called, and lends them to nothing; so they are written to memory once, as C has them.
+    let options = width_or_options.into();
     if options.has_function() {
         return custom::filled(text, options);
     }
     let with = options.to_sys();
-    text_by!(guess::filled(text, options), textwrap_fill(text; &with))
+    text_by!(guess::filled(text, 8, &with), textwrap_fill(text; &with))
 }
 
 /// [`crate::refill`].
@@ -53,22 +52,19 @@ fn filled(text: &str, options: &Options<'_>) -> Result<String, OutOfMemory> {
 /// # Panics
 /// If a function of the caller, in the options, panics or
 /// [gives what it must not](Options#functions-of-the-caller).
+#[inline]
 pub fn refill<'a, Opt>(filled_text: &str, new_width_or_options: Opt) -> Result<String, OutOfMemory>
 where
     Opt: Into<Options<'a>>,
 {
-    refilled(filled_text, &new_width_or_options.into())
-}
-
-/// The same by borrowed options.
-fn refilled(text: &str, options: &Options<'_>) -> Result<String, OutOfMemory> {
+    // As in `fill`.
+    let options = new_width_or_options.into();
     if options.has_function() {
-        return custom::refilled(text, options);
+        return custom::refilled(filled_text, options);
     }
     // The indents of the text may be shown more often than in it.
-    let guess = guess::filled(text, options).saturating_add(text.len() / 4);
-    let with = options.to_sys();
-    text_by!(guess, textwrap_refill(text; &with))
+    let guess = filled_text.len() + filled_text.len() / 4;
+    text_by!(guess, textwrap_refill(filled_text; &options.to_sys()))
 }
 
 /// [`crate::indent`].
@@ -76,7 +72,8 @@ fn refilled(text: &str, options: &Options<'_>) -> Result<String, OutOfMemory> {
 /// # Errors
 /// [`OutOfMemory`] if memory runs out.
 pub fn indent(s: &str, prefix: &str) -> Result<String, OutOfMemory> {
-    text_by!(guess::prefixed(s, prefix), textwrap_indent(s, prefix))
+    let guess = guess::with_more(s.len(), guess::line_feeds(s) + 1, prefix.len());
+    text_by!(guess, textwrap_indent(s, prefix))
 }
 
 /// [`crate::dedent`].
@@ -151,7 +148,7 @@ where
     wrapped(text, &width_or_options.into())
 }
 
-/// The same by borrowed options.
+/// The same by borrowed options. What does not depend on their type is compiled once, and here.
 pub(crate) fn wrapped<'t>(
     text: &'t str,
     options: &Options<'_>,
@@ -159,9 +156,9 @@ pub(crate) fn wrapped<'t>(
     if options.has_function() {
         return custom::wrapped(text, options);
     }
-    let lines = guess::lines(text, options.width, options);
-    let bytes = guess::built(text, options, lines);
-    lines_by!(lines, bytes, textwrap_wrap(text; &options.to_sys()))?.cows(text)
+    let with = options.to_sys();
+    let (lines, bytes) = guess::wrapped(text, &with);
+    lines_by!(lines, bytes, textwrap_wrap(text; &with))?.cows(text)
 }
 
 /// [`crate::wrap_columns`].
@@ -196,18 +193,11 @@ fn rows(
     gaps: &Gaps<'_>,
 ) -> Result<Vec<String>, OutOfMemory> {
     if options.has_function() {
-        return columns::rows(text, columns, options, gaps);
+        return custom::columns(text, columns, options, gaps);
     }
     let (with, around) = (options.to_sys(), gaps.to_sys());
-    let rows = guess::lines(text, options.width / columns, options) / columns + 1;
+    let rows = guess::lines(text, options.width / columns) / columns + 1;
     let row_len = options.width.saturating_add(gaps.bytes_in(columns));
     let bytes = guess::with_more(text.len(), rows, row_len);
     lines_by!(rows, bytes, textwrap_wrap_columns(text; columns, &with, &around))?.texts()
-}
-
-/// Adds to a text.
-pub(crate) fn push(text: &mut String, more: &str) -> Result<(), OutOfMemory> {
-    reserve_bytes(text, more.len())?;
-    text.push_str(more);
-    Ok(())
 }

@@ -11,6 +11,7 @@ static REFUSALS: AtomicUsize = AtomicUsize::new(0);
 static LAST_REFUSED: AtomicUsize = AtomicUsize::new(0);
 
 /// How many blocks were refused so far.
+#[inline]
 pub(crate) fn refusals() -> usize {
     REFUSALS.load(Ordering::Acquire)
 }

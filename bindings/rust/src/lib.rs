@@ -121,7 +121,6 @@ use alloc::string::String;
 use alloc::vec::Vec;
 
 pub mod breaks;
-mod columns;
 pub mod core;
 mod custom;
 pub mod display;
@@ -136,7 +135,6 @@ mod options;
 mod out_of_memory;
 mod room;
 mod sys;
-mod tables;
 #[cfg(feature = "terminal_size")]
 mod termwidth;
 pub mod word_separators;
@@ -172,6 +170,7 @@ pub use crate::wrap_algorithms::WrapAlgorithm;
 /// let options = Options::new(18).initial_indent("1. ").subsequent_indent("   ");
 /// assert_eq!(fill(text, &options), "1. The tide comes\n   in and goes out\n   by the moon.");
 /// ```
+#[inline]
 pub fn fill<'a, Opt>(text: &str, width_or_options: Opt) -> String
 where
     Opt: Into<Options<'a>>,
@@ -292,6 +291,7 @@ where
 /// assert_eq!(refill(mail, 16), "> Shall we meet\n> at noon or at\n> one?\n");
 /// assert_eq!(refill("- a pound of\n  flour\n", 20), "- a pound of flour\n");
 /// ```
+#[inline]
 pub fn refill<'a, Opt>(filled_text: &str, new_width_or_options: Opt) -> String
 where
     Opt: Into<Options<'a>>,

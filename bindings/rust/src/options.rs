@@ -215,6 +215,7 @@ impl<'a> Options<'a> {
     }
 
     /// Whether a function of the caller takes part: then a text is wrapped paragraph by paragraph.
+    #[inline]
     pub(crate) fn has_function(&self) -> bool {
         matches!(self.wrap_algorithm, WrapAlgorithm::Custom(_))
             || matches!(self.word_separator, WordSeparator::Custom(_))
@@ -222,6 +223,7 @@ impl<'a> Options<'a> {
     }
 
     /// The same as C has them, without the functions of the caller. They lend the indents.
+    #[inline]
     pub(crate) fn to_sys(&self) -> sys::Options {
         let (optimal_fit, penalties) = match self.wrap_algorithm {
             WrapAlgorithm::OptimalFit(penalties) => (1, penalties),

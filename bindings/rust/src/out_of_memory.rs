@@ -86,6 +86,7 @@ pub(crate) struct BeforeCall {
 }
 
 impl BeforeCall {
+    #[inline]
     pub fn now() -> Self {
         BeforeCall {
             #[cfg(not(library_has_heap))]
@@ -111,11 +112,15 @@ impl BeforeCall {
 /// The answer, or the end of the program as the standard library ends it if memory runs out: it
 /// aborts, and at a size that no allocation can have it panics. Where the size is not known, the
 /// message of the abort names 0 bytes.
+#[inline]
 pub(crate) fn or_abort<T>(result: Result<T, OutOfMemory>) -> T {
-    result.unwrap_or_else(|refused| {
-        match Layout::from_size_align(refused.size.unwrap_or(0), 1) {
-            Ok(layout) => handle_alloc_error(layout),
-            Err(_) => panic!("{refused}"),
-        }
-    })
+    result.unwrap_or_else(|refused| abort(refused))
+}
+
+#[cold]
+fn abort(refused: OutOfMemory) -> ! {
+    match Layout::from_size_align(refused.size.unwrap_or(0), 1) {
+        Ok(layout) => handle_alloc_error(layout),
+        Err(_) => panic!("{refused}"),
+    }
 }

@@ -4,6 +4,7 @@
 //! is done, it has written as much to its front as it reports.
 use crate::out_of_memory::BeforeCall;
 use crate::sys;
+use crate::wrap_algorithms::OverflowError;
 use alloc::alloc::alloc;
 use alloc::borrow::Cow;
 use alloc::string::String;
@@ -27,25 +28,23 @@ impl From<OutOfMemory> for Refusal {
     }
 }
 
-/// The refusal of a call that has no other.
+/// The refusal of a call that has no other. An overflow panics.
 impl From<Refusal> for OutOfMemory {
+    #[cold]
     fn from(refusal: Refusal) -> Self {
         match refusal {
             Refusal::OutOfMemory(refused) => refused,
-            other => unreachable!("the library refused with {other:?}"),
+            Refusal::Overflow => panic!("{OverflowError}"),
+            Refusal::WrongPlaces => unreachable!("the places are the library's own"),
         }
     }
 }
 
-/// Whether the room sufficed, by the status of a call.
-#[inline]
-fn suffices(status: u32, before: BeforeCall) -> Result<bool, Refusal> {
-    // Mostly it did, and then no table of cases is looked at.
-    if status == sys::DONE {
-        return Ok(true);
-    }
+/// Nothing if the room of a call did not suffice, or why else the call gave nothing.
+#[cold]
+fn refused(status: u32, before: BeforeCall) -> Result<(), Refusal> {
     match status {
-        sys::TOO_SMALL => Ok(false),
+        sys::TOO_SMALL => Ok(()),
         sys::OUT_OF_MEMORY => Err(Refusal::OutOfMemory(before.out_of_memory())),
         sys::OVERFLOW => Err(Refusal::Overflow),
         sys::WRONG_PLACES => Err(Refusal::WrongPlaces),
@@ -89,11 +88,12 @@ pub(crate) fn reserve<T>(list: &mut Vec<T>, more: usize) -> Result<(), OutOfMemo
         .map_err(|_| OutOfMemory::for_items::<T>(list.len().saturating_add(more)))
 }
 
-/// The same for so many bytes of a text.
-pub(crate) fn reserve_bytes(text: &mut String, more: usize) -> Result<(), OutOfMemory> {
-    text.try_reserve(more)
-        .or_else(|_| text.try_reserve_exact(more))
-        .map_err(|_| OutOfMemory::for_items::<u8>(text.len().saturating_add(more)))
+/// Adds to a text.
+pub(crate) fn push(text: &mut String, more: &str) -> Result<(), OutOfMemory> {
+    let len = text.len().saturating_add(more.len());
+    text.try_reserve_exact(more.len()).map_err(|_| OutOfMemory::for_items::<u8>(len))?;
+    text.push_str(more);
+    Ok(())
 }
 
 /// Room for as many items as is guessed, or for none if there is no memory for a guess.
@@ -116,12 +116,16 @@ pub(crate) unsafe fn listed<T>(
     let mut room = guessed(guess);
     let mut count = 0;
     let before = BeforeCall::now();
-    while !suffices(call(room.as_mut_ptr(), room.capacity(), &mut count), before)? {
+    loop {
+        let status = call(room.as_mut_ptr(), room.capacity(), &mut count);
+        if status == sys::DONE {
+            // SAFETY: the call has written so many items.
+            unsafe { room.set_len(count) };
+            return Ok(room);
+        }
+        refused(status, before)?;
         room = room_for(count)?;
     }
-    // SAFETY: the call has written so many items.
-    unsafe { room.set_len(count) };
-    Ok(room)
 }
 
 /// The same for a text.
@@ -178,7 +182,20 @@ macro_rules! lines_by {
     };
 }
 
-pub(crate) use {lines_by, list_by, text_by};
+/// The value that a call writes, which always does: `value_by!(call(lists; what else it takes))`.
+macro_rules! value_by {
+    ($call:ident($($list:expr),* $(; $($other:expr),+)?)) => {{
+        let mut value = Default::default();
+        // SAFETY: each list is handed over with its length, and nothing else borrows the value.
+        let status = unsafe {
+            $crate::sys::$call($($list.as_ptr(), $list.len(),)* $($($other,)+)? &mut value)
+        };
+        assert_eq!(status, $crate::sys::DONE, "texts are UTF-8, and the options are known");
+        value
+    }};
+}
+
+pub(crate) use {lines_by, list_by, text_by, value_by};
 
 /// Room for lines, as it is handed to a call.
 pub(crate) struct LineRoom {
@@ -255,9 +272,9 @@ impl Reported {
                 room_len: built.capacity(),
                 len: 0,
             };
-            let is_done = suffices(call(&mut room), before)?;
+            let status = call(&mut room);
             let LineRoom { count, len, .. } = room;
-            if is_done {
+            if status == sys::DONE {
                 // SAFETY: the call has written so many lines, and so many bytes of UTF-8.
                 unsafe {
                     places.set_len(count);
@@ -265,6 +282,7 @@ impl Reported {
                     return Ok(Reported { places, built: String::from_utf8_unchecked(built) });
                 }
             }
+            refused(status, before)?;
             (places, built) = (room_for(count)?, room_for(len)?);
         }
     }

@@ -15,10 +15,11 @@ pub const CENTRE: u32 = 2;
 #[derive(Clone, Copy)]
 pub struct Text {
     at: *const u8,
-    len: usize,
+    pub len: usize,
 }
 
 impl From<&str> for Text {
+    #[inline]
     fn from(text: &str) -> Text {
         Text { at: text.as_ptr(), len: text.len() }
     }

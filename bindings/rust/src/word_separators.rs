@@ -88,6 +88,7 @@ pub enum WordSeparator {
 /// assert_ne!(WordSeparator::Custom(whole), WordSeparator::Custom(whole));
 /// ```
 impl PartialEq for WordSeparator {
+    #[inline]
     fn eq(&self, other: &Self) -> bool {
         use WordSeparator::{AsciiSpace, UnicodeBreakProperties};
         matches!(

@@ -79,6 +79,7 @@ pub enum WordSplitter {
 /// A `Custom` equals no value, not even itself, since functions cannot be compared. Two dictionaries
 /// are equal if their languages are.
 impl PartialEq for WordSplitter {
+    #[inline]
     fn eq(&self, other: &Self) -> bool {
         match (self, other) {
             (WordSplitter::NoHyphenation, WordSplitter::NoHyphenation)
@@ -126,6 +127,7 @@ impl WordSplitter {
     }
 
     /// Whether the points are found by the library, which finds right ones.
+    #[inline]
     pub(crate) fn is_built_in(&self) -> bool {
         matches!(self, WordSplitter::NoHyphenation | WordSplitter::HyphenSplitter)
     }

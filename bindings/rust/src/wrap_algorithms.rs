@@ -132,10 +132,7 @@ impl WrapAlgorithm {
         match self {
             WrapAlgorithm::FirstFit => Ok(first_fit_ends(fragments, line_widths)?),
             WrapAlgorithm::OptimalFit(penalties) => {
-                match optimal_fit_ends(fragments, line_widths, penalties) {
-                    Err(Refusal::Overflow) => panic!("{OverflowError}"),
-                    ends => Ok(ends?),
-                }
+                Ok(optimal_fit_ends(fragments, line_widths, penalties)?)
             }
             WrapAlgorithm::Custom(_) => unreachable!("a function of the caller has no ends"),
         }

@@ -12,8 +12,7 @@
 //! ```
 use super::{Alignment, Column, Gaps};
 use crate::room::{lines_by, mapped, text_by, texts_of};
-use crate::{custom, guess, tables};
-use crate::Options;
+use crate::{custom, guess, Options};
 use alloc::string::String;
 use alloc::vec::Vec;
 
@@ -55,8 +54,8 @@ fn justified(text: &str, options: &Options<'_>) -> Result<String, OutOfMemory> {
     if options.has_function() {
         return custom::justified(text, options);
     }
-    let guess = guess::justified(text, options);
-    text_by!(guess, textwrap_fill_justified(text; &options.to_sys()))
+    let with = options.to_sys();
+    text_by!(guess::filled(text, 2, &with), textwrap_fill_justified(text; &with))
 }
 
 /// [`crate::display::shorten`].
@@ -127,9 +126,9 @@ where
         return Ok(Vec::new());
     }
     if columns.iter().any(|column| column.options.has_function()) {
-        return tables::rows(cells, columns, gaps);
+        return custom::table(cells, columns, gaps);
     }
-    let (rows, bytes) = guess::table(cells, columns, gaps);
     let (texts, columns) = (texts_of(cells)?, mapped(columns, Column::to_sys)?);
+    let (rows, bytes) = guess::table(cells, &columns, gaps);
     lines_by!(rows, bytes, textwrap_table(texts, columns; &gaps.to_sys()))?.texts()
 }

@@ -16,6 +16,7 @@ use alloc::vec::Vec;
 type Result<T> = core::result::Result<T, OutOfMemory>;
 
 /// The filled text.
+#[cold]
 pub(crate) fn filled(text: &str, options: Options<'_>) -> Result<String> {
     let (found, with) = (steps_of(text, &options)?, options.to_sys());
     let steps = mapped(&found, Steps::to_sys)?;
@@ -38,6 +39,7 @@ pub(crate) fn wrapped<'t>(text: &'t str, options: &Options<'_>) -> Result<Vec<Co
 }
 
 /// The filled text, filled again with the indents that it has.
+#[cold]
 pub(crate) fn refilled(filled_text: &str, options: Options<'_>) -> Result<String> {
     let (text, found) = unfill(filled_text)?;
     let joined = text.strip_suffix(found.line_ending.as_str());

@@ -36,12 +36,10 @@ where
 {
     // A short line takes so little time that it matters how the options get here. This is compiled where
     // it is called, and lends them to nothing; so they are written to memory once, as C has them.
-    let options = width_or_options.into();
-    if options.has_function() {
-        return custom::filled(text, options);
+    match width_or_options.into().built_in() {
+        Ok(with) => text_by!(guess::filled(text, 8, &with), textwrap_fill(text; &with)),
+        Err(options) => custom::filled(text, options),
     }
-    let with = options.to_sys();
-    text_by!(guess::filled(text, 8, &with), textwrap_fill(text; &with))
 }
 
 /// [`crate::refill`].
@@ -57,14 +55,13 @@ pub fn refill<'a, Opt>(filled_text: &str, new_width_or_options: Opt) -> Result<S
 where
     Opt: Into<Options<'a>>,
 {
-    // As in `fill`.
-    let options = new_width_or_options.into();
-    if options.has_function() {
-        return custom::refilled(filled_text, options);
-    }
     // The indents of the text may be shown more often than in it.
     let guess = filled_text.len() + filled_text.len() / 4;
-    text_by!(guess, textwrap_refill(filled_text; &options.to_sys()))
+    // As in `fill`.
+    match new_width_or_options.into().built_in() {
+        Ok(with) => text_by!(guess, textwrap_refill(filled_text; &with)),
+        Err(options) => custom::refilled(filled_text, options),
+    }
 }
 
 /// [`crate::indent`].

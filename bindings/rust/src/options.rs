@@ -222,6 +222,16 @@ impl<'a> Options<'a> {
             || !self.word_splitter.is_built_in()
     }
 
+    /// The same as C has them, or as they are if a function of the caller takes part.
+    #[inline]
+    pub(crate) fn built_in(self) -> Result<sys::Options, Self> {
+        if self.has_function() {
+            Err(self)
+        } else {
+            Ok(self.to_sys())
+        }
+    }
+
     /// The same as C has them, without the functions of the caller. They lend the indents.
     #[inline]
     pub(crate) fn to_sys(&self) -> sys::Options {

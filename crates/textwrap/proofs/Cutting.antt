@@ -4,10 +4,10 @@ pub use Rattle.textwrap_words.proofs.Word.Parts.{inner-cuts}
 use Rattle.textwrap_base.proofs.Common.{◌+◌, ◌-◌, ◌≡◌, ℕ, ◌<◌, ◌≤◌, List, [], ◌∷◌, ◌++◌, length}
 use Rattle.textwrap_base.proofs.Common.{get_or, arith, IsCharBoundary, cases_lt, length_push}
 use Rattle.textwrap_base.proofs.Common.{get_or_default, get_or_push, get_or_append_left, All-nil}
-use Rattle.textwrap_base.proofs.Common.{rules, IsUtf8, drop, Some, sym, ap, ◌∙◌, IsUtf8-drop}
-use Rattle.textwrap_base.proofs.Common.{char_indices_offset, IsCharBoundary-start, length-append}
-use Rattle.textwrap_base.proofs.Common.{length-drop, length-encode}
-use Rattle.std.proofs.lemmas.Str.{len_utf8_bounds, IsCharBoundary-past_char, drop_past_char}
+use Rattle.textwrap_base.proofs.Common.{rules, IsUtf8, Some}
+use Rattle.textwrap_base.proofs.Common.{char_indices_offset}
+use Rattle.textwrap_base.proofs.Common.{length-encode}
+use Rattle.std.proofs.lemmas.Str.{len_utf8_bounds}
 use Rattle.textwrap_words.proofs.Common.{AreInnerCuts}
 use Rattle.std.specs.List.Sorted.{IsStrictlyIncreasing}
 use Rattle.std.proofs.lemmas.List.Elements.{All-push}
@@ -16,6 +16,8 @@ use Rattle.std.specs.Char.{len_utf8}
 use Rattle.std.specs.Str.Iter.{char_indices_rest, char_indices_steps}
 use Rattle.std.specs.declared.str.CharIndices.{CharIndices}
 use Rattle.textwrap_words.specs.LineEnds.{AreEnds}
+use Rattle.textwrap_base.proofs.Characters.{some-bytes}
+use Rattle.textwrap_words.proofs.Units.ReadPlaces.{IsRead, read-next, read-room, read-start}
 use Rattle.std.proofs.lemmas.Grind.{common_steps, elements}
 
 -- the last of the numbers, if there are any, is this one
@@ -39,36 +41,26 @@ inner-push text cuts cut last are ends above inside boundary =
     search (rules, common_steps, increasing-push, All-push)
 
 -- where a reader by `char_indices` stands in a text: before a character, or at the end
-pub record HasReadTo (text : List ℕ) (reader : CharIndices) : Type 0 where
-  pub boundary : IsCharBoundary text (char_indices_offset reader)
-  pub rest : char_indices_rest reader ≡ drop (char_indices_offset reader) text
+abbrev pub HasReadTo : List ℕ → CharIndices → Type 0
+HasReadTo text reader = IsRead text (char_indices_offset reader) (char_indices_rest reader)
 
 pub HasReadTo-start : (text : List ℕ) (reader : CharIndices) → IsUtf8 text
     → char_indices_rest reader ≡ text → char_indices_offset reader ≡ 0 → HasReadTo text reader
-HasReadTo-start text reader utf8 all start = grind (arith, IsCharBoundary-start)
+HasReadTo-start text reader utf8 all start = rw (all, start) (read-start text utf8)
 
 -- it stands so after each character too
 pub HasReadTo-next : (text : List ℕ) (here next : CharIndices) (at c : ℕ) → IsUtf8 text
     → HasReadTo text here → char_indices_steps here (Some (at, c)) next → HasReadTo text next
 HasReadTo-next text here next at c utf8 read step =
-    let offset = char_indices_offset here in
-    let begins = sym read.rest ∙ step.1 in
-    let place : char_indices_offset next ≡ offset + len_utf8 c =
-    omega (arith, step.2, length-encode c) in
-    record {
-      boundary = rw place (IsCharBoundary-past_char text _ offset c read.boundary.0
-          (IsUtf8-drop text offset utf8 read.boundary) begins);
-      rest = rw place (sym (drop_past_char text _ offset c begins));
-    }
+    read-next read c (char_indices_rest next) step.1 (char_indices_offset next) step.2
 
 -- a cut before a character that is not the first
 pub inner-push-before : (text cuts : List ℕ) (here next : CharIndices) (at c last : ℕ)
     → HasReadTo text here → char_indices_steps here (Some (at, c)) next → AreInnerCuts text cuts
     → EndWith cuts last → last < at → AreInnerCuts text (cuts ++ at ∷ [])
 inner-push-before text cuts here next at c last read step are ends above =
-    let left = ap length (sym read.rest ∙ step.1) in
-    let inside : at < length text =
-    search (rules, arith, length-drop, length-append, length-encode) in
+    let room = read-room read c (char_indices_rest next) step.1 in
+    let inside : at < length text = omega (arith, room, step.0, some-bytes c) in
     inner-push text cuts at last are ends above inside (rw step.0 read.boundary)
 
 -- a cut after a character that is not the last

@@ -9,6 +9,7 @@ pub use options::Options;
 pub use wrapping::wrap;
 
 mod any_options;
+mod built_in;
 mod cheapest;
 mod direct;
 mod filling;
@@ -20,7 +21,6 @@ mod layout;
 mod line_ending;
 mod line_sinks;
 mod options;
-mod options_with;
 pub mod parts;
 mod piece_lines;
 pub mod placed;

@@ -27,6 +27,7 @@ pub mod PlainParts
 pub mod PlainRows
 pub mod PlainUnfilled
 pub mod Prefixes
+pub mod Refilled
 pub mod Refilling
 pub mod RefillingIndents
 pub mod RowEndings

@@ -1,13 +1,17 @@
 //! A text in columns beside one another.
-ghost use Rattle.std.specs.Prelude.{◌≡◌, ◌+◌, ◌-◌, ◌*◌, ◌<◌, ◌≤◌, ◌++◌, [], length, map, alloc_error};
+ghost use Rattle.std.specs.Prelude.{◌≡◌, ◌+◌, ◌-◌, ◌*◌, ◌<◌, ◌≤◌, ◌++◌, List, [], length, map, alloc_error};
 ghost use Rattle.std.specs.Prelude.{string_bytes, IfOk, IfErr, IfSome, IfNone, SomeIff, OnOk, ◌⊎◌, ◌^◌};
 ghost use Rattle.std.specs.List.{range_with_len, repeat};
 ghost use Rattle.textwrap.specs.Columns.{blanks, inner_width, layout_of, layout_view, cell};
 ghost use Rattle.textwrap.specs.Columns.{cells, padded, gapped, row_text, table_rows, IsInColumns};
 ghost use Rattle.textwrap.specs.Columns.{at_column_width};
+ghost use Rattle.textwrap_lines.specs.Options as options_of;
 ghost use Rattle.textwrap_lines.specs.Options.{Settings, settings_view, HasParts, MayOverflow};
-ghost use Rattle.textwrap_lines.specs.Paragraph.{line_view, line_bytes, DividesAs, DividesUnder};
-ghost use Rattle.textwrap_lines.specs.Text.{SomeMayPass64BitsUnder};
+ghost use Rattle.textwrap_lines.specs.Paragraph.{line_view, line_bytes, DividesAs, DividesAt, DividesUnder};
+ghost use Rattle.textwrap_lines.specs.Paragraph.{Line};
+ghost use Rattle.textwrap_lines.specs.Direct.{as_algorithm};
+ghost use Rattle.textwrap_lines.specs.Text.{AreTextLines, HasParagraphThat, SomeMayPass64BitsUnder};
+ghost use Rattle.textwrap_words.specs.Pieces.{as_splitter};
 ghost use Rattle.textwrap_words.specs.WordSplitters.{Splitter};
 ghost use Rattle.textwrap_words.specs.WrapAlgorithms.{Algorithm};
 
@@ -15,7 +19,8 @@ use crate::words::display_width;
 use crate::wrap_algorithms::WrapError;
 use std::alloc::{AllocError, Allocator};
 use std::borrow::CowStr;
-use textwrap_lines::{Options, wrap};
+use textwrap_lines::Options;
+use textwrap_lines::inner::{AnyOptions, BuiltInOptions, Layout, PrintableCuts, wrap_by};
 use textwrap_words::blanks::push_blanks;
 
 /// What the rows of a table have in common.
@@ -106,8 +111,65 @@ pub fn wrap_columns<A: Allocator + Copy>(
         → IfErr result (λ error. error ≡ WrapError.Memory alloc_error) }
 {
     let table = Table::new(columns, options.width, left_gap, middle_gap, right_gap);
-    let lines = wrap(alloc, text, options.width(table.column_width))?;
-    Ok(table_rows(alloc, &lines, &table)?)
+    wrap_in_table(alloc, text, &table, &options.width(table.column_width))
+}
+
+/// The same by options that hold no function.
+///
+/// # Errors
+/// [`WrapError::Memory`] where memory runs out.
+pub fn wrap_columns_built_in<A: Allocator + Copy, W: PrintableCuts + Copy>(
+    alloc: A,
+    text: &str,
+    columns: usize,
+    options: &BuiltInOptions<'_, W>,
+    left_gap: &str,
+    middle_gap: &str,
+    right_gap: &str,
+) -> Result<Vec<String<A>, A>, WrapError>
+    requires { 1 ≤ columns }
+    ensures rows { IfOk result (λ rows. IsInColumns (options_of.layout_view options.now.layout)
+        (DividesAt (W.words options.now.words) (as_splitter options.now.parts.splitter)
+        (as_algorithm options.now.parts.algorithm)) columns text.now left_gap.now middle_gap.now
+        right_gap.now (map string_bytes rows.items)) }
+    ensures only_memory { IfErr result (λ error. error ≡ WrapError.Memory alloc_error) }
+{
+    let table = Table::new(
+        columns,
+        options.layout.width,
+        left_gap,
+        middle_gap,
+        right_gap,
+    );
+    let layout = Layout {
+        width: table.column_width,
+        ..options.layout
+    };
+    wrap_in_table(alloc, text, &table, &BuiltInOptions { layout, ..*options })
+}
+
+/// Wraps a text, and returns the rows of a table of its lines.
+///
+/// # Errors
+/// Those of `wrap`.
+fn wrap_in_table<A: Allocator + Copy, O: AnyOptions<A>>(
+    alloc: A,
+    text: &str,
+    table: &Table<'_>,
+    options: &O,
+) -> Result<Vec<String<A>, A>, WrapError>
+    requires { 1 ≤ table.now.columns }
+    ensures rows { IfOk result (λ rows. (lines : List Line) × AreTextLines (O.settings options.now)
+        (O.divides options.now) text.now lines × (map string_bytes rows.items
+        ≡ table_rows (layout_view table.now) (map line_bytes lines))) }
+    ensures only_memory { ¬ O.may_overflow options.now
+        → IfErr result (λ error. error ≡ WrapError.Memory alloc_error) }
+    ensures no_overflow { ¬ HasParagraphThat (O.may_pass options.now)
+        (O.settings options.now).line_ending text.now
+        → IfErr result (λ error. error ≡ WrapError.Memory alloc_error) }
+{
+    let lines = wrap_by(alloc, text, options)?;
+    Ok(table_rows(alloc, &lines, table)?)
 }
 
 /// The columns that the gaps leave of a row.

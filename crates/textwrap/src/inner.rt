@@ -1,4 +1,4 @@
 //! What the crates above need beside the public calls.
-pub use crate::columns::{Table, table_rows};
+pub use crate::columns::{Table, table_rows, wrap_columns_built_in};
 pub use crate::indentation::{dedent_into, indent_into};
-pub use crate::refilling::unfill_into;
+pub use crate::refilling::{refill_built_in, unfill_into};

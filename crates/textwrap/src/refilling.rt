@@ -1,5 +1,5 @@
 //! Unfilling, which joins the lines of a filled text, and refilling, which fills them again.
-ghost use Rattle.std.specs.Prelude.{◌≡◌, [], ◌∷◌, ◌++◌, length, drop, alloc_error, IfOk, IfErr};
+ghost use Rattle.std.specs.Prelude.{◌≡◌, ℕ, List, [], ◌∷◌, ◌++◌, length, drop, alloc_error, IfOk, IfErr};
 ghost use Rattle.std.specs.Prelude.{IfSome, IsOk, OnOk, string_bytes, map, option_to_list};
 ghost use Rattle.std.specs.Io.{StartsWith};
 ghost use Rattle.std.specs.Str.{IsAscii};
@@ -7,13 +7,17 @@ ghost use Rattle.textwrap_base.specs.Penalties.{default_penalties};
 ghost use Rattle.textwrap_words.specs.declared.wrap_algorithms.WrapAlgorithm.TheVariants.{OptimalFit};
 ghost use Rattle.textwrap_lines.specs.Options.{Settings, settings_at, settings_view};
 ghost use Rattle.textwrap_lines.specs.Options.{HasParts, MayOverflow};
-ghost use Rattle.textwrap_lines.specs.Paragraph.{DividesAs, DividesUnder};
-ghost use Rattle.textwrap_lines.specs.Text.{SomeMayPass64BitsUnder};
+ghost use Rattle.textwrap_lines.specs.Direct.{as_algorithm};
+ghost use Rattle.textwrap_lines.specs.Filling.{IsFilled};
+ghost use Rattle.textwrap_lines.specs.Options.{layout_view};
+ghost use Rattle.textwrap_lines.specs.Paragraph.{DividesAs, DividesAt, DividesUnder};
+ghost use Rattle.textwrap_lines.specs.Text.{HasParagraphThat, SomeMayPass64BitsUnder};
+ghost use Rattle.textwrap_words.specs.Pieces.{as_splitter};
 ghost use Rattle.textwrap_words.specs.WordSplitters.{Splitter};
 ghost use Rattle.textwrap_words.specs.WrapAlgorithms.{Algorithm};
 ghost use Rattle.textwrap.specs.Refilling.{is_prefix_character, line_prefix, common_start};
 ghost use Rattle.textwrap.specs.Refilling.{unfilled_text, unfilled_settings, joined_text};
-ghost use Rattle.textwrap.specs.Refilling.{keeps_ending, IsRefilled, HasDefaultMethods};
+ghost use Rattle.textwrap.specs.Refilling.{added_ending, keeps_ending, IsRefilled, HasDefaultMethods};
 ghost use Rattle.textwrap.specs.Refilling.{layout_settings};
 ghost use Rattle.textwrap.specs.Refilling.{unfilled_width, unfilled_initial, unfilled_subsequent};
 ghost use Rattle.textwrap.specs.Refilling.{unfilled_parts, with_indents_of};
@@ -27,8 +31,8 @@ use crate::words::display_width;
 use crate::wrap_algorithms::WrapError;
 use lines::NonEmptyLines;
 use std::alloc::{AllocError, Allocator};
-use textwrap_lines::inner::DEFAULTS;
-use textwrap_lines::{LineEnding, Options, fill};
+use textwrap_lines::inner::{AnyOptions, BuiltInOptions, DEFAULTS, Layout, PrintableCuts, fill_by};
+use textwrap_lines::{LineEnding, Options};
 use textwrap_words::inner::LentText;
 
 mod lines;
@@ -136,18 +140,67 @@ pub fn refill<A: Allocator + Copy>(
         (with_indents_of filled_text.now (settings_view options.entry)) (joined_text filled_text.now)
         → IfErr result (λ error. error ≡ WrapError.Memory alloc_error) }
 {
-    let line_ending = options.line_ending;
     let (unfilled, layout, keeps_ending) = join_lines(alloc, filled_text)?;
     let options = Options {
         initial_indent: layout.initial_indent,
         subsequent_indent: layout.subsequent_indent,
         ..options
     };
-    let mut refilled = fill(alloc, &unfilled, options)?;
+    fill_joined(alloc, &unfilled, keeps_ending, &options)
+}
+
+/// The same by options that hold no function.
+///
+/// # Errors
+/// [`WrapError::Memory`] where memory runs out.
+pub fn refill_built_in<A: Allocator + Copy, W: PrintableCuts + Copy>(
+    alloc: A,
+    filled_text: &str,
+    options: &BuiltInOptions<'_, W>,
+) -> Result<String<A>, WrapError>
+    ensures refilled { IfOk result (λ refilled. IsRefilled (layout_view options.now.layout)
+        (DividesAt (W.words options.now.words) (as_splitter options.now.parts.splitter)
+        (as_algorithm options.now.parts.algorithm)) filled_text.now (string_bytes refilled)) }
+    ensures only_memory { IfErr result (λ error. error ≡ WrapError.Memory alloc_error) }
+{
+    let (unfilled, layout, keeps_ending) = join_lines(alloc, filled_text)?;
+    let layout = Layout {
+        initial_indent: layout.initial_indent,
+        subsequent_indent: layout.subsequent_indent,
+        ..options.layout
+    };
+    let options = BuiltInOptions {
+        layout,
+        parts: options.parts,
+        words: options.words,
+    };
+    fill_joined(alloc, &unfilled, keeps_ending, &options)
+}
+
+/// Fills the joined lines of a text, and adds the line ending, if the text ends in its own.
+///
+/// # Errors
+/// Those of `wrap`.
+fn fill_joined<A: Allocator + Copy, O: AnyOptions<A>>(
+    alloc: A,
+    joined: &str,
+    keeps_ending: bool,
+    options: &O,
+) -> Result<String<A>, WrapError>
+    ensures filled { IfOk result (λ refilled. (filled : List ℕ) × IsFilled (O.settings options.now)
+        (O.divides options.now) joined.now filled × (string_bytes refilled
+        ≡ filled ++ added_ending keeps_ending (O.settings options.now).line_ending)) }
+    ensures only_memory { ¬ O.may_overflow options.now
+        → IfErr result (λ error. error ≡ WrapError.Memory alloc_error) }
+    ensures no_overflow { ¬ HasParagraphThat (O.may_pass options.now)
+        (O.settings options.now).line_ending joined.now
+        → IfErr result (λ error. error ≡ WrapError.Memory alloc_error) }
+{
+    let mut filled = fill_by(alloc, joined, options)?;
     if keeps_ending {
-        refilled.push_str(line_ending.as_str())?;
+        filled.push_str(options.layout().line_ending.as_str())?;
     }
-    Ok(refilled)
+    Ok(filled)
 }
 
 /// How a text seems to have been filled.

@@ -20,7 +20,7 @@ use std::alloc::{AllocError, Global};
 use std::borrow::CowStr;
 use textwrap::Options;
 use textwrap_display::inner::push_justified_lines;
-use textwrap_lines::inner::{is_one_line, whole_line};
+use textwrap_lines::inner::{Layout, is_one_line, whole_line};
 use textwrap_lines::parts::split_paragraph;
 
 /// Writes the lines that `textwrap_wrap_at` finds at these steps, all but the last of each paragraph
@@ -94,7 +94,7 @@ fn justify_text(
             Ok(lines) => lines,
             Err(status) => return Err(status),
         };
-        match push_justified_lines(&mut filled, &lines, options, is_later) {
+        match push_justified_lines(&mut filled, &lines, &Layout::of(options), is_later) {
             Ok(()) => {}
             Err(_) => return Err(OUT_OF_MEMORY),
         }

@@ -7,9 +7,8 @@ use Rattle.textwrap_lines.proofs.Common.{join_with, line_bytes}
 use Rattle.textwrap_lines.proofs.Text.Lines.{join-push}
 use Rattle.textwrap_words.specs.Units.{text_width}
 use Rattle.textwrap_display.specs.Alignment.{aligned}
-use Rattle.textwrap_display.specs.Tables.{cell_line, gap_before, row_text, RowGaps, shape_of}
+use Rattle.textwrap_display.specs.Tables.{cell_line, gap_before, row_text, RowGaps, Shape}
 use Rattle.textwrap_display.specs.Tables.{shown_lines}
-use Rattle.textwrap_display.specs.declared.tables.Column.{Column}
 use Rattle.textwrap_display.proofs.Aligned.{length-aligned}
 use Rattle.textwrap_display.proofs.TableCells.{length-shown, shown-at}
 
@@ -51,21 +50,21 @@ join-few separator (x ∷ y ∷ xs) (suc (suc count)) =
 
 -- ---- a row
 
-module _ {E C : Type 0} {e : _} {c : _} (gaps : RowGaps) (columns : List (Column E C e c))
+module _ {X : Type 0} (shape : X → Shape) (gaps : RowGaps) (columns : List X)
     (cells : List (List (List ℕ))) (r : ℕ) where
   all : List (List ℕ)
-  all = shown_lines (map shape_of columns) cells r
+  all = shown_lines (map shape columns) cells r
 
   length-all : length all ≡ length columns
   unfolding all
-  length-all = length-shown (map shape_of columns) cells r ∙ length-map columns shape_of
+  length-all = length-shown (map shape columns) cells r ∙ length-map columns shape
 
   -- what the first columns show, joined
   abbrev pub so_far : ℕ → List ℕ
-  so_far at = join_with gaps.middle (take at (shown_lines (map shape_of columns) cells r))
+  so_far at = join_with gaps.middle (take at (shown_lines (map shape columns) cells r))
 
   pub row-whole : (at : ℕ) → length columns ≤ at
-      → (gaps.left ++ so_far at) ++ gaps.right ≡ row_text gaps (map shape_of columns) cells r
+      → (gaps.left ++ so_far at) ++ gaps.right ≡ row_text gaps (map shape columns) cells r
   unfolding all
   row-whole at past =
       ap (λ xs. (gaps.left ++ join_with gaps.middle xs) ++ gaps.right)
@@ -76,7 +75,7 @@ module _ {E C : Type 0} {e : _} {c : _} (gaps : RowGaps) (columns : List (Column
   length_so_far at = length gaps.left + length gaps.right + length (so_far at)
 
   pub length-within : (at : ℕ)
-      → length_so_far at ≤ length (row_text gaps (map shape_of columns) cells r)
+      → length_so_far at ≤ length (row_text gaps (map shape columns) cells r)
   unfolding all
   length-within at =
       omega (
@@ -87,7 +86,7 @@ module _ {E C : Type 0} {e : _} {c : _} (gaps : RowGaps) (columns : List (Column
       )
 
   pub length-row : (at : ℕ) → length columns ≤ at
-      → length_so_far at ≡ length (row_text gaps (map shape_of columns) cells r)
+      → length_so_far at ≡ length (row_text gaps (map shape columns) cells r)
   length-row at past =
       omega (
         arith,
@@ -96,30 +95,30 @@ module _ {E C : Type 0} {e : _} {c : _} (gaps : RowGaps) (columns : List (Column
         length-append gaps.left (so_far at),
       )
 
-  module _ (at : ℕ) (column : Column E C e c) (within : at < length columns)
+  module _ (at : ℕ) (column : X) (within : at < length columns)
       (is : column ≡ get_or columns at column) (line : List ℕ)
       (line_is : line ≡ cell_line (get_or cells at []) r) where
     -- a column shows the line of its cell, aligned
     pub column-more : so_far (at + 1) ≡ (so_far at ++ gap_before at gaps.middle)
-        ++ line_bytes (aligned column.alignment column.options.width line)
+        ++ line_bytes (aligned (shape column).alignment (shape column).width line)
     unfolding all
     column-more =
         join-more gaps.middle all at (omega (arith, within, length-all))
         ∙ ap (λ x. (so_far at ++ gap_before at gaps.middle) ++ x)
-        (shown-at (map shape_of columns) cells r at (shape_of column)
-        (omega (arith, within, length-map columns shape_of))
-        (ap shape_of is ∙ sym (get_or-map shape_of columns at column (shape_of column) within))
-        ∙ ap (λ l. line_bytes (aligned column.alignment column.options.width l)) (sym line_is))
+        (shown-at (map shape columns) cells r at (shape column)
+        (omega (arith, within, length-map columns shape))
+        (ap shape is ∙ sym (get_or-map shape columns at column (shape column) within))
+        ∙ ap (λ l. line_bytes (aligned (shape column).alignment (shape column).width l)) (sym line_is))
 
     pub length-more : length_so_far (at + 1)
         ≡ length_so_far at + length (gap_before at gaps.middle)
-        + (length line + (column.options.width - text_width line))
+        + (length line + ((shape column).width - text_width line))
     length-more =
         omega (
           arith,
           ap length column-more,
           length-append (so_far at ++ gap_before at gaps.middle)
-              (line_bytes (aligned column.alignment column.options.width line)),
+              (line_bytes (aligned (shape column).alignment (shape column).width line)),
           length-append (so_far at) (gap_before at gaps.middle),
-          length-aligned column.alignment column.options.width line,
+          length-aligned (shape column).alignment (shape column).width line,
         )

@@ -4,9 +4,9 @@ ghost use Rattle.std.specs.Prelude.{if◌then◌else◌, IfErr, IfOk, OnOk};
 ghost use Rattle.textwrap_display.specs.JustifiedText.{IsJustifiedText, joined_on};
 ghost use Rattle.textwrap_display.specs.JustifiedText.{justified_after, justified_after_indents};
 ghost use Rattle.textwrap_lines.specs.LineEnding.{ending_bytes};
-ghost use Rattle.textwrap_lines.specs.Options.{Settings, settings_view, HasParts, MayOverflow};
+ghost use Rattle.textwrap_lines.specs.Options.{Settings, layout_view, settings_view, HasParts, MayOverflow};
 ghost use Rattle.textwrap_lines.specs.Paragraph.{line_view, DividesAs, DividesBy};
-ghost use Rattle.textwrap_lines.specs.Text.{SomeMayPass64Bits};
+ghost use Rattle.textwrap_lines.specs.Text.{HasParagraphThat, SomeMayPass64Bits};
 ghost use Rattle.textwrap_words.specs.WordSplitters.{Splitter};
 ghost use Rattle.textwrap_words.specs.WrapAlgorithms.{Algorithm};
 
@@ -14,10 +14,9 @@ use crate::indents::indent_end;
 use crate::justifying::push_justified;
 use std::alloc::{AllocError, Allocator};
 use std::borrow::CowStr;
-use textwrap::fuzzing::wrap_single_line;
 use textwrap::words::display_width;
-use textwrap::{Options, WrapError};
-use textwrap_lines::inner::next_indent;
+use textwrap::{LineEnding, Options, WrapError};
+use textwrap_lines::inner::{AnyOptions, Layout, next_indent, wrap_paragraph};
 use textwrap_lines::parts::split_paragraph;
 
 /// The text that [`fill`](textwrap::fill) gives, with its lines justified to the width of the
@@ -46,16 +45,37 @@ pub fn fill_justified<A: Allocator + Copy>(
     ensures no_overflow { ¬ SomeMayPass64Bits options.entry text.now
         → IfErr result (λ error. error ≡ WrapError.Memory alloc_error) }
 {
+    fill_justified_by(alloc, text, &options)
+}
+
+/// The same by any options, which stay with the caller.
+///
+/// # Errors
+/// Those of [`wrap`](textwrap::wrap).
+pub fn fill_justified_by<A: Allocator + Copy, O: AnyOptions<A>>(
+    alloc: A,
+    text: &str,
+    options: &O,
+) -> Result<String<A>, WrapError>
+    ensures filled { IfOk result (λ filled. IsJustifiedText (O.settings options.now)
+        (O.divides options.now) text.now (string_bytes filled)) }
+    ensures only_memory { ¬ O.may_overflow options.now
+        → IfErr result (λ error. error ≡ WrapError.Memory alloc_error) }
+    ensures no_overflow { ¬ HasParagraphThat (O.may_pass options.now)
+        (O.settings options.now).line_ending text.now
+        → IfErr result (λ error. error ≡ WrapError.Memory alloc_error) }
+{
+    let layout = options.layout();
     let mut filled = String::with_capacity(alloc, text.len())?;
     let mut lines = Vec::new(alloc);
     let mut rest = Some(text);
     while let Some(text) = rest {
-        let (paragraph, after) = split_paragraph(text, options.line_ending);
+        let (paragraph, after) = split_paragraph(text, layout.line_ending);
         // The lines before are written. One of them is kept, since it tells the next one's indent.
         lines.truncate(1);
         let start = lines.len();
-        wrap_single_line(alloc, paragraph, &options, &mut lines)?;
-        push_justified_lines(&mut filled, &lines[start..], &options, start > 0)?;
+        wrap_paragraph(alloc, paragraph, options, &mut lines)?;
+        push_justified_lines(&mut filled, &lines[start..], &layout, start > 0)?;
         rest = after;
     }
     Ok(filled)
@@ -69,38 +89,38 @@ pub fn fill_justified<A: Allocator + Copy>(
 pub fn push_justified_lines<A: Allocator>(
     text: &mut String<A>,
     lines: &[CowStr<'_, A>],
-    options: &Options<'_>,
+    layout: &Layout<'_>,
     is_later: bool,
 ) -> Result<(), AllocError>
     ensures { OnOk result (string_bytes text.new ≡ string_bytes text.old
-        ++ joined_on (ending_bytes options.now.line_ending) is_later
-        (justified_after_indents (settings_view options.now) is_later (map line_view lines.now))) }
+        ++ joined_on (ending_bytes (layout_view layout.now).line_ending) is_later
+        (justified_after_indents (layout_view layout.now) is_later (map line_view lines.now))) }
 {
     let Some((last, others)) = lines.split_last() else {
         return Ok(());
     };
     let mut has_line = is_later;
     for line in others {
-        begin_line(text, options, has_line)?;
-        let indent = next_indent(options, has_line);
-        push_justified_after(text, line.as_str(), indent, options.width)?;
+        begin_line(text, layout.line_ending, has_line)?;
+        let indent = next_indent(layout, has_line);
+        push_justified_after(text, line.as_str(), indent, layout.width)?;
         has_line = true;
     }
-    begin_line(text, options, has_line)?;
+    begin_line(text, layout.line_ending, has_line)?;
     text.push_str(last.as_str())
 }
 
 /// Ends the line that stands before, where `is_later` says that one does.
 fn begin_line<A: Allocator>(
     text: &mut String<A>,
-    options: &Options<'_>,
+    line_ending: LineEnding,
     is_later: bool,
 ) -> Result<(), AllocError>
     ensures { OnOk result (string_bytes text.new ≡ string_bytes text.old
-        ++ (if is_later then ending_bytes options.now.line_ending else [])) }
+        ++ (if is_later then ending_bytes line_ending else [])) }
 {
     if is_later {
-        text.push_str(options.line_ending.as_str())?;
+        text.push_str(line_ending.as_str())?;
     }
     Ok(())
 }

@@ -2,9 +2,9 @@
 ghost use Rattle.std.specs.Prelude.{◌≡◌, ◌<◌, ◌^◌, List, [], ◌++◌, All, length, map};
 ghost use Rattle.std.specs.Prelude.{slice_index_or, string_bytes, alloc_error, IfErr, IfOk, OnOk};
 ghost use Rattle.std.specs.Prelude.{SomeIff};
-ghost use Rattle.textwrap_display.specs.Tables.{AllFit64Bits, AreCells, ColumnMakes, ColumnParts};
+ghost use Rattle.textwrap_display.specs.Tables.{AllFit, AllFit64Bits, AreCells, ColumnParts};
 ghost use Rattle.textwrap_display.specs.Tables.{HaveParts, groups_of};
-ghost use Rattle.textwrap_display.specs.Tables.{IsTable, IsTableOf, cell_line, cell_texts};
+ghost use Rattle.textwrap_display.specs.Tables.{IsTable, IsTableBy, IsTableOf, cell_line, cell_texts};
 ghost use Rattle.textwrap_display.specs.Tables.{gap_before, gaps_view, group_rows, height};
 ghost use Rattle.textwrap_display.specs.Tables.{row_text, rows_of_cells, shape_of, texts_in};
 ghost use Rattle.textwrap_lines.specs.Options.{MayOverflow};
@@ -22,6 +22,69 @@ pub struct Column<'o> {
     pub options: Options<'o>,
     /// Where each line stands in the column.
     pub alignment: Alignment,
+}
+
+/// A column of a table: how its texts are wrapped, and where their lines stand in it.
+pub trait AnyColumn<A: Allocator> {
+    ghost use Rattle.std.specs.Prelude.{◌≡◌, ℕ, List, alloc_error, map, IfErr, IfOk};
+    ghost use Rattle.textwrap_lines.specs.Paragraph.{Line, line_view};
+    ghost use Rattle.textwrap_display.specs.Tables.{Shape};
+
+    // The lines of a text in it.
+    ghost makes: { Self → List ℕ → List Line → Type 0 };
+
+    // How wide it is, and where a line stands in it.
+    ghost shape: { Self → Shape };
+
+    // Whether anything may overflow in it, and whether this text may.
+    ghost may_overflow: { Self → Type 0 };
+
+    ghost may_pass: { Self → List ℕ → Type 0 };
+
+    /// How wide it is, in columns of the screen.
+    fn width(&self) -> usize
+        ensures { result ≡ (shape self.now).width };
+
+    /// Where each line stands in it.
+    fn alignment(&self) -> Alignment
+        ensures { result ≡ (shape self.now).alignment };
+
+    /// The lines of a text in it.
+    ///
+    /// # Errors
+    /// Those of `wrap`.
+    fn wrap_cell<'t>(&self, alloc: A, text: &'t str) -> Result<Vec<CowStr<'t, A>, A>, WrapError>
+        ensures lines { IfOk result (λ lines. makes self.now text.now (map line_view lines.items)) }
+        ensures only_memory { ¬ may_overflow self.now
+            → IfErr result (λ error. error ≡ WrapError.Memory alloc_error) }
+        ensures no_overflow { ¬ may_pass self.now text.now
+            → IfErr result (λ error. error ≡ WrapError.Memory alloc_error) };
+}
+
+impl<A: Allocator + Copy> AnyColumn<A> for Column<'_> {
+    ghost use Rattle.textwrap_lines.specs.Options.{MayOverflow};
+    ghost use Rattle.textwrap_lines.specs.Text.{SomeMayPass64Bits};
+    ghost use Rattle.textwrap_display.specs.Tables.{ColumnMakes, shape_of};
+
+    ghost makes = { λ column. ColumnMakes column };
+
+    ghost shape = { λ column. shape_of column };
+
+    ghost may_overflow = { λ column. MayOverflow column.options };
+
+    ghost may_pass = { λ column. SomeMayPass64Bits column.options };
+
+    fn width(&self) -> usize {
+        self.options.width
+    }
+
+    fn alignment(&self) -> Alignment {
+        self.alignment
+    }
+
+    fn wrap_cell<'t>(&self, alloc: A, text: &'t str) -> Result<Vec<CowStr<'t, A>, A>, WrapError> {
+        wrap_by(alloc, text, &self.options)
+    }
 }
 
 /// What stands around the cells of a row.
@@ -81,6 +144,27 @@ pub fn table<A: Allocator + Copy>(
     ensures no_overflow { All (AllFit64Bits columns.now) (groups_of (length columns.now) (texts_in cells.now))
         → IfErr result (λ error. error ≡ WrapError.Memory alloc_error) }
 {
+    table_by(alloc, cells, columns, gaps)
+}
+
+/// The same by any columns.
+///
+/// # Errors
+/// Those of [`table`].
+pub fn table_by<A: Allocator + Copy, C: AnyColumn<A>>(
+    alloc: A,
+    cells: &[&str],
+    columns: &[C],
+    gaps: &Gaps<'_>,
+) -> Result<Vec<String<A>, A>, WrapError>
+    ensures rows { IfOk result (λ rows. IsTableBy C.makes C.shape columns.now (gaps_view gaps.now)
+        (texts_in cells.now) (map string_bytes rows.items)) }
+    ensures only_memory { All (λ column. ¬ C.may_overflow column) columns.now
+        → IfErr result (λ error. error ≡ WrapError.Memory alloc_error) }
+    ensures no_overflow { All (AllFit C.may_pass columns.now)
+        (groups_of (length columns.now) (texts_in cells.now))
+        → IfErr result (λ error. error ≡ WrapError.Memory alloc_error) }
+{
     let mut rows = Vec::new(alloc);
     if columns.is_empty() {
         return Ok(rows);
@@ -122,35 +206,35 @@ pub fn table_of_lines<A: Allocator + Copy>(
 ///
 /// # Errors
 /// Those of `wrap`.
-fn wrap_cells<'t, A: Allocator + Copy>(
+fn wrap_cells<'t, A: Allocator + Copy, C: AnyColumn<A>>(
     alloc: A,
     texts: &[&'t str],
-    columns: &[Column<'_>],
+    columns: &[C],
 ) -> Result<Vec<Cell<'t, A>, A>, WrapError>
     ensures cells { IfOk result (λ cells.
-        AreCells ColumnMakes columns.now (texts_in texts.now) (cell_texts cells.items)) }
-    ensures only_memory { All (λ column. ¬ MayOverflow column.options) columns.now
+        AreCells C.makes columns.now (texts_in texts.now) (cell_texts cells.items)) }
+    ensures only_memory { All (λ column. ¬ C.may_overflow column) columns.now
         → IfErr result (λ error. error ≡ WrapError.Memory alloc_error) }
-    ensures no_overflow { AllFit64Bits columns.now (texts_in texts.now)
+    ensures no_overflow { AllFit C.may_pass columns.now (texts_in texts.now)
         → IfErr result (λ error. error ≡ WrapError.Memory alloc_error) }
 {
     let mut cells = Vec::new(alloc);
     for (text, column) in texts.iter().zip(columns) {
-        cells.push(wrap_by(alloc, text, &column.options)?)?;
+        cells.push(column.wrap_cell(alloc, text)?)?;
     }
     Ok(cells)
 }
 
 /// Adds the rows of a group of cells, as many as the highest cell has lines.
-fn push_rows<A: Allocator + Copy>(
+fn push_rows<A: Allocator + Copy, C: AnyColumn<A>>(
     alloc: A,
     rows: &mut Vec<String<A>, A>,
     cells: &[Cell<'_, A>],
-    columns: &[Column<'_>],
+    columns: &[C],
     gaps: &Gaps<'_>,
 ) -> Result<(), AllocError>
     ensures { OnOk result (map string_bytes rows.new.items ≡ map string_bytes rows.old.items
-        ++ group_rows (gaps_view gaps.now) (map shape_of columns.now) (cell_texts cells.now)) }
+        ++ group_rows (gaps_view gaps.now) (map C.shape columns.now) (cell_texts cells.now)) }
 {
     for r in 0..height(cells) {
         rows.push(table_row(alloc, cells, r, columns, gaps)?)?;
@@ -170,15 +254,15 @@ fn height<A: Allocator>(cells: &[Cell<'_, A>]) -> usize
 }
 
 /// The row of the line at `r` of each cell.
-fn table_row<A: Allocator>(
+fn table_row<A: Allocator, C: AnyColumn<A>>(
     alloc: A,
     cells: &[Cell<'_, A>],
     r: usize,
-    columns: &[Column<'_>],
+    columns: &[C],
     gaps: &Gaps<'_>,
 ) -> Result<String<A>, AllocError>
     ensures { IfOk result (λ row. string_bytes row
-        ≡ row_text (gaps_view gaps.now) (map shape_of columns.now) (cell_texts cells.now) r) }
+        ≡ row_text (gaps_view gaps.now) (map C.shape columns.now) (cell_texts cells.now) r) }
 {
     // Reserved before a cell is written, so that a row that fits no memory is refused at once.
     let len = row_len(cells, r, columns, gaps).ok_or(AllocError)?;
@@ -187,20 +271,20 @@ fn table_row<A: Allocator>(
     for (c, column) in columns.iter().enumerate() {
         row.push_str(gap_before(c, gaps))?;
         let line = cell_line(cells, c, r);
-        push_aligned(&mut row, line, column.options.width, column.alignment)?;
+        push_aligned(&mut row, line, column.width(), column.alignment())?;
     }
     row.push_str(gaps.right)?;
     Ok(row)
 }
 
 /// The bytes of that row, or `None` where their number does not fit 64 bits.
-fn row_len<A: Allocator>(
+fn row_len<A: Allocator, C: AnyColumn<A>>(
     cells: &[Cell<'_, A>],
     r: usize,
-    columns: &[Column<'_>],
+    columns: &[C],
     gaps: &Gaps<'_>,
 ) -> Option<usize>
-    ensures { let row = row_text (gaps_view gaps.now) (map shape_of columns.now)
+    ensures { let row = row_text (gaps_view gaps.now) (map C.shape columns.now)
         (cell_texts cells.now) r in SomeIff result (length row < 2 ^ 64) (length row) }
 {
     let mut len = gaps.left.len().checked_add(gaps.right.len())?;
@@ -208,7 +292,7 @@ fn row_len<A: Allocator>(
         let line = cell_line(cells, c, r);
         len = len
             .checked_add(gap_before(c, gaps).len())?
-            .checked_add(aligned_len(line, column.options.width)?)?;
+            .checked_add(aligned_len(line, column.width())?)?;
     }
     Some(len)
 }

@@ -1,14 +1,13 @@
 -- What is divided without a list of words.
-use Rattle.std.specs.Prelude.{◌≡◌, ◌⊎◌, ◌≢◌, ℕ, IfSome, List, None, Option, Some, map}
+use Rattle.std.specs.Prelude.{◌≡◌, ◌≢◌, ℕ, IfSome, List, None, Option, Some, map}
 use Rattle.std.specs.Option.{option_map}
 use Rattle.textwrap_words.specs.Cuts.{AreInnerCuts, parts_between}
 use Rattle.textwrap_words.specs.Pieces.{as_splitter}
-use Rattle.textwrap_words.specs.WordSeparators.{MaySeparate}
 use Rattle.textwrap_words.specs.WordSplitters.{Splitter, splitter_view}
 use Rattle.textwrap_words.specs.Words.{WordText, word_of, words_of}
 use Rattle.textwrap_words.specs.WrapAlgorithms.{Algorithm, Greedy, LeastCost, algorithm_view}
 use Rattle.textwrap_lines.specs.Options.{Settings}
-use Rattle.textwrap_lines.specs.Paragraph.{pieces_of_words}
+use Rattle.textwrap_lines.specs.Paragraph.{pieces_by, pieces_of_words}
 use Rattle.textwrap_lines.specs.declared.any_options.BuiltInAlgorithm as algorithms
 use Rattle.textwrap_lines.specs.declared.options.Options.{Options}
 use Rattle.textwrap_lines.specs.declared.layout.Cuts.{Cuts}
@@ -45,10 +44,13 @@ abbrev pub pieces_cut : Settings → Cuts → List ℕ → List WordText
 pieces_cut settings cuts paragraph =
     pieces_of_words settings (as_splitter cuts.splitter) (words_cut (places_of cuts) paragraph)
 
--- the words of a line that the separator of the options may give, or that a function names
-abbrev pub MayBeWords : {E C : Type 0} {e : _} {c : _} → (List ℕ → List WordText)
-    → Options E C e c → List ℕ → List WordText → Type 0
-MayBeWords words o line ws = MaySeparate o.word_separator line ws ⊎ (ws ≡ words line)
+-- these are the pieces of a paragraph that can be cut there into the words that a function names
+pub record ArePiecesCut (words : List ℕ → List WordText) (settings : Settings) (splitter : Splitter)
+    (paragraph : List ℕ) (pieces : List WordText) : Type 0 where
+  pub cuts : Option (List ℕ)
+  pub can : CanBeCut cuts paragraph
+  pub words_are : words_cut cuts paragraph ≡ words paragraph
+  pub pieces_are : pieces ≡ pieces_by settings words splitter paragraph
 
 -- these are the splitter and the algorithm, both built in
 pub record HasMethods {E C : Type 0} {e : _} {c : _} (o : Options E C e c) (splitter : Splitter)

@@ -130,13 +130,6 @@ abbrev pub DividesBy : {E C : Type 0} {e : _} {c : _} → Options E C e c
     → Bool → List ℕ → List (List WordText) → Type 0
 DividesBy o = DividesUnder o (settings_view o)
 
--- the same, where a function names the words
-abbrev pub DividesWith : {E C : Type 0} {e : _} {c : _} → (List ℕ → List WordText)
-    → Options E C e c → Bool → List ℕ → List (List WordText) → Type 0
-DividesWith words o =
-    IsDividedInto (settings_view o) (λ line ws. ws ≡ words line) (MaySplit o.word_splitter)
-    (MayDivide o.wrap_algorithm (λ w. w))
-
 -- the same by built-in parts: words between blanks, and this splitter and algorithm
 abbrev pub DividesAs : Splitter → Algorithm → Settings → Bool → List ℕ → List (List WordText)
     → Type 0

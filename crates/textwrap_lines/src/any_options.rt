@@ -9,21 +9,25 @@ use textwrap_words::wrap_algorithms::{Penalties, WrapError};
 
 /// A built-in algorithm: one that is no function of a caller.
 #[derive(Clone, Copy)]
-pub(crate) enum BuiltInAlgorithm {
+pub enum BuiltInAlgorithm {
+    /// Each line takes as many pieces as fit.
     FirstFit,
+    /// The lines cost the least together.
     LeastCost(Penalties),
 }
 
 /// How a paragraph is divided, where no function of a caller says where its words are split or its
 /// lines end.
 #[derive(Clone, Copy)]
-pub(crate) struct BuiltInParts {
-    pub(crate) splitter: BuiltInSplitter,
-    pub(crate) algorithm: BuiltInAlgorithm,
+pub struct BuiltInParts {
+    /// Where words are split.
+    pub splitter: BuiltInSplitter,
+    /// How their pieces are divided into lines.
+    pub algorithm: BuiltInAlgorithm,
 }
 
 /// What the lines of a text are found by, beside the text.
-pub(crate) trait AnyOptions<A: Allocator> {
+pub trait AnyOptions<A: Allocator> {
     /// Where printable paragraphs are cut into words.
     type Words: PrintableCuts + Copy;
 

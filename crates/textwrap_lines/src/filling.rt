@@ -7,10 +7,7 @@ ghost use Rattle.textwrap_lines.specs.LineEnding.{ending_bytes, join_with};
 ghost use Rattle.textwrap_lines.specs.Options.{Settings, settings_view, HasParts, MayOverflow};
 ghost use Rattle.textwrap_words.specs.WordSplitters.{Splitter};
 ghost use Rattle.textwrap_words.specs.WrapAlgorithms.{Algorithm};
-ghost use Rattle.textwrap_words.specs.WordSeparators.{MaySeparate};
-ghost use Rattle.textwrap_words.specs.Words.{WordText};
-ghost use Rattle.textwrap_lines.specs.Paragraph.{DividesAs, DividesBy, DividesWith};
-ghost use Rattle.textwrap_lines.specs.Paragraph.{line_bytes, line_view};
+ghost use Rattle.textwrap_lines.specs.Paragraph.{DividesAs, DividesBy, line_bytes, line_view};
 ghost use Rattle.textwrap_lines.specs.Filling.{IsFilled};
 ghost use Rattle.textwrap_lines.specs.Text.{HasParagraphThat, SomeMayPass64Bits};
 
@@ -18,8 +15,6 @@ use crate::any_options::AnyOptions;
 use crate::line_ending::LineEnding;
 use crate::line_sinks::{JoinedLines, LentLines, ListedLines};
 use crate::options::Options;
-use crate::options_with::OptionsWith;
-use crate::printable_cuts::PrintableCuts;
 use crate::wrapping::{Way, push_text};
 use std::alloc::{AllocError, Allocator};
 use std::borrow::CowStr;
@@ -49,36 +44,14 @@ pub fn fill<A: Allocator + Copy>(
     ensures no_overflow { ¬ SomeMayPass64Bits options.entry text.now
         → IfErr result (λ error. error ≡ WrapError.Memory alloc_error) }
 {
-    joined_lines(alloc, text, &options)
+    fill_by(alloc, text, &options)
 }
 
-/// The same, where words are also told from the bytes of printable texts: then those of a paragraph
-/// that can be jumped over are not listed.
+/// The same by any options, which stay with the caller.
 ///
 /// # Errors
 /// Those of [`wrap`](crate::wrap).
-pub fn fill_with<A: Allocator + Copy, W: PrintableCuts + Copy>(
-    alloc: A,
-    text: &str,
-    options: &Options<'_>,
-    words: W,
-) -> Result<String<A>, WrapError>
-    requires agree { (line : List ℕ) (ws : List WordText)
-        → MaySeparate options.now.word_separator line ws → ws ≡ W.words words line }
-    ensures filled { IfOk result (λ filled. IsFilled (settings_view options.now)
-        (DividesWith (W.words words) options.now) text.now (string_bytes filled)) }
-    ensures only_memory { ¬ MayOverflow options.now
-        → IfErr result (λ error. error ≡ WrapError.Memory alloc_error) }
-{
-    let told = OptionsWith { options, words };
-    joined_lines(alloc, text, &told)
-}
-
-/// The lines of a text, joined by the line ending.
-///
-/// # Errors
-/// Those of [`wrap`](crate::wrap).
-fn joined_lines<A: Allocator + Copy, O: AnyOptions<A>>(
+pub fn fill_by<A: Allocator + Copy, O: AnyOptions<A>>(
     alloc: A,
     text: &str,
     options: &O,

@@ -7,29 +7,24 @@ ghost use Rattle.textwrap_words.specs.Pieces.{as_splitter, stand_from};
 ghost use Rattle.textwrap_words.specs.PiecesLeft.{standing_left};
 ghost use Rattle.textwrap_words.specs.Words.{tiled, word_view};
 ghost use Rattle.textwrap_lines.specs.Options.{settings_view};
-ghost use Rattle.textwrap_lines.specs.Paragraph.{first_width, indent_of, is_whole, later_width};
+ghost use Rattle.textwrap_lines.specs.Paragraph.{first_width, is_whole, later_width};
 ghost use Rattle.textwrap_lines.specs.Paragraph.{line_from, line_view, parts_from, pieces_of};
 
-pub use crate::filling::{fill_into, fill_with};
-use crate::layout::{self, Layout};
+pub use crate::any_options::{AnyOptions, BuiltInAlgorithm, BuiltInParts};
+pub use crate::built_in::BuiltInOptions;
+pub use crate::filling::{fill_by, fill_into};
+pub use crate::layout::{Layout, next_indent};
 use crate::line_sinks::ListedLines;
 pub use crate::options::DEFAULTS;
 use crate::options::Options;
-pub use crate::placed::{place_into, place_lines_with};
+pub use crate::placed::{place_into, place_lines_by};
 pub use crate::printable_cuts::PrintableCuts;
-use crate::wrapping;
-pub use crate::wrapping::{break_pieces, find_pieces, wrap_by};
+pub use crate::wrapping::{break_pieces, wrap_by, wrap_paragraph};
+use crate::{layout, wrapping};
 use std::alloc::{AllocError, Allocator};
 use std::borrow::CowStr;
 use textwrap_words::inner::{BuiltInSplitter, Pieces};
 use textwrap_words::words::Word;
-
-/// The indent of the next line. `is_later` says that a line stands before it.
-pub fn next_indent<'a>(options: &Options<'a>, is_later: bool) -> &'a str
-    ensures { result.now ≡ indent_of (settings_view options.now) is_later }
-{
-    layout::next_indent(&Layout::of(options), is_later)
-}
 
 /// The pieces of a paragraph by built-in parts, one after another: those that its lines are made of.
 pub fn paragraph_pieces<'t>(

@@ -17,21 +17,29 @@ use textwrap_words::words::display_width;
 
 /// The options but for the algorithm, the separator and the splitter. It holds no function.
 #[derive(Clone, Copy)]
-pub(crate) struct Layout<'a> {
-    pub(crate) width: usize,
-    pub(crate) line_ending: LineEnding,
-    pub(crate) initial_indent: &'a str,
-    pub(crate) subsequent_indent: &'a str,
-    pub(crate) break_words: bool,
-    pub(crate) preserve_trailing_space: bool,
-    pub(crate) even_paragraphs: bool,
+pub struct Layout<'a> {
+    /// The columns of a line, with its indent.
+    pub width: usize,
+    /// What ends a paragraph, and joins lines.
+    pub line_ending: LineEnding,
+    /// What is printed before the first line.
+    pub initial_indent: &'a str,
+    /// What is printed before each later line.
+    pub subsequent_indent: &'a str,
+    /// Whether words that are too wide for a line are broken.
+    pub break_words: bool,
+    /// Whether blanks at line ends are kept.
+    pub preserve_trailing_space: bool,
+    /// Whether the first lines of later paragraphs are divided for the width that their own indent
+    /// leaves.
+    pub even_paragraphs: bool,
 }
 
 impl<'a> Layout<'a> {
     ghost use Rattle.textwrap_lines.specs.Options.{settings_view};
 
     /// That of some options.
-    pub(crate) fn of(options: &Options<'a>) -> Layout<'a>
+    pub fn of(options: &Options<'a>) -> Layout<'a>
         ensures { layout_view result ≡ settings_view options.now }
     {
         let Options {
@@ -86,7 +94,7 @@ fn remaining_width(layout: &Layout<'_>, indent: &str) -> usize
 }
 
 /// The indent of the next line. `is_later` says that a line stands before it.
-pub(crate) fn next_indent<'a>(layout: &Layout<'a>, is_later: bool) -> &'a str
+pub fn next_indent<'a>(layout: &Layout<'a>, is_later: bool) -> &'a str
     ensures { result.now ≡ indent_of (layout_view layout.now) is_later }
 {
     if is_later {

@@ -9,6 +9,7 @@ pub use options::Options;
 pub use wrapping::wrap;
 
 mod any_options;
+mod built_in;
 mod cheapest;
 mod direct;
 mod filling;
@@ -21,7 +22,6 @@ mod lent_places;
 mod line_ending;
 mod line_sinks;
 mod options;
-mod options_with;
 pub mod parts;
 mod piece_lines;
 pub mod placed;

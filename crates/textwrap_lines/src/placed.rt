@@ -7,14 +7,13 @@ ghost use Rattle.std.specs.List.{flat_map};
 ghost use Rattle.textwrap_lines.specs.Direct.{IsDirect};
 ghost use Rattle.textwrap_lines.specs.LentPlaces.{WritesPlaces, reported_line};
 ghost use Rattle.textwrap_lines.specs.Options.{Settings, settings_view, HasParts, MayOverflow};
-ghost use Rattle.textwrap_lines.specs.Paragraph.{DividesAs, DividesBy, DividesWith, Line, Slice};
+ghost use Rattle.textwrap_lines.specs.Paragraph.{DividesAs, DividesBy, Line, Slice};
 ghost use Rattle.textwrap_lines.specs.Paragraph.{text_limit};
-ghost use Rattle.textwrap_words.specs.WordSeparators.{MaySeparate};
 ghost use Rattle.textwrap_lines.specs.Places.{ArePlacedLines, HasPlacesMore, built_text, cut_line};
 ghost use Rattle.textwrap_lines.specs.Places.{division_cuts, further};
 ghost use Rattle.textwrap_lines.specs.Text.{HasParagraphThat, SomeMayPass64Bits};
 ghost use Rattle.textwrap_words.specs.WordSplitters.{Splitter};
-ghost use Rattle.textwrap_words.specs.Words.{WordText, tiled, word_view};
+ghost use Rattle.textwrap_words.specs.Words.{tiled, word_view};
 ghost use Rattle.textwrap_words.specs.WrapAlgorithms.{Algorithm};
 
 use crate::any_options::AnyOptions;
@@ -23,9 +22,7 @@ pub use crate::lent_places::LineCounts;
 use crate::lent_places::{LentLinePlaces, LentPlaces};
 use crate::line_sinks::LineSink;
 use crate::options::Options;
-use crate::options_with::OptionsWith;
 pub use crate::places::{Place, PlacedLines, TextwrapLine};
-use crate::printable_cuts::PrintableCuts;
 use crate::wrapping::{Way, push_lines, push_text};
 use std::alloc::{AllocError, Allocator};
 use textwrap_words::words::Word;
@@ -55,37 +52,14 @@ pub fn place_lines<A: Allocator + Copy>(
     ensures no_overflow { ¬ SomeMayPass64Bits options.now text.now
         → IfErr result (λ error. error ≡ WrapError.Memory alloc_error) }
 {
-    placed_lines(alloc, text, options)
+    place_lines_by(alloc, text, options)
 }
 
-/// The same, where words are also told from the bytes of printable texts: then those of a paragraph
-/// that can be jumped over are not listed.
+/// The same by any options.
 ///
 /// # Errors
 /// Those of [`wrap`](crate::wrap).
-pub fn place_lines_with<A: Allocator + Copy, W: PrintableCuts + Copy>(
-    alloc: A,
-    text: &str,
-    options: &Options<'_>,
-    words: W,
-) -> Result<PlacedLines<A>, WrapError>
-    requires agree { (line : List ℕ) (ws : List WordText)
-        → MaySeparate options.now.word_separator line ws → ws ≡ W.words words line }
-    ensures lines { IfOk result (λ placed. (lines : List Line)
-        × ArePlacedLines (settings_view options.now) (DividesWith (W.words words) options.now)
-        text.now lines placed.places.items × (placed.built.items ≡ built_text lines)) }
-    ensures only_memory { ¬ MayOverflow options.now
-        → IfErr result (λ error. error ≡ WrapError.Memory alloc_error) }
-{
-    let told = OptionsWith { options, words };
-    placed_lines(alloc, text, &told)
-}
-
-/// The lines of a text by where they stand.
-///
-/// # Errors
-/// Those of [`wrap`](crate::wrap).
-fn placed_lines<A: Allocator + Copy, O: AnyOptions<A>>(
+pub fn place_lines_by<A: Allocator + Copy, O: AnyOptions<A>>(
     alloc: A,
     text: &str,
     options: &O,

@@ -1,11 +1,15 @@
-//! Where the words of a printable text are cut, told from its bytes.
-ghost use Rattle.std.specs.Prelude.{◌≡◌, ◌<◌, ℕ, Bool, IsTrue, List, length, map};
+//! Where a text is cut into words, also told from the bytes of a printable one.
+ghost use Rattle.std.specs.Prelude.{◌≡◌, ◌<◌, ℕ, Bool, IfOk, IsTrue, List, length, map};
+ghost use Rattle.std.specs.Option.{option_map};
 ghost use Rattle.textwrap_words.specs.PieceCuts.{parts_by};
 ghost use Rattle.textwrap_words.specs.Units.{IsPrintable};
-ghost use Rattle.textwrap_words.specs.Words.{WordText, word_of, words_of};
+ghost use Rattle.textwrap_words.specs.Words.{WordText, word_of};
+ghost use Rattle.textwrap_lines.specs.Direct.{CanBeCut, words_cut};
 ghost use Rattle.textwrap_lines.specs.Printable.{AfterOthers, BeforeOthers};
 
-/// Where the words of printable texts are cut, told from their bytes.
+use std::alloc::AllocError;
+
+/// Where texts are cut into words, also told from the bytes of printable ones.
 pub trait PrintableCuts {
     // The words of a text.
     ghost words: { Self → List ℕ → List WordText };
@@ -25,9 +29,15 @@ pub trait PrintableCuts {
         ensures { IsTrue result → (text : List ℕ) → IsPrintable text
             → words self.now text ≡ map word_of (parts_by (cuts self.now text) 0 text) };
 
-    /// Whether the words of a text stand between its blanks. If not, false says nothing.
-    fn stand_between_blanks(&self, text: &str) -> bool
-        ensures { IsTrue result → words self.now text.now ≡ words_of text.now };
+    /// Where the words of a text end but the last, or `None` where they stand between its blanks.
+    ///
+    /// # Errors
+    /// [`AllocError`] where memory runs out.
+    fn word_cuts(&self, text: &str) -> Result<Option<Vec<usize>>, AllocError>
+        ensures words { IfOk result (λ found. words_cut (option_map (λ cuts. cuts.items) found)
+            text.now ≡ words self.now text.now) }
+        ensures cuts { IfOk result (λ found. CanBeCut (option_map (λ cuts. cuts.items) found)
+            text.now) };
 
     // Blanks stay with the word before them.
     ghost before_others: { (words : Self) (text : List ℕ) → IsPrintable text
@@ -40,7 +50,7 @@ pub trait PrintableCuts {
 
 /// Words between blanks.
 #[derive(Clone, Copy)]
-pub(crate) struct BlankCuts {}
+pub struct BlankCuts {}
 
 impl PrintableCuts for BlankCuts {
     ghost use Rattle.std.specs.Prelude.{◌-◌, slice_index};
@@ -48,7 +58,7 @@ impl PrintableCuts for BlankCuts {
     ghost use Rattle.std.proofs.Common.{ap};
     ghost use Rattle.std.proofs.lemmas.Bool.{and_parts, eqb-true, not-true};
     ghost use Rattle.textwrap_words.specs.Blanks.{is_blank};
-    ghost use Rattle.textwrap_words.specs.Words.{is_cut};
+    ghost use Rattle.textwrap_words.specs.Words.{is_cut, words_of};
 
     ghost words = { λ words. words_of };
 
@@ -69,7 +79,7 @@ impl PrintableCuts for BlankCuts {
         true
     }
 
-    fn stand_between_blanks(&self, _text: &str) -> bool {
-        true
+    fn word_cuts(&self, _text: &str) -> Result<Option<Vec<usize>>, AllocError> {
+        Ok(None)
     }
 }

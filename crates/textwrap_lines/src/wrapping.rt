@@ -114,21 +114,22 @@ pub fn wrap<'t, A: Allocator + Copy>(
     Ok(lines)
 }
 
-/// The lines that [`wrap`] returns, by options that stay with the caller: many texts can be wrapped
-/// by them.
+/// The lines that [`wrap`] returns, by any options that stay with the caller: many texts can be
+/// wrapped by them.
 ///
 /// # Errors
 /// Those of [`wrap`].
-pub fn wrap_by<'t, A: Allocator + Copy>(
+pub fn wrap_by<'t, A: Allocator + Copy, O: AnyOptions<A>>(
     alloc: A,
     text: &'t str,
-    options: &Options<'_>,
+    options: &O,
 ) -> Result<Vec<CowStr<'t, A>, A>, WrapError>
-    ensures lines { IfOk result (λ lines. AreTextLines (settings_view options.now)
-        (DividesBy options.now) text.now (map line_view lines.items)) }
-    ensures only_memory { ¬ MayOverflow options.now
+    ensures lines { IfOk result (λ lines. AreTextLines (O.settings options.now)
+        (O.divides options.now) text.now (map line_view lines.items)) }
+    ensures only_memory { ¬ O.may_overflow options.now
         → IfErr result (λ error. error ≡ WrapError.Memory alloc_error) }
-    ensures no_overflow { ¬ SomeMayPass64Bits options.now text.now
+    ensures no_overflow { ¬ HasParagraphThat (O.may_pass options.now)
+        (O.settings options.now).line_ending text.now
         → IfErr result (λ error. error ≡ WrapError.Memory alloc_error) }
 {
     let mut list = Vec::new(alloc);
@@ -352,11 +353,37 @@ pub fn wrap_single_line<'t, A: Allocator + Copy>(
         (nat_lt 0 (length lines.old.items)) line.now parts
         × Adds lines.old.items lines.new.items parts) }
 {
+    wrap_paragraph(alloc, line, options, lines)
+}
+
+/// The same by any options.
+///
+/// # Errors
+/// Those of [`wrap_single_line`].
+pub fn wrap_paragraph<'t, A: Allocator + Copy, O: AnyOptions<A>>(
+    alloc: A,
+    paragraph: &'t str,
+    options: &O,
+    lines: &mut Vec<CowStr<'t, A>, A>,
+) -> Result<(), WrapError>
+    ensures appended { AppendsLines (O.may_overflow options.now)
+        (AreParagraphParts (O.settings options.now) (O.divides options.now)
+        (nat_lt 0 (length lines.old.items)) paragraph.now) lines.old.items lines.new.items result }
+    ensures no_overflow { ¬ O.may_pass options.now paragraph.now
+        → IfErr result (λ error. error ≡ WrapError.Memory alloc_error) }
+{
     // A list of its own, so that an error leaves the other as it was.
     let is_later = !lines.is_empty();
     let mut own = Vec::new(alloc);
     let mut found = ListedLines { lines: &mut own };
-    push_paragraph(alloc, line, options, is_later, Way::Shortest, &mut found)?;
+    push_paragraph(
+        alloc,
+        paragraph,
+        options,
+        is_later,
+        Way::Shortest,
+        &mut found,
+    )?;
     Ok(lines.append(&mut own)?)
 }
 
@@ -423,10 +450,7 @@ pub fn wrap_single_line_slow_path<'t, A: Allocator + Copy>(
 ///
 /// # Errors
 /// [`AllocError`] where memory runs out, or a function of the caller says so.
-pub(crate) fn word_cuts(
-    paragraph: &str,
-    options: &Options<'_>,
-) -> Result<Option<Vec<usize>>, AllocError>
+fn word_cuts(paragraph: &str, options: &Options<'_>) -> Result<Option<Vec<usize>>, AllocError>
     ensures words { IfOk result (λ found. MaySeparate options.now.word_separator paragraph.now
         (words_cut (option_map (λ cuts. cuts.items) found) paragraph.now)) }
     ensures cuts { IfOk result (λ found. CanBeCut (option_map (λ cuts. cuts.items) found)
@@ -444,7 +468,7 @@ pub(crate) fn word_cuts(
 ///
 /// # Errors
 /// [`AllocError`] where memory runs out, or a function of the caller says so.
-pub fn find_pieces<'t, A: Allocator + Copy>(
+fn find_pieces<'t, A: Allocator + Copy>(
     alloc: A,
     paragraph: &'t str,
     options: &Options<'_>,
@@ -524,7 +548,7 @@ fn find_split_words<'t, A: Allocator + Copy>(
 }
 
 /// The pieces divided by the algorithm of the options.
-pub(crate) fn divide<'a, 'w, A: Allocator + Copy>(
+fn divide<'a, 'w, A: Allocator + Copy>(
     alloc: A,
     pieces: &'w [Word<'a>],
     options: &Options<'_>,

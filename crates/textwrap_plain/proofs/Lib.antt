@@ -1,3 +1,4 @@
+pub mod Named
 pub mod OnlyLine
 pub mod Parts
 pub mod Separators

@@ -1,20 +1,15 @@
 -- Separators that give the words of options without functions.
-use Rattle.textwrap_base.proofs.Common.{◌≡◌, ℕ, List, map, sym, subst, ap, ◌∙◌}
-use Rattle.std.specs.Prelude.{IfOk, Ok}
-use Rattle.textwrap_words.proofs.Common.{MaySeparate, word_of, WordText}
+use Rattle.textwrap_base.proofs.Common.{◌≡◌, ℕ, List, sym, subst, ap, ◌∙◌}
+use Rattle.textwrap_words.proofs.Common.{MaySeparate, WordText}
 use Rattle.textwrap_words.proofs.Word.Words.{words_unique}
 use Rattle.textwrap_words.specs.declared.word_separators.WordSeparator.{WordSeparator}
-use Rattle.textwrap_words.specs.declared.word_separators.WordSeparator.TheVariants.{AsciiSpace, Custom}
-use Rattle.textwrap_words.specs.declared.word_separators.line_cuts.LineCuts.{LineCuts}
-use Rattle.textwrap_words.specs.Cuts.{parts_between}
+use Rattle.textwrap_words.specs.declared.word_separators.WordSeparator.TheVariants.{AsciiSpace}
 use Rattle.textwrap_lines.proofs.Common.{HasParts, HasPartsAt, settings_view}
 use Rattle.textwrap_lines.specs.declared.options.Options.{Options}
 use Rattle.textwrap_plain.specs.Options.{algorithm_of, settings_of, splitter_of, words_by}
 use Rattle.textwrap_plain.specs.declared.options.PlainOptions.{PlainOptions}
 use Rattle.textwrap_plain.specs.declared.options.PlainSeparator.{PlainSeparator}
-use Rattle.textwrap_plain.specs.declared.options.PlainSeparator.TheVariants.{AtBlanks, AtBreaks}
-use Rattle.textwrap_unicode.specs.Cuts.{cuts_by}
-use Rattle.textwrap_unicode.specs.declared.numbers.Numbers.{Numbers}
+use Rattle.textwrap_plain.specs.declared.options.PlainSeparator.TheVariants.{AtBlanks}
 
 module _ {C : Type 0} {c : _} where
   -- the separator gives no words of a line but these
@@ -26,20 +21,6 @@ module _ {C : Type 0} {c : _} where
       → separator ≡ AsciiSpace → plain ≡ AtBlanks → Separates separator plain
   separates-blanks separator plain is plain_is line ws may =
       (words_unique line ws).0 (subst (λ s. MaySeparate s line ws) is may) ∙ ap (λ s. words_by s line) (sym plain_is)
-
-  -- the function gives the cuts at the places where Unicode lets a line end
-  pub separates-breaks : (separator : WordSeparator C c) (plain : PlainSeparator) (numbers : Numbers)
-      (given : LineCuts C c) → separator ≡ Custom given → plain ≡ AtBreaks numbers
-      → ((alloc : _) (asked : _) (answer : _) → c.post given.function (alloc, (asked, tt)) answer
-      → IfOk answer (λ cuts. cuts.items ≡ cuts_by numbers asked.now))
-      → Separates separator plain
-  separates-breaks separator plain numbers given is plain_is gives line ws may =
-      let (cuts, (alloc, asked, answer, same, items, met), are) =
-      subst (λ s. MaySeparate s line ws) is may in
-      let here = gives alloc asked (Ok answer) met in
-      subst (λ s. ws ≡ words_by s line) (sym plain_is)
-      (are ∙ ap (λ cs. map word_of (parts_between cs line))
-      (sym items ∙ here ∙ ap (cuts_by numbers) same))
 
 module _ {E C : Type 0} {e : _} {c : _} where
   -- the options for words between blanks, but for the separator

@@ -5,12 +5,13 @@ ghost use Rattle.textwrap_display.specs.Tables.{gaps_view, texts_in};
 ghost use Rattle.textwrap_plain.specs.Options.{DividesPlainly, settings_of};
 ghost use Rattle.textwrap_plain.specs.Tables.{IsPlainTable, plain_parts};
 
-use crate::options::{PlainOptions, PlainSeparator};
+use crate::options::PlainOptions;
 use std::alloc::Global;
-use textwrap::word_separators::LineCuts;
-use textwrap::{WordSeparator, WrapError};
-use textwrap_display::{Alignment, Column, Gaps};
-use textwrap_unicode::{Numbers, unicode_cuts, unicode_cuts_by_expression};
+use std::borrow::CowStr;
+use textwrap::WrapError;
+use textwrap_display::inner::{AnyColumn, fill_justified_by, table_by};
+use textwrap_display::{Alignment, Gaps};
+use textwrap_lines::inner::wrap_by;
 
 /// A column of a table.
 #[derive(Clone, Copy, Debug)]
@@ -19,6 +20,31 @@ pub struct PlainColumn<'a> {
     pub options: PlainOptions<'a>,
     /// Where their lines stand in it.
     pub alignment: Alignment,
+}
+
+impl AnyColumn<Global> for PlainColumn<'_> {
+    ghost use Rattle.std.specs.Prelude.{⊤};
+    ghost use Rattle.textwrap_plain.specs.Tables.{plain_parts, plain_shape, PlainMakes};
+
+    ghost makes = { λ column. PlainMakes (plain_parts column) };
+
+    ghost shape = { λ column. plain_shape (plain_parts column) };
+
+    ghost may_overflow = { λ column. ⊥ };
+
+    ghost may_pass = { λ column text. ⊤ };
+
+    fn width(&self) -> usize {
+        self.options.width
+    }
+
+    fn alignment(&self) -> Alignment {
+        self.alignment
+    }
+
+    fn wrap_cell<'t>(&self, alloc: Global, text: &'t str) -> Result<Vec<CowStr<'t>>, WrapError> {
+        wrap_by(alloc, text, &self.options.built_in(alloc))
+    }
 }
 
 /// Fills a text and justifies all lines but the last of each paragraph, as `fill_justified` of
@@ -35,17 +61,7 @@ pub fn fill_justified(
         (DividesPlainly options.now (settings_of options.now)) text.now (string_bytes filled)) }
     ensures only_memory { IfErr result (λ error. error ≡ WrapError.Memory alloc_error) }
 {
-    let word_separator = match options.word_separator {
-        PlainSeparator::AtBlanks => WordSeparator::AsciiSpace,
-        PlainSeparator::AtBreaks(Numbers::ByPairs) => {
-            WordSeparator::Custom(LineCuts::new(alloc, unicode_cuts))
-        }
-        PlainSeparator::AtBreaks(Numbers::ByExpression) => {
-            WordSeparator::Custom(LineCuts::new(alloc, unicode_cuts_by_expression))
-        }
-    };
-    let options = options.at_blanks().word_separator(word_separator);
-    textwrap_display::fill_justified(alloc, text, options)
+    fill_justified_by(alloc, text, &options.built_in(alloc))
 }
 
 /// Wraps texts in the columns of a table, and returns its rows, as `table` of `textwrap_display` does
@@ -63,22 +79,5 @@ pub fn table(
         (gaps_view gaps.now) (texts_in cells.now) (map string_bytes rows.items)) }
     ensures only_memory { IfErr result (λ error. error ≡ WrapError.Memory alloc_error) }
 {
-    let mut list = Vec::with_capacity(alloc, columns.len())?;
-    for column in columns {
-        let word_separator = match column.options.word_separator {
-            PlainSeparator::AtBlanks => WordSeparator::AsciiSpace,
-            PlainSeparator::AtBreaks(Numbers::ByPairs) => {
-                WordSeparator::Custom(LineCuts::new(alloc, unicode_cuts))
-            }
-            PlainSeparator::AtBreaks(Numbers::ByExpression) => {
-                WordSeparator::Custom(LineCuts::new(alloc, unicode_cuts_by_expression))
-            }
-        };
-        let options = column.options.at_blanks().word_separator(word_separator);
-        list.push(Column {
-            options,
-            alignment: column.alignment,
-        })?;
-    }
-    textwrap_display::table(alloc, cells, &list, gaps)
+    table_by(alloc, cells, columns, gaps)
 }

@@ -5,14 +5,12 @@ ghost use Rattle.textwrap.specs.Words.{word_view, Tiles};
 ghost use Rattle.textwrap_lines.specs.Places.{ArePlacedLines, built_text};
 ghost use Rattle.textwrap_plain.specs.Options.{DividesPlainly, settings_of, splitter_of, words_by};
 
-use crate::options::{PlainOptions, PlainSeparator};
+use crate::options::PlainOptions;
 use std::alloc::{AllocError, Global};
-use textwrap::word_separators::LineCuts;
+use textwrap::WrapError;
 use textwrap::words::Word;
-use textwrap::{WordSeparator, WrapError};
-use textwrap_lines::inner::{find_pieces, place_lines_with};
+use textwrap_lines::inner::{AnyOptions, place_lines_by};
 use textwrap_lines::placed::PlacedLines;
-use textwrap_unicode::{Numbers, unicode_cuts, unicode_cuts_by_expression};
 
 /// The lines of [`wrap`](crate::wrap), by where they stand.
 ///
@@ -29,18 +27,7 @@ pub fn place_lines(
         × (placed.built.items ≡ built_text lines)) }
     ensures only_memory { IfErr result (λ error. error ≡ WrapError.Memory alloc_error) }
 {
-    let word_separator = match options.word_separator {
-        PlainSeparator::AtBlanks => WordSeparator::AsciiSpace,
-        PlainSeparator::AtBreaks(Numbers::ByPairs) => {
-            WordSeparator::Custom(LineCuts::new(alloc, unicode_cuts))
-        }
-        PlainSeparator::AtBreaks(Numbers::ByExpression) => {
-            WordSeparator::Custom(LineCuts::new(alloc, unicode_cuts_by_expression))
-        }
-    };
-    let separator = options.word_separator;
-    let options = options.at_blanks().word_separator(word_separator);
-    place_lines_with(alloc, text, &options, separator)
+    place_lines_by(alloc, text, &options.built_in(alloc))
 }
 
 /// The pieces that a paragraph is divided into lines of: its words, split and broken.
@@ -57,18 +44,5 @@ pub fn paragraph_pieces<'t>(
         (splitter_of options.now) paragraph.now) }
     ensures tiles { IfOk result (λ pieces. Tiles (map word_view pieces.items) paragraph.now) }
 {
-    let word_separator = match options.word_separator {
-        PlainSeparator::AtBlanks => WordSeparator::AsciiSpace,
-        PlainSeparator::AtBreaks(Numbers::ByPairs) => {
-            WordSeparator::Custom(LineCuts::new(alloc, unicode_cuts))
-        }
-        PlainSeparator::AtBreaks(Numbers::ByExpression) => {
-            WordSeparator::Custom(LineCuts::new(alloc, unicode_cuts_by_expression))
-        }
-    };
-    find_pieces(
-        alloc,
-        paragraph,
-        &options.at_blanks().word_separator(word_separator),
-    )
+    options.built_in(alloc).find_pieces(alloc, paragraph)
 }

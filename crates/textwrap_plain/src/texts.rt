@@ -13,14 +13,13 @@ ghost use Rattle.textwrap_lines.specs.LineEnding.{paragraphs_of};
 ghost use Rattle.textwrap_words.specs.Blanks.{without_final_blanks};
 ghost use Rattle.textwrap_words.specs.LentText.{as_len, written_over};
 
-use crate::options::{PlainOptions, PlainSeparator};
+use crate::options::PlainOptions;
 use std::alloc::Global;
 use std::borrow::CowStr;
-use textwrap::word_separators::LineCuts;
-use textwrap::{LineEnding, WordSeparator, WrapError};
-use textwrap_lines::inner::fill_with;
+use textwrap::inner::{refill_built_in, wrap_columns_built_in};
+use textwrap::{LineEnding, WrapError};
+use textwrap_lines::inner::{fill_by, wrap_by};
 use textwrap_lines::parts::split_paragraph;
-use textwrap_unicode::{Numbers, unicode_cuts, unicode_cuts_by_expression};
 use textwrap_words::blanks::split_final_blanks;
 use textwrap_words::inner::{LentText, is_printable};
 
@@ -54,20 +53,7 @@ pub fn wrap<'t>(
         (map line_view lines.items)) }
     ensures only_memory { IfErr result (λ error. error ≡ WrapError.Memory alloc_error) }
 {
-    let word_separator = match options.word_separator {
-        PlainSeparator::AtBlanks => WordSeparator::AsciiSpace,
-        PlainSeparator::AtBreaks(Numbers::ByPairs) => {
-            WordSeparator::Custom(LineCuts::new(alloc, unicode_cuts))
-        }
-        PlainSeparator::AtBreaks(Numbers::ByExpression) => {
-            WordSeparator::Custom(LineCuts::new(alloc, unicode_cuts_by_expression))
-        }
-    };
-    textwrap::wrap(
-        alloc,
-        text,
-        options.at_blanks().word_separator(word_separator),
-    )
+    wrap_by(alloc, text, &options.built_in(alloc))
 }
 
 /// Wraps a text and joins its lines by the line ending, as `fill` of `textwrap` does it.
@@ -79,18 +65,7 @@ pub fn fill(alloc: Global, text: &str, options: &PlainOptions<'_>) -> Result<Str
         (DividesPlainly options.now (settings_of options.now)) text.now (string_bytes filled)) }
     ensures only_memory { IfErr result (λ error. error ≡ WrapError.Memory alloc_error) }
 {
-    let word_separator = match options.word_separator {
-        PlainSeparator::AtBlanks => WordSeparator::AsciiSpace,
-        PlainSeparator::AtBreaks(Numbers::ByPairs) => {
-            WordSeparator::Custom(LineCuts::new(alloc, unicode_cuts))
-        }
-        PlainSeparator::AtBreaks(Numbers::ByExpression) => {
-            WordSeparator::Custom(LineCuts::new(alloc, unicode_cuts_by_expression))
-        }
-    };
-    let separator = options.word_separator;
-    let options = options.at_blanks().word_separator(word_separator);
-    fill_with(alloc, text, &options, separator)
+    fill_by(alloc, text, &options.built_in(alloc))
 }
 
 /// Writes the text of [`fill`] into lent room, as much of it as there is room for, and returns how many
@@ -181,20 +156,7 @@ pub fn refill(
         (DividesPlainly options.now) filled_text.now (string_bytes refilled)) }
     ensures only_memory { IfErr result (λ error. error ≡ WrapError.Memory alloc_error) }
 {
-    let word_separator = match options.word_separator {
-        PlainSeparator::AtBlanks => WordSeparator::AsciiSpace,
-        PlainSeparator::AtBreaks(Numbers::ByPairs) => {
-            WordSeparator::Custom(LineCuts::new(alloc, unicode_cuts))
-        }
-        PlainSeparator::AtBreaks(Numbers::ByExpression) => {
-            WordSeparator::Custom(LineCuts::new(alloc, unicode_cuts_by_expression))
-        }
-    };
-    textwrap::refill(
-        alloc,
-        filled_text,
-        options.at_blanks().word_separator(word_separator),
-    )
+    refill_built_in(alloc, filled_text, &options.built_in(alloc))
 }
 
 /// Wraps a text into columns beside one another, as `wrap_columns` of `textwrap` does it.
@@ -216,17 +178,8 @@ pub fn wrap_columns(
         (map string_bytes rows.items)) }
     ensures only_memory { IfErr result (λ error. error ≡ WrapError.Memory alloc_error) }
 {
-    let word_separator = match options.word_separator {
-        PlainSeparator::AtBlanks => WordSeparator::AsciiSpace,
-        PlainSeparator::AtBreaks(Numbers::ByPairs) => {
-            WordSeparator::Custom(LineCuts::new(alloc, unicode_cuts))
-        }
-        PlainSeparator::AtBreaks(Numbers::ByExpression) => {
-            WordSeparator::Custom(LineCuts::new(alloc, unicode_cuts_by_expression))
-        }
-    };
-    let options = options.at_blanks().word_separator(word_separator);
-    textwrap::wrap_columns(
-        alloc, text, columns, options, left_gap, middle_gap, right_gap,
+    let options = options.built_in(alloc);
+    wrap_columns_built_in(
+        alloc, text, columns, &options, left_gap, middle_gap, right_gap,
     )
 }

@@ -1,11 +1,13 @@
 -- The lines of a division, one after another, and the widths of its pieces.
 use Rattle.textwrap_base.proofs.Common.{◌≡◌, ℕ, Bool, ◌≤◌, List, [], ◌∷◌, length, map, refl, ap}
 use Rattle.textwrap_base.proofs.Common.{All, flat_map, map-append, total_width, rules, arith}
+use Rattle.textwrap_base.proofs.Common.{◌++◌, ◌∙◌, StartsWith, starts_with_of_append, subst, sym}
+use Rattle.textwrap_base.proofs.Lists.Parts.{flat}
 use Rattle.textwrap_words.proofs.Common.{WordText, word_view, sizes_of, tiled, Tiles, MayDivide}
 use Rattle.textwrap_lines.proofs.Common.{Settings, ArePieces, widths_of, IsDividedInto}
 use Rattle.textwrap_lines.proofs.Common.{Word}
 use Rattle.textwrap_words.specs.declared.wrap_algorithms.WrapAlgorithm.{WrapAlgorithm}
-use Rattle.textwrap_words.proofs.Word.Divisions.{MayDivide-map}
+use Rattle.textwrap_words.proofs.Word.Divisions.{MayDivide-begins, MayDivide-map}
 use Rattle.textwrap_base.proofs.Cost.Measures.{total_width-same}
 use Rattle.textwrap_words.proofs.Word.Bounds.{IsNarrowWord, total_width-narrow}
 use Rattle.textwrap_words.proofs.Word.Tiling.{tiled-append}
@@ -13,7 +15,7 @@ use Rattle.std.proofs.lemmas.Grind.{common_steps}
 
 -- ---- the lines of a division, where v gives each line's pieces
 
-pub tiled-lines : {D : Type 0} (v : D → List Word) (division : List D)
+tiled-lines : {D : Type 0} (v : D → List Word) (division : List D)
     → flat_map (λ line. tiled (map word_view (v line))) division ≡ tiled
     (map word_view (flat_map (λ line. line) (map v division)))
 tiled-lines v [] = refl
@@ -34,6 +36,23 @@ pub divides-from : {D F : Type 0} {f : _} (v : D → List Word) (settings : Sett
     (map (λ line. map word_view (v line)) division)
 divides-from v settings Words Points algorithm is_later paragraph pieces division are divided =
     rw (views-lines v division) (map word_view pieces, are, search (rules, arith, MayDivide-map))
+
+-- and begins with them
+pub division-begins : {D F : Type 0} {f : _} (v : D → List Word) (algorithm : WrapAlgorithm F f)
+    (widths : List ℕ) (pieces : List Word) (division : List D)
+    → MayDivide algorithm word_view widths pieces (map v division)
+    → StartsWith (tiled (map word_view pieces))
+    (flat_map (λ line. tiled (map word_view (v line))) division)
+division-begins v algorithm widths pieces division divided =
+    let lines = map v division in
+    let (rest, is) = MayDivide-begins algorithm word_view widths pieces lines divided in
+    let whole : tiled (map word_view pieces)
+    ≡ tiled (map word_view (flat lines)) ++ tiled (map word_view rest) =
+    ap (λ ws. tiled (map word_view ws)) (sym is) ∙ ap tiled (map-append word_view (flat lines) rest)
+    ∙ tiled-append (map word_view (flat lines)) (map word_view rest) in
+    subst (StartsWith (tiled (map word_view pieces))) (sym (tiled-lines v division))
+    (starts_with_of_append (tiled (map word_view pieces)) (tiled (map word_view (flat lines)))
+    (tiled (map word_view rest)) whole)
 
 -- ---- the widths of the pieces
 

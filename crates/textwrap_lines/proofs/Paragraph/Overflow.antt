@@ -32,6 +32,13 @@ overflow-optimal (algorithms.TheVariants.OptimalFit penalties) sizes widths xs o
 overflow-optimal (algorithms.TheVariants.Custom given) sizes widths xs overflows =
     absurd overflows
 
+-- an error that is no overflow
+pub only-without : {A : Type 0} (result : Result A WrapError) → ¬ Overflowed result
+    → IfErr result (λ error. error ≡ Memory alloc_error)
+only-without (Ok value) never = tt
+only-without (Err (Memory error)) never = refl
+only-without (Err (Overflow error)) never = absurd (never tt)
+
 -- whether a splitter is built in can be told
 built_in-or : {C : Type 0} {c : _} (splitter : splitters.WordSplitter C c) {P : Type 0}
     → (splitter_view splitter ≡ None → P) → (splitter_view splitter ≢ None → P) → P

@@ -17,14 +17,14 @@ module _ (text : List ℕ) (covered len n m : ℕ) (word gap after : List ℕ)
   piece-within =
       omega (arith, within, n_is, m_is, length-drop len text, ap length seam, length-append {A = ℕ})
 
-  word_taken : take n (drop len text) ≡ word
+  pub word_taken : take n (drop len text) ≡ word
   word_taken = ap (take n) seam ∙ take_at word (gap ++ after) n (sym n_is)
 
   past_word : drop (len + n) text ≡ gap ++ after
   past_word =
       sym (drop-drop n len text) ∙ ap (drop n) seam ∙ drop_at word (gap ++ after) n (sym n_is)
 
-  gap_taken : take m (drop (len + n) text) ≡ gap
+  pub gap_taken : take m (drop (len + n) text) ≡ gap
   gap_taken = ap (take m) past_word ∙ take_at gap after m (sym m_is)
 
   pub place-after : drop (len + n + m) text ≡ after

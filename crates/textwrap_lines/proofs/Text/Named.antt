@@ -1,10 +1,7 @@
 -- What is divided by the options is divided by what they name: the words of a line that the separator
 -- may give, a built-in splitter and a built-in algorithm.
 use Rattle.textwrap_base.proofs.Common.{◌≡◌, ℕ, Bool, true, false, MatchBool, List, [], ◌∷◌, Option}
-use Rattle.textwrap_base.proofs.Common.{inl, inr, subst, ⊤}
-use Rattle.textwrap_words.proofs.Common.{MayDivide, MaySeparate, MaySplit}
-use Rattle.textwrap_lines.specs.Direct.{MayBeWords}
-use Rattle.textwrap_lines.proofs.Common.{IsDividedInto}
+use Rattle.textwrap_base.proofs.Common.{subst, ⊤}
 use Rattle.textwrap_words.proofs.Common.{AreSplit, Algorithm, Splitter, WordText, word_of, words_of}
 use Rattle.textwrap_words.proofs.Word.Words.{words_unique}
 use Rattle.textwrap_lines.proofs.Common.{AreGroups, AreParagraphParts, AreTextLines, DividesAs}
@@ -14,7 +11,7 @@ use Rattle.textwrap_lines.proofs.Common.{DividesBy, HasPartsAt, IsFilled, is_who
 use Rattle.textwrap_lines.proofs.Common.{Options, Settings, settings_view, widths_of}
 use Rattle.textwrap_lines.proofs.Paragraph.BuiltIn.{division-as, points-as}
 use Rattle.textwrap_lines.proofs.Text.Groups.{groups-map}
-use Rattle.textwrap_lines.specs.Paragraph.{DividesUnder, DividesWith}
+use Rattle.textwrap_lines.specs.Paragraph.{DividesUnder}
 use Rattle.textwrap_lines.specs.Places.{ArePlacedLines}
 use Rattle.textwrap_lines.specs.declared.places.Place.{Place}
 
@@ -55,23 +52,6 @@ pub divides-at_blanks : (splitter : Splitter) (algorithm : Algorithm) (settings 
 divides-at_blanks splitter algorithm settings is_later paragraph division
     (pieces, (ws, split, ws_are, split_are, is), by) =
     (pieces, (ws, split, (words_unique paragraph ws).0 ws_are, split_are, is), by)
-
--- words that may be given or are named are the named ones, where those that may be given are
-module _ {E C : Type 0} {e : _} {c : _} (options : Options E C e c)
-    (words : List ℕ → List WordText)
-    (agree : (line : List ℕ) (ws : List WordText) → MaySeparate options.word_separator line ws
-    → ws ≡ words line) where
-  named : (line : List ℕ) (ws : List WordText) → MayBeWords words options line ws → ws ≡ words line
-  named line ws (inl given) = agree line ws given
-  named line ws (inr same) = same
-
-  pub divides-with : (is_later : Bool) (paragraph : List ℕ) (division : List (List WordText))
-      → IsDividedInto (settings_view options) (MayBeWords words options)
-      (MaySplit options.word_splitter) (MayDivide options.wrap_algorithm (λ w. w)) is_later paragraph
-      division
-      → DividesWith words options is_later paragraph division
-  divides-with is_later paragraph division (pieces, (ws, split, are, split_are, is), by) =
-      (pieces, (ws, split, named paragraph ws are, split_are, is), by)
 
 -- ---- whatever holds of each division holds of what is made of them
 

@@ -2,7 +2,7 @@ use Rattle.textwrap_calls.proofs.justified_steps.justify_text.Goals as goal
 use Rattle.textwrap_base.proofs.Common.{◌+◌, ◌<◌, ◌∷◌, arith, drop, drop_more, inl, inr, length, length-drop}
 use Rattle.textwrap_base.proofs.Common.{◌++◌, ap, map, refl, string_bytes, subst, ◌∙◌}
 use Rattle.textwrap_display.specs.JustifiedText.{joined_on, justified_after_indents}
-use Rattle.textwrap_lines.proofs.Common.{ending_bytes, line_view, settings_view}
+use Rattle.textwrap_lines.proofs.Common.{ending_bytes, line_view, Settings, settings_view}
 use Rattle.textwrap_lines.proofs.Text.Lines.{paragraphs_left, paragraphs_left-split}
 use Rattle.textwrap_calls.proofs.JustifiedStepLemmas.{IsJustifiedTo, justified-end, justified-many}
 use Rattle.textwrap_calls.proofs.JustifiedStepLemmas.{justified-more, justified-start, justified-wrong}
@@ -58,6 +58,9 @@ loop-rest-preserved g c =
           c.split_paragraph.ensures.paragraphs,
     ) at c.loop-rest.invariant.so_far) in
     let added = c.in-Ok-push_justified_lines.ensures
+    ∙ ap (λ (s : Settings). string_bytes c.loop-rest.filled ++ joined_on (ending_bytes s.line_ending)
+    c.loop-rest.is_later (justified_after_indents s c.loop-rest.is_later
+    (map line_view c.deref.result.now))) c.of.ensures
     ∙ ap (λ ls. string_bytes c.loop-rest.filled ++ joined_on (ending_bytes options.line_ending)
     c.loop-rest.is_later (justified_after_indents settings c.loop-rest.is_later (map line_view ls)))
     c.deref.ensures.value in

@@ -1,62 +1,9 @@
 use Rattle.textwrap_display.proofs.filling.fill_justified.Goals as goal
-use Rattle.textwrap_base.proofs.Common.{◌++◌, ap, ◌∙◌, arith, drop, length, string_bytes}
-use Rattle.std.proofs.lemmas.Slice.{between_to_end}
-use Rattle.textwrap_lines.proofs.Common.{settings_view, DividesBy}
-use Rattle.textwrap_lines.proofs.Text.Directly.{passed-on}
-use Rattle.textwrap_lines.proofs.Text.Lines.{paragraphs_left, paragraphs_left-split}
-use Rattle.textwrap_display.proofs.JustifiedSoFar.{justified-as, so_far-end, so_far-more}
-use Rattle.textwrap_display.proofs.JustifiedSoFar.{so_far-start}
-
-pub loop-rest-init : goal.loop-rest-init
-loop-rest-init g c =
-    let options = c.args.options in
-    rw c.new-lines.ensures.items (so_far-start (settings_view options) (DividesBy options)
-    c.args.text.now _ c.in_ok-filled.ensures.bytes)
-
-pub loop-rest-preserved : goal.loop-rest-preserved
-loop-rest-preserved g c =
-    let options = c.args.options in
-    let paragraph = c.split_paragraph.result.0.now in
-    let after = c.split_paragraph.result.1 in
-    so_far-more (settings_view options) (DividesBy options) c.args.text.now
-    (string_bytes c.loop-rest.filled) (string_bytes c.push_justified_lines.new.text)
-    c.loop-rest.lines.items c.truncate.new.self.items c.wrap_single_line.new.lines.items _
-    c.len-start.result paragraph (paragraphs_left options.line_ending after)
-    (rw (
-      c.in-Some.is,
-      paragraphs_left-split options.line_ending c.in-Some.text.now after paragraph
-          c.split_paragraph.ensures.paragraphs,
-    ) at c.loop-rest.invariant)
-    c.truncate.ensures.items (omega arith) c.in_ok-wrap_single_line.ensures.appended.lines
-    (between_to_end c.deref.result.now c.len-start.result (length c.deref.result.now) (omega arith)
-    ∙ ap (drop c.len-start.result) c.deref.ensures.value) c.in_ok-push_justified_lines.ensures
-
-pub returns-clause-filled : goal.returns-clause-filled
-returns-clause-filled g c =
-    let options = c.args.options in
-    so_far-end (settings_view options) (DividesBy options) c.args.text.now _ _
-    (rw c.in_default.is at c.loop-rest.invariant)
+use Rattle.std.proofs.lemmas.Result.{IfOk-weaker}
+use Rattle.textwrap_display.proofs.JustifiedSoFar.{justified-as}
 
 pub returns-clause-built_in : goal.returns-clause-built_in
-returns-clause-built_in g c = λ settings splitter algorithm parts.
-    justified-as c.args.options settings splitter algorithm parts c.args.text.now _
-    (returns-clause-filled g c)
-
-pub returns-in_err-wrap_single_line-clause-no_overflow :
-    goal.returns-in_err-wrap_single_line-clause-no_overflow
-returns-in_err-wrap_single_line-clause-no_overflow g c = λ never.
-    let ending = c.args.options.line_ending in
-    let paragraph = c.split_paragraph.result.0.now in
-    let after = c.split_paragraph.result.1 in
-    let left = ap (paragraphs_left ending) c.in-Some.is
-    ∙ paragraphs_left-split ending c.in-Some.text.now after paragraph
-    c.split_paragraph.ensures.paragraphs in
-    passed-on c.from_residual-in_err-wrap_single_line.result c.in_err-wrap_single_line.field-0.0
-    c.from_residual-in_err-wrap_single_line.ensures.1
-    (c.in_err-wrap_single_line.ensures.no_overflow (λ passes. never (
-      c.loop-rest.invariant.done,
-      paragraph,
-      paragraphs_left ending after,
-      c.loop-rest.invariant.paragraphs ∙ ap (λ ps. c.loop-rest.invariant.done ++ ps) left,
-      passes,
-    )))
+returns-clause-built_in g c = IfOk-weaker c.fill_justified_by.result _ _
+    (λ filled is settings splitter algorithm parts.
+    justified-as c.args.options settings splitter algorithm parts c.args.text.now _ is)
+    c.fill_justified_by.ensures.filled

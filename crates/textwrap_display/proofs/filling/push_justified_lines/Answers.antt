@@ -1,12 +1,12 @@
 use Rattle.textwrap_display.proofs.filling.push_justified_lines.Goals as goal
 use Rattle.textwrap_base.proofs.Common.{◌+◌, ◌++◌, ◌∷◌, [], sym, ap, ◌∙◌, drop, drop_more}
 use Rattle.textwrap_base.proofs.Common.{string_bytes}
-use Rattle.textwrap_lines.proofs.Common.{settings_view}
+use Rattle.textwrap_lines.proofs.Common.{layout_view}
 use Rattle.textwrap_display.proofs.JustifiedLines.{added, added-step}
 
 pub loop-line-preserved : goal.loop-line-preserved
 loop-line-preserved g c =
-    let settings = settings_view c.args.options.now in
+    let settings = layout_view c.args.layout.now in
     let others = c.in-Some.others.now in
     let last = c.in-Some.last.now in
     let i = c.loop-line.line-index in

@@ -1,11 +1,11 @@
 use Rattle.textwrap_display.proofs.filling.push_justified_lines.Given as goal
 use Rattle.textwrap_base.proofs.Common.{◌≡◌, ◌++◌, ◌∷◌, [], drop, string_bytes}
-use Rattle.textwrap_lines.proofs.Common.{settings_view}
+use Rattle.textwrap_lines.proofs.Common.{layout_view}
 use Rattle.textwrap_display.proofs.JustifiedLines.{added}
 
 -- with the lines that are left, it is the whole
 abbrev pub invariant-loop-line : goal.invariant-loop-line
 invariant-loop-line g l =
-    string_bytes l.text ++ added (settings_view l.options) l.has_line
+    string_bytes l.text ++ added (layout_view l.layout) l.has_line
     (drop l.line-index l.others ++ l.last ∷ [])
-    ≡ string_bytes l.fn.text ++ added (settings_view l.options) l.is_later l.lines
+    ≡ string_bytes l.fn.text ++ added (layout_view l.layout) l.is_later l.lines

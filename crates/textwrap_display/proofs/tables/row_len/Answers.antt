@@ -2,22 +2,22 @@ use Rattle.textwrap_display.proofs.tables.row_len.Goals as goal
 use Rattle.textwrap_display.proofs.tables.row_len.Goals.{After-gap_before}
 use Rattle.textwrap_base.proofs.Common.{◌≡◌, ◌+◌, ◌-◌, ◌≤◌, ap, arith, length, map}
 use Rattle.textwrap_words.specs.Units.{text_width}
-use Rattle.textwrap_display.specs.Tables.{cell_texts, gaps_view, row_text, shape_of}
+use Rattle.textwrap_display.specs.Tables.{cell_texts, gaps_view, row_text}
 use Rattle.textwrap_display.proofs.TableRows.{length-more, length-row, length-within, length_so_far}
 
 -- the bytes with one column more
 more : (g : _) (c : After-gap_before g)
-    → length_so_far (gaps_view c.args.gaps.now) c.args.columns.now (cell_texts c.args.cells.now)
+    → length_so_far g.C.AnyColumn.shape (gaps_view c.args.gaps.now) c.args.columns.now (cell_texts c.args.cells.now)
     c.args.r (c.loop-c.c + 1)
     ≡ c.loop-c.len + length c.gap_before.result.now
     + (length c.cell_line-line.result.now
-    + (c.index-columns-c.result.options.width - text_width c.cell_line-line.result.now))
+    + ((g.C.AnyColumn.shape c.index-columns-c.result).width - text_width c.cell_line-line.result.now))
 more g c =
     omega (
       arith,
       c.loop-c.invariant,
       ap length c.gap_before.ensures,
-      length-more (gaps_view c.args.gaps.now) c.args.columns.now (cell_texts c.args.cells.now)
+      length-more g.C.AnyColumn.shape (gaps_view c.args.gaps.now) c.args.columns.now (cell_texts c.args.cells.now)
           c.args.r c.loop-c.c c.index-columns-c.result c.loop-c-test.true c.index-columns-c.is
           c.cell_line-line.result.now c.cell_line-line.ensures,
     )
@@ -26,14 +26,14 @@ more g c =
 within : (g : _) (c : After-gap_before g)
     → c.loop-c.len + length c.gap_before.result.now
     + (length c.cell_line-line.result.now
-    + (c.index-columns-c.result.options.width - text_width c.cell_line-line.result.now))
-    ≤ length (row_text (gaps_view c.args.gaps.now) (map shape_of c.args.columns.now)
+    + ((g.C.AnyColumn.shape c.index-columns-c.result).width - text_width c.cell_line-line.result.now))
+    ≤ length (row_text (gaps_view c.args.gaps.now) (map g.C.AnyColumn.shape c.args.columns.now)
     (cell_texts c.args.cells.now) c.args.r)
 within g c =
     omega (
       arith,
       more g c,
-      length-within (gaps_view c.args.gaps.now) c.args.columns.now (cell_texts c.args.cells.now)
+      length-within g.C.AnyColumn.shape (gaps_view c.args.gaps.now) c.args.columns.now (cell_texts c.args.cells.now)
           c.args.r (c.loop-c.c + 1),
     )
 
@@ -44,6 +44,7 @@ loop-c-preserved g c = (
     arith,
     more g (goal.at.loop-c-preserved g c).After-gap_before,
     c.in_ok-checked_add.ensures,
+    c.width.ensures,
     c.in_ok-aligned_len.ensures,
     c.in_ok-len-2.ensures,
   ),
@@ -59,7 +60,7 @@ pub returns-in_err-aligned_len : goal.returns-in_err-aligned_len
 returns-in_err-aligned_len g c =
     let least = within g (goal.at.returns-in_err-aligned_len g c).After-gap_before in
     rw c.from_residual-in_err-aligned_len.ensures
-    (λ fits. c.in_err-aligned_len.ensures (omega (arith, fits, least)))
+    (λ fits. c.in_err-aligned_len.ensures (omega (arith, fits, least, c.width.ensures)))
 
 pub returns-in_err-len-2 : goal.returns-in_err-len-2
 returns-in_err-len-2 g c =
@@ -69,12 +70,13 @@ returns-in_err-len-2 g c =
       arith,
       fits,
       least,
+      c.width.ensures,
       c.in_ok-checked_add.ensures,
       c.in_ok-aligned_len.ensures,
     )))
 
 pub returns : goal.returns
 returns g c =
-    let whole = length-row (gaps_view c.args.gaps.now) c.args.columns.now
+    let whole = length-row g.C.AnyColumn.shape (gaps_view c.args.gaps.now) c.args.columns.now
     (cell_texts c.args.cells.now) c.args.r c.loop-c.c c.loop-c-test.false in
     (omega (arith, c.loop-c.invariant, whole), omega (arith, c.loop-c.invariant, whole))

@@ -1,88 +1,10 @@
 use Rattle.textwrap_display.proofs.tables.table.Goals as goal
-use Rattle.textwrap_base.proofs.Common.{◌≡◌, ◌++◌, ◌∙◌, [], ap, append-nil, arith, length, length-map}
-use Rattle.textwrap_base.proofs.Common.{map, map-append, rules, string_bytes, subst, sym}
-use Rattle.std.specs.Slice.Iter.{chunks_rest, chunks_size}
-use Rattle.textwrap_lines.proofs.Text.Directly.{passed-on}
-use Rattle.textwrap_display.specs.Tables.{AllFit64Bits, AreCells, cell_texts, ColumnMakes}
-use Rattle.textwrap_display.specs.Tables.{gaps_view, group_rows}
-use Rattle.textwrap_display.specs.Tables.{IsTable, shape_of, texts_in}
-use Rattle.textwrap_display.proofs.TableFits.{group_fits, groups_fit}
-use Rattle.textwrap_display.proofs.TableGroups.{rows-more, table-more, table-none}
+use Rattle.textwrap_base.proofs.Common.{map, string_bytes}
+use Rattle.std.proofs.lemmas.Result.{IfOk-weaker}
+use Rattle.textwrap_display.specs.Tables.{gaps_view, texts_in}
 use Rattle.textwrap_display.proofs.TableParts.{table-as}
 
-pub loop-texts-init : goal.loop-texts-init
-loop-texts-init g c =
-    let left = c.into_iter-texts-iterator.result in
-    let size : chunks_size left ≡ length c.args.columns.now = search rules in
-    let texts : chunks_rest left ≡ c.args.cells.now = search rules in
-    (size, λ others is. search rules, λ fit. rw texts fit)
-
-pub loop-texts-preserved : goal.loop-texts-preserved
-loop-texts-preserved g c =
-    let (size, (whole, front, some)) = c.in-Some.ensures.steps in
-    let columns = c.args.columns.now in
-    let gaps = gaps_view c.args.gaps.now in
-    let texts = chunks_rest c.loop-texts.texts-iterator in
-    let rest = chunks_rest c.next.new.self in
-    let first = c.in-Some.texts.now in
-    let cells = cell_texts c.deref.result.now in
-    let rows = group_rows gaps (map shape_of columns) cells in
-    let count = length-map texts (λ text. text.now) in
-    let first_count = length-map first (λ text. text.now) in (
-      size ∙ c.loop-texts.invariant.0,
-      λ others after.
-          subst (IsTable columns gaps (texts_in c.args.cells.now))
-          (sym (rows-more (map string_bytes c.loop-texts.rows.items)
-          (map string_bytes c.push_rows.new.rows.items) rows others c.in_ok-push_rows.ensures))
-          (c.loop-texts.invariant.1 (rows ++ others)
-          (table-more ColumnMakes shape_of columns gaps (texts_in texts) (texts_in first)
-          (texts_in rest) cells others
-          (omega (arith, c.loop-texts.iterator.0, c.loop-texts.invariant.0))
-          (ap texts_in whole ∙ map-append (λ text. text.now) first rest)
-          (omega (arith, first_count, count, front, c.loop-texts.invariant.0))
-          (omega (arith, count, some))
-          (subst (λ cs. AreCells ColumnMakes columns (texts_in first) (cell_texts cs))
-          (sym c.deref.ensures.value) c.in_ok-group.ensures.cells)
-          after)),
-      λ fit. groups_fit (AllFit64Bits columns) (length columns) (texts_in texts) (texts_in first)
-          (texts_in rest) (omega (arith, c.loop-texts.iterator.0, c.loop-texts.invariant.0))
-          (ap texts_in whole ∙ map-append (λ text. text.now) first rest) (omega (arith, count, some))
-          (omega (arith, first_count, count, front, c.loop-texts.invariant.0))
-          (c.loop-texts.invariant.2 fit),
-    )
-
-pub returns-in_err-group-clause-only_memory : goal.returns-in_err-group-clause-only_memory
-returns-in_err-group-clause-only_memory g c = λ never.
-    passed-on c.from_residual.result c.in_err-group.field-0.0 c.from_residual.ensures.1
-    (c.in_err-group.ensures.only_memory never)
-
-pub returns-in_err-group-clause-no_overflow : goal.returns-in_err-group-clause-no_overflow
-returns-in_err-group-clause-no_overflow g c = λ fit.
-    let (size, (whole, front, some)) = c.in-Some.ensures.steps in
-    let columns = c.args.columns.now in
-    let texts = chunks_rest c.loop-texts.texts-iterator in
-    let rest = chunks_rest c.next.new.self in
-    let first = c.in-Some.texts.now in
-    let count = length-map texts (λ text. text.now) in
-    let first_count = length-map first (λ text. text.now) in
-    passed-on c.from_residual.result c.in_err-group.field-0.0 c.from_residual.ensures.1
-    (c.in_err-group.ensures.no_overflow
-    (group_fits (AllFit64Bits columns) (length columns) (texts_in texts) (texts_in first)
-    (texts_in rest) (omega (arith, c.loop-texts.iterator.0, c.loop-texts.invariant.0))
-    (ap texts_in whole ∙ map-append (λ text. text.now) first rest) (omega (arith, count, some))
-    (omega (arith, first_count, count, front, c.loop-texts.invariant.0))
-    (c.loop-texts.invariant.2 fit)))
-
-pub returns-clause-rows : goal.returns-clause-rows
-returns-clause-rows g c =
-    subst (IsTable c.args.columns.now (gaps_view c.args.gaps.now) (texts_in c.args.cells.now))
-    (append-nil (map string_bytes c.loop-texts.rows.items))
-    (c.loop-texts.invariant.1 [] (table-none ColumnMakes shape_of c.args.columns.now
-    (gaps_view c.args.gaps.now) (texts_in (chunks_rest c.loop-texts.texts-iterator))
-    (length-map (chunks_rest c.loop-texts.texts-iterator) (λ text. text.now)
-    ∙ c.in-None.ensures.steps.1.0)))
-
 pub returns-clause-built_in : goal.returns-clause-built_in
-returns-clause-built_in g c = λ parts have.
+returns-clause-built_in g c = IfOk-weaker c.table_by.result _ _ (λ rows is parts have.
     table-as c.args.columns.now parts have (gaps_view c.args.gaps.now) (texts_in c.args.cells.now)
-    (map string_bytes c.loop-texts.rows.items) (returns-clause-rows g c)
+    (map string_bytes rows.items) is) c.table_by.ensures.rows

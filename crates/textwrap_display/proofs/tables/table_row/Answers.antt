@@ -7,10 +7,12 @@ pub loop-c-preserved : goal.loop-c-preserved
 loop-c-preserved g c =
     rw (
       c.in_ok-push_aligned.ensures,
+      c.width.ensures,
+      c.alignment.ensures,
       c.in_ok-push_str-2.ensures.bytes,
       c.loop-c.invariant,
       c.gap_before.ensures,
-      column-more (gaps_view c.args.gaps.now) c.args.columns.now (cell_texts c.args.cells.now)
+      column-more g.C.AnyColumn.shape (gaps_view c.args.gaps.now) c.args.columns.now (cell_texts c.args.cells.now)
           c.args.r c.loop-c.c c.index-columns-c.result c.loop-c-test.true c.index-columns-c.is
           c.cell_line-line.result.now c.cell_line-line.ensures,
     )
@@ -20,5 +22,5 @@ pub returns : goal.returns
 returns g c =
     c.in_ok-push_str-3.ensures.bytes
     ∙ ap (λ text. text ++ c.args.gaps.now.right.now) c.loop-c.invariant
-    ∙ row-whole (gaps_view c.args.gaps.now) c.args.columns.now (cell_texts c.args.cells.now)
+    ∙ row-whole g.C.AnyColumn.shape (gaps_view c.args.gaps.now) c.args.columns.now (cell_texts c.args.cells.now)
     c.args.r c.loop-c.c c.loop-c-test.false

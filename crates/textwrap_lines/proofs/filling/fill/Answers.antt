@@ -3,7 +3,7 @@ use Rattle.std.proofs.lemmas.Result.{IfOk-weaker}
 use Rattle.textwrap_lines.proofs.Paragraph.BuiltIn.{filled-as}
 
 pub returns-clause-built_in : goal.returns-clause-built_in
-returns-clause-built_in g c = IfOk-weaker c.joined_lines.result _ _
+returns-clause-built_in g c = IfOk-weaker c.fill_by.result _ _
     (λ filled is settings splitter algorithm parts.
     filled-as c.args.options settings splitter algorithm parts c.args.text.now _ is)
-    c.joined_lines.ensures.filled
+    c.fill_by.ensures.filled

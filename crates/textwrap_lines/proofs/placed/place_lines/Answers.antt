@@ -3,7 +3,7 @@ use Rattle.std.proofs.lemmas.Result.{IfOk-weaker}
 use Rattle.textwrap_lines.proofs.Paragraph.BuiltIn.{placed-as}
 
 pub returns-clause-built_in : goal.returns-clause-built_in
-returns-clause-built_in g c = IfOk-weaker c.placed_lines.result _ _
+returns-clause-built_in g c = IfOk-weaker c.place_lines_by.result _ _
     (λ placed (lines, are, built) settings splitter algorithm parts.
     (lines, placed-as c.args.options.now settings splitter algorithm parts c.args.text.now lines _ are, built))
-    c.placed_lines.ensures.lines
+    c.place_lines_by.ensures.lines

@@ -1,10 +1,10 @@
 use Rattle.textwrap_lines.proofs.wrapping.wrap_by.Goals as goal
 use Rattle.textwrap_base.proofs.Common.{sym, ◌∙◌, rules, subst}
-use Rattle.textwrap_lines.proofs.Common.{settings_view, DividesBy, AreTextLines}
+use Rattle.textwrap_lines.proofs.Common.{AreTextLines}
 
 pub returns-clause-lines : goal.returns-clause-lines
 returns-clause-lines g c =
     let options = c.args.options.now in
     let (taken, are, end, holds) = c.in_ok-push_text.ensures.lines in
-    subst (AreTextLines (settings_view options) (DividesBy options) c.args.text.now)
+    subst (AreTextLines (g.O.AnyOptions.settings options) (g.O.AnyOptions.divides options) c.args.text.now)
     (sym (search rules ∙ holds)) are.are

@@ -1,48 +1,17 @@
 use Rattle.textwrap_lines.proofs.wrapping.wrap_single_line.Goals as goal
-use Rattle.textwrap_base.proofs.Common.{Bool, List, not, nat_lt, length, [], ◌++◌, map, ap, sym}
-use Rattle.textwrap_base.proofs.Common.{◌∙◌, subst, arith, rules}
-use Rattle.textwrap_lines.proofs.Common.{MayOverflow, settings_view, AreParagraphParts, DividesBy}
-use Rattle.textwrap_lines.proofs.Common.{LineParts, cut_lines, line_view}
-use Rattle.textwrap_base.proofs.Numbers.{not_empty}
-use Rattle.textwrap_lines.proofs.Paragraph.Overflow.{appends-none, appends-own}
+use Rattle.textwrap_base.proofs.Common.{nat_lt, length, ◌++◌, map, ap, sym, ◌∙◌, on_ok_weaker}
+use Rattle.textwrap_lines.proofs.Common.{settings_view, line_view}
 use Rattle.textwrap_lines.proofs.Paragraph.Shortcut.{paragraph-divided-by}
-use Rattle.textwrap_lines.proofs.Text.Cuts.{lines_of-cut_lines, lines_of-more}
-
-pub returns-in_err-push_paragraph-clause-appended :
-    goal.returns-in_err-push_paragraph-clause-appended
-returns-in_err-push_paragraph-clause-appended g c =
-    let options = c.args.options.now in
-    appends-none (MayOverflow options) (AreParagraphParts (settings_view options)
-    (DividesBy options) (nat_lt 0 (length c.args.lines.now.items)) c.args.line.now)
-    c.args.lines.now.items c.from_residual.result c.in_err-push_paragraph.field-0.0
-    c.from_residual.ensures.1 c.in_err-push_paragraph.ensures.only_memory
-
-pub returns-clause-appended : goal.returns-clause-appended
-returns-clause-appended g c =
-    let options = c.args.options.now in
-    let start = c.args.lines.now.items in
-    let Are : Bool → List LineParts → Type 0 =
-    λ b. AreParagraphParts (settings_view options) (DividesBy options) b c.args.line.now in
-    let is_out = ap not c.is_empty-is_later.ensures ∙ not_empty c.args.lines.now.len (length start)
-    (omega arith) in
-    let (parts, are, took) = c.in_ok-push_paragraph.ensures.taken in
-    appends-own (MayOverflow options) (Are (nat_lt 0 (length start))) start
-    _ c.append.new.self.items parts c.in_ok-append.field-0
-    (subst (λ b. Are b parts) is_out are)
-    (search rules ∙ took.held c.push_paragraph.new.lines 0 []
-    (ap (map line_view) c.new-own.ensures.items) ∙ lines_of-more [] 0 (cut_lines 0 parts)
-    ∙ lines_of-cut_lines 0 parts)
-    c.in_ok-append.ensures.items
 
 pub returns-clause-as_slow_path : goal.returns-clause-as_slow_path
 returns-clause-as_slow_path g c =
     let options = c.args.options.now in
     let start = c.args.lines.now.items in
-    let appended = returns-clause-appended g c in
-    let (parts, defined, added) = appended.lines in
     λ built_in unindented.
+    on_ok_weaker c.wrap_paragraph.result (λ (parts, defined, added).
     let divided = paragraph-divided-by (settings_view options) options.word_separator
     options.word_splitter options.wrap_algorithm built_in.separator built_in.splitter
     built_in.algorithm (nat_lt 0 (length start)) c.args.line.now parts c.utf8.line unindented
     defined in
-    (divided.0, divided.1, added ∙ ap (λ ls. map line_view start ++ ls) (sym divided.2))
+    (divided.0, divided.1, added ∙ ap (λ ls. map line_view start ++ ls) (sym divided.2)))
+    c.wrap_paragraph.ensures.appended.lines

@@ -1,30 +1,12 @@
 use Rattle.textwrap_plain.proofs.texts.refill.Goals as goal
-use Rattle.textwrap_base.proofs.Common.{rules, string_bytes}
-use Rattle.std.proofs.lemmas.Result.{IfOk-weaker}
-use Rattle.textwrap_plain.proofs.Parts.{refilled-at}
-use Rattle.textwrap_plain.proofs.Separators.{parts-separated, Separates, separates-blanks}
-use Rattle.textwrap_plain.proofs.Separators.{separates-breaks}
-use Rattle.textwrap_plain.proofs.texts.refill.Goals.{in-AtBlanks, in-AtBreaks-ByPairs}
-use Rattle.textwrap_plain.proofs.texts.refill.Goals.{in-AtBreaks-ByExpression}
-use Rattle.textwrap_unicode.specs.declared.numbers.Numbers.TheVariants.{ByExpression, ByPairs}
-use Rattle.textwrap_plain.specs.Options.{algorithm_of, settings_of, splitter_of, words_by}
+use Rattle.textwrap_base.proofs.Common.{string_bytes}
+use Rattle.std.specs.Prelude.{IfOk}
+use Rattle.textwrap.specs.Refilling.{IsRefilled}
+use Rattle.textwrap_plain.proofs.Named.{named}
 
 pub returns-clause-refilled : goal.returns-clause-refilled
 returns-clause-refilled c =
-    let o = c.args.options.now in
-    let separates : Separates c.match-options.word_separator o.word_separator =
-    elim c.match-options.branch [
-      | in-AtBlanks w ↦ separates-blanks _ _ w.word_separator-is (search rules)
-      | in-AtBreaks-ByPairs w ↦ separates-breaks _ _ ByPairs _ w.word_separator-is (search rules)
-          (λ alloc asked answer met. (rw w.new.ensures at met).1.0)
-      | in-AtBreaks-ByExpression w ↦ separates-breaks _ _ ByExpression _ w.word_separator-is
-          (search rules) (λ alloc asked answer met.
-          (rw w.new-in-AtBreaks-ByExpression.ensures at met).1.0)
-    ] in
-    let options = c.word_separator.result in
-    let parts = parts-separated o c.at_blanks.result options c.match-options.word_separator
-    c.at_blanks.ensures c.word_separator.ensures.settings c.word_separator.ensures.algorithm
-    c.word_separator.ensures.separator c.word_separator.ensures.splitter separates in
-    IfOk-weaker c.refill.result _ _ (λ refilled. refilled-at options (words_by o.word_separator) (settings_of o) (splitter_of o)
-    (algorithm_of o) parts
-    c.args.filled_text.now (string_bytes refilled)) c.refill.ensures.refilled
+    let said = c.built_in.ensures in
+    named (λ settings Divides. IfOk c.refill_built_in.result (λ refilled.
+    IsRefilled settings Divides c.args.filled_text.now (string_bytes refilled))) _ _ _ _ _ _ _ _
+    said.layout said.words said.splitter said.algorithm c.refill_built_in.ensures.refilled

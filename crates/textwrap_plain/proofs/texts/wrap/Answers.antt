@@ -1,73 +1,40 @@
 use Rattle.textwrap_plain.proofs.texts.wrap.Goals as goal
-use Rattle.textwrap_base.proofs.Common.{map, rules}
-use Rattle.textwrap_lines.proofs.Common.{line_view}
+use Rattle.textwrap_base.proofs.Common.{map}
 use Rattle.std.proofs.lemmas.Result.{IfOk-weaker}
-use Rattle.textwrap_plain.proofs.Parts.{even-at, printed-at, wrapped-at}
-use Rattle.textwrap_plain.proofs.Separators.{parts-separated, Separates, separates-blanks}
-use Rattle.textwrap_plain.proofs.Separators.{separates-breaks}
-use Rattle.textwrap_plain.proofs.texts.wrap.Goals.{in-AtBlanks, in-AtBreaks-ByPairs}
-use Rattle.textwrap_plain.proofs.texts.wrap.Goals.{in-AtBreaks-ByExpression}
-use Rattle.textwrap_unicode.specs.declared.numbers.Numbers.TheVariants.{ByExpression, ByPairs}
-use Rattle.textwrap_plain.specs.Options.{algorithm_of, settings_of, splitter_of, words_by}
+use Rattle.std.specs.Prelude.{IfOk}
+use Rattle.textwrap_lines.proofs.Common.{AreTextLines, line_view}
+use Rattle.textwrap_plain.proofs.Wrapped.{ArePrintedWithin-at, IsWrapped-at, LinesKeepToWidth-at}
+use Rattle.textwrap_plain.proofs.texts.wrap.Goals.{After-wrap_by}
+use Rattle.textwrap_plain.specs.Options.{algorithm_of, DividesPlainly, settings_of, splitter_of}
+
+lines : (c : After-wrap_by) → IfOk c.wrap_by.result (λ lines.
+    AreTextLines (settings_of c.args.options.now)
+    (DividesPlainly c.args.options.now (settings_of c.args.options.now)) c.args.text.now
+    (map line_view lines.items))
+lines c = rw (
+  ← c.built_in.ensures.layout,
+  ← c.built_in.ensures.words,
+  ← c.built_in.ensures.splitter,
+  ← c.built_in.ensures.algorithm,
+) c.wrap_by.ensures.lines
 
 pub returns-clause-lines : goal.returns-clause-lines
 returns-clause-lines c =
     let o = c.args.options.now in
-    let separates : Separates c.match-options.word_separator o.word_separator =
-    elim c.match-options.branch [
-      | in-AtBlanks w ↦ separates-blanks _ _ w.word_separator-is (search rules)
-      | in-AtBreaks-ByPairs w ↦ separates-breaks _ _ ByPairs _ w.word_separator-is (search rules)
-          (λ alloc asked answer met. (rw w.new.ensures at met).1.0)
-      | in-AtBreaks-ByExpression w ↦ separates-breaks _ _ ByExpression _ w.word_separator-is
-          (search rules) (λ alloc asked answer met.
-          (rw w.new-in-AtBreaks-ByExpression.ensures at met).1.0)
-    ] in
-    let options = c.word_separator.result in
-    let parts = parts-separated o c.at_blanks.result options c.match-options.word_separator
-    c.at_blanks.ensures c.word_separator.ensures.settings c.word_separator.ensures.algorithm
-    c.word_separator.ensures.separator c.word_separator.ensures.splitter separates in
-    IfOk-weaker c.wrap.result _ _ (λ lines. wrapped-at options (words_by o.word_separator) (settings_of o) (splitter_of o)
-    (algorithm_of o) parts c.args.text.now
-    (map line_view lines.items)) c.wrap.ensures.lines
+    IfOk-weaker c.wrap_by.result _ _ (λ found.
+    IsWrapped-at o.word_separator (settings_of o) (algorithm_of o) (splitter_of o) c.args.text.now
+    (map line_view found.items) c.utf8.text) (lines c)
 
 pub returns-clause-even : goal.returns-clause-even
 returns-clause-even c = λ even first breaks.
     let o = c.args.options.now in
-    let separates : Separates c.match-options.word_separator o.word_separator =
-    elim c.match-options.branch [
-      | in-AtBlanks w ↦ separates-blanks _ _ w.word_separator-is (search rules)
-      | in-AtBreaks-ByPairs w ↦ separates-breaks _ _ ByPairs _ w.word_separator-is (search rules)
-          (λ alloc asked answer met. (rw w.new.ensures at met).1.0)
-      | in-AtBreaks-ByExpression w ↦ separates-breaks _ _ ByExpression _ w.word_separator-is
-          (search rules) (λ alloc asked answer met.
-          (rw w.new-in-AtBreaks-ByExpression.ensures at met).1.0)
-    ] in
-    let options = c.word_separator.result in
-    let parts = parts-separated o c.at_blanks.result options c.match-options.word_separator
-    c.at_blanks.ensures c.word_separator.ensures.settings c.word_separator.ensures.algorithm
-    c.word_separator.ensures.separator c.word_separator.ensures.splitter separates in
-    IfOk-weaker c.wrap.result _ _ (λ lines. even-at options (words_by o.word_separator) (settings_of o) (splitter_of o)
-    (algorithm_of o) parts c.args.text.now
-    (map line_view lines.items)) (c.wrap.ensures.even (search rules)
-    (search rules) (search rules) (search rules))
+    IfOk-weaker c.wrap_by.result _ _ (λ found.
+    LinesKeepToWidth-at o.word_separator (settings_of o) (algorithm_of o) (splitter_of o)
+    c.args.text.now (map line_view found.items) c.utf8.text first even breaks) (lines c)
 
 pub returns-clause-printed : goal.returns-clause-printed
 returns-clause-printed c = λ first can.
     let o = c.args.options.now in
-    let separates : Separates c.match-options.word_separator o.word_separator =
-    elim c.match-options.branch [
-      | in-AtBlanks w ↦ separates-blanks _ _ w.word_separator-is (search rules)
-      | in-AtBreaks-ByPairs w ↦ separates-breaks _ _ ByPairs _ w.word_separator-is (search rules)
-          (λ alloc asked answer met. (rw w.new.ensures at met).1.0)
-      | in-AtBreaks-ByExpression w ↦ separates-breaks _ _ ByExpression _ w.word_separator-is
-          (search rules) (λ alloc asked answer met.
-          (rw w.new-in-AtBreaks-ByExpression.ensures at met).1.0)
-    ] in
-    let options = c.word_separator.result in
-    let parts = parts-separated o c.at_blanks.result options c.match-options.word_separator
-    c.at_blanks.ensures c.word_separator.ensures.settings c.word_separator.ensures.algorithm
-    c.word_separator.ensures.separator c.word_separator.ensures.splitter separates in
-    IfOk-weaker c.wrap.result _ _ (λ lines. printed-at options (words_by o.word_separator) (settings_of o) (splitter_of o)
-    (algorithm_of o) parts c.args.text.now
-    (map line_view lines.items)) (c.wrap.ensures.printed (search rules)
-    (search rules) (search rules))
+    IfOk-weaker c.wrap_by.result _ _ (λ found.
+    ArePrintedWithin-at o.word_separator (settings_of o) (algorithm_of o) (splitter_of o)
+    c.args.text.now (map line_view found.items) c.utf8.text first can) (lines c)

@@ -1,31 +1,15 @@
 use Rattle.textwrap_lines.proofs.wrapping.OptionsAnyOptions.divide.Goals as goal
-use Rattle.textwrap_base.proofs.Common.{List, Vec, Bor, ◌≡◌, ◌++◌, map, ap, ◌∙◌, sym, subst}
-use Rattle.textwrap_base.proofs.Common.{StartsWith, flat_map, starts_with_of_append, map-append}
-use Rattle.textwrap_words.proofs.Common.{word_view, tiled, MaySeparate, MaySplit}
+use Rattle.textwrap_base.proofs.Common.{List, Vec, Bor}
+use Rattle.textwrap_words.proofs.Common.{MaySeparate, MaySplit}
 use Rattle.textwrap_lines.proofs.Common.{settings_view, widths_of, Word}
-use Rattle.textwrap_words.proofs.Word.Divisions.{MayDivide-begins}
-use Rattle.textwrap_base.proofs.Lists.Parts.{flat}
-use Rattle.textwrap_words.proofs.Word.Tiling.{tiled-append}
 use Rattle.std.proofs.lemmas.Result.{IfOk-weaker}
-use Rattle.textwrap_lines.proofs.Paragraph.Lines.{divides-from, tiled-lines}
+use Rattle.textwrap_lines.proofs.Paragraph.Lines.{divides-from, division-begins}
 use Rattle.textwrap_lines.proofs.Paragraph.Overflow.{only-memory, only-fitting}
 
 pub returns-clause-begins : goal.returns-clause-begins
-returns-clause-begins g c = IfOk-weaker c.divide.result _ _ (λ lines divided.
-    let division = map (λ line. line.now) lines.items in
-    let (rest, is) = MayDivide-begins c.args.self.now.wrap_algorithm word_view
-    (widths_of (settings_view c.args.self.now) c.args.is_later) c.args.pieces.now division
-    divided in
-    let covered : flat_map (λ line. tiled (map word_view line.now)) lines.items
-    ≡ tiled (map word_view (flat division)) = tiled-lines (λ line. line.now) lines.items in
-    let whole : tiled (map word_view c.args.pieces.now)
-    ≡ tiled (map word_view (flat division)) ++ tiled (map word_view rest) =
-    ap (λ ws. tiled (map word_view ws)) (sym is)
-    ∙ ap tiled (map-append word_view (flat division) rest)
-    ∙ tiled-append (map word_view (flat division)) (map word_view rest) in
-    subst (StartsWith (tiled (map word_view c.args.pieces.now))) (sym covered)
-    (starts_with_of_append (tiled (map word_view c.args.pieces.now))
-    (tiled (map word_view (flat division))) (tiled (map word_view rest)) whole))
+returns-clause-begins g c = IfOk-weaker c.divide.result _ _ (λ lines.
+    division-begins (λ (line : Bor (List Word)). line.now) c.args.self.now.wrap_algorithm
+    (widths_of (settings_view c.args.self.now) c.args.is_later) c.args.pieces.now lines.items)
     c.divide.ensures.divided
 
 pub returns-clause-divides : goal.returns-clause-divides

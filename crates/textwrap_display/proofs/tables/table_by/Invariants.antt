@@ -1,7 +1,7 @@
-use Rattle.textwrap_display.proofs.tables.table.Given as goal
+use Rattle.textwrap_display.proofs.tables.table_by.Given as goal
 use Rattle.textwrap_base.proofs.Common.{◌≡◌, ℕ, List, ◌++◌, All, length, map, string_bytes}
 use Rattle.std.specs.Slice.Iter.{chunks_rest, chunks_size}
-use Rattle.textwrap_display.specs.Tables.{AllFit64Bits, gaps_view, groups_of, IsTable, texts_in}
+use Rattle.textwrap_display.specs.Tables.{AllFit, gaps_view, groups_of, IsTableBy, texts_in}
 
 -- with any table of the texts that are left, the rows so far are that of all; and if all texts fit,
 -- those that are left do
@@ -9,9 +9,9 @@ abbrev pub invariant-loop-texts : goal.invariant-loop-texts
 invariant-loop-texts g l =
     (chunks_size l.texts-iterator ≡ length l.columns)
     × ((others : List (List ℕ))
-    → IsTable l.columns (gaps_view l.gaps) (texts_in (chunks_rest l.texts-iterator)) others
-    → IsTable l.columns (gaps_view l.gaps) (texts_in l.cells)
+    → IsTableBy g.C.AnyColumn.makes g.C.AnyColumn.shape l.columns (gaps_view l.gaps) (texts_in (chunks_rest l.texts-iterator)) others
+    → IsTableBy g.C.AnyColumn.makes g.C.AnyColumn.shape l.columns (gaps_view l.gaps) (texts_in l.cells)
     (map string_bytes l.rows.items ++ others))
-    × (All (AllFit64Bits l.columns) (groups_of (length l.columns) (texts_in l.cells))
-    → All (AllFit64Bits l.columns)
+    × (All (AllFit g.C.AnyColumn.may_pass l.columns) (groups_of (length l.columns) (texts_in l.cells))
+    → All (AllFit g.C.AnyColumn.may_pass l.columns)
     (groups_of (length l.columns) (texts_in (chunks_rest l.texts-iterator))))

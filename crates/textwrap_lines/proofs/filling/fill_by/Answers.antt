@@ -1,4 +1,4 @@
-use Rattle.textwrap_lines.proofs.filling.joined_lines.Goals as goal
+use Rattle.textwrap_lines.proofs.filling.fill_by.Goals as goal
 use Rattle.textwrap_base.proofs.Common.{map, ap, ◌∙◌}
 use Rattle.textwrap_lines.proofs.Common.{Settings, ending_bytes, join_with, line_bytes, lines_of}
 

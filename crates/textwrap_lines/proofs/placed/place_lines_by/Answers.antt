@@ -1,4 +1,4 @@
-use Rattle.textwrap_lines.proofs.placed.placed_lines.Goals as goal
+use Rattle.textwrap_lines.proofs.placed.place_lines_by.Goals as goal
 use Rattle.textwrap_base.proofs.Common.{ap, ◌∙◌}
 use Rattle.textwrap_lines.proofs.Common.{lines_of, places_of}
 

@@ -1,14 +1,14 @@
-use Rattle.textwrap_display.proofs.filling.fill_justified.Given as goal
+use Rattle.textwrap_display.proofs.filling.fill_justified_by.Given as goal
 use Rattle.textwrap_base.proofs.Common.{length, nat_lt, string_bytes}
-use Rattle.textwrap_lines.proofs.Common.{settings_view, DividesBy}
+use Rattle.textwrap_lines.proofs.Common.{layout_view}
 use Rattle.textwrap_lines.proofs.Text.Lines.{bytes_left, paragraphs_left}
 use Rattle.textwrap_display.proofs.JustifiedSoFar.{IsJustifiedSoFar}
 
 -- with right lines of the paragraphs that are left, it is the whole
 abbrev pub invariant-loop-rest : goal.invariant-loop-rest
-invariant-loop-rest g l = IsJustifiedSoFar (settings_view l.options) (DividesBy l.options) l.text
+invariant-loop-rest g l = IsJustifiedSoFar (layout_view l.layout) (g.O.AnyOptions.divides l.options) l.text
     (string_bytes l.filled) (nat_lt 0 (length l.lines.items))
-    (paragraphs_left l.options.line_ending l.rest)
+    (paragraphs_left l.layout.line_ending l.rest)
 
 abbrev pub decreases-loop-rest : goal.decreases-loop-rest
 decreases-loop-rest g l = bytes_left l.rest

@@ -1,4 +1,4 @@
-use Rattle.textwrap_plain.proofs.printable.PlainSeparatorPrintableCuts.are_told.Goals as goal
+use Rattle.textwrap_plain.proofs.printable.PlainWordsPrintableCuts.are_told.Goals as goal
 use Rattle.textwrap_base.proofs.Common.{◌≡◌, ap, map, rules, subst, sym}
 use Rattle.textwrap_words.proofs.Common.{word_of}
 use Rattle.textwrap_words.specs.PieceCuts.{parts_by}
@@ -16,7 +16,7 @@ returns-in-AtBlanks c = λ _ text printable.
 
 pub returns-in-AtBreaks-ByPairs : goal.returns-in-AtBreaks-ByPairs
 returns-in-AtBreaks-ByPairs c = λ _ text printable.
-    let is : c.args.self.now ≡ AtBreaks ByPairs = search rules in
+    let is : c.args.self.now.separator ≡ AtBreaks ByPairs = search rules in
     subst (λ separator. words_by separator text
     ≡ map word_of (parts_by (is_cut_by separator text) 0 text)) (sym is)
     (ap (map word_of) (parts-cut text printable))

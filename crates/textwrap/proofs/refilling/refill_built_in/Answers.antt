@@ -1,0 +1,18 @@
+use Rattle.textwrap.proofs.refilling.refill_built_in.Goals as goal
+use Rattle.textwrap_base.proofs.Common.{◌∙◌, string_bytes}
+use Rattle.std.proofs.lemmas.Result.{IfOk-weaker}
+use Rattle.textwrap_words.proofs.Common.{as_splitter}
+use Rattle.textwrap_lines.proofs.Common.{DividesAt, layout_view}
+use Rattle.textwrap_lines.specs.Direct.{as_algorithm}
+use Rattle.textwrap.proofs.Text.Refilled.{refilled-from}
+
+pub returns-clause-refilled : goal.returns-clause-refilled
+returns-clause-refilled g c =
+    let options = c.args.options.now in
+    IfOk-weaker c.fill_joined.result _ _ (λ refilled.
+    refilled-from (layout_view options.layout) (DividesAt (g.W.PrintableCuts.words options.words)
+    (as_splitter options.parts.splitter) (as_algorithm options.parts.algorithm))
+    c.args.filled_text.now (string_bytes refilled) c.in_ok-unfilled.layout
+    c.in_ok-unfilled.ensures.layout c.deref.result.now
+    (c.deref.ensures ∙ c.in_ok-unfilled.ensures.joined) c.in_ok-unfilled.keeps_ending
+    c.in_ok-unfilled.ensures.keeps) c.fill_joined.ensures.filled

@@ -1,0 +1,33 @@
+use Rattle.textwrap_lines.proofs.wrapping.wrap_paragraph.Goals as goal
+use Rattle.textwrap_base.proofs.Common.{Bool, List, not, nat_lt, length, [], map, ap}
+use Rattle.textwrap_base.proofs.Common.{◌∙◌, subst, arith, rules}
+use Rattle.textwrap_lines.proofs.Common.{AreParagraphParts, LineParts, cut_lines, line_view}
+use Rattle.textwrap_base.proofs.Numbers.{not_empty}
+use Rattle.textwrap_lines.proofs.Paragraph.Overflow.{appends-none, appends-own}
+use Rattle.textwrap_lines.proofs.Text.Cuts.{lines_of-cut_lines, lines_of-more}
+
+pub returns-in_err-push_paragraph-clause-appended :
+    goal.returns-in_err-push_paragraph-clause-appended
+returns-in_err-push_paragraph-clause-appended g c =
+    let options = c.args.options.now in
+    appends-none (g.O.AnyOptions.may_overflow options) (AreParagraphParts (g.O.AnyOptions.settings options)
+    (g.O.AnyOptions.divides options) (nat_lt 0 (length c.args.lines.now.items)) c.args.paragraph.now)
+    c.args.lines.now.items c.from_residual.result c.in_err-push_paragraph.field-0.0
+    c.from_residual.ensures.1 c.in_err-push_paragraph.ensures.only_memory
+
+pub returns-clause-appended : goal.returns-clause-appended
+returns-clause-appended g c =
+    let options = c.args.options.now in
+    let start = c.args.lines.now.items in
+    let Are : Bool → List LineParts → Type 0 =
+    λ b. AreParagraphParts (g.O.AnyOptions.settings options) (g.O.AnyOptions.divides options) b c.args.paragraph.now in
+    let is_out = ap not c.is_empty-is_later.ensures ∙ not_empty c.args.lines.now.len (length start)
+    (omega arith) in
+    let (parts, are, took) = c.in_ok-push_paragraph.ensures.taken in
+    appends-own (g.O.AnyOptions.may_overflow options) (Are (nat_lt 0 (length start))) start
+    _ c.append.new.self.items parts c.in_ok-append.field-0
+    (subst (λ b. Are b parts) is_out are)
+    (search rules ∙ took.held c.push_paragraph.new.lines 0 []
+    (ap (map line_view) c.new-own.ensures.items) ∙ lines_of-more [] 0 (cut_lines 0 parts)
+    ∙ lines_of-cut_lines 0 parts)
+    c.in_ok-append.ensures.items

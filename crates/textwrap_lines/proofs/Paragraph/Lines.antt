@@ -37,15 +37,13 @@ pub divides-from : {D F : Type 0} {f : _} (v : D → List Word) (settings : Sett
 divides-from v settings Words Points algorithm is_later paragraph pieces division are divided =
     rw (views-lines v division) (map word_view pieces, are, search (rules, arith, MayDivide-map))
 
--- and begins with them
-pub division-begins : {D F : Type 0} {f : _} (v : D → List Word) (algorithm : WrapAlgorithm F f)
-    (widths : List ℕ) (pieces : List Word) (division : List D)
-    → MayDivide algorithm word_view widths pieces (map v division)
+-- lines that some pieces begin with
+pub lines-begin : {D : Type 0} (v : D → List Word) (pieces rest : List Word) (division : List D)
+    → flat (map v division) ++ rest ≡ pieces
     → StartsWith (tiled (map word_view pieces))
     (flat_map (λ line. tiled (map word_view (v line))) division)
-division-begins v algorithm widths pieces division divided =
+lines-begin v pieces rest division is =
     let lines = map v division in
-    let (rest, is) = MayDivide-begins algorithm word_view widths pieces lines divided in
     let whole : tiled (map word_view pieces)
     ≡ tiled (map word_view (flat lines)) ++ tiled (map word_view rest) =
     ap (λ ws. tiled (map word_view ws)) (sym is) ∙ ap tiled (map-append word_view (flat lines) rest)
@@ -53,6 +51,16 @@ division-begins v algorithm widths pieces division divided =
     subst (StartsWith (tiled (map word_view pieces))) (sym (tiled-lines v division))
     (starts_with_of_append (tiled (map word_view pieces)) (tiled (map word_view (flat lines)))
     (tiled (map word_view rest)) whole)
+
+-- so do those that an algorithm divides them into
+pub division-begins : {D F : Type 0} {f : _} (v : D → List Word) (algorithm : WrapAlgorithm F f)
+    (widths : List ℕ) (pieces : List Word) (division : List D)
+    → MayDivide algorithm word_view widths pieces (map v division)
+    → StartsWith (tiled (map word_view pieces))
+    (flat_map (λ line. tiled (map word_view (v line))) division)
+division-begins v algorithm widths pieces division divided =
+    let (rest, is) = MayDivide-begins algorithm word_view widths pieces (map v division) divided in
+    lines-begin v pieces rest division is
 
 -- ---- the widths of the pieces
 

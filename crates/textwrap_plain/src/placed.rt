@@ -1,16 +1,21 @@
 //! Lines and pieces by where they stand, which the calls from C report.
-ghost use Rattle.std.specs.Prelude.{◌≡◌, IfErr, IfOk, List, alloc_error, map};
+ghost use Rattle.std.specs.Prelude.{◌≡◌, IfErr, IfOk, IsOk, List, alloc_error, map};
 ghost use Rattle.textwrap.specs.Paragraph.{Line, pieces_by};
 ghost use Rattle.textwrap.specs.Words.{word_view, Tiles};
+ghost use Rattle.textwrap.specs.WrapAlgorithms.{Greedy};
+ghost use Rattle.textwrap_lines.specs.LentPlaces.{WritesPlaces};
 ghost use Rattle.textwrap_lines.specs.Places.{ArePlacedLines, built_text};
-ghost use Rattle.textwrap_plain.specs.Options.{DividesPlainly, settings_of, splitter_of, words_by};
+ghost use Rattle.textwrap_lines.specs.declared.places.Place.{Place};
+ghost use Rattle.textwrap_plain.specs.Options.{algorithm_of, DividesPlainly, settings_of, splitter_of};
+ghost use Rattle.textwrap_plain.specs.Options.{words_by};
+ghost use Rattle.textwrap_plain.specs.declared.options.PlainSeparator.TheVariants.{AtBlanks};
 
 use crate::options::PlainOptions;
 use std::alloc::{AllocError, Global};
 use textwrap::WrapError;
 use textwrap::words::Word;
 use textwrap_lines::inner::{AnyOptions, place_lines_by};
-use textwrap_lines::placed::PlacedLines;
+use textwrap_lines::placed::{LineCounts, PlacedLines, TextwrapLine, write_places};
 
 /// The lines of [`wrap`](crate::wrap), by where they stand.
 ///
@@ -28,6 +33,42 @@ pub fn place_lines(
     ensures only_memory { IfErr result (λ error. error ≡ WrapError.Memory alloc_error) }
 {
     place_lines_by(alloc, text, &options.built_in(alloc))
+}
+
+/// Writes where the lines of [`wrap`](crate::wrap) stand to the front of `lines`, and those that are no
+/// slices of the text to the front of the room, as much of both as has room, and returns how long they
+/// are. What follows stays as it was. At blanks and by first fit nothing is allocated.
+///
+/// # Errors
+/// [`WrapError::Memory`] where memory runs out. Then the lines and the room are as they were.
+pub fn place_into(
+    alloc: Global,
+    text: &str,
+    options: &PlainOptions<'_>,
+    lines: &mut [TextwrapLine],
+    room: &mut [u8],
+) -> Result<LineCounts, WrapError>
+    ensures lines { IfOk result (λ counts. (placed : List Line) × (places : List Place)
+        × ArePlacedLines (settings_of options.now)
+        (DividesPlainly options.now (settings_of options.now)) text.now placed places
+        × WritesPlaces places (built_text placed) counts lines.old lines.new room.old room.new) }
+    ensures done { options.now.word_separator ≡ AtBlanks → algorithm_of options.now ≡ Greedy
+        → IsOk result }
+    ensures kept_lines { IfErr result (λ _. lines.new ≡ lines.old) }
+    ensures kept_room { IfErr result (λ _. room.new ≡ room.old) }
+    ensures only_memory { IfErr result (λ error. error ≡ WrapError.Memory alloc_error) }
+{
+    if options.are_direct() {
+        let options = options.at_blanks();
+        return textwrap_lines::inner::place_into(alloc, text, &options, lines, room);
+    }
+    let placed = place_lines(alloc, text, options)?;
+    Ok(write_places(
+        placed.places.as_slice(),
+        placed.built.as_slice(),
+        lines,
+        room,
+    ))
 }
 
 /// The pieces that a paragraph is divided into lines of: its words, split and broken.

@@ -626,17 +626,14 @@ textwrap_status textwrap_fill_by(const uint8_t *text, size_t text_len,
                                  size_t room_len, size_t *len);
 
 /* ---- Room that is enough, by the length of a text alone: for a caller who would rather allocate once
- * than call twice. A bound that a size_t cannot hold is SIZE_MAX. */
+ * than call twice. A bound that a size_t cannot hold is SIZE_MAX. Filling, wrapping and columns have
+ * bounds. Each other call that has a `len` or a `count` tells it in a first call without room; of
+ * these textwrap_unfill, textwrap_indent and textwrap_dedent allocate nothing. */
 
 /* How many bytes textwrap_fill writes at most for a text of so many bytes, by these options: each byte
  * on a line of its own, after a line ending and the subsequent indent, and the initial indent. */
 TEXTWRAP_CHECKED
 size_t textwrap_fill_bound(size_t text_len, const textwrap_options *options);
-
-/* How many bytes textwrap_refill writes at most. The indents of a text may be long, so this grows with
- * the square of its length, and two calls are cheaper for a long text. */
-TEXTWRAP_CHECKED
-size_t textwrap_refill_bound(size_t text_len, const textwrap_options *options);
 
 /* How many lines textwrap_wrap reports at most: one more than the text has bytes. */
 TEXTWRAP_CHECKED
@@ -656,18 +653,6 @@ TEXTWRAP_CHECKED
 size_t textwrap_wrap_columns_room_bound(size_t text_len, size_t columns,
                                         const textwrap_options *options,
                                         const textwrap_gaps *gaps);
-
-/* How many bytes textwrap_indent writes at most. */
-TEXTWRAP_CHECKED
-size_t textwrap_indent_bound(size_t text_len, size_t prefix_len);
-
-/* How many bytes textwrap_dedent writes at most: no more than the text has. */
-TEXTWRAP_CHECKED
-size_t textwrap_dedent_bound(size_t text_len);
-
-/* How many bytes textwrap_unfill writes at most, the indents among them: twice as many. */
-TEXTWRAP_CHECKED
-size_t textwrap_unfill_bound(size_t text_len);
 
 #ifdef __cplusplus
 }

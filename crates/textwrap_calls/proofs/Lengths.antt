@@ -1,4 +1,4 @@
-pub mod Bytes
+pub mod Bounded
 pub mod Columns
 pub mod Dedented
 pub mod Filled
@@ -7,7 +7,6 @@ pub mod Limit
 pub mod Lines
 pub mod Paragraphs
 pub mod Pieces
-pub mod Room
 pub mod Rows
 pub mod Split
 pub mod Sums

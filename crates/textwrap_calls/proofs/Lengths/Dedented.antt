@@ -3,42 +3,20 @@ use Rattle.textwrap_base.proofs.Common.{◌≡◌, ℕ, ◌+◌, ◌-◌, ◌≤
 use Rattle.textwrap_base.proofs.Common.{cond, List, [], ◌∷◌, ◌++◌, All, length, map, take, drop, refl}
 use Rattle.textwrap_base.proofs.Common.{sym, ap, ◌∙◌, subst, arith, sum_by-cons, IsUtf8, last}
 use Rattle.textwrap_base.proofs.Common.{length-append, join_with_byte, slice_split, lines}
-use Rattle.textwrap_base.proofs.Common.{onto_first, slice_index, All-head, All-tail, All-nil, All-cons}
+use Rattle.textwrap_base.proofs.Common.{slice_index, All-head, All-tail, All-nil, All-cons}
 use Rattle.textwrap_base.proofs.Common.{encode_utf8_all, take-append-drop, inl, inr, cases_Bool, eqb-true}
 use Rattle.std.specs.Str.{chars}
 use Rattle.std.specs.Str.Lines.{lines_of_parts, strip_carriage_return}
-use Rattle.std.proofs.lemmas.List.Splits.{slice_split-cons_yes, slice_split-cons_no}
+use Rattle.std.proofs.lemmas.List.Splits.{join_with_byte-slice_split}
 use Rattle.textwrap_base.proofs.Characters.{cut_text}
 use Rattle.textwrap.proofs.Common.{is_blank_line, margin_of}
 use Rattle.textwrap.specs.Indentation.{dedented, without_margin}
-use Rattle.textwrap_base.proofs.Common.{All-weaker, eq-eqb, false≢true, take_all, take_more}
-use Rattle.textwrap_base.proofs.Lists.Prefixes.{starts_with-true, starts_with-false}
+use Rattle.textwrap_base.proofs.Common.{All-weaker, take_all, take_more}
 use Rattle.textwrap_base.proofs.Utf8.{ascii_seam}
-use Rattle.textwrap_lines.proofs.Common.{parts_past}
-use Rattle.textwrap_lines.proofs.Text.EndingTexts.{paragraphs_of-utf8}
-use Rattle.textwrap_lines.specs.declared.line_ending.LineEnding.TheVariants.{LF}
-use Rattle.textwrap_calls.proofs.Lengths.TextLines.{is_feed, ended_length, final_feed, lines-length, feed-within}
+use Rattle.textwrap.proofs.Text.EndedLines.{is_feed}
+use Rattle.textwrap_calls.proofs.Lengths.TextLines.{ended_length, feed-within, final_feed, lines-length}
 
 -- ---- the lines of a text of UTF-8
-
-parts-are : (text : List ℕ) → slice_split is_feed text ≡ parts_past (10 ∷ []) 0 text
-parts-are [] = refl
-parts-are (c ∷ cs) =
-    let rest = parts-are cs in
-    elim (cases_Bool (c == 10)) [
-      | inl feed ↦
-          let byte : c ≡ 10 = eqb-true c 10 feed in
-          let starts = starts_with-true (10 ∷ []) (c ∷ cs) cs (ap (λ b. b ∷ cs) byte) in
-          slice_split-cons_yes is_feed c cs feed ∙ ap (λ ps. [] ∷ ps) rest
-          ∙ sym (ap (λ b. cond b ([] ∷ parts_past (10 ∷ []) 0 cs)
-          (onto_first c (parts_past (10 ∷ []) 0 cs))) starts)
-      | inr other ↦
-          let starts = starts_with-false (10 ∷ []) (c ∷ cs)
-          (λ more is. false≢true (sym other ∙ eq-eqb c 10 (ap (λ l. slice_index l 0) is))) in
-          slice_split-cons_no is_feed c cs other ∙ ap (onto_first c) rest
-          ∙ sym (ap (λ b. cond b ([] ∷ parts_past (10 ∷ []) 0 cs)
-          (onto_first c (parts_past (10 ∷ []) 0 cs))) starts)
-    ]
 
 strip-utf8 : (part : List ℕ) → IsUtf8 part → IsUtf8 (strip_carriage_return part)
 strip-utf8 [] utf8 = utf8
@@ -55,22 +33,23 @@ strip-utf8 (c ∷ cs) utf8 =
       | inr other ↦ rw other utf8
     ]
 
-lines-each : (parts : List (List ℕ)) → All IsUtf8 parts → All IsUtf8 (lines_of_parts parts)
-lines-each [] utf8 = utf8
+lines-each : (parts : List (List ℕ)) → IsUtf8 (join_with_byte 10 parts)
+    → All IsUtf8 (lines_of_parts parts)
+lines-each [] utf8 = All-nil IsUtf8
 lines-each (part ∷ []) utf8 =
     elim (length part == 0) as (λ b. All IsUtf8 (cond b [] (part ∷ []))) [
       | true ↦ All-nil IsUtf8
-      | false ↦ utf8
+      | false ↦ All-cons IsUtf8 part [] utf8 (All-nil IsUtf8)
     ]
 lines-each (part ∷ next ∷ parts) utf8 =
+    let seam = ascii_seam part (join_with_byte 10 (next ∷ parts)) 10 utf8 (omega arith) in
     All-cons IsUtf8 (strip_carriage_return part) (lines_of_parts (next ∷ parts))
-    (strip-utf8 part (All-head IsUtf8 part (next ∷ parts) utf8))
-    (lines-each (next ∷ parts) (All-tail IsUtf8 part (next ∷ parts) utf8))
+    (strip-utf8 part seam.front) (lines-each (next ∷ parts) seam.back)
 
 lines-utf8 : (text : List ℕ) → IsUtf8 text → All IsUtf8 (lines text)
 lines-utf8 text utf8 =
     lines-each (slice_split is_feed text)
-    (subst (All IsUtf8) (sym (parts-are text)) (paragraphs_of-utf8 LF text utf8))
+    (subst IsUtf8 (sym (join_with_byte-slice_split 10 text)) utf8)
 
 -- ---- a dedented text
 
@@ -96,7 +75,7 @@ joined-length f l [] shorter =
     omega (
       arith,
       All-head (λ line. length (f line) ≤ length line) l [] shorter,
-      sum_by-cons (λ (l : List ℕ). length l + 1) l [],
+      sum_by-cons (λ (t : List ℕ). length t) l [],
     )
 joined-length f l (next ∷ ls) shorter =
     let joined = join_with_byte 10 (map f (next ∷ ls)) in
@@ -106,7 +85,7 @@ joined-length f l (next ∷ ls) shorter =
       arith,
       total,
       All-head (λ line. length (f line) ≤ length line) l (next ∷ ls) shorter,
-      sum_by-cons (λ (l : List ℕ). length l + 1) l (next ∷ ls),
+      sum_by-cons (λ (t : List ℕ). length t) l (next ∷ ls),
       joined-length f next ls
           (All-tail (λ line. length (f line) ≤ length line) l (next ∷ ls) shorter),
     )

@@ -1,77 +1,56 @@
 -- How many lines a paragraph has at most: one more than it has bytes.
-use Rattle.textwrap_base.proofs.Common.{◌≡◌, ℕ, suc, ◌+◌, ◌≤◌, ◌==◌, Bool, true, false}
-use Rattle.textwrap_base.proofs.Common.{cond, List, [], ◌∷◌, ◌++◌, All, length, refl, sym, ap}
-use Rattle.textwrap_base.proofs.Common.{subst, arith, IsUtf8, length-append}
+use Rattle.textwrap_base.proofs.Common.{◌≡◌, ℕ, ◌+◌, ◌≤◌, ◌==◌, Bool, true, false}
+use Rattle.textwrap_base.proofs.Common.{cond, List, [], ◌∷◌, ◌++◌, All, length, sym, ap}
+use Rattle.textwrap_base.proofs.Common.{subst, arith, IsUtf8, length-append, length-map}
 use Rattle.textwrap_base.proofs.Common.{IsDivision}
-use Rattle.textwrap_words.proofs.Common.{WordText, tiled}
+use Rattle.textwrap_words.proofs.Common.{WordText}
 use Rattle.textwrap_words.proofs.Common.{broken_words}
-use Rattle.textwrap_words.proofs.Common.{sizes_of, Splitter, split_words}
-use Rattle.textwrap_words.proofs.Common.{ArePoints, Algorithm, Greedy, LeastCost, IsDividedBy}
-use Rattle.textwrap_words.proofs.Word.Measured.{IsMeasured}
-use Rattle.textwrap_words.proofs.Word.Pieces.{ArePoints-cuts, AreSplit-computed}
-use Rattle.textwrap_words.proofs.Word.SplitPieces.{AreSplitWords, split-measured, split-tile}
+use Rattle.textwrap_words.proofs.Common.{sizes_of, split_words}
+use Rattle.textwrap_words.proofs.Common.{Algorithm, Greedy, LeastCost, IsDividedBy}
 use Rattle.textwrap_lines.proofs.Common.{Settings, empty_word, front_pieces, pieces_by, later_width}
 use Rattle.textwrap_lines.proofs.Common.{parts_from, is_whole, LineParts, AreParagraphParts}
-use Rattle.textwrap_lines.proofs.Common.{DividesAt, widths_of}
-use Rattle.textwrap_lines.proofs.Paragraph.Pieces.{ArePieces-by}
+use Rattle.textwrap_lines.proofs.Common.{widths_of}
+use Rattle.textwrap_lines.proofs.Paragraph.Kept.{parts_from-pieces}
+use Rattle.textwrap_lines.proofs.Paragraph.Pieces.{ArePieces-by, split_words-measured, split_words-tile}
 use Rattle.textwrap_lines.proofs.Paragraph.WholeLine.{laid_out-cases}
-use Rattle.textwrap_plain.proofs.Words.{words_by-parts}
-use Rattle.textwrap_plain.proofs.Wrapped.{texts-at}
+use Rattle.textwrap_plain.proofs.Words.{words_by-parts, words_by-texts}
 use Rattle.textwrap_plain.specs.Options.{words_by}
-use Rattle.textwrap_plain.specs.declared.options.PlainSeparator.{PlainSeparator}
+use Rattle.textwrap_calls.specs.Options.{algorithm_of, Divides, separator_of, splitter_of}
+use Rattle.textwrap_calls.specs.declared.options.TextwrapOptions.{TextwrapOptions}
 use Rattle.textwrap_calls.proofs.Lengths.Pieces.{count-parts, count-broken, count-unbroken, CoversSome}
 use Rattle.textwrap_calls.proofs.Lengths.Split.{words-cover, words-split}
 
 -- ---- the pieces of a paragraph
 
-module _ (settings : Settings) (separator : PlainSeparator) (splitter : Splitter)
-    (paragraph : List ℕ) (utf8 : IsUtf8 paragraph) where
-  abbrev split : List WordText
-  split = split_words splitter (words_by separator paragraph)
+count-front : (b : Bool) → length (cond b [] (empty_word ∷ [])) ≤ 1
+count-front true = omega arith
+count-front false = omega arith
 
-  split-cover : All CoversSome split
-  split-cover =
-      let parts = words_by-parts separator paragraph utf8 in
-      words-split splitter (words_by separator paragraph)
-      (subst (All CoversSome) (sym parts.are) (words-cover parts.parts parts.some))
-
-  are-split : AreSplitWords (λ line words. words ≡ words_by separator line) (ArePoints splitter)
-      (texts-at separator) (ArePoints-cuts splitter) paragraph split
-  are-split = (
-    words_by separator paragraph,
-    refl,
-    AreSplit-computed splitter (words_by separator paragraph),
-  )
-
-  split-tiled : tiled split ≡ paragraph
-  split-tiled = split-tile (λ line words. words ≡ words_by separator line) (ArePoints splitter)
-      (texts-at separator) (ArePoints-cuts splitter) paragraph split utf8 are-split
-
-  split-texts : All IsMeasured split
-  split-texts = split-measured (λ line words. words ≡ words_by separator line) (ArePoints splitter)
-      (texts-at separator) (ArePoints-cuts splitter) paragraph split utf8 are-split
-
-  count-front : (b : Bool) → length (cond b [] (empty_word ∷ [])) ≤ 1
-  count-front true = omega arith
-  count-front false = omega arith
-
-  -- no more than its bytes, and the empty one in front
-  count-pieces : length (pieces_by settings (words_by separator) splitter paragraph)
-      ≤ length paragraph + 1
-  count-pieces =
-      let limit = later_width settings in
-      let total = ap length split-tiled in
-      elim settings.break_words as (λ b. length
-      (cond b (front_pieces settings ++ broken_words limit split) split) ≤ length paragraph + 1) [
-        | true ↦ omega (
-          arith,
-          length-append (front_pieces settings) (broken_words limit split),
-          count-front (length settings.initial_indent == 0),
-          count-broken limit split split-texts split-cover,
-          total,
-        )
-        | false ↦ omega (arith, count-unbroken split split-cover, total)
-      ]
+-- no more than its bytes, and the empty one in front
+count-pieces : (o : TextwrapOptions) (settings : Settings) (paragraph : List ℕ) → IsUtf8 paragraph
+    → length (pieces_by settings (words_by (separator_of o)) (splitter_of o) paragraph)
+    ≤ length paragraph + 1
+count-pieces o settings paragraph utf8 =
+    let words = words_by (separator_of o) paragraph in
+    let split = split_words (splitter_of o) words in
+    let parts = words_by-parts (separator_of o) paragraph utf8 in
+    let texts = words_by-texts (separator_of o) paragraph utf8 in
+    let cover = words-split (splitter_of o) words
+    (subst (All CoversSome) (sym parts.are) (words-cover parts.parts parts.some)) in
+    let measured = split_words-measured settings (splitter_of o) paragraph words utf8 texts in
+    let total = ap length (split_words-tile settings (splitter_of o) paragraph words utf8 texts) in
+    let limit = later_width settings in
+    elim settings.break_words as (λ b. length
+    (cond b (front_pieces settings ++ broken_words limit split) split) ≤ length paragraph + 1) [
+      | true ↦ omega (
+        arith,
+        length-append (front_pieces settings) (broken_words limit split),
+        count-front (length settings.initial_indent == 0),
+        count-broken limit split measured cover,
+        total,
+      )
+      | false ↦ omega (arith, count-unbroken split cover, total)
+    ]
 
 -- ---- the lines of a paragraph
 
@@ -89,26 +68,21 @@ count-divided Greedy widths pieces division most one within divided =
 count-divided (LeastCost penalties) widths pieces division most one within divided =
     count-division pieces division most one within divided.by_table.division
 
-length-parts_from : (settings : Settings) (is_later : Bool) (division : List (List WordText))
-    → length (parts_from settings is_later division) ≡ length division
-length-parts_from settings is_later [] = refl
-length-parts_from settings is_later (line ∷ lines) = ap suc (length-parts_from settings true lines)
-
-pub count-lines : (settings : Settings) (separator : PlainSeparator) (splitter : Splitter)
-    (algorithm : Algorithm)
-    (is_later : Bool) (paragraph : List ℕ) (parts : List LineParts) → IsUtf8 paragraph
-    → AreParagraphParts settings (DividesAt (words_by separator) splitter algorithm settings)
-    is_later paragraph parts
+pub count-lines : (o : TextwrapOptions) (settings : Settings) (is_later : Bool)
+    (paragraph : List ℕ) (parts : List LineParts) → IsUtf8 paragraph
+    → AreParagraphParts settings (Divides o settings) is_later paragraph parts
     → length parts ≤ length paragraph + 1
-count-lines settings separator splitter algorithm is_later paragraph parts utf8
-    (division, laid_out, is) =
-    let lines : length division ≤ length paragraph + 1 =
-    laid_out-cases (λ d. length d ≤ length paragraph + 1) paragraph _ division (omega arith)
-    (λ (pieces, are, divided). count-divided algorithm (widths_of settings is_later) pieces division
-    (length paragraph + 1) (omega arith)
-    (subst (λ ps. length ps ≤ length paragraph + 1)
-    (sym (ArePieces-by (λ line words. words ≡ words_by separator line) (words_by separator)
-    (λ line words is. is) settings splitter paragraph pieces are))
-    (count-pieces settings separator splitter paragraph utf8)) divided)
+count-lines o settings is_later paragraph parts utf8 (division, laid_out, is) =
+    let words = words_by (separator_of o) in
+    let most = length paragraph + 1 in
+    let lines : length division ≤ most =
+    laid_out-cases (λ d. length d ≤ most) paragraph _ division (omega arith)
+    (λ (pieces, are, divided). count-divided (algorithm_of o) (widths_of settings is_later) pieces
+    division most (omega arith)
+    (subst (λ ps. length ps ≤ most) (sym (ArePieces-by (λ line ws. ws ≡ words line) words
+    (λ line ws is. is) settings (splitter_of o) paragraph pieces are))
+    (count-pieces o settings paragraph utf8)) divided)
     (is_whole settings is_later paragraph) laid_out in
-    omega (arith, lines, ap length is, length-parts_from settings is_later division)
+    let built = parts_from settings is_later division in
+    let same = ap length (parts_from-pieces settings is_later division) in
+    omega (arith, lines, ap length is, same, length-map built (λ p. p.pieces))

@@ -1,6 +1,6 @@
 -- How many rows a text in columns has at most, and how long they are together.
 use Rattle.textwrap_base.proofs.Common.{◌≡◌, ℕ, ◌+◌, ◌-◌, ◌*◌, ◌/◌, ◌<◌, ◌≤◌, max, List, [], ◌∷◌}
-use Rattle.textwrap_base.proofs.Common.{nat_tests, length, map, refl, ap, subst, arith, IsUtf8}
+use Rattle.textwrap_base.proofs.Common.{nat_tests, length, map, refl, ap, arith, IsUtf8}
 use Rattle.textwrap_base.proofs.Common.{sum_by-cons, length-append}
 use Rattle.textwrap_base.proofs.Common.{cases_lt, inl, inr, length-map, range_with_len}
 use Rattle.std.specs.Int.{div_ceil}
@@ -13,14 +13,14 @@ use Rattle.textwrap.specs.Columns.{column_width, inner_width, row_text, cells}
 use Rattle.textwrap_lines.proofs.Common.{Line}
 use Rattle.textwrap_lines.proofs.Common.{line_bytes, built_text}
 use Rattle.textwrap_lines.specs.Paragraph.{Built}
-use Rattle.textwrap_calls.specs.Bounds.{as_len, columns_room_bound, rows_bound, Suffices}
+use Rattle.textwrap_calls.specs.Bounds.{columns_room_bound, rows_bound}
 use Rattle.textwrap_calls.specs.Columns.{AreRows}
-use Rattle.textwrap_calls.specs.Options.{algorithm_of, Divides, separator_of, settings_of, splitter_of}
+use Rattle.textwrap_calls.specs.Options.{Divides, settings_of}
 use Rattle.textwrap_calls.specs.declared.columns.TextwrapGaps.{TextwrapGaps}
 use Rattle.textwrap_calls.specs.declared.options.TextwrapOptions.{TextwrapOptions}
-use Rattle.textwrap_calls.proofs.Lengths.Columns.{texts_length, row_room, rows-length}
-use Rattle.textwrap_calls.proofs.Lengths.Limit.{within-limit}
-use Rattle.textwrap_calls.proofs.Lengths.Bytes.{AreBounded, lines-bounded}
+use Rattle.textwrap_calls.proofs.Lengths.Bounded.{lines-bounded}
+use Rattle.textwrap_calls.proofs.Lengths.Columns.{row_room, rows-length}
+use Rattle.textwrap_calls.proofs.Lengths.Sums.{texts_length}
 
 -- ---- how many rows there are, and how wide
 
@@ -69,36 +69,34 @@ module _ (o : TextwrapOptions) (gaps : TextwrapGaps) (columns : ℕ) (some : 1 �
     (lines : List Line) (are : AreRows (IsInColumns (settings_of o)
     (Divides o) columns text gaps.left.now gaps.middle.now
     gaps.right.now) lines) where
-  rows-within : length lines ≤ rows_bound len columns
+  pub rows-within : length lines ≤ rows_bound len columns
   rows-within =
       let (rows, (shown, shown_are, rows_are), lines_are) = are in
       let layout = layout_of o.width columns gaps.left.now gaps.middle.now gaps.right.now in
       let narrow = at_column_width (settings_of o) columns gaps.left.now gaps.middle.now
       gaps.right.now in
-      let bounded = lines-bounded narrow (separator_of o) (splitter_of o) (algorithm_of o) text shown utf8 shown_are in
+      let bounded = lines-bounded o narrow len text shown utf8 len_is shown_are in
       let texts = map line_bytes shown in
       let count = row_count texts columns in
       omega (
         arith,
-        len_is,
         ap length lines_are,
         length-map rows Built,
         ap length rows_are,
         length-map (range_with_len 0 count) (λ r. row_text layout (cells texts count columns r)),
         length-range_with_len 0 count,
         rows-count (length texts) len columns some
-            (omega (arith, len_is, bounded.count, length-map shown line_bytes)),
+            (omega (arith, bounded.count, length-map shown line_bytes)),
       )
 
-  room-within : length (built_text lines) ≤ columns_room_bound o gaps len columns
+  pub room-within : length (built_text lines) ≤ columns_room_bound o gaps len columns
   room-within =
       let (rows, (shown, shown_are, rows_are), lines_are) = are in
       let layout = layout_of o.width columns gaps.left.now gaps.middle.now gaps.right.now in
       let inner = inner_width o.width columns gaps.left.now gaps.middle.now gaps.right.now in
       let narrow = at_column_width (settings_of o) columns gaps.left.now gaps.middle.now
       gaps.right.now in
-      let bounded = subst (λ n. AreBounded narrow n shown) len_is
-      (lines-bounded narrow (separator_of o) (splitter_of o) (algorithm_of o) text shown utf8 shown_are) in
+      let bounded = lines-bounded o narrow len text shown utf8 len_is shown_are in
       let texts = map line_bytes shown in
       let room = length gaps.left.now + length gaps.right.now
       + (columns - 1) * length gaps.middle.now + max o.width columns in
@@ -115,13 +113,3 @@ module _ (o : TextwrapOptions) (gaps : TextwrapGaps) (columns : ℕ) (some : 1 �
         product,
         bounded.bytes,
       )
-
-  pub rows-fit : (bound : ℕ) → bound ≡ as_len (rows_bound len columns)
-      → Suffices bound (length lines)
-  rows-fit bound is = within-limit (length lines) (rows_bound len columns) bound rows-within is
-
-  pub rows_room-fits : (bound : ℕ) → bound ≡ as_len (columns_room_bound o gaps len columns)
-      → Suffices bound (length (built_text lines))
-  rows_room-fits bound is =
-      within-limit (length (built_text lines)) (columns_room_bound o gaps len columns) bound
-      room-within is

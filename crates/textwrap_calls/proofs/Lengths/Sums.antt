@@ -1,31 +1,19 @@
--- Sums over lists.
-use Rattle.textwrap_base.proofs.Common.{◌≡◌, ℕ, ◌+◌, ◌*◌, ◌≤◌, List, [], ◌∷◌, length, map, refl}
-use Rattle.textwrap_base.proofs.Common.{arith, sum_by, sum_by-cons, sum_by-append, flat_map}
+-- Sums over lists, and how long texts are together and joined.
+use Rattle.textwrap_base.proofs.Common.{◌≡◌, ℕ, ◌+◌, ◌*◌, ◌≤◌, List, [], ◌∷◌, ◌++◌, length, map, ap}
+use Rattle.textwrap_base.proofs.Common.{◌∙◌, refl, arith, flat_map, length-append, sum_by, sum_by-append}
+use Rattle.textwrap_base.proofs.Common.{sum_by-cons}
+use Rattle.std.proofs.lemmas.List.Folds.{fold-map}
+use Rattle.std.proofs.lemmas.List.Sums.{sum_by-le, sum_by-le-sum_by}
+use Rattle.textwrap_lines.proofs.Common.{join_with}
+
+-- ---- sums over lists
 
 module _ {X : Type 0} where
   pub sum-map : {Y : Type 0} (f : Y → ℕ) (g : X → Y) (xs : List X)
       → sum_by f (map g xs) ≡ sum_by (λ x. f (g x)) xs
-  sum-map f g [] = refl
-  sum-map f g (x ∷ xs) =
-      omega (
-        arith,
-        sum_by-cons f (g x) (map g xs),
-        sum_by-cons (λ x. f (g x)) x xs,
-        sum-map f g xs,
-      )
+  sum-map f g xs = fold-map (λ n y. n + f y) g 0 xs
 
-  pub sum-flat : {Y : Type 0} (f : Y → ℕ) (g : X → List Y) (xs : List X)
-      → sum_by f (flat_map g xs) ≡ sum_by (λ x. sum_by f (g x)) xs
-  sum-flat f g [] = refl
-  sum-flat f g (x ∷ xs) =
-      omega (
-        arith,
-        sum_by-append f (g x) (flat_map g xs),
-        sum_by-cons (λ x. sum_by f (g x)) x xs,
-        sum-flat f g xs,
-      )
-
-  pub sum-plus : (f g : X → ℕ) (xs : List X)
+  sum-plus : (f g : X → ℕ) (xs : List X)
       → sum_by (λ x. f x + g x) xs ≡ sum_by f xs + sum_by g xs
   sum-plus f g [] = refl
   sum-plus f g (x ∷ xs) =
@@ -36,10 +24,6 @@ module _ {X : Type 0} where
         sum_by-cons g x xs,
         sum-plus f g xs,
       )
-
-  pub sum-zero : (xs : List X) → sum_by (λ x. 0) xs ≡ 0
-  sum-zero [] = refl
-  sum-zero (x ∷ xs) = omega (arith, sum_by-cons (λ (x : X). 0) x xs, sum-zero xs)
 
   pub sum-each : (f g : X → ℕ) (more : ℕ) → ((x : X) → f x ≤ more + g x) → (xs : List X)
       → sum_by f xs ≤ length xs * more + sum_by g xs
@@ -53,29 +37,46 @@ module _ {X : Type 0} where
         sum-each f g more each xs,
       )
 
-  pub sum-same : (f g : X → ℕ) → ((x : X) → f x ≡ g x) → (xs : List X) → sum_by f xs ≡ sum_by g xs
-  sum-same f g each [] = refl
-  sum-same f g each (x ∷ xs) =
-      omega (
-        arith,
-        each x,
-        sum_by-cons f x xs,
-        sum_by-cons g x xs,
-        sum-same f g each xs,
-      )
+-- ---- texts
 
--- row by row or column by column
-pub sum-swap : {X Y : Type 0} (f : X → Y → ℕ) (xs : List X) (ys : List Y)
-    → sum_by (λ x. sum_by (f x) ys) xs ≡ sum_by (λ y. sum_by (λ x. f x y) xs) ys
-sum-swap {X} {Y} f [] ys =
-    let none = sum-zero ys in
-    omega (arith, none)
-sum-swap {X} {Y} f (x ∷ xs) ys =
+-- the bytes of texts
+abbrev pub texts_length : List (List ℕ) → ℕ
+texts_length texts = sum_by (λ t. length t) texts
+
+pub join-length : (ending x y : List ℕ) (xs : List (List ℕ))
+    → length (join_with ending (x ∷ y ∷ xs))
+    ≡ length x + length ending + length (join_with ending (y ∷ xs))
+join-length ending x y xs =
+    let joined = join_with ending (y ∷ xs) in
+    length-append (x ++ ending) joined ∙ ap (λ n. n + length joined) (length-append x ending)
+
+pub texts-joined : (ending x : List ℕ) (xs : List (List ℕ))
+    → length (join_with ending (x ∷ xs)) ≡ texts_length (x ∷ xs) + length xs * length ending
+texts-joined ending x [] = omega (arith, sum_by-cons (λ (t : List ℕ). length t) x [])
+texts-joined ending x (y ∷ xs) =
     omega (
       arith,
-      sum_by-cons (λ x. sum_by (f x) ys) x xs,
-      sum-swap f xs ys,
-      sum-plus (f x) (λ y. sum_by (λ x. f x y) xs) ys,
-      sum-same (λ y. sum_by (λ x. f x y) (x ∷ xs)) (λ y. f x y + sum_by (λ x. f x y) xs)
-          (λ y. sum_by-cons (λ x. f x y) x xs) ys,
+      join-length ending x y xs,
+      texts-joined ending y xs,
+      sum_by-cons (λ (t : List ℕ). length t) x (y ∷ xs),
+    )
+
+-- row by row texts are no longer than column by column
+pub by-columns : {X Y : Type 0} (text : X → Y → List ℕ) (xs : List X) (ys : List Y)
+    → sum_by (λ x. sum_by (λ y. length (text x y)) ys) xs
+    ≤ texts_length (flat_map (λ y. map (λ x. text x y) xs) ys)
+by-columns text xs [] =
+    let none = sum_by-le (λ x. sum_by (λ y. length (text x y)) []) 0 xs (λ k d lt. omega arith) in
+    omega (arith, none)
+by-columns text xs (y ∷ ys) =
+    let here : List (List ℕ) = map (λ x. text x y) xs in
+    omega (
+      arith,
+      sum_by-le-sum_by (λ x. sum_by (λ z. length (text x z)) (y ∷ ys))
+          (λ x. length (text x y) + sum_by (λ z. length (text x z)) ys) xs
+          (λ x. omega (arith, sum_by-cons (λ z. length (text x z)) y ys)),
+      sum-plus (λ x. length (text x y)) (λ x. sum_by (λ z. length (text x z)) ys) xs,
+      sum-map (λ (t : List ℕ). length t) (λ x. text x y) xs,
+      sum_by-append (λ (t : List ℕ). length t) here (flat_map (λ z. map (λ x. text x z) xs) ys),
+      by-columns text xs ys,
     )

@@ -21,7 +21,7 @@ use Rattle.textwrap.proofs.Text.CommonPrefixes.{common_prefix-begins}
 use Rattle.textwrap.proofs.Text.Prefixes.{line_prefix-begins}
 use Rattle.textwrap.specs.Refilling.{unfilled_parts}
 use Rattle.textwrap_calls.proofs.Lengths.TextLines.{ended_length, final_feed, lines-length, feed-within}
-use Rattle.textwrap_calls.proofs.Lengths.Joined.{one_more, joined-length}
+use Rattle.textwrap_calls.proofs.Lengths.Joined.{joined-length}
 
 -- ---- its ending
 
@@ -65,7 +65,7 @@ indents-length : (ls : List (List ℕ))
     + length (common_prefix (map line_prefix (drop 1 ls))) ≤ ended_length ls - 1
 indents-length [] = omega arith
 indents-length (l ∷ []) =
-    omega (arith, prefix-length l, sum_by-cons one_more l [])
+    omega (arith, prefix-length l, sum_by-cons (λ (t : List ℕ). length t) l [])
 indents-length (l ∷ m ∷ ls) =
     let prefixes = map line_prefix ls in
     let begins = All-head (λ t. StartsWith t (common_prefix (line_prefix m ∷ prefixes)))
@@ -75,8 +75,8 @@ indents-length (l ∷ m ∷ ls) =
       prefix-length l,
       prefix-length m,
       starts_with_length (line_prefix m) (common_prefix (line_prefix m ∷ prefixes)) begins,
-      sum_by-cons one_more l (m ∷ ls),
-      sum_by-cons one_more m ls,
+      sum_by-cons (λ (t : List ℕ). length t) l (m ∷ ls),
+      sum_by-cons (λ (t : List ℕ). length t) m ls,
     )
 
 -- ---- all of it

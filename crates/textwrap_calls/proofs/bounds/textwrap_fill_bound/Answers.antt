@@ -1,7 +1,13 @@
 use Rattle.std.proofs.Common.{arith, rules}
+use Rattle.textwrap_calls.specs.Options.{settings_of}
 use Rattle.textwrap_calls.proofs.bounds.textwrap_fill_bound.Goals as goal
-use Rattle.textwrap_calls.proofs.Lengths.Filled.{filled-fits}
+use Rattle.textwrap_calls.proofs.Lengths.Filled.{filled-bounded}
+use Rattle.textwrap_calls.proofs.Lengths.Limit.{within-limit}
 
 pub returns-clause-enough : goal.returns-clause-enough
 returns-clause-enough c =
-    filled-fits _ _ _ _ c.args.text_len c.saturating_add.result (search (rules, arith))
+    let o = c.args.options.now in
+    λ text utf8 len_is filled are.
+    within-limit _ _ c.saturating_add.result
+    (filled-bounded o (settings_of o) c.args.text_len text filled utf8 len_is are)
+    (search (rules, arith))

@@ -1,6 +1,6 @@
 use Rattle.textwrap_calls.proofs.bounds.textwrap_wrap_columns_room_bound.Goals as goal
-use Rattle.textwrap_calls.proofs.Lengths.Limit.{sum-as_len}
-use Rattle.textwrap_calls.proofs.Lengths.Rows.{rows_room-fits}
+use Rattle.textwrap_calls.proofs.Lengths.Limit.{sum-as_len, within-limit}
+use Rattle.textwrap_calls.proofs.Lengths.Rows.{room-within}
 
 pub returns-clause-value : goal.returns-clause-value
 returns-clause-value c =
@@ -10,5 +10,7 @@ returns-clause-value c =
 
 pub returns-clause-enough : goal.returns-clause-enough
 returns-clause-enough c = λ some text utf8 len_is rows are.
-    rows_room-fits c.args.options.now c.args.gaps.now c.args.columns some c.args.text_len text utf8
-    len_is rows are c.saturating_add.result (returns-clause-value c)
+    within-limit _ _ c.saturating_add.result
+    (room-within c.args.options.now c.args.gaps.now c.args.columns some c.args.text_len text utf8
+    len_is rows are)
+    (returns-clause-value c)

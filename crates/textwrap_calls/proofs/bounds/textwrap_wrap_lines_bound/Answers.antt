@@ -1,6 +1,10 @@
+use Rattle.textwrap_calls.specs.Options.{settings_of}
 use Rattle.textwrap_calls.proofs.bounds.textwrap_wrap_lines_bound.Goals as goal
-use Rattle.textwrap_calls.proofs.Lengths.Room.{lines-fit}
+use Rattle.textwrap_calls.proofs.Lengths.Bounded.{lines-bounded}
+use Rattle.textwrap_calls.proofs.Lengths.Limit.{within-limit}
 
 pub returns-clause-enough : goal.returns-clause-enough
-returns-clause-enough c = λ options.
-    lines-fit options c.args.text_len c.saturating_add.result c.saturating_add.ensures
+returns-clause-enough c = λ o text utf8 len_is lines places are.
+    within-limit _ _ c.saturating_add.result
+    (lines-bounded o (settings_of o) c.args.text_len text lines utf8 len_is are.are).count
+    c.saturating_add.ensures

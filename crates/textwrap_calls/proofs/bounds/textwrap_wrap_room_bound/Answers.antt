@@ -1,11 +1,21 @@
 use Rattle.std.proofs.Common.{arith, rules}
+use Rattle.textwrap_calls.specs.Options.{settings_of}
 use Rattle.textwrap_calls.proofs.bounds.textwrap_wrap_room_bound.Goals as goal
-use Rattle.textwrap_calls.proofs.Lengths.Room.{room-fits}
+use Rattle.textwrap_calls.proofs.Lengths.Bounded.{lines-bounded}
+use Rattle.textwrap_calls.proofs.Lengths.Limit.{within-limit}
 
 pub returns-then-is_empty-2-clause-enough : goal.returns-then-is_empty-2-clause-enough
 returns-then-is_empty-2-clause-enough c =
-    room-fits c.args.options.now c.args.text_len 0 (search (rules, arith))
+    let o = c.args.options.now in
+    λ text utf8 len_is lines places are.
+    within-limit _ _ 0
+    (lines-bounded o (settings_of o) c.args.text_len text lines utf8 len_is are.are).built
+    (search (rules, arith))
 
 pub returns-clause-enough : goal.returns-clause-enough
 returns-clause-enough c =
-    room-fits c.args.options.now c.args.text_len c.bytes_and_indents.result (search (rules, arith))
+    let o = c.args.options.now in
+    λ text utf8 len_is lines places are.
+    within-limit _ _ c.bytes_and_indents.result
+    (lines-bounded o (settings_of o) c.args.text_len text lines utf8 len_is are.are).built
+    (search (rules, arith))

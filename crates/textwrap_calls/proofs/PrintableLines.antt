@@ -3,10 +3,11 @@ use Rattle.textwrap_base.proofs.Common.{◌≡◌, ◌≢◌, ℕ, ◌+◌, ◌-
 use Rattle.textwrap_base.proofs.Common.{◌∷◌, ◌++◌, length, drop, get_or, slice_range, cond, IsUtf8, refl}
 use Rattle.textwrap_base.proofs.Common.{sym, ap, subst, arith, nat_tests, lt-ltb, cases_lt, inl, inr}
 use Rattle.textwrap_base.proofs.Common.{append-nil, get_or-drop, get_or-take, All-drop, All-from_get_or}
-use Rattle.textwrap_base.proofs.Common.{All-head, All-take}
+use Rattle.textwrap_base.proofs.Common.{◌==◌, All-head, All-take, list_any, true≢false}
 use Rattle.std.specs.Char.{is_whitespace}
 use Rattle.std.proofs.lemmas.Str.{chars-IsAscii, IsUtf8-from_ascii}
 use Rattle.textwrap_base.proofs.Lists.Parts.{length-slice}
+use Rattle.textwrap_base.proofs.Lists.Rising.{contains-any}
 use Rattle.textwrap_words.proofs.Common.{IsPrintable, IsPrintableByte, without_final_blanks}
 use Rattle.textwrap_words.proofs.Common.{word_of}
 use Rattle.textwrap_words.proofs.Units.Widths.{printable-ascii}
@@ -15,6 +16,7 @@ use Rattle.textwrap.specs.Indentation.{HasNoLineFeed, indented}
 use Rattle.textwrap.proofs.Common.{is_blank_line}
 use Rattle.textwrap.proofs.Text.EndedParts.{ended_parts-whole}
 use Rattle.textwrap_lines.proofs.Paragraph.WholeLine.{AreParagraphParts-whole, line_from-whole}
+use Rattle.textwrap_lines.specs.LineEnding.{line_feed}
 use Rattle.textwrap_lines.specs.Places.{place_of}
 use Rattle.textwrap_lines.proofs.Text.Endings.{one-paragraph, printable-free}
 use Rattle.textwrap_calls.specs.Options.{Divides, says_yes, settings_of}
@@ -73,7 +75,7 @@ indented-line prefix (c ∷ cs) printable some dark =
 
 pub found-none : (text : List ℕ) → list_any (λ c. c == line_feed) text ≡ false → HasNoLineFeed text
 found-none text none =
-    All-from_get_or (λ c. c ≢ line_feed) text 0 (λ k within is.
+    All-from_get_or (λ c. c ≢ line_feed) text line_feed (λ k within is.
     true≢false (sym (contains-any line_feed text (k, within, is)) ∙ none))
 
 -- one without an indent that is shorter than the width is the line as it is, but for its last blanks

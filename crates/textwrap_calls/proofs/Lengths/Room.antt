@@ -23,7 +23,7 @@ use Rattle.textwrap_calls.proofs.Lengths.Limit.{within-limit}
 
 -- ---- how many lines
 
-counted-lines : (settings : Settings) (separator : PlainSeparator) (splitter : Splitter)
+pub counted-lines : (settings : Settings) (separator : PlainSeparator) (splitter : Splitter)
     (algorithm : Algorithm)
     (text : List ℕ) (lines : List Line) → IsUtf8 text
     → AreTextLines settings (DividesAt (words_by separator) splitter algorithm settings) text lines

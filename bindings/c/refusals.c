@@ -87,11 +87,15 @@ static textwrap_status by_first_fit_indented(struct lent *lent) { return filled(
 static textwrap_status by_optimal_fit(struct lent *lent) { return filled(lent, 1, 0); }
 static textwrap_status by_optimal_fit_indented(struct lent *lent) { return filled(lent, 1, 1); }
 
-static textwrap_status wrapped(struct lent *lent) {
-    textwrap_options o = options_of(1, 1);
+static textwrap_status wrapped(struct lent *lent, uint32_t optimal_fit, int indents) {
+    textwrap_options o = options_of(optimal_fit, indents);
     return textwrap_wrap(bytes(TEXT), strlen(TEXT), &o, lent->lines, 16, &lent->count, lent->room,
                          256, &lent->len);
 }
+
+static textwrap_status wrapped_first(struct lent *lent) { return wrapped(lent, 0, 0); }
+static textwrap_status wrapped_first_indented(struct lent *lent) { return wrapped(lent, 0, 1); }
+static textwrap_status wrapped_at_least_cost(struct lent *lent) { return wrapped(lent, 1, 1); }
 
 static textwrap_status in_columns(struct lent *lent) {
     textwrap_options o = options_of(1, 0);
@@ -376,6 +380,8 @@ static const struct call DIRECT[] = {
     {"fill by first fit", by_first_fit},
     {"fill by first fit, with an indent", by_first_fit_indented},
     {"fill of one line at Unicode line breaks", one_line_at_breaks},
+    {"wrap by first fit", wrapped_first},
+    {"wrap by first fit, with an indent", wrapped_first_indented},
     {"unfill", unfilled},
     {"indent", indented},
     {"dedent", dedented},
@@ -384,7 +390,7 @@ static const struct call DIRECT[] = {
 static const struct call CALLS[] = {
     {"fill by optimal fit", by_optimal_fit},
     {"fill by optimal fit, with an indent", by_optimal_fit_indented},
-    {"wrap", wrapped},
+    {"wrap at least cost", wrapped_at_least_cost},
     {"wrap_columns", in_columns},
     {"rows_of_lines", lines_in_columns},
     {"refill", refilled},

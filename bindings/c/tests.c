@@ -186,6 +186,11 @@ static void lines_are_places(void) {
     CHECK(textwrap_wrap(bytes("foo  bar"), 8, &o, lines, 2, &count, room, 0, &len)
           == TEXTWRAP_TOO_SMALL);
     CHECK(count == 2 && len == 5);
+    CHECK(lines[0].offset == 0 && lines[0].len == 3 && lines[0].is_built == 0);
+    CHECK(textwrap_wrap(bytes("foo  bar"), 8, &o, lines, 1, &count, room, 3, &len)
+          == TEXTWRAP_TOO_SMALL);
+    CHECK(count == 2 && len == 5);
+    CHECK(lines[0].len == 3 && lines[0].is_built == 0 && memcmp(room, "> b", 3) == 0);
     CHECK(textwrap_wrap(bytes("foo  bar"), 8, &o, lines, 2, &count, room, 8, &len) == TEXTWRAP_DONE);
     CHECK(lines[1].offset == 0 && lines[1].len == 5 && lines[1].is_built == 1);
     CHECK(memcmp(room, "> bar", 5) == 0);

@@ -46,8 +46,9 @@
  * else that is handed to the same call, and `count` and `len` are two places. If the room is too small,
  * TEXTWRAP_TOO_SMALL reports the length that suffices, for a second call, or SIZE_MAX where that is
  * more. The room then holds the beginning of the answer, as much of it as has room; it may end inside
- * a character. A call that writes lines and their texts writes neither then. But for TEXTWRAP_DONE and
- * TEXTWRAP_TOO_SMALL a call leaves the room as it was. Nothing past the answer is touched.
+ * a character. A call that writes lines and their texts writes as much of both as has room. But for
+ * TEXTWRAP_DONE and TEXTWRAP_TOO_SMALL a call leaves the room as it was. Nothing past the answer is
+ * touched.
  *
  * The library has no state, so calls may run on several threads at once, if the heap's functions may.
  * It allocates by three of them, which textwrap_heap.h declares and heap.c has over malloc.
@@ -193,7 +194,8 @@ typedef struct {
  * the place that it was cut from, so an empty line at its own paragraph. Lines with an indent are
  * written to the room, one after another, and `len` is that of all of them; without indents no room
  * is needed. TOO_SMALL reports both `count` and `len`: a first call may bring no lines and no room,
- * and a second one what the first has reported. */
+ * and a second one what the first has reported. With room for some of the lines, the first of them are
+ * written. By first fit at blanks it allocates nothing. */
 TEXTWRAP_CHECKED
 textwrap_status textwrap_wrap(const uint8_t *text, size_t text_len, const textwrap_options *options,
                               textwrap_line *lines, size_t lines_len, size_t *count, uint8_t *room,

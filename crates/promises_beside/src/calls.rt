@@ -2,7 +2,7 @@
 ghost use Rattle.textwrap.specs.Filling.{IsFilled};
 ghost use Rattle.textwrap_calls.specs.Options.{Divides, settings_of};
 ghost use Rattle.textwrap_calls.specs.Room.{WritesLong};
-ghost use Rattle.textwrap_calls.specs.Wrapping.{WritesLines};
+ghost use Rattle.textwrap_calls.specs.Wrapping.{WritesLongLines};
 ghost use Rattle.textwrap_lines.specs.Places.{ArePlacedLines};
 
 use std::alloc::Global;
@@ -34,7 +34,7 @@ pub fn written_lines(
     room: &mut [u8],
     len: &mut usize,
 ) -> u32
-    ensures wrapped { WritesLines (ArePlacedLines (settings_of options.now) (Divides options.now (settings_of options.now)) text.now)
+    ensures wrapped { WritesLongLines (ArePlacedLines (settings_of options.now) (Divides options.now (settings_of options.now)) text.now)
         text.now result lines.old lines.new count.old count.new room.old room.new len.old len.new }
 {
     textwrap_wrap(alloc, text, options, lines, count, room, len)

@@ -1,9 +1,9 @@
 //! The lines of a text.
-ghost use Rattle.std.specs.Prelude.{◌≡◌, ◌≤◌, ◌↔◌, IsUtf8};
+ghost use Rattle.std.specs.Prelude.{◌≡◌, ◌≢◌, ◌≤◌, ◌↔◌, IsUtf8};
 ghost use Rattle.textwrap_calls.specs.Options.{settings_of, AreKnown, Divides};
 ghost use Rattle.textwrap_calls.specs.Options.{AreTexts};
-ghost use Rattle.textwrap_calls.specs.Status.{not_utf8, unknown_options};
-ghost use Rattle.textwrap_calls.specs.Wrapping.{WritesLines};
+ghost use Rattle.textwrap_calls.specs.Status.{not_utf8, out_of_memory, unknown_options};
+ghost use Rattle.textwrap_calls.specs.Wrapping.{WritesLongLines};
 ghost use Rattle.textwrap_lines.specs.Places.{ArePlacedLines};
 
 use std::alloc::Global;
@@ -22,11 +22,13 @@ pub extern "C" fn textwrap_wrap(
     room: &mut [u8],
     len: &mut usize,
 ) -> u32
-    ensures wrapped { WritesLines (ArePlacedLines (settings_of options.now) (Divides options.now (settings_of options.now)) text.now)
+    ensures wrapped { WritesLongLines (ArePlacedLines (settings_of options.now) (Divides options.now (settings_of options.now)) text.now)
         text.now result lines.old lines.new count.old count.new room.old room.new len.old len.new }
     ensures unknown { result ≡ unknown_options ↔ ¬ AreKnown options.now }
     ensures not_utf8 { result ≡ not_utf8 ↔ AreKnown options.now
         × ¬ (IsUtf8 text.now × AreTexts options.now) }
+    ensures no_memory { options.now.unicode_breaks ≡ 0 → options.now.optimal_fit ≡ 0
+        → result ≢ out_of_memory }
     ensures statuses { result ≤ unknown_options }
 {
     wrapping::textwrap_wrap(alloc, text, options, lines, count, room, len)

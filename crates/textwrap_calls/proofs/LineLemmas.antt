@@ -1,17 +1,20 @@
 -- What was written of lines that are reported.
-use Rattle.textwrap_base.proofs.Common.{◌≡◌, ℕ, suc, ◌+◌, ◌<◌, ◌⊎◌, inl, inr, List, [], ◌∷◌, ◌++◌}
-use Rattle.textwrap_base.proofs.Common.{drop, length, sym, ap, ◌∙◌, subst}
+use Rattle.textwrap_base.proofs.Common.{◌≡◌, ◌≢◌, ℕ, suc, ◌+◌, ◌^◌, ◌<◌, ◌≤◌, ◌⊎◌, inl, inr, List, [], ◌∷◌, ◌++◌}
+use Rattle.textwrap_base.proofs.Common.{ap, ◌∙◌, arith, cases_lt, drop, length, length-map, sym, subst, take_all}
 use Rattle.textwrap.proofs.Common.{Line, Slice, Built}
-use Rattle.textwrap_calls.specs.Room.{BeginsWith}
-use Rattle.textwrap_calls.specs.Status.{done, too_small}
-use Rattle.textwrap_calls.specs.Reported.{WritesReported}
-use Rattle.textwrap_calls.specs.Wrapping.{ShowLines, WritesLines}
+use Rattle.textwrap_words.specs.LentText.{as_len, written_over}
+use Rattle.textwrap_lines.specs.LentPlaces.{reported_line, WritesPlaces}
 use Rattle.textwrap_lines.specs.Places.{built_text}
+use Rattle.textwrap_lines.specs.declared.lent_places.LineCounts.{LineCounts}
 use Rattle.textwrap_lines.specs.declared.places.Place.{Place}
-use Rattle.textwrap_calls.specs.declared.reported.TextwrapLine.{TextwrapLine}
+use Rattle.textwrap_lines.specs.declared.places.TextwrapLine.{TextwrapLine}
+use Rattle.textwrap_calls.specs.Status.{done, too_small}
+use Rattle.textwrap_calls.specs.Reported.{Reports, WritesReported}
+use Rattle.textwrap_calls.specs.Wrapping.{ShowLines, WritesLinesAs}
+use Rattle.textwrap_calls.proofs.RoomLemmas.{short-reported}
 
 -- as many are reported as there are
-ShowLines-length : (text room : List ℕ) (from used : ℕ) (lines : List Line)
+pub ShowLines-length : (text room : List ℕ) (from used : ℕ) (lines : List Line)
     (reported : List Place) → ShowLines text room from used lines reported
     → length reported ≡ length lines
 ShowLines-length text room from used [] reported none = ap length none
@@ -21,52 +24,84 @@ ShowLines-length text room from used (Slice bytes ∷ lines) (t ∷ reported) (h
 ShowLines-length text room from used (Built bytes ∷ lines) (t ∷ reported) (here, rest) =
     ap suc (ShowLines-length text room from (used + length bytes) lines reported rest)
 
--- lines that are such an answer, and are shown where they are reported, were written
-pub WritesLines-reported : (AreAnswer : List Line → List Place → Type 0) (text : List ℕ)
-    (lines : List Line) (reported : List Place) (built : List ℕ) (status : ℕ)
-    (lines_before lines_after : List TextwrapLine) (count_before count_after : ℕ)
-    (room_before room_after : List ℕ) (len_before len_after : ℕ) → AreAnswer lines reported
-    → built ≡ built_text lines
-    → ((rest : List ℕ) → ShowLines text (built_text lines ++ rest) 0 0 lines reported)
-    → (status ≡ done) ⊎ (status ≡ too_small)
-    → WritesReported reported built status lines_before lines_after count_after room_before room_after
-    len_after
-    → WritesLines AreAnswer text status lines_before lines_after count_before count_after
-    room_before room_after len_before len_after
-WritesLines-reported AreAnswer text lines reported built status lines_before lines_after count_before
-    count_after room_before room_after len_before len_after are built_is shows statuses writes =
-    let all = ShowLines-length text (built_text lines ++ []) 0 0 lines reported (shows []) in
-    let count = writes.count ∙ all in
-    let len = writes.len ∙ ap length built_is in
+-- lines were written by where they stand, and it was reported how long they are
+pub WritesReported-counts : (reported : ℕ → ℕ) (places : List Place) (built : List ℕ)
+    (counts : LineCounts) (lines_len room_len status count_after len_after : ℕ)
+    (lines_before lines_after : List TextwrapLine) (room_before room_after : List ℕ)
+    → length places < 2 ^ 64 → reported (length built) ≡ as_len (length built)
+    → WritesPlaces places built counts lines_before lines_after room_before room_after
+    → Reports counts lines_len room_len status count_after len_after
+    → lines_len ≡ length lines_before → room_len ≡ length room_before → length room_before < 2 ^ 63
+    → WritesReported reported places built status lines_before lines_after count_after room_before
+    room_after len_after
+WritesReported-counts reported places built counts lines_len room_len status count_after len_after
+    lines_before lines_after room_before room_after fits exact writes reports lines_is room_is within =
+    let count : counts.lines ≡ length places = omega (
+      arith,
+      fits,
+      writes.lines.len_is,
+      length-map places reported_line,
+    ) in
+    let passed = short-reported (length room_before) (length built) within in
     record {
-      written = λ here.
-          let (places, room) = writes.written here in
-          let room_is : BeginsWith (built_text lines) room_before room_after =
-          subst (λ b. BeginsWith b room_before room_after) built_is room in (
-            lines,
-            reported,
-            are,
-            count,
-            len,
-            room_is,
-            subst (λ r. ShowLines text r 0 0 lines reported) (sym room_is)
-                (shows (drop (length (built_text lines)) room_before)),
-            places,
-          );
-      reported = λ short. (
-        lines,
-        reported,
-        are,
-        count,
-        len,
-        elim (writes.short short) [
-          | inl few ↦ inl (subst (λ n. length lines_before < n) all few)
-          | inr small ↦ inr (subst (λ n. length room_before < n) (sym writes.len) small)
+      count = reports.count_is ∙ count;
+      len = reports.len_is ∙ writes.text.len_is ∙ sym exact;
+      lines = writes.lines.room_is;
+      room = writes.text.room_is;
+      small = (
+        λ short. elim (reports.small.0 short) [
+          | inl few ↦ inl (rw (lines_is, count) at few)
+          | inr less ↦ inr (passed.0 (rw (room_is, writes.text.len_is) at less))
         ],
+        λ short. reports.small.1 (elim short [
+          | inl few ↦ inl (rw (lines_is, count) few)
+          | inr less ↦ inr (rw (room_is, writes.text.len_is) (passed.1 less))
+        ]),
       );
-      kept = writes.kept;
-      kept_counts = λ no not_short. elim statuses [
-        | inl here ↦ absurd (no here)
-        | inr here ↦ absurd (not_short here)
-      ];
+    }
+
+-- lines that are such an answer, and are shown where they are reported, were written
+pub WritesLines-reported : {reported : ℕ → ℕ} (AreAnswer : List Line → List Place → Type 0)
+    (text : List ℕ) (lines : List Line) (places : List Place) (built : List ℕ) (status : ℕ)
+    (lines_before lines_after : List TextwrapLine) (count_before count_after : ℕ)
+    (room_before room_after : List ℕ) (len_before len_after : ℕ) → AreAnswer lines places
+    → built ≡ built_text lines
+    → ((rest : List ℕ) → ShowLines text (built_text lines ++ rest) 0 0 lines places)
+    → (status ≡ done) ⊎ (status ≡ too_small)
+    → WritesReported reported places built status lines_before lines_after count_after room_before room_after
+    len_after
+    → WritesLinesAs reported AreAnswer text status lines_before lines_after count_before count_after
+    room_before room_after len_before len_after
+WritesLines-reported {reported} AreAnswer text lines places built status lines_before lines_after count_before
+    count_after room_before room_after len_before len_after are built_is shows statuses writes =
+    let all = ShowLines-length text (built_text lines ++ []) 0 0 lines places (shows []) in
+    let room = writes.room ∙ ap (written_over room_before) built_is in
+    let small = rw (all, built_is) at writes.small in
+    let apart : status ≢ done → status ≢ too_small → ⊥ = λ no not_short. elim statuses [
+      | inl here ↦ no here
+      | inr here ↦ not_short here
+    ] in
+    record {
+      written = λ answered. (
+        lines,
+        places,
+        are,
+        writes.count ∙ all,
+        writes.len ∙ ap (λ b. reported (length b)) built_is,
+        writes.lines,
+        room,
+        small,
+        λ here.
+            let fits : length (built_text lines) ≤ length room_before =
+            elim (cases_lt (length room_before) (length (built_text lines))) [
+              | inl less ↦ absurd (omega (arith, here, small.1 (inr less)))
+              | inr fits ↦ fits
+            ] in
+            subst (λ r. ShowLines text r 0 0 lines places)
+            (sym (room ∙ ap (λ b. b ++ drop (length (built_text lines)) room_before)
+            (take_all (length room_before) (built_text lines) fits)))
+            (shows (drop (length (built_text lines)) room_before)),
+      );
+      kept = λ no not_short. absurd (apart no not_short);
+      kept_counts = λ no not_short. absurd (apart no not_short);
     }

@@ -16,7 +16,7 @@ use Rattle.textwrap_calls.specs.Reported.{WritesReported}
 use Rattle.textwrap_calls.specs.Status.{done, too_small}
 use Rattle.textwrap_calls.specs.Steps.{ArePlacedCuts, step_cuts}
 use Rattle.textwrap_calls.specs.Wrapping.{ShowLines, WritesLines}
-use Rattle.textwrap_calls.specs.declared.reported.TextwrapLine.{TextwrapLine}
+use Rattle.textwrap_lines.specs.declared.places.TextwrapLine.{TextwrapLine}
 use Rattle.textwrap_calls.proofs.GroupLemmas.{paragraph-cut}
 use Rattle.textwrap_calls.proofs.LineLemmas.{WritesLines-reported}
 use Rattle.textwrap_calls.proofs.PlaceLemmas.{AreCut, shown}
@@ -57,7 +57,7 @@ module _ (settings : Settings) (cuts points ends : List ℕ) (is_later : ℕ)
   pub steps-written : (status : ℕ) (lines_before lines_after : List TextwrapLine)
       (count_before count_after : ℕ) (room_before room_after : List ℕ) (len_before len_after : ℕ)
       → (status ≡ done) ⊎ (status ≡ too_small)
-      → WritesReported places built status lines_before lines_after count_after room_before
+      → WritesReported (λ n. n) places built status lines_before lines_after count_after room_before
       room_after len_after
       → WritesLines (ArePlacedCuts (step_cuts settings cuts points ends is_later paragraph))
       paragraph status lines_before lines_after count_before count_after room_before room_after

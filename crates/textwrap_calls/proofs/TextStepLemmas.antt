@@ -39,7 +39,7 @@ use Rattle.textwrap_lines.specs.declared.places.Place.{Place}
 use Rattle.textwrap_calls.specs.Reported.{WritesReported}
 use Rattle.textwrap_calls.specs.Status.{done, too_small}
 use Rattle.textwrap_calls.specs.Steps.{ArePlacedCuts}
-use Rattle.textwrap_calls.specs.declared.reported.TextwrapLine.{TextwrapLine}
+use Rattle.textwrap_lines.specs.declared.places.TextwrapLine.{TextwrapLine}
 use Rattle.textwrap_calls.proofs.LineLemmas.{WritesLines-reported}
 
 -- ---- a paragraph that is divided
@@ -297,7 +297,7 @@ pub shown-written : (settings : Settings) (steps : List TextwrapSteps) (text : L
     → (status : ℕ) (lines_before lines_after : List TextwrapLine)
     (count_before count_after : ℕ) (room_before room_after : List ℕ) (len_before len_after : ℕ)
     → (status ≡ done) ⊎ (status ≡ too_small)
-    → WritesReported places built status lines_before lines_after count_after room_before
+    → WritesReported (λ n. n) places built status lines_before lines_after count_after room_before
     room_after len_after
     → WritesLines (ArePlacedCuts (text_step_cuts settings steps text)) text status lines_before
     lines_after count_before count_after room_before room_after len_before len_after

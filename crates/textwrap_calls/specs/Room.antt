@@ -1,11 +1,7 @@
 -- What is written into lent room.
-use Rattle.std.specs.Prelude.{◌≡◌, ◌≢◌, ℕ, ◌<◌, ◌⊎◌, ◌↔◌, List, ◌++◌, length, drop}
+use Rattle.std.specs.Prelude.{◌≡◌, ◌≢◌, ℕ, ◌<◌, ◌⊎◌, ◌↔◌, List, length}
 use Rattle.textwrap_words.specs.LentText.{as_len, written_over}
 use Rattle.textwrap_calls.specs.Status.{done, too_small}
-
--- the front of the room is the answer, and what follows it is as it was
-abbrev pub BeginsWith : {X : Type 0} → List X → List X → List X → Type 0
-BeginsWith answer before after = after ≡ answer ++ drop (length answer) before
 
 -- as much of an answer of this kind as has room stands at the front of the room, and what follows it
 -- is as it was; its length is reported as `reported` says; and the status says whether the room is too

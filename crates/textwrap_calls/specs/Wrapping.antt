@@ -1,20 +1,13 @@
 -- What is reported of the lines of a text.
-use Rattle.std.specs.Prelude.{◌≡◌, ◌≢◌, ℕ, ◌+◌, ◌<◌, ◌≤◌, ◌⊎◌, true, false, List, [], ◌∷◌, length}
-use Rattle.std.specs.Prelude.{map, slice_range, if◌then◌else◌}
+use Rattle.std.specs.Prelude.{◌≡◌, ◌≢◌, ℕ, ◌+◌, ◌<◌, ◌≤◌, ◌⊎◌, ◌↔◌, true, false, List, [], ◌∷◌}
+use Rattle.std.specs.Prelude.{length, map, slice_range}
 use Rattle.textwrap.specs.Paragraph.{Line, Slice, Built}
 use Rattle.textwrap_lines.specs.Places.{built_text}
+use Rattle.textwrap_lines.specs.LentPlaces.{reported_line}
 use Rattle.textwrap_lines.specs.declared.places.Place.{Place}
-use Rattle.textwrap_calls.specs.Room.{BeginsWith}
+use Rattle.textwrap_lines.specs.declared.places.TextwrapLine.{TextwrapLine}
+use Rattle.textwrap_words.specs.LentText.{as_len, written_over}
 use Rattle.textwrap_calls.specs.Status.{done, too_small}
-use Rattle.textwrap_calls.specs.declared.reported.TextwrapLine.{TextwrapLine}
-
--- a place as it is reported: lines that are texts of their own are those in the room
-abbrev pub reported_line : Place → TextwrapLine
-reported_line place = record {
-  offset = place.offset;
-  len = place.len;
-  is_built = if place.is_built then 1 else 0;
-}
 
 -- ---- what stands at that place
 
@@ -51,21 +44,33 @@ ShowLines text room from used (Built bytes ∷ lines) (t ∷ reported) =
 
 -- ---- what is written
 
--- lines are reported, and those of their own are in the room; or there is no place for them, and only
--- how many they are and how long is reported; else nothing is written
-pub record WritesLines (AreAnswer : List Line → List Place → Type 0) (text : List ℕ)
-    (status : ℕ) (lines_before lines_after : List TextwrapLine) (count_before count_after : ℕ)
-    (room_before room_after : List ℕ) (len_before len_after : ℕ) : Type 0 where
-  pub written : status ≡ done → (answer : List Line) × (reported : List Place)
-      × AreAnswer answer reported
-      × (count_after ≡ length answer) × (len_after ≡ length (built_text answer))
-      × BeginsWith (built_text answer) room_before room_after
-      × ShowLines text room_after 0 0 answer reported
-      × BeginsWith (map reported_line reported) lines_before lines_after
-  pub reported : status ≡ too_small → (answer : List Line) × (reported : List Place)
-      × AreAnswer answer reported
-      × (count_after ≡ length answer) × (len_after ≡ length (built_text answer))
-      × ((length lines_before < length answer) ⊎ (length room_before < len_after))
-  pub kept : status ≢ done → (lines_after ≡ lines_before) × (room_after ≡ room_before)
+-- as many of the lines as have room are reported, and as much of those of their own as has room is in the
+-- room; what follows is as it was. How many lines there are is reported, and how long those of their own
+-- are, as `reported` says; and the status says whether there is no room for all. If there is, they are
+-- shown where they are reported. Else nothing is written
+pub record WritesLinesAs (reported : ℕ → ℕ) (AreAnswer : List Line → List Place → Type 0)
+    (text : List ℕ) (status : ℕ) (lines_before lines_after : List TextwrapLine)
+    (count_before count_after : ℕ) (room_before room_after : List ℕ) (len_before len_after : ℕ)
+    : Type 0 where
+  pub written : (status ≡ done) ⊎ (status ≡ too_small) → (answer : List Line)
+      × (places : List Place) × AreAnswer answer places
+      × (count_after ≡ length answer) × (len_after ≡ reported (length (built_text answer)))
+      × (lines_after ≡ written_over lines_before (map reported_line places))
+      × (room_after ≡ written_over room_before (built_text answer))
+      × (status ≡ too_small
+      ↔ (length lines_before < length answer) ⊎ (length room_before < length (built_text answer)))
+      × (status ≡ done → ShowLines text room_after 0 0 answer places)
+  pub kept : status ≢ done → status ≢ too_small
+      → (lines_after ≡ lines_before) × (room_after ≡ room_before)
   pub kept_counts : status ≢ done → status ≢ too_small
       → (count_after ≡ count_before) × (len_after ≡ len_before)
+
+-- with their length
+abbrev pub WritesLines : (List Line → List Place → Type 0) → List ℕ → ℕ → List TextwrapLine
+    → List TextwrapLine → ℕ → ℕ → List ℕ → List ℕ → ℕ → ℕ → Type 0
+WritesLines = WritesLinesAs (λ n. n)
+
+-- with their length, or the greatest number where it is more
+abbrev pub WritesLongLines : (List Line → List Place → Type 0) → List ℕ → ℕ → List TextwrapLine
+    → List TextwrapLine → ℕ → ℕ → List ℕ → List ℕ → ℕ → ℕ → Type 0
+WritesLongLines = WritesLinesAs as_len

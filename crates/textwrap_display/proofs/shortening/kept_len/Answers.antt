@@ -1,5 +1,5 @@
 use Rattle.textwrap_display.proofs.shortening.kept_len.Goals as goal
-use Rattle.textwrap_base.proofs.Common.{◌≡◌, ◌+◌, refl, sym, ap, subst, ◌∙◌, arith, length, eqb, inl, inr}
+use Rattle.textwrap_base.proofs.Common.{◌≡◌, ◌+◌, refl, sym, subst, ◌∙◌, arith, length, eqb, inl, inr}
 use Rattle.textwrap_base.proofs.Common.{char_indices_offset}
 use Rattle.std.specs.Str.Iter.{char_indices_rest}
 use Rattle.textwrap_words.proofs.Units.Widths.{added}

@@ -7,8 +7,8 @@ use textwrap_calls::status::{DONE, NOT_UTF8, TOO_SMALL, UNKNOWN_OPTIONS};
 use textwrap_calls::tables::{TextwrapCell, TextwrapColumn};
 use textwrap_calls::texts::TextwrapText;
 
-/// A line is a slice of the text, or with an indent a text of its own in the room. Where the lines are
-/// too few their number is told.
+/// A line is a slice of the text, or with an indent a text of its own in the room. Where there is no
+/// room for all, the first of them are told, and how many they are.
 const PLACES: &[LinesRow] = &[
     (
         LinesCall::Wrap(TextwrapOptions {
@@ -24,8 +24,28 @@ const PLACES: &[LinesRow] = &[
         LinesCall::Wrap(AT_5),
         b"foo  bar",
         (TOO_SMALL, 2, 0),
-        &[NONE],
+        &[(0, 3, 0)],
         b"",
+    ),
+    (
+        LinesCall::Wrap(TextwrapOptions {
+            subsequent_indent: b"> ",
+            ..AT_5
+        }),
+        b"foo  bar",
+        (TOO_SMALL, 2, 5),
+        &[(0, 3, 0), (0, 5, 1), NONE],
+        b"> b",
+    ),
+    (
+        LinesCall::Wrap(TextwrapOptions {
+            subsequent_indent: b"> ",
+            ..AT_5
+        }),
+        b"foo  bar baz",
+        (TOO_SMALL, 3, 10),
+        &[(0, 3, 0), (0, 5, 1)],
+        b"> bar> ba",
     ),
     (
         LinesCall::Wrap(AT_5),
@@ -248,8 +268,8 @@ const TABLES: &[LinesRow] = &[
         },
         b"",
         (TOO_SMALL, 3, 36),
-        &[NONE, NONE, NONE],
-        b"___________________________________",
+        &[(0, 12, 1), (12, 12, 1), (24, 12, 1)],
+        b"|foo |  1.5||bar |     ||baz |     ",
     ),
     (
         LinesCall::Table {
@@ -381,8 +401,8 @@ const ROWS_OF_LINES: &[LinesRow] = &[
         },
         b"",
         (TOO_SMALL, 2, 24),
-        &[NONE, NONE],
-        b"_______________________",
+        &[(0, 12, 1), (12, 12, 1)],
+        b"|Foo |Baz  ||Bar |     ",
     ),
     // Gaps that leave no room leave a width of 1, and lines are not cut.
     (
@@ -507,8 +527,8 @@ const TABLES_OF_LINES: &[LinesRow] = &[
         },
         b"",
         (TOO_SMALL, 3, 36),
-        &[NONE, NONE],
-        b"____________________________________",
+        &[(0, 12, 1), (12, 12, 1)],
+        b"|foo |  1.5||bar |     ||baz |     |",
     ),
     // A cell without lines takes no row, and there are none without columns.
     (

@@ -107,8 +107,8 @@ const WRAPPED: &[LinesRow] = &[
         },
         TEXT,
         (TOO_SMALL, 5, 3),
-        &[NONE, NONE, NONE, NONE],
-        b"________",
+        &[(0, 3, 0), (4, 3, 0), (8, 0, 0), (0, 3, 1)],
+        b"ba-_____",
     ),
     // Whether a line stands before a paragraph depends on the lines, not on the paragraphs.
     (

@@ -1,0 +1,18 @@
+//! Fills the paragraphs of a text again, in which marks stand before the words.
+#![tactic(auto)]
+
+pub use options::{Algorithm, ReflowOptions};
+
+mod blocks;
+mod columns;
+mod fences;
+mod filling;
+mod lines;
+mod marks;
+mod options;
+mod pieces;
+mod prefixes;
+mod reading;
+mod signs;
+mod states;
+mod words;

@@ -1,7 +1,8 @@
 -- The first block of lines, and those after it.
 use Rattle.textwrap_base.proofs.Common.{◌≡◌, ℕ, suc, ◌+◌, true, false, cond, List, []}
 use Rattle.textwrap_base.proofs.Common.{◌∷◌, length, take, drop, refl, sym, ap, ◌∙◌, map, arith, zero}
-use Rattle.textwrap_marked.specs.Blocks.{block_len, blocks, goes_on, later_len, with_line}
+use Rattle.textwrap_base.proofs.Common.{◌<◌, get_or}
+use Rattle.textwrap_marked.specs.Blocks.{are_fields, is_beside, block_len, blocks, goes_on, later_len, with_line}
 use Rattle.textwrap_marked.specs.Lines.{LineText, line_view}
 use Rattle.textwrap_marked.specs.declared.lines.Line.{Line}
 
@@ -27,3 +28,10 @@ block-last [] n is = absurd (omega (arith, is))
 block-last (line ∷ []) zero is = refl
 block-last (line ∷ next ∷ lines) zero is = absurd (omega (arith, is))
 block-last (line ∷ lines) (suc n) is = block-last lines n (omega (arith, is))
+
+-- the first of the blocks begins with the first line
+pub beside-first : (first : LineText) (lines : List Line) (d : Line) → 0 < length lines
+    → is_beside first (blocks (map line_view lines)) ≡ are_fields first (line_view (get_or lines 0 d))
+beside-first first [] d some = absurd (omega (arith, some))
+beside-first first (line ∷ lines) d some =
+    ap (is_beside first) (blocks-first (line_view line) (map line_view lines))

@@ -4,13 +4,13 @@ use Rattle.textwrap_base.proofs.Common.{List, [], ◌∷◌, ◌++◌, length, t
 use Rattle.textwrap_base.proofs.Common.{arith, nat_eq, starts_with, prefix_len, false_from_ne_true}
 use Rattle.textwrap_base.proofs.Common.{◌↔◌, cases_Bool, length-drop, nat_tests, map, map-append}
 use Rattle.textwrap_base.proofs.Common.{append_assoc}
-use Rattle.textwrap_base.proofs.Lists.Prefixes.{starts_with-rest, starts_with-true}
+use Rattle.textwrap_base.proofs.Lists.Prefixes.{starts_with-false, starts_with-rest, starts_with-true}
 use Rattle.textwrap_base.proofs.Common.{ends_with, None, Option, Some, take_at, Bor, length-append}
 use Rattle.textwrap_base.proofs.Lists.Ends.{ends_with-front, ends_with-true, stripped_suffix}
 use Rattle.std.proofs.Common.{ap₂}
 use Rattle.std.specs.Option.{MatchOption}
 use Rattle.std.specs.Str.Iter.{HasSubslice}
-use Rattle.std.specs.Str.Pattern.{FindsTextSuffix, StripsSuffix}
+use Rattle.std.specs.Str.Pattern.{FindsTextPrefix, FindsTextSuffix, StripsPrefix, StripsSuffix}
 use Rattle.textwrap_marked.specs.Words.{contains, is_ink, is_white}
 use Rattle.textwrap_marked.specs.Words.{spaced_view, spaced_words, SpacedText, with_byte}
 use Rattle.textwrap_marked.specs.declared.words.SpacedWord.{SpacedWord}
@@ -134,6 +134,18 @@ words-more items more w text after line some push word white left before =
     ∙ ap (λ l. map spaced_view items ++ (l ∷ spaced_words after)) same
     ∙ ap (λ t. map spaced_view items ++ (first_spaced text ∷ spaced_words t)) left
     ∙ ap (λ l. map spaced_view items ++ l) (sym (words-turn text some)) ∙ before
+
+-- what is left of a text without a start is what follows it, if it begins so
+pub without-start : (start text : List ℕ) (r : Option (Bor (List ℕ)))
+    → MatchOption r (FindsTextPrefix start text None)
+    (λ x. StripsPrefix (FindsTextPrefix start) text x.now)
+    → MatchOption r (starts_with nat_eq text start ≡ false)
+    (λ x. (starts_with nat_eq text start ≡ true) × (x.now ≡ drop (length start) text))
+without-start start text None lacks = starts_with-false start text lacks
+without-start start text (Some x) strips = (
+  starts_with-true start text (drop strips.0 text) strips.1.1,
+  strips.2 ∙ ap (λ n. drop n text) strips.1.0,
+)
 
 -- what is left of a text without an end is its front, if it has that end
 pub without-end : (end text : List ℕ) (r : Option (Bor (List ℕ)))

@@ -1,6 +1,6 @@
 -- The blocks of a text: lines that stand apart, and paragraphs.
 use Rattle.std.specs.Prelude.{ℕ, ◌&&◌, ◌||◌, Bool, false, not, bytes_eq, List, [], ◌∷◌, suc}
-use Rattle.std.specs.Prelude.{if◌then◌else◌, Option, Some, None}
+use Rattle.std.specs.Prelude.{if◌then◌else◌}
 use Rattle.textwrap_marked.specs.Lines.{LineText}
 use Rattle.textwrap_marked.specs.Signs.{first_word, opens_paragraph}
 
@@ -37,17 +37,13 @@ block_len (line ∷ lines) = suc (later_len line lines)
 abbrev pub are_fields : LineText → LineText → Bool
 are_fields one two = one.field && two.field && bytes_eq one.hanging two.hanging
 
-abbrev pub first_of : List (List LineText) → Option LineText
-first_of [] = None
-first_of ([] ∷ blocks) = None
-first_of ((line ∷ lines) ∷ blocks) = Some line
+-- a block of this first line is a field, and so is the first of these blocks
+abbrev pub is_beside : LineText → List (List LineText) → Bool
+is_beside first [] = false
+is_beside first ([] ∷ blocks) = false
+is_beside first ((line ∷ lines) ∷ blocks) = are_fields first line
 
--- the line is a field, beside another that may be there
-abbrev pub is_beside : Option LineText → LineText → Bool
-is_beside None line = false
-is_beside (Some other) line = are_fields other line
-
--- the block of this first line stays, between blocks of these first lines
-abbrev pub stays : Option LineText → LineText → Option LineText → Bool
-stays before first after =
-    first.apart || not first.chosen || is_beside before first || is_beside after first
+-- the block of this first line stays: it stands apart, is not among those that are filled, or stands
+-- beside another field
+abbrev pub stays : Bool → LineText → Bool
+stays beside first = first.apart || not first.chosen || beside

@@ -1,14 +1,14 @@
 -- A text whose paragraphs are filled again.
-use Rattle.std.specs.Prelude.{◌≡◌, ℕ, ◌+◌, ◌-◌, ◌==◌, Bool, true, false, nat_eq, codes, List, [], ◌∷◌, ◌++◌, drop, map, take}
+use Rattle.std.specs.Prelude.{◌≡◌, ℕ, ◌-◌, ◌==◌, ◌&&◌, ◌||◌, Bool, true, false, nat_eq, nat_lt, codes, List, [], ◌∷◌, ◌++◌, drop, map}
 use Rattle.std.specs.Prelude.{if◌then◌else◌, Option, Some, None, length}
-use Rattle.std.specs.List.{ends_with, flat_map, position_or_len, starts_with}
+use Rattle.std.specs.List.{ends_with, flat_map, slice_split, starts_with}
 use Rattle.textwrap_base.specs.Algorithms as base
 use Rattle.textwrap_words.specs.Words.{WordText, sizes_of, word_of}
 use Rattle.textwrap_lines.specs.LineEnding.{ending_bytes}
 use Rattle.textwrap_lines.specs.Paragraph.{covered}
 use Rattle.textwrap_lines.specs.declared.line_ending.LineEnding.{LineEnding}
 use Rattle.textwrap_lines.specs.declared.line_ending.LineEnding.TheVariants.{CRLF, LF}
-use Rattle.textwrap_marked.specs.Blocks.{blocks, first_of, stays}
+use Rattle.textwrap_marked.specs.Blocks.{blocks, is_beside, stays}
 use Rattle.textwrap_marked.specs.Columns.{columns}
 use Rattle.textwrap_marked.specs.Lines.{LineText, lines_of, without_returns}
 use Rattle.textwrap_marked.specs.Pieces.{pieces, words_of}
@@ -72,23 +72,29 @@ module _ (options : ReflowOptions) (ending : List ℕ) where
   IsOfBlock true first lines text = text ≡ kept_text options lines
   IsOfBlock false first lines text = IsFilled first lines text
 
-  -- one block after the other, where this line is the first of the block before
-  abbrev pub IsLaidOut : Option LineText → List (List LineText) → List ℕ → Type 0
-  IsLaidOut before [] text = text ≡ []
-  IsLaidOut before ([] ∷ blocks) text = IsLaidOut before blocks text
-  IsLaidOut before ((first ∷ lines) ∷ blocks) text =
+  -- one block after the other, where a field stands beside the first, if it is one
+  abbrev pub IsLaidOut : Bool → List (List LineText) → List ℕ → Type 0
+  IsLaidOut beside [] text = text ≡ []
+  IsLaidOut beside ([] ∷ blocks) text = IsLaidOut beside blocks text
+  IsLaidOut beside ((first ∷ lines) ∷ blocks) text =
       (front : List ℕ) × (back : List ℕ)
-      × IsOfBlock (stays before first (first_of blocks)) first (first ∷ lines) front
-      × IsLaidOut (Some first) blocks back × (text ≡ front ++ back)
+      × IsOfBlock (stays (beside || is_beside first blocks) first) first (first ∷ lines) front
+      × IsLaidOut (is_beside first blocks) blocks back × (text ≡ front ++ back)
 
 -- ---- the whole text
+
+-- how a line ends, if a line feed follows it
+abbrev pub ending_of : List ℕ → Bool → LineEnding
+ending_of line fed = if fed && ends_with nat_eq line (codes "\r") then CRLF else LF
+
+abbrev pub first_ending : List (List ℕ) → LineEnding
+first_ending [] = LF
+first_ending (line ∷ lines) = ending_of line (nat_lt 0 (length lines))
 
 -- filled lines end as is asked for, or as the first line of the text does
 abbrev pub filled_ending : Option LineEnding → List ℕ → LineEnding
 filled_ending (Some ending) text = ending
-filled_ending None text =
-    if ends_with nat_eq (take (position_or_len (λ c. c == 10) text + 1) text) (codes "\r\n")
-    then CRLF else LF
+filled_ending None text = first_ending (slice_split (λ c. c == 10) text)
 
 abbrev pub byte_order_mark : List ℕ
 byte_order_mark = 0xEF ∷ 0xBB ∷ 0xBF ∷ []
@@ -96,7 +102,7 @@ byte_order_mark = 0xEF ∷ 0xBB ∷ 0xBF ∷ []
 -- a text without a byte order mark
 abbrev pub IsReflowedFrom : ReflowOptions → List ℕ → List ℕ → Type 0
 IsReflowedFrom options text reflowed =
-    IsLaidOut options (ending_bytes (filled_ending options.ending text)) None
+    IsLaidOut options (ending_bytes (filled_ending options.ending text)) false
     (blocks (lines_of options text)) reflowed
 
 -- a byte order mark stays, if there is one, and what follows it is reflowed

@@ -2,6 +2,7 @@
 #![tactic(auto)]
 
 pub use options::{Algorithm, ReflowOptions};
+pub use reflowing::reflow;
 
 mod blocks;
 mod columns;
@@ -13,6 +14,9 @@ mod options;
 mod pieces;
 mod prefixes;
 mod reading;
+mod reflowing;
 mod signs;
 mod states;
+#[cfg(test)]
+mod tests;
 mod words;

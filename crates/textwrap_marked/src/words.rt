@@ -132,6 +132,15 @@ pub(crate) fn ends_with(text: &str, part: &str) -> bool
     text.ends_with(part)
 }
 
+/// What follows this start of a text, if it begins so.
+pub(crate) fn without_start<'t>(text: &'t str, start: &str) -> Option<&'t str>
+    ensures { MatchOption result (starts_with nat_eq text.now start.now ≡ false)
+        (λ rest. (starts_with nat_eq text.now start.now ≡ true)
+        × (rest.now ≡ drop (length start.now) text.now)) }
+{
+    text.strip_prefix(start)
+}
+
 /// The text without this end, if it has it.
 pub(crate) fn without_end<'t>(text: &'t str, end: &str) -> Option<&'t str>
     ensures { MatchOption result (ends_with nat_eq text.now end.now ≡ false)

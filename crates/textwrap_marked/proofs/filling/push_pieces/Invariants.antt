@@ -1,0 +1,10 @@
+use Rattle.textwrap_marked.proofs.filling.push_pieces.Given as goal
+use Rattle.textwrap_base.proofs.Common.{◌≡◌, ◌++◌, map, drop, string_bytes}
+use Rattle.textwrap_words.proofs.Common.{word_view}
+use Rattle.textwrap_lines.specs.Paragraph.{covered}
+
+-- with the pieces that are left, it is the whole
+abbrev pub invariant-loop-i : goal.invariant-loop-i
+invariant-loop-i l =
+    string_bytes l.output ++ covered (map word_view (drop l.i l.line))
+    ≡ string_bytes l.fn.output ++ covered (map word_view l.line)

@@ -1,0 +1,84 @@
+use Rattle.textwrap_marked.proofs.lines.line_from.Goals as goal
+use Rattle.textwrap_base.proofs.Common.{◌≡◌, ℕ, ◌-◌, ◌++◌, ◌==◌, ◌&&◌, ◌||◌, Bool, not, List, map, take, drop}
+use Rattle.textwrap_base.proofs.Common.{slice_range, string_bytes, refl, sym, ap, ◌∙◌, take-map, Option}
+use Rattle.textwrap_base.proofs.Common.{Some, None, option_map}
+use Rattle.std.proofs.lemmas.List.{drop-map, take_rest}
+use Rattle.std.specs.Prelude.{is_some}
+use Rattle.textwrap_marked.specs.Fences.{fence_view}
+use Rattle.textwrap_marked.specs.Lines.{is_chosen, is_deep, is_ended, line_from, stands_apart}
+use Rattle.textwrap_marked.specs.Lines.{state_view, StateText}
+use Rattle.textwrap_marked.specs.Prefixes.{hanging_bullets, hanging_margin, has_opening}
+use Rattle.textwrap_marked.specs.Signs.{closes_block, first_word, is_key}
+use Rattle.textwrap_marked.specs.Words.{has_byte, spaced_text, SpacedText, spaced_view}
+use Rattle.textwrap_marked.specs.declared.fences.Fence.{Fence}
+use Rattle.textwrap_marked.specs.declared.options.ReflowOptions.{ReflowOptions}
+use Rattle.textwrap_marked.specs.declared.prefixes.PrefixEnds.{PrefixEnds}
+
+is_some-view : (fence : Option Fence) → is_some fence ≡ is_some (option_map fence_view fence)
+is_some-view None = refl
+is_some-view (Some fence) = refl
+
+-- the parts of a line, each from those before it
+module _ (options : ReflowOptions) (state : StateText) (raw : List ℕ) (fed : Bool)
+    (all : List SpacedText) (ends : PrefixEnds) where
+  line-is : (margin prefix form hanging : List ℕ) (words : List SpacedText)
+      (opening star deeper key closes fenced apart ended chosen : Bool)
+      → margin ≡ spaced_text (take ends.margin all) → prefix ≡ spaced_text (take ends.text all)
+      → form ≡ hanging_margin options.bare ends all
+      → hanging ≡ form ++ hanging_bullets (slice_range all ends.margin ends.text)
+      → words ≡ drop ends.text all → opening ≡ has_opening ends all → star ≡ has_byte 42 form
+      → deeper ≡ is_deep options state form → key ≡ is_key (first_word words)
+      → closes ≡ closes_block words → fenced ≡ is_some state.fence
+      → apart ≡ stands_apart (state.in_block || opening) ((state.in_block || opening) && not star)
+      (key && ends.margin == ends.text) words
+      → ended ≡ is_ended (state.in_block || opening) words → chosen ≡ is_chosen options margin
+      → record {
+        raw = raw;
+        fed = fed;
+        prefix = prefix;
+        hanging = hanging;
+        words = words;
+        starred = (state.in_block || opening) && not star;
+        opens_block = opening && not closes;
+        deeper = deeper;
+        apart = fenced || deeper || state.prompted || apart;
+        field = key && ends.margin == ends.text;
+        ended = ended;
+        chosen = chosen;
+      } ≡ line_from options state raw fed all ends
+  line-is margin prefix form hanging words opening star deeper key closes fenced apart ended chosen
+      m p f h w o s d k c n a e x = rw (x, e, a, n, c, k, d, s, o, w, h, f, p, m) refl
+
+pub returns : goal.returns
+returns c =
+    let options = c.args.options.now in
+    let state = state_view c.args.state.now in
+    let all = c.args.all.now in
+    let ends = c.args.ends.now in
+    let text : map spaced_view c.in_ok-words.words.items ≡ drop ends.text (map spaced_view all) =
+    ap (map spaced_view) (c.in_ok-words.ensures ∙ take_rest all ends.text)
+    ∙ sym (drop-map spaced_view ends.text all) in
+    let same = ap (map spaced_view) (sym c.in_ok-words.ensures) in
+    let wide = ends.text - ends.margin in
+    let cut : map spaced_view (slice_range all ends.margin ends.text)
+    ≡ slice_range (map spaced_view all) ends.margin ends.text =
+    sym (take-map spaced_view wide (drop ends.margin all))
+    ∙ ap (take wide) (sym (drop-map spaced_view ends.margin all)) in
+    line-is options state c.args.raw.now c.args.fed (map spaced_view all) ends
+    (string_bytes c.in_ok-margin.margin) (string_bytes c.in_ok-prefix.prefix)
+    (string_bytes c.in_ok-hanging.hanging) (string_bytes c.push_hanging_bullets.new.text)
+    (map spaced_view c.in_ok-words.words.items) c.has_opening-opening.result c.has_byte.result
+    c.in_ok-deeper.deeper c.is_key.result c.closes_block.result c.is_some-fenced.result
+    c.stands_apart.result c.is_ended-ended.result c.is_chosen-chosen.result
+    (c.in_ok-margin.ensures ∙ ap spaced_text (sym (take-map spaced_view ends.margin all)))
+    (c.in_ok-prefix.ensures ∙ ap spaced_text (sym (take-map spaced_view ends.text all)))
+    c.in_ok-hanging.ensures (c.in_ok-push_hanging_bullets.ensures
+    ∙ ap (λ l. string_bytes c.in_ok-hanging.hanging ++ hanging_bullets l) cut) text c.has_opening-opening.ensures
+    (c.has_byte.ensures ∙ ap (has_byte 42) (c.as_bytes.ensures.value ∙ c.as_str-form.ensures.value))
+    (c.in_ok-deeper.ensures ∙ ap (is_deep options state) c.as_str-form.ensures.value)
+    (c.is_key.ensures ∙ ap is_key (c.first_word.ensures ∙ ap first_word same))
+    (c.closes_block.ensures ∙ ap closes_block same)
+    (c.is_some-fenced.ensures ∙ is_some-view c.args.state.now.fence)
+    (c.stands_apart.ensures ∙ ap (stands_apart _ _ _) same)
+    (c.is_ended-ended.ensures ∙ ap (is_ended _) same)
+    (c.is_chosen-chosen.ensures ∙ ap (is_chosen options) c.as_str.ensures.value)

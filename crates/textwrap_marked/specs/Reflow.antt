@@ -1,0 +1,116 @@
+-- A text whose paragraphs are filled again.
+use Rattle.std.specs.Prelude.{◌≡◌, ℕ, ◌-◌, ◌==◌, ◌&&◌, ◌||◌, Bool, true, false, nat_eq, nat_lt, codes, List, [], ◌∷◌, ◌++◌, drop, map}
+use Rattle.std.specs.Prelude.{if◌then◌else◌, Option, Some, None, length}
+use Rattle.std.specs.List.{ends_with, flat_map, slice_split, starts_with}
+use Rattle.textwrap_base.specs.Algorithms as base
+use Rattle.textwrap_words.specs.Words.{WordText, sizes_of, word_of}
+use Rattle.textwrap_lines.specs.LineEnding.{ending_bytes}
+use Rattle.textwrap_lines.specs.Paragraph.{covered}
+use Rattle.textwrap_lines.specs.declared.line_ending.LineEnding.{LineEnding}
+use Rattle.textwrap_lines.specs.declared.line_ending.LineEnding.TheVariants.{CRLF, LF}
+use Rattle.textwrap_marked.specs.Blocks.{blocks, is_beside, stays}
+use Rattle.textwrap_marked.specs.Columns.{columns}
+use Rattle.textwrap_marked.specs.Lines.{LineText, lines_of, without_returns}
+use Rattle.textwrap_marked.specs.Pieces.{pieces, words_of}
+use Rattle.textwrap_marked.specs.Signs.{last_white}
+use Rattle.textwrap_marked.specs.declared.options.Algorithm.{Algorithm}
+use Rattle.textwrap_marked.specs.declared.options.Algorithm.TheVariants.{FirstFit, LeastCost}
+use Rattle.textwrap_marked.specs.declared.options.ReflowOptions.{ReflowOptions}
+
+abbrev pub algorithm_of : Algorithm → base.Algorithm
+algorithm_of FirstFit = base.Greedy
+algorithm_of (LeastCost penalties) = base.LeastCost penalties
+
+-- ---- lines that stay
+
+-- an ending where a line feed was
+abbrev pub ending_if : Bool → List ℕ → List ℕ
+ending_if fed ending = if fed then ending else []
+
+-- a line as it is, but for its ending, if another one is asked for
+abbrev pub kept_line : Option LineEnding → LineText → List ℕ
+kept_line None line = line.raw ++ ending_if line.fed (codes "\n")
+kept_line (Some ending) line = without_returns line.raw ++ ending_if line.fed (ending_bytes ending)
+
+abbrev pub kept_text : ReflowOptions → List LineText → List ℕ
+kept_text options lines = flat_map (kept_line options.ending) lines
+
+-- ---- a paragraph, filled
+
+-- the lines of a division: the first behind its prefix, each later one behind an ending and the
+-- hanging form
+abbrev pub printed : List ℕ → List ℕ → List ℕ → List (List WordText) → List ℕ
+printed ending first later [] = []
+printed ending first later (line ∷ lines) =
+    (first ++ covered line) ++ flat_map (λ l. (ending ++ later) ++ covered l) lines
+
+-- the white of a hard break
+abbrev pub break_white : LineText → List ℕ
+break_white line =
+    if ends_with nat_eq (last_white line.words) (codes "  ") then last_white line.words else []
+
+-- behind each of these lines that white, and the ending
+abbrev pub filled_ends : List ℕ → List LineText → List ℕ
+filled_ends ending lines = flat_map (λ l. break_white l ++ ending_if l.fed ending) lines
+
+-- what stands behind the last of them
+abbrev pub filled_end : List ℕ → List LineText → List ℕ
+filled_end ending lines = filled_ends ending (drop (length lines - 1) lines)
+
+module _ (options : ReflowOptions) (ending : List ℕ) where
+  -- the pieces of a paragraph are divided into lines of what its prefixes leave of the width
+  abbrev pub IsFilled : LineText → List LineText → List ℕ → Type 0
+  IsFilled first lines text =
+      (division : List (List WordText))
+      × base.IsDividedBy (algorithm_of options.algorithm) sizes_of
+      ((options.width - columns first.prefix) ∷ (options.width - columns first.hanging) ∷ [])
+      (map word_of (pieces options first.starred (words_of lines))) division
+      × (text ≡ printed ending first.prefix first.hanging division ++ filled_end ending lines)
+
+  -- a block of this first line stays, or is filled
+  abbrev pub IsOfBlock : Bool → LineText → List LineText → List ℕ → Type 0
+  IsOfBlock true first lines text = text ≡ kept_text options lines
+  IsOfBlock false first lines text = IsFilled first lines text
+
+  -- one block after the other, where a field stands beside the first, if it is one
+  abbrev pub IsLaidOut : Bool → List (List LineText) → List ℕ → Type 0
+  IsLaidOut beside [] text = text ≡ []
+  IsLaidOut beside ([] ∷ blocks) text = IsLaidOut beside blocks text
+  IsLaidOut beside ((first ∷ lines) ∷ blocks) text =
+      (front : List ℕ) × (back : List ℕ)
+      × IsOfBlock (stays (beside || is_beside first blocks) first) first (first ∷ lines) front
+      × IsLaidOut (is_beside first blocks) blocks back × (text ≡ front ++ back)
+
+-- ---- the whole text
+
+-- how a line ends, if a line feed follows it
+abbrev pub ending_of : List ℕ → Bool → LineEnding
+ending_of line fed = if fed && ends_with nat_eq line (codes "\r") then CRLF else LF
+
+abbrev pub first_ending : List (List ℕ) → LineEnding
+first_ending [] = LF
+first_ending (line ∷ lines) = ending_of line (nat_lt 0 (length lines))
+
+-- filled lines end as is asked for, or as the first line of the text does
+abbrev pub filled_ending : Option LineEnding → List ℕ → LineEnding
+filled_ending (Some ending) text = ending
+filled_ending None text = first_ending (slice_split (λ c. c == 10) text)
+
+abbrev pub byte_order_mark : List ℕ
+byte_order_mark = 0xEF ∷ 0xBB ∷ 0xBF ∷ []
+
+-- a text without a byte order mark
+abbrev pub IsReflowedFrom : ReflowOptions → List ℕ → List ℕ → Type 0
+IsReflowedFrom options text reflowed =
+    IsLaidOut options (ending_bytes (filled_ending options.ending text)) false
+    (blocks (lines_of options text)) reflowed
+
+-- a byte order mark stays, if there is one, and what follows it is reflowed
+abbrev pub IsReflowedBehind : Bool → ReflowOptions → List ℕ → List ℕ → Type 0
+IsReflowedBehind true options text reflowed =
+    (rest : List ℕ) × IsReflowedFrom options (drop 3 text) rest × (reflowed ≡ byte_order_mark ++ rest)
+IsReflowedBehind false options text reflowed = IsReflowedFrom options text reflowed
+
+abbrev pub IsReflowed : ReflowOptions → List ℕ → List ℕ → Type 0
+IsReflowed options text reflowed =
+    IsReflowedBehind (starts_with nat_eq text byte_order_mark) options text reflowed

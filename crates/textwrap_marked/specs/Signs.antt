@@ -1,0 +1,142 @@
+-- How a text begins, and what no paragraph contains.
+use Rattle.std.specs.Prelude.{ℕ, ◌-◌, ◌==◌, ◌&&◌, ◌||◌, Bool, true, false, not, nat_eq, nat_lt, List}
+use Rattle.std.specs.Prelude.{[], ◌∷◌, length, take, drop, slice_get, slice_index, chars, codes, bytes_eq}
+use Rattle.std.specs.Prelude.{if◌then◌else◌, Option, Some, None}
+use Rattle.std.specs.List.{ends_with, fold, list_all, list_any, starts_with}
+use Rattle.textwrap_marked.specs.Marks.{is_among, is_bullet}
+use Rattle.textwrap_marked.specs.Words.{contains, has_byte, has_bytes, has_letter, is_alphanumeric}
+use Rattle.textwrap_marked.specs.Words.{SpacedText}
+use Rattle.textwrap_marked.specs.declared.options.ReflowOptions.{ReflowOptions}
+
+-- ---- how a text begins
+
+abbrev pub first_word : List SpacedText → List ℕ
+first_word [] = []
+first_word (w ∷ ws) = w.word
+
+-- the last word alone
+abbrev pub last_of : List SpacedText → List SpacedText
+last_of words = drop (length words - 1) words
+
+abbrev pub last_word : List SpacedText → List ℕ
+last_word words = first_word (last_of words)
+
+abbrev pub first_white : List SpacedText → List ℕ
+first_white [] = []
+first_white (w ∷ ws) = w.white
+
+-- the white behind the last word
+abbrev pub last_white : List SpacedText → List ℕ
+last_white words = first_white (last_of words)
+
+-- what may stand in a key: a letter or digit, a hyphen or a low line
+abbrev pub is_key_character : ℕ → Bool
+is_key_character c = is_alphanumeric c || c == 45 || c == 95
+
+-- one or more such characters, and then a colon
+abbrev pub is_key : List ℕ → Bool
+is_key word =
+    let front = take (length word - 1) word in
+    if ends_with nat_eq word (codes ":")
+    then has_bytes front && list_all is_key_character (chars front) else false
+
+-- # ; % > < | = .
+abbrev pub is_sign_byte : ℕ → Bool
+is_sign_byte c =
+    c == 35 || c == 59 || c == 37 || c == 62 || c == 60 || c == 124 || c == 61 || c == 46
+
+-- what a renderer or a compiler may read by the line
+abbrev pub is_sign : List ℕ → Bool
+is_sign word =
+    is_sign_byte (slice_index word 0)
+    || starts_with nat_eq word (codes "//") || starts_with nat_eq word (codes "/*")
+    || starts_with nat_eq word (codes "```") || starts_with nat_eq word (codes "~~~")
+
+-- a key, `Copyright`, `@word`, `\word`, or `:word` without a backtick
+abbrev pub opens_paragraph : List ℕ → Bool
+opens_paragraph word =
+    let c = slice_index word 0 in
+    is_key word || bytes_eq word (codes "Copyright") || c == 64 || c == 92
+    || (c == 58 && not (has_byte 96 word))
+
+-- it has a letter, and is no sign; in a block comment without a mark it does not begin with `*`
+abbrev pub begins_text : Bool → List ℕ → Bool
+begins_text starred word =
+    has_letter word && not (is_sign word) && not (starred && slice_index word 0 == 42)
+
+-- the word may begin a later line of a paragraph
+abbrev pub may_go_on : ReflowOptions → Bool → List ℕ → Bool
+may_go_on options starred word =
+    begins_text starred word && not (opens_paragraph word) && not (is_bullet word)
+    && not (is_among word options.markers.now)
+
+-- ---- what no paragraph contains
+
+-- a closing quote or bracket: ) ] " ' * _ ” ’ »
+abbrev pub is_closing : ℕ → Bool
+is_closing c =
+    c == 41 || c == 93 || c == 34 || c == 39 || c == 42 || c == 95 || c == 0x201D || c == 0x2019
+    || c == 0xBB
+
+-- . ? ! :
+abbrev pub is_end : ℕ → Bool
+is_end c = c == 46 || c == 63 || c == 33 || c == 58
+
+-- the last character that closes nothing ends a sentence
+abbrev pub ends_sentence : List ℕ → Bool
+ends_sentence word = fold (λ ends c. if is_closing c then ends else is_end c) false (chars word)
+
+-- a tab, three blanks or more, or two that do not follow the end of a sentence
+abbrev pub is_gap : SpacedText → Bool
+is_gap w =
+    has_byte 9 w.white || nat_lt 2 (length w.white)
+    || (length w.white == 2 && not (ends_sentence w.word))
+
+-- `|`, a comment behind code, a carriage return, `]:` as behind the label of a link, or `<pre`
+abbrev pub is_column_word : List ℕ → Bool
+is_column_word word =
+    bytes_eq word (codes "|") || bytes_eq word (codes "//") || bytes_eq word (codes "/*")
+    || bytes_eq word (codes "#") || has_byte 13 word || contains (codes "]:") word
+    || contains (codes "<pre") word
+
+-- all words but the last
+abbrev pub front_of : List SpacedText → List SpacedText
+front_of words = take (length words - 1) words
+
+-- such a word, or a gap between two words
+abbrev pub has_columns : List SpacedText → Bool
+has_columns words =
+    list_any (λ w. is_column_word w.word) words || list_any is_gap (front_of words)
+
+-- this text stands in one of the words
+abbrev pub any_contains : List ℕ → List SpacedText → Bool
+any_contains part words = list_any (λ w. contains part w.word) words
+
+-- the end of a block comment stands in the words
+abbrev pub closes_block : List SpacedText → Bool
+closes_block words = any_contains (codes "*/") words
+
+-- a word does not end in that, or has another one
+abbrev pub ends_early : List ℕ → Bool
+ends_early word =
+    if ends_with nat_eq word (codes "*/") then contains (codes "*/") (take (length word - 2) word)
+    else true
+
+-- it stands there, and not only at their end
+abbrev pub closes_early : List SpacedText → Bool
+closes_early words = closes_block (front_of words) || ends_early (last_word words)
+
+-- three times or more one character, but no letter, digit, backtick or tilde
+abbrev pub is_rule_of : Option ℕ → List ℕ → Bool
+is_rule_of None cs = false
+is_rule_of (Some first) cs =
+    nat_lt 2 (length cs) && list_all (λ c. c == first) cs
+    && not (is_alphanumeric first || first == 96 || first == 126)
+
+abbrev pub is_rule_characters : List ℕ → Bool
+is_rule_characters cs = is_rule_of (slice_get cs 0) cs
+
+abbrev pub is_rule : List SpacedText → Bool
+is_rule [] = false
+is_rule (w ∷ []) = is_rule_characters (chars w.word)
+is_rule (w ∷ v ∷ ws) = false

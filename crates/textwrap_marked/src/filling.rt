@@ -1,0 +1,206 @@
+//! The lines of a block: as they are, or filled.
+ghost use Rattle.std.specs.Prelude.{◌≡◌, ℕ, ◌++◌, ◌∷◌, [], List, map, IfOk, OnOk, codes, string_bytes};
+ghost use Rattle.textwrap_base.specs.Algorithms.{IsDividedBy, LeastCost};
+ghost use Rattle.textwrap_base.specs.Cost.{total_width};
+ghost use Rattle.textwrap_base.specs.Errors.{Fits64Bits, Overflowed};
+ghost use Rattle.textwrap_lines.specs.Paragraph.{covered};
+ghost use Rattle.textwrap_words.specs.Words.{sizes_of, word_view};
+ghost use Rattle.textwrap_marked.specs.Lines.{line_view};
+ghost use Rattle.textwrap_marked.specs.Reflow.{algorithm_of, break_white, ending_if, filled_end};
+ghost use Rattle.textwrap_marked.specs.Reflow.{filled_ends};
+ghost use Rattle.textwrap_marked.specs.Reflow.{IsFilled, kept_line, kept_text, printed};
+
+use crate::columns::columns;
+use crate::lines::{Line, without_returns};
+use crate::options::{Algorithm, ReflowOptions};
+use crate::pieces::{joined_of, words_of};
+use crate::signs::last_white;
+use crate::words::ends_with;
+use std::alloc::{AllocError, Global};
+use textwrap_lines::LineEnding;
+use textwrap_words::inner::words_between;
+use textwrap_words::words::Word;
+use textwrap_words::wrap_algorithms::{Penalties, WrapAlgorithm, WrapError, wrap_first_fit};
+
+/// Adds an ending where a line feed was.
+fn push_ending(output: &mut String, ending: &str, fed: bool) -> Result<(), AllocError>
+    ensures { OnOk result (string_bytes output.new
+        ≡ string_bytes output.old ++ ending_if fed ending.now) }
+{
+    if fed { output.push_str(ending) } else { Ok(()) }
+}
+
+/// Adds a line as it is, but for its ending, if another one is asked for.
+fn push_line(
+    output: &mut String,
+    line: &Line<'_>,
+    ending: Option<LineEnding>,
+) -> Result<(), AllocError>
+    ensures { OnOk result (string_bytes output.new
+        ≡ string_bytes output.old ++ kept_line ending (line_view line.now)) }
+{
+    match ending {
+        None => {
+            output.push_str(line.raw)?;
+            push_ending(output, "\n", line.fed)
+        }
+        Some(ending) => {
+            output.push_str(without_returns(line.raw))?;
+            push_ending(output, ending.as_str(), line.fed)
+        }
+    }
+}
+
+/// Adds lines as they are.
+pub(crate) fn push_kept(
+    output: &mut String,
+    lines: &[Line<'_>],
+    options: &ReflowOptions<'_>,
+) -> Result<(), AllocError>
+    ensures { OnOk result (string_bytes output.new
+        ≡ string_bytes output.old ++ kept_text options.now (map line_view lines.now)) }
+{
+    for line in lines {
+        push_line(output, line, options.ending)?;
+    }
+    Ok(())
+}
+
+/// The pieces, divided into lines of these widths.
+fn divide<'p, 't>(
+    alloc: Global,
+    algorithm: Algorithm,
+    pieces: &'p [Word<'t>],
+    widths: &[usize],
+) -> Result<Vec<&'p [Word<'t>]>, WrapError>
+    requires { Fits64Bits (total_width (λ word. sizes_of (word_view word)) pieces.now) }
+    ensures divided { IfOk result (λ lines. IsDividedBy (algorithm_of algorithm) sizes_of widths.now
+        (map word_view pieces.now) (map (map word_view) (map (λ line. line.now) lines.items))) }
+    ensures only_memory { ¬ Overflowed result }
+{
+    match algorithm {
+        Algorithm::FirstFit => {
+            let lines = wrap_first_fit(alloc, pieces, widths)?;
+            Ok(lines)
+        }
+        Algorithm::LeastCost(penalties) => divide_at_least_cost(alloc, penalties, pieces, widths),
+    }
+}
+
+/// The pieces, divided into lines of these widths at least cost.
+fn divide_at_least_cost<'p, 't>(
+    alloc: Global,
+    penalties: Penalties,
+    pieces: &'p [Word<'t>],
+    widths: &[usize],
+) -> Result<Vec<&'p [Word<'t>]>, WrapError>
+    requires { Fits64Bits (total_width (λ word. sizes_of (word_view word)) pieces.now) }
+    ensures divided { IfOk result (λ lines. IsDividedBy (LeastCost penalties) sizes_of widths.now
+        (map word_view pieces.now) (map (map word_view) (map (λ line. line.now) lines.items))) }
+    ensures only_memory { ¬ Overflowed result }
+{
+    WrapAlgorithm::OptimalFit(penalties).wrap(alloc, pieces, widths)
+}
+
+/// Adds the pieces of a line, without the last one's blank.
+fn push_pieces(output: &mut String, line: &[Word<'_>]) -> Result<(), AllocError>
+    ensures { OnOk result (string_bytes output.new
+        ≡ string_bytes output.old ++ covered (map word_view line.now)) }
+{
+    for (i, piece) in line.iter().enumerate() {
+        output.push_str(piece.word)?;
+        if i + 1 < line.len() {
+            output.push_str(piece.whitespace)?;
+        }
+    }
+    Ok(())
+}
+
+/// Adds the lines of a division: the first behind its prefix, each later one behind an ending and
+/// the hanging form.
+fn push_division(
+    output: &mut String,
+    lines: &[&[Word<'_>]],
+    ending: &str,
+    prefix: &str,
+    hanging: &str,
+) -> Result<(), AllocError>
+    ensures { OnOk result (string_bytes output.new
+        ≡ string_bytes output.old ++ printed ending.now prefix.now hanging.now
+        (map (map word_view) (map (λ line. line.now) lines.now))) }
+{
+    let [first, later @ ..] = lines else {
+        return Ok(());
+    };
+    output.push_str(prefix)?;
+    push_pieces(output, first)?;
+    for line in later {
+        output.push_str(ending)?;
+        output.push_str(hanging)?;
+        push_pieces(output, line)?;
+    }
+    Ok(())
+}
+
+/// Adds the white of a hard break.
+fn push_break(output: &mut String, line: &Line<'_>) -> Result<(), AllocError>
+    ensures { OnOk result (string_bytes output.new
+        ≡ string_bytes output.old ++ break_white (line_view line.now)) }
+{
+    let white = last_white(&line.words);
+    if ends_with(white, "  ") {
+        output.push_str(white)
+    } else {
+        Ok(())
+    }
+}
+
+/// Adds what stands behind each of these lines: the white of a hard break, and the ending.
+fn push_ends(output: &mut String, lines: &[Line<'_>], ending: &str) -> Result<(), AllocError>
+    ensures { OnOk result (string_bytes output.new
+        ≡ string_bytes output.old ++ filled_ends ending.now (map line_view lines.now)) }
+{
+    for line in lines {
+        push_break(output, line)?;
+        push_ending(output, ending, line.fed)?;
+    }
+    Ok(())
+}
+
+/// Adds what stands behind the last of these lines.
+fn push_end(output: &mut String, lines: &[Line<'_>], ending: &str) -> Result<(), AllocError>
+    ensures { OnOk result (string_bytes output.new
+        ≡ string_bytes output.old ++ filled_end ending.now (map line_view lines.now)) }
+{
+    let (_, last) = lines.split_at(lines.len().saturating_sub(1));
+    push_ends(output, last, ending)
+}
+
+/// Adds a paragraph, filled.
+pub(crate) fn push_filled(
+    alloc: Global,
+    output: &mut String,
+    first: &Line<'_>,
+    lines: &[Line<'_>],
+    ending: &str,
+    options: &ReflowOptions<'_>,
+) -> Result<(), WrapError>
+    ensures filled { OnOk result ((text : List ℕ)
+        × IsFilled options.now ending.now (line_view first.now) (map line_view lines.now) text
+        × (string_bytes output.new ≡ string_bytes output.old ++ text)) }
+    ensures only_memory { ¬ Overflowed result }
+{
+    let words = words_of(alloc, lines)?;
+    let joined = joined_of(alloc, &words, first.starred, options)?;
+    let pieces = words_between(alloc, joined.text.as_str(), &joined.cuts)?;
+    let prefix = first.prefix.as_str();
+    let hanging = first.hanging.as_str();
+    let widths = [
+        options.width.saturating_sub(columns(prefix)),
+        options.width.saturating_sub(columns(hanging)),
+    ];
+    let division = divide(alloc, options.algorithm, &pieces, &widths)?;
+    push_division(output, &division, ending, prefix, hanging)?;
+    push_end(output, lines, ending)?;
+    Ok(())
+}

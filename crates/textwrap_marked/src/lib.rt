@@ -1,0 +1,22 @@
+//! Fills the paragraphs of a text again, in which marks stand before the words.
+#![tactic(auto)]
+
+pub use options::{Algorithm, ReflowOptions};
+pub use reflowing::reflow;
+
+mod blocks;
+mod columns;
+mod fences;
+mod filling;
+mod lines;
+mod marks;
+mod options;
+mod pieces;
+mod prefixes;
+mod reading;
+mod reflowing;
+mod signs;
+mod states;
+#[cfg(test)]
+mod tests;
+mod words;

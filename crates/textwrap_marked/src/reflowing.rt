@@ -1,0 +1,165 @@
+//! Filling the paragraphs of a text again.
+ghost use Rattle.std.specs.Prelude.{◌≡◌, ℕ, ◌++◌, ◌||◌, false, List, map, IfOk, OnOk, string_bytes};
+ghost use Rattle.textwrap_base.specs.Errors.{Overflowed};
+ghost use Rattle.textwrap_lines.specs.LineEnding.{ending_bytes};
+ghost use Rattle.textwrap_marked.specs.Blocks.{blocks, is_beside, stays};
+ghost use Rattle.textwrap_marked.specs.Lines.{line_view};
+ghost use Rattle.textwrap_marked.specs.Reflow.{ending_of, filled_ending, IsLaidOut, IsOfBlock};
+ghost use Rattle.textwrap_marked.specs.Reflow.{IsReflowed, IsReflowedFrom};
+
+use crate::blocks::{are_fields, block_len};
+use crate::filling::{push_filled, push_kept};
+use crate::lines::Line;
+use crate::options::ReflowOptions;
+use crate::reading::lines_of;
+use crate::words::{ends_with, split_at, without_start};
+use std::alloc::Global;
+use textwrap_lines::LineEnding;
+use textwrap_words::wrap_algorithms::WrapError;
+
+/// The text with its paragraphs filled again, at the width of the options.
+///
+/// Before the words of a line may stand marks: a comment mark, quote marks and bullets. A paragraph is
+/// a line and those after it behind the hanging form of its prefix, which has blanks for the bullets.
+/// Lines that a reader takes as they are stay so: code, tables, titles, headings, rules, and more.
+///
+/// By first fit at 16 columns, `"> one two three four\n> five\n"` becomes
+/// `"> one two three\n> four five\n"`.
+///
+/// # Errors
+/// [`WrapError::Memory`] where memory runs out, and no other.
+pub fn reflow(alloc: Global, text: &str, options: &ReflowOptions<'_>) -> Result<String, WrapError>
+    ensures reflowed { IfOk result (λ filled.
+        IsReflowed options.now text.now (string_bytes filled)) }
+    ensures only_memory { ¬ Overflowed result }
+{
+    match without_start(text, "\u{feff}") {
+        Some(rest) => {
+            let mut output = String::from_str(alloc, "\u{feff}")?;
+            push_text(alloc, &mut output, rest, options)?;
+            Ok(output)
+        }
+        None => {
+            let mut output = String::new(alloc);
+            push_text(alloc, &mut output, text, options)?;
+            Ok(output)
+        }
+    }
+}
+
+/// Adds what becomes of a text without a byte order mark.
+fn push_text(
+    alloc: Global,
+    output: &mut String,
+    text: &str,
+    options: &ReflowOptions<'_>,
+) -> Result<(), WrapError>
+    ensures reflowed { OnOk result ((reflowed : List ℕ)
+        × IsReflowedFrom options.now text.now reflowed
+        × (string_bytes output.new ≡ string_bytes output.old ++ reflowed)) }
+    ensures only_memory { ¬ Overflowed result }
+{
+    let ending = filled_ending(options.ending, text);
+    let lines = lines_of(alloc, text, options)?;
+    push_blocks(alloc, output, &lines, ending.as_str(), options)
+}
+
+/// How filled lines end: as is asked for, or as the first line of the text does.
+fn filled_ending(ending: Option<LineEnding>, text: &str) -> LineEnding
+    ensures { result ≡ filled_ending ending text.now }
+{
+    match ending {
+        Some(ending) => ending,
+        None => {
+            let (line, rest) = split_at(text, '\n');
+            ending_of(line, rest.is_some())
+        }
+    }
+}
+
+/// How a line ends, if a line feed follows it.
+fn ending_of(line: &str, fed: bool) -> LineEnding
+    ensures { result ≡ ending_of line.now fed }
+{
+    if fed & ends_with(line, "\r") {
+        LineEnding::CRLF
+    } else {
+        LineEnding::LF
+    }
+}
+
+/// Adds the blocks of these lines.
+fn push_blocks(
+    alloc: Global,
+    output: &mut String,
+    lines: &[Line<'_>],
+    ending: &str,
+    options: &ReflowOptions<'_>,
+) -> Result<(), WrapError>
+    ensures laid_out { OnOk result ((text : List ℕ)
+        × IsLaidOut options.now ending.now false (blocks (map line_view lines.now)) text
+        × (string_bytes output.new ≡ string_bytes output.old ++ text)) }
+    ensures only_memory { ¬ Overflowed result }
+{
+    let mut beside = false;
+    let mut start = 0;
+    while start < lines.len() {
+        let rest = &lines[start..];
+        let first = &rest[0];
+        let len = block_len(rest);
+        let next = is_beside(first, &rest[len..]);
+        push_block(
+            alloc,
+            output,
+            first,
+            &rest[..len],
+            beside | next,
+            ending,
+            options,
+        )?;
+        beside = next;
+        start += len;
+    }
+    Ok(())
+}
+
+/// Adds a block: as it is, or filled. It may stand beside a block that begins with a key as it does.
+fn push_block(
+    alloc: Global,
+    output: &mut String,
+    first: &Line<'_>,
+    block: &[Line<'_>],
+    beside: bool,
+    ending: &str,
+    options: &ReflowOptions<'_>,
+) -> Result<(), WrapError>
+    ensures laid_out { OnOk result ((text : List ℕ)
+        × IsOfBlock options.now ending.now (stays beside (line_view first.now)) (line_view first.now)
+        (map line_view block.now) text
+        × (string_bytes output.new ≡ string_bytes output.old ++ text)) }
+    ensures only_memory { ¬ Overflowed result }
+{
+    if stays(beside, first) {
+        push_kept(output, block, options)?;
+        Ok(())
+    } else {
+        push_filled(alloc, output, first, block, ending, options)
+    }
+}
+
+/// Whether the block of this first line stays, which may stand beside another field.
+fn stays(beside: bool, first: &Line<'_>) -> bool
+    ensures { result ≡ stays beside (line_view first.now) }
+{
+    first.apart | !first.chosen | beside
+}
+
+/// Whether a line is a field, and these later lines begin with another one.
+fn is_beside(first: &Line<'_>, later: &[Line<'_>]) -> bool
+    ensures { result ≡ is_beside (line_view first.now) (blocks (map line_view later.now)) }
+{
+    match later {
+        [line, ..] => are_fields(first, line),
+        [] => false,
+    }
+}

@@ -1,0 +1,285 @@
+//! How a text begins, and what no paragraph contains.
+ghost use Rattle.std.specs.Prelude.{◌≡◌, ◌==◌, length, map, chars, slice_get};
+ghost use Rattle.std.specs.List.{list_all, list_any};
+ghost use Rattle.textwrap_marked.specs.Signs.{any_contains, begins_text, closes_block, closes_early};
+ghost use Rattle.textwrap_marked.specs.Signs.{ends_early, ends_sentence, first_word, front_of, has_columns, is_closing, is_column_word};
+ghost use Rattle.textwrap_marked.specs.Signs.{is_end, is_gap, is_key, is_key_character, is_rule};
+ghost use Rattle.textwrap_marked.specs.Signs.{is_rule_characters, is_rule_of, is_sign, is_sign_byte, last_of, last_white};
+ghost use Rattle.textwrap_marked.specs.Signs.{last_word, may_go_on};
+ghost use Rattle.textwrap_marked.specs.Signs.{opens_paragraph};
+ghost use Rattle.textwrap_marked.specs.Words.{is_alphanumeric, spaced_view};
+
+use crate::marks::is_bullet;
+use crate::options::ReflowOptions;
+use crate::words::{
+    SpacedWord, contains, first_byte, has_byte, has_letter, starts_with, without_end,
+};
+
+/// The first word, and the empty text where there is none.
+pub(crate) fn first_word<'t>(words: &[SpacedWord<'t>]) -> &'t str
+    ensures { result.now ≡ first_word (map spaced_view words.now) }
+{
+    match words {
+        [first, ..] => first.word,
+        [] => "",
+    }
+}
+
+/// All words but the last, and the last alone.
+fn split_last<'s, 't>(words: &'s [SpacedWord<'t>]) -> (&'s [SpacedWord<'t>], &'s [SpacedWord<'t>])
+    ensures front { map spaced_view result.0.now ≡ front_of (map spaced_view words.now) }
+    ensures last { map spaced_view result.1.now ≡ last_of (map spaced_view words.now) }
+{
+    words.split_at(words.len().saturating_sub(1))
+}
+
+pub(crate) fn last_word<'t>(words: &[SpacedWord<'t>]) -> &'t str
+    ensures { result.now ≡ last_word (map spaced_view words.now) }
+{
+    let (_, last) = split_last(words);
+    first_word(last)
+}
+
+/// The white behind the last word, and the empty text where there is none.
+pub(crate) fn last_white<'t>(words: &[SpacedWord<'t>]) -> &'t str
+    ensures { result.now ≡ last_white (map spaced_view words.now) }
+{
+    let (_, last) = split_last(words);
+    match last {
+        [last, ..] => last.white,
+        [] => "",
+    }
+}
+
+/// Whether the character may stand in a key: a letter, a digit, a hyphen or a low line.
+fn is_key_character(ch: char) -> bool
+    ensures { result ≡ is_key_character ch }
+{
+    ch.is_alphanumeric() | (ch == '-') | (ch == '_')
+}
+
+fn are_key_characters(text: &str) -> bool
+    ensures { result ≡ list_all is_key_character (chars text.now) }
+{
+    text.chars().all(|ch| is_key_character(ch))
+}
+
+/// Whether a word is a key: letters, digits, `-` and `_`, and then a colon.
+pub(crate) fn is_key(word: &str) -> bool
+    ensures { result ≡ is_key word.now }
+{
+    match without_end(word, ":") {
+        Some(front) => !front.is_empty() & are_key_characters(front),
+        None => false,
+    }
+}
+
+/// Whether a word is one that a renderer or a compiler may read by the line.
+fn is_sign(word: &str) -> bool
+    ensures { result ≡ is_sign word.now }
+{
+    is_sign_byte(first_byte(word))
+        | starts_with(word, "//")
+        | starts_with(word, "/*")
+        | starts_with(word, "```")
+        | starts_with(word, "~~~")
+}
+
+fn is_sign_byte(byte: u8) -> bool
+    ensures { result ≡ is_sign_byte byte }
+{
+    matches!(byte, b'#' | b';' | b'%' | b'>' | b'<' | b'|' | b'=' | b'.')
+}
+
+/// Whether a word opens a paragraph: a key, `Copyright`, `@word`, `\word`, or `:word` without a
+/// backtick.
+pub(crate) fn opens_paragraph(word: &str) -> bool
+    ensures { result ≡ opens_paragraph word.now }
+{
+    let first = first_byte(word);
+    is_key(word)
+        | (word == "Copyright")
+        | (first == b'@')
+        | (first == b'\\')
+        | (first == b':') & !has_byte(b'`', word.as_bytes())
+}
+
+/// Whether a word may begin a text.
+pub(crate) fn begins_text(starred: bool, word: &str) -> bool
+    ensures { result ≡ begins_text starred word.now }
+{
+    has_letter(word) & !is_sign(word) & !(starred & (first_byte(word) == b'*'))
+}
+
+/// Whether a word may begin a later line of a paragraph.
+pub(crate) fn may_go_on(options: &ReflowOptions<'_>, starred: bool, word: &str) -> bool
+    ensures { result ≡ may_go_on options.now starred word.now }
+{
+    begins_text(starred, word)
+        & !opens_paragraph(word)
+        & !is_bullet(word)
+        & !options.is_marker(word)
+}
+
+/// Whether a character closes a quote or a bracket.
+fn is_closing(ch: char) -> bool
+    ensures { result ≡ is_closing ch }
+{
+    matches!(ch, ')' | ']' | '"' | '\'' | '*' | '_' | '”' | '’' | '»')
+}
+
+/// Whether a character ends a sentence.
+fn is_end(ch: char) -> bool
+    ensures { result ≡ is_end ch }
+{
+    matches!(ch, '.' | '?' | '!' | ':')
+}
+
+/// Whether the last character of a word that closes nothing ends a sentence.
+fn ends_sentence(word: &str) -> bool
+    ensures { result ≡ ends_sentence word.now }
+{
+    word.chars().fold(
+        false,
+        |ends, ch| if is_closing(ch) { ends } else { is_end(ch) },
+    )
+}
+
+/// Whether the white behind a word is a gap: a tab, three blanks or more, or two that do not follow
+/// the end of a sentence.
+fn is_gap(word: &SpacedWord<'_>) -> bool
+    ensures { result ≡ is_gap (spaced_view word.now) }
+{
+    let len = word.white.len();
+    has_byte(b'\t', word.white.as_bytes()) | (len > 2) | (len == 2) & !ends_sentence(word.word)
+}
+
+/// Whether no paragraph contains this word: `|`, a comment behind code, a carriage return, `]:` or
+/// `<pre`.
+fn is_column_word(word: &str) -> bool
+    ensures { result ≡ is_column_word word.now }
+{
+    matches!(word, "|" | "//" | "/*" | "#")
+        | has_byte(b'\r', word.as_bytes())
+        | contains(word, "]:")
+        | contains(word, "<pre")
+}
+
+fn any_column_word(words: &[SpacedWord<'_>]) -> bool
+    ensures { result ≡ list_any (λ w. is_column_word w.word) (map spaced_view words.now) }
+{
+    for word in words {
+        if is_column_word(word.word) {
+            return true;
+        }
+    }
+    false
+}
+
+fn any_gap(words: &[SpacedWord<'_>]) -> bool
+    ensures { result ≡ list_any is_gap (map spaced_view words.now) }
+{
+    for word in words {
+        if is_gap(word) {
+            return true;
+        }
+    }
+    false
+}
+
+/// Whether such a word is among these, or a gap between two.
+pub(crate) fn has_columns(words: &[SpacedWord<'_>]) -> bool
+    ensures { result ≡ has_columns (map spaced_view words.now) }
+{
+    let (front, _) = split_last(words);
+    any_column_word(words) | any_gap(front)
+}
+
+/// Whether a text stands in one of the words.
+pub(crate) fn any_contains(words: &[SpacedWord<'_>], part: &str) -> bool
+    ensures { result ≡ any_contains part.now (map spaced_view words.now) }
+{
+    for word in words {
+        if contains(word.word, part) {
+            return true;
+        }
+    }
+    false
+}
+
+/// Whether a block comment ends in these words.
+pub(crate) fn closes_block(words: &[SpacedWord<'_>]) -> bool
+    ensures { result ≡ closes_block (map spaced_view words.now) }
+{
+    any_contains(words, "*/")
+}
+
+/// Whether a word does not end in the end of a block comment, or has another one.
+fn ends_early(word: &str) -> bool
+    ensures { result ≡ ends_early word.now }
+{
+    match without_end(word, "*/") {
+        Some(front) => contains(front, "*/"),
+        None => true,
+    }
+}
+
+/// Whether the end of a block comment stands in these words, and not only at their end.
+pub(crate) fn closes_early(words: &[SpacedWord<'_>]) -> bool
+    ensures { result ≡ closes_early (map spaced_view words.now) }
+{
+    let (front, _) = split_last(words);
+    closes_block(front) | ends_early(last_word(words))
+}
+
+/// The first character of a text, if it has one.
+fn first_char(text: &str) -> Option<char>
+    ensures { result ≡ slice_get (chars text.now) 0 }
+{
+    text.chars().next()
+}
+
+fn char_count(text: &str) -> usize
+    ensures { result ≡ length (chars text.now) }
+{
+    text.chars().count()
+}
+
+/// Whether each character of a text is this one.
+fn is_all(text: &str, ch: char) -> bool
+    ensures { result ≡ list_all (λ c. c == ch) (chars text.now) }
+{
+    text.chars().all(|other| other == ch)
+}
+
+/// Whether a word is three times or more this character, but no letter, digit, backtick or tilde.
+fn is_rule_of(first: Option<char>, word: &str) -> bool
+    ensures { result ≡ is_rule_of first (chars word.now) }
+{
+    match first {
+        Some(first) => {
+            (char_count(word) > 2)
+                & is_all(word, first)
+                & !(first.is_alphanumeric() | (first == '`') | (first == '~'))
+        }
+        None => false,
+    }
+}
+
+/// Whether a word is a rule: three times or more one character, but no letter, digit, backtick or
+/// tilde.
+fn is_rule_word(word: &str) -> bool
+    ensures { result ≡ is_rule_characters (chars word.now) }
+{
+    is_rule_of(first_char(word), word)
+}
+
+/// Whether the words are a rule.
+pub(crate) fn is_rule(words: &[SpacedWord<'_>]) -> bool
+    ensures { result ≡ is_rule (map spaced_view words.now) }
+{
+    match words {
+        [word] => is_rule_word(word.word),
+        _ => false,
+    }
+}

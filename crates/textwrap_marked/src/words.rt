@@ -1,0 +1,157 @@
+//! The words of a line, each with the white behind it, and what is asked of one.
+ghost use Rattle.std.specs.Prelude.{◌≡◌, ◌-◌, ◌<◌, ◌≤◌, ◌==◌, ◌∷◌, true, false, length, map, nat_eq, take, drop};
+ghost use Rattle.std.specs.Prelude.{IfOk, MatchOption, slice_index};
+ghost use Rattle.std.specs.List.{ends_with, prefix_len, slice_split, starts_with};
+ghost use Rattle.textwrap_marked.specs.Words.{bytes_left, contains, has_byte, has_letter, is_ink, is_made_of, is_white};
+ghost use Rattle.textwrap_marked.specs.Words.{parts_left, spaced_view, spaced_words};
+
+use std::alloc::{AllocError, Global};
+
+/// What stands between white, and the white behind it.
+#[derive(Clone, Copy, Debug)]
+pub(crate) struct SpacedWord<'t> {
+    pub word: &'t str,
+    pub white: &'t str,
+}
+
+/// The part of a text before a mark, and what follows that, if it stands there.
+pub(crate) fn split_at(text: &str, mark: char) -> (&str, Option<&str>)
+    requires { mark < 128 }
+    ensures parts { slice_split (λ c. c == mark) text.now
+        ≡ result.0.now ∷ parts_left mark result.1 }
+    ensures shorter { bytes_left result.1 ≤ length text.now }
+{
+    match text.split_once(mark) {
+        Some((part, rest)) => (part, Some(rest)),
+        None => (text, None),
+    }
+}
+
+/// Whether the byte is a blank or a tab.
+pub(crate) fn is_white(byte: u8) -> bool
+    ensures { result ≡ is_white byte }
+{
+    (byte == b' ') | (byte == b'\t')
+}
+
+/// The text up to its first white, and what follows.
+pub(crate) fn split_word(text: &str) -> (&str, &str)
+    ensures word { result.0.now ≡ take (prefix_len is_ink text.now) text.now }
+    ensures rest { result.1.now ≡ drop (prefix_len is_ink text.now) text.now }
+{
+    let bytes = text.as_bytes();
+    let mut end = 0;
+    while end < bytes.len() && !is_white(bytes[end]) {
+        end += 1;
+    }
+    text.split_at(end)
+}
+
+/// The white that the text begins with, and what follows.
+pub(crate) fn split_white(text: &str) -> (&str, &str)
+    ensures white { result.0.now ≡ take (prefix_len is_white text.now) text.now }
+    ensures rest { result.1.now ≡ drop (prefix_len is_white text.now) text.now }
+{
+    let bytes = text.as_bytes();
+    let mut end = 0;
+    while end < bytes.len() && is_white(bytes[end]) {
+        end += 1;
+    }
+    text.split_at(end)
+}
+
+/// The words of a line. Only the first may be empty, before white.
+pub(crate) fn spaced_words(alloc: Global, line: &str) -> Result<Vec<SpacedWord<'_>>, AllocError>
+    ensures { IfOk result (λ words. map spaced_view words.items ≡ spaced_words line.now) }
+{
+    let mut words = Vec::new(alloc);
+    let mut rest = line;
+    while !rest.is_empty() {
+        let (word, after) = split_word(rest);
+        let (white, after) = split_white(after);
+        words.push(SpacedWord { word, white })?;
+        rest = after;
+    }
+    Ok(words)
+}
+
+/// A list of these words.
+pub(crate) fn copied<'t>(
+    alloc: Global,
+    words: &[SpacedWord<'t>],
+) -> Result<Vec<SpacedWord<'t>>, AllocError>
+    ensures { IfOk result (λ list. list.items ≡ words.now) }
+{
+    let mut list = Vec::new(alloc);
+    for word in words {
+        list.push(*word)?;
+    }
+    Ok(list)
+}
+
+/// Whether a letter or a digit is among the characters of a word.
+pub(crate) fn has_letter(word: &str) -> bool
+    ensures { result ≡ has_letter word.now }
+{
+    word.chars().any(|ch| ch.is_alphanumeric())
+}
+
+/// The first byte, and 0 where there is none.
+pub(crate) fn first_byte(word: &str) -> u8
+    ensures { result ≡ slice_index word.now 0 }
+{
+    match word.as_bytes() {
+        [first, ..] => *first,
+        [] => 0,
+    }
+}
+
+/// Whether this byte is in a text.
+pub(crate) fn has_byte(byte: u8, text: &[u8]) -> bool
+    ensures { result ≡ has_byte byte text.now }
+{
+    text.iter().any(|other| *other == byte)
+}
+
+/// Whether each byte of a text is this one.
+pub(crate) fn is_made_of(byte: u8, text: &[u8]) -> bool
+    ensures { result ≡ is_made_of byte text.now }
+{
+    text.iter().all(|other| *other == byte)
+}
+
+pub(crate) fn starts_with(text: &str, part: &str) -> bool
+    ensures { result ≡ starts_with nat_eq text.now part.now }
+{
+    text.starts_with(part)
+}
+
+pub(crate) fn ends_with(text: &str, part: &str) -> bool
+    ensures { result ≡ ends_with nat_eq text.now part.now }
+{
+    text.ends_with(part)
+}
+
+/// What follows this start of a text, if it begins so.
+pub(crate) fn without_start<'t>(text: &'t str, start: &str) -> Option<&'t str>
+    ensures { MatchOption result (starts_with nat_eq text.now start.now ≡ false)
+        (λ rest. (starts_with nat_eq text.now start.now ≡ true)
+        × (rest.now ≡ drop (length start.now) text.now)) }
+{
+    text.strip_prefix(start)
+}
+
+/// The text without this end, if it has it.
+pub(crate) fn without_end<'t>(text: &'t str, end: &str) -> Option<&'t str>
+    ensures { MatchOption result (ends_with nat_eq text.now end.now ≡ false)
+        (λ front. (ends_with nat_eq text.now end.now ≡ true)
+        × (front.now ≡ take (length text.now - length end.now) text.now)) }
+{
+    text.strip_suffix(end)
+}
+
+pub(crate) fn contains(text: &str, part: &str) -> bool
+    ensures { result ≡ contains part.now text.now }
+{
+    text.contains(part)
+}

@@ -10,7 +10,6 @@ use Rattle.textwrap_lines.proofs.Common.{DividesAs, DividesBy, HasParts, line_vi
 use Rattle.textwrap_lines.proofs.Common.{paragraphs_of, Settings, settings_view}
 use Rattle.textwrap_lines.specs.declared.options.Options.{Options}
 use Rattle.textwrap_lines.proofs.Paragraph.BuiltIn.{divides}
-use Rattle.textwrap_lines.proofs.Text.Named.{groups-others}
 use Rattle.textwrap_lines.specs.Paragraph.{Adds}
 use Rattle.std.specs.declared.borrow.CowStr.{CowStr}
 use Rattle.std.proofs.lemmas.List.{drop_at, drop-map}
@@ -116,17 +115,3 @@ justified-as options settings splitter algorithm parts text filled is =
     parts.settings_are
     (subst (λ Divides. IsJustifiedText (settings_view options) Divides text filled)
     (divides options settings splitter algorithm parts) is)
-
--- what holds of each division holds of the text
-pub justified-map : (settings : Settings)
-    (Divides Others : Bool → List ℕ → List (List WordText) → Type 0)
-    → ((is_later : Bool) (paragraph : List ℕ) (division : List (List WordText))
-    → Divides is_later paragraph division → Others is_later paragraph division)
-    → (text filled : List ℕ) → IsJustifiedText settings Divides text filled
-    → IsJustifiedText settings Others text filled
-justified-map settings Divides Others each text filled is = record {
-  groups = is.groups;
-  defined = groups-others settings Divides Others each
-      (paragraphs_of settings.line_ending text) is.groups is.defined;
-  joined = is.joined;
-}

@@ -6,9 +6,8 @@ use Rattle.textwrap_lines.proofs.Common.{Settings, settings_view, AreTextLines, 
 use Rattle.textwrap_lines.specs.declared.options.Options.{Options}
 use Rattle.textwrap_lines.specs.Paragraph.{DividesUnder}
 use Rattle.textwrap_lines.proofs.Paragraph.BuiltIn.{divides-under}
-use Rattle.textwrap_lines.proofs.Text.Named.{filled-map, text-map}
-use Rattle.textwrap.proofs.Common.{joined_text, layout_of}
-use Rattle.textwrap.specs.Columns.{at_column_width, IsInColumns}
+use Rattle.textwrap.proofs.Common.{layout_of}
+use Rattle.textwrap.specs.Columns.{IsInColumns}
 use Rattle.textwrap.specs.Refilling.{IsRefilled, with_indents_of}
 
 module _ {E C : Type 0} {e : _} {c : _} (options : Options E C e c) (settings : Settings)
@@ -45,22 +44,3 @@ module _ (Divides Others : Settings → Bool → List ℕ → List (List WordTex
     (each : (settings : Settings) (is_later : Bool) (paragraph : List ℕ)
     (division : List (List WordText)) → Divides settings is_later paragraph division
     → Others settings is_later paragraph division) (settings : Settings) where
-  pub refilled-map : (text refilled : List ℕ) → IsRefilled settings Divides text refilled
-      → IsRefilled settings Others text refilled
-  refilled-map text refilled (filled, is, ends) =
-      let indented = with_indents_of text settings in (
-        filled,
-        filled-map indented (Divides indented) (Others indented) (each indented) (joined_text text)
-            filled is,
-        ends,
-      )
-
-  pub columns-map : (columns : ℕ) (text left middle right : List ℕ) (rows : List (List ℕ))
-      → IsInColumns settings Divides columns text left middle right rows
-      → IsInColumns settings Others columns text left middle right rows
-  columns-map columns text left middle right rows (lines, are, is) =
-      let narrow = at_column_width settings columns left middle right in (
-        lines,
-        text-map narrow (Divides narrow) (Others narrow) (each narrow) text lines are,
-        is,
-      )

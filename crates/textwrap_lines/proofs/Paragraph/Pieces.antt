@@ -150,11 +150,3 @@ module _ (settings : Settings) (algorithm : Algorithm) (splitter : Splitter) whe
   IsDividedInto-whole is_later paragraph division (pieces, are, divided) =
       IsDividedBy-whole sizes_of algorithm (widths_of settings is_later) pieces division divided
       ∙ ArePieces-is settings splitter paragraph pieces are
-
-  pub IsDividedInto-tile : (is_later : Bool) (paragraph : List ℕ)
-      (division : List (List WordText)) → IsUtf8 paragraph
-      → DividesAs splitter algorithm settings is_later paragraph division
-      → tiled (flat_map (λ line. line) division) ≡ paragraph
-  IsDividedInto-tile is_later paragraph division utf8 divided =
-      ap tiled (IsDividedInto-whole is_later paragraph division divided)
-      ∙ pieces_of-tile settings splitter paragraph utf8

@@ -1,11 +1,10 @@
 -- What is divided by the options is divided by what they name: the words of a line that the separator
 -- may give, a built-in splitter and a built-in algorithm.
-use Rattle.textwrap_base.proofs.Common.{◌≡◌, ℕ, Bool, true, false, MatchBool, List, [], ◌∷◌, Option}
+use Rattle.textwrap_base.proofs.Common.{◌≡◌, ℕ, Bool, true, false, MatchBool, List, [], ◌∷◌}
 use Rattle.textwrap_base.proofs.Common.{subst, ⊤}
-use Rattle.textwrap_words.proofs.Common.{AreSplit, Algorithm, Splitter, WordText, word_of, words_of}
-use Rattle.textwrap_words.proofs.Word.Words.{words_unique}
-use Rattle.textwrap_lines.proofs.Common.{AreGroups, AreParagraphParts, AreTextLines, DividesAs}
-use Rattle.textwrap_lines.proofs.Common.{ArePrintedWithin, DividesAt, IsWrapped, LinesKeepToWidth}
+use Rattle.textwrap_words.proofs.Common.{AreSplit, Algorithm, Splitter, WordText, word_of}
+use Rattle.textwrap_lines.proofs.Common.{AreGroups, AreParagraphParts, AreTextLines}
+use Rattle.textwrap_lines.proofs.Common.{DividesAt}
 use Rattle.textwrap_lines.proofs.Common.{paragraphs_of}
 use Rattle.textwrap_lines.proofs.Common.{DividesBy, HasPartsAt, IsFilled, is_whole, Line, LineParts}
 use Rattle.textwrap_lines.proofs.Common.{Options, Settings, settings_view, widths_of}
@@ -43,15 +42,6 @@ module _ {E C : Type 0} {e : _} {c : _} (options : Options E C e c)
       subst (λ s. DividesAt words splitter algorithm s is_later paragraph division)
       parts.settings_are
       (divides-under_at (settings_view options) is_later paragraph division by)
-
--- words between blanks are named by their list
-pub divides-at_blanks : (splitter : Splitter) (algorithm : Algorithm) (settings : Settings)
-    (is_later : Bool) (paragraph : List ℕ) (division : List (List WordText))
-    → DividesAs splitter algorithm settings is_later paragraph division
-    → DividesAt words_of splitter algorithm settings is_later paragraph division
-divides-at_blanks splitter algorithm settings is_later paragraph division
-    (pieces, (ws, split, ws_are, split_are, is), by) =
-    (pieces, (ws, split, (words_unique paragraph ws).0 ws_are, split_are, is), by)
 
 -- ---- whatever holds of each division holds of what is made of them
 
@@ -102,28 +92,4 @@ module _ (settings : Settings) (Divides Others : Bool → List ℕ → List (Lis
   placed-map text lines places placed = record {
     are = text-map text lines placed.are;
     places_are = placed.places_are;
-  }
-
-  pub wrapped-map : (splitter : Option Splitter) (algorithm : Option Algorithm) (text : List ℕ)
-      (lines : List Line) → IsWrapped settings splitter algorithm Divides text lines
-      → IsWrapped settings splitter algorithm Others text lines
-  wrapped-map splitter algorithm text lines wrapped = record {
-    are = text-map text lines wrapped.are;
-    some = wrapped.some;
-    loses = wrapped.loses;
-    tile = wrapped.tile;
-    adds = wrapped.adds;
-    keeps = wrapped.keeps;
-  }
-
-  pub even-map : (text : List ℕ) (lines : List Line) → LinesKeepToWidth settings Divides text lines
-      → LinesKeepToWidth settings Others text lines
-  even-map text lines (are, keep) = (text-map text lines are, keep)
-
-  pub printed-map : (text : List ℕ) (lines : List Line)
-      → ArePrintedWithin settings Divides text lines → ArePrintedWithin settings Others text lines
-  printed-map text lines printed = record {
-    are = text-map text lines printed.are;
-    within = printed.within;
-    whole = printed.whole;
   }

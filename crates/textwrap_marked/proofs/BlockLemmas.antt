@@ -1,8 +1,10 @@
 -- The first block of lines, and those after it.
 use Rattle.textwrap_base.proofs.Common.{◌≡◌, ℕ, suc, ◌+◌, true, false, cond, List, []}
-use Rattle.textwrap_base.proofs.Common.{◌∷◌, length, take, drop, refl, sym, ap, ◌∙◌, map, arith, zero}
+use Rattle.textwrap_base.proofs.Common.{◌∷◌, length, take, drop, refl, sym, ap, ◌∙◌, map, arith}
+use Rattle.textwrap_base.proofs.Common.{zero}
 use Rattle.textwrap_base.proofs.Common.{◌<◌, get_or}
-use Rattle.textwrap_marked.specs.Blocks.{are_fields, is_beside, block_len, blocks, goes_on, later_len, with_line}
+use Rattle.textwrap_marked.specs.Blocks.{are_fields, is_beside, block_len, blocks, goes_on}
+use Rattle.textwrap_marked.specs.Blocks.{later_len, with_line}
 use Rattle.textwrap_marked.specs.Lines.{LineText, line_view}
 use Rattle.textwrap_marked.specs.declared.lines.Line.{Line}
 

@@ -1,6 +1,8 @@
 -- The pieces of a line, written one after another without the last one's blank.
-use Rattle.textwrap_base.proofs.Common.{◌≡◌, ℕ, ◌+◌, ◌-◌, ◌<◌, ◌≤◌, List, [], ◌∷◌, ◌++◌, length, map}
-use Rattle.textwrap_base.proofs.Common.{refl, sym, ap, ◌∙◌, arith, get_or, drop, drop_more, append-nil}
+use Rattle.textwrap_base.proofs.Common.{◌≡◌, ℕ, ◌+◌, ◌-◌, ◌<◌, ◌≤◌, List, [], ◌∷◌, ◌++◌, length}
+use Rattle.textwrap_base.proofs.Common.{map}
+use Rattle.textwrap_base.proofs.Common.{refl, sym, ap, ◌∙◌, arith, get_or, drop, drop_more}
+use Rattle.textwrap_base.proofs.Common.{append-nil}
 use Rattle.textwrap_base.proofs.Common.{append_assoc, length-map, length-drop}
 use Rattle.textwrap_words.proofs.Common.{word_view, WordText}
 use Rattle.textwrap_lines.proofs.Common.{Word}

@@ -1,6 +1,8 @@
 -- Blocks that are laid out, one after another.
-use Rattle.textwrap_base.proofs.Common.{◌≡◌, ℕ, suc, ◌<◌, ◌++◌, ◌||◌, Bool, List, [], ◌∷◌, length, map, take}
-use Rattle.textwrap_base.proofs.Common.{drop, get_or, refl, sym, ap, ◌∙◌, subst, arith, take-map, ◌+◌, drop-drop, length-drop}
+use Rattle.textwrap_base.proofs.Common.{◌≡◌, ℕ, suc, ◌<◌, ◌++◌, ◌||◌, Bool, List, [], ◌∷◌, length}
+use Rattle.textwrap_base.proofs.Common.{map, take}
+use Rattle.textwrap_base.proofs.Common.{drop, get_or, refl, sym, ap, ◌∙◌, subst, arith, take-map}
+use Rattle.textwrap_base.proofs.Common.{◌+◌, drop-drop, length-drop}
 use Rattle.std.proofs.Common.{ap₂}
 use Rattle.std.proofs.lemmas.List.{drop-map}
 use Rattle.textwrap_marked.proofs.BlockLemmas.{blocks-first}

@@ -1,9 +1,12 @@
 pub mod BlockLemmas
 pub mod BulletLemmas
+pub mod ContainedTexts
 pub mod CoveredLemmas
 pub mod FittingPieces
+pub mod JoinedTurns
 pub mod LaidLemmas
 pub mod ListLemmas
+pub mod PieceCuts
 pub mod PieceLemmas
 pub mod ReadLemmas
-pub mod WordLemmas
+pub mod SpacedLemmas

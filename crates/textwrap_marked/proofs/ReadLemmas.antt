@@ -1,5 +1,6 @@
 -- Lines, read one after another.
-use Rattle.textwrap_base.proofs.Common.{◌≡◌, ℕ, ◌==◌, Bool, List, [], ◌∷◌, ◌++◌, length, map, refl, sym}
+use Rattle.textwrap_base.proofs.Common.{◌≡◌, ℕ, ◌==◌, Bool, List, [], ◌∷◌, ◌++◌, length, map}
+use Rattle.textwrap_base.proofs.Common.{refl, sym}
 use Rattle.textwrap_base.proofs.Common.{ap, ◌∙◌, arith, nat_lt, Option, Some, None, Bor, lt-ltb}
 use Rattle.textwrap_base.proofs.Common.{append_assoc, map-append}
 use Rattle.std.proofs.lemmas.List.Splits.{length-slice_split}

@@ -1,5 +1,6 @@
 -- Columns with tabs, and how deep text stands.
-use Rattle.std.specs.Prelude.{ℕ, ◌+◌, ◌-◌, ◌%◌, ◌^◌, ◌==◌, ◌&&◌, min, Bool, nat_le, bytes_eq, List}
+use Rattle.std.specs.Prelude.{ℕ, ◌+◌, ◌-◌, ◌%◌, ◌^◌, ◌==◌, ◌&&◌, min, Bool, nat_le, bytes_eq}
+use Rattle.std.specs.Prelude.{List}
 use Rattle.std.specs.Prelude.{[], ◌∷◌, length, take, drop, if◌then◌else◌, string_bytes}
 use Rattle.std.specs.List.{prefix_len, slice_split, suffix_len}
 use Rattle.textwrap_words.specs.Units.{text_width}

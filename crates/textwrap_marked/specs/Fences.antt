@@ -1,5 +1,6 @@
 -- Fences of code.
-use Rattle.std.specs.Prelude.{ℕ, ◌==◌, ◌&&◌, ◌||◌, Bool, false, not, nat_eq, nat_le, nat_lt, List, []}
+use Rattle.std.specs.Prelude.{ℕ, ◌==◌, ◌&&◌, ◌||◌, Bool, false, not, nat_eq, nat_le, nat_lt, List}
+use Rattle.std.specs.Prelude.{[]}
 use Rattle.std.specs.Prelude.{◌∷◌, length, drop, slice_index, codes, bytes_eq, string_bytes}
 use Rattle.std.specs.Prelude.{if◌then◌else◌, Option, Some, None}
 use Rattle.std.specs.List.{list_any, prefix_len, starts_with}

@@ -1,13 +1,16 @@
 -- The lines of a text: what is read of one, and what is open behind it.
-use Rattle.std.specs.Prelude.{ℕ, ◌-◌, ◌==◌, ◌&&◌, ◌||◌, Bool, false, not, nat_eq, nat_lt, List, []}
+use Rattle.std.specs.Prelude.{ℕ, ◌-◌, ◌==◌, ◌&&◌, ◌||◌, Bool, false, not, nat_eq, nat_lt, List}
+use Rattle.std.specs.Prelude.{[]}
 use Rattle.std.specs.Prelude.{◌∷◌, length, take, drop, codes, bytes_eq, string_bytes}
 use Rattle.std.specs.Prelude.{if◌then◌else◌, Option, Some, None, is_some, map}
 use Rattle.std.specs.List.{ends_with, list_any, slice_split, starts_with, suffix_len}
 use Rattle.std.specs.Option.{option_map}
-use Rattle.textwrap_marked.specs.Columns.{behind_white, depth_of, DepthText, depth_view, is_deeper}
+use Rattle.textwrap_marked.specs.Columns.{behind_white, depth_of, DepthText, depth_view}
+use Rattle.textwrap_marked.specs.Columns.{is_deeper}
 use Rattle.textwrap_marked.specs.Columns.{marks_of}
 use Rattle.textwrap_marked.specs.Fences.{FenceText, fence_view, is_closed_by, is_left_by, opened}
-use Rattle.textwrap_marked.specs.Prefixes.{hanging_margin, hanging_prefix, has_opening, prefix_ends}
+use Rattle.textwrap_marked.specs.Prefixes.{hanging_margin, hanging_prefix, has_opening}
+use Rattle.textwrap_marked.specs.Prefixes.{prefix_ends}
 use Rattle.textwrap_marked.specs.Signs.{begins_text, closes_block, closes_early, first_word}
 use Rattle.textwrap_marked.specs.Signs.{has_columns, is_key, is_rule, last_white, last_word}
 use Rattle.textwrap_marked.specs.Words.{has_byte, spaced_text, SpacedText, spaced_view}

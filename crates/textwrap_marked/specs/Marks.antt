@@ -1,6 +1,7 @@
 -- Marks: words that make up a prefix.
 use Rattle.std.specs.Prelude.{ℕ, ◌-◌, ◌==◌, ◌&&◌, ◌||◌, Bool, not, nat_eq, nat_lt, List, [], ◌∷◌}
-use Rattle.std.specs.Prelude.{length, take, slice_index, slice_range, if◌then◌else◌, codes, bytes_eq}
+use Rattle.std.specs.Prelude.{length, take, slice_index, slice_range, if◌then◌else◌, codes}
+use Rattle.std.specs.Prelude.{bytes_eq}
 use Rattle.std.specs.Char.{is_ascii_alphabetic, is_ascii_digit}
 use Rattle.std.specs.List.{list_all, list_any, starts_with}
 use Rattle.textwrap_marked.specs.Words.{contains, has_bytes, has_letter, is_made_of}

@@ -1,5 +1,6 @@
 -- The prefix of a line, and its hanging form.
-use Rattle.std.specs.Prelude.{ℕ, ◌+◌, Bool, List, [], ◌∷◌, ◌++◌, take, drop, slice_range, replicate}
+use Rattle.std.specs.Prelude.{ℕ, ◌+◌, Bool, List, [], ◌∷◌, ◌++◌, take, drop, slice_range}
+use Rattle.std.specs.Prelude.{replicate}
 use Rattle.std.specs.Prelude.{suc, if◌then◌else◌, codes, bytes_eq, ◌&&◌}
 use Rattle.std.specs.List.{flat_map, list_any}
 use Rattle.textwrap_words.specs.Units.{text_width}

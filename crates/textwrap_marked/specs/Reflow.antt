@@ -1,5 +1,6 @@
 -- A text whose paragraphs are filled again.
-use Rattle.std.specs.Prelude.{◌≡◌, ℕ, ◌-◌, ◌==◌, ◌&&◌, ◌||◌, Bool, true, false, nat_eq, nat_lt, codes, List, [], ◌∷◌, ◌++◌, drop, map}
+use Rattle.std.specs.Prelude.{◌≡◌, ℕ, ◌-◌, ◌==◌, ◌&&◌, ◌||◌, Bool, true, false, nat_eq, nat_lt}
+use Rattle.std.specs.Prelude.{codes, List, [], ◌∷◌, ◌++◌, drop, map}
 use Rattle.std.specs.Prelude.{if◌then◌else◌, Option, Some, None, length}
 use Rattle.std.specs.List.{ends_with, flat_map, slice_split, starts_with}
 use Rattle.textwrap_base.specs.Algorithms as base

@@ -1,10 +1,13 @@
 -- How a text begins, and what no paragraph contains.
-use Rattle.std.specs.Prelude.{ℕ, ◌-◌, ◌==◌, ◌&&◌, ◌||◌, Bool, true, false, not, nat_eq, nat_lt, List}
-use Rattle.std.specs.Prelude.{[], ◌∷◌, length, take, drop, slice_get, slice_index, chars, codes, bytes_eq}
+use Rattle.std.specs.Prelude.{ℕ, ◌-◌, ◌==◌, ◌&&◌, ◌||◌, Bool, true, false, not, nat_eq, nat_lt}
+use Rattle.std.specs.Prelude.{List}
+use Rattle.std.specs.Prelude.{[], ◌∷◌, length, take, drop, slice_get, slice_index, chars, codes}
+use Rattle.std.specs.Prelude.{bytes_eq}
 use Rattle.std.specs.Prelude.{if◌then◌else◌, Option, Some, None}
 use Rattle.std.specs.List.{ends_with, fold, list_all, list_any, starts_with}
 use Rattle.textwrap_marked.specs.Marks.{is_among, is_bullet}
-use Rattle.textwrap_marked.specs.Words.{contains, has_byte, has_bytes, has_letter, is_alphanumeric}
+use Rattle.textwrap_marked.specs.Words.{contains, has_byte, has_bytes, has_letter}
+use Rattle.textwrap_marked.specs.Words.{is_alphanumeric}
 use Rattle.textwrap_marked.specs.Words.{SpacedText}
 use Rattle.textwrap_marked.specs.declared.options.ReflowOptions.{ReflowOptions}
 

@@ -1,7 +1,8 @@
 //! Columns with tabs, and how deep text stands.
 ghost use Rattle.std.specs.Prelude.{◌≡◌, ◌-◌, length, take, IfOk};
 ghost use Rattle.textwrap_marked.specs.Columns.{columns, depth_of, depth_view, is_deeper};
-ghost use Rattle.textwrap_marked.specs.Columns.{marks_of, next_stop, plus_columns, without_final_white};
+ghost use Rattle.textwrap_marked.specs.Columns.{marks_of, next_stop, plus_columns};
+ghost use Rattle.textwrap_marked.specs.Columns.{without_final_white};
 ghost use Rattle.textwrap_marked.specs.Words.{is_white};
 
 use crate::words::{is_white, split_at, split_white};

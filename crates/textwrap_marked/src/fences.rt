@@ -1,7 +1,8 @@
 //! Fences of code.
 ghost use Rattle.std.specs.Prelude.{◌≡◌, ◌==◌, map};
 ghost use Rattle.std.specs.List.{list_any, prefix_len};
-ghost use Rattle.textwrap_marked.specs.Fences.{fence_view, has_backtick_behind, has_pre, has_pre_end};
+ghost use Rattle.textwrap_marked.specs.Fences.{fence_view, has_backtick_behind, has_pre};
+ghost use Rattle.textwrap_marked.specs.Fences.{has_pre_end};
 ghost use Rattle.textwrap_marked.specs.Fences.{is_closed_by, is_left_by, is_long_run, opened};
 ghost use Rattle.textwrap_marked.specs.Fences.{opened_by, run_of};
 ghost use Rattle.textwrap_marked.specs.Words.{has_byte, spaced_view};

@@ -3,7 +3,8 @@ ghost use Rattle.std.specs.Prelude.{◌≡◌};
 ghost use Rattle.std.specs.Char.{is_ascii_digit};
 ghost use Rattle.std.specs.List.{list_all};
 ghost use Rattle.textwrap_marked.specs.Marks.{is_bullet, is_bullet_sign, is_label, is_letter};
-ghost use Rattle.textwrap_marked.specs.Marks.{is_line_comment, is_number, is_opening, is_quote, label_inside};
+ghost use Rattle.textwrap_marked.specs.Marks.{is_line_comment, is_number, is_opening, is_quote};
+ghost use Rattle.textwrap_marked.specs.Marks.{label_inside};
 
 use crate::words::{contains, has_letter, is_made_of, starts_with};
 

@@ -1,7 +1,8 @@
 //! The text of a paragraph's words, and where it may be cut into pieces.
 ghost use Rattle.std.specs.Prelude.{◌≡◌, ◌++◌, [], map, IfOk, OnOk};
 ghost use Rattle.textwrap_marked.specs.Lines.{line_view};
-ghost use Rattle.textwrap_marked.specs.Pieces.{is_cut, is_kept_together, joined_of, joined_view, with_cut, with_word};
+ghost use Rattle.textwrap_marked.specs.Pieces.{is_cut, is_kept_together, joined_of, joined_view};
+ghost use Rattle.textwrap_marked.specs.Pieces.{with_cut, with_word};
 ghost use Rattle.textwrap_marked.specs.Pieces.{words_of};
 ghost use Rattle.textwrap_marked.specs.Words.{spaced_view};
 

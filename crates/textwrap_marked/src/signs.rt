@@ -1,10 +1,13 @@
 //! How a text begins, and what no paragraph contains.
 ghost use Rattle.std.specs.Prelude.{◌≡◌, ◌==◌, length, map, chars, slice_get};
 ghost use Rattle.std.specs.List.{list_all, list_any};
-ghost use Rattle.textwrap_marked.specs.Signs.{any_contains, begins_text, closes_block, closes_early};
-ghost use Rattle.textwrap_marked.specs.Signs.{ends_early, ends_sentence, first_word, front_of, has_columns, is_closing, is_column_word};
+ghost use Rattle.textwrap_marked.specs.Signs.{any_contains, begins_text, closes_block};
+ghost use Rattle.textwrap_marked.specs.Signs.{closes_early};
+ghost use Rattle.textwrap_marked.specs.Signs.{ends_early, ends_sentence, first_word, front_of};
+ghost use Rattle.textwrap_marked.specs.Signs.{has_columns, is_closing, is_column_word};
 ghost use Rattle.textwrap_marked.specs.Signs.{is_end, is_gap, is_key, is_key_character, is_rule};
-ghost use Rattle.textwrap_marked.specs.Signs.{is_rule_characters, is_rule_of, is_sign, is_sign_byte, last_of, last_white};
+ghost use Rattle.textwrap_marked.specs.Signs.{is_rule_characters, is_rule_of, is_sign};
+ghost use Rattle.textwrap_marked.specs.Signs.{is_sign_byte, last_of, last_white};
 ghost use Rattle.textwrap_marked.specs.Signs.{last_word, may_go_on};
 ghost use Rattle.textwrap_marked.specs.Signs.{opens_paragraph};
 ghost use Rattle.textwrap_marked.specs.Words.{is_alphanumeric, spaced_view};

@@ -4,7 +4,8 @@ ghost use Rattle.std.specs.Option.{option_map};
 ghost use Rattle.textwrap_marked.specs.Fences.{fence_view};
 ghost use Rattle.textwrap_marked.specs.Columns.{depth_view};
 ghost use Rattle.textwrap_marked.specs.Lines.{deeper_by, entered, fence_at, first_state, is_before};
-ghost use Rattle.textwrap_marked.specs.Lines.{is_in_block, is_prompt, is_prompted, line_view, new_before};
+ghost use Rattle.textwrap_marked.specs.Lines.{is_in_block, is_prompt, is_prompted, line_view};
+ghost use Rattle.textwrap_marked.specs.Lines.{new_before};
 ghost use Rattle.textwrap_marked.specs.Lines.{new_by, new_fence, opened_fence, passed, state_view};
 ghost use Rattle.textwrap_marked.specs.Words.{spaced_view};
 

@@ -1,8 +1,10 @@
 //! The words of a line, each with the white behind it, and what is asked of one.
-ghost use Rattle.std.specs.Prelude.{◌≡◌, ◌-◌, ◌<◌, ◌≤◌, ◌==◌, ◌∷◌, true, false, length, map, nat_eq, take, drop};
+ghost use Rattle.std.specs.Prelude.{◌≡◌, ◌-◌, ◌<◌, ◌≤◌, ◌==◌, ◌∷◌, true, false, length, map};
+ghost use Rattle.std.specs.Prelude.{nat_eq, take, drop};
 ghost use Rattle.std.specs.Prelude.{IfOk, MatchOption, slice_index};
 ghost use Rattle.std.specs.List.{ends_with, prefix_len, slice_split, starts_with};
-ghost use Rattle.textwrap_marked.specs.Words.{bytes_left, contains, has_byte, has_letter, is_ink, is_made_of, is_white};
+ghost use Rattle.textwrap_marked.specs.Words.{bytes_left, contains, has_byte, has_letter, is_ink};
+ghost use Rattle.textwrap_marked.specs.Words.{is_made_of, is_white};
 ghost use Rattle.textwrap_marked.specs.Words.{parts_left, spaced_view, spaced_words};
 
 use std::alloc::{AllocError, Global};

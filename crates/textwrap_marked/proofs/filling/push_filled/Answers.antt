@@ -4,7 +4,8 @@ use Rattle.textwrap_base.proofs.Common.{append_assoc, arith, IsUtf8, refl}
 use Rattle.textwrap_words.proofs.Common.{IsDividedBy, sizes_of, word_of, word_view}
 use Rattle.textwrap_words.specs.Cuts.{AreCuts, parts_between}
 use Rattle.textwrap_marked.proofs.FittingPieces.{pieces-fit}
-use Rattle.textwrap_marked.proofs.PieceLemmas.{joined-cuts, joined-pieces}
+use Rattle.textwrap_marked.proofs.PieceCuts.{joined-cuts}
+use Rattle.textwrap_marked.proofs.PieceLemmas.{joined-pieces}
 use Rattle.textwrap_marked.proofs.filling.push_filled.Goals.{After-deref-2}
 use Rattle.textwrap_marked.specs.Columns.{columns}
 use Rattle.textwrap_marked.specs.Lines.{line_view}

@@ -1,6 +1,6 @@
 use Rattle.textwrap_marked.proofs.words.contains.Goals as goal
 use Rattle.std.proofs.lemmas.Str.Pattern.{contains_text}
-use Rattle.textwrap_marked.proofs.WordLemmas.{contains-is}
+use Rattle.textwrap_marked.proofs.ContainedTexts.{contains-is}
 
 pub returns : goal.returns
 returns c =

@@ -2,7 +2,7 @@ use Rattle.textwrap_marked.proofs.words.split_white.Goals as goal
 use Rattle.textwrap_base.proofs.Common.{◌≡◌, ◌<◌, true, length, get_or, ap, sym, ◌∙◌, arith, zero-add}
 use Rattle.textwrap_base.proofs.Common.{IsCharBoundary-after_ascii, IsCharBoundary-start}
 use Rattle.std.proofs.lemmas.List.Sums.{prefix_len-drop_yes}
-use Rattle.textwrap_marked.proofs.WordLemmas.{white-small}
+use Rattle.textwrap_marked.proofs.SpacedLemmas.{white-small}
 use Rattle.textwrap_marked.specs.Words.{is_white}
 
 pub loop-end-init : goal.loop-end-init

@@ -1,5 +1,5 @@
 use Rattle.textwrap_marked.proofs.words.without_end.Goals as goal
-use Rattle.textwrap_marked.proofs.WordLemmas.{without-end}
+use Rattle.textwrap_marked.proofs.ContainedTexts.{without-end}
 
 pub returns : goal.returns
 returns c =

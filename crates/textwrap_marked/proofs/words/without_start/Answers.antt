@@ -1,5 +1,5 @@
 use Rattle.textwrap_marked.proofs.words.without_start.Goals as goal
-use Rattle.textwrap_marked.proofs.WordLemmas.{without-start}
+use Rattle.textwrap_marked.proofs.ContainedTexts.{without-start}
 
 pub returns : goal.returns
 returns c =

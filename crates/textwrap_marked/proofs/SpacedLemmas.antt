@@ -1,54 +1,13 @@
--- Where a text stands in another, and the words of a line, from its front on.
-use Rattle.textwrap_base.proofs.Common.{◌≡◌, ℕ, ◌+◌, ◌-◌, ◌<◌, Bool, true, false, ◌||◌, suc}
-use Rattle.textwrap_base.proofs.Common.{List, [], ◌∷◌, ◌++◌, length, take, drop, refl, ap, sym, ◌∙◌}
-use Rattle.textwrap_base.proofs.Common.{arith, nat_eq, starts_with, prefix_len, false_from_ne_true}
-use Rattle.textwrap_base.proofs.Common.{◌↔◌, cases_Bool, length-drop, nat_tests, map, map-append}
+-- The words of a line, each with the white behind it, from the front on.
+use Rattle.textwrap_base.proofs.Common.{◌≡◌, ℕ, ◌+◌, ◌<◌, Bool, true, false, suc}
+use Rattle.textwrap_base.proofs.Common.{List, [], ◌∷◌, ◌++◌, length, take, drop, refl, ap, sym}
+use Rattle.textwrap_base.proofs.Common.{◌∙◌}
+use Rattle.textwrap_base.proofs.Common.{arith, prefix_len}
+use Rattle.textwrap_base.proofs.Common.{cases_Bool, length-drop, nat_tests, map, map-append}
 use Rattle.textwrap_base.proofs.Common.{append_assoc}
-use Rattle.textwrap_base.proofs.Lists.Prefixes.{starts_with-false, starts_with-rest, starts_with-true}
-use Rattle.textwrap_base.proofs.Common.{ends_with, None, Option, Some, take_at, Bor, length-append}
-use Rattle.textwrap_base.proofs.Lists.Ends.{ends_with-front, ends_with-true, stripped_suffix}
-use Rattle.std.proofs.Common.{ap₂}
-use Rattle.std.specs.Option.{MatchOption}
-use Rattle.std.specs.Str.Iter.{HasSubslice}
-use Rattle.std.specs.Str.Pattern.{FindsTextPrefix, FindsTextSuffix, StripsPrefix, StripsSuffix}
-use Rattle.textwrap_marked.specs.Words.{contains, is_ink, is_white}
+use Rattle.textwrap_marked.specs.Words.{is_ink, is_white}
 use Rattle.textwrap_marked.specs.Words.{spaced_view, spaced_words, SpacedText, with_byte}
 use Rattle.textwrap_marked.specs.declared.words.SpacedWord.{SpacedWord}
-
-module _ (part : List ℕ) where
-  contains-from : (text a b : List ℕ) → text ≡ a ++ (part ++ b) → contains part text ≡ true
-  contains-from [] [] b is = starts_with-true part [] b is
-  contains-from [] (x ∷ a) b is = absurd (omega (arith, ap length is))
-  contains-from (c ∷ cs) [] b is =
-      ap (λ t. t || contains part cs) (starts_with-true part (c ∷ cs) b is)
-  contains-from (c ∷ cs) (x ∷ a) b is =
-      ap (λ t. starts_with nat_eq (c ∷ cs) part || t)
-      (contains-from cs a b (ap (drop 1) is)) ∙ both (starts_with nat_eq (c ∷ cs) part)
-    where
-      both : (t : Bool) → (t || true) ≡ true
-      both true = refl
-      both false = refl
-
-  contains-to : (text : List ℕ) → contains part text ≡ true → HasSubslice text part
-  contains-to [] is = ([], drop (length part) [], starts_with-rest part [] is)
-  contains-to (c ∷ cs) is = found (starts_with nat_eq (c ∷ cs) part) refl (contains-to cs) is
-    where
-      found : (t : Bool) → starts_with nat_eq (c ∷ cs) part ≡ t
-          → (contains part cs ≡ true → HasSubslice cs part) → (t || contains part cs) ≡ true
-          → HasSubslice (c ∷ cs) part
-      found true starts later is =
-          ([], drop (length part) (c ∷ cs), starts_with-rest part (c ∷ cs) starts)
-      found false starts later is = let (a, b, at) = later is in (c ∷ a, b, ap (λ l. c ∷ l) at)
-
-  -- what says whether a text stands in another is the test
-  pub contains-is : (text : List ℕ) (r : Bool) → (r ≡ true) ↔ HasSubslice text part
-      → r ≡ contains part text
-  contains-is text true is =
-      let (a, b, at) = is.0 refl in sym (contains-from text a b at)
-  contains-is text false is = sym (false_from_ne_true (contains part text) (λ found.
-      let bad : false ≡ true = is.1 (contains-to text found) in cc))
-
--- ---- words
 
 up : (n : ℕ) → 1 + n ≡ suc n
 up n = omega arith
@@ -134,30 +93,3 @@ words-more items more w text after line some push word white left before =
     ∙ ap (λ l. map spaced_view items ++ (l ∷ spaced_words after)) same
     ∙ ap (λ t. map spaced_view items ++ (first_spaced text ∷ spaced_words t)) left
     ∙ ap (λ l. map spaced_view items ++ l) (sym (words-turn text some)) ∙ before
-
--- what is left of a text without a start is what follows it, if it begins so
-pub without-start : (start text : List ℕ) (r : Option (Bor (List ℕ)))
-    → MatchOption r (FindsTextPrefix start text None)
-    (λ x. StripsPrefix (FindsTextPrefix start) text x.now)
-    → MatchOption r (starts_with nat_eq text start ≡ false)
-    (λ x. (starts_with nat_eq text start ≡ true) × (x.now ≡ drop (length start) text))
-without-start start text None lacks = starts_with-false start text lacks
-without-start start text (Some x) strips = (
-  starts_with-true start text (drop strips.0 text) strips.1.1,
-  strips.2 ∙ ap (λ n. drop n text) strips.1.0,
-)
-
--- what is left of a text without an end is its front, if it has that end
-pub without-end : (end text : List ℕ) (r : Option (Bor (List ℕ)))
-    → MatchOption r (FindsTextSuffix end text None) (λ x. StripsSuffix (FindsTextSuffix end) text x.now)
-    → MatchOption r (ends_with nat_eq text end ≡ false)
-    (λ x. (ends_with nat_eq text end ≡ true) × (x.now ≡ take (length text - length end) text))
-without-end end text None lacks =
-    false_from_ne_true (ends_with nat_eq text end)
-    (λ ends. lacks (take (length text - length end) text) (ends_with-front end text ends))
-without-end end text (Some x) strips =
-    let is = stripped_suffix end text x.now strips in (
-      ends_with-true end text x.now is,
-      sym (ap₂ (λ n t. take (n - length end) t) (ap length is ∙ length-append x.now end) is
-          ∙ take_at x.now end ((length x.now + length end) - length end) (omega arith)),
-    )

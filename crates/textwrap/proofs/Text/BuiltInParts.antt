@@ -1,7 +1,7 @@
 -- Refilled texts and texts in columns under options with built-in parts: what they divide is what
 -- the parts do as values.
-use Rattle.textwrap_base.proofs.Common.{ℕ, Bool, List, subst}
-use Rattle.textwrap_words.proofs.Common.{Algorithm, Splitter, WordText}
+use Rattle.textwrap_base.proofs.Common.{ℕ, List, subst}
+use Rattle.textwrap_words.proofs.Common.{Algorithm, Splitter}
 use Rattle.textwrap_lines.proofs.Common.{Settings, settings_view, AreTextLines, HasParts, DividesAs}
 use Rattle.textwrap_lines.specs.declared.options.Options.{Options}
 use Rattle.textwrap_lines.specs.Paragraph.{DividesUnder}
@@ -37,10 +37,3 @@ module _ {E C : Type 0} {e : _} {c : _} (options : Options E C e c) (settings : 
             (divides-under options settings splitter algorithm parts narrow) are,
         is,
       )
-
--- ---- whatever holds of each division holds of what is made of them
-
-module _ (Divides Others : Settings → Bool → List ℕ → List (List WordText) → Type 0)
-    (each : (settings : Settings) (is_later : Bool) (paragraph : List ℕ)
-    (division : List (List WordText)) → Divides settings is_later paragraph division
-    → Others settings is_later paragraph division) (settings : Settings) where

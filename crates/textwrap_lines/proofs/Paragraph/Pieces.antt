@@ -1,12 +1,11 @@
 -- The built-in parts leave exactly the computed pieces of a paragraph, which tile it.
-use Rattle.textwrap_base.proofs.Common.{◌≤◌, length, total_width, subst, ◌≡◌, ◌↔◌, ℕ, Bool}
-use Rattle.textwrap_base.proofs.Common.{List, [], All, refl, sym, ap, ◌∙◌, flat_map, IsUtf8, rules}
+use Rattle.textwrap_base.proofs.Common.{◌≤◌, length, total_width, subst, ◌≡◌, ◌↔◌, ℕ}
+use Rattle.textwrap_base.proofs.Common.{List, [], All, refl, sym, ap, ◌∙◌, IsUtf8, rules}
 use Rattle.textwrap_words.proofs.Common.{WordText, sizes_of, tiled, word_of, words_of, AreWordsOf}
-use Rattle.textwrap_words.proofs.Common.{Algorithm, Splitter, ArePoints}
-use Rattle.textwrap_lines.proofs.Common.{Settings, empty_word, ArePieces, pieces_of, widths_of}
-use Rattle.textwrap_lines.proofs.Common.{DividesAs, pieces_by, pieces_of_words, broken_pieces_of}
+use Rattle.textwrap_words.proofs.Common.{Splitter, ArePoints}
+use Rattle.textwrap_lines.proofs.Common.{Settings, empty_word, ArePieces, pieces_of}
+use Rattle.textwrap_lines.proofs.Common.{pieces_by, pieces_of_words, broken_pieces_of}
 use Rattle.textwrap_words.proofs.Common.{split_words}
-use Rattle.textwrap_base.proofs.Division.Map.{IsDividedBy-whole}
 use Rattle.textwrap_words.proofs.Word.Bounds.{IsNarrowWord-measured, total_width-narrow}
 use Rattle.textwrap_words.proofs.Word.Words.{words_unique}
 use Rattle.textwrap_words.proofs.Word.Measured.{IsMeasured, HasNoPenalty, text_width-nil}
@@ -142,11 +141,3 @@ module _ (settings : Settings) (splitter : Splitter) (paragraph : List ℕ)
   pub pieces_of-no_penalty : All HasNoPenalty (pieces_of settings splitter paragraph)
   pieces_of-no_penalty =
       pieces_of_words-no_penalty settings splitter paragraph (words_of paragraph) utf8 texts
-
-module _ (settings : Settings) (algorithm : Algorithm) (splitter : Splitter) where
-  pub IsDividedInto-whole : (is_later : Bool) (paragraph : List ℕ) (division : List (List WordText))
-      → DividesAs splitter algorithm settings is_later paragraph division
-      → flat_map (λ line. line) division ≡ pieces_of settings splitter paragraph
-  IsDividedInto-whole is_later paragraph division (pieces, are, divided) =
-      IsDividedBy-whole sizes_of algorithm (widths_of settings is_later) pieces division divided
-      ∙ ArePieces-is settings splitter paragraph pieces are

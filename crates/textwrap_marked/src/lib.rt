@@ -17,6 +17,4 @@ mod reading;
 mod reflowing;
 mod signs;
 mod states;
-#[cfg(test)]
-mod tests;
 mod words;

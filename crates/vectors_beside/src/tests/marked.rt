@@ -1,0 +1,316 @@
+//! What becomes of texts in which marks stand before the words. Each row has the kind of text that it
+//! shows.
+use super::plain::assert_gives;
+use std::alloc::Global;
+use textwrap::wrap_algorithms::Penalties;
+use textwrap::{LineEnding, WrapError};
+use textwrap_marked::{Algorithm, ReflowOptions, reflow};
+
+/// First fit at 16 columns, with nothing declared.
+const AT_16: ReflowOptions<'_> = ReflowOptions {
+    width: 16,
+    algorithm: Algorithm::FirstFit,
+    ending: None,
+    markdown: false,
+    markers: &[],
+    bare: false,
+    prefixes: &[],
+    indented: false,
+};
+
+/// The same at other widths.
+const AT_12: ReflowOptions<'_> = ReflowOptions { width: 12, ..AT_16 };
+
+const AT_20: ReflowOptions<'_> = ReflowOptions { width: 20, ..AT_16 };
+
+const AT_24: ReflowOptions<'_> = ReflowOptions { width: 24, ..AT_16 };
+
+/// A text without comments.
+const MARKDOWN: ReflowOptions<'_> = ReflowOptions {
+    markdown: true,
+    ..AT_16
+};
+
+/// Block comments without a margin of asterisks.
+const BARE: ReflowOptions<'_> = ReflowOptions {
+    bare: true,
+    ..AT_20
+};
+
+/// A kind of text, the options, and what becomes of a text; the empty text where it stays.
+type Row = (
+    &'static str,
+    ReflowOptions<'static>,
+    &'static str,
+    &'static str,
+);
+
+const ROWS: &[Row] = &[
+    (
+        "prose",
+        AT_16,
+        "One two three four\nfive six.\n",
+        "One two three\nfour five six.\n",
+    ),
+    (
+        "words with signs",
+        AT_12,
+        "Use --all --force or -1 and *note* now\n",
+        "Use --all\n--force or\n-1 and\n*note* now\n",
+    ),
+    (
+        "mail",
+        AT_16,
+        "> one two three four\n> > five six seven eight\n>> nine ten\n",
+        "> one two three\n> four\n> > five six\n> > seven eight\n>> nine ten\n",
+    ),
+    (
+        "references",
+        AT_16,
+        "[1] http://x.y/z\n[2] http://x.y/w\n",
+        "",
+    ),
+    (
+        "lists",
+        AT_16,
+        "- one two three four\n  five\n10. six seven eight\n    - nine ten eleven twelve\n",
+        "- one two three\n  four five\n10. six seven\n    eight\n    - nine ten\n      eleven\n      twelve\n",
+    ),
+    (
+        "tasks",
+        AT_16,
+        "- [ ] one two three four\n- [x] five\n",
+        "- [ ] one two\n      three four\n- [x] five\n",
+    ),
+    (
+        "fences",
+        AT_16,
+        "````sh\n```\nls -l\n````\none\ntwo\n",
+        "````sh\n```\nls -l\n````\none two\n",
+    ),
+    (
+        "indented code",
+        AT_16,
+        "One\ntwo\n\n    make all\n    make install\n",
+        "One two\n\n    make all\n    make install\n",
+    ),
+    (
+        "tables",
+        AT_16,
+        "a | b\n--|--\n1 | 2\nName    Size\nfoo     12\n",
+        "",
+    ),
+    (
+        "setext, rules",
+        AT_16,
+        "One two\nTitle\n=====\none\ntwo\n***\n",
+        "",
+    ),
+    (
+        "headings",
+        AT_16,
+        "## One two three four five\none\ntwo\n",
+        "## One two three four five\none two\n",
+    ),
+    (
+        "#: a comment",
+        AT_16,
+        "# One two three four five\n",
+        "# One two three\n# four five\n",
+    ),
+    ("#: a heading", MARKDOWN, "# One two three four five\n", ""),
+    (
+        "hard breaks",
+        AT_16,
+        "one  \ntwo\\\nthree\nfour\n",
+        "one  \ntwo\\\nthree four\n",
+    ),
+    ("link definitions", AT_16, "[a]: x\n[b]: y\n", ""),
+    (
+        "front matter",
+        AT_16,
+        "---\ntitle: a\ndate: b\n---\none\ntwo\n",
+        "---\ntitle: a\ndate: b\n---\none two\n",
+    ),
+    (
+        "C++, a tab",
+        AT_24,
+        "\t// one two three four\n\t// five\n",
+        "\t// one two three\n\t// four five\n",
+    ),
+    (
+        "Rust",
+        AT_20,
+        "//! One two three four.\n//!\n//! # Panics\n//!\n//! ```\n//! let x = 1;\n//! let y = 2;\n//! ```\n",
+        "//! One two three\n//! four.\n//!\n//! # Panics\n//!\n//! ```\n//! let x = 1;\n//! let y = 2;\n//! ```\n",
+    ),
+    (
+        "C",
+        AT_24,
+        "\t/* one two three four\n\t * five\n\t * - six seven eight nine\n\t * @param a b\n\t * @return c\n\t */\n\tint x;\n",
+        "\t/* one two three\n\t * four five\n\t * - six seven\n\t *   eight nine\n\t * @param a b\n\t * @return c\n\t */\n\tint x;\n",
+    ),
+    (
+        "GNU C",
+        BARE,
+        "/* one two\n   three four\n   five.  */\nint x;\n",
+        "/* one two three\n   four five. */\nint x;\n",
+    ),
+    (
+        "shell, Python",
+        AT_16,
+        "#!/bin/sh\n# one two three four\n# five\n#six=1\n",
+        "#!/bin/sh\n# one two three\n# four five\n#six=1\n",
+    ),
+    (
+        "SQL, Lua, Haskell",
+        AT_16,
+        "-- one two three four\n-- five\nSELECT 1;\n",
+        "-- one two three\n-- four five\nSELECT 1;\n",
+    ),
+    (
+        "Lisp, TeX, Erlang",
+        AT_16,
+        ";; one two three four\n;; five\n% six\n% seven\n",
+        ";; one two three\n;; four five\n% six seven\n",
+    ),
+    ("Go", AT_16, "// One two:\n//\n//\tx := 1\n//\ty := 2\n", ""),
+    (
+        "Make",
+        AT_20,
+        "all:\n\t# one two three\n\tcc -o x x.c\n\tld y\n",
+        "all:\n\t# one two\n\t# three\n\tcc -o x x.c\n\tld y\n",
+    ),
+    (
+        "git trailers",
+        AT_16,
+        "One two three four\n\nFixes: 12ab (\"One two three\")\nSigned-off-by: A B <a@b.c>\n",
+        "One two three\nfour\n\nFixes: 12ab (\"One two three\")\nSigned-off-by: A B <a@b.c>\n",
+    ),
+    (
+        "Debian changelog",
+        AT_24,
+        "  * One two three four five\n    six.\n\n -- A B <a@b.c>  Mon, 01 Jan 2024 00:00:00 +0000\n",
+        "  * One two three four\n    five six.\n\n -- A B <a@b.c>  Mon, 01 Jan 2024 00:00:00 +0000\n",
+    ),
+    (
+        "license header",
+        AT_20,
+        "# Copyright 2019 A\n# Copyright 2020 B\n#\n# One two three four\n",
+        "",
+    ),
+    (
+        "doctest, shell",
+        AT_16,
+        ">>> f(1)\n1\n2\n\n$ ls\na\nb\n",
+        "",
+    ),
+    (
+        "CR LF",
+        AT_16,
+        "one two three four\r\nfive\r\n",
+        "one two three\r\nfour five\r\n",
+    ),
+    ("BOM", AT_16, "\u{feff}// one two three\n// four\n", ""),
+    (
+        "wide",
+        AT_16,
+        "// 本日は 晴天 なり 明日も\n// 晴れ\n",
+        "// 本日は 晴天\n// なり 明日も\n// 晴れ\n",
+    ),
+];
+
+/// Each kind of text is filled by its marks, and what is no running text stays.
+#[test]
+fn each_kind_of_text_is_filled_by_its_marks(rt: HostRuntime) {
+    for &(kind, options, text, becomes) in ROWS {
+        let wanted = if becomes.is_empty() { text } else { becomes };
+        assert_gives(&rt, kind, plain_reflow(rt.alloc(), text, &options), wanted);
+    }
+}
+
+/// Options that are declared, and an ending that is asked for.
+const DECLARED: &[Row] = &[
+    (
+        "a mark of the caller",
+        ReflowOptions {
+            markers: &["dnl"],
+            ..AT_16
+        },
+        "dnl one two three four\ndnl five\n",
+        "dnl one two\ndnl three four\ndnl five\n",
+    ),
+    (
+        "only behind this prefix",
+        ReflowOptions {
+            prefixes: &["//"],
+            ..AT_16
+        },
+        "one two three four five\n// one two three four\n",
+        "one two three four five\n// one two three\n// four\n",
+    ),
+    (
+        "deeper text too",
+        ReflowOptions {
+            indented: true,
+            ..AT_16
+        },
+        "one\n\n    two three four five\n",
+        "one\n\n    two three\n    four five\n",
+    ),
+    (
+        "all lines end so",
+        ReflowOptions {
+            ending: Some(LineEnding::CRLF),
+            ..AT_16
+        },
+        "one two three four\n==\n",
+        "one two three\r\nfour\r\n==\r\n",
+    ),
+    (
+        "least cost",
+        ReflowOptions {
+            algorithm: Algorithm::LeastCost(Penalties::new()),
+            ..AT_12
+        },
+        "> To be, or not to be: that is the question\n",
+        "> To be,\n> or not to\n> be: that\n> is the\n> question\n",
+    ),
+];
+
+/// What a caller declares and asks for counts.
+#[test]
+fn what_is_declared_counts(rt: HostRuntime) {
+    for &(kind, options, text, becomes) in DECLARED {
+        assert_gives(&rt, kind, plain_reflow(rt.alloc(), text, &options), becomes);
+    }
+}
+
+/// How many paragraphs the large text has.
+const MANY: usize = 2_000;
+
+/// A large text is filled paragraph by paragraph.
+#[test]
+fn a_large_text_is_filled(rt: HostRuntime) {
+    let text = "> one two three four\n> five\n\n"
+        .repeat(rt.alloc(), MANY)
+        .expect(&rt, "text");
+    let wanted = "> one two three\n> four five\n\n"
+        .repeat(rt.alloc(), MANY)
+        .expect(&rt, "text");
+    assert_gives(
+        &rt,
+        "large",
+        plain_reflow(rt.alloc(), &text, &AT_16),
+        &wanted,
+    );
+}
+
+/// `reflow`.
+fn plain_reflow(
+    alloc: Global,
+    text: &str,
+    options: &ReflowOptions<'_>,
+) -> Result<String, WrapError> {
+    reflow(alloc, text, options)
+}

@@ -17,4 +17,6 @@ mod reading;
 mod reflowing;
 mod signs;
 mod states;
+#[cfg(test)]
+mod tests;
 mod words;

@@ -3,7 +3,6 @@ mod breaks;
 mod c;
 mod cut_pieces;
 mod display;
-mod marked;
 mod plain;
 mod program;
 mod reflow;

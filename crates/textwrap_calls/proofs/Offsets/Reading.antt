@@ -1,5 +1,5 @@
 -- The code that reads a line and passes the offsets of its visible text.
-use Rattle.textwrap_base.proofs.Common.{◌≡◌, ℕ, ◌+◌, ◌<◌, ◌≤◌, ◌↔◌, true, cond, List, [], ◌∷◌}
+use Rattle.textwrap_base.proofs.Common.{◌≡◌, ℕ, ◌+◌, ◌<◌, ◌≤◌, ◌↔◌, Bool, true, cond, List, [], ◌∷◌}
 use Rattle.textwrap_base.proofs.Common.{length, get_or, drop, refl, sym, ap, ◌∙◌, subst, arith, inl}
 use Rattle.textwrap_base.proofs.Common.{inr, cases_Bool, IsUtf8, encode_utf8_all, encodes-chars}
 use Rattle.textwrap_base.proofs.Common.{length-append, at_drop_all}

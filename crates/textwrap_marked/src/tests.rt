@@ -1,10 +1,9 @@
 //! What becomes of texts in which marks stand before the words. Each row has the kind of text that it
 //! shows.
-use super::plain::assert_gives;
-use std::alloc::Global;
-use textwrap::wrap_algorithms::Penalties;
-use textwrap::{LineEnding, WrapError};
-use textwrap_marked::{Algorithm, ReflowOptions, reflow};
+use crate::{Algorithm, ReflowOptions, reflow};
+use std::process::Abort;
+use textwrap_lines::LineEnding;
+use textwrap_words::wrap_algorithms::Penalties;
 
 /// First fit at 16 columns, with nothing declared.
 const AT_16: ReflowOptions<'_> = ReflowOptions {
@@ -220,12 +219,26 @@ const ROWS: &[Row] = &[
     ),
 ];
 
+/// Asserts what becomes of a text.
+fn assert_becomes(
+    rt: &(impl Abort + AllocGlobal),
+    kind: &str,
+    options: &ReflowOptions<'_>,
+    text: &str,
+    wanted: &str,
+) {
+    match reflow(rt.alloc(), text, options) {
+        Ok(found) => assert!(rt; found.as_str() == wanted, "{kind}: {found:?}"),
+        Err(_) => assert!(rt; false, "{kind}"),
+    }
+}
+
 /// Each kind of text is filled by its marks, and what is no running text stays.
 #[test]
 fn each_kind_of_text_is_filled_by_its_marks(rt: HostRuntime) {
     for &(kind, options, text, becomes) in ROWS {
         let wanted = if becomes.is_empty() { text } else { becomes };
-        assert_gives(&rt, kind, plain_reflow(rt.alloc(), text, &options), wanted);
+        assert_becomes(&rt, kind, &options, text, wanted);
     }
 }
 
@@ -291,7 +304,7 @@ const DECLARED: &[Row] = &[
 #[test]
 fn what_is_declared_counts(rt: HostRuntime) {
     for &(kind, options, text, becomes) in DECLARED {
-        assert_gives(&rt, kind, plain_reflow(rt.alloc(), text, &options), becomes);
+        assert_becomes(&rt, kind, &options, text, becomes);
     }
 }
 
@@ -307,19 +320,5 @@ fn a_large_text_is_filled(rt: HostRuntime) {
     let wanted = "> one two three\n> four five\n\n"
         .repeat(rt.alloc(), MANY)
         .expect(&rt, "text");
-    assert_gives(
-        &rt,
-        "large",
-        plain_reflow(rt.alloc(), &text, &AT_16),
-        &wanted,
-    );
-}
-
-/// `reflow`.
-fn plain_reflow(
-    alloc: Global,
-    text: &str,
-    options: &ReflowOptions<'_>,
-) -> Result<String, WrapError> {
-    reflow(alloc, text, options)
+    assert_becomes(&rt, "large", &AT_16, &text, &wanted);
 }

@@ -118,9 +118,8 @@ static void what_is_refused_calls_no_function(void) {
     CHECK(is_refused_unasked("a b c d", refused, TEXTWRAP_UNKNOWN_OPTIONS));
 }
 
-/* "> aa", "> bb" and "> cc" stand in 12 bytes, and joined in 14. Room that is too short for the former
- * is left; of the latter it holds the beginning. The room is a block of its own with one byte more,
- * which has to stay. */
+/* "> aa", "> bb" and "> cc" stand in 12 bytes, and joined in 14. Room that is too short holds the
+ * beginning of them. It is a block of its own with one byte more, which has to stay. */
 static void room_may_be_too_short(void) {
     textwrap_options o = first_fit(4);
     const textwrap_functions none = textwrap_functions_new(NULL);
@@ -134,7 +133,7 @@ static void room_may_be_too_short(void) {
             textwrap_wrap_by(bytes("aa bb cc"), 8, &o, &none, lines, 3, &count, room, room_len, &len);
         CHECK(status == (room_len < 12 ? TEXTWRAP_TOO_SMALL : TEXTWRAP_DONE));
         CHECK(count == 3 && len == 12 && room[room_len] == '.');
-        CHECK(room_len == 0 || room[0] == (room_len < 12 ? '.' : '>'));
+        CHECK(memcmp(room, "> aa> bb> cc", room_len < 12 ? room_len : 12) == 0);
         memset(room, '.', room_len + 1);
         status = textwrap_fill_by(bytes("aa bb cc"), 8, &o, &none, room, room_len, &len);
         CHECK(status == (room_len < 14 ? TEXTWRAP_TOO_SMALL : TEXTWRAP_DONE));
@@ -144,11 +143,11 @@ static void room_may_be_too_short(void) {
     }
 }
 
-static void too_few_lines_are_left(void) {
+static void too_few_lines_are_the_first(void) {
     textwrap_options o = first_fit(4);
     const textwrap_functions none = textwrap_functions_new(NULL);
     const textwrap_line unset = {77, 77, 77};
-    uint8_t room[16] = "...";
+    uint8_t room[16] = "";
     size_t count = 7, len = 7;
     o.initial_indent = o.subsequent_indent = text_of("> ");
     for (size_t lines_len = 0; lines_len <= 3; lines_len++) {
@@ -157,9 +156,11 @@ static void too_few_lines_are_left(void) {
                                                   &count, room, sizeof room, &len);
         CHECK(status == (lines_len < 3 ? TEXTWRAP_TOO_SMALL : TEXTWRAP_DONE));
         CHECK(count == 3 && len == 12 && memcmp(&lines[lines_len], &unset, sizeof unset) == 0);
-        CHECK(lines_len == 3 || memcmp(room, "...", 4) == 0);
+        for (size_t i = 0; i < lines_len && i < 3; i++) {
+            CHECK(lines[i].offset == 4 * i && lines[i].len == 4 && lines[i].is_built == 1);
+        }
+        CHECK(memcmp(room, "> aa> bb> cc", 13) == 0);
     }
-    CHECK(memcmp(room, "> aa> bb> cc", 12) == 0);
 }
 
 static void a_paragraph_may_have_no_words(void) {
@@ -280,7 +281,7 @@ static void a_carriage_return_ends_no_paragraph(void) {
 int main(void) {
     what_is_refused_calls_no_function();
     room_may_be_too_short();
-    too_few_lines_are_left();
+    too_few_lines_are_the_first();
     a_paragraph_may_have_no_words();
     a_hyphen_takes_its_column();
     a_hyphen_costs_what_the_options_say();

@@ -365,10 +365,11 @@ static void lists_of_lines_are_shortened(void) {
     CHECK(count == 7 && len == 7);
     CHECK(textwrap_shorten_lines(lines, 3, 2, 8, bytes(" .."), 3, places, 1, &count, room,
                                  sizeof room, &len) == TEXTWRAP_TOO_SMALL);
-    CHECK(count == 2 && len == 9);
+    CHECK(count == 2 && len == 9 && memcmp(room, "onetwo ..", 9) == 0);
+    room[8] = '_';
     CHECK(textwrap_shorten_lines(lines, 3, 2, 8, bytes(" .."), 3, places, 2, &count, room, 8, &len)
           == TEXTWRAP_TOO_SMALL);
-    CHECK(count == 2 && len == 9 && memcmp(room, "...", 4) == 0);
+    CHECK(count == 2 && len == 9 && memcmp(room, "onetwo ._", 9) == 0);
     CHECK(textwrap_shorten_lines(lines, 3, 2, 8, bytes(" .."), 3, places, 2, &count, room, 9, &len)
           == TEXTWRAP_DONE);
     CHECK(count == 2 && are_lines(places, count, room, len, "one\ntwo ..\n"));
@@ -430,9 +431,10 @@ static void carrying_styles_is_refused(void) {
     CHECK(textwrap_carry_styles(lines, 2, &o, places, 1, &count, room, sizeof room, &len)
           == TEXTWRAP_TOO_SMALL);
     CHECK(count == 2 && len == 18);
+    room[17] = '_';
     CHECK(textwrap_carry_styles(lines, 2, &o, places, 2, &count, room, 17, &len)
           == TEXTWRAP_TOO_SMALL);
-    CHECK(count == 2 && len == 18 && memcmp(room, "...", 4) == 0);
+    CHECK(count == 2 && len == 18 && memcmp(room + 9, "\x1b[1mb\x1b[0_", 9) == 0);
     CHECK(textwrap_carry_styles(lines, 2, &o, places, 2, &count, room, 18, &len) == TEXTWRAP_DONE);
     CHECK(are_lines(places, count, room, len, "\x1b[1ma\x1b[0m\n\x1b[1mb\x1b[0m\n"));
 }
@@ -459,9 +461,10 @@ static void tables_are_written(void) {
     CHECK(textwrap_table(cells, 5, columns, 3, &gaps, rows, 3, &count, room, sizeof room, &len)
           == TEXTWRAP_TOO_SMALL);
     CHECK(count == 4 && len == 96);
+    room[95] = '_';
     CHECK(textwrap_table(cells, 5, columns, 3, &gaps, rows, 4, &count, room, 95, &len)
           == TEXTWRAP_TOO_SMALL);
-    CHECK(count == 4 && len == 96 && memcmp(room, "...", 4) == 0);
+    CHECK(count == 4 && len == 96 && memcmp(room, "[ one ", 6) == 0 && memcmp(room + 94, " _", 2) == 0);
     CHECK(textwrap_table(cells, 5, columns, 3, &gaps, rows, 4, &count, room, 96, &len)
           == TEXTWRAP_DONE);
     CHECK(count == 4);
@@ -499,7 +502,7 @@ static void rows_of_lines_are_written(void) {
     CHECK(count == 7 && len == 7 && memcmp(room, "...", 4) == 0);
     CHECK(textwrap_rows_of_lines(lines, 4, 3, 24, &gaps, rows, 1, &count, room, 48, &len)
           == TEXTWRAP_TOO_SMALL);
-    CHECK(count == 2 && len == 48 && memcmp(room, "...", 4) == 0);
+    CHECK(count == 2 && len == 48 && memcmp(room, "|Foo   |Baz   |        |", 24) == 0);
     CHECK(textwrap_rows_of_lines(lines, 4, 3, 24, &gaps, rows, 2, &count, room, 48, &len)
           == TEXTWRAP_DONE);
     CHECK(are_lines(rows, count, room, len,
@@ -522,7 +525,7 @@ static void tables_of_lines_are_written(void) {
     CHECK(count == 7 && len == 7 && memcmp(room, "...", 4) == 0);
     CHECK(textwrap_table_of_lines(cells, 3, columns, 2, &gaps, rows, 1, &count, room, 26, &len)
           == TEXTWRAP_TOO_SMALL);
-    CHECK(count == 2 && len == 26 && memcmp(room, "...", 4) == 0);
+    CHECK(count == 2 && len == 26 && memcmp(room, "[one |  1.50][two |      ]", 26) == 0);
     CHECK(textwrap_table_of_lines(cells, 3, columns, 2, &gaps, rows, 2, &count, room, 26, &len)
           == TEXTWRAP_DONE);
     /* The last cell, which has no lines, takes no row. */

@@ -6,6 +6,7 @@ pub mod FittingPieces
 pub mod JoinedTurns
 pub mod LaidLemmas
 pub mod ListLemmas
+pub mod OneText
 pub mod PieceCuts
 pub mod PieceLemmas
 pub mod ReadLemmas

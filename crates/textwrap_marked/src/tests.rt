@@ -1,5 +1,5 @@
 //! Rows of texts, and what becomes of them by first fit.
-use crate::{Algorithm, ReflowOptions, reflow};
+use crate::{ReflowOptions, reflow};
 use std::alloc::Global;
 
 /// What is tried: the kind, the columns, the text, and what it becomes; the empty text where it
@@ -207,16 +207,10 @@ static ROWS: [Row; 32] = [
 ];
 
 fn options_of(row: &Row) -> ReflowOptions<'static> {
-    ReflowOptions {
-        width: row.width,
-        algorithm: Algorithm::FirstFit,
-        ending: None,
-        markdown: row.kind == "#, --markdown",
-        markers: &[],
-        bare: row.kind == "GNU C, --bare",
-        prefixes: &[],
-        indented: false,
-    }
+    let mut options = ReflowOptions::new(row.width);
+    options.markdown = row.kind == "#, --markdown";
+    options.bare = row.kind == "GNU C, --bare";
+    options
 }
 
 /// Whether the text of a row becomes what it says.

@@ -9,5 +9,6 @@ pub mod ListLemmas
 pub mod OneText
 pub mod PieceCuts
 pub mod PieceLemmas
+pub mod PrintedWidths
 pub mod ReadLemmas
 pub mod SpacedLemmas

@@ -3,9 +3,22 @@
 //!
 //! A law has no example: its statement is all there is to it. A call is written
 //! `reflowed_texts_are_unique();`.
+ghost use Rattle.textwrap_marked.specs.Laws.{FirstFitKeepsToWidth, LeastCostIsLeast};
 ghost use Rattle.textwrap_marked.specs.Laws.{ReflowedTextsAreUnique};
 
 /// A text becomes one text at the same options: the one that `reflow` returns.
 pub fn reflowed_texts_are_unique()
     ensures { ReflowedTextsAreUnique }
+{}
+
+/// By first fit, each printed line of a paragraph keeps to the width, with the columns of its prefix,
+/// or is one piece.
+pub fn first_fit_keeps_to_width()
+    ensures { FirstFitKeepsToWidth }
+{}
+
+/// By least cost, the lines of a paragraph are the cheapest of all divisions of its pieces, at the
+/// penalties of the options.
+pub fn least_cost_is_least()
+    ensures { LeastCostIsLeast }
 {}

@@ -6,9 +6,11 @@ pub mod FittingPieces
 pub mod JoinedTurns
 pub mod LaidLemmas
 pub mod ListLemmas
+pub mod NewParts
 pub mod OneText
 pub mod PieceCuts
 pub mod PieceLemmas
 pub mod PrintedWidths
 pub mod ReadLemmas
 pub mod SpacedLemmas
+pub mod TextParts

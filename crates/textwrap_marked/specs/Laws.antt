@@ -1,13 +1,18 @@
 -- The statements of the laws, each under a name that a caller can cite.
-use Rattle.std.specs.Prelude.{◌≡◌, ℕ, ◌+◌, ◌-◌, ◌≤◌, ◌⊎◌, List, [], ◌∷◌, ◌++◌, All, length, map, ⊤}
+use Rattle.std.specs.Prelude.{◌≡◌, ℕ, ◌+◌, ◌-◌, ◌≤◌, ◌⊎◌, ◌||◌, Bool, true, false, List, [], ◌∷◌}
+use Rattle.std.specs.Prelude.{◌++◌, All, if◌then◌else◌, length, map, nat_eq, None, ⊤}
+use Rattle.std.specs.List.{flat_map, starts_with}
 use Rattle.textwrap_base.specs.Cost.{division_cost, priced_at}
 use Rattle.textwrap_base.specs.Division.{closed_width, IsDivision}
 use Rattle.textwrap_base.specs.declared.penalties.Penalties.{Penalties}
 use Rattle.textwrap_words.specs.Words.{WordText, sizes_of, word_of}
+use Rattle.textwrap_lines.specs.LineEnding.{ending_bytes}
+use Rattle.textwrap_marked.specs.Blocks.{blocks, is_beside, stays}
 use Rattle.textwrap_marked.specs.Columns.{columns}
-use Rattle.textwrap_marked.specs.Lines.{LineText}
+use Rattle.textwrap_marked.specs.Lines.{LineText, lines_of}
 use Rattle.textwrap_marked.specs.Pieces.{pieces, words_of}
-use Rattle.textwrap_marked.specs.Reflow.{filled_end, IsFilled, IsReflowed, printed}
+use Rattle.textwrap_marked.specs.Reflow.{byte_order_mark, filled_end, filled_ending, IsFilled}
+use Rattle.textwrap_marked.specs.Reflow.{IsReflowed, kept_line, printed}
 use Rattle.textwrap_marked.specs.declared.options.Algorithm.TheVariants.{FirstFit, LeastCost}
 use Rattle.textwrap_marked.specs.declared.options.ReflowOptions.{ReflowOptions}
 
@@ -65,3 +70,72 @@ LeastCostIsLeast =
     (widths_left options first) (length all) in
     (division : List (List WordText)) × IsPrinted options ending first lines text division
     × ((others : List (List WordText)) → IsDivision all others → cost division ≤ cost others)
+
+-- ---- the parts of a text
+
+-- a block of a text, by its first line and all of them, and whether it stays
+pub record Part : Type 0 where
+  pub stays : Bool
+  pub first : LineText
+  pub lines : List LineText
+
+-- blocks as parts, where a field stands beside the first of them, if it is one
+abbrev pub parts_from : Bool → List (List LineText) → List Part
+parts_from beside [] = []
+parts_from beside ([] ∷ blocks) = parts_from beside blocks
+parts_from beside ((first ∷ lines) ∷ blocks) =
+    record {
+      stays = stays (beside || is_beside first blocks) first;
+      first = first;
+      lines = first ∷ lines;
+    } ∷ parts_from (is_beside first blocks) blocks
+
+abbrev pub text_parts : ReflowOptions → List ℕ → List Part
+text_parts options text = parts_from false (blocks (lines_of options text))
+
+-- a part as it stands in the text
+abbrev pub source : Part → List ℕ
+source part = flat_map (kept_line None) part.lines
+
+-- the new text is that of each part, one after the other
+abbrev pub AreNewParts : (Part → List ℕ → Type 0) → List Part → List ℕ → Type 0
+AreNewParts IsNew [] text = text ≡ []
+AreNewParts IsNew (part ∷ parts) text =
+    (front : List ℕ) × (back : List ℕ)
+    × IsNew part front × AreNewParts IsNew parts back × (text ≡ front ++ back)
+
+-- both texts begin with the same byte order mark, or none; what follows it in the one is its parts, and
+-- in the other what becomes of each, where filled lines end so
+abbrev pub AreOfParts : (List ℕ → Part → List ℕ → Type 0) → ReflowOptions → List ℕ → List ℕ → Type 0
+AreOfParts IsNew options text reflowed =
+    (mark : List ℕ) × (rest : List ℕ) × (new : List ℕ)
+    × (mark ≡ (if starts_with nat_eq text byte_order_mark then byte_order_mark else []))
+    × (text ≡ mark ++ rest) × (reflowed ≡ mark ++ new)
+    × (rest ≡ flat_map source (text_parts options rest))
+    × AreNewParts (IsNew (ending_bytes (filled_ending options.ending rest)))
+    (text_parts options rest) new
+
+-- lines, the first behind one prefix, each later one behind an ending and the other, and this behind
+-- the last of them
+abbrev pub lines_behind : List ℕ → List ℕ → List ℕ → List ℕ → List (List ℕ) → List ℕ → List ℕ
+lines_behind ending first later line lines end =
+    (first ++ line) ++ flat_map (λ l. (ending ++ later) ++ l) lines ++ end
+
+-- a part that stays is as it was; each other is lines, the first behind its prefix, each later one
+-- behind the hanging form
+abbrev pub IsKeptOrBehind : List ℕ → Part → List ℕ → Type 0
+IsKeptOrBehind ending part text = of part.stays
+  where
+    of : Bool → Type 0
+    of true = text ≡ source part
+    of false =
+        (line : List ℕ) × (lines : List (List ℕ))
+        × (text ≡ lines_behind ending part.first.prefix part.first.hanging line lines
+        (filled_end ending part.lines))
+
+-- part by part what stays is as it was, and all else is behind its prefixes, if no ending is asked for
+abbrev pub WhatStandsApartStays : Type 0
+WhatStandsApartStays =
+    (options : ReflowOptions) (text reflowed : List ℕ)
+    → options.ending ≡ None → IsReflowed options text reflowed
+    → AreOfParts IsKeptOrBehind options text reflowed

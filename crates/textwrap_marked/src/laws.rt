@@ -4,7 +4,7 @@
 //! A law has no example: its statement is all there is to it. A call is written
 //! `reflowed_texts_are_unique();`.
 ghost use Rattle.textwrap_marked.specs.Laws.{FirstFitKeepsToWidth, LeastCostIsLeast};
-ghost use Rattle.textwrap_marked.specs.Laws.{ReflowedTextsAreUnique};
+ghost use Rattle.textwrap_marked.specs.Laws.{ReflowedTextsAreUnique, WhatStandsApartStays};
 
 /// A text becomes one text at the same options: the one that `reflow` returns.
 pub fn reflowed_texts_are_unique()
@@ -21,4 +21,11 @@ pub fn first_fit_keeps_to_width()
 /// penalties of the options.
 pub fn least_cost_is_least()
     ensures { LeastCostIsLeast }
+{}
+
+/// The new text is, part by part, the blocks of the text in order: a block that stays is in it byte for
+/// byte, if no ending is asked for, and each other begins with its prefix, and each later line of it
+/// with the hanging form.
+pub fn what_stands_apart_stays()
+    ensures { WhatStandsApartStays }
 {}

@@ -1,7 +1,7 @@
 -- The statements of the laws, each under a name that a caller can cite.
 use Rattle.std.specs.Prelude.{◌≡◌, ℕ, ◌+◌, ◌-◌, ◌≤◌, ◌⊎◌, ◌||◌, Bool, true, false, List, [], ◌∷◌}
 use Rattle.std.specs.Prelude.{◌++◌, All, if◌then◌else◌, length, map, nat_eq, None, ⊤}
-use Rattle.std.specs.List.{flat_map, starts_with}
+use Rattle.std.specs.List.{flat_map, slice_split, starts_with}
 use Rattle.textwrap_base.specs.Cost.{division_cost, priced_at}
 use Rattle.textwrap_base.specs.Division.{closed_width, IsDivision}
 use Rattle.textwrap_base.specs.declared.penalties.Penalties.{Penalties}
@@ -12,7 +12,8 @@ use Rattle.textwrap_marked.specs.Columns.{columns}
 use Rattle.textwrap_marked.specs.Lines.{LineText, lines_of}
 use Rattle.textwrap_marked.specs.Pieces.{pieces, words_of}
 use Rattle.textwrap_marked.specs.Reflow.{byte_order_mark, filled_end, filled_ending, IsFilled}
-use Rattle.textwrap_marked.specs.Reflow.{IsReflowed, kept_line, printed}
+use Rattle.textwrap_marked.specs.Reflow.{IsReflowed, kept_line, kept_text, printed}
+use Rattle.textwrap_marked.specs.Words.{has_bytes, is_white}
 use Rattle.textwrap_marked.specs.declared.options.Algorithm.TheVariants.{FirstFit, LeastCost}
 use Rattle.textwrap_marked.specs.declared.options.ReflowOptions.{ReflowOptions}
 
@@ -139,3 +140,26 @@ WhatStandsApartStays =
     (options : ReflowOptions) (text reflowed : List ℕ)
     → options.ending ≡ None → IsReflowed options text reflowed
     → AreOfParts IsKeptOrBehind options text reflowed
+
+-- words between white
+abbrev pub words_in : List ℕ → List (List ℕ)
+words_in text = flat_map (λ w. if has_bytes w then w ∷ [] else []) (slice_split is_white text)
+
+-- a part that stays has at most other endings; each other has its words, in order, in lines behind its
+-- prefixes
+abbrev pub KeepsWords : ReflowOptions → List ℕ → Part → List ℕ → Type 0
+KeepsWords options ending part text = of part.stays
+  where
+    of : Bool → Type 0
+    of true = text ≡ kept_text options part.lines
+    of false =
+        (line : List ℕ) × (lines : List (List ℕ))
+        × (text ≡ lines_behind ending part.first.prefix part.first.hanging line lines
+        (filled_end ending part.lines))
+        × (flat_map words_in (line ∷ lines) ≡ words_of part.lines)
+
+-- part by part the words of each paragraph are those of its lines, and all else stays
+abbrev pub WordsAreKept : Type 0
+WordsAreKept =
+    (options : ReflowOptions) (text reflowed : List ℕ)
+    → IsReflowed options text reflowed → AreOfParts (KeepsWords options) options text reflowed

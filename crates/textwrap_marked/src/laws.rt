@@ -4,7 +4,7 @@
 //! A law has no example: its statement is all there is to it. A call is written
 //! `reflowed_texts_are_unique();`.
 ghost use Rattle.textwrap_marked.specs.Laws.{FirstFitKeepsToWidth, LeastCostIsLeast};
-ghost use Rattle.textwrap_marked.specs.Laws.{ReflowedTextsAreUnique, WhatStandsApartStays};
+ghost use Rattle.textwrap_marked.specs.Laws.{ReflowedTextsAreUnique, WhatStandsApartStays, WordsAreKept};
 
 /// A text becomes one text at the same options: the one that `reflow` returns.
 pub fn reflowed_texts_are_unique()
@@ -28,4 +28,11 @@ pub fn least_cost_is_least()
 /// with the hanging form.
 pub fn what_stands_apart_stays()
     ensures { WhatStandsApartStays }
+{}
+
+/// Nothing is lost or mixed: the new text is, part by part, the blocks of the text in order. Those that
+/// stay have at most other endings, and the lines of each paragraph, behind its prefix and the hanging
+/// form, have the words of its lines in order.
+pub fn words_are_kept()
+    ensures { WordsAreKept }
 {}

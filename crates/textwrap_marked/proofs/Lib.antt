@@ -3,6 +3,7 @@ pub mod BlockLemmas
 pub mod BulletLemmas
 pub mod ContainedTexts
 pub mod CoveredLemmas
+pub mod FilledParts
 pub mod FittingPieces
 pub mod JoinedTurns
 pub mod KeptWords

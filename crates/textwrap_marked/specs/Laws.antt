@@ -11,7 +11,7 @@ use Rattle.textwrap_marked.specs.Blocks.{blocks, is_beside, stays}
 use Rattle.textwrap_marked.specs.Columns.{columns}
 use Rattle.textwrap_marked.specs.Lines.{LineText, lines_of}
 use Rattle.textwrap_marked.specs.Pieces.{pieces, words_of}
-use Rattle.textwrap_marked.specs.Reflow.{byte_order_mark, filled_end, filled_ending, IsFilled}
+use Rattle.textwrap_marked.specs.Reflow.{byte_order_mark, filled_end, filled_ending}
 use Rattle.textwrap_marked.specs.Reflow.{IsReflowed, kept_line, kept_text, printed}
 use Rattle.textwrap_marked.specs.Words.{has_bytes, is_white}
 use Rattle.textwrap_marked.specs.declared.options.Algorithm.TheVariants.{FirstFit, LeastCost}
@@ -22,55 +22,6 @@ abbrev pub ReflowedTextsAreUnique : Type 0
 ReflowedTextsAreUnique =
     (options : ReflowOptions) (text first second : List ℕ)
     → IsReflowed options text first → IsReflowed options text second → first ≡ second
-
--- ---- the lines of a paragraph
-
--- the pieces of a paragraph, as words
-abbrev pub piece_words : ReflowOptions → LineText → List LineText → List WordText
-piece_words options first lines = map word_of (pieces options first.starred (words_of lines))
-
--- the text of a paragraph is that of this division of its pieces
-abbrev pub IsPrinted : ReflowOptions → List ℕ → LineText → List LineText → List ℕ
-    → List (List WordText) → Type 0
-IsPrinted options ending first lines text division =
-    IsDivision (piece_words options first lines) division
-    × (text ≡ printed ending first.prefix first.hanging division ++ filled_end ending lines)
-
--- one piece, or what takes no more than the width behind this prefix
-abbrev pub IsWithin : ℕ → List ℕ → List WordText → Type 0
-IsWithin width prefix line =
-    (length line ≤ 1) ⊎ (columns prefix + closed_width sizes_of line ≤ width)
-
--- the first line behind one prefix, and each later one behind the other
-abbrev pub AreWithin : ℕ → List ℕ → List ℕ → List (List WordText) → Type 0
-AreWithin width first later [] = ⊤
-AreWithin width first later (line ∷ lines) =
-    IsWithin width first line × All (IsWithin width later) lines
-
--- by first fit each printed line of a paragraph, with its prefix, keeps to the width, or is one piece
-abbrev pub FirstFitKeepsToWidth : Type 0
-FirstFitKeepsToWidth =
-    (options : ReflowOptions) (ending : List ℕ) (first : LineText) (lines : List LineText)
-    (text : List ℕ) → options.algorithm ≡ FirstFit → IsFilled options ending first lines text
-    → (division : List (List WordText)) × IsPrinted options ending first lines text division
-    × AreWithin options.width first.prefix first.hanging division
-
--- what its prefixes leave of the width, for the first line and for the later ones
-abbrev pub widths_left : ReflowOptions → LineText → List ℕ
-widths_left options first =
-    (options.width - columns first.prefix) ∷ (options.width - columns first.hanging) ∷ []
-
--- by least cost no other division of a paragraph's pieces costs less
-abbrev pub LeastCostIsLeast : Type 0
-LeastCostIsLeast =
-    (options : ReflowOptions) (penalties : Penalties) (ending : List ℕ) (first : LineText)
-    (lines : List LineText) (text : List ℕ)
-    → options.algorithm ≡ LeastCost penalties → IsFilled options ending first lines text
-    → let all = piece_words options first lines in
-    let cost = division_cost (λ piece. priced_at penalties (sizes_of piece)) penalties
-    (widths_left options first) (length all) in
-    (division : List (List WordText)) × IsPrinted options ending first lines text division
-    × ((others : List (List WordText)) → IsDivision all others → cost division ≤ cost others)
 
 -- ---- the parts of a text
 
@@ -115,6 +66,8 @@ AreOfParts IsNew options text reflowed =
     × (rest ≡ flat_map source (text_parts options rest))
     × AreNewParts (IsNew (ending_bytes (filled_ending options.ending rest)))
     (text_parts options rest) new
+
+-- ---- what stays, and what is behind prefixes
 
 -- lines, the first behind one prefix, each later one behind an ending and the other, and this behind
 -- the last of them
@@ -163,3 +116,69 @@ abbrev pub WordsAreKept : Type 0
 WordsAreKept =
     (options : ReflowOptions) (text reflowed : List ℕ)
     → IsReflowed options text reflowed → AreOfParts (KeepsWords options) options text reflowed
+
+-- ---- the lines of a paragraph
+
+-- the pieces of a paragraph, as words
+abbrev pub piece_words : ReflowOptions → LineText → List LineText → List WordText
+piece_words options first lines = map word_of (pieces options first.starred (words_of lines))
+
+-- the text of a paragraph is that of this division of its pieces
+abbrev pub IsPrinted : ReflowOptions → List ℕ → Part → List ℕ → List (List WordText) → Type 0
+IsPrinted options ending part text division =
+    IsDivision (piece_words options part.first part.lines) division
+    × (text ≡ printed ending part.first.prefix part.first.hanging division
+    ++ filled_end ending part.lines)
+
+-- one piece, or what takes no more than the width behind this prefix
+abbrev pub IsWithin : ℕ → List ℕ → List WordText → Type 0
+IsWithin width prefix line =
+    (length line ≤ 1) ⊎ (columns prefix + closed_width sizes_of line ≤ width)
+
+-- the first line behind one prefix, and each later one behind the other
+abbrev pub AreWithin : ℕ → List ℕ → List ℕ → List (List WordText) → Type 0
+AreWithin width first later [] = ⊤
+AreWithin width first later (line ∷ lines) =
+    IsWithin width first line × All (IsWithin width later) lines
+
+-- a part that does not stay keeps to the width
+abbrev pub KeepsToWidth : ReflowOptions → List ℕ → Part → List ℕ → Type 0
+KeepsToWidth options ending part text = of part.stays
+  where
+    of : Bool → Type 0
+    of true = ⊤
+    of false =
+        (division : List (List WordText)) × IsPrinted options ending part text division
+        × AreWithin options.width part.first.prefix part.first.hanging division
+
+-- by first fit each printed line of a paragraph, with its prefix, keeps to the width, or is one piece
+abbrev pub FirstFitKeepsToWidth : Type 0
+FirstFitKeepsToWidth =
+    (options : ReflowOptions) (text reflowed : List ℕ)
+    → options.algorithm ≡ FirstFit → IsReflowed options text reflowed
+    → AreOfParts (KeepsToWidth options) options text reflowed
+
+-- what its prefixes leave of the width, for the first line and for the later ones
+abbrev pub widths_left : ReflowOptions → LineText → List ℕ
+widths_left options first =
+    (options.width - columns first.prefix) ∷ (options.width - columns first.hanging) ∷ []
+
+-- of a part that does not stay no other division of its pieces costs less, at these penalties
+abbrev pub CostsLeast : ReflowOptions → Penalties → List ℕ → Part → List ℕ → Type 0
+CostsLeast options penalties ending part text = of part.stays
+  where
+    of : Bool → Type 0
+    of true = ⊤
+    of false =
+        let all = piece_words options part.first part.lines in
+        let cost = division_cost (λ piece. priced_at penalties (sizes_of piece)) penalties
+        (widths_left options part.first) (length all) in
+        (division : List (List WordText)) × IsPrinted options ending part text division
+        × ((others : List (List WordText)) → IsDivision all others → cost division ≤ cost others)
+
+-- by least cost no other division of a paragraph's pieces costs less
+abbrev pub LeastCostIsLeast : Type 0
+LeastCostIsLeast =
+    (options : ReflowOptions) (penalties : Penalties) (text reflowed : List ℕ)
+    → options.algorithm ≡ LeastCost penalties → IsReflowed options text reflowed
+    → AreOfParts (CostsLeast options penalties) options text reflowed

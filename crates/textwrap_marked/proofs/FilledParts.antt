@@ -9,8 +9,8 @@ use Rattle.textwrap_lines.specs.Paragraph.{covered}
 use Rattle.textwrap_marked.proofs.KeptWords.{printed-words}
 use Rattle.textwrap_marked.proofs.PlainLines.{IsPlainBlock}
 use Rattle.textwrap_marked.proofs.PrintedWidths.{printed-within, two-widths}
-use Rattle.textwrap_marked.specs.Laws.{CostsLeast, IsKeptOrBehind, KeepsToWidth, KeepsWords, lines_behind}
-use Rattle.textwrap_marked.specs.Laws.{Part, piece_words, widths_left}
+use Rattle.textwrap_marked.specs.Laws.{CostsLeast, IsKeptOrBehind, KeepsToWidth, KeepsWords}
+use Rattle.textwrap_marked.specs.Laws.{lines_behind, Part, piece_words, widths_left}
 use Rattle.textwrap_marked.specs.Lines.{LineText}
 use Rattle.textwrap_marked.specs.Reflow.{algorithm_of, filled_end, IsOfBlock, kept_line, printed}
 use Rattle.textwrap_marked.specs.declared.options.Algorithm.TheVariants as by

@@ -1,6 +1,7 @@
 -- The lines of a paragraph, as they are printed, have its words in order.
 use Rattle.textwrap_base.proofs.Common.{◌≡◌, ℕ, List, [], ◌∷◌, ◌++◌, All, All-append, All-head, All-map}
-use Rattle.textwrap_base.proofs.Common.{All-nil, All-tail, ap, flat_map, map, refl, take-append-drop, ◌∙◌}
+use Rattle.textwrap_base.proofs.Common.{All-nil, All-tail, ap, flat_map, map, refl, ◌∙◌}
+use Rattle.textwrap_base.proofs.Common.{take-append-drop}
 use Rattle.textwrap_base.specs.Division.{IsDivision}
 use Rattle.textwrap_base.proofs.Lists.Parts.{flat}
 use Rattle.std.proofs.lemmas.List.Folds.{flat_map-map}

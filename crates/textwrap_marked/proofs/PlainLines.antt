@@ -53,7 +53,8 @@ lead-plain (w ∷ ws) are = behind (has_bytes w.word) refl
     behind : (some : Bool) → has_bytes w.word ≡ some
         → All IsPlainWord (drop (cond some 0 1) (w ∷ ws))
     behind true is =
-        All-cons IsPlainWord w ws (record { some = omega (arith, ltb-true 0 (length w.word) is); ink = are.0 }) are.1
+        let some = ltb-true 0 (length w.word) is in
+        All-cons IsPlainWord w ws (record { some = omega (arith, some); ink = are.0 }) are.1
     behind false is = are.1
 
 -- behind more

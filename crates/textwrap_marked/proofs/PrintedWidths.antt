@@ -54,7 +54,8 @@ lines-within : (width : ℕ) (first later : List ℕ) (lines : List (List WordTe
 lines-within width first later [] all fit = tt
 lines-within width first later (line ∷ lines) all fit = (
   line-within width first line (All-head (All HasBlank) line lines all) fit.0,
-  later-within width (width - columns first) 0 later lines (All-tail (All HasBlank) line lines all) fit.1,
+  later-within width (width - columns first) 0 later lines
+      (All-tail (All HasBlank) line lines all) fit.1,
 )
 
 pub printed-within : (options : ReflowOptions) (first : LineText) (lines : List LineText)

@@ -40,7 +40,8 @@ with_line-text line ((next ∷ lines) ∷ bs) =
     let block = lines-text (next ∷ lines) in
     let rest = flat_map lines-text bs in
     elim (goes_on line next) as (λ b. flat_map lines-text
-    (cond b ((line ∷ next ∷ lines) ∷ bs) ((line ∷ []) ∷ (next ∷ lines) ∷ bs)) ≡ front ++ (block ++ rest)) [
+    (cond b ((line ∷ next ∷ lines) ∷ bs) ((line ∷ []) ∷ (next ∷ lines) ∷ bs))
+    ≡ front ++ (block ++ rest)) [
       | true ↦ append_assoc front block rest
       | false ↦ append_assoc front [] (block ++ rest)
     ]

@@ -1,6 +1,7 @@
 -- The words between white: of a text that is put together, and of the lines of a division.
 use Rattle.textwrap_base.proofs.Common.{◌≡◌, ℕ, ◌<◌, Bool, true, false, cond, List, [], ◌∷◌, ◌++◌, All}
-use Rattle.textwrap_base.proofs.Common.{◌==◌, ◌||◌, All-cons, All-nil, All-head, All-tail, ap, append_assoc, append-nil, arith, flat_map}
+use Rattle.textwrap_base.proofs.Common.{◌==◌, ◌||◌, All-head, All-tail, ap, append_assoc, append-nil}
+use Rattle.textwrap_base.proofs.Common.{arith, flat_map}
 use Rattle.textwrap_base.proofs.Common.{length, lt-ltb, onto_first, refl, slice_split, sym, ◌∙◌}
 use Rattle.std.proofs.lemmas.Grind.{flat_map-append}
 use Rattle.std.proofs.lemmas.List.Splits.{length-slice_split, slice_split_none}
@@ -46,7 +47,8 @@ words-blanks : (front blanks : List ℕ) → AreBlanks blanks → words_in (fron
 words-blanks front [] are = ap words_in (append-nil front)
 words-blanks front (c ∷ blanks) are =
     words-white front c blanks (blank-white c (All-head (λ b. is_blank b ≡ true) c blanks are))
-    ∙ ap (λ l. words_in front ++ l) (words-blanks [] blanks (All-tail (λ b. is_blank b ≡ true) c blanks are))
+    ∙ ap (λ l. words_in front ++ l)
+    (words-blanks [] blanks (All-tail (λ b. is_blank b ≡ true) c blanks are))
     ∙ append-nil (words_in front)
 
 words-behind : (text rest : List ℕ) → EndsInBlank text
@@ -54,10 +56,8 @@ words-behind : (text rest : List ℕ) → EndsInBlank text
 words-behind text rest (front, is) =
     ap (λ t. words_in (t ++ rest)) is ∙ ap words_in (append_assoc front (blank ∷ []) rest)
     ∙ words-white front blank rest refl
-    ∙ ap (λ l. l ++ words_in rest) (sym (words-blanks front (blank ∷ []) (one blank refl)) ∙ ap words_in (sym is))
-  where
-    one : (c : ℕ) → is_blank c ≡ true → AreBlanks (c ∷ [])
-    one c is = All-cons (λ b. is_blank b ≡ true) c [] is (All-nil (λ b. is_blank b ≡ true))
+    ∙ ap (λ l. l ++ words_in rest)
+    (sym (ap words_in is ∙ words-white front blank [] refl ∙ append-nil (words_in front)))
 
 -- ---- words
 
@@ -122,5 +122,6 @@ lines-words [] are = refl
 lines-words (line ∷ lines) are =
     ap (λ l. l ++ flat_map (λ l. words_in (covered l)) lines)
     (covered-words line (All-head (All IsPiece) line lines are))
-    ∙ ap (λ l. flat_map words_of_tile line ++ l) (lines-words lines (All-tail (All IsPiece) line lines are))
+    ∙ ap (λ l. flat_map words_of_tile line ++ l)
+    (lines-words lines (All-tail (All IsPiece) line lines are))
     ∙ sym (flat_map-append words_of_tile line (flat lines))

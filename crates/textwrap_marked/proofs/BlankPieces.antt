@@ -44,8 +44,8 @@ words-all P each options first lines =
     (pieces-blank options first.starred (words_of lines)))
 
 -- what holds of all pieces holds of those of each line
-flat-all : (P : WordText → Type 0) (lines : List (List WordText)) → All P (flat_map (λ l. l) lines)
-    → All (All P) lines
+pub flat-all : {X : Type 0} (P : X → Type 0) (lines : List (List X))
+    → All P (flat_map (λ l. l) lines) → All (All P) lines
 flat-all P [] all = All-nil (All P)
 flat-all P (line ∷ lines) all =
     All-cons (All P) line lines (all-left P line (flat_map (λ l. l) lines) all)

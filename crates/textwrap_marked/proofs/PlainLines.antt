@@ -1,10 +1,12 @@
 -- The words of the lines of a text are plain: bytes between white.
 use Rattle.textwrap_base.proofs.Common.{◌≡◌, ℕ, ◌+◌, ◌-◌, ◌≤◌, Bool, true, false, cond, List, []}
 use Rattle.textwrap_base.proofs.Common.{◌∷◌, All, All-cons, All-drop, All-head, All-nil, All-tail, ap}
-use Rattle.textwrap_base.proofs.Common.{arith, drop, drop-drop, length, ltb-true, nat_lt, refl, ◌==◌}
+use Rattle.textwrap_base.proofs.Common.{arith, sym, drop, drop-drop, length, ltb-true, nat_lt, refl, ◌==◌}
 use Rattle.textwrap_base.proofs.Common.{slice_split, subst, ⊤}
+use Rattle.textwrap_marked.proofs.BlankPieces.{flat-all}
+use Rattle.textwrap_marked.proofs.TextParts.{blocks-flat}
 use Rattle.textwrap_marked.proofs.WordsIn.{IsPlain}
-use Rattle.textwrap_marked.specs.Blocks.{blocks, goes_on, with_line}
+use Rattle.textwrap_marked.specs.Blocks.{blocks}
 use Rattle.textwrap_marked.specs.Lines.{entered, first_state, line_of, lines_of, LineText, passed}
 use Rattle.textwrap_marked.specs.Lines.{read_lines, StateText, with_titles, without_returns}
 use Rattle.textwrap_marked.specs.Prefixes.{lead_len, prefix_ends}
@@ -94,32 +96,10 @@ titles-plain (line ∷ next ∷ lines) all =
 abbrev pub IsPlainBlock : List LineText → Type 0
 IsPlainBlock = All IsPlainLine
 
-with_line-plain : (line : LineText) (bs : List (List LineText)) → IsPlainLine line
-    → All IsPlainBlock bs → All IsPlainBlock (with_line line bs)
-with_line-plain line [] is all =
-    All-cons IsPlainBlock (line ∷ []) [] (All-cons IsPlainLine line [] is (All-nil IsPlainLine)) all
-with_line-plain line ([] ∷ bs) is all =
-    All-cons IsPlainBlock (line ∷ []) bs (All-cons IsPlainLine line [] is (All-nil IsPlainLine))
-    (All-tail IsPlainBlock [] bs all)
-with_line-plain line ((next ∷ lines) ∷ bs) is all =
-    elim (goes_on line next) as (λ b. All IsPlainBlock
-    (cond b ((line ∷ next ∷ lines) ∷ bs) ((line ∷ []) ∷ (next ∷ lines) ∷ bs))) [
-      | true ↦ All-cons IsPlainBlock (line ∷ next ∷ lines) bs
-          (All-cons IsPlainLine line (next ∷ lines) is (All-head IsPlainBlock (next ∷ lines) bs all))
-          (All-tail IsPlainBlock (next ∷ lines) bs all)
-      | false ↦ All-cons IsPlainBlock (line ∷ []) ((next ∷ lines) ∷ bs)
-          (All-cons IsPlainLine line [] is (All-nil IsPlainLine)) all
-    ]
-
-blocks-plain : (lines : List LineText) → All IsPlainLine lines → All IsPlainBlock (blocks lines)
-blocks-plain [] all = All-nil IsPlainBlock
-blocks-plain (line ∷ lines) all =
-    with_line-plain line (blocks lines) (All-head IsPlainLine line lines all)
-    (blocks-plain lines (All-tail IsPlainLine line lines all))
-
 pub text-plain : (options : ReflowOptions) (text : List ℕ)
     → All IsPlainBlock (blocks (lines_of options text))
 text-plain options text =
     let lines = read_lines options first_state (slice_split (λ c. c == 10) text) in
-    blocks-plain (with_titles lines)
-    (titles-plain lines (read-plain options first_state (slice_split (λ c. c == 10) text)))
+    let blocks = blocks (with_titles lines) in
+    flat-all IsPlainLine blocks (subst (All IsPlainLine) (sym (blocks-flat (with_titles lines)))
+    (titles-plain lines (read-plain options first_state (slice_split (λ c. c == 10) text))))

@@ -2,6 +2,8 @@
 use Rattle.textwrap_base.proofs.Common.{◌≡◌, ℕ, Bool, true, false, cond, List, [], ◌∷◌, ◌++◌}
 use Rattle.textwrap_base.proofs.Common.{append_assoc, append-nil, ap, flat_map, None, refl, sym, ◌∙◌}
 use Rattle.textwrap_base.proofs.Common.{arith, join_with_byte, length, lt-ltb, nat_lt, slice_split, ◌==◌}
+use Rattle.std.proofs.lemmas.Grind.{flat_map-append}
+use Rattle.textwrap_base.proofs.Lists.Parts.{flat}
 use Rattle.std.proofs.lemmas.List.Splits.{join_with_byte-slice_split}
 use Rattle.textwrap_marked.specs.Blocks.{blocks, goes_on, is_beside, with_line}
 use Rattle.textwrap_marked.specs.Laws.{parts_from, source, text_parts}
@@ -31,37 +33,36 @@ titles-text [] = refl
 titles-text (line ∷ []) = refl
 titles-text (line ∷ next ∷ lines) = ap (λ l. kept_line None line ++ l) (titles-text (next ∷ lines))
 
-with_line-text : (line : LineText) (bs : List (List LineText))
-    → flat_map lines-text (with_line line bs) ≡ kept_line None line ++ flat_map lines-text bs
-with_line-text line [] = append-nil (kept_line None line ++ [])
-with_line-text line ([] ∷ bs) = append_assoc (kept_line None line) [] (flat_map lines-text bs)
-with_line-text line ((next ∷ lines) ∷ bs) =
-    let front = kept_line None line in
-    let block = lines-text (next ∷ lines) in
-    let rest = flat_map lines-text bs in
-    elim (goes_on line next) as (λ b. flat_map lines-text
-    (cond b ((line ∷ next ∷ lines) ∷ bs) ((line ∷ []) ∷ (next ∷ lines) ∷ bs))
-    ≡ front ++ (block ++ rest)) [
-      | true ↦ append_assoc front block rest
-      | false ↦ append_assoc front [] (block ++ rest)
+with_line-flat : (line : LineText) (bs : List (List LineText))
+    → flat (with_line line bs) ≡ line ∷ flat bs
+with_line-flat line [] = refl
+with_line-flat line ([] ∷ bs) = refl
+with_line-flat line ((next ∷ lines) ∷ bs) =
+    elim (goes_on line next) as (λ b. flat (cond b ((line ∷ next ∷ lines) ∷ bs)
+    ((line ∷ []) ∷ (next ∷ lines) ∷ bs)) ≡ line ∷ next ∷ (lines ++ flat bs)) [
+      | true ↦ refl
+      | false ↦ refl
     ]
 
-blocks-text : (lines : List LineText) → flat_map lines-text (blocks lines) ≡ lines-text lines
-blocks-text [] = refl
-blocks-text (line ∷ lines) =
-    with_line-text line (blocks lines) ∙ ap (λ l. kept_line None line ++ l) (blocks-text lines)
+-- the lines of all blocks are the lines
+pub blocks-flat : (lines : List LineText) → flat (blocks lines) ≡ lines
+blocks-flat [] = refl
+blocks-flat (line ∷ lines) =
+    with_line-flat line (blocks lines) ∙ ap (λ l. line ∷ l) (blocks-flat lines)
 
 parts-text : (beside : Bool) (bs : List (List LineText))
-    → flat_map source (parts_from beside bs) ≡ flat_map lines-text bs
+    → flat_map source (parts_from beside bs) ≡ lines-text (flat bs)
 parts-text beside [] = refl
 parts-text beside ([] ∷ bs) = parts-text beside bs
 parts-text beside ((first ∷ lines) ∷ bs) =
     ap (λ l. lines-text (first ∷ lines) ++ l) (parts-text (is_beside first bs) bs)
+    ∙ sym (flat_map-append (kept_line None) (first ∷ lines) (flat bs))
 
 pub text-parts : (options : ReflowOptions) (text : List ℕ)
     → text ≡ flat_map source (text_parts options text)
 text-parts options text =
     let raws = slice_split (λ c. c == 10) text in
     let lines = read_lines options first_state raws in
-    sym (parts-text false (blocks (with_titles lines)) ∙ blocks-text (with_titles lines)
+    sym (parts-text false (blocks (with_titles lines))
+    ∙ ap lines-text (blocks-flat (with_titles lines))
     ∙ titles-text lines ∙ read-text options first_state raws ∙ join_with_byte-slice_split 10 text)

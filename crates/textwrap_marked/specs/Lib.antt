@@ -8,3 +8,4 @@ pub mod Lines
 pub mod Blocks
 pub mod Pieces
 pub mod Reflow
+pub mod Laws

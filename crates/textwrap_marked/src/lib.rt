@@ -8,6 +8,7 @@ mod blocks;
 mod columns;
 mod fences;
 mod filling;
+pub mod laws;
 mod lines;
 mod marks;
 mod options;

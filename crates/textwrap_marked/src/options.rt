@@ -1,5 +1,5 @@
 //! How a text is laid out again.
-ghost use Rattle.std.specs.Prelude.{◌≡◌};
+ghost use Rattle.std.specs.Prelude.{◌≡◌, [], false, None};
 ghost use Rattle.textwrap_marked.specs.Marks.{is_among, is_comment, is_comment_at};
 
 use crate::marks::{is_line_comment, is_opening};
@@ -36,6 +36,35 @@ pub struct ReflowOptions<'a> {
     pub prefixes: &'a [&'a str],
     /// Whether text is filled that is deeper than the text before it.
     pub indented: bool,
+}
+
+impl ReflowOptions<'static> {
+    ghost use Rattle.textwrap_marked.specs.declared.options.Algorithm.TheVariants.{FirstFit};
+
+    /// Lines of so many columns, by first fit, that end as the text does. Nothing is declared: all
+    /// marks of comments count, block comments have `*`, and all paragraphs are filled but the
+    /// deeper ones.
+    pub fn new(width: usize) -> Self
+        ensures width { result.width ≡ width }
+        ensures algorithm { result.algorithm ≡ FirstFit }
+        ensures ending { result.ending ≡ None }
+        ensures markdown { result.markdown ≡ false }
+        ensures markers { result.markers.now ≡ [] }
+        ensures bare { result.bare ≡ false }
+        ensures prefixes { result.prefixes.now ≡ [] }
+        ensures indented { result.indented ≡ false }
+    {
+        ReflowOptions {
+            width,
+            algorithm: Algorithm::FirstFit,
+            ending: None,
+            markdown: false,
+            markers: &[],
+            bare: false,
+            prefixes: &[],
+            indented: false,
+        }
+    }
 }
 
 impl<'a> ReflowOptions<'a> {

@@ -320,5 +320,5 @@ fn a_large_text_is_filled(rt: HostRuntime) {
     let wanted = "> one two three\n> four five\n\n"
         .repeat(rt.alloc(), MANY)
         .expect(&rt, "text");
-    assert_becomes(&rt, "large", &AT_16, &text, &wanted);
+    assert_becomes(&rt, "large", &ReflowOptions::new(16), &text, &wanted);
 }

@@ -1,0 +1,53 @@
+-- What becomes of a text is one text.
+use Rattle.textwrap_base.proofs.Common.{◌≡◌, ℕ, Bool, true, false, List, [], ◌∷◌, ◌++◌}
+use Rattle.textwrap_base.proofs.Common.{sym, ap, ◌∙◌, priced_at, drop}
+use Rattle.textwrap_base.proofs.Cost.Unique.{by_table_one}
+use Rattle.textwrap_base.proofs.Division.Unique.{greedy_unique}
+use Rattle.textwrap_words.proofs.Common.{Algorithm, Greedy, LeastCost, IsDividedBy, sizes_of, WordText}
+use Rattle.textwrap_lines.specs.LineEnding.{ending_bytes}
+use Rattle.textwrap_marked.specs.Blocks.{blocks, is_beside}
+use Rattle.textwrap_marked.specs.Lines.{LineText, lines_of}
+use Rattle.textwrap_marked.specs.Reflow.{algorithm_of, byte_order_mark, filled_end, filled_ending}
+use Rattle.textwrap_marked.specs.Reflow.{IsLaidOut, IsOfBlock, IsReflowedBehind, IsReflowedFrom, printed}
+use Rattle.textwrap_marked.specs.declared.options.ReflowOptions.{ReflowOptions}
+
+divided-one : (algorithm : Algorithm) (widths : List ℕ) (xs : List WordText)
+    (lines others : List (List WordText)) → IsDividedBy algorithm sizes_of widths xs lines
+    → IsDividedBy algorithm sizes_of widths xs others → lines ≡ others
+divided-one Greedy widths xs lines others one other =
+    greedy_unique sizes_of widths xs lines others one other
+divided-one (LeastCost penalties) widths xs lines others one other =
+    by_table_one (λ x. priced_at penalties (sizes_of x)) penalties widths xs lines others one.by_table
+    other.by_table
+
+module _ (options : ReflowOptions) (ending : List ℕ) where
+  block-one : (stays : Bool) (first : LineText) (lines : List LineText) (text other : List ℕ)
+      → IsOfBlock options ending stays first lines text
+      → IsOfBlock options ending stays first lines other → text ≡ other
+  block-one true first lines text other is same = is ∙ sym same
+  block-one false first lines text other (division, divided, is) (second, by, same) =
+      is ∙ ap (λ d. printed ending first.prefix first.hanging d ++ filled_end ending lines)
+      (divided-one (algorithm_of options.algorithm) _ _ division second divided by) ∙ sym same
+
+  laid-one : (beside : Bool) (bs : List (List LineText)) (text other : List ℕ)
+      → IsLaidOut options ending beside bs text → IsLaidOut options ending beside bs other
+      → text ≡ other
+  laid-one beside [] text other is same = is ∙ sym same
+  laid-one beside ([] ∷ bs) text other is same = laid-one beside bs text other is same
+  laid-one beside ((first ∷ lines) ∷ bs) text other (front, back, of, later, is)
+      (begin, rest, by, more, same) =
+      is ∙ ap (λ l. l ++ back) (block-one _ first (first ∷ lines) front begin of by)
+      ∙ ap (λ l. begin ++ l) (laid-one (is_beside first bs) bs back rest later more) ∙ sym same
+
+from-one : (options : ReflowOptions) (text first second : List ℕ)
+    → IsReflowedFrom options text first → IsReflowedFrom options text second → first ≡ second
+from-one options text first second of by =
+    laid-one options (ending_bytes (filled_ending options.ending text)) false
+    (blocks (lines_of options text)) first second of by
+
+pub behind-one : (marked : Bool) (options : ReflowOptions) (text first second : List ℕ)
+    → IsReflowedBehind marked options text first → IsReflowedBehind marked options text second
+    → first ≡ second
+behind-one true options text first second (rest, of, is) (other, by, same) =
+    is ∙ ap (λ l. byte_order_mark ++ l) (from-one options (drop 3 text) rest other of by) ∙ sym same
+behind-one false options text first second of by = from-one options text first second of by

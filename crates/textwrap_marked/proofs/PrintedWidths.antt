@@ -1,0 +1,75 @@
+-- What the printed lines of a paragraph keep to.
+use Rattle.textwrap_base.proofs.Common.{◌≡◌, ℕ, ◌+◌, ◌-◌, ◌<◌, ◌≤◌, List, []}
+use Rattle.textwrap_base.proofs.Common.{◌∷◌, All, All-cons, All-head, All-nil, All-tail}
+use Rattle.textwrap_base.proofs.Common.{AllFit, AreEqualFromSecond, arith, closed_width}
+use Rattle.textwrap_base.proofs.Common.{Fits, inl, inr, length, length-drop, refl, reverse}
+use Rattle.textwrap_base.proofs.Common.{reverse-append, subst, sym, ap, ◌∙◌, take_all}
+use Rattle.std.specs.List.{prefix_len, suffix_len}
+use Rattle.std.proofs.lemmas.List.Sums.{suffix_len-le-length}
+use Rattle.textwrap_base.specs.Division.{IsDivision}
+use Rattle.textwrap_base.proofs.Division.SameWidths.{line_width-later}
+use Rattle.textwrap_words.proofs.Common.{blank, is_blank, sizes_of, trimmed_len, word_of, WordText}
+use Rattle.textwrap_marked.proofs.BlankPieces.{division-all, EndsInBlank, words-all}
+use Rattle.textwrap_marked.specs.Columns.{columns}
+use Rattle.textwrap_marked.specs.Laws.{AreWithin, IsWithin, piece_words}
+use Rattle.textwrap_marked.specs.Lines.{LineText}
+use Rattle.textwrap_marked.specs.declared.options.ReflowOptions.{ReflowOptions}
+
+abbrev HasBlank : WordText → Type 0
+HasBlank w = 0 < length w.whitespace
+
+word-blank : (text : List ℕ) → EndsInBlank text → HasBlank (word_of text)
+word-blank text (front, is) =
+    let long : 0 < suffix_len is_blank text = subst (λ l. 0 < prefix_len is_blank l)
+    (sym (ap reverse is ∙ reverse-append front (blank ∷ []))) (omega arith) in
+    omega (arith, length-drop (trimmed_len text) text, suffix_len-le-length is_blank text, long)
+
+-- ---- first fit
+
+line-within : (width : ℕ) (prefix : List ℕ) (line : List WordText) → All HasBlank line
+    → Fits sizes_of (width - columns prefix) line → IsWithin width prefix line
+line-within width prefix [] all fits = inl (omega arith)
+line-within width prefix (w ∷ []) all fits = inl (omega arith)
+line-within width prefix (w ∷ v ∷ ws) all fits =
+    let line = w ∷ v ∷ ws in
+    let closed = subst (λ l. closed_width sizes_of l ≤ width - columns prefix)
+    (take_all (length line) line (omega arith)) (fits (length line) (omega arith) (omega arith)) in
+    inr (omega (arith, closed, All-head HasBlank w (v ∷ ws) all))
+
+later-within : (width first number : ℕ) (prefix : List ℕ) (lines : List (List WordText))
+    → All (All HasBlank) lines
+    → AllFit sizes_of (first ∷ (width - columns prefix) ∷ []) (number + 1) lines
+    → All (IsWithin width prefix) lines
+later-within width first number prefix [] all fit = All-nil (IsWithin width prefix)
+later-within width first number prefix (line ∷ lines) all fit =
+    All-cons (IsWithin width prefix) line lines
+    (line-within width prefix line (All-head (All HasBlank) line lines all)
+    (subst (λ w. Fits sizes_of w line) (line_width-later first (width - columns prefix) number) fit.0))
+    (later-within width first (number + 1) prefix lines (All-tail (All HasBlank) line lines all) fit.1)
+
+lines-within : (width : ℕ) (first later : List ℕ) (lines : List (List WordText))
+    → All (All HasBlank) lines
+    → AllFit sizes_of ((width - columns first) ∷ (width - columns later) ∷ []) 0 lines
+    → AreWithin width first later lines
+lines-within width first later [] all fit = tt
+lines-within width first later (line ∷ lines) all fit = (
+  line-within width first line (All-head (All HasBlank) line lines all) fit.0,
+  later-within width (width - columns first) 0 later lines
+      (All-tail (All HasBlank) line lines all) fit.1,
+)
+
+pub printed-within : (options : ReflowOptions) (first : LineText) (lines : List LineText)
+    (division : List (List WordText)) → IsDivision (piece_words options first lines) division
+    → AllFit sizes_of
+    ((options.width - columns first.prefix) ∷ (options.width - columns first.hanging) ∷ []) 0 division
+    → AreWithin options.width first.prefix first.hanging division
+printed-within options first lines division is fit =
+    lines-within options.width first.prefix first.hanging division
+    (division-all HasBlank (piece_words options first lines) division
+    (words-all HasBlank word-blank options first lines) is) fit
+
+-- ---- least cost
+
+-- two widths are equal from the second on
+pub two-widths : (first later : ℕ) → AreEqualFromSecond (first ∷ later ∷ [])
+two-widths first later = λ k more within. let one : k ≡ 1 = omega (arith, more, within) in rw one refl

@@ -1,0 +1,8 @@
+use Rattle.textwrap_marked.proofs.laws.least_cost_is_least.Goals as goal
+use Rattle.textwrap_marked.proofs.FilledParts.{costs-least}
+use Rattle.textwrap_marked.proofs.NewParts.{new-parts}
+use Rattle.textwrap_marked.specs.Laws.{CostsLeast}
+
+pub returns : goal.returns
+returns c = λ options penalties text reflowed least.
+    new-parts options (CostsLeast options penalties) (costs-least options penalties least) text reflowed

@@ -1,0 +1,184 @@
+-- The statements of the laws, each under a name that a caller can cite.
+use Rattle.std.specs.Prelude.{◌≡◌, ℕ, ◌+◌, ◌-◌, ◌≤◌, ◌⊎◌, ◌||◌, Bool, true, false, List, [], ◌∷◌}
+use Rattle.std.specs.Prelude.{◌++◌, All, if◌then◌else◌, length, map, nat_eq, None, ⊤}
+use Rattle.std.specs.List.{flat_map, slice_split, starts_with}
+use Rattle.textwrap_base.specs.Cost.{division_cost, priced_at}
+use Rattle.textwrap_base.specs.Division.{closed_width, IsDivision}
+use Rattle.textwrap_base.specs.declared.penalties.Penalties.{Penalties}
+use Rattle.textwrap_words.specs.Words.{WordText, sizes_of, word_of}
+use Rattle.textwrap_lines.specs.LineEnding.{ending_bytes}
+use Rattle.textwrap_marked.specs.Blocks.{blocks, is_beside, stays}
+use Rattle.textwrap_marked.specs.Columns.{columns}
+use Rattle.textwrap_marked.specs.Lines.{LineText, lines_of}
+use Rattle.textwrap_marked.specs.Pieces.{pieces, words_of}
+use Rattle.textwrap_marked.specs.Reflow.{byte_order_mark, filled_end, filled_ending}
+use Rattle.textwrap_marked.specs.Reflow.{IsReflowed, kept_line, kept_text, printed}
+use Rattle.textwrap_marked.specs.Words.{has_bytes, is_white}
+use Rattle.textwrap_marked.specs.declared.options.Algorithm.TheVariants.{FirstFit, LeastCost}
+use Rattle.textwrap_marked.specs.declared.options.ReflowOptions.{ReflowOptions}
+
+-- a text becomes one text at the same options
+abbrev pub ReflowedTextsAreUnique : Type 0
+ReflowedTextsAreUnique =
+    (options : ReflowOptions) (text first second : List ℕ)
+    → IsReflowed options text first → IsReflowed options text second → first ≡ second
+
+-- ---- the parts of a text
+
+-- a block of a text, by its first line and all of them, and whether it stays
+pub record Part : Type 0 where
+  pub stays : Bool
+  pub first : LineText
+  pub lines : List LineText
+
+-- blocks as parts, where a field stands beside the first of them, if it is one
+abbrev pub parts_from : Bool → List (List LineText) → List Part
+parts_from beside [] = []
+parts_from beside ([] ∷ blocks) = parts_from beside blocks
+parts_from beside ((first ∷ lines) ∷ blocks) =
+    record {
+      stays = stays (beside || is_beside first blocks) first;
+      first = first;
+      lines = first ∷ lines;
+    } ∷ parts_from (is_beside first blocks) blocks
+
+abbrev pub text_parts : ReflowOptions → List ℕ → List Part
+text_parts options text = parts_from false (blocks (lines_of options text))
+
+-- a part as it stands in the text
+abbrev pub source : Part → List ℕ
+source part = flat_map (kept_line None) part.lines
+
+-- the new text is that of each part, one after the other
+abbrev pub AreNewParts : (Part → List ℕ → Type 0) → List Part → List ℕ → Type 0
+AreNewParts IsNew [] text = text ≡ []
+AreNewParts IsNew (part ∷ parts) text =
+    (front : List ℕ) × (back : List ℕ)
+    × IsNew part front × AreNewParts IsNew parts back × (text ≡ front ++ back)
+
+-- both texts begin with the same byte order mark, or none; what follows it in the one is its parts, and
+-- in the other what becomes of each, where filled lines end so
+abbrev pub AreOfParts : (List ℕ → Part → List ℕ → Type 0) → ReflowOptions → List ℕ → List ℕ → Type 0
+AreOfParts IsNew options text reflowed =
+    (mark : List ℕ) × (rest : List ℕ) × (new : List ℕ)
+    × (mark ≡ (if starts_with nat_eq text byte_order_mark then byte_order_mark else []))
+    × (text ≡ mark ++ rest) × (reflowed ≡ mark ++ new)
+    × (rest ≡ flat_map source (text_parts options rest))
+    × AreNewParts (IsNew (ending_bytes (filled_ending options.ending rest)))
+    (text_parts options rest) new
+
+-- ---- what stays, and what is behind prefixes
+
+-- lines, the first behind one prefix, each later one behind an ending and the other, and this behind
+-- the last of them
+abbrev pub lines_behind : List ℕ → List ℕ → List ℕ → List ℕ → List (List ℕ) → List ℕ → List ℕ
+lines_behind ending first later line lines end =
+    (first ++ line) ++ flat_map (λ l. (ending ++ later) ++ l) lines ++ end
+
+-- a part that stays is as it was; each other is lines, the first behind its prefix, each later one
+-- behind the hanging form
+abbrev pub IsKeptOrBehind : List ℕ → Part → List ℕ → Type 0
+IsKeptOrBehind ending part text = of part.stays
+  where
+    of : Bool → Type 0
+    of true = text ≡ source part
+    of false =
+        (line : List ℕ) × (lines : List (List ℕ))
+        × (text ≡ lines_behind ending part.first.prefix part.first.hanging line lines
+        (filled_end ending part.lines))
+
+-- part by part what stays is as it was, and all else is behind its prefixes, if no ending is asked for
+abbrev pub WhatStandsApartStays : Type 0
+WhatStandsApartStays =
+    (options : ReflowOptions) (text reflowed : List ℕ)
+    → options.ending ≡ None → IsReflowed options text reflowed
+    → AreOfParts IsKeptOrBehind options text reflowed
+
+-- words between white
+abbrev pub words_in : List ℕ → List (List ℕ)
+words_in text = flat_map (λ w. if has_bytes w then w ∷ [] else []) (slice_split is_white text)
+
+-- a part that stays has at most other endings; each other has its words, in order, in lines behind its
+-- prefixes
+abbrev pub KeepsWords : ReflowOptions → List ℕ → Part → List ℕ → Type 0
+KeepsWords options ending part text = of part.stays
+  where
+    of : Bool → Type 0
+    of true = text ≡ kept_text options part.lines
+    of false =
+        (line : List ℕ) × (lines : List (List ℕ))
+        × (text ≡ lines_behind ending part.first.prefix part.first.hanging line lines
+        (filled_end ending part.lines))
+        × (flat_map words_in (line ∷ lines) ≡ words_of part.lines)
+
+-- part by part the words of each paragraph are those of its lines, and all else stays
+abbrev pub WordsAreKept : Type 0
+WordsAreKept =
+    (options : ReflowOptions) (text reflowed : List ℕ)
+    → IsReflowed options text reflowed → AreOfParts (KeepsWords options) options text reflowed
+
+-- ---- the lines of a paragraph
+
+-- the pieces of a paragraph, as words
+abbrev pub piece_words : ReflowOptions → LineText → List LineText → List WordText
+piece_words options first lines = map word_of (pieces options first.starred (words_of lines))
+
+-- the text of a paragraph is that of this division of its pieces
+abbrev pub IsPrinted : ReflowOptions → List ℕ → Part → List ℕ → List (List WordText) → Type 0
+IsPrinted options ending part text division =
+    IsDivision (piece_words options part.first part.lines) division
+    × (text ≡ printed ending part.first.prefix part.first.hanging division
+    ++ filled_end ending part.lines)
+
+-- one piece, or what takes no more than the width behind this prefix
+abbrev pub IsWithin : ℕ → List ℕ → List WordText → Type 0
+IsWithin width prefix line =
+    (length line ≤ 1) ⊎ (columns prefix + closed_width sizes_of line ≤ width)
+
+-- the first line behind one prefix, and each later one behind the other
+abbrev pub AreWithin : ℕ → List ℕ → List ℕ → List (List WordText) → Type 0
+AreWithin width first later [] = ⊤
+AreWithin width first later (line ∷ lines) =
+    IsWithin width first line × All (IsWithin width later) lines
+
+-- a part that does not stay keeps to the width
+abbrev pub KeepsToWidth : ReflowOptions → List ℕ → Part → List ℕ → Type 0
+KeepsToWidth options ending part text = of part.stays
+  where
+    of : Bool → Type 0
+    of true = ⊤
+    of false =
+        (division : List (List WordText)) × IsPrinted options ending part text division
+        × AreWithin options.width part.first.prefix part.first.hanging division
+
+-- by first fit each printed line of a paragraph, with its prefix, keeps to the width, or is one piece
+abbrev pub FirstFitKeepsToWidth : Type 0
+FirstFitKeepsToWidth =
+    (options : ReflowOptions) (text reflowed : List ℕ)
+    → options.algorithm ≡ FirstFit → IsReflowed options text reflowed
+    → AreOfParts (KeepsToWidth options) options text reflowed
+
+-- what its prefixes leave of the width, for the first line and for the later ones
+abbrev pub widths_left : ReflowOptions → LineText → List ℕ
+widths_left options first =
+    (options.width - columns first.prefix) ∷ (options.width - columns first.hanging) ∷ []
+
+-- of a part that does not stay no other division of its pieces costs less, at these penalties
+abbrev pub CostsLeast : ReflowOptions → Penalties → List ℕ → Part → List ℕ → Type 0
+CostsLeast options penalties ending part text = of part.stays
+  where
+    of : Bool → Type 0
+    of true = ⊤
+    of false =
+        let all = piece_words options part.first part.lines in
+        let cost = division_cost (λ piece. priced_at penalties (sizes_of piece)) penalties
+        (widths_left options part.first) (length all) in
+        (division : List (List WordText)) × IsPrinted options ending part text division
+        × ((others : List (List WordText)) → IsDivision all others → cost division ≤ cost others)
+
+-- by least cost no other division of a paragraph's pieces costs less
+abbrev pub LeastCostIsLeast : Type 0
+LeastCostIsLeast =
+    (options : ReflowOptions) (penalties : Penalties) (text reflowed : List ℕ)
+    → options.algorithm ≡ LeastCost penalties → IsReflowed options text reflowed
+    → AreOfParts (CostsLeast options penalties) options text reflowed

@@ -1,0 +1,38 @@
+//! Laws of the definitions that the contracts cite. Each is the contract of a function that does
+//! nothing, so that a proof may call on it.
+//!
+//! A law has no example: its statement is all there is to it. A call is written
+//! `reflowed_texts_are_unique();`.
+ghost use Rattle.textwrap_marked.specs.Laws.{FirstFitKeepsToWidth, LeastCostIsLeast};
+ghost use Rattle.textwrap_marked.specs.Laws.{ReflowedTextsAreUnique, WhatStandsApartStays, WordsAreKept};
+
+/// A text becomes one text at the same options: the one that `reflow` returns.
+pub fn reflowed_texts_are_unique()
+    ensures { ReflowedTextsAreUnique }
+{}
+
+/// By first fit, each printed line of a paragraph keeps to the width, with the columns of its prefix,
+/// or is one piece.
+pub fn first_fit_keeps_to_width()
+    ensures { FirstFitKeepsToWidth }
+{}
+
+/// By least cost, the lines of a paragraph are the cheapest of all divisions of its pieces, at the
+/// penalties of the options.
+pub fn least_cost_is_least()
+    ensures { LeastCostIsLeast }
+{}
+
+/// The new text is, part by part, the blocks of the text in order: a block that stays is in it byte for
+/// byte, if no ending is asked for, and each other begins with its prefix, and each later line of it
+/// with the hanging form.
+pub fn what_stands_apart_stays()
+    ensures { WhatStandsApartStays }
+{}
+
+/// Nothing is lost or mixed: the new text is, part by part, the blocks of the text in order. Those that
+/// stay have at most other endings, and the lines of each paragraph, behind its prefix and the hanging
+/// form, have the words of its lines in order.
+pub fn words_are_kept()
+    ensures { WordsAreKept }
+{}

@@ -4,7 +4,7 @@ use Rattle.std.specs.Prelude.{if◌then◌else◌}
 use Rattle.textwrap_marked.specs.Lines.{LineText}
 use Rattle.textwrap_marked.specs.Signs.{first_word, opens_paragraph}
 
--- a line goes on with the one before it: its prefix is the hanging form of that one's
+-- a line belongs to the paragraph of the one above: the hanging form there is its prefix
 abbrev pub goes_on : LineText → LineText → Bool
 goes_on line next =
     not line.apart && not next.apart && not line.ended && bytes_eq next.prefix line.hanging

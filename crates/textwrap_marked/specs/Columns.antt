@@ -11,7 +11,7 @@ use Rattle.textwrap_marked.specs.declared.columns.Depth.{Depth}
 abbrev pub plus_columns : ℕ → ℕ → ℕ
 plus_columns at more = min (at + more) (2 ^ 64 - 1)
 
--- a tab goes on to the next multiple of eight
+-- where a tab leads: the next column that eight divides
 abbrev pub next_stop : ℕ → ℕ
 next_stop at = plus_columns at (8 - at % 8)
 
@@ -61,8 +61,8 @@ depth_of prefix = record {
   behind = columns prefix - columns (without_final_white prefix);
 }
 
--- a margin has so many columns of white more than the text before: behind the same marks, or, without
--- marks, before any
+-- so many columns of white more than before: after its marks, which are the same, or where there are no
+-- marks, in front
 abbrev pub is_deeper : ℕ → DepthText → DepthText → Bool
 is_deeper by before own =
     if has_bytes own.marks

@@ -99,7 +99,7 @@ is_prompt word = bytes_eq word (codes "$") || bytes_eq word (codes ">>>")
 abbrev pub has_words : List SpacedText → Bool
 has_words words = not (length words == 0)
 
--- behind a text that ends in `::` or begins with `..`, one column is enough
+-- by one column, if the text above begins with `..` or ends in `::`, and else by four
 abbrev pub deeper_by : List SpacedText → ℕ
 deeper_by words =
     if ends_with nat_eq (last_word words) (codes "::") || bytes_eq (first_word words) (codes "..")

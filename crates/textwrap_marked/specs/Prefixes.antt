@@ -65,7 +65,7 @@ hanging_mark bare word =
 abbrev pub hanging_comments : Bool → List SpacedText → List ℕ
 hanging_comments bare words = flat_map (λ w. hanging_mark bare w.word ++ w.white) words
 
--- blanks of as many columns for each bullet
+-- each bullet as blanks, as wide as it is
 abbrev pub hanging_bullets : List SpacedText → List ℕ
 hanging_bullets words = flat_map (λ w. blanks (text_width w.word) ++ w.white) words
 

@@ -92,7 +92,7 @@ abbrev pub first_ending : List (List ℕ) → LineEnding
 first_ending [] = LF
 first_ending (line ∷ lines) = ending_of line (nat_lt 0 (length lines))
 
--- filled lines end as is asked for, or as the first line of the text does
+-- the ending of filled lines: the one that is asked for, else that of the first line
 abbrev pub filled_ending : Option LineEnding → List ℕ → LineEnding
 filled_ending (Some ending) text = ending
 filled_ending None text = first_ending (slice_split (λ c. c == 10) text)

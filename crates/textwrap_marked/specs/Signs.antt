@@ -48,7 +48,7 @@ abbrev pub is_sign_byte : ℕ → Bool
 is_sign_byte c =
     c == 35 || c == 59 || c == 37 || c == 62 || c == 60 || c == 124 || c == 61 || c == 46
 
--- what a renderer or a compiler may read by the line
+-- what may mean something at the beginning of a line, to a compiler or in Markdown
 abbrev pub is_sign : List ℕ → Bool
 is_sign word =
     is_sign_byte (slice_index word 0)
@@ -62,12 +62,12 @@ opens_paragraph word =
     is_key word || bytes_eq word (codes "Copyright") || c == 64 || c == 92
     || (c == 58 && not (has_byte 96 word))
 
--- it has a letter, and is no sign; in a block comment without a mark it does not begin with `*`
+-- a word with a letter, but no sign, nor one with `*` in front where a block comment has no marks
 abbrev pub begins_text : Bool → List ℕ → Bool
 begins_text starred word =
     has_letter word && not (is_sign word) && not (starred && slice_index word 0 == 42)
 
--- the word may begin a later line of a paragraph
+-- a paragraph may have a line, after its first, that this word begins
 abbrev pub may_go_on : ReflowOptions → Bool → List ℕ → Bool
 may_go_on options starred word =
     begins_text starred word && not (opens_paragraph word) && not (is_bullet word)
@@ -95,7 +95,7 @@ is_gap w =
     has_byte 9 w.white || nat_lt 2 (length w.white)
     || (length w.white == 2 && not (ends_sentence w.word))
 
--- `|`, a comment behind code, a carriage return, `]:` as behind the label of a link, or `<pre`
+-- `|`, a comment that code stands before, a carriage return, what ends a label of a link, or `<pre`
 abbrev pub is_column_word : List ℕ → Bool
 is_column_word word =
     bytes_eq word (codes "|") || bytes_eq word (codes "//") || bytes_eq word (codes "/*")
@@ -129,7 +129,7 @@ ends_early word =
 abbrev pub closes_early : List SpacedText → Bool
 closes_early words = closes_block (front_of words) || ends_early (last_word words)
 
--- three times or more one character, but no letter, digit, backtick or tilde
+-- one character, three times at least, which is no letter, digit, tilde or backtick
 abbrev pub is_rule_of : Option ℕ → List ℕ → Bool
 is_rule_of None cs = false
 is_rule_of (Some first) cs =

@@ -60,7 +60,7 @@ spaced_text words = flat_map (λ w. w.word ++ w.white) words
 abbrev pub is_alphanumeric : ℕ → Bool
 is_alphanumeric c = is_alphabetic c || is_numeric c
 
--- a letter or a digit is among its characters
+-- some character of it is a letter or a digit
 abbrev pub has_letter : List ℕ → Bool
 has_letter word = list_any is_alphanumeric (chars word)
 

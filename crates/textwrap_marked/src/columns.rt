@@ -9,7 +9,7 @@ use crate::words::{is_white, split_at, split_white};
 use std::alloc::{AllocError, Global};
 use textwrap_words::words::display_width;
 
-/// The columns of a text that begins a line: a tab goes on to the next multiple of eight.
+/// The columns of a text that begins a line, in which a tab reaches the next column that eight divides.
 pub(crate) fn columns(text: &str) -> usize
     ensures { result ≡ columns text.now }
 {

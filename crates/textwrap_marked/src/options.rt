@@ -22,8 +22,8 @@ pub struct ReflowOptions<'a> {
     pub width: usize,
     /// How the words of a paragraph are divided into lines.
     pub algorithm: Algorithm,
-    /// How the lines end: with none, filled lines end as the first line of the text, and the others
-    /// as they did.
+    /// How all lines end. Without one, each line that stays keeps its ending, and filled lines take
+    /// that of the first line of the text.
     pub ending: Option<LineEnding>,
     /// Whether the text has no comments, and `#` is a heading.
     pub markdown: bool,

@@ -64,7 +64,7 @@ fn push_text(
     push_blocks(alloc, output, &lines, ending.as_str(), options)
 }
 
-/// How filled lines end: as is asked for, or as the first line of the text does.
+/// The ending of filled lines: the one that is asked for, else that of the first line.
 fn filled_ending(ending: Option<LineEnding>, text: &str) -> LineEnding
     ensures { result ≡ filled_ending ending text.now }
 {

@@ -77,7 +77,7 @@ pub(crate) fn is_key(word: &str) -> bool
     }
 }
 
-/// Whether a word is one that a renderer or a compiler may read by the line.
+/// Whether a word at the beginning of a line may mean something to a compiler, or in Markdown.
 fn is_sign(word: &str) -> bool
     ensures { result ≡ is_sign word.now }
 {
@@ -114,7 +114,7 @@ pub(crate) fn begins_text(starred: bool, word: &str) -> bool
     has_letter(word) & !is_sign(word) & !(starred & (first_byte(word) == b'*'))
 }
 
-/// Whether a word may begin a later line of a paragraph.
+/// Whether a paragraph may have a line that this word begins, after its first one.
 pub(crate) fn may_go_on(options: &ReflowOptions<'_>, starred: bool, word: &str) -> bool
     ensures { result ≡ may_go_on options.now starred word.now }
 {
@@ -255,7 +255,8 @@ fn is_all(text: &str, ch: char) -> bool
     text.chars().all(|other| other == ch)
 }
 
-/// Whether a word is three times or more this character, but no letter, digit, backtick or tilde.
+/// Whether a word consists of this character, at least three times, which is no letter, digit, tilde or
+/// backtick.
 fn is_rule_of(first: Option<char>, word: &str) -> bool
     ensures { result ≡ is_rule_of first (chars word.now) }
 {
@@ -269,8 +270,8 @@ fn is_rule_of(first: Option<char>, word: &str) -> bool
     }
 }
 
-/// Whether a word is a rule: three times or more one character, but no letter, digit, backtick or
-/// tilde.
+/// Whether a word is a rule: one character, at least three times, which is no letter, digit, tilde or
+/// backtick.
 fn is_rule_word(word: &str) -> bool
     ensures { result ≡ is_rule_characters (chars word.now) }
 {

@@ -4,9 +4,7 @@ pub use Rattle.textwrap_words.proofs.Word.Parts.{inner-cuts}
 use Rattle.textwrap_base.proofs.Common.{◌+◌, ◌-◌, ◌≡◌, ℕ, ◌<◌, ◌≤◌, List, [], ◌∷◌, ◌++◌, length}
 use Rattle.textwrap_base.proofs.Common.{get_or, arith, IsCharBoundary, cases_lt, length_push}
 use Rattle.textwrap_base.proofs.Common.{get_or_default, get_or_push, get_or_append_left, All-nil}
-use Rattle.textwrap_base.proofs.Common.{rules, IsUtf8, Some}
-use Rattle.textwrap_base.proofs.Common.{char_indices_offset}
-use Rattle.textwrap_base.proofs.Common.{length-encode}
+use Rattle.textwrap_base.proofs.Common.{rules, IsUtf8, Some, char_indices_offset, length-encode}
 use Rattle.std.proofs.lemmas.Str.{len_utf8_bounds}
 use Rattle.textwrap_words.proofs.Common.{AreInnerCuts}
 use Rattle.std.specs.List.Sorted.{IsStrictlyIncreasing}
@@ -16,8 +14,8 @@ use Rattle.std.specs.Char.{len_utf8}
 use Rattle.std.specs.Str.Iter.{char_indices_rest, char_indices_steps}
 use Rattle.std.specs.declared.str.CharIndices.{CharIndices}
 use Rattle.textwrap_words.specs.LineEnds.{AreEnds}
-use Rattle.textwrap_base.proofs.Characters.{some-bytes}
-use Rattle.textwrap_words.proofs.Units.ReadPlaces.{IsRead, read-next, read-room, read-start}
+use Rattle.textwrap_base.proofs.Texts.{some-bytes}
+use Rattle.textwrap_words.proofs.Units.Reading.{IsRead, read-next, read-room, read-start}
 use Rattle.std.proofs.lemmas.Grind.{common_steps, elements}
 
 -- the last of the numbers, if there are any, is this one

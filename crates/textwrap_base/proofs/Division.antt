@@ -1,10 +1,3 @@
-pub mod Fewest
 pub mod Greedy
 pub mod Grown
-pub mod GrownLines
 pub mod Map
-pub mod OneLine
-pub mod Rows
-pub mod SameWidths
-pub mod Unique
-pub mod Widths

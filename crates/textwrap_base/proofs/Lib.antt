@@ -1,9 +1,8 @@
-pub mod Characters
 pub mod Common
 pub mod Cost
 pub mod Division
 pub mod Lists
 pub mod Numbers
+pub mod Rows
 pub mod Search
-pub mod Utf8
-pub mod Whitespace
+pub mod Texts

@@ -1,10 +1,2 @@
-pub mod Ends
-pub mod LastOnes
-pub mod Maps
-pub mod Ordered
+pub mod Elements
 pub mod Parts
-pub mod Prefixes
-pub mod Ranges
-pub mod Repeated
-pub mod Rising
-pub mod Slices

@@ -1,12 +1,12 @@
 -- Where lines end that a built-in algorithm finds of pieces, seen by their words.
-use Rattle.textwrap_base.proofs.Common.{◌≡◌, ℕ, ◌+◌, ◌≤◌, ◌⊎◌, List, [], ◌∷◌, length, map, refl, sym}
-use Rattle.textwrap_base.proofs.Common.{ap, ◌∙◌, length-map, Sizes}
-use Rattle.textwrap_base.proofs.Common.{fragments_table, priced_at, total_width}
+use Rattle.textwrap_base.proofs.Common.{◌≡◌, ℕ, ◌+◌, ◌≤◌, ◌⊎◌, List, [], ◌∷◌, length, map, refl}
+use Rattle.textwrap_base.proofs.Common.{sym, ap, ◌∙◌, length-map, Sizes, fragments_table, priced_at}
+use Rattle.textwrap_base.proofs.Common.{total_width}
 use Rattle.std.proofs.lemmas.Simd.{map-map}
 use Rattle.textwrap_base.specs.Algorithms.{Algorithm, Greedy, LeastCost, OverflowsBy}
 use Rattle.textwrap_base.specs.Errors.{Passes128Bits}
 use Rattle.textwrap_base.specs.Table.{entry_at}
-use Rattle.textwrap_base.proofs.Cost.Map.{fragments_table-map}
+use Rattle.textwrap_base.proofs.Cost.Chosen.{fragments_table-map}
 use Rattle.textwrap_base.proofs.Cost.Measures.{total_width-same}
 use Rattle.textwrap_calls.specs.Fragments.{ends_from, ends_of}
 

@@ -15,11 +15,11 @@ use Rattle.textwrap_base.proofs.Division.Map.{IsDividedBy-whole}
 use Rattle.textwrap_words.proofs.Common.{ArePoints, sizes_of, tiled, WordText}
 use Rattle.textwrap_words.proofs.Word.Pieces.{ArePoints-cuts}
 use Rattle.textwrap_lines.proofs.Common.{widths_of}
-use Rattle.textwrap_lines.proofs.Paragraph.GivenPieces.{pieces-tile}
-use Rattle.textwrap_plain.proofs.Wrapped.{texts-at}
-use Rattle.textwrap_lines.proofs.Text.Cuts.{lines_of-cut_lines}
-use Rattle.textwrap_lines.proofs.Text.EndingTexts.{join-paragraphs_of, paragraphs_of-utf8}
-use Rattle.textwrap_lines.proofs.Text.Lossless.{groups-tile}
+use Rattle.textwrap_lines.proofs.Paragraph.Pieces.{pieces-tile}
+use Rattle.textwrap_plain.proofs.Words.{texts-at}
+use Rattle.textwrap_lines.proofs.Text.Sinks.{lines_of-cut_lines}
+use Rattle.textwrap_lines.proofs.Text.Paragraphs.{join-paragraphs_of, paragraphs_of-utf8}
+use Rattle.textwrap_lines.proofs.Text.Groups.{groups-tile}
 use Rattle.textwrap_plain.specs.Options.{words_by}
 use Rattle.textwrap_plain.specs.declared.options.PlainSeparator.{PlainSeparator}
 use Rattle.textwrap_calls.specs.Wrapping.{ShowLines}

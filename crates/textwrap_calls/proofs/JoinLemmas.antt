@@ -1,6 +1,6 @@
 -- Lines that stand where they are shown, joined by an ending.
-use Rattle.textwrap_base.proofs.Common.{◌≡◌, ℕ, ◌+◌, ◌≤◌, nat_lt, cond, List, [], ◌∷◌, ◌++◌}
-use Rattle.textwrap_base.proofs.Common.{length, map, drop, slice_range, refl, sym, ap, subst, ◌∙◌}
+use Rattle.textwrap_base.proofs.Common.{◌≡◌, ℕ, ◌+◌, ◌≤◌, nat_lt, cond, List, [], ◌∷◌, ◌++◌, length}
+use Rattle.textwrap_base.proofs.Common.{map, drop, slice_range, refl, sym, ap, subst, ◌∙◌}
 use Rattle.textwrap_base.proofs.Common.{append_assoc, append-nil, arith, length-append}
 use Rattle.textwrap_lines.proofs.Common.{join_with, Line, line_bytes}
 use Rattle.textwrap_lines.specs.Paragraph.{Slice, Built}

@@ -3,10 +3,10 @@ use Rattle.textwrap_base.proofs.Common.{◌≡◌, ℕ, ◌<◌, ◌||◌, nat_l
 use Rattle.textwrap_base.proofs.Common.{length, map, sym, ap, subst, ◌∙◌, arith, append-nil}
 use Rattle.textwrap_base.proofs.Common.{length-map}
 use Rattle.std.specs.declared.borrow.CowStr.{CowStr}
-use Rattle.textwrap_lines.proofs.Common.{ending_bytes, is_whole, line_from, line_view, paragraphs_of}
-use Rattle.textwrap_lines.proofs.Common.{Settings}
+use Rattle.textwrap_lines.proofs.Common.{ending_bytes, is_whole, line_from, line_view}
+use Rattle.textwrap_lines.proofs.Common.{paragraphs_of, Settings}
 use Rattle.textwrap_display.specs.JustifiedText.{joined_on, justified_after_indents}
-use Rattle.textwrap_display.proofs.JustifiedParts.{join-on, rows, rows-more}
+use Rattle.textwrap_display.proofs.JustifiedLines.{join-on, rows, rows-more}
 use Rattle.textwrap_calls.specs.JustifiedSteps.{justified_at}
 use Rattle.textwrap_calls.specs.Steps.{AreLineSteps}
 use Rattle.textwrap_calls.specs.TextSteps.{AreTextSteps, division_at, groups_at, parts_at}

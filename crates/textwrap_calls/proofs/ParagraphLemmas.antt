@@ -1,10 +1,9 @@
 -- Where the paragraphs of a text stand, one after another.
-use Rattle.textwrap_base.proofs.Common.{◌≡◌, ℕ, ◌+◌, ◌<◌, ◌≤◌, List, [], ◌∷◌, ◌++◌, length}
-use Rattle.textwrap_base.proofs.Common.{ap, ◌∙◌, arith, append_assoc}
+use Rattle.textwrap_base.proofs.Common.{◌≡◌, ℕ, ◌+◌, ◌<◌, ◌≤◌, List, [], ◌∷◌, ◌++◌, length, ap, ◌∙◌}
+use Rattle.textwrap_base.proofs.Common.{arith, append_assoc}
 use Rattle.textwrap_lines.proofs.Common.{ending_bytes, join_with, paragraphs_of}
 use Rattle.textwrap_lines.specs.declared.line_ending.LineEnding.{LineEnding}
-use Rattle.textwrap_lines.proofs.Text.EndingTexts.{join-paragraphs_of}
-use Rattle.textwrap_lines.proofs.Text.Endings.{rest-within}
+use Rattle.textwrap_lines.proofs.Text.Paragraphs.{join-paragraphs_of, rest-within}
 use Rattle.textwrap_calls.specs.Paragraphs.{paragraph_places}
 use Rattle.textwrap_calls.specs.declared.paragraphs.TextwrapParagraph.{TextwrapParagraph}
 

@@ -3,9 +3,8 @@ use Rattle.textwrap_base.proofs.Common.{rules, ◌≡◌, ℕ, ◌+◌, ◌-◌,
 use Rattle.textwrap_base.proofs.Common.{All-head, All-tail, ap, append-nil, append_assoc, arith}
 use Rattle.textwrap_base.proofs.Common.{flat_map, get_or, length, refl, sym, IsUtf8, ◌∙◌}
 use Rattle.textwrap_words.proofs.Common.{broken_pieces, broken_texts, piece, tiled, WordText}
-use Rattle.textwrap_words.proofs.Word.BrokenPieces.{tiled-pieces_with}
-use Rattle.textwrap_words.proofs.Word.Measured.{HasNoPenalty}
-use Rattle.textwrap_words.proofs.Word.PieceTexts.{broken_texts-tile}
+use Rattle.textwrap_words.proofs.Word.BrokenPieces.{tiled-pieces_with, broken_texts-tile}
+use Rattle.textwrap_words.proofs.Word.Words.{HasNoPenalty}
 use Rattle.textwrap_words.specs.Breaking.{pieces_with}
 use Rattle.textwrap_words.specs.Pieces.{stand_from}
 use Rattle.textwrap_words.specs.declared.pieces.Piece.{Piece}

@@ -1,24 +1,25 @@
 -- Texts of printable ASCII, block by block, and texts that are one line.
 use Rattle.textwrap_base.proofs.Common.{◌≡◌, ◌≢◌, ℕ, ◌+◌, ◌-◌, ◌<◌, ◌≤◌, ◌∙◌, true, false, List, []}
-use Rattle.textwrap_base.proofs.Common.{◌∷◌, ◌++◌, length, drop, get_or, slice_range, cond, IsUtf8, refl}
-use Rattle.textwrap_base.proofs.Common.{sym, ap, subst, arith, nat_tests, lt-ltb, cases_lt, inl, inr}
-use Rattle.textwrap_base.proofs.Common.{append-nil, get_or-drop, get_or-take, All-drop, All-from_get_or}
-use Rattle.textwrap_base.proofs.Common.{◌==◌, All-head, All-take, list_any, true≢false}
+use Rattle.textwrap_base.proofs.Common.{◌∷◌, ◌++◌, length, drop, get_or, slice_range, cond, IsUtf8}
+use Rattle.textwrap_base.proofs.Common.{refl, sym, ap, subst, arith, nat_tests, lt-ltb, cases_lt}
+use Rattle.textwrap_base.proofs.Common.{inl, inr, append-nil, get_or-drop, get_or-take, All-drop}
+use Rattle.textwrap_base.proofs.Common.{All-from_get_or, ◌==◌, All-head, All-take, list_any}
+use Rattle.textwrap_base.proofs.Common.{true≢false}
 use Rattle.std.specs.Char.{is_whitespace}
 use Rattle.std.proofs.lemmas.Str.{chars-IsAscii, IsUtf8-from_ascii}
 use Rattle.textwrap_base.proofs.Lists.Parts.{length-slice}
-use Rattle.textwrap_base.proofs.Lists.Rising.{contains-any}
+use Rattle.textwrap_base.proofs.Lists.Elements.{contains-any}
 use Rattle.textwrap_words.proofs.Common.{IsPrintable, IsPrintableByte, without_final_blanks}
 use Rattle.textwrap_words.proofs.Common.{word_of}
-use Rattle.textwrap_words.proofs.Units.Widths.{printable-ascii}
+use Rattle.textwrap_words.proofs.Units.Reading.{printable-ascii}
 use Rattle.textwrap_lines.proofs.Common.{is_whole, parts_of, IsFilled, Slice}
 use Rattle.textwrap.specs.Indentation.{HasNoLineFeed, indented}
 use Rattle.textwrap.proofs.Common.{is_blank_line}
-use Rattle.textwrap.proofs.Text.EndedParts.{ended_parts-whole}
-use Rattle.textwrap_lines.proofs.Paragraph.WholeLine.{AreParagraphParts-whole, line_from-whole}
+use Rattle.textwrap.proofs.Text.Indents.{ended_parts-whole}
+use Rattle.textwrap_lines.proofs.Paragraph.LeftOff.{AreParagraphParts-whole, line_from-whole}
 use Rattle.textwrap_lines.specs.LineEnding.{line_feed}
 use Rattle.textwrap_lines.specs.Places.{place_of}
-use Rattle.textwrap_lines.proofs.Text.Endings.{one-paragraph, printable-free}
+use Rattle.textwrap_lines.proofs.Text.Paragraphs.{one-paragraph, printable-free}
 use Rattle.textwrap_calls.specs.Options.{Divides, says_yes, settings_of}
 use Rattle.textwrap_calls.specs.Printable.{IsOnlyLine}
 use Rattle.textwrap_calls.specs.declared.options.TextwrapOptions.{TextwrapOptions}

@@ -1,10 +1,10 @@
 -- The rows of a table, which are all lines of their own, stand where they are reported.
-use Rattle.textwrap_base.proofs.Common.{◌≡◌, ℕ, List, [], ◌∷◌, ◌++◌, length, map, sym, ap, refl, ◌∙◌}
-use Rattle.textwrap_base.proofs.Common.{subst, arith, append-nil, map_push}
+use Rattle.textwrap_base.proofs.Common.{◌≡◌, ℕ, List, [], ◌∷◌, ◌++◌, length, map, sym, ap, refl}
+use Rattle.textwrap_base.proofs.Common.{◌∙◌, subst, arith, append-nil, map_push}
 use Rattle.textwrap.proofs.Common.{Built}
 use Rattle.textwrap_lines.specs.Places.{built_text, cut_line, lines_of, place_of, places_of}
 use Rattle.textwrap_lines.specs.declared.places.Place.{Place}
-use Rattle.textwrap_lines.proofs.Text.Cuts.{built_text-push, places_of-push}
+use Rattle.textwrap_lines.proofs.Text.Sinks.{built_text-push, places_of-push}
 use Rattle.textwrap_calls.specs.Columns.{ArePlacedRows, row_cuts}
 use Rattle.textwrap_calls.specs.Wrapping.{ShowLines}
 use Rattle.textwrap_calls.proofs.PlaceLemmas.{AreCut, shown}

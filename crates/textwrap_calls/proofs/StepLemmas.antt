@@ -1,9 +1,9 @@
 -- The lines of a paragraph in steps stand where they are reported.
-use Rattle.textwrap_base.proofs.Common.{◌≡◌, ℕ, ◌⊎◌, List, ◌++◌, refl, sym, ap, ◌∙◌, subst, arith, []}
-use Rattle.textwrap_base.proofs.Common.{append-nil}
+use Rattle.textwrap_base.proofs.Common.{◌≡◌, ℕ, ◌⊎◌, List, ◌++◌, refl, sym, ap, ◌∙◌, subst, arith}
+use Rattle.textwrap_base.proofs.Common.{[], append-nil}
 use Rattle.textwrap_base.proofs.Lists.Parts.{flat}
 use Rattle.textwrap_words.proofs.Common.{Tiles, tiled}
-use Rattle.textwrap_words.proofs.Word.Tiling.{tiled-append}
+use Rattle.textwrap_words.proofs.Word.Words.{tiled-append}
 use Rattle.textwrap_words.specs.LineEnds.{AreEnds, lines_between}
 use Rattle.textwrap_lines.proofs.Common.{Settings, parts_from, covered_by}
 use Rattle.textwrap_lines.proofs.Paragraph.LeftOff.{covered_by-parts_from}

@@ -2,43 +2,37 @@
 use Rattle.textwrap_base.proofs.Common.{◌≡◌, ℕ, ◌+◌, ◌<◌, ◌≤◌, ◌||◌, nat_lt, Bool, false, List, []}
 use Rattle.textwrap_base.proofs.Common.{◌∷◌, ◌++◌, length, map, refl, sym, ap, subst, ◌∙◌, arith}
 use Rattle.textwrap_base.proofs.Common.{append_assoc, append-nil, drop, length-append, length-map}
-use Rattle.textwrap_base.proofs.Common.{starts_with_length}
-use Rattle.textwrap_base.proofs.Common.{take-append-drop}
-use Rattle.textwrap_base.proofs.Common.{Err, Ok, Result, StartsWith, starts_with_of_append}
+use Rattle.textwrap_base.proofs.Common.{starts_with_length, take-append-drop, Err, Ok, Result}
+use Rattle.textwrap_base.proofs.Common.{StartsWith, starts_with_of_append, ◌^◌, ◌⊎◌}
 use Rattle.std.specs.Result.{IfOk}
 use Rattle.textwrap_base.proofs.Lists.Parts.{flat}
 use Rattle.textwrap_words.proofs.Common.{Tiles, tiled}
-use Rattle.textwrap_words.proofs.Word.Tiling.{tiled-append}
+use Rattle.textwrap_words.proofs.Word.Words.{tiled-append}
 use Rattle.textwrap_words.specs.LineEnds.{AreEnds, lines_between}
 use Rattle.textwrap_steps.specs.Steps.{pieces_at}
 use Rattle.textwrap_steps.proofs.LineLemmas.{lines_between-begin}
-use Rattle.textwrap_lines.specs.Places.{division_cuts}
+use Rattle.textwrap_lines.specs.Places.{division_cuts, HasPlaces, HasPlacesMore, ArePlacesOf}
 use Rattle.textwrap_base.proofs.Numbers.{is_later-or}
 use Rattle.textwrap_lines.proofs.Common.{CutLine, cut_lines, ending_bytes, join_with, line_from}
-use Rattle.textwrap_lines.proofs.Common.{covered_by, paragraphs_of, Settings, text_cuts}
-use Rattle.textwrap_lines.proofs.Common.{further, is_whole, lines_of, parts_from}
+use Rattle.textwrap_lines.proofs.Common.{covered_by, paragraphs_of, Settings, text_cuts, further}
+use Rattle.textwrap_lines.proofs.Common.{is_whole, lines_of, parts_from}
 use Rattle.textwrap_lines.proofs.Paragraph.LeftOff.{covered_by-parts_from}
-use Rattle.textwrap_lines.proofs.Text.Cuts.{further-cut_lines, length-places_of, lines_of-cut_lines}
-use Rattle.textwrap_lines.proofs.Text.Endings.{rest-within}
-use Rattle.textwrap_lines.proofs.Text.EndingTexts.{join-paragraphs_of}
-use Rattle.textwrap_lines.specs.Places.{HasPlaces, HasPlacesMore}
+use Rattle.textwrap_lines.proofs.Text.Sinks.{further-cut_lines, length-places_of}
+use Rattle.textwrap_lines.proofs.Text.Sinks.{lines_of-cut_lines}
+use Rattle.textwrap_lines.proofs.Text.Paragraphs.{rest-within, join-paragraphs_of}
 use Rattle.textwrap_lines.specs.declared.places.PlacedLines.{PlacedLines}
-use Rattle.textwrap_calls.specs.Steps.{AreLineSteps}
+use Rattle.textwrap_calls.specs.Steps.{AreLineSteps, ArePlacedCuts}
 use Rattle.textwrap_calls.specs.TextSteps.{AreTextSteps, groups_at, parts_at, text_step_cuts}
 use Rattle.textwrap_calls.specs.declared.steps.TextwrapSteps.{TextwrapSteps}
-use Rattle.textwrap_base.proofs.Common.{◌^◌}
 use Rattle.std.proofs.Common.{Fits, w64}
 use Rattle.textwrap_lines.specs.declared.line_ending.LineEnding.{LineEnding}
 use Rattle.textwrap_calls.proofs.GroupLemmas.{paragraph-cut}
 use Rattle.textwrap_calls.proofs.Lengths.Unfilled.{ending-length}
 use Rattle.textwrap_calls.proofs.PlaceLemmas.{AreCut, HasRest, passes, shown}
 use Rattle.textwrap_calls.specs.Wrapping.{ShowLines, WritesLines}
-use Rattle.textwrap_base.proofs.Common.{◌⊎◌}
-use Rattle.textwrap_lines.specs.Places.{ArePlacesOf}
 use Rattle.textwrap_lines.specs.declared.places.Place.{Place}
 use Rattle.textwrap_calls.specs.Reported.{WritesReported}
 use Rattle.textwrap_calls.specs.Status.{done, too_small}
-use Rattle.textwrap_calls.specs.Steps.{ArePlacedCuts}
 use Rattle.textwrap_lines.specs.declared.places.TextwrapLine.{TextwrapLine}
 use Rattle.textwrap_calls.proofs.LineLemmas.{WritesLines-reported}
 

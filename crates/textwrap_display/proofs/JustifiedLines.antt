@@ -1,12 +1,30 @@
--- What the lines of a paragraph add to a text, the first of them and those after it.
+-- A text that is filled with its lines justified, one paragraph after another.
 use Rattle.textwrap_base.proofs.Common.{◌≡◌, ℕ, Bool, true, List, [], ◌∷◌, ◌++◌, cond, map, refl}
-use Rattle.textwrap_base.proofs.Common.{append_assoc, arith}
+use Rattle.textwrap_base.proofs.Common.{append_assoc, arith, ◌-◌, ◌||◌, nat_lt, suc, false, length}
+use Rattle.textwrap_base.proofs.Common.{sym, ap, ◌∙◌, append-nil, cases_Bool, drop_all, drop_at}
+use Rattle.textwrap_base.proofs.Common.{flat_map, take_all, take_at, ◌+◌, take, drop, subst}
+use Rattle.textwrap_base.proofs.Common.{length-append, length-map}
 use Rattle.std.specs.Cow.{cow_str_bytes}
 use Rattle.std.specs.declared.borrow.CowStr.{CowStr}
 use Rattle.textwrap_lines.proofs.Common.{ending_bytes, indent_of, line_bytes, line_view, Settings}
+use Rattle.textwrap_lines.proofs.Common.{join_with, line_from, LineParts, parts_from, parts_of}
+use Rattle.textwrap_lines.proofs.Common.{AreGroups, AreParagraphParts, DividesAs, DividesBy}
+use Rattle.textwrap_lines.proofs.Common.{HasParts, paragraphs_of, settings_view}
 use Rattle.textwrap_lines.proofs.Text.Lines.{line_bytes-line_view}
 use Rattle.textwrap_display.specs.JustifiedText.{joined_on, justified_after}
-use Rattle.textwrap_display.specs.JustifiedText.{justified_after_indents}
+use Rattle.textwrap_display.specs.JustifiedText.{justified_after_indents, justified_line}
+use Rattle.textwrap_display.specs.JustifiedText.{justified_lines, IsJustifiedText}
+use Rattle.textwrap_base.proofs.Lists.Parts.{starts_with-true}
+use Rattle.textwrap_base.proofs.Numbers.{or_false, some_later, is_later-or}
+use Rattle.textwrap_words.proofs.Common.{text_width, WordText, Algorithm, Splitter}
+use Rattle.textwrap_lines.proofs.Text.Sinks.{assembled-bytes}
+use Rattle.textwrap_display.specs.Justifying.{justified}
+use Rattle.textwrap_lines.specs.declared.options.Options.{Options}
+use Rattle.textwrap_lines.proofs.Paragraph.Pieces.{divides}
+use Rattle.textwrap_lines.specs.Paragraph.{Adds}
+use Rattle.std.proofs.lemmas.List.{drop-map}
+
+-- ---- what the lines of a paragraph add to a text, the first of them and those after it
 
 module _ {Z : Type 0} (settings : Settings) where
   -- what the lines add to a text
@@ -33,3 +51,189 @@ module _ {Z : Type 0} (settings : Settings) where
       → new ++ added true (lines ++ last ∷ []) ≡ old ++ added is_later (line ∷ (lines ++ last ∷ []))
   added-step is_later line lines last old begun new indent text begins writes indent_is given =
       grind (arith, append_assoc, line_bytes-line_view, added-next)
+
+-- ---- one line
+
+-- a line of its indent and what follows
+after-front : (width : ℕ) (indent line rest : List ℕ) → line ≡ indent ++ rest
+    → justified_after width indent line
+    ≡ indent ++ line_bytes (justified (width - text_width indent) rest)
+after-front width indent line rest is =
+    grind (arith, starts_with-true indent line rest is, take_at, drop_at)
+
+-- an empty line stays empty
+empty-stays : (width : ℕ) → line_bytes (justified width []) ≡ []
+empty-stays width = grind (arith, cases_Bool)
+
+line-justified : (settings : Settings) (is_later : Bool) (words : List WordText)
+    → justified_after settings.width (indent_of settings is_later)
+    (line_bytes (line_from (parts_of settings is_later words)))
+    ≡ justified_line settings.width (parts_of settings is_later words)
+line-justified settings is_later [] = grind (arith, take_all, drop_all, empty-stays)
+line-justified settings is_later (w ∷ words) =
+    let p = parts_of settings is_later (w ∷ words) in
+    after-front settings.width p.indent (line_bytes (line_from p)) (p.slice ++ p.penalty)
+    (sym (assembled-bytes p.indent p.slice p.penalty) ∙ append_assoc p.indent p.slice p.penalty)
+
+-- ---- the lines of a paragraph
+
+pub parts-justified : (settings : Settings) (is_later : Bool) (division : List (List WordText))
+    → justified_after_indents settings is_later
+    (map line_from (parts_from settings is_later division))
+    ≡ justified_lines settings.width (parts_from settings is_later division)
+parts-justified settings is_later [] = refl
+parts-justified settings is_later (words ∷ []) = refl
+parts-justified settings is_later (words ∷ next ∷ division) =
+    grind (arith, line-justified, parts-justified settings true (next ∷ division))
+
+pub justified-length : (width : ℕ) (parts : List LineParts)
+    → length (justified_lines width parts) ≡ length parts
+justified-length width [] = refl
+justified-length width (p ∷ []) = refl
+justified-length width (p ∷ q ∷ parts) = ap suc (justified-length width (q ∷ parts))
+
+-- ---- lines in a row
+
+-- after the first line the ending stands before each
+join-after : (ending x : List ℕ) (xs : List (List ℕ))
+    → join_with ending (x ∷ xs) ≡ x ++ joined_on ending true xs
+join-after ending x [] = sym (append-nil x)
+join-after ending x (y ∷ xs) = rw (join-after ending y xs) (simp append_assoc)
+
+pub join-on : (ending : List ℕ) (lines : List (List ℕ))
+    → join_with ending lines ≡ joined_on ending false lines
+join-on ending [] = refl
+join-on ending (x ∷ xs) = join-after ending x xs
+
+pub joined_on-append : (ending : List ℕ) (is_later : Bool) (xs ys : List (List ℕ))
+    → joined_on ending is_later (xs ++ ys)
+    ≡ joined_on ending is_later xs ++ joined_on ending (is_later || nat_lt 0 (length xs)) ys
+joined_on-append ending is_later [] ys = ap (λ b. joined_on ending b ys) (sym (or_false is_later))
+joined_on-append ending is_later (x ∷ xs) ys =
+    grind (arith, append_assoc, some_later, joined_on-append ending true xs ys)
+
+module _ (settings : Settings) where
+  -- the lines of groups in a row
+  abbrev pub rows : Bool → List (List LineParts) → List ℕ
+  rows is_later groups =
+      joined_on (ending_bytes settings.line_ending) is_later
+      (flat_map (justified_lines settings.width) groups)
+
+  -- those of one more group
+  pub rows-more : (filled new : List ℕ) (is_later then_later : Bool) (division : List (List WordText))
+      (groups : List (List LineParts))
+      → new ≡ filled ++ joined_on (ending_bytes settings.line_ending) is_later
+      (justified_after_indents settings is_later
+      (map line_from (parts_from settings is_later division)))
+      → then_later ≡ is_later || nat_lt 0 (length (parts_from settings is_later division))
+      → filled ++ rows is_later (parts_from settings is_later division ∷ groups)
+      ≡ new ++ rows then_later groups
+  rows-more filled new is_later then_later division groups is later =
+      grind (
+        arith,
+        append_assoc,
+        joined_on-append,
+        justified-length,
+        parts-justified settings is_later division,
+      )
+
+-- ---- a text that is filled with its lines justified, one paragraph after another
+
+-- whether any stands before, where one is kept
+kept-some : {X : Type 0} (xs : List X) → nat_lt 0 (length (take 1 xs)) ≡ nat_lt 0 (length xs)
+kept-some [] = refl
+kept-some (x ∷ xs) = sym (some_later false (length xs))
+
+module _ (settings : Settings) (Divides : Bool → List ℕ → List (List WordText) → Type 0) where
+  -- with right lines of the paragraphs that are left, it is the whole
+  pub record IsJustifiedSoFar (text filled : List ℕ) (is_later : Bool) (left : List (List ℕ))
+      : Type 0 where
+    pub done : List (List ℕ)
+    pub paragraphs : paragraphs_of settings.line_ending text ≡ done ++ left
+    pub whole : (groups : List (List LineParts))
+        → AreGroups (AreParagraphParts settings Divides) is_later left groups
+        → IsJustifiedText settings Divides text (filled ++ rows settings is_later groups)
+
+  pub so_far-start : (text filled : List ℕ) → filled ≡ []
+      → IsJustifiedSoFar text filled false (paragraphs_of settings.line_ending text)
+  so_far-start text filled none = record {
+    done = [];
+    paragraphs = refl;
+    whole = λ groups are. record {
+      groups = groups;
+      defined = are;
+      joined = ap (λ l. l ++ rows settings false groups) none
+          ∙ sym (join-on (ending_bytes settings.line_ending)
+          (flat_map (justified_lines settings.width) groups));
+    };
+  }
+
+  -- the lines of one more paragraph
+  so_far-next : (text filled new : List ℕ) (is_later then_later : Bool) (paragraph : List ℕ)
+      (after : List (List ℕ)) (parts : List LineParts)
+      → IsJustifiedSoFar text filled is_later (paragraph ∷ after)
+      → AreParagraphParts settings Divides is_later paragraph parts
+      → new ≡ filled ++ joined_on (ending_bytes settings.line_ending) is_later
+      (justified_after_indents settings is_later (map line_from parts))
+      → then_later ≡ is_later || nat_lt 0 (length parts)
+      → IsJustifiedSoFar text new then_later after
+  so_far-next text filled new is_later then_later paragraph after parts so_far are is later =
+      record {
+        done = so_far.done ++ paragraph ∷ [];
+        paragraphs = so_far.paragraphs ∙ sym (append_assoc so_far.done (paragraph ∷ []) after);
+        whole = λ groups rest.
+            let (division, laid_out, are_parts) = are in
+            subst (IsJustifiedText settings Divides text)
+            (rw are_parts (rows-more settings filled new is_later then_later division groups
+            (rw are_parts at is) (rw are_parts at later)))
+            (so_far.whole (parts ∷ groups) (are, rw later at rest));
+      }
+
+  pub so_far-more : {Z : Type 0} (text filled new : List ℕ)
+      (items kept found slice : List (CowStr Z)) (start : ℕ) (paragraph : List ℕ) (after : List (List ℕ))
+      → IsJustifiedSoFar text filled (nat_lt 0 (length items)) (paragraph ∷ after)
+      → kept ≡ take 1 items → start ≡ length kept
+      → (parts : List LineParts)
+      × AreParagraphParts settings Divides (nat_lt 0 (length kept)) paragraph parts
+      × Adds kept found parts
+      → slice ≡ drop start found
+      → new ≡ filled ++ joined_on (ending_bytes settings.line_ending) (nat_lt 0 start)
+      (justified_after_indents settings (nat_lt 0 start) (map line_view slice))
+      → IsJustifiedSoFar text new (nat_lt 0 (length found)) after
+  so_far-more text filled new items kept found slice start paragraph after so_far keeps starts
+      (parts, are, adds) slice_is is =
+      let later = nat_lt 0 (length kept) in
+      let ending = ending_bytes settings.line_ending in
+      let views = length-map kept line_view in
+      let count = ap length adds ∙ length-append (map line_view kept) (map line_from parts) in
+      let len : length found ≡ length kept + length parts =
+      omega (arith, length-map found line_view, count, views, length-map parts line_from) in
+      let begins : nat_lt 0 (length items) ≡ later =
+      sym (kept-some items) ∙ ap (λ ls. nat_lt 0 (length ls)) (sym keeps) in
+      let lines : map line_view slice ≡ map line_from parts =
+      ap (map line_view) slice_is ∙ sym (drop-map line_view start found) ∙ ap (drop start) adds
+      ∙ drop_at (map line_view kept) (map line_from parts) start (views ∙ sym starts) in
+      so_far-next text filled new later (nat_lt 0 (length found)) paragraph after parts
+      (rw begins at so_far) are
+      (is ∙ ap (λ n. filled ++ joined_on ending (nat_lt 0 n)
+      (justified_after_indents settings (nat_lt 0 n) (map line_view slice))) starts
+      ∙ ap (λ ls. filled ++ joined_on ending later (justified_after_indents settings later ls))
+      lines)
+      (is_later-or (length found) (length kept) (length parts) len)
+
+  pub so_far-end : (text filled : List ℕ) (is_later : Bool)
+      → IsJustifiedSoFar text filled is_later [] → IsJustifiedText settings Divides text filled
+  so_far-end text filled is_later so_far =
+      subst (IsJustifiedText settings Divides text) (append-nil filled) (so_far.whole [] refl)
+
+-- the same text, where all parts are built in and can be named
+pub justified-as : {E C : Type 0} {e : _} {c : _} (options : Options E C e c) (settings : Settings)
+    (splitter : Splitter) (algorithm : Algorithm)
+    → HasParts options settings splitter algorithm → (text filled : List ℕ)
+    → IsJustifiedText (settings_view options) (DividesBy options) text filled
+    → IsJustifiedText settings (DividesAs splitter algorithm settings) text filled
+justified-as options settings splitter algorithm parts text filled is =
+    subst (λ s. IsJustifiedText s (DividesAs splitter algorithm settings) text filled)
+    parts.settings_are
+    (subst (λ Divides. IsJustifiedText (settings_view options) Divides text filled)
+    (divides options settings splitter algorithm parts) is)

@@ -1,14 +1,139 @@
--- The first lines as they are, and the one after them cut.
-use Rattle.textwrap_base.proofs.Common.{◌≡◌, ℕ, ◌+◌, ◌<◌, List, [], ◌∷◌, ◌++◌, length, get_or}
-use Rattle.textwrap_base.proofs.Common.{take, drop, map, refl, sym, ap, subst, ◌∙◌, arith, CowStr}
-use Rattle.textwrap_base.proofs.Common.{map-append, take-append-drop, drop_more, length-map}
-use Rattle.textwrap_base.proofs.Common.{length-take-le, string_bytes, Bor, take_more, append_assoc}
-use Rattle.std.specs.Prelude.{String}
+-- The longest beginning of a line that may be kept, and the first lines as they are.
+use Rattle.textwrap_base.proofs.Common.{◌≡◌, ◌≢◌, ℕ, ◌+◌, ◌≤◌, ◌<◌, ◌⊎◌, Bool, true, false, eqb}
+use Rattle.textwrap_base.proofs.Common.{List, ◌++◌, length, take, drop, refl, sym, ap, subst, ◌∙◌}
+use Rattle.textwrap_base.proofs.Common.{inl, inr, arith, IsUtf8, cases_lt, eqb-true, [], ◌∷◌}
+use Rattle.textwrap_base.proofs.Common.{get_or, map, CowStr, map-append, take-append-drop}
+use Rattle.textwrap_base.proofs.Common.{drop_more, length-map, length-take-le, string_bytes, Bor}
+use Rattle.textwrap_base.proofs.Common.{take_more, append_assoc}
+use Rattle.std.specs.Prelude.{encode_utf8, String}
+use Rattle.textwrap_words.proofs.Common.{text_width}
+use Rattle.textwrap_words.specs.declared.escapes.State.{State}
+use Rattle.textwrap_display.specs.Shortening.{IsKept, may_end, AreShortened, IsShortened, texts_of}
+use Rattle.textwrap_display.proofs.KeptWords.{is_after_blank, may_end-boundary, may_end-within}
+use Rattle.textwrap_display.proofs.KeptWords.{may_end-here, may_end-other, may_end-past}
+use Rattle.textwrap_display.proofs.KeptWords.{may_end-whole, may_end-blanks, IsReadTo, read-width}
+use Rattle.textwrap_display.proofs.KeptWords.{read-more}
+use Rattle.textwrap_words.proofs.Units.Reading.{read-all}
 use Rattle.std.specs.Cow.{cow_str_bytes}
 use Rattle.std.specs.declared.borrow.CowStr.TheVariants.{Borrowed, Owned}
 use Rattle.textwrap_lines.specs.Paragraph.{Line, Built, Slice, line_bytes, line_view}
 use Rattle.textwrap_lines.proofs.Text.Lines.{line_bytes-line_view}
-use Rattle.textwrap_display.specs.Shortening.{AreShortened, IsShortened, texts_of}
+
+-- ---- what the reader has found of a line up to a place: the longest beginning that may be kept
+
+-- the columns of a beginning have room
+abbrev pub HasRoom : ℕ → List ℕ → ℕ → Type 0
+HasRoom room line n = text_width (take n line) ≤ room
+
+-- the longest beginning before the place that may be kept
+pub record IsFound (room : ℕ) (line : List ℕ) (place kept : ℕ) : Type 0 where
+  pub ends : may_end line kept ≡ true
+  pub fits : (kept ≡ 0) ⊎ HasRoom room line kept
+  pub longest : (m : ℕ) → m < place → may_end line m ≡ true → HasRoom room line m → m ≤ kept
+
+pub found-none : (room : ℕ) (line : List ℕ) (place : ℕ) → place ≡ 0 → IsFound room line place 0
+found-none room line place start = record {
+  ends = refl;
+  fits = inl refl;
+  longest = λ m before may has. absurd (omega (arith, start, before));
+}
+
+-- what is found at the end is kept, where this is the room beside the placeholder
+pub found-kept : (room width : ℕ) (placeholder line : List ℕ) (n : ℕ)
+    → room + text_width placeholder ≡ width → IsFound room line (length line + 1) n
+    → IsKept width placeholder line n
+found-kept room width placeholder line n is h = record {
+  within = may_end-within line n h.ends;
+  ends = h.ends;
+  room = elim h.fits [ inl none ↦ inl none | inr has ↦ inr (omega (arith, has, is)) ];
+  longest = λ m may has. h.longest m (omega (arith, may_end-within line m may)) may
+      (omega (arith, has, is));
+}
+
+module _ (room : ℕ) (line : List ℕ) (utf8 : IsUtf8 line) (place : ℕ) (rest : List ℕ)
+    (state : State) (taken kept : ℕ) (after_blank : Bool)
+    (read : IsReadTo line place rest state taken after_blank)
+    (found : IsFound room line place kept) where
+  -- what else may have room before a later place is before this one
+  found-until : (end : ℕ)
+      → ((m : ℕ) → place ≤ m → m < end → may_end line m ≡ true → HasRoom room line m → m ≡ 0)
+      → IsFound room line end kept
+  found-until end none = record {
+    ends = found.ends;
+    fits = found.fits;
+    longest = λ m before may has. elim (cases_lt m place) [
+      | inl less ↦ found.longest m less may has
+      | inr later ↦ omega (arith, none m later before may has)
+    ];
+  }
+
+  -- past the room nothing has room
+  pub found-past : room < taken → IsFound room line (length line + 1) kept
+  found-past past = found-until (length line + 1) (λ m later before may has.
+      let more = read-more line utf8 place rest state taken after_blank read m later
+      (may_end-boundary line m utf8 may) in
+      absurd (omega (arith, has, past, more)))
+
+  module _ (c : ℕ) (after : List ℕ) (is : rest ≡ encode_utf8 c ++ after) (end : ℕ)
+      (past : end ≡ place + length (encode_utf8 c)) where
+    whole : drop place line ≡ encode_utf8 c ++ after
+    whole = read.read.place ∙ is
+
+    -- in the character no beginning ends
+    outside : (m : ℕ) → m < end → may_end line m ≡ true → m ≤ place
+    outside m before may = elim (cases_lt place m) [
+      | inl inside ↦
+          let end_of = may_end-past line utf8 place c after read.read.boundary whole m inside may in
+          absurd (omega (arith, before, past, end_of))
+      | inr up ↦ up
+    ]
+
+    -- one may end before it
+    pub found-here : taken ≤ room → c ≡ 32 → after_blank ≡ false → IsFound room line end place
+    found-here has blank some = record {
+      ends = may_end-here line utf8 place c after read.read.boundary whole (ap (λ x. eqb x 32) blank)
+          (sym read.blank ∙ some);
+      fits = inr (omega (arith, has, read-width line utf8 place rest state taken after_blank read));
+      longest = λ m before may room. outside m before may;
+    }
+
+    -- none may
+    pub found-on : ((c ≡ 32) × (after_blank ≡ true)) ⊎ (c ≢ 32) → IsFound room line end kept
+    found-on other = found-until end (λ m later before may has.
+        let here : m ≡ place = omega (arith, later, outside m before may) in
+        here ∙ may_end-other line utf8 place c after read.read.boundary whole
+        (λ blank. sym read.blank ∙ follows (eqb-true c 32 blank) other)
+        (subst (λ n. may_end line n ≡ true) here may))
+      where
+        follows : c ≡ 32 → ((c ≡ 32) × (after_blank ≡ true)) ⊎ (c ≢ 32) → after_blank ≡ true
+        follows blank (inl (_, after)) = after
+        follows blank (inr none) = absurd (none blank)
+
+  module _ (ended : length rest ≡ 0) where
+    at_end : place ≡ length line
+    at_end = read-all read.read ended
+
+    after_last : after_blank ≡ is_after_blank line (length line)
+    after_last = read.blank ∙ ap (is_after_blank line) at_end
+
+    -- the whole line may be kept
+    pub found-whole : taken ≤ room → after_blank ≡ false
+        → IsFound room line (length line + 1) (length line)
+    found-whole has some = record {
+      ends = may_end-whole line (sym after_last ∙ some);
+      fits = inr (subst (HasRoom room line) at_end
+          (omega (arith, has, read-width line utf8 place rest state taken after_blank read)));
+      longest = λ m before may room. omega (arith, before);
+    }
+
+    -- it ends in a blank
+    pub found-blank : after_blank ≡ true → IsFound room line (length line + 1) kept
+    found-blank blank = found-until (length line + 1) (λ m later before may has.
+        let here : m ≡ length line = omega (arith, later, before, at_end) in
+        here ∙ may_end-blanks line (sym after_last ∙ blank)
+        (subst (λ n. may_end line n ≡ true) here may))
+
+-- ---- the first lines as they are, and the one after them cut
 
 texts-append : {Z : Type 0} (xs ys : List (CowStr Z))
     → texts_of (xs ++ ys) ≡ texts_of xs ++ texts_of ys
@@ -73,3 +198,19 @@ views-more lines n line before after old text within is same so_far more =
     ∙ ap (λ l. l ++ Slice text.now ∷ []) so_far
     ∙ append_assoc old (map Slice front) (Slice text.now ∷ [])
     ∙ ap (λ l. old ++ l) (sym (ap (map Slice) texts ∙ map-append Slice front (text.now ∷ [])))
+
+-- ---- only one number of bytes may be kept of a line
+
+kept-le : (width : ℕ) (placeholder line : List ℕ) (m n : ℕ) → IsKept width placeholder line m
+    → IsKept width placeholder line n → m ≤ n
+kept-le width placeholder line m n first second = elim first.room [
+  | inl none ↦ omega (arith, none)
+  | inr has ↦ second.longest m first.ends has
+]
+
+pub kept-unique : (width : ℕ) (placeholder line : List ℕ) (m n : ℕ)
+    → IsKept width placeholder line m → IsKept width placeholder line n → m ≡ n
+kept-unique width placeholder line m n first second =
+    let up = kept-le width placeholder line m n first second in
+    let down = kept-le width placeholder line n m second first in
+    omega (arith, up, down)

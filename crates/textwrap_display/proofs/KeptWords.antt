@@ -1,17 +1,229 @@
--- The words of a line's beginning, where blanks follow it, are the first words of the line.
-use Rattle.textwrap_base.proofs.Common.{◌≡◌, ℕ, ◌⊎◌, true, inl, inr, List, [], ◌∷◌, ◌++◌, get_or}
-use Rattle.textwrap_base.proofs.Common.{length, map, take, drop, refl, sym, ap, ◌∙◌, arith}
-use Rattle.textwrap_base.proofs.Common.{All-head, All-tail, append_assoc, append-nil, add-zero}
-use Rattle.textwrap_base.proofs.Common.{eqb-true, take_at, map-append, take-append-drop, drop_all}
+-- The beginning of a line that is kept: its words, where it may end, and the reader that finds it.
+use Rattle.textwrap_base.proofs.Common.{◌≡◌, ℕ, ◌⊎◌, Bool, true, false, cond, inl, inr, List, []}
+use Rattle.textwrap_base.proofs.Common.{◌∷◌, ◌++◌, get_or, refl, ap, ◌∙◌, arith, All-nil, All-cons}
+use Rattle.textwrap_base.proofs.Common.{cases_Bool, onto_first, ◌+◌, ◌-◌, ◌≤◌, ◌<◌, ◌||◌, eqb}
+use Rattle.textwrap_base.proofs.Common.{length, drop, subst, sym, cases_lt, eqb-true, eqb-false}
+use Rattle.textwrap_base.proofs.Common.{ne_eqb, nat_tests, IsUtf8, IsCharBoundary, get_or_past, map}
+use Rattle.textwrap_base.proofs.Common.{take, All-head, All-tail, append_assoc, append-nil}
+use Rattle.textwrap_base.proofs.Common.{add-zero, take_at, map-append, take-append-drop, drop_all}
 use Rattle.textwrap_base.proofs.Common.{get_or-drop, length_push, reverse-append, rules}
-use Rattle.textwrap_base.proofs.Common.{take-append-le}
+use Rattle.textwrap_base.proofs.Common.{take-append-le, zero-add, length-take-le, slice_range}
+use Rattle.textwrap_base.proofs.Common.{IsUtf8-take, chars-nil, chars-append}
 use Rattle.textwrap_words.specs.Blanks.{is_blank, trimmed_len, without_final_blanks}
-use Rattle.textwrap_words.specs.Words.{chunks, word_of}
+use Rattle.textwrap_words.specs.Words.{chunks, is_cut, word_of}
 use Rattle.textwrap_words.proofs.Word.Texts.{AreBlanks}
-use Rattle.textwrap_display.specs.Laws.{word_texts}
+use Rattle.std.specs.Prelude.{encode_utf8, chars}
+use Rattle.std.proofs.lemmas.Str.{IsCharBoundary-start, IsCharBoundary-end, encode_ascii}
+use Rattle.textwrap_base.proofs.Texts.{some-bytes}
+use Rattle.textwrap_words.proofs.Word.Ahead.{ascii-here, character-within, ends-within, plain-bytes}
+use Rattle.textwrap_words.proofs.Word.Ahead.{starts-within}
 use Rattle.textwrap_display.specs.Shortening.{may_end}
-use Rattle.textwrap_display.proofs.KeptChunks.{BlankFollows, first-chunks}
-use Rattle.textwrap_display.proofs.KeptPlaces.{may_end-cases}
+use Rattle.textwrap_display.specs.Laws.{word_texts}
+use Rattle.textwrap_base.proofs.Lists.Parts.{take_slice}
+use Rattle.std.proofs.Math.Seq.{take-add}
+use Rattle.textwrap_words.proofs.Common.{next_of, text_width}
+use Rattle.textwrap_words.proofs.Units.Reading.{text_width-le, chars-push, IsRead, read-next}
+use Rattle.textwrap_words.proofs.Units.Reading.{read-start, added, columns_in, columns_in-step}
+use Rattle.textwrap_words.specs.declared.escapes.State.{State}
+use Rattle.textwrap_words.specs.declared.escapes.State.TheVariants.{Text}
+
+-- ---- the chunks of a line's beginning, where blanks follow it, are the first chunks of the
+-- line, but for blanks after the last one
+
+-- nothing follows, or a blank
+abbrev pub BlankFollows : List ℕ → Type 0
+BlankFollows ys = (ys ≡ []) ⊎ (is_blank (get_or ys 0 0) ≡ true)
+
+-- a text that begins with a blank has only blanks in its first chunk
+record HasBlanksFirst (chunks : List (List ℕ)) : Type 0 where
+  blanks : List ℕ
+  rest : List (List ℕ)
+  shape : chunks ≡ blanks ∷ rest
+  all : AreBlanks blanks
+
+blanks-first : (y : ℕ) (ys : List ℕ) → is_blank y ≡ true → HasBlanksFirst (chunks (y ∷ ys))
+blanks-first y [] blank = record {
+  blanks = y ∷ [];
+  rest = [];
+  shape = refl;
+  all = All-cons (λ c. is_blank c ≡ true) y [] blank (All-nil (λ c. is_blank c ≡ true));
+}
+blanks-first y (d ∷ ds) blank = by (is_blank d) refl (blanks-first d ds)
+  where
+    by : (b : Bool) → is_blank d ≡ b → (is_blank d ≡ true → HasBlanksFirst (chunks (d ∷ ds)))
+        → HasBlanksFirst (chunks (y ∷ d ∷ ds))
+    by true is after =
+        let h = after is in
+        record {
+          blanks = y ∷ h.blanks;
+          rest = h.rest;
+          shape = rw (blank, is) (ap (onto_first y) h.shape);
+          all = All-cons (λ c. is_blank c ≡ true) y h.blanks blank h.all;
+        }
+    by false is after = record {
+      blanks = y ∷ [];
+      rest = chunks (d ∷ ds);
+      shape = rw (blank, is) refl;
+      all = All-cons (λ c. is_blank c ≡ true) y [] blank (All-nil (λ c. is_blank c ≡ true));
+    }
+
+-- the chunks of the beginning are the first ones, and the last of them has more blanks
+pub record AreFirstChunks (front whole : List (List ℕ)) : Type 0 where
+  pub before : List (List ℕ)
+  pub last : List ℕ
+  pub blanks : List ℕ
+  pub rest : List (List ℕ)
+  pub front_is : front ≡ before ++ last ∷ []
+  pub whole_is : whole ≡ before ++ (last ++ blanks) ∷ rest
+  pub all : AreBlanks blanks
+
+onto-more : (c : ℕ) (front whole : List (List ℕ)) → AreFirstChunks front whole
+    → AreFirstChunks (onto_first c front) (onto_first c whole)
+onto-more c front whole h = by h.before refl
+  where
+    by : (before : List (List ℕ)) → h.before ≡ before
+        → AreFirstChunks (onto_first c front) (onto_first c whole)
+    by [] is = record {
+      before = [];
+      last = c ∷ h.last;
+      blanks = h.blanks;
+      rest = h.rest;
+      front_is = ap (onto_first c) (h.front_is ∙ ap (λ l. l ++ h.last ∷ []) is);
+      whole_is = ap (onto_first c) (h.whole_is ∙ ap (λ l. l ++ (h.last ++ h.blanks) ∷ h.rest) is);
+      all = h.all;
+    }
+    by (f ∷ fs) is = record {
+      before = (c ∷ f) ∷ fs;
+      last = h.last;
+      blanks = h.blanks;
+      rest = h.rest;
+      front_is = ap (onto_first c) (h.front_is ∙ ap (λ l. l ++ h.last ∷ []) is);
+      whole_is = ap (onto_first c) (h.whole_is ∙ ap (λ l. l ++ (h.last ++ h.blanks) ∷ h.rest) is);
+      all = h.all;
+    }
+
+uncut : (c y : ℕ) → is_blank y ≡ true → is_cut c y ≡ false
+uncut c y blank = grind (arith, cases_Bool)
+
+pub first-chunks : (c : ℕ) (cs ys : List ℕ) → BlankFollows ys
+    → AreFirstChunks (chunks (c ∷ cs)) (chunks (c ∷ (cs ++ ys)))
+first-chunks c [] [] follows = record {
+  before = [];
+  last = c ∷ [];
+  blanks = [];
+  rest = [];
+  front_is = refl;
+  whole_is = refl;
+  all = All-nil (λ x. is_blank x ≡ true);
+}
+first-chunks c [] (y ∷ ys) (inl none) = cc
+first-chunks c [] (y ∷ ys) (inr blank) =
+    let h = blanks-first y ys blank in
+    record {
+      before = [];
+      last = c ∷ [];
+      blanks = h.blanks;
+      rest = h.rest;
+      front_is = refl;
+      whole_is = rw (uncut c y blank) (ap (onto_first c) h.shape);
+      all = h.all;
+    }
+first-chunks c (d ∷ cs) ys follows = by (is_cut c d) (first-chunks d cs ys follows)
+  where
+    by : (b : Bool) → AreFirstChunks (chunks (d ∷ cs)) (chunks (d ∷ (cs ++ ys)))
+        → AreFirstChunks (cond b ((c ∷ []) ∷ chunks (d ∷ cs)) (onto_first c (chunks (d ∷ cs))))
+        (cond b ((c ∷ []) ∷ chunks (d ∷ (cs ++ ys))) (onto_first c (chunks (d ∷ (cs ++ ys)))))
+    by true h = record {
+      before = (c ∷ []) ∷ h.before;
+      last = h.last;
+      blanks = h.blanks;
+      rest = h.rest;
+      front_is = ap (λ l. (c ∷ []) ∷ l) h.front_is;
+      whole_is = ap (λ l. (c ∷ []) ∷ l) h.whole_is;
+      all = h.all;
+    }
+    by false h = onto-more c (chunks (d ∷ cs)) (chunks (d ∷ (cs ++ ys))) h
+
+-- ---- where a beginning of a line may end: these places are within the line, and characters end
+-- there
+
+pub may_end-cases : (line : List ℕ) (n : ℕ) → may_end line n ≡ true
+    → (n ≡ 0) ⊎ ((is_blank (get_or line (n - 1) 0) ≡ false)
+    × ((n ≡ length line) ⊎ (is_blank (get_or line n 0) ≡ true)))
+may_end-cases line n may = grind (arith, cases_Bool, eqb-true)
+
+pub may_end-within : (line : List ℕ) (n : ℕ) → may_end line n ≡ true → n ≤ length line
+may_end-within line n may = grind (arith, may_end-cases, get_or_past, cases_lt)
+
+pub may_end-boundary : (line : List ℕ) (n : ℕ) → IsUtf8 line → may_end line n ≡ true
+    → IsCharBoundary line n
+may_end-boundary line n utf8 may = elim (may_end-cases line n may) [
+  | inl none ↦ subst (IsCharBoundary line) (sym none) (IsCharBoundary-start line utf8)
+  | inr (plain, past) ↦ elim past [
+    | inl end ↦ subst (IsCharBoundary line) (sym end) (IsCharBoundary-end line)
+    | inr blank ↦
+        let byte = eqb-true (get_or line n 0) 32 blank in
+        (may_end-within line n may, λ _ high. absurd (omega (arith, byte, high)))
+  ]
+]
+
+-- ---- where a character begins
+
+-- whether nothing or a blank stands before the place
+abbrev pub is_after_blank : List ℕ → ℕ → Bool
+is_after_blank line n = (eqb n 0) || is_blank (get_or line (n - 1) 0)
+
+module _ (line : List ℕ) (utf8 : IsUtf8 line) (place c : ℕ) (after : List ℕ)
+    (here : IsCharBoundary line place) (is : drop place line ≡ encode_utf8 c ++ after) where
+  -- each byte of it is a blank where it is one
+  byte-blank : (k : ℕ) → place ≤ k → k < place + length (encode_utf8 c)
+      → is_blank (get_or line k 0) ≡ eqb c 32
+  byte-blank k from below = elim (cases_Bool (eqb c 32)) [
+    | inl blank ↦ rw blank (
+        let low : c < 128 = omega (arith, eqb-true c 32 blank) in
+        let first : k ≡ place = omega (arith, from, below, ap length (encode_ascii c low)) in
+        ap (λ n. is_blank (get_or line n 0)) first
+        ∙ ap is_blank (ascii-here line place c after is low) ∙ blank)
+    | inr other ↦ rw other (plain-bytes line utf8 place c after here is (eqb-false c 32 other) k
+        from below (omega (arith, below, ends-within line place c after is)))
+  ]
+
+  first-blank : is_blank (get_or line place 0) ≡ eqb c 32
+  first-blank = byte-blank place (omega arith) (omega (arith, some-bytes c))
+
+  pub may_end-here : eqb c 32 ≡ true → is_after_blank line place ≡ false
+      → may_end line place ≡ true
+  may_end-here blank some = grind (arith, first-blank, cases_Bool)
+
+  pub may_end-other : (eqb c 32 ≡ true → is_after_blank line place ≡ true)
+      → may_end line place ≡ true → place ≡ 0
+  may_end-other none may = grind (arith, first-blank, may_end-cases, cases_Bool, starts-within)
+
+  -- inside a character no line may end
+  pub may_end-past : (m : ℕ) → place < m → may_end line m ≡ true
+      → place + length (encode_utf8 c) ≤ m
+  may_end-past m past may =
+      character-within line utf8 place c after here is m past (may_end-boundary line m utf8 may)
+
+  pub after_blank-past : (end : ℕ) → end ≡ place + length (encode_utf8 c)
+      → is_after_blank line end ≡ eqb c 32
+  after_blank-past end past =
+      let some : eqb end 0 ≡ false =
+      ne_eqb end 0 (λ none. absurd (omega (arith, past, none, some-bytes c))) in
+      ap (λ b. b || is_blank (get_or line (end - 1) 0)) some
+      ∙ byte-blank (end - 1) (omega (arith, past, some-bytes c)) (omega (arith, past, some-bytes c))
+
+-- ---- the end of the line
+
+pub may_end-whole : (line : List ℕ) → is_after_blank line (length line) ≡ false
+    → may_end line (length line) ≡ true
+may_end-whole line some = grind (arith, cases_Bool, nat_tests)
+
+pub may_end-blanks : (line : List ℕ) → is_after_blank line (length line) ≡ true
+    → may_end line (length line) ≡ true → length line ≡ 0
+may_end-blanks line blank may = grind (arith, may_end-cases, cases_Bool)
+
+-- ---- the words of a line's beginning, where blanks follow it, are the first words of the line
 
 -- blanks at the end of a text are final ones
 pub trimmed_len-blanks : (text bs : List ℕ) → AreBlanks bs
@@ -74,3 +286,78 @@ word_texts-take line n may = elim (blank-follows line n may) [
       ap (λ l. take (length kept) (word_texts l)) (sym (take-append-drop n line))
       ∙ word_texts-front (take n line) (drop n line) follows
 ]
+
+-- ---- the reader that finds how much of a line is kept: where it stands, and the columns before
+-- that
+
+-- whatever characters follow the place, these are the columns of those that the reader has read
+pub record IsReadTo (line : List ℕ) (place : ℕ) (rest : List ℕ) (state : State) (taken : ℕ)
+    (after_blank : Bool) : Type 0 where
+  pub read : IsRead line place rest
+  pub columns : (ds : List ℕ)
+      → columns_in Text (chars (take place line) ++ ds) ≡ taken + columns_in state ds
+  pub blank : after_blank ≡ is_after_blank line place
+
+module _ (line : List ℕ) (utf8 : IsUtf8 line) where
+  pub read_to-start : IsReadTo line 0 line Text 0 true
+  read_to-start = record {
+    read = read-start line utf8;
+    columns = λ ds. ap (λ cs. columns_in Text (cs ++ ds)) chars-nil
+        ∙ sym (zero-add (columns_in Text ds));
+    blank = refl;
+  }
+
+  pub read_to-step : (place end c : ℕ) (rest after : List ℕ) (state : State) (taken : ℕ)
+      (after_blank : Bool) → IsReadTo line place rest state taken after_blank
+      → rest ≡ encode_utf8 c ++ after → end ≡ place + length (encode_utf8 c)
+      → IsReadTo line end after (next_of state c) (taken + added state c) (eqb c 32)
+  read_to-step place end c rest after state taken after_blank h is past =
+      let next = read-next h.read c after is end past in
+      let whole = h.read.place ∙ is in
+      let front = take place line in
+      let bytes : take end line ≡ front ++ encode_utf8 c =
+      ap (λ n. take n line) past ∙ take-add place (length (encode_utf8 c)) line
+      ∙ ap (λ l. front ++ l) (ap (take (length (encode_utf8 c))) whole
+      ∙ take_at (encode_utf8 c) after (length (encode_utf8 c)) refl) in
+      let more = ap chars bytes ∙ chars-push front c (IsUtf8-take line place utf8 h.read.boundary)
+      (subst IsUtf8 bytes (IsUtf8-take line end utf8 next.boundary)) in
+      record {
+        read = next;
+        columns = λ ds. omega (
+          arith,
+          ap (λ cs. columns_in Text (cs ++ ds)) more
+              ∙ ap (columns_in Text) (append_assoc (chars front) (c ∷ []) ds),
+          h.columns (c ∷ ds),
+          columns_in-step state c ds,
+        );
+        blank = sym (after_blank-past line utf8 place c after h.read.boundary whole end past);
+      }
+
+  pub read-width : (place : ℕ) (rest : List ℕ) (state : State) (taken : ℕ) (after_blank : Bool)
+      → IsReadTo line place rest state taken after_blank → text_width (take place line) ≡ taken
+  read-width place rest state taken after_blank h =
+      ap (columns_in Text) (sym (append-nil (chars (take place line)))) ∙ h.columns []
+      ∙ add-zero taken
+
+  pub read-le : (place : ℕ) (rest : List ℕ) (state : State) (taken : ℕ) (after_blank : Bool)
+      → IsReadTo line place rest state taken after_blank → taken ≤ length line
+  read-le place rest state taken after_blank h =
+      omega (
+        arith,
+        read-width place rest state taken after_blank h,
+        text_width-le (take place line) (IsUtf8-take line place utf8 h.read.boundary),
+        length-take-le place line h.read.boundary.0,
+      )
+
+  -- no later beginning has fewer columns
+  pub read-more : (place : ℕ) (rest : List ℕ) (state : State) (taken : ℕ) (after_blank : Bool)
+      → IsReadTo line place rest state taken after_blank → (m : ℕ) → place ≤ m
+      → IsCharBoundary line m → taken ≤ text_width (take m line)
+  read-more place rest state taken after_blank h m later cut =
+      let between = slice_range line place m in
+      let own = IsUtf8-take line place utf8 h.read.boundary in
+      let parts : text_width (take m line) ≡ taken + columns_in state (chars between) =
+      ap text_width (take_slice line place m later)
+      ∙ ap (columns_in Text) (chars-append (take place line) between own)
+      ∙ h.columns (chars between) in
+      omega (arith, parts)

@@ -1,11 +1,75 @@
--- What is open after one sequence more, and that a style is not empty.
-use Rattle.textwrap_base.proofs.Common.{◌≡◌, ℕ, ◌<◌, Bool, true, false, cond, ◌==◌, List, [], ◌∷◌}
-use Rattle.textwrap_base.proofs.Common.{◌++◌, length, refl, sym, ◌∙◌, arith, append-nil, cases_Bool}
-use Rattle.textwrap_base.proofs.Common.{length-append, filter, ne_eqb, nat_tests}
-use Rattle.std.specs.List.{after_first, concat}
-use Rattle.textwrap_display.specs.Styles.{has_target, is_reset, is_style, link_fields}
-use Rattle.textwrap_display.specs.Styles.{open_styles}
-use Rattle.textwrap_display.proofs.OpenAfter.{open_styles-push}
+-- What is open after some sequences, after one more, and once they are written anew.
+use Rattle.textwrap_base.proofs.Common.{◌≡◌, cond, List, [], ◌∷◌, ◌++◌, filter, fold, sym, ap, ◌∙◌}
+use Rattle.textwrap_base.proofs.Common.{append-nil, arith, cases_Bool, append_assoc, ℕ, ◌<◌, Bool}
+use Rattle.textwrap_base.proofs.Common.{true, false, ◌==◌, length, refl, length-append, ne_eqb}
+use Rattle.textwrap_base.proofs.Common.{nat_tests, ◌&&◌, ◌||◌, string_bytes, and_from, Bor, Option}
+use Rattle.textwrap_base.proofs.Common.{All, All-append, All-cons, All-head, All-nil, All-tail}
+use Rattle.textwrap_base.proofs.Common.{subst}
+use Rattle.std.proofs.lemmas.List.Elements.{filter-append}
+use Rattle.textwrap_display.specs.Styles.{has_target, is_link, is_reset, is_style, open_link}
+use Rattle.textwrap_display.specs.Styles.{open_styles, link_fields, closing, link_end, style_end}
+use Rattle.textwrap_display.specs.Styles.{style_parameters}
+use Rattle.textwrap_base.proofs.Lists.Parts.{after_last-push, last_one-push}
+use Rattle.std.specs.List.{after_first, concat, list_all}
+use Rattle.std.specs.Option.{option_copied, option_to_list}
+use Rattle.std.proofs.lemmas.List.Folds.{concat-append}
+use Rattle.textwrap_display.specs.OpenStyles.{IsOpenAfter}
+use Rattle.textwrap_display.specs.declared.styles.OpenStyles.{OpenStyles}
+use Rattle.textwrap_display.proofs.Sequences.{style-no_link, link-no_style, reset-is_style}
+use Rattle.std.proofs.lemmas.List.Sums.{fold_push, fold-append}
+
+-- ---- what is open after some sequences and after one more, or any more
+
+-- the styles after one more sequence
+abbrev pub next_styles : List (List ℕ) → List ℕ → List (List ℕ)
+next_styles styles s = cond (is_reset s) [] (styles ++ filter is_style (s ∷ []))
+
+-- the link after it
+abbrev pub next_link : List (List ℕ) → List ℕ → List (List ℕ)
+next_link link s = cond (is_link s) (filter has_target (s ∷ [])) link
+
+pub open_styles-push : (before : List (List ℕ)) (s : List ℕ)
+    → open_styles (before ++ s ∷ []) ≡ next_styles (open_styles before) s
+open_styles-push before s = grind (arith, cases_Bool, after_last-push, filter-append)
+
+pub open_link-push : (before : List (List ℕ)) (s : List ℕ)
+    → open_link (before ++ s ∷ []) ≡ next_link (open_link before) s
+open_link-push before s = grind (arith, cases_Bool, filter-append, last_one-push, append-nil)
+
+-- ---- and after any more
+
+-- where a step says what is so after one sequence more
+module _ (now : List (List ℕ) → List (List ℕ)) (next : List (List ℕ) → List ℕ → List (List ℕ))
+    (push : (before : List (List ℕ)) (s : List ℕ) → now (before ++ s ∷ []) ≡ next (now before) s)
+  where
+    after-more : (before more : List (List ℕ)) → now (before ++ more) ≡ fold next (now before) more
+    after-more before [] = ap now (append-nil before)
+    after-more before (s ∷ more) =
+        ap now (sym (append_assoc before (s ∷ []) more)) ∙ after-more (before ++ s ∷ []) more
+        ∙ ap (λ there. fold next there more) (push before s)
+
+    -- what is so after these and any more depends on what was so before those
+    after-same : (first second more : List (List ℕ)) → now first ≡ now second
+        → now (first ++ more) ≡ now (second ++ more)
+    after-same first second more same =
+        after-more first more ∙ ap (λ there. fold next there more) same
+        ∙ sym (after-more second more)
+
+pub open_styles-append : (before more : List (List ℕ))
+    → open_styles (before ++ more) ≡ fold next_styles (open_styles before) more
+open_styles-append = after-more open_styles next_styles open_styles-push
+
+pub open_link-append : (before more : List (List ℕ))
+    → open_link (before ++ more) ≡ fold next_link (open_link before) more
+open_link-append = after-more open_link next_link open_link-push
+
+pub styles-follow : (first second more : List (List ℕ)) → open_styles first ≡ open_styles second
+    → open_styles (first ++ more) ≡ open_styles (second ++ more)
+styles-follow = after-same open_styles next_styles open_styles-push
+
+pub link-follows : (first second more : List (List ℕ)) → open_link first ≡ open_link second
+    → open_link (first ++ more) ≡ open_link (second ++ more)
+link-follows = after-same open_link next_link open_link-push
 
 -- ---- what a style is not
 
@@ -44,3 +108,185 @@ pub target-set : (s target : List ℕ) (empty : Bool)
     → target ≡ after_first (λ c. c == 0x3B) (link_fields s) → empty ≡ (length target == 0)
     → cond empty [] (s ∷ []) ≡ cond (has_target s) (s ∷ []) []
 target-set s target empty are is = grind (arith, cases_Bool, nat_tests)
+
+-- ---- what the code keeps of what is open, after one sequence more, and what ends it
+
+-- whether the parameters of a style take all styles back
+abbrev zeros : List ℕ → Bool
+zeros s = list_all (λ c. (c == 0x30) || (c == 0x3B)) (style_parameters s)
+
+module _ {Z : Type 0} (before : List (List ℕ)) (s : List ℕ) (old new : OpenStyles Z)
+    (state : IsOpenAfter before old) where
+  styles-after : (reset style : Bool) → is_reset s ≡ reset → is_style s ≡ style
+      → open_styles (before ++ s ∷ [])
+      ≡ cond reset [] (cond style (open_styles before ++ s ∷ []) (open_styles before))
+  styles-after reset style resets styles = rw (sym resets, sym styles) (styles-push before s)
+
+  -- the link, by what the sequence does
+  link-after : (link : Bool) → is_link s ≡ link → open_link (before ++ s ∷ [])
+      ≡ cond link (cond (has_target s) (s ∷ []) []) (open_link before)
+  link-after link is = rw (sym is) (open_link-push before s)
+
+  same-link : is_link s ≡ false → new.link ≡ old.link
+      → option_to_list (option_copied new.link) ≡ open_link (before ++ s ∷ [])
+  same-link none same =
+      ap (λ l. option_to_list (option_copied l)) same ∙ state.link ∙ sym (link-after false none)
+
+  same-styles : is_style s ≡ false → string_bytes new.styles ≡ string_bytes old.styles
+      → string_bytes new.styles ≡ concat (open_styles (before ++ s ∷ []))
+  same-styles plain same =
+      same ∙ state.styles ∙ ap concat
+      (sym (styles-after false false (ap (λ b. b && zeros s) plain) plain))
+
+  pub after-reset : is_style s ≡ true → zeros s ≡ true → string_bytes new.styles ≡ []
+      → new.link ≡ old.link → IsOpenAfter (before ++ s ∷ []) new
+  after-reset style reset none same = record {
+    styles = none ∙ ap concat
+        (sym (styles-after true true (and_from (is_style s) (zeros s) style reset) style));
+    link = same-link (style-no_link s style) same;
+  }
+
+  pub after-style : is_style s ≡ true → zeros s ≡ false
+      → string_bytes new.styles ≡ string_bytes old.styles ++ s → new.link ≡ old.link
+      → IsOpenAfter (before ++ s ∷ []) new
+  after-style style more added same = record {
+    styles = added ∙ ap (λ l. l ++ s) state.styles
+        ∙ ap (λ l. concat (open_styles before) ++ l) (sym (append-nil s))
+        ∙ sym (concat-append (open_styles before) (s ∷ []))
+        ∙ ap concat (sym (styles-after false true (ap (λ b. b && zeros s) style ∙ more) style));
+    link = same-link (style-no_link s style) same;
+  }
+
+  pub after-link : is_style s ≡ false → is_link s ≡ true
+      → string_bytes new.styles ≡ string_bytes old.styles
+      → option_to_list (option_copied new.link) ≡ cond (has_target s) (s ∷ []) []
+      → IsOpenAfter (before ++ s ∷ []) new
+  after-link plain link same set = record {
+    styles = same-styles plain same;
+    link = set ∙ sym (link-after true link);
+  }
+
+  pub after-other : is_style s ≡ false → is_link s ≡ false
+      → string_bytes new.styles ≡ string_bytes old.styles → new.link ≡ old.link
+      → IsOpenAfter (before ++ s ∷ []) new
+  after-other plain none same same_link =
+      record { styles = same-styles plain same; link = same-link none same_link }
+
+-- what ends all that is open, by whether there are styles and a link
+pub closing-is : {Z : Type 0} (before : List (List ℕ)) (state : OpenStyles Z) (plain : Bool)
+    (link : Option (Bor (List ℕ))) → IsOpenAfter before state
+    → plain ≡ (length (string_bytes state.styles) == 0) → state.link ≡ link
+    → cond plain [] style_end
+    ++ cond (length (option_to_list (option_copied link)) == 0) [] link_end ≡ closing before
+closing-is before state plain link after is same = grind (arith, no_styles)
+
+-- ---- sequences of the other kind change nothing
+
+links-pass : (xs link : List (List ℕ)) → All (λ s. is_link s ≡ false) xs
+    → fold next_link link xs ≡ link
+links-pass [] link none = refl
+links-pass (s ∷ xs) link none =
+    ap (λ b. fold next_link (cond b (filter has_target (s ∷ [])) link) xs)
+    (All-head (λ t. is_link t ≡ false) s xs none)
+    ∙ links-pass xs link (All-tail (λ t. is_link t ≡ false) s xs none)
+
+no_reset : (s : List ℕ) → is_style s ≡ false → is_reset s ≡ false
+no_reset s none = grind (arith, cases_Bool, reset-is_style)
+
+styles-pass : (xs styles : List (List ℕ)) → All (λ s. is_style s ≡ false) xs
+    → fold next_styles styles xs ≡ styles
+styles-pass [] styles none = refl
+styles-pass (s ∷ xs) styles none =
+    let here = All-head (λ t. is_style t ≡ false) s xs none in
+    let later = All-tail (λ t. is_style t ≡ false) s xs none in
+    grind (arith, append-nil, no_reset s here, styles-pass xs styles later)
+
+-- ---- what is left open is as it was, if it is written anew
+
+record AreKeptStyles (styles : List (List ℕ)) : Type 0 where
+  again : fold next_styles [] styles ≡ styles
+  no_link : All (λ s. is_link s ≡ false) styles
+
+record IsKeptLink (link : List (List ℕ)) : Type 0 where
+  again : fold next_link [] link ≡ link
+  no_style : All (λ s. is_style s ≡ false) link
+
+keeps-nothing : AreKeptStyles []
+keeps-nothing = record { again = refl; no_link = All-nil (λ t. is_link t ≡ false) }
+
+no_link : IsKeptLink []
+no_link = record { again = refl; no_style = All-nil (λ t. is_style t ≡ false) }
+
+next-styles : (styles : List (List ℕ)) (s : List ℕ) → AreKeptStyles styles
+    → AreKeptStyles (next_styles styles s)
+next-styles styles s kept = by (is_reset s) (is_style s) refl refl
+  where
+    by : (reset set : Bool) → is_reset s ≡ reset → is_style s ≡ set
+        → AreKeptStyles (cond reset [] (styles ++ cond set (s ∷ []) []))
+    by true set resets sets = keeps-nothing
+    by false false resets sets = subst AreKeptStyles (sym (append-nil styles)) kept
+    by false true resets sets = record {
+      again = fold_push next_styles [] styles s
+          ∙ ap (λ st. next_styles st s) kept.again
+          ∙ ap (λ b. cond b [] (styles ++ filter is_style (s ∷ []))) resets
+          ∙ ap (λ b. styles ++ cond b (s ∷ []) []) sets;
+      no_link = All-append (λ t. is_link t ≡ false) styles (s ∷ []) kept.no_link
+          (All-cons (λ t. is_link t ≡ false) s [] (style-no_link s sets)
+          (All-nil (λ t. is_link t ≡ false)));
+    }
+
+next-link : (link : List (List ℕ)) (s : List ℕ) → IsKeptLink link → IsKeptLink (next_link link s)
+next-link link s kept = by (is_link s) (has_target s) refl refl
+  where
+    by : (sets target : Bool) → is_link s ≡ sets → has_target s ≡ target
+        → IsKeptLink (cond sets (cond target (s ∷ []) []) link)
+    by false target is has = kept
+    by true false is has = no_link
+    by true true is has = record {
+      again = ap (λ b. cond b (filter has_target (s ∷ [])) []) is
+          ∙ ap (λ b. cond b (s ∷ []) []) has;
+      no_style = All-cons (λ t. is_style t ≡ false) s [] (link-no_style s is)
+          (All-nil (λ t. is_style t ≡ false));
+    }
+
+-- what each step keeps, all keep
+fold-keeps : (P : List (List ℕ) → Type 0) (next : List (List ℕ) → List ℕ → List (List ℕ))
+    → ((now : List (List ℕ)) (s : List ℕ) → P now → P (next now s))
+    → (before now : List (List ℕ)) → P now → P (fold next now before)
+fold-keeps P next step [] now kept = kept
+fold-keeps P next step (s ∷ before) now kept =
+    fold-keeps P next step before (next now s) (step now s kept)
+
+kept-styles : (before : List (List ℕ)) → AreKeptStyles (open_styles before)
+kept-styles before =
+    subst AreKeptStyles (sym (open_styles-append [] before))
+    (fold-keeps AreKeptStyles next_styles next-styles before [] keeps-nothing)
+
+kept-link : (before : List (List ℕ)) → IsKeptLink (open_link before)
+kept-link before =
+    subst IsKeptLink (sym (open_link-append [] before))
+    (fold-keeps IsKeptLink next_link next-link before [] no_link)
+
+-- ---- and so it is after sequences that leave nothing open
+
+pub styles-again : (front before : List (List ℕ)) → open_styles front ≡ []
+    → open_styles (front ++ (open_link before ++ open_styles before)) ≡ open_styles before
+styles-again front before plain =
+    grind (
+      arith,
+      fold-append,
+      open_styles-append,
+      (kept-styles before).again,
+      styles-pass (open_link before) [] (kept-link before).no_style,
+    )
+
+pub link-again : (front before : List (List ℕ)) → open_link front ≡ []
+    → open_link (front ++ (open_link before ++ open_styles before)) ≡ open_link before
+link-again front before plain =
+    grind (
+      arith,
+      fold-append,
+      open_link-append,
+      (kept-link before).again,
+      links-pass (open_styles before) (open_link before) (kept-styles before).no_link,
+    )

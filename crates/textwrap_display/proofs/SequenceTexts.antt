@@ -1,18 +1,42 @@
--- A sequence of a text, as a text by itself, and such sequences in a row.
-use Rattle.textwrap_base.proofs.Common.{◌≡◌, ℕ, inl, List, [], ◌∷◌, ◌++◌, All, All-cons, All-head}
-use Rattle.textwrap_base.proofs.Common.{All-nil, All-tail, ap, append-nil, chars_from_encodes}
+-- Texts of whole sequences and texts between them: their units, and what they show.
+use Rattle.textwrap_base.proofs.Common.{◌≡◌, List, ◌++◌, All, All-append, ap, chars-append}
+use Rattle.textwrap_base.proofs.Common.{IsUtf8-append, subst, sym, ◌∙◌, ℕ, inl, [], ◌∷◌, All-cons}
+use Rattle.textwrap_base.proofs.Common.{All-head, All-nil, All-tail, append-nil, chars_from_encodes}
 use Rattle.textwrap_base.proofs.Common.{chars-nil, encode_utf8_all, encodes-chars, flat_map, map}
-use Rattle.textwrap_base.proofs.Common.{IsUtf8, IsUtf8-nil, refl, subst, sym, ◌∙◌}
-use Rattle.textwrap_base.proofs.Characters.{utf8-back, utf8-front}
+use Rattle.textwrap_base.proofs.Common.{IsUtf8, IsUtf8-nil, refl, Bool, true, false, cond, ◌==◌}
+use Rattle.textwrap_base.proofs.Common.{fold, length, arith, cases_Bool, codes, eqb-true}
+use Rattle.textwrap_base.proofs.Common.{nil_from_length, take, append_assoc, flat_map-append}
 use Rattle.std.specs.Str.{chars}
+use Rattle.textwrap_words.specs.Units.{IsWhole, units, characters, Sequence, TextUnit, Visible}
+use Rattle.textwrap_words.specs.Units.{visible_of, ends, visible}
+use Rattle.textwrap_lines.proofs.Text.Paragraphs.{units-append}
+use Rattle.textwrap_display.specs.Styled.{IsWholeText, styled, StyledCharacter, styled_text}
+use Rattle.textwrap_base.proofs.Texts.{utf8-back, utf8-front}
 use Rattle.std.specs.List.{concat}
-use Rattle.textwrap_words.specs.Units.{characters, IsWhole, Sequence, TextUnit, units, Visible}
-use Rattle.textwrap_words.specs.Units.{visible_of}
-use Rattle.textwrap_words.proofs.Units.Parts.{units-tile}
-use Rattle.textwrap_words.proofs.Units.Unique.{units_unique}
-use Rattle.textwrap_display.specs.Styled.{IsWholeText}
-use Rattle.textwrap_display.specs.Styles.{sequence_of, sequences}
-use Rattle.textwrap_display.proofs.WholeTexts.{text_units-append, whole_text-append}
+use Rattle.textwrap_words.proofs.Units.Texts.{units-tile, units_unique}
+use Rattle.textwrap_display.specs.Styles.{sequence_of, sequences, closing, link_end, open_link}
+use Rattle.textwrap_display.specs.Styles.{open_styles, style_end}
+use Rattle.std.proofs.lemmas.Bool.{agree_below_at}
+use lib.Utf8.{encode}
+use Rattle.textwrap_display.proofs.OpenSequences.{next_link, next_styles, open_link-append}
+use Rattle.textwrap_display.proofs.OpenSequences.{open_styles-append, open_link-push}
+use Rattle.textwrap_display.proofs.OpenSequences.{open_styles-push}
+
+-- ---- the units of texts of whole sequences that are put together
+
+pub text_units-append : (xs ys : List ℕ) → IsWholeText xs
+    → units (chars (xs ++ ys)) ≡ units (chars xs) ++ units (chars ys)
+text_units-append xs ys whole =
+    ap units (chars-append xs ys whole.0) ∙ units-append (chars xs) (chars ys) whole.1
+
+pub whole_text-append : (xs ys : List ℕ) → IsWholeText xs → IsWholeText ys → IsWholeText (xs ++ ys)
+whole_text-append xs ys first second = (
+  IsUtf8-append xs ys first.0 second.0,
+  subst (All IsWhole) (sym (text_units-append xs ys first))
+      (All-append IsWhole (units (chars xs)) (units (chars ys)) first.1 second.1),
+)
+
+-- ---- a sequence of a text, as a text by itself, and such sequences in a row
 
 -- a text that is one whole sequence
 pub record IsSequence (s : List ℕ) : Type 0 where
@@ -94,3 +118,180 @@ units-again (s ∷ xs) are =
 pub none-visible : (xs : List (List ℕ)) → flat_map visible_of (sequence_units xs) ≡ []
 none-visible [] = refl
 none-visible (s ∷ xs) = none-visible xs
+
+-- ---- what ends the styles and the link that are open
+
+-- the sequences that end these
+abbrev ends_of : List (List ℕ) → List (List ℕ) → List (List ℕ)
+ends_of styles link =
+    cond (length styles == 0) [] (style_end ∷ []) ++ cond (length link == 0) [] (link_end ∷ [])
+
+abbrev pub closing_sequences : List (List ℕ) → List (List ℕ)
+closing_sequences before = ends_of (open_styles before) (open_link before)
+
+pub closing-is : (before : List (List ℕ)) → closing before ≡ concat (closing_sequences before)
+closing-is before = grind (arith, cases_Bool)
+
+style_end-is : IsSequence style_end
+unfolding chars encode
+style_end-is =
+    let body = codes "[0m" in
+    record {
+      utf8 = (style_end, (refl, refl));
+      unit = refl;
+      whole = (
+        body,
+        refl,
+        refl,
+        λ k. agree_below_at (λ i. ends (take i body)) (λ i. false) 3 k refl,
+      );
+    }
+
+link_end-is : IsSequence link_end
+unfolding chars encode
+link_end-is =
+    let body = codes "]8;;\u{1b}\\" in
+    record {
+      utf8 = (link_end, (refl, refl));
+      unit = refl;
+      whole = (
+        body,
+        refl,
+        refl,
+        λ k. agree_below_at (λ i. ends (take i body)) (λ i. false) 6 k refl,
+      );
+    }
+
+pub closing-sequences : (before : List (List ℕ)) → All IsSequence (closing_sequences before)
+closing-sequences before = by (length (open_styles before) == 0) (length (open_link before) == 0)
+  where
+    one : (s : List ℕ) → IsSequence s → (b : Bool) → All IsSequence (cond b [] (s ∷ []))
+    one s is true = All-nil IsSequence
+    one s is false = All-cons IsSequence s [] is (All-nil IsSequence)
+
+    by : (plain unlinked : Bool) → All IsSequence
+        (cond plain [] (style_end ∷ []) ++ cond unlinked [] (link_end ∷ []))
+    by plain unlinked =
+        All-append IsSequence (cond plain [] (style_end ∷ [])) (cond unlinked [] (link_end ∷ []))
+        (one style_end style_end-is plain) (one link_end link_end-is unlinked)
+
+-- ---- nothing is open after them
+
+styles-end : (styles link : List (List ℕ)) → fold next_styles styles (ends_of styles link) ≡ []
+styles-end styles link = grind (arith, cases_Bool, nil_from_length, eqb-true, append-nil)
+
+link-end : (styles link : List (List ℕ)) → fold next_link link (ends_of styles link) ≡ []
+link-end styles link = grind (arith, cases_Bool, nil_from_length, eqb-true)
+
+pub styles-ended : (before : List (List ℕ)) → open_styles (before ++ closing_sequences before) ≡ []
+styles-ended before =
+    open_styles-append before (closing_sequences before)
+    ∙ styles-end (open_styles before) (open_link before)
+
+pub link-ended : (before : List (List ℕ)) → open_link (before ++ closing_sequences before) ≡ []
+link-ended before =
+    open_link-append before (closing_sequences before)
+    ∙ link-end (open_styles before) (open_link before)
+
+-- ---- what units show after some sequences, by what these leave open
+
+-- where this link and these styles are open
+styled_from : List (List ℕ) → List (List ℕ) → List TextUnit → List StyledCharacter
+styled_from link styles [] = []
+styled_from link styles (Visible c ∷ us) =
+    record { character = c; link = link; styles = styles } ∷ styled_from link styles us
+styled_from link styles (Sequence cs ∷ us) =
+    styled_from (next_link link (encode_utf8_all cs)) (next_styles styles (encode_utf8_all cs)) us
+
+styled-from : (us : List TextUnit) (before : List (List ℕ))
+    → styled before us ≡ styled_from (open_link before) (open_styles before) us
+unfolding styled_from
+styled-from [] before = refl
+styled-from (Visible c ∷ us) before =
+    ap (λ shown. record { character = c; link = open_link before; styles = open_styles before }
+    ∷ shown) (styled-from us before)
+styled-from (Sequence cs ∷ us) before =
+    let s = encode_utf8_all cs in
+    styled-from us (before ++ s ∷ [])
+    ∙ ap (λ link. styled_from link (open_styles (before ++ s ∷ [])) us) (open_link-push before s)
+    ∙ ap (λ styles. styled_from (next_link (open_link before) s) styles us)
+    (open_styles-push before s)
+
+-- units show the same where the same is open
+pub styled-same : (us : List TextUnit) (first second : List (List ℕ))
+    → open_link first ≡ open_link second → open_styles first ≡ open_styles second
+    → styled first us ≡ styled second us
+styled-same us first second links styles = grind (arith, styled-from)
+
+pub styled-append : (us vs : List TextUnit) (before : List (List ℕ))
+    → styled before (us ++ vs)
+    ≡ styled before us ++ styled (before ++ flat_map sequence_of us) vs
+styled-append [] vs before = ap (λ b. styled b vs) (sym (append-nil before))
+styled-append (Visible c ∷ us) vs before =
+    ap (λ shown. record { character = c; link = open_link before; styles = open_styles before }
+    ∷ shown) (styled-append us vs before)
+styled-append (Sequence cs ∷ us) vs before =
+    grind (arith, append_assoc, styled-append us vs (before ++ encode_utf8_all cs ∷ []))
+
+-- sequences show nothing
+pub sequences-show : (xs before : List (List ℕ)) → styled before (sequence_units xs) ≡ []
+sequences-show [] before = refl
+sequences-show (s ∷ xs) before = sequences-show xs (before ++ encode_utf8_all (chars s) ∷ [])
+
+-- ---- what stands before a text, and the text, between sequences: its units, and what it shows
+
+flat_map-four : {X A : Type 0} (f : X → List A) (xs ys zs ws : List X)
+    → flat_map f (xs ++ ys ++ zs ++ ws)
+    ≡ flat_map f xs ++ flat_map f ys ++ flat_map f zs ++ flat_map f ws
+flat_map-four f xs ys zs ws = simp flat_map-append
+
+module _ (front text : List ℕ) (starts ends : List (List ℕ)) (front_whole : IsWholeText front)
+    (text_whole : IsWholeText text) (are_starts : All IsSequence starts)
+    (are_ends : All IsSequence ends) where
+  parts-units : units (chars (front ++ concat starts ++ text ++ concat ends))
+      ≡ units (chars front) ++ sequence_units starts ++ units (chars text) ++ sequence_units ends
+  parts-units =
+      let start = concat starts in
+      let started = concat-whole starts are_starts in
+      let first = whole_text-append front start front_whole started in
+      let second = whole_text-append (front ++ start) text first text_whole in
+      text_units-append (front ++ start ++ text) (concat ends) second
+      ∙ ap (λ us. us ++ units (chars (concat ends))) (text_units-append (front ++ start) text first
+      ∙ ap (λ us. us ++ units (chars text)) (text_units-append front start front_whole
+      ∙ ap (λ us. units (chars front) ++ us) (concat-units starts are_starts)))
+      ∙ ap (λ us. units (chars front) ++ sequence_units starts ++ units (chars text) ++ us)
+      (concat-units ends are_ends)
+
+  pub parts-sequences : sequences (front ++ concat starts ++ text ++ concat ends)
+      ≡ sequences front ++ starts ++ sequences text ++ ends
+  parts-sequences = grind (arith, parts-units, flat_map-four, units-again)
+
+  pub parts-visible : visible (chars (front ++ concat starts ++ text ++ concat ends))
+      ≡ visible (chars (front ++ text))
+  parts-visible =
+      grind (
+        arith,
+        parts-units,
+        flat_map-four,
+        none-visible,
+        append-nil,
+        flat_map-append,
+        text_units-append,
+      )
+
+  pub parts-styled : (before : List (List ℕ))
+      → open_link (sequences front ++ starts) ≡ open_link before
+      → open_styles (sequences front ++ starts) ≡ open_styles before
+      → styled_text [] (front ++ concat starts ++ text ++ concat ends)
+      ≡ styled_text [] front ++ styled_text before text
+  parts-styled before links styles =
+      grind (
+        arith,
+        parts-units,
+        styled-append,
+        sequences-show,
+        append-nil,
+        flat_map-append,
+        units-again,
+        styled-same,
+      )

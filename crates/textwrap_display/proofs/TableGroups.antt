@@ -1,17 +1,80 @@
--- The groups of a table's texts, and the cells of each.
-use Rattle.textwrap_base.proofs.Common.{◌≡◌, ℕ, zero, suc, ◌+◌, ◌-◌, ◌*◌, ◌/◌, ◌<◌, ◌⊎◌, List, []}
-use Rattle.textwrap_base.proofs.Common.{◌∷◌, ◌++◌, min, length, take, drop, map, refl, sym, ap, ◌∙◌}
-use Rattle.textwrap_base.proofs.Common.{arith, inl, inr, subst, length-append}
-use Rattle.textwrap_base.proofs.Common.{append_assoc, Bor, cases_lt, range_with_len}
-use Rattle.textwrap_base.proofs.Common.{take_at, drop_at, drop-drop}
-use Rattle.std.proofs.lemmas.List.{take_min, drop_min}
+-- The groups of a table's texts, the cells of each, and the rows of these.
+use Rattle.textwrap_base.proofs.Common.{◌≡◌, ℕ, zero, suc, ◌+◌, ◌*◌, ◌<◌, ◌≤◌, List, [], ◌∷◌, ◌++◌}
+use Rattle.textwrap_base.proofs.Common.{ap, arith, CowStr, get_or, get_or-map, length}
+use Rattle.textwrap_base.proofs.Common.{length-append, length-map, refl, sym, Vec, zip, ◌∙◌, ◌-◌}
+use Rattle.textwrap_base.proofs.Common.{◌/◌, ◌⊎◌, min, take, drop, map, inl, inr, subst}
+use Rattle.textwrap_base.proofs.Common.{append_assoc, Bor, cases_lt, range_with_len, take_at}
+use Rattle.textwrap_base.proofs.Common.{drop_at, drop-drop, All, All-head, All-tail}
+use Rattle.std.proofs.Common.{replicate}
+use Rattle.std.proofs.lemmas.List.{length-replicate, take_min, drop_min}
+use Rattle.std.proofs.lemmas.Slice.Zip.{get_or-zip, length-zip, AllZip-long}
+use Rattle.std.specs.Cow.{cow_str_bytes}
+use Rattle.textwrap.proofs.Text.Tables.{cell_is}
+use Rattle.textwrap_display.specs.Shortening.{texts_of}
+use Rattle.textwrap_display.specs.Tables.{cell_line, cell_texts, Shape, shown, shown_lines}
+use Rattle.textwrap_display.specs.Tables.{AreCells, group_rows, groups_of, IsTableBy, RowGaps}
+use Rattle.textwrap_display.specs.Tables.{texts_in, ColumnMakes, ColumnParts, HaveParts, IsTable}
+use Rattle.textwrap_display.specs.Tables.{IsTableOf, PartsMake, shape_of, shape_of_parts}
+use Rattle.textwrap_display.specs.Tables.{rows_of_cells}
 use Rattle.std.proofs.Math.Nat.{add-div_right, div-eq_of_lt, div-le_self}
 use Rattle.std.specs.Fork.{slice_chunk}
 use Rattle.std.specs.Slice.Iter.{chunk_count}
-use Rattle.std.specs.List.{AllZip}
+use Rattle.std.specs.List.{AllZip, flat_map}
 use Rattle.textwrap_lines.proofs.Common.{Line, line_bytes}
-use Rattle.textwrap_display.specs.Tables.{AreCells, group_rows, groups_of, IsTableBy, RowGaps}
-use Rattle.textwrap_display.specs.Tables.{Shape, texts_in}
+use Rattle.textwrap_lines.proofs.Paragraph.Pieces.{lines-as}
+use Rattle.textwrap_display.specs.declared.tables.Column.{Column}
+
+-- ---- the cells of a row: their lines, and what the columns show of them
+
+-- an empty cell after the others is as none
+padded-at : (cells : List (List (List ℕ))) (count at : ℕ)
+    → get_or (cells ++ replicate count []) at [] ≡ get_or cells at []
+padded-at [] zero at = refl
+padded-at [] (suc count) zero = refl
+padded-at [] (suc count) (suc at) = padded-at [] count at
+padded-at (cell ∷ cells) count zero = refl
+padded-at (cell ∷ cells) count (suc at) = padded-at cells count at
+
+-- the text of the line that a cell has in a row
+pub line-is : {Z : Type 0} (cells : List (Vec (CowStr Z) Z)) (at r : ℕ) (cell : Vec (CowStr Z) Z)
+    (line : CowStr Z) → at < length cells → cell ≡ get_or cells at cell → r < length cell.items
+    → line ≡ get_or cell.items r line
+    → cell_line (get_or (cell_texts cells) at []) r ≡ cow_str_bytes line
+line-is cells at r cell line within is inside there =
+    let place : r ≡ r + 0 * 0 = omega arith in
+    ap (λ x. get_or x r []) (get_or-map (λ x. texts_of x.items) cells at cell [] within
+    ∙ ap (λ x. texts_of x.items) (sym is))
+    ∙ ap (λ n. get_or (texts_of cell.items) n []) place
+    ∙ cell_is cell.items line 0 r 0 r place inside there
+
+module _ (columns : List Shape) (cells : List (List (List ℕ))) where
+  -- the cells, with an empty one for each column after them
+  abbrev padded : List (List (List ℕ))
+  padded = cells ++ replicate (length columns) []
+
+  pub length-padded : length columns ≤ length padded
+  length-padded =
+      omega (
+        arith,
+        length-append cells (replicate (length columns) []),
+        length-replicate {A = List (List ℕ)} (length columns) [],
+      )
+
+  length-zipped : length (zip columns padded) ≡ length columns
+  length-zipped = omega (arith, length-zip columns padded, length-padded)
+
+  pub length-shown : (r : ℕ) → length (shown_lines columns cells r) ≡ length columns
+  length-shown r = length-map (zip columns padded) (λ p. shown p.0 p.1 r) ∙ length-zipped
+
+  pub shown-at : (r at : ℕ) (shape : Shape) → at < length columns → shape ≡ get_or columns at shape
+      → get_or (shown_lines columns cells r) at [] ≡ shown shape (get_or cells at []) r
+  shown-at r at shape within is =
+      get_or-map (λ p. shown p.0 p.1 r) (zip columns padded) at (shape, []) []
+      (omega (arith, within, length-zipped))
+      ∙ ap (λ p. shown p.0 p.1 r) (get_or-zip columns padded at (shape, []) within
+      (omega (arith, within, length-padded)))
+      ∙ ap (λ s. shown s (get_or padded at []) r) (sym is)
+      ∙ ap (λ l. shown shape l r) (padded-at cells (length columns) at)
 
 -- ---- how many groups there are
 
@@ -136,3 +199,130 @@ module _ {X : Type 0} (Makes : X → List ℕ → List Line → Type 0) where
               (sym (ap (groups_of (length columns)) whole ∙ parted)) (are, all),
           ap (λ rows. group_rows gaps (map shape columns) cells ++ rows) given,
         )
+
+-- ---- columns of any kind, and others that make the same lines in the same shape
+
+module _ {X Y : Type 0} (Makes : X → List ℕ → List Line → Type 0)
+    (Others : Y → List ℕ → List Line → Type 0) (shape : X → Shape) (other_shape : Y → Shape) where
+  pub record MakesThose (x : X) (y : Y) : Type 0 where
+    pub makes : (text : List ℕ) (lines : List Line) → Makes x text lines → Others y text lines
+    pub shape_is : shape x ≡ other_shape y
+
+  abbrev pub MakeThose : List X → List Y → Type 0
+  MakeThose = AllZip MakesThose
+
+  shapes-as : (columns : List X) (others : List Y) → MakeThose columns others
+      → map shape columns ≡ map other_shape others
+  shapes-as [] [] make = refl
+  shapes-as [] (y ∷ others) make = absurd make
+  shapes-as (x ∷ columns) [] make = absurd make
+  shapes-as (x ∷ columns) (y ∷ others) (first, make) =
+      let same = first.shape_is in
+      cc (shapes-as columns others make)
+
+  cells-as : (columns : List X) (others : List Y) → MakeThose columns others
+      → (texts : List (List ℕ)) (cells : List (List (List ℕ)))
+      → AreCells Makes columns texts cells → AreCells Others others texts cells
+  cells-as [] [] make texts cells are = are
+  cells-as [] (y ∷ others) make texts cells are = absurd make
+  cells-as (x ∷ columns) [] make texts cells are = absurd make
+  cells-as (x ∷ columns) (y ∷ others) make [] cells are = are
+  cells-as (x ∷ columns) (y ∷ others) make (text ∷ texts) [] are = absurd are
+  cells-as (x ∷ columns) (y ∷ others) (first, make) (text ∷ texts) (cell ∷ cells)
+      ((lines, made, is), are) =
+      ((lines, first.makes text lines made, is), cells-as columns others make texts cells are)
+
+  groups-as : (columns : List X) (others : List Y) → MakeThose columns others
+      → (texts : List (List (List ℕ))) (groups : List (List (List (List ℕ))))
+      → AllZip (AreCells Makes columns) texts groups → AllZip (AreCells Others others) texts groups
+  groups-as columns others make [] [] are = are
+  groups-as columns others make [] (cells ∷ groups) are = absurd are
+  groups-as columns others make (group ∷ texts) [] are = absurd are
+  groups-as columns others make (group ∷ texts) (cells ∷ groups) (first, are) =
+      (cells-as columns others make group cells first, groups-as columns others make texts groups are)
+
+  pub table-map : (columns : List X) (others : List Y) → MakeThose columns others
+      → (gaps : RowGaps) (texts rows : List (List ℕ))
+      → IsTableBy Makes shape columns gaps texts rows
+      → IsTableBy Others other_shape others gaps texts rows
+  table-map columns others make gaps texts rows (groups, are, given) = (
+    groups,
+    groups-as columns others make (groups_of (length others) texts) groups
+        (subst (λ n. AllZip (AreCells Makes columns) (groups_of n texts) groups)
+        (sym (AllZip-long _ columns others make)) are),
+    rw (← shapes-as columns others make) given,
+  )
+
+-- ---- built-in parts
+
+module _ {E C : Type 0} {e : _} {c : _} where
+  parts-make : (columns : List (Column E C e c)) (parts : List ColumnParts) → HaveParts columns parts
+      → MakeThose ColumnMakes PartsMake shape_of shape_of_parts columns parts
+  parts-make [] [] have = have
+  parts-make [] (p ∷ parts) have = absurd have
+  parts-make (column ∷ columns) [] have = absurd have
+  parts-make (column ∷ columns) (p ∷ parts) ((has, alignment), have) = (
+    record {
+      makes = lines-as column.options p.settings p.splitter p.algorithm has;
+      shape_is = let width = ap (λ s. s.width) has.settings_are in cc (alignment);
+    },
+    parts-make columns parts have,
+  )
+
+  pub table-as : (columns : List (Column E C e c)) (parts : List ColumnParts)
+      → HaveParts columns parts → (gaps : RowGaps) (texts rows : List (List ℕ))
+      → IsTable columns gaps texts rows → IsTableOf parts gaps texts rows
+  table-as columns parts have =
+      table-map ColumnMakes PartsMake shape_of shape_of_parts columns parts
+      (parts-make columns parts have)
+
+-- ---- the rows of cells that have their lines, group by group
+
+module _ (gaps : RowGaps) (columns : List Shape) where
+  pub cells-rows-none : (cells : List (List (List ℕ))) → length cells ≡ 0
+      → rows_of_cells gaps columns cells ≡ []
+  cells-rows-none [] none =
+      let few : chunk_count 0 (length columns) ≡ 0 = omega arith in
+      ap (λ n. flat_map (group_rows gaps columns)
+      (map (slice_chunk [] (length columns)) (range_with_len 0 n))) few
+  cells-rows-none (cell ∷ cells) none = absurd (omega (arith, none))
+
+  -- the rows of the first group, and those of the others
+  pub cells-rows-more : (cells front rest : List (List (List ℕ))) → 0 < length columns
+      → cells ≡ front ++ rest → length front ≡ min (length columns) (length cells)
+      → 0 < length cells → rows_of_cells gaps columns cells
+      ≡ group_rows gaps columns front ++ rows_of_cells gaps columns rest
+  cells-rows-more cells front rest some whole is more =
+      ap (flat_map (group_rows gaps columns)) (ap (groups_of (length columns)) whole
+      ∙ groups-more (length columns) front rest some (subst (λ cs. 0 < length cs) whole more)
+      (is ∙ ap (λ cs. min (length columns) (length cs)) whole))
+
+-- ---- texts of a table whose pieces fit 64 bits: the first of them, and those after it
+
+module _ {X : Type 0} (P : X × List ℕ → Type 0) (columns others : List X)
+    (texts rest : List (Bor (List ℕ))) (column : X) (text : Bor (List ℕ))
+    (first : texts ≡ text ∷ rest) (second : columns ≡ column ∷ others)
+    (fit : All P (zip columns (texts_in texts))) where
+  in_columns : All P ((column, text.now) ∷ zip others (texts_in rest))
+  in_columns = subst (λ ts. All P (zip (column ∷ others) (texts_in ts))) first
+      (subst (λ cs. All P (zip cs (texts_in texts))) second fit)
+
+  pub fits-first : P (column, text.now)
+  fits-first = All-head P (column, text.now) (zip others (texts_in rest)) in_columns
+
+  pub fit-rest : All P (zip others (texts_in rest))
+  fit-rest = All-tail P (column, text.now) (zip others (texts_in rest)) in_columns
+
+module _ (P : List (List ℕ) → Type 0) (count : ℕ) (texts front rest : List (List ℕ))
+    (some : 0 < count) (whole : texts ≡ front ++ rest) (more : 0 < length texts)
+    (is : length front ≡ min count (length texts)) (fit : All P (groups_of count texts)) where
+  in_groups : All P (front ∷ groups_of count rest)
+  in_groups = subst (All P) (ap (groups_of count) whole
+      ∙ groups-more count front rest some (subst (λ ts. 0 < length ts) whole more)
+      (is ∙ ap (λ ts. min count (length ts)) whole)) fit
+
+  pub group_fits : P front
+  group_fits = All-head P front (groups_of count rest) in_groups
+
+  pub groups_fit : All P (groups_of count rest)
+  groups_fit = All-tail P front (groups_of count rest) in_groups

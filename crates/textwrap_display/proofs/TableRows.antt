@@ -1,16 +1,213 @@
--- The text of a row, one column after another.
-use Rattle.textwrap_base.proofs.Common.{◌≡◌, ℕ, zero, suc, ◌+◌, ◌-◌, ◌<◌, ◌≤◌, cond, List, [], ◌∷◌}
-use Rattle.textwrap_base.proofs.Common.{◌++◌, ap, arith, get_or, get_or-map, length, length-append}
-use Rattle.textwrap_base.proofs.Common.{length-map, map, ne_eqb, sym, take, take_all, take_more}
-use Rattle.textwrap_base.proofs.Common.{◌∙◌}
-use Rattle.textwrap_lines.proofs.Common.{join_with, line_bytes}
-use Rattle.textwrap_lines.proofs.Text.Lines.{join-push}
-use Rattle.textwrap_words.specs.Units.{text_width}
+-- The rows of a table: their text, that they are even, and that they show each line once.
+use Rattle.textwrap_base.proofs.Common.{◌≡◌, ℕ, ◌+◌, ◌-◌, ◌≤◌, max, List, [], ◌∷◌, ◌++◌, All}
+use Rattle.textwrap_base.proofs.Common.{All-cons, All-map, All-nil, ap, arith, cases_lt, fold}
+use Rattle.textwrap_base.proofs.Common.{get_or, get_or_past, inl, inr, length, map, range_with_len}
+use Rattle.textwrap_base.proofs.Common.{refl, sym, ◌<◌, ◌∙◌, zero, suc, ◌*◌, All-head, All-tail}
+use Rattle.textwrap_base.proofs.Common.{append_assoc, length-map, subst, sum_by, sum_by-cons, zip}
+use Rattle.textwrap_base.proofs.Common.{cond, get_or-map, length-append, ne_eqb, take, take_all}
+use Rattle.textwrap_base.proofs.Common.{take_more}
+use Rattle.std.proofs.Common.{replicate}
+use Rattle.textwrap.proofs.Text.Tables.{lines-kept}
 use Rattle.textwrap_display.specs.Alignment.{aligned}
-use Rattle.textwrap_display.specs.Tables.{cell_line, gap_before, row_text, RowGaps, Shape}
-use Rattle.textwrap_display.specs.Tables.{shown_lines}
-use Rattle.textwrap_display.proofs.Aligned.{length-aligned}
-use Rattle.textwrap_display.proofs.TableCells.{length-shown, shown-at}
+use Rattle.textwrap_display.specs.Laws.{cell_shown, row_of, ShowsEachLineOnce, KeepToColumns}
+use Rattle.textwrap_display.specs.Laws.{row_width}
+use Rattle.textwrap_display.specs.Tables.{cell_line, group_rows, height, RowGaps, Shape, shown}
+use Rattle.textwrap_display.specs.Tables.{shown_lines, row_text, gap_before}
+use Rattle.textwrap_display.proofs.TableGroups.{length-shown, shown-at, length-padded}
+use Rattle.std.proofs.Math.Nat.{suc-mul}
+use Rattle.textwrap_lines.proofs.Common.{join_with, line_bytes}
+use Rattle.textwrap_lines.proofs.Text.Paragraphs.{text_width-append}
+use Rattle.textwrap_words.proofs.Word.Words.{text_width-nil}
+use Rattle.textwrap_words.specs.Units.{text_width}
+use Rattle.textwrap_display.specs.Styled.{IsWholeText}
+use Rattle.textwrap_display.proofs.Widths.{aligned-before, length-aligned}
+use Rattle.textwrap_display.proofs.SequenceTexts.{nil-whole}
+use Rattle.textwrap_lines.proofs.Text.Lines.{join-push}
+
+-- ---- the rows of a table show each line once
+
+abbrev higher : ℕ → List (List ℕ) → ℕ
+higher most lines = max most (length lines)
+
+-- no cell is higher
+highest : (most : ℕ) (cells : List (List (List ℕ)))
+    → (most ≤ fold higher most cells) × All (λ lines. length lines ≤ fold higher most cells) cells
+highest most [] = (omega arith, All-nil (λ lines. length lines ≤ most))
+highest most (lines ∷ cells) =
+    let rest = highest (higher most lines) cells in
+    let all = fold higher (higher most lines) cells in (
+      omega (arith, rest.0),
+      All-cons (λ l. length l ≤ all) lines cells (omega (arith, rest.0)) rest.1,
+    )
+
+-- a cell shows its lines, and below them nothing
+lines-shown : (lines : List (List ℕ)) (rows : ℕ) → length lines ≤ rows
+    → map (cell_line lines) (range_with_len 0 rows) ≡ lines ++ replicate (rows - length lines) []
+lines-shown lines rows high =
+    let whole : rows ≡ length lines + (rows - length lines) = omega (arith, high) in
+    ap (λ n. map (cell_line lines) (range_with_len 0 n)) whole
+    ∙ lines-kept lines (rows - length lines)
+
+-- no cell is higher than its row, and none at all is no higher
+cell-high : (cells : List (List (List ℕ))) (at : ℕ) → length (get_or cells at []) ≤ height cells
+cell-high cells at = elim (cases_lt at (length cells)) [
+  | inl within ↦ (highest 0 cells).1 at [] within
+  | inr past ↦ omega (arith, ap length (get_or_past cells at [] past))
+]
+
+-- ---- what functions make of a list
+
+map-twice : {X Y Z : Type 0} (f : Y → Z) (g : X → Y) (xs : List X)
+    → map f (map g xs) ≡ map (λ x. f (g x)) xs
+map-twice f g [] = refl
+map-twice f g (x ∷ xs) = ap (λ l. f (g x) ∷ l) (map-twice f g xs)
+
+map-alike : {X Y : Type 0} (f g : X → Y) (xs : List X) → ((x : X) → f x ≡ g x) → map f xs ≡ map g xs
+map-alike f g [] alike = refl
+map-alike f g (x ∷ xs) alike =
+    ap (λ y. y ∷ map f xs) (alike x) ∙ ap (λ l. g x ∷ l) (map-alike f g xs alike)
+
+-- ---- the rows of a group
+
+module _ (gaps : RowGaps) (columns : List Shape) (cells : List (List (List ℕ))) where
+  abbrev places : List ℕ
+  places = range_with_len 0 (height cells)
+
+  abbrev texts : List (List (List ℕ))
+  texts = map (shown_lines columns cells) places
+
+  column-shown : (at : ℕ) (column : Shape) → at < length columns → column ≡ get_or columns at column
+      → map (λ row. get_or row at []) texts
+      ≡ cell_shown column (height cells) (get_or cells at [])
+  column-shown at column within is =
+      let lines = get_or cells at [] in
+      map-twice (λ row. get_or row at []) (shown_lines columns cells) places
+      ∙ map-alike (λ r. get_or (shown_lines columns cells r) at []) (shown column lines) places
+      (λ r. shown-at columns cells r at column within is)
+      ∙ sym (map-twice (λ line. line_bytes (aligned column.alignment column.width line))
+      (cell_line lines) places)
+      ∙ ap (map (λ line. line_bytes (aligned column.alignment column.width line)))
+      (lines-shown lines (height cells) (cell-high cells at))
+
+  pub each-line-shown : ShowsEachLineOnce gaps columns cells (group_rows gaps columns cells)
+  each-line-shown = record {
+    texts = texts;
+    rows_are = sym (map-twice (row_of gaps) (shown_lines columns cells) places);
+    each_column = All-map (λ row. length row ≡ length columns) (shown_lines columns cells) places
+        (λ k d within. length-shown columns cells (get_or places k d));
+    each_cell = column-shown;
+  }
+
+-- ---- the lines of a cell
+
+abbrev Keeps : Shape → List ℕ → Type 0
+Keeps column line = IsWholeText line × (text_width line ≤ column.width)
+
+abbrev KeepTo : Shape × List (List ℕ) → Type 0
+KeepTo p = All (Keeps p.0) p.1
+
+keeps-nil : (column : Shape) → Keeps column []
+keeps-nil column = (nil-whole, omega (arith, text_width-nil))
+
+keeps-at : (column : Shape) (lines : List (List ℕ)) → All (Keeps column) lines → (r : ℕ)
+    → Keeps column (cell_line lines r)
+keeps-at column lines keep r = elim (cases_lt r (length lines)) [
+  | inl within ↦ keep r [] within
+  | inr past ↦ subst (Keeps column) (sym (get_or_past lines r [] past)) (keeps-nil column)
+]
+
+shown-before : (column : Shape) (lines : List (List ℕ)) → All (Keeps column) lines → (r : ℕ)
+    (text : List ℕ)
+    → text_width (shown column lines r ++ text) ≡ column.width + text_width text
+shown-before column lines keep r text =
+    let ((utf8, whole), fits) = keeps-at column lines keep r in
+    aligned-before column.alignment column.width (cell_line lines r) text utf8 whole fits
+
+-- ---- the columns of a row
+
+-- empty cells after the others keep to any column
+padded-keep : (columns : List Shape) (cells : List (List (List ℕ))) (count : ℕ)
+    → KeepToColumns columns cells
+    → All KeepTo (zip columns (cells ++ replicate count []))
+padded-keep [] cells count keep = All-nil KeepTo
+padded-keep (column ∷ columns) [] zero keep = All-nil KeepTo
+padded-keep (column ∷ columns) [] (suc count) keep =
+    All-cons KeepTo (column, []) (zip columns (replicate count [])) (All-nil (Keeps column))
+    (padded-keep columns [] count (nothing columns))
+  where
+    nothing : (columns : List Shape) → KeepToColumns columns []
+    nothing [] = All-nil KeepTo
+    nothing (column ∷ columns) = All-nil KeepTo
+padded-keep (column ∷ columns) (lines ∷ cells) count keep =
+    All-cons KeepTo (column, lines) (zip columns (cells ++ replicate count []))
+    (All-head KeepTo (column, lines) (zip columns cells) keep)
+    (padded-keep columns cells count (All-tail KeepTo (column, lines) (zip columns cells) keep))
+
+widths-zip : (columns : List Shape) (cells : List (List (List ℕ))) → length columns ≤ length cells
+    → sum_by (λ p. p.0.width) (zip columns cells) ≡ sum_by (λ column. column.width) columns
+widths-zip [] cells few = refl
+widths-zip (column ∷ columns) [] few = absurd (omega arith)
+widths-zip (column ∷ columns) (lines ∷ cells) few =
+    sum_by-cons (λ p. p.0.width) (column, lines) (zip columns cells)
+    ∙ ap (λ n. column.width + n) (widths-zip columns cells (omega (arith, few)))
+    ∙ sym (sum_by-cons (λ c. c.width) column columns)
+
+module _ (middle : List ℕ) (whole : IsWholeText middle) (r : ℕ) where
+  abbrev joined : List (Shape × List (List ℕ)) → List ℕ
+  joined ps = join_with middle (map (λ p. shown p.0 p.1 r) ps)
+
+  joined-before : (ps : List (Shape × List (List ℕ))) → All KeepTo ps → (text : List ℕ)
+      → text_width (joined ps ++ text)
+      ≡ sum_by (λ p. p.0.width) ps + (length ps - 1) * text_width middle + text_width text
+  joined-before [] keep text = omega arith
+  joined-before (p ∷ []) keep text =
+      omega (
+        arith,
+        shown-before p.0 p.1 (All-head KeepTo p [] keep) r text,
+        sum_by-cons (λ q. q.0.width) p [],
+      )
+  joined-before (p ∷ q ∷ ps) keep text =
+      let x = shown p.0 p.1 r in
+      let others = joined (q ∷ ps) in
+      let one : suc (suc (length ps)) - 1 ≡ suc (length ps) = omega arith in
+      let less : suc (length ps) - 1 ≡ length ps = omega arith in
+      omega (
+        arith,
+        ap text_width (append_assoc (x ++ middle) others text
+            ∙ append_assoc x middle (others ++ text)),
+        shown-before p.0 p.1 (All-head KeepTo p (q ∷ ps) keep) r (middle ++ (others ++ text)),
+        text_width-append middle (others ++ text) whole.0 whole.1,
+        joined-before (q ∷ ps) (All-tail KeepTo p (q ∷ ps) keep) text,
+        sum_by-cons (λ s. s.0.width) p (q ∷ ps),
+        ap (λ n. n * text_width middle) one,
+        ap (λ n. n * text_width middle) less,
+        suc-mul (length ps) (text_width middle),
+      )
+
+pub rows-even : (gaps : RowGaps) (columns : List Shape) (cells : List (List (List ℕ)))
+    → IsWholeText gaps.left → IsWholeText gaps.middle → KeepToColumns columns cells
+    → All (λ row. text_width row ≡ row_width gaps columns) (group_rows gaps columns cells)
+rows-even gaps columns cells left middle keep =
+    All-map (λ row. text_width row ≡ row_width gaps columns) (row_text gaps columns cells)
+    (range_with_len 0 (height cells))
+    (λ k d within. even (get_or (range_with_len 0 (height cells)) k d))
+  where
+    even : (r : ℕ) → text_width (row_text gaps columns cells r) ≡ row_width gaps columns
+    even r =
+        let padded = cells ++ replicate (length columns) [] in
+        let ps = zip columns padded in
+        let row = joined gaps.middle middle r ps in
+        let count : length ps ≡ length columns =
+        sym (length-map ps (λ p. shown p.0 p.1 r)) ∙ length-shown columns cells r in
+        omega (
+          arith,
+          ap text_width (append_assoc gaps.left row gaps.right),
+          text_width-append gaps.left (row ++ gaps.right) left.0 left.1,
+          joined-before gaps.middle middle r ps (padded-keep columns cells (length columns) keep)
+              gaps.right,
+          widths-zip columns padded (length-padded columns cells),
+          ap (λ n. (n - 1) * text_width gaps.middle) count,
+        )
 
 -- ---- joined texts
 

@@ -1,17 +1,133 @@
--- The words of a line whose gaps are widened: the same words, each but the last with more blanks.
-use Rattle.textwrap_base.proofs.Common.{◌≡◌, ℕ, ◌-◌, List, [], ◌∷◌, ◌++◌}
-use Rattle.textwrap_base.proofs.Common.{append-nil, ap, arith, drop, length, map, refl, sym, ◌∙◌}
-use Rattle.textwrap_base.proofs.Common.{take, take-append-le}
-use Rattle.std.proofs.lemmas.List.{drop-append-le}
-use Rattle.textwrap_base.proofs.Lists.Parts.{flat}
+-- The words of a line whose gaps are widened.
+use Rattle.textwrap_base.proofs.Common.{◌≡◌, ℕ, zero, suc, ◌+◌, ◌-◌, min, Bool, true, false, cond}
+use Rattle.textwrap_base.proofs.Common.{List, [], ◌∷◌, ◌++◌, drop, refl, ◌<◌, append_assoc, ap}
+use Rattle.textwrap_base.proofs.Common.{arith, length, onto_first, prefix_len, and_parts}
+use Rattle.textwrap_base.proofs.Common.{cases_Bool, not, append-nil, map, sym, ◌∙◌, take}
+use Rattle.textwrap_base.proofs.Common.{take-append-le, ◌≢◌, ◌≤◌, cases_lt, inl, inr, eqb-true}
+use Rattle.textwrap_base.proofs.Common.{get_or, IsUtf8, IsCharBoundary, ne_eqb, nat_tests, ◌/◌}
+use Rattle.textwrap_base.proofs.Common.{◌==◌, ◌||◌, cond_both, take_at}
+use Rattle.std.proofs.lemmas.List.{replicate-append-replicate, drop-append-le, drop_at}
 use Rattle.textwrap.specs.Columns.{blanks}
-use Rattle.textwrap_words.specs.Blanks.{final_blanks, trimmed_len}
-use Rattle.textwrap_words.specs.Words.{chunks, piece, tiled, word_of, words_of, WordText}
-use Rattle.textwrap_words.proofs.Word.Tiling.{tiled-map}
+use Rattle.textwrap_base.proofs.Lists.Parts.{flat, flat-onto_first, onto_first-length}
+use Rattle.textwrap_words.specs.Blanks.{blank, is_blank, final_blanks, trimmed_len, BlanksBetween}
+use Rattle.textwrap_words.specs.Words.{chunks, is_cut, piece, tiled, word_of, words_of, WordText}
+use Rattle.textwrap_words.proofs.Word.Words.{chunks-from, tiled-map}
 use Rattle.textwrap_display.proofs.KeptWords.{trimmed_len-blanks}
-use Rattle.textwrap_display.proofs.WidenedChunks.{widened_chunks}
 use Rattle.textwrap_display.proofs.Widths.{blanks-are}
-use Rattle.textwrap_display.specs.Justifying.{widened_words}
+use Rattle.textwrap_display.specs.Justifying.{widened_words, indent_len, gaps, justified}
+use Rattle.textwrap_display.specs.Justifying.{line_words}
+use Rattle.textwrap_base.proofs.Texts.{IsCharBoundary-after_blank}
+use Rattle.std.proofs.lemmas.Str.{IsCharBoundary-start}
+use Rattle.std.specs.List.{slice_index}
+use Rattle.std.proofs.lemmas.List.Sums.{prefix_len_is, prefix_len_stops, prefix_len-drop_all}
+use Rattle.std.proofs.lemmas.List.Sums.{prefix_len-drop_no}
+use Rattle.std.specs.Prelude.{◌%◌}
+use Rattle.std.proofs.lemmas.Bool.{or_cases}
+use Rattle.std.proofs.lemmas.List.Folds.{length-prefix_len}
+use Rattle.std.proofs.Math.Nat.{zero-div, zero-mod}
+use Rattle.textwrap_lines.specs.Paragraph.{Slice, line_bytes}
+use Rattle.textwrap_words.specs.Units.{text_width}
+use Rattle.textwrap_display.specs.Laws.{KeepsWords}
+
+-- ---- the chunks of a line whose gaps are widened: the same chunks, each but the last with more
+-- blanks
+
+-- chunks with as many blanks more
+abbrev pub widened_chunks : ℕ → ℕ → List (List ℕ) → List (List ℕ)
+widened_chunks each extra [] = []
+widened_chunks each extra (c ∷ []) = c ∷ []
+widened_chunks each extra (c ∷ d ∷ cs) =
+    (c ++ blanks (each + min extra 1)) ∷ widened_chunks each (extra - 1) (d ∷ cs)
+
+-- ---- their text, as it is written
+
+-- a chunk is written, and the gap after it
+pub gap-written : (each left less more : ℕ) (chunk rest after text first second new : List ℕ)
+    → chunks rest ≡ chunk ∷ chunks after → 0 < length after → more ≡ min left 1
+    → less ≡ left - 1 → first ≡ text ++ chunk → second ≡ first ++ blanks each
+    → new ≡ second ++ blanks more
+    → new ++ flat (widened_chunks each less (chunks after))
+    ≡ text ++ flat (widened_chunks each left (chunks rest))
+gap-written each left less more chunk rest [] text first second new begins some most last one two
+    three = absurd (omega (arith, some))
+gap-written each left less more chunk rest (c ∷ cs) text first second new begins some most last one
+    two three =
+    let h = chunks-from c cs in
+    let all = replicate-append-replicate each (min left 1) blank in
+    rw (three, two, one, most, last, begins, h.shape, ← all) (simp append_assoc)
+
+-- ---- their chunks
+
+onto-widened : (each extra b : ℕ) (c : List ℕ) (cs : List (List ℕ))
+    → widened_chunks each extra (onto_first b (c ∷ cs))
+    ≡ onto_first b (widened_chunks each extra (c ∷ cs))
+onto-widened each extra b c [] = refl
+onto-widened each extra b c (d ∷ cs) = refl
+
+-- after a blank, more blanks belong to the same chunk
+blanks-chunk : (k b d : ℕ) (rest : List ℕ) → is_blank b ≡ true → is_blank d ≡ false
+    → chunks (b ∷ (blanks k ++ d ∷ rest)) ≡ (b ∷ blanks k) ∷ chunks (d ∷ rest)
+blanks-chunk zero b d rest blank other = rw (blank, other) refl
+blanks-chunk (suc k) b d rest here other =
+    rw here (ap (onto_first b) (blanks-chunk k blank d rest refl other))
+
+-- the widened chunks begin as the chunks do
+begins : (each extra d : ℕ) (part : List ℕ) (parts : List (List ℕ))
+    → let text = flat (widened_chunks each extra ((d ∷ part) ∷ parts)) in text ≡ d ∷ drop 1 text
+begins each extra d part [] = refl
+begins each extra d part (next ∷ parts) = refl
+
+module _ (each extra c d : ℕ) (part : List ℕ) (parts : List (List ℕ)) where
+  cut-before : is_blank c ≡ true → is_blank d ≡ false
+      → chunks (flat (widened_chunks each (extra - 1) ((d ∷ part) ∷ parts)))
+      ≡ widened_chunks each (extra - 1) ((d ∷ part) ∷ parts)
+      → chunks (flat (widened_chunks each extra ((c ∷ []) ∷ (d ∷ part) ∷ parts)))
+      ≡ widened_chunks each extra ((c ∷ []) ∷ (d ∷ part) ∷ parts)
+  cut-before blank other same =
+      grind (arith, begins each (extra - 1) d part parts, blanks-chunk, same)
+
+  uncut-before : is_cut c d ≡ false
+      → chunks (flat (widened_chunks each extra ((d ∷ part) ∷ parts)))
+      ≡ widened_chunks each extra ((d ∷ part) ∷ parts)
+      → chunks (flat (widened_chunks each extra (onto_first c ((d ∷ part) ∷ parts))))
+      ≡ widened_chunks each extra (onto_first c ((d ∷ part) ∷ parts))
+  uncut-before uncut same =
+      grind (arith, begins each extra d part parts, flat-onto_first, onto-widened, same)
+
+pub widened-chunks : (each extra : ℕ) (line : List ℕ)
+    → chunks (flat (widened_chunks each extra (chunks line)))
+    ≡ widened_chunks each extra (chunks line)
+widened-chunks each extra [] = refl
+widened-chunks each extra (c ∷ []) = refl
+widened-chunks each extra (c ∷ d ∷ cs) =
+    by (is_cut c d) refl (λ e. widened-chunks each e (d ∷ cs))
+  where
+    by : (b : Bool) → is_cut c d ≡ b
+        → ((e : ℕ) → chunks (flat (widened_chunks each e (chunks (d ∷ cs))))
+        ≡ widened_chunks each e (chunks (d ∷ cs)))
+        → chunks (flat (widened_chunks each extra
+        (cond b ((c ∷ []) ∷ chunks (d ∷ cs)) (onto_first c (chunks (d ∷ cs))))))
+        ≡ widened_chunks each extra
+        (cond b ((c ∷ []) ∷ chunks (d ∷ cs)) (onto_first c (chunks (d ∷ cs))))
+    by true cut others =
+        let h = chunks-from d cs in
+        let both = and_parts (is_blank c) (not (is_blank d)) cut in
+        rw h.shape (cut-before each extra c d h.first h.rest both.0 (grind (arith, cases_Bool))
+        (rw h.shape at (others (extra - 1))))
+    by false uncut others =
+        let h = chunks-from d cs in
+        rw h.shape (uncut-before each extra c d h.first h.rest uncut (rw h.shape at (others extra)))
+
+-- a text that begins with no blank begins with none where its gaps are widened
+pub widened-plain : (each extra : ℕ) (text : List ℕ) → prefix_len is_blank text ≡ 0
+    → prefix_len is_blank (flat (widened_chunks each extra (chunks text))) ≡ 0
+widened-plain each extra [] none = refl
+widened-plain each extra (d ∷ ds) none =
+    let h = chunks-from d ds in
+    rw (h.shape, begins each extra d h.first h.rest) (grind (arith, cases_Bool, none))
+
+-- ---- the words of a line whose gaps are widened: the same words, each but the last with more
+-- blanks
 
 -- blanks after a chunk follow its word
 word_of-more : (chunk : List ℕ) (k : ℕ) → word_of (chunk ++ blanks k)
@@ -67,3 +183,105 @@ pub widened-one : (each extra : ℕ) (ws : List WordText) → length ws - 1 ≡ 
 widened-one each extra [] one = refl
 widened-one each extra (w ∷ []) one = refl
 widened-one each extra (w ∷ v ∷ ws) one = absurd (omega (arith, one))
+
+-- ---- how many words a line has at most, and where its first word begins
+
+pub chunks-few : (line : List ℕ) → length (chunks line) ≤ length line
+chunks-few [] = omega arith
+chunks-few (c ∷ []) = omega arith
+chunks-few (c ∷ d ∷ cs) = grind (arith, cases_Bool, onto_first-length, chunks-few (d ∷ cs))
+
+-- blanks up to a place where none stands are all that the text begins with
+pub indent-is : (text : List ℕ) (n : ℕ) → n ≤ length text → BlanksBetween text 0 n
+    → (n < length text → slice_index text n ≢ blank) → n ≡ prefix_len is_blank text
+indent-is text n within blanks stops =
+    sym (prefix_len_is is_blank text n 0 within (λ k below. blanks k (omega arith) below)
+    (λ inside. ne_eqb (get_or text n 0) blank (stops inside)))
+
+-- after blanks a text may be cut
+pub indent-boundary : (text : List ℕ) (n : ℕ) → IsUtf8 text → n ≤ length text
+    → BlanksBetween text 0 n → IsCharBoundary text n
+indent-boundary text zero utf8 within blanks = IsCharBoundary-start text utf8
+indent-boundary text (suc n) utf8 within blanks =
+    let here : suc n - 1 ≡ n = omega arith in
+    IsCharBoundary-after_blank text (suc n) utf8 (omega arith) within
+    (λ inside. ap (λ m. get_or text m 0) here
+    ∙ eqb-true (get_or text n 0) blank (blanks n (omega arith) (omega arith)))
+
+-- ---- what follows the blanks before the first word
+
+-- blanks that a line begins with, before a text that begins with none
+pub indent-kept : (line text : List ℕ) → prefix_len is_blank text ≡ 0
+    → indent_len (take (indent_len line) line ++ text) ≡ indent_len line
+indent-kept [] text none = none
+indent-kept (c ∷ cs) text none = by (is_blank c) refl (indent-kept cs text none)
+  where
+    n : ℕ
+    n = prefix_len is_blank cs
+
+    by : (b : Bool) → is_blank c ≡ b → prefix_len is_blank (take n cs ++ text) ≡ n
+        → prefix_len is_blank (take (cond b (1 + n) 0) (c ∷ cs) ++ text) ≡ cond b (1 + n) 0
+    by true is same = let up : 1 + n ≡ suc n = omega arith in rw (up, is) (omega (arith, same))
+    by false is same = none
+
+-- what follows them begins with no blank
+pub after-plain : (line : List ℕ) → prefix_len is_blank (drop (indent_len line) line) ≡ 0
+after-plain line =
+    let n = indent_len line in
+    elim (cases_lt n (length line)) [
+      | inl less ↦ prefix_len-drop_no is_blank line n 0 less (prefix_len_stops is_blank line 0 less)
+      | inr past ↦ prefix_len-drop_all is_blank line n past
+    ]
+
+-- ---- a justified line begins with the same blanks, and has the same words with more blanks
+-- after them
+
+-- the line begins with the same blanks, and its words are those with more blanks after them
+widened-line : (each extra : ℕ) (line new : List ℕ)
+    → new ≡ take (indent_len line) line ++ tiled (widened_words each extra (line_words line))
+    → (take (indent_len new) new ≡ take (indent_len line) line)
+    × (line_words new ≡ widened_words each extra (line_words line))
+widened-line each extra line new is =
+    let n = indent_len line in
+    let front = take n line in
+    let rest = drop n line in
+    let text = flat (widened_chunks each extra (chunks rest)) in
+    let whole : new ≡ front ++ text =
+    is ∙ ap (λ t. front ++ t) (widened-text each extra (chunks rest)) in
+    let same : indent_len new ≡ n =
+    ap indent_len whole
+    ∙ indent-kept line text (widened-plain each extra rest (after-plain line)) in
+    let len : length front ≡ n = length-prefix_len is_blank line in (
+      ap (λ m. take m new) same ∙ ap (take n) whole ∙ take_at front text n len,
+      ap (λ m. words_of (drop m new)) same ∙ ap (λ l. words_of (drop n l)) whole
+          ∙ ap words_of (drop_at front text n len)
+          ∙ ap (map word_of) (widened-chunks each extra rest)
+          ∙ widened-words each extra (chunks rest),
+    )
+
+-- the words of a line that stays
+widened-stays : (spare : ℕ) (line : List ℕ) → (spare == 0) || (gaps line == 0) ≡ true
+    → widened_words (spare / gaps line) (spare % gaps line) (line_words line) ≡ line_words line
+widened-stays spare line stays =
+    grind (arith, nat_tests, or_cases, zero-div, zero-mod, widened-none, widened-one)
+
+pub justified-words : (width : ℕ) (line : List ℕ)
+    → KeepsWords width line (line_bytes (justified width line))
+justified-words width line =
+    let spare = width - text_width line in
+    let each = spare / gaps line in
+    let extra = spare % gaps line in
+    cond_both ((spare == 0) || (gaps line == 0)) (Slice line) _
+    (λ l. KeepsWords width line (line_bytes l))
+    (λ stays. record {
+      indent = refl;
+      words = refl;
+      spaces = sym (widened-stays spare line stays);
+    })
+    (λ other.
+    let is = widened-line each extra line _ refl in
+    record {
+      indent = is.0;
+      words = ap (map (λ w. w.word)) is.1 ∙ same-texts each extra (line_words line);
+      spaces = is.1;
+    })

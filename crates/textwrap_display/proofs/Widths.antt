@@ -1,16 +1,36 @@
--- How wide blanks are.
-use Rattle.textwrap_base.proofs.Common.{◌≡◌, ℕ, ◌+◌, true, List, ◌++◌, ap}
-use Rattle.textwrap_base.proofs.Common.{length, refl, ◌∙◌}
+-- How wide blanks are, and lines that are aligned or justified.
+use Rattle.textwrap_base.proofs.Common.{◌≡◌, ℕ, ◌+◌, true, List, ◌++◌, ap, length, refl, ◌∙◌}
+use Rattle.textwrap_base.proofs.Common.{nat_tests, ◌-◌, ◌≤◌, [], append_assoc, append-nil, arith}
+use Rattle.textwrap_base.proofs.Common.{IsUtf8, length-append, ◌≢◌, ◌*◌, ◌/◌, ◌<◌, min, suc, ◌∷◌}
+use Rattle.textwrap_base.proofs.Common.{All, All-from_get_or, All-head, All-tail, All-weaker, drop}
+use Rattle.textwrap_base.proofs.Common.{eqb-true, get_or-take, length-take, subst, sym, take}
+use Rattle.textwrap_base.proofs.Common.{take-append-drop}
 use Rattle.std.proofs.lemmas.List.{length-replicate}
 use Rattle.std.proofs.lemmas.List.Elements.{All-replicate}
 use Rattle.textwrap.specs.Columns.{blanks}
 use Rattle.textwrap_words.specs.Blanks.{blank, is_blank}
 use Rattle.textwrap_words.specs.Units.{text_width}
-use Rattle.textwrap_words.proofs.Units.Widths.{printable-width}
-use Rattle.textwrap_words.proofs.Word.Texts.{AreBlanks}
-use Rattle.textwrap_lines.proofs.Paragraph.OneLine.{blanks-utf8}
-use Rattle.textwrap_lines.proofs.Text.PrintedLines.{blanks-printable, blanks-whole}
-use Rattle.textwrap_lines.proofs.Text.WholeSequences.{text_width-append}
+use Rattle.textwrap_words.proofs.Units.Reading.{printable-width}
+use Rattle.textwrap_words.proofs.Word.Texts.{AreBlanks, chunks-utf8}
+use Rattle.textwrap_lines.proofs.Paragraph.LeftOff.{blanks-utf8}
+use Rattle.textwrap_lines.proofs.Text.Printed.{blanks-printable, blanks-whole}
+use Rattle.textwrap_lines.proofs.Text.Paragraphs.{text_width-append}
+use Rattle.textwrap_words.proofs.Word.Words.{text_width-nil, IsMeasured, words-measured}
+use Rattle.textwrap_words.proofs.Word.Words.{tiled-words_of}
+use Rattle.textwrap_lines.specs.Paragraph.{line_bytes}
+use Rattle.textwrap_lines.specs.Text.{HasWholeSequences}
+use Rattle.textwrap_display.specs.Alignment.{aligned, blanks_before, spread}
+use Rattle.textwrap_display.specs.declared.alignment.Alignment.{Alignment}
+use Rattle.textwrap_display.specs.declared.alignment.Alignment.TheVariants.{Left, Right, Centre}
+use Rattle.std.specs.Prelude.{◌%◌}
+use Rattle.std.proofs.Math.Nat.{div-add-mod, suc-mul}
+use Rattle.std.proofs.lemmas.List.Sums.{prefix_len_passes}
+use Rattle.textwrap_base.proofs.Texts.{after_ascii}
+use Rattle.textwrap_words.specs.Words.{chunks, tiled, WordText}
+use Rattle.textwrap_display.specs.Justifying.{gaps, indent_len, justified, line_words}
+use Rattle.textwrap_display.specs.Justifying.{widened_words}
+
+-- ---- how wide blanks are
 
 pub blanks-are : (n : ℕ) → AreBlanks (blanks n)
 blanks-are n = All-replicate (λ c. is_blank c ≡ true) n blank refl
@@ -26,3 +46,154 @@ pub more-blanks : (n : ℕ) (text : List ℕ) → text_width (blanks n ++ text) 
 more-blanks n text =
     blanks-before (blanks n) text (blanks-are n)
     ∙ ap (λ m. m + text_width text) (length-replicate n blank)
+
+-- ---- a line that is aligned: its bytes, and that it is as wide as was asked
+
+before-few : (alignment : Alignment) (spare : ℕ) → blanks_before alignment spare ≤ spare
+before-few Left spare = omega arith
+before-few Right spare = omega arith
+before-few Centre spare = omega arith
+
+-- the spare columns are the blanks that a line gets
+pub length-aligned : (alignment : Alignment) (width : ℕ) (line : List ℕ)
+    → length (line_bytes (aligned alignment width line)) ≡ length line + (width - text_width line)
+length-aligned alignment width line =
+    grind (
+      arith,
+      nat_tests,
+      before-few alignment (width - text_width line),
+      length-append,
+      length-replicate,
+    )
+
+-- text after a line with blanks on its two sides
+spread-before : (alignment : Alignment) (spare : ℕ) (line text : List ℕ) → IsUtf8 line
+    → HasWholeSequences line → text_width (spread alignment spare line ++ text)
+    ≡ text_width line + spare + text_width text
+spread-before alignment spare line text utf8 whole =
+    let after = blanks (spare - blanks_before alignment spare) in
+    grind (
+      arith,
+      before-few alignment spare,
+      append_assoc,
+      more-blanks,
+      text_width-append line (after ++ text) utf8 whole,
+    )
+
+-- text after a line that is aligned
+pub aligned-before : (alignment : Alignment) (width : ℕ) (line text : List ℕ) → IsUtf8 line
+    → HasWholeSequences line → text_width line ≤ width
+    → text_width (line_bytes (aligned alignment width line) ++ text) ≡ width + text_width text
+aligned-before alignment width line text utf8 whole fits =
+    grind (
+      arith,
+      nat_tests,
+      text_width-append line text utf8 whole,
+      spread-before alignment (width - text_width line) line text utf8 whole,
+    )
+
+pub aligned-width : (alignment : Alignment) (width : ℕ) (line : List ℕ) → IsUtf8 line
+    → HasWholeSequences line → text_width line ≤ width
+    → text_width (line_bytes (aligned alignment width line)) ≡ width
+aligned-width alignment width line utf8 whole fits =
+    grind (
+      arith,
+      append-nil,
+      text_width-nil,
+      aligned-before alignment width line [] utf8 whole fits,
+    )
+
+-- ---- words with wider gaps
+
+-- a word of whole sequences, before other text
+word-before : (w : WordText) (text : List ℕ) → IsMeasured w → HasWholeSequences w.word
+    → text_width ((w.word ++ w.whitespace) ++ text)
+    ≡ text_width w.word + length w.whitespace + text_width text
+word-before w text here whole =
+    grind (
+      arith,
+      append_assoc,
+      text_width-append w.word (w.whitespace ++ text) here.utf8 whole,
+      blanks-before w.whitespace text here.ending.blanks,
+    )
+
+-- each gap is wider by so many blanks, and the first ones by one more
+widened-width : (each extra : ℕ) (ws : List WordText) → All IsMeasured ws
+    → All (λ w. HasWholeSequences w.word) ws
+    → text_width (tiled (widened_words each extra ws))
+    ≡ (length ws - 1) * each + min extra (length ws - 1) + text_width (tiled ws)
+widened-width each extra [] measured whole = omega arith
+widened-width each extra (w ∷ []) measured whole = omega arith
+widened-width each extra (w ∷ v ∷ ws) measured whole =
+    let more = each + min extra 1 in
+    let rest = tiled (widened_words each (extra - 1) (v ∷ ws)) in
+    let here = All-head IsMeasured w (v ∷ ws) measured in
+    let sound = All-head (λ u. HasWholeSequences u.word) w (v ∷ ws) whole in
+    let many : length (w ∷ v ∷ ws) - 1 ≡ suc (length ws) = omega arith in
+    let fewer : length (v ∷ ws) - 1 ≡ length ws = omega arith in
+    let first : tiled (widened_words each extra (w ∷ v ∷ ws))
+    ≡ (w.word ++ w.whitespace) ++ (blanks more ++ rest) = simp append_assoc in
+    omega (
+      arith,
+      ap text_width first,
+      word-before w (blanks more ++ rest) here sound,
+      more-blanks more rest,
+      word-before w (tiled (v ∷ ws)) here sound,
+      widened-width each (extra - 1) (v ∷ ws) (All-tail IsMeasured w (v ∷ ws) measured)
+          (All-tail (λ u. HasWholeSequences u.word) w (v ∷ ws) whole),
+      ap (λ n. n * each) many,
+      ap (λ n. n * each) fewer,
+      suc-mul (length ws) each,
+    )
+
+-- ---- the line
+
+-- the blanks that a line begins with
+indent-blanks : (line : List ℕ) → AreBlanks (take (indent_len line) line)
+indent-blanks line =
+    let n = indent_len line in
+    All-from_get_or (λ c. is_blank c ≡ true) (take n line) 0 (λ i within.
+    let inside : i < n = omega (arith, within, length-take n line) in
+    ap is_blank (get_or-take n line i 0 inside) ∙ prefix_len_passes is_blank line i 0 inside)
+
+module _ (line : List ℕ) (utf8 : IsUtf8 line)
+    (whole : All (λ w. HasWholeSequences w.word) (line_words line)) (some : gaps line ≢ 0) where
+  rest-utf8 : IsUtf8 (drop (indent_len line) line)
+  rest-utf8 =
+      after_ascii (take (indent_len line) line) (drop (indent_len line) line)
+      (All-weaker (λ c. is_blank c ≡ true) (λ c. c < 128) (λ c is. omega (arith, eqb-true c 32 is))
+      (take (indent_len line) line) (indent-blanks line))
+      (subst IsUtf8 (sym (take-append-drop (indent_len line) line)) utf8)
+
+  line-width : text_width line
+      ≡ length (take (indent_len line) line) + text_width (tiled (line_words line))
+  line-width =
+      let n = indent_len line in
+      ap text_width (sym (take-append-drop n line))
+      ∙ blanks-before (take n line) (drop n line) (indent-blanks line)
+      ∙ ap (λ t. length (take n line) + text_width t) (sym (tiled-words_of (drop n line)))
+
+  widened-line : (spare : ℕ) → text_width (take (indent_len line) line
+      ++ tiled (widened_words (spare / gaps line) (spare % gaps line) (line_words line)))
+      ≡ text_width line + spare
+  widened-line spare =
+      let n = indent_len line in
+      let ws = line_words line in
+      let each = spare / gaps line in
+      let extra = spare % gaps line in
+      let more : 0 < gaps line = omega (arith, some) in
+      let few : extra ≤ length ws - 1 = omega (arith, more) in
+      omega (
+        arith,
+        blanks-before (take n line) (tiled (widened_words each extra ws)) (indent-blanks line),
+        widened-width each extra ws
+            (words-measured (chunks (drop n line)) (chunks-utf8 (drop n line) rest-utf8)) whole,
+        few,
+        line-width,
+        div-add-mod spare (gaps line),
+      )
+
+  pub justified-width : (width : ℕ) → text_width line ≤ width
+      → text_width (line_bytes (justified width line)) ≡ width
+  justified-width width fits =
+      grind (arith, nat_tests, widened-line (width - text_width line))

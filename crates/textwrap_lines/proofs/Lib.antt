@@ -1,6 +1,6 @@
 pub mod Common
 pub mod Paragraph
-pub mod PrintableTexts
-pub mod PlacedPieces
-pub mod Text
 pub mod PieceLines
+pub mod PlacedPieces
+pub mod PrintableTexts
+pub mod Text

@@ -1,6 +1,377 @@
-pub mod Coming
-pub mod First
-pub mod Joined
-pub mod Line
-pub mod SoFar
-pub mod Unbroken
+-- The lines of first fit, found piece by piece: the pieces that come, the line so far, the first
+-- line.
+use Rattle.textwrap_base.proofs.Common.{◌≡◌, ℕ, ◌+◌, ◌≤◌, List, ◌++◌, length, take, drop, ap, ◌∙◌}
+use Rattle.textwrap_base.proofs.Common.{sym, subst, arith, append_assoc, length-append, length-drop}
+use Rattle.textwrap_base.proofs.Common.{IsUtf8, IsCharBoundary, take_at, drop_at, drop-drop}
+use Rattle.textwrap_base.proofs.Common.{IsUtf8-drop, IsCharBoundary-from_take, rules, [], ◌∷◌, All}
+use Rattle.textwrap_base.proofs.Common.{refl, All-head, All-tail, IsCharBoundary-start, ⊤, ◌-◌, ◌^◌}
+use Rattle.textwrap_base.proofs.Common.{◌<◌, true, false, cond, le-ltb, Bool, nat_lt, lt-ltb}
+use Rattle.textwrap_base.proofs.Common.{length_push, open_width, slice_range, and_parts, cond_both}
+use Rattle.textwrap_base.proofs.Common.{ltb-true, ltb-false, closed_width, IsGreedy}
+use Rattle.std.proofs.lemmas.Str.{IsCharBoundary-from_rest}
+use Rattle.textwrap_words.proofs.Common.{WordText, tiled, Splitter, broken_words, broken_pieces}
+use Rattle.textwrap_words.proofs.Common.{tile_of, split_words, words_of, sizes_of}
+use Rattle.textwrap_words.specs.Pieces.{stand_from, empty_front}
+use Rattle.textwrap_words.specs.declared.pieces.Piece.{Piece}
+use Rattle.textwrap_words.proofs.Units.Reading.{text_width-le}
+use Rattle.textwrap_words.proofs.Word.Words.{IsMeasured, IsNarrowWord, IsNarrowWord-measured}
+use Rattle.textwrap_words.proofs.Word.Words.{tiled-append, HasNoPenalty}
+use Rattle.textwrap_words.proofs.Word.Pieces.{AreTexts}
+use Rattle.textwrap_lines.proofs.Common.{Settings, pieces_of_words, front_of, text_limit}
+use Rattle.textwrap_lines.proofs.Common.{broken_pieces_of, front_pieces, later_width, first_width}
+use Rattle.textwrap_lines.proofs.Common.{indent_of, lines_from, LineSoFar, pieces_of, covered}
+use Rattle.textwrap_lines.proofs.Common.{with_piece, assembled_line, line_from, parts_from}
+use Rattle.textwrap_lines.proofs.Common.{parts_of, widths_of, line_of, cut_line, cut_lines}
+use Rattle.textwrap_lines.specs.PieceLines.{ComesAt, first_so_far, is_past, no_pieces}
+use Rattle.textwrap_lines.proofs.Paragraph.LeftOff.{blanks-utf8, covered-space, assembled-parts}
+use Rattle.textwrap_lines.proofs.Paragraph.Pieces.{pieces_of_words-measured, pieces_of_words-tile}
+use Rattle.textwrap_lines.proofs.Paragraph.Pieces.{split_words-measured, split_words-no_penalty}
+use Rattle.textwrap_lines.proofs.Paragraph.Pieces.{split_words-tile, words_of-texts}
+use Rattle.textwrap_lines.specs.Layout.{break_limit, limit_at}
+use Rattle.textwrap_words.specs.PieceCuts.{pieces_at}
+use Rattle.textwrap_words.proofs.Word.SplitParts.{pieces-start}
+use Rattle.textwrap_base.proofs.Division.Greedy.{open_width-append, closed_width-push}
+use Rattle.textwrap_lines.proofs.Paragraph.Covered.{covered-push}
+use Rattle.textwrap_base.proofs.Division.Grown.{grown, grown-full, grown-room, grown-greedy}
+use Rattle.textwrap_base.proofs.Lists.Parts.{all-left, all-right}
+use Rattle.textwrap_lines.proofs.Paragraph.Widths.{later_is}
+use Rattle.textwrap_lines.proofs.Text.Sinks.{cut_lines-next}
+
+-- ---- where the next piece of a line stands in the text
+
+-- the text after the first bytes begins with a word of n bytes and m more of whitespace
+module _ (text : List ℕ) (covered len n m : ℕ) (word gap after : List ℕ)
+    (order : covered ≤ len) (within : len ≤ length text) (utf8 : IsUtf8 (drop len text))
+    (word_utf8 : IsUtf8 word) (gap_utf8 : IsUtf8 gap) (n_is : n ≡ length word)
+    (m_is : m ≡ length gap) (next : drop len text ≡ (word ++ gap) ++ after) where
+  seam : drop len text ≡ word ++ (gap ++ after)
+  seam = next ∙ append_assoc word gap after
+
+  pub piece-within : len + n + m ≤ length text
+  piece-within =
+      omega (arith, within, n_is, m_is, length-drop len text, ap length seam, length-append {A = ℕ})
+
+  pub word_taken : take n (drop len text) ≡ word
+  word_taken = ap (take n) seam ∙ take_at word (gap ++ after) n (sym n_is)
+
+  past_word : drop (len + n) text ≡ gap ++ after
+  past_word =
+      sym (drop-drop n len text) ∙ ap (drop n) seam ∙ drop_at word (gap ++ after) n (sym n_is)
+
+  pub gap_taken : take m (drop (len + n) text) ≡ gap
+  gap_taken = ap (take m) past_word ∙ take_at gap after m (sym m_is)
+
+  pub place-after : drop (len + n + m) text ≡ after
+  place-after =
+      sym (drop-drop m (len + n) text) ∙ ap (drop m) past_word ∙ drop_at gap after m (sym m_is)
+
+  word_ends : IsCharBoundary (drop len text) n
+  word_ends =
+      IsCharBoundary-from_take (drop len text) n utf8
+      (omega (arith, piece-within, length-drop len text)) (subst IsUtf8 (sym word_taken) word_utf8)
+
+  pub slice-ends : IsCharBoundary text (len + n)
+  slice-ends = IsCharBoundary-from_rest text len n within word_ends
+
+  rest_utf8 : IsUtf8 (drop (len + n) text)
+  rest_utf8 =
+      subst IsUtf8 (drop-drop n len text) (IsUtf8-drop (drop len text) n utf8 word_ends)
+
+  gap_ends : IsCharBoundary (drop (len + n) text) m
+  gap_ends =
+      IsCharBoundary-from_take (drop (len + n) text) m rest_utf8
+      (omega (arith, piece-within, length-drop (len + n) text))
+      (subst IsUtf8 (sym gap_taken) gap_utf8)
+
+  pub piece-ends : IsCharBoundary text (len + n + m)
+  piece-ends =
+      IsCharBoundary-from_rest text (len + n) m (omega (arith, piece-within)) gap_ends
+
+  pub utf8-after : IsUtf8 (drop (len + n + m) text)
+  utf8-after =
+      subst IsUtf8 (drop-drop m (len + n) text)
+      (IsUtf8-drop (drop (len + n) text) m rest_utf8 gap_ends)
+
+-- ---- the pieces of a text that stand after a place
+
+module _ (text : List ℕ) where
+  abbrev pub AllCome : ℕ → List Piece → Type 0
+  AllCome at [] = ⊤
+  AllCome at (p ∷ ps) = ComesAt text at p × AllCome p.end ps
+
+  pub all-come : (at : ℕ) (ws : List WordText) → drop at text ≡ tiled ws → IsCharBoundary text at
+      → IsUtf8 (drop at text) → All IsMeasured ws → AllCome at (stand_from at ws)
+  all-come at [] seam begins utf8 measured = tt
+  all-come at (w ∷ ws) seam begins utf8 measured =
+      let here = All-head IsMeasured w ws measured in
+      let space = blanks-utf8 w.whitespace here.ending.blanks in
+      let n = length w.word in
+      let m = length w.whitespace in
+      let wide = text_width-le w.word here.utf8 in
+      let width = here.width in
+      let ends = piece-ends text at at n m w.word w.whitespace (tiled ws) (omega arith) begins.0 utf8
+      here.utf8 space refl refl seam in (
+        record {
+          from = omega arith;
+          order = omega arith;
+          word_ends = slice-ends text at at n m w.word w.whitespace (tiled ws) (omega arith)
+              begins.0 utf8 here.utf8 space refl refl seam;
+          ends = ends;
+          width = omega (arith, wide, width);
+        },
+        all-come (at + n + m) ws
+            (search (rules, arith, place-after)) ends
+            (utf8-after text at at n m w.word w.whitespace (tiled ws) (omega arith) begins.0 utf8
+            here.utf8 space refl refl seam)
+            (All-tail IsMeasured w ws measured),
+      )
+
+pub pieces-come : (settings : Settings) (splitter : Splitter) (paragraph : List ℕ)
+    (words : List WordText) → IsUtf8 paragraph → AreTexts paragraph words
+    → AllCome paragraph 0 (stand_from 0 (pieces_of_words settings splitter words))
+pieces-come settings splitter paragraph words utf8 texts =
+    all-come paragraph 0 (pieces_of_words settings splitter words)
+    (sym (pieces_of_words-tile settings splitter paragraph words utf8 texts))
+    (IsCharBoundary-start paragraph utf8) utf8
+    (pieces_of_words-measured settings splitter paragraph words utf8 texts)
+
+-- ---- words that stay whole are broken past a limit that none reaches
+
+unbroken : (limit : ℕ) (ws : List WordText) → All IsNarrowWord ws → length (tiled ws) ≤ limit
+    → broken_words limit ws ≡ ws
+unbroken limit [] bounded within = refl
+unbroken limit (w ∷ ws) bounded within =
+    let here = All-head IsNarrowWord w ws bounded in
+    let len = length-append (tile_of w) (tiled ws) in
+    let word = length-append w.word w.whitespace in
+    ap (λ b. cond b (broken_pieces limit w) (w ∷ []) ++ broken_words limit ws)
+    (le-ltb limit w.width (omega (arith, here.width, within, len, word)))
+    ∙ ap (λ l. w ∷ l) (unbroken limit ws (All-tail IsNarrowWord w ws bounded)
+    (omega (arith, within, len)))
+
+-- whether words are broken or not, these are the pieces
+pub limited-words : (settings : Settings) (split : List WordText) → All IsNarrowWord split
+    → length (tiled split) < text_limit
+    → front_of settings ++ broken_words (break_limit settings) split
+    ≡ broken_pieces_of settings split
+limited-words settings split bounded short = elim settings.break_words as (λ b.
+    cond b (front_pieces settings) [] ++ broken_words (limit_at b (later_width settings)) split
+    ≡ cond b (front_pieces settings ++ broken_words (later_width settings) split) split) [
+      | true ↦ refl
+      | false ↦ unbroken (2 ^ 64 - 1) split bounded (omega (arith, short))
+    ]
+
+pub limited-pieces : (settings : Settings) (splitter : Splitter) (paragraph : List ℕ)
+    (words : List WordText) → IsUtf8 paragraph → AreTexts paragraph words
+    → length paragraph < text_limit
+    → front_of settings ++ broken_words (break_limit settings) (split_words splitter words)
+    ≡ pieces_of_words settings splitter words
+limited-pieces settings splitter paragraph words utf8 texts short =
+    let measured = split_words-measured settings splitter paragraph words utf8 texts in
+    let plain = split_words-no_penalty settings splitter paragraph words utf8 texts in
+    let tile = ap length (split_words-tile settings splitter paragraph words utf8 texts) in
+    limited-words settings (split_words splitter words)
+    (λ k d lt. IsNarrowWord-measured _ (measured k d lt) (plain k d lt)) (omega (arith, tile, short))
+
+-- ---- the first line of a paragraph, found piece by piece, and the place that it goes up to
+
+module _ (settings : Settings) (splitter : Splitter) (text : List ℕ) where
+  -- the pieces from a place on
+  abbrev pub left_at : ℕ → List Piece
+  left_at at = stand_from at (pieces_at splitter (break_limit settings) text at)
+
+  module _ (is_later : Bool) where
+    abbrev pub begun_line : Bool → LineSoFar
+    begun_line = first_so_far text (first_width settings is_later) (indent_of settings is_later)
+
+    abbrev empty_line : LineSoFar
+    empty_line = begun_line false
+
+    -- the pieces so far all stand on this line, and the others are left
+    pub record HoldsFirst (line : LineSoFar) : Type 0 where
+      pub text_is : line.text ≡ text
+      pub lines : lines_from settings empty_line (stand_from 0 (pieces_of settings splitter text))
+          ≡ lines_from settings line (left_at line.end)
+      pub come : AllCome text line.end (left_at line.end)
+
+    front-lines : (front : Bool) (ws : List WordText)
+        → lines_from settings empty_line (stand_from 0 (cond front empty_front [] ++ ws))
+        ≡ lines_from settings (begun_line front) (stand_from 0 ws)
+    front-lines true ws = refl
+    front-lines false ws = refl
+
+    front-come : (front : Bool) (ws : List WordText)
+        → AllCome text 0 (stand_from 0 (cond front empty_front [] ++ ws))
+        → AllCome text 0 (stand_from 0 ws)
+    front-come true ws come = come.1
+    front-come false ws come = come
+
+    pub goes_on-start : (front : Bool) → IsUtf8 text → length text < text_limit
+        → cond front empty_front [] ≡ front_of settings → HoldsFirst (begun_line front)
+    goes_on-start front utf8 short front_is =
+        let rest = pieces_at splitter (break_limit settings) text 0 in
+        let are : pieces_of settings splitter text ≡ cond front empty_front [] ++ rest =
+        sym (limited-pieces settings splitter text (words_of text) utf8 (words_of-texts text utf8) short)
+        ∙ ap (λ ws. front_of settings ++ ws)
+        (sym (pieces-start splitter text (break_limit settings) utf8))
+        ∙ ap (λ ws. ws ++ rest) (sym front_is) in
+        record {
+          text_is = refl;
+          lines = ap (λ ws. lines_from settings empty_line (stand_from 0 ws)) are
+              ∙ front-lines front rest;
+          come = front-come front rest
+              (subst (λ ws. AllCome text 0 (stand_from 0 ws)) are
+              (pieces-come settings splitter text (words_of text) utf8 (words_of-texts text utf8)));
+        }
+
+-- ---- the line so far, and the pieces in it
+
+-- where a word stands
+abbrev pub stands_at : ℕ → WordText → Piece
+stands_at at w = record {
+  word_end = at + length w.word;
+  end = at + length w.word + length w.whitespace;
+  width = w.width;
+}
+
+module _ (text : List ℕ) where
+  -- the line of these pieces
+  abbrev pub so_far : ℕ → ℕ → List ℕ → List WordText → LineSoFar
+  so_far at width indent ps = record {
+    text = text;
+    width = width;
+    indent = indent;
+    start = at;
+    word_end = at + length (covered ps);
+    end = at + length (tiled ps);
+    columns = open_width sizes_of ps;
+    begun = nat_lt 0 (length ps);
+  }
+
+  pub so_far-push : (at width : ℕ) (indent : List ℕ) (ps : List WordText) (x : WordText)
+      → with_piece (so_far at width indent ps) (stands_at (at + length (tiled ps)) x)
+      ≡ so_far at width indent (ps ++ x ∷ [])
+  so_far-push at width indent ps x =
+      let word = at + length (tiled ps) + length x.word in
+      search (
+        rules,
+        arith,
+        covered-push,
+        length-append,
+        tiled-append,
+        length_push,
+        lt-ltb,
+        open_width-append,
+      )
+
+  -- what it covers, with or without the whitespace at its end
+  pub slice-pieces : (at : ℕ) (ps : List WordText) (after : List ℕ) (keeps : Bool)
+      → drop at text ≡ tiled ps ++ after
+      → slice_range text at (cond keeps (at + length (tiled ps)) (at + length (covered ps)))
+      ≡ cond keeps (tiled ps) (covered ps)
+  slice-pieces at ps after true seam =
+      let len : at + length (tiled ps) - at ≡ length (tiled ps) = omega arith in
+      rw (len, seam, take_at)
+  slice-pieces at ps after false seam =
+      let len : at + length (covered ps) - at ≡ length (covered ps) = omega arith in
+      rw (len, seam, ← covered-space, append_assoc, take_at)
+
+-- ---- the lines that are found piece by piece are those of first fit
+
+module _ (settings : Settings) (text : List ℕ) where
+  -- the line of these pieces is that of the settings
+  line_of-pieces : (at width : ℕ) (is_later : Bool) (ps : List WordText) (after : List ℕ)
+      → drop at text ≡ tiled ps ++ after → All HasNoPenalty ps
+      → line_of settings.preserve_trailing_space
+      (so_far text at width (indent_of settings is_later) ps)
+      ≡ cut_line at (line_from (parts_of settings is_later ps))
+  line_of-pieces at width is_later [] after seam none = grind (arith, slice-pieces)
+  line_of-pieces at width is_later (w ∷ ws) after seam none =
+      let indent = indent_of settings is_later in
+      let keeps = settings.preserve_trailing_space in
+      let ps = w ∷ ws in
+      let end = cond keeps (at + length (tiled ps)) (at + length (covered ps)) in
+      ap (cut_line at) (ap (λ b. assembled_line (cond b indent []) (slice_range text at end) [])
+      (lt-ltb 0 (length ps) (omega arith))
+      ∙ ap (λ s. assembled_line indent s []) (slice-pieces text at ps after keeps seam)
+      ∙ assembled-parts settings is_later w ws none)
+
+  abbrev AreLines : ℕ → ℕ → Bool → List WordText → List WordText → Type 0
+  AreLines at width is_later left ps =
+      lines_from settings (so_far text at width (indent_of settings is_later) ps)
+      (stand_from (at + length (tiled ps)) left)
+      ≡ cut_lines at (parts_from settings is_later
+      (grown sizes_of (later_width settings) width left ps))
+
+  pub lines-are : (left ps : List WordText) (at width : ℕ) (is_later : Bool)
+      → drop at text ≡ tiled ps ++ tiled left
+      → All HasNoPenalty (ps ++ left) → AreLines at width is_later left ps
+  lines-are [] ps at width is_later seam none = search (rules, arith, line_of-pieces, all-left)
+  lines-are (x ∷ left) ps at width is_later seam none =
+      let later = later_width settings in
+      let keeps = settings.preserve_trailing_space in
+      let indent = indent_of settings is_later in
+      let here = so_far text at width indent ps in
+      let after = at + length (tiled ps) in
+      let p = stands_at after x in
+      let rest = stand_from p.end left in
+      let next = with_piece (no_pieces text after later settings.subsequent_indent) p in
+      let line = line_of keeps here in
+      let full = line ∷ lines_from settings next rest in
+      let more = lines_from settings (with_piece here p) rest in
+      let own = cut_line at (line_from (parts_of settings is_later ps)) in
+      let penalty : length x.penalty ≡ 0 =
+      ap length (All-head HasNoPenalty x left (all-right HasNoPenalty ps (x ∷ left) none)) in
+      let closed : closed_width sizes_of (ps ++ x ∷ []) ≡ open_width sizes_of ps + x.width =
+      omega (arith, closed_width-push sizes_of ps x, penalty) in
+      let begins : drop after text ≡ tiled (x ∷ left) = rw (← drop-drop, seam, drop_at) in
+      let same_end : p.end ≡ at + length (tiled (ps ++ x ∷ [])) =
+      ap (λ l. l.end) (so_far-push text at width indent ps x) in
+      let at_none : after ≡ after + 0 = omega arith in
+      let first_is : next ≡ so_far text after later settings.subsequent_indent (x ∷ []) =
+      cc (at_none, so_far-push text after later settings.subsequent_indent [] x) in
+      let next_end : p.end ≡ after + length (tiled (x ∷ [])) = ap (λ l. l.end) first_is in
+      cond_both (is_past here p) full more
+      (λ ls. ls ≡ cut_lines at (parts_from settings is_later
+      (grown sizes_of later width (x ∷ left) ps)))
+      (λ past.
+      let (some, over) = and_parts (nat_lt 0 (length ps)) _ past in
+      cc (
+        line_of-pieces at width is_later ps (tiled (x ∷ left)) seam
+            (all-left HasNoPenalty ps (x ∷ left) none),
+        first_is,
+        next_end,
+        lines-are left (x ∷ []) after later true (begins ∙ tiled-append (x ∷ []) left)
+            (all-right HasNoPenalty ps (x ∷ left) none),
+        cut_lines-next settings is_later at after ps (grown sizes_of later later left (x ∷ []))
+            refl,
+        grown-full sizes_of later width x left ps (ltb-true 0 (length ps) some)
+            (omega (arith, closed, ltb-true width (open_width sizes_of ps + x.width) over)),
+      ))
+      (λ room.
+      ap (λ l. lines_from settings l rest) (so_far-push text at width indent ps x)
+      ∙ ap (λ n. lines_from settings (so_far text at width indent (ps ++ x ∷ []))
+      (stand_from n left)) same_end
+      ∙ lines-are left (ps ++ x ∷ []) at width is_later
+      (search (rules, arith, tiled-append, append_assoc))
+      (subst (All HasNoPenalty) (sym (append_assoc ps (x ∷ []) left)) none)
+      ∙ ap (λ ls. cut_lines at (parts_from settings is_later ls))
+      (search (rules, arith, grown-room, ltb-false)))
+
+  -- the lines of the pieces
+  pub lines-greedy : (is_later : Bool) (pieces : List WordText) → tiled pieces ≡ text
+      → All HasNoPenalty pieces
+      → (division : List (List WordText))
+      × IsGreedy sizes_of (widths_of settings is_later) pieces division
+      × (lines_from settings
+      (no_pieces text 0 (first_width settings is_later) (indent_of settings is_later))
+      (stand_from 0 pieces)
+      ≡ cut_lines 0 (parts_from settings is_later division))
+  lines-greedy is_later pieces tiles none =
+      let first = first_width settings is_later in
+      let later = later_width settings in (
+        grown sizes_of later first pieces [],
+        grown-greedy sizes_of later (widths_of settings is_later)
+            (λ n. later_is first later (n + 1) (omega arith)) first refl pieces,
+        lines-are pieces [] 0 first is_later (sym tiles) none,
+      )

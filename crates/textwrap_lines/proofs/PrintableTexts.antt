@@ -1,13 +1,4 @@
-pub mod Breaking
-pub mod Bridge
-pub mod BrokenFront
-pub mod Exact
-pub mod FirstLine
-pub mod FirstPiece
+pub mod Bytes
 pub mod Lines
 pub mod Parts
 pub mod Pieces
-pub mod Points
-pub mod Search
-pub mod SplitWords
-pub mod Texts

@@ -1,7 +1,7 @@
 -- Each piece ends in a blank; what holds of all pieces holds of those of each line.
 use Rattle.textwrap_base.proofs.Common.{◌≡◌, ℕ, Bool, true, false, cond, List, [], ◌∷◌, ◌++◌, All}
-use Rattle.textwrap_base.proofs.Common.{All-cons, All-head, All-map, All-nil, All-tail, All-weaker, ap}
-use Rattle.textwrap_base.proofs.Common.{append_assoc, flat_map, refl, subst, sym, ◌∙◌}
+use Rattle.textwrap_base.proofs.Common.{All-cons, All-head, All-map, All-nil, All-tail, All-weaker}
+use Rattle.textwrap_base.proofs.Common.{ap, append_assoc, flat_map, refl, subst, sym, ◌∙◌}
 use Rattle.textwrap_base.specs.Division.{IsDivision}
 use Rattle.textwrap_base.proofs.Lists.Parts.{all-left, all-right}
 use Rattle.textwrap_words.proofs.Common.{blank, word_of, WordText}

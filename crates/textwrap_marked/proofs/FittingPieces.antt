@@ -1,14 +1,13 @@
 -- The widths of the pieces of a text fit 64 bits together.
-use Rattle.textwrap_base.proofs.Common.{◌≡◌, ℕ, ◌≤◌, List, All}
-use Rattle.textwrap_base.proofs.Common.{length, map, sym, subst, IsUtf8}
+use Rattle.textwrap_base.proofs.Common.{◌≡◌, ℕ, ◌≤◌, List, All, length, map, sym, subst, IsUtf8}
 use Rattle.textwrap_base.proofs.Common.{total_width}
 use Rattle.textwrap_words.proofs.Common.{word_view, word_of, sizes_of, Tiles}
 use Rattle.textwrap_lines.proofs.Common.{Word}
 use Rattle.textwrap_words.specs.Cuts.{AreCuts, parts_between}
-use Rattle.textwrap_words.proofs.Word.Bounds.{IsNarrowWord}
-use Rattle.textwrap_words.proofs.Word.GivenCuts.{parts-texts}
-use Rattle.textwrap_lines.proofs.Paragraph.Lines.{total_width-pieces}
-use Rattle.textwrap_lines.proofs.Paragraph.OneLine.{narrow_words}
+use Rattle.textwrap_words.proofs.Word.Words.{IsNarrowWord}
+use Rattle.textwrap_words.proofs.Word.Parts.{parts-texts}
+use Rattle.textwrap_lines.proofs.Paragraph.Widths.{total_width-pieces}
+use Rattle.textwrap_lines.proofs.Paragraph.LeftOff.{narrow_words}
 
 pub pieces-fit : (text cuts : List ℕ) (words : List Word) → IsUtf8 text → AreCuts text cuts
     → map word_view words ≡ map word_of (parts_between cuts text)

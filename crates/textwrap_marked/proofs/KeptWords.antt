@@ -1,6 +1,6 @@
 -- The lines of a paragraph, as they are printed, have its words in order.
-use Rattle.textwrap_base.proofs.Common.{◌≡◌, ℕ, List, [], ◌∷◌, ◌++◌, All, All-append, All-head, All-map}
-use Rattle.textwrap_base.proofs.Common.{All-nil, All-tail, ap, flat_map, map, refl, ◌∙◌}
+use Rattle.textwrap_base.proofs.Common.{◌≡◌, ℕ, List, [], ◌∷◌, ◌++◌, All, All-append, All-head}
+use Rattle.textwrap_base.proofs.Common.{All-map, All-nil, All-tail, ap, flat_map, map, refl, ◌∙◌}
 use Rattle.textwrap_base.proofs.Common.{take-append-drop}
 use Rattle.textwrap_base.specs.Division.{IsDivision}
 use Rattle.textwrap_base.proofs.Lists.Parts.{flat}
@@ -10,7 +10,8 @@ use Rattle.textwrap_words.proofs.Word.Texts.{final_blanks-blank}
 use Rattle.textwrap_lines.specs.Paragraph.{covered}
 use Rattle.textwrap_marked.proofs.BlankPieces.{division-all, EndsInBlank, words-all}
 use Rattle.textwrap_marked.proofs.PlainLines.{IsPlainBlock, IsPlainLine}
-use Rattle.textwrap_marked.proofs.WordsIn.{IsPiece, IsPlain, lines-words, pieces-words, words_of_tile}
+use Rattle.textwrap_marked.proofs.WordsIn.{IsPiece, IsPlain, lines-words, pieces-words}
+use Rattle.textwrap_marked.proofs.WordsIn.{words_of_tile}
 use Rattle.textwrap_marked.specs.Laws.{piece_words, words_in}
 use Rattle.textwrap_marked.specs.Lines.{LineText}
 use Rattle.textwrap_marked.specs.Pieces.{pieces, words_of}

@@ -1,7 +1,7 @@
 -- What becomes of the parts of a text, if it is known of each.
-use Rattle.textwrap_base.proofs.Common.{◌≡◌, ℕ, Bool, true, false, List, [], ◌∷◌, All}
-use Rattle.textwrap_base.proofs.Common.{All-head, All-tail, drop, nat_eq, refl, starts_with}
-use Rattle.textwrap_base.proofs.Lists.Prefixes.{starts_with-rest}
+use Rattle.textwrap_base.proofs.Common.{◌≡◌, ℕ, Bool, true, false, List, [], ◌∷◌, All, All-head}
+use Rattle.textwrap_base.proofs.Common.{All-tail, drop, nat_eq, refl, starts_with}
+use Rattle.textwrap_base.proofs.Lists.Parts.{starts_with-rest}
 use Rattle.textwrap_lines.specs.LineEnding.{ending_bytes}
 use Rattle.textwrap_marked.proofs.PlainLines.{IsPlainBlock, text-plain}
 use Rattle.textwrap_marked.proofs.TextParts.{text-parts}

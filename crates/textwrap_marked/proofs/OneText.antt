@@ -1,14 +1,16 @@
 -- What becomes of a text is one text.
-use Rattle.textwrap_base.proofs.Common.{◌≡◌, ℕ, Bool, true, false, List, [], ◌∷◌, ◌++◌}
-use Rattle.textwrap_base.proofs.Common.{sym, ap, ◌∙◌, priced_at, drop}
-use Rattle.textwrap_base.proofs.Cost.Unique.{by_table_one}
-use Rattle.textwrap_base.proofs.Division.Unique.{greedy_unique}
-use Rattle.textwrap_words.proofs.Common.{Algorithm, Greedy, LeastCost, IsDividedBy, sizes_of, WordText}
+use Rattle.textwrap_base.proofs.Common.{◌≡◌, ℕ, Bool, true, false, List, [], ◌∷◌, ◌++◌, sym, ap}
+use Rattle.textwrap_base.proofs.Common.{◌∙◌, priced_at, drop}
+use Rattle.textwrap_base.proofs.Cost.Results.{by_table_one}
+use Rattle.textwrap_base.proofs.Division.Greedy.{greedy_unique}
+use Rattle.textwrap_words.proofs.Common.{Algorithm, Greedy, LeastCost, IsDividedBy, sizes_of}
+use Rattle.textwrap_words.proofs.Common.{WordText}
 use Rattle.textwrap_lines.specs.LineEnding.{ending_bytes}
 use Rattle.textwrap_marked.specs.Blocks.{blocks, is_beside}
 use Rattle.textwrap_marked.specs.Lines.{LineText, lines_of}
 use Rattle.textwrap_marked.specs.Reflow.{algorithm_of, byte_order_mark, filled_end, filled_ending}
-use Rattle.textwrap_marked.specs.Reflow.{IsLaidOut, IsOfBlock, IsReflowedBehind, IsReflowedFrom, printed}
+use Rattle.textwrap_marked.specs.Reflow.{IsLaidOut, IsOfBlock, IsReflowedBehind, IsReflowedFrom}
+use Rattle.textwrap_marked.specs.Reflow.{printed}
 use Rattle.textwrap_marked.specs.declared.options.ReflowOptions.{ReflowOptions}
 
 divided-one : (algorithm : Algorithm) (widths : List ℕ) (xs : List WordText)

@@ -1,13 +1,13 @@
 -- What the printed lines of a paragraph keep to.
-use Rattle.textwrap_base.proofs.Common.{◌≡◌, ℕ, ◌+◌, ◌-◌, ◌<◌, ◌≤◌, List, []}
-use Rattle.textwrap_base.proofs.Common.{◌∷◌, All, All-cons, All-head, All-nil, All-tail}
-use Rattle.textwrap_base.proofs.Common.{AllFit, AreEqualFromSecond, arith, closed_width}
-use Rattle.textwrap_base.proofs.Common.{Fits, inl, inr, length, length-drop, refl, reverse}
-use Rattle.textwrap_base.proofs.Common.{reverse-append, subst, sym, ap, ◌∙◌, take_all}
+use Rattle.textwrap_base.proofs.Common.{◌≡◌, ℕ, ◌+◌, ◌-◌, ◌<◌, ◌≤◌, List, [], ◌∷◌, All, All-cons}
+use Rattle.textwrap_base.proofs.Common.{All-head, All-nil, All-tail, AllFit, AreEqualFromSecond}
+use Rattle.textwrap_base.proofs.Common.{arith, closed_width, Fits, inl, inr, length, length-drop}
+use Rattle.textwrap_base.proofs.Common.{refl, reverse, reverse-append, subst, sym, ap, ◌∙◌}
+use Rattle.textwrap_base.proofs.Common.{take_all}
 use Rattle.std.specs.List.{prefix_len, suffix_len}
 use Rattle.std.proofs.lemmas.List.Sums.{suffix_len-le-length}
 use Rattle.textwrap_base.specs.Division.{IsDivision}
-use Rattle.textwrap_base.proofs.Division.SameWidths.{line_width-later}
+use Rattle.textwrap_base.proofs.Division.Greedy.{line_width-later}
 use Rattle.textwrap_words.proofs.Common.{blank, is_blank, sizes_of, trimmed_len, word_of, WordText}
 use Rattle.textwrap_marked.proofs.BlankPieces.{division-all, EndsInBlank, words-all}
 use Rattle.textwrap_marked.specs.Columns.{columns}

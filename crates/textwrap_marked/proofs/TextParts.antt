@@ -1,7 +1,8 @@
 -- A text is its parts, one after another.
 use Rattle.textwrap_base.proofs.Common.{◌≡◌, ℕ, Bool, true, false, cond, List, [], ◌∷◌, ◌++◌}
-use Rattle.textwrap_base.proofs.Common.{append_assoc, append-nil, ap, flat_map, None, refl, sym, ◌∙◌}
-use Rattle.textwrap_base.proofs.Common.{arith, join_with_byte, length, lt-ltb, nat_lt, slice_split, ◌==◌}
+use Rattle.textwrap_base.proofs.Common.{append_assoc, append-nil, ap, flat_map, None, refl, sym}
+use Rattle.textwrap_base.proofs.Common.{◌∙◌, arith, join_with_byte, length, lt-ltb, nat_lt}
+use Rattle.textwrap_base.proofs.Common.{slice_split, ◌==◌}
 use Rattle.std.proofs.lemmas.Grind.{flat_map-append}
 use Rattle.textwrap_base.proofs.Lists.Parts.{flat}
 use Rattle.std.proofs.lemmas.List.Splits.{join_with_byte-slice_split}

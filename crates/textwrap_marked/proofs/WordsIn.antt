@@ -1,8 +1,8 @@
 -- The words between white: of a text that is put together, and of the lines of a division.
-use Rattle.textwrap_base.proofs.Common.{◌≡◌, ℕ, ◌<◌, Bool, true, false, cond, List, [], ◌∷◌, ◌++◌, All}
-use Rattle.textwrap_base.proofs.Common.{◌==◌, ◌||◌, All-head, All-tail, ap, append_assoc, append-nil}
-use Rattle.textwrap_base.proofs.Common.{arith, flat_map}
-use Rattle.textwrap_base.proofs.Common.{length, lt-ltb, onto_first, refl, slice_split, sym, ◌∙◌}
+use Rattle.textwrap_base.proofs.Common.{◌≡◌, ℕ, ◌<◌, Bool, true, false, cond, List, [], ◌∷◌, ◌++◌}
+use Rattle.textwrap_base.proofs.Common.{All, ◌==◌, ◌||◌, All-head, All-tail, ap, append_assoc}
+use Rattle.textwrap_base.proofs.Common.{append-nil, arith, flat_map, length, lt-ltb, onto_first}
+use Rattle.textwrap_base.proofs.Common.{refl, slice_split, sym, ◌∙◌}
 use Rattle.std.proofs.lemmas.Grind.{flat_map-append}
 use Rattle.std.proofs.lemmas.List.Splits.{length-slice_split, slice_split_none}
 use Rattle.textwrap_base.proofs.Lists.Parts.{flat, onto_first-append}

@@ -1,23 +1,32 @@
--- The words of a line: they are the line, and each covers some of it.
+-- The words of a line by options without functions, and what lines of them keep to.
 use Rattle.textwrap_base.proofs.Common.{◌≡◌, ◌≢◌, ℕ, ◌<◌, List, [], ◌∷◌, All, All-cons, All-head}
-use Rattle.textwrap_base.proofs.Common.{All-nil, All-tail, arith, ap, drop, IsUtf8, length, map, refl}
-use Rattle.textwrap_base.proofs.Common.{length-drop, ne_eqb, suc, zero}
+use Rattle.textwrap_base.proofs.Common.{All-nil, All-tail, arith, ap, drop, IsUtf8, length, map}
+use Rattle.textwrap_base.proofs.Common.{refl, length-drop, ne_eqb, suc, zero, Bool, append-nil}
+use Rattle.textwrap_base.proofs.Common.{rules, Some, subst, sym, true}
 use Rattle.textwrap_base.proofs.Lists.Parts.{length-slice}
 use Rattle.std.specs.List.{slice_range}
-use Rattle.textwrap_base.proofs.Lists.Rising.{increasing-rising, IsRising}
-use Rattle.textwrap_words.proofs.Common.{chunks, stripped, word_of, words_of, WordText}
-use Rattle.textwrap_words.proofs.Word.GivenCuts.{parts-texts}
-use Rattle.textwrap_words.proofs.Word.Parts.{inner-cuts}
-use Rattle.textwrap_words.proofs.Word.Pieces.{AreTexts, AreTexts-words}
+use Rattle.textwrap_base.proofs.Lists.Elements.{increasing-rising, IsRising}
+use Rattle.textwrap_words.proofs.Common.{chunks, stripped, word_of, words_of, WordText, Algorithm}
+use Rattle.textwrap_words.proofs.Common.{ArePoints, Greedy, IsDividedBy, sizes_of, Splitter}
+use Rattle.textwrap_words.proofs.Word.Parts.{parts-texts, inner-cuts}
+use Rattle.textwrap_words.proofs.Word.Pieces.{AreTexts, AreTexts-words, ArePoints-cuts}
+use Rattle.textwrap_words.proofs.Word.Pieces.{ArePoints-hyphens}
 use Rattle.textwrap_words.proofs.Word.Words.{AreChunks-chunks, words_unique}
 use Rattle.textwrap_words.specs.Cuts.{AreInnerCuts, parts_between, parts_from}
-use Rattle.textwrap_unicode.proofs.InnerCuts.{cuts_at-AreInnerCuts}
+use Rattle.textwrap_unicode.proofs.CutLemmas.{cuts_at-AreInnerCuts}
 use Rattle.textwrap_unicode.specs.Breaks.{breaks_by}
 use Rattle.textwrap_unicode.specs.Cuts.{cuts_by, offsets_of}
 use Rattle.textwrap_unicode.specs.declared.numbers.Numbers.{Numbers}
 use Rattle.textwrap_plain.specs.Options.{words_by}
 use Rattle.textwrap_plain.specs.declared.options.PlainSeparator.{PlainSeparator}
 use Rattle.textwrap_plain.specs.declared.options.PlainSeparator.TheVariants.{AtBlanks, AtBreaks}
+use Rattle.textwrap_base.proofs.Division.Map.{IsDividedBy-whole}
+use Rattle.textwrap_lines.proofs.Common.{ArePrintedWithin, AreTextLines, CanKeepToWidth, DividesAt}
+use Rattle.textwrap_lines.proofs.Common.{IsWrapped, Line, LinesKeepToWidth, Settings}
+use Rattle.textwrap_lines.proofs.Text.Printed.{ArePrintedWithin-by}
+use Rattle.textwrap_lines.proofs.Text.Promises.{LinesKeepToWidth-by, IsWrapped-parts}
+
+-- ---- the words of a line: they are the line, and each covers some of it
 
 cuts-inner : (numbers : Numbers) (line : List ℕ) → IsUtf8 line
     → AreInnerCuts line (cuts_by numbers line)
@@ -83,3 +92,46 @@ words_by-parts (AtBreaks numbers) line utf8 = record {
   some = parts_between-some (cuts_by numbers line) line (cuts-inner numbers line utf8);
   are = refl;
 }
+
+-- ---- what lines keep to that are divided by the words of options without functions
+
+-- the words of a line are texts of it
+pub texts-at : (separator : PlainSeparator) (line : List ℕ) (words : List WordText) → IsUtf8 line
+    → words ≡ words_by separator line → AreTexts line words
+texts-at separator line words utf8 is =
+    subst (AreTexts line) (sym is) (words_by-texts separator line utf8)
+
+pub IsWrapped-at : (separator : PlainSeparator) (settings : Settings) (algorithm : Algorithm)
+    (splitter : Splitter) (text : List ℕ) (lines : List Line) → IsUtf8 text
+    → AreTextLines settings (DividesAt (words_by separator) splitter algorithm settings) text lines
+    → IsWrapped settings (Some splitter) (Some algorithm)
+    (DividesAt (words_by separator) splitter algorithm settings) text lines
+IsWrapped-at separator = IsWrapped-parts (λ line words. words ≡ words_by separator line)
+    (texts-at separator)
+
+-- and by first fit
+module _ (separator : PlainSeparator) (settings : Settings) (algorithm : Algorithm)
+    (splitter : Splitter) (text : List ℕ) (lines : List Line) (utf8 : IsUtf8 text)
+    (first : algorithm ≡ Greedy) where
+  abbrev Divides : Bool → List ℕ → List (List WordText) → Type 0
+  Divides = DividesAt (words_by separator) splitter algorithm settings
+
+  pub LinesKeepToWidth-at : settings.even_paragraphs ≡ true → settings.break_words ≡ true
+      → AreTextLines settings Divides text lines → LinesKeepToWidth settings Divides text lines
+  LinesKeepToWidth-at =
+      LinesKeepToWidth-by settings (λ line words. words ≡ words_by separator line)
+      (ArePoints splitter) (IsDividedBy algorithm sizes_of) (texts-at separator)
+      (ArePoints-cuts splitter)
+      (λ widths pieces division divided. ([], search (rules, arith, append-nil, IsDividedBy-whole)))
+      (ArePoints-hyphens splitter)
+      (λ widths pieces division. subst (λ a. IsDividedBy a sizes_of widths pieces division) first)
+      text lines utf8
+
+  pub ArePrintedWithin-at : CanKeepToWidth settings text
+      → AreTextLines settings Divides text lines → ArePrintedWithin settings Divides text lines
+  ArePrintedWithin-at =
+      ArePrintedWithin-by settings (λ line words. words ≡ words_by separator line)
+      (ArePoints splitter) (IsDividedBy algorithm sizes_of) (texts-at separator)
+      (ArePoints-cuts splitter) (ArePoints-hyphens splitter)
+      (λ widths pieces division. subst (λ a. IsDividedBy a sizes_of widths pieces division) first)
+      text lines utf8

@@ -5,7 +5,7 @@ use Rattle.std.proofs.lemmas.Bool.{and_parts, eqb-true, not-true}
 use Rattle.std.specs.Char.{is_ascii_alphanumeric}
 use Rattle.textwrap_words.proofs.Common.{IsPrintable, is_blank}
 use Rattle.textwrap_lines.specs.Printable.{AfterOthers, BeforeOthers}
-use Rattle.textwrap_unicode.proofs.BreakSides.{cut-after_other, cut-before_other}
+use Rattle.textwrap_unicode.proofs.PrintableCuts.{cut-after_other, cut-before_other}
 use Rattle.textwrap_unicode.specs.declared.numbers.Numbers.TheVariants.{ByExpression, ByPairs}
 use Rattle.textwrap_plain.specs.Options.{is_cut_by}
 use Rattle.textwrap_plain.specs.declared.options.PlainSeparator.{PlainSeparator}

@@ -1,16 +1,16 @@
 -- What is cut off the end of a line, and what is left of it.
 use Rattle.textwrap_base.proofs.Common.{◌≡◌, ◌⊎◌, inl, inr, ℕ, ◌+◌, ◌-◌, ◌<◌, Bool, true, false}
-use Rattle.textwrap_base.proofs.Common.{List, [], ◌∷◌, ◌++◌, All, length, get_or, take, drop}
-use Rattle.textwrap_base.proofs.Common.{refl, sym, ap, ◌∙◌, subst, arith, append-nil, reverse}
-use Rattle.textwrap_base.proofs.Common.{length-drop, length-take, last, list_all}
-use Rattle.textwrap_base.proofs.Common.{All-head, All-from_get_or, All-weaker}
-use Rattle.textwrap_base.proofs.Common.{IsUtf8, suffix_len, get_or-drop, get_or-take}
-use Rattle.textwrap_base.proofs.Common.{chars-IsAscii, eqb-true, ◌==◌, take-append-drop, take_all}
-use Rattle.textwrap_base.proofs.Utf8.{ascii_seam}
+use Rattle.textwrap_base.proofs.Common.{List, [], ◌∷◌, ◌++◌, All, length, get_or, take, drop, refl}
+use Rattle.textwrap_base.proofs.Common.{sym, ap, ◌∙◌, subst, arith, append-nil, reverse}
+use Rattle.textwrap_base.proofs.Common.{length-drop, length-take, last, list_all, All-head}
+use Rattle.textwrap_base.proofs.Common.{All-from_get_or, All-weaker, IsUtf8, suffix_len}
+use Rattle.textwrap_base.proofs.Common.{get_or-drop, get_or-take, chars-IsAscii, eqb-true, ◌==◌}
+use Rattle.textwrap_base.proofs.Common.{take-append-drop, take_all}
+use Rattle.textwrap_base.proofs.Texts.{ascii_seam}
 use Rattle.std.proofs.lemmas.Bool.{or_cases}
 use Rattle.std.proofs.lemmas.List.{get_or-reverse, length-reverse}
-use Rattle.std.proofs.lemmas.List.Sums.{prefix_len_passes, prefix_len_stops}
-use Rattle.std.proofs.lemmas.List.Sums.{list_all-from_AllPass, suffix_len_is}
+use Rattle.std.proofs.lemmas.List.Sums.{prefix_len_passes, prefix_len_stops, list_all-from_AllPass}
+use Rattle.std.proofs.lemmas.List.Sums.{suffix_len_is}
 use Rattle.std.proofs.lemmas.Str.Ascii.{IsAscii-from_all}
 use Rattle.std.specs.Char.{is_whitespace}
 use Rattle.textwrap.specs.Indentation.{is_blank_line}

@@ -1,15 +1,14 @@
 -- What pieces cover: words with a blank between each two, and no blank after the last.
-use Rattle.textwrap_base.proofs.Common.{◌≡◌, ℕ, ◌+◌, ◌-◌, ◌<◌, Bool, true, false, cond, List, [], ◌∷◌}
-use Rattle.textwrap_base.proofs.Common.{◌++◌, All, length, map, get_or, take, refl, sym, ap, ◌∙◌, subst}
-use Rattle.textwrap_base.proofs.Common.{arith, append_assoc, append-nil, length-take, take_all}
-use Rattle.textwrap_base.proofs.Common.{take_more, take-append-add, ne_eqb, All-nil, All-cons}
-use Rattle.textwrap_base.proofs.Common.{All-head, All-tail}
+use Rattle.textwrap_base.proofs.Common.{◌≡◌, ℕ, ◌+◌, ◌-◌, ◌<◌, Bool, true, false, cond, List, []}
+use Rattle.textwrap_base.proofs.Common.{◌∷◌, ◌++◌, All, length, map, get_or, take, refl, sym, ap}
+use Rattle.textwrap_base.proofs.Common.{◌∙◌, subst, arith, append_assoc, append-nil, length-take}
+use Rattle.textwrap_base.proofs.Common.{take_all, take_more, take-append-add, ne_eqb, All-nil}
+use Rattle.textwrap_base.proofs.Common.{All-cons, All-head, All-tail}
 use Rattle.textwrap_base.proofs.Lists.Parts.{some_from_nonempty}
 use Rattle.std.proofs.lemmas.List.Elements.{All-get_or}
 use Rattle.textwrap_words.proofs.Common.{is_blank, trimmed_len, without_final_blanks, final_blanks}
 use Rattle.textwrap_words.proofs.Common.{piece, word_of, WordText}
-use Rattle.textwrap_words.proofs.Word.Texts.{AreBlanks}
-use Rattle.textwrap_words.proofs.Word.Trimmed.{trimmed-front, word_of-seam}
+use Rattle.textwrap_words.proofs.Word.Texts.{AreBlanks, trimmed-front, word_of-seam}
 use Rattle.textwrap_lines.proofs.Common.{covered}
 use Rattle.textwrap_reflow.proofs.Common.{blank, is_kept_together, onto_front, pieces}
 use Rattle.textwrap_reflow.proofs.LinesOfWords.{joined, IsWord, IsWordByte}

@@ -4,11 +4,11 @@ use Rattle.textwrap_base.proofs.Common.{length, List, map, refl, Sizes, subst, s
 use Rattle.textwrap_base.proofs.Division.Map.{IsDividedBy-whole}
 use Rattle.textwrap_words.proofs.Common.{Algorithm, Greedy, IsDividedBy, LeastCost, sizes_of}
 use Rattle.textwrap_words.proofs.Common.{word_of, without_final_blanks, WordText}
-use Rattle.textwrap_words.proofs.Word.Measured.{HasNoPenalty}
+use Rattle.textwrap_words.proofs.Word.Words.{HasNoPenalty}
 use Rattle.textwrap_lines.proofs.Common.{covered, is_whole, line_bytes, parts_from, parts_of}
-use Rattle.textwrap_lines.proofs.Paragraph.LastBlanks.{covered-words_of}
-use Rattle.textwrap_lines.proofs.Paragraph.WholeLine.{line_from-whole, whole_unindented}
-use Rattle.textwrap.proofs.Text.WholeLines.{bytes_of}
+use Rattle.textwrap_lines.proofs.Paragraph.LeftOff.{covered-words_of, line_from-whole}
+use Rattle.textwrap_lines.proofs.Paragraph.LeftOff.{whole_unindented}
+use Rattle.textwrap.proofs.Text.PlainFilled.{bytes_of}
 use Rattle.textwrap_reflow.proofs.Common.{hanging, pieces}
 use Rattle.textwrap_reflow.proofs.FilledWords.{ArePrefixed, indented, IsDivided, pieces_in}
 use Rattle.textwrap_reflow.proofs.LinesOfWords.{joined}

@@ -1,16 +1,15 @@
 -- The division of a paragraph: it is the only one, and what its lines keep to.
-use Rattle.textwrap_base.proofs.Common.{◌≡◌, ℕ, ◌+◌, ◌≤◌, List, [], ◌∷◌, ◌++◌, All}
-use Rattle.textwrap_base.proofs.Common.{length, sym, ap, ◌∙◌, subst, arith, inl, inr, All-nil}
-use Rattle.textwrap_base.proofs.Common.{All-cons, cases_lt, priced_at, Sizes}
-use Rattle.textwrap_base.proofs.Common.{closed_width, AllFit, Fits, take_all}
+use Rattle.textwrap_base.proofs.Common.{◌≡◌, ℕ, ◌+◌, ◌≤◌, List, [], ◌∷◌, ◌++◌, All, length, sym, ap}
+use Rattle.textwrap_base.proofs.Common.{◌∙◌, subst, arith, inl, inr, All-nil, All-cons, cases_lt}
+use Rattle.textwrap_base.proofs.Common.{priced_at, Sizes, closed_width, AllFit, Fits, take_all}
 use Rattle.textwrap_base.specs.Division.{IsDivision}
-use Rattle.textwrap_base.proofs.Cost.Unique.{chosen_one}
-use Rattle.textwrap_base.proofs.Division.SameWidths.{line_width-one, one-width}
-use Rattle.textwrap_base.proofs.Division.Unique.{greedy_unique}
-use Rattle.textwrap_words.proofs.Common.{Algorithm, Greedy, LeastCost, IsDividedBy, sizes_of, WordText}
+use Rattle.textwrap_base.proofs.Cost.Results.{chosen_one}
+use Rattle.textwrap_base.proofs.Division.Greedy.{line_width-one, one-width, greedy_unique}
+use Rattle.textwrap_words.proofs.Common.{Algorithm, Greedy, LeastCost, IsDividedBy, sizes_of}
+use Rattle.textwrap_words.proofs.Common.{WordText}
 use Rattle.textwrap_reflow.specs.Laws.{IsWithin}
-use Rattle.textwrap_reflow.specs.Reflow.{AreAllLines, AreLinesOf, Filled, Kept, Part}
-use Rattle.textwrap_reflow.specs.Reflow.{algorithm_of, printed}
+use Rattle.textwrap_reflow.specs.Reflow.{AreAllLines, AreLinesOf, Filled, Kept, Part, algorithm_of}
+use Rattle.textwrap_reflow.specs.Reflow.{printed}
 use Rattle.textwrap_reflow.proofs.Common.{hanging}
 use Rattle.textwrap_reflow.specs.declared.options.ReflowOptions.{ReflowOptions}
 

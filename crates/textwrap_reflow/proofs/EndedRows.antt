@@ -1,14 +1,12 @@
 -- Rows with a line feed after each: their lines, and their lines with their endings.
-use Rattle.textwrap_base.proofs.Common.{◌≡◌, ℕ, ◌==◌, [], ◌∷◌, ◌++◌, ◌∙◌, All, All-head}
-use Rattle.textwrap_base.proofs.Common.{All-tail, ap, append_assoc, cond, filter}
-use Rattle.textwrap_base.proofs.Common.{last, length, List, lt-ltb, map, ne_eqb, refl, slice_split}
-use Rattle.textwrap_base.proofs.Common.{Some}
+use Rattle.textwrap_base.proofs.Common.{◌≡◌, ℕ, ◌==◌, [], ◌∷◌, ◌++◌, ◌∙◌, All, All-head, All-tail}
+use Rattle.textwrap_base.proofs.Common.{ap, append_assoc, cond, filter, last, length, List, lt-ltb}
+use Rattle.textwrap_base.proofs.Common.{map, ne_eqb, refl, slice_split, Some}
 use Rattle.std.proofs.lemmas.List.Splits.{slice_split_at}
 use Rattle.std.specs.Str.Lines.{lines_of_parts}
 use Rattle.textwrap.proofs.Common.{EndedLine, ended_lines_of}
-use Rattle.textwrap.proofs.Text.JoinedLines.{feed_joined}
-use Rattle.textwrap.proofs.Text.PlainLines.{IsRow}
-use Rattle.textwrap.proofs.Text.PlainUnfilled.{kept_return, no_feeds}
+use Rattle.textwrap.proofs.Text.InPlace.{feed_joined}
+use Rattle.textwrap.proofs.Text.Plain.{IsRow, kept_return, no_feeds}
 use Rattle.textwrap.specs.Refilling.{has_text, line_before_feed}
 use Rattle.textwrap_lines.specs.LineEnding.{line_feed}
 use Rattle.textwrap_lines.specs.declared.line_ending.LineEnding.TheVariants.{LF}

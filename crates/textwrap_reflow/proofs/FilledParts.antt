@@ -3,7 +3,7 @@ use Rattle.textwrap_base.proofs.Common.{◌≡◌, ◌↔◌, ℕ, ◌<◌, [], 
 use Rattle.textwrap_base.proofs.Common.{Bool, false, length, List, refl, subst, sym, true}
 use Rattle.textwrap_base.proofs.Division.Map.{IsDividedBy-some}
 use Rattle.textwrap_words.proofs.Common.{sizes_of, WordText}
-use Rattle.textwrap.proofs.Text.JoinedLines.{join-append}
+use Rattle.textwrap.proofs.Text.InPlace.{join-append}
 use Rattle.textwrap.specs.Refilling.{added_ending}
 use Rattle.textwrap_reflow.proofs.Common.{ending_bytes, hanging, join_with}
 use Rattle.textwrap_reflow.proofs.OneParagraph.{last_line}

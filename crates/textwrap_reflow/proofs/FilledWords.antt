@@ -4,15 +4,14 @@ use Rattle.textwrap_base.proofs.Common.{◌≡◌, ◌≢◌, ◌↔◌, ℕ, �
 use Rattle.textwrap_base.proofs.Common.{All-weaker, and_parts, ap, arith, Bool, closed_width, false}
 use Rattle.textwrap_base.proofs.Common.{IsUtf8, length, List, ltb-true, map, nat_lt, refl, subst}
 use Rattle.textwrap_base.proofs.Common.{true}
-use Rattle.textwrap_base.proofs.Cost.OneLine.{IsDividedBy-one_line}
-use Rattle.textwrap_base.proofs.Division.SameWidths.{line_width-one}
+use Rattle.textwrap_base.proofs.Cost.Chosen.{IsDividedBy-one_line}
+use Rattle.textwrap_base.proofs.Division.Greedy.{line_width-one}
 use Rattle.textwrap_words.proofs.Common.{chunks, IsDividedBy, sizes_of, Whole, word_of, WordText}
-use Rattle.textwrap_words.proofs.Word.Measured.{HasNoPenalty}
+use Rattle.textwrap_words.proofs.Word.Words.{HasNoPenalty}
 use Rattle.textwrap_lines.proofs.Common.{DividesAs, is_whole, pieces_of, Settings, widths_of}
-use Rattle.textwrap_lines.proofs.Paragraph.OneLine.{closed-pieces_of}
+use Rattle.textwrap_lines.proofs.Paragraph.LeftOff.{closed-pieces_of, whole_unindented}
 use Rattle.textwrap_lines.proofs.Paragraph.Pieces.{ArePieces-computed, ArePieces-is}
-use Rattle.textwrap_lines.proofs.Paragraph.WholeLine.{whole_unindented}
-use Rattle.textwrap_lines.proofs.PrintableTexts.Bridge.{split-whole}
+use Rattle.textwrap_lines.proofs.PrintableTexts.Bytes.{split-whole}
 use Rattle.textwrap.proofs.Common.{IsIndent, IsPlainWord}
 use Rattle.textwrap_reflow.proofs.Common.{hanging, pieces}
 use Rattle.textwrap_reflow.proofs.LinesOfWords.{joined}

@@ -11,9 +11,8 @@ use Rattle.std.specs.Str.Lines.{lines_of_parts}
 use Rattle.textwrap.proofs.Common.{common_prefix, detected_among, detected_ending, ended_lines_of}
 use Rattle.textwrap.proofs.Common.{joined_text, keeps_ending, line_prefix, nonempty_lines}
 use Rattle.textwrap.proofs.Common.{unfilled_initial, unfilled_subsequent}
-use Rattle.textwrap.proofs.Text.JoinedLines.{blank_joined, feed_joined}
-use Rattle.textwrap.proofs.Text.PlainLines.{IsRow}
-use Rattle.textwrap.proofs.Text.PlainUnfilled.{lines-rows, texts-rows}
+use Rattle.textwrap.proofs.Text.InPlace.{blank_joined, feed_joined}
+use Rattle.textwrap.proofs.Text.Plain.{IsRow, lines-rows, texts-rows}
 use Rattle.textwrap.proofs.Text.Refilling.{IsUnfilledAs}
 use Rattle.textwrap.specs.Refilling.{has_text, without_indents}
 use Rattle.textwrap_reflow.specs.Laws.{last_feed}

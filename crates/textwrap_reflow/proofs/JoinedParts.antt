@@ -1,7 +1,7 @@
 -- Texts with an ASCII byte between each two are UTF-8 where the whole is.
 use Rattle.textwrap_base.proofs.Common.{ℕ, ◌<◌, [], ◌∷◌, ◌++◌, All, All-cons, All-nil, append-nil}
 use Rattle.textwrap_base.proofs.Common.{append_assoc, arith, Bool, false, IsUtf8, List, subst, true}
-use Rattle.textwrap_base.proofs.Utf8.{ascii_seam}
+use Rattle.textwrap_base.proofs.Texts.{ascii_seam}
 use Rattle.textwrap_lines.specs.LineEnding.{line_feed}
 use Rattle.textwrap_reflow.proofs.Common.{join_with}
 use Rattle.textwrap_reflow.specs.Laws.{last_feed}

@@ -1,23 +1,22 @@
 -- The line of words with a blank between each two: its bytes, and its words.
-use Rattle.textwrap_base.proofs.Common.{◌≡◌, ◌≢◌, ℕ, ◌-◌, ◌<◌, false, List, [], ◌∷◌}
-use Rattle.textwrap_base.proofs.Common.{◌++◌, All, length, filter, refl, sym, ap, ◌∙◌}
-use Rattle.textwrap_base.proofs.Common.{subst, arith, append_assoc, length-append, slice_split, last}
-use Rattle.textwrap_base.proofs.Common.{All-cons, All-head, All-tail, All-append, All-weaker, cond}
-use Rattle.textwrap_base.proofs.Common.{IsUtf8, IsUtf8-append, IsUtf8-from_ascii}
-use Rattle.textwrap_base.proofs.Common.{ne_eqb, lt-ltb, eqb-false}
+use Rattle.textwrap_base.proofs.Common.{◌≡◌, ◌≢◌, ℕ, ◌-◌, ◌<◌, false, List, [], ◌∷◌, ◌++◌, All}
+use Rattle.textwrap_base.proofs.Common.{length, filter, refl, sym, ap, ◌∙◌, subst, arith}
+use Rattle.textwrap_base.proofs.Common.{append_assoc, length-append, slice_split, last, All-cons}
+use Rattle.textwrap_base.proofs.Common.{All-head, All-tail, All-append, All-weaker, cond, IsUtf8}
+use Rattle.textwrap_base.proofs.Common.{IsUtf8-append, IsUtf8-from_ascii, ne_eqb, lt-ltb, eqb-false}
 use Rattle.textwrap_base.proofs.Lists.Parts.{some_from_nonempty}
 use Rattle.std.proofs.lemmas.Bool.{or_from, or_parts}
 use Rattle.std.proofs.lemmas.List.Elements.{All-get_or}
 use Rattle.std.proofs.lemmas.List.Splits.{slice_split_none, slice_split_at}
 use Rattle.std.proofs.lemmas.Str.Ascii.{IsAscii-cons, IsAscii-nil}
 use Rattle.textwrap_lines.specs.LineEnding.{carriage_return, line_feed}
-use Rattle.textwrap_lines.proofs.Paragraph.WordsApart.{last-append}
-use Rattle.textwrap_reflow.proofs.Common.{blank, has_bytes, is_blank, is_left_off}
-use Rattle.textwrap_reflow.proofs.Common.{line_prefix, line_words, words_between_blanks}
+use Rattle.textwrap_lines.proofs.Paragraph.Covered.{last-append}
+use Rattle.textwrap_reflow.proofs.Common.{blank, has_bytes, is_blank, is_left_off, line_prefix}
+use Rattle.textwrap_reflow.proofs.Common.{line_words, words_between_blanks}
 use Rattle.textwrap_reflow.proofs.ContentTexts.{kept_text, kept-whole}
 use Rattle.textwrap_reflow.proofs.LinesOfWords.{joined, IsWordByte, IsWord, EndsWell, IsLine}
 use Rattle.textwrap_reflow.proofs.LinesOfWords.{AreInPrefix}
-use Rattle.textwrap.proofs.Text.PlainIndents.{feedless}
+use Rattle.textwrap.proofs.Text.PlainFilled.{feedless}
 use Rattle.textwrap_reflow.proofs.PrefixTexts.{rest-before, prefix-utf8}
 
 -- a text that ends neither in a blank nor in a carriage return

@@ -1,18 +1,17 @@
 -- Lines of words behind an indent are read back as that indent and these words.
-use Rattle.textwrap_base.proofs.Common.{◌≡◌, ℕ, Bool, true, false, ◌&&◌, ◌||◌, List, []}
-use Rattle.textwrap_base.proofs.Common.{◌∷◌, ◌++◌, All, All-nil, All-cons, All-head}
-use Rattle.textwrap_base.proofs.Common.{refl, sym, ap, ◌∙◌, subst, None, flat_map}
+use Rattle.textwrap_base.proofs.Common.{◌≡◌, ℕ, Bool, true, false, ◌&&◌, ◌||◌, List, [], ◌∷◌, ◌++◌}
+use Rattle.textwrap_base.proofs.Common.{All, All-nil, All-cons, All-head, refl, sym, ap, ◌∙◌, subst}
+use Rattle.textwrap_base.proofs.Common.{None, flat_map}
 use Rattle.textwrap_base.proofs.Lists.Parts.{all-left, all-right}
-use Rattle.std.proofs.Common.{ap₂}
-use Rattle.std.proofs.Common.{is_some}
+use Rattle.std.proofs.Common.{ap₂, is_some}
 use Rattle.std.specs.List.{list_all}
 use Rattle.textwrap.specs.Indentation.{is_blank_line}
-use Rattle.textwrap_reflow.proofs.Common.{after_prefix, fence_after}
-use Rattle.textwrap_reflow.proofs.Common.{line_prefix, line_words, stands_apart}
+use Rattle.textwrap_reflow.proofs.Common.{after_prefix, fence_after, line_prefix, line_words}
+use Rattle.textwrap_reflow.proofs.Common.{stands_apart}
 use Rattle.textwrap_reflow.proofs.PartedWords.{Begins, ends-later, parted}
-use Rattle.textwrap_reflow.proofs.LinesOfWords.{AreCutInto, AreInPrefix, EndsWell, indented_lines, IsLine}
-use Rattle.textwrap_reflow.proofs.LinesOfWords.{IsWord, joined}
-use Rattle.textwrap.proofs.Text.PlainIndents.{prefix-indented}
+use Rattle.textwrap_reflow.proofs.LinesOfWords.{AreCutInto, AreInPrefix, EndsWell, indented_lines}
+use Rattle.textwrap_reflow.proofs.LinesOfWords.{IsLine, IsWord, joined}
+use Rattle.textwrap.proofs.Text.PlainFilled.{prefix-indented}
 use Rattle.textwrap_reflow.proofs.PrefixTexts.{rest-before}
 use Rattle.textwrap_reflow.proofs.WordTexts.{joined-blank, joined-fence, joined-prefix}
 use Rattle.textwrap_reflow.proofs.LineTexts.{joined-line, joined-words}

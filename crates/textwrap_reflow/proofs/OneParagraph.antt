@@ -15,7 +15,7 @@ use Rattle.textwrap_reflow.proofs.Common.{line_prefix, line_words, Paragraph, st
 use Rattle.textwrap_reflow.proofs.Grouping.{goes_on}
 use Rattle.textwrap_reflow.proofs.LinesOfWords.{AreInPrefix, IsLine, IsWord, joined}
 use Rattle.textwrap_reflow.proofs.LineTexts.{joined-line, joined-words}
-use Rattle.textwrap.proofs.Text.PlainIndents.{prefix-indented}
+use Rattle.textwrap.proofs.Text.PlainFilled.{prefix-indented}
 use Rattle.textwrap_reflow.proofs.PrefixTexts.{hanging-in, rest-before}
 use Rattle.textwrap_reflow.proofs.ShownLines.{IsShownLine}
 use Rattle.textwrap_reflow.proofs.WordTexts.{joined-prefix}

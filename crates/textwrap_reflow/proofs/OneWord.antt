@@ -1,19 +1,18 @@
 -- One word: what it begins and ends with, if it is kept apart from others.
-use Rattle.textwrap_base.proofs.Common.{◌≡◌, ◌≢◌, ℕ, ◌+◌, ◌-◌, ◌<◌, ◌==◌, true, false, cond}
-use Rattle.textwrap_base.proofs.Common.{List, [], ◌∷◌, ◌++◌, length, take, refl, sym, ap, ◌∙◌, subst}
+use Rattle.textwrap_base.proofs.Common.{◌≡◌, ◌≢◌, ℕ, ◌+◌, ◌-◌, ◌<◌, ◌==◌, true, false, cond, List}
+use Rattle.textwrap_base.proofs.Common.{[], ◌∷◌, ◌++◌, length, take, refl, sym, ap, ◌∙◌, subst}
 use Rattle.textwrap_base.proofs.Common.{arith, ◌&&◌, list_all, last, Option, Some, None}
 use Rattle.textwrap_base.proofs.Common.{false_from_ne_true, ltb-false, eqb-true, and_parts, IsUtf8}
 use Rattle.textwrap_base.proofs.Common.{encode_utf8_all, chars-append, take_more, take_all}
 use Rattle.textwrap_base.proofs.Common.{length-append, nil_from_length}
 use Rattle.std.proofs.Common.{is_some}
 use Rattle.textwrap_base.proofs.Lists.Parts.{some_from_nonempty}
-use Rattle.textwrap_base.proofs.Utf8.{ascii_seam}
-use Rattle.textwrap_base.proofs.Whitespace.{trim_end-front}
+use Rattle.textwrap_base.proofs.Texts.{ascii_seam, trim_end-front}
 use Rattle.std.proofs.lemmas.Bool.{or_parts}
 use Rattle.std.specs.Char.{is_whitespace}
 use Rattle.std.specs.Str.{chars, trim_end, trim_start, drop_trailing_whitespace}
 use Rattle.textwrap.specs.Indentation.{is_blank_line}
-use Rattle.textwrap.proofs.Text.Indentation.{is_blank_line-trim_start}
+use Rattle.textwrap.proofs.Text.Indents.{is_blank_line-trim_start}
 use Rattle.textwrap_lines.specs.LineEnding.{carriage_return}
 use Rattle.textwrap_reflow.specs.Blocks.{fence_of}
 use Rattle.textwrap_reflow.specs.Pieces.{begins_no_line, ends_in_whitespace}

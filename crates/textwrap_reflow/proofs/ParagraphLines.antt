@@ -1,11 +1,10 @@
 -- The lines that a paragraph becomes are those of a paragraph of the same words.
-use Rattle.textwrap_base.proofs.Common.{◌≡◌, ◌≢◌, ℕ, Bool, true, false, ◌&&◌, not, List, []}
-use Rattle.textwrap_base.proofs.Common.{◌∷◌, ◌++◌, All, All-nil, All-cons, All-head, All-tail, All-append}
-use Rattle.textwrap_base.proofs.Common.{refl, sym, ap, ◌∙◌, subst, None, append-nil, flat_map, not-true}
-use Rattle.textwrap_base.proofs.Common.{and_parts, All-weaker}
+use Rattle.textwrap_base.proofs.Common.{◌≡◌, ◌≢◌, ℕ, Bool, true, false, ◌&&◌, not, List, [], ◌∷◌}
+use Rattle.textwrap_base.proofs.Common.{◌++◌, All, All-nil, All-cons, All-head, All-tail}
+use Rattle.textwrap_base.proofs.Common.{All-append, refl, sym, ap, ◌∙◌, subst, None, append-nil}
+use Rattle.textwrap_base.proofs.Common.{flat_map, not-true, and_parts, All-weaker}
 use Rattle.textwrap_base.proofs.Lists.Parts.{all-left, all-right}
-use Rattle.std.proofs.Common.{ap₂}
-use Rattle.std.proofs.Common.{is_some}
+use Rattle.std.proofs.Common.{ap₂, is_some}
 use Rattle.std.specs.List.{list_all}
 use Rattle.std.proofs.lemmas.Slice.Eq.{bytes_eq-Decides}
 use Rattle.textwrap.specs.Indentation.{is_blank_line}

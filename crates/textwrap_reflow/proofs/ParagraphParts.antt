@@ -4,11 +4,10 @@ use Rattle.textwrap_base.proofs.Common.{◌≡◌, ◌≢◌, ℕ, ◌&&◌, [],
 use Rattle.textwrap_base.proofs.Common.{All-cons, All-head, All-nil, ap, append-nil, arith, Bool}
 use Rattle.textwrap_base.proofs.Common.{codes, cond, false, flat_map, IsUtf8-nil, List, map, nat_eq}
 use Rattle.textwrap_base.proofs.Common.{None, not, refl, starts_with, sym, true}
-use Rattle.textwrap_base.proofs.Lists.Parts.{flat}
-use Rattle.textwrap_base.proofs.Lists.Prefixes.{starts_with-true}
+use Rattle.textwrap_base.proofs.Lists.Parts.{flat, starts_with-true}
 use Rattle.std.proofs.lemmas.Bool.{and_from}
 use Rattle.textwrap_lines.specs.declared.line_ending.LineEnding.TheVariants.{LF}
-use Rattle.textwrap.proofs.Text.JoinedLines.{feed_joined, join-append}
+use Rattle.textwrap.proofs.Text.InPlace.{feed_joined, join-append}
 use Rattle.textwrap_reflow.proofs.Common.{blocks, hanging, line_prefix, line_words, text_lines}
 use Rattle.textwrap_reflow.proofs.EndedTexts.{lines-back}
 use Rattle.textwrap_reflow.proofs.LinesOfWords.{AreInPrefix, IsLine, joined}

@@ -1,16 +1,16 @@
 -- What stands between the blanks of a text, and which of it are words.
-use Rattle.textwrap_base.proofs.Common.{◌≡◌, ◌≢◌, ℕ, ◌<◌, false, cond, List, [], ◌∷◌, ◌++◌}
-use Rattle.textwrap_base.proofs.Common.{All, length, filter, refl, sym, ap, ◌∙◌, subst, arith}
+use Rattle.textwrap_base.proofs.Common.{◌≡◌, ◌≢◌, ℕ, ◌<◌, false, cond, List, [], ◌∷◌, ◌++◌, All}
+use Rattle.textwrap_base.proofs.Common.{length, filter, refl, sym, ap, ◌∙◌, subst, arith}
 use Rattle.textwrap_base.proofs.Common.{append_assoc, slice_split, last, list_all, ◌&&◌, lt-ltb}
-use Rattle.textwrap_base.proofs.Common.{All-nil, All-cons, All-head, All-tail, IsUtf8}
-use Rattle.textwrap_base.proofs.Common.{eqb-false, join_with_byte, true≢false, chars-nil}
+use Rattle.textwrap_base.proofs.Common.{All-nil, All-cons, All-head, All-tail, IsUtf8, eqb-false}
+use Rattle.textwrap_base.proofs.Common.{join_with_byte, true≢false, chars-nil}
 use Rattle.textwrap_base.proofs.Lists.Parts.{cons-some}
 use Rattle.std.proofs.lemmas.Bool.{or_parts}
 use Rattle.std.proofs.lemmas.List.Splits.{join_with_byte-slice_split}
 use Rattle.std.specs.Char.{is_whitespace}
 use Rattle.textwrap.specs.Indentation.{is_blank_line}
 use Rattle.textwrap_lines.specs.LineEnding.{carriage_return, line_feed}
-use Rattle.textwrap_lines.proofs.Paragraph.WordsApart.{last-append}
+use Rattle.textwrap_lines.proofs.Paragraph.Covered.{last-append}
 use Rattle.textwrap_reflow.proofs.Common.{blank, has_bytes, is_blank, is_left_off}
 use Rattle.textwrap_reflow.proofs.LinesOfWords.{joined, EndsWell, IsWord, IsWordByte}
 use Rattle.textwrap_reflow.proofs.SplitTexts.{split-each, split-none, split-utf8}

@@ -4,7 +4,7 @@ use Rattle.textwrap_base.proofs.Common.{All-nil, All-tail, All-weaker, arith, Is
 use Rattle.textwrap_base.proofs.Common.{refl, subst}
 use Rattle.textwrap_base.proofs.Lists.Parts.{flat}
 use Rattle.textwrap.proofs.Common.{IsPlainLine, IsPlainWord}
-use Rattle.textwrap.proofs.Text.PlainLines.{solid}
+use Rattle.textwrap.proofs.Text.Plain.{solid}
 use Rattle.textwrap_reflow.proofs.Common.{blank, hanging}
 use Rattle.textwrap_reflow.proofs.JoinedParts.{parts-utf8}
 use Rattle.textwrap_reflow.proofs.LinesOfWords.{AreInPrefix, joined}

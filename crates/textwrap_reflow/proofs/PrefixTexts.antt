@@ -1,15 +1,16 @@
 -- Prefixes of lines: which characters they have, and what follows them.
 use Rattle.textwrap_base.proofs.Common.{◌≡◌, ℕ, Bool, true, false, cond, List, [], ◌∷◌, ◌++◌, All}
-use Rattle.textwrap_base.proofs.Common.{length, drop, refl, sym, ap, ◌∙◌, subst, cond_both}
-use Rattle.textwrap_base.proofs.Common.{All-nil, All-cons, All-map, All-weaker}
-use Rattle.textwrap_base.proofs.Common.{drop_at, false_from_ne_true, IsAscii, IsUtf8, IsUtf8-from_ascii}
-use Rattle.textwrap_base.proofs.Common.{prefix_len, IsUtf8-drop, length-prefix_len}
+use Rattle.textwrap_base.proofs.Common.{length, drop, refl, sym, ap, ◌∙◌, subst, cond_both, All-nil}
+use Rattle.textwrap_base.proofs.Common.{All-cons, All-map, All-weaker, drop_at, false_from_ne_true}
+use Rattle.textwrap_base.proofs.Common.{IsAscii, IsUtf8, IsUtf8-from_ascii, prefix_len, IsUtf8-drop}
+use Rattle.textwrap_base.proofs.Common.{length-prefix_len}
 use Rattle.std.proofs.lemmas.List.Sums.{take_while-cons}
 use Rattle.textwrap.specs.Refilling.{is_prefix_character}
-use Rattle.textwrap.proofs.Text.PlainIndents.{prefix-indented}
-use Rattle.textwrap.proofs.Text.Prefixes.{line_prefix-ascii, line_prefix-boundary}
+use Rattle.textwrap.proofs.Text.PlainFilled.{prefix-indented}
+use Rattle.textwrap.proofs.Text.Unfilling.{line_prefix-ascii, line_prefix-boundary}
 use Rattle.textwrap_reflow.specs.Prefixes.{is_bullet}
-use Rattle.textwrap_reflow.proofs.Common.{after_prefix, blank, hanging, hanging_character, line_prefix}
+use Rattle.textwrap_reflow.proofs.Common.{after_prefix, blank, hanging, hanging_character}
+use Rattle.textwrap_reflow.proofs.Common.{line_prefix}
 use Rattle.textwrap_reflow.proofs.LinesOfWords.{AreInPrefix}
 
 abbrev IsIn : ℕ → Type 0

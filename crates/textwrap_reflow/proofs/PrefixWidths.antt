@@ -2,7 +2,7 @@
 use Rattle.textwrap_base.proofs.Common.{◌≡◌, ℕ, ◌∙◌, All-weaker, arith, length, length-map, List}
 use Rattle.textwrap_base.proofs.Common.{nat_tests, true}
 use Rattle.textwrap_words.proofs.Common.{IsPrintable, IsPrintableByte, text_width}
-use Rattle.textwrap_words.proofs.Units.Widths.{printable-width}
+use Rattle.textwrap_words.proofs.Units.Reading.{printable-width}
 use Rattle.textwrap.proofs.Common.{IsIndent, is_prefix_character}
 use Rattle.textwrap_reflow.proofs.Common.{hanging, hanging_character}
 use Rattle.textwrap_reflow.proofs.PrefixTexts.{hanging-in}

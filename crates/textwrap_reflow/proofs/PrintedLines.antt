@@ -3,11 +3,11 @@ use Rattle.textwrap_base.proofs.Common.{◌≡◌, ◌≢◌, [], ◌∷◌, ◌
 use Rattle.textwrap_base.proofs.Common.{All-tail, ap, Bool, cond, false, List, map, refl, sym, true}
 use Rattle.textwrap_base.proofs.Lists.Parts.{all-left, all-right, flat}
 use Rattle.textwrap_words.proofs.Common.{tiled, word_of, WordText}
-use Rattle.textwrap_words.proofs.Word.Measured.{HasNoPenalty}
+use Rattle.textwrap_words.proofs.Word.Words.{HasNoPenalty}
 use Rattle.textwrap_lines.proofs.Common.{assembled_line, covered, indent_of, line_bytes, line_from}
 use Rattle.textwrap_lines.proofs.Common.{parts_from, parts_of, Settings}
-use Rattle.textwrap_lines.proofs.Paragraph.WholeLine.{assembled-parts, bytes-assembled}
-use Rattle.textwrap.proofs.Text.WholeLines.{bytes_of}
+use Rattle.textwrap_lines.proofs.Paragraph.LeftOff.{assembled-parts, bytes-assembled}
+use Rattle.textwrap.proofs.Text.PlainFilled.{bytes_of}
 use Rattle.textwrap_reflow.specs.Reflow.{printed}
 
 pub no_penalties : (texts : List (List ℕ)) → All HasNoPenalty (map word_of texts)

@@ -1,17 +1,16 @@
 -- The lines that blocks become are read as blocks with the same parts.
-use Rattle.textwrap_base.proofs.Common.{◌≡◌, ◌≢◌, ℕ, Bool, true, false, cond, List, [], ◌∷◌, ◌++◌, All}
-use Rattle.textwrap_base.proofs.Common.{All-nil, All-cons, All-head, All-tail, All-append, refl, sym, ap}
-use Rattle.textwrap_base.proofs.Common.{◌∙◌, subst, None, Option, flat_map, map, length, ◌-◌}
+use Rattle.textwrap_base.proofs.Common.{◌≡◌, ◌≢◌, ℕ, Bool, true, false, cond, List, [], ◌∷◌, ◌++◌}
+use Rattle.textwrap_base.proofs.Common.{All, All-nil, All-cons, All-head, All-tail, All-append}
+use Rattle.textwrap_base.proofs.Common.{refl, sym, ap, ◌∙◌, subst, None, Option, flat_map, map}
+use Rattle.textwrap_base.proofs.Common.{length, ◌-◌}
 use Rattle.textwrap_base.proofs.Lists.Parts.{all-left, all-right}
 use Rattle.textwrap_words.proofs.Common.{word_of}
 use Rattle.std.proofs.Common.{ap₂}
 use Rattle.std.specs.Str.{bytes_eq}
 use Rattle.textwrap.specs.Indentation.{is_blank_line}
-use Rattle.textwrap_reflow.proofs.BlockOrder.{AreBlocks}
-use Rattle.textwrap_reflow.proofs.BlockOrder.{lines_of, StopsBefore}
-use Rattle.textwrap_reflow.proofs.Common.{after_prefix, Apart, Block, fence_after}
-use Rattle.textwrap_reflow.proofs.Common.{hanging, line_prefix, line_words, Paragraph}
-use Rattle.textwrap_reflow.proofs.Common.{pieces, stands_apart}
+use Rattle.textwrap_reflow.proofs.BlockOrder.{AreBlocks, lines_of, StopsBefore}
+use Rattle.textwrap_reflow.proofs.Common.{after_prefix, Apart, Block, fence_after, hanging}
+use Rattle.textwrap_reflow.proofs.Common.{line_prefix, line_words, Paragraph, pieces, stands_apart}
 use Rattle.textwrap_reflow.proofs.Divisions.{divided}
 use Rattle.textwrap_reflow.proofs.Grouping.{goes_on}
 use Rattle.textwrap_reflow.proofs.LaidOut.{kept-front}
@@ -19,8 +18,8 @@ use Rattle.textwrap_reflow.proofs.LinesOfWords.{IsLine}
 use Rattle.textwrap_reflow.proofs.ParagraphLines.{IsReadAs, paragraph-back, paragraph-words}
 use Rattle.textwrap_reflow.proofs.Turns.{no_fence}
 use Rattle.textwrap_reflow.proofs.WordDivisions.{division-words}
-use Rattle.textwrap_reflow.specs.Reflow.{algorithm_of, AreAllLines, block_parts, Filled}
-use Rattle.textwrap_reflow.specs.Reflow.{is_filled, Kept, paragraph_parts}
+use Rattle.textwrap_reflow.specs.Reflow.{algorithm_of, AreAllLines, block_parts, Filled, is_filled}
+use Rattle.textwrap_reflow.specs.Reflow.{Kept, paragraph_parts}
 use Rattle.textwrap_reflow.specs.declared.fences.Fence.{Fence}
 use Rattle.textwrap_reflow.specs.declared.options.ReflowOptions.{ReflowOptions}
 

@@ -5,8 +5,8 @@ use Rattle.textwrap_base.proofs.Common.{sym, true}
 use Rattle.textwrap_base.proofs.Lists.Parts.{flat}
 use Rattle.textwrap_lines.proofs.Common.{line_feed}
 use Rattle.textwrap.proofs.Common.{is_prefix_character}
-use Rattle.textwrap.proofs.Text.JoinedLines.{feed_joined}
-use Rattle.textwrap.proofs.Text.PlainIndents.{are_rows}
+use Rattle.textwrap.proofs.Text.InPlace.{feed_joined}
+use Rattle.textwrap.proofs.Text.PlainFilled.{are_rows}
 use Rattle.textwrap.proofs.Text.Refilling.{IsUnfilledAs, unfilled-indented}
 use Rattle.textwrap_reflow.proofs.Common.{hanging}
 use Rattle.textwrap_reflow.proofs.FilledWords.{ArePrefixed}

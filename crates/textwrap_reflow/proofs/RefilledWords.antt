@@ -1,16 +1,15 @@
 -- Words behind a prefix are filled to what their text is, with that as its indents.
-use Rattle.textwrap_base.proofs.Common.{◌≡◌, ◌↔◌, ℕ, ◌-◌, [], ◌∷◌, ◌++◌, ◌∙◌}
-use Rattle.textwrap_base.proofs.Common.{ap, append-nil, Bool, false, length}
-use Rattle.textwrap_base.proofs.Common.{List, map, MatchBool, refl, subst, sym, true}
+use Rattle.textwrap_base.proofs.Common.{◌≡◌, ◌↔◌, ℕ, ◌-◌, [], ◌∷◌, ◌++◌, ◌∙◌, ap, append-nil, Bool}
+use Rattle.textwrap_base.proofs.Common.{false, length, List, map, MatchBool, refl, subst, sym, true}
 use Rattle.textwrap_base.proofs.Lists.Parts.{flat}
 use Rattle.textwrap_words.proofs.Common.{sizes_of, word_of, WordText}
 use Rattle.textwrap_lines.proofs.Common.{AreGroups, AreParagraphParts, ending_bytes, is_whole}
-use Rattle.textwrap_lines.proofs.Common.{IsFilled, line_bytes, line_from, LineParts}
-use Rattle.textwrap_lines.proofs.Common.{paragraphs_of, parts_from, parts_of, Settings}
-use Rattle.textwrap_lines.proofs.Paragraph.WholeLine.{AreParagraphParts-whole}
-use Rattle.textwrap_lines.proofs.Text.Endings.{one-paragraph}
-use Rattle.textwrap.proofs.Text.PlainLines.{solid}
-use Rattle.textwrap.proofs.Text.WholeLines.{bytes_of}
+use Rattle.textwrap_lines.proofs.Common.{IsFilled, line_bytes, line_from, LineParts, paragraphs_of}
+use Rattle.textwrap_lines.proofs.Common.{parts_from, parts_of, Settings}
+use Rattle.textwrap_lines.proofs.Paragraph.LeftOff.{AreParagraphParts-whole}
+use Rattle.textwrap_lines.proofs.Text.Paragraphs.{one-paragraph}
+use Rattle.textwrap.proofs.Text.Plain.{solid}
+use Rattle.textwrap.proofs.Text.PlainFilled.{bytes_of}
 use Rattle.textwrap_reflow.proofs.Common.{hanging, join_with}
 use Rattle.textwrap_reflow.proofs.DividedLines.{bytes-divided, bytes-whole}
 use Rattle.textwrap_reflow.proofs.Divisions.{divided_one}

@@ -5,8 +5,8 @@ use Rattle.textwrap_base.proofs.Common.{line_costs, line_width, List, map, price
 use Rattle.textwrap_base.proofs.Common.{Sizes, slice_range, subst, sym}
 use mathlib.Core.Path.{fun_ext}
 use Rattle.textwrap_base.proofs.Cost.Chosen.{by_table-chosen}
-use Rattle.textwrap_base.proofs.Division.SameWidths.{IsGreedy-same, line_width-one, line_width-two}
-use Rattle.textwrap_base.proofs.Division.SameWidths.{one-width}
+use Rattle.textwrap_base.proofs.Division.Greedy.{IsGreedy-same, line_width-one, line_width-two}
+use Rattle.textwrap_base.proofs.Division.Greedy.{one-width}
 use Rattle.textwrap_base.specs.Table.{table}
 use Rattle.textwrap_base.specs.declared.penalties.Penalties.{Penalties}
 use Rattle.textwrap_words.proofs.Common.{Algorithm, Greedy, LeastCost, IsDividedBy}

@@ -3,7 +3,7 @@ use Rattle.textwrap_base.proofs.Common.{◌≡◌, ◌≢◌, ℕ, [], ◌∷◌
 use Rattle.textwrap_base.proofs.Common.{All-weaker, ap, append_assoc, cond, List, map, ne_eqb}
 use Rattle.textwrap_base.proofs.Common.{onto_first, refl, sym}
 use Rattle.textwrap.proofs.Common.{IsPlainByte, IsPlainWord}
-use Rattle.textwrap.proofs.Text.JoinedLines.{blank_joined}
+use Rattle.textwrap.proofs.Text.InPlace.{blank_joined}
 use Rattle.textwrap_words.proofs.Common.{chunks, word_of, words_of}
 use Rattle.textwrap_reflow.proofs.Common.{blank, onto_front, pieces}
 use Rattle.textwrap_reflow.specs.Laws.{AreSeparate}

@@ -8,7 +8,7 @@ use Rattle.textwrap_base.proofs.Lists.Parts.{all-left, all-right, flat, some_fro
 use Rattle.std.proofs.lemmas.Bool.{or_parts}
 use Rattle.std.proofs.lemmas.List.Elements.{All-get_or}
 use Rattle.textwrap.proofs.Common.{IsPlainByte, IsPlainWord}
-use Rattle.textwrap.proofs.Text.JoinedLines.{join-append}
+use Rattle.textwrap.proofs.Text.InPlace.{join-append}
 use Rattle.textwrap.specs.Indentation.{is_blank_line}
 use Rattle.textwrap_reflow.specs.Laws.{ArePlainWords, AreSeparate}
 use Rattle.textwrap_reflow.specs.Pieces.{begins_no_line, ends_in_whitespace}

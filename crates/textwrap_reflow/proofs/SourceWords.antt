@@ -1,9 +1,9 @@
 -- The words of a line that has some: the first begins what follows the prefix.
 use Rattle.textwrap_base.proofs.Common.{◌≡◌, ◌≢◌, ℕ, ◌<◌, true, false, List, [], ◌∷◌, ◌++◌, All}
-use Rattle.textwrap_base.proofs.Common.{length, get_or, filter, refl, sym, ap, ◌∙◌, subst, arith, ◌&&◌}
-use Rattle.textwrap_base.proofs.Common.{append_assoc, slice_split, last, list_all, onto_first, IsUtf8}
-use Rattle.textwrap_base.proofs.Common.{All-drop, All-weaker, chars-nil, eqb-true, true≢false}
-use Rattle.textwrap_base.proofs.Common.{false_from_ne_true}
+use Rattle.textwrap_base.proofs.Common.{length, get_or, filter, refl, sym, ap, ◌∙◌, subst, arith}
+use Rattle.textwrap_base.proofs.Common.{◌&&◌, append_assoc, slice_split, last, list_all, onto_first}
+use Rattle.textwrap_base.proofs.Common.{IsUtf8, All-drop, All-weaker, chars-nil, eqb-true}
+use Rattle.textwrap_base.proofs.Common.{true≢false, false_from_ne_true}
 use Rattle.textwrap_base.proofs.Lists.Parts.{all-left}
 use Rattle.std.proofs.Math.Bool.{and-true}
 use Rattle.std.proofs.lemmas.List.Splits.{slice_split-cons_no}
@@ -13,13 +13,14 @@ use Rattle.textwrap.specs.Refilling.{is_prefix_character}
 use Rattle.textwrap_lines.specs.LineEnding.{line_feed}
 use Rattle.textwrap_reflow.specs.Blocks.{fence_of}
 use Rattle.textwrap_reflow.proofs.Common.{after_prefix, blank, content, has_bytes, is_blank}
-use Rattle.textwrap_reflow.proofs.Common.{is_left_off, line_prefix, line_words, words_between_blanks}
+use Rattle.textwrap_reflow.proofs.Common.{is_left_off, line_prefix, line_words}
+use Rattle.textwrap_reflow.proofs.Common.{words_between_blanks}
 use Rattle.textwrap_reflow.proofs.JoinedText.{later_text}
 use Rattle.textwrap_reflow.proofs.LinesOfWords.{EndsWell, IsLine, IsWord, joined}
 use Rattle.textwrap_reflow.proofs.ContentTexts.{AreOff, before-off, cut-off, kept-cut, kept-ends}
 use Rattle.textwrap_reflow.proofs.ContentTexts.{kept_text, left_off, off-blank, off-first}
-use Rattle.textwrap_reflow.proofs.PartTexts.{IsPart, joined-parts, kept-first, split-parts, words-are}
-use Rattle.textwrap_reflow.proofs.PartTexts.{words-blank, words-end}
+use Rattle.textwrap_reflow.proofs.PartTexts.{IsPart, joined-parts, kept-first, split-parts}
+use Rattle.textwrap_reflow.proofs.PartTexts.{words-are, words-blank, words-end}
 use Rattle.textwrap_reflow.proofs.PrefixTexts.{bare-first, bare-from, rest-bare, rest-utf8}
 use Rattle.textwrap_reflow.proofs.WordTexts.{blank-append, blank-texts, fence-before, joined-is}
 

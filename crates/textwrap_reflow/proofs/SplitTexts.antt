@@ -1,9 +1,10 @@
 -- The parts of a text between like bytes: none has the byte, and each has what holds of the text.
-use Rattle.textwrap_base.proofs.Common.{◌≡◌, ◌≢◌, ℕ, ◌<◌, ◌==◌, Bool, true, false, cond, List, [], ◌∷◌}
-use Rattle.textwrap_base.proofs.Common.{All, All-nil, All-cons, All-head, All-tail, refl, sym, subst}
-use Rattle.textwrap_base.proofs.Common.{IsUtf8, slice_split, onto_first, join_with_byte, eqb-false}
+use Rattle.textwrap_base.proofs.Common.{◌≡◌, ◌≢◌, ℕ, ◌<◌, ◌==◌, Bool, true, false, cond, List, []}
+use Rattle.textwrap_base.proofs.Common.{◌∷◌, All, All-nil, All-cons, All-head, All-tail, refl, sym}
+use Rattle.textwrap_base.proofs.Common.{subst, IsUtf8, slice_split, onto_first, join_with_byte}
+use Rattle.textwrap_base.proofs.Common.{eqb-false}
 use Rattle.textwrap_base.proofs.Lists.Parts.{all-left, all-right}
-use Rattle.textwrap_base.proofs.Utf8.{ascii_seam}
+use Rattle.textwrap_base.proofs.Texts.{ascii_seam}
 use Rattle.std.proofs.lemmas.List.Splits.{join_with_byte-slice_split}
 
 module _ (byte : ℕ) where

@@ -1,13 +1,15 @@
 -- The lines of a text: what each of them keeps to.
 use Rattle.textwrap_base.proofs.Common.{◌≡◌, ◌≢◌, ℕ, ◌<◌, true, false, List, [], ◌∷◌, All, All-nil}
-use Rattle.textwrap_base.proofs.Common.{All-cons, All-head, All-tail, All-weaker, length, map, sym, ap, subst}
-use Rattle.textwrap_base.proofs.Common.{◌∙◌, arith, IsUtf8, last, length-map, slice_split}
+use Rattle.textwrap_base.proofs.Common.{All-cons, All-head, All-tail, All-weaker, length, map, sym}
+use Rattle.textwrap_base.proofs.Common.{ap, subst, ◌∙◌, arith, IsUtf8, last, length-map}
+use Rattle.textwrap_base.proofs.Common.{slice_split}
 use Rattle.textwrap_base.proofs.Lists.Parts.{all-left}
 use Rattle.std.proofs.lemmas.List.Splits.{length-slice_split}
 use Rattle.textwrap_lines.specs.LineEnding.{carriage_return, line_feed}
 use Rattle.textwrap_reflow.proofs.Common.{is_left_off, is_line_feed, is_return, text_lines}
 use Rattle.textwrap_reflow.proofs.Common.{without_returns}
-use Rattle.textwrap_reflow.proofs.ContentTexts.{before-off, cut-off, kept-cut, kept-ends, kept_text, left_off}
+use Rattle.textwrap_reflow.proofs.ContentTexts.{before-off, cut-off, kept-cut, kept-ends, kept_text}
+use Rattle.textwrap_reflow.proofs.ContentTexts.{left_off}
 use Rattle.textwrap_reflow.proofs.LinesOfWords.{IsLine}
 use Rattle.textwrap_reflow.proofs.SplitTexts.{HasNone, split-none, split-utf8}
 

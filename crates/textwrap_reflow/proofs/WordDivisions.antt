@@ -1,8 +1,8 @@
 -- What a division of the pieces prints are lines of words, parted where they may be.
 use Rattle.textwrap_base.proofs.Common.{◌≡◌, ◌≢◌, ℕ, ◌<◌, Bool, true, false, List, [], ◌∷◌, ◌++◌}
-use Rattle.textwrap_base.proofs.Common.{All, length, map, refl, sym, ap, ◌∙◌, subst, arith, append-nil}
-use Rattle.textwrap_base.proofs.Common.{length-append, All-head, All-tail, IsDivision}
-use Rattle.textwrap_base.proofs.Cost.Lines.{division_joined}
+use Rattle.textwrap_base.proofs.Common.{All, length, map, refl, sym, ap, ◌∙◌, subst, arith}
+use Rattle.textwrap_base.proofs.Common.{append-nil, length-append, All-head, All-tail, IsDivision}
+use Rattle.textwrap_base.proofs.Cost.Chosen.{division_joined}
 use Rattle.textwrap_base.proofs.Lists.Parts.{flat, all-right, some_from_nonempty}
 use Rattle.textwrap_words.proofs.Common.{word_of, WordText}
 use Rattle.textwrap_lines.proofs.Common.{covered}

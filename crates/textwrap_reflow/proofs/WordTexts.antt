@@ -1,11 +1,10 @@
 -- Words with a blank between each two: their prefix, their fence, and whether they are whitespace.
-use Rattle.textwrap_base.proofs.Common.{◌≡◌, ℕ, zero, suc, ◌<◌, true, false, cond}
-use Rattle.textwrap_base.proofs.Common.{List, [], ◌∷◌, ◌++◌, All, get_or, refl, sym}
-use Rattle.textwrap_base.proofs.Common.{ap, ◌∙◌, arith, append_assoc, append-nil, ◌&&◌, codes}
-use Rattle.textwrap_base.proofs.Common.{Some, None, nat_eq, starts_with, list_all}
-use Rattle.textwrap_base.proofs.Common.{All-head, All-tail, All-weaker, IsUtf8, chars-append}
-use Rattle.textwrap_base.proofs.Common.{chars-nil, false≢true}
-use Rattle.textwrap_base.proofs.Lists.Prefixes.{starts_with-false}
+use Rattle.textwrap_base.proofs.Common.{◌≡◌, ℕ, zero, suc, ◌<◌, true, false, cond, List, [], ◌∷◌}
+use Rattle.textwrap_base.proofs.Common.{◌++◌, All, get_or, refl, sym, ap, ◌∙◌, arith, append_assoc}
+use Rattle.textwrap_base.proofs.Common.{append-nil, ◌&&◌, codes, Some, None, nat_eq, starts_with}
+use Rattle.textwrap_base.proofs.Common.{list_all, All-head, All-tail, All-weaker, IsUtf8}
+use Rattle.textwrap_base.proofs.Common.{chars-append, chars-nil, false≢true}
+use Rattle.textwrap_base.proofs.Lists.Parts.{starts_with-false}
 use Rattle.std.proofs.Math.Bool.{and-true}
 use Rattle.std.proofs.lemmas.List.Folds.{list_all-append}
 use Rattle.std.specs.Char.{is_whitespace}
@@ -16,7 +15,7 @@ use Rattle.textwrap_reflow.specs.declared.fences.Fence.TheVariants.{Backticks, T
 use Rattle.textwrap_reflow.proofs.Common.{blank, is_left_off, line_prefix}
 use Rattle.textwrap_reflow.proofs.JoinedText.{later_text}
 use Rattle.textwrap_reflow.proofs.LinesOfWords.{joined, IsWord}
-use Rattle.textwrap.proofs.Text.PlainLines.{prefix-append}
+use Rattle.textwrap.proofs.Text.Plain.{prefix-append}
 
 pub joined-is : (word : List ℕ) (words : List (List ℕ))
     → joined (word ∷ words) ≡ word ++ later_text words

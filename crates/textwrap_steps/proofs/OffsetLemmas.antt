@@ -1,11 +1,11 @@
 -- Offsets of which each may follow the one before it are right ones.
-use Rattle.textwrap_base.proofs.Common.{◌≡◌, ℕ, zero, suc, ◌+◌, ◌<◌, ◌≤◌, List, [], ◌∷◌, All, length}
-use Rattle.textwrap_base.proofs.Common.{get_or, arith, All-nil, All-cons, All-head, All-tail}
-use Rattle.textwrap_base.proofs.Common.{All-weaker, All-from_get_or, IsCharBoundary}
-use Rattle.textwrap_base.proofs.Common.{drop, drop_all, drop_more, subst, sym}
+use Rattle.textwrap_base.proofs.Common.{◌≡◌, ℕ, zero, suc, ◌+◌, ◌<◌, ◌≤◌, List, [], ◌∷◌, All}
+use Rattle.textwrap_base.proofs.Common.{length, get_or, arith, All-nil, All-cons, All-head}
+use Rattle.textwrap_base.proofs.Common.{All-tail, All-weaker, All-from_get_or, IsCharBoundary, drop}
+use Rattle.textwrap_base.proofs.Common.{drop_all, drop_more, subst, sym}
 use Rattle.std.specs.List.Sorted.{IsStrictlyIncreasing}
 use Rattle.std.proofs.lemmas.List.Sorted.{IsNonDecreasingBy-from_default}
-use Rattle.textwrap_base.proofs.Lists.Rising.{increasing-rising}
+use Rattle.textwrap_base.proofs.Lists.Elements.{increasing-rising}
 use Rattle.textwrap_words.proofs.Common.{AreInnerCuts}
 use Rattle.textwrap_words.specs.LineEnds.{AreEnds}
 use Rattle.textwrap_steps.specs.Offsets.{AreNext, IsNextCut, IsNextEnd}

@@ -1,19 +1,20 @@
 -- The points of a text that are inside a part of it.
-use Rattle.textwrap_base.proofs.Common.{◌≡◌, ℕ, ◌+◌, ◌-◌, ◌<◌, ◌≤◌, Bool, true, false, List}
-use Rattle.textwrap_base.proofs.Common.{[], ◌∷◌, ◌++◌, All, length, filter, get_or, take, drop}
-use Rattle.textwrap_base.proofs.Common.{refl, sym, ap, ◌∙◌, arith, All-head, All-tail, All-map}
-use Rattle.textwrap_base.proofs.Common.{take-append-drop, append-nil}
-use Rattle.textwrap_base.proofs.Common.{IsCharBoundary, and_parts, ltb-true, ltb-false, length-append}
+use Rattle.textwrap_base.proofs.Common.{◌≡◌, ℕ, ◌+◌, ◌-◌, ◌<◌, ◌≤◌, Bool, true, false, List, []}
+use Rattle.textwrap_base.proofs.Common.{◌∷◌, ◌++◌, All, length, filter, get_or, take, drop, refl}
+use Rattle.textwrap_base.proofs.Common.{sym, ap, ◌∙◌, arith, All-head, All-tail, All-map}
+use Rattle.textwrap_base.proofs.Common.{take-append-drop, append-nil, IsCharBoundary, and_parts}
+use Rattle.textwrap_base.proofs.Common.{ltb-true, ltb-false, length-append, get_or-drop, get_or-map}
+use Rattle.textwrap_base.proofs.Common.{get_or_append_left, get_or-take, length-take-le}
+use Rattle.textwrap_base.proofs.Common.{length-drop, length-map, drop-drop, drop_at, append_assoc}
+use Rattle.textwrap_base.proofs.Common.{IsNonDecreasing, nat_tests, subst, ◌^◌}
 use Rattle.std.proofs.lemmas.Bool.{leb-true, leb-false}
 use Rattle.std.proofs.Common.{Fits, w64}
 use lib.Dec.{leb, ltb}
-use Rattle.textwrap_base.proofs.Common.{get_or-drop, get_or-map, get_or_append_left, get_or-take}
-use Rattle.textwrap_base.proofs.Common.{length-take-le, length-drop, length-map, drop-drop}
-use Rattle.textwrap_base.proofs.Common.{drop_at, append_assoc, IsNonDecreasing, nat_tests, subst, ◌^◌}
 use Rattle.std.specs.List.Sorted.{IsPartitionPoint}
 use Rattle.std.proofs.lemmas.List.Elements.{filter-append, filter_passes, All-filter}
 use Rattle.std.proofs.lemmas.List.Kept.{IsNonDecreasingBy-filter}
-use Rattle.textwrap_words.proofs.Common.{AreCuts, AreInnerCuts, AreSplit, split_pieces, tile_of, tiled, WordText}
+use Rattle.textwrap_words.proofs.Common.{AreCuts, AreInnerCuts, AreSplit, split_pieces, tile_of}
+use Rattle.textwrap_words.proofs.Common.{tiled, WordText}
 use Rattle.textwrap_words.proofs.Word.Parts.{inner-cuts}
 use Rattle.textwrap_steps.specs.Steps.{is_between, points_within, split_at}
 

@@ -1,26 +1,88 @@
--- The breaks that the iterator has still to give.
-use Rattle.std.proofs.Common.{◌≡◌, ℕ, ◌+◌, true, false, List, [], ◌∷◌, ◌++◌, length, drop}
-use Rattle.std.proofs.Common.{refl, sym, ap, ◌∙◌, arith, if◌then◌else◌}
+-- The breaks that the iterator has still to give, and what the rules ask of the text before a place
+-- and past it.
+use Rattle.std.proofs.Common.{◌≡◌, Bool, true, false, not, ◌&&◌, List, [], ◌∷◌, refl, sym, ap, ◌∙◌}
+use Rattle.std.proofs.Common.{if◌then◌else◌, ℕ, ◌+◌, ◌<◌, length, drop, get_or, ◌++◌, arith}
+use Rattle.textwrap_unicode.specs.declared.classes.Unit.{Unit}
+use Rattle.textwrap_unicode.specs.Before.{Text, as_letter, before_of, first_class, is_empty}
+use Rattle.textwrap_unicode.specs.Before.{takes_marks, with_unit, nothing}
+use Rattle.textwrap_unicode.specs.BreaksLeft.{and, and_letter, breaks_after}
+use Rattle.textwrap_unicode.specs.ClassSets.{is_mark, is_zwj, takes_no_mark, is_number}
+use Rattle.std.proofs.lemmas.List.{at_drop_more}
+use Rattle.textwrap_words.specs.declared.escapes.State.{State}
+use Rattle.textwrap_words.proofs.Units.Reading.{visible-step, IsRead, read-ahead, read-all}
+use Rattle.textwrap_words.proofs.Units.Reading.{read-next, read-none, read-start}
+use Rattle.textwrap_words.specs.Escapes.{next_of, shows, visible_in}
+use Rattle.textwrap_unicode.specs.Classes.{class_of, unit_of}
+use Rattle.textwrap_unicode.specs.Rules.{number_first, decide_by, numbers_rule}
 use Rattle.std.specs.Str.{chars, IsUtf8}
 use Rattle.std.proofs.lemmas.Str.{chars-nil}
 use lib.Utf8.{encode}
 use Rattle.unicode.specs.declared.properties.LineBreak.TheVariants.{Alphabetic}
 use Rattle.textwrap_unicode.specs.declared.before.Before.{Before}
-use Rattle.textwrap_unicode.specs.declared.classes.Unit.{Unit}
 use Rattle.textwrap_unicode.specs.declared.breaks.LineBreak.{LineBreak}
-use Rattle.textwrap_unicode.specs.Before.{Text, before_of, nothing, with_unit}
 use Rattle.textwrap_unicode.specs.Breaks.{break_at, breaks_from}
-use Rattle.textwrap_unicode.specs.BreaksLeft.{and, breaks_after}
-use Rattle.textwrap_unicode.specs.Classes.{unit_of}
-use Rattle.textwrap_unicode.specs.Rules.{decide_by, numbers_rule}
 use Rattle.textwrap_unicode.specs.WordStarts.{plain_letter}
 use Rattle.textwrap_unicode.specs.declared.numbers.Numbers.{Numbers}
 use Rattle.textwrap_unicode.specs.declared.numbers.Numbers.TheVariants.{ByPairs, ByExpression}
 use Rattle.textwrap_unicode.specs.declared.rules.Verdict.{Verdict}
 use Rattle.textwrap_unicode.specs.declared.rules.Verdict.TheVariants.{Prohibited}
-use Rattle.textwrap_unicode.proofs.BeforeLemmas.{and-is}
-use Rattle.textwrap_words.proofs.Units.ReadPlaces.{IsRead, read-ahead, read-all, read-next, read-none}
-use Rattle.textwrap_words.proofs.Units.ReadPlaces.{read-start}
+
+-- ---- what the rules ask of the text before a place, when a unit is added to it
+
+takes_marks-is : (units : List Unit)
+    → takes_marks units ≡ not (is_empty units) && not (takes_no_mark (first_class units))
+takes_marks-is [] = refl
+takes_marks-is (unit ∷ units) = refl
+
+regroup : (m s t : Bool) → (m && s) && t ≡ m && (s && t)
+regroup true s t = refl
+regroup false s t = refl
+
+pub and-is : (text : Text) (next : Unit)
+    → and (before_of text) next ≡ before_of (with_unit text next)
+and-is text next =
+    let stands : is_mark next.class && not (is_empty text.units)
+    && not (takes_no_mark (first_class text.units)) ≡ is_mark next.class && takes_marks text.units =
+    regroup (is_mark next.class) (not (is_empty text.units))
+    (not (takes_no_mark (first_class text.units)))
+    ∙ ap (λ b. is_mark next.class && b) (sym (takes_marks-is text.units)) in
+    rw stands (by (is_mark next.class && takes_marks text.units))
+  where
+    by : (b : Bool) → (if b then record (before_of text) { is_joined = is_zwj next.class }
+        else and_letter (before_of text) (as_letter next) (is_zwj next.class))
+        ≡ before_of (record {
+          units = if b then text.units else as_letter next ∷ text.units;
+          is_joined = is_zwj next.class;
+        })
+    by true = refl
+    by false = refl
+
+-- ---- the look past the next unit for a number, as the text is read
+
+-- the answer after one more character
+pub number-step : (cs : List ℕ) (n c : ℕ) → (n < length cs) × (c ≡ get_or cs n c)
+    → number_first (drop n cs)
+    ≡ (if is_mark (class_of c) then number_first (drop (n + 1) cs) else is_number (class_of c))
+number-step cs n c here = at_drop_more number_first cs n c here.0
+    ∙ ap (λ x. number_first (x ∷ drop (n + 1) cs)) (sym here.1)
+
+-- the same among the visible characters
+pub shown-step : (state : State) (cs : List ℕ) (n c : ℕ) → (n < length cs) × (c ≡ get_or cs n c)
+    → number_first (visible_in state (drop n cs))
+    ≡ (let rest = visible_in (next_of state c) (drop (n + 1) cs) in
+    if shows state c then
+    if is_mark (class_of c) then number_first rest else is_number (class_of c)
+    else number_first rest)
+shown-step state cs n c here =
+    let rest = visible_in (next_of state c) (drop (n + 1) cs) in
+    at_drop_more (λ ls. number_first (visible_in state ls)) cs n c here.0
+    ∙ ap (λ x. number_first (visible_in state (x ∷ drop (n + 1) cs))) (sym here.1)
+    ∙ ap number_first (visible-step state c (drop (n + 1) cs))
+    ∙ elim (shows state c) as (λ b. number_first (if b then c ∷ rest else rest)
+    ≡ (if b then if is_mark (class_of c) then number_first rest else is_number (class_of c)
+    else number_first rest)) [ true ↦ refl | false ↦ refl ]
+
+-- ---- the breaks that the iterator has still to give
 
 pub breaks_after-from : (numbers : Numbers) (text : Text) (at : ℕ) (cs : List ℕ)
     → breaks_after numbers (before_of text) at cs ≡ breaks_from numbers text at cs

@@ -1,26 +1,24 @@
--- The breaks are in order, and one list.
-use Rattle.std.proofs.Common.{◌≡◌, ◌↔◌, ℕ, zero, suc, ◌+◌, ◌<◌, ◌≤◌, get_or}
-use Rattle.std.proofs.Common.{Bool, true, false, List, [], ◌∷◌, ◌++◌, length}
-use Rattle.std.proofs.Common.{sym, ap, subst, arith}
-use Rattle.std.proofs.Common.{if◌then◌else◌}
+-- The breaks of a text are one list in order, and what is said of one place.
+use Rattle.std.proofs.Common.{◌≡◌, ◌↔◌, ℕ, zero, suc, ◌+◌, ◌<◌, ◌≤◌, get_or, Bool, true, false}
+use Rattle.std.proofs.Common.{List, [], ◌∷◌, ◌++◌, length, sym, ap, subst, arith, if◌then◌else◌}
+use Rattle.std.proofs.Common.{inl, inr, take, refl, ◌∙◌, length-append}
 use Rattle.std.specs.Str.{chars, IsUtf8}
-use Rattle.std.proofs.lemmas.List.{append-nil}
-use Rattle.std.proofs.lemmas.Str.{length-le-encodes}
-use lib.Utf8.{encode}
+use Rattle.std.proofs.lemmas.List.{append-nil, append_cancel_left}
+use Rattle.std.proofs.lemmas.Str.{length-le-encodes, encodes_same}
+use lib.Utf8.{encode, encodes}
 use Rattle.textwrap_unicode.specs.declared.breaks.LineBreak.{LineBreak}
 use Rattle.textwrap_unicode.specs.declared.numbers.Numbers.{Numbers}
 use Rattle.textwrap_unicode.specs.declared.rules.Verdict.{Verdict}
 use Rattle.textwrap_unicode.specs.declared.rules.Verdict.TheVariants.{Mandatory, Allowed}
 use Rattle.textwrap_unicode.specs.declared.rules.Verdict.TheVariants.{Prohibited}
-use Rattle.textwrap_unicode.specs.Before.{Text, before_of, is_empty, nothing}
-use Rattle.textwrap_unicode.specs.Before.{with_unit}
-use Rattle.textwrap_unicode.specs.Breaks.{AreBreaksBy, break_at}
-use Rattle.textwrap_unicode.specs.Breaks.{breaks_from, breaks_by}
+use Rattle.textwrap_unicode.specs.Before.{Text, before_of, is_empty, nothing, with_unit}
+use Rattle.textwrap_unicode.specs.Breaks.{AreBreaksBy, break_at, breaks_from, breaks_by, IsPlaceBy}
+use Rattle.textwrap_unicode.specs.Breaks.{IsEnd, verdict_by}
 use Rattle.textwrap_unicode.specs.Classes.{unit_of}
 use Rattle.textwrap_unicode.specs.Rules.{decide_by, numbers_rule}
-use Rattle.textwrap_base.proofs.Lists.Ordered.{IsInOrder, order-nil, order-cons}
-use Rattle.textwrap_base.proofs.Lists.Ordered.{same-members}
-use Rattle.textwrap_unicode.proofs.TextBreaks.{contains-break}
+use Rattle.textwrap_base.proofs.Lists.Elements.{IsInOrder, order-nil, order-cons, same-members}
+use Rattle.textwrap_unicode.proofs.TextBreaks.{contains-break, spelled, before-place}
+use Rattle.std.specs.List.{Contains}
 
 -- ---- their order
 
@@ -102,3 +100,59 @@ breaks-unique numbers text breaks utf8 = (
       in_order = breaks-in-order numbers nothing 0 (chars text);
       all = contains-break numbers text utf8;
     }
+
+-- ---- what is said of one place of a text
+
+module _ (numbers : Numbers) (text front back : List ℕ) (next : ℕ) (utf8 : IsUtf8 text)
+    (divided : chars text ≡ front ++ next ∷ back) where
+  here-is : (verdict : Verdict) → verdict_by numbers front next back ≡ verdict
+      → IsPlaceBy numbers text (length (encodes front)) verdict
+  here-is verdict said = record {
+    front = front;
+    next = next;
+    back = back;
+    divided = divided;
+    offset = refl;
+    said = said;
+  }
+
+  here-said : (verdict : Verdict) → IsPlaceBy numbers text (length (encodes front)) verdict
+      → verdict_by numbers front next back ≡ verdict
+  here-said verdict h =
+      let same : h.front ≡ front = encodes_same h.front front
+      (sym (before-place text utf8 h.front h.back h.next h.divided)
+      ∙ ap (λ n. take n text) (sym h.offset)
+      ∙ before-place text utf8 front back next divided) in
+      let rest : h.next ∷ h.back ≡ next ∷ back = append_cancel_left front _ _
+      (ap (λ cs. cs ++ h.next ∷ h.back) (sym same) ∙ sym h.divided ∙ divided) in
+      let first : h.next ≡ next = cc in
+      let later : h.back ≡ back = cc in
+      ap (λ n. verdict_by numbers front n back) (sym first)
+      ∙ ap (λ cs. verdict_by numbers front h.next cs) (sym later)
+      ∙ ap (λ cs. verdict_by numbers cs h.next h.back) (sym same)
+      ∙ h.said
+
+  here-inside : IsEnd text (length (encodes front)) → ⊥
+  here-inside h = omega (
+    arith,
+    h.1,
+    ap length (spelled text utf8 front back next divided),
+    length-append (encodes front) (encodes (next ∷ back)),
+    length-le-encodes (next ∷ back),
+  )
+
+  pub here-decides : (is_mandatory : Bool)
+      → Contains (breaks_by numbers text)
+      (record { at = length (encodes front); is_mandatory = is_mandatory })
+      ↔ (verdict_by numbers front next back ≡ (if is_mandatory then Mandatory else Allowed))
+  here-decides false =
+      let both = contains-break numbers text utf8 _ in
+      (λ inside. here-said Allowed (both.0 inside), λ said. both.1 (here-is Allowed said))
+  here-decides true =
+      let both = contains-break numbers text utf8 _ in (
+        λ inside. elim (both.0 inside) [
+          | inl h ↦ here-said Mandatory h
+          | inr h ↦ absurd (here-inside h)
+        ],
+        λ said. both.1 (inl (here-is Mandatory said)),
+      )

@@ -1,35 +1,163 @@
--- Where the pass over a line cuts it.
-use Rattle.textwrap_base.proofs.Common.{◌≡◌, ℕ, ◌+◌, ◌<◌, ◌≤◌, ◌==◌, ◌&&◌, Bool, true, false, not}
-use Rattle.textwrap_base.proofs.Common.{List, [], ◌∷◌, ◌++◌, length, map, flat_map, refl, sym, ap}
-use Rattle.textwrap_base.proofs.Common.{◌∙◌, subst, arith, All, All-nil, All-cons}
-use Rattle.textwrap_base.proofs.Common.{All-weaker, append_assoc, encode_utf8_all, IsUtf8}
-use Rattle.textwrap_base.proofs.Common.{IsUtf8-append, encodes-append, length-append, nat_lt}
-use Rattle.textwrap_base.proofs.Common.{nat_tests}
-use Rattle.std.specs.List.{list_any}
-use Rattle.std.proofs.lemmas.List.Elements.{All-append}
-use Rattle.std.proofs.lemmas.Str.{IsUtf8-nil}
+-- The code that cuts a line at its breaks: cuts at offsets, and where the pass over a line cuts it.
+use Rattle.textwrap_base.proofs.Common.{◌≡◌, ℕ, ◌<◌, List, [], ◌∷◌, ◌++◌, length, ap, ◌∙◌, arith}
+use Rattle.textwrap_base.proofs.Common.{All-weaker, Contains, IsUtf8, encode_utf8_all}
+use Rattle.textwrap_base.proofs.Common.{encodes-append, flat_map, flat_map-append, length-append}
+use Rattle.textwrap_base.proofs.Common.{◌≢◌, ◌+◌, ◌≤◌, ◌==◌, ◌&&◌, Bool, true, false, not}
+use Rattle.textwrap_base.proofs.Common.{if◌then◌else◌, map, refl, All, All-nil, All-cons, All-head}
+use Rattle.textwrap_base.proofs.Common.{All-tail, nat_tests, inl, inr, list_any, cases_eq, sym}
+use Rattle.textwrap_base.proofs.Common.{subst, append_assoc, IsUtf8-append, nat_lt, cond}
+use Rattle.textwrap_base.proofs.Common.{cases_Bool, append-nil, encodes-chars}
+use Rattle.std.proofs.lemmas.List.Elements.{All-contains_itself, All-append}
 use lib.Utf8.{encode}
-use Rattle.textwrap_base.proofs.Characters.{utf8-front, utf8-back, some-bytes}
-use Rattle.textwrap_words.proofs.Common.{TextUnit, Visible, Sequence, characters, visible_of}
-use Rattle.textwrap_words.proofs.Common.{VisibleEnd}
-use Rattle.textwrap_words.proofs.Common.{ends_from, is_cut_after, cuts_among}
-use Rattle.textwrap_words.specs.WordOffsets.{is_any_hyphen}
-use Rattle.textwrap_words.proofs.Word.VisibleEnds.{end_of}
+use Rattle.textwrap_base.proofs.Texts.{some-bytes, utf8-front, utf8-back}
+use Rattle.textwrap_words.proofs.Common.{characters, units_text, Visible, cuts_at, VisibleEnd}
+use Rattle.textwrap_words.proofs.Common.{TextUnit, Sequence, visible_of, ends_from, is_cut_after}
+use Rattle.textwrap_words.proofs.Common.{cuts_among, next_of, shows, stripped, units, visible_in}
+use Rattle.textwrap_words.proofs.Word.Offsets.{cut-found, cuts_at-cuts, cuts_at-AreCuts, end_of}
+use Rattle.textwrap_words.proofs.Word.Offsets.{ends_in, ends_past, ends-step}
+use Rattle.textwrap_words.specs.Cuts.{AreInnerCuts}
+use Rattle.textwrap_words.specs.WordOffsets.{IsCutAt, is_any_hyphen}
+use Rattle.textwrap_words.proofs.Word.Parts.{cut_here, places-above, places_by}
 use Rattle.textwrap_unicode.specs.declared.before.Before.{Before}
-use Rattle.textwrap_unicode.specs.declared.breaks.LineBreak.{LineBreak}
 use Rattle.textwrap_unicode.specs.declared.numbers.Numbers.{Numbers}
 use Rattle.textwrap_unicode.specs.declared.rules.Verdict.{Verdict}
 use Rattle.textwrap_unicode.specs.declared.rules.Verdict.TheVariants.{Mandatory, Allowed}
 use Rattle.textwrap_unicode.specs.declared.rules.Verdict.TheVariants.{Prohibited}
-use Rattle.textwrap_unicode.specs.Before.{before_of, nothing}
-use Rattle.textwrap_unicode.specs.Breaks.{break_at}
+use Rattle.textwrap_unicode.specs.Breaks.{break_at, breaks_by}
 use Rattle.textwrap_unicode.specs.BreaksLeft.{and, breaks_after}
 use Rattle.textwrap_unicode.specs.Classes.{unit_of}
-use Rattle.textwrap_unicode.specs.Cuts.{may_end, offsets_of}
+use Rattle.textwrap_unicode.specs.Cuts.{may_end, offsets_of, cuts_by}
 use Rattle.textwrap_unicode.specs.Rules.{decide_by, numbers_rule}
-use Rattle.textwrap_unicode.proofs.OffsetsAmong.{any-below, any-here, breaks-above}
-use Rattle.textwrap_unicode.proofs.OffsetsAmong.{cuts_ahead}
-use Rattle.textwrap_words.proofs.Word.PlaceParts.{cut_here}
+use Rattle.std.proofs.lemmas.Str.{IsUtf8-nil, chars_from_encodes}
+use Rattle.textwrap_unicode.specs.declared.breaks.LineBreak.{LineBreak}
+use Rattle.textwrap_unicode.specs.Before.{before_of, nothing}
+use Rattle.std.specs.Str.{chars}
+use Rattle.textwrap_words.proofs.Units.Texts.{units-tile}
+use Rattle.textwrap_words.proofs.Units.Reading.{units_in, IsRead, read-ahead, read-next, read-none}
+use Rattle.textwrap_words.proofs.Units.Reading.{read-start}
+use Rattle.textwrap_words.specs.declared.escapes.State.{State}
+use Rattle.textwrap_words.specs.declared.escapes.State.TheVariants.{Text}
+use Rattle.textwrap_unicode.proofs.BreakLemmas.{breaks_after-from}
+
+-- ---- the cuts are inside the line
+
+-- each is after a character
+cut-late : (offsets line : List ℕ) (cut : ℕ) → IsCutAt offsets line cut → 0 < cut
+cut-late offsets line cut h =
+    let last = Visible h.character ∷ [] in
+    let apart : units_text (h.before ++ last) ≡ units_text h.before ++ units_text last =
+    ap encode_utf8_all (flat_map-append characters h.before last)
+    ∙ encodes-append (flat_map characters h.before) (flat_map characters last) in
+    omega (
+      arith,
+      h.place,
+      ap length apart,
+      length-append (units_text h.before) (units_text last),
+      length-append (encode h.character) [],
+      some-bytes h.character,
+    )
+
+pub cuts_at-AreInnerCuts : (offsets line : List ℕ) → IsUtf8 line
+    → AreInnerCuts line (cuts_at offsets line)
+cuts_at-AreInnerCuts offsets line utf8 =
+    let cuts = cuts_at offsets line in
+    let are = cuts_at-AreCuts offsets line utf8 in
+    record {
+      in_order = (cuts_at-cuts offsets line).in_order;
+      after_start = All-weaker (Contains cuts) (λ cut. 0 < cut)
+          (λ cut h. cut-late offsets line cut (cut-found offsets line cut h)) cuts
+          (All-contains_itself cuts);
+      before_end = are.in_range;
+      between = are.between;
+    }
+
+-- ---- the cuts that are ahead
+
+-- after a last visible character that ends there, and may be a hyphen
+abbrev pub cuts_ahead : Numbers → Before → ℕ → Bool → List VisibleEnd → List ℕ
+cuts_ahead numbers before end hyphen [] = []
+cuts_ahead numbers before end hyphen (e ∷ es) =
+    let next = unit_of e.character in
+    let back = map (λ later. later.character) es in
+    cut_here (not hyphen && may_end (decide_by (numbers_rule numbers back) before next)) end
+    ++ cuts_ahead numbers (and before next) e.end (is_any_hyphen e.character) es
+
+-- ---- an offset among those of the breaks
+
+other : (o s : ℕ) → o ≢ s → (o == s) ≡ false
+other o s differ = grind (arith, nat_tests)
+
+pub any-below : (s : ℕ) (front rest : List ℕ) → All (λ o. o < s) front
+    → list_any (λ o. o == s) (front ++ rest) ≡ list_any (λ o. o == s) rest
+any-below s [] rest below = refl
+any-below s (o ∷ os) rest below =
+    let here = All-head (λ o. o < s) o os below in
+    let differs : o ≢ s = λ e. omega (arith, here, e) in
+    rw (other o s differs) (any-below s os rest (All-tail (λ o. o < s) o os below))
+
+pub any-above : (s : ℕ) (os : List ℕ) → All (λ o. s < o) os → list_any (λ o. o == s) os ≡ false
+any-above s [] above = refl
+any-above s (o ∷ os) above =
+    let here = All-head (λ o. s < o) o os above in
+    let differs : o ≢ s = λ e. omega (arith, here, e) in
+    rw (other o s differs) (any-above s os (All-tail (λ o. s < o) o os above))
+
+pub breaks-above : (numbers : Numbers) (before : Before) (at : ℕ) (cs : List ℕ)
+    → All (λ o. at ≤ o) (offsets_of (breaks_after numbers before at cs))
+breaks-above numbers before at [] =
+    elim before.is_start as (λ b. All (λ o. at ≤ o)
+    (offsets_of (if b then [] else record { at = at; is_mandatory = true } ∷ []))) [
+      | true ↦ All-nil (λ o. at ≤ o)
+      | false ↦ All-cons (λ o. at ≤ o) at [] (omega arith) (All-nil (λ o. at ≤ o))
+    ]
+breaks-above numbers before at (c ∷ cs) =
+    let next = at + length (encode c) in
+    let rest = breaks_after numbers (and before (unit_of c)) next cs in
+    let later : All (λ o. at ≤ o) (offsets_of rest) =
+    All-weaker (λ o. next ≤ o) (λ o. at ≤ o) (λ o h. omega (arith, h)) (offsets_of rest)
+    (breaks-above numbers (and before (unit_of c)) next cs) in
+    elim (decide_by (numbers_rule numbers cs) before (unit_of c)) as (λ v. All (λ o. at ≤ o)
+    (offsets_of (break_at v at ++ rest))) [
+      | Mandatory ↦ All-cons (λ o. at ≤ o) at (offsets_of rest) (omega arith) later
+      | Allowed ↦ All-cons (λ o. at ≤ o) at (offsets_of rest) (omega arith) later
+      | Prohibited ↦ later
+    ]
+
+-- a break stands at a place among all if the rules say so there
+pub any-here : (v : Verdict) (s : ℕ) (later : List ℕ) → All (λ o. s < o) later
+    → list_any (λ o. o == s) (offsets_of (break_at v s) ++ later) ≡ may_end v
+any-here Mandatory s later above = grind (arith, nat_tests)
+any-here Allowed s later above = grind (arith, nat_tests)
+any-here Prohibited s later above = any-above s later above
+
+-- ---- whether a place is among those that a test tells
+
+module _ (test : ℕ → Bool) where
+  other-place : (place other : ℕ) (t : Bool) (rest : List ℕ) → place ≢ other
+      → list_any (λ p. p == place) (cut_here t other ++ rest) ≡ list_any (λ p. p == place) rest
+  other-place place other true rest differs =
+      let unlike : (other == place) ≡ false = grind (arith, nat_tests) in rw unlike refl
+  other-place place other false rest differs = refl
+
+  this-place : (place : ℕ) (t : Bool) (rest : List ℕ) → All (λ p. place < p) rest
+      → list_any (λ p. p == place) (cut_here t place ++ rest) ≡ t
+  this-place place true rest above =
+      let like : (place == place) ≡ true = grind (arith, nat_tests) in rw like refl
+  this-place place false rest above = any-above place rest above
+
+  pub place-found : (place at : ℕ) (bytes : List ℕ) → at < place → place < at + length bytes
+      → list_any (λ p. p == place) (places_by test at bytes) ≡ test place
+  place-found place at [] from before = absurd (omega arith)
+  place-found place at (b ∷ []) from before = absurd (omega arith)
+  place-found place at (b ∷ c ∷ cs) from before =
+      let rest = places_by test (at + 1) (c ∷ cs) in
+      elim (cases_eq place (at + 1)) [
+        | inl here ↦
+            rw here (this-place (at + 1) (test (at + 1)) rest (places-above test (at + 1) (c ∷ cs)))
+        | inr other ↦
+            other-place place (at + 1) (test (at + 1)) rest other
+            ∙ place-found place (at + 1) (c ∷ cs) (omega (arith, from, other)) (omega (arith, before))
+      ]
 
 -- ---- the cuts at the breaks are those ahead
 
@@ -157,3 +285,84 @@ visible-utf8 (Visible c ∷ us) utf8 =
     (IsUtf8-append (encode_utf8_all one) (encode_utf8_all (visible_among us))
     (utf8-front one (flat_map characters us) utf8)
     (visible-utf8 us (utf8-back one (flat_map characters us) utf8)))
+
+-- ---- the code that cuts a line at its breaks
+
+pub record IsCutting (numbers : Numbers) (line : List ℕ) (at : ℕ) (rest : List ℕ) (state : State) (before : Before)
+    (end : ℕ) (hyphen : Bool) (cuts : List ℕ) : Type 0 where
+  pub read : IsRead line at rest
+  -- how many bytes were visible
+  pub shown : ℕ
+  pub found : cuts ++ cuts_ahead numbers before end hyphen (ends_in state at shown (chars rest))
+      ≡ cuts_by numbers line
+
+offsets-visible : (numbers : Numbers) (line : List ℕ) → IsUtf8 line
+    → offsets_of (breaks_by numbers (stripped line))
+    ≡ offsets_of (breaks_after numbers (before_of nothing) 0 (visible_among (units (chars line))))
+offsets-visible numbers line utf8 =
+    let us = units (chars line) in
+    let whole = encodes-chars line utf8 in
+    let shown : IsUtf8 (stripped line) =
+    visible-utf8 us (subst (λ cs. IsUtf8 (encode_utf8_all cs)) (sym (units-tile (chars line)))
+    (subst IsUtf8 (sym whole) utf8)) in
+    let visible : visible_among us ≡ chars (stripped line) =
+    chars_from_encodes (visible_among us) (stripped line) shown refl in
+    ap offsets_of (sym (breaks_after-from numbers nothing 0 (chars (stripped line))))
+    ∙ ap (λ cs. offsets_of (breaks_after numbers (before_of nothing) 0 cs)) (sym visible)
+
+pub IsCutting-start : (numbers : Numbers) (line : List ℕ) (at : ℕ) (rest : List ℕ) (before : Before) (cuts : List ℕ)
+    → IsUtf8 line → at ≡ 0 → rest ≡ line → before ≡ before_of nothing → cuts ≡ []
+    → IsCutting numbers line at rest Text before 0 false cuts
+IsCutting-start numbers line at rest before cuts utf8 start whole first none =
+    rw (start, whole, first, none) (record {
+      read = read-start line utf8;
+      shown = 0;
+      found = sym (start-cuts numbers (units (chars line)) 0 (offsets_of (breaks_by numbers (stripped line)))
+          (length (stripped line)) (offsets-visible numbers line utf8) refl);
+    })
+
+-- a character is read: the line is cut before it if the rules say so and it is visible
+pub IsCutting-step : (numbers : Numbers) (line : List ℕ) (at : ℕ) (rest : List ℕ) (s : State) (before : Before)
+    (end : ℕ) (hyphen : Bool) (cuts : List ℕ) (c : ℕ) (after : List ℕ) (p : State × Bool)
+    → IsCutting numbers line at rest s before end hyphen cuts → rest ≡ encode c ++ after
+    → p ≡ (next_of s c, shows s c) → (at' : ℕ) (before' : Before) (end' : ℕ) (hyphen' : Bool)
+    (cuts' : List ℕ) → at' ≡ at + length (encode c)
+    → before' ≡ cond p.1 (and before (unit_of c)) before
+    → end' ≡ cond p.1 (at + length (encode c)) end
+    → hyphen' ≡ cond p.1 (is_any_hyphen c) hyphen
+    → cuts' ≡ cond p.1 (cuts ++ cut_here (not hyphen
+    && may_end (decide_by (numbers_rule numbers (visible_in p.0 (chars after))) before (unit_of c))) end) cuts
+    → IsCutting numbers line at' after p.0 before' end' hyphen' cuts'
+IsCutting-step numbers line at rest s before end hyphen cuts c after p h e step at' before' end'
+    hyphen' cuts' at_is before_is end_is hyphen_is cuts_is =
+    let ends : ends_in s at h.shown (chars rest) ≡ ends_past p at h.shown c (chars after) =
+    ap (ends_in s at h.shown) (read-ahead h.read c after e)
+    ∙ ends-step s at h.shown c (chars after)
+    ∙ ap (λ p. ends_past p at h.shown c (chars after)) (sym step) in
+    let es = ends_in p.0 (at + length (encode c)) (h.shown + length (encode c)) (chars after) in
+    let behind : map (λ e. e.character) es ≡ visible_in p.0 (chars after) =
+    ends-characters (units_in p.0 (chars after)) _ _ in
+    let later = cuts_ahead numbers (and before (unit_of c)) (at + length (encode c))
+    (is_any_hyphen c) es in
+    let cut_before : List ℕ → List ℕ = λ back. cut_here (not hyphen
+    && may_end (decide_by (numbers_rule numbers back) before (unit_of c))) end in
+    let here : cuts ++ cuts_ahead numbers before end hyphen (ends_past p at h.shown c (chars after))
+    ≡ cuts_by numbers line =
+    ap (λ es. cuts ++ cuts_ahead numbers before end hyphen es) (sym ends) ∙ h.found in
+    rw (at_is, before_is, end_is, hyphen_is, cuts_is) (record {
+      read = read-next h.read c after e _ refl;
+      shown = cond p.1 (h.shown + length (encode c)) h.shown;
+      found = elim (cases_Bool p.1) [
+        | inl t ↦ rw t (append_assoc cuts (cut_before (visible_in p.0 (chars after))) later
+            ∙ ap (λ back. cuts ++ (cut_before back ++ later)) (sym behind)
+            ∙ (rw t at here))
+        | inr f ↦ rw f (rw f at here)
+      ];
+    })
+
+pub IsCutting-end : (numbers : Numbers) (line : List ℕ) (at : ℕ) (rest : List ℕ) (s : State) (before : Before)
+    (end : ℕ) (hyphen : Bool) (cuts : List ℕ)
+    → IsCutting numbers line at rest s before end hyphen cuts → length rest ≡ 0
+    → cuts ≡ cuts_by numbers line
+IsCutting-end numbers line at rest s before end hyphen cuts h none =
+    sym (append-nil cuts) ∙ (rw (read-none h.read none) at h.found)

@@ -1,8 +1,9 @@
--- The class of a printable byte, which is one of fourteen, and what the code tells from it.
+-- The classes of printable bytes, what the rules say between them, and what stands before a place.
 use Rattle.textwrap_base.proofs.Common.{◌≡◌, ℕ, ◌≤◌, ◌==◌, ◌&&◌, ◌||◌, Bool, true, false, not}
-use Rattle.textwrap_base.proofs.Common.{if◌then◌else◌, List, [], ◌∷◌, refl, sym, ap, ◌∙◌}
-use Rattle.textwrap_base.proofs.Common.{arith, nat_lt, nat_tests, eqb-true, cases_Bool, inl, inr}
-use Rattle.textwrap_base.proofs.Common.{and_parts, list_all, list_any}
+use Rattle.textwrap_base.proofs.Common.{if◌then◌else◌, List, [], ◌∷◌, refl, sym, ap, ◌∙◌, arith}
+use Rattle.textwrap_base.proofs.Common.{nat_lt, nat_tests, eqb-true, cases_Bool, inl, inr}
+use Rattle.textwrap_base.proofs.Common.{and_parts, list_all, list_any, ◌+◌, get_or, subst, add-one}
+use Rattle.textwrap_base.proofs.Common.{not-true}
 use Rattle.std.proofs.Common.{slice_index_or}
 use Rattle.unicode.specs.LineBreak.{line_break_number}
 use Rattle.unicode.specs.declared.properties.LineBreak.{LineBreak}
@@ -12,6 +13,7 @@ use Rattle.unicode.specs.declared.properties.LineBreak.TheVariants.{ClosePunctua
 use Rattle.unicode.specs.declared.properties.LineBreak.TheVariants.{Hyphen, InfixNumeric, Numeric}
 use Rattle.unicode.specs.declared.properties.LineBreak.TheVariants.{OpenPunctuation, PostfixNumeric}
 use Rattle.unicode.specs.declared.properties.LineBreak.TheVariants.{PrefixNumeric, Quotation, Space}
+use Rattle.unicode.specs.declared.properties.LineBreak.TheVariants.{Unknown}
 use Rattle.unicode.proofs.BreaksComputing.{ucd_breaks}
 use Rattle.unicode.proofs.CategoryComputing.{ucd_category}
 use Rattle.unicode.proofs.Facts.{Stepped-below}
@@ -19,9 +21,20 @@ use Rattle.unicode.proofs.LineBreakLemmas.{line_break_number_injective}
 use Rattle.textwrap_words.proofs.Common.{is_blank, IsPrintableByte}
 use Rattle.textwrap_words.specs.WordOffsets.{is_any_hyphen}
 use Rattle.textwrap_unicode.specs.declared.pairs.TheConstants.{KINDS, UNUSUAL_AFTER}
-use Rattle.textwrap_unicode.specs.ClassSets.{is_space}
-use Rattle.textwrap_unicode.specs.Classes.{class_of}
-use Rattle.textwrap_unicode.proofs.CharacterLemmas.{class_stepped}
+use Rattle.textwrap_unicode.specs.ClassSets.{is_space, is_after_text, is_opening, is_closing}
+use Rattle.textwrap_unicode.specs.ClassSets.{is_hebrew, is_inside_number, is_mark, is_number}
+use Rattle.textwrap_unicode.specs.ClassSets.{is_regional_indicator, is_zwj}
+use Rattle.textwrap_unicode.specs.Classes.{class_of, unit_of}
+use Rattle.textwrap_unicode.proofs.ClassLemmas.{class_stepped}
+use Rattle.std.specs.Prelude.{bit_and}
+use Rattle.textwrap_unicode.specs.Cuts.{may_end}
+use Rattle.textwrap_unicode.specs.Pairs.{behind_classes, is_cut_behind, is_unusual}
+use Rattle.textwrap_unicode.specs.Pairs.{may_follow_blanks, class_past_blanks}
+use Rattle.textwrap_unicode.specs.Rules.{decide}
+use Rattle.textwrap_unicode.proofs.WordVerdicts.{ascii-is, unit_with}
+use Rattle.textwrap_unicode.specs.declared.before.Before.{Before}
+use Rattle.textwrap_unicode.specs.Before.{before_of, nothing}
+use Rattle.textwrap_unicode.specs.BreaksLeft.{and}
 
 -- ---- the classes
 
@@ -136,3 +149,181 @@ told c printable =
       kind = eqb-true _ _ kind;
       unusual = eqb-true _ _ unusual;
     }
+
+-- ---- by classes
+
+abbrev pub cut_behind : LineBreak → LineBreak → LineBreak → Bool
+cut_behind past first next =
+    not (is_hyphen_class first) && may_end (decide (behind_classes past first) (unit_with next))
+
+abbrev unusual_behind : LineBreak → LineBreak → Bool
+unusual_behind first next =
+    if is_space first then is_after_text next || is_opening next
+    else (is_opening first && is_space next) || cut_behind first first next
+
+-- what passes for each two printable classes
+passes-pairs : (p : LineBreak → LineBreak → Bool) (firsts : List LineBreak)
+    → list_all (λ v. list_all (p v) printable_classes) firsts ≡ true
+    → (v w : LineBreak) → is_among firsts v ≡ true → is_among printable_classes w ≡ true
+    → p v w ≡ true
+passes-pairs p firsts all v w first next =
+    passes-among (p v) printable_classes
+    (passes-among (λ u. list_all (p u) printable_classes) firsts all v first) w next
+
+-- the tables have what is unusual
+bits-unusual : (v w : LineBreak) → is_among printable_classes v ≡ true
+    → is_among printable_classes w ≡ true
+    → not (bit_and (unusual_after v) (kind_of w) == 0) ≡ unusual_behind v w
+bits-unusual v w first next = agree-same _ _ (passes-pairs
+    (λ v w. agree (not (bit_and (unusual_after v) (kind_of w) == 0)) (unusual_behind v w))
+    printable_classes refl v w first next)
+
+-- behind a byte that is no blank the text is cut at what is unusual, but for a blank
+cut-words : (v w : LineBreak) → is_among printable_classes v ≡ true
+    → is_among printable_classes w ≡ true → is_space v ≡ false
+    → cut_behind v v w ≡ not (is_space w) && unusual_behind v w
+cut-words v w first next other = agree-same _ _ (past-first (is_space v) _ other (passes-pairs
+    (λ v w. is_space v || agree (cut_behind v v w) (not (is_space w) && unusual_behind v w))
+    printable_classes refl v w first next))
+
+-- the classes before blanks, XX at the start
+abbrev pub past_classes : List LineBreak
+past_classes = Unknown ∷ printable_classes
+
+cut-blanks : (past w : LineBreak) → is_among past_classes past ≡ true
+    → is_among printable_classes w ≡ true
+    → cut_behind past Space w ≡ not (is_space w) && may_follow_blanks past w
+cut-blanks past w first next = agree-same _ _ (passes-pairs
+    (λ v w. agree (cut_behind v Space w) (not (is_space w) && may_follow_blanks v w))
+    past_classes refl past w first next)
+
+-- ---- by bytes
+
+pub cut-classes : (past : LineBreak) (b c : ℕ) → IsPrintableByte b → IsPrintableByte c
+    → is_cut_behind past b c ≡ cut_behind past (class_of b) (class_of c)
+cut-classes past b c first next =
+    let class = class_of b in
+    ap (λ h. not h && may_end (decide (behind_classes past class) (unit_of c))) (told b first).hyphen
+    ∙ ap (λ u. not (is_hyphen_class class) && may_end (decide (behind_classes past class) u))
+    (ascii-is c (omega (arith, next.1)))
+
+unusual-classes : (b c : ℕ) → IsPrintableByte b → IsPrintableByte c
+    → unusual_behind (class_of b) (class_of c) ≡ is_unusual b c
+unusual-classes b c first next =
+    ap (λ cut. if is_space (class_of b) then is_after_text (class_of c) || is_opening (class_of c)
+    else (is_opening (class_of b) && is_space (class_of c)) || cut)
+    (sym (cut-classes (class_of b) b c first next))
+
+pub unusual-bits : (b c : ℕ) → IsPrintableByte b → IsPrintableByte c
+    → not (bit_and (slice_index_or UNUSUAL_AFTER b 0) (slice_index_or KINDS c 0) == 0)
+    ≡ is_unusual b c
+unusual-bits b c first next =
+    let one = told b first in
+    let other = told c next in
+    rw (one.unusual, other.kind)
+    (bits-unusual (class_of b) (class_of c) one.class other.class ∙ unusual-classes b c first next)
+
+pub class-space : (v : LineBreak) → is_space v ≡ true → v ≡ Space
+class-space Space e = refl
+class-space v e = cc
+
+-- a text is cut behind a byte that is no blank where that is unusual, and behind blanks by what stands
+-- before them
+pub cut-behind : (past : LineBreak) (b c : ℕ) → IsPrintableByte b → IsPrintableByte c
+    → is_among past_classes past ≡ true → (is_blank b ≡ false → past ≡ class_of b)
+    → is_cut_behind past b c
+    ≡ not (is_blank c) && (if is_blank b then may_follow_blanks past (class_of c) else is_unusual b c)
+cut-behind past b c first next among word =
+    let one = told b first in
+    let other = told c next in
+    elim (cases_Bool (is_blank b)) [
+      | inl blank ↦
+          let space = class-space (class_of b) (sym one.blank ∙ blank) in
+          rw (blank, other.blank) (cut-classes past b c first next
+          ∙ ap (λ v. cut_behind past v (class_of c)) space
+          ∙ cut-blanks past (class_of c) among other.class)
+      | inr none ↦
+          rw (none, other.blank) (ap (λ p. is_cut_behind p b c) (word none)
+          ∙ cut-classes (class_of b) b c first next
+          ∙ cut-words (class_of b) (class_of c) one.class other.class (sym one.blank ∙ none)
+          ∙ ap (λ u. not (is_space (class_of c)) && u) (unusual-classes b c first next))
+    ]
+
+-- a blank is unusual behind what opens alone
+pub unusual-space : (b c : ℕ) → IsPrintableByte b → IsPrintableByte c → is_blank c ≡ true
+    → is_unusual b c ≡ is_opening (class_of b)
+unusual-space b c first next blank =
+    sym (unusual-classes b c first next)
+    ∙ ap (unusual_behind (class_of b)) (class-space (class_of c) (sym (told c next).blank ∙ blank))
+    ∙ agree-same _ _ (passes-among (λ v. agree (unusual_behind v Space) (is_opening v))
+    printable_classes refl (class_of b) (told b first).class)
+
+-- ---- what stands before a place of a printable text: the class of the last byte, and that of
+-- the last that is no blank
+
+-- the rules by pairs do not ask whether a number stands before a place
+abbrev pub with_numbers : Before → Bool → Bool → Before
+with_numbers before inside past = record before { is_in_number = inside; is_past_number = past }
+
+pub record IsBehind (past first : LineBreak) (before : Before) : Type 0 where
+  pub inside : Bool
+  pub number : Bool
+  pub is : before ≡ with_numbers (behind_classes past first) inside number
+
+none-has : (has : LineBreak → Bool) → list_all (λ v. not (has v)) printable_classes ≡ true
+    → (v : LineBreak) → is_among printable_classes v ≡ true → has v ≡ false
+none-has has none v class =
+    not-true (has v) (passes-among (λ v. not (has v)) printable_classes none v class)
+
+module _ (next : LineBreak) (class : is_among printable_classes next ≡ true) where
+  mark : is_mark next ≡ false
+  mark = none-has is_mark refl next class
+
+  joiner : is_zwj next ≡ false
+  joiner = none-has is_zwj refl next class
+
+  flag : is_regional_indicator next ≡ false
+  flag = none-has is_regional_indicator refl next class
+
+  unit-behind : (past first : LineBreak) (inside number : Bool) → is_hebrew first ≡ false
+      → IsBehind (if is_space next then past else next) next
+      (and (with_numbers (behind_classes past first) inside number) (unit_with next))
+  unit-behind past first inside number plain = record {
+    inside = is_number next || (is_inside_number next && inside);
+    number = (is_number next || (is_inside_number next && inside)) || (is_closing next && inside);
+    is = rw (mark, joiner, flag, plain) refl;
+  }
+
+  unit-first : IsBehind (if is_space next then Unknown else next) next
+      (and (before_of nothing) (unit_with next))
+  unit-first = record {
+    inside = is_number next || (is_inside_number next && false);
+    number = (is_number next || (is_inside_number next && false)) || (is_closing next && false);
+    is = rw (mark, joiner, flag) refl;
+  }
+
+pub byte-step : (past : LineBreak) (b c : ℕ) (before : Before) → IsBehind past (class_of b) before
+    → IsPrintableByte b → IsPrintableByte c
+    → IsBehind (if is_space (class_of c) then past else class_of c) (class_of c)
+    (and before (unit_of c))
+byte-step past b c before h first next =
+    let plain = none-has is_hebrew refl (class_of b) (told b first).class in
+    let v = class_of c in
+    let after = if is_space v then past else v in
+    subst (λ unit. IsBehind after v (and before unit)) (sym (ascii-is c (omega (arith, next.1))))
+    (subst (λ f. IsBehind after v (and f (unit_with v))) (sym h.is)
+    (unit-behind v (told c next).class past (class_of b) h.inside h.number plain))
+
+pub byte-first : (b : ℕ) → IsPrintableByte b
+    → IsBehind (if is_space (class_of b) then Unknown else class_of b) (class_of b)
+    (and (before_of nothing) (unit_of b))
+byte-first b first =
+    let v = class_of b in
+    subst (λ unit. IsBehind (if is_space v then Unknown else v) v (and (before_of nothing) unit))
+    (sym (ascii-is b (omega (arith, first.1)))) (unit-first v (told b first).class)
+
+pub past-more : (text : List ℕ) (n c : ℕ) → get_or text n 0 ≡ c → class_past_blanks text (n + 1)
+    ≡ (if is_space (class_of c) then class_past_blanks text n else class_of c)
+past-more text n c here =
+    ap (class_past_blanks text) (add-one n)
+    ∙ ap (λ d. if is_space (class_of d) then class_past_blanks text n else class_of d) here

@@ -1,24 +1,265 @@
--- The breaks of a whole text, and where they are.
-use Rattle.std.proofs.Common.{◌≡◌, ◌≢◌, inl, inr, ◌↔◌, ℕ, ◌<◌, ◌≤◌}
-use Rattle.std.proofs.Common.{Bool, true, false, List, [], ◌∷◌, ◌++◌, length, take}
-use Rattle.std.proofs.Common.{refl, sym, ap, ◌∙◌, subst, arith, length-append}
-use Rattle.std.proofs.lemmas.Bool.{and_from, and_parts}
-use Rattle.std.specs.List.{Contains}
-use Rattle.std.specs.Str.{chars, IsUtf8, IsCharBoundary}
-use Rattle.std.proofs.lemmas.Str.{chars-nil, encodes-append, encodes-chars, length-le-encodes}
-use Rattle.std.proofs.lemmas.Str.{scalars-chars}
-use Rattle.std.proofs.lemmas.Str.{IsCharBoundary-from_take}
-use Rattle.std.proofs.Math.Seq.{take-append_seam}
-use lib.Utf8.{encodes, scalar, scalars}
-use Rattle.textwrap_unicode.specs.declared.breaks.LineBreak.{LineBreak}
+-- The breaks of a text that the definition computes are those that the rules name.
+use Rattle.std.proofs.Common.{◌≡◌, ◌⊎◌, inl, inr, ℕ, Bool, true, false, List, [], ◌∷◌, ◌++◌, length}
+use Rattle.std.proofs.Common.{map, refl, sym, ap, ◌∙◌, subst, append_assoc, if◌then◌else◌, ◌&&◌}
+use Rattle.std.proofs.Common.{◌≢◌, ◌+◌, length-append, ◌↔◌, ◌<◌, ◌≤◌, take, arith}
+use Rattle.std.specs.List.{fold, Contains}
+use Rattle.std.proofs.lemmas.List.{map-append, append-nil}
+use Rattle.std.proofs.lemmas.List.Sums.{fold-append}
+use lib.Utf8.{encodes, encode, scalar, scalars}
+use Rattle.textwrap_unicode.specs.declared.classes.Unit.{Unit}
 use Rattle.textwrap_unicode.specs.declared.numbers.Numbers.{Numbers}
 use Rattle.textwrap_unicode.specs.declared.rules.Verdict.{Verdict}
+use Rattle.textwrap_unicode.specs.Before.{Text, as_letter, is_empty, nothing, takes_marks, text_of}
+use Rattle.textwrap_unicode.specs.Before.{with_unit}
+use Rattle.textwrap_unicode.specs.Breaks.{verdict_by, break_at, breaks_from, IsPlaceBy, IsEnd}
+use Rattle.textwrap_unicode.specs.Breaks.{EndsBy, IsBreakBy, breaks_by}
+use Rattle.textwrap_unicode.specs.Classes.{unit_of}
+use Rattle.textwrap_unicode.specs.ClassSets.{is_mark}
+use Rattle.std.proofs.lemmas.List.Elements.{Contains-append_left, Contains-append_right}
+use Rattle.std.proofs.lemmas.List.Elements.{Contains-append_cases}
+use Rattle.std.proofs.lemmas.Str.{encodes-append, chars-nil, encodes-chars, length-le-encodes}
+use Rattle.std.proofs.lemmas.Str.{scalars-chars, IsCharBoundary-from_take}
+use Rattle.textwrap_unicode.specs.declared.breaks.LineBreak.{LineBreak}
 use Rattle.textwrap_unicode.specs.declared.rules.Verdict.TheVariants.{Mandatory, Allowed}
 use Rattle.textwrap_unicode.specs.declared.rules.Verdict.TheVariants.{Prohibited}
-use Rattle.textwrap_unicode.specs.Breaks.{IsPlaceBy, IsEnd, EndsBy, IsBreakBy}
-use Rattle.textwrap_unicode.specs.Breaks.{breaks_by, verdict_by}
-use Rattle.textwrap_unicode.proofs.Ahead.{IsAhead}
-use Rattle.textwrap_unicode.proofs.FoundBreaks.{EndsAhead, computed-said, said-computed}
+use Rattle.textwrap_base.proofs.Lists.Elements.{contains-cases, contains-here, contains-nil}
+use Rattle.std.proofs.lemmas.Bool.{and_from, and_parts}
+use Rattle.std.specs.Str.{chars, IsUtf8, IsCharBoundary}
+use Rattle.std.proofs.Math.Seq.{take-append_seam}
+
+-- ---- a place among the characters that are still to be read
+
+pub text_of-push : (front : List ℕ) (c : ℕ)
+    → text_of (front ++ c ∷ []) ≡ with_unit (text_of front) (unit_of c)
+text_of-push front c = ap (fold with_unit nothing) (map-append unit_of front (c ∷ []))
+    ∙ fold-append with_unit nothing (map unit_of front) (unit_of c ∷ [])
+
+-- after a character there is a unit
+pub not-empty : (text : Text) (unit : Unit) → is_empty (with_unit text unit).units ≡ false
+not-empty text unit = by (is_mark unit.class) text.units
+  where
+    by : (b : Bool) (units : List Unit)
+        → is_empty (if b && takes_marks units then units else as_letter unit ∷ units) ≡ false
+    by false units = refl
+    by true [] = refl
+    by true (u ∷ units) = both (takes_marks (u ∷ units))
+      where
+        both : (b : Bool) → is_empty (if b then u ∷ units else as_letter unit ∷ u ∷ units) ≡ false
+        both true = refl
+        both false = refl
+
+stays : (text : Text) (units : List Unit) → is_empty text.units ≡ false
+    → is_empty (fold with_unit text units).units ≡ false
+stays text [] some = some
+stays text (u ∷ units) some = stays (with_unit text u) units (not-empty text u)
+
+pub some-units : (c : ℕ) (cs : List ℕ) → is_empty (text_of (c ∷ cs)).units ≡ false
+some-units c cs =
+    stays (with_unit nothing (unit_of c)) (map unit_of cs) (not-empty nothing (unit_of c))
+
+-- ---- one place among the characters ahead
+
+module _ (numbers : Numbers) where
+  -- what is ahead is characters, and then others, and what the rules say of the place between them
+  pub record IsAhead (front ahead : List ℕ) (at : ℕ) (verdict : Verdict) : Type 0 where
+    pub middle : List ℕ
+    pub next : ℕ
+    pub back : List ℕ
+    pub divided : ahead ≡ middle ++ next ∷ back
+    pub offset : at ≡ length (encodes (front ++ middle))
+    pub said : verdict_by numbers (front ++ middle) next back ≡ verdict
+
+  pub here : (front : List ℕ) (c : ℕ) (cs : List ℕ) (at : ℕ) (verdict : Verdict)
+      → at ≡ length (encodes front) → verdict_by numbers front c cs ≡ verdict
+      → IsAhead front (c ∷ cs) at verdict
+  here front c cs at verdict offset said = record {
+    middle = [];
+    next = c;
+    back = cs;
+    divided = refl;
+    offset = rw append-nil offset;
+    said = rw append-nil said;
+  }
+
+  pub later : (front : List ℕ) (c : ℕ) (cs : List ℕ) (at : ℕ) (verdict : Verdict)
+      → IsAhead (front ++ c ∷ []) cs at verdict → IsAhead front (c ∷ cs) at verdict
+  later front c cs at verdict h = record {
+    middle = c ∷ h.middle;
+    next = h.next;
+    back = h.back;
+    divided = ap (λ ls. c ∷ ls) h.divided;
+    offset = rw append_assoc at h.offset;
+    said = rw append_assoc at h.said;
+  }
+
+  pub nothing-ahead : (front : List ℕ) (at : ℕ) (verdict : Verdict) → IsAhead front [] at verdict → ⊥
+  nothing-ahead front at verdict h = by h.middle h.divided
+    where
+      by : (middle : List ℕ) → [] ≡ middle ++ h.next ∷ h.back → ⊥
+      by [] e = cc
+      by (m ∷ ms) e = cc
+
+  pub ahead-cases : (front : List ℕ) (c : ℕ) (cs : List ℕ) (at : ℕ) (verdict : Verdict)
+      → IsAhead front (c ∷ cs) at verdict
+      → ((at ≡ length (encodes front)) × (verdict_by numbers front c cs ≡ verdict))
+      ⊎ IsAhead (front ++ c ∷ []) cs at verdict
+  ahead-cases front c cs at verdict h = by h.middle h.divided h.offset h.said
+    where
+      by : (middle : List ℕ) → c ∷ cs ≡ middle ++ h.next ∷ h.back
+          → at ≡ length (encodes (front ++ middle))
+          → verdict_by numbers (front ++ middle) h.next h.back ≡ verdict
+          → ((at ≡ length (encodes front)) × (verdict_by numbers front c cs ≡ verdict))
+          ⊎ IsAhead (front ++ c ∷ []) cs at verdict
+      by [] e offset said =
+          let first : h.next ≡ c = cc in
+          let rest : h.back ≡ cs = cc in
+          inl (
+            rw append-nil at offset,
+            subst (λ back. verdict_by numbers front c back ≡ verdict) rest
+                (subst (λ n. verdict_by numbers front n h.back ≡ verdict) first
+                (rw append-nil at said)),
+          )
+      by (m ∷ ms) e offset said =
+          let first : m ≡ c = cc in
+          let rest : cs ≡ ms ++ h.next ∷ h.back = cc in
+          let moved : front ++ m ∷ ms ≡ (front ++ c ∷ []) ++ ms =
+          rw first (sym (append_assoc front (c ∷ []) ms)) in
+          inr (record {
+            middle = ms;
+            next = h.next;
+            back = h.back;
+            divided = rest;
+            offset = rw moved at offset;
+            said = rw moved at said;
+          })
+
+-- ---- the breaks that the definition computes are those that the rules name
+
+module _ (numbers : Numbers) where
+  -- ---- the breaks from a place on
+
+  -- a line must end here, or may, among the characters ahead or at their end
+  abbrev pub EndsAhead : List ℕ → List ℕ → ℕ → Bool → Type 0
+  EndsAhead front ahead at true = IsAhead numbers front ahead at Mandatory
+      ⊎ ((front ++ ahead ≢ []) × (at ≡ length (encodes (front ++ ahead))))
+  EndsAhead front ahead at false = IsAhead numbers front ahead at Allowed
+
+  length-push : (front : List ℕ) (c : ℕ)
+      → length (encodes (front ++ c ∷ [])) ≡ length (encodes front) + length (encode c)
+  length-push front c = ap length (encodes-append front (c ∷ []))
+      ∙ length-append (encodes front) (encodes (c ∷ []))
+      ∙ ap (λ bs. length (encodes front) + length bs) (append-nil (encode c))
+
+  -- the breaks after a character
+  breaks-after : (front : List ℕ) (c : ℕ) (cs : List ℕ)
+      → breaks_from numbers (text_of (front ++ c ∷ [])) (length (encodes (front ++ c ∷ []))) cs
+      ≡ breaks_from numbers (with_unit (text_of front) (unit_of c))
+      (length (encodes front) + length (encode c)) cs
+  breaks-after front c cs =
+      ap (λ text. breaks_from numbers text (length (encodes (front ++ c ∷ []))) cs) (text_of-push front c)
+      ∙ ap (λ n. breaks_from numbers (with_unit (text_of front) (unit_of c)) n cs) (length-push front c)
+
+  only : (x y : LineBreak) → Contains (x ∷ []) y → x ≡ y
+  only x y h = elim (contains-cases x y [] h) [
+    | inl e ↦ e
+    | inr none ↦ absurd (contains-nil y none)
+  ]
+
+  ends-same : (front ahead : List ℕ) (x y : LineBreak) → x ≡ y
+      → EndsAhead front ahead x.at x.is_mandatory → EndsAhead front ahead y.at y.is_mandatory
+  ends-same front ahead x y e h =
+      subst (λ place. EndsAhead front ahead place.at place.is_mandatory) e h
+
+  ends-here : (front : List ℕ) (c : ℕ) (cs : List ℕ) (verdict : Verdict) (place : LineBreak)
+      → verdict_by numbers front c cs ≡ verdict
+      → Contains (break_at verdict (length (encodes front))) place
+      → EndsAhead front (c ∷ cs) place.at place.is_mandatory
+  ends-here front c cs Mandatory place said h =
+      ends-same front (c ∷ cs) _ place (only _ place h) (inl (here numbers front c cs _ Mandatory refl said))
+  ends-here front c cs Allowed place said h =
+      ends-same front (c ∷ cs) _ place (only _ place h) (here numbers front c cs _ Allowed refl said)
+  ends-here front c cs Prohibited place said h = absurd (contains-nil place h)
+
+  some-items : (front : List ℕ) (c : ℕ) (cs : List ℕ) → front ++ c ∷ cs ≢ []
+  some-items [] c cs = λ e. cc
+  some-items (f ∷ fs) c cs = λ e. cc
+
+  ends-later : (front : List ℕ) (c : ℕ) (cs : List ℕ) (at : ℕ) (is_mandatory : Bool)
+      → EndsAhead (front ++ c ∷ []) cs at is_mandatory → EndsAhead front (c ∷ cs) at is_mandatory
+  ends-later front c cs at false h = later numbers front c cs at Allowed h
+  ends-later front c cs at true (inl h) = inl (later numbers front c cs at Mandatory h)
+  ends-later front c cs at true (inr h) = inr (some-items front c cs, rw append_assoc at h.1)
+
+  -- each computed break is one that the rules say
+  pub computed-said : (front cs : List ℕ) (place : LineBreak)
+      → Contains (breaks_from numbers (text_of front) (length (encodes front)) cs) place
+      → EndsAhead front cs place.at place.is_mandatory
+  computed-said [] [] place h = absurd (contains-nil place h)
+  computed-said (f ∷ fs) [] place h =
+      ends-same (f ∷ fs) [] _ place (only _ place (rw (some-units f fs) at h))
+      (inr (some-items [] f (fs ++ []), ap (λ cs. length (encodes cs)) (sym (append-nil (f ∷ fs)))))
+  computed-said front (c ∷ cs) place h =
+      elim (Contains-append_cases _ _ place h) [
+        | inl first ↦ ends-here front c cs (verdict_by numbers front c cs) place refl first
+        | inr rest ↦ ends-later front c cs place.at place.is_mandatory
+            (computed-said (front ++ c ∷ []) cs place
+            (subst (λ breaks. Contains breaks place) (sym (breaks-after front c cs)) rest))
+      ]
+
+  -- a break after the next character is among those from here
+  contains-after : (front : List ℕ) (c : ℕ) (cs : List ℕ) (place : LineBreak)
+      → Contains (breaks_from numbers (text_of (front ++ c ∷ [])) (length (encodes (front ++ c ∷ []))) cs)
+      place
+      → Contains (breaks_from numbers (text_of front) (length (encodes front)) (c ∷ cs)) place
+  contains-after front c cs place h = Contains-append_right
+      (break_at (verdict_by numbers front c cs) (length (encodes front))) _ place
+      (subst (λ breaks. Contains breaks place) (breaks-after front c cs) h)
+
+  contains-before : (verdict : Verdict) (front : List ℕ) (c : ℕ) (cs : List ℕ) (place : LineBreak)
+      → verdict_by numbers front c cs ≡ verdict → break_at verdict (length (encodes front)) ≡ place ∷ []
+      → Contains (breaks_from numbers (text_of front) (length (encodes front)) (c ∷ cs)) place
+  contains-before verdict front c cs place said is =
+      Contains-append_left (break_at (verdict_by numbers front c cs) (length (encodes front))) _ place
+      (subst (λ breaks. Contains breaks place)
+      (sym (ap (λ v. break_at v (length (encodes front))) said ∙ is))
+      (contains-here place place [] refl))
+
+  said-ahead : (front cs : List ℕ) (verdict : Verdict) (place : LineBreak)
+      → break_at verdict place.at ≡ place ∷ [] → IsAhead numbers front cs place.at verdict
+      → Contains (breaks_from numbers (text_of front) (length (encodes front)) cs) place
+  said-ahead front [] verdict place is h = absurd (nothing-ahead numbers front place.at verdict h)
+  said-ahead front (c ∷ cs) verdict place is h =
+      elim (ahead-cases numbers front c cs place.at verdict h) [
+        | inl first ↦ contains-before verdict front c cs place first.1
+            (ap (break_at verdict) (sym first.0) ∙ is)
+        | inr rest ↦ contains-after front c cs place
+            (said-ahead (front ++ c ∷ []) cs verdict place is rest)
+      ]
+
+  said-end : (front cs : List ℕ) (place : LineBreak) → front ++ cs ≢ []
+      → place ≡ record { at = length (encodes (front ++ cs)); is_mandatory = true }
+      → Contains (breaks_from numbers (text_of front) (length (encodes front)) cs) place
+  said-end [] [] place some is = absurd (some refl)
+  said-end (f ∷ fs) [] place some is =
+      rw (some-units f fs) (contains-here _ place []
+      (sym (is
+      ∙ ap (λ cs. record { at = length (encodes cs); is_mandatory = true })
+      (append-nil (f ∷ fs)))))
+  said-end front (c ∷ cs) place some is =
+      let moved = append_assoc front (c ∷ []) cs in
+      contains-after front c cs place (said-end (front ++ c ∷ []) cs place
+      (λ none. some (sym moved ∙ none))
+      (is ∙ ap (λ ls. record { at = length (encodes ls); is_mandatory = true }) (sym moved)))
+
+  -- and each that they say is computed
+  pub said-computed : (front cs : List ℕ) (at : ℕ) (is_mandatory : Bool)
+      → EndsAhead front cs at is_mandatory
+      → Contains (breaks_from numbers (text_of front) (length (encodes front)) cs)
+      (record { at = at; is_mandatory = is_mandatory })
+  said-computed front cs at false h = said-ahead front cs Allowed _ refl h
+  said-computed front cs at true (inl h) = said-ahead front cs Mandatory _ refl h
+  said-computed front cs at true (inr h) =
+      said-end front cs _ h.0 (ap (λ n. record { at = n; is_mandatory = true }) h.1)
 
 -- ---- the whole text
 

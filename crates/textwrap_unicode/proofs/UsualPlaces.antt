@@ -1,17 +1,16 @@
 -- Places of a printable text where it is cut as at its blanks, told from two bytes.
 use Rattle.textwrap_base.proofs.Common.{◌≡◌, ℕ, zero, suc, ◌-◌, ◌<◌, ◌&&◌, ◌↔◌, true, false, not}
-use Rattle.textwrap_base.proofs.Common.{Bool, List, length, get_or, refl, sym, ap, ◌∙◌}
-use Rattle.textwrap_base.proofs.Common.{◌+◌, ◌≤◌, arith, cases_Bool, cases_lt, inl, inr, subst, true≢false}
+use Rattle.textwrap_base.proofs.Common.{Bool, List, length, get_or, refl, sym, ap, ◌∙◌, ◌+◌, ◌≤◌}
+use Rattle.textwrap_base.proofs.Common.{arith, cases_Bool, cases_lt, inl, inr, subst, true≢false}
 use Rattle.std.proofs.Math.Bool.{and-false, and-true}
 use Rattle.std.proofs.lemmas.Bool.{or_parts}
 use Rattle.textwrap_words.proofs.Common.{is_blank, IsPrintable}
 use Rattle.textwrap_unicode.specs.ClassSets.{is_after_text, is_opening, is_quotation, is_space}
 use Rattle.textwrap_unicode.specs.Classes.{class_of}
-use Rattle.textwrap_unicode.specs.Pairs.{at_breaks, class_past_blanks, is_unusual, may_follow_blanks}
-use Rattle.textwrap_unicode.specs.Pairs.{IsUsual}
-use Rattle.textwrap_unicode.proofs.PastBlanks.{past-blank, past-byte, space-at}
-use Rattle.textwrap_unicode.proofs.PlaceCuts.{cut-told}
-use Rattle.textwrap_unicode.proofs.PrintableVerdicts.{class-space, unusual-space}
+use Rattle.textwrap_unicode.specs.Pairs.{at_breaks, class_past_blanks, is_unusual}
+use Rattle.textwrap_unicode.specs.Pairs.{may_follow_blanks, IsUsual}
+use Rattle.textwrap_unicode.proofs.PrintableCuts.{past-blank, past-byte, space-at, cut-told}
+use Rattle.textwrap_unicode.proofs.PrintableBytes.{class-space, unusual-space}
 
 -- of two parts the first fails if the second does not
 and-first : (a b : Bool) → b ≡ true → a && b ≡ false → a ≡ false

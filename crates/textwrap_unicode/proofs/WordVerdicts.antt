@@ -1,11 +1,17 @@
--- What the rules say behind letters, blanks and signs that follow a letter of a word.
-use Rattle.textwrap_base.proofs.Common.{◌≡◌, ℕ, ◌<◌, ◌==◌, ◌&&◌, ◌||◌, Bool}
-use Rattle.textwrap_base.proofs.Common.{true, false, if◌then◌else◌, inl, inr, List}
-use Rattle.textwrap_base.proofs.Common.{eqb, refl, sym, ap, ◌∙◌, subst, arith}
-use Rattle.textwrap_base.proofs.Common.{nat_tests, true≢false}
+-- What the rules say behind letters and ideographs, over which a line is read all at once.
+use Rattle.textwrap_base.proofs.Common.{◌≡◌, ℕ, zero, suc, ◌+◌, ◌<◌, ◌&&◌, false, if◌then◌else◌}
+use Rattle.textwrap_base.proofs.Common.{List, [], ◌∷◌, ◌++◌, get_or, refl, sym, ap, ◌∙◌, subst}
+use Rattle.textwrap_base.proofs.Common.{arith, add-zero, append-nil, ◌==◌, ◌||◌, Bool, true, inl}
+use Rattle.textwrap_base.proofs.Common.{inr, eqb, nat_tests, true≢false, ◌≤◌, length, drop, add-one}
+use Rattle.textwrap_base.proofs.Common.{append_assoc, drop_more, ◌*◌, nat_lt}
+use Rattle.textwrap_unicode.specs.ClassSets.{is_infix, is_letter, is_space}
+use Rattle.textwrap_unicode.specs.Classes.{class_of, unit_of}
+use Rattle.textwrap_unicode.specs.WordStarts.{IsPlainLetter, is_behind_blank, is_behind_sign}
+use Rattle.textwrap_unicode.specs.WordStarts.{word_starts, IsWordByte, IsWordClass, plain_letter}
 use Rattle.std.proofs.Common.{slice_index_or}
 use Rattle.unicode.specs.declared.properties.LineBreak.{LineBreak}
 use Rattle.unicode.specs.declared.properties.LineBreak.TheVariants.{Ambiguous, InfixNumeric, Space}
+use Rattle.unicode.specs.declared.properties.LineBreak.TheVariants.{Ideographic}
 use Rattle.textwrap_words.specs.WordOffsets.{is_any_hyphen}
 use Rattle.textwrap_unicode.specs.declared.ascii.TheConstants.{CLASSES}
 use Rattle.textwrap_unicode.specs.declared.before.Before.{Before}
@@ -13,14 +19,55 @@ use Rattle.textwrap_unicode.specs.declared.classes.Unit.{Unit}
 use Rattle.textwrap_unicode.specs.declared.numbers.Numbers.{Numbers}
 use Rattle.textwrap_unicode.specs.declared.numbers.Numbers.TheVariants.{ByPairs, ByExpression}
 use Rattle.textwrap_unicode.specs.BreaksLeft.{and, and_words}
-use Rattle.textwrap_unicode.specs.ClassSets.{is_infix, is_letter, is_space}
-use Rattle.textwrap_unicode.specs.Classes.{class_of, unit_of}
 use Rattle.textwrap_unicode.specs.Cuts.{may_end}
 use Rattle.textwrap_unicode.specs.Rules.{decide_by, numbers_rule}
-use Rattle.textwrap_unicode.specs.WordStarts.{IsWordByte, IsWordClass}
-use Rattle.textwrap_unicode.specs.WordStarts.{plain_letter}
 use Rattle.textwrap_unicode.proofs.BreakLemmas.{in_word}
-use Rattle.textwrap_unicode.proofs.CharacterLemmas.{ascii-unit}
+use Rattle.textwrap_unicode.proofs.ClassLemmas.{ascii-unit}
+use Rattle.std.specs.Str.{chars}
+use Rattle.std.proofs.lemmas.Str.{encode_ascii, length-encode}
+use lib.Utf8.{encode}
+use Rattle.textwrap_words.proofs.Common.{visible_in}
+use Rattle.textwrap_words.proofs.Units.Reading.{plain-step}
+use Rattle.textwrap_words.specs.declared.escapes.State.TheVariants.{Text}
+use Rattle.textwrap_unicode.proofs.CutLemmas.{IsCutting, IsCutting-step}
+use Rattle.textwrap_words.proofs.Word.Parts.{cut_here}
+use Rattle.std.specs.Char.{len_utf8}
+use Rattle.textwrap_unicode.specs.Ideographs.{IsCommonIdeograph, IsIdeographAt, ideograph_places}
+use Rattle.textwrap_unicode.specs.Ideographs.{wide_ideograph}
+
+-- ---- letters behind a letter, which are passed all at once
+
+-- nothing changes from the one place to the other
+pub record IsSame (at : ℕ) (bytes : List ℕ) (n m : ℕ) : Type 0 where
+  pub blank : is_behind_blank bytes m ≡ is_behind_blank bytes n
+  pub sign : is_behind_sign bytes m ≡ is_behind_sign bytes n
+  pub starts : word_starts at bytes m ≡ word_starts at bytes n
+
+one-letter : (at : ℕ) (bytes : List ℕ) (n : ℕ) → IsPlainLetter (get_or bytes n 0)
+    → is_behind_blank bytes n ≡ false → is_behind_sign bytes n ≡ false → IsSame at bytes n (suc n)
+one-letter at bytes n letter blank sign = record {
+  blank = ap is_space letter.class ∙ sym blank;
+  sign = ap (λ v. if is_space v then is_behind_sign bytes n else is_infix v) letter.class ∙ sym sign;
+  starts = ap (λ b. word_starts at bytes n
+      ++ (if b && is_letter (class_of (get_or bytes n 0)) then (at + n) ∷ [] else [])) blank
+      ∙ append-nil (word_starts at bytes n);
+}
+
+pub letters-same : (at : ℕ) (bytes : List ℕ) (n k : ℕ)
+    → (0 < k → (is_behind_blank bytes n ≡ false) × (is_behind_sign bytes n ≡ false))
+    → ((j : ℕ) → j < k → IsPlainLetter (get_or bytes (n + j) 0)) → IsSame at bytes n (n + k)
+letters-same at bytes n zero plain letters =
+    rw (add-zero n) (record { blank = refl; sign = refl; starts = refl })
+letters-same at bytes n (suc k) plain letters =
+    let (blank, sign) = plain (omega arith) in
+    let h = letters-same at bytes n k (λ _. (blank, sign)) (λ j below. letters j (omega (arith, below))) in
+    let one = one-letter at bytes (n + k) (letters k (omega arith)) (h.blank ∙ blank) (h.sign ∙ sign) in
+    let place : suc (n + k) ≡ n + suc k = omega arith in
+    subst (IsSame at bytes n) place (record {
+      blank = one.blank ∙ h.blank;
+      sign = one.sign ∙ h.sign;
+      starts = one.starts ∙ h.starts;
+    })
 
 -- ---- the units
 
@@ -135,3 +182,122 @@ no-hyphen c word =
     (ap is_of_word (sym (class-at 45 (omega arith)))) in
     let soft : (c == 173) ≡ false = grind (arith, nat_tests, word.ascii) in
     rw (short, soft) refl
+
+-- ---- letters, blanks and signs behind a letter of a word, over which a line is read all at
+-- once
+
+module _ (numbers : Numbers) (line : List ℕ) (at : ℕ) (rest : List ℕ) where
+  -- the reader past so many of them
+  abbrev pub IsPast : ℕ → List ℕ → Type 0
+  IsPast n cuts = IsCutting numbers line (at + n) (drop n rest) Text
+      (behind (is_behind_blank rest n) (is_behind_sign rest n)) (at + n) false cuts
+
+  past-one : (n : ℕ) (cuts : List ℕ) → IsPast n cuts → n < length rest → IsWordByte (get_or rest n 0)
+      → IsPast (suc n) (cuts
+      ++ (if is_behind_blank rest n && is_letter (class_of (get_or rest n 0)) then (at + n) ∷ [] else []))
+  past-one n cuts h inside word =
+      let c = get_or rest n 0 in
+      let after = drop (suc n) rest in
+      let blank = is_behind_blank rest n in
+      let sign = is_behind_sign rest n in
+      let back = visible_in Text (chars after) in
+      let (ends_is, and_is) = said numbers back blank sign (class_of c) word.class in
+      let unit = ascii-is c word.ascii in
+      let one : encode c ≡ c ∷ [] = encode_ascii c word.ascii in
+      let is : drop n rest ≡ encode c ++ after =
+      drop_more rest n 0 inside ∙ ap (λ k. c ∷ drop k rest) (add-one n)
+      ∙ sym (ap (λ bs. bs ++ after) one) in
+      let place : at + suc n ≡ at + n + length (encode c) = omega (arith, ap length one) in
+      IsCutting-step numbers line (at + n) (drop n rest) Text (behind blank sign) (at + n) false cuts c
+      after (Text, true) h is (plain-step c (no-escape c word)) (at + suc n)
+      (behind (is_behind_blank rest (suc n)) (is_behind_sign rest (suc n))) (at + suc n) false _
+      place (sym (ap (and (behind blank sign)) unit ∙ and_is)) place (sym (no-hyphen c word))
+      (ap (λ b. cuts ++ cut_here b (at + n)) (sym (ap (ends numbers back blank sign) unit ∙ ends_is)))
+
+  pub past-words : (cuts : List ℕ) → IsCutting numbers line at rest Text in_word at false cuts
+      → (n : ℕ) → n ≤ length rest → ((k : ℕ) → k < n → IsWordByte (get_or rest k 0))
+      → IsPast n (cuts ++ word_starts at rest n)
+  past-words cuts start zero within words = rw (append-nil cuts, add-zero at) start
+  past-words cuts start (suc n) within words =
+      let h = past-words cuts start n (omega (arith, within)) (λ k below. words k (omega (arith, below))) in
+      subst (IsPast (suc n)) (append_assoc cuts (word_starts at rest n) _)
+      (past-one n _ h (omega (arith, within)) (words n (omega arith)))
+
+-- ---- the characters
+
+pub three-bytes : (c : ℕ) → IsCommonIdeograph c → len_utf8 c ≡ 3
+three-bytes c is =
+    let one : nat_lt c 0x80 ≡ false = grind (arith, nat_tests, is.from) in
+    let two : nat_lt c 0x800 ≡ false = grind (arith, nat_tests, is.from) in
+    let three : nat_lt c 0x1_0000 ≡ true = grind (arith, nat_tests, is.to) in
+    rw (one, two, three) refl
+
+ideograph-no-escape : (c : ℕ) → IsCommonIdeograph c → eqb c 27 ≡ false
+ideograph-no-escape c is = grind (arith, nat_tests, is.from)
+
+ideograph-no-hyphen : (c : ℕ) → IsCommonIdeograph c → is_any_hyphen c ≡ false
+ideograph-no-hyphen c is =
+    let short : eqb c 45 ≡ false = grind (arith, nat_tests, is.from) in
+    let soft : eqb c 173 ≡ false = grind (arith, nat_tests, is.from) in
+    rw (short, soft) refl
+
+-- ---- what the rules say
+
+-- one stands there, and nothing else that a rule asks for
+abbrev pub behind_ideograph : Before
+behind_ideograph = record {
+  is_start = false;
+  class = Ideographic;
+  past_spaces = Ideographic;
+  follows_hebrew = false;
+  is_half_flag = false;
+  is_wide = true;
+  is_unassigned_pictograph = false;
+  is_joined = false;
+  is_in_number = false;
+  is_past_number = false;
+}
+
+-- a line may end before one more, which changes nothing
+ideograph-verdict : (numbers : Numbers) (back : List ℕ)
+    → (may_end (decide_by (numbers_rule numbers back) behind_ideograph wide_ideograph) ≡ true)
+    × (and behind_ideograph wide_ideograph ≡ behind_ideograph)
+ideograph-verdict ByPairs back = (refl, refl)
+ideograph-verdict ByExpression back = (refl, refl)
+
+-- ---- the reader
+
+module _ (numbers : Numbers) (line : List ℕ) (at : ℕ) (rest : List ℕ) where
+  -- the reader past so many of them
+  abbrev pub IsPast : ℕ → List ℕ → Type 0
+  IsPast n cuts = IsCutting numbers line (at + 3 * n) (drop (3 * n) rest) Text behind_ideograph
+      (at + 3 * n) false cuts
+
+  past-one : (n : ℕ) (cuts : List ℕ) → IsPast n cuts → IsIdeographAt rest (3 * n)
+      → IsPast (suc n) (cuts ++ (at + 3 * n) ∷ [])
+  past-one n cuts h here =
+      let c = here.character in
+      let after = drop (3 * n + 3) rest in
+      let (ends_is, and_is) = ideograph-verdict numbers (visible_in Text (chars after)) in
+      let unit = here.common.unit in
+      let three : length (encode c) ≡ 3 = length-encode c ∙ three-bytes c here.common in
+      let next : 3 * suc n ≡ 3 * n + 3 = omega arith in
+      let place : at + 3 * suc n ≡ at + 3 * n + length (encode c) = omega (arith, three) in
+      subst (λ k. IsCutting numbers line (at + 3 * suc n) (drop k rest) Text behind_ideograph
+      (at + 3 * suc n) false (cuts ++ (at + 3 * n) ∷ [])) (sym next)
+      (IsCutting-step numbers line (at + 3 * n) (drop (3 * n) rest) Text behind_ideograph (at + 3 * n)
+      false cuts c after (Text, true) h here.stands (plain-step c (ideograph-no-escape c here.common))
+      (at + 3 * suc n) behind_ideograph (at + 3 * suc n) false _ place
+      (sym (ap (and behind_ideograph) unit ∙ and_is)) place (sym (ideograph-no-hyphen c here.common))
+      (ap (λ b. cuts ++ cut_here b (at + 3 * n))
+      (sym (ap (λ u. may_end (decide_by (numbers_rule numbers (visible_in Text (chars after)))
+      behind_ideograph u)) unit ∙ ends_is))))
+
+  pub past-ideographs : (cuts : List ℕ) → IsCutting numbers line at rest Text behind_ideograph at false cuts
+      → (n : ℕ) → ((k : ℕ) → k < n → IsIdeographAt rest (3 * k))
+      → IsPast n (cuts ++ ideograph_places at n)
+  past-ideographs cuts start zero ideographs = rw (append-nil cuts, add-zero at) start
+  past-ideographs cuts start (suc n) ideographs =
+      let h = past-ideographs cuts start n (λ k below. ideographs k (omega (arith, below))) in
+      subst (IsPast (suc n)) (append_assoc cuts (ideograph_places at n) _)
+      (past-one n _ h (ideographs n (omega arith)))

@@ -1,11 +1,2 @@
-pub mod Computed
-pub mod Measuring
-pub mod Narrow
-pub mod Parts
-pub mod ReadPlaces
-pub mod Sequences
-pub mod States
-pub mod Stripped
-pub mod Unique
-pub mod WideCharacters
-pub mod Widths
+pub mod Reading
+pub mod Texts

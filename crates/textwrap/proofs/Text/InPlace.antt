@@ -1,19 +1,250 @@
--- Texts that are filled in place: only blanks change.
-use Rattle.textwrap_base.proofs.Common.{◌≡◌, ℕ, zero, suc, ◌<◌, ◌⊎◌, inl, inr, List, [], ◌∷◌, ◌++◌}
-use Rattle.textwrap_base.proofs.Common.{length, refl, sym, ap, ◌∙◌, subst, arith, append_assoc}
-use Rattle.textwrap_base.proofs.Common.{append-nil, flat_map, IsUtf8-append, IsUtf8-from_ascii}
-use Rattle.textwrap_base.proofs.Common.{IsUtf8, IsAscii, IsGreedy, rules}
-use Rattle.textwrap_words.proofs.Common.{blank, WordText, sizes_of, words_of}
-use Rattle.textwrap_lines.proofs.Common.{line_feed}
-use Rattle.textwrap.proofs.Common.{broken_lines, AreDividedAt, IsFilledInPlace}
+-- Texts that are filled in place: only blanks change, to line feeds in their places.
+use Rattle.textwrap_base.proofs.Common.{◌≡◌, ℕ, ◌<◌, List, [], ◌∷◌, ◌++◌, length, refl, sym, ap}
+use Rattle.textwrap_base.proofs.Common.{◌∙◌, arith, append_assoc, append-nil, length-append}
+use Rattle.textwrap_base.proofs.Common.{flat_map, rules, ◌+◌, Bor, Option, None, Some, length_push}
+use Rattle.textwrap_base.proofs.Common.{IsGreedy, ◌≤◌, All, All-nil, All-cons, All-append, ◌-◌}
+use Rattle.textwrap_base.proofs.Common.{zero, suc, ◌⊎◌, inl, inr, subst, IsUtf8-append}
+use Rattle.textwrap_base.proofs.Common.{IsUtf8-from_ascii, IsUtf8, IsAscii}
+use Rattle.textwrap_words.proofs.Common.{blank, WordText, tiled, sizes_of, words_of}
+use Rattle.textwrap_lines.proofs.Common.{join_with, line_feed, paragraphs_of, ending_bytes}
+use Rattle.textwrap.proofs.Common.{broken_lines, AreDividedAt, breaks_of, breaks_from}
+use Rattle.textwrap.proofs.Common.{with_line_feeds, IsFilledInPlace}
+use Rattle.textwrap_base.proofs.Lists.Parts.{flat}
+use Rattle.textwrap_words.proofs.Word.Words.{tiled-append}
+use Rattle.textwrap_lines.proofs.Text.Paragraphs.{join_with-cons, parts_past-some}
+use Rattle.textwrap_lines.proofs.Text.Paragraphs.{join-paragraphs_of}
+use Rattle.textwrap_lines.proofs.Paragraph.Covered.{shortened, AreLinesApart, IsBroken}
+use Rattle.textwrap_lines.proofs.Paragraph.Covered.{IsBroken-greedy}
+use Rattle.std.proofs.lemmas.Grind.{common_steps}
 use Rattle.textwrap_lines.specs.declared.line_ending.LineEnding.TheVariants.{LF}
-use Rattle.textwrap_base.proofs.Utf8.{ascii_seam}
+use Rattle.textwrap_lines.proofs.Text.Lines.{paragraphs_left, bytes_left}
+use Rattle.std.proofs.Common.{set}
+use Rattle.std.proofs.lemmas.List.{set_at}
+use Rattle.textwrap_base.proofs.Texts.{ascii_seam}
 use Rattle.textwrap.specs.InPlace.{OnlyBlanksChange}
-use Rattle.textwrap_lines.proofs.Text.Endings.{parts_past-some}
-use Rattle.textwrap_lines.proofs.Text.EndingTexts.{join-paragraphs_of}
-use Rattle.textwrap_lines.proofs.Paragraph.LinesApart.{IsBroken-greedy}
-use Rattle.textwrap.proofs.Text.JoinedLines.{blank_joined, feed_joined, join-broken, join-append}
-use Rattle.textwrap.proofs.Text.JoinedLines.{all_broken-some, divisions-some}
+
+-- ---- the lines of a part in a row, joined by blanks and by line feeds
+
+abbrev pub blank_joined : List (List ℕ) → List ℕ
+blank_joined texts = join_with (blank ∷ []) texts
+
+abbrev pub feed_joined : List (List ℕ) → List ℕ
+feed_joined texts = join_with (line_feed ∷ []) texts
+
+pub broken_lines-some : (line : List WordText) (lines : List (List WordText))
+    → 0 < length (broken_lines (line ∷ lines))
+broken_lines-some line [] = omega arith
+broken_lines-some line (next ∷ lines) = omega arith
+
+-- before the lines are broken, blanks stand between them
+pub tiled-broken : (lines : List (List WordText)) → 0 < length lines → AreLinesApart lines
+    → tiled (flat lines) ≡ blank_joined (broken_lines lines)
+tiled-broken [] some apart = absurd (omega arith)
+tiled-broken (line ∷ []) some apart = ap tiled (append-nil line)
+tiled-broken (line ∷ next ∷ lines) some (words, ending, apart) =
+    tiled-append line (flat (next ∷ lines))
+    ∙ ap (λ l. l ++ tiled (flat (next ∷ lines))) ending
+    ∙ ap (λ l. (shortened (tiled line) ++ blank ∷ []) ++ l)
+    (tiled-broken (next ∷ lines) (omega arith) apart)
+    ∙ sym (search (rules, join_with-cons, shortened, broken_lines-some))
+
+pub join-broken : (part : List ℕ) (lines : List (List WordText)) → IsBroken part lines
+    → part ≡ blank_joined (broken_lines lines)
+join-broken part lines broken = sym broken.tiles ∙ tiled-broken lines broken.some broken.apart
+
+pub join-append : (separator : List ℕ) (xs ys : List (List ℕ)) → 0 < length xs → 0 < length ys
+    → join_with separator (xs ++ ys)
+    ≡ join_with separator xs ++ (separator ++ join_with separator ys)
+join-append separator [] ys some more = absurd (omega arith)
+join-append separator (x ∷ []) ys some more = search (rules, join_with-cons, append_assoc)
+join-append separator (x ∷ y ∷ xs) ys some more =
+    rw (join-append separator (y ∷ xs) ys (omega arith) more) (simp append_assoc)
+
+pub length-joined : (c d : ℕ) (texts : List (List ℕ))
+    → length (join_with (c ∷ []) texts) ≡ length (join_with (d ∷ []) texts)
+length-joined c d [] = refl
+length-joined c d (text ∷ []) = refl
+length-joined c d (text ∷ next ∷ texts) =
+    simp (length-append, length-joined c d (next ∷ texts))
+
+pub all_broken-some : (lines : List (List WordText)) → 0 < length lines
+    → 0 < length (broken_lines lines)
+all_broken-some [] some = absurd (omega arith)
+all_broken-some (line ∷ lines) some = broken_lines-some line lines
+
+pub divisions-some : (width : ℕ) (part : List ℕ) (parts : List (List ℕ))
+    (divisions : List (List (List WordText))) → AreDividedAt width (part ∷ parts) divisions
+    → 0 < length (flat_map broken_lines divisions)
+divisions-some width part parts [] divided = absurd divided
+divisions-some width part parts (lines ∷ divisions) (greedy, divided) =
+    search (rules, common_steps, all_broken-some, IsBroken-greedy, length-append)
+
+-- ---- one part after the other
+
+-- the places so far are those of the parts so far: with the places of the parts left they are the
+-- places of the text
+pub record HasBreaks (width : ℕ) (text breaks : List ℕ) (start : ℕ) (left : List (List ℕ))
+    : Type 0 where
+  pub more : (divisions : List (List (List WordText))) → AreDividedAt width left divisions
+      → (all : List (List (List WordText))) × AreDividedAt width (paragraphs_of LF text) all
+      × (breaks ++ breaks_from start divisions ≡ breaks_from 0 all)
+
+pub HasBreaks-more : (width : ℕ) (text breaks more : List ℕ) (start : ℕ) (part : List ℕ)
+    (left after : List (List ℕ)) (lines : List (List WordText))
+    → HasBreaks width text breaks start left → left ≡ part ∷ after
+    → IsGreedy sizes_of (width ∷ []) (words_of part) lines
+    → more ≡ breaks ++ breaks_of start lines
+    → HasBreaks width text more (start + (length part + 1)) after
+HasBreaks-more width text breaks more start part left after lines so_far left_is greedy more_is =
+    let tiles = (IsBroken-greedy (width ∷ []) part lines greedy).tiles in
+    let past : start + length (tiled (flat lines)) + 1 ≡ start + (length part + 1) = search rules in
+    record {
+      more = λ divisions divided.
+          let (all, are, is) = so_far.more (lines ∷ divisions)
+          (rw left_is (greedy, divided)) in search (rules, arith, append_assoc);
+    }
+
+pub HasBreaks-end : (width : ℕ) (text breaks : List ℕ) (start : ℕ)
+    → HasBreaks width text breaks start []
+    → (all : List (List (List WordText))) × AreDividedAt width (paragraphs_of LF text) all
+    × (breaks ≡ breaks_from 0 all)
+HasBreaks-end width text breaks start so_far =
+    let (all, are, is) = so_far.more [] refl in (all, are, sym (append-nil breaks) ∙ is)
+
+-- the bytes of a part and of what follows its line feed
+pub bytes_left-split : (rest part : List ℕ) (after : Option (Bor (List ℕ)))
+    → paragraphs_of LF rest ≡ part ∷ paragraphs_left LF after
+    → length rest + 1 ≡ length part + 1 + bytes_left after
+bytes_left-split rest part None is =
+    omega (arith, ap length (sym (join-paragraphs_of LF rest) ∙ ap feed_joined is))
+bytes_left-split rest part (Some more) is =
+    omega (
+      arith,
+      ap length (sym (join-paragraphs_of LF rest) ∙ ap feed_joined is
+          ∙ join_with-cons (line_feed ∷ []) part (paragraphs_of LF more.now)
+          (parts_past-some (line_feed ∷ []) 0 more.now)
+          ∙ ap (λ l. (part ++ line_feed ∷ []) ++ l) (join-paragraphs_of LF more.now)),
+      length-append (part ++ line_feed ∷ []) more.now,
+      length_push part line_feed,
+    )
+
+-- ---- they are in the text
+
+places-part : (start limit : ℕ) (lines : List (List WordText)) → AreLinesApart lines
+    → start + length (tiled (flat lines)) ≤ limit
+    → All (λ place. place < limit) (breaks_of start lines)
+places-part start limit [] apart room = All-nil (λ place. place < limit)
+places-part start limit (line ∷ []) apart room = All-nil (λ place. place < limit)
+places-part start limit (line ∷ next ∷ lines) (words, ending, apart) room =
+    let whole = ap length (tiled-append line (flat (next ∷ lines))) in
+    let len = length-append (tiled line) (tiled (flat (next ∷ lines))) in
+    let rest = places-part (start + length (tiled line)) limit (next ∷ lines) apart
+    (omega (arith, room, whole, len)) in
+    search (rules, arith, length_push, All-cons)
+
+pub places-within : (width start limit : ℕ) (parts : List (List ℕ))
+    (divisions : List (List (List WordText))) → AreDividedAt width parts divisions
+    → start + length (feed_joined parts) ≤ limit
+    → All (λ place. place < limit) (breaks_from start divisions)
+places-within width start limit [] divisions none room = search (rules, All-nil)
+places-within width start limit (part ∷ parts) [] divided room = absurd divided
+places-within width start limit (part ∷ []) (lines ∷ divisions) (greedy, divided) room =
+    search (rules, IsBroken-greedy, flat, All-append, places-part, All-nil)
+places-within width start limit (part ∷ next ∷ parts) (lines ∷ divisions) (greedy, divided) room =
+    let broken = IsBroken-greedy (width ∷ []) part lines greedy in
+    let past = start + length (tiled (flat lines)) + 1 in
+    let len = length-append (part ++ line_feed ∷ []) (feed_joined (next ∷ parts)) in
+    let one = length_push part line_feed in
+    All-append (λ place. place < limit) (breaks_of start lines) (breaks_from past divisions)
+    (search (rules, places-part))
+    (places-within width past limit (next ∷ parts) divisions divided
+    (omega (arith, room, ap length broken.tiles, len, one)))
+
+-- ---- the line feeds in their places
+
+-- the bytes with the line feeds of a part, before those of what follows it
+feeds-part : (start : ℕ) (before : List ℕ) (lines : List (List WordText)) (after places : List ℕ)
+    → 0 < length lines → AreLinesApart lines → length before ≡ start
+    → with_line_feeds (breaks_of start lines ++ places) (before ++ (tiled (flat lines) ++ after))
+    ≡ with_line_feeds places (before ++ (feed_joined (broken_lines lines) ++ after))
+feeds-part start before [] after places some apart len = absurd (omega arith)
+feeds-part start before (line ∷ []) after places some apart len = search (rules, append-nil)
+feeds-part start before (line ∷ next ∷ lines) after places some (words, ending, apart) len =
+    let text = shortened (tiled line) in
+    let rest = tiled (flat (next ∷ lines)) in
+    let end = start + length (tiled line) in
+    let joined = feed_joined (broken_lines (next ∷ lines)) in
+    let others = breaks_of end (next ∷ lines) ++ places in
+    let shorter : length (tiled line) ≡ length text + 1 = ap length ending
+    ∙ length_push text blank in
+    let place : length (before ++ text) ≡ end - 1 =
+    omega (arith, len, shorter, length-append before text) in
+    let past : length ((before ++ text) ++ line_feed ∷ []) ≡ end =
+    search (rules, arith, length-append, length_push) in
+    let old : before ++ (tiled (flat (line ∷ next ∷ lines)) ++ after) ≡ (before ++ text)
+    ++ blank ∷ (rest ++ after) = search (rules, tiled-append, flat, append_assoc) in
+    let new : ((before ++ text) ++ line_feed ∷ []) ++ (joined ++ after) ≡ before
+    ++ (feed_joined (broken_lines (line ∷ next ∷ lines)) ++ after) =
+    search (rules, arith, join_with-cons, broken_lines-some, append_assoc) in
+    ap (λ l. with_line_feeds others (set l (end - 1) line_feed)) old
+    ∙ ap (with_line_feeds others) (search (rules, set_at, append_assoc))
+    ∙ feeds-part end ((before ++ text) ++ line_feed ∷ []) (next ∷ lines) after places (omega arith)
+    apart past
+    ∙ ap (with_line_feeds places) new
+
+-- the lines of the parts in a row: a line feed stood between each two parts
+feeds-parts : (width start : ℕ) (before : List ℕ) (parts : List (List ℕ))
+    (divisions : List (List (List WordText))) → 0 < length parts
+    → AreDividedAt width parts divisions → length before ≡ start
+    → with_line_feeds (breaks_from start divisions) (before ++ feed_joined parts)
+    ≡ before ++ feed_joined (flat_map broken_lines divisions)
+feeds-parts width start before [] divisions some divided len = absurd (omega arith)
+feeds-parts width start before (part ∷ parts) [] some divided len = absurd divided
+feeds-parts width start before (part ∷ []) (lines ∷ divisions) some (greedy, none) len =
+    let broken = IsBroken-greedy (width ∷ []) part lines greedy in
+    let all = feeds-part start before lines [] [] broken.some broken.apart len in
+    rw (none, ← broken.tiles) (simp append-nil (simp append-nil at all))
+feeds-parts width start before (part ∷ next ∷ parts) (lines ∷ divisions) some (greedy, divided)
+    len =
+    let broken = IsBroken-greedy (width ∷ []) part lines greedy in
+    let past = start + length (tiled (flat lines)) + 1 in
+    let row = feed_joined (broken_lines lines) in
+    let rest = feed_joined (next ∷ parts) in
+    let place : length (before ++ (row ++ line_feed ∷ [])) ≡ past =
+    search (rules, length-append, length_push, length-joined, tiled-broken) in
+    let first = feeds-part start before lines (line_feed ∷ rest) (breaks_from past divisions)
+    broken.some broken.apart len in
+    let later = feeds-parts width past (before ++ (row ++ line_feed ∷ [])) (next ∷ parts) divisions
+    (omega arith) divided place in
+    search (rules, join-append, all_broken-some, divisions-some, append_assoc)
+
+-- the line feeds in their places fill the text
+pub feeds-filled : (width : ℕ) (text : List ℕ) (divisions : List (List (List WordText)))
+    → AreDividedAt width (paragraphs_of LF text) divisions
+    → IsFilledInPlace width text (with_line_feeds (breaks_from 0 divisions) text)
+feeds-filled width text divisions divided = (
+  divisions,
+  divided,
+  ap (with_line_feeds (breaks_from 0 divisions)) (sym (join-paragraphs_of LF text))
+      ∙ feeds-parts width 0 [] (paragraphs_of LF text) divisions
+      (parts_past-some (ending_bytes LF) 0 text) divided refl,
+)
+
+pub feeds-within : (width : ℕ) (text : List ℕ) (divisions : List (List (List WordText)))
+    → AreDividedAt width (paragraphs_of LF text) divisions
+    → All (λ place. place < length text) (breaks_from 0 divisions)
+feeds-within width text divisions divided =
+    places-within width 0 (length text) (paragraphs_of LF text) divisions divided
+    (omega (arith, ap length (join-paragraphs_of LF text)))
+
+-- the line feeds, put in their places among the bytes of the text
+pub filled-by_feeds : (width : ℕ) (text searched bytes breaks places new : List ℕ)
+    (divisions : List (List (List WordText)))
+    → AreDividedAt width (paragraphs_of LF searched) divisions → breaks ≡ breaks_from 0 divisions
+    → searched ≡ text → bytes ≡ text → places ≡ breaks → new ≡ with_line_feeds places bytes
+    → IsFilledInPlace width text new
+filled-by_feeds width text searched bytes breaks places new divisions divided breaks_are same whole
+    places_are new_is = search (rules, feeds-filled)
 
 -- ---- only blanks change
 

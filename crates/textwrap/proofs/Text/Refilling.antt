@@ -1,19 +1,18 @@
 -- Plain texts, unfilled and filled again.
-use Rattle.textwrap_base.proofs.Common.{◌≡◌, ◌≢◌, ◌↔◌, ℕ, Bool, true, false, List, [], ◌∷◌}
-use Rattle.textwrap_base.proofs.Common.{◌++◌, All, refl, sym, ap, ◌∙◌, subst, arith}
-use Rattle.textwrap_base.proofs.Common.{append-nil, rules, map-id, lines, All-nil}
-use Rattle.textwrap_words.proofs.Common.{WordText, Algorithm, Splitter}
+use Rattle.textwrap_base.proofs.Common.{◌≡◌, ◌≢◌, ◌↔◌, ℕ, Bool, true, false, List, [], ◌∷◌, ◌++◌}
+use Rattle.textwrap_base.proofs.Common.{All, refl, sym, ap, ◌∙◌, subst, arith, append-nil, rules}
+use Rattle.textwrap_base.proofs.Common.{map-id, lines, All-nil, ◌≤◌, length}
+use Rattle.textwrap_words.proofs.Common.{WordText, Algorithm, Splitter, Whole}
 use Rattle.textwrap_lines.proofs.Common.{IsFilled, line_feed, Settings, DividesAs}
 use Rattle.textwrap.proofs.Common.{IsFilledWhole, unfilled_initial, unfilled_subsequent}
 use Rattle.textwrap.proofs.Common.{keeps_ending, joined_text, IsPlain, IsPlainLine, blanked}
 use Rattle.textwrap.proofs.Common.{IsIndent, KeepsWords, is_prefix_character}
-use Rattle.textwrap.specs.Laws.{IsUnindented}
+use Rattle.textwrap.specs.Laws.{IsUnindented, IsIndentedFill, with_indents_as}
 use Rattle.textwrap.specs.Refilling.{added_ending, with_indents_of, IsRefilled}
-use Rattle.textwrap.proofs.Text.JoinedLines.{blank_joined, feed_joined}
-use Rattle.textwrap.proofs.Text.PlainFilled.{filled-plain}
-use Rattle.textwrap.proofs.Text.PlainLines.{blanked-joined}
-use Rattle.textwrap.proofs.Text.PlainIndents.{indented_rows, initial-found, subsequent-found}
-use Rattle.textwrap.proofs.Text.PlainIndents.{joined-again, keeps-none, lines-are}
+use Rattle.textwrap.proofs.Text.InPlace.{blank_joined, feed_joined}
+use Rattle.textwrap.proofs.Text.PlainFilled.{filled-plain, indented_rows, initial-found}
+use Rattle.textwrap.proofs.Text.PlainFilled.{subsequent-found, joined-again, keeps-none, lines-are}
+use Rattle.textwrap.proofs.Text.Plain.{blanked-joined}
 
 -- ---- what unfilling finds
 
@@ -112,3 +111,51 @@ refilled-twice first second one other splitter text filled refilled keeps uninde
     none given =
     let cut = filled-is_plain first one text filled keeps unindented plain none given in
     rw cut.1 at (refilled-filled (DividesAs splitter other) second filled refilled second_is cut.0)
+
+-- ---- a plain text, filled under indents and refilled
+
+two_lines : (initial subsequent text filled : List ℕ) (parts : List (List ℕ))
+    → IsIndent initial → IsIndent subsequent → All IsPlainLine parts → text ≡ blank_joined parts
+    → filled ≡ feed_joined (indented_rows initial subsequent parts) → 2 ≤ length (lines filled)
+    → IsUnfilledAs initial subsequent text filled
+two_lines initial subsequent text filled [] first later plain text_is filled_is more =
+    absurd (omega (arith, more, ap (λ t. length (lines t)) filled_is))
+two_lines initial subsequent text filled (line ∷ []) first later plain text_is filled_is more =
+    search (rules, arith, lines-are initial subsequent first later (line ∷ []) plain)
+two_lines initial subsequent text filled (line ∷ next ∷ others) first later plain text_is filled_is
+    more =
+    search (rules, arith, unfilled-indented initial subsequent line next others first later plain)
+
+pub refilled-indented : (first second : Settings) (one other : Algorithm) (splitter : Splitter)
+    (text filled refilled : List ℕ) → IsIndentedFill first one text filled
+    → IsRefilled second (DividesAs splitter other) filled refilled
+    ↔ IsFilled (with_indents_as first second)
+    (DividesAs splitter other (with_indents_as first second)) text refilled
+refilled-indented first second one other splitter text filled refilled fill =
+    let cut = filled-plain first one text filled fill.keeps fill.no_feed fill.is_filled fill.plain in
+    refilled-as_joined (DividesAs splitter other) second (with_indents_as first second)
+    first.initial_indent first.subsequent_indent text filled
+    (search (rules, arith, two_lines)) refl refilled
+
+pub refilled-once : (first second third : Settings) (one other last : Algorithm)
+    (splitter : Splitter) (text filled refilled again : List ℕ)
+    → IsIndentedFill first one text filled
+    → KeepsWords second → IsRefilled second (DividesAs Whole other) filled refilled
+    → 2 ≤ length (lines refilled)
+    → IsRefilled third (DividesAs splitter last) refilled again
+    ↔ IsRefilled third (DividesAs splitter last) filled again
+refilled-once first second third one other last splitter text filled refilled again fill keeps is
+    more =
+    let indented = with_indents_as first second in
+    let refill : IsIndentedFill indented other text refilled = record {
+      keeps = record { unbroken = keeps.unbroken; trimmed = keeps.trimmed; feeds = keeps.feeds };
+      initial = fill.initial;
+      subsequent = fill.subsequent;
+      plain = fill.plain;
+      no_feed = fill.no_feed;
+      is_filled = (refilled-indented first second one other Whole text filled refilled fill).0 is;
+      more = more;
+    } in
+    let after = refilled-indented indented third other last splitter text refilled again refill in
+    let before = refilled-indented first third one last splitter text filled again fill in
+    (λ is. before.1 (after.0 is), λ is. after.1 (before.0 is))

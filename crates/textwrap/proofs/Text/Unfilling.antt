@@ -1,23 +1,143 @@
--- Lemmas on what unfilling gives: lines begin with their indents, are joined, and show their
--- ending.
-use Rattle.textwrap_base.proofs.Common.{◌≡◌, ℕ, Bool, true, false, cond, List, [], ◌∷◌, ◌++◌}
-use Rattle.textwrap_base.proofs.Common.{length, drop, map, filter, All, refl, sym, arith, get_or}
-use Rattle.textwrap_base.proofs.Common.{append_assoc, append-nil, Option, Some, None, ◌==◌, nat_eq}
-use Rattle.textwrap_base.proofs.Common.{StartsWith, flat_map, slice_split, ends_with, lines}
-use Rattle.textwrap_base.proofs.Common.{starts_with_trans, nat_tests, nil_from_length, All-nil}
-use Rattle.textwrap_base.proofs.Common.{All-cons, All-head, All-tail, rules}
-use Rattle.textwrap_words.proofs.Common.{blank}
-use Rattle.textwrap_lines.proofs.Common.{ending_bytes, join_with}
-use Rattle.textwrap.proofs.Common.{EndedLine, ended_lines_of, nonempty_lines, line_prefix}
-use Rattle.textwrap.proofs.Common.{common_prefix, unfilled_initial, unfilled_subsequent}
-use Rattle.textwrap.proofs.Common.{joined_text, detected_among, detected_ending, keeps_ending}
+-- The layout of a text and what unfilling gives; a text that is filled with the indents of another.
+use Rattle.textwrap_base.proofs.Common.{◌≡◌, ℕ, ◌+◌, Bool, true, false, cond, nat_eq, List, [], ◌∷◌}
+use Rattle.textwrap_base.proofs.Common.{take, arith, StartsWith, IsUtf8, IsAscii, IsCharBoundary}
+use Rattle.textwrap_base.proofs.Common.{prefix_len, common_prefix_len, IsUtf8-from_ascii}
+use Rattle.textwrap_base.proofs.Common.{IsCharBoundary-from_take, rules, ◌<◌, max, ◌++◌, length}
+use Rattle.textwrap_base.proofs.Common.{drop, map, get_or, refl, ◌∙◌, Option, Some, None, unwrap_or}
+use Rattle.textwrap_base.proofs.Common.{fold, lines, YieldsList-turn, YieldsList-end}
+use Rattle.textwrap_base.proofs.Common.{YieldsList-from_lines, drop_more, get_or_default, Bor}
+use Rattle.textwrap_base.proofs.Common.{filter, All, sym, append_assoc, append-nil, ◌==◌, flat_map}
+use Rattle.textwrap_base.proofs.Common.{slice_split, ends_with, starts_with_trans, nat_tests}
+use Rattle.textwrap_base.proofs.Common.{nil_from_length, All-nil, All-cons, All-head, All-tail, ap}
+use Rattle.textwrap_base.proofs.Common.{subst}
+use Rattle.textwrap.proofs.Common.{is_prefix_character, line_prefix, common_start, common_prefix}
+use Rattle.textwrap.proofs.Common.{EndedLine, ended_lines_of, nonempty_lines, unfilled_initial}
+use Rattle.textwrap.proofs.Common.{unfilled_subsequent, joined_text, detected_among}
+use Rattle.textwrap.proofs.Common.{detected_ending, keeps_ending, layout_of}
+use Rattle.std.proofs.lemmas.Str.{IsAscii-take}
+use Rattle.std.proofs.lemmas.Str.Ascii.{IsAscii-cons}
+use Rattle.std.proofs.lemmas.List.Sums.{prefix_len-le-length}
+use Rattle.std.proofs.lemmas.Grind.{common_steps}
+use Rattle.textwrap_words.proofs.Common.{text_width, blank, WordText, Algorithm, Splitter}
+use Rattle.textwrap_lines.proofs.Common.{Settings, ending_bytes, join_with, IsFilled, settings_view}
+use Rattle.textwrap_lines.proofs.Common.{AreTextLines, HasParts, DividesAs}
+use Rattle.std.specs.Prelude.{option_to_list, IfSome}
+use Rattle.std.specs.Str.Iter.{lines_rest, lines_steps}
+use Rattle.textwrap_words.proofs.Word.Words.{text_width-nil}
+use Rattle.textwrap_lines.specs.Options.{settings_at}
 use Rattle.std.specs.Str.Lines.{lines_of_parts}
 use Rattle.std.proofs.lemmas.List.Elements.{All-filter}
 use Rattle.textwrap_lines.specs.declared.line_ending.LineEnding.{LineEnding}
 use Rattle.textwrap_lines.specs.declared.line_ending.LineEnding.TheVariants.{CRLF, LF}
-use Rattle.textwrap.specs.Refilling.{ended_lines, has_text}
-use Rattle.textwrap.proofs.Text.CommonPrefixes.{common_prefix-begins}
-use Rattle.textwrap.proofs.Text.Prefixes.{line_prefix-begins}
+use Rattle.textwrap.specs.Refilling.{ended_lines, has_text, added_ending, IsRefilled}
+use Rattle.textwrap.specs.Refilling.{layout_settings, unfilled_settings, with_indents_of}
+use Rattle.textwrap.proofs.Text.Margins.{common_prefix-begins}
+use Rattle.textwrap.specs.declared.refilling.TextLayout.{TextLayout}
+use Rattle.textwrap_lines.specs.declared.options.Options.{Options}
+use Rattle.textwrap_lines.specs.Paragraph.{DividesUnder}
+use Rattle.textwrap_lines.proofs.Paragraph.Pieces.{divides-under}
+use Rattle.textwrap.specs.Columns.{IsInColumns}
+
+-- ---- a line's own prefix
+
+ascii-cut : (c : ℕ) (cs : List ℕ) (b : Bool) → is_prefix_character c ≡ b
+    → IsAscii (take (prefix_len is_prefix_character cs) cs)
+    → IsAscii (take (cond b (1 + prefix_len is_prefix_character cs) 0) (c ∷ cs))
+ascii-cut c cs true is ascii = search (rules, IsAscii-cons)
+ascii-cut c cs false is ascii = λ i. omega arith
+
+pub line_prefix-ascii : (line : List ℕ) → IsAscii (line_prefix line)
+line_prefix-ascii [] = λ i. omega arith
+line_prefix-ascii (c ∷ cs) = search (rules, ascii-cut, line_prefix-ascii cs)
+
+pub line_prefix-boundary : (line : List ℕ) → IsUtf8 line
+    → IsCharBoundary line (prefix_len is_prefix_character line)
+line_prefix-boundary line utf8 =
+    IsCharBoundary-from_take line (prefix_len is_prefix_character line) utf8
+    (prefix_len-le-length is_prefix_character line)
+    (IsUtf8-from_ascii (line_prefix line) (line_prefix-ascii line))
+
+-- ---- what two texts have in common
+
+pub common_start-ascii : (xs ys : List ℕ) → IsAscii xs → IsAscii (common_start xs ys)
+common_start-ascii xs ys ascii = IsAscii-take xs (common_prefix_len nat_eq xs ys) ascii
+
+-- ---- what a text begins with
+
+pub line_prefix-begins : (line : List ℕ) → StartsWith line (line_prefix line)
+line_prefix-begins line = grind (arith, common_steps)
+
+-- ---- lemmas on the layout of a text, as its lines show it one after another
+
+-- the lines after the first
+abbrev pub later_lines : List ℕ → List (List ℕ)
+later_lines text = drop 1 (lines text)
+
+abbrev pub texts_in : Option (Bor (List ℕ)) → List (List ℕ)
+texts_in texts = map (λ text. text.now) (option_to_list texts)
+
+-- ---- the first line
+
+pub width-first : (texts : List (List ℕ))
+    → fold max (text_width (get_or texts 0 [])) (map text_width (drop 1 texts))
+    ≡ fold max 0 (map text_width texts)
+width-first [] = text_width-nil
+width-first (text ∷ texts) = search rules
+
+pub first_line : (s u : _) (text : List ℕ) (found : Option (Bor (List ℕ))) (none : Bor (List ℕ))
+    → lines_rest s ≡ text → lines_steps s found u → none.now ≡ []
+    → (unwrap_or found none).now ≡ get_or (lines text) 0 []
+first_line s u text None none rest steps empty =
+    search (rules, common_steps, YieldsList-end, YieldsList-from_lines)
+first_line s u text (Some line) none rest steps empty =
+    let turn = YieldsList-turn (YieldsList-from_lines {s = s} text rest) [] s refl (Some line) u line
+    refl steps in
+    turn.1 ∙ get_or_default (lines text) 0 line.now [] turn.0
+
+-- ---- one more line
+
+pub width-more : (width : ℕ) (texts : List (List ℕ)) (n : ℕ) (text : List ℕ) → n < length texts
+    → text ≡ get_or texts n text
+    → fold max width (map text_width (drop n texts))
+    ≡ fold max (max width (text_width text)) (map text_width (drop (n + 1) texts))
+width-more width texts n text within is = rw (drop_more texts n text within, ← is)
+
+narrowed : (common : Option (Bor (List ℕ))) (prefix : List ℕ) (rest : List (List ℕ))
+    → common_prefix (common_prefix (texts_in common ++ prefix ∷ []) ∷ rest)
+    ≡ common_prefix (texts_in common ++ prefix ∷ rest)
+narrowed None prefix rest = refl
+narrowed (Some common) prefix rest = refl
+
+pub common-more : (common : Option (Bor (List ℕ))) (new : List ℕ) (texts : List (List ℕ)) (n : ℕ)
+    (text : List ℕ) → n < length texts → text ≡ get_or texts n text
+    → new ≡ common_prefix (texts_in common ++ line_prefix text ∷ [])
+    → common_prefix (texts_in common ++ map line_prefix (drop n texts))
+    ≡ common_prefix (new ∷ map line_prefix (drop (n + 1) texts))
+common-more common new texts n text within is narrows = search (rules, drop_more, narrowed)
+
+pub narrowed-ascii : (common : Option (Bor (List ℕ))) (text : List ℕ)
+    → IfSome common (λ c. IsAscii c.now)
+    → IsAscii (common_prefix (texts_in common ++ line_prefix text ∷ []))
+narrowed-ascii None text ascii = line_prefix-ascii text
+narrowed-ascii (Some common) text ascii = search (rules, common_start-ascii)
+
+-- ---- no more lines
+
+pub common-end : (common : Option (Bor (List ℕ))) (none : Bor (List ℕ)) → none.now ≡ []
+    → (unwrap_or common none).now ≡ common_prefix (texts_in common)
+common-end None none empty = empty
+common-end (Some common) none empty = refl
+
+abbrev pub with_indents : List ℕ → List ℕ → Settings → Settings
+with_indents initial subsequent settings =
+    record settings { initial_indent = initial; subsequent_indent = subsequent }
+
+-- the defaults at a width, with these indents
+pub settings-with : (width found : ℕ) (initial subsequent first later : List ℕ)
+    → width ≡ found → initial ≡ first → subsequent ≡ later
+    → with_indents initial subsequent (settings_at width)
+    ≡ with_indents first later (settings_at found)
+settings-with width found initial subsequent first later wide begins goes_on = cc
 
 -- ---- the lines with their endings are std's lines
 
@@ -120,3 +240,54 @@ pub keeps_ending-some : (text : List ℕ) (ending : LineEnding)
     → detected_ending text ≡ Some ending
     → keeps_ending text ≡ ends_with nat_eq text (ending_bytes ending)
 keeps_ending-some text ending is = search (rules, nat_eq)
+
+-- ---- a text that is filled with the indents of another
+
+pub refilled-from : (settings : Settings)
+    (Divides : Settings → Bool → List ℕ → List (List WordText) → Type 0) (text refilled : List ℕ)
+    (layout : TextLayout) → layout_settings layout ≡ unfilled_settings text
+    → (joined : List ℕ) → joined ≡ joined_text text → (keeps : Bool) → keeps ≡ keeps_ending text
+    → let indented : Settings = record settings {
+      initial_indent = layout.initial_indent.now;
+      subsequent_indent = layout.subsequent_indent.now;
+    } in (filled : List ℕ) × IsFilled indented (Divides indented) joined filled
+    × (refilled ≡ filled ++ added_ending keeps settings.line_ending)
+    → IsRefilled settings Divides text refilled
+refilled-from settings Divides text refilled layout found joined joined_is keeps keeps_is is =
+    rw (
+      ap (λ s. s.initial_indent) found,
+      ap (λ s. s.subsequent_indent) found,
+      joined_is,
+      keeps_is,
+    ) at is
+
+-- ---- refilled texts and texts in columns under options with built-in parts: what they divide
+-- is what the parts do as values
+
+module _ {E C : Type 0} {e : _} {c : _} (options : Options E C e c) (settings : Settings)
+    (splitter : Splitter) (algorithm : Algorithm)
+    (parts : HasParts options settings splitter algorithm) where
+  pub refilled-as : (text refilled : List ℕ)
+      → IsRefilled (settings_view options) (DividesUnder options) text refilled
+      → IsRefilled settings (DividesAs splitter algorithm) text refilled
+  refilled-as text refilled (filled, is, ends) =
+      let indented = with_indents_of text (settings_view options) in
+      subst (λ s. IsRefilled s (DividesAs splitter algorithm) text refilled) parts.settings_are (
+        filled,
+        rw (← divides-under options settings splitter algorithm parts indented) is,
+        ends,
+      )
+
+  pub columns-as : (columns : ℕ) (text left middle right : List ℕ) (rows : List (List ℕ))
+      → IsInColumns (settings_view options) (DividesUnder options) columns text left middle right
+      rows
+      → IsInColumns settings (DividesAs splitter algorithm) columns text left middle right rows
+  columns-as columns text left middle right rows (lines, are, is) =
+      let layout = layout_of options.width columns left middle right in
+      let narrow = record (settings_view options) { width = layout.column_width } in
+      rw (← parts.settings_are) (
+        lines,
+        subst (λ Divides. AreTextLines narrow Divides text lines)
+            (divides-under options settings splitter algorithm parts narrow) are,
+        is,
+      )

@@ -1,15 +1,176 @@
 -- The table gives the chosen division, if all lines but the first have one width.
-use Rattle.textwrap_base.proofs.Common.{◌≡◌, ℕ, ◌<◌, ◌≤◌, ◌≢◌, List, [], ◌∷◌, length}
-use Rattle.textwrap_base.proofs.Common.{take, All, sym, ◌∙◌, arith, take_all, IsDivision}
-use Rattle.textwrap_base.proofs.Common.{PricedSizes, division_cost, AreNoLater, AreEqualFromSecond}
-use Rattle.textwrap_base.proofs.Common.{entry_at, line_costs, fragments_table, IsByTable}
-use Rattle.textwrap_base.specs.Cost.{IsChosen}
+use Rattle.textwrap_base.proofs.Common.{◌≡◌, ℕ, suc, ◌+◌, ◌<◌, ◌≤◌, ◌≢◌, eqb, List, [], ◌∷◌, ◌++◌}
+use Rattle.textwrap_base.proofs.Common.{length, get_or, reverse, take, drop, drop-drop, take_at}
+use Rattle.textwrap_base.proofs.Common.{drop_at, ◌-◌, All, slice_range, refl, sym, ◌∙◌, ap}
+use Rattle.textwrap_base.proofs.Common.{add-zero, arith, append_assoc, length-append, flat_map}
+use Rattle.textwrap_base.proofs.Common.{All-head, All-tail, All-cons, drop_split, line_width}
+use Rattle.textwrap_base.proofs.Common.{IsDivision, PricedSizes, line_cost, line_costs}
+use Rattle.textwrap_base.proofs.Common.{FollowStarts, cases_lt, take-append-drop, length-take-le}
+use Rattle.textwrap_base.proofs.Common.{division_cost, AreEqualFromSecond, take_all, AreNoLater}
+use Rattle.textwrap_base.proofs.Common.{entry_at, fragments_table, IsByTable, Bool, true, zero-add}
+use Rattle.textwrap_base.proofs.Common.{eq-eqb, nat_tests, length-drop, Sizes, priced_at}
+use Rattle.textwrap_base.proofs.Common.{last_break_penalty, closed_width, map, length-map}
+use mathlib.Core.List.{reverse_aux}
+use Rattle.textwrap_base.specs.Cost.{lines_cost, starts_from, IsChosen}
 use Rattle.textwrap_base.specs.declared.penalties.Penalties.{Penalties}
-use Rattle.textwrap_base.proofs.Cost.Lines.{starts_back, joined, division_joined}
-use Rattle.textwrap_base.proofs.Cost.Starts.{table_starts, table_least, table_followed}
-use Rattle.textwrap_base.proofs.Cost.Starts.{table_earliest, AreStarts, FollowBack}
-use Rattle.textwrap_base.proofs.Cost.Begun.{begin_cost, line_costs-steady, begin_starts}
-use Rattle.textwrap_base.proofs.Cost.Begun.{begin_follow}
+use Rattle.textwrap_base.proofs.Lists.Parts.{length-slice, some_from_nonempty, take_slice}
+use Rattle.textwrap_base.proofs.Cost.Table.{AreStarts, starts_cost, FollowBack, IsSteady}
+use Rattle.textwrap_base.proofs.Cost.Table.{table_starts, table_least, table_followed}
+use Rattle.textwrap_base.proofs.Cost.Table.{table_earliest, table-is_table, start-at}
+use Rattle.textwrap_base.proofs.Division.Greedy.{division_one, greedy_one}
+use Rattle.textwrap_base.specs.Algorithms.{Algorithm, Greedy, LeastCost, IsDividedBy}
+use Rattle.std.proofs.lemmas.Simd.{map-map}
+use Rattle.textwrap_base.specs.Table.{table}
+use Rattle.textwrap_base.specs.OptimalFit.{IsByOptimalFit}
+use Rattle.textwrap_base.proofs.Cost.LineCosts.{line_costs-map}
+
+-- ---- from lines to the starts of lines
+
+-- where the lines start, the last line first
+abbrev pub starts_back : {X : Type 0} → List (List X) → List ℕ
+starts_back lines = reverse (starts_from 0 lines)
+
+abbrev pub joined : {X : Type 0} → List (List X) → List X
+joined lines = flat_map (λ line. line) lines
+
+pub division_joined : {X : Type 0} (ys : List X) (lines : List (List X)) → 0 < length ys
+    → IsDivision ys lines → (joined lines ≡ ys) × All (λ line. line ≢ []) lines
+division_joined [] lines p h = absurd (omega arith)
+division_joined (y ∷ ys) lines p h = h
+
+pub joined_division : {X : Type 0} (ys : List X) (lines : List (List X)) → 0 < length ys
+    → joined lines ≡ ys → All (λ line. line ≢ []) lines → IsDivision ys lines
+joined_division [] lines p e h = absurd (omega arith)
+joined_division (y ∷ ys) lines p e h = (e, h)
+
+joined-more : {X : Type 0} (at : ℕ) (line : List X) (lines : List (List X))
+    → at + length line + length (joined lines) ≡ at + length (line ++ joined lines)
+joined-more at line lines = omega (arith, length-append line (joined lines))
+
+-- the lines after `at` fragments, where `before` are the starts of those before them
+pub starts_of_lines : {X : Type 0} (lines : List (List X)) (at : ℕ) (before : List ℕ)
+    → All (λ line. line ≢ []) lines → AreStarts before at
+    → AreStarts (reverse_aux (starts_from at lines) before) (at + length (joined lines))
+starts_of_lines [] at before some h = rw add-zero h
+starts_of_lines (line ∷ lines) at before some h =
+    let first = some_from_nonempty line (All-head (λ line. line ≢ []) line lines some) in
+    rw (← joined-more at line lines) (starts_of_lines lines (at + length line) (at ∷ before)
+    (All-tail (λ line. line ≢ []) line lines some) (omega arith, h))
+
+pub follow_of_lines : {X : Type 0} (starts : List ℕ) (lines : List (List X)) (at : ℕ)
+    (before : List ℕ) → FollowStarts starts at lines → FollowBack before starts at
+    → FollowBack (reverse_aux (starts_from at lines) before) starts (at + length (joined lines))
+follow_of_lines starts [] at before f b = rw add-zero b
+follow_of_lines starts (line ∷ lines) at before (f, fs) b = rw (← joined-more at line lines)
+    (follow_of_lines starts lines (at + length line) (at ∷ before) fs (f, b))
+
+module _ {X : Type 0} (priced : X → PricedSizes) (penalties : Penalties) (widths : List ℕ)
+    (xs : List X) where
+  pub cost_of_lines : (lines : List (List X)) (rest : List X) (at : ℕ) (before : List ℕ)
+      → drop at xs ≡ joined lines ++ rest
+      → starts_cost (reverse_aux (starts_from at lines) before)
+      (line_costs priced penalties widths xs) (at + length (joined lines))
+      ≡ starts_cost before (line_costs priced penalties widths xs) at + lines_cost priced penalties
+      widths (length xs) (length before) at lines
+  cost_of_lines [] rest at before is = simp add-zero
+  cost_of_lines (line ∷ lines) rest at before is =
+      let shape = is ∙ append_assoc line (joined lines) rest in
+      let next : drop (at + length line) xs ≡ joined lines ++ rest =
+      sym (drop-drop (length line) at xs) ∙ ap (drop (length line)) shape
+      ∙ drop_at line (joined lines ++ rest) (length line) refl in
+      let len : length line ≡ at + length line - at = omega arith in
+      let slice = ap (take (at + length line - at)) shape
+      ∙ take_at line (joined lines ++ rest) (at + length line - at) len in
+      let more = cost_of_lines lines rest (at + length line) (at ∷ before) next in
+      let cost = ap (line_cost priced penalties (line_width widths (length before))
+      (eqb (at + length line) (length xs))) slice in
+      let number = ap (λ m. lines_cost priced penalties widths (length xs) m
+      (at + length line) lines) (let q : suc (length before) ≡ length before + 1 =
+      omega arith in q) in
+      rw (← joined-more at line lines) (more ∙ (omega (arith, cost, number)))
+
+-- one line more in front
+pub lines_more : {X : Type 0} (fragments : List X) (starts : List ℕ) (lines : List (List X))
+    (start end : ℕ) → start < end → end ≤ length fragments → get_or starts end 0 ≡ start
+    → joined lines ≡ drop end fragments → All (λ line. line ≢ []) lines
+    → FollowStarts starts end lines
+    → (joined (slice_range fragments start end ∷ lines) ≡ drop start fragments)
+    × All (λ line. line ≢ []) (slice_range fragments start end ∷ lines)
+    × FollowStarts starts start (slice_range fragments start end ∷ lines)
+lines_more fragments starts lines start end below within at tiles some follow =
+    let len = length-slice fragments start end within in
+    grind (arith, drop_split, All-cons)
+
+-- ---- divisions of a prefix, where all lines but the first have one width
+
+same_width : (widths : List ℕ) → AreEqualFromSecond widths → (l m : ℕ) → 1 ≤ l → 1 ≤ m
+    → line_width widths l ≡ line_width widths m
+same_width widths h l m p q = grind (arith, cases_lt)
+
+pub line_costs-steady : {X : Type 0} (priced : X → PricedSizes) (penalties : Penalties)
+    (widths : List ℕ) (xs : List X) → AreEqualFromSecond widths
+    → IsSteady (line_costs priced penalties widths xs)
+line_costs-steady priced penalties widths xs h i j l m p q =
+    ap (λ w. line_cost priced penalties w (eqb j (length xs)) (slice_range xs i j))
+    (same_width widths h l m p q)
+
+module _ {X : Type 0} (xs : List X) (lines : List (List X)) (j : ℕ) (l : j ≤ length xs)
+    (e : joined lines ≡ take j xs) where
+  length_begun : 0 + length (joined lines) ≡ j
+  length_begun = omega (arith, ap length e, length-take-le j xs l)
+
+  pub begin_starts : All (λ line. line ≢ []) lines → AreStarts (starts_back lines) j
+  begin_starts some = rw length_begun at (starts_of_lines lines 0 [] some refl)
+
+  pub begin_cost : (priced : X → PricedSizes) (penalties : Penalties) (widths : List ℕ)
+      → starts_cost (starts_back lines) (line_costs priced penalties widths xs) j
+      ≡ division_cost priced penalties widths (length xs) lines
+  begin_cost priced penalties widths =
+      let c = cost_of_lines priced penalties widths xs lines (drop j xs) 0 []
+      (sym (take-append-drop j xs) ∙ ap (λ l. l ++ drop j xs) (sym e)) in
+      let k = ap (starts_cost (starts_back lines) (line_costs priced penalties widths xs))
+      length_begun in omega (arith, c, k)
+
+  pub begin_follow : (starts : List ℕ) → FollowStarts starts 0 lines
+      → FollowBack (starts_back lines) starts j
+  begin_follow starts f = rw length_begun at (follow_of_lines starts lines 0 [] f tt)
+
+-- ---- the lines of given starts
+
+abbrev pub lines_after : {X : Type 0} → List ℕ → List X → ℕ → List (List X) → List (List X)
+lines_after [] xs j after = after
+lines_after (i ∷ rest) xs j after = lines_after rest xs i (slice_range xs i j ∷ after)
+
+pub joined_after : {X : Type 0} (starts : List ℕ) (xs : List X) (j : ℕ) (after : List (List X))
+    → j ≤ length xs → AreStarts starts j
+    → joined (lines_after starts xs j after) ≡ take j xs ++ joined after
+joined_after [] xs j after l h = rw h refl
+joined_after (i ∷ rest) xs j after l (h, hs) =
+    joined_after rest xs i (slice_range xs i j ∷ after) (omega arith) hs
+    ∙ sym (append_assoc (take i xs) (slice_range xs i j) (joined after))
+    ∙ ap (λ l. l ++ joined after) (sym (take_slice xs i j (omega arith)))
+
+pub some_after : {X : Type 0} (starts : List ℕ) (xs : List X) (j : ℕ) (after : List (List X))
+    → j ≤ length xs → AreStarts starts j → All (λ line. line ≢ []) after
+    → All (λ line. line ≢ []) (lines_after starts xs j after)
+some_after [] xs j after l h some = some
+some_after (i ∷ rest) xs j after l (h, hs) some =
+    let len = length-slice xs i j l in
+    let nonempty : slice_range xs i j ≢ [] = λ q. let z = ap length q in omega (arith, z) in
+    some_after rest xs i (slice_range xs i j ∷ after) (omega arith) hs
+    (All-cons (λ line. line ≢ []) (slice_range xs i j) after nonempty some)
+
+pub cost_after_starts : {X : Type 0} (priced : X → PricedSizes) (penalties : Penalties)
+    (widths : List ℕ) (starts : List ℕ) (xs : List X) (j : ℕ) (after : List (List X))
+    → j ≤ length xs → AreStarts starts j
+    → lines_cost priced penalties widths (length xs) 0 0 (lines_after starts xs j after)
+    ≡ starts_cost starts (line_costs priced penalties widths xs) j + lines_cost priced penalties
+    widths (length xs) (length starts) j after
+cost_after_starts priced penalties widths [] xs j after l h = rw h (omega arith)
+cost_after_starts priced penalties widths (i ∷ rest) xs j after l (h, hs) =
+    let again = cost_after_starts priced penalties widths rest xs i (slice_range xs i j ∷ after)
+    (omega arith) hs in
+    grind (arith, length-slice)
 
 -- ---- the chosen division
 
@@ -89,3 +250,89 @@ by_table-chosen priced penalties widths (x ∷ xs) lines equal h =
           (omega arith) equal tiles some in omega (arith, cost, least);
       earliest = chosen-earliest priced penalties widths (x ∷ xs) lines p equal h;
     }
+
+-- ---- fragments without penalties, for which the first line has room, are one line at the least
+-- cost
+
+module _ {X : Type 0} (priced : X → PricedSizes) (penalties : Penalties) where
+  line_cost-some : (width : ℕ) (is_last : Bool) (line : List X) → 0 < length line
+      → penalties.nline_penalty ≤ line_cost priced penalties width is_last line
+  line_cost-some width is_last [] some = absurd (omega arith)
+  line_cost-some width is_last (x ∷ line) some = omega arith
+
+  -- two fragments or more on the last line cost no more than any line does
+  line_cost-one : (width : ℕ) (line : List X) → 1 < length line → last_break_penalty priced line ≡ 0
+      → closed_width (λ x. (priced x).sizes) line ≤ width
+      → line_cost priced penalties width true line ≡ penalties.nline_penalty
+  line_cost-one width [] two none room = absurd (omega arith)
+  line_cost-one width (x ∷ []) two none room = absurd (omega arith)
+  line_cost-one width (x ∷ y ∷ line) two none room = grind (arith, nat_tests, none, room)
+
+module _ {X : Type 0} (priced : X → PricedSizes) (penalties : Penalties) (widths : List ℕ)
+    (xs : List X) (none : last_break_penalty priced xs ≡ 0)
+    (room : closed_width (λ x. (priced x).sizes) xs ≤ line_width widths 0) where
+  abbrev costs : ℕ → ℕ → ℕ → ℕ
+  costs = line_costs priced penalties widths xs
+
+  cost_from_start : 1 < length xs → costs 0 (length xs) 0 ≡ penalties.nline_penalty
+  cost_from_start two =
+      grind (arith, eq-eqb, take_all, line_cost-one)
+
+  cost_from : (i number : ℕ) → i < length xs → penalties.nline_penalty ≤ costs i (length xs) number
+  cost_from i number within =
+      grind (arith, line_cost-some, length-take-le, length-drop)
+
+  -- the table's last line starts first: a later start would have to be cheaper
+  last_start : get_or (table_starts costs (length xs)) (length xs) 0 ≡ 0
+  last_start =
+      let entries = fragments_table priced penalties widths xs in
+      let table = table-is_table costs (length xs) in
+      grind (arith, start-at, cost_from_start, cost_from)
+
+  by_table_one : IsByTable priced penalties widths xs (xs ∷ [])
+  by_table_one =
+      search (division_one, zero-add, last_start)
+
+last-none : {X : Type 0} (penalties : Penalties) (sizes : X → Sizes) (xs : List X)
+    → All (λ x. (sizes x).penalty ≡ 0) xs
+    → last_break_penalty (λ x. priced_at penalties (sizes x)) xs ≡ 0
+last-none penalties sizes [] none = refl
+last-none penalties sizes (x ∷ []) none = let here =
+    All-head (λ x. (sizes x).penalty ≡ 0) x [] none in rw here refl
+last-none penalties sizes (x ∷ y ∷ xs) none =
+    last-none penalties sizes (y ∷ xs) (All-tail (λ x. (sizes x).penalty ≡ 0) x (y ∷ xs) none)
+
+pub IsDividedBy-one_line : {X : Type 0} (algorithm : Algorithm) (sizes : X → Sizes)
+    (widths : List ℕ) (xs : List X) → All (λ x. (sizes x).penalty ≡ 0) xs
+    → closed_width sizes xs ≤ line_width widths 0
+    → IsDividedBy algorithm sizes widths xs (xs ∷ [])
+IsDividedBy-one_line Greedy sizes widths xs none room = greedy_one sizes widths xs none room
+IsDividedBy-one_line {X = X} (LeastCost penalties) sizes widths xs none room =
+    search (by_table_one, last-none, by_table-chosen)
+
+-- ---- the optimal division of fragments is one of what a function makes of them
+
+module _ {X Y : Type 0} (f : X → Y) (priced : Y → PricedSizes) where
+  pub fragments_table-map : (penalties : Penalties) (widths : List ℕ) (xs : List X)
+      → fragments_table (λ x. priced (f x)) penalties widths xs ≡ fragments_table priced penalties
+      widths (map f xs)
+  fragments_table-map penalties widths xs =
+      ap (λ cost. table cost (length xs))
+      (sym (line_costs-map (λ x. priced (f x)) penalties widths xs)
+      ∙ ap (line_costs (λ (s : PricedSizes). s) penalties widths) (sym (map-map priced f xs))
+      ∙ line_costs-map priced penalties widths (map f xs))
+      ∙ ap (table (line_costs priced penalties widths (map f xs))) (sym (length-map xs f))
+
+  FollowStarts-map : (starts : List ℕ) (at : ℕ) (lines : List (List X))
+      → FollowStarts starts at lines → FollowStarts starts at (map (map f) lines)
+  FollowStarts-map starts at [] follow = tt
+  FollowStarts-map starts at (line ∷ lines) (here, follow) =
+      rw (length-map line f)
+      (here, FollowStarts-map starts (at + length line) lines follow)
+
+  pub IsByOptimalFit-map : (penalties : Penalties) (widths : List ℕ) (xs : List X)
+      (lines : List (List X)) → IsDivision (map f xs) (map (map f) lines)
+      → IsByOptimalFit (λ x. priced (f x)) penalties widths xs lines
+      → IsByOptimalFit priced penalties widths (map f xs) (map (map f) lines)
+  IsByOptimalFit-map penalties widths xs lines division optimal =
+      grind (arith, fragments_table-map, FollowStarts-map, by_table-chosen)

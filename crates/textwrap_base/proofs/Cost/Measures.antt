@@ -9,8 +9,8 @@ use Rattle.std.proofs.lemmas.Simd.{map-map}
 use Rattle.textwrap_base.specs.Measured.{AreMeasured}
 use Rattle.textwrap_base.specs.declared.minima.line_costs.Measure.{Measure}
 use Rattle.textwrap_base.specs.declared.penalties.Penalties.{Penalties}
-use Rattle.textwrap_base.proofs.Cost.Slices.{open_width-slice, closed_width-slice}
-use Rattle.textwrap_base.proofs.Cost.SizesAlone.{line_costs-map}
+use Rattle.textwrap_base.proofs.Cost.LineCosts.{open_width-slice, closed_width-slice}
+use Rattle.textwrap_base.proofs.Cost.LineCosts.{line_costs-map}
 
 abbrev pub measured_sizes : Measure → Sizes
 measured_sizes m = (measured m).sizes

@@ -7,11 +7,11 @@ use Rattle.textwrap_base.proofs.Common.{IsQueueCase, fragment_costs, TableOverfl
 use Rattle.textwrap_base.specs.Queue.{AreSmall}
 use Rattle.textwrap_base.specs.declared.penalties.Penalties.{Penalties}
 use Rattle.textwrap_base.proofs.Division.Greedy.{closed_width-end}
-use Rattle.textwrap_base.proofs.Cost.Begun.{line_costs-steady}
-use Rattle.textwrap_base.proofs.Cost.Convex.{AreConvex-rising}
+use Rattle.textwrap_base.proofs.Cost.Chosen.{line_costs-steady}
+use Rattle.textwrap_base.proofs.Cost.LineCosts.{AreConvex-rising, closed_width-le, total_width-take}
+use Rattle.textwrap_base.proofs.Cost.LineCosts.{line_cost-le}
 use Rattle.textwrap_base.proofs.Lists.Parts.{take_slice}
-use Rattle.textwrap_base.proofs.Cost.Bounds.{closed_width-le, total_width-take, line_cost-le}
-use Rattle.textwrap_base.proofs.Search.Costs.{small_entry}
+use Rattle.textwrap_base.proofs.Search.{small_entry}
 
 target-small : (widths : List ℕ) (number : ℕ)
     → ((l : ℕ) → l < length widths → slice_index widths l ≤ queue_limit)

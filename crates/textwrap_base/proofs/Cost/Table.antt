@@ -1,13 +1,48 @@
--- The entries of the table, one start after another: the new entry is the least.
-use Rattle.textwrap_base.proofs.Common.{◌≡◌, ℕ, zero, suc, ◌+◌, ◌^◌, ◌<◌, ◌≤◌, true, false}
-use Rattle.textwrap_base.proofs.Common.{if◌then◌else◌, List, length}
-use Rattle.textwrap_base.proofs.Common.{Option, Some, None, SomeIff, refl, ◌∙◌, arith, length_push}
-use Rattle.textwrap_base.proofs.Common.{get_or_push, get_or_append_left, lt-ltb}
-use Rattle.textwrap_base.proofs.Common.{le-ltb, first_entry, entry_from, entry_at, IsLeastBelow}
+-- The entries of the table, which are the least ones, where it overflows, and the starts of lines
+-- that it gives.
+use Rattle.textwrap_base.proofs.Common.{◌≡◌, ◌<◌, ℕ, ◌+◌, ◌≤◌, arith, counted, table_steps, zero}
+use Rattle.textwrap_base.proofs.Common.{suc, ◌^◌, true, false, if◌then◌else◌, List, length, Option}
+use Rattle.textwrap_base.proofs.Common.{Some, None, SomeIff, refl, ◌∙◌, length_push, get_or_push}
+use Rattle.textwrap_base.proofs.Common.{get_or_append_left, lt-ltb, le-ltb, first_entry, entry_from}
+use Rattle.textwrap_base.proofs.Common.{entry_at, IsLeastBelow, [], ◌∷◌, ◌++◌, inl, inr, add-one}
+use Rattle.textwrap_base.proofs.Common.{ap, cases_eq, ◌-◌, eqb, get_or, take, min, All, Result, Ok}
+use Rattle.textwrap_base.proofs.Common.{Err, IsErrAnd, All-take, Sizes, line_width, PricedSizes}
+use Rattle.textwrap_base.proofs.Common.{total_width, Overflowed, AreAtMost, line_costs}
+use Rattle.textwrap_base.proofs.Common.{fragments_table, map, sym, subst, ⊤, get_or-map, AreNoLater}
+use Rattle.textwrap_base.proofs.Common.{length-map, minimum_of}
+use Rattle.std.proofs.Math.Nat.{mul-le-mul}
 use Rattle.std.proofs.Common.{ltb}
-use Rattle.textwrap_base.specs.Table.{cheaper, cheaper_of, cheapest, table, IsBestBelow}
+use Rattle.textwrap_base.specs.Table.{cheaper, cheaper_of, cheapest, table, IsBestBelow, IsTable}
 use Rattle.textwrap_base.specs.declared.minima.table.Entry.{Entry}
 use Rattle.textwrap_base.proofs.Numbers.{past_from_not}
+use Rattle.textwrap_base.specs.declared.errors.WrapError.{WrapError}
+use Rattle.textwrap_base.specs.declared.errors.WrapError.TheVariants.{Memory, Overflow}
+use Rattle.textwrap_base.specs.declared.penalties.Penalties.{Penalties}
+use Rattle.textwrap_base.proofs.Cost.LineCosts.{closed_width-le, line_cost-le, total_width-take}
+use Rattle.std.proofs.lemmas.Simd.{map-map}
+use Rattle.textwrap_base.specs.declared.minima.Minimum.{Minimum}
+
+-- ---- how many steps a table takes
+
+pub table_steps_more : (n : ℕ) → table_steps (n + 1) ≡ table_steps n + (n + 1)
+table_steps_more n = omega arith
+
+pub table_steps_mono : (m n : ℕ) → m ≤ n → table_steps m ≤ table_steps n
+table_steps_mono m n l =
+    let after : m + 1 ≤ n + 1 = omega arith in
+    let product = mul-le-mul l after in omega (arith, product)
+
+-- the count goes on
+pub counted_within : (count before after n all : ℕ) → before ≡ counted count (table_steps n)
+    → after ≡ counted before (n + 1) → n < all → after ≤ counted count (table_steps all)
+counted_within count before after n all h k l =
+    omega (arith, table_steps_mono (n + 1) all (omega arith), table_steps_more n)
+
+pub counted_next : (count before after n : ℕ) → before ≡ counted count (table_steps n)
+    → after ≡ counted before (n + 1) → after ≡ counted count (table_steps (n + 1))
+counted_next count before after n h k = let more = table_steps_more n in omega arith
+
+-- ---- the entries of the table, one start after another: the new entry is the least
 
 pub length-table : (cost : ℕ → ℕ → ℕ → ℕ) (n : ℕ) → length (table cost n) ≡ n + 1
 unfolding table
@@ -72,3 +107,260 @@ module _ (cost : ℕ → ℕ → ℕ → ℕ) (entries : List Entry) (end : ℕ)
       (least_old m e h (let k = past_from_not _ misses in omega (arith, fits)), fits)
   best_more m (Some e) (Some c) (h, fits) (fits_new, is) =
       grind (arith, least_cheaper, cheaper_fits)
+
+-- ---- each entry of the table is the least
+
+-- the starts up to m
+pub cheapest-least : (m : ℕ) (cost : ℕ → ℕ → ℕ → ℕ) (entries : List Entry) (end : ℕ)
+    → IsLeastBelow cost entries end (suc m) (cheapest cost m entries end)
+cheapest-least zero cost entries end = grind arith
+cheapest-least (suc m) cost entries end =
+    rw add-one at (least_cheaper cost entries end (suc m) (cheapest cost m entries end)
+    (cheapest-least m cost entries end))
+
+-- only one entry is the least
+pub least_one : (cost : ℕ → ℕ → ℕ → ℕ) (entries : List Entry) (end m : ℕ) (e f : Entry)
+    → IsLeastBelow cost entries end m e → IsLeastBelow cost entries end m f → e ≡ f
+least_one cost entries end m e f h k =
+    grind arith
+
+-- an entry of the table is the least of what the entries before it give
+pub table-least : (cost : ℕ → ℕ → ℕ → ℕ) (n j : ℕ) → j < n
+    → IsLeastBelow cost (table cost j) (suc j) (suc j) (entry_at (table cost n) (suc j))
+table-least cost zero j l = absurd (omega arith)
+table-least cost (suc n) j l = elim (cases_eq j n) [
+  | inl e ↦ rw (e, entry-table_last cost n) (cheapest-least n cost (table cost n) (suc n))
+  | inr ne ↦ rw (entry-table_more cost n (suc j) (omega arith)) (table-least cost n j (omega arith))
+]
+
+-- an entry of the table is that of each longer table
+pub entry-table_longer : (cost : ℕ → ℕ → ℕ → ℕ) (n j k : ℕ) → k ≤ j → j ≤ n
+    → entry_at (table cost n) k ≡ entry_at (table cost j) k
+entry-table_longer cost zero j k h l = let e : j ≡ zero = omega arith in rw e refl
+entry-table_longer cost (suc n) j k h l = elim (cases_eq j (suc n)) [
+  | inl e ↦ rw e refl
+  | inr ne ↦ entry-table_more cost n k (omega arith)
+      ∙ entry-table_longer cost n j k h (omega arith)
+]
+
+-- the line after j fragments has a number of at most j
+number-table_upto : (bound : ℕ) (cost : ℕ → ℕ → ℕ → ℕ) (n j : ℕ) → j ≤ bound → j ≤ n
+    → (entry_at (table cost n) j).line_number ≤ j
+number-table_upto bound cost n zero b l = rw (entry-table_first cost n) (omega arith)
+number-table_upto zero cost n (suc j) b l = absurd (omega arith)
+number-table_upto (suc bound) cost n (suc j) b l =
+    let h = table-least cost n j l in
+    let e = ap (λ (x : Entry). x.line_number) h.from_start in
+    let k = number-table_upto bound cost j (entry_at (table cost n) (suc j)).start (omega arith)
+    (omega arith) in omega arith
+
+pub number-table : (cost : ℕ → ℕ → ℕ → ℕ) (n j : ℕ) → j ≤ n
+    → (entry_at (table cost n) j).line_number ≤ j
+number-table cost n j l = number-table_upto j cost n j (omega arith) l
+
+-- the best entry ends the next table
+pub table_next : (cost : ℕ → ℕ → ℕ → ℕ) (n : ℕ) (e : Entry)
+    → IsLeastBelow cost (table cost n) (n + 1) (n + 1) e
+    → table cost n ++ e ∷ [] ≡ table cost (n + 1)
+unfolding table
+table_next cost n e h =
+    grind (arith, add-one, least_one, cheapest-least)
+
+-- where no start gives a cost that fits, the next entry does not fit
+pub table_past : (cost : ℕ → ℕ → ℕ → ℕ) (n m : ℕ) → n < m
+    → ((i : ℕ) → i < n + 1 → 2 ^ 128 ≤ (entry_from cost i (entry_at (table cost n) i) (n + 1)).cost)
+    → 2 ^ 128 ≤ (entry_at (table cost m) (n + 1)).cost
+table_past cost n m l past =
+    let h = table-least cost m n l in
+    grind (arith, add-one)
+
+pub table_fits : (cost : ℕ → ℕ → ℕ → ℕ) (n : ℕ) (e : Entry)
+    → table cost n ++ e ∷ [] ≡ table cost (n + 1) → e.cost < 2 ^ 128
+    → ((j : ℕ) → j ≤ n → (entry_at (table cost n) j).cost < 2 ^ 128)
+    → (j : ℕ) → j ≤ n + 1 → (entry_at (table cost (n + 1)) j).cost < 2 ^ 128
+table_fits cost n e is fits all j l = elim (cases_eq j (n + 1)) [
+  | inl q ↦ rw (q, ← is, get_or_push (table cost n) e first_entry (n + 1) (length-table cost n)) fits
+  | inr ne ↦ rw (add-one, entry-table_more cost n j (omega arith)) (all j (omega arith))
+]
+
+-- ---- where the table of fragments overflows, and where it does not
+
+-- one line is a division of each prefix
+pub one_line : (cost : ℕ → ℕ → ℕ → ℕ) (n j : ℕ) → j < n
+    → (entry_at (table cost n) (suc j)).cost ≤ cost 0 (suc j) 0
+one_line cost n j l =
+    grind (arith, table-least, entry-table_first)
+
+-- where all widths together keep to 64 bits, each entry keeps to 128
+pub table-fits : {X : Type 0} (priced : X → PricedSizes) (p : Penalties) (widths : List ℕ)
+    (xs : List X) → AreAtMost (2 ^ 64 - 1) p → All (λ x. (priced x).break_penalty ≤ 2 ^ 64 - 1) xs
+    → ((i : ℕ) → get_or widths i 0 < 2 ^ 64) → total_width (λ x. (priced x).sizes) xs < 2 ^ 64
+    → (j : ℕ) → j ≤ length xs → (entry_at (fragments_table priced p widths xs) j).cost < 2 ^ 128
+table-fits priced p widths xs h breaks k l zero b = grind (arith, entry-table_first)
+table-fits {X = X} priced p widths xs h breaks k l (suc j) b =
+    let sizes : X → Sizes = λ x. (priced x).sizes in
+    let one = one_line (line_costs priced p widths xs) (length xs) j b in
+    let part = total_width-take sizes xs (suc j - 0) in
+    let closed = closed_width-le sizes (take (suc j - 0) xs) in
+    let width = k (min 0 (length widths - 1)) in
+    let fits = line_cost-le (2 ^ 64 - 1) priced p (line_width widths 0) (eqb (suc j) (length xs))
+    (take (suc j - 0) xs) h (All-take (λ x. (priced x).break_penalty ≤ 2 ^ 64 - 1)
+    (suc j - 0) xs breaks) (omega (arith, width)) (omega (arith, part, closed)) in
+    omega (arith, one, fits)
+
+-- an error that is passed on
+pub overflowed_on : {A : Type 0} (B : Type 0) (r : Result A WrapError) (e : WrapError)
+    → IsErrAnd r (λ f. f ≡ e) → Overflowed r → Overflowed {A = B} (Err e)
+overflowed_on B (Ok v) e h o = absurd o
+overflowed_on B (Err (Memory m)) e h o = absurd o
+overflowed_on B (Err (Overflow m)) e h o = rw (← h) tt
+
+-- ---- divisions by the starts of their lines, the last line first: the table follows the chosen
+-- one back
+
+-- the starts of a division of j fragments, the last line first
+abbrev pub AreStarts : List ℕ → ℕ → Type 0
+AreStarts [] j = j ≡ 0
+AreStarts (i ∷ rest) j = (i < j) × AreStarts rest i
+
+-- its cost
+abbrev pub starts_cost : List ℕ → (ℕ → ℕ → ℕ → ℕ) → ℕ → ℕ
+starts_cost [] cost j = 0
+starts_cost (i ∷ rest) cost j = starts_cost rest cost i + cost i j (length rest)
+
+-- each start is the one that the list has at its end
+abbrev pub FollowBack : List ℕ → List ℕ → ℕ → Type 0
+FollowBack [] starts j = ⊤
+FollowBack (i ∷ rest) starts j = (get_or starts j 0 ≡ i) × FollowBack rest starts i
+
+-- after the first line, the number of a line does not change its cost
+abbrev pub IsSteady : (ℕ → ℕ → ℕ → ℕ) → Type 0
+IsSteady cost = (i j l m : ℕ) → 1 ≤ l → 1 ≤ m → cost i j l ≡ cost i j m
+
+-- ---- the table is a table
+
+least_entries : (cost : ℕ → ℕ → ℕ → ℕ) (entries others : List Entry) (end m : ℕ) (e : Entry)
+    → ((i : ℕ) → i < m → entry_at entries i ≡ entry_at others i)
+    → IsLeastBelow cost entries end m e → IsLeastBelow cost others end m e
+least_entries cost entries others end m e same h = grind arith
+
+pub table-is_table : (cost : ℕ → ℕ → ℕ → ℕ) (n : ℕ) → IsTable cost n (table cost n)
+table-is_table cost n = record {
+  len = length-table cost n;
+  first = entry-table_first cost n;
+  later = later;
+}
+  where
+    later : (j : ℕ) → 0 < j → j ≤ n
+        → IsLeastBelow cost (table cost n) j j (entry_at (table cost n) j)
+    later zero p l = absurd (omega arith)
+    later (suc j) p l = least_entries cost (table cost j) (table cost n) (suc j) (suc j)
+        (entry_at (table cost n) (suc j))
+        (λ i k. sym (entry-table_longer cost n j i (omega arith) (omega arith)))
+        (table-least cost n j l)
+
+abbrev pub table_starts : (ℕ → ℕ → ℕ → ℕ) → ℕ → List ℕ
+table_starts cost n = map (λ (x : Entry). x.start) (table cost n)
+
+pub start-at : (cost : ℕ → ℕ → ℕ → ℕ) (n j : ℕ) → j ≤ n
+    → get_or (table_starts cost n) j 0 ≡ (entry_at (table cost n) j).start
+start-at cost n j l = get_or-map (λ (x : Entry). x.start) (table cost n) j first_entry 0
+    (omega (arith, length-table cost n))
+
+-- ---- what it follows
+
+module _ (cost : ℕ → ℕ → ℕ → ℕ) (n : ℕ) (steady : IsSteady cost) where
+  abbrev entries : List Entry
+  entries = table cost n
+
+  is : IsTable cost n entries
+  is = table-is_table cost n
+
+  -- a line costs the same after each division of the fragments before it
+  cost_after : (rest : List ℕ) (i j : ℕ) → i ≤ n → AreStarts rest i
+      → cost i j (length rest) ≡ cost i j (entry_at entries i).line_number
+  cost_after [] i j l h = rw (h, is.first) refl
+  cost_after (k ∷ rest) i j l (h, hs) =
+      grind (arith, is)
+
+  pub table_least : (starts : List ℕ) (j : ℕ) → j ≤ n → AreStarts starts j
+      → (entry_at entries j).cost ≤ starts_cost starts cost j
+  table_least [] j l h = rw (h, is.first) (omega arith)
+  table_least (i ∷ rest) j l (h, hs) =
+      grind (arith, is, cost_after, table_least rest i (omega arith) hs)
+
+  pub table_followed : (starts : List ℕ) (j : ℕ) → j ≤ n → AreStarts starts j
+      → FollowBack starts (table_starts cost n) j
+      → starts_cost starts cost j ≡ (entry_at entries j).cost
+  table_followed [] j l h f = rw (h, is.first) refl
+  table_followed (i ∷ rest) j l (h, hs) (f, fs) =
+      grind (arith, is, start-at, cost_after, table_followed rest i (omega arith) hs fs)
+
+  pub table_earliest : (starts others : List ℕ) (j : ℕ) → j ≤ n → AreStarts starts j
+      → FollowBack starts (table_starts cost n) j → AreStarts others j
+      → starts_cost others cost j ≡ (entry_at entries j).cost → AreNoLater starts others
+  table_earliest [] others j l h f o e = tt
+  table_earliest (s ∷ rest) [] j l (h, hs) f o e = absurd (omega arith)
+  table_earliest (s ∷ rest) (i ∷ others) j l (h, hs) (f, fs) (o, os) e =
+      let later = is.later j (omega arith) l in
+      let start = sym (start-at cost n j l) ∙ f in
+      let after = cost_after others i j (omega arith) os in
+      let before = table_least others i (omega arith) os in
+      let no_less : i < s → ⊥ = λ k. let dearer = later.first i (omega (arith, start, k)) in
+      omega (arith, dearer, after, before, e) in
+      let least = later.least i o in
+      let same : starts_cost others cost i ≡ (entry_at entries i).cost =
+      omega (arith, least, after, before, e) in
+      elim (cases_eq s i) [
+        | inl q ↦ inr (
+          q,
+          table_earliest rest others s (omega arith) hs fs
+              (subst (λ k. AreStarts others k) (sym q) os) (rw q same),
+        )
+        | inr ne ↦ inl (omega arith)
+      ]
+
+  -- the starts that the table gives for each end
+  starts_upto : (bound j : ℕ) → j ≤ bound → j ≤ n
+      → (starts : List ℕ) × AreStarts starts j × FollowBack starts (table_starts cost n) j
+  starts_upto bound zero b l = ([], refl, tt)
+  starts_upto zero (suc j) b l = absurd (omega arith)
+  starts_upto (suc bound) (suc j) b l =
+      let later = is.later (suc j) (omega arith) l in
+      let below = later.below in
+      let (rest, h, f) = starts_upto bound (entry_at entries (suc j)).start (omega arith)
+      (omega arith) in (
+        (entry_at entries (suc j)).start ∷ rest,
+        (below, h),
+        (start-at cost n (suc j) l, f),
+      )
+
+  pub starts_to : (j : ℕ) → j ≤ n
+      → (starts : List ℕ) × AreStarts starts j × FollowBack starts (table_starts cost n) j
+  starts_to j l = starts_upto j j (omega arith) l
+
+-- ---- the starts and the costs that are reported
+
+module _ (cost : ℕ → ℕ → ℕ → ℕ) (n : ℕ) (minima : List Minimum)
+    (reported : minima ≡ map minimum_of (table cost n)) where
+  pub starts_reported : map (λ (m : Minimum). m.start) minima ≡ map (λ (x : Entry). x.start)
+      (table cost n)
+  starts_reported = ap (map (λ (m : Minimum). m.start)) reported
+      ∙ map-map (λ (m : Minimum). m.start) minimum_of (table cost n)
+
+  pub cost_reported : (j : ℕ) → j ≤ n
+      → get_or (map (λ (m : Minimum). m.cost) minima) j 0 ≡ (entry_at (table cost n) j).cost
+  cost_reported j l =
+      grind (arith, length-table, map-map, get_or-map)
+
+  pub length_reported : length minima ≡ n + 1
+  length_reported = ap length reported ∙ length-map (table cost n) minimum_of ∙ length-table cost n
+
+  pub first_reported : get_or (map (λ (m : Minimum). m.start) minima) 0 0 ≡ 0
+  first_reported = cc (starts_reported, start-at cost n 0 (omega arith), entry-table_first cost n)
+
+  pub later_reported : (j : ℕ) → 0 < j → j ≤ n
+      → get_or (map (λ (m : Minimum). m.start) minima) j 0 < j
+  later_reported j p l =
+      let e = ap (λ l. get_or l j 0) starts_reported ∙ start-at cost n j l in
+      omega (arith, e, ((table-is_table cost n).later j p l).below)

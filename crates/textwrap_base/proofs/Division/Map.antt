@@ -1,12 +1,12 @@
 -- A division of fragments is one of what a function makes of them.
-use Rattle.textwrap_base.proofs.Common.{◌≡◌, ◌≢◌, ℕ, ◌+◌, ◌<◌, List, [], ◌∷◌, ◌++◌, take, map}
-use Rattle.textwrap_base.proofs.Common.{All, refl, sym, ap, ◌∙◌, arith, length, flat_map}
-use Rattle.textwrap_base.proofs.Common.{map-append, length-map, take-map}
-use Rattle.textwrap_base.proofs.Common.{All-map, get_or, Sizes, line_width, closed_width}
-use Rattle.textwrap_base.proofs.Common.{IsDivision, Fits, AllFit, AllFull, IsGreedy, priced_at}
+use Rattle.textwrap_base.proofs.Common.{◌≡◌, ◌≢◌, ℕ, ◌+◌, ◌<◌, List, [], ◌∷◌, ◌++◌, take, map, All}
+use Rattle.textwrap_base.proofs.Common.{refl, sym, ap, ◌∙◌, arith, length, flat_map, map-append}
+use Rattle.textwrap_base.proofs.Common.{length-map, take-map, All-map, get_or, Sizes, line_width}
+use Rattle.textwrap_base.proofs.Common.{closed_width, IsDivision, Fits, AllFit, AllFull, IsGreedy}
+use Rattle.textwrap_base.proofs.Common.{priced_at}
 use Rattle.textwrap_base.specs.Algorithms.{Algorithm, Greedy, LeastCost, IsDividedBy}
-use Rattle.textwrap_base.proofs.Division.Widths.{closed_width-map}
-use Rattle.textwrap_base.proofs.Cost.Map.{IsByOptimalFit-map}
+use Rattle.textwrap_base.proofs.Division.Greedy.{closed_width-map}
+use Rattle.textwrap_base.proofs.Cost.Chosen.{IsByOptimalFit-map}
 
 module _ {X Y : Type 0} (f : X → Y) (sizes : Y → Sizes) where
   Fits-map : (width : ℕ) (line : List X) → Fits (λ x. sizes (f x)) width line

@@ -274,7 +274,7 @@ fn take_over<C: CostSource>(
 /// At which of the ends from `low` to before `high` to look: at one side while looks there are
 /// left, and else in the middle. A start mostly takes over from the one just before it within a few
 /// ends. After one that won nowhere, it mostly wins nowhere either, which the last end tells.
-#[tactic(auto, using(crate::proofs::Search::Digits::digits_mono, crate::proofs::Search::Digits::digits_half))]
+#[tactic(auto, using(crate::proofs::Search::digits_mono, crate::proofs::Search::digits_half))]
 fn next_look(low: usize, high: usize, near: usize, at_low: bool) -> usize
     requires ordered { low < high }
     ensures from { low ≤ result }

@@ -1,19 +1,21 @@
 -- How many lines a text has at most, and how long they are together, by the options of C.
 use Rattle.textwrap_base.proofs.Common.{◌≡◌, ℕ, ◌+◌, ◌*◌, ◌≤◌, ◌==◌, ◌&&◌, true, false, cond, List}
-use Rattle.textwrap_base.proofs.Common.{[], ◌∷◌, All, All-head, All-tail, length, map, refl, sym, ap}
-use Rattle.textwrap_base.proofs.Common.{◌∙◌, subst, arith, IsUtf8, Bool, length-append, length-map}
-use Rattle.textwrap_base.proofs.Common.{sum_by-cons, nil_from_length, eqb-true, and_parts}
+use Rattle.textwrap_base.proofs.Common.{[], ◌∷◌, All, All-head, All-tail, length, map, refl, sym}
+use Rattle.textwrap_base.proofs.Common.{ap, ◌∙◌, subst, arith, IsUtf8, Bool, length-append}
+use Rattle.textwrap_base.proofs.Common.{length-map, sum_by-cons, nil_from_length, eqb-true}
+use Rattle.textwrap_base.proofs.Common.{and_parts}
 use Rattle.std.proofs.lemmas.Nat.{mul-le}
 use Rattle.textwrap_base.proofs.Lists.Parts.{flat}
-use Rattle.textwrap_lines.proofs.Common.{Settings, LineParts, AreIndented, AreTextLines, Line, Slice}
-use Rattle.textwrap_lines.proofs.Common.{line_bytes, line_from, indent_of, built_bytes, built_text}
-use Rattle.textwrap_lines.proofs.Common.{ending_bytes, join_with, paragraphs_of, AreGroups, AreParagraphParts}
+use Rattle.textwrap_lines.proofs.Common.{Settings, LineParts, AreIndented, AreTextLines, Line}
+use Rattle.textwrap_lines.proofs.Common.{Slice, line_bytes, line_from, indent_of, built_bytes}
+use Rattle.textwrap_lines.proofs.Common.{built_text, ending_bytes, join_with, paragraphs_of}
+use Rattle.textwrap_lines.proofs.Common.{AreGroups, AreParagraphParts}
 use Rattle.textwrap_lines.specs.Paragraph.{Built}
-use Rattle.textwrap_lines.proofs.Paragraph.Kept.{HasNoHyphen}
-use Rattle.textwrap_lines.proofs.Text.EndingTexts.{join-paragraphs_of, paragraphs_of-utf8}
-use Rattle.textwrap_lines.proofs.Text.Endings.{ending_bytes-some}
+use Rattle.textwrap_lines.proofs.Paragraph.KeepsTo.{HasNoHyphen}
+use Rattle.textwrap_lines.proofs.Text.Paragraphs.{join-paragraphs_of, paragraphs_of-utf8}
+use Rattle.textwrap_lines.proofs.Text.Paragraphs.{ending_bytes-some}
 use Rattle.textwrap_lines.proofs.Text.Groups.{groups-map}
-use Rattle.textwrap_plain.proofs.Wrapped.{IsWrapped-at}
+use Rattle.textwrap_plain.proofs.Words.{IsWrapped-at}
 use Rattle.textwrap_calls.specs.Bounds.{wrap_room_bound}
 use Rattle.textwrap_calls.specs.Options.{algorithm_of, Divides, separator_of, splitter_of}
 use Rattle.textwrap_calls.specs.declared.options.TextwrapOptions.{TextwrapOptions}

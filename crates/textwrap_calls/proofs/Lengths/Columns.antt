@@ -1,8 +1,7 @@
 -- How long the rows of a text in columns are together.
-use Rattle.textwrap_base.proofs.Common.{◌≡◌, ℕ, ◌+◌, ◌-◌, ◌*◌, ◌≤◌, List, [], ◌∷◌}
-use Rattle.textwrap_base.proofs.Common.{◌++◌, length, map, refl, ap, ◌∙◌, arith, get_or}
-use Rattle.textwrap_base.proofs.Common.{sum_by, sum_by-append, length-append}
-use Rattle.textwrap_base.proofs.Common.{range_with_len, length-map}
+use Rattle.textwrap_base.proofs.Common.{◌≡◌, ℕ, ◌+◌, ◌-◌, ◌*◌, ◌≤◌, List, [], ◌∷◌, ◌++◌, length}
+use Rattle.textwrap_base.proofs.Common.{map, refl, ap, ◌∙◌, arith, get_or, sum_by, sum_by-append}
+use Rattle.textwrap_base.proofs.Common.{length-append, range_with_len, length-map}
 use Rattle.std.proofs.Common.{replicate}
 use Rattle.std.proofs.lemmas.List.{length-replicate}
 use Rattle.std.proofs.lemmas.List.FromFn.{fill_by_all, length-range_with_len}
@@ -11,9 +10,10 @@ use Rattle.std.proofs.lemmas.List.Sums.{sum_by-le-sum_by}
 use Rattle.textwrap_words.specs.Units.{text_width}
 use Rattle.textwrap.proofs.Common.{Layout, cell, cells, padded, row_text}
 use Rattle.textwrap.specs.Columns.{row_count, table_rows, blanks}
-use Rattle.textwrap.proofs.Text.TableColumns.{columns_kept}
+use Rattle.textwrap.proofs.Text.Tables.{columns_kept}
 use Rattle.textwrap_lines.proofs.Common.{join_with}
-use Rattle.textwrap_calls.proofs.Lengths.Sums.{by-columns, sum-each, sum-map, texts-joined, texts_length}
+use Rattle.textwrap_calls.proofs.Lengths.Sums.{by-columns, sum-each, sum-map, texts-joined}
+use Rattle.textwrap_calls.proofs.Lengths.Sums.{texts_length}
 
 -- ---- the cells of all rows are the lines
 

@@ -1,20 +1,20 @@
 -- How long a dedented text is at most.
-use Rattle.textwrap_base.proofs.Common.{◌≡◌, ℕ, ◌+◌, ◌-◌, ◌≤◌, ◌==◌, Bool, true, false}
-use Rattle.textwrap_base.proofs.Common.{cond, List, [], ◌∷◌, ◌++◌, All, length, map, take, drop, refl}
-use Rattle.textwrap_base.proofs.Common.{sym, ap, ◌∙◌, subst, arith, sum_by-cons, IsUtf8, last}
-use Rattle.textwrap_base.proofs.Common.{length-append, join_with_byte, slice_split, lines}
-use Rattle.textwrap_base.proofs.Common.{slice_index, All-head, All-tail, All-nil, All-cons}
-use Rattle.textwrap_base.proofs.Common.{encode_utf8_all, take-append-drop, inl, inr, cases_Bool, eqb-true}
+use Rattle.textwrap_base.proofs.Common.{◌≡◌, ℕ, ◌+◌, ◌-◌, ◌≤◌, ◌==◌, Bool, true, false, cond, List}
+use Rattle.textwrap_base.proofs.Common.{[], ◌∷◌, ◌++◌, All, length, map, take, drop, refl, sym, ap}
+use Rattle.textwrap_base.proofs.Common.{◌∙◌, subst, arith, sum_by-cons, IsUtf8, last, length-append}
+use Rattle.textwrap_base.proofs.Common.{join_with_byte, slice_split, lines, slice_index, All-head}
+use Rattle.textwrap_base.proofs.Common.{All-tail, All-nil, All-cons, encode_utf8_all}
+use Rattle.textwrap_base.proofs.Common.{take-append-drop, inl, inr, cases_Bool, eqb-true}
+use Rattle.textwrap_base.proofs.Common.{All-weaker, take_all, take_more}
 use Rattle.std.specs.Str.{chars}
 use Rattle.std.specs.Str.Lines.{lines_of_parts, strip_carriage_return}
 use Rattle.std.proofs.lemmas.List.Splits.{join_with_byte-slice_split}
-use Rattle.textwrap_base.proofs.Characters.{cut_text}
+use Rattle.textwrap_base.proofs.Texts.{cut_text, ascii_seam}
 use Rattle.textwrap.proofs.Common.{is_blank_line, margin_of}
 use Rattle.textwrap.specs.Indentation.{dedented, without_margin}
-use Rattle.textwrap_base.proofs.Common.{All-weaker, take_all, take_more}
-use Rattle.textwrap_base.proofs.Utf8.{ascii_seam}
-use Rattle.textwrap.proofs.Text.EndedLines.{is_feed}
-use Rattle.textwrap_calls.proofs.Lengths.TextLines.{ended_length, feed-within, final_feed, lines-length}
+use Rattle.textwrap.proofs.Text.Indents.{is_feed}
+use Rattle.textwrap_calls.proofs.Lengths.TextLines.{ended_length, feed-within, final_feed}
+use Rattle.textwrap_calls.proofs.Lengths.TextLines.{lines-length}
 
 -- ---- the lines of a text of UTF-8
 

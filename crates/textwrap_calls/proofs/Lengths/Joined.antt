@@ -5,10 +5,9 @@ use Rattle.textwrap_base.proofs.Common.{sum_by-cons}
 use Rattle.std.proofs.lemmas.List.Sums.{sum_by-le-sum_by}
 use Rattle.textwrap_words.proofs.Common.{blank}
 use Rattle.textwrap_lines.proofs.Common.{join_with}
-use Rattle.textwrap.proofs.Common.{EndedLine, nonempty_lines}
-use Rattle.textwrap.proofs.Common.{unfilled_initial, unfilled_subsequent, joined_text}
-use Rattle.textwrap.specs.Refilling.{ended_lines, has_text}
-use Rattle.textwrap.specs.Refilling.{without_indents}
+use Rattle.textwrap.proofs.Common.{EndedLine, nonempty_lines, unfilled_initial, unfilled_subsequent}
+use Rattle.textwrap.proofs.Common.{joined_text}
+use Rattle.textwrap.specs.Refilling.{ended_lines, has_text, without_indents}
 use Rattle.textwrap.proofs.Text.Unfilling.{texts_of-ended_lines}
 use Rattle.textwrap_calls.proofs.Lengths.Sums.{sum-map, texts_length, texts-joined}
 use Rattle.textwrap_calls.proofs.Lengths.TextLines.{ended_length}

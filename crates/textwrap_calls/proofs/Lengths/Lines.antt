@@ -1,15 +1,16 @@
 -- How many lines groups have at most, and how long what they show is.
 use Rattle.textwrap_base.proofs.Common.{◌≡◌, ℕ, ◌+◌, ◌*◌, ◌≤◌, Bool, true, List, [], ◌∷◌, ◌++◌, All}
 use Rattle.textwrap_base.proofs.Common.{All-head, All-tail, length, map, ap, ◌∙◌, arith, sum_by}
-use Rattle.textwrap_base.proofs.Common.{length-append, sum_by-cons, sum_by-append, ◌<◌, ◌||◌, nat_lt}
+use Rattle.textwrap_base.proofs.Common.{length-append, sum_by-cons, sum_by-append, ◌<◌, ◌||◌}
+use Rattle.textwrap_base.proofs.Common.{nat_lt}
 use Rattle.textwrap_base.proofs.Lists.Parts.{flat}
 use Rattle.textwrap_words.proofs.Common.{WordText}
 use Rattle.textwrap_lines.proofs.Common.{Settings, LineParts, line_from, line_bytes, AreIndented}
 use Rattle.textwrap_lines.proofs.Common.{indent_of, join_with, AreGroups, covered_by}
 use Rattle.textwrap_lines.specs.Paragraph.{indent_before}
-use Rattle.textwrap_lines.proofs.Paragraph.Kept.{HasNoHyphen}
-use Rattle.textwrap_lines.proofs.Paragraph.WholeLine.{bytes-assembled}
-use Rattle.textwrap.proofs.Text.WholeLines.{bytes_of}
+use Rattle.textwrap_lines.proofs.Paragraph.KeepsTo.{HasNoHyphen}
+use Rattle.textwrap_lines.proofs.Paragraph.LeftOff.{bytes-assembled}
+use Rattle.textwrap.proofs.Text.PlainFilled.{bytes_of}
 use Rattle.textwrap_calls.proofs.Lengths.Sums.{join-length, texts_length}
 
 -- ---- how many lines there are, and how long their slices are together

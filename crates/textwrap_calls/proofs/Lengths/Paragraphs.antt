@@ -1,23 +1,22 @@
 -- How many lines a paragraph has at most: one more than it has bytes.
-use Rattle.textwrap_base.proofs.Common.{◌≡◌, ℕ, ◌+◌, ◌≤◌, ◌==◌, Bool, true, false}
-use Rattle.textwrap_base.proofs.Common.{cond, List, [], ◌∷◌, ◌++◌, All, length, sym, ap}
-use Rattle.textwrap_base.proofs.Common.{subst, arith, IsUtf8, length-append, length-map}
-use Rattle.textwrap_base.proofs.Common.{IsDivision}
-use Rattle.textwrap_words.proofs.Common.{WordText}
-use Rattle.textwrap_words.proofs.Common.{broken_words}
-use Rattle.textwrap_words.proofs.Common.{sizes_of, split_words}
-use Rattle.textwrap_words.proofs.Common.{Algorithm, Greedy, LeastCost, IsDividedBy}
+use Rattle.textwrap_base.proofs.Common.{◌≡◌, ℕ, ◌+◌, ◌≤◌, ◌==◌, Bool, true, false, cond, List, []}
+use Rattle.textwrap_base.proofs.Common.{◌∷◌, ◌++◌, All, length, sym, ap, subst, arith, IsUtf8}
+use Rattle.textwrap_base.proofs.Common.{length-append, length-map, IsDivision}
+use Rattle.textwrap_words.proofs.Common.{WordText, broken_words, sizes_of, split_words, Algorithm}
+use Rattle.textwrap_words.proofs.Common.{Greedy, LeastCost, IsDividedBy}
 use Rattle.textwrap_lines.proofs.Common.{Settings, empty_word, front_pieces, pieces_by, later_width}
 use Rattle.textwrap_lines.proofs.Common.{parts_from, is_whole, LineParts, AreParagraphParts}
 use Rattle.textwrap_lines.proofs.Common.{widths_of}
-use Rattle.textwrap_lines.proofs.Paragraph.Kept.{parts_from-pieces}
-use Rattle.textwrap_lines.proofs.Paragraph.Pieces.{ArePieces-by, split_words-measured, split_words-tile}
-use Rattle.textwrap_lines.proofs.Paragraph.WholeLine.{laid_out-cases}
+use Rattle.textwrap_lines.proofs.Paragraph.KeepsTo.{parts_from-pieces}
+use Rattle.textwrap_lines.proofs.Paragraph.Pieces.{ArePieces-by, split_words-measured}
+use Rattle.textwrap_lines.proofs.Paragraph.Pieces.{split_words-tile}
+use Rattle.textwrap_lines.proofs.Paragraph.LeftOff.{laid_out-cases}
 use Rattle.textwrap_plain.proofs.Words.{words_by-parts, words_by-texts}
 use Rattle.textwrap_plain.specs.Options.{words_by}
 use Rattle.textwrap_calls.specs.Options.{algorithm_of, Divides, separator_of, splitter_of}
 use Rattle.textwrap_calls.specs.declared.options.TextwrapOptions.{TextwrapOptions}
-use Rattle.textwrap_calls.proofs.Lengths.Pieces.{count-parts, count-broken, count-unbroken, CoversSome}
+use Rattle.textwrap_calls.proofs.Lengths.Pieces.{count-parts, count-broken, count-unbroken}
+use Rattle.textwrap_calls.proofs.Lengths.Pieces.{CoversSome}
 use Rattle.textwrap_calls.proofs.Lengths.Split.{words-cover, words-split}
 
 -- ---- the pieces of a paragraph

@@ -1,18 +1,17 @@
 -- How many pieces words are broken into at most: no more than they have bytes.
-use Rattle.textwrap_base.proofs.Common.{◌≡◌, ◌≢◌, ℕ, zero, suc, ◌<◌, ◌≤◌, Bool, true, false}
-use Rattle.textwrap_base.proofs.Common.{cond, List, [], ◌∷◌, All, length, refl, ap}
-use Rattle.textwrap_base.proofs.Common.{arith, IsUtf8, length-append}
-use Rattle.textwrap_base.proofs.Common.{All-head, All-tail, encodes-chars}
+use Rattle.textwrap_base.proofs.Common.{◌≡◌, ◌≢◌, ℕ, zero, suc, ◌<◌, ◌≤◌, Bool, true, false, cond}
+use Rattle.textwrap_base.proofs.Common.{List, [], ◌∷◌, All, length, refl, ap, arith, IsUtf8}
+use Rattle.textwrap_base.proofs.Common.{length-append, All-head, All-tail, encodes-chars}
 use Rattle.textwrap_base.proofs.Common.{length-map, nat_lt}
 use Rattle.std.specs.Prelude.{chars}
 use Rattle.std.proofs.lemmas.Str.{length-le-encodes}
 use Rattle.textwrap_base.proofs.Lists.Parts.{flat, some_from_nonempty}
-use Rattle.textwrap_words.proofs.Common.{units, WordText, tile_of, tiled}
-use Rattle.textwrap_words.proofs.Common.{broken_units, broken_texts, broken_word, broken_words, units_text}
+use Rattle.textwrap_words.proofs.Common.{units, WordText, tile_of, tiled, broken_units}
+use Rattle.textwrap_words.proofs.Common.{broken_texts, broken_word, broken_words, units_text}
 use Rattle.textwrap_words.proofs.Common.{pieces_with}
 use Rattle.textwrap_words.specs.Units.{taken_at, units_past}
-use Rattle.textwrap_words.proofs.Word.BreakingExists.{AreBroken-exists}
-use Rattle.textwrap_words.proofs.Word.Measured.{IsMeasured}
+use Rattle.textwrap_words.proofs.Word.Breaking.{AreBroken-exists}
+use Rattle.textwrap_words.proofs.Word.Words.{IsMeasured}
 
 -- lists that are not empty are no more than what they hold
 

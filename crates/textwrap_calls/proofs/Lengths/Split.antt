@@ -7,7 +7,7 @@ use Rattle.std.specs.List.{slice_range}
 use Rattle.textwrap_base.proofs.Lists.Parts.{length-slice, some_from_nonempty}
 use Rattle.textwrap_words.proofs.Common.{AtHyphens, Splitter, split_words, Whole, word_of, WordText}
 use Rattle.textwrap_words.proofs.Common.{tile_of}
-use Rattle.textwrap_words.proofs.Word.Tiling.{tile_of-word_of}
+use Rattle.textwrap_words.proofs.Word.Words.{tile_of-word_of}
 use Rattle.textwrap_words.specs.WordSplitters.{cut_penalty, is_hyphen_point, split_from, split_word}
 use Rattle.textwrap_words.specs.Words.{piece}
 use Rattle.textwrap_calls.proofs.Lengths.Pieces.{CoversSome}

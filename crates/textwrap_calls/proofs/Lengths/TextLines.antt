@@ -8,9 +8,9 @@ use Rattle.std.specs.Str.Lines.{strip_carriage_return}
 use Rattle.std.proofs.lemmas.List.Sums.{fails_before_first, passes_at_first, prefix_len-le-length}
 use Rattle.std.proofs.lemmas.List.Sums.{split_at_first}
 use Rattle.textwrap_base.proofs.Lists.Parts.{last-cons}
-use Rattle.textwrap_lines.proofs.Paragraph.WordsApart.{last-append}
+use Rattle.textwrap_lines.proofs.Paragraph.Covered.{last-append}
 use Rattle.textwrap.proofs.Common.{EndedLine}
-use Rattle.textwrap.proofs.Text.EndedLines.{ended_lines-feed, ended_lines-one, is_feed}
+use Rattle.textwrap.proofs.Text.Indents.{ended_lines-feed, ended_lines-one, is_feed}
 use Rattle.textwrap.proofs.Text.Unfilling.{texts_of-ended_lines}
 use Rattle.textwrap_calls.proofs.Lengths.Sums.{texts_length}
 

@@ -1,26 +1,25 @@
 -- How long an unfilled text is at most, with its ending and its indents.
-use Rattle.textwrap_base.proofs.Common.{◌≡◌, ℕ, ◌+◌, ◌-◌, ◌*◌, ◌≤◌, ◌==◌, Bool, true, false}
-use Rattle.textwrap_base.proofs.Common.{cond, List, [], ◌∷◌, ◌++◌, length, map, drop, refl, sym}
-use Rattle.textwrap_base.proofs.Common.{ap, ◌∙◌, arith, sum_by-cons, All-head, StartsWith}
-use Rattle.textwrap_base.proofs.Common.{length-append, lines, last, ends_with, nat_eq}
-use Rattle.textwrap_base.proofs.Common.{starts_with_length}
+use Rattle.textwrap_base.proofs.Common.{◌≡◌, ℕ, ◌+◌, ◌-◌, ◌*◌, ◌≤◌, ◌==◌, Bool, true, false, cond}
+use Rattle.textwrap_base.proofs.Common.{List, [], ◌∷◌, ◌++◌, length, map, drop, refl, sym, ap, ◌∙◌}
+use Rattle.textwrap_base.proofs.Common.{arith, sum_by-cons, All-head, StartsWith, length-append}
+use Rattle.textwrap_base.proofs.Common.{lines, last, ends_with, nat_eq, starts_with_length, ◌&&◌}
+use Rattle.textwrap_base.proofs.Common.{take, take-append-drop, cases_Bool, inl, inr}
 use Rattle.std.specs.Prelude.{is_some, slice_index_or}
-use Rattle.textwrap_base.proofs.Common.{◌&&◌, take, take-append-drop, cases_Bool, inl, inr}
 use Rattle.std.proofs.lemmas.Nat.{mul-le}
 use Rattle.std.proofs.lemmas.Slice.Eq.{bytes_eq-Decides}
-use Rattle.textwrap_lines.proofs.Paragraph.WordsApart.{last-append}
-use Rattle.textwrap_lines.proofs.Text.Endings.{ending_bytes-some}
+use Rattle.textwrap_lines.proofs.Paragraph.Covered.{last-append}
+use Rattle.textwrap_lines.proofs.Text.Paragraphs.{ending_bytes-some}
 use Rattle.textwrap_lines.proofs.Common.{ending_bytes}
 use Rattle.textwrap_lines.specs.declared.line_ending.LineEnding.{LineEnding}
 use Rattle.textwrap_lines.specs.declared.line_ending.LineEnding.TheVariants.{CRLF, LF}
-use Rattle.textwrap.proofs.Common.{line_prefix, common_prefix}
-use Rattle.textwrap.proofs.Common.{unfilled_initial, unfilled_subsequent, joined_text, keeps_ending}
-use Rattle.textwrap.specs.Refilling.{added_ending, unfilled_ending}
-use Rattle.textwrap.specs.Refilling.{unfilled_text, detected_ending}
-use Rattle.textwrap.proofs.Text.CommonPrefixes.{common_prefix-begins}
-use Rattle.textwrap.proofs.Text.Prefixes.{line_prefix-begins}
+use Rattle.textwrap.proofs.Common.{line_prefix, common_prefix, unfilled_initial}
+use Rattle.textwrap.proofs.Common.{unfilled_subsequent, joined_text, keeps_ending}
+use Rattle.textwrap.specs.Refilling.{added_ending, unfilled_ending, unfilled_text, detected_ending}
 use Rattle.textwrap.specs.Refilling.{unfilled_parts}
-use Rattle.textwrap_calls.proofs.Lengths.TextLines.{ended_length, final_feed, lines-length, feed-within}
+use Rattle.textwrap.proofs.Text.Margins.{common_prefix-begins}
+use Rattle.textwrap.proofs.Text.Unfilling.{line_prefix-begins}
+use Rattle.textwrap_calls.proofs.Lengths.TextLines.{ended_length, final_feed, lines-length}
+use Rattle.textwrap_calls.proofs.Lengths.TextLines.{feed-within}
 use Rattle.textwrap_calls.proofs.Lengths.Joined.{joined-length}
 
 -- ---- its ending

@@ -1,13 +1,13 @@
 -- Each offset is passed where a character ends if they are offsets of the text, and only then.
-use Rattle.textwrap_base.proofs.Common.{◌≡◌, ℕ, ◌+◌, ◌<◌, ◌↔◌, List, [], ◌∷◌, length, drop, refl, sym}
-use Rattle.textwrap_base.proofs.Common.{ap, subst, arith, inl, inr, cases_Bool, eqb, eqb-true}
+use Rattle.textwrap_base.proofs.Common.{◌≡◌, ℕ, ◌+◌, ◌<◌, ◌↔◌, List, [], ◌∷◌, length, drop, refl}
+use Rattle.textwrap_base.proofs.Common.{sym, ap, subst, arith, inl, inr, cases_Bool, eqb, eqb-true}
 use Rattle.textwrap_base.proofs.Common.{eqb-false, All-nil, All-head, IsUtf8, IsUtf8-drop}
 use Rattle.textwrap_base.proofs.Common.{IsCharBoundary, IsCharBoundary-start, IsUtf8-past_char}
 use Rattle.textwrap_base.proofs.Common.{encode_utf8_all, length-drop}
 use Rattle.std.proofs.lemmas.Str.{IsCharBoundary-from_drop}
 use lib.Utf8.{encode}
-use Rattle.textwrap_base.proofs.Characters.{some-bytes}
-use Rattle.textwrap_words.proofs.Word.CharactersAhead.{character-within, ends-within, left-after}
+use Rattle.textwrap_base.proofs.Texts.{some-bytes}
+use Rattle.textwrap_words.proofs.Word.Ahead.{character-within, ends-within, left-after}
 use Rattle.textwrap_steps.specs.Offsets.{AreNext}
 use Rattle.textwrap_calls.specs.Pieces.{AreOffsets, offsets_past}
 use Rattle.textwrap_calls.proofs.Offsets.Later.{IsLaterEnd, offsets-later, offsets-first}

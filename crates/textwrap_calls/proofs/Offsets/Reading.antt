@@ -7,8 +7,8 @@ use Rattle.std.specs.Str.{chars}
 use Rattle.std.proofs.lemmas.List.{at_drop_more}
 use lib.Utf8.{encode}
 use Rattle.textwrap_words.proofs.Common.{next_of, shows, stripped, units, visible_in}
-use Rattle.textwrap_words.proofs.Units.Parts.{units-tile}
-use Rattle.textwrap_words.proofs.Units.States.{visible-step}
+use Rattle.textwrap_words.proofs.Units.Texts.{units-tile}
+use Rattle.textwrap_words.proofs.Units.Reading.{visible-step}
 use Rattle.textwrap_words.specs.Units.{visible}
 use Rattle.textwrap_words.specs.declared.escapes.State.{State}
 use Rattle.textwrap_words.specs.declared.escapes.State.TheVariants.{Text}

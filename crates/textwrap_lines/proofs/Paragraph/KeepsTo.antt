@@ -1,22 +1,151 @@
--- What the lines of a paragraph keep to.
-use Rattle.textwrap_base.proofs.Common.{◌≡◌, ℕ, take, ◌<◌, ◌≤◌, Bool, true, false, MatchBool, List}
-use Rattle.textwrap_base.proofs.Common.{[], ◌∷◌, All, length, map, refl, sym, ap, ◌∙◌, subst, arith}
-use Rattle.textwrap_base.proofs.Common.{IsUtf8, length-map, All-nil, All-cons, closed_width, rules}
+-- What the lines of a paragraph keep to, and the shortcut for a paragraph that is one line.
+use Rattle.textwrap_base.proofs.Common.{◌≡◌, ℕ, ◌≤◌, Bool, true, ◌==◌, nat_lt, List, [], ◌∷◌, All}
+use Rattle.textwrap_base.proofs.Common.{length, map, refl, arith, IsUtf8, and_parts, ltb-true}
+use Rattle.textwrap_base.proofs.Common.{All-nil, All-cons, closed_width, rules, ◌+◌, ◌<◌, false}
+use Rattle.textwrap_base.proofs.Common.{◌&&◌, cond, inl, ap, take, MatchBool, sym, ◌∙◌, subst}
+use Rattle.textwrap_base.proofs.Common.{length-map, ◌≢◌, All-weaker, None, Option, Some, cond_both}
 use Rattle.textwrap_words.proofs.Common.{WordText, sizes_of, word_of, Greedy, IsDividedBy}
-use Rattle.textwrap_words.proofs.Common.{ends_in_hyphen, AreCuts}
-use Rattle.textwrap_lines.proofs.Common.{LineParts, parts_from, is_whole, widths_of, IsDividedInto}
-use Rattle.textwrap_lines.proofs.Common.{AreIndented, AreParagraphParts, OnlyCharactersPass}
-use Rattle.textwrap_lines.proofs.Common.{KeepsToWidth, Settings, KeepToWidths, first_width}
-use Rattle.textwrap_lines.proofs.Paragraph.Kept.{parts_from-pieces, parts_from-indented}
-use Rattle.textwrap_lines.proofs.Paragraph.Kept.{HasNoHyphen, parts_from-no_hyphen}
-use Rattle.textwrap_lines.proofs.Paragraph.Kept.{whole_line-within}
-use Rattle.textwrap_base.proofs.Lists.Parts.{flat, all-left, Begins}
-use Rattle.textwrap_words.proofs.Word.Measured.{HasNoPenalty}
-use Rattle.textwrap_lines.proofs.Paragraph.EvenLines.{division-even, whole-even, own_width}
-use Rattle.textwrap_lines.proofs.Paragraph.LongLines.{long_lines}
+use Rattle.textwrap_words.proofs.Common.{ends_in_hyphen, AreCuts, MaySeparate, Splitter, MaySplit}
+use Rattle.textwrap_words.proofs.Common.{splitter_view, MayDivide, algorithm_view, Algorithm}
+use Rattle.textwrap_lines.proofs.Common.{LineParts, indent_of, parts_of, parts_from, is_whole}
+use Rattle.textwrap_lines.proofs.Common.{AreIndented, Settings, OnlyCharactersPass, KeepsToWidth}
+use Rattle.textwrap_lines.proofs.Common.{first_width, later_width, width_after, widths_of}
+use Rattle.textwrap_lines.proofs.Common.{IsOneCharacter, IsDividedInto, AreParagraphParts}
+use Rattle.textwrap_lines.proofs.Common.{KeepToWidths, Line, line_from, pieces_of, DividesAs}
+use Rattle.textwrap_lines.proofs.Common.{AreDividedParts}
+use Rattle.textwrap_base.proofs.Lists.Parts.{flat, all-left, all-right, Begins}
+use Rattle.textwrap_words.proofs.Word.Words.{closed_width-narrow, HasNoPenalty, IsMeasured}
+use Rattle.textwrap_words.proofs.Word.Words.{text_width-nil}
+use Rattle.textwrap_words.proofs.Word.Texts.{without_final_blanks-utf8}
+use Rattle.textwrap_lines.specs.Paragraph.{indent_before}
+use Rattle.textwrap_lines.proofs.Paragraph.LeftOff.{last_piece-no_penalty, narrow_words}
+use Rattle.textwrap_lines.proofs.Paragraph.LeftOff.{tiled-word_of, word_of-blanks, whole_unindented}
+use Rattle.textwrap_lines.proofs.Paragraph.LeftOff.{laid_out-cases, closed-pieces_of, same_line}
+use Rattle.textwrap_lines.proofs.Paragraph.Widths.{later_is, long_lines}
 use Rattle.textwrap_words.proofs.Word.Pieces.{AreTexts}
-use Rattle.textwrap_lines.proofs.Paragraph.GivenPieces.{pieces-no_penalty}
-use Rattle.textwrap_lines.proofs.Paragraph.WholeLine.{laid_out-cases}
+use Rattle.textwrap_lines.proofs.Paragraph.Pieces.{pieces-no_penalty, ArePieces-computed}
+use Rattle.textwrap_lines.proofs.Paragraph.Pieces.{pieces_of-no_penalty, divided-as}
+use Rattle.textwrap_words.specs.declared.word_separators.WordSeparator as separators
+use Rattle.textwrap_words.specs.declared.word_splitters.WordSplitter as splitters
+use Rattle.textwrap_words.specs.declared.wrap_algorithms.WrapAlgorithm as algorithms
+use Rattle.textwrap_base.proofs.Cost.Chosen.{IsDividedBy-one_line}
+
+-- ---- what the lines of a division keep to: indents, pieces, hyphens
+
+parts_of-indented : (settings : Settings) (is_later : Bool) (line : List WordText)
+    → (parts_of settings is_later line).indent
+    ≡ indent_before settings is_later (parts_of settings is_later line).pieces
+parts_of-indented settings is_later [] = refl
+parts_of-indented settings is_later (w ∷ ws) = refl
+
+pub parts_from-indented : (settings : Settings) (is_later : Bool) (division : List (List WordText))
+    → AreIndented settings is_later (parts_from settings is_later division)
+parts_from-indented settings is_later [] = tt
+parts_from-indented settings is_later (line ∷ lines) =
+    (parts_of-indented settings is_later line, parts_from-indented settings true lines)
+
+parts_of-pieces : (settings : Settings) (is_later : Bool) (line : List WordText)
+    → (parts_of settings is_later line).pieces ≡ line
+parts_of-pieces settings is_later [] = refl
+parts_of-pieces settings is_later (w ∷ ws) = refl
+
+pub parts_from-pieces : (settings : Settings) (is_later : Bool) (division : List (List WordText))
+    → map (λ p. p.pieces) (parts_from settings is_later division) ≡ division
+parts_from-pieces settings is_later [] = refl
+parts_from-pieces settings is_later (line ∷ lines) =
+    simp (parts_of-pieces, parts_from-pieces settings true lines)
+
+abbrev pub HasNoHyphen : LineParts → Type 0
+HasNoHyphen p = p.penalty ≡ []
+
+parts_of-no_hyphen : (settings : Settings) (is_later : Bool) (line : List WordText)
+    → All HasNoPenalty line → HasNoHyphen (parts_of settings is_later line)
+parts_of-no_hyphen settings is_later [] all = refl
+parts_of-no_hyphen settings is_later (w ∷ ws) all = last_piece-no_penalty w ws all
+
+pub parts_from-no_hyphen : (settings : Settings) (is_later : Bool) (division : List (List WordText))
+    → All HasNoPenalty (flat division)
+    → All HasNoHyphen (parts_from settings is_later division)
+parts_from-no_hyphen settings is_later [] all = All-nil HasNoHyphen
+parts_from-no_hyphen settings is_later (line ∷ lines) all =
+    All-cons HasNoHyphen (parts_of settings is_later line) (parts_from settings true lines)
+    (parts_of-no_hyphen settings is_later line (all-left HasNoPenalty line (flat lines) all))
+    (parts_from-no_hyphen settings true lines (all-right HasNoPenalty line (flat lines) all))
+
+pub whole_line-within : (settings : Settings) (is_later : Bool) (paragraph : List ℕ)
+    → IsUtf8 paragraph → is_whole settings is_later paragraph ≡ true
+    → closed_width sizes_of (word_of paragraph ∷ []) ≤ settings.width
+whole_line-within settings is_later paragraph utf8 whole =
+    let tests = and_parts (length (indent_of settings is_later) == 0)
+    (nat_lt (length paragraph) settings.width) whole in
+    let shorter = ltb-true (length paragraph) settings.width tests.1 in
+    let line = word_of paragraph ∷ [] in
+    let measured : All IsMeasured line =
+    search (rules, All-cons, without_final_blanks-utf8, word_of-blanks, All-nil) in
+    let none : All HasNoPenalty line =
+    All-cons HasNoPenalty (word_of paragraph) [] refl (All-nil HasNoPenalty) in
+    let within : closed_width sizes_of line ≤ length paragraph =
+    rw (tiled-word_of paragraph) at (closed_width-narrow line
+    (narrow_words line measured none)) in
+    omega (arith, within, shorter)
+
+-- ---- lemmas on lines that keep to the width, their indents with them: those of a paragraph
+-- whose first line is divided for the width that its own indent leaves
+
+module _ (settings : Settings) where
+  abbrev pub Keeps : LineParts → Type 0
+  Keeps = KeepsToWidth settings.width
+
+  abbrev pub own_width : Bool → ℕ
+  own_width is_later = width_after settings (indent_of settings is_later)
+
+  -- a line that is divided for the width that its own indent leaves
+  line-even : (is_later : Bool) (line : List WordText)
+      → (own_width is_later < closed_width sizes_of line → IsOneCharacter line)
+      → Keeps (parts_of settings is_later line)
+  line-even is_later [] one = inl (omega (arith, text_width-nil))
+  line-even is_later (w ∷ ws) one = grind arith
+
+  lines-even : (first number : ℕ) (lines : List (List WordText)) → 1 ≤ number
+      → OnlyCharactersPass (first ∷ later_width settings ∷ []) number lines
+      → All Keeps (parts_from settings true lines)
+  lines-even first number [] later only = All-nil Keeps
+  lines-even first number (line ∷ lines) later only =
+      let same = later_is first (later_width settings) number later in
+      All-cons Keeps (parts_of settings true line) (parts_from settings true lines)
+      (line-even true line (λ past. only.0 (omega (arith, same, past))))
+      (lines-even first (number + 1) lines (omega arith) only.1)
+
+  -- where paragraphs are even, each line has the width that its indent leaves
+  pub first_width-own : settings.even_paragraphs ≡ true → (is_later : Bool)
+      → first_width settings is_later ≡ own_width is_later
+  first_width-own even true = ap (λ b. cond (b && true) (later_width settings)
+      (width_after settings settings.initial_indent)) even
+  first_width-own even false = ap (λ b. cond (b && false) (later_width settings)
+      (width_after settings settings.initial_indent)) even
+
+  -- and so has the first line of a text
+  pub first_width-first : first_width settings false ≡ own_width false
+  first_width-first = elim settings.even_paragraphs as (λ b. cond (b && false) (later_width settings)
+      (own_width false) ≡ own_width false) [ true ↦ refl | false ↦ refl ]
+
+  -- the lines of a division
+  pub division-even : (is_later : Bool) → first_width settings is_later ≡ own_width is_later
+      → (division : List (List WordText))
+      → OnlyCharactersPass (widths_of settings is_later) 0 division
+      → All Keeps (parts_from settings is_later division)
+  division-even is_later own [] only = All-nil Keeps
+  division-even is_later own (line ∷ lines) only = grind (arith, All-cons, line-even, lines-even)
+
+  -- the line of a whole paragraph, which has no indent
+  pub whole-even : (is_later : Bool) (paragraph : List ℕ)
+      → is_whole settings is_later paragraph ≡ true
+      → closed_width sizes_of (word_of paragraph ∷ []) ≤ settings.width
+      → All Keeps (parts_from settings is_later ((word_of paragraph ∷ []) ∷ []))
+  whole-even is_later paragraph whole within =
+      grind (arith, whole_unindented, text_width-nil, All-cons, All-nil)
+
+-- ---- what the lines of a paragraph keep to
 
 module _ (settings : Settings) (Words : List ℕ → List WordText → Type 0)
     (Points : List ℕ → List ℕ → Type 0)
@@ -115,3 +244,98 @@ module _ (settings : Settings) (Words : List ℕ → List WordText → Type 0)
             division-even settings is_later own division
             (long_lines settings Words Points texts cuts hyphens is_later paragraph division utf8
             breaks (pieces, are, greedy (widths_of settings is_later) pieces division divided))
+
+-- ---- the shortcut
+
+-- without indents, a paragraph's first line has the whole width
+first_width-unindented : (settings : Settings) (is_later : Bool) → settings.initial_indent ≡ []
+    → indent_of settings is_later ≡ [] → settings.width ≤ first_width settings is_later
+first_width-unindented settings is_later unindented none =
+    search (rules, cond_both, and_parts, text_width-nil)
+
+module _ (settings : Settings) (algorithm : Algorithm) (splitter : Splitter) where
+  -- the lines of a paragraph are those of a division of its pieces
+  abbrev pub HasDividedLines : Bool → List ℕ → List Line → Type 0
+  HasDividedLines is_later paragraph lines =
+      (parts : List LineParts) × AreDividedParts settings
+      (DividesAs splitter algorithm settings) is_later
+      paragraph parts × (map line_from parts ≡ lines)
+
+  whole-divided : (is_later : Bool) (paragraph : List ℕ) → IsUtf8 paragraph
+      → settings.initial_indent ≡ []
+      → is_whole settings is_later paragraph ≡ true
+      → HasDividedLines is_later paragraph
+      (line_from (parts_of settings is_later (word_of paragraph ∷ [])) ∷ [])
+  whole-divided is_later paragraph utf8 unindented whole =
+      let pieces = pieces_of settings splitter paragraph in
+      let tests = and_parts (length (indent_of settings is_later) == 0)
+      (nat_lt (length paragraph) settings.width) whole in
+      let without = whole_unindented settings is_later paragraph whole in
+      let shorter = ltb-true (length paragraph) settings.width tests.1 in
+      let wide = first_width-unindented settings is_later unindented without in
+      let room : closed_width sizes_of pieces ≤ first_width settings is_later =
+      search (rules, closed-pieces_of) in
+      let none = All-weaker HasNoPenalty (λ w. length w.penalty ≡ 0)
+      (λ w none. ap length none) pieces
+      (pieces_of-no_penalty settings splitter paragraph utf8) in (
+        parts_of settings is_later pieces ∷ [],
+        (
+          pieces ∷ [],
+          (
+            pieces,
+            ArePieces-computed settings splitter paragraph,
+            IsDividedBy-one_line algorithm sizes_of (widths_of settings is_later) pieces none room,
+          ),
+          refl,
+        ),
+        rw same_line,
+      )
+
+  pub paragraph-divided : (is_later : Bool) (paragraph : List ℕ) (parts : List LineParts)
+      → IsUtf8 paragraph → settings.initial_indent ≡ []
+      → AreParagraphParts settings (DividesAs splitter algorithm settings) is_later paragraph parts
+      → HasDividedLines is_later paragraph (map line_from parts)
+  paragraph-divided is_later paragraph parts utf8 unindented (division, laid_out, is) =
+      by_case (is_whole settings is_later paragraph) refl laid_out
+    where
+      by_case : (whole : Bool) → is_whole settings is_later paragraph ≡ whole
+          → MatchBool whole (division ≡ (word_of paragraph ∷ []) ∷ [])
+          (DividesAs splitter algorithm settings is_later paragraph division)
+          → HasDividedLines is_later paragraph (map line_from parts)
+      by_case true is_true one =
+          subst (HasDividedLines is_later paragraph)
+          (cc (one, is)) (whole-divided is_later paragraph utf8 unindented is_true)
+      by_case false is_false divided = (parts, (division, divided, is), refl)
+
+-- the lines of a paragraph are those of a division too, where there are no indents
+abbrev IsDividedToo : Settings → (Bool → List ℕ → List (List WordText) → Type 0) → Type 0
+IsDividedToo settings Divides = (is_later : Bool) (paragraph : List ℕ) (parts : List LineParts)
+    → IsUtf8 paragraph → settings.initial_indent ≡ []
+    → AreParagraphParts settings Divides is_later paragraph parts
+    → (others : List LineParts) × AreDividedParts settings Divides is_later paragraph others
+    × (map line_from others ≡ map line_from parts)
+
+-- the same by the parts of any options, where they are built in
+module _ {E C : Type 0} {e : _} {c : _} (settings : Settings) where
+  abbrev pub Divides : separators.WordSeparator C c → splitters.WordSplitter C c
+      → algorithms.WrapAlgorithm E e → Bool → List ℕ → List (List WordText) → Type 0
+  Divides separator splitter algorithm =
+      IsDividedInto settings (MaySeparate separator) (MaySplit splitter)
+      (MayDivide algorithm (λ w. w))
+
+  pub paragraph-divided-by : (separator : separators.WordSeparator C c)
+      (splitter : splitters.WordSplitter C c) (algorithm : algorithms.WrapAlgorithm E e)
+      → separator ≡ separators.TheVariants.AsciiSpace → splitter_view splitter ≢ None
+      → algorithm_view algorithm ≢ None
+      → IsDividedToo settings (Divides separator splitter algorithm)
+  paragraph-divided-by separator splitter algorithm is s_built a_built =
+      by (splitter_view splitter) refl (algorithm_view algorithm) refl
+    where
+      by : (s : Option Splitter) → splitter_view splitter ≡ s → (a : Option Algorithm)
+          → algorithm_view algorithm ≡ a
+          → IsDividedToo settings (Divides separator splitter algorithm)
+      by None s_is a a_is = absurd (s_built s_is)
+      by (Some s) s_is None a_is = absurd (a_built a_is)
+      by (Some s) s_is (Some a) a_is = subst (IsDividedToo settings)
+          (sym (divided-as settings separator splitter algorithm s a is s_is a_is))
+          (paragraph-divided settings a s)

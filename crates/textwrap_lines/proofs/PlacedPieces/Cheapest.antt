@@ -4,25 +4,22 @@ use Rattle.textwrap_base.proofs.Common.{subst, arith, Bool, IsUtf8, IsCharBounda
 use Rattle.textwrap_base.proofs.Common.{PricedSizes, priced_at, SuitQueue, IsByTable}
 use Rattle.textwrap_base.proofs.Common.{fragment_costs, fragments_table}
 use Rattle.textwrap_words.proofs.Common.{WordText, sizes_of, tiled, Splitter}
-use Rattle.textwrap_lines.proofs.Common.{cut_lines, Settings, parts_from, pieces_of_words, widths_of}
-use Rattle.textwrap_lines.proofs.Common.{first_width, later_width, HaveTexts, span_lines}
+use Rattle.textwrap_lines.proofs.Common.{cut_lines, Settings, parts_from, pieces_of_words}
+use Rattle.textwrap_lines.proofs.Common.{widths_of, first_width, later_width, HaveTexts, span_lines}
 use Rattle.textwrap_lines.proofs.Common.{span_priced, spans_from, Penalties, AreSpans, Span}
 use Rattle.textwrap_base.specs.OptimalFit.{IsByOptimalFit}
-use Rattle.textwrap_base.proofs.Cost.Chosen.{by_table-chosen}
-use Rattle.textwrap_base.proofs.Cost.Lines.{division_joined, joined_division}
-use Rattle.textwrap_base.proofs.Cost.Map.{fragments_table-map}
+use Rattle.textwrap_base.proofs.Cost.Chosen.{by_table-chosen, division_joined, joined_division}
+use Rattle.textwrap_base.proofs.Cost.Chosen.{fragments_table-map}
 use Rattle.textwrap_base.proofs.Cost.QueueCase.{SuitQueue-queue_case}
 use Rattle.textwrap_base.proofs.Lists.Parts.{flat}
-use Rattle.textwrap_words.proofs.Word.Bounds.{IsNarrowWord-measured}
-use Rattle.textwrap_words.proofs.Word.Measured.{HasNoPenalty, IsMeasured}
+use Rattle.textwrap_words.proofs.Word.Words.{IsNarrowWord-measured, HasNoPenalty, IsMeasured}
 use Rattle.textwrap_words.proofs.Word.Pieces.{AreTexts}
 use Rattle.textwrap_lines.specs.Cheapest.{SuitSearch}
-use Rattle.textwrap_lines.proofs.Paragraph.Pieces.{pieces_of_words-measured, pieces_of_words-no_penalty}
-use Rattle.textwrap_lines.proofs.Paragraph.Pieces.{pieces_of_words-tile}
-use Rattle.textwrap_lines.proofs.PlacedPieces.Costs.{AreSpans-from, priced-spans, spans-case}
-use Rattle.textwrap_lines.proofs.PlacedPieces.Stand.{Stand, Stand-follow, Stand-some, stand}
-use Rattle.textwrap_lines.proofs.PlacedPieces.Lines.{lines-found}
-use Rattle.textwrap_lines.proofs.PlacedPieces.Lists.{length-spans}
+use Rattle.textwrap_lines.proofs.Paragraph.Pieces.{pieces_of_words-measured}
+use Rattle.textwrap_lines.proofs.Paragraph.Pieces.{pieces_of_words-no_penalty, pieces_of_words-tile}
+use Rattle.textwrap_lines.proofs.PlacedPieces.Lines.{AreSpans-from, priced-spans, spans-case, Stand}
+use Rattle.textwrap_lines.proofs.PlacedPieces.Lines.{Stand-follow, Stand-some, stand, lines-found}
+use Rattle.textwrap_lines.proofs.PlacedPieces.Lines.{length-spans}
 
 abbrev pub word_priced : Penalties → WordText → PricedSizes
 word_priced penalties w = priced_at penalties (sizes_of w)

@@ -1,13 +1,13 @@
 -- The parts that a text is cut into wherever a test of its places says so.
 use Rattle.textwrap_base.proofs.Common.{inl, inr, ◌≡◌, ℕ, zero, suc, ◌+◌, ◌-◌, ◌<◌, ◌≤◌, Bool, true}
-use Rattle.textwrap_base.proofs.Common.{false, List, [], ◌∷◌, ◌++◌, length, take, drop, refl, sym, ap}
-use Rattle.textwrap_base.proofs.Common.{◌∙◌, arith, take-append-drop, append-nil, cases_lt, drop_all, take_all}
-use Rattle.textwrap_base.proofs.Common.{drop-drop, length-drop, onto_first, slice_range}
+use Rattle.textwrap_base.proofs.Common.{false, List, [], ◌∷◌, ◌++◌, length, take, drop, refl, sym}
+use Rattle.textwrap_base.proofs.Common.{ap, ◌∙◌, arith, take-append-drop, append-nil, cases_lt}
+use Rattle.textwrap_base.proofs.Common.{drop_all, take_all, drop-drop, length-drop, onto_first}
+use Rattle.textwrap_base.proofs.Common.{slice_range}
 use Rattle.std.proofs.lemmas.List.{drop-take}
 use Rattle.textwrap_words.specs.PieceCuts.{IsPart, parts_by}
 use Rattle.textwrap_base.proofs.Lists.Parts.{flat, flat-onto_first, onto_first-append}
-use Rattle.textwrap_words.proofs.Word.FirstPlaces.{HasEnd, end-from}
-use Rattle.textwrap_words.proofs.Word.PartsBy.{next_by, parts_by-some}
+use Rattle.textwrap_words.proofs.Word.Parts.{HasEnd, end-from, next_by, parts_by-some}
 use Rattle.textwrap_lines.specs.Printable.{NoCutBetween}
 
 -- ---- slices, and what follows them

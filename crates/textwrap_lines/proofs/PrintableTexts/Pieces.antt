@@ -1,26 +1,39 @@
--- The pieces of a printable text: they tile it.
-use Rattle.textwrap_base.proofs.Common.{◌≡◌, ◌≢◌, ℕ, ◌<◌, ◌≤◌, Bool, List, [], ◌∷◌, ◌++◌, All, length}
-use Rattle.textwrap_base.proofs.Common.{map, drop, refl, sym, ap, ◌∙◌, subst, arith, IsUtf8, All-map}
-use Rattle.textwrap_base.proofs.Common.{All-weaker, All-take, All-drop, length-append, take_at, Fits}
-use Rattle.textwrap_base.proofs.Common.{◌-◌, length-drop, length-take-le, slice_range, take}
+-- The pieces of a text of printable ASCII, the first of them, and its words, split.
+use Rattle.textwrap_base.proofs.Common.{◌≡◌, ◌≢◌, ℕ, ◌<◌, ◌≤◌, Bool, List, [], ◌∷◌, ◌++◌, All}
+use Rattle.textwrap_base.proofs.Common.{length, map, drop, refl, sym, ap, ◌∙◌, subst, arith, IsUtf8}
+use Rattle.textwrap_base.proofs.Common.{All-map, All-weaker, All-take, All-drop, length-append}
+use Rattle.textwrap_base.proofs.Common.{take_at, Fits, ◌-◌, length-drop, length-take-le}
+use Rattle.textwrap_base.proofs.Common.{slice_range, take, ◌+◌, true, false, get_or, map-append}
+use Rattle.textwrap_base.proofs.Common.{cond, le-ltb, get_or-take, get_or-drop, flat_map-append}
+use Rattle.textwrap_base.proofs.Common.{inl, inr, zero, suc, ◌&&◌, ◌||◌, cases_lt, drop_all, nat_lt}
+use Rattle.textwrap_base.proofs.Common.{take-append-drop, and_right}
 use Rattle.textwrap_words.proofs.Common.{IsPrintable, IsPrintableByte, WordText, tiled, sizes_of}
-use Rattle.textwrap_words.proofs.Common.{word_of, broken_word, trimmed_len}
-use Rattle.textwrap_words.proofs.Common.{without_final_blanks}
-use Rattle.textwrap_words.specs.PieceCuts.{parts_by}
+use Rattle.textwrap_words.proofs.Common.{word_of, broken_word, trimmed_len, without_final_blanks}
+use Rattle.textwrap_words.proofs.Common.{is_blank, broken_pieces, broken_words, piece, Splitter}
+use Rattle.textwrap_words.proofs.Common.{split_word, split_words}
+use Rattle.textwrap_words.specs.PieceCuts.{parts_by, IsPart, is_point}
 use Rattle.textwrap_lines.proofs.Common.{BeforeOthers, covered, pieces_from, IsFirstLine}
-use Rattle.textwrap_words.proofs.Word.Tiling.{tiled-append, tiled-map}
-use Rattle.textwrap_words.proofs.Word.Measured.{IsMeasured, HasNoPenalty, word_of-measured}
-use Rattle.textwrap_words.proofs.Word.Bounds.{IsNarrowWord, IsNarrowWord-measured}
+use Rattle.textwrap_lines.proofs.Common.{NoCutBetween, AfterOthers, is_cut_by}
+use Rattle.textwrap_words.proofs.Word.Words.{tiled-append, tiled-map, IsMeasured, HasNoPenalty}
+use Rattle.textwrap_words.proofs.Word.Words.{word_of-measured, IsNarrowWord, IsNarrowWord-measured}
 use Rattle.textwrap_words.proofs.Word.Pieces.{AreTexts}
-use Rattle.textwrap_words.proofs.Word.BrokenPieces.{tiled-broken_words}
-use Rattle.textwrap_words.proofs.Word.BrokenTexts.{broken_words-measured, broken_words-no_penalty}
-use Rattle.textwrap_lines.proofs.Paragraph.EndsAs.{flat_map-space, broken_words-ends}
-use Rattle.textwrap_lines.proofs.Paragraph.LastWord.{last-part}
-use Rattle.textwrap_lines.proofs.Paragraph.LastBlanks.{covered-tiled}
-use Rattle.textwrap_lines.proofs.Paragraph.GivenPieces.{wide-some}
-use Rattle.textwrap_lines.proofs.PrintableTexts.Texts.{printable-utf8, flat-printable}
-use Rattle.textwrap_lines.proofs.PrintableTexts.Parts.{flat-parts}
-use Rattle.textwrap_lines.proofs.PrintableTexts.Exact.{IsExact, exact-words, Fits-exact}
+use Rattle.textwrap_words.proofs.Word.BrokenPieces.{tiled-broken_words, broken_words-measured}
+use Rattle.textwrap_words.proofs.Word.BrokenPieces.{broken_words-no_penalty}
+use Rattle.textwrap_lines.proofs.Paragraph.Pieces.{flat_map-space, broken_words-ends, wide-some}
+use Rattle.textwrap_lines.proofs.Paragraph.LeftOff.{last-part, covered-tiled}
+use Rattle.textwrap_lines.proofs.PrintableTexts.Bytes.{printable-utf8, flat-printable, IsExact}
+use Rattle.textwrap_lines.proofs.PrintableTexts.Bytes.{exact-words, Fits-exact, BeginsWide}
+use Rattle.textwrap_lines.proofs.PrintableTexts.Bytes.{begins_wide-step, broken-front}
+use Rattle.textwrap_lines.proofs.PrintableTexts.Bytes.{ends-printable}
+use Rattle.textwrap_lines.proofs.PrintableTexts.Parts.{flat-parts, front-slice, parts-split}
+use Rattle.textwrap_lines.proofs.PrintableTexts.Parts.{first-part, slice-rest}
+use Rattle.textwrap_base.proofs.Lists.Parts.{length-slice, slices_joined}
+use Rattle.textwrap_words.proofs.Word.Parts.{parts_by-whole, parts-same}
+use Rattle.textwrap_words.proofs.Word.Texts.{trimmed-past}
+use Rattle.textwrap_words.proofs.Units.Reading.{printable-width}
+use Rattle.textwrap_words.proofs.Word.FirstPieces.{parts-front}
+use Rattle.textwrap_words.proofs.Word.SplitParts.{split-word}
+use Rattle.textwrap_words.proofs.Word.Splitting.{EndsPlain}
 
 -- ---- the pieces of what follows a place
 
@@ -133,3 +146,188 @@ first-tiles test limit width text at end goes_on first printable from within =
       length-drop at text,
     ) in
     sym (take_at (tiled line) back (end - at) len) ∙ ap (take (end - at)) whole
+
+-- ---- the pieces that a printable text begins with
+
+-- a slice goes past a byte that is no blank
+past-byte : (text : List ℕ) (at place end : ℕ) → at ≤ place → place < end → end ≤ length text
+    → is_blank (get_or text place 0) ≡ false → place - at < trimmed_len (slice_range text at end)
+past-byte text at place end from before within other =
+    let k = place - at in
+    let here : at + k ≡ place = omega (arith, from) in
+    let len = length-slice text at end within in
+    trimmed-past (slice_range text at end) k (omega (arith, len, from, before))
+    (ap is_blank (get_or-take (end - at) (drop at text) k 0 (omega (arith, from, before))
+    ∙ get_or-drop at text k 0 ∙ ap (λ n. get_or text n 0) here) ∙ other)
+
+-- the word of a printable part has as many columns as bytes
+pub word-width : (part : List ℕ) → IsPrintable part → (word_of part).width ≡ trimmed_len part
+word-width part printable =
+    printable-width (word_of part).word (All-take IsPrintableByte (trimmed_len part) part printable)
+    ∙ length-take-le (trimmed_len part) part (omega arith)
+
+module _ (test : ℕ → Bool) (limit : ℕ) (text : List ℕ) (printable : IsPrintable text) where
+  -- the pieces up to a place where the text is cut, or ends, and those from there on
+  pub pieces-split : (at end : ℕ) → at < end → end ≤ length text
+      → (end < length text → test end ≡ true)
+      → pieces_from test limit text at
+      ≡ pieces_from test limit (take end text) at ++ pieces_from test limit text end
+  pieces-split at end some within ends =
+      let front = parts_by test at (slice_range text at end) in
+      let back = parts_by test end (drop end text) in
+      ap (λ ps. broken_words limit (map word_of ps)) (parts-split test text at end some within ends)
+      ∙ ap (broken_words limit) (map-append word_of front back)
+      ∙ flat_map-append (broken_word limit) (map word_of front) (map word_of back)
+      ∙ ap (λ l. broken_words limit (map word_of (parts_by test at l))
+      ++ pieces_from test limit text end) (sym (front-slice text at end (omega (arith, some))))
+
+  -- the first piece of a text that is not cut up to a byte, which is no blank
+  pub begins_wide : (at place n : ℕ) → at ≤ place → place < length text → NoCutBetween test at place
+      → is_blank (get_or text place 0) ≡ false → 0 < limit → n ≤ limit → n + at ≤ place + 1
+      → BeginsWide limit n (pieces_from test limit text at)
+  begins_wide at place n from inside none other room most up_to =
+      let found = first-part test text at place from inside none in
+      let part = slice_range text at found.end in
+      let part_printable = printable-slice text at found.end printable in
+      let w = word_of part in
+      let past = past-byte text at place found.end from found.past found.part.within other in
+      let width = word-width part part_printable in
+      let len = length-take-le (trimmed_len part) part (omega arith) in
+      subst (λ ps. BeginsWide limit n (broken_words limit (map word_of ps)))
+      (sym (parts-front test text at found.end found.part))
+      (begins_wide-step limit n w _ room most
+      (All-take IsPrintableByte (trimmed_len part) part part_printable)
+      (width ∙ sym len) (omega (arith, len, past, up_to, from)))
+
+  -- the first piece of any text
+  pub begins_narrow : (at : ℕ) → at < length text → 0 < limit
+      → BeginsWide limit 0 (pieces_from test limit text at)
+  begins_narrow at inside room =
+      let found = first-part test text at at (omega arith) inside
+      (λ k from to. absurd (omega (arith, from, to))) in
+      let part = slice_range text at found.end in
+      let part_printable = printable-slice text at found.end printable in
+      let width = word-width part part_printable in
+      let len = length-take-le (trimmed_len part) part (omega arith) in
+      subst (λ ps. BeginsWide limit 0 (broken_words limit (map word_of ps)))
+      (sym (parts-front test text at found.end found.part))
+      (begins_wide-step limit 0 (word_of part) _ room (omega arith)
+      (All-take IsPrintableByte (trimmed_len part) part part_printable)
+      (width ∙ sym len) (omega arith))
+
+  -- a part that keeps to the limit is one piece
+  pub one_piece : (at end : ℕ) → at < end → end ≤ length text → length text ≤ limit
+      → NoCutBetween test at (end - 1)
+      → pieces_from test limit (take end text) at ≡ word_of (slice_range text at end) ∷ []
+  one_piece at end some within short none =
+      let part = slice_range text at end in
+      let w = word_of part in
+      let width = word-width part (printable-slice text at end printable) in
+      let len = length-slice text at end within in
+      ap (λ l. broken_words limit (map word_of (parts_by test at l)))
+      (front-slice text at end (omega (arith, some)))
+      ∙ ap (λ ps. broken_words limit (map word_of ps))
+      (parts_by-whole test part at (omega (arith, len, some))
+      (λ k from inside. none (at + k) (omega (arith, from)) (omega (arith, inside, len))))
+      ∙ ap (λ b. cond b (broken_pieces limit w) (w ∷ []) ++ [])
+      (le-ltb limit w.width (omega (arith, width, len, within, short)))
+
+  -- a first word that is broken at the limit
+  pub pieces-broken : (at place : ℕ) → at + limit ≤ place → place < length text
+      → NoCutBetween test at place → is_blank (get_or text place 0) ≡ false → 0 < limit
+      → pieces_from test limit text at ≡ piece (slice_range text at (at + limit)) [] []
+      ∷ pieces_from test limit text (at + limit)
+  pieces-broken at place from inside none other room =
+      let found = first-part test text at place (omega (arith, from)) inside none in
+      let end = found.end in
+      let past = found.past in
+      let middle = at + limit in
+      let front = slice_range text at middle in
+      let back = slice_range text middle end in
+      let within = found.part.within in
+      let whole : slice_range text at end ≡ front ++ back =
+      slices_joined text at middle end (omega arith) (omega (arith, from, past)) in
+      let rest : IsPart test text middle end = record {
+        some = omega (arith, from, past);
+        within = within;
+        uncut = λ k after before. found.part.uncut k (omega (arith, after)) before;
+        ends = found.part.ends;
+      } in
+      let len = length-slice text at middle (omega (arith, from, inside)) in
+      let seen = past-byte text middle place end from past within other in
+      let first = broken-front limit front back
+      (subst IsPrintable whole (printable-slice text at end printable)) room (omega (arith, len))
+      (omega (arith, seen)) in
+      ap (λ ps. broken_words limit (map word_of ps)) (parts-front test text at end found.part)
+      ∙ ap (λ p. broken_word limit (word_of p) ++ pieces_from test limit text end) whole
+      ∙ ap (λ ws. ws ++ pieces_from test limit text end) first
+      ∙ ap (λ ps. piece front [] [] ∷ broken_words limit (map word_of ps))
+      (sym (parts-front test text middle end rest))
+
+-- ---- the words of a printable text, split by a splitter, are its parts where it is cut by both
+
+module _ (cuts : ℕ → Bool) (splitter : Splitter) (text : List ℕ) (printable : IsPrintable text)
+    (after : AfterOthers cuts text) where
+  abbrev both : ℕ → Bool
+  both = is_cut_by cuts splitter text
+
+  plain-at : (end : ℕ) → 0 < end → end < length text → cuts end ≡ true → EndsPlain (take end text)
+  plain-at end some inside is =
+      ends-printable text end printable inside
+      ∙ ap (λ t. nat_lt 0 end && t) (after end some inside is)
+      ∙ and_right (nat_lt 0 end) false refl
+
+  split-end : (at : ℕ) → length text ≤ at
+      → split_words splitter (map word_of (parts_by cuts at (drop at text)))
+      ≡ map word_of (parts_by both at (drop at text))
+  split-end at past =
+      let none = drop_all at text past in
+      ap (λ l. split_words splitter (map word_of (parts_by cuts at l))) none
+      ∙ ap (λ l. map word_of (parts_by both at l)) (sym none)
+
+  -- those from a place on
+  split-from : (n at : ℕ) → length text ≤ at + n → (at < length text → EndsPlain (take at text))
+      → split_words splitter (map word_of (parts_by cuts at (drop at text)))
+      ≡ map word_of (parts_by both at (drop at text))
+  split-from zero at short plain = split-end at (omega (arith, short))
+  split-from (suc n) at short plain = elim (cases_lt at (length text)) [
+    | inr past ↦ split-end at past
+    | inl inside ↦
+        let found = first-part cuts text at at (omega arith) inside
+        (λ k from to. absurd (omega (arith, from, to))) in
+        let end = found.end in
+        let part = found.part in
+        let before = take at text in
+        let q = slice_range text at end in
+        let back = drop end text in
+        let some = part.some in
+        let within = part.within in
+        let len = length-slice text at end within in
+        let whole : before ++ (q ++ back) ≡ text =
+        ap (λ l. before ++ l) (slice-rest text at end (omega (arith, some)))
+        ∙ take-append-drop at text in
+        let place : length before ≡ at = length-take-le at text (omega (arith, inside)) in
+        let word = split-word before q back
+        (printable-utf8 before (All-take IsPrintableByte at text printable)) (plain inside)
+        (printable-utf8 q (printable-slice text at end printable)) (omega (arith, len, some))
+        splitter in
+        let here : split_word splitter (word_of q) ≡ map word_of (parts_by both at q) =
+        word
+        ∙ ap (λ t. map word_of (parts_by (is_point splitter t) (length before) q)) whole
+        ∙ ap (λ k. map word_of (parts_by (is_point splitter text) k q)) place
+        ∙ ap (map word_of) (parts-same (is_point splitter text) both q at (λ k from to.
+        ap (λ t. t || is_point splitter text k)
+        (sym (part.uncut k from (omega (arith, to, len, some)))))) in
+        let rest = split-from n end (omega (arith, short, some))
+        (λ more. plain-at end (omega (arith, some)) more (part.ends more)) in
+        ap (λ ps. split_words splitter (map word_of ps)) (parts-front cuts text at end part)
+        ∙ ap (λ ws. ws ++ split_words splitter (map word_of (parts_by cuts end back))) here
+        ∙ ap (λ ws. map word_of (parts_by both at q) ++ ws) rest
+        ∙ sym (map-append word_of (parts_by both at q) (parts_by both end back))
+        ∙ ap (map word_of) (sym (parts-split both text at end some within (λ more.
+        ap (λ t. t || is_point splitter text end) (part.ends more))))
+  ]
+
+  pub split-cuts : split_words splitter (map word_of (parts_by cuts 0 text))
+      ≡ map word_of (parts_by both 0 text)
+  split-cuts = split-from (length text) 0 (omega arith) (λ some. ends-printable text 0 printable some)

@@ -1,28 +1,26 @@
 -- Lemmas on paragraphs that are divided without a list of words.
 use Rattle.textwrap_base.proofs.Common.{◌≡◌, ℕ, ◌<◌, ◌≤◌, ◌==◌, Bool, true, false, cond, List, []}
-use Rattle.textwrap_base.proofs.Common.{◌∷◌, ◌++◌, length, refl, sym, ap, ◌∙◌, subst, arith}
-use Rattle.textwrap_base.proofs.Common.{le-ltb, None, Option, Some, Result, Ok, Err, IsErrAnd}
-use Rattle.textwrap_base.proofs.Common.{map, rules}
-use Rattle.textwrap_words.proofs.Common.{WordText, sizes_of, Algorithm, word_of}
+use Rattle.textwrap_base.proofs.Common.{◌∷◌, ◌++◌, length, refl, sym, ap, ◌∙◌, subst, arith, le-ltb}
+use Rattle.textwrap_base.proofs.Common.{None, Option, Some, Result, Ok, Err, IsErrAnd, map, rules}
+use Rattle.textwrap_words.proofs.Common.{WordText, sizes_of, Algorithm, word_of, ArePoints}
+use Rattle.textwrap_words.proofs.Common.{IsDividedBy, Splitter, IsPrintable, MayDivide, MaySplit}
+use Rattle.textwrap_words.proofs.Common.{split_words}
 use Rattle.textwrap_words.specs.PieceCuts.{parts_by}
-use Rattle.textwrap_words.proofs.Common.{ArePoints, IsDividedBy, Splitter, IsPrintable}
-use Rattle.textwrap_words.proofs.Common.{MayDivide, MaySplit, split_words}
 use Rattle.textwrap_words.proofs.Word.Pieces.{AreSplit-computed}
 use Rattle.textwrap_words.specs.Pieces.{stand_from}
 use Rattle.textwrap_lines.proofs.Common.{Settings, settings_view, CutLine, empty_word, front_of}
 use Rattle.textwrap_lines.proofs.Common.{broken_pieces_of, later_width, lines_from, pieces_from}
-use Rattle.textwrap_lines.proofs.Common.{text_limit, pieces_of_words, widths_of}
-use Rattle.textwrap_lines.proofs.Common.{IsDividedInto, Options}
+use Rattle.textwrap_lines.proofs.Common.{text_limit, pieces_of_words, widths_of, IsDividedInto}
+use Rattle.textwrap_lines.proofs.Common.{Options}
 use Rattle.std.specs.Prelude.{IfErr, IfSome, alloc_error}
 use Rattle.textwrap_base.specs.declared.errors.WrapError.{WrapError}
 use Rattle.textwrap_base.specs.declared.errors.WrapError.TheVariants.{Memory}
 use Rattle.textwrap_lines.specs.Direct.{HasMethods}
 use Rattle.textwrap_lines.specs.Layout.{break_limit, limit_at}
 use Rattle.textwrap_lines.specs.PieceLines.{lines_left, no_pieces}
-use Rattle.textwrap_lines.proofs.Paragraph.BuiltIn.{division-as, points-as}
-use Rattle.textwrap_lines.proofs.PrintableTexts.FirstPiece.{begins_narrow}
-use Rattle.textwrap_lines.proofs.PrintableTexts.Pieces.{words-narrow, words-tile}
-use Rattle.textwrap_lines.proofs.PieceLines.Unbroken.{limited-words}
+use Rattle.textwrap_lines.proofs.Paragraph.Pieces.{division-as, points-as}
+use Rattle.textwrap_lines.proofs.PrintableTexts.Pieces.{begins_narrow, words-narrow, words-tile}
+use Rattle.textwrap_lines.proofs.PieceLines.{limited-words}
 
 -- ---- the lines of a printable paragraph, found by its bytes
 

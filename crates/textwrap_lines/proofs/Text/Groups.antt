@@ -1,10 +1,36 @@
--- What holds of the lines of each paragraph holds of the lines of the text.
+-- The lines of a text, paragraph by paragraph: there is one list of them, and only blanks are left
+-- off.
 use Rattle.textwrap_base.proofs.Common.{ℕ, Bool, ◌||◌, nat_lt, List, [], ◌∷◌, All, length, sym}
 use Rattle.textwrap_base.proofs.Common.{subst, ◌<◌, true, false, ◌++◌, arith, length-append}
-use Rattle.textwrap_base.proofs.Common.{flat_map, All-nil, All-head, All-tail, All-append}
+use Rattle.textwrap_base.proofs.Common.{flat_map, All-nil, All-head, All-tail, All-append, ◌≡◌}
+use Rattle.textwrap_base.proofs.Common.{MatchBool, ⊤, map, ap, ◌∙◌, StartsWith, IsUtf8, rules}
+use Rattle.textwrap_base.proofs.Common.{starts_with_of_eq, All-cons, All-weaker, Sizes}
+use Rattle.textwrap_base.proofs.Common.{AreEqualFromSecond, priced_at}
 use Rattle.textwrap_lines.proofs.Common.{LineParts, AreIndented, AreGroups, Settings}
+use Rattle.textwrap_lines.proofs.Common.{AreParagraphParts, AreTextLines, DividesAt, paragraphs_of}
+use Rattle.textwrap_lines.proofs.Common.{DividesBy, HasPartsAt, IsFilled, is_whole, Line, Options}
+use Rattle.textwrap_lines.proofs.Common.{settings_view, widths_of, covered_by, DividesAs}
+use Rattle.textwrap_lines.proofs.Common.{AreDividedParts, IsDividedInto}
 use Rattle.textwrap_base.proofs.Lists.Parts.{flat}
 use Rattle.textwrap_base.proofs.Numbers.{or_false, some_later}
+use Rattle.textwrap_words.proofs.Common.{AreSplit, Algorithm, Splitter, WordText, word_of, tiled}
+use Rattle.textwrap_words.proofs.Common.{Greedy, LeastCost, IsDividedBy, words_of, AreWordsOf}
+use Rattle.textwrap_words.proofs.Common.{ArePoints, sizes_of}
+use Rattle.textwrap_lines.proofs.Paragraph.Pieces.{division-as, points-as, ArePieces-by}
+use Rattle.textwrap_lines.specs.Paragraph.{DividesUnder}
+use Rattle.textwrap_lines.specs.Places.{ArePlacedLines}
+use Rattle.textwrap_lines.specs.declared.places.Place.{Place}
+use Rattle.textwrap_words.proofs.Word.Words.{EndsInBlanks, words_unique}
+use Rattle.textwrap_lines.specs.Text.{LosesOnlyBlanks}
+use Rattle.textwrap_lines.proofs.Text.Paragraphs.{paragraphs_of-utf8}
+use Rattle.textwrap_lines.proofs.Paragraph.LeftOff.{tiled-word_of, word_of-blanks}
+use Rattle.textwrap_lines.proofs.Paragraph.LeftOff.{covered_by-parts_from, LeavesBlanks}
+use Rattle.textwrap_lines.proofs.Paragraph.LeftOff.{parts_from-blanks, laid_out-cases}
+use Rattle.textwrap_base.proofs.Division.Greedy.{greedy_unique}
+use Rattle.textwrap_base.proofs.Cost.Results.{chosen_one}
+use Rattle.textwrap_lines.proofs.PlacedPieces.Lines.{two-equal}
+
+-- ---- what holds of the lines of each paragraph holds of the lines of the text
 
 pub groups-map : (IsPart : List ℕ → Type 0) (Are Keep : Bool → List ℕ → List LineParts → Type 0)
     → ((is_later : Bool) (paragraph : List ℕ) (parts : List LineParts) → IsPart paragraph
@@ -63,3 +89,255 @@ groups-some settings [] groups some are = absurd (omega arith)
 groups-some settings (paragraph ∷ paragraphs) [] some are = absurd are
 groups-some settings (paragraph ∷ paragraphs) (parts ∷ groups) some are =
     omega (arith, length-append parts (flat groups), are.0)
+
+-- ---- what is divided by the options is divided by what they name: the words of a line that the
+-- separator may give, a built-in splitter and a built-in algorithm
+
+module _ {E C : Type 0} {e : _} {c : _} (options : Options E C e c)
+    (words : List ℕ → List WordText) (settings : Settings) (splitter : Splitter)
+    (algorithm : Algorithm) (parts : HasPartsAt options words settings splitter algorithm) where
+  -- under any settings
+  pub divides-under_at : (s : Settings) (is_later : Bool) (paragraph : List ℕ)
+      (division : List (List WordText)) → DividesUnder options s is_later paragraph division
+      → DividesAt words splitter algorithm s is_later paragraph division
+  divides-under_at s is_later paragraph division (pieces, (ws, split, ws_are, split_are, is), by) = (
+    pieces,
+    (
+      ws,
+      split,
+      parts.separates paragraph ws ws_are,
+      subst (λ Points. AreSplit Points ws split)
+          (points-as options.word_splitter splitter parts.splitter_is) split_are,
+      is,
+    ),
+    subst (λ Lines. Lines (widths_of s is_later) pieces division)
+        (division-as options.wrap_algorithm algorithm parts.algorithm_is) by,
+  )
+
+  pub divides-at : (is_later : Bool) (paragraph : List ℕ) (division : List (List WordText))
+      → DividesBy options is_later paragraph division
+      → DividesAt words splitter algorithm settings is_later paragraph division
+  divides-at is_later paragraph division by =
+      subst (λ s. DividesAt words splitter algorithm s is_later paragraph division)
+      parts.settings_are
+      (divides-under_at (settings_view options) is_later paragraph division by)
+
+-- ---- whatever holds of each division holds of what is made of them
+
+module _ (settings : Settings) (Divides Others : Bool → List ℕ → List (List WordText) → Type 0)
+    (each : (is_later : Bool) (paragraph : List ℕ) (division : List (List WordText))
+    → Divides is_later paragraph division → Others is_later paragraph division) where
+  laid_out-map : (is_later : Bool) (paragraph : List ℕ) (division : List (List WordText))
+      (whole : Bool)
+      → MatchBool whole (division ≡ (word_of paragraph ∷ []) ∷ [])
+      (Divides is_later paragraph division)
+      → MatchBool whole (division ≡ (word_of paragraph ∷ []) ∷ [])
+      (Others is_later paragraph division)
+  laid_out-map is_later paragraph division true is = is
+  laid_out-map is_later paragraph division false by = each is_later paragraph division by
+
+  pub paragraph-map : (is_later : Bool) (paragraph : List ℕ) (parts : List LineParts)
+      → AreParagraphParts settings Divides is_later paragraph parts
+      → AreParagraphParts settings Others is_later paragraph parts
+  paragraph-map is_later paragraph parts (division, laid_out, is) = (
+    division,
+    laid_out-map is_later paragraph division (is_whole settings is_later paragraph) laid_out,
+    is,
+  )
+
+  pub groups-others : (paragraphs : List (List ℕ)) (groups : List (List LineParts))
+      → AreGroups (AreParagraphParts settings Divides) false paragraphs groups
+      → AreGroups (AreParagraphParts settings Others) false paragraphs groups
+  groups-others paragraphs groups =
+      groups-map (λ _. ⊤) (AreParagraphParts settings Divides) (AreParagraphParts settings Others)
+      (λ is_later paragraph parts _. paragraph-map is_later paragraph parts) false paragraphs groups
+      (λ k d lt. tt)
+
+  abbrev pub text-map : (text : List ℕ) (lines : List Line) → AreTextLines settings Divides text lines
+      → AreTextLines settings Others text lines
+  text-map text lines are = record {
+    groups = are.groups;
+    defined = groups-others (paragraphs_of settings.line_ending text) are.groups are.defined;
+    given = are.given;
+  }
+
+  pub filled-map : (text filled : List ℕ) → IsFilled settings Divides text filled
+      → IsFilled settings Others text filled
+  filled-map text filled (lines, are, joined) = (lines, text-map text lines are, joined)
+
+  pub placed-map : (text : List ℕ) (lines : List Line) (places : List Place)
+      → ArePlacedLines settings Divides text lines places
+      → ArePlacedLines settings Others text lines places
+  placed-map text lines places placed = record {
+    are = text-map text lines placed.are;
+    places_are = placed.places_are;
+  }
+
+-- ---- the lines of a paragraph that is divided so
+
+module _ (settings : Settings) (Divides : Bool → List ℕ → List (List WordText) → Type 0)
+    (begin : (is_later : Bool) (paragraph : List ℕ) (division : List (List WordText))
+    → IsUtf8 paragraph → Divides is_later paragraph division
+    → StartsWith paragraph (tiled (flat division)))
+    (blanks : (is_later : Bool) (paragraph : List ℕ) (division : List (List WordText))
+    → IsUtf8 paragraph → Divides is_later paragraph division
+    → All EndsInBlanks (flat division)) where
+  parts-begin : (is_later : Bool) (paragraph : List ℕ) (parts : List LineParts)
+      → IsUtf8 paragraph → AreParagraphParts settings Divides is_later paragraph parts
+      → StartsWith paragraph (covered_by parts)
+  parts-begin is_later paragraph parts utf8 (division, laid_out, is) =
+      subst (StartsWith paragraph)
+      (sym (ap covered_by is ∙ covered_by-parts_from settings is_later division))
+      (laid_out-cases (λ d. StartsWith paragraph (tiled (flat d))) paragraph _ division
+      (starts_with_of_eq paragraph _ (sym (tiled-word_of paragraph)))
+      (begin is_later paragraph division utf8) (is_whole settings is_later paragraph) laid_out)
+
+  parts-blanks : (is_later : Bool) (paragraph : List ℕ) (parts : List LineParts) → IsUtf8 paragraph
+      → AreParagraphParts settings Divides is_later paragraph parts
+      → All (LeavesBlanks settings) parts
+  parts-blanks is_later paragraph parts utf8 (division, laid_out, is) =
+      subst (All (LeavesBlanks settings)) (sym is)
+      (parts_from-blanks settings is_later division
+      (laid_out-cases (λ d. All EndsInBlanks (flat d)) paragraph _ division
+      (All-cons EndsInBlanks (word_of paragraph) [] (word_of-blanks paragraph)
+      (All-nil EndsInBlanks)) (blanks is_later paragraph division utf8)
+      (is_whole settings is_later paragraph) laid_out))
+
+  -- ---- the lines of a text
+
+  -- the groups that the definition gives lose only blanks
+  pub LosesOnlyBlanks-from : (text : List ℕ) (groups : List (List LineParts)) → IsUtf8 text
+      → AreGroups (AreParagraphParts settings Divides) false
+      (paragraphs_of settings.line_ending text) groups
+      → LosesOnlyBlanks settings text groups
+  LosesOnlyBlanks-from text groups utf8 defined =
+      let paragraphs = paragraphs_of settings.line_ending text in
+      let all = paragraphs_of-utf8 settings.line_ending text utf8 in
+      let parts = flat groups in
+      let leaves = groups-all (LeavesBlanks settings) false paragraphs groups
+      (search (rules, arith, groups-map, parts-blanks)) in
+      record {
+        begin = search (rules, arith, groups-map, parts-begin);
+        blanks = search (rules, arith, All-weaker);
+        kept = λ preserved. All-weaker (LeavesBlanks settings) (λ p. p.left_off ≡ [])
+            (λ p left. left.kept preserved) parts leaves;
+      }
+
+-- ---- the lines of a text whose paragraphs are divided whole
+
+module _ (settings : Settings) (Divides : Bool → List ℕ → List (List WordText) → Type 0)
+    (tiles : (is_later : Bool) (paragraph : List ℕ) (division : List (List WordText))
+    → IsUtf8 paragraph → Divides is_later paragraph division
+    → tiled (flat division) ≡ paragraph) where
+  parts-tile : (is_later : Bool) (paragraph : List ℕ) (parts : List LineParts) → IsUtf8 paragraph
+      → AreParagraphParts settings Divides is_later paragraph parts → covered_by parts ≡ paragraph
+  parts-tile is_later paragraph parts utf8 (division, laid_out, is) =
+      grind (arith, covered_by-parts_from, laid_out-cases, tiled-word_of)
+
+  pub groups-tile : (is_later : Bool) (paragraphs : List (List ℕ)) (groups : List (List LineParts))
+      → All IsUtf8 paragraphs
+      → AreGroups (AreParagraphParts settings Divides) is_later paragraphs groups
+      → map covered_by groups ≡ paragraphs
+  groups-tile is_later [] groups utf8 is = ap (map covered_by) is
+  groups-tile is_later (paragraph ∷ paragraphs) [] utf8 defined = absurd defined
+  groups-tile is_later (paragraph ∷ paragraphs) (parts ∷ groups) utf8 defined =
+      ap (λ p. p ∷ map covered_by groups)
+      (search (rules, arith, parts-tile, All-head)) ∙ ap (λ ps. paragraph ∷ ps)
+      (groups-tile (is_later ||
+      nat_lt 0 (length parts)) paragraphs groups (All-tail IsUtf8 paragraph paragraphs utf8)
+      defined.1)
+
+-- ---- lemmas on the lines of a text: the definitions leave one list of lines, and one filled
+-- text
+
+divided_one : {X : Type 0} (algorithm : Algorithm) (sizes : X → Sizes) (widths : List ℕ)
+    (xs : List X) (lines others : List (List X)) → AreEqualFromSecond widths
+    → IsDividedBy algorithm sizes widths xs lines → IsDividedBy algorithm sizes widths xs others
+    → lines ≡ others
+divided_one Greedy sizes widths xs lines others equal one other =
+    greedy_unique sizes widths xs lines others one other
+divided_one (LeastCost penalties) sizes widths xs lines others equal one other =
+    chosen_one (λ x. priced_at penalties (sizes x)) penalties widths xs lines others
+    (one.chosen equal) (other.chosen equal)
+
+-- where the words of a line are those that a function names
+division_one-by : (Words : List ℕ → List WordText → Type 0) (words : List ℕ → List WordText)
+    → ((line : List ℕ) (ws : List WordText) → Words line ws → ws ≡ words line)
+    → (settings : Settings) (algorithm : Algorithm) (splitter : Splitter)
+    (is_later : Bool) (paragraph : List ℕ) (division other : List (List WordText))
+    → let Divides : Bool → List ℕ → List (List WordText) → Type 0 =
+    IsDividedInto settings Words (ArePoints splitter) (IsDividedBy algorithm sizes_of) in
+    Divides is_later paragraph division → Divides is_later paragraph other → division ≡ other
+division_one-by Words words named settings algorithm splitter is_later paragraph division other
+    (pieces, are, divided) (others, others_are, others_divided) =
+    let same = ArePieces-by Words words named settings splitter paragraph others others_are
+    ∙ sym (ArePieces-by Words words named settings splitter paragraph pieces are) in
+    search (rules, arith, divided_one, two-equal)
+
+pub division_one : (settings : Settings) (algorithm : Algorithm) (splitter : Splitter)
+    (is_later : Bool) (paragraph : List ℕ) (division other : List (List WordText))
+    → DividesAs splitter algorithm settings is_later paragraph division
+    → DividesAs splitter algorithm settings is_later paragraph other → division ≡ other
+division_one =
+    division_one-by AreWordsOf words_of (λ line words are. (words_unique line words).0 are)
+
+pub division_one-at : (words : List ℕ → List WordText) (settings : Settings)
+    (algorithm : Algorithm) (splitter : Splitter)
+    (is_later : Bool) (paragraph : List ℕ) (division other : List (List WordText))
+    → DividesAt words splitter algorithm settings is_later paragraph division
+    → DividesAt words splitter algorithm settings is_later paragraph other → division ≡ other
+division_one-at words = division_one-by (λ line ws. ws ≡ words line) words (λ line ws is. is)
+
+-- where a paragraph has one division
+module _ (settings : Settings) (Divides : Bool → List ℕ → List (List WordText) → Type 0)
+    (one : (is_later : Bool) (paragraph : List ℕ) (division other : List (List WordText))
+    → Divides is_later paragraph division → Divides is_later paragraph other
+    → division ≡ other) where
+  pub divided_parts_one : (is_later : Bool) (paragraph : List ℕ) (parts others : List LineParts)
+      → AreDividedParts settings Divides is_later paragraph parts
+      → AreDividedParts settings Divides is_later paragraph others → parts ≡ others
+  divided_parts_one is_later paragraph parts others (division, divided, is)
+      (other, other_divided, other_is) = grind arith
+
+  laid_out_one : (is_later : Bool) (paragraph : List ℕ) (division other : List (List WordText))
+      (whole : Bool)
+      → MatchBool whole (division ≡ (word_of paragraph ∷ []) ∷ [])
+      (Divides is_later paragraph division)
+      → MatchBool whole (other ≡ (word_of paragraph ∷ []) ∷ []) (Divides is_later paragraph other)
+      → division ≡ other
+  laid_out_one is_later paragraph division other true is other_is = is ∙ sym other_is
+  laid_out_one is_later paragraph division other false divided other_divided =
+      one is_later paragraph division other divided other_divided
+
+  pub paragraph_one : (is_later : Bool) (paragraph : List ℕ) (parts others : List LineParts)
+      → AreParagraphParts settings Divides is_later paragraph parts
+      → AreParagraphParts settings Divides is_later paragraph others → parts ≡ others
+  paragraph_one is_later paragraph parts others (division, laid_out, is)
+      (other, other_laid_out, other_is) = grind (arith, laid_out_one)
+
+  groups_one : (is_later : Bool) (paragraphs : List (List ℕ))
+      (groups others : List (List LineParts))
+      → AreGroups (AreParagraphParts settings Divides) is_later paragraphs groups
+      → AreGroups (AreParagraphParts settings Divides) is_later paragraphs others → groups ≡ others
+  groups_one is_later [] groups others is other = is ∙ sym other
+  groups_one is_later (paragraph ∷ paragraphs) [] others is other = absurd is
+  groups_one is_later (paragraph ∷ paragraphs) (parts ∷ groups) [] is other = absurd other
+  groups_one is_later (paragraph ∷ paragraphs) (parts ∷ groups) (more ∷ others) is other =
+      let same = paragraph_one is_later paragraph parts more is.0 other.0 in
+      let rest =
+      groups_one
+      (is_later ||
+      nat_lt 0 (length parts)) paragraphs groups others is.1
+      (rw same other.1) in
+      ap (λ ps. ps ∷ groups) same ∙ ap (λ gs. more ∷ gs) rest
+
+  pub text_one : (text : List ℕ) (lines others : List Line)
+      → AreTextLines settings Divides text lines → AreTextLines settings Divides text others
+      → lines ≡ others
+  text_one text lines others is other = grind (arith, groups_one)
+
+  pub filled_one : (text filled other_filled : List ℕ) → IsFilled settings Divides text filled
+      → IsFilled settings Divides text other_filled → filled ≡ other_filled
+  filled_one text filled other_filled (lines, defined, joined)
+      (others, others_defined, others_joined) =
+      search (rules, arith, text_one text lines others defined others_defined)

@@ -1,24 +1,34 @@
--- What the lines of a text keep to, by what those of its paragraphs do.
+-- What `wrap` promises, by what the lines of each paragraph keep to.
 use Rattle.textwrap_base.proofs.Common.{◌≡◌, ◌≢◌, ℕ, take, ◌<◌, Bool, true, false, List, All, rules}
 use Rattle.textwrap_base.proofs.Common.{length, sym, ap, ◌∙◌, arith, StartsWith, Option, Some, None}
-use Rattle.textwrap_base.proofs.Common.{IsUtf8, starts_with_of_append, length-map}
-use Rattle.textwrap_words.proofs.Common.{WordText, sizes_of, tiled, Algorithm, Greedy}
-use Rattle.textwrap_words.proofs.Common.{IsDividedBy, Splitter, ends_in_hyphen, AreCuts}
+use Rattle.textwrap_base.proofs.Common.{IsUtf8, starts_with_of_append, length-map, append-nil, []}
+use Rattle.textwrap_base.proofs.Common.{refl, subst}
+use Rattle.textwrap_words.proofs.Common.{WordText, sizes_of, tiled, Algorithm, Greedy, IsDividedBy}
+use Rattle.textwrap_words.proofs.Common.{Splitter, ends_in_hyphen, AreCuts, AreWordsOf, LeastCost}
+use Rattle.textwrap_words.proofs.Common.{MayDivide, algorithm_view, MaySeparate, ArePoints}
+use Rattle.textwrap_words.proofs.Common.{MaySplit, splitter_view}
 use Rattle.textwrap_lines.proofs.Common.{paragraphs_of, ending_bytes, Line, line_from, widths_of}
-use Rattle.textwrap_lines.proofs.Common.{KeepsToWidth, Settings, AreTextLines}
-use Rattle.textwrap_lines.proofs.Common.{KeepToWidths, IsWrapped, LinesKeepToWidth}
+use Rattle.textwrap_lines.proofs.Common.{KeepsToWidth, Settings, AreTextLines, KeepToWidths}
+use Rattle.textwrap_lines.proofs.Common.{IsWrapped, LinesKeepToWidth, DividesAs, DividesBy}
+use Rattle.textwrap_lines.proofs.Common.{settings_view, IsDividedInto, Options, CanKeepToWidth}
+use Rattle.textwrap_lines.proofs.Common.{ArePrintedWithin}
 use Rattle.textwrap_base.proofs.Lists.Parts.{flat, Begins}
-use Rattle.textwrap_words.proofs.Word.Pieces.{AreTexts}
-use Rattle.textwrap_lines.proofs.Paragraph.GivenPieces.{pieces-tile, divided-begin, divided-blanks}
-use Rattle.textwrap_lines.proofs.Text.EndingTexts.{paragraphs_of-utf8}
-use Rattle.textwrap_lines.proofs.Text.Endings.{parts_past-some}
-use Rattle.textwrap_lines.proofs.Text.Lossless.{LosesOnlyBlanks-from, groups-tile}
-use Rattle.textwrap_lines.proofs.Text.Groups.{groups-map, groups-all, groups-some, groups-indented}
+use Rattle.textwrap_words.proofs.Word.Pieces.{AreTexts, AreTexts-words, ArePoints-cuts}
+use Rattle.textwrap_words.proofs.Word.Pieces.{ArePoints-hyphens}
+use Rattle.textwrap_lines.proofs.Paragraph.Pieces.{pieces-tile, divided-begin, divided-blanks}
+use Rattle.textwrap_lines.proofs.Text.Paragraphs.{paragraphs_of-utf8, parts_past-some}
+use Rattle.textwrap_lines.proofs.Text.Groups.{LosesOnlyBlanks-from, groups-tile, groups-map}
+use Rattle.textwrap_lines.proofs.Text.Groups.{groups-all, groups-some, groups-indented}
 use Rattle.textwrap_lines.proofs.Paragraph.KeepsTo.{Divides, AreParts, paragraph-some}
 use Rattle.textwrap_lines.proofs.Paragraph.KeepsTo.{paragraph-indented, paragraph-no_hyphen}
-use Rattle.textwrap_lines.proofs.Paragraph.KeepsTo.{paragraph-keeps, paragraph-even}
-use Rattle.textwrap_lines.proofs.Paragraph.Kept.{HasNoHyphen}
-use Rattle.textwrap_lines.proofs.Paragraph.EvenLines.{first_width-own}
+use Rattle.textwrap_lines.proofs.Paragraph.KeepsTo.{paragraph-keeps, paragraph-even, HasNoHyphen}
+use Rattle.textwrap_lines.proofs.Paragraph.KeepsTo.{first_width-own}
+use Rattle.textwrap_lines.proofs.Text.Printed.{ArePrintedWithin-by}
+use Rattle.textwrap_words.specs.declared.wrap_algorithms.WrapAlgorithm.TheVariants.{FirstFit}
+use Rattle.textwrap_base.proofs.Division.Map.{IsDividedBy-some, IsDividedBy-whole}
+use Rattle.textwrap_words.proofs.Word.Parts.{MaySeparate-texts, MaySplit-cuts, MaySplit-hyphens}
+use Rattle.textwrap_words.proofs.Word.Divisions.{MayDivide-begins, MayDivide-whole, MayDivide-some}
+use Rattle.textwrap_words.proofs.Word.Divisions.{MayDivide-greedy}
 
 -- ---- the lines of a paragraph, and of a text
 
@@ -104,3 +114,107 @@ module _ (settings : Settings) (Words : List ℕ → List WordText → Type 0)
               breaks is_later (first_width-own settings even is_later)) false paragraphs are.groups
               (paragraphs_of-utf8 ending text utf8) are.defined),
         )
+
+-- ---- what `wrap` promises, by the options
+
+-- by built-in parts
+greedy-is : (algorithm : Algorithm) → Some algorithm ≡ Some Greedy → algorithm ≡ Greedy
+greedy-is Greedy is = refl
+greedy-is (LeastCost penalties) is = cc
+
+-- by words that are texts of their lines
+pub IsWrapped-parts : (Words : List ℕ → List WordText → Type 0)
+    → ((line : List ℕ) (words : List WordText) → IsUtf8 line → Words line words
+    → AreTexts line words)
+    → (settings : Settings) (algorithm : Algorithm) (splitter : Splitter)
+    (text : List ℕ) (lines : List Line) → IsUtf8 text
+    → let Divides : Bool → List ℕ → List (List WordText) → Type 0 =
+    IsDividedInto settings Words (ArePoints splitter) (IsDividedBy algorithm sizes_of) in
+    AreTextLines settings Divides text lines
+    → IsWrapped settings (Some splitter) (Some algorithm) Divides text lines
+IsWrapped-parts Words texts settings algorithm splitter text lines utf8 are =
+    IsWrapped-by settings Words (ArePoints splitter) (IsDividedBy algorithm sizes_of)
+    texts (ArePoints-cuts splitter)
+    (λ widths pieces division divided. (
+      [],
+      search (rules, arith, append-nil, IsDividedBy-whole),
+    ))
+    (Some splitter) (Some algorithm) (λ _. ArePoints-hyphens splitter)
+    (λ _. IsDividedBy-whole sizes_of algorithm) (λ _. IsDividedBy-some sizes_of algorithm)
+    (λ first widths pieces division divided.
+    subst (λ a. IsDividedBy a sizes_of widths pieces division) (greedy-is algorithm first) divided)
+    text lines utf8 are
+
+pub IsWrapped-from : (settings : Settings) (algorithm : Algorithm) (splitter : Splitter)
+    (text : List ℕ) (lines : List Line) → IsUtf8 text
+    → AreTextLines settings (DividesAs splitter algorithm settings) text lines
+    → IsWrapped settings (Some splitter) (Some algorithm) (DividesAs splitter algorithm settings)
+    text lines
+IsWrapped-from = IsWrapped-parts AreWordsOf AreTexts-words
+
+pub LinesKeepToWidth-from : (settings : Settings) (splitter : Splitter) (text : List ℕ)
+    (lines : List Line) → IsUtf8 text → settings.even_paragraphs ≡ true
+    → settings.break_words ≡ true
+    → AreTextLines settings (DividesAs splitter Greedy settings) text lines
+    → LinesKeepToWidth settings (DividesAs splitter Greedy settings) text lines
+LinesKeepToWidth-from settings splitter text lines utf8 even breaks are =
+    LinesKeepToWidth-by settings AreWordsOf (ArePoints splitter) (IsDividedBy Greedy sizes_of)
+    AreTexts-words (ArePoints-cuts splitter)
+    (λ widths pieces division divided. (
+      [],
+      search (rules, arith, append-nil, IsDividedBy-whole),
+    ))
+    (ArePoints-hyphens splitter) (λ widths pieces division divided. divided)
+    text lines utf8 even breaks are
+
+module _ {E C : Type 0} {e : _} {c : _} (options : Options E C e c) where
+  pub IsWrapped-options : (text : List ℕ) (lines : List Line) → IsUtf8 text
+      → AreTextLines (settings_view options) (DividesBy options) text lines
+      → IsWrapped (settings_view options) (splitter_view options.word_splitter)
+      (algorithm_view options.wrap_algorithm) (DividesBy options) text lines
+  IsWrapped-options text lines utf8 are =
+      let algorithm = options.wrap_algorithm in
+      IsWrapped-by (settings_view options) (MaySeparate options.word_separator)
+      (MaySplit options.word_splitter) (MayDivide algorithm (λ w. w))
+      (MaySeparate-texts options.word_separator) (MaySplit-cuts options.word_splitter)
+      (MayDivide-begins algorithm (λ w. w))
+      (splitter_view options.word_splitter) (algorithm_view algorithm)
+      (MaySplit-hyphens options.word_splitter)
+      (λ built_in widths pieces division. MayDivide-whole algorithm (λ w. w) widths pieces division
+      built_in)
+      (λ built_in widths pieces division. MayDivide-some algorithm (λ w. w) widths pieces division
+      built_in)
+      (λ first widths pieces division. MayDivide-greedy algorithm (λ w. w) widths pieces division
+      first)
+      text lines utf8 are
+
+  pub LinesKeepToWidth-options : (text : List ℕ) (lines : List Line) → IsUtf8 text
+      → options.even_paragraphs ≡ true → options.wrap_algorithm ≡ FirstFit
+      → splitter_view options.word_splitter ≢ None → options.break_words ≡ true
+      → AreTextLines (settings_view options) (DividesBy options) text lines
+      → LinesKeepToWidth (settings_view options) (DividesBy options) text lines
+  LinesKeepToWidth-options text lines utf8 even first built_in breaks are =
+      let algorithm = options.wrap_algorithm in
+      LinesKeepToWidth-by (settings_view options) (MaySeparate options.word_separator)
+      (MaySplit options.word_splitter) (MayDivide algorithm (λ w. w))
+      (MaySeparate-texts options.word_separator) (MaySplit-cuts options.word_splitter)
+      (MayDivide-begins algorithm (λ w. w))
+      (MaySplit-hyphens options.word_splitter built_in)
+      (λ widths pieces division. MayDivide-greedy algorithm (λ w. w) widths pieces division
+      (ap algorithm_view first))
+      text lines utf8 even breaks are
+
+  pub ArePrintedWithin-options : (text : List ℕ) (lines : List Line) → IsUtf8 text
+      → options.wrap_algorithm ≡ FirstFit → splitter_view options.word_splitter ≢ None
+      → CanKeepToWidth (settings_view options) text
+      → AreTextLines (settings_view options) (DividesBy options) text lines
+      → ArePrintedWithin (settings_view options) (DividesBy options) text lines
+  ArePrintedWithin-options text lines utf8 first built_in can are =
+      let algorithm = options.wrap_algorithm in
+      ArePrintedWithin-by (settings_view options) (MaySeparate options.word_separator)
+      (MaySplit options.word_splitter) (MayDivide algorithm (λ w. w))
+      (MaySeparate-texts options.word_separator) (MaySplit-cuts options.word_splitter)
+      (MaySplit-hyphens options.word_splitter built_in)
+      (λ widths pieces division. MayDivide-greedy algorithm (λ w. w) widths pieces division
+      (ap algorithm_view first))
+      text lines utf8 can are

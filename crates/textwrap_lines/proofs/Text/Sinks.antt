@@ -1,12 +1,18 @@
--- Lemmas on what takes lines, one after another.
-use Rattle.textwrap_base.proofs.Common.{◌≡◌, ◌+◌, ℕ, Bool, cond, nat_lt, List, [], ◌∷◌, ◌++◌}
-use Rattle.textwrap_base.proofs.Common.{length, length-map, map, refl, sym, ap, ◌∙◌, subst}
-use Rattle.textwrap_base.proofs.Common.{append-nil, append_assoc, arith, lt-ltb, eqb-true, rules}
-use Rattle.textwrap_base.proofs.Common.{map-append, length_push, nil_from_length, OnOk, Result, Ok}
-use Rattle.textwrap_base.proofs.Common.{Err}
-use Rattle.textwrap_lines.proofs.Common.{ending_bytes, join_with, Took, Line, line_bytes}
-use Rattle.textwrap_lines.proofs.Common.{further, assembled_line, CutLine, cut_line}
-use Rattle.textwrap_lines.proofs.Common.{built_bytes, built_text, lines_of, place_of, places_of}
+-- Lines, the places that they were cut from, and what takes them.
+use Rattle.textwrap_base.proofs.Common.{◌≡◌, ℕ, ◌+◌, Bool, true, List, [], ◌∷◌, ◌++◌, length, map}
+use Rattle.textwrap_base.proofs.Common.{refl, ap, arith, length-append, map-append, flat_map-append}
+use Rattle.textwrap_base.proofs.Common.{append-nil, cond, nat_lt, length-map, sym, ◌∙◌, subst}
+use Rattle.textwrap_base.proofs.Common.{append_assoc, lt-ltb, eqb-true, rules, length_push}
+use Rattle.textwrap_base.proofs.Common.{nil_from_length, OnOk, Result, Ok, Err, ◌<◌, ◌≤◌, ◌||◌}
+use Rattle.textwrap_base.proofs.Common.{false, flat_map}
+use Rattle.textwrap_words.proofs.Common.{WordText, tiled}
+use Rattle.textwrap_lines.proofs.Common.{CutLine, cut_line, cut_lines, further, lines_of}
+use Rattle.textwrap_lines.proofs.Common.{built_bytes, built_text, place_of, places_of, Settings}
+use Rattle.textwrap_lines.proofs.Common.{LineParts, line_from, parts_from, parts_of, ending_bytes}
+use Rattle.textwrap_lines.proofs.Common.{join_with, Took, Line, line_bytes, assembled_line}
+use Rattle.textwrap_lines.proofs.Common.{AreCutLines, AreGroups, AreParagraphParts, paragraphs_of}
+use Rattle.textwrap_lines.proofs.Common.{text_cuts}
+use Rattle.textwrap_lines.proofs.Paragraph.LeftOff.{parts_of-tile}
 use Rattle.textwrap_words.specs.LentText.{IsLent}
 use Rattle.textwrap_lines.specs.LentPlaces.{AddsPlace}
 use Rattle.textwrap_lines.specs.LineSinks.{HasOneMore, HoldsLent, HoldsLentPlaces, HoldsPlaces}
@@ -16,8 +22,64 @@ use Rattle.textwrap_lines.specs.declared.lent_places.LentLinePlaces.{LentLinePla
 use Rattle.textwrap_lines.specs.declared.line_sinks.JoinedLines.{JoinedLines}
 use Rattle.textwrap_lines.specs.declared.line_sinks.LentLines.{LentLines}
 use Rattle.textwrap_lines.specs.declared.places.PlacedLines.{PlacedLines}
-use Rattle.textwrap_lines.proofs.Text.Cuts.{built_text-push, lines_of-more, places_of-push}
-use Rattle.textwrap_lines.proofs.Text.Lines.{join-push}
+use Rattle.textwrap_lines.proofs.Text.Lines.{join-push, groups-push}
+use Rattle.textwrap_base.proofs.Numbers.{is_later-or}
+use Rattle.textwrap_lines.proofs.Text.Paragraphs.{join-paragraphs_of, rest-within}
+
+-- ---- the lines
+
+pub lines_of-more : (cuts : List CutLine) (start : ℕ) (more : List CutLine)
+    → lines_of (cuts ++ map (further start) more) ≡ lines_of cuts ++ lines_of more
+lines_of-more [] start [] = refl
+lines_of-more [] start (cut ∷ more) = ap (λ ls. cut.line ∷ ls) (lines_of-more [] start more)
+lines_of-more (first ∷ cuts) start more =
+    ap (λ ls. first.line ∷ ls) (lines_of-more cuts start more)
+
+pub lines_of-cut_lines : (at : ℕ) (parts : List LineParts)
+    → lines_of (cut_lines at parts) ≡ map line_from parts
+lines_of-cut_lines at [] = refl
+lines_of-cut_lines at (p ∷ parts) =
+    ap (λ ls. line_from p ∷ ls) (lines_of-cut_lines (at + length (p.slice ++ p.left_off)) parts)
+
+-- the lines of a paragraph that begins so many bytes later
+pub further-cut_lines : (start at : ℕ) (parts : List LineParts)
+    → map (further start) (cut_lines at parts) ≡ cut_lines (start + at) parts
+further-cut_lines start at [] = refl
+further-cut_lines start at (p ∷ parts) =
+    grind (arith, further-cut_lines start (at + (length (p.slice ++ p.left_off))) parts)
+
+-- the line of some pieces, and those after it
+pub cut_lines-next : (settings : Settings) (is_later : Bool) (at after : ℕ)
+    (pieces : List WordText) (others : List (List WordText)) → after ≡ at + length (tiled pieces)
+    → cut_lines at (parts_from settings is_later (pieces ∷ others))
+    ≡ cut_line at (line_from (parts_of settings is_later pieces))
+    ∷ cut_lines after (parts_from settings true others)
+cut_lines-next settings is_later at after pieces others is = grind (arith, parts_of-tile)
+
+-- ---- the places where they stand
+
+pub length-places_of : (used : ℕ) (cuts : List CutLine)
+    → length (places_of used cuts) ≡ length cuts
+length-places_of used [] = refl
+length-places_of used (cut ∷ cuts) =
+    let more = length-places_of (used + length (built_bytes cut.line)) cuts in omega (arith, more)
+
+pub places_of-push : (used after : ℕ) (cuts : List CutLine) (cut : CutLine)
+    → after ≡ used + length (built_text (lines_of cuts))
+    → places_of used (cuts ++ cut ∷ [])
+    ≡ places_of used cuts ++ place_of cut.at after cut.line ∷ []
+places_of-push used after [] cut is = grind arith
+places_of-push used after (first ∷ cuts) cut is =
+    let own = length (built_bytes first.line) in
+    let sum = length-append (built_bytes first.line) (built_text (lines_of cuts)) in
+    rw (places_of-push (used + own) after cuts cut (omega (arith, is, sum)))
+
+pub built_text-push : (cuts : List CutLine) (cut : CutLine)
+    → built_text (lines_of (cuts ++ cut ∷ []))
+    ≡ built_text (lines_of cuts) ++ built_bytes cut.line
+built_text-push cuts cut = grind (arith, map-append, flat_map-append, append-nil)
+
+-- ---- lemmas on what takes lines, one after another
 
 pub on_ok_both : {T E P Q R : Type 0} (result : Result T E) → (P → Q → R) → OnOk result P
     → OnOk result Q → OnOk result R
@@ -172,3 +234,113 @@ HasPlaces-took old begun new start lines begins took = λ before (places, built)
     let held = took.held old start before (begins old old.offset before
     (record { places = places; built = built; offset = refl })) in
     (held.places, held.built)
+
+-- ---- the lines of a text that a sink took, one paragraph after another
+
+module _ (settings : Settings) (Divides : Bool → List ℕ → List (List WordText) → Type 0)
+    {S : Type 0} (Holds : S → S → ℕ → List CutLine → Type 0) where
+  -- the lines of the paragraphs so far were taken, where those that are left begin at `start`: with
+  -- right lines of these they are the lines of the text
+  pub record HasParagraphs (text : List ℕ) (first now : S) (left : List (List ℕ)) (start : ℕ)
+      : Type 0 where
+    pub done : List (List ℕ)
+    pub paragraphs : paragraphs_of settings.line_ending text ≡ done ++ left
+    pub lines : List CutLine
+    pub groups : List (List LineParts)
+    pub given : lines_of lines ≡ map line_from (flat_map (λ parts. parts) groups)
+    pub more : (others : List (List LineParts))
+        → AreGroups (AreParagraphParts settings Divides) (nat_lt 0 (length lines)) left others
+        → AreGroups (AreParagraphParts settings Divides) false
+        (paragraphs_of settings.line_ending text) (groups ++ others)
+    pub cuts : (others : List (List LineParts))
+        → text_cuts (length (ending_bytes settings.line_ending)) 0
+        (paragraphs_of settings.line_ending text) (groups ++ others)
+        ≡ lines ++ text_cuts (length (ending_bytes settings.line_ending)) start left others
+    pub place : ℕ
+    pub held : Holds first now place lines
+    pub within : 0 < length left
+        → start + length (join_with (ending_bytes settings.line_ending) left) ≤ length text
+
+  pub HasParagraphs-start : (text : List ℕ) (sink : S) → Holds sink sink 0 []
+      → HasParagraphs text sink sink (paragraphs_of settings.line_ending text) 0
+  HasParagraphs-start text sink none =
+      let whole = ap length (join-paragraphs_of settings.line_ending text) in
+      record {
+        done = [];
+        paragraphs = refl;
+        lines = [];
+        groups = [];
+        given = refl;
+        more = λ others are. are;
+        cuts = λ others. refl;
+        place = 0;
+        held = none;
+        within = λ some. omega (arith, whole);
+      }
+
+  pub HasParagraphs-more : (text : List ℕ) (first now begun then : S)
+      (after : List (List ℕ)) (start next : ℕ) (paragraph : List ℕ) (is_later : Bool)
+      → HasParagraphs text first now (paragraph ∷ after) start
+      → next ≡ start + (length paragraph + length (ending_bytes settings.line_ending))
+      → ((sink : S) (place : ℕ) (held : List CutLine) → Holds sink now place held
+      → Holds sink begun start held)
+      → ((sink : S) (place : ℕ) (held : List CutLine) → Holds sink begun place held
+      → is_later ≡ nat_lt 0 (length held))
+      → (parts : List LineParts) × AreParagraphParts settings Divides is_later paragraph parts
+      × Took Holds begun then (cut_lines 0 parts)
+      → HasParagraphs text first then after next
+  HasParagraphs-more text first now begun then after start next paragraph is_later so_far next_is
+      begins is_out (parts, are, took) =
+      let here = cut_lines start parts in
+      let held = begins first so_far.place so_far.lines so_far.held in
+      let from_start : start + 0 ≡ start = omega arith in
+      let cuts : map (further start) (cut_lines 0 parts) ≡ here =
+      further-cut_lines start 0 parts ∙ ap (λ n. cut_lines n parts) from_start in
+      let count = length-append so_far.lines here in
+      let own : length here ≡ length parts =
+      sym (length-map here (λ (cut : CutLine). cut.line))
+      ∙ ap length (lines_of-cut_lines start parts) ∙ length-map parts line_from in
+      let later : nat_lt 0 (length (so_far.lines ++ here))
+      ≡ nat_lt 0 (length so_far.lines) || nat_lt 0 (length parts) =
+      is_later-or (length (so_far.lines ++ here)) (length so_far.lines) (length parts)
+      (omega (arith, count, own)) in
+      let ends : start + length paragraph + length (ending_bytes settings.line_ending) ≡ next =
+      omega (arith, next_is) in
+      record {
+        done = so_far.done ++ paragraph ∷ [];
+        paragraphs = so_far.paragraphs ∙ sym (append_assoc so_far.done (paragraph ∷ []) after);
+        lines = so_far.lines ++ here;
+        groups = so_far.groups ++ parts ∷ [];
+        given = map-append (λ (cut : CutLine). cut.line) so_far.lines here
+            ∙ ap (λ ls. ls ++ lines_of here) so_far.given
+            ∙ ap (λ ls. map line_from (flat_map (λ ps. ps) so_far.groups) ++ ls)
+            (lines_of-cut_lines start parts)
+            ∙ sym (groups-push so_far.groups parts);
+        more = λ others rest. rw append_assoc (so_far.more (parts ∷ others)
+            (rw (is_out first start so_far.lines held) at are, rw later at rest));
+        cuts = λ others. simp (append_assoc, so_far.cuts (parts ∷ others), ends);
+        place = start;
+        held = rw cuts at (took.held first start so_far.lines held);
+        within = λ some.
+            let rest = rest-within (ending_bytes settings.line_ending) paragraph after start
+            (length text) (so_far.within (omega arith)) some in
+            omega (arith, rest, next_is);
+      }
+
+  pub HasParagraphs-end : (text : List ℕ) (first now : S) (start : ℕ)
+      → HasParagraphs text first now [] start
+      → (taken : List CutLine) × AreCutLines settings Divides text taken × (end : ℕ)
+      × Holds first now end taken
+  HasParagraphs-end text first now start all = (
+    all.lines,
+    record {
+      are = record {
+        groups = all.groups;
+        defined = rw append-nil at (all.more [] refl);
+        given = all.given;
+      };
+      cuts_are = sym (simp append-nil at (all.cuts []));
+    },
+    all.place,
+    all.held,
+  )

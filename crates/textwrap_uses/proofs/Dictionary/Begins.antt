@@ -1,7 +1,7 @@
 -- The words of a paragraph begin where it may be cut; how far words go that are taken one after
 -- another.
-use Rattle.std.proofs.Common.{◌≡◌, ◌≢◌, ℕ, ◌+◌, ◌<◌, ◌≤◌, List, [], ◌∷◌, All, length, map}
-use Rattle.std.proofs.Common.{drop, refl, sym, ap, ◌∙◌, subst, arith, IsUtf8, IsCharBoundary}
+use Rattle.std.proofs.Common.{◌≡◌, ◌≢◌, ℕ, ◌+◌, ◌<◌, ◌≤◌, List, [], ◌∷◌, All, length, map, drop}
+use Rattle.std.proofs.Common.{refl, sym, ap, ◌∙◌, subst, arith, IsUtf8, IsCharBoundary}
 use Rattle.std.proofs.Common.{length-append}
 use Rattle.std.specs.List.{flat_map}
 use Rattle.std.proofs.lemmas.List.Elements.{All-head, All-tail}
@@ -9,7 +9,7 @@ use Rattle.std.proofs.lemmas.Str.{IsCharBoundary-start}
 use Rattle.textwrap.specs.Cuts.{AreInnerCuts}
 use Rattle.textwrap.specs.Words.{WordText, chunks, tile_of, tiled, word_of, words_of}
 use Rattle.textwrap_words.proofs.Word.Texts.{chunks-utf8}
-use Rattle.textwrap_words.proofs.Word.Tiling.{join-chunks, tile_of-word_of, tiled-words_of}
+use Rattle.textwrap_words.proofs.Word.Words.{join-chunks, tile_of-word_of, tiled-words_of}
 use Rattle.textwrap_words.proofs.Word.Words.{AreChunks-chunks}
 use Rattle.textwrap_steps.specs.Offsets.{AreNext, IsNextCut}
 use Rattle.textwrap_steps.proofs.OffsetLemmas.{next-inner}

@@ -1,10 +1,10 @@
 -- The points of words that stand one after another are places where their text may be cut.
-use Rattle.std.proofs.Common.{◌≡◌, ◌↔◌, ℕ, ◌+◌, ◌≤◌, List, [], ◌∷◌, ◌++◌, length, map}
-use Rattle.std.proofs.Common.{drop, sym, ap, ◌∙◌, arith, append_assoc, length-append}
+use Rattle.std.proofs.Common.{◌≡◌, ◌↔◌, ℕ, ◌+◌, ◌≤◌, List, [], ◌∷◌, ◌++◌, length, map, drop, sym}
+use Rattle.std.proofs.Common.{ap, ◌∙◌, arith, append_assoc, length-append}
 use Rattle.std.proofs.lemmas.List.Elements.{All-cons, All-head, All-tail}
 use Rattle.textwrap.specs.Cuts.{AreInnerCuts}
 use Rattle.textwrap.specs.Words.{WordText, tile_of, tiled, words_of}
-use Rattle.textwrap_words.proofs.Word.Tiling.{tiled-words_of}
+use Rattle.textwrap_words.proofs.Word.Words.{tiled-words_of}
 use Rattle.textwrap_steps.specs.Offsets.{AreNext, IsNextCut}
 use Rattle.textwrap_steps.proofs.OffsetLemmas.{inner-next, next-inner}
 use Rattle.textwrap_uses.specs.Hyphens.{HaveRightPoints, points_for, points_in}

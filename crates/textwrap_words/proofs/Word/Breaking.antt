@@ -1,11 +1,18 @@
--- Lemmas on the parts into which units are broken, one after another.
+-- The parts into which units are broken: the computed ones, and no others.
 use Rattle.textwrap_base.proofs.Common.{inl, inr, ◌≡◌, ℕ, ◌+◌, ◌<◌, ◌≤◌, true, false, cond, List}
 use Rattle.textwrap_base.proofs.Common.{[], ◌∷◌, ◌++◌, refl, ap, subst, zero-add, arith, ⊤}
-use Rattle.textwrap_base.proofs.Common.{onto_first, cases_Bool, nat_tests, sum_by-cons}
+use Rattle.textwrap_base.proofs.Common.{onto_first, cases_Bool, nat_tests, sum_by-cons, ◌≢◌}
+use Rattle.textwrap_base.proofs.Common.{add-zero, All, All-head, All-tail, sym, ◌∙◌, and_parts}
+use Rattle.textwrap_base.proofs.Common.{ltb-true, All-nil, All-cons, zero, suc, ◌⊎◌, nat_lt, filter}
+use Rattle.textwrap_base.proofs.Common.{length, drop, append_assoc, flat_map, cases_lt}
+use Rattle.textwrap_base.proofs.Common.{sum_by-append}
 use Rattle.textwrap_words.proofs.Common.{TextUnit, Visible, Sequence, columns, unit_width}
 use Rattle.textwrap_words.proofs.Common.{units_width, IsKept, AllPartsFull, is_due, broken_units}
+use Rattle.textwrap_words.proofs.Common.{characters, taken_at, units_past, units, visible_of}
 use Rattle.std.proofs.Common.{ltb}
-use Rattle.textwrap_words.specs.Breaking.{parts_after}
+use Rattle.textwrap_words.specs.Breaking.{parts_after, AreBroken}
+use Rattle.textwrap_base.proofs.Lists.Parts.{flat}
+use Rattle.textwrap_words.proofs.Units.Texts.{units-tile, units-part}
 
 -- ---- the computed parts, one by one
 
@@ -125,3 +132,229 @@ AllPartsFull-cons limit part (next ∷ parts) f h = (f, h)
 pub due-true : (limit width c : ℕ) → 0 < width → limit < width + columns c
     → is_due limit width (Visible c) ≡ true
 due-true limit width c some over = grind (arith, nat_tests)
+
+-- ---- no parts but the computed ones have the properties
+
+along : (limit width : ℕ) (first rest : List TextUnit) (more : List (List TextUnit))
+    → IsKeptAfter limit width first
+    → parts_after limit (width + units_width first) rest ≡ [] ∷ more
+    → parts_after limit width (first ++ rest) ≡ first ∷ more
+along limit width [] rest more k e = rw add-zero at e
+along limit width (u ∷ first) rest more k e =
+    let on : width + units_width (u ∷ first) ≡ width + unit_width u + units_width first =
+    omega (arith, sum_by-cons unit_width u first) in
+    rw k.0 (ap (onto_first u) (along limit (width + unit_width u) first rest more k.1 (rw on at e)))
+
+whole : (limit width : ℕ) (first : List TextUnit) (parts : List (List TextUnit))
+    → IsKeptAfter limit width first → IsFullAfter limit (width + units_width first) parts
+    → All (IsKept limit) parts → AllPartsFull limit parts
+    → parts_after limit width (first ++ flat parts) ≡ first ∷ parts
+whole limit width first [] k f ks fs = along limit width first [] [] k refl
+whole limit width first (next ∷ parts) k (c, after, e, some, over) ks fs =
+    let kept = IsKept-after limit (Visible c ∷ after)
+    (rw e at (All-head (IsKept limit) next parts ks)) in
+    let full = rw (sum_by-cons unit_width (Visible c) after) at
+    (rw e at (AllPartsFull-head limit next parts fs)) in
+    let rest = whole limit (columns c) after parts (rw (zero-add (columns c)) at kept.1) full
+    (All-tail (IsKept limit) next parts ks) (AllPartsFull-tail limit next parts fs) in
+    along limit width first (next ++ flat parts) (next ∷ parts) k
+    (rw (e, due-true limit (width + units_width first) c some over)
+    (ap (λ ps. [] ∷ onto_first (Visible c) ps) rest))
+
+pub AreBroken-unique : (limit : ℕ) (us : List TextUnit) (parts : List (List TextUnit))
+    → AreBroken limit us parts → parts ≡ broken_units limit us
+AreBroken-unique limit us [] h = ap (broken_units limit) h.tiles
+AreBroken-unique limit us ([] ∷ parts) h =
+    absurd (All-head (λ part. part ≢ []) [] parts h.nonempty refl)
+AreBroken-unique limit us ((u ∷ first) ∷ parts) h =
+    let kept = IsKept-after limit (u ∷ first) (All-head (IsKept limit) (u ∷ first) parts h.kept) in
+    let full : IsFullAfter limit (0 + units_width (u ∷ first)) parts =
+    rw zero-add (AllPartsFull-head limit (u ∷ first) parts h.full) in
+    sym (whole limit 0 (u ∷ first) parts kept full
+    (All-tail (IsKept limit) (u ∷ first) parts h.kept)
+    (AllPartsFull-tail limit (u ∷ first) parts h.full))
+    ∙ ap (broken_units limit) h.tiles
+
+-- ---- the computed parts have the properties
+
+-- what holds of the parts of some units, where the first goes on from `width` columns
+record AreBrokenAfter (limit width : ℕ) (us first : List TextUnit)
+    (parts : List (List TextUnit)) : Type 0 where
+  tiles : first ++ flat parts ≡ us
+  kept_first : IsKeptAfter limit width first
+  full_first : IsFullAfter limit (width + units_width first) parts
+  others : AreBroken limit (flat parts) parts
+
+nothing-broken : (limit : ℕ) → AreBroken limit [] []
+nothing-broken limit = grind (arith, All-nil)
+
+after-on : (limit width : ℕ) (u : TextUnit) (us first : List TextUnit)
+    (parts : List (List TextUnit)) → is_due limit width u ≡ false
+    → AreBrokenAfter limit (width + unit_width u) us first parts
+    → AreBrokenAfter limit width (u ∷ us) (u ∷ first) parts
+after-on limit width u us first parts on h = record {
+  tiles = ap (λ vs. u ∷ vs) h.tiles;
+  kept_first = (on, h.kept_first);
+  full_first =
+      let e : width + unit_width u + units_width first ≡ width + units_width (u ∷ first) =
+      omega (arith, sum_by-cons unit_width u first) in
+      subst (λ n. IsFullAfter limit n parts) e h.full_first;
+  others = h.others;
+}
+
+due-parts : (limit width : ℕ) (u : TextUnit) (first : List TextUnit) (parts : List (List TextUnit))
+    → is_due limit width u ≡ true → IsFullAfter limit width ((u ∷ first) ∷ parts)
+due-parts limit width (Visible c) first parts due =
+    let both = and_parts (ltb 0 width) (ltb limit (width + columns c)) due in
+    (c, first, refl, ltb-true 0 width both.0, ltb-true limit (width + columns c) both.1)
+due-parts limit width (Sequence cs) first parts due = cc
+
+-- what goes on after a unit makes, with this unit before it, the parts of units by themselves
+from-first : (limit : ℕ) (u : TextUnit) (us first : List TextUnit) (parts : List (List TextUnit))
+    → AreBrokenAfter limit (unit_width u) us first parts
+    → AreBroken limit (u ∷ us) ((u ∷ first) ∷ parts)
+from-first limit u us first parts h =
+    let kept_part : IsKeptAfter limit 0 (u ∷ first) = search (is_due-first, zero-add) in
+    let full_part = subst (λ n. IsFullAfter limit n parts)
+    (sym (sum_by-cons unit_width u first)) h.full_first in
+    record {
+      tiles = ap (λ vs. u ∷ vs) h.tiles;
+      nonempty = All-cons (λ part. part ≢ []) (u ∷ first) parts (λ e. cc) h.others.nonempty;
+      kept = All-cons (IsKept limit) (u ∷ first) parts (IsKept-from limit (u ∷ first) kept_part)
+          h.others.kept;
+      full = AllPartsFull-cons limit (u ∷ first) parts full_part h.others.full;
+    }
+
+after-cut : (limit width : ℕ) (u : TextUnit) (us first : List TextUnit)
+    (parts : List (List TextUnit)) → is_due limit width u ≡ true
+    → AreBrokenAfter limit (unit_width u) us first parts
+    → AreBrokenAfter limit width (u ∷ us) [] ((u ∷ first) ∷ parts)
+after-cut limit width u us first parts due h =
+    search (from-first, add-zero, due-parts)
+
+first-next : (limit : ℕ) (u : TextUnit) (us : List TextUnit)
+    → (u ∷ taken_units limit (unit_width u) us) ∷ broken_units limit
+    (left_units limit (unit_width u) us) ≡ broken_units limit (u ∷ us)
+first-next limit u us = sym (broken_units-cons limit u us
+    ∙ ap (onto_first u) (parts_after-is limit (unit_width u) us))
+
+after-is : (limit width : ℕ) (us : List TextUnit)
+    → AreBrokenAfter limit width us (taken_units limit width us)
+    (broken_units limit (left_units limit width us))
+after-is limit width [] =
+    record { tiles = refl; kept_first = tt; full_first = tt; others = nothing-broken limit }
+after-is limit width (u ∷ us) =
+    elim (cases_Bool (is_due limit width u)) [
+      | inl due ↦ rw due (subst (AreBrokenAfter limit width (u ∷ us) []) (first-next limit u us)
+          (after-cut limit width u us _ _ due (after-is limit (unit_width u) us)))
+      | inr on ↦ rw on (after-on limit width u us _ _ on (after-is limit (width + unit_width u) us))
+    ]
+
+pub AreBroken-exists : (limit : ℕ) (us : List TextUnit) → AreBroken limit us (broken_units limit us)
+AreBroken-exists limit [] = nothing-broken limit
+AreBroken-exists limit (u ∷ us) = subst (AreBroken limit (u ∷ us)) (first-next limit u us)
+    (from-first limit u us _ _ (after-is limit (unit_width u) us))
+
+-- ---- a part of the units that is wider than the limit has one character that takes columns
+
+pub units_past-skip : (n : ℕ) (cs : List ℕ) → units_past n cs ≡ units (drop n cs)
+units_past-skip zero cs = refl
+units_past-skip (suc n) [] = refl
+units_past-skip (suc n) (c ∷ cs) = units_past-skip n cs
+
+units-rest : (cs : List ℕ) (xs ys : List TextUnit) → units cs ≡ xs ++ ys
+    → units (flat_map characters ys) ≡ ys
+units-rest cs [] ys e = ap (λ us. units (flat_map characters us)) (sym e) ∙ ap units (units-tile cs)
+    ∙ e
+units-rest [] (x ∷ xs) ys e = cc
+units-rest (c ∷ cs) (x ∷ xs) ys e =
+    let tail : units_past (taken_at c cs) cs ≡ xs ++ ys = cc in
+    units-rest (drop (taken_at c cs) cs) xs ys (sym (units_past-skip (taken_at c cs) cs) ∙ tail)
+
+abbrev pub IsOwn : List TextUnit → Type 0
+IsOwn part = units (flat_map characters part) ≡ part
+
+pub parts-own : (cs : List ℕ) (parts : List (List TextUnit)) → flat_map (λ part. part) parts ≡ units cs
+    → All IsOwn parts
+parts-own cs [] e = All-nil IsOwn
+parts-own cs (part ∷ parts) e =
+    let rest = flat_map (λ p. p) parts in
+    All-cons IsOwn part parts (units-part cs part rest (sym e))
+    (parts-own (flat_map characters rest) parts (sym (units-rest cs part rest (sym e))))
+
+abbrev pub column_units : List TextUnit → List ℕ
+column_units us = filter (λ c. nat_lt 0 (columns c)) (flat_map visible_of us)
+
+unseen : (c : ℕ) → columns c ≡ 0 → nat_lt 0 (columns c) ≡ false
+unseen c none = grind (arith, nat_tests, none)
+
+seen : (c : ℕ) → 0 < columns c → nat_lt 0 (columns c) ≡ true
+seen c some = grind (arith, nat_tests, some)
+
+-- units without columns show no character that takes any
+no_columns : (us : List TextUnit) → units_width us ≡ 0 → length (column_units us) ≡ 0
+no_columns [] none = refl
+no_columns (Visible c ∷ us) none =
+    let sum = sum_by-cons unit_width (Visible c) us in
+    rw (unseen c (omega (arith, sum))) (no_columns us (omega (arith, sum)))
+no_columns (Sequence cs ∷ us) none =
+    no_columns us (omega (arith, sum_by-cons unit_width (Sequence cs) us))
+
+width-push : (front : List TextUnit) (u : TextUnit)
+    → units_width (front ++ u ∷ []) ≡ units_width front + unit_width u
+width-push front u =
+    omega (arith, sum_by-append unit_width front (u ∷ []), sum_by-cons unit_width u [])
+
+module _ (limit : ℕ) where
+  kept-push : (front : List TextUnit) (u : TextUnit) (us : List TextUnit)
+      → IsKept limit (front ++ u ∷ us) → IsKept limit ((front ++ u ∷ []) ++ us)
+  kept-push front u us kept = subst (IsKept limit) (sym (append_assoc front (u ∷ []) us)) kept
+
+  -- after units with columns there are no more columns, or all keep to the limit
+  later_step : (front : List TextUnit) (u : TextUnit) (us : List TextUnit)
+      → IsKept limit (front ++ u ∷ us) → 0 < units_width front
+      → (units_width us ≡ 0) ⊎ (units_width (front ++ u ∷ []) + units_width us ≤ limit)
+      → (units_width (u ∷ us) ≡ 0) ⊎ (units_width front + units_width (u ∷ us) ≤ limit)
+  later_step front u us kept some (inr within) =
+      inr (omega (arith, width-push front u, sum_by-cons unit_width u us))
+  later_step front (Sequence cs) us kept some (inl none) =
+      inl (omega (arith, sum_by-cons unit_width (Sequence cs) us))
+  later_step front (Visible c) us kept some (inl none) =
+      let here = kept front us c refl some in
+      inr (omega (arith, sum_by-cons unit_width (Visible c) us))
+
+  later : (front us : List TextUnit) → IsKept limit (front ++ us) → 0 < units_width front
+      → (units_width us ≡ 0) ⊎ (units_width front + units_width us ≤ limit)
+  later front [] kept some = inl refl
+  later front (u ∷ us) kept some =
+      later_step front u us kept some (later (front ++ u ∷ []) us (kept-push front u us kept)
+      (omega (arith, width-push front u)))
+
+  -- so units that pass the limit show one character that takes columns
+  single_after : (front : List TextUnit) (c : ℕ) (us : List TextUnit)
+      → IsKept limit (front ++ Visible c ∷ us) → units_width front ≡ 0
+      → limit < units_width (Visible c ∷ us) → 0 < columns c → length (column_units us) ≡ 0
+  single_after front c us kept none wide some =
+      let push = width-push front (Visible c) in
+      elim (later (front ++ Visible c ∷ []) us (kept-push front (Visible c) us kept)
+      (omega (arith, push))) [
+        | inl nothing ↦ no_columns us nothing
+        | inr within ↦ absurd (omega (arith, push, sum_by-cons unit_width (Visible c) us))
+      ]
+
+  pub single : (front us : List TextUnit) → IsKept limit (front ++ us) → units_width front ≡ 0
+      → limit < units_width us → length (column_units us) ≡ 1
+  single front [] kept none wide = absurd (omega arith)
+  single front (Sequence cs ∷ us) kept none wide =
+      single (front ++ Sequence cs ∷ []) us (kept-push front (Sequence cs) us kept)
+      (omega (arith, width-push front (Sequence cs)))
+      (omega (arith, sum_by-cons unit_width (Sequence cs) us))
+  single front (Visible c ∷ us) kept none wide =
+      elim (cases_lt 0 (columns c)) [
+        | inl some ↦ rw (seen c some) (ap suc (single_after front c us kept none wide some))
+        | inr nothing ↦
+            rw (unseen c (omega arith))
+            (single (front ++ Visible c ∷ []) us (kept-push front (Visible c) us kept)
+            (omega (arith, width-push front (Visible c)))
+            (omega (arith, sum_by-cons unit_width (Visible c) us)))
+      ]

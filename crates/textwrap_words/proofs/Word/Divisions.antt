@@ -1,12 +1,12 @@
 -- Lemmas on what an algorithm may divide, also one of a caller: its lines are the first elements in
 -- order, and along a view they are those of what the view gives.
-use Rattle.textwrap_base.proofs.Common.{◌≡◌, ◌≢◌, ℕ, suc, ◌-◌, ◌≤◌, ◌<◌, List, [], ◌∷◌}
-use Rattle.textwrap_base.proofs.Common.{length, map, drop, get_or, refl, sym, ap, ◌∙◌, subst, arith}
+use Rattle.textwrap_base.proofs.Common.{◌≡◌, ◌≢◌, ℕ, suc, ◌-◌, ◌≤◌, ◌<◌, List, [], ◌∷◌, length, map}
+use Rattle.textwrap_base.proofs.Common.{drop, get_or, refl, sym, ap, ◌∙◌, subst, arith}
 use Rattle.textwrap_base.proofs.Common.{append_assoc, append-nil, Some, None, Ok, slice_range}
 use Rattle.textwrap_base.proofs.Common.{IsNonDecreasing, map-id, take-map, length-map, drop_split}
 use Rattle.textwrap_base.proofs.Common.{◌++◌}
-use Rattle.textwrap_words.proofs.Common.{WordText, sizes_of, Greedy, LeastCost}
-use Rattle.textwrap_words.proofs.Common.{IsDividedBy, MayDivide, algorithm_view}
+use Rattle.textwrap_words.proofs.Common.{WordText, sizes_of, Greedy, LeastCost, IsDividedBy}
+use Rattle.textwrap_words.proofs.Common.{MayDivide, algorithm_view}
 use Rattle.std.proofs.lemmas.List.{drop-map}
 use Rattle.textwrap_words.specs.LineEnds.{AreEnds, lines_from}
 use Rattle.textwrap_words.specs.WrapAlgorithms.{MayEnd}

@@ -1,14 +1,285 @@
--- The code that finds the cuts at offsets.
-use Rattle.textwrap_base.proofs.Common.{◌≡◌, ℕ, ◌+◌, ◌≤◌, Bool, true, false, cond, List, [], ◌∷◌}
-use Rattle.textwrap_base.proofs.Common.{◌++◌, length, refl, sym, ap, ◌∙◌, arith, inl, inr}
-use Rattle.textwrap_base.proofs.Common.{append-nil, append_assoc, cases_Bool}
-use Rattle.textwrap_words.proofs.Common.{stripped, VisibleEnd, is_cut_after, cuts_among, cuts_at}
-use Rattle.textwrap_words.proofs.Common.{next_of, shows}
-use Rattle.std.specs.Str.{chars}
+-- Offsets of the visible text of a line, and the cuts of the line there.
+use Rattle.textwrap_base.proofs.Common.{inl, inr, cases_Bool, ◌≡◌, ◌≢◌, ℕ, ◌+◌, Bool, cond, eqb}
+use Rattle.textwrap_base.proofs.Common.{List, ◌∷◌, length, take, refl, ap, add-zero}
+use Rattle.textwrap_base.proofs.Common.{encode_utf8_all, true, [], ◌++◌, ◌∙◌, arith, length-append}
+use Rattle.textwrap_base.proofs.Common.{flat_map, Contains, encodes-append, subst, ◌↔◌, ◌<◌, map}
+use Rattle.textwrap_base.proofs.Common.{sym, zero-add, All, lt-ltb, All-nil, All-weaker}
+use Rattle.textwrap_base.proofs.Common.{length-encode, rules, ◌≤◌, IsUtf8, IsCharBoundary}
+use Rattle.textwrap_base.proofs.Common.{flat_map-append, encodes-chars, false, append-nil}
+use Rattle.textwrap_base.proofs.Common.{append_assoc}
+use Rattle.textwrap_words.proofs.Common.{ends_from, escape_len, next_of, shows, taken_in}
+use Rattle.textwrap_words.proofs.Common.{units_past, VisibleEnd, units_text, TextUnit, Visible}
+use Rattle.textwrap_words.proofs.Common.{Sequence, characters, shown_len, is_cut_after, cuts_among}
+use Rattle.textwrap_words.proofs.Common.{units, stripped, WordText, word_of, cuts_at, parts_between}
+use Rattle.textwrap_words.proofs.Common.{AreCuts}
 use lib.Utf8.{encode}
 use Rattle.textwrap_words.specs.declared.escapes.State.{State}
-use Rattle.textwrap_words.proofs.Units.ReadPlaces.{IsRead, read-ahead, read-next, read-none}
-use Rattle.textwrap_words.proofs.Word.VisibleEnds.{ends_in, ends-step, end_of}
+use Rattle.textwrap_words.specs.declared.escapes.State.TheVariants.{Text, Escape, Control, Command}
+use Rattle.textwrap_words.proofs.Units.Reading.{taken-step, units_in, IsRead, read-ahead, read-next}
+use Rattle.textwrap_words.proofs.Units.Reading.{read-none}
+use Rattle.textwrap_base.proofs.Texts.{past-one, one-text, utf8-back}
+use Rattle.textwrap_base.proofs.Lists.Elements.{contains-nil, contains-cases, contains-later}
+use Rattle.textwrap_base.proofs.Lists.Elements.{contains-here, IsRising, any-contains, contains-any}
+use Rattle.textwrap_base.proofs.Lists.Elements.{rising-increasing, increasing-rising}
+use Rattle.textwrap_base.proofs.Lists.Elements.{rising-in_order, same-members, increasing-le}
+use Rattle.std.specs.Str.{chars}
+use Rattle.std.proofs.lemmas.Bool.{not_from_false}
+use Rattle.textwrap_words.specs.WordOffsets.{IsCutAt, AreCutsAt, AreWordsAt, words_at}
+use Rattle.std.proofs.lemmas.List.Elements.{All-contains_itself}
+use Rattle.std.proofs.lemmas.List.Sorted.{IsNonDecreasingBy-from_default}
+use Rattle.std.proofs.lemmas.Str.{IsCharBoundary-at_seam}
+use Rattle.textwrap_words.proofs.Units.Texts.{units-tile}
+
+-- ---- where the visible characters of a line end
+
+-- where a character ends that begins at these places
+abbrev pub end_of : ℕ → ℕ → ℕ → VisibleEnd
+end_of at shown c =
+    record { character = c; end = at + length (encode c); shown = shown + length (encode c) }
+
+-- the units are those that the state has begun, which are no longer visible, and those after them
+abbrev pub ends_in : State → ℕ → ℕ → List ℕ → List VisibleEnd
+ends_in s at shown cs =
+    ends_from (at + length (encode_utf8_all (take (taken_in s cs) cs))) shown (units_in s cs)
+
+-- the ends from one more character on, if it is visible or not
+abbrev pub ends_past : State × Bool → ℕ → ℕ → ℕ → List ℕ → List VisibleEnd
+ends_past (next, flag) at shown c cs =
+    cond flag (end_of at shown c ∷ ends_in next (at + length (encode c))
+    (shown + length (encode c)) cs) (ends_in next (at + length (encode c)) shown cs)
+
+ends-inside : (s : State) (at shown c : ℕ) (cs : List ℕ) → s ≢ Text
+    → ends_in s at shown (c ∷ cs) ≡ ends_in (next_of s c) (at + length (encode c)) shown cs
+ends-inside s at shown c cs inside =
+    search (taken-step, past-one)
+
+pub ends-step : (s : State) (at shown c : ℕ) (cs : List ℕ)
+    → ends_in s at shown (c ∷ cs) ≡ ends_past (next_of s c, shows s c) at shown c cs
+ends-step Text at shown c cs =
+    elim (cases_Bool (eqb c 27)) [
+      | inl t ↦ rw (add-zero at, t) (ap (λ n. ends_from n shown (units_past (escape_len cs) cs))
+          (past-one at c (take (escape_len cs) cs)))
+      | inr f ↦ rw (add-zero at, f, add-zero (at + length (encode c))) refl
+    ]
+ends-step Escape at shown c cs = ends-inside Escape at shown c cs (λ e. cc)
+ends-step Control at shown c cs = ends-inside Control at shown c cs (λ e. cc)
+ends-step (Command last) at shown c cs = ends-inside (Command last) at shown c cs (λ e. cc)
+
+-- ---- the cuts that a walk along a line finds are those at the offsets
+
+-- a cut among units, of which the first begins at these places
+pub record IsFound (offsets : List ℕ) (total at shown : ℕ) (us : List TextUnit) (cut : ℕ) : Type 0 where
+  pub before : List TextUnit
+  pub character : ℕ
+  pub after : List TextUnit
+  pub divided : us ≡ (before ++ Visible character ∷ []) ++ after
+  pub place : cut ≡ at + length (units_text (before ++ Visible character ∷ []))
+  pub passes : is_cut_after offsets total character (shown + shown_len (before ++ Visible character ∷ []))
+      ≡ true
+
+found-visible : (offsets : List ℕ) (total at shown c : ℕ) (us : List TextUnit) (cut : ℕ)
+    → IsFound offsets total (at + length (encode c)) (shown + length (encode c)) us cut
+    → IsFound offsets total at shown (Visible c ∷ us) cut
+found-visible offsets total at shown c us cut f =
+    let front = f.before ++ Visible f.character ∷ [] in
+    let further : shown + shown_len (Visible c ∷ front)
+    ≡ (shown + length (encode c)) + shown_len front =
+    omega (arith, length-append {A = ℕ}) in
+    record {
+      before = Visible c ∷ f.before;
+      character = f.character;
+      after = f.after;
+      divided = ap (λ vs. Visible c ∷ vs) f.divided;
+      place = omega (arith, f.place, length-append (encode c) (units_text front));
+      passes = ap (is_cut_after offsets total f.character) further ∙ f.passes;
+    }
+
+found-sequence : (offsets : List ℕ) (total at shown : ℕ) (cs : List ℕ) (us : List TextUnit)
+    (cut : ℕ) → IsFound offsets total (at + length (encode_utf8_all cs)) shown us cut
+    → IsFound offsets total at shown (Sequence cs ∷ us) cut
+found-sequence offsets total at shown cs us cut f =
+    let front = f.before ++ Visible f.character ∷ [] in
+    let text = ap length (encodes-append cs (flat_map characters front)) in
+    record {
+      before = Sequence cs ∷ f.before;
+      character = f.character;
+      after = f.after;
+      divided = ap (λ vs. Sequence cs ∷ vs) f.divided;
+      place = omega (arith, f.place, text, length-append {A = ℕ});
+      passes = f.passes;
+    }
+
+pub contains-found : (offsets : List ℕ) (total : ℕ) (us : List TextUnit) (at shown cut : ℕ)
+    → Contains (cuts_among offsets total (ends_from at shown us)) cut
+    → IsFound offsets total at shown us cut
+contains-found offsets total [] at shown cut h = absurd (contains-nil cut h)
+contains-found offsets total (Sequence cs ∷ us) at shown cut h =
+    found-sequence offsets total at shown cs us cut
+    (contains-found offsets total us (at + length (encode_utf8_all cs)) shown cut h)
+contains-found offsets total (Visible c ∷ us) at shown cut h =
+    let len = length (encode c) in
+    let later = λ (g : Contains (cuts_among offsets total (ends_from (at + len) (shown + len) us)) cut).
+    found-visible offsets total at shown c us cut
+    (contains-found offsets total us (at + len) (shown + len) cut g) in
+    elim (cases_Bool (is_cut_after offsets total c (shown + len))) [
+      | inl t ↦ elim (contains-cases (at + len) cut
+          (cuts_among offsets total (ends_from (at + len) (shown + len) us)) (rw t at h)) [
+            | inl e ↦ record {
+              before = [];
+              character = c;
+              after = us;
+              divided = refl;
+              place = omega (arith, e, one-text c);
+              passes = ap (λ n. is_cut_after offsets total c (shown + n)) (one-text c) ∙ t;
+            }
+            | inr g ↦ later g
+          ]
+      | inr f ↦ later (rw f at h)
+    ]
+
+among-more : (offsets : List ℕ) (total : ℕ) (e : VisibleEnd) (ends : List VisibleEnd) (cut : ℕ)
+    → Contains (cuts_among offsets total ends) cut
+    → Contains (cuts_among offsets total (e ∷ ends)) cut
+among-more offsets total e ends cut h =
+    elim (cases_Bool (is_cut_after offsets total e.character e.shown)) [
+      | inl t ↦ rw t (contains-later e.end cut (cuts_among offsets total ends) h)
+      | inr f ↦ rw f h
+    ]
+
+pub found-contains : (offsets : List ℕ) (total : ℕ) (before after : List TextUnit) (c at shown : ℕ)
+    → is_cut_after offsets total c (shown + shown_len (before ++ Visible c ∷ [])) ≡ true
+    → Contains (cuts_among offsets total (ends_from at shown ((before ++ Visible c ∷ []) ++ after)))
+    (at + length (units_text (before ++ Visible c ∷ [])))
+found-contains offsets total [] after c at shown passes =
+    grind (arith, one-text, contains-here)
+found-contains offsets total (Visible d ∷ before) after c at shown passes =
+    let len = length (encode d) in
+    let front = before ++ Visible c ∷ [] in
+    let place : (at + len) + length (units_text front) ≡ at + length (units_text (Visible d ∷ front)) =
+    omega (arith, length-append {A = ℕ}) in
+    let further : (shown + len) + shown_len front ≡ shown + shown_len (Visible d ∷ front) =
+    omega (arith, length-append {A = ℕ}) in
+    among-more offsets total (record { character = d; end = at + len; shown = shown + len })
+    (ends_from (at + len) (shown + len) (front ++ after))
+    (at + length (units_text (Visible d ∷ front)))
+    (subst (Contains (cuts_among offsets total (ends_from (at + len) (shown + len)
+    (front ++ after)))) place
+    (found-contains offsets total before after c (at + len) (shown + len)
+    (ap (is_cut_after offsets total c) further ∙ passes)))
+found-contains offsets total (Sequence cs ∷ before) after c at shown passes =
+    let len = length (encode_utf8_all cs) in
+    let again = found-contains offsets total before after c (at + len) shown passes in
+    grind (arith, encodes-append, length-append)
+
+-- ---- the computed cuts are the cuts
+
+-- they are in order
+among-above : (offsets : List ℕ) (total : ℕ) (us : List TextUnit) (at shown : ℕ)
+    → All (λ cut. at < cut) (cuts_among offsets total (ends_from at shown us))
+among-above offsets total [] at shown = All-nil (λ cut. at < cut)
+among-above offsets total (Sequence cs ∷ us) at shown =
+    let next = at + length (encode_utf8_all cs) in
+    grind (arith, All-weaker, among-above offsets total us next shown)
+among-above offsets total (Visible c ∷ us) at shown =
+    let len = length (encode c) in
+    grind (arith, length-encode, among-above offsets total us (at + len) (shown + len))
+
+among-rising : (offsets : List ℕ) (total : ℕ) (us : List TextUnit) (at shown : ℕ)
+    → IsRising (cuts_among offsets total (ends_from at shown us))
+among-rising offsets total [] at shown = λ i j lt within. absurd (omega arith)
+among-rising offsets total (Sequence cs ∷ us) at shown =
+    among-rising offsets total us (at + length (encode_utf8_all cs)) shown
+among-rising offsets total (Visible c ∷ us) at shown =
+    let len = length (encode c) in
+    search (rules, among-above, among-rising offsets total us (at + len) (shown + len))
+
+pub cut-found : (offsets line : List ℕ) (cut : ℕ) → Contains (cuts_at offsets line) cut
+    → IsCutAt offsets line cut
+cut-found offsets line cut h =
+    let total = length (stripped line) in
+    let f = contains-found offsets total (units (chars line)) 0 0 cut h in
+    grind (arith, any-contains)
+
+cut-contained : (offsets line : List ℕ) (cut : ℕ) → IsCutAt offsets line cut
+    → Contains (cuts_at offsets line) cut
+cut-contained offsets line cut h =
+    let total = length (stripped line) in
+    let front = h.before ++ Visible h.character ∷ [] in
+    let passes : is_cut_after offsets total h.character (0 + shown_len front) ≡ true =
+    search (zero-add, not_from_false, lt-ltb, contains-any) in
+    let place : 0 + length (units_text front) ≡ cut =
+    zero-add (length (units_text front)) ∙ sym h.place in
+    subst (λ us. Contains (cuts_among offsets total (ends_from 0 0 us)) cut) (sym h.divided)
+    (subst (Contains (cuts_among offsets total (ends_from 0 0 (front ++ h.after)))) place
+    (found-contains offsets total h.before h.after h.character 0 0 passes))
+
+pub cuts_at-cuts : (offsets line : List ℕ) → AreCutsAt offsets line (cuts_at offsets line)
+cuts_at-cuts offsets line = search (rising-increasing, among-rising, cut-found, cut-contained)
+
+-- ---- and there are no others
+
+cuts-unique : (offsets line cuts : List ℕ) → AreCutsAt offsets line cuts
+    → cuts ≡ cuts_at offsets line
+cuts-unique offsets line cuts h =
+    same-members (λ cut. cut) cuts (cuts_at offsets line)
+    (rising-in_order cuts (increasing-rising cuts h.in_order))
+    (rising-in_order (cuts_at offsets line)
+    (among-rising offsets (length (stripped line)) (units (chars line)) 0 0))
+    (λ cut in_cuts. cut-contained offsets line cut ((h.all cut).0 in_cuts))
+    (λ cut found. (h.all cut).1 (cut-found offsets line cut found))
+
+pub words_at-unique : (offsets line : List ℕ) (words : List WordText)
+    → AreWordsAt offsets line words ↔ (words ≡ words_at offsets line)
+words_at-unique offsets line words = (
+  λ h. h.2 ∙ ap (λ cuts. map word_of (parts_between cuts line))
+      (cuts-unique offsets line h.0 h.1),
+  λ e. (cuts_at offsets line, cuts_at-cuts offsets line, e),
+)
+
+-- ---- a line may be cut at the offsets of its visible text
+
+shown-short : (us : List TextUnit) → shown_len us ≤ length (units_text us)
+shown-short [] = omega arith
+shown-short (Visible c ∷ us) = omega (arith, shown-short us, length-append {A = ℕ})
+shown-short (Sequence cs ∷ us) =
+    rw (encodes-append cs (flat_map characters us))
+    (omega (arith, shown-short us, length-append {A = ℕ}))
+
+cut-inside : (offsets line : List ℕ) (cut : ℕ) → IsUtf8 line → IsCutAt offsets line cut
+    → (cut < length line) × IsCharBoundary line cut
+cut-inside offsets line cut utf8 h =
+    let front = h.before ++ Visible h.character ∷ [] in
+    let chars_are : chars line ≡ flat_map characters front ++ flat_map characters h.after =
+    sym (units-tile (chars line)) ∙ ap (flat_map characters) h.divided
+    ∙ flat_map-append characters front h.after in
+    let whole : line ≡ encode_utf8_all (flat_map characters front ++ flat_map characters h.after) =
+    sym (encodes-chars line utf8) ∙ ap encode_utf8_all chars_are in
+    let back : IsUtf8 (units_text h.after) =
+    utf8-back (flat_map characters front) (flat_map characters h.after)
+    (subst IsUtf8 whole utf8) in
+    search (
+      rules,
+      flat_map-append,
+      encodes-append,
+      length-append,
+      shown-short,
+      IsCharBoundary-at_seam,
+    )
+
+pub cuts_at-AreCuts : (offsets line : List ℕ) → IsUtf8 line → AreCuts line (cuts_at offsets line)
+cuts_at-AreCuts offsets line utf8 =
+    let cuts = cuts_at offsets line in
+    let each : (P : ℕ → Type 0) → ((cut : ℕ) → (cut < length line) × IsCharBoundary line cut → P cut)
+    → All P cuts =
+    λ P use_it. All-weaker (Contains cuts) P
+    (λ cut h. use_it cut (cut-inside offsets line cut utf8 (cut-found offsets line cut h)))
+    cuts (All-contains_itself cuts) in
+    record {
+      in_order = IsNonDecreasingBy-from_default (λ x. x) cuts 0
+          (increasing-le cuts (cuts_at-cuts offsets line).in_order);
+      in_range = each (λ cut. cut < length line) (λ cut h. h.0);
+      between = each (IsCharBoundary line) (λ cut h. h.1);
+    }
 
 -- ---- the cuts
 

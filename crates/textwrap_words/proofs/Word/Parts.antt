@@ -1,17 +1,34 @@
--- Lemmas on the parts of a text between cuts.
+-- The parts of a text between cuts, and between places that a test tells.
 use Rattle.textwrap_base.proofs.Common.{inl, inr, ◌≡◌, ℕ, suc, ◌<◌, ◌≤◌, List, [], ◌∷◌, ◌++◌, All}
 use Rattle.textwrap_base.proofs.Common.{map, length, get_or, drop, sym, ap, ◌∙◌, arith, append-nil}
 use Rattle.textwrap_base.proofs.Common.{◌==◌, slice_range, IsNonDecreasing, IsUtf8, IsCharBoundary}
-use Rattle.textwrap_base.proofs.Common.{cases_Bool, nil_from_length, drop_split, All-nil}
-use Rattle.textwrap_base.proofs.Common.{All-cons, All-head, All-tail, IsUtf8-drop, IsUtf8-between}
-use Rattle.textwrap_base.proofs.Common.{IsCharBoundary-start}
+use Rattle.textwrap_base.proofs.Common.{cases_Bool, nil_from_length, drop_split, All-nil, All-cons}
+use Rattle.textwrap_base.proofs.Common.{All-head, All-tail, IsUtf8-drop, IsUtf8-between}
+use Rattle.textwrap_base.proofs.Common.{IsCharBoundary-start, ◌≢◌, true, take, refl, subst, None}
+use Rattle.textwrap_base.proofs.Common.{Ok, zero, ◌+◌, Bool, false, cond, ◌||◌, onto_first}
+use Rattle.textwrap_base.proofs.Common.{take_all, drop_all, append_assoc, length_push, ◌-◌}
+use Rattle.textwrap_base.proofs.Common.{if◌then◌else◌, All-weaker, add-zero, drop-drop, get_or-drop}
+use Rattle.textwrap_base.proofs.Common.{length-drop, nat_tests, cases_lt}
 use Rattle.textwrap_words.proofs.Common.{tiled, word_of, AreCuts, AreInnerCuts, parts_between}
+use Rattle.textwrap_words.proofs.Common.{WordText, MaySeparate, MaySplit, ends_in_hyphen}
+use Rattle.textwrap_words.proofs.Common.{splitter_view, Whole, AtHyphens, chunks, is_cut, words_of}
 use Rattle.std.proofs.lemmas.List.Sorted.{IsNonDecreasingBy-from_default}
-use Rattle.textwrap_base.proofs.Lists.Parts.{flat}
-use Rattle.textwrap_words.proofs.Word.Tiling.{tiled-map}
+use Rattle.textwrap_base.proofs.Lists.Parts.{flat, onto_first-some, onto_first-append}
+use Rattle.textwrap_words.proofs.Word.Words.{tiled-map, chunks-from}
 use Rattle.textwrap_words.specs.Cuts.{AreLaterCuts, parts_from}
-use Rattle.textwrap_base.proofs.Lists.Rising.{increasing-le, increasing-rising, rising-increasing}
+use Rattle.textwrap_base.proofs.Lists.Elements.{increasing-le, increasing-rising, rising-increasing}
 use Rattle.std.proofs.lemmas.List.Elements.{All-from_get_or}
+use Rattle.textwrap_words.specs.declared.word_splitters.WordSplitter as splitters
+use Rattle.textwrap_words.proofs.Word.Pieces.{AreTexts, AreTexts-words, AreTexts-parts}
+use Rattle.textwrap_words.proofs.Word.Pieces.{ArePoints-cuts, ArePoints-hyphens}
+use Rattle.textwrap_words.specs.WordSeparators.{MayCut}
+use Rattle.textwrap_words.specs.WordSplitters.{MayPoint}
+use Rattle.textwrap_words.specs.declared.word_separators.WordSeparator.{WordSeparator}
+use Rattle.textwrap_words.specs.declared.word_separators.WordSeparator.TheVariants.{AsciiSpace}
+use Rattle.textwrap_words.specs.declared.word_separators.WordSeparator.TheVariants.{Custom}
+use Rattle.textwrap_words.specs.declared.word_separators.line_cuts.LineCuts.{LineCuts}
+use Rattle.textwrap_words.specs.declared.word_splitters.word_cuts.WordCuts.{WordCuts}
+use Rattle.textwrap_words.specs.PieceCuts.{parts_by}
 
 -- ---- the parts are the line
 
@@ -77,3 +94,282 @@ later-cuts start cut text cuts are =
       before_end = All-tail (λ c. c < length text) cut cuts are.before_end;
       between = All-tail (IsCharBoundary text) cut cuts are.between;
     }
+
+-- ---- words at cuts
+
+pub parts-texts : (line cuts : List ℕ) → IsUtf8 line → AreCuts line cuts
+    → AreTexts line (map word_of (parts_between cuts line))
+parts-texts line cuts utf8 are =
+    AreTexts-parts line (parts_between cuts line) (parts_between-tile cuts line are.in_order)
+    (parts_between-utf8 cuts line utf8 are)
+
+-- ---- what is given
+
+pub MayCut-cuts : {F : Type 0} {f : _} (given : LineCuts F f) (line cuts : List ℕ) → IsUtf8 line
+    → MayCut given line cuts → AreInnerCuts line cuts
+MayCut-cuts given line cuts utf8 (alloc, asked, answer, same, is, met) =
+    subst (AreInnerCuts line) is (subst (λ l. AreInnerCuts l answer.items) same
+    (given.answers alloc asked (Ok answer) (subst IsUtf8 (sym same) utf8) met answer refl))
+
+pub MayPoint-cuts : {F : Type 0} {f : _} (given : WordCuts F f) (text points : List ℕ)
+    → IsUtf8 text → MayPoint given text points → AreCuts text points
+MayPoint-cuts given text points utf8 (alloc, asked, answer, same, is, met) =
+    subst (AreCuts text) is (subst (λ t. AreCuts t answer.items) same
+    (given.answers alloc asked (Ok answer) (subst IsUtf8 (sym same) utf8) met answer refl))
+
+module _ {F : Type 0} {f : _} where
+  pub MaySeparate-texts : (separator : WordSeparator F f) (line : List ℕ) (words : List WordText)
+      → IsUtf8 line → MaySeparate separator line words → AreTexts line words
+  MaySeparate-texts AsciiSpace line words utf8 are = AreTexts-words line words utf8 are
+  MaySeparate-texts (Custom given) line words utf8 (cuts, may, is) =
+      subst (AreTexts line) (sym is)
+      (parts-texts line cuts utf8
+      (inner-cuts line cuts (MayCut-cuts given line cuts utf8 may)))
+
+module _ {F : Type 0} {f : _} where
+  pub MaySplit-cuts : (splitter : splitters.WordSplitter F f) (text points : List ℕ) → IsUtf8 text
+      → MaySplit splitter text points → AreCuts text points
+  MaySplit-cuts splitters.TheVariants.NoHyphenation text points utf8 are =
+      ArePoints-cuts Whole text points utf8 are
+  MaySplit-cuts splitters.TheVariants.HyphenSplitter text points utf8 are =
+      ArePoints-cuts AtHyphens text points utf8 are
+  MaySplit-cuts (splitters.TheVariants.Custom given) text points utf8 may =
+      MayPoint-cuts given text points utf8 may
+
+  pub MaySplit-hyphens : (splitter : splitters.WordSplitter F f) → splitter_view splitter ≢ None
+      → (text points : List ℕ) → MaySplit splitter text points
+      → All (λ p. ends_in_hyphen (take p text) ≡ true) points
+  MaySplit-hyphens splitters.TheVariants.NoHyphenation built_in text points are =
+      ArePoints-hyphens Whole text points are
+  MaySplit-hyphens splitters.TheVariants.HyphenSplitter built_in text points are =
+      ArePoints-hyphens AtHyphens text points are
+  MaySplit-hyphens (splitters.TheVariants.Custom given) built_in text points may =
+      absurd (built_in refl)
+
+-- ---- lemmas on the parts that a test of places cuts bytes into
+
+-- one step, where the answer of the test is named
+abbrev pub next_by : (ℕ → Bool) → Bool → ℕ → ℕ → List ℕ → List (List ℕ)
+next_by test here at b rest = cond here ((b ∷ []) ∷ parts_by test (at + 1) rest)
+    (onto_first b (parts_by test (at + 1) rest))
+
+module _ (test : ℕ → Bool) where
+  pub parts_by-some : (at b : ℕ) (cs : List ℕ) → 0 < length (parts_by test at (b ∷ cs))
+  parts_by-some at b [] = omega arith
+  parts_by-some at b (c ∷ cs) =
+      elim (test (at + 1)) as (λ t. 0 < length (next_by test t at b (c ∷ cs)))
+      [ true ↦ omega arith | false ↦ onto_first-some b (parts_by test (at + 1) (c ∷ cs)) ]
+
+  -- the first part ends at the first place where the test holds
+  pub parts_by-front : (rest : List ℕ) (at n : ℕ) → 0 < n → n ≤ length rest
+      → ((k : ℕ) → 0 < k → k < n → test (at + k) ≡ false)
+      → (n < length rest → test (at + n) ≡ true)
+      → parts_by test at rest ≡ take n rest ∷ parts_by test (at + n) (drop n rest)
+  parts_by-front rest at zero some within none ends = absurd (omega arith)
+  parts_by-front [] at (suc n) some within none ends = absurd (omega arith)
+  parts_by-front (b ∷ []) at (suc zero) some within none ends = refl
+  parts_by-front (b ∷ []) at (suc (suc n)) some within none ends = absurd (omega arith)
+  parts_by-front (b ∷ c ∷ cs) at (suc zero) some within none ends =
+      ap (λ t. next_by test t at b (c ∷ cs)) (ends (omega arith))
+  parts_by-front (b ∷ c ∷ cs) at (suc (suc n)) some within none ends =
+      let place : (at + 1) + suc n ≡ at + suc (suc n) = omega arith in
+      ap (λ t. next_by test t at b (c ∷ cs)) (none 1 (omega arith) (omega arith))
+      ∙ ap (onto_first b)
+      (parts_by-front (c ∷ cs) (at + 1) (suc n) (omega arith) (omega arith)
+      (λ k first below.
+      let next : at + suc k ≡ (at + 1) + k = omega arith in
+      ap test (sym next) ∙ none (suc k) (omega arith) (omega (arith, below)))
+      (λ inside. ap test place ∙ ends (omega (arith, inside))))
+      ∙ ap (λ m. take (suc (suc n)) (b ∷ c ∷ cs) ∷ parts_by test m (drop (suc n) (c ∷ cs))) place
+
+  -- what is cut nowhere is one part
+  pub parts_by-whole : (rest : List ℕ) (at : ℕ) → 0 < length rest
+      → ((k : ℕ) → 0 < k → k < length rest → test (at + k) ≡ false)
+      → parts_by test at rest ≡ rest ∷ []
+  parts_by-whole rest at some none =
+      let n = length rest in
+      parts_by-front rest at n some (omega arith) none (λ inside. absurd (omega (arith, inside)))
+      ∙ ap (λ p. p ∷ parts_by test (at + n) (drop n rest)) (take_all n rest (omega arith))
+      ∙ ap (λ l. rest ∷ parts_by test (at + n) l) (drop_all n rest (omega arith))
+
+-- ---- the parts of chunks
+
+-- the parts of lists that follow one another
+abbrev pub parts_within : (ℕ → Bool) → ℕ → List (List ℕ) → List (List ℕ)
+parts_within test at [] = []
+parts_within test at (q ∷ qs) = parts_by test at q ++ parts_within test (at + length q) qs
+
+-- a text that is cut between its words and at points
+module _ (text : List ℕ) (test point : ℕ → Bool)
+    (tests : (before after : List ℕ) (b c at : ℕ) → text ≡ before ++ b ∷ c ∷ after
+    → length before ≡ at → test (at + 1) ≡ (is_cut b c || point (at + 1))) where
+  within-step : (at b c : ℕ) (q : List ℕ) (qs : List (List ℕ)) (t : Bool)
+      → cond t ((b ∷ []) ∷ parts_within point (at + 1) ((c ∷ q) ∷ qs))
+      (onto_first b (parts_within point (at + 1) ((c ∷ q) ∷ qs)))
+      ≡ next_by point t at b (c ∷ q) ++ parts_within point (at + 1 + length (c ∷ q)) qs
+  within-step at b c q qs true = refl
+  within-step at b c q qs false =
+      onto_first-append b (parts_by point (at + 1) (c ∷ q))
+      (parts_within point (at + 1 + length (c ∷ q)) qs) (parts_by-some point (at + 1) c q)
+
+  chunks-step : (at b c : ℕ) (cs : List ℕ) (t : Bool)
+      → parts_by test (at + 1) (c ∷ cs) ≡ parts_within point (at + 1) (chunks (c ∷ cs))
+      → next_by test (t || point (at + 1)) at b (c ∷ cs)
+      ≡ parts_within point at (cond t ((b ∷ []) ∷ chunks (c ∷ cs)) (onto_first b (chunks (c ∷ cs))))
+  chunks-step at b c cs true rest = ap (λ ps. (b ∷ []) ∷ ps) rest
+  chunks-step at b c cs false rest =
+      grind (arith, chunks-from, within-step)
+
+  pub parts_by-chunks : (rest before : List ℕ) (at : ℕ) → text ≡ before ++ rest
+      → length before ≡ at → parts_by test at rest ≡ parts_within point at (chunks rest)
+  parts_by-chunks [] before at is len = refl
+  parts_by-chunks (b ∷ []) before at is len = refl
+  parts_by-chunks (b ∷ c ∷ cs) before at is len =
+      ap (λ t. next_by test t at b (c ∷ cs)) (tests before cs b c at is len)
+      ∙ chunks-step at b c cs (is_cut b c)
+      (parts_by-chunks (c ∷ cs) (before ++ b ∷ []) (at + 1)
+      (is ∙ sym (append_assoc before (b ∷ []) (c ∷ cs)))
+      (omega (arith, length_push before b, len)))
+
+-- ---- places that a test tells, and the parts of a text between them
+
+-- the place, where the test holds
+abbrev pub cut_here : Bool → ℕ → List ℕ
+cut_here b end = if b then end ∷ [] else []
+
+-- the places among these bytes, of which the first stands behind so many others
+abbrev pub places_by : (ℕ → Bool) → ℕ → List ℕ → List ℕ
+places_by test at [] = []
+places_by test at (b ∷ []) = []
+places_by test at (b ∷ c ∷ cs) =
+    cut_here (test (at + 1)) (at + 1) ++ places_by test (at + 1) (c ∷ cs)
+
+module _ (text : List ℕ) (at b : ℕ) (rest : List ℕ) (is : drop at text ≡ b ∷ rest) where
+  pub byte-here : get_or text at 0 ≡ b
+  byte-here = ap (λ k. get_or text k 0) (sym (add-zero at)) ∙ sym (get_or-drop at text 0 0)
+      ∙ ap (λ l. get_or l 0 0) is
+
+  pub bytes-after : drop (at + 1) text ≡ rest
+  bytes-after = sym (drop-drop 1 at text) ∙ ap (drop 1) is
+
+  pub byte-inside : at < length text
+  byte-inside = omega (arith, length-drop at text, ap length is)
+
+  -- a part that begins one byte earlier
+  part-back : (cuts : List ℕ) → All (λ cut. at < cut) cuts
+      → parts_from at cuts text ≡ onto_first b (parts_from (at + 1) cuts text)
+  part-back [] above = ap (λ l. l ∷ []) (is ∙ ap (λ l. b ∷ l) (sym bytes-after))
+  part-back (cut ∷ cuts) above =
+      let more : cut - at ≡ suc (cut - (at + 1)) = omega (arith, above 0 0 (omega arith)) in
+      ap (λ l. l ∷ parts_from cut cuts text)
+      (ap (λ l. take (cut - at) l) is ∙ ap (λ n. take n (b ∷ rest)) more
+      ∙ ap (λ l. b ∷ take (cut - (at + 1)) l) (sym bytes-after))
+
+-- tests that agree have the same parts
+pub parts-same : (test other : ℕ → Bool) (rest : List ℕ) (at : ℕ)
+    → ((k : ℕ) → at < k → k < at + length rest → test k ≡ other k)
+    → parts_by test at rest ≡ parts_by other at rest
+parts-same test other [] at same = refl
+parts-same test other (b ∷ []) at same = refl
+parts-same test other (b ∷ c ∷ cs) at same =
+    ap (λ t. next_by test t at b (c ∷ cs)) (same (at + 1) (omega arith) (omega arith))
+    ∙ ap (λ ps. if other (at + 1) then (b ∷ []) ∷ ps else onto_first b ps)
+    (parts-same test other (c ∷ cs) (at + 1)
+    (λ k from below. same k (omega (arith, from)) (omega (arith, below))))
+
+module _ (test : ℕ → Bool) where
+  pub places-above : (at : ℕ) (bytes : List ℕ) → All (λ place. at < place) (places_by test at bytes)
+  places-above at [] = All-nil (λ place. at < place)
+  places-above at (b ∷ []) = All-nil (λ place. at < place)
+  places-above at (b ∷ c ∷ cs) =
+      let rest = places_by test (at + 1) (c ∷ cs) in
+      let later : All (λ place. at < place) rest =
+      All-weaker (λ place. at + 1 < place) (λ place. at < place) (λ place h. omega (arith, h)) rest
+      (places-above (at + 1) (c ∷ cs)) in
+      elim (test (at + 1)) as (λ t. All (λ place. at < place) (cut_here t (at + 1) ++ rest)) [
+        | true ↦ All-cons (λ place. at < place) (at + 1) rest (omega arith) later
+        | false ↦ later
+      ]
+
+  -- ---- the parts
+
+  parts-places : (text : List ℕ) (at b : ℕ) (rest : List ℕ) → drop at text ≡ b ∷ rest
+      → parts_from at (places_by test at (b ∷ rest)) text ≡ parts_by test at (b ∷ rest)
+  parts-places text at b [] is = ap (λ l. l ∷ []) is
+  parts-places text at b (c ∷ cs) is =
+      let places = places_by test (at + 1) (c ∷ cs) in
+      let parts = parts_by test (at + 1) (c ∷ cs) in
+      let next = parts-places text (at + 1) c cs (bytes-after text at b (c ∷ cs) is) in
+      let one : at + 1 - at ≡ 1 = omega arith in
+      elim (test (at + 1)) as (λ t. parts_from at (cut_here t (at + 1) ++ places) text
+      ≡ (if t then (b ∷ []) ∷ parts else onto_first b parts)) [
+        | true ↦
+            ap (λ l. l ∷ parts_from (at + 1) places text)
+            (ap (λ n. take n (drop at text)) one ∙ ap (take 1) is)
+            ∙ ap (λ ps. (b ∷ []) ∷ ps) next
+        | false ↦
+            part-back text at b (c ∷ cs) is places
+            (All-weaker (λ p. at + 1 < p) (λ p. at < p) (λ p h. omega (arith, h)) places
+            (places-above (at + 1) (c ∷ cs)))
+            ∙ ap (onto_first b) next
+      ]
+
+  pub parts_between-places : (text : List ℕ)
+      → parts_between (places_by test 0 text) text ≡ parts_by test 0 text
+  parts_between-places [] = refl
+  parts_between-places (b ∷ rest) =
+      let some : (length (b ∷ rest) == 0) ≡ false = grind (arith, nat_tests) in
+      rw some (parts-places (b ∷ rest) 0 b rest refl)
+
+  -- which are those between blanks where the test tells the places behind these
+  pub parts-chunks : (text rest : List ℕ) (at : ℕ) → drop at text ≡ rest
+      → ((k : ℕ) → 0 < k → k < length text
+      → test k ≡ is_cut (get_or text (k - 1) 0) (get_or text k 0))
+      → parts_by test at rest ≡ chunks rest
+  parts-chunks text [] at is same = refl
+  parts-chunks text (b ∷ []) at is same = refl
+  parts-chunks text (b ∷ c ∷ cs) at is same =
+      let next = bytes-after text at b (c ∷ cs) is in
+      let back : at + 1 - 1 ≡ at = omega arith in
+      let here : test (at + 1) ≡ is_cut b c =
+      same (at + 1) (omega arith) (byte-inside text (at + 1) c cs next)
+      ∙ ap (λ k. is_cut (get_or text k 0) (get_or text (at + 1) 0)) back
+      ∙ ap (λ d. is_cut d (get_or text (at + 1) 0)) (byte-here text at b (c ∷ cs) is)
+      ∙ ap (is_cut b) (byte-here text (at + 1) c cs next) in
+      ap (λ t. next_by test t at b (c ∷ cs)) here
+      ∙ ap (λ ps. if is_cut b c then (b ∷ []) ∷ ps else onto_first b ps)
+      (parts-chunks text (c ∷ cs) (at + 1) next same)
+
+-- the words of a text between blanks, by places
+pub blank-words : (text : List ℕ) → words_of text
+    ≡ map word_of (parts_by (λ place. is_cut (get_or text (place - 1) 0) (get_or text place 0)) 0 text)
+blank-words text =
+    ap (map word_of) (sym (parts-chunks (λ place. is_cut (get_or text (place - 1) 0) (get_or text place 0))
+    text text 0 refl (λ k start inside. refl)))
+
+-- ---- the first place from a place on where a test says so, or the end of the text
+
+pub record HasEnd (test : ℕ → Bool) (len at : ℕ) : Type 0 where
+  pub end : ℕ
+  pub from : at ≤ end
+  pub within : end ≤ len
+  pub uncut : (k : ℕ) → at ≤ k → k < end → test k ≡ false
+  pub ends : end < len → test end ≡ true
+
+module _ (test : ℕ → Bool) (len : ℕ) where
+  find-end : (n at : ℕ) → at + n ≡ len → HasEnd test len at
+  find-end zero at all = record {
+    end = at;
+    from = omega arith;
+    within = omega (arith, all);
+    uncut = λ k from below. absurd (omega (arith, from, below));
+    ends = λ inside. absurd (omega (arith, inside, all));
+  }
+  find-end (suc n) at all = elim (cases_Bool (test at)) [
+    | inl is ↦ grind arith
+    | inr none ↦
+        grind (arith, cases_lt, find-end n (at + 1) (omega (arith, all)))
+  ]
+
+  pub end-from : (at : ℕ) → at ≤ len → HasEnd test len at
+  end-from at within = find-end (len - at) at (omega (arith, within))

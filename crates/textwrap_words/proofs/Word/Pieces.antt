@@ -1,21 +1,65 @@
--- Lemmas on words and their pieces: they are texts that tile a line, whatever the points.
-use Rattle.textwrap_base.proofs.Common.{map, subst, ◌≡◌, ℕ, suc, ◌<◌, ◌≤◌, true, cond, List, []}
-use Rattle.textwrap_base.proofs.Common.{◌∷◌, ◌++◌, All, length, get_or, take, drop, refl, sym, ap}
-use Rattle.textwrap_base.proofs.Common.{◌∙◌, arith, slice_range, IsNonDecreasing, IsUtf8}
-use Rattle.textwrap_base.proofs.Common.{IsCharBoundary, and_parts, All-nil, All-cons, All-head}
-use Rattle.textwrap_base.proofs.Common.{All-tail, All-map, IsUtf8-drop, IsUtf8-between, rules}
-use Rattle.textwrap_words.proofs.Common.{AreCuts, Splitter, Whole, AtHyphens, hyphen}
-use Rattle.textwrap_words.proofs.Common.{ends_in_hyphen, is_hyphen_point, cut_penalty, points_of}
-use Rattle.textwrap_words.proofs.Common.{split_from, split_pieces, split_word, split_words}
-use Rattle.textwrap_words.proofs.Common.{ArePoints, AreSplit, piece, WordText, tiled, word_of}
-use Rattle.textwrap_words.proofs.Common.{words_of, chunks, AreWordsOf}
+-- The pieces of split words: they tile their words, are texts, and stand one after another.
+use Rattle.textwrap_base.proofs.Common.{◌≡◌, ℕ, suc, ◌<◌, ◌≤◌, List, [], ◌∷◌, ◌++◌, refl, sym, ap}
+use Rattle.textwrap_base.proofs.Common.{◌∙◌, arith, length, drop, get_or, slice_range, All, IsUtf8}
+use Rattle.textwrap_base.proofs.Common.{IsNonDecreasing, append-nil, append_assoc, flat_map-append}
+use Rattle.textwrap_base.proofs.Common.{All-head, All-tail, drop_split, map, subst, true, cond}
+use Rattle.textwrap_base.proofs.Common.{take, IsCharBoundary, and_parts, All-nil, All-cons, All-map}
+use Rattle.textwrap_base.proofs.Common.{IsUtf8-drop, IsUtf8-between, rules, All-append}
+use Rattle.textwrap_base.proofs.Common.{IsCharBoundary-start, inl, inr, ◌+◌, false, cases_lt}
+use Rattle.textwrap_base.proofs.Common.{eqb-true}
+use Rattle.textwrap_words.proofs.Common.{points_of, split_from, split_pieces, split_word}
+use Rattle.textwrap_words.proofs.Common.{split_words, AreSplit, Splitter, AreCuts, WordText}
+use Rattle.textwrap_words.proofs.Common.{tile_of, tiled, Whole, AtHyphens, hyphen, ends_in_hyphen}
+use Rattle.textwrap_words.proofs.Common.{is_hyphen_point, cut_penalty, ArePoints, piece, word_of}
+use Rattle.textwrap_words.proofs.Common.{words_of, chunks, AreWordsOf, is_blank, BlanksBetween}
+use Rattle.textwrap_words.proofs.Word.Splitting.{points_of-cuts}
 use Rattle.std.proofs.lemmas.List.Elements.{filter_passes}
 use Rattle.textwrap_words.specs.WordSplitters.{inner_offsets}
-use Rattle.textwrap_words.proofs.Word.Splitting.{points_of-cuts}
-use Rattle.textwrap_words.proofs.Word.Measured.{IsMeasured, HasNoPenalty, words-measured}
-use Rattle.textwrap_words.proofs.Word.Tiling.{tiled-words_of}
+use Rattle.textwrap_words.proofs.Word.Words.{IsMeasured, HasNoPenalty, words-measured}
+use Rattle.textwrap_words.proofs.Word.Words.{tiled-words_of, words_unique}
 use Rattle.textwrap_words.proofs.Word.Texts.{chunks-utf8}
-use Rattle.textwrap_words.proofs.Word.Words.{words_unique}
+use Rattle.textwrap_words.specs.PieceCuts.{pieces_at}
+use Rattle.textwrap_words.specs.Pieces.{IsFirstWord, stand_from}
+use Rattle.textwrap_base.proofs.Lists.Parts.{length-slice}
+use Rattle.textwrap_base.proofs.Texts.{IsCharBoundary-after_blank}
+
+-- ---- split pieces tile their word
+
+tiled-split_from : (w : WordText) (start : ℕ) (points : List ℕ) → IsNonDecreasing points
+    → ((k : ℕ) → k < length points → start ≤ get_or points k 0)
+    → tiled (split_from w start points) ≡ drop start w.word ++ w.whitespace
+tiled-split_from w start [] in_order before = append-nil (drop start w.word ++ w.whitespace)
+tiled-split_from w start (point ∷ points) in_order before =
+    let later : IsNonDecreasing points = λ i j d le lt. in_order (suc i) (suc j) d (omega arith)
+    (omega arith) in
+    let rest = tiled-split_from w point points later
+    (λ k lt. in_order 0 (suc k) 0 (omega arith) (omega arith)) in
+    rw (append-nil (slice_range w.word start point), rest)
+    (sym (append_assoc (slice_range w.word start point) (drop point w.word) w.whitespace)
+    ∙ ap (λ l. l ++ w.whitespace) (sym (drop_split w.word start point (before 0 (omega arith)))))
+
+pub tiled-split_pieces : (points : List ℕ) (w : WordText) → AreCuts w.word points
+    → tiled (split_pieces points w) ≡ tile_of w
+tiled-split_pieces points w cuts = tiled-split_from w 0 points cuts.in_order (λ k lt. omega arith)
+
+pub tiled-split_words : (splitter : Splitter) (words : List WordText)
+    → All (λ w. IsUtf8 w.word) words → tiled (split_words splitter words) ≡ tiled words
+tiled-split_words splitter [] utf8 = refl
+tiled-split_words splitter (w ∷ words) utf8 =
+    let first = tiled-split_pieces (points_of splitter w.word) w
+    (points_of-cuts splitter w.word (All-head (λ v. IsUtf8 v.word) w words utf8)) in
+    flat_map-append tile_of (split_word splitter w) (split_words splitter words)
+    ∙ ap (λ l. l ++ tiled (split_words splitter words)) first
+    ∙ ap (λ l. tile_of w ++ l)
+    (tiled-split_words splitter words (All-tail (λ v. IsUtf8 v.word) w words utf8))
+
+-- one word more is split
+pub AreSplit-push : (Points : List ℕ → List ℕ → Type 0) (words pieces : List WordText)
+    (w : WordText) (points : List ℕ) → AreSplit Points words pieces → Points w.word points
+    → AreSplit Points (words ++ w ∷ []) (pieces ++ split_pieces points w)
+AreSplit-push Points [] pieces w points are here = grind (arith, append-nil)
+AreSplit-push Points (v ∷ words) pieces w points (given, rest, given_are, rest_are, is) here =
+    grind (arith, append_assoc, AreSplit-push Points words rest w points rest_are here)
 
 -- ---- the pieces of built-in parts are the computed ones
 
@@ -103,3 +147,86 @@ pub ArePoints-hyphens : (splitter : Splitter) (text points : List ℕ)
 ArePoints-hyphens splitter text points are =
     subst (All (λ p. ends_in_hyphen (take p text) ≡ true)) (sym are)
     (points_of-hyphens splitter text)
+
+-- ---- the pieces of words that are split at any points where they may be cut
+
+module _ (Words : List ℕ → List WordText → Type 0) (Points : List ℕ → List ℕ → Type 0)
+    (texts : (line : List ℕ) (words : List WordText) → IsUtf8 line → Words line words
+    → AreTexts line words)
+    (cuts : (text points : List ℕ) → IsUtf8 text → Points text points → AreCuts text points) where
+  AreSplit-measured : (words pieces : List WordText) → All IsMeasured words
+      → AreSplit Points words pieces → All IsMeasured pieces
+  AreSplit-measured [] pieces all are = subst (All IsMeasured) (sym are) (All-nil IsMeasured)
+  AreSplit-measured (w ∷ words) pieces all (points, rest, points_are, rest_are, is) =
+      let measured = All-head IsMeasured w words all in
+      let at = cuts w.word points measured.utf8 points_are in
+      subst (All IsMeasured) (sym is)
+      (All-append IsMeasured (split_pieces points w) rest
+      (split_from-measured w 0 points measured (IsCharBoundary-start w.word measured.utf8)
+      at.in_order at.between (λ k lt. omega arith))
+      (AreSplit-measured words rest (All-tail IsMeasured w words all) rest_are))
+
+  AreSplit-tile : (words pieces : List WordText) → All IsMeasured words
+      → AreSplit Points words pieces → tiled pieces ≡ tiled words
+  AreSplit-tile [] pieces all are = ap tiled are
+  AreSplit-tile (w ∷ words) pieces all (points, rest, points_are, rest_are, is) =
+      let again = AreSplit-tile words rest (All-tail IsMeasured w words all) rest_are in
+      grind (arith, All-head, flat_map-append, tiled-split_pieces)
+
+  -- the split words of a paragraph
+  abbrev pub AreSplitWords : List ℕ → List WordText → Type 0
+  AreSplitWords paragraph split =
+      (words : List WordText) × Words paragraph words × AreSplit Points words split
+
+  pub split-measured : (paragraph : List ℕ) (split : List WordText) → IsUtf8 paragraph
+      → AreSplitWords paragraph split → All IsMeasured split
+  split-measured paragraph split utf8 (words, words_are, split_are) =
+      AreSplit-measured words split (texts paragraph words utf8 words_are).measured split_are
+
+  pub split-tile : (paragraph : List ℕ) (split : List WordText) → IsUtf8 paragraph
+      → AreSplitWords paragraph split → tiled split ≡ paragraph
+  split-tile paragraph split utf8 (words, words_are, split_are) =
+      let are = texts paragraph words utf8 words_are in
+      AreSplit-tile words split are.measured split_are ∙ are.tile
+
+module _ (Points : List ℕ → List ℕ → Type 0) (hyphens : (text points : List ℕ)
+    → Points text points → All (λ p. ends_in_hyphen (take p text) ≡ true) points) where
+  pub AreSplit-no_penalty : (words pieces : List WordText) → All HasNoPenalty words
+      → AreSplit Points words pieces → All HasNoPenalty pieces
+  AreSplit-no_penalty [] pieces all are =
+      subst (All HasNoPenalty) (sym are) (All-nil HasNoPenalty)
+  AreSplit-no_penalty (w ∷ words) pieces all (points, rest, points_are, rest_are, is) =
+      subst (All HasNoPenalty) (sym is)
+      (All-append HasNoPenalty (split_pieces points w) rest
+      (split_from-no_penalty w 0 points (All-head HasNoPenalty w words all)
+      (hyphens w.word points points_are))
+      (AreSplit-no_penalty words rest (All-tail HasNoPenalty w words all) rest_are))
+
+-- ---- where the pieces of a text stand, from the first one on
+
+module _ (splitter : Splitter) (limit : ℕ) (text : List ℕ) (at word_end width : ℕ)
+    (word : IsFirstWord splitter limit text at word_end width) (end : ℕ) (from : word_end ≤ end)
+    (within : end ≤ length text) (blanks : BlanksBetween text word_end end) where
+  -- the first piece, and those after it
+  pub word-stands : (end < length text → is_blank (get_or text end 0) ≡ false)
+      → stand_from at (pieces_at splitter limit text at)
+      ≡ record { word_end = word_end; end = end; width = width }
+      ∷ stand_from end (pieces_at splitter limit text end)
+  word-stands stops =
+      let n = length (slice_range text at word_end) in
+      let m = length (slice_range text word_end end) in
+      let one : at + n ≡ word_end =
+      omega (arith, length-slice text at word_end word.boundary.0, word.from) in
+      let both : at + n + m ≡ end =
+      omega (arith, one, length-slice text word_end end within, from) in
+      grind arith
+
+  -- a character ends after the blanks
+  pub blanks-end : IsUtf8 text → IsCharBoundary text end
+  blanks-end utf8 = elim (cases_lt word_end end) [
+    | inr none ↦
+        let same : word_end ≡ end = omega (arith, none, from) in
+        subst (IsCharBoundary text) same word.boundary
+    | inl some ↦
+        search (rules, IsCharBoundary-after_blank, eqb-true)
+  ]

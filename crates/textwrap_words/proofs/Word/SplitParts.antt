@@ -1,18 +1,38 @@
--- A word with its blanks, split at one point after another, is cut wherever a test of places says
--- so.
+-- Words that are split are the parts of the text wherever a test of places cuts it.
 use Rattle.textwrap_base.proofs.Common.{◌≡◌, ℕ, ◌+◌, ◌-◌, ◌<◌, ◌≤◌, Bool, true, false, cond, List}
 use Rattle.textwrap_base.proofs.Common.{[], ◌∷◌, ◌++◌, length, map, take, drop, refl, sym, ap, ◌∙◌}
 use Rattle.textwrap_base.proofs.Common.{arith, append_assoc, length-append, filter, slice_range}
 use Rattle.textwrap_base.proofs.Common.{range_with_len, take-append-add, eqb-true, drop_at, take_at}
-use Rattle.textwrap_base.proofs.Common.{length_push, last, rules}
+use Rattle.textwrap_base.proofs.Common.{length_push, last, rules, get_or, take-append-drop}
+use Rattle.textwrap_base.proofs.Common.{length-take-le, get_or-take, get_or_push}
+use Rattle.textwrap_base.proofs.Common.{get_or_append_left, IsUtf8, append-nil, drop_all}
+use Rattle.textwrap_base.proofs.Common.{flat_map-append, IsUtf8-nil, ◌≢◌, not, ◌||◌, All, subst}
+use Rattle.textwrap_base.proofs.Common.{slice_index, map-append, and_parts, take_all, take_more}
+use Rattle.textwrap_base.proofs.Common.{IsUtf8-append, All-head, All-tail, inl, inr, ◌&&◌, cases_lt}
+use Rattle.textwrap_base.proofs.Common.{le-ltb, and_right}
 use Rattle.textwrap_words.proofs.Common.{is_blank, WordText, word_of, is_hyphen_point, split_from}
-use Rattle.textwrap_words.specs.PieceCuts.{parts_by}
+use Rattle.textwrap_words.proofs.Common.{trimmed_len, without_final_blanks, final_blanks, Splitter}
+use Rattle.textwrap_words.proofs.Common.{Whole, AtHyphens, split_word, broken_word, broken_words}
+use Rattle.textwrap_words.proofs.Common.{split_words, chunks, words_of, is_cut, AreCutApart}
+use Rattle.textwrap_words.proofs.Common.{broken_pieces}
+use Rattle.textwrap_words.specs.PieceCuts.{parts_by, is_point, pieces_within, is_piece_cut}
+use Rattle.textwrap_words.specs.PieceCuts.{pieces_at, IsPart, AreFinalBlanks, IsPartWord}
 use Rattle.textwrap_base.proofs.Lists.Parts.{onto_front, onto_front-nil, onto_front-onto_first}
-use Rattle.textwrap_base.proofs.Lists.Parts.{last-push}
-use Rattle.textwrap_words.proofs.Word.Texts.{AreBlanks}
-use Rattle.textwrap_words.proofs.Word.Trimmed.{word_of-seam}
-use Rattle.textwrap_words.proofs.Word.PartsBy.{next_by, parts_by-some, parts_by-whole}
-use Rattle.textwrap_words.proofs.Word.PointsApart.{point-hyphen}
+use Rattle.textwrap_base.proofs.Lists.Parts.{last-push, length-slice, flat, some_from_nonempty}
+use Rattle.textwrap_words.proofs.Word.Texts.{AreBlanks, word_of-seam, final_blanks-blank}
+use Rattle.textwrap_words.proofs.Word.Texts.{trimmed-other, without_final_blanks-utf8, chunks-utf8}
+use Rattle.textwrap_words.proofs.Word.Parts.{next_by, parts_by-some, parts_by-whole, parts_within}
+use Rattle.textwrap_words.proofs.Word.Parts.{parts_by-chunks, end-from}
+use Rattle.textwrap_words.proofs.Word.Splitting.{hyphen-before-point, EndsPlain, points-apart}
+use Rattle.textwrap_words.proofs.Word.Splitting.{point-blank, ends-none, ends-blank}
+use Rattle.std.proofs.lemmas.List.{get_or-append-add, get_or_at}
+use Rattle.textwrap_words.specs.Pieces.{IsFirstWithin, stand_from}
+use Rattle.textwrap_words.specs.declared.pieces.Piece.{Piece}
+use Rattle.textwrap_words.proofs.Word.Words.{join-chunks, AreChunks-chunks, AreCutApart-tail}
+use Rattle.std.proofs.lemmas.Bool.{not-false, not-true}
+
+-- ---- a word with its blanks, split at one point after another, is cut wherever a test of
+-- places says so
 
 module _ (w : WordText) (at : ℕ) (point : ℕ → Bool) (none : w.penalty ≡ [])
     (blanks : AreBlanks w.whitespace)
@@ -52,7 +72,7 @@ module _ (w : WordText) (at : ℕ) (point : ℕ → Bool) (none : w.penalty ≡ 
       let many : place - length before ≡ length x + 1 = omega (arith, here) in
       let slice : slice_range w.word (length before) place ≡ part =
       grind (arith, drop_at, take-append-add) in
-      let hyphened = point-hyphen w.word place cut in
+      let hyphened = hyphen-before-point w.word place cut in
       let byte : b ≡ 45 =
       cc (
         last-push (before ++ x) b,
@@ -92,3 +112,273 @@ module _ (w : WordText) (at : ℕ) (point : ℕ → Bool) (none : w.penalty ≡ 
       let place = length before + length x + 1 in
       let next : here + 1 ≡ at + place = omega arith in
       grind (arith, length-append, split-at, split-from rest)
+
+-- ---- a word and its blanks
+
+-- the word of a chunk ends in no blank
+pub ends-other : (q front : List ℕ) (b : ℕ) → without_final_blanks q ≡ front ++ b ∷ []
+    → is_blank b ≡ false
+ends-other q front b is =
+    let n = trimmed_len q in
+    let len : length front + 1 ≡ n =
+    sym (length_push front b) ∙ ap length (sym is) ∙ length-take-le n q (omega arith) in
+    let some : 0 < n = omega (arith, len) in
+    let at : get_or q (n - 1) 0 ≡ b =
+    grind (arith, get_or-take, get_or_push) in
+    ap is_blank (sym at) ∙ trimmed-other q some
+
+-- a chunk that stands in a text
+module _ (before q after : List ℕ) (utf8 : IsUtf8 before) (plain : EndsPlain before)
+    (q_utf8 : IsUtf8 q) (some : 0 < length q) where
+  abbrev text : List ℕ
+  text = before ++ (q ++ after)
+
+  abbrev at : ℕ
+  at = length before
+
+  abbrev w : WordText
+  w = word_of q
+
+  whole : without_final_blanks q ++ final_blanks q ≡ q
+  whole = take-append-drop (trimmed_len q) q
+
+  whole_len : length w.word + length w.whitespace ≡ length q
+  whole_len = sym (length-append w.word w.whitespace) ∙ ap length whole
+
+  same : (p : ℕ) → 0 < p → p < length w.word
+      → is_hyphen_point text (at + p) ≡ is_hyphen_point w.word p
+  same p start inside =
+      grind (arith, whole, append_assoc, points-apart, without_final_blanks-utf8)
+
+  -- no point stands before a blank of the chunk
+  past : (p : ℕ) → length w.word ≤ p → p < length w.word + length w.whitespace
+      → is_hyphen_point text (at + p) ≡ false
+  past p from inside =
+      let k = p - length w.word in
+      let place : length w.word + k ≡ p = omega (arith, from) in
+      let within : p < length q = omega (arith, inside, whole_len) in
+      let byte : get_or text (at + p) 0 ≡ get_or w.whitespace k 0 =
+      get_or-append-add before (q ++ after) p 0 ∙ get_or_append_left q after 0 p within
+      ∙ ap (λ l. get_or l p 0) (sym whole)
+      ∙ ap (λ n. get_or (w.word ++ w.whitespace) n 0) (sym place)
+      ∙ get_or-append-add w.word w.whitespace k 0 in
+      point-blank text (at + p)
+      (omega (arith, length-append before (q ++ after), length-append q after, within))
+      (ap is_blank byte ∙ final_blanks-blank q k 0 (omega (arith, from, inside)))
+
+  split-at_hyphens : split_word AtHyphens w ≡ map word_of (parts_by (is_hyphen_point text) at q)
+  split-at_hyphens = by w.word refl
+    where
+      by : (word : List ℕ) → w.word ≡ word
+          → split_word AtHyphens w ≡ map word_of (parts_by (is_hyphen_point text) at q)
+      by [] is =
+          grind (arith, parts_by-whole, past, whole_len)
+      by (b ∷ rest) is =
+          let len : length w.word - 1 ≡ length rest =
+          (let all = ap length is in omega (arith, all)) in
+          let start : at + (0 + 0) ≡ at = omega arith in
+          let seen : (b ∷ rest) ++ w.whitespace ≡ q = ap (λ l. l ++ w.whitespace) (sym is) ∙ whole in
+          ap (λ n. split_from w 0 (filter (is_hyphen_point w.word) (range_with_len 1 n))) len
+          ∙ split-from w at (is_hyphen_point text) refl (final_blanks-blank q) (ends-other q) same past
+          rest [] [] b is
+          ∙ ap (map word_of)
+          (onto_front-nil (parts_by (is_hyphen_point text) (at + (0 + 0)) (b ∷ rest ++ w.whitespace))
+          (parts_by-some (is_hyphen_point text) (at + (0 + 0)) b (rest ++ w.whitespace)))
+          ∙ ap (λ n. map word_of (parts_by (is_hyphen_point text) n (b ∷ rest ++ w.whitespace))) start
+          ∙ ap (λ l. map word_of (parts_by (is_hyphen_point text) at l)) seen
+
+  pub split-word : (splitter : Splitter)
+      → split_word splitter w ≡ map word_of (parts_by (is_point splitter text) at q)
+  split-word Whole =
+      ap (map word_of) (sym (parts_by-whole (is_point Whole text) q at some (λ k start inside. refl)))
+  split-word AtHyphens = split-at_hyphens
+
+-- ---- the pieces of words that end at cuts, word by word
+
+module _ (splitter : Splitter) (limit : ℕ) where
+  -- no pieces are left at the end of a word
+  pub within-none : (text : List ℕ) (at : ℕ) → length text ≤ at
+      → pieces_within splitter limit text at ≡ []
+  within-none text at past =
+      ap (λ l. broken_words limit (map word_of (parts_by (is_point splitter text) at l)))
+      (drop_all at text past)
+
+  -- those of the first word, and those of the words after it
+  pub words-first : (q : List ℕ) (qs : List (List ℕ)) → IsUtf8 q → 0 < length q
+      → broken_words limit (split_words splitter (map word_of (q ∷ qs)))
+      ≡ pieces_within splitter limit q 0
+      ++ broken_words limit (split_words splitter (map word_of qs))
+  words-first q qs utf8 some =
+      let one : split_word splitter (word_of q) ≡ map word_of (parts_by (is_point splitter q) 0 q) =
+      split-word [] q [] IsUtf8-nil (ends-none [] refl) utf8 some splitter
+      ∙ ap (λ t. map word_of (parts_by (is_point splitter t) 0 q)) (append-nil q) in
+      flat_map-append (broken_word limit) (split_word splitter (word_of q))
+      (split_words splitter (map word_of qs))
+      ∙ ap (λ ws. broken_words limit ws ++ broken_words limit (split_words splitter (map word_of qs)))
+      one
+
+  -- where the first piece stands, if the word begins at the start
+  pub within-stands : (text : List ℕ) (start at : ℕ) (piece : Piece) (others : List WordText)
+      → start ≤ at
+      → IsFirstWithin splitter limit text (at - start) piece
+      → stand_from at (pieces_within splitter limit text (at - start) ++ others)
+      ≡ record {
+        word_end = start + piece.word_end;
+        end = start + piece.end;
+        width = piece.width;
+      }
+      ∷ stand_from (start + piece.end) (pieces_within splitter limit text piece.end ++ others)
+  within-stands text start at piece others from first =
+      let k = at - start in
+      let n = length (slice_range text k piece.word_end) in
+      let m = length (slice_range text piece.word_end piece.end) in
+      let within = first.boundary.0 in
+      let one : at + n ≡ start + piece.word_end = omega (
+        arith,
+        from,
+        first.from,
+        first.up_to,
+        length-slice text k piece.word_end (omega (arith, within, first.up_to)),
+      ) in
+      let both : at + n + m ≡ start + piece.end =
+      omega (arith, one, first.up_to, length-slice text piece.word_end piece.end within) in
+      ap (λ ws. stand_from at (ws ++ others)) first.first
+      ∙ grind arith
+
+-- ---- the words of a text, split by a built-in splitter, are the parts of the text as it is cut
+-- at places that a test tells
+
+-- a text that ends in a blank
+ends-plain : (before q : List ℕ) → IsUtf8 (before ++ q) → 0 < length q → is_blank (last q) ≡ true
+    → EndsPlain (before ++ q)
+ends-plain before q utf8 some blank =
+    let n = length q - 1 in
+    let byte : last q ≡ 32 = eqb-true (last q) 32 blank in
+    let shape : q ≡ take n q ++ 32 ∷ [] =
+    sym (take_all (n + 1) q (omega arith)) ∙ take_more q n 0 (omega (arith, some))
+    ∙ ap (λ b. take n q ++ b ∷ []) byte in
+    let whole : before ++ q ≡ (before ++ take n q) ++ 32 ∷ [] =
+    ap (λ l. before ++ l) shape ∙ sym (append_assoc before (take n q) (32 ∷ [])) in
+    subst EndsPlain (sym whole) (ends-blank (before ++ take n q) (subst IsUtf8 whole utf8))
+
+-- a chunk with another after it ends in a blank
+chunk-blank : (q : List ℕ) (qs : List (List ℕ)) → AreCutApart (q ∷ qs) → 0 < length qs
+    → is_blank (last q) ≡ true
+chunk-blank q [] apart more = absurd (omega (arith, more))
+chunk-blank q (next ∷ qs) apart more =
+    (and_parts (is_blank (last q)) (not (is_blank (slice_index next 0)))
+    (apart [] qs q next refl)).0
+
+module _ (splitter : Splitter) (text : List ℕ) where
+  split-all : (qs : List (List ℕ)) (before : List ℕ) → text ≡ before ++ flat qs → IsUtf8 before
+      → (0 < length qs → EndsPlain before) → All IsUtf8 qs → All (λ q. q ≢ []) qs → AreCutApart qs
+      → split_words splitter (map word_of qs)
+      ≡ map word_of (parts_within (is_point splitter text) (length before) qs)
+  split-all [] before is utf8 plain all some apart = refl
+  split-all (q ∷ qs) before is utf8 plain all some apart =
+      let q_utf8 = All-head IsUtf8 q qs all in
+      let q_some = some_from_nonempty q (All-head (λ q. q ≢ []) q qs some) in
+      let both = IsUtf8-append before q utf8 q_utf8 in
+      let others =
+      split-all qs (before ++ q) (is ∙ sym (append_assoc before q (flat qs))) both
+      (λ more. ends-plain before q both q_some (chunk-blank q qs apart more))
+      (All-tail IsUtf8 q qs all) (All-tail (λ q. q ≢ []) q qs some) (AreCutApart-tail q qs apart) in
+      grind (arith, split-word, length-append, map-append)
+
+  -- at a place between two bytes
+  pub piece_cut-at : (before after : List ℕ) (b c at : ℕ) → text ≡ before ++ b ∷ c ∷ after
+      → length before ≡ at
+      → is_piece_cut splitter text (at + 1) ≡ (is_cut b c || is_point splitter text (at + 1))
+  piece_cut-at before after b c at is len =
+      let first = get_or_at before b (c ∷ after) 0 (at + 1 - 1) (omega (arith, len)) in
+      let second = append_assoc before (b ∷ []) (c ∷ after) in
+      let third = get_or_at (before ++ b ∷ []) c after 0 (at + 1)
+      (omega (arith, length_push before b, len)) in
+      cc
+
+  pub split_words-parts : IsUtf8 text
+      → split_words splitter (words_of text)
+      ≡ map word_of (parts_by (is_piece_cut splitter text) 0 text)
+  split_words-parts utf8 =
+      let are = AreChunks-chunks text in
+      split-all (chunks text) [] (sym (join-chunks text)) IsUtf8-nil (λ more. ends-none [] refl)
+      (chunks-utf8 text utf8) are.nonempty are.cut
+      ∙ ap (map word_of) (sym (parts_by-chunks text (is_piece_cut splitter text)
+      (is_point splitter text) piece_cut-at text [] 0 refl refl))
+
+-- ---- no cut stands before a blank, and one does after the last of them
+
+pub point-none : (splitter : Splitter) (text : List ℕ) (place : ℕ) → place < length text
+    → is_blank (get_or text place 0) ≡ true → is_point splitter text place ≡ false
+point-none Whole text place inside blank = refl
+point-none AtHyphens text place inside blank = point-blank text place inside blank
+
+module _ (splitter : Splitter) (text : List ℕ) where
+  pub uncut-blank : (place : ℕ) → place < length text → is_blank (get_or text place 0) ≡ true
+      → is_piece_cut splitter text place ≡ false
+  uncut-blank place inside blank =
+      grind (arith, and_right, point-none)
+
+  pub cut-after_blank : (place : ℕ) → is_blank (get_or text (place - 1) 0) ≡ true
+      → is_blank (get_or text place 0) ≡ false → is_piece_cut splitter text place ≡ true
+  cut-after_blank place blank other =
+      ap (λ t. (t && not (is_blank (get_or text place 0))) || is_point splitter text place) blank
+      ∙ ap (λ t. (true && not t) || is_point splitter text place) other
+
+  -- a word and the blanks after it are a part
+  pub word-part : (at word_end end : ℕ) → IsPartWord splitter text at word_end → word_end ≤ end
+      → end ≤ length text
+      → ((k : ℕ) → word_end ≤ k → k < end → is_blank (get_or text k 0) ≡ true)
+      → (end < length text → is_blank (get_or text end 0) ≡ false)
+      → IsPart (is_piece_cut splitter text) text at end × AreFinalBlanks text at word_end end
+  word-part at word_end end word up_to within blanks other = (
+    record {
+      some = omega (arith, word.some, up_to);
+      within = within;
+      uncut = λ k past below. elim (cases_lt k word_end) [
+        | inl inside ↦ word.uncut k past inside
+        | inr after ↦ uncut-blank k (omega (arith, below, within)) (blanks k after below)
+      ];
+      ends = λ inside. elim (cases_lt word_end end) [
+        | inl some ↦
+            cut-after_blank end (blanks (end - 1) (omega (arith, some)) (omega (arith, some)))
+            (other inside)
+        | inr none ↦
+            let same : word_end ≡ end = omega (arith, none, up_to) in
+            grind arith
+      ];
+    },
+    grind arith,
+  )
+
+  -- blanks with no word before them are a part
+  pub blanks-part : (at end : ℕ) → at < end → end ≤ length text
+      → ((k : ℕ) → at ≤ k → k < end → is_blank (get_or text k 0) ≡ true)
+      → (end < length text → is_blank (get_or text end 0) ≡ false)
+      → IsPart (is_piece_cut splitter text) text at end × AreFinalBlanks text at at end
+  blanks-part at end some within blanks other = grind (arith, uncut-blank, cut-after_blank)
+
+  -- a word has a part
+  pub part-of_word : (at word_end : ℕ) → IsPartWord splitter text at word_end
+      → (end : ℕ) × IsPart (is_piece_cut splitter text) text at end
+      × AreFinalBlanks text at word_end end
+  part-of_word at word_end word =
+      let other = λ (k : ℕ). not (is_blank (get_or text k 0)) in
+      let found = end-from other (length text) word_end word.within in
+      let part = word-part at word_end found.end word found.from found.within
+      (λ k from below. not-false (is_blank (get_or text k 0)) (found.uncut k from below))
+      (λ inside. not-true (is_blank (get_or text found.end 0)) (found.ends inside)) in
+      (found.end, part.0, part.1)
+
+  module _ (limit : ℕ) where
+    -- all pieces of a text
+    pub pieces-start : IsUtf8 text
+        → pieces_at splitter limit text 0
+        ≡ broken_words limit (split_words splitter (words_of text))
+    pieces-start utf8 = ap (broken_words limit) (sym (split_words-parts splitter text utf8))
+
+-- a word within the limit is one piece
+pub broken_word-narrow : (limit : ℕ) (w : WordText) → w.width ≤ limit
+    → broken_word limit w ≡ w ∷ []
+broken_word-narrow limit w within =
+    ap (λ b. cond b (broken_pieces limit w) (w ∷ [])) (le-ltb limit w.width within)

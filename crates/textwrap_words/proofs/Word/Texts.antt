@@ -1,17 +1,18 @@
--- The chunks of a line are UTF-8; the blanks at the end of a text.
+-- The chunks of a line are UTF-8; the blanks at the end of a text, and where it ends without them.
 use Rattle.textwrap_base.proofs.Common.{inl, inr, ◌≡◌, ℕ, zero, suc, ◌-◌, ◌<◌, ◌≤◌, Bool, true}
 use Rattle.textwrap_base.proofs.Common.{false, not, cond, List, [], ◌∷◌, ◌++◌, All, length, get_or}
 use Rattle.textwrap_base.proofs.Common.{drop, refl, sym, ap, ◌∙◌, subst, arith, append_assoc}
-use Rattle.textwrap_base.proofs.Common.{append-nil, length-drop, onto_first, suffix_len}
-use Rattle.textwrap_base.proofs.Common.{IsUtf8, IsCharBoundary, and_parts, cases_lt, eqb-true}
-use Rattle.textwrap_base.proofs.Common.{false≢true, get_or-drop, All-nil, All-cons, IsUtf8-take}
+use Rattle.textwrap_base.proofs.Common.{append-nil, length-drop, onto_first, suffix_len, IsUtf8}
+use Rattle.textwrap_base.proofs.Common.{IsCharBoundary, and_parts, cases_lt, eqb-true, false≢true}
+use Rattle.textwrap_base.proofs.Common.{get_or-drop, All-nil, All-cons, IsUtf8-take, ◌+◌}
+use Rattle.textwrap_base.proofs.Common.{take-append-add}
 use Rattle.textwrap_words.proofs.Common.{is_cut, chunks, is_blank, trimmed_len}
-use Rattle.textwrap_words.proofs.Common.{without_final_blanks, final_blanks}
+use Rattle.textwrap_words.proofs.Common.{without_final_blanks, final_blanks, piece, word_of}
 use Rattle.std.proofs.lemmas.List.{get_or-reverse, length-reverse}
 use Rattle.std.proofs.lemmas.List.Sums.{prefix_len_passes, prefix_len_stops, suffix_len_is}
 use Rattle.std.proofs.lemmas.Str.{IsCharBoundary-end, IsCharBoundary-before_ascii}
 use Rattle.textwrap_base.proofs.Lists.Parts.{onto_front, onto_front-onto_first}
-use Rattle.textwrap_base.proofs.Utf8.{ascii_seam}
+use Rattle.textwrap_base.proofs.Texts.{ascii_seam}
 
 -- ---- the parts of a text, where bytes stand before the first
 
@@ -111,3 +112,39 @@ pub without_final_blanks-utf8 : (bytes : List ℕ) → IsUtf8 bytes
     → IsUtf8 (without_final_blanks bytes)
 without_final_blanks-utf8 bytes utf8 =
     IsUtf8-take bytes (trimmed_len bytes) utf8 (trimmed-boundary bytes)
+
+-- ---- where a text without its final blanks ends
+
+-- bytes in front of a text that is not all blanks
+pub trimmed-front : (front rest : List ℕ) → 0 < trimmed_len rest
+    → (trimmed_len (front ++ rest) ≡ length front + trimmed_len rest)
+    × (final_blanks (front ++ rest) ≡ final_blanks rest)
+trimmed-front [] rest some = (omega arith, refl)
+trimmed-front (c ∷ front) rest some =
+    grind (arith, final_blanks-more, trimmed-front front rest some)
+
+-- where blanks alone stand from a place on, the text without its final blanks ends before
+pub trimmed-le : (bytes : List ℕ) (n : ℕ)
+    → ((k : ℕ) → n ≤ k → k < length bytes → is_blank (get_or bytes k 0) ≡ true)
+    → trimmed_len bytes ≤ n
+trimmed-le bytes n blanks =
+    elim (cases_lt n (trimmed_len bytes)) [
+      | inr le ↦ le
+      | inl past ↦
+          absurd (false≢true (sym (trimmed-other bytes (omega (arith, past)))
+          ∙ blanks (trimmed_len bytes - 1) (omega (arith, past)) (omega (arith, past))))
+    ]
+
+-- the last byte of a word that is no blank, and the blanks after it
+pub word_of-seam : (x bl : List ℕ) (b : ℕ) → is_blank b ≡ false → AreBlanks bl
+    → word_of (x ++ b ∷ bl) ≡ piece (x ++ b ∷ []) bl []
+word_of-seam x bl b other blanks =
+    let back = b ∷ bl in
+    let past = trimmed-past back 0 (omega arith) other in
+    let at_most = trimmed-le back 1 (after bl blanks) in
+    grind (arith, trimmed-front, take-append-add)
+  where
+    after : (bs : List ℕ) → AreBlanks bs → (k : ℕ) → 1 ≤ k → k < length (b ∷ bs)
+        → is_blank (get_or (b ∷ bs) k 0) ≡ true
+    after bs all zero from within = absurd (omega (arith, from))
+    after bs all (suc k) from within = all k 0 (omega (arith, within))

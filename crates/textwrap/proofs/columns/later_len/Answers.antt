@@ -2,8 +2,7 @@ use Rattle.textwrap.proofs.columns.later_len.Goals as goal
 use Rattle.textwrap_base.proofs.Common.{◌≡◌, ◌+◌, ◌∙◌, arith, map, sym, length, rules}
 use Rattle.textwrap_lines.proofs.Common.{line_view, line_bytes}
 use Rattle.textwrap.proofs.Common.{layout_view, padded, cell}
-use Rattle.textwrap.proofs.Text.Cells.{cell_is}
-use Rattle.textwrap.proofs.Text.TableBytes.{length-gapped-more, gapped-past}
+use Rattle.textwrap.proofs.Text.Tables.{cell_is, length-gapped-more, gapped-past}
 use Rattle.textwrap_base.proofs.Numbers.{IfNone-always}
 use Rattle.textwrap.proofs.columns.later_len.Goals.{After-as_str}
 

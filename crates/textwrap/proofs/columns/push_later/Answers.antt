@@ -2,7 +2,7 @@ use Rattle.textwrap.proofs.columns.push_later.Goals as goal
 use Rattle.textwrap_base.proofs.Common.{◌+◌, map, ◌∙◌, arith, sym, string_bytes}
 use Rattle.textwrap_lines.proofs.Common.{line_view, line_bytes}
 use Rattle.textwrap.proofs.Common.{layout_view}
-use Rattle.textwrap.proofs.Text.Cells.{cell_is, gapped-more}
+use Rattle.textwrap.proofs.Text.Tables.{cell_is, gapped-more}
 
 pub loop-later-preserved : goal.loop-later-preserved
 loop-later-preserved g c =

@@ -3,8 +3,7 @@ use Rattle.textwrap_base.proofs.Common.{◌≡◌, ◌+◌, ◌-◌, ◌*◌, �
 use Rattle.textwrap_base.proofs.Common.{subst, map, length, min, length-map}
 use Rattle.textwrap_lines.proofs.Common.{line_view, line_bytes}
 use Rattle.textwrap.proofs.Common.{layout_view, padded, cells, row_text}
-use Rattle.textwrap.proofs.Text.Cells.{cell_is}
-use Rattle.textwrap.proofs.Text.TableBytes.{length-row_text, length-gapped-row}
+use Rattle.textwrap.proofs.Text.Tables.{cell_is, length-row_text, length-gapped-row}
 use Rattle.textwrap_base.proofs.Numbers.{SomeIff-ok}
 
 pub returns-in_err-first_len : goal.returns-in_err-first_len

@@ -3,8 +3,8 @@ use Rattle.textwrap_base.proofs.Common.{◌≡◌, map, ap, ◌∙◌}
 use Rattle.std.proofs.lemmas.Result.{IfOk-weaker}
 use Rattle.textwrap_lines.proofs.Common.{line_bytes, settings_view}
 use Rattle.textwrap.specs.Columns.{at_column_width, table_rows}
-use Rattle.textwrap.proofs.Text.BuiltInParts.{columns-as}
-use Rattle.textwrap.proofs.Text.TableLines.{AreTextLines-methods, SomeMayPass64Bits-methods}
+use Rattle.textwrap.proofs.Text.Unfilling.{columns-as}
+use Rattle.textwrap.proofs.Text.Tables.{AreTextLines-methods, SomeMayPass64Bits-methods}
 use Rattle.textwrap.proofs.columns.wrap_columns.Goals.{After-wrap_in_table}
 
 -- the options at the width of a column

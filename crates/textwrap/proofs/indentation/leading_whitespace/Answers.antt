@@ -1,9 +1,9 @@
 use Rattle.textwrap.proofs.indentation.leading_whitespace.Goals as goal
-use Rattle.textwrap_base.proofs.Common.{◌≡◌, ◌-◌, length, take, sym, ap, ◌∙◌}
-use Rattle.textwrap_base.proofs.Common.{encode_utf8_all, chars_from_encodes}
+use Rattle.textwrap_base.proofs.Common.{◌≡◌, ◌-◌, length, take, sym, ap, ◌∙◌, encode_utf8_all}
+use Rattle.textwrap_base.proofs.Common.{chars_from_encodes}
 use Rattle.textwrap.proofs.Common.{leading_whitespace}
 use Rattle.textwrap_base.proofs.Lists.Parts.{from_start}
-use Rattle.textwrap.proofs.Text.Dedenting.{leading-cut, leading-len}
+use Rattle.textwrap.proofs.Text.Margins.{leading-cut, leading-len}
 
 pub range-requires-clause-end_boundary : goal.range-requires-clause-end_boundary
 range-requires-clause-end_boundary c =

@@ -6,9 +6,8 @@ use Rattle.textwrap_base.proofs.Common.{chars_from_encodes}
 use Rattle.std.specs.Str.{chars}
 use Rattle.std.proofs.lemmas.Iterator.{YieldsList-from_zip}
 use Rattle.textwrap_base.proofs.Lists.Parts.{from_start}
-use Rattle.textwrap.proofs.Text.Dedenting.{AreAt, zip_at, narrowed-stop, narrowed-step}
-use Rattle.textwrap.proofs.Text.Dedenting.{narrowed-done}
-use Rattle.textwrap_base.proofs.Characters.{IsCut, cut_text, encoded-more, encoded-within}
+use Rattle.textwrap.proofs.Text.Margins.{AreAt, zip_at, narrowed-stop, narrowed-step, narrowed-done}
+use Rattle.textwrap_base.proofs.Texts.{IsCut, cut_text, encoded-more, encoded-within}
 use Rattle.textwrap.proofs.indentation.narrowed.Goals.{In-Some}
 
 -- the characters of this turn

@@ -8,10 +8,10 @@ use Rattle.std.specs.Str.{chars}
 use Rattle.std.proofs.lemmas.Iterator.Consumers.{YieldsList-from_enumerate}
 use Rattle.std.proofs.lemmas.List.FromFn.{length-enumerate_from}
 use Rattle.textwrap.specs.Indentation.{without_margin}
-use Rattle.textwrap.proofs.Text.Dedenting.{IsLineAt, line_at, joined-first, joined-more}
+use Rattle.textwrap.proofs.Text.Margins.{IsLineAt, line_at, joined-first, joined-more}
 use Rattle.textwrap.proofs.Text.Margins.{lines_begin_with_margin}
-use Rattle.textwrap.proofs.indentation.push_dedented.Goals.{In-Some, In-None, then-i-gt0+in_ok-push_part}
-use Rattle.textwrap.proofs.indentation.push_dedented.Goals.{else-i-gt0}
+use Rattle.textwrap.proofs.indentation.push_dedented.Goals.{In-Some, In-None}
+use Rattle.textwrap.proofs.indentation.push_dedented.Goals.{then-i-gt0+in_ok-push_part, else-i-gt0}
 
 -- the line of this turn
 turn : (g : _) (c : In-Some g) → IsLineAt (lines c.args.s.now) (length c.loop-i.yielded) c.in-Some.i

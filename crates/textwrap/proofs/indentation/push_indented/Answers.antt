@@ -4,8 +4,8 @@ use Rattle.textwrap_base.proofs.Common.{flat_map, refl, take, YieldsList-turn, Y
 use Rattle.textwrap_base.proofs.Common.{length_push, take_all}
 use Rattle.textwrap.proofs.Common.{ended_parts}
 use Rattle.textwrap.specs.Indentation.{indent_of_part, indented_part}
-use Rattle.textwrap.proofs.Text.EndedParts.{YieldsList-from_split_inclusive}
-use Rattle.textwrap_base.proofs.Lists.Maps.{indented-more}
+use Rattle.textwrap.proofs.Text.Indents.{YieldsList-from_split_inclusive}
+use Rattle.textwrap_base.proofs.Lists.Elements.{indented-more}
 use Rattle.textwrap.proofs.indentation.push_indented.Goals.{then-is_blank_line, else-is_blank_line}
 
 pub loop-part-preserved : goal.loop-part-preserved

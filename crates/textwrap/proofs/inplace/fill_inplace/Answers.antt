@@ -7,9 +7,8 @@ use Rattle.std.specs.Vec.{with_items}
 use Rattle.std.proofs.lemmas.List.{with_items_is}
 use Rattle.std.proofs.lemmas.Str.{IsUtf8-string_bytes}
 use Rattle.textwrap_lines.specs.declared.line_ending.LineEnding.TheVariants.{LF}
-use Rattle.textwrap.proofs.Text.Feeds.{feeds-within, filled-by_feeds}
-use Rattle.textwrap.proofs.Text.InPlace.{filled-keeps}
-use Rattle.textwrap.proofs.Text.InPlaceFits.{unchanged-fits}
+use Rattle.textwrap.proofs.Text.InPlace.{feeds-within, filled-by_feeds, filled-keeps}
+use Rattle.textwrap.proofs.Text.InPlaceLines.{unchanged-fits}
 use Rattle.textwrap.proofs.inplace.fill_inplace.Goals.{After-put_line_feeds}
 
 -- the bytes with their line feeds fill the text

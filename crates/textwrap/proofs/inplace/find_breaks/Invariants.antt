@@ -3,7 +3,7 @@ use Rattle.textwrap_base.proofs.Common.{◌+◌, ◌≤◌, All, length}
 use Rattle.textwrap_lines.proofs.Common.{paragraphs_of}
 use Rattle.textwrap.proofs.Common.{FitsOneLine}
 use Rattle.textwrap_lines.specs.declared.line_ending.LineEnding.TheVariants.{LF}
-use Rattle.textwrap.proofs.Text.Breaks.{HasBreaks}
+use Rattle.textwrap.proofs.Text.InPlace.{HasBreaks}
 use Rattle.textwrap_lines.proofs.Text.Lines.{paragraphs_left, bytes_left}
 
 -- the places so far, and those of the parts left, are the places of the text

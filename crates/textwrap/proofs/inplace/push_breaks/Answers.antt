@@ -2,9 +2,8 @@ use Rattle.textwrap.proofs.inplace.push_breaks.Goals as goal
 use Rattle.textwrap_base.proofs.Common.{◌+◌, ◌<◌, ◌≤◌, [], ◌∷◌, ◌++◌, length, ap, ◌∙◌, arith}
 use Rattle.textwrap_base.proofs.Common.{length-append, ⊎_elim, cases_lt}
 use Rattle.textwrap_words.proofs.Common.{word_view}
-use Rattle.textwrap.proofs.Text.LineSoFar.{HasLine-begin}
-use Rattle.textwrap.proofs.Text.Growing.{HasLine-break, HasLine-join, HasLine-none, HasLine-within}
-use Rattle.textwrap.proofs.Text.Growing.{HasLine-fits, HasLine-end}
+use Rattle.textwrap.proofs.Text.Growing.{HasLine-begin, HasLine-break, HasLine-join, HasLine-none}
+use Rattle.textwrap.proofs.Text.Growing.{HasLine-within, HasLine-fits, HasLine-end}
 use Rattle.textwrap.proofs.inplace.push_breaks.Goals.{then-line_start-end+then-open_width-word_width+in_ok-push}
 use Rattle.textwrap.proofs.inplace.push_breaks.Goals.{else-line_start-end}
 use Rattle.textwrap.proofs.inplace.push_breaks.Goals.{else-line_start-end-via-then-line_start-end+else-open_width-word_width}

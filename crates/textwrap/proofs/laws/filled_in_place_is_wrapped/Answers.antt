@@ -1,6 +1,5 @@
 use Rattle.textwrap.proofs.laws.filled_in_place_is_wrapped.Goals as goal
-use Rattle.textwrap.proofs.Text.InPlaceParagraphs.{filled_one}
-use Rattle.textwrap.proofs.Text.InPlaceLines.{filled-wrapped}
+use Rattle.textwrap.proofs.Text.InPlaceLines.{filled_one, filled-wrapped}
 
 pub returns : goal.returns
 returns c = record { unique = filled_one; wrapped = filled-wrapped }

@@ -8,8 +8,7 @@ use Rattle.std.proofs.lemmas.Iterator.Search.{YieldsList-from_take_while}
 use Rattle.std.proofs.lemmas.List.Sums.{common_prefix_len-le}
 use Rattle.std.proofs.lemmas.Str.{IsCharBoundary-from_ascii}
 use borrow.Author.Tests.{tests}
-use Rattle.textwrap_base.proofs.Lists.Parts.{from_start}
-use Rattle.textwrap_base.proofs.Lists.Prefixes.{zip-common}
+use Rattle.textwrap_base.proofs.Lists.Parts.{from_start, zip-common}
 use Rattle.textwrap.proofs.refilling.common_start.Goals.{After-count-len}
 
 -- the bytes that are counted are those that both texts begin with

@@ -1,16 +1,16 @@
 use Rattle.textwrap.proofs.refilling.find_layout.Goals as goal
-use Rattle.textwrap_base.proofs.Common.{◌≡◌, [], ◌∷◌, ◌++◌, max, get_or, drop, length}
-use Rattle.textwrap_base.proofs.Common.{refl, sym, ap, ◌∙◌, subst, arith, append-nil, IsAscii}
-use Rattle.textwrap_base.proofs.Common.{lines, YieldsList-turn, YieldsList-end}
-use Rattle.textwrap_base.proofs.Common.{YieldsList-from_lines, length_push, drop_all}
+use Rattle.textwrap_base.proofs.Common.{◌≡◌, [], ◌∷◌, ◌++◌, max, get_or, drop, length, refl, sym}
+use Rattle.textwrap_base.proofs.Common.{ap, ◌∙◌, subst, arith, append-nil, IsAscii, lines}
+use Rattle.textwrap_base.proofs.Common.{YieldsList-turn, YieldsList-end, YieldsList-from_lines}
+use Rattle.textwrap_base.proofs.Common.{length_push, drop_all}
 use Rattle.textwrap_words.proofs.Common.{text_width}
 use Rattle.textwrap.proofs.Common.{line_prefix, common_prefix, unfilled_initial}
 use Rattle.textwrap.proofs.Common.{unfilled_subsequent}
 use Rattle.std.proofs.lemmas.Iterator.Adapters.{YieldsList-from_skip}
 use Rattle.textwrap.specs.Refilling.{unfilled_width}
-use Rattle.textwrap.proofs.Text.Layout.{width-first, first_line, width-more, common-more}
-use Rattle.textwrap.proofs.Text.Layout.{narrowed-ascii, common-end, later_lines, texts_in}
-use Rattle.textwrap.proofs.Text.Layout.{settings-with}
+use Rattle.textwrap.proofs.Text.Unfilling.{width-first, first_line, width-more, common-more}
+use Rattle.textwrap.proofs.Text.Unfilling.{narrowed-ascii, common-end, later_lines, texts_in}
+use Rattle.textwrap.proofs.Text.Unfilling.{settings-with}
 
 pub loop-line-init : goal.loop-line-init
 loop-line-init c =

@@ -4,7 +4,7 @@ use Rattle.textwrap_words.proofs.Common.{text_width}
 use Rattle.textwrap.proofs.Common.{line_prefix, common_prefix, unfilled_subsequent}
 use Rattle.std.proofs.Common.{IfSome}
 use Rattle.textwrap.specs.Refilling.{unfilled_width}
-use Rattle.textwrap.proofs.Text.Layout.{later_lines, texts_in}
+use Rattle.textwrap.proofs.Text.Unfilling.{later_lines, texts_in}
 
 -- the widest line so far, and the lines to come, make the width; what the later lines have had in
 -- common so far, and the prefixes to come, make the subsequent indent

@@ -1,6 +1,6 @@
 use Rattle.textwrap.proofs.refilling.push_without_indents.Goals as goal
-use Rattle.textwrap_base.proofs.Common.{[], ◌∷◌, ◌++◌, map, subst, sym, ap, ◌∙◌}
-use Rattle.textwrap_base.proofs.Common.{append-nil, append_assoc, StartsWith, All-head, All-tail}
+use Rattle.textwrap_base.proofs.Common.{[], ◌∷◌, ◌++◌, map, subst, sym, ap, ◌∙◌, append-nil}
+use Rattle.textwrap_base.proofs.Common.{append_assoc, StartsWith, All-head, All-tail}
 use Rattle.textwrap_words.proofs.Common.{blank}
 use Rattle.textwrap.proofs.Common.{detected_among}
 use Rattle.textwrap.specs.Refilling.{ended_line_view}

@@ -3,8 +3,7 @@ use Rattle.textwrap_base.proofs.Common.{ap, ◌∙◌, string_bytes}
 use Rattle.std.proofs.lemmas.Result.{IfOk-weaker}
 use Rattle.textwrap_lines.proofs.Common.{settings_view}
 use Rattle.textwrap_lines.specs.Paragraph.{DividesUnder}
-use Rattle.textwrap.proofs.Text.BuiltInParts.{refilled-as}
-use Rattle.textwrap.proofs.Text.Refilled.{refilled-from}
+use Rattle.textwrap.proofs.Text.Unfilling.{refilled-as, refilled-from}
 
 pub returns-clause-refilled : goal.returns-clause-refilled
 returns-clause-refilled g c = IfOk-weaker c.fill_joined.result _ _ (λ refilled.

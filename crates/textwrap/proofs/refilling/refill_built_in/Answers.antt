@@ -4,7 +4,7 @@ use Rattle.std.proofs.lemmas.Result.{IfOk-weaker}
 use Rattle.textwrap_words.proofs.Common.{as_splitter}
 use Rattle.textwrap_lines.proofs.Common.{DividesAt, layout_view}
 use Rattle.textwrap_lines.specs.Direct.{as_algorithm}
-use Rattle.textwrap.proofs.Text.Refilled.{refilled-from}
+use Rattle.textwrap.proofs.Text.Unfilling.{refilled-from}
 
 pub returns-clause-refilled : goal.returns-clause-refilled
 returns-clause-refilled g c =

@@ -1,8 +1,7 @@
 use Rattle.textwrap_base.proofs.first_fit.fitting_len.Goals as goal
 use Rattle.textwrap_base.proofs.Common.{◌≡◌, ◌+◌, ◌<◌, ◌≤◌, take, ap, arith, open_width}
 use Rattle.textwrap_base.proofs.Common.{closed_width}
-use Rattle.textwrap_base.proofs.Division.Widths.{open_width-take, closed_width-take}
-use Rattle.textwrap_base.proofs.Division.Greedy.{Fits-take}
+use Rattle.textwrap_base.proofs.Division.Greedy.{open_width-take, closed_width-take, Fits-take}
 use Rattle.textwrap_base.proofs.first_fit.fitting_len.Goals.{else-i-gt0-via-then-i-gt0+else-closed-line_width}
 use Rattle.textwrap_base.proofs.first_fit.fitting_len.Goals.{else-i-gt0-via-else-i-gt0}
 

@@ -1,10 +1,9 @@
 use Rattle.textwrap_base.proofs.first_fit.wrap_first_fit.Goals as goal
 use Rattle.textwrap_base.proofs.Common.{◌≡◌, [], ◌∷◌, ◌<◌, take, length, map, vec_len, sym, ap, ◌∙◌}
 use Rattle.textwrap_base.proofs.Common.{subst, arith, line_width, nat_tests, append-nil, length-map}
-use Rattle.textwrap_base.proofs.Division.Fewest.{greedy_fewest}
-use Rattle.textwrap_base.proofs.Division.Greedy.{IsGreedyFrom, IsGreedyFrom-nil, IsGreedyFrom-cons}
-use Rattle.textwrap_base.proofs.Division.Greedy.{IsGreedy-from}
-use Rattle.textwrap_base.proofs.Lists.Maps.{map-push-append}
+use Rattle.textwrap_base.proofs.Division.Greedy.{greedy_fewest, IsGreedyFrom, IsGreedyFrom-nil}
+use Rattle.textwrap_base.proofs.Division.Greedy.{IsGreedyFrom-cons, IsGreedy-from}
+use Rattle.textwrap_base.proofs.Lists.Elements.{map-push-append}
 
 pub loop-rest-preserved : goal.loop-rest-preserved
 loop-rest-preserved g c = (

@@ -1,5 +1,5 @@
 use Rattle.textwrap_base.proofs.laws.chosen_division_is_unique.Goals as goal
-use Rattle.textwrap_base.proofs.Cost.Unique.{chosen_one}
+use Rattle.textwrap_base.proofs.Cost.Results.{chosen_one}
 
 pub returns : goal.returns
 returns g c = chosen_one _ _ _ _

@@ -1,6 +1,6 @@
 use Rattle.textwrap_base.proofs.measured.line_cost.Goals as goal
 use Rattle.textwrap_base.proofs.Common.{◌∙◌, eqb, length, rules}
-use Rattle.textwrap_base.proofs.Cost.Slices.{line_cost-slice}
+use Rattle.textwrap_base.proofs.Cost.LineCosts.{line_cost-slice}
 use Rattle.textwrap_base.proofs.Cost.Measures.{takes_by_sums}
 
 pub closed_width-requires : goal.closed_width-requires

@@ -2,7 +2,7 @@ use Rattle.textwrap_base.proofs.minima.queue_minima.Goals as goal
 use Rattle.textwrap_base.proofs.Common.{map, sym, ap, ◌∙◌, subst, Costs, SuitQueue, minimum_of}
 use Rattle.std.proofs.lemmas.Result.{IfOk-weaker}
 use Rattle.textwrap_base.specs.Table.{table}
-use Rattle.textwrap_base.proofs.Cost.Reached.{reported-least_cost}
+use Rattle.textwrap_base.proofs.Cost.Results.{reported-least_cost}
 use Rattle.textwrap_base.proofs.Cost.QueueCase.{SuitQueue-queue_case}
 
 pub queue_search-minima-requires : goal.queue_search-minima-requires

@@ -3,8 +3,8 @@ use Rattle.textwrap_base.proofs.Common.{Vec, arith, ◌∙◌, ap, subst, map, �
 use Rattle.textwrap_base.proofs.Common.{Costs, entry_at, minimum_of, fragment_costs}
 use Rattle.textwrap_base.specs.Table.{table}
 use Rattle.textwrap_base.specs.declared.minima.table.Entry.{Entry}
-use Rattle.textwrap_base.proofs.Cost.Reached.{reported-least_cost}
-use Rattle.textwrap_base.proofs.Cost.Overflow.{table-fits, overflowed_on}
+use Rattle.textwrap_base.proofs.Cost.Results.{reported-least_cost}
+use Rattle.textwrap_base.proofs.Cost.Table.{table-fits, overflowed_on}
 
 pub returns-in_err-entries-clause-no_overflow : goal.returns-in_err-entries-clause-no_overflow
 returns-in_err-entries-clause-no_overflow g c =

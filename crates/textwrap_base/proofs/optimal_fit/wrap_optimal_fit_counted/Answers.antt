@@ -2,8 +2,8 @@ use Rattle.textwrap_base.proofs.optimal_fit.wrap_optimal_fit_counted.Goals as go
 use Rattle.textwrap_base.proofs.Common.{Vec, Bor, List, map, ◌∙◌}
 use Rattle.textwrap_base.specs.declared.minima.Minimum.{Minimum}
 use Rattle.textwrap_base.proofs.Cost.Results.{optimal-returned, optimal-refused, results-same}
-use Rattle.textwrap_base.proofs.Cost.Reported.{starts_reported, length_reported, first_reported}
-use Rattle.textwrap_base.proofs.Cost.Reported.{later_reported}
+use Rattle.textwrap_base.proofs.Cost.Table.{starts_reported, length_reported, first_reported}
+use Rattle.textwrap_base.proofs.Cost.Table.{later_reported}
 
 pub lines_by-requires-clause-len : goal.lines_by-requires-clause-len
 lines_by-requires-clause-len g c =

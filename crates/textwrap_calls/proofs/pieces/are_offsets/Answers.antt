@@ -5,10 +5,11 @@ use Rattle.textwrap_base.proofs.Common.{YieldsList-from_chars, YieldsList-turn, 
 use Rattle.textwrap_base.proofs.Common.{eqb-true, eq-eqb}
 use Rattle.std.specs.Str.{chars}
 use lib.Utf8.{encode}
-use Rattle.textwrap_words.proofs.Units.Stripped.{stripped-short}
+use Rattle.textwrap_words.proofs.Units.Reading.{stripped-short}
 use Rattle.textwrap_words.proofs.Common.{shows}
 use Rattle.textwrap_calls.specs.Pieces.{offsets_past}
-use Rattle.textwrap_calls.proofs.Offsets.Reading.{IsReading, IsReading-room, IsReading-step, IsReading-end}
+use Rattle.textwrap_calls.proofs.Offsets.Reading.{IsReading, IsReading-room, IsReading-step}
+use Rattle.textwrap_calls.proofs.Offsets.Reading.{IsReading-end}
 use Rattle.textwrap_calls.proofs.pieces.are_offsets.Goals.{After-step-next}
 
 -- the character that is read

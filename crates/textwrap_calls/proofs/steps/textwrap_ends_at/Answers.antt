@@ -1,14 +1,13 @@
 use Rattle.textwrap_calls.proofs.steps.textwrap_ends_at.Goals as goal
-use Rattle.textwrap_base.proofs.Common.{◌≡◌, ◌∷◌, [], ap, map, subst, sym, ◌∙◌, Some}
+use Rattle.textwrap_base.proofs.Common.{◌≡◌, ◌∷◌, [], ap, map, subst, sym, ◌∙◌, Some, total_width}
 use Rattle.textwrap_words.proofs.Common.{sizes_of, word_view}
-use Rattle.textwrap_base.proofs.Common.{total_width}
 use Rattle.textwrap_base.proofs.Cost.Measures.{total_width-same}
-use Rattle.textwrap_lines.proofs.Paragraph.Lines.{sizes-word_view}
+use Rattle.textwrap_lines.proofs.Paragraph.Widths.{sizes-word_view}
 use Rattle.std.specs.Prelude.{IsSomeAnd}
 use Rattle.textwrap_words.specs.WrapAlgorithms.{algorithm_view, IsDividedBy, OverflowsBy}
 use Rattle.textwrap_words.proofs.Word.Divisions.{MayDivide-map}
 use Rattle.textwrap_lines.proofs.Common.{first_width, settings_view, widths_of}
-use Rattle.textwrap_lines.proofs.Paragraph.BuiltIn.{division-as}
+use Rattle.textwrap_lines.proofs.Paragraph.Pieces.{division-as}
 use Rattle.textwrap_steps.specs.Steps.{pieces_at}
 use Rattle.textwrap_calls.specs.Options.{algorithm_of, says_yes, settings_of}
 use Rattle.textwrap_calls.specs.Fragments.{AreEndsOf, ends_of}

@@ -1,6 +1,6 @@
 use Rattle.textwrap_display.proofs.filling.fill_justified.Goals as goal
 use Rattle.std.proofs.lemmas.Result.{IfOk-weaker}
-use Rattle.textwrap_display.proofs.JustifiedSoFar.{justified-as}
+use Rattle.textwrap_display.proofs.JustifiedLines.{justified-as}
 
 pub returns-clause-built_in : goal.returns-clause-built_in
 returns-clause-built_in g c = IfOk-weaker c.fill_justified_by.result _ _

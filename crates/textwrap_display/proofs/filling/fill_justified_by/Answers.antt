@@ -5,8 +5,7 @@ use Rattle.textwrap_lines.proofs.Common.{layout_view}
 use Rattle.textwrap_display.specs.JustifiedText.{IsJustifiedText}
 use Rattle.textwrap_lines.proofs.Text.Directly.{passed-on}
 use Rattle.textwrap_lines.proofs.Text.Lines.{paragraphs_left, paragraphs_left-split}
-use Rattle.textwrap_display.proofs.JustifiedSoFar.{so_far-end, so_far-more}
-use Rattle.textwrap_display.proofs.JustifiedSoFar.{so_far-start}
+use Rattle.textwrap_display.proofs.JustifiedLines.{so_far-end, so_far-more, so_far-start}
 
 pub loop-rest-init : goal.loop-rest-init
 loop-rest-init g c =

@@ -1,8 +1,7 @@
 use Rattle.textwrap_display.proofs.justifying.push_widened.Goals as goal
-use Rattle.textwrap_base.proofs.Common.{◌<◌, ◌∙◌, arith, eqb-true, length, nat_tests, rules, string_bytes}
-use Rattle.textwrap_base.proofs.Common.{sym}
-use Rattle.textwrap_display.proofs.WidenedChunks.{gap-written}
-use Rattle.textwrap_display.proofs.WidenedWords.{all-written}
+use Rattle.textwrap_base.proofs.Common.{◌<◌, ◌∙◌, arith, eqb-true, length, nat_tests, rules}
+use Rattle.textwrap_base.proofs.Common.{string_bytes, sym}
+use Rattle.textwrap_display.proofs.WidenedWords.{gap-written, all-written}
 
 pub loop-rest-preserved-in_ok-push_blanks-2 : goal.loop-rest-preserved-in_ok-push_blanks-2
 loop-rest-preserved-in_ok-push_blanks-2 g c =

@@ -2,7 +2,7 @@ use Rattle.textwrap_display.proofs.justifying.push_widened.Given as goal
 use Rattle.textwrap_base.proofs.Common.{◌≡◌, ◌++◌, length, shadow, string_bytes, Utf8}
 use Rattle.textwrap_base.proofs.Lists.Parts.{flat}
 use Rattle.textwrap_words.specs.Words.{chunks}
-use Rattle.textwrap_display.proofs.WidenedChunks.{widened_chunks}
+use Rattle.textwrap_display.proofs.WidenedWords.{widened_chunks}
 
 -- with the words that are left it is the whole
 abbrev pub invariant-loop-rest : goal.invariant-loop-rest

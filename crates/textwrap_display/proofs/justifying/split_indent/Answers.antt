@@ -3,7 +3,7 @@ use Rattle.textwrap_display.proofs.justifying.split_indent.Goals.{After-blanks_e
 use Rattle.textwrap_base.proofs.Common.{◌≡◌, ◌≢◌, ◌<◌, ap, ◌∙◌, take, drop, length, subst, arith}
 use Rattle.textwrap_base.proofs.Common.{slice_index}
 use Rattle.textwrap_words.specs.Blanks.{blank, BlanksBetween}
-use Rattle.textwrap_display.proofs.WordCounts.{indent-boundary, indent-is}
+use Rattle.textwrap_display.proofs.WidenedWords.{indent-boundary, indent-is}
 use Rattle.textwrap_display.specs.Justifying.{indent_len}
 
 blanks : (c : After-blanks_end) → BlanksBetween c.args.line.now 0 c.blanks_end.result

@@ -1,5 +1,5 @@
 use Rattle.textwrap_display.proofs.laws.carried_lines_keep_styles.Goals as goal
-use Rattle.textwrap_display.proofs.StyleLaws.{carried-keep}
+use Rattle.textwrap_display.proofs.CarriedLines.{carried-keep}
 
 pub returns : goal.returns
 returns c = carried-keep

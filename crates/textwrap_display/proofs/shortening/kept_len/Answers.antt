@@ -1,15 +1,15 @@
 use Rattle.textwrap_display.proofs.shortening.kept_len.Goals as goal
-use Rattle.textwrap_base.proofs.Common.{◌≡◌, ◌+◌, refl, sym, subst, ◌∙◌, arith, length, eqb, inl, inr}
-use Rattle.textwrap_base.proofs.Common.{char_indices_offset}
+use Rattle.textwrap_base.proofs.Common.{◌≡◌, ◌+◌, refl, sym, subst, ◌∙◌, arith, length, eqb, inl}
+use Rattle.textwrap_base.proofs.Common.{inr, char_indices_offset}
 use Rattle.std.specs.Str.Iter.{char_indices_rest}
-use Rattle.textwrap_words.proofs.Units.Widths.{added}
-use Rattle.textwrap_display.proofs.KeptFound.{IsFound, found-none, found-kept, found-past, found-here}
-use Rattle.textwrap_display.proofs.KeptFound.{found-on, found-whole, found-blank}
-use Rattle.textwrap_display.proofs.KeptReader.{IsReadTo, read_to-start, read_to-step, read-le}
+use Rattle.textwrap_words.proofs.Units.Reading.{added}
+use Rattle.textwrap_display.proofs.KeptLines.{IsFound, found-none, found-kept, found-past}
+use Rattle.textwrap_display.proofs.KeptLines.{found-here, found-on, found-whole, found-blank}
+use Rattle.textwrap_display.proofs.KeptWords.{IsReadTo, read_to-start, read_to-step, read-le}
 use Rattle.textwrap_display.proofs.shortening.kept_len.Goals.{then-ch-eq32+then-not-after_blank}
-use Rattle.textwrap_display.proofs.shortening.kept_len.Goals.{else-ch-eq32}
-use Rattle.textwrap_display.proofs.shortening.kept_len.Goals.{then-is_visible, else-is_visible}
-use Rattle.textwrap_display.proofs.shortening.kept_len.Goals.{Joined-is_visible, Joined-ch-eq32}
+use Rattle.textwrap_display.proofs.shortening.kept_len.Goals.{else-ch-eq32, then-is_visible}
+use Rattle.textwrap_display.proofs.shortening.kept_len.Goals.{else-is_visible, Joined-is_visible}
+use Rattle.textwrap_display.proofs.shortening.kept_len.Goals.{Joined-ch-eq32}
 
 pub loop-at-init : goal.loop-at-init
 loop-at-init c =

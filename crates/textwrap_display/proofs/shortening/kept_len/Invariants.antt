@@ -1,8 +1,8 @@
 use Rattle.textwrap_display.proofs.shortening.kept_len.Given as goal
 use Rattle.textwrap_base.proofs.Common.{char_indices_offset}
 use Rattle.std.specs.Str.Iter.{char_indices_rest}
-use Rattle.textwrap_display.proofs.KeptFound.{IsFound}
-use Rattle.textwrap_display.proofs.KeptReader.{IsReadTo}
+use Rattle.textwrap_display.proofs.KeptLines.{IsFound}
+use Rattle.textwrap_display.proofs.KeptWords.{IsReadTo}
 
 -- the iterator has left what the reader has not read
 abbrev pub invariant-loop-at : goal.invariant-loop-at

@@ -1,5 +1,5 @@
 use Rattle.textwrap_display.proofs.shortening.shortened.Goals as goal
-use Rattle.textwrap_display.proofs.KeptPlaces.{may_end-boundary}
+use Rattle.textwrap_display.proofs.KeptWords.{may_end-boundary}
 
 pub range-kept-requires-clause-end_boundary : goal.range-kept-requires-clause-end_boundary
 range-kept-requires-clause-end_boundary g c =

@@ -1,11 +1,10 @@
 use Rattle.textwrap_display.proofs.styles.next_sequence.Goals as goal
-use Rattle.textwrap_base.proofs.Common.{◌≡◌, ℕ, ◌+◌, ◌∷◌, ◌++◌, length, drop, sym, subst}
-use Rattle.textwrap_base.proofs.Common.{arith, eqb, slice_range, IsCharBoundary}
+use Rattle.textwrap_base.proofs.Common.{◌≡◌, ℕ, ◌+◌, ◌∷◌, ◌++◌, length, drop, sym, subst, arith}
+use Rattle.textwrap_base.proofs.Common.{eqb, slice_range, IsCharBoundary}
 use Rattle.std.specs.Str.{NoCharPasses}
 use Rattle.std.proofs.lemmas.Str.Pattern.{split_parts}
 use Rattle.textwrap_display.specs.Styles.{sequences}
-use Rattle.textwrap_display.proofs.SequenceTails.{tail_len}
-use Rattle.textwrap_display.proofs.SequenceUnits.{end-boundary, no_sequences, sequences-next}
+use Rattle.textwrap_display.proofs.Sequences.{tail_len, end-boundary, no_sequences, sequences-next}
 use Rattle.textwrap_display.proofs.styles.next_sequence.Goals.{In_ok-before}
 
 pub returns-in_err-before-clause-sequences : goal.returns-in_err-before-clause-sequences

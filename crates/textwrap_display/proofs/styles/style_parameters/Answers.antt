@@ -1,11 +1,10 @@
 use Rattle.textwrap_display.proofs.styles.style_parameters.Goals as goal
 use Rattle.textwrap_base.proofs.Common.{◌≡◌, ◌++◌, sym, ap, ◌∙◌, codes}
-use Rattle.textwrap_base.proofs.Lists.Ends.{stripped_prefix}
-use Rattle.textwrap_base.proofs.Lists.Ends.{stripped_suffix}
+use Rattle.textwrap_base.proofs.Lists.Parts.{stripped_prefix, stripped_suffix}
 use Rattle.std.specs.Int.{is_in_range}
 use Rattle.std.specs.List.{list_all}
 use Rattle.textwrap_display.specs.Styles.{is_style}
-use Rattle.textwrap_display.proofs.StyleSequences.{not_style, style-is}
+use Rattle.textwrap_display.proofs.Sequences.{not_style, style-is}
 use Rattle.textwrap_display.proofs.styles.style_parameters.Goals.{In_ok-parameters}
 
 pub returns-in_err-parameters-clause-style : goal.returns-in_err-parameters-clause-style

@@ -1,13 +1,13 @@
 use Rattle.textwrap_display.proofs.tables.table_by.Goals as goal
-use Rattle.textwrap_base.proofs.Common.{◌≡◌, ◌++◌, ◌∙◌, [], ap, append-nil, arith, length, length-map}
-use Rattle.textwrap_base.proofs.Common.{map, map-append, rules, string_bytes, subst, sym}
+use Rattle.textwrap_base.proofs.Common.{◌≡◌, ◌++◌, ◌∙◌, [], ap, append-nil, arith, length}
+use Rattle.textwrap_base.proofs.Common.{length-map, map, map-append, rules, string_bytes, subst}
+use Rattle.textwrap_base.proofs.Common.{sym}
 use Rattle.std.specs.Slice.Iter.{chunks_rest, chunks_size}
 use Rattle.textwrap_lines.proofs.Text.Directly.{passed-on}
-use Rattle.textwrap_display.specs.Tables.{AllFit, AreCells, cell_texts}
-use Rattle.textwrap_display.specs.Tables.{gaps_view, group_rows}
+use Rattle.textwrap_display.specs.Tables.{AllFit, AreCells, cell_texts, gaps_view, group_rows}
 use Rattle.textwrap_display.specs.Tables.{IsTableBy, texts_in}
-use Rattle.textwrap_display.proofs.TableFits.{group_fits, groups_fit}
-use Rattle.textwrap_display.proofs.TableGroups.{rows-more, table-more, table-none}
+use Rattle.textwrap_display.proofs.TableGroups.{group_fits, groups_fit, rows-more, table-more}
+use Rattle.textwrap_display.proofs.TableGroups.{table-none}
 
 pub loop-texts-init : goal.loop-texts-init
 loop-texts-init g c =

@@ -3,9 +3,9 @@ use Rattle.textwrap_base.proofs.Common.{◌≡◌, ◌++◌, ◌∙◌, ap, appe
 use Rattle.textwrap_base.proofs.Common.{map, map-append, rules, string_bytes, sym}
 use Rattle.std.specs.Slice.Iter.{chunks_rest, chunks_size}
 use Rattle.textwrap_display.specs.Shortening.{texts_of}
-use Rattle.textwrap_display.specs.Tables.{cell_texts, gaps_view, group_rows, rows_of_cells, shape_of}
-use Rattle.textwrap_display.proofs.CellRows.{cells-rows-more, cells-rows-none}
-use Rattle.textwrap_display.proofs.TableGroups.{rows-more}
+use Rattle.textwrap_display.specs.Tables.{cell_texts, gaps_view, group_rows, rows_of_cells}
+use Rattle.textwrap_display.specs.Tables.{shape_of}
+use Rattle.textwrap_display.proofs.TableGroups.{cells-rows-more, cells-rows-none, rows-more}
 
 pub loop-group-init : goal.loop-group-init
 loop-group-init g c =

@@ -1,15 +1,14 @@
 use Rattle.textwrap_display.proofs.tables.wrap_cells.Goals as goal
 use Rattle.textwrap_base.proofs.Common.{[], ◌∷◌, append-nil, inl, inr, map, nil_from_length, refl}
 use Rattle.textwrap_base.proofs.Common.{◌≡◌, All, All-head, All-tail, rules, subst, sym}
-use Rattle.textwrap_base.proofs.Lists.Maps.{map-push-append}
+use Rattle.textwrap_base.proofs.Lists.Elements.{map-push-append}
 use Rattle.std.specs.Iterator.Adapters.{zip_first, zip_second}
 use Rattle.std.specs.Slice.Iter.{iter_rest}
 use Rattle.textwrap_lines.proofs.Common.{line_view}
 use Rattle.textwrap_lines.proofs.Text.Directly.{passed-on}
 use Rattle.textwrap_display.specs.Shortening.{texts_of}
 use Rattle.textwrap_display.specs.Tables.{AreCells, cell_texts, texts_in}
-use Rattle.textwrap_display.proofs.TableFits.{fit-rest, fits-first}
-use Rattle.textwrap_display.proofs.TableGroups.{cells-more, cells-none}
+use Rattle.textwrap_display.proofs.TableGroups.{fit-rest, fits-first, cells-more, cells-none}
 
 pub loop-text-init : goal.loop-text-init
 loop-text-init g c =

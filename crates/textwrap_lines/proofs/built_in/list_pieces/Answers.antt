@@ -1,19 +1,19 @@
 use Rattle.textwrap_lines.proofs.built_in.list_pieces.Goals as goal
-use Rattle.textwrap_base.proofs.Common.{◌≡◌, ℕ, ◌+◌, ◌-◌, ◌≤◌, List, [], ◌∷◌, ◌++◌, All, All-head, All-tail}
-use Rattle.textwrap_base.proofs.Common.{ap, append_assoc, append-nil, arith, drop, get_or}
-use Rattle.textwrap_base.proofs.Common.{IsCharBoundary, IsCharBoundary-start, IsUtf8, IsUtf8-drop, length, map, map-append, refl, rules}
-use Rattle.textwrap_base.proofs.Common.{slice_range, subst, sym, take, ◌∙◌}
+use Rattle.textwrap_base.proofs.Common.{◌≡◌, ℕ, ◌+◌, ◌-◌, ◌≤◌, List, [], ◌∷◌, ◌++◌, All, All-head}
+use Rattle.textwrap_base.proofs.Common.{All-tail, ap, append_assoc, append-nil, arith, drop, get_or}
+use Rattle.textwrap_base.proofs.Common.{IsCharBoundary, IsCharBoundary-start, IsUtf8, IsUtf8-drop}
+use Rattle.textwrap_base.proofs.Common.{length, map, map-append, refl, rules, slice_range, subst}
+use Rattle.textwrap_base.proofs.Common.{sym, take, ◌∙◌}
 use Rattle.textwrap_words.proofs.Common.{as_splitter, tiled, WordText, word_view}
-use Rattle.textwrap_words.proofs.Word.Measured.{HasNoPenalty, IsMeasured}
+use Rattle.textwrap_words.proofs.Word.Words.{HasNoPenalty, IsMeasured}
 use Rattle.textwrap_words.specs.Pieces.{stand_from}
 use Rattle.textwrap_words.specs.declared.pieces.Piece.{Piece}
 use Rattle.textwrap_lines.proofs.Common.{layout_view}
-use Rattle.textwrap_lines.proofs.Paragraph.CutPieces.{words_cut-texts}
-use Rattle.textwrap_lines.proofs.Paragraph.OneLine.{blanks-utf8}
-use Rattle.textwrap_lines.proofs.Paragraph.Pieces.{pieces_of_words-measured, pieces_of_words-tile}
-use Rattle.textwrap_lines.proofs.Paragraph.Pieces.{pieces_of_words-no_penalty}
-use Rattle.textwrap_lines.proofs.PieceLines.Line.{gap_taken, piece-ends, place-after}
-use Rattle.textwrap_lines.proofs.PieceLines.Line.{slice-ends, word_taken}
+use Rattle.textwrap_lines.proofs.Paragraph.Pieces.{words_cut-texts, pieces_of_words-measured}
+use Rattle.textwrap_lines.proofs.Paragraph.Pieces.{pieces_of_words-tile, pieces_of_words-no_penalty}
+use Rattle.textwrap_lines.proofs.Paragraph.LeftOff.{blanks-utf8}
+use Rattle.textwrap_lines.proofs.PieceLines.{gap_taken, piece-ends, place-after, slice-ends}
+use Rattle.textwrap_lines.proofs.PieceLines.{word_taken}
 use Rattle.textwrap_lines.proofs.built_in.list_pieces.Goals.{In-Some}
 use Rattle.textwrap_lines.proofs.built_in.list_pieces.Invariants.{ArePiecesLeft}
 use Rattle.textwrap_lines.specs.Direct.{pieces_cut, places_of, words_cut}

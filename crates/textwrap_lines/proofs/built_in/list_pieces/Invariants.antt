@@ -1,7 +1,7 @@
 use Rattle.textwrap_lines.proofs.built_in.list_pieces.Given as goal
 use Rattle.textwrap_base.proofs.Common.{◌≡◌, ℕ, List, ◌++◌, All, drop, IsCharBoundary, map}
 use Rattle.textwrap_words.proofs.Common.{tiled, WordText, word_view}
-use Rattle.textwrap_words.proofs.Word.Measured.{HasNoPenalty, IsMeasured}
+use Rattle.textwrap_words.proofs.Word.Words.{HasNoPenalty, IsMeasured}
 use Rattle.textwrap_words.specs.Pieces.{stand_from}
 use Rattle.textwrap_words.specs.declared.pieces.Piece.{Piece}
 use Rattle.textwrap_lines.proofs.Common.{layout_view}

@@ -1,7 +1,7 @@
 use Rattle.textwrap_lines.proofs.cheapest.cheapest_lines.Goals as goal
 use Rattle.textwrap_base.proofs.Common.{map, ◌∙◌, subst, FollowStarts}
-use Rattle.textwrap_base.proofs.Cost.Reported.{starts_reported, length_reported, first_reported}
-use Rattle.textwrap_base.proofs.Cost.Reported.{later_reported}
+use Rattle.textwrap_base.proofs.Cost.Table.{starts_reported, length_reported, first_reported}
+use Rattle.textwrap_base.proofs.Cost.Table.{later_reported}
 use Rattle.textwrap_base.proofs.Numbers.{both}
 
 pub lines_by-requires-clause-len : goal.lines_by-requires-clause-len

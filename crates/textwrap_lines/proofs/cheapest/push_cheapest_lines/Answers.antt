@@ -3,9 +3,8 @@ use Rattle.textwrap_base.proofs.Common.{List, map, refl, ◌∙◌, subst, Bor, 
 use Rattle.textwrap_words.proofs.Common.{as_splitter}
 use Rattle.textwrap_lines.proofs.Common.{Took, layout_view, Span}
 use Rattle.textwrap_lines.specs.Direct.{places_of, words_cut}
-use Rattle.textwrap_lines.proofs.Paragraph.CutPieces.{words_cut-texts}
-use Rattle.textwrap_lines.proofs.PlacedPieces.Cheapest.{are_searched, found-lines}
-use Rattle.textwrap_lines.proofs.PlacedPieces.Cheapest.{FoundLines}
+use Rattle.textwrap_lines.proofs.Paragraph.Pieces.{words_cut-texts}
+use Rattle.textwrap_lines.proofs.PlacedPieces.Cheapest.{are_searched, found-lines, FoundLines}
 use Rattle.textwrap_lines.proofs.cheapest.push_cheapest_lines.Goals.{After-deref-2}
 
 pub cheapest_lines-requires : goal.cheapest_lines-requires

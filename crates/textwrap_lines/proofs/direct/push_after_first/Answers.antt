@@ -4,7 +4,7 @@ use Rattle.textwrap_words.proofs.Common.{as_splitter}
 use Rattle.textwrap_lines.proofs.Common.{Took, layout_view, pieces_of}
 use Rattle.textwrap_lines.proofs.Paragraph.Pieces.{pieces_of-no_penalty, pieces_of-tile}
 use Rattle.textwrap_lines.proofs.Text.Sinks.{Took-then}
-use Rattle.textwrap_lines.proofs.PieceLines.Joined.{lines-greedy}
+use Rattle.textwrap_lines.proofs.PieceLines.{lines-greedy}
 
 pub returns-clause-took : goal.returns-clause-took
 returns-clause-took g c =

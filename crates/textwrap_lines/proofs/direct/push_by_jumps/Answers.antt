@@ -4,9 +4,8 @@ use Rattle.textwrap_words.proofs.Common.{as_splitter, split_words, word_of}
 use Rattle.textwrap_words.specs.PieceCuts.{parts_by}
 use Rattle.textwrap_lines.proofs.Common.{Took, indent_of, is_cut_by, layout_view, pieces_of_words}
 use Rattle.textwrap_lines.proofs.Paragraph.Pieces.{pieces_of_words-no_penalty, pieces_of_words-tile}
-use Rattle.textwrap_lines.proofs.PieceLines.Joined.{lines-greedy}
-use Rattle.textwrap_lines.proofs.PrintableTexts.Pieces.{words-texts}
-use Rattle.textwrap_lines.proofs.PrintableTexts.SplitWords.{split-cuts}
+use Rattle.textwrap_lines.proofs.PieceLines.{lines-greedy}
+use Rattle.textwrap_lines.proofs.PrintableTexts.Pieces.{words-texts, split-cuts}
 use Rattle.textwrap_lines.proofs.Text.Directly.{lines-by_bytes, lines_of_pieces}
 
 pub returns-clause-took : goal.returns-clause-took

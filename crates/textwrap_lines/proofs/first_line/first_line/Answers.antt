@@ -3,7 +3,7 @@ use Rattle.textwrap_base.proofs.Common.{sym, ap, ◌∙◌, subst, arith}
 use Rattle.textwrap_words.proofs.Common.{as_splitter}
 use Rattle.textwrap_lines.proofs.Common.{first_width, layout_view}
 use Rattle.textwrap_lines.specs.PieceLines.{first_so_far}
-use Rattle.textwrap_lines.proofs.PieceLines.First.{HoldsFirst, goes_on-start}
+use Rattle.textwrap_lines.proofs.PieceLines.{HoldsFirst, goes_on-start}
 
 pub loop-line-init : goal.loop-line-init
 loop-line-init c =

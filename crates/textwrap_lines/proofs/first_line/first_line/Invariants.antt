@@ -2,7 +2,7 @@ use Rattle.textwrap_lines.proofs.first_line.first_line.Given as goal
 use Rattle.textwrap_base.proofs.Common.{length}
 use Rattle.textwrap_words.proofs.Common.{as_splitter}
 use Rattle.textwrap_lines.proofs.Common.{line_so_far, layout_view}
-use Rattle.textwrap_lines.proofs.PieceLines.First.{HoldsFirst, left_at}
+use Rattle.textwrap_lines.proofs.PieceLines.{HoldsFirst, left_at}
 
 abbrev pub invariant-loop-line : goal.invariant-loop-line
 invariant-loop-line l =

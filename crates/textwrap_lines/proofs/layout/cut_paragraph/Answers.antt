@@ -1,14 +1,14 @@
 use Rattle.textwrap_lines.proofs.layout.cut_paragraph.Goals as goal
 use Rattle.textwrap_base.proofs.Common.{◌++◌, List, Option, ℕ, ap, ◌∙◌, arith, map, sym, subst}
 use Rattle.std.specs.Option.{option_map}
-use Rattle.textwrap_words.proofs.Common.{as_splitter, broken_words, parts_between}
-use Rattle.textwrap_words.proofs.Common.{split_words, word_of}
+use Rattle.textwrap_words.proofs.Common.{as_splitter, broken_words, parts_between, split_words}
+use Rattle.textwrap_words.proofs.Common.{word_of}
 use Rattle.textwrap_words.specs.Pieces.{stand_from}
 use Rattle.textwrap_lines.specs.Direct.{CanBeCut, places_of, words_cut}
 use Rattle.textwrap_lines.specs.Layout.{break_limit}
 use Rattle.textwrap_lines.proofs.Common.{front_of, layout_view}
-use Rattle.textwrap_lines.proofs.Paragraph.CutPieces.{words_cut-texts}
-use Rattle.textwrap_lines.proofs.PieceLines.Unbroken.{limited-pieces}
+use Rattle.textwrap_lines.proofs.Paragraph.Pieces.{words_cut-texts}
+use Rattle.textwrap_lines.proofs.PieceLines.{limited-pieces}
 
 pub of-requires : goal.of-requires
 of-requires c = subst (λ (places : Option (List ℕ)). CanBeCut places c.args.paragraph.now)

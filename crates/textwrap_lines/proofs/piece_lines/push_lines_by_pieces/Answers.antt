@@ -6,14 +6,12 @@ use Rattle.textwrap_words.specs.Pieces.{stand_from}
 use Rattle.textwrap_lines.specs.PiecesLeft.{left_standing}
 use Rattle.textwrap_lines.specs.Direct.{pieces_cut, places_of, words_cut}
 use Rattle.textwrap_lines.proofs.Common.{Took, layout_view, later_width, first_width, indent_of}
-use Rattle.textwrap_lines.proofs.Common.{line_so_far, lines_from, LineSoFar, line_of}
-use Rattle.textwrap_lines.proofs.Common.{with_piece}
+use Rattle.textwrap_lines.proofs.Common.{line_so_far, lines_from, LineSoFar, line_of, with_piece}
 use Rattle.textwrap_lines.specs.PieceLines.{no_pieces}
-use Rattle.textwrap_lines.proofs.Paragraph.CutPieces.{words_cut-texts}
-use Rattle.textwrap_lines.proofs.Paragraph.Pieces.{pieces_of_words-no_penalty, pieces_of_words-tile}
+use Rattle.textwrap_lines.proofs.Paragraph.Pieces.{words_cut-texts, pieces_of_words-no_penalty}
+use Rattle.textwrap_lines.proofs.Paragraph.Pieces.{pieces_of_words-tile}
 use Rattle.textwrap_lines.proofs.Text.Sinks.{HasTaken, HasTaken-end, HasTaken-next, HasTaken-start}
-use Rattle.textwrap_lines.proofs.PieceLines.Coming.{AllCome, pieces-come}
-use Rattle.textwrap_lines.proofs.PieceLines.Joined.{lines-greedy}
+use Rattle.textwrap_lines.proofs.PieceLines.{AllCome, pieces-come, lines-greedy}
 use Rattle.textwrap_lines.proofs.piece_lines.push_lines_by_pieces.Goals.{else-is_past}
 use Rattle.textwrap_lines.proofs.piece_lines.push_lines_by_pieces.Goals.{then-is_past+in_ok-push_to}
 

@@ -3,7 +3,7 @@ use Rattle.textwrap_base.proofs.Common.{◌≡◌}
 use Rattle.textwrap_lines.specs.PiecesLeft.{left_standing}
 use Rattle.textwrap_lines.proofs.Common.{line_so_far, lines_from, layout_view}
 use Rattle.textwrap_lines.proofs.Text.Sinks.{HasTaken}
-use Rattle.textwrap_lines.proofs.PieceLines.Coming.{AllCome}
+use Rattle.textwrap_lines.proofs.PieceLines.{AllCome}
 
 -- the lines before the last one were taken, and the pieces that are left come after it
 abbrev pub invariant-loop-piece : goal.invariant-loop-piece

@@ -1,10 +1,10 @@
 use Rattle.textwrap_lines.proofs.printable.push_printable_lines.Goals as goal
 use Rattle.textwrap_lines.proofs.printable.push_printable_lines.Goals.{then-goes_on, else-goes_on}
-use Rattle.textwrap_base.proofs.Common.{◌≡◌, ◌≤◌, ◌||◌, [], ◌∷◌, length, refl, sym, ap}
-use Rattle.textwrap_base.proofs.Common.{◌∙◌, subst, slice_range}
+use Rattle.textwrap_base.proofs.Common.{◌≡◌, ◌≤◌, ◌||◌, [], ◌∷◌, length, refl, sym, ap, ◌∙◌, subst}
+use Rattle.textwrap_base.proofs.Common.{slice_range}
 use Rattle.textwrap_words.proofs.Common.{as_splitter}
-use Rattle.textwrap_lines.proofs.Common.{is_cut_by, Took, IsFirstLine, line_slice, layout_view, indent_of}
-use Rattle.textwrap_lines.proofs.Common.{later_width, cut_line, assembled_line}
+use Rattle.textwrap_lines.proofs.Common.{is_cut_by, Took, IsFirstLine, line_slice, layout_view}
+use Rattle.textwrap_lines.proofs.Common.{indent_of, later_width, cut_line, assembled_line}
 use Rattle.textwrap_lines.specs.Layout.{break_limit, limit_at}
 use Rattle.textwrap_lines.proofs.PrintableTexts.Lines.{lines-step}
 use Rattle.textwrap_lines.proofs.Text.Sinks.{HasTaken, HasTaken-next, HasTaken-start}

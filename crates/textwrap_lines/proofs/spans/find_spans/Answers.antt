@@ -4,9 +4,9 @@ use Rattle.textwrap_words.proofs.Common.{as_splitter}
 use Rattle.textwrap_lines.specs.PiecesLeft.{left_standing}
 use Rattle.textwrap_lines.proofs.Common.{layout_view}
 use Rattle.textwrap_lines.specs.Direct.{pieces_cut, places_of, words_cut}
-use Rattle.textwrap_lines.proofs.Paragraph.CutPieces.{words_cut-texts}
-use Rattle.textwrap_lines.proofs.Paragraph.Pieces.{pieces_of_words-wide}
-use Rattle.textwrap_lines.proofs.PlacedPieces.Left.{HasLeft, HasNext, Left-start, Left-next, Left-end}
+use Rattle.textwrap_lines.proofs.Paragraph.Pieces.{words_cut-texts, pieces_of_words-wide}
+use Rattle.textwrap_lines.proofs.PlacedPieces.Lines.{HasLeft, HasNext, Left-start, Left-next}
+use Rattle.textwrap_lines.proofs.PlacedPieces.Lines.{Left-end}
 use Rattle.textwrap_lines.proofs.spans.find_spans.Goals.{In-Some}
 
 pub loop-piece-init : goal.loop-piece-init

@@ -2,7 +2,7 @@ use Rattle.textwrap_lines.proofs.spans.find_spans.Given as goal
 use Rattle.textwrap_lines.specs.PiecesLeft.{left_standing}
 use Rattle.textwrap_lines.proofs.Common.{layout_view}
 use Rattle.textwrap_lines.specs.Direct.{pieces_cut}
-use Rattle.textwrap_lines.proofs.PlacedPieces.Left.{HasLeft}
+use Rattle.textwrap_lines.proofs.PlacedPieces.Lines.{HasLeft}
 
 -- the spans so far and those of the pieces that are left are those of all pieces
 abbrev pub invariant-loop-piece : goal.invariant-loop-piece

@@ -6,7 +6,7 @@ use Rattle.std.proofs.Common.{Iter}
 use Rattle.std.specs.Iterator.Adapters.{copied_source}
 use Rattle.std.specs.Slice.Iter.{iter_rest}
 use Rattle.std.specs.declared.iter.Copied.{Copied}
-use Rattle.textwrap_base.proofs.Lists.Maps.{given-copied}
+use Rattle.textwrap_base.proofs.Lists.Elements.{given-copied}
 
 pub returns-then-stay_whole : goal.returns-then-stay_whole
 returns-then-stay_whole g c =

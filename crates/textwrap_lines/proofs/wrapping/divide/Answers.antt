@@ -1,6 +1,6 @@
 use Rattle.textwrap_lines.proofs.wrapping.divide.Goals as goal
 use Rattle.textwrap_words.proofs.Common.{word_view, sizes_of}
-use Rattle.textwrap_lines.proofs.Paragraph.Overflow.{overflow-optimal}
+use Rattle.textwrap_lines.proofs.Paragraph.Widths.{overflow-optimal}
 
 pub returns-clause-overflow_only : goal.returns-clause-overflow_only
 returns-clause-overflow_only g c = λ overflowed.

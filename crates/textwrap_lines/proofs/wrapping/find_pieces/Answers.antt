@@ -2,8 +2,8 @@ use Rattle.textwrap_lines.proofs.wrapping.find_pieces.Goals as goal
 use Rattle.textwrap_base.proofs.Common.{map}
 use Rattle.textwrap_words.proofs.Common.{word_view, MaySeparate, MaySplit}
 use Rattle.textwrap_lines.proofs.Common.{settings_view}
-use Rattle.textwrap_lines.proofs.Paragraph.GivenPieces.{pieces-tile}
-use Rattle.textwrap_words.proofs.Word.GivenCuts.{MaySeparate-texts, MaySplit-cuts}
+use Rattle.textwrap_lines.proofs.Paragraph.Pieces.{pieces-tile}
+use Rattle.textwrap_words.proofs.Word.Parts.{MaySeparate-texts, MaySplit-cuts}
 
 pub returns-clause-pieces : goal.returns-clause-pieces
 returns-clause-pieces g c =

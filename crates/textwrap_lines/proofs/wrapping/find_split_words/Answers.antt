@@ -2,9 +2,9 @@ use Rattle.textwrap_lines.proofs.wrapping.find_split_words.Goals as goal
 use Rattle.textwrap_base.proofs.Common.{[], ◌∷◌, ◌++◌, All, map, subst, sym, ap, ◌∙◌, append_assoc}
 use Rattle.textwrap_base.proofs.Common.{append-nil, All-tail}
 use Rattle.textwrap_words.proofs.Common.{word_view, MaySeparate, AreSplit, MaySplit}
-use Rattle.textwrap_words.proofs.Word.Measured.{IsMeasured}
-use Rattle.textwrap_words.proofs.Word.GivenCuts.{MaySeparate-texts}
-use Rattle.textwrap_words.proofs.Word.SplitTiling.{AreSplit-push}
+use Rattle.textwrap_words.proofs.Word.Words.{IsMeasured}
+use Rattle.textwrap_words.proofs.Word.Parts.{MaySeparate-texts}
+use Rattle.textwrap_words.proofs.Word.Pieces.{AreSplit-push}
 
 pub loop-word-init : goal.loop-word-init
 loop-word-init g c =

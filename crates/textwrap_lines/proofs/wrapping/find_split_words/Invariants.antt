@@ -1,7 +1,7 @@
 use Rattle.textwrap_lines.proofs.wrapping.find_split_words.Given as goal
 use Rattle.textwrap_base.proofs.Common.{◌++◌, All, List, map}
 use Rattle.textwrap_words.proofs.Common.{WordText, word_view, MaySeparate, AreSplit, MaySplit}
-use Rattle.textwrap_words.proofs.Word.Measured.{IsMeasured}
+use Rattle.textwrap_words.proofs.Word.Words.{IsMeasured}
 
 -- the pieces so far are those of the words before the ones that are left, and each of these is
 -- measured

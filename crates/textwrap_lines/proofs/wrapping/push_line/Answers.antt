@@ -2,7 +2,7 @@ use Rattle.textwrap_lines.proofs.wrapping.push_line.Goals as goal
 use Rattle.textwrap_base.proofs.Common.{◌≡◌, ◌&&◌, ◌==◌, length, [], ◌∷◌, ◌∙◌, ap, sym, subst}
 use Rattle.textwrap_words.proofs.Common.{word_view}
 use Rattle.textwrap_lines.proofs.Common.{Took, cut_line, layout_view, keeps_whitespace}
-use Rattle.textwrap_lines.proofs.Paragraph.EndingLine.{line_from-parts_of}
+use Rattle.textwrap_lines.proofs.Paragraph.LeftOff.{line_from-parts_of}
 use Rattle.textwrap_lines.proofs.wrapping.push_line.Goals.{then-layout, else-layout}
 
 pub returns-clause-line : goal.returns-clause-line

@@ -1,12 +1,12 @@
 use Rattle.textwrap_lines.proofs.wrapping.push_lines.Goals as goal
 use Rattle.textwrap_base.proofs.Common.{◌≡◌, ℕ, ◌+◌, ◌-◌, ◌≤◌, List, Bor, drop, length, map, refl}
-use Rattle.textwrap_base.proofs.Common.{rules, subst, sym, ap, arith, ◌∙◌, StartsWith}
-use Rattle.textwrap_base.proofs.Common.{flat_map, drop_all, drop_more, length-drop, length-take}
+use Rattle.textwrap_base.proofs.Common.{rules, subst, sym, ap, arith, ◌∙◌, StartsWith, flat_map}
+use Rattle.textwrap_base.proofs.Common.{drop_all, drop_more, length-drop, length-take}
 use Rattle.textwrap_words.proofs.Common.{word_view, tiled, WordText}
 use Rattle.textwrap_lines.proofs.Common.{cut_lines, parts_from, layout_view, Word}
-use Rattle.textwrap_base.proofs.Lists.Prefixes.{starts-parts}
-use Rattle.textwrap_lines.proofs.Text.Cuts.{cut_lines-next}
-use Rattle.textwrap_lines.proofs.Text.Sinks.{HasTaken, HasTaken-end, HasTaken-next, HasTaken-start}
+use Rattle.textwrap_base.proofs.Lists.Parts.{starts-parts}
+use Rattle.textwrap_lines.proofs.Text.Sinks.{cut_lines-next, HasTaken, HasTaken-end, HasTaken-next}
+use Rattle.textwrap_lines.proofs.Text.Sinks.{HasTaken-start}
 
 pub loop-pieces-init : goal.loop-pieces-init
 loop-pieces-init g c =

@@ -1,10 +1,9 @@
 use Rattle.textwrap_lines.proofs.wrapping.push_paragraph.Goals as goal
 use Rattle.textwrap_base.proofs.Common.{[], ◌∷◌, cond, ap, sym, refl, ◌∙◌, subst, on_ok_weaker}
 use Rattle.textwrap_words.proofs.Common.{word_of, without_final_blanks}
-use Rattle.textwrap_lines.proofs.Common.{Took, cut_line, is_whole, Slice, parts_of}
-use Rattle.textwrap_lines.proofs.Common.{parts_from}
-use Rattle.textwrap_lines.proofs.Paragraph.WholeLine.{line_from-whole, AreParagraphParts-whole}
-use Rattle.textwrap_lines.proofs.Paragraph.WholeLine.{AreParagraphParts-divided}
+use Rattle.textwrap_lines.proofs.Common.{Took, cut_line, is_whole, Slice, parts_of, parts_from}
+use Rattle.textwrap_lines.proofs.Paragraph.LeftOff.{line_from-whole, AreParagraphParts-whole}
+use Rattle.textwrap_lines.proofs.Paragraph.LeftOff.{AreParagraphParts-divided}
 
 pub returns-then-is_one_line-clause-taken : goal.returns-then-is_one_line-clause-taken
 returns-then-is_one_line-clause-taken g c =

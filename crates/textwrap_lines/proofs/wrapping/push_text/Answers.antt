@@ -3,8 +3,8 @@ use Rattle.textwrap_base.proofs.Common.{◌+◌, ◌++◌, refl, sym, ap, length
 use Rattle.textwrap_lines.proofs.Common.{ending_bytes, paragraphs_of}
 use Rattle.textwrap_lines.proofs.Text.Directly.{passed-on}
 use Rattle.textwrap_lines.proofs.Text.Lines.{paragraphs_left, paragraphs_left-split}
-use Rattle.textwrap_lines.proofs.Text.Taken.{HasParagraphs, HasParagraphs-end, HasParagraphs-more}
-use Rattle.textwrap_lines.proofs.Text.Taken.{HasParagraphs-start}
+use Rattle.textwrap_lines.proofs.Text.Sinks.{HasParagraphs, HasParagraphs-end, HasParagraphs-more}
+use Rattle.textwrap_lines.proofs.Text.Sinks.{HasParagraphs-start}
 
 pub loop-rest-init : goal.loop-rest-init
 loop-rest-init g c =

@@ -2,10 +2,9 @@ use Rattle.textwrap_lines.proofs.wrapping.wrap.Goals as goal
 use Rattle.textwrap_base.proofs.Common.{map}
 use Rattle.textwrap_lines.proofs.Common.{line_view}
 use Rattle.textwrap_words.proofs.Common.{Greedy}
-use Rattle.textwrap_lines.proofs.Text.Wrapped.{IsWrapped-options, LinesKeepToWidth-options}
-use Rattle.textwrap_lines.proofs.Text.Wrapped.{LinesKeepToWidth-from}
-use Rattle.textwrap_lines.proofs.Text.Wrapped.{ArePrintedWithin-options}
-use Rattle.textwrap_lines.proofs.Paragraph.BuiltIn.{lines-as}
+use Rattle.textwrap_lines.proofs.Text.Promises.{IsWrapped-options, LinesKeepToWidth-options}
+use Rattle.textwrap_lines.proofs.Text.Promises.{LinesKeepToWidth-from, ArePrintedWithin-options}
+use Rattle.textwrap_lines.proofs.Paragraph.Pieces.{lines-as}
 
 pub returns-clause-lines : goal.returns-clause-lines
 returns-clause-lines g c =

@@ -2,8 +2,8 @@ use Rattle.textwrap_plain.proofs.display.table.Goals as goal
 use Rattle.textwrap_base.proofs.Common.{map, string_bytes}
 use Rattle.std.proofs.lemmas.Result.{IfOk-weaker}
 use Rattle.textwrap_display.specs.Tables.{gaps_view, texts_in}
-use Rattle.textwrap_display.proofs.TableParts.{table-map}
-use Rattle.textwrap_plain.proofs.Tables.{columns-make}
+use Rattle.textwrap_display.proofs.TableGroups.{table-map}
+use Rattle.textwrap_plain.proofs.Named.{columns-make}
 use Rattle.textwrap_plain.specs.Tables.{plain_parts, plain_shape, PlainMakes}
 
 pub returns-clause-rows : goal.returns-clause-rows

@@ -1,5 +1,5 @@
 use Rattle.textwrap_plain.proofs.laws.plain_lines_are_unique.Goals as goal
-use Rattle.textwrap_lines.proofs.Text.Unique.{division_one-at, filled_one, text_one}
+use Rattle.textwrap_lines.proofs.Text.Groups.{division_one-at, filled_one, text_one}
 use Rattle.textwrap_plain.specs.Options.{algorithm_of, DividesPlainly, settings_of, splitter_of}
 use Rattle.textwrap_plain.specs.Options.{words_by}
 

@@ -1,10 +1,9 @@
 use Rattle.textwrap_plain.proofs.texts.fill_into.Goals as goal
 use Rattle.textwrap_base.proofs.Common.{refl}
-use Rattle.textwrap_plain.proofs.OnlyLine.{only-filled}
+use Rattle.textwrap_plain.proofs.Named.{only-filled, filled-at, parts-separated, separates-blanks}
 use Rattle.std.proofs.lemmas.Result.{IfOk-weaker}
-use Rattle.textwrap_plain.proofs.Parts.{filled-at}
-use Rattle.textwrap_plain.proofs.Separators.{parts-separated, separates-blanks}
-use Rattle.textwrap_plain.specs.Options.{algorithm_of, DividesPlainly, settings_of, splitter_of, words_by}
+use Rattle.textwrap_plain.specs.Options.{algorithm_of, DividesPlainly, settings_of, splitter_of}
+use Rattle.textwrap_plain.specs.Options.{words_by}
 
 pub returns-in-Some-clause-filled : goal.returns-in-Some-clause-filled
 returns-in-Some-clause-filled c =

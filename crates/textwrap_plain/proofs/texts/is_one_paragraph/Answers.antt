@@ -1,8 +1,8 @@
 use Rattle.textwrap_plain.proofs.texts.is_one_paragraph.Goals as goal
 use Rattle.textwrap_base.proofs.Common.{subst}
 use Rattle.textwrap_words.proofs.Common.{IsPrintable}
-use Rattle.textwrap_lines.proofs.Text.Endings.{one-paragraph, printable-free}
-use Rattle.textwrap_plain.proofs.OnlyLine.{only-paragraph}
+use Rattle.textwrap_lines.proofs.Text.Paragraphs.{one-paragraph, printable-free}
+use Rattle.textwrap_plain.proofs.Named.{only-paragraph}
 
 pub returns-then-is_printable : goal.returns-then-is_printable
 returns-then-is_printable c = λ one.

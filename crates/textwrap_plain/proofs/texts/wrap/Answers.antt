@@ -3,7 +3,7 @@ use Rattle.textwrap_base.proofs.Common.{map}
 use Rattle.std.proofs.lemmas.Result.{IfOk-weaker}
 use Rattle.std.specs.Prelude.{IfOk}
 use Rattle.textwrap_lines.proofs.Common.{AreTextLines, line_view}
-use Rattle.textwrap_plain.proofs.Wrapped.{ArePrintedWithin-at, IsWrapped-at, LinesKeepToWidth-at}
+use Rattle.textwrap_plain.proofs.Words.{ArePrintedWithin-at, IsWrapped-at, LinesKeepToWidth-at}
 use Rattle.textwrap_plain.proofs.texts.wrap.Goals.{After-wrap_by}
 use Rattle.textwrap_plain.specs.Options.{algorithm_of, DividesPlainly, settings_of, splitter_of}
 

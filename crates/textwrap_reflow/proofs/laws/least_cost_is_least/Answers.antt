@@ -2,7 +2,7 @@ use Rattle.textwrap_reflow.proofs.laws.least_cost_is_least.Goals as goal
 use Rattle.textwrap_base.proofs.Common.{◌-◌, ◌∷◌, [], length, map, subst}
 use Rattle.textwrap_words.proofs.Common.{IsDividedBy, sizes_of, word_of}
 use Rattle.textwrap_reflow.proofs.Common.{pieces}
-use Rattle.textwrap_base.proofs.Division.SameWidths.{one-width}
+use Rattle.textwrap_base.proofs.Division.Greedy.{one-width}
 use Rattle.textwrap_reflow.specs.Reflow.{algorithm_of}
 
 pub returns : goal.returns

@@ -7,7 +7,7 @@ use Rattle.std.proofs.lemmas.Iterator.Consumers.{count_from_yields_List}
 use Rattle.std.proofs.lemmas.Iterator.Search.{YieldsList-from_take_while}
 use Rattle.std.proofs.lemmas.List.Sums.{prefix_len-le-length}
 use borrow.Author.Tests.{tests}
-use Rattle.textwrap.proofs.Text.Prefixes.{line_prefix-boundary}
+use Rattle.textwrap.proofs.Text.Unfilling.{line_prefix-boundary}
 use Rattle.textwrap_reflow.proofs.lines.split_prefix.Goals.{After-count-len}
 
 -- the bytes that are counted are the prefix characters

@@ -1,13 +1,12 @@
 use Rattle.textwrap_reflow.proofs.paragraphs.read_paragraph.Goals as goal
-use Rattle.textwrap_base.proofs.Common.{◌≡◌, ◌++◌, ◌∷◌, [], None, map, ap, sym, ◌∙◌, subst}
-use Rattle.textwrap_base.proofs.Common.{IsAscii, map-append}
-use Rattle.textwrap.proofs.Text.Prefixes.{line_prefix-ascii}
-use Rattle.textwrap_reflow.proofs.Common.{blocks, lines_left, line_prefix, hanging}
+use Rattle.textwrap_base.proofs.Common.{◌≡◌, ◌++◌, ◌∷◌, [], None, map, ap, sym, ◌∙◌, subst, IsAscii}
+use Rattle.textwrap_base.proofs.Common.{map-append, not, ◌&&◌}
+use Rattle.textwrap.proofs.Text.Unfilling.{line_prefix-ascii}
+use Rattle.textwrap_reflow.proofs.Common.{blocks, lines_left, line_prefix, hanging, after_prefix}
+use Rattle.textwrap_reflow.proofs.Common.{stands_apart}
 use Rattle.textwrap_reflow.proofs.Grouping.{goes_on, goes_on-joins, joined_to}
 use Rattle.textwrap_reflow.proofs.paragraphs.read_paragraph.Goals.{After-goes_on}
 use Rattle.std.specs.Str.{bytes_eq}
-use Rattle.textwrap_base.proofs.Common.{not, ◌&&◌}
-use Rattle.textwrap_reflow.proofs.Common.{after_prefix, stands_apart}
 
 pub hanging-requires : goal.hanging-requires
 hanging-requires g c =

@@ -1,12 +1,12 @@
 use Rattle.textwrap_steps.proofs.points.points_between.Goals as goal
-use Rattle.textwrap_base.proofs.Common.{◌≡◌, ◌-◌, arith, drop, length, length-drop, rules}
-use Rattle.textwrap_base.proofs.Common.{take, take_all, subst, sym}
+use Rattle.textwrap_base.proofs.Common.{◌≡◌, ◌-◌, arith, drop, length, length-drop, rules, take}
+use Rattle.textwrap_base.proofs.Common.{take_all, subst, sym}
 use Rattle.std.proofs.lemmas.List.Sorted.{IsNonDecreasingBy-drop, IsNonDecreasingBy-from_default}
 use Rattle.std.proofs.lemmas.List.Sorted.{IsPartitionPoint-from_clause, IsPartitionedBy-leb}
 use Rattle.std.proofs.lemmas.List.Sorted.{IsPartitionedBy-ltb}
 use Rattle.std.specs.List.Sorted.{IsNonDecreasing}
 use lib.Dec.{leb, ltb}
-use Rattle.textwrap_base.proofs.Lists.Rising.{increasing-le}
+use Rattle.textwrap_base.proofs.Lists.Elements.{increasing-le}
 use Rattle.textwrap_steps.proofs.PointLemmas.{between-are}
 
 pub returns : goal.returns

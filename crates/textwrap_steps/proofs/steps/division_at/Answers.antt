@@ -5,7 +5,7 @@ use Rattle.textwrap_base.proofs.Common.{StartsWith, subst}
 use Rattle.textwrap_base.proofs.Lists.Parts.{flat}
 use Rattle.textwrap_words.proofs.Common.{tiled, word_view}
 use Rattle.textwrap_lines.proofs.Common.{Word}
-use Rattle.textwrap_lines.proofs.Paragraph.Lines.{lines-begin}
+use Rattle.textwrap_lines.proofs.Paragraph.Widths.{lines-begin}
 use Rattle.textwrap_steps.proofs.LineLemmas.{lines_between-begin, lines_between-map}
 
 pub returns-clause-begins : goal.returns-clause-begins

@@ -3,7 +3,7 @@ use Rattle.textwrap_base.proofs.Common.{[], map, subst}
 use Rattle.textwrap_words.proofs.Common.{word_view}
 use Rattle.textwrap_words.specs.LineEnds.{lines_between}
 use Rattle.textwrap_lines.proofs.Common.{parts_from, settings_view}
-use Rattle.textwrap_lines.proofs.Text.Cuts.{further-cut_lines}
+use Rattle.textwrap_lines.proofs.Text.Sinks.{further-cut_lines}
 use Rattle.textwrap_lines.specs.Places.{HasPlaces}
 
 pub returns : goal.returns

@@ -1,11 +1,10 @@
 use Rattle.textwrap_steps.proofs.steps.pieces_at.Goals as goal
 use Rattle.textwrap_base.proofs.Common.{◌∙◌, ap, map, refl, subst, sym, IsUtf8, List, ℕ}
 use Rattle.textwrap_words.proofs.Common.{AreCuts, parts_between, word_of, word_view, WordText}
-use Rattle.textwrap_words.proofs.Word.GivenCuts.{parts-texts}
-use Rattle.textwrap_words.proofs.Word.Parts.{inner-cuts, parts_between-tile}
+use Rattle.textwrap_words.proofs.Word.Parts.{parts-texts, inner-cuts, parts_between-tile}
 use Rattle.textwrap_words.proofs.Word.Pieces.{AreTexts}
 use Rattle.textwrap_lines.proofs.Common.{settings_view}
-use Rattle.textwrap_lines.proofs.Paragraph.GivenPieces.{pieces-tile}
+use Rattle.textwrap_lines.proofs.Paragraph.Pieces.{pieces-tile}
 use Rattle.textwrap_lines.specs.Paragraph.{broken_pieces_of}
 use Rattle.textwrap_steps.specs.Steps.{AreWordsBetween, split_at}
 use Rattle.textwrap_steps.proofs.PointLemmas.{split_at-are}

@@ -1,5 +1,5 @@
 use Rattle.std.proofs.Common.{sym, arith}
-use Rattle.textwrap_unicode.proofs.CharacterLemmas.{ideograph-unit}
+use Rattle.textwrap_unicode.proofs.ClassLemmas.{ideograph-unit}
 use Rattle.textwrap_unicode.proofs.classes.is_common_ideograph.Goals as goal
 
 pub returns-then-code-le40959 : goal.returns-then-code-le40959

@@ -1,5 +1,5 @@
 use Rattle.std.proofs.Common.{rules, sym, ◌∙◌}
-use Rattle.textwrap_unicode.proofs.CharacterLemmas.{early-assigned}
+use Rattle.textwrap_unicode.proofs.ClassLemmas.{early-assigned}
 use Rattle.textwrap_unicode.proofs.classes.is_unassigned_pictograph.Goals as goal
 use Rattle.textwrap_unicode.proofs.classes.is_unassigned_pictograph.Goals.{then-c-ge126976}
 use Rattle.textwrap_unicode.proofs.classes.is_unassigned_pictograph.Goals.{else-c-ge126976}

@@ -1,4 +1,4 @@
-use Rattle.textwrap_unicode.proofs.JapaneseLemmas.{japanese-unit}
+use Rattle.textwrap_unicode.proofs.ClassLemmas.{japanese-unit}
 use Rattle.textwrap_unicode.proofs.classes.japanese_unit.Goals as goal
 
 pub returns : goal.returns

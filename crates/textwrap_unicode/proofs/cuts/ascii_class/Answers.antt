@@ -1,5 +1,5 @@
 use Rattle.textwrap_base.proofs.Common.{ap}
-use Rattle.textwrap_unicode.proofs.CharacterLemmas.{ascii-unit}
+use Rattle.textwrap_unicode.proofs.ClassLemmas.{ascii-unit}
 use Rattle.textwrap_unicode.proofs.cuts.ascii_class.Goals as goal
 
 pub returns : goal.returns

@@ -1,5 +1,6 @@
-use Rattle.textwrap_base.proofs.Common.{◌≡◌, ℕ, ◌<◌, ◌*◌, slice_index, ◌+◌, ◌++◌, drop, length, append-nil, ap, ◌∙◌, sym, subst}
-use Rattle.textwrap_base.proofs.Common.{refl, arith, drop-drop, true≢false}
+use Rattle.textwrap_base.proofs.Common.{◌≡◌, ℕ, ◌<◌, ◌*◌, slice_index, ◌+◌, ◌++◌, drop, length}
+use Rattle.textwrap_base.proofs.Common.{append-nil, ap, ◌∙◌, sym, subst, refl, arith, drop-drop}
+use Rattle.textwrap_base.proofs.Common.{true≢false}
 use Rattle.std.specs.Prelude.{encode_utf8}
 use Rattle.std.specs.Str.Iter.{chars_rest}
 use Rattle.textwrap_words.specs.Cuts.{AreInnerCuts}
@@ -9,15 +10,15 @@ use Rattle.textwrap_unicode.specs.Breaks.{breaks_by}
 use Rattle.textwrap_unicode.specs.BreaksLeft.{and}
 use Rattle.textwrap_unicode.specs.Cuts.{may_end, offsets_of}
 use Rattle.textwrap_unicode.specs.WordStarts.{IsWordByte}
-use Rattle.textwrap_unicode.proofs.CuttingLemmas.{IsCutting, IsCutting-start, IsCutting-step, IsCutting-end}
-use Rattle.textwrap_unicode.proofs.InnerCuts.{cuts_at-AreInnerCuts}
-use Rattle.textwrap_words.proofs.Units.ReadPlaces.{read-next}
-use Rattle.textwrap_unicode.proofs.IdeographCuts.{past-ideographs}
-use Rattle.textwrap_unicode.proofs.WordCuts.{past-words}
+use Rattle.textwrap_unicode.proofs.CutLemmas.{IsCutting, IsCutting-start, IsCutting-step}
+use Rattle.textwrap_unicode.proofs.CutLemmas.{IsCutting-end, cuts_at-AreInnerCuts}
+use Rattle.textwrap_words.proofs.Units.Reading.{read-next}
+use Rattle.textwrap_unicode.proofs.WordVerdicts.{past-ideographs, past-words}
 use Rattle.textwrap_unicode.specs.Ideographs.{IsIdeographAt}
 use Rattle.textwrap_unicode.proofs.cuts.find_cuts.Goals as goal
 use Rattle.textwrap_unicode.proofs.cuts.find_cuts.Goals.{In-Some, Joined-is_visible}
-use Rattle.textwrap_unicode.proofs.cuts.find_cuts.Goals.{then-is_visible, else-is_visible, then-is_cut+in_ok-push, else-is_cut}
+use Rattle.textwrap_unicode.proofs.cuts.find_cuts.Goals.{then-is_visible, else-is_visible}
+use Rattle.textwrap_unicode.proofs.cuts.find_cuts.Goals.{then-is_cut+in_ok-push, else-is_cut}
 use Rattle.textwrap_unicode.proofs.cuts.find_cuts.Goals.{in-Text, in_default-matches}
 
 pub loop-ch-init : goal.loop-ch-init

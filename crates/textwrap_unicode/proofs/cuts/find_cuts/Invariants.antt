@@ -1,6 +1,6 @@
 use Rattle.textwrap_base.proofs.Common.{◌-◌, drop, length}
 use Rattle.textwrap_unicode.proofs.cuts.find_cuts.Given as goal
-use Rattle.textwrap_unicode.proofs.CuttingLemmas.{IsCutting}
+use Rattle.textwrap_unicode.proofs.CutLemmas.{IsCutting}
 
 abbrev pub invariant-loop-ch : goal.invariant-loop-ch
 invariant-loop-ch l = IsCutting l.numbers l.line l.at (drop l.at l.line) l.state l.before l.end

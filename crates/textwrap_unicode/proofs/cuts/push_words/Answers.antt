@@ -1,12 +1,13 @@
-use Rattle.textwrap_base.proofs.Common.{◌≡◌, ℕ, ◌++◌, ◌+◌, ◌-◌, ◌<◌, ◌||◌, Bool, true, false, inl, inr}
-use Rattle.textwrap_base.proofs.Common.{[], ◌∷◌, sym, ap, ◌∙◌, refl, subst, arith, add-one, append-nil}
-use Rattle.textwrap_base.proofs.Common.{append_assoc, slice_index, if◌then◌else◌, cases_lt}
+use Rattle.textwrap_base.proofs.Common.{◌≡◌, ℕ, ◌++◌, ◌+◌, ◌-◌, ◌<◌, ◌||◌, Bool, true, false, inl}
+use Rattle.textwrap_base.proofs.Common.{inr, [], ◌∷◌, sym, ap, ◌∙◌, refl, subst, arith, add-one}
+use Rattle.textwrap_base.proofs.Common.{append-nil, append_assoc, slice_index, if◌then◌else◌}
+use Rattle.textwrap_base.proofs.Common.{cases_lt}
 use Rattle.std.proofs.lemmas.Bool.{cases_eq}
 use Rattle.textwrap_unicode.specs.ClassSets.{is_infix, is_letter, is_space}
 use Rattle.textwrap_unicode.specs.Classes.{class_of}
 use Rattle.textwrap_unicode.specs.WordStarts.{IsPlainLetter, IsWordByte, is_behind_blank}
 use Rattle.textwrap_unicode.specs.WordStarts.{is_behind_sign, word_starts}
-use Rattle.textwrap_unicode.proofs.WordLetters.{letters-same}
+use Rattle.textwrap_unicode.proofs.WordVerdicts.{letters-same}
 use Rattle.textwrap_unicode.proofs.cuts.push_words.Goals as goal
 use Rattle.textwrap_unicode.proofs.cuts.push_words.Goals.{then-is_start+in_ok-push, else-is_start}
 

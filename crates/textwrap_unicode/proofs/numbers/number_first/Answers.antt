@@ -3,7 +3,7 @@ use Rattle.textwrap_base.proofs.Common.{YieldsList-from_chars, YieldsList-turn, 
 use Rattle.std.specs.Str.{chars}
 use Rattle.textwrap_unicode.specs.ClassSets.{is_mark, is_number}
 use Rattle.textwrap_unicode.specs.Rules.{number_first}
-use Rattle.textwrap_unicode.proofs.NumberLemmas.{number-step}
+use Rattle.textwrap_unicode.proofs.BreakLemmas.{number-step}
 use Rattle.textwrap_unicode.proofs.numbers.number_first.Goals as goal
 
 pub returns-then-not-is_mark : goal.returns-then-not-is_mark

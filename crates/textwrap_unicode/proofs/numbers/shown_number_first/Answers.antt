@@ -4,7 +4,7 @@ use Rattle.std.specs.Str.{chars}
 use Rattle.textwrap_words.specs.Escapes.{visible_in}
 use Rattle.textwrap_unicode.specs.ClassSets.{is_mark, is_number}
 use Rattle.textwrap_unicode.specs.Rules.{number_first}
-use Rattle.textwrap_unicode.proofs.NumberLemmas.{shown-step}
+use Rattle.textwrap_unicode.proofs.BreakLemmas.{shown-step}
 use Rattle.textwrap_unicode.proofs.numbers.shown_number_first.Goals as goal
 
 pub returns-then-not-is_mark : goal.returns-then-not-is_mark

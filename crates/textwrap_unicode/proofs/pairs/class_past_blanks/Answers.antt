@@ -1,8 +1,8 @@
-use Rattle.textwrap_base.proofs.Common.{◌-◌, ◌<◌, get_or, length, sym, ap, ◌∙◌}
-use Rattle.textwrap_base.proofs.Common.{arith, length-take-le}
+use Rattle.textwrap_base.proofs.Common.{◌-◌, ◌<◌, get_or, length, sym, ap, ◌∙◌, arith}
+use Rattle.textwrap_base.proofs.Common.{length-take-le}
 use Rattle.textwrap_unicode.specs.Classes.{class_of}
-use Rattle.textwrap_unicode.proofs.CharacterLemmas.{ascii-unit}
-use Rattle.textwrap_unicode.proofs.PastBlanks.{past-none, past-some}
+use Rattle.textwrap_unicode.proofs.ClassLemmas.{ascii-unit}
+use Rattle.textwrap_unicode.proofs.PrintableCuts.{past-none, past-some}
 use Rattle.textwrap_unicode.proofs.pairs.class_past_blanks.Goals as goal
 
 pub returns-then-end-eq0 : goal.returns-then-end-eq0

@@ -1,7 +1,6 @@
 use Rattle.textwrap_base.proofs.Common.{arith, subst, sym, true, ◌≡◌}
 use Rattle.textwrap_unicode.specs.Pairs.{IsCutAtBlanks}
-use Rattle.textwrap_unicode.proofs.ClosedBlanks.{all-usual}
-use Rattle.textwrap_unicode.proofs.PrintableWords.{usual-blanks, words-same}
+use Rattle.textwrap_unicode.proofs.PrintableCuts.{all-usual, usual-blanks, words-same}
 use Rattle.textwrap_unicode.proofs.pairs.is_cut_at_blanks.Goals as goal
 use Rattle.textwrap_unicode.proofs.pairs.is_cut_at_blanks.Goals.{After-is_usual_up_to}
 

@@ -4,8 +4,8 @@ use Rattle.unicode.specs.declared.properties.LineBreak.TheVariants.{Ambiguous}
 use Rattle.textwrap_words.proofs.Common.{is_blank}
 use Rattle.textwrap_unicode.specs.declared.ascii.TheConstants.{CLASSES}
 use Rattle.textwrap_unicode.specs.Pairs.{class_past_blanks, may_follow_blanks}
-use Rattle.textwrap_unicode.proofs.CharacterLemmas.{ascii-unit}
-use Rattle.textwrap_unicode.proofs.PlaceCuts.{cut-told}
+use Rattle.textwrap_unicode.proofs.ClassLemmas.{ascii-unit}
+use Rattle.textwrap_unicode.proofs.PrintableCuts.{cut-told}
 use Rattle.textwrap_unicode.proofs.pairs.is_cut_between.Goals as goal
 
 pub returns-then-after-eq32 : goal.returns-then-after-eq32

@@ -1,4 +1,4 @@
-use Rattle.textwrap_unicode.proofs.PrintableVerdicts.{unusual-bits}
+use Rattle.textwrap_unicode.proofs.PrintableBytes.{unusual-bits}
 use Rattle.textwrap_unicode.proofs.pairs.is_unusual.Goals as goal
 
 pub returns : goal.returns

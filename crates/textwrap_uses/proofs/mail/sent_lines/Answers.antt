@@ -4,7 +4,7 @@ use Rattle.textwrap.specs.Options.{settings_view}
 use Rattle.textwrap.specs.Paragraph.{line_view, DividesUnder}
 use Rattle.textwrap.specs.Text.{AreTextLines}
 use Rattle.textwrap.specs.declared.LineEnding.TheVariants.{CRLF}
-use Rattle.textwrap.proofs.Text.TableLines.{AreTextLines-methods}
+use Rattle.textwrap.proofs.Text.Tables.{AreTextLines-methods}
 
 pub returns-clause-lines : goal.returns-clause-lines
 returns-clause-lines g c =

@@ -1,4 +1,4 @@
-use Rattle.textwrap_words.proofs.Units.WideCharacters.{ideograph-columns, syllable-columns}
+use Rattle.textwrap_words.proofs.Units.Texts.{ideograph-columns, syllable-columns}
 use Rattle.textwrap_words.proofs.characters.columns.Goals as goal
 
 pub returns-then-code-le12438 : goal.returns-then-code-le12438

@@ -2,8 +2,7 @@ use Rattle.textwrap_words.proofs.laws.broken_pieces_are_unique.Goals as goal
 use Rattle.textwrap_base.proofs.Common.{ap, ◌∙◌, map}
 use Rattle.textwrap_words.proofs.Common.{units, pieces_with, units_text, broken_units}
 use Rattle.std.specs.Prelude.{chars}
-use Rattle.textwrap_words.proofs.Word.BreakingUnique.{AreBroken-unique}
-use Rattle.textwrap_words.proofs.Word.BreakingExists.{AreBroken-exists}
+use Rattle.textwrap_words.proofs.Word.Breaking.{AreBroken-unique, AreBroken-exists}
 
 pub returns : goal.returns
 returns c = λ limit w pieces. (

@@ -1,5 +1,5 @@
 use Rattle.textwrap_words.proofs.laws.reader_shows_visible.Goals as goal
-use Rattle.textwrap_words.proofs.Units.States.{visible-step}
+use Rattle.textwrap_words.proofs.Units.Reading.{visible-step}
 
 pub returns : goal.returns
 returns c = visible-step

@@ -1,5 +1,5 @@
 use Rattle.textwrap_words.proofs.laws.texts_are_narrow.Goals as goal
-use Rattle.textwrap_words.proofs.Units.Narrow.{all-narrow}
+use Rattle.textwrap_words.proofs.Units.Reading.{all-narrow}
 
 pub returns : goal.returns
 returns c = all-narrow

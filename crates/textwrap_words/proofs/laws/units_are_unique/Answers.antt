@@ -1,5 +1,5 @@
 use Rattle.textwrap_words.proofs.laws.units_are_unique.Goals as goal
-use Rattle.textwrap_words.proofs.Units.Unique.{units_unique}
+use Rattle.textwrap_words.proofs.Units.Texts.{units_unique}
 
 pub returns : goal.returns
 returns c = units_unique

@@ -1,15 +1,15 @@
 use Rattle.textwrap_words.proofs.pieces.first_word.Goals as goal
-use Rattle.textwrap_base.proofs.Common.{◌≡◌, ◌+◌, true, inl, inr, cases_lt, get_or, length}
-use Rattle.textwrap_base.proofs.Common.{refl, ap, arith, ne_eqb}
+use Rattle.textwrap_base.proofs.Common.{◌≡◌, ◌+◌, true, inl, inr, cases_lt, get_or, length, refl}
+use Rattle.textwrap_base.proofs.Common.{ap, arith, ne_eqb}
 use Rattle.std.proofs.lemmas.Str.{IsCharBoundary-end}
 use Rattle.textwrap_words.proofs.Common.{as_splitter, is_blank}
 use Rattle.textwrap_words.specs.Pieces.{is_stop}
 use Rattle.textwrap_words.specs.declared.escapes.State.TheVariants.{Text}
-use Rattle.textwrap_words.proofs.Word.ScannedLetters.{scanned-letters}
-use Rattle.textwrap_words.proofs.Word.Stops.{stop-here, stops-between}
-use Rattle.textwrap_words.proofs.Word.WordStops.{first-word, no-word}
+use Rattle.textwrap_words.proofs.Word.Scanned.{scanned-letters, stop-here, stops-between}
+use Rattle.textwrap_words.proofs.Word.FirstPieces.{first-word, no-word}
 use Rattle.textwrap_words.proofs.pieces.first_word.Goals.{After-letters_len-width}
-use Rattle.textwrap_words.proofs.pieces.first_word.Goals.{else-start-bytes-via-then-start-bytes+else-bytes-start-eq32, else-start-bytes-via-else-start-bytes}
+use Rattle.textwrap_words.proofs.pieces.first_word.Goals.{else-start-bytes-via-then-start-bytes+else-bytes-start-eq32}
+use Rattle.textwrap_words.proofs.pieces.first_word.Goals.{else-start-bytes-via-else-start-bytes}
 
 pub returns-then-bytes-start-eq32 : goal.returns-then-bytes-start-eq32
 returns-then-bytes-start-eq32 c =

@@ -1,27 +1,27 @@
 use Rattle.textwrap_words.proofs.pieces.read_on.Goals as goal
-use Rattle.textwrap_base.proofs.Common.{◌≡◌, ◌+◌, ◌≤◌, true, false, ◌&&◌, nat_lt, ◌++◌, List, ℕ, length, drop}
-use Rattle.textwrap_base.proofs.Common.{get_or, sym, ap, ◌∙◌, subst, arith, append_assoc, true≢false}
-use Rattle.textwrap_base.proofs.Common.{char_indices_offset, and_parts, drop_split, length-append}
-use Rattle.textwrap_base.proofs.Common.{◌||◌, length-drop, lt-ltb, refl, cases_lt, inl, inr}
+use Rattle.textwrap_base.proofs.Common.{◌≡◌, ◌+◌, ◌≤◌, true, false, ◌&&◌, nat_lt, ◌++◌, List, ℕ}
+use Rattle.textwrap_base.proofs.Common.{length, drop, get_or, sym, ap, ◌∙◌, subst, arith}
+use Rattle.textwrap_base.proofs.Common.{append_assoc, true≢false, char_indices_offset, and_parts}
+use Rattle.textwrap_base.proofs.Common.{drop_split, length-append, ◌||◌, length-drop, lt-ltb, refl}
+use Rattle.textwrap_base.proofs.Common.{cases_lt, inl, inr}
 use Rattle.std.specs.Prelude.{encode_utf8}
 use Rattle.std.specs.Str.Iter.{char_indices_rest}
 use Rattle.std.proofs.Math.Bool.{or-true}
 use Rattle.std.proofs.lemmas.Str.{encode_ascii}
-use Rattle.textwrap_base.proofs.Characters.{some-bytes}
+use Rattle.textwrap_base.proofs.Texts.{some-bytes}
 use Rattle.textwrap_words.proofs.Common.{as_splitter, is_blank, is_due, shows, Visible}
 use Rattle.textwrap_words.specs.PieceCuts.{is_point}
 use Rattle.textwrap_words.specs.Pieces.{is_stop, IsFirstStop}
-use Rattle.textwrap_words.proofs.Units.Narrow.{columns-le}
-use Rattle.textwrap_words.proofs.Units.Widths.{added}
+use Rattle.textwrap_words.proofs.Units.Reading.{columns-le, added}
 use Rattle.textwrap_words.proofs.Word.Breaking.{due-true, due-false}
-use Rattle.textwrap_words.proofs.Word.CharactersAhead.{ascii-here, left-after, plain-bytes, point-after}
-use Rattle.textwrap_words.proofs.Word.ScannedLetters.{scanned-letters}
-use Rattle.textwrap_words.proofs.Word.ScannedWords.{IsScanned, GoesOn, scanned-step}
-use Rattle.textwrap_words.proofs.Word.Stops.{no-stop, stop-full, stop-here, stops-between}
+use Rattle.textwrap_words.proofs.Word.Ahead.{ascii-here, left-after, plain-bytes, point-after}
+use Rattle.textwrap_words.proofs.Word.Scanned.{scanned-letters, IsScanned, GoesOn, scanned-step}
+use Rattle.textwrap_words.proofs.Word.Scanned.{no-stop, stop-full, stop-here, stops-between}
 use Rattle.textwrap_words.proofs.pieces.read_on.Goals.{In-Some, After-step-next, Joined-is_visible}
 use Rattle.textwrap_words.proofs.pieces.read_on.Goals.{else-at_blanks-via-then-at_blanks+else-ch-eq32}
 use Rattle.textwrap_words.proofs.pieces.read_on.Goals.{else-at_blanks-via-else-at_blanks}
-use Rattle.textwrap_words.proofs.pieces.read_on.Goals.{then-is_visible+else-width-gt0, else-is_visible}
+use Rattle.textwrap_words.proofs.pieces.read_on.Goals.{then-is_visible+else-width-gt0}
+use Rattle.textwrap_words.proofs.pieces.read_on.Goals.{else-is_visible}
 use Rattle.textwrap_words.proofs.pieces.read_on.Goals.{else-width-gt0-via-else-width-gt0}
 use Rattle.textwrap_words.proofs.pieces.read_on.Goals.{else-width-gt0-via-then-width-gt0+else-width-columns}
 use Rattle.textwrap_words.proofs.pieces.read_on.Goals.{else-ch-eq45-via-else-ch-eq45}

@@ -3,7 +3,7 @@ use Rattle.textwrap_base.proofs.Common.{◌≡◌, ◌+◌, ◌++◌, drop, char
 use Rattle.std.specs.Str.Iter.{char_indices_rest}
 use Rattle.textwrap_words.specs.PieceCuts.{is_point}
 use Rattle.textwrap_words.specs.Pieces.{as_splitter, is_stop}
-use Rattle.textwrap_words.proofs.Word.ScannedWords.{IsScanned, GoesOn}
+use Rattle.textwrap_words.proofs.Word.Scanned.{IsScanned, GoesOn}
 
 -- the reader stands before the characters that the iterator has left, where there is no point
 abbrev pub invariant-loop-after : goal.invariant-loop-after

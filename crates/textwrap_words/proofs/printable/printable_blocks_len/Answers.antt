@@ -1,6 +1,7 @@
 use Rattle.textwrap_words.proofs.printable.printable_blocks_len.Goals as goal
-use Rattle.textwrap_base.proofs.Common.{inl, inr, ◌≡◌, ◌+◌, ◌-◌, ◌≤◌, ◌∙◌, ap, arith, cases_lt, drop}
-use Rattle.textwrap_base.proofs.Common.{get_or, get_or-drop, get_or-take, length, slice_range, subst}
+use Rattle.textwrap_base.proofs.Common.{inl, inr, ◌≡◌, ◌+◌, ◌-◌, ◌≤◌, ◌∙◌, ap, arith, cases_lt}
+use Rattle.textwrap_base.proofs.Common.{drop, get_or, get_or-drop, get_or-take, length, slice_range}
+use Rattle.textwrap_base.proofs.Common.{subst}
 use Rattle.textwrap_base.proofs.Lists.Parts.{length-slice}
 use Rattle.textwrap_words.proofs.Common.{IsPrintableByte}
 

@@ -4,7 +4,7 @@ use Rattle.textwrap_base.proofs.Common.{sym, ap, arith, All, ◌∙◌, subst, Y
 use Rattle.textwrap_base.proofs.Common.{YieldsList-turn, YieldsList-end, at_drop_all, length_push}
 use Rattle.textwrap_words.proofs.Common.{escape, next_of, stripped}
 use Rattle.std.specs.Str.{chars}
-use Rattle.textwrap_words.proofs.Units.Stripped.{text_in, text_in-step, stripped-plain}
+use Rattle.textwrap_words.proofs.Units.Reading.{text_in, text_in-step, stripped-plain}
 use Rattle.textwrap_words.proofs.words.strip_ansi_escape_sequences.Goals.{In-None}
 
 pub loop-ch-preserved-in_ok-push : goal.loop-ch-preserved-in_ok-push

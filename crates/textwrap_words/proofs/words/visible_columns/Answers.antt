@@ -2,10 +2,13 @@ use Rattle.textwrap_words.proofs.words.visible_columns.Goals as goal
 use Rattle.textwrap_base.proofs.Common.{◌≡◌, ◌≢◌, ◌+◌, sym, ap, ◌∙◌, arith, get_or, ne_eqb}
 use Rattle.textwrap_base.proofs.Common.{char_indices_offset}
 use Rattle.std.specs.Str.Iter.{char_indices_rest}
-use Rattle.textwrap_words.proofs.Units.Measuring.{IsMeasured, measured-le, measured-start, measured-step}
-use Rattle.textwrap_words.proofs.Word.CharactersAhead.{ascii-here}
+use Rattle.textwrap_words.proofs.Units.Reading.{IsMeasured, measured-le, measured-start}
+use Rattle.textwrap_words.proofs.Units.Reading.{measured-step}
+use Rattle.textwrap_words.proofs.Word.Ahead.{ascii-here}
 use Rattle.textwrap_words.specs.declared.escapes.State.TheVariants.{Text}
-use Rattle.textwrap_words.proofs.words.visible_columns.Goals.{else-at-gt0-via-then-at-gt0+else-ch-eq27, else-at-gt0-via-else-at-gt0, After-columns-width}
+use Rattle.textwrap_words.proofs.words.visible_columns.Goals.{else-at-gt0-via-then-at-gt0+else-ch-eq27}
+use Rattle.textwrap_words.proofs.words.visible_columns.Goals.{else-at-gt0-via-else-at-gt0}
+use Rattle.textwrap_words.proofs.words.visible_columns.Goals.{After-columns-width}
 
 pub loop-at-init : goal.loop-at-init
 loop-at-init c =

@@ -2,7 +2,7 @@ use Rattle.textwrap_words.proofs.words.visible_columns.Given as goal
 use Rattle.textwrap_base.proofs.Common.{char_indices_offset}
 use Rattle.std.specs.Str.Iter.{char_indices_rest}
 use Rattle.textwrap_words.specs.declared.escapes.State.TheVariants.{Text}
-use Rattle.textwrap_words.proofs.Units.Measuring.{IsMeasured}
+use Rattle.textwrap_words.proofs.Units.Reading.{IsMeasured}
 
 -- the iterator has left what the reader has not read
 abbrev pub invariant-loop-at : goal.invariant-loop-at

@@ -2,8 +2,8 @@ use Rattle.textwrap.proofs.refilling.lines.split_line.Goals as goal
 use Rattle.textwrap_base.proofs.Common.{None, Some}
 use Rattle.std.proofs.Common.{lit<}
 use Rattle.std.proofs.lemmas.Str.Pattern.{split_once_first, strip_suffix_char}
-use Rattle.textwrap.proofs.Text.EndedLines.{ended_lines-one, ended_lines-cut}
-use Rattle.textwrap.proofs.Text.EndedLines.{line_before_feed-return, line_before_feed-plain}
+use Rattle.textwrap.proofs.Text.Indents.{ended_lines-one, ended_lines-cut, line_before_feed-return}
+use Rattle.textwrap.proofs.Text.Indents.{line_before_feed-plain}
 
 pub returns-in_default-clause-line : goal.returns-in_default-clause-line
 returns-in_default-clause-line c =

@@ -2,8 +2,7 @@ use Rattle.textwrap_base.proofs.minima.queue.least_of_all.Goals as goal
 use Rattle.textwrap_base.proofs.Common.{◌≡◌, length, ap, sym, ◌∙◌, arith, least_entry, entry_from}
 use Rattle.textwrap_base.proofs.Common.{minimum_of}
 use Rattle.textwrap_base.specs.Table.{table}
-use Rattle.textwrap_base.proofs.Cost.Starts.{table-is_table}
-use Rattle.textwrap_base.proofs.Cost.LeastEntries.{least_one}
+use Rattle.textwrap_base.proofs.Cost.Table.{table-is_table, least_one}
 
 pub returns-clause-least : goal.returns-clause-least
 returns-clause-least g c =

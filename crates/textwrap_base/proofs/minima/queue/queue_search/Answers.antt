@@ -1,7 +1,7 @@
 use Rattle.textwrap_base.proofs.minima.queue.queue_search.Goals as goal
 use Rattle.textwrap_base.proofs.Common.{◌≡◌, ◌++◌, ◌∷◌, [], length, ap, ◌∙◌, arith, length_push}
 use Rattle.textwrap_base.proofs.Common.{least_entry, minimum_of}
-use Rattle.textwrap_base.proofs.Search.Costs.{AreMinima-one, AreMinima-push, AreMinima-all}
+use Rattle.textwrap_base.proofs.Search.{AreMinima-one, AreMinima-push, AreMinima-all}
 
 pub returns-then-ends-eq0-clause-minima : goal.returns-then-ends-eq0-clause-minima
 returns-then-ends-eq0-clause-minima g c =

@@ -1,8 +1,7 @@
 use Rattle.textwrap_base.proofs.minima.queue.reach_last.Goals as goal
 use Rattle.textwrap_base.proofs.Common.{◌≡◌, ◌+◌, ◌*◌, ◌-◌, ◌≤◌, vec_len, ap, sym, ◌∙◌, arith}
 use Rattle.textwrap_base.proofs.Common.{Costs, binary_digits}
-use Rattle.textwrap_base.proofs.Search.Steps.{steps_more, steps_within}
-use Rattle.textwrap_base.proofs.Search.Pushed.{AreStretches-drop}
+use Rattle.textwrap_base.proofs.Search.{steps_more, steps_within, AreStretches-drop}
 
 pub next_stretch-current-requires-clause-rising : goal.next_stretch-current-requires-clause-rising
 next_stretch-current-requires-clause-rising g c =

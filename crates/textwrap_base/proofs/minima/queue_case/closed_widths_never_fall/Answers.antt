@@ -1,6 +1,6 @@
 use Rattle.textwrap_base.proofs.minima.queue_case.closed_widths_never_fall.Goals as goal
 use Rattle.textwrap_base.proofs.Common.{◌≡◌, arith, inl, inr, cases_lt, false≢true}
-use Rattle.textwrap_base.proofs.Division.Widths.{closed_width-next}
+use Rattle.textwrap_base.proofs.Division.Greedy.{closed_width-next}
 
 pub returns-then-gained-penalty_width : goal.returns-then-gained-penalty_width
 returns-then-gained-penalty_width g c =

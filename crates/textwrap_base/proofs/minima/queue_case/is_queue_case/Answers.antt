@@ -1,6 +1,6 @@
 use Rattle.textwrap_base.proofs.minima.queue_case.is_queue_case.Goals as goal
 use Rattle.textwrap_base.proofs.Common.{rules, priced_by, IsQueueCase}
-use Rattle.textwrap_base.proofs.Cost.Convex.{AreConvex-rising}
+use Rattle.textwrap_base.proofs.Cost.LineCosts.{AreConvex-rising}
 use Rattle.textwrap_base.proofs.Cost.QueueCase.{SuitQueue-queue_case}
 
 pub returns-then-break_penalties_suit-clause-convex : goal.returns-then-break_penalties_suit-clause-convex

@@ -3,8 +3,8 @@ use Rattle.textwrap_base.proofs.Common.{◌≡◌, ◌+◌, ◌-◌, ◌<◌, �
 use Rattle.textwrap_base.proofs.Common.{rules, sym, ap, ◌∙◌, take_all, take-take, length-take}
 use Rattle.textwrap_base.proofs.Common.{cost_from, stretch_at, IsPriced}
 use Rattle.textwrap_base.specs.declared.minima.stretches.Stretch.{Stretch}
-use Rattle.textwrap_base.proofs.Search.Stretches.{HaveBest-take, IsBestFrom-beaten, stretch_at-read}
-use Rattle.textwrap_base.proofs.Search.Stretches.{stretch_at-left, begins_after}
+use Rattle.textwrap_base.proofs.Search.{HaveBest-take, IsBestFrom-beaten, stretch_at-read}
+use Rattle.textwrap_base.proofs.Search.{stretch_at-left, begins_after}
 
 pub loop-stretches-init : goal.loop-stretches-init
 loop-stretches-init g c =

@@ -1,8 +1,7 @@
 use Rattle.textwrap_base.proofs.minima.stretches.new_stretch.Goals as goal
 use Rattle.textwrap_base.proofs.Common.{◌≡◌, ◌+◌, ◌-◌, ◌<◌, ◌≤◌, length, vec_len, arith, max}
 use Rattle.textwrap_base.proofs.Common.{cost_from, IsBestFrom, stretch_at, HaveBest}
-use Rattle.textwrap_base.proofs.Search.Digits.{digits_mono}
-use Rattle.textwrap_base.proofs.Search.Stretches.{stretch_at-read, taken_over}
+use Rattle.textwrap_base.proofs.Search.{digits_mono, stretch_at-read, taken_over}
 
 taken : (g : _) (c : goal.After-take_over g)
     → HaveBest (g.C.CostSource.costs c.args.costs.now) (length c.args.minima.now - 1)

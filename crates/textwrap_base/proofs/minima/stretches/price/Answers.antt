@@ -1,6 +1,6 @@
 use Rattle.textwrap_base.proofs.minima.stretches.price.Goals as goal
 use Rattle.textwrap_base.proofs.Common.{◌∙◌}
-use Rattle.textwrap_base.proofs.Search.Costs.{cost_from-asked, cost_from-fits}
+use Rattle.textwrap_base.proofs.Search.{cost_from-asked, cost_from-fits}
 use Rattle.textwrap_base.proofs.Numbers.{some_where, value_where}
 
 pub unwrap-requires : goal.unwrap-requires

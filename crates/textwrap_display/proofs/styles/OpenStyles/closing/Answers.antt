@@ -1,6 +1,6 @@
 use Rattle.textwrap_display.proofs.styles.OpenStyles.closing.Goals as goal
 use Rattle.textwrap_base.proofs.Common.{true, None, Some, ◌∙◌, ◌==◌, length, ap}
-use Rattle.textwrap_display.proofs.OpenStates.{closing-is}
+use Rattle.textwrap_display.proofs.OpenSequences.{closing-is}
 
 pub returns-in-true-None : goal.returns-in-true-None
 returns-in-true-None g c = λ before state.

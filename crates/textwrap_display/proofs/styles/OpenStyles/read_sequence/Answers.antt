@@ -4,7 +4,7 @@ use Rattle.textwrap_base.proofs.Common.{refl}
 use Rattle.std.specs.List.{list_all}
 use Rattle.std.specs.Option.{option_copied, option_to_list}
 use Rattle.textwrap_display.specs.Styles.{has_target}
-use Rattle.textwrap_display.proofs.OpenStates.{after-reset, after-style, after-link, after-other}
+use Rattle.textwrap_display.proofs.OpenSequences.{after-reset, after-style, after-link, after-other}
 use Rattle.textwrap_display.proofs.OpenSequences.{target-set}
 use Rattle.textwrap_display.proofs.styles.OpenStyles.read_sequence.Goals.{then-is_empty}
 use Rattle.textwrap_display.proofs.styles.OpenStyles.read_sequence.Goals.{else-is_empty}

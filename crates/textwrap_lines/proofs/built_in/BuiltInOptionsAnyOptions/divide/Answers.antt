@@ -1,16 +1,15 @@
 use Rattle.textwrap_lines.proofs.built_in.BuiltInOptionsAnyOptions.divide.Goals as goal
-use Rattle.textwrap_base.proofs.Common.{◌≡◌, ap, arith, Bor, List, map, subst, total_width}
-use Rattle.textwrap_base.proofs.Common.{refl, sym, ◌∙◌}
+use Rattle.textwrap_base.proofs.Common.{◌≡◌, ap, arith, Bor, List, map, subst, total_width, refl}
+use Rattle.textwrap_base.proofs.Common.{sym, ◌∙◌}
 use Rattle.textwrap_words.proofs.Common.{ArePoints, as_splitter, sizes_of, split_words, word_view}
 use Rattle.textwrap_words.proofs.Word.Pieces.{AreSplit-computed}
 use Rattle.std.proofs.lemmas.Result.{IfOk-weaker}
 use Rattle.textwrap_base.proofs.Cost.Measures.{total_width-same}
 use Rattle.textwrap_lines.proofs.Common.{IsDividedInto, layout_view, pieces_of_words, Word}
-use Rattle.textwrap_lines.proofs.Paragraph.BuiltIn.{division-as}
-use Rattle.textwrap_lines.proofs.Paragraph.CutPieces.{words_cut-texts}
-use Rattle.textwrap_lines.proofs.Paragraph.Lines.{divides-from, division-begins, sizes-word_view}
-use Rattle.textwrap_lines.proofs.Paragraph.Overflow.{only-without}
+use Rattle.textwrap_lines.proofs.Paragraph.Pieces.{division-as, words_cut-texts}
 use Rattle.textwrap_lines.proofs.Paragraph.Pieces.{pieces_of_words-wide}
+use Rattle.textwrap_lines.proofs.Paragraph.Widths.{divides-from, division-begins, sizes-word_view}
+use Rattle.textwrap_lines.proofs.Paragraph.Widths.{only-without}
 use Rattle.textwrap_lines.specs.Direct.{as_algorithm, words_cut}
 
 pub returns-clause-begins : goal.returns-clause-begins

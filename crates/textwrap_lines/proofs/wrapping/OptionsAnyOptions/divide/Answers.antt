@@ -3,8 +3,8 @@ use Rattle.textwrap_base.proofs.Common.{List, Vec, Bor}
 use Rattle.textwrap_words.proofs.Common.{MaySeparate, MaySplit}
 use Rattle.textwrap_lines.proofs.Common.{settings_view, widths_of, Word}
 use Rattle.std.proofs.lemmas.Result.{IfOk-weaker}
-use Rattle.textwrap_lines.proofs.Paragraph.Lines.{divides-from, division-begins}
-use Rattle.textwrap_lines.proofs.Paragraph.Overflow.{only-memory, only-fitting}
+use Rattle.textwrap_lines.proofs.Paragraph.Widths.{divides-from, division-begins, only-memory}
+use Rattle.textwrap_lines.proofs.Paragraph.Widths.{only-fitting}
 
 pub returns-clause-begins : goal.returns-clause-begins
 returns-clause-begins g c = IfOk-weaker c.divide.result _ _ (λ lines.

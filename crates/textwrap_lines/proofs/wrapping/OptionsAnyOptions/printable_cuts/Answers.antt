@@ -2,7 +2,7 @@ use Rattle.textwrap_lines.proofs.wrapping.OptionsAnyOptions.printable_cuts.Goals
 use Rattle.textwrap_base.proofs.Common.{subst, sym}
 use Rattle.textwrap_words.proofs.Common.{MaySeparate}
 use Rattle.textwrap_words.proofs.Word.Words.{words_unique}
-use Rattle.textwrap_words.proofs.Word.PlaceParts.{blank-words}
+use Rattle.textwrap_words.proofs.Word.Parts.{blank-words}
 
 pub returns-in-AsciiSpace : goal.returns-in-AsciiSpace
 returns-in-AsciiSpace g c = λ paragraph printable.

@@ -2,8 +2,8 @@ use Rattle.textwrap_plain.proofs.printable.PlainWordsPrintableCuts.are_told.Goal
 use Rattle.textwrap_base.proofs.Common.{◌≡◌, ap, map, rules, subst, sym}
 use Rattle.textwrap_words.proofs.Common.{word_of}
 use Rattle.textwrap_words.specs.PieceCuts.{parts_by}
-use Rattle.textwrap_words.proofs.Word.PlaceParts.{blank-words}
-use Rattle.textwrap_unicode.proofs.PlaceCuts.{parts-cut}
+use Rattle.textwrap_words.proofs.Word.Parts.{blank-words}
+use Rattle.textwrap_unicode.proofs.PrintableCuts.{parts-cut}
 use Rattle.textwrap_unicode.specs.declared.numbers.Numbers.TheVariants.{ByPairs}
 use Rattle.textwrap_plain.specs.Options.{is_cut_by, words_by}
 use Rattle.textwrap_plain.specs.declared.options.PlainSeparator.TheVariants.{AtBreaks}

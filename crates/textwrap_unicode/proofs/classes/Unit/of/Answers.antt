@@ -1,4 +1,4 @@
-use Rattle.textwrap_unicode.proofs.CharacterLemmas.{ascii-unit, ideograph-unit}
+use Rattle.textwrap_unicode.proofs.ClassLemmas.{ascii-unit, ideograph-unit}
 use Rattle.textwrap_unicode.proofs.classes.Unit.of.Goals as goal
 
 pub returns-then-code-lt128 : goal.returns-then-code-lt128

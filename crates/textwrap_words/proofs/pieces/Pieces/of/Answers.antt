@@ -2,7 +2,7 @@ use Rattle.textwrap_words.proofs.pieces.Pieces.of.Goals as goal
 use Rattle.textwrap_base.proofs.Common.{[], ◌++◌, ap, if◌then◌else◌}
 use Rattle.std.proofs.lemmas.Str.{IsCharBoundary-start}
 use Rattle.textwrap_words.specs.Pieces.{as_splitter, empty_front, stand_from}
-use Rattle.textwrap_words.proofs.Word.PieceEnds.{pieces-start}
+use Rattle.textwrap_words.proofs.Word.SplitParts.{pieces-start}
 
 pub invariant_of-result : goal.invariant_of-result
 invariant_of-result c =

@@ -1,8 +1,7 @@
 use Rattle.textwrap_words.proofs.word_separators.WordSeparator.find_words.Goals as goal
 use Rattle.textwrap_base.proofs.Common.{ap, sym, ◌∙◌, subst}
 use Rattle.textwrap_words.proofs.Common.{tiled, MaySeparate}
-use Rattle.textwrap_words.proofs.Word.Tiling.{tiled-words_of}
-use Rattle.textwrap_words.proofs.Word.Words.{words_unique}
+use Rattle.textwrap_words.proofs.Word.Words.{tiled-words_of, words_unique}
 
 pub returns-in-AsciiSpace-clause-words : goal.returns-in-AsciiSpace-clause-words
 returns-in-AsciiSpace-clause-words g c =

@@ -1,9 +1,9 @@
 use Rattle.textwrap_words.proofs.word_separators.offsets.find_cuts.Goals as goal
-use Rattle.textwrap_base.proofs.Common.{◌≡◌, ◌+◌, ◌++◌, ◌∷◌, [], true, false, length}
-use Rattle.textwrap_base.proofs.Common.{refl, sym, ap, ◌∙◌, arith, char_indices_offset}
+use Rattle.textwrap_base.proofs.Common.{◌≡◌, ◌+◌, ◌++◌, ◌∷◌, [], true, false, length, refl, sym, ap}
+use Rattle.textwrap_base.proofs.Common.{◌∙◌, arith, char_indices_offset}
 use Rattle.textwrap_words.proofs.Common.{stripped, is_cut_after}
 use lib.Utf8.{encode}
-use Rattle.textwrap_words.proofs.Units.ReadPlaces.{read-start}
+use Rattle.textwrap_words.proofs.Units.Reading.{read-start}
 use Rattle.textwrap_words.proofs.Word.Offsets.{IsFinding-step, IsFinding-end}
 
 pub loop-at-init : goal.loop-at-init

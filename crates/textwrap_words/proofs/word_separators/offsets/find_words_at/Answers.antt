@@ -2,7 +2,7 @@ use Rattle.textwrap_words.proofs.word_separators.offsets.find_words_at.Goals as 
 use Rattle.textwrap_base.proofs.Common.{◌≡◌, map, sym, ap, ◌∙◌, subst}
 use Rattle.textwrap_words.proofs.Common.{word_view, word_of, tiled, Tiles, AreCuts, parts_between}
 use Rattle.std.proofs.lemmas.Result.{IfOk-weaker}
-use Rattle.textwrap_words.proofs.Word.OffsetPlaces.{cuts_at-AreCuts}
+use Rattle.textwrap_words.proofs.Word.Offsets.{cuts_at-AreCuts}
 use Rattle.textwrap_words.proofs.Word.Parts.{parts_between-tile}
 
 pub words_between-requires : goal.words_between-requires

@@ -5,7 +5,7 @@ use Rattle.textwrap_base.proofs.Common.{YieldsList-end, at_drop_all, length_push
 use Rattle.std.specs.Str.{chars}
 use Rattle.textwrap_words.proofs.Common.{next_of}
 use Rattle.textwrap_words.proofs.word_separators.offsets.visible_len.Goals.{After-len_utf8-len}
-use Rattle.textwrap_words.proofs.Units.Stripped.{stripped-short, text_in, text_in-step}
+use Rattle.textwrap_words.proofs.Units.Reading.{stripped-short, text_in, text_in-step}
 
 -- the bytes of a visible character, and those of what follows it
 counted : (c : After-len_utf8-len) → c.len_utf8-len.result + length

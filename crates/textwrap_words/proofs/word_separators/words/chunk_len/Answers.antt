@@ -1,7 +1,7 @@
 use Rattle.textwrap_words.proofs.word_separators.words.chunk_len.Goals as goal
 use Rattle.textwrap_base.proofs.Common.{◌≡◌, ◌-◌, get_or, sym, ap, ◌∙◌, arith}
 use Rattle.textwrap_words.proofs.Common.{is_cut}
-use Rattle.textwrap_words.proofs.Word.Tiling.{chunks_first}
+use Rattle.textwrap_words.proofs.Word.Words.{chunks_first}
 
 pub returns-else-not-is_cut-clause-first : goal.returns-else-not-is_cut-clause-first
 returns-else-not-is_cut-clause-first c =

@@ -1,6 +1,6 @@
 use Rattle.textwrap_words.proofs.word_separators.words.first_chunk.Goals as goal
 use Rattle.textwrap_base.proofs.Common.{subst, IsCharBoundary}
-use Rattle.textwrap_base.proofs.Utf8.{IsCharBoundary-after_blank}
+use Rattle.textwrap_base.proofs.Texts.{IsCharBoundary-after_blank}
 
 pub split_at-requires : goal.split_at-requires
 split_at-requires c =

@@ -1,6 +1,6 @@
 use Rattle.textwrap_words.proofs.word_splitters.cut_lines.given_cuts.Goals as goal
 use Rattle.textwrap_base.proofs.Common.{refl}
-use Rattle.textwrap_words.proofs.Word.GivenCuts.{MayCut-cuts}
+use Rattle.textwrap_words.proofs.Word.Parts.{MayCut-cuts}
 
 pub returns-clause-given : goal.returns-clause-given
 returns-clause-given g c =

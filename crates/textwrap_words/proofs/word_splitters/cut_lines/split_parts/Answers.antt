@@ -1,8 +1,9 @@
-use Rattle.textwrap_base.proofs.Common.{◌≡◌, ◌==◌, false, length, drop_all, if◌then◌else◌, [], ◌∷◌, ◌++◌, ◌+◌, arith, drop, drop_more, map, subst, sym, ap, ◌∙◌}
+use Rattle.textwrap_base.proofs.Common.{◌≡◌, ◌==◌, false, length, drop_all, if◌then◌else◌, [], ◌∷◌}
+use Rattle.textwrap_base.proofs.Common.{◌++◌, ◌+◌, arith, drop, drop_more, map, subst, sym, ap, ◌∙◌}
 use Rattle.textwrap_base.proofs.Common.{append_assoc, slice_range, get_or}
 use Rattle.textwrap_words.proofs.Common.{AreSplit, MaySplit, word_of, word_view}
 use Rattle.textwrap_words.specs.Cuts.{parts_between, parts_from}
-use Rattle.textwrap_words.proofs.Word.SplitTiling.{AreSplit-push}
+use Rattle.textwrap_words.proofs.Word.Pieces.{AreSplit-push}
 use Rattle.textwrap_words.proofs.word_splitters.cut_lines.split_parts.Goals as goal
 
 pub loop-cut-preserved : goal.loop-cut-preserved

@@ -2,7 +2,7 @@ use Rattle.textwrap_words.proofs.word_splitters.hyphens.hyphen_points.Goals as g
 use Rattle.textwrap_base.proofs.Common.{◌≡◌, ◌-◌, ◌++◌, [], ◌∷◌, ◌==◌, cond, false, length, sym, ap}
 use Rattle.textwrap_base.proofs.Common.{◌∙◌, subst, arith, list_any, range_with_len, filter}
 use Rattle.textwrap_words.proofs.Common.{is_hyphen_point, hyphen, AreCuts}
-use Rattle.textwrap_base.proofs.Lists.Ranges.{points-more}
+use Rattle.textwrap_base.proofs.Lists.Elements.{points-more}
 use Rattle.textwrap_words.proofs.Word.Splitting.{hyphen_points-cuts, hyphen_points-none}
 use Rattle.textwrap_words.proofs.word_splitters.hyphens.hyphen_points.Goals.{then-is_hyphen_point+in_ok-push}
 use Rattle.textwrap_words.proofs.word_splitters.hyphens.hyphen_points.Goals.{else-is_hyphen_point}

@@ -1,11 +1,10 @@
 use Rattle.textwrap_words.proofs.words.breaking.first_piece.Goals as goal
 use Rattle.textwrap_base.proofs.Common.{add-zero, sym, subst, ◌∙◌, arith, true≢false}
 use Rattle.textwrap_words.proofs.Word.Breaking.{due-true, due-false}
-use Rattle.textwrap_words.proofs.Units.Narrow.{columns-le}
-use Rattle.textwrap_words.proofs.Units.ReadPlaces.{read-all, read-room}
-use Rattle.textwrap_words.proofs.Word.ReadPieces.{IsReading-start, IsReading-step, IsReading-cut}
-use Rattle.textwrap_words.proofs.Word.ReadPieces.{IsReading-end}
-use Rattle.textwrap_words.proofs.Word.PieceTexts.{IsFirstPiece}
+use Rattle.textwrap_words.proofs.Units.Reading.{columns-le, read-all, read-room}
+use Rattle.textwrap_words.proofs.Word.Scanned.{IsReading-start, IsReading-step, IsReading-cut}
+use Rattle.textwrap_words.proofs.Word.Scanned.{IsReading-end}
+use Rattle.textwrap_words.proofs.Word.BrokenPieces.{IsFirstPiece}
 use Rattle.textwrap_words.proofs.words.breaking.first_piece.Goals.{else-width-gt0-via-then-width-gt0+else-width-columns}
 use Rattle.textwrap_words.proofs.words.breaking.first_piece.Goals.{else-width-gt0-via-else-width-gt0}
 

@@ -2,7 +2,7 @@ use Rattle.textwrap_base.proofs.minima.line_costs.LineCosts.new.Goals as goal
 use Rattle.textwrap_base.proofs.Common.{ap, ◌∙◌, List, ℕ, map, PricedSizes, priced_by}
 use Rattle.textwrap_base.proofs.Common.{fragment_costs}
 use Rattle.textwrap_base.proofs.Cost.Measures.{fragment_costs-map}
-use Rattle.textwrap_base.proofs.Cost.Bounds.{break_penalties-measured}
+use Rattle.textwrap_base.proofs.Cost.LineCosts.{break_penalties-measured}
 
 pub returns-clause-costs : goal.returns-clause-costs
 returns-clause-costs g c =

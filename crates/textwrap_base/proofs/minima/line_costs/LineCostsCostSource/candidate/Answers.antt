@@ -1,6 +1,6 @@
 use Rattle.textwrap_base.proofs.minima.line_costs.LineCostsCostSource.candidate.Goals as goal
 use Rattle.textwrap_base.proofs.Common.{◌≡◌, arith, sym, ◌∙◌, PricedSizes, line_costs, measured}
-use Rattle.textwrap_base.proofs.Cost.SizesAlone.{line_costs-at}
+use Rattle.textwrap_base.proofs.Cost.LineCosts.{line_costs-at}
 use Rattle.textwrap_base.proofs.minima.line_costs.LineCostsCostSource.candidate.Goals.{After-line_cost}
 
 -- the view has the cost of the measures

@@ -1,9 +1,8 @@
 use Rattle.textwrap_words.proofs.word_separators.words.Words.at_cuts.Goals as goal
 use Rattle.textwrap_base.proofs.Common.{refl, ap, map, ◌∙◌, sym, subst}
 use Rattle.textwrap_words.proofs.Common.{word_view, word_of, tiled, AreCuts, parts_between}
-use Rattle.textwrap_words.proofs.Word.Parts.{inner-cuts}
+use Rattle.textwrap_words.proofs.Word.Parts.{inner-cuts, MayCut-cuts, parts-texts}
 use Rattle.textwrap_words.proofs.word_separators.words.Words.at_cuts.Goals.{In_ok-cuts}
-use Rattle.textwrap_words.proofs.Word.GivenCuts.{MayCut-cuts, parts-texts}
 
 -- what was answered is cuts of the line
 ready : (g : _) (c : In_ok-cuts g) → AreCuts c.args.line.now c.in_ok-cuts.cuts.items

@@ -1,0 +1,280 @@
+-- Plain lines: their parts between blanks, their endings, and their text, unfilled.
+use Rattle.textwrap_base.proofs.Common.{◌≡◌, ◌≢◌, ℕ, ◌+◌, ◌-◌, ◌<◌, ◌==◌, cond, List, [], ◌∷◌, ◌++◌}
+use Rattle.textwrap_base.proofs.Common.{All, length, refl, sym, ap, ◌∙◌, subst, arith, append_assoc}
+use Rattle.textwrap_base.proofs.Common.{length-append, prefix_len, ne_eqb, take_all, length-take}
+use Rattle.textwrap_base.proofs.Common.{map-append, All-nil, rules, All-cons, All-head, All-tail}
+use Rattle.textwrap_base.proofs.Common.{All-append, All-weaker, last, get_or, drop, false, take}
+use Rattle.textwrap_base.proofs.Common.{map, filter, slice_split, lines, lt-ltb, true, nat_eq}
+use Rattle.textwrap_base.proofs.Common.{take-append-drop, ends_with}
+use Rattle.textwrap_words.proofs.Common.{blank, trimmed_len, without_final_blanks}
+use Rattle.textwrap_lines.proofs.Common.{line_feed, ending_bytes}
+use Rattle.textwrap.proofs.Common.{is_prefix_character, line_prefix, IsPlainByte, IsPlainWord}
+use Rattle.textwrap.proofs.Common.{IsPlainLine, blanked, EndedLine, ended_lines_of, nonempty_lines}
+use Rattle.textwrap.proofs.Common.{keeps_ending}
+use Rattle.std.proofs.lemmas.List.Elements.{All-get_or}
+use Rattle.std.proofs.lemmas.List.Folds.{map_fixed}
+use Rattle.textwrap_base.proofs.Lists.Parts.{some_from_nonempty, all-right}
+use Rattle.textwrap_words.proofs.Word.Texts.{trimmed-past}
+use Rattle.textwrap_lines.proofs.Paragraph.Covered.{last-append}
+use Rattle.textwrap.proofs.Text.InPlace.{blank_joined, feed_joined}
+use Rattle.std.specs.Str.Lines.{lines_of_parts, strip_carriage_return}
+use Rattle.std.proofs.lemmas.List.Splits.{slice_split_none, slice_split_at}
+use Rattle.textwrap.specs.Refilling.{has_text}
+use Rattle.std.proofs.lemmas.Slice.Eq.{bytes_eq-Decides}
+use Rattle.textwrap_lines.specs.declared.line_ending.LineEnding.{LineEnding}
+use Rattle.textwrap_lines.specs.declared.line_ending.LineEnding.TheVariants.{CRLF, LF}
+use Rattle.textwrap_lines.proofs.Text.Paragraphs.{ending_bytes-some}
+
+-- ---- what plain lines begin and end with
+
+-- a text without prefix characters in front, with more behind it
+pub prefix-append : (text more : List ℕ) → text ≢ [] → line_prefix text ≡ []
+    → line_prefix (text ++ more) ≡ []
+prefix-append [] more some none = absurd (some refl)
+prefix-append (c ∷ text) more some none =
+    search (rules, arith, length-take (1 + prefix_len is_prefix_character text) (c ∷ text))
+
+-- a line without line feeds that ends in a byte of a plain word, whatever it begins with
+pub record IsRow (line : List ℕ) : Type 0 where
+  pub some : 0 < length line
+  pub no_feed : All (λ c. c ≢ line_feed) line
+  pub ends : IsPlainByte (last line)
+
+-- what is so of a plain line, whatever its words
+pub record IsSolid (line : List ℕ) : Type 0 where
+  pub row : IsRow line
+  pub begins : line_prefix line ≡ []
+
+solid_word : (word : List ℕ) → IsPlainWord word → IsSolid word
+solid_word word plain = grind (arith, some_from_nonempty, All-weaker, All-get_or)
+
+-- more in front of a row
+pub row-append : (front line : List ℕ) → All (λ c. c ≢ line_feed) front → IsRow line
+    → IsRow (front ++ line)
+row-append front line none row = record {
+  some = omega (arith, row.some, length-append front line);
+  no_feed = All-append (λ c. c ≢ line_feed) front line none row.no_feed;
+  ends = subst IsPlainByte (sym (last-append front line row.some)) row.ends;
+}
+
+solid_words : (word : List ℕ) (words : List (List ℕ)) → All IsPlainWord (word ∷ words)
+    → IsSolid (blank_joined (word ∷ words))
+solid_words word [] plain = solid_word word (All-head IsPlainWord word [] plain)
+solid_words word (next ∷ words) plain =
+    let first = All-head IsPlainWord word (next ∷ words) plain in
+    let here = solid_word word first in
+    let front = word ++ blank ∷ [] in
+    let more = blank_joined (next ∷ words) in
+    let rest = solid_words next words (All-tail IsPlainWord word (next ∷ words) plain) in
+    record {
+      row = row-append front more
+          (All-append (λ c. c ≢ line_feed) word (blank ∷ []) here.row.no_feed
+          (All-cons (λ c. c ≢ line_feed) blank [] (λ e. omega (arith, e))
+          (All-nil (λ c. c ≢ line_feed))))
+          rest.row;
+      begins = ap line_prefix (append_assoc word (blank ∷ []) more)
+          ∙ prefix-append word (blank ∷ [] ++ more) first.some first.begins;
+    }
+
+pub solid : (line : List ℕ) → IsPlainLine line → IsSolid line
+solid line ([], some, plain, is) = absurd (some refl)
+solid line (word ∷ words, some, plain, is) = subst IsSolid (sym is) (solid_words word words plain)
+
+-- no blanks are at the end of such a line
+pub unblank-row : (line : List ℕ) → IsRow line → without_final_blanks line ≡ line
+unblank-row line is =
+    let past = trimmed-past line (length line - 1) (omega (arith, is.some))
+    (ne_eqb (last line) 32 is.ends.0) in
+    take_all (trimmed_len line) line (omega (arith, past, is.some))
+
+-- ---- blanks in the place of line feeds
+
+blanked-same : (text : List ℕ) → All (λ c. c ≢ line_feed) text → blanked text ≡ text
+blanked-same text none =
+    map_fixed (λ c. cond (c == line_feed) blank c) text
+    (search (rules, arith, All-weaker))
+
+pub blanked-joined : (lines : List (List ℕ)) → All IsPlainLine lines
+    → blanked (feed_joined lines) ≡ blank_joined lines
+blanked-joined [] plain = refl
+blanked-joined (line ∷ []) plain =
+    blanked-same line (solid line (All-head IsPlainLine line [] plain)).row.no_feed
+blanked-joined (line ∷ next ∷ lines) plain =
+    let here = solid line (All-head IsPlainLine line (next ∷ lines) plain) in
+    simp (
+      map-append,
+      blanked-same line here.row.no_feed,
+      blanked-joined (next ∷ lines) (All-tail IsPlainLine line (next ∷ lines) plain),
+    )
+
+-- ---- the parts of plain lines between blanks
+
+-- where a word and a blank begin a text that is cut at a blank: it is cut behind the word, or later
+data Meets (word rest before after : List ℕ) : Type 0 where
+  Here : word ≡ before → rest ≡ after → Meets word rest before after
+  Later : (between : List ℕ) → before ≡ word ++ blank ∷ between
+      → rest ≡ between ++ blank ∷ after → Meets word rest before after
+
+meets : (word rest before after : List ℕ) → All (λ c. c ≢ blank) word
+    → word ++ blank ∷ rest ≡ before ++ blank ∷ after → Meets word rest before after
+meets [] rest [] after none same = Here refl (ap (drop 1) same)
+meets [] rest (b ∷ before) after none same =
+    Later before (ap (λ c. c ∷ before) (sym (ap (λ l. get_or l 0 0) same))) (ap (drop 1) same)
+meets (c ∷ word) rest [] after none same = search (rules, All-head)
+meets (c ∷ word) rest (b ∷ before) after none same =
+    let first : c ≡ b = ap (λ l. get_or l 0 0) same in
+    elim (meets word rest before after (All-tail (λ d. d ≢ blank) c word none)
+    (ap (drop 1) same)) [
+      | Here is rest_is ↦ Here (ap (λ d. d ∷ word) first ∙ ap (λ l. b ∷ l) is) rest_is
+      | Later between is rest_is ↦
+          Later between (ap (λ d. d ∷ before) (sym first) ∙ ap (λ l. c ∷ l) is) rest_is
+    ]
+
+no_blank : (word : List ℕ) → IsPlainWord word → All (λ c. c ≢ blank) word
+no_blank word plain = All-weaker IsPlainByte (λ c. c ≢ blank) (λ c is. is.0) word plain.bytes
+
+one_word : (word : List ℕ) → IsPlainWord word → IsPlainLine word
+one_word word plain =
+    (word ∷ [], λ none. cc, All-cons IsPlainWord word [] plain (All-nil IsPlainWord), refl)
+
+onto_line : (word line : List ℕ) → IsPlainWord word → IsPlainLine line
+    → IsPlainLine (word ++ blank ∷ line)
+onto_line word line plain ([], some, all, is) = absurd (some refl)
+onto_line word line plain (next ∷ words, some, all, is) = (
+  word ∷ next ∷ words,
+  λ none. cc,
+  All-cons IsPlainWord word (next ∷ words) plain all,
+  search (rules, arith, append_assoc),
+)
+
+-- plain words are cut at a blank
+cut_words : (word : List ℕ) (words : List (List ℕ)) (before after : List ℕ)
+    → All IsPlainWord (word ∷ words) → blank_joined (word ∷ words) ≡ before ++ blank ∷ after
+    → IsPlainLine before × IsPlainLine after
+cut_words word [] before after plain is =
+    absurd (All-head (λ c. c ≢ blank) blank after
+    (all-right (λ c. c ≢ blank) before (blank ∷ after)
+    (search (rules, no_blank, All-head))) refl)
+cut_words word (next ∷ words) before after plain is =
+    let first = All-head IsPlainWord word (next ∷ words) plain in
+    let others = All-tail IsPlainWord word (next ∷ words) plain in
+    let more = blank_joined (next ∷ words) in
+    elim (meets word more before after (no_blank word first)
+    (sym (append_assoc word (blank ∷ []) more) ∙ is)) [
+      | Here same rest ↦ (
+        subst IsPlainLine same (one_word word first),
+        (next ∷ words, λ none. cc, others, sym rest),
+      )
+      | Later between same rest ↦
+          let parts = cut_words next words between after others rest in (
+            subst IsPlainLine (sym same) (onto_line word between first parts.0),
+            parts.1,
+          )
+    ]
+
+cut_line : (line before after : List ℕ) → IsPlainLine line → line ≡ before ++ blank ∷ after
+    → IsPlainLine before × IsPlainLine after
+cut_line line before after ([], some, plain, is) at = absurd (some refl)
+cut_line line before after (word ∷ words, some, plain, is) at = search (rules, cut_words)
+
+pub plain_parts : (parts : List (List ℕ)) → IsPlainLine (blank_joined parts)
+    → All IsPlainLine parts
+plain_parts [] plain = All-nil IsPlainLine
+plain_parts (part ∷ []) plain = All-cons IsPlainLine part [] plain (All-nil IsPlainLine)
+plain_parts (part ∷ next ∷ parts) plain =
+    let more = blank_joined (next ∷ parts) in
+    let cut = cut_line (blank_joined (part ∷ next ∷ parts)) part more plain
+    (append_assoc part (blank ∷ []) more) in
+    All-cons IsPlainLine part (next ∷ parts) cut.0 (plain_parts (next ∷ parts) cut.1)
+
+-- ---- the lines of a text of rows, unfilled
+
+pub no_feeds : (line : List ℕ) → IsRow line → All (λ c. (c == 10) ≡ false) line
+no_feeds line here = grind (arith, All-weaker)
+
+split_feeds : (line : List ℕ) (others : List (List ℕ)) → All IsRow (line ∷ others)
+    → slice_split (λ b. b == 10) (feed_joined (line ∷ others)) ≡ line ∷ others
+split_feeds line [] rows =
+    slice_split_none (λ b. b == 10) line
+    (no_feeds line (All-head IsRow line [] rows))
+split_feeds line (next ∷ others) rows =
+    let more = feed_joined (next ∷ others) in
+    ap (slice_split (λ b. b == 10)) (append_assoc line (line_feed ∷ []) more)
+    ∙ slice_split_at (λ b. b == 10) line line_feed more
+    (no_feeds line (All-head IsRow line (next ∷ others) rows)) refl
+    ∙ ap (λ ls. line ∷ ls)
+    (split_feeds next others (All-tail IsRow line (next ∷ others) rows))
+
+pub kept_return : (line : List ℕ) → IsRow line → strip_carriage_return line ≡ line
+kept_return line here = ap (λ b. cond b (take (length line - 1) line) line)
+    (ne_eqb (last line) 13 here.ends.1)
+
+not_empty : (line : List ℕ) → IsRow line → (length line == 0) ≡ false
+not_empty line here = ne_eqb (length line) 0 (λ none. omega (arith, here.some, none))
+
+lines_of-rows : (line : List ℕ) (others : List (List ℕ)) → All IsRow (line ∷ others)
+    → lines_of_parts (line ∷ others) ≡ line ∷ others
+lines_of-rows line [] rows = ap (λ b. cond b [] (line ∷ []))
+    (not_empty line (All-head IsRow line [] rows))
+lines_of-rows line (next ∷ others) rows =
+    rw (
+      kept_return line (All-head IsRow line (next ∷ others) rows),
+      lines_of-rows next others (All-tail IsRow line (next ∷ others) rows),
+    )
+
+pub lines-rows : (parts : List (List ℕ)) → All IsRow parts → lines (feed_joined parts) ≡ parts
+lines-rows [] rows = refl
+lines-rows (part ∷ parts) rows =
+    ap lines_of_parts (split_feeds part parts rows) ∙ lines_of-rows part parts rows
+
+abbrev texts_of : List EndedLine → List (List ℕ)
+texts_of ended = map (λ l. l.line) (filter has_text ended)
+
+ended-rows : (line : List ℕ) (others : List (List ℕ)) → All IsRow (line ∷ others)
+    → texts_of (ended_lines_of (line ∷ others)) ≡ line ∷ others
+ended-rows line [] rows = grind (arith, All-head, not_empty, lt-ltb)
+ended-rows line (next ∷ others) rows =
+    let here = All-head IsRow line (next ∷ others) rows in
+    rw (
+      kept_return line here,
+      lt-ltb 0 (length line) here.some,
+      ended-rows next others (All-tail IsRow line (next ∷ others) rows),
+    )
+
+pub texts-rows : (parts : List (List ℕ)) → All IsRow parts
+    → map (λ l. l.line) (nonempty_lines (feed_joined parts)) ≡ parts
+texts-rows [] rows = refl
+texts-rows (part ∷ parts) rows = search (rules, arith, split_feeds, ended-rows)
+
+-- ---- lines that end in no line feed: joined by line feeds, they keep no ending
+
+feeds-some : (row : List ℕ) (rows : List (List ℕ)) → All IsRow (row ∷ rows)
+    → 0 < length (feed_joined (row ∷ rows))
+feeds-some row [] are = (All-head IsRow row [] are).some
+feeds-some row (next ∷ rows) are = simp length-append (omega arith)
+
+feeds-last : (row : List ℕ) (rows : List (List ℕ)) → All IsRow (row ∷ rows)
+    → last (feed_joined (row ∷ rows)) ≢ line_feed
+feeds-last row [] are = (All-head IsRow row [] are).ends.2
+feeds-last row (next ∷ rows) are =
+    let rest = All-tail IsRow row (next ∷ rows) are in
+    λ is. feeds-last next rows rest
+    (search (rules, arith, last-append, feeds-some))
+
+last-ending : (ending : LineEnding) → last (ending_bytes ending) ≡ line_feed
+last-ending CRLF = refl
+last-ending LF = refl
+
+-- a text that ends in an ending ends in a line feed
+ends_with-last : (text : List ℕ) (ending : LineEnding)
+    → ends_with nat_eq text (ending_bytes ending) ≡ true → last text ≡ line_feed
+ends_with-last text ending ends =
+    let bytes = ending_bytes ending in
+    let place = length text - length bytes in
+    ap last (sym (take-append-drop place text)
+    ∙ ap (λ l. take place text ++ l) (sym ((bytes_eq-Decides bytes (drop place text)).0 ends)))
+    ∙ last-append (take place text) bytes (ending_bytes-some ending) ∙ last-ending ending
+
+pub keeps-rows : (rows : List (List ℕ)) → All IsRow rows → keeps_ending (feed_joined rows) ≡ false
+keeps-rows [] are = refl
+keeps-rows (row ∷ rows) are = grind (arith, feeds-last, ends_with-last)

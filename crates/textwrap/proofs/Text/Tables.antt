@@ -1,0 +1,326 @@
+-- The cells and rows of texts in columns: their bytes, and that rows are even.
+use Rattle.textwrap_base.proofs.Common.{◌≡◌, ℕ, zero, suc, ◌+◌, ◌-◌, ◌*◌, ◌<◌, ◌≤◌, ◌⊎◌, List, []}
+use Rattle.textwrap_base.proofs.Common.{◌∷◌, ◌++◌, length, get_or, map, refl, sym, ap, ◌∙◌, arith}
+use Rattle.textwrap_base.proofs.Common.{append_assoc, append-nil, inl, inr, range_with_len, repeat}
+use Rattle.textwrap_base.proofs.Common.{CowStr, get_or-map, get_or_past, length-map, map-append}
+use Rattle.textwrap_base.proofs.Common.{flat_map-append, map-range_with_len_more, rules}
+use Rattle.textwrap_base.proofs.Common.{length-append, ◌^◌, flat_map, All, sum_by, All-head}
+use Rattle.textwrap_base.proofs.Common.{All-tail, sum_by-cons, sum_by-append, Bool}
+use Rattle.textwrap_lines.proofs.Common.{join_with, line_view, line_bytes, Settings, settings_view}
+use Rattle.textwrap_lines.proofs.Common.{Line, IsDividedInto, DividesBy, AreTextLines}
+use Rattle.textwrap.proofs.Common.{Layout, blanks, cell, padded, gapped, cells, row_text, layout_of}
+use Rattle.textwrap.proofs.Common.{inner_width}
+use Rattle.std.specs.Cow.{cow_str_bytes}
+use Rattle.textwrap_words.proofs.Word.Words.{text_width-nil}
+use Rattle.textwrap_lines.proofs.Text.Lines.{line_bytes-line_view}
+use Rattle.textwrap_base.proofs.Lists.Elements.{range-split, length-repeat}
+use Rattle.std.proofs.lemmas.List.{length-replicate}
+use Rattle.std.proofs.Common.{replicate}
+use Rattle.std.proofs.lemmas.Grind.{div_ceil_times}
+use Rattle.std.proofs.lemmas.List.FromFn.{get_or-map-range_with_len, fill_by_all}
+use Rattle.textwrap.specs.Columns.{row_count, column_cells, cells_by_column, cell_parts, row_parts}
+use Rattle.textwrap_words.proofs.Common.{text_width, MaySeparate, MaySplit, WordText, MayDivide}
+use Rattle.std.proofs.lemmas.List.Elements.{All-replicate}
+use Rattle.textwrap_words.proofs.Units.Reading.{printable-width}
+use Rattle.textwrap_lines.specs.Options.{KeepsMethods}
+use Rattle.textwrap_lines.specs.Paragraph.{DividesUnder}
+use Rattle.textwrap_lines.specs.Text.{SomeMayPass64Bits, SomeMayPass64BitsUnder}
+use Rattle.textwrap_words.specs.declared.wrap_algorithms.WrapAlgorithm.{WrapAlgorithm}
+use Rattle.textwrap_lines.specs.declared.options.Options.{Options}
+use Rattle.textwrap_words.specs.declared.word_separators.WordSeparator.{WordSeparator}
+use Rattle.textwrap_words.specs.declared.word_splitters.WordSplitter.{WordSplitter}
+
+-- ---- the cells of a row, with the gaps between them, and the rows that they make
+
+-- the text of the line that a cell shows
+pub cell_is : {Z : Type 0} (lines : List (CowStr Z)) (line : CowStr Z) (step first c at : ℕ)
+    → at ≡ first + c * step → at < length lines → line ≡ get_or lines at line
+    → cell (map line_bytes (map line_view lines)) step first c ≡ cow_str_bytes line
+cell_is lines line step first c at place within is =
+    ap (λ n. get_or (map line_bytes (map line_view lines)) n []) (sym place)
+    ∙ get_or-map line_bytes (map line_view lines) at (line_view line) []
+    (omega (arith, length-map lines line_view))
+    ∙ ap line_bytes (get_or-map line_view lines at line (line_view line) within)
+    ∙ ap (λ l. line_bytes (line_view l)) (sym is)
+    ∙ line_bytes-line_view line
+
+-- the later cells with one more
+pub gapped-more : (layout : Layout) (lines : List (List ℕ)) (step first later : ℕ)
+    (before row : List ℕ)
+    → row ≡ before ++ gapped layout (map (cell lines step first) (range_with_len 1 later))
+    → (row ++ layout.middle) ++ padded layout.column_width (cell lines step first (later + 1))
+    ≡ before ++ gapped layout (map (cell lines step first) (range_with_len 1 (later + 1)))
+gapped-more layout lines step first later before row is =
+    rw (map-range_with_len_more (cell lines step first) 1 later (later + 1) (omega arith))
+    (simp (is, flat_map-append, append_assoc, append-nil))
+
+padded-nil : (width : ℕ) → padded width [] ≡ blanks width
+padded-nil width = search (rules, text_width-nil)
+
+-- the cells after the last line
+gapped-missing : (layout : Layout) (lines : List (List ℕ)) (step first c count : ℕ)
+    → length lines ≤ first + c * step
+    → gapped layout (map (cell lines step first) (range_with_len c count))
+    ≡ repeat count (layout.middle ++ blanks layout.column_width)
+gapped-missing layout lines step first c zero past = refl
+gapped-missing layout lines step first c (suc count) past =
+    let later : length lines ≤ first + (c + 1) * step = omega arith in
+    rw (
+      get_or_past lines (first + c * step) [] past,
+      padded-nil layout.column_width,
+      gapped-missing layout lines step first (c + 1) count later,
+    )
+
+-- joined cells are the first, and the others after the middle gap each
+pub join-gapped : (layout : Layout) (x : List ℕ) (xs : List (List ℕ))
+    → join_with layout.middle (map (padded layout.column_width) (x ∷ xs))
+    ≡ padded layout.column_width x ++ gapped layout xs
+join-gapped layout x [] = sym (append-nil (padded layout.column_width x))
+join-gapped layout x (y ∷ ys) = search (rules, append_assoc, join-gapped layout y ys)
+
+-- the later cells: those of lines, and a run of those without
+pub gapped-all : (layout : Layout) (lines : List (List ℕ)) (step first later count : ℕ)
+    → (count ≡ 0) ⊎ (length lines ≤ first + (later + 1) * step)
+    → gapped layout (map (cell lines step first) (range_with_len 1 later))
+    ++ repeat count (layout.middle ++ blanks layout.column_width)
+    ≡ gapped layout (map (cell lines step first) (range_with_len 1 (later + count)))
+gapped-all layout lines step first later count (inl none) = search (rules, append-nil)
+gapped-all layout lines step first later count (inr past) =
+    search (rules, range-split, map-append, flat_map-append, gapped-missing)
+
+-- ---- rows
+
+-- a row, part by part
+pub row_text-parts : (layout : Layout) (lines : List (List ℕ)) (step first later count : ℕ)
+    → (count ≡ 0) ⊎ (length lines ≤ first + (later + 1) * step)
+    → layout.columns ≡ suc (later + count)
+    → ((((layout.left ++ padded layout.column_width (cell lines step first 0))
+    ++ gapped layout (map (cell lines step first) (range_with_len 1 later)))
+    ++ repeat count (layout.middle ++ blanks layout.column_width))
+    ++ blanks layout.spare_width) ++ layout.right
+    ≡ row_text layout (cells lines step layout.columns first)
+row_text-parts layout lines step first later count all columns =
+    search (rules, join-gapped, gapped-all, append_assoc)
+
+-- the same where the run fills the columns up
+pub row_text-written : (layout : Layout) (lines : List (List ℕ)) (step first later : ℕ)
+    → (later + 1 ≡ layout.columns) ⊎ (length lines ≤ first + (later + 1) * step)
+    → later + 1 ≤ layout.columns
+    → ((((layout.left ++ padded layout.column_width (cell lines step first 0))
+    ++ gapped layout (map (cell lines step first) (range_with_len 1 later)))
+    ++ repeat (layout.columns - 1 - later) (layout.middle ++ blanks layout.column_width))
+    ++ blanks layout.spare_width) ++ layout.right
+    ≡ row_text layout (cells lines step layout.columns first)
+row_text-written layout lines step first later (inl full) within = search (rules, row_text-parts)
+row_text-written layout lines step first later (inr past) within = search (rules, row_text-parts)
+
+-- ---- how many bytes the rows of a table take
+
+pub length-gapped-more : (layout : Layout) (lines : List (List ℕ)) (step first later : ℕ)
+    → length (gapped layout (map (cell lines step first) (range_with_len 1 (later + 1))))
+    ≡ length (gapped layout (map (cell lines step first) (range_with_len 1 later)))
+    + (length layout.middle
+    + length (padded layout.column_width (cell lines step first (later + 1))))
+length-gapped-more layout lines step first later =
+    let so_far = gapped layout (map (cell lines step first) (range_with_len 1 later)) in
+    rw (← gapped-more layout lines step first later [] so_far refl)
+    (simp length-append (omega arith))
+
+-- a row has the bytes of its gaps, its first cell, the later cells with a line, those without, and
+-- its spare blanks
+pub length-row_text : (layout : Layout) (lines : List (List ℕ)) (step first later : ℕ)
+    → (later + 1 ≡ layout.columns) ⊎ (length lines ≤ first + (later + 1) * step)
+    → later + 1 ≤ layout.columns
+    → length (row_text layout (cells lines step layout.columns first))
+    ≡ (layout.columns - 1 - later) * (length layout.middle + layout.column_width)
+    + length (padded layout.column_width (cell lines step first 0))
+    + length (gapped layout (map (cell lines step first) (range_with_len 1 later)))
+    + layout.spare_width + (length layout.left + length layout.right)
+length-row_text layout lines step first later all within =
+    rw (← row_text-written layout lines step first later all within)
+    (simp (length-append, length-repeat, length-replicate) (omega arith))
+
+-- the later cells with a line are among all later cells
+pub length-gapped-within : (layout : Layout) (lines : List (List ℕ)) (step first later more : ℕ)
+    → later ≤ more
+    → length (gapped layout (map (cell lines step first) (range_with_len 1 later)))
+    ≤ length (gapped layout (map (cell lines step first) (range_with_len 1 more)))
+length-gapped-within layout lines step first later more within =
+    let whole : more ≡ later + (more - later) = omega (arith, within) in
+    search (rules, range-split, map-append, flat_map-append, length-append)
+
+-- so where some bytes of theirs have no number, nor have all
+pub gapped-past : (layout : Layout) (lines : List (List ℕ)) (step first later len part : ℕ)
+    → len ≡ length (gapped layout (map (cell lines step first) (range_with_len 1 later)))
+    → later + 1 ≤ layout.columns - 1
+    → part ≤ len + length layout.middle
+    + length (padded layout.column_width (cell lines step first (later + 1)))
+    → ¬ (part < 2 ^ 64)
+    → 2 ^ 64
+    ≤ length (gapped layout (map (cell lines step first) (range_with_len 1 (layout.columns - 1))))
+gapped-past layout lines step first later len part len_is room within past =
+    omega (
+      arith,
+      length-gapped-more layout lines step first later,
+      length-gapped-within layout lines step first (later + 1) (layout.columns - 1) room,
+    )
+
+-- and all later cells are in the row
+pub length-gapped-row : (layout : Layout) (lines : List (List ℕ)) (step first : ℕ)
+    → 1 ≤ layout.columns
+    → length (gapped layout (map (cell lines step first) (range_with_len 1 (layout.columns - 1))))
+    + length (padded layout.column_width (cell lines step first 0))
+    ≤ length (row_text layout (cells lines step layout.columns first))
+length-gapped-row layout lines step first some = search (rules, length-row_text)
+
+-- ---- the cells of a table, one column after another
+
+-- what stands at these places
+abbrev pub lines_at : List (List ℕ) → ℕ → ℕ → List (List ℕ)
+lines_at lines from count = map (λ i. get_or lines i []) (range_with_len from count)
+
+module _ (lines : List (List ℕ)) where
+  past-empty : (from count : ℕ) → length lines ≤ from → lines_at lines from count ≡ replicate count []
+  past-empty from zero past = refl
+  past-empty from (suc count) past = simp (get_or_past, past-empty (from + 1) count (omega arith))
+
+  -- from the first place on they are the lines, and then empty ones
+  pub lines-kept : (empty : ℕ)
+      → lines_at lines 0 (length lines + empty) ≡ lines ++ replicate empty []
+  lines-kept empty =
+      let from : 0 + length lines ≡ length lines = omega arith in
+      rw (
+        range-split 0 (length lines) empty,
+        map-append,
+        past-empty (0 + length lines) empty (omega (arith, from)),
+      )
+      (ap (λ l. l ++ replicate empty [])
+      (sym (fill_by_all (λ i. get_or lines i []) lines (length lines) [] refl
+      (λ k within. refl))))
+
+  -- the places of one column follow one another
+  column-at : (columns c : ℕ) → c < columns → (r count : ℕ)
+      → map (λ k. get_or (cells lines (row_count lines columns) columns k) c [])
+      (range_with_len r count)
+      ≡ lines_at lines (c * row_count lines columns + r) count
+  column-at columns c within r zero = refl
+  column-at columns c within r (suc count) =
+      search (rules, get_or-map-range_with_len, column-at columns c within (r + 1) count)
+
+  -- and those of the columns do
+  columns-at : (columns c count : ℕ) → c + count ≤ columns
+      → flat_map (column_cells lines columns) (range_with_len c count)
+      ≡ lines_at lines (c * row_count lines columns) (count * row_count lines columns)
+  columns-at columns c zero within = search rules
+  columns-at columns c (suc count) within =
+      let rows = row_count lines columns in
+      let start : c * rows + 0 ≡ c * rows = omega arith in
+      let next : (c + 1) * rows ≡ c * rows + rows = omega arith in
+      let all : rows + count * rows ≡ suc count * rows = omega arith in
+      rw (
+        column-at columns c (omega arith) 0 rows,
+        start,
+        columns-at columns (c + 1) count (omega arith),
+        next,
+        ← all,
+        range-split (c * rows) rows (count * rows),
+        map-append,
+      )
+
+pub columns_kept : (lines : List (List ℕ)) (columns : ℕ) → 1 ≤ columns
+    → (empty : ℕ) × (cells_by_column lines columns ≡ lines ++ replicate empty [])
+columns_kept lines columns some =
+    let rows = row_count lines columns in
+    let all = div_ceil_times (length lines) columns some in
+    let empty = columns * rows - length lines in
+    let room : length lines ≤ columns * rows = omega (arith, all.0) in
+    let whole : length lines + empty ≡ columns * rows = omega (arith, room) in
+    let start : 0 * rows ≡ 0 = omega arith in (
+      empty,
+      columns-at lines columns 0 columns (omega arith)
+          ∙ ap (λ i. lines_at lines i (columns * rows)) start
+          ∙ ap (lines_at lines 0) (sym whole)
+          ∙ lines-kept lines empty,
+    )
+
+-- ---- the parts of a row
+
+cell_parts-joined : (layout : Layout) (row : List (List ℕ))
+    → flat_map (λ part. part) (cell_parts layout row)
+    ≡ join_with layout.middle (map (padded layout.column_width) row)
+cell_parts-joined layout [] = refl
+cell_parts-joined layout (text ∷ []) = search (rules, append-nil)
+cell_parts-joined layout (text ∷ next ∷ texts) =
+    simp (append_assoc, cell_parts-joined layout (next ∷ texts))
+
+pub row_parts-joined : (layout : Layout) (row : List (List ℕ))
+    → flat_map (λ part. part) (row_parts layout row) ≡ row_text layout row
+row_parts-joined layout row = simp (append_assoc, append-nil, flat_map-append, cell_parts-joined)
+
+-- ---- their widths
+
+pub blanks-width : (n : ℕ) → text_width (blanks n) ≡ n
+blanks-width n = search (rules, arith, printable-width, All-replicate, length-replicate)
+
+cell-fits : (width : ℕ) (lines : List (List ℕ)) → All (λ line. text_width line ≤ width) lines
+    → (i : ℕ) → text_width (get_or lines i []) ≤ width
+cell-fits width [] fits i = omega (arith, text_width-nil)
+cell-fits width (line ∷ lines) fits zero = All-head (λ l. text_width l ≤ width) line lines fits
+cell-fits width (line ∷ lines) fits (suc i) =
+    cell-fits width lines (All-tail (λ l. text_width l ≤ width) line lines fits) i
+
+module _ (layout : Layout) (lines : List (List ℕ)) (rows r : ℕ)
+    (fits : (i : ℕ) → text_width (get_or lines i []) ≤ layout.column_width) where
+  cell_parts-width : (c others : ℕ)
+      → sum_by text_width (cell_parts layout (map (cell lines rows r)
+      (range_with_len c (suc others))))
+      ≡ suc others * layout.column_width + others * text_width layout.middle
+  cell_parts-width c zero = search (rules, blanks-width)
+  cell_parts-width c (suc others) =
+      search (rules, blanks-width, sum_by-cons, cell_parts-width (c + 1) others)
+
+pub rows_even : (width columns : ℕ) (left middle right : List ℕ) (lines : List (List ℕ)) (r : ℕ)
+    → let inner : ℕ = inner_width width columns left middle right in
+    let layout : Layout = layout_of width columns left middle right in
+    let row : List (List ℕ) = cells lines (row_count lines columns) columns r in
+    let gaps : ℕ = text_width left + text_width right + (columns - 1) * text_width middle in
+    1 ≤ columns → columns * layout.column_width ≤ inner
+    → All (λ line. text_width line ≤ layout.column_width) lines
+    → (sum_by text_width (row_parts layout row) ≡ gaps + inner) × (gaps + inner ≡ width)
+rows_even width zero left middle right lines r some room fits = absurd (omega arith)
+rows_even width (suc others) left middle right lines r some room fits =
+    let layout = layout_of width (suc others) left middle right in
+    let rows = row_count lines (suc others) in
+    let row = cells lines rows (suc others) r in
+    let spare = blanks layout.spare_width in
+    search (
+      rules,
+      arith,
+      sum_by-cons text_width left (cell_parts layout row ++ (spare ∷ right ∷ [])),
+      sum_by-append text_width (cell_parts layout row) (spare ∷ right ∷ []),
+      sum_by-cons text_width spare (right ∷ []),
+      sum_by-cons text_width right [],
+      blanks-width layout.spare_width,
+      cell_parts-width layout lines rows r (cell-fits layout.column_width lines fits) 0 others,
+      cell-fits layout.column_width lines fits,
+    )
+
+-- ---- the lines at the width of a column
+
+module _ {E C : Type 0} {e : _} {c : _} where
+  abbrev Divides : WordSeparator C c → WordSplitter C c → WrapAlgorithm E e → Settings
+      → Bool → List ℕ → List (List WordText) → Type 0
+  Divides separator splitter algorithm settings =
+      IsDividedInto settings (MaySeparate separator) (MaySplit splitter)
+      (MayDivide algorithm (λ w. w))
+
+  pub AreTextLines-methods : (old new : Options E C e c)
+      (settings : Settings) (text : List ℕ) (lines : List Line) → settings_view new ≡ settings
+      → KeepsMethods old new → AreTextLines (settings_view new) (DividesBy new) text lines
+      → AreTextLines settings (DividesUnder old settings) text lines
+  AreTextLines-methods old new settings text lines same keeps are = search rules
+
+  pub SomeMayPass64Bits-methods : (old new : Options E C e c) (settings : Settings) (text : List ℕ)
+      → settings_view new ≡ settings → KeepsMethods old new → SomeMayPass64Bits new text
+      → SomeMayPass64BitsUnder old settings text
+  SomeMayPass64Bits-methods old new settings text same keeps some = search rules

@@ -1,0 +1,376 @@
+-- The pieces of a text from a place on, and the first of them, where the reader stopped.
+use Rattle.textwrap_base.proofs.Common.{inl, inr, ◌≡◌, ◌≢◌, ℕ, ◌+◌, ◌-◌, ◌<◌, ◌≤◌, Bool, List, []}
+use Rattle.textwrap_base.proofs.Common.{◌∷◌, ◌++◌, length, map, take, drop, get_or, sym, ap, ◌∙◌}
+use Rattle.textwrap_base.proofs.Common.{arith, slice_range, cases_lt, length-drop, drop-drop}
+use Rattle.textwrap_base.proofs.Common.{take-take, get_or-take, get_or-drop, IsUtf8, subst}
+use Rattle.textwrap_base.proofs.Common.{IsCharBoundary, IsUtf8-between, true, false, ◌&&◌, ◌||◌}
+use Rattle.textwrap_base.proofs.Common.{not, true≢false}
+use Rattle.textwrap_words.proofs.Common.{trimmed_len, without_final_blanks, word_of, piece}
+use Rattle.textwrap_words.proofs.Common.{broken_word, broken_words, broken_texts, text_width}
+use Rattle.textwrap_words.proofs.Common.{pieces_with, is_blank, Splitter, is_cut}
+use Rattle.std.proofs.lemmas.List.{drop-take}
+use Rattle.textwrap_words.specs.PieceCuts.{parts_by, pieces_from, IsPart, AreFinalBlanks, is_point}
+use Rattle.textwrap_words.specs.PieceCuts.{is_piece_cut, IsPartWord, pieces_at}
+use Rattle.textwrap_base.proofs.Lists.Parts.{length-slice, slice-nil}
+use Rattle.textwrap_words.proofs.Word.Texts.{trimmed-past, trimmed-le, trimmed-blank, trimmed-other}
+use Rattle.textwrap_words.proofs.Word.BrokenPieces.{broken_word-front, broken_word-texts}
+use Rattle.textwrap_words.proofs.Word.BrokenPieces.{broken_texts-narrow, broken_texts-nil}
+use Rattle.textwrap_words.proofs.Word.Parts.{parts_by-front}
+use Rattle.textwrap_words.specs.Pieces.{IsFirstStop, is_stop, IsFirstWithin, IsFirstWord}
+use Rattle.textwrap_words.proofs.Word.Words.{text_width-nil}
+use Rattle.textwrap_words.proofs.Word.SplitParts.{broken_word-narrow, point-none, blanks-part}
+use Rattle.textwrap_words.proofs.Word.SplitParts.{part-of_word, word-part}
+use Rattle.std.proofs.lemmas.Str.{IsCharBoundary-end}
+use Rattle.textwrap_words.proofs.Word.Splitting.{point-hyphen}
+use Rattle.std.proofs.Math.Bool.{or-true}
+use Rattle.std.proofs.lemmas.Bool.{or_parts}
+
+-- ---- the pieces of a text from a place on: those of the part that begins there, and those from
+-- its end on; and where the first of them stops inside the part
+
+-- a slice whose final blanks are known, as a word
+pub word_of-slice : (text : List ℕ) (at word_end end : ℕ) → end ≤ length text
+    → AreFinalBlanks text at word_end end
+    → word_of (slice_range text at end)
+    ≡ piece (slice_range text at word_end) (slice_range text word_end end) []
+word_of-slice text at word_end end within are =
+    let rest = drop at text in
+    let n = end - at in
+    let m = word_end - at in
+    let left = end - word_end in
+    let slice = slice_range text at end in
+    let len : length slice ≡ n = length-slice text at end within in
+    let byte : (k : ℕ) → k < n → get_or slice k 0 ≡ get_or text (at + k) 0 =
+    λ k below. get_or-take n rest k 0 below ∙ get_or-drop at text k 0 in
+    let most : trimmed_len slice ≤ m =
+    trimmed-le slice m (grind arith) in
+    let trimmed : trimmed_len slice ≡ m = elim (cases_lt 0 m) [
+      | inr none ↦ omega (arith, none, most)
+      | inl some ↦
+          let last : at + (m - 1) ≡ word_end - 1 = omega (arith, some) in
+          grind (arith, trimmed-past)
+    ] in
+    let from = are.from in
+    let up_to = are.up_to in
+    let word : without_final_blanks slice ≡ slice_range text at word_end =
+    ap (λ k. take k slice) trimmed ∙ take-take m n rest (omega (arith, up_to)) in
+    let all : m + left ≡ n = omega (arith, from, up_to) in
+    grind (arith, drop-take, drop-drop)
+
+module _ (test : ℕ → Bool) (text : List ℕ) where
+  -- the first of the parts from a place on
+  pub parts-front : (at end : ℕ) → IsPart test text at end
+      → parts_by test at (drop at text) ≡ slice_range text at end ∷ parts_by test end (drop end text)
+  parts-front at end part =
+      let n = end - at in
+      let some = part.some in
+      let within = part.within in
+      let place : at + n ≡ end = omega (arith, some) in
+      let left = length-drop at text in
+      parts_by-front test (drop at text) at n (omega (arith, some))
+      (omega (arith, left, within))
+      (λ k first below. part.uncut (at + k) (omega (arith, first)) (omega (arith, below)))
+      (λ inside. ap test place ∙ part.ends (omega (arith, inside, left, some)))
+      ∙ ap (λ l. slice_range text at end ∷ parts_by test (at + n) l) (drop-drop n at text)
+      ∙ ap (λ k. slice_range text at end ∷ parts_by test k (drop k text)) place
+
+  module _ (limit : ℕ) where
+    -- the pieces of the part, and those from its end on
+    pub pieces-part : (at word_end end : ℕ) → IsPart test text at end
+        → AreFinalBlanks text at word_end end
+        → pieces_from test limit text at
+        ≡ broken_word limit (piece (slice_range text at word_end) (slice_range text word_end end) [])
+        ++ pieces_from test limit text end
+    pieces-part at word_end end part are =
+        ap (λ ps. broken_words limit (map word_of ps)) (parts-front at end part)
+        ∙ ap (λ w. broken_word limit w ++ pieces_from test limit text end)
+        (word_of-slice text at word_end end part.within are)
+
+    -- the part is one piece
+    pub pieces-whole : (at word_end end : ℕ) → IsPart test text at end
+        → AreFinalBlanks text at word_end end
+        → broken_word limit (piece (slice_range text at word_end) (slice_range text word_end end) [])
+        ≡ piece (slice_range text at word_end) (slice_range text word_end end) [] ∷ []
+        → pieces_from test limit text at
+        ≡ piece (slice_range text at word_end) (slice_range text word_end end) []
+        ∷ pieces_from test limit text end
+    pieces-whole at word_end end part are one =
+        pieces-part at word_end end part are
+        ∙ ap (λ ws. ws ++ pieces_from test limit text end) one
+
+    -- the first piece of a word that is wider than the limit, and those from where it stops
+    pub pieces-stop : (at stop word_end end : ℕ) → IsPart test text at end
+        → AreFinalBlanks text at word_end end → at < stop → stop < word_end
+        → IsUtf8 (slice_range text stop word_end) → limit < text_width (slice_range text at word_end)
+        → broken_texts limit (slice_range text at word_end)
+        ≡ slice_range text at stop ∷ broken_texts limit (slice_range text stop word_end)
+        → pieces_from test limit text at
+        ≡ piece (slice_range text at stop) [] [] ∷ pieces_from test limit text stop
+    pieces-stop at stop word_end end part are after inside utf8 wide texts =
+        let rest = slice_range text stop word_end in
+        let within : word_end ≤ length text = omega (arith, part.within, are.up_to) in
+        let some : rest ≢ [] = λ none.
+        omega (arith, ap length none, length-slice text stop word_end within, inside) in
+        let left : IsPart test text stop end = record {
+          some = omega (arith, inside, are.up_to);
+          within = part.within;
+          uncut = λ k past below. part.uncut k (omega (arith, after, past)) below;
+          ends = part.ends;
+        } in
+        let left_blanks : AreFinalBlanks text stop word_end end = record {
+          from = omega (arith, inside);
+          up_to = are.up_to;
+          other = λ _. are.other (omega (arith, after, inside));
+          blanks = are.blanks;
+        } in
+        pieces-part at word_end end part are
+        ∙ ap (λ ws. ws ++ pieces_from test limit text end)
+        (broken_word-front limit (slice_range text at word_end) (slice_range text at stop) rest
+        (slice_range text word_end end) utf8 some wide texts)
+        ∙ ap (λ ws. piece (slice_range text at stop) [] [] ∷ ws)
+        (sym (pieces-part stop word_end end left left_blanks))
+
+-- ---- the pieces of a text from a place on, where the first part of the text up to the end of a
+-- word is known
+
+-- a text that is one part is one piece
+one-piece : (limit : ℕ) (word whitespace : List ℕ) → IsUtf8 word → word ≢ []
+    → broken_texts limit word ≡ word ∷ []
+    → broken_word limit (piece word whitespace []) ≡ piece word whitespace [] ∷ []
+one-piece limit word whitespace utf8 some one =
+    sym (broken_word-texts limit word whitespace utf8 some) ∙ ap (pieces_with whitespace []) one
+
+same-piece : (word whitespace : List ℕ) (width : ℕ) → width ≡ text_width word
+    → piece word whitespace []
+    ≡ record { word = word; whitespace = whitespace; penalty = []; width = width }
+same-piece word whitespace width wide =
+    ap (λ n. record { word = word; whitespace = whitespace; penalty = []; width = n }) (sym wide)
+
+module _ (test : ℕ → Bool) (limit : ℕ) (text : List ℕ) (utf8 : IsUtf8 text) (at : ℕ)
+    (start : IsCharBoundary text at) where
+  -- there is no word before the blanks
+  pub blanks-alone : (end : ℕ) → IsPart test text at end → AreFinalBlanks text at at end
+      → pieces_from test limit text at
+      ≡ record {
+        word = slice_range text at at;
+        whitespace = slice_range text at end;
+        penalty = [];
+        width = 0;
+      }
+      ∷ pieces_from test limit text end
+  blanks-alone end part are =
+      let slice = slice_range text at at in
+      let none : slice ≡ [] = slice-nil text at in
+      let wide : text_width slice ≡ 0 = ap text_width none ∙ text_width-nil in
+      grind (arith, pieces-whole, broken_word-narrow, same-piece)
+
+  module _ (stops : ℕ → Bool) (last place width : ℕ) (r : IsFirstStop stops limit text at last place width)
+      (inside : at < last) (end : ℕ) (part : IsPart test text at end)
+      (are : AreFinalBlanks text at r.stop end) where
+    -- the part is one piece
+    pub part-ends : r.stop ≡ place
+        → pieces_from test limit text at
+        ≡ record {
+          word = slice_range text at place;
+          whitespace = slice_range text place end;
+          penalty = [];
+          width = width;
+        }
+        ∷ pieces_from test limit text end
+    part-ends same =
+        let slice = slice_range text at place in
+        let some = r.some inside in
+        let full : slice ≢ [] = λ none.
+        omega (arith, some, length-slice text at place r.boundary.0, ap length none) in
+        let one : broken_texts limit slice ≡ slice ∷ [] =
+        ap (λ v. broken_texts limit (slice_range text at v)) (sym same) ∙ r.first inside
+        ∙ ap (λ v. slice ∷ broken_texts limit (slice_range text place v)) same
+        ∙ ap (λ l. slice ∷ broken_texts limit l) (slice-nil text place)
+        ∙ ap (λ ls. slice ∷ ls) (broken_texts-nil limit) in
+        let own = IsUtf8-between text at place utf8 r.from start r.boundary in
+        pieces-whole test text limit at place end part (subst (λ v. AreFinalBlanks text at v end) same are)
+        (one-piece limit slice (slice_range text place end) own full one)
+        ∙ ap (λ w. w ∷ pieces_from test limit text end)
+        (same-piece slice (slice_range text place end) width r.wide)
+
+    -- the piece stops inside the part
+    pub part-stops : place < r.stop
+        → pieces_from test limit text at
+        ≡ record {
+          word = slice_range text at place;
+          whitespace = slice_range text place place;
+          penalty = [];
+          width = width;
+        }
+        ∷ pieces_from test limit text place
+    part-stops later =
+        let v = r.stop in
+        let front = slice_range text at place in
+        let rest = slice_range text place v in
+        let rest_utf8 = IsUtf8-between text place v utf8 (omega (arith, later)) r.boundary r.cut in
+        let whole_utf8 = IsUtf8-between text at v utf8 (omega (arith, r.from, later)) start r.cut in
+        let texts = r.first inside in
+        let full : slice_range text at v ≢ [] = λ none.
+        omega (arith, r.from, later, length-slice text at v r.cut.0, ap length none) in
+        let rest_some : rest ≢ [] = λ none.
+        omega (arith, later, length-slice text place v r.cut.0, ap length none) in
+        let past : limit < text_width (slice_range text at v) = grind (arith, broken_texts-narrow) in
+        pieces-stop test text limit at place v end part are (r.some inside) later rest_utf8 past texts
+        ∙ ap (λ l. piece front l [] ∷ pieces_from test limit text place) (sym (slice-nil text place))
+        ∙ ap (λ w. w ∷ pieces_from test limit text place)
+        (same-piece front (slice_range text place place) width r.wide)
+
+-- ---- the first piece of a word with its blanks, where the reader stopped. The word may have
+-- blanks inside
+
+module _ (splitter : Splitter) (limit : ℕ) (text : List ℕ) (utf8 : IsUtf8 text) (at : ℕ)
+    (start : IsCharBoundary text at) (before : at ≤ trimmed_len text) (inside : at < length text) where
+  abbrev test : ℕ → Bool
+  test = is_point splitter text
+
+  -- a part ends at a point, where no blanks stand before
+  point-part : (place : ℕ) → at < place → place < length text
+      → ((k : ℕ) → at < k → k < place → test k ≡ false) → test place ≡ true
+      → IsPart test text at place × AreFinalBlanks text at place place
+  point-part place some below uncut is =
+      let byte = point-hyphen splitter text place (omega (arith, some)) below is in
+      let other : is_blank (get_or text (place - 1) 0) ≡ false = ap is_blank byte in
+      (grind arith, grind arith)
+
+  -- the last part ends with the blanks
+  last-part : ((k : ℕ) → at < k → k < trimmed_len text → test k ≡ false)
+      → IsPart test text at (length text) × AreFinalBlanks text at (trimmed_len text) (length text)
+  last-part uncut =
+      (grind (arith, cases_lt, point-none, trimmed-blank), grind (arith, trimmed-other, trimmed-blank))
+
+  pub first-within : (place width end : ℕ)
+      → IsFirstStop (is_stop false splitter text) limit text at (trimmed_len text) place width
+      → (place ≡ trimmed_len text → end ≡ length text) → (place < trimmed_len text → end ≡ place)
+      → IsFirstWithin splitter limit text at (record { word_end = place; end = end; width = width })
+  first-within place width end r whole inner = elim (cases_lt place (trimmed_len text)) [
+    | inl early ↦
+        let here : end ≡ place = inner early in
+        let later : at < trimmed_len text = omega (arith, r.from, early) in
+        rw here (record {
+          from = r.from;
+          up_to = omega arith;
+          boundary = r.boundary;
+          before_blanks = λ _. omega (arith, early);
+          first = elim (cases_lt place r.stop) [
+            | inr most ↦
+                let same : r.stop ≡ place = omega (arith, most, r.up_to) in
+                let part = point-part r.stop (omega (arith, same, r.some later)) (omega (arith, same, early)) r.uncut
+                (r.ends (omega (arith, same, early))) in
+                rw same at (part-ends test limit text utf8 at start (is_stop false splitter text) (trimmed_len text)
+                place width r later r.stop part.0 part.1 same)
+            | inl sooner ↦ elim (cases_lt r.stop (trimmed_len text)) [
+              | inl before_end ↦
+                  let part = point-part r.stop (omega (arith, r.from, sooner)) (omega (arith, before_end)) r.uncut
+                  (r.ends before_end) in
+                  part-stops test limit text utf8 at start (is_stop false splitter text) (trimmed_len text)
+                  place width r later r.stop part.0 part.1 sooner
+              | inr none ↦
+                  let last : r.stop ≡ trimmed_len text = omega (arith, none, r.within) in
+                  let part = last-part (λ k past below. r.uncut k past (omega (arith, last, below))) in
+                  part-stops test limit text utf8 at start (is_stop false splitter text) (trimmed_len text)
+                  place width r later (length text) part.0
+                  (subst (λ k. AreFinalBlanks text at k (length text)) (sym last) part.1) sooner
+            ]
+          ];
+        })
+    | inr most ↦
+        let here : place ≡ trimmed_len text = omega (arith, most, r.up_to, r.within) in
+        let same : r.stop ≡ place = omega (arith, here, r.up_to, r.within) in
+        let part = last-part (λ k past below. r.uncut k past (omega (arith, same, here, below))) in
+        rw (whole here) (record {
+          from = r.from;
+          up_to = r.boundary.0;
+          boundary = IsCharBoundary-end text;
+          before_blanks = λ more. absurd (omega (arith, more));
+          first = elim (cases_lt at (trimmed_len text)) [
+            | inl later ↦
+                part-ends test limit text utf8 at start (is_stop false splitter text) (trimmed_len text)
+                place width r later (length text) part.0
+                (subst (λ k. AreFinalBlanks text at k (length text)) (omega (arith, same, here)) part.1) same
+            | inr none ↦
+                let nothing : at ≡ place = omega (arith, none, here, r.from) in
+                let narrow : 0 ≡ width = sym (r.wide ∙ ap (λ k. text_width (slice_range text at k)) (sym nothing)
+                ∙ ap text_width (slice-nil text at) ∙ text_width-nil) in
+                rw (← nothing, ← narrow) (blanks-alone test limit text utf8 at start (length text) part.0
+                (subst (λ k. AreFinalBlanks text at k (length text)) (omega (arith, nothing, here)) part.1))
+          ];
+        })
+  ]
+
+-- ---- the first piece of a text with words between blanks, where the reader stopped
+
+module _ (splitter : Splitter) (limit : ℕ) (text : List ℕ) (utf8 : IsUtf8 text) (at : ℕ)
+    (start : IsCharBoundary text at) (inside : at < length text) where
+  -- there is no word before the blanks
+  pub no-word : is_blank (get_or text at 0) ≡ true → IsFirstWord splitter limit text at at 0
+  no-word blank = record {
+    from = omega arith;
+    boundary = start;
+    first = λ end from within blanks stops.
+        let some : at < end = grind (arith, cases_lt, true≢false) in
+        let part = blanks-part splitter text at end some within blanks stops in
+        blanks-alone (is_piece_cut splitter text) limit text utf8 at start end part.0 part.1;
+  }
+
+  module _ (place width : ℕ)
+      (r : IsFirstStop (is_stop true splitter text) limit text at (length text) place width)
+      (other : is_blank (get_or text at 0) ≡ false) where
+    some : at < r.stop
+    some = omega (arith, r.some inside, r.up_to)
+
+    none-at : (k : ℕ) → at < k → k < r.stop
+        → (is_blank (get_or text k 0) ≡ false) × (is_point splitter text k ≡ false)
+    none-at k past below = or_parts (is_blank (get_or text k 0)) (is_point splitter text k) (r.uncut k past below)
+
+    plain : (k : ℕ) → at ≤ k → k < r.stop → is_blank (get_or text k 0) ≡ false
+    plain k from below = elim (cases_lt at k) [
+      | inl past ↦ (none-at k past below).0
+      | inr least ↦ subst (λ k. is_blank (get_or text k 0) ≡ false) (omega (arith, from, least)) other
+    ]
+
+    word : IsPartWord splitter text at r.stop
+    word = record {
+      some = some;
+      within = r.within;
+      uncut = λ k past below.
+          ap (λ b. (b && not (is_blank (get_or text k 0))) || is_point splitter text k)
+          (plain (k - 1) (omega (arith, past)) (omega (arith, below, past)))
+          ∙ (none-at k past below).1;
+      other = plain (r.stop - 1) (omega (arith, some)) (omega (arith, some));
+      ends = λ before blank.
+          let point : is_point splitter text r.stop ≡ true =
+          sym (ap (λ b. b || is_point splitter text r.stop) blank) ∙ r.ends before in
+          ap (λ p. is_cut (get_or text (r.stop - 1) 0) (get_or text r.stop 0) || p) point ∙ or-true _;
+    }
+
+    pub first-word : IsFirstWord splitter limit text at place width
+    first-word = record {
+      from = r.from;
+      boundary = r.boundary;
+      first = λ end from within blanks ends. elim (cases_lt place r.stop) [
+        | inl later ↦
+            let part = part-of_word splitter text at r.stop word in
+            let same : place ≡ end = grind (arith, cases_lt, true≢false, plain) in
+            subst (λ k. pieces_at splitter limit text at
+            ≡ record {
+              word = slice_range text at place;
+              whitespace = slice_range text place k;
+              penalty = [];
+              width = width;
+            }
+            ∷ pieces_at splitter limit text k) same
+            (part-stops (is_piece_cut splitter text) limit text utf8 at start (is_stop true splitter text)
+            (length text) place width r inside part.0 part.1 part.2 later)
+        | inr most ↦
+            let same : r.stop ≡ place = omega (arith, most, r.up_to) in
+            let part = word-part splitter text at r.stop end word (omega (arith, same, from)) within
+            (λ k past below. blanks k (omega (arith, same, past)) below) ends in
+            part-ends (is_piece_cut splitter text) limit text utf8 at start (is_stop true splitter text)
+            (length text) place width r inside end part.0 part.1 same
+      ];
+    }

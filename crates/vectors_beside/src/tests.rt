@@ -5,6 +5,5 @@ mod cut_pieces;
 mod display;
 mod plain;
 mod program;
-mod reflow;
 mod refusals;
 mod uses;

@@ -3,7 +3,6 @@
 use super::display::Change::{self, Aligned, Justified, Shortened};
 use super::display::{are_carried, are_shortened, changed, is_filled, is_table};
 use super::plain::assert_holds;
-use super::reflow::{Pass, is_passed};
 use fakes::heap::Heap;
 use std::process::Abort;
 use textwrap::WrapError;
@@ -19,8 +18,6 @@ enum Call {
     CarryStyles(&'static [&'static str]),
     FillJustified,
     Table,
-    /// A pass over a text of many paragraphs.
-    Reflow(Pass),
 }
 
 /// The rule, the call, and how many allocations it makes at least and at most.
@@ -36,8 +33,6 @@ const CALLS: &[(&str, Call, usize, usize)] = &[
     ("the list is allocated, and no line that stays", Call::CarryStyles(&["a", "b"]), 1, 1),
     ("a text that is filled", Call::FillJustified, 0, 99),
     ("a table", Call::Table, 0, 99),
-    ("paragraphs that are filled", Call::Reflow(Pass::Reflow), 5, 199),
-    ("paragraphs that are justified", Call::Reflow(Pass::Justify), 5, 199),
 ];
 
 /// Whether the call gives what it is to give where so many allocations are allowed.
@@ -52,7 +47,6 @@ fn is_right(heap: &Heap, call: Call, allowed: usize) -> Result<bool, WrapError> 
         Call::CarryStyles(texts) => Ok(are_carried(heap, texts, allowed)?),
         Call::FillJustified => is_filled(heap),
         Call::Table => is_table(heap),
-        Call::Reflow(pass) => Ok(is_passed(heap, pass)?),
     }
 }
 

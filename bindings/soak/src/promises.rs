@@ -35,7 +35,7 @@ pub enum Promise {
     ReflowedStays,
     /// Reflowing and reflowing otherwise is reflowing once.
     ReflowedOnce,
-    /// Reflowing keeps the words, and the lines of whitespace.
+    /// Reflowing keeps the words, and the lines without any.
     ReflowedWords,
     /// Carried styles show each line by itself as the text shows it.
     Carried,

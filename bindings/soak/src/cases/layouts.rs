@@ -19,41 +19,49 @@ pub struct Layout {
     pub width: usize,
     /// How the words of a paragraph are divided into lines.
     pub algorithm: Algorithm,
-    /// What stands between two lines of the new text.
+    /// What ends the lines of the new text.
     pub line_ending: LineEnding,
-    /// Whether code stays as it is.
-    pub keeps_code: bool,
-    /// What the prefix of a paragraph has to begin with for it to be filled.
+    /// Whether the text has no comments.
+    pub markdown: bool,
+    /// Whether block comments have no margin of asterisks.
+    pub bare: bool,
+    /// Whether text is filled that is deeper than the text before it.
+    pub indented: bool,
+    /// What the marks before a paragraph have to begin with for it to be filled.
     pub prefix: &'static str,
 }
 
 impl Layout {
-    /// Lines of so many columns, of least cost and ended by LF. All paragraphs are filled, code
-    /// too.
+    /// Lines of so many columns, of least cost and ended by LF. All paragraphs are filled but the
+    /// deeper ones.
     pub fn new(width: usize) -> Self {
         Layout {
             width,
             algorithm: Algorithm::LeastCost,
             line_ending: LineEnding::LF,
-            keeps_code: false,
+            markdown: false,
+            bare: false,
+            indented: false,
             prefix: "",
         }
     }
 
-    /// Random options, by which code may stay as it is, and all that is no quote.
+    /// Random options, by which all may stay as it is that is no quote.
     fn random(random: &mut Random) -> Self {
         Layout {
             width: random_width(random),
             algorithm: random.pick(&[Algorithm::FirstFit, Algorithm::LeastCost]),
             line_ending: random.pick(&[LineEnding::LF, LineEnding::CRLF]),
-            keeps_code: random.is_one_in(2),
-            prefix: random.pick(&["", "", "", ">"]),
+            markdown: random.is_one_in(4),
+            bare: random.is_one_in(4),
+            indented: random.is_one_in(2),
+            prefix: random.pick(&["", "", "", ">", "//"]),
         }
     }
 
     /// These options, but by them all paragraphs are filled.
     pub fn filling_all(&self) -> Self {
-        Layout { keeps_code: false, prefix: "", ..*self }
+        Layout { indented: true, prefix: "", ..*self }
     }
 
     /// The arguments that say so.
@@ -64,12 +72,10 @@ impl Layout {
             Algorithm::LeastCost => "--least-cost",
         };
         arguments.push(algorithm.into());
-        if self.line_ending == LineEnding::CRLF {
-            arguments.push("--crlf".into());
-        }
-        if self.keeps_code {
-            arguments.push("--keep-code".into());
-        }
+        arguments.push(if self.line_ending == LineEnding::CRLF { "--crlf" } else { "--lf" }.into());
+        let flags =
+            [(self.markdown, "--markdown"), (self.bare, "--bare"), (self.indented, "--indented")];
+        arguments.extend(flags.iter().filter(|(is_set, _)| *is_set).map(|(_, flag)| flag.to_string()));
         if !self.prefix.is_empty() {
             arguments.push(format!("--prefix={}", self.prefix));
         }
@@ -91,7 +97,8 @@ impl Layouts {
     pub fn random(random: &mut Random) -> Self {
         let first = Layout::random(random);
         let other = Layout::random(random);
-        let other = Layout { keeps_code: first.keeps_code, prefix: first.prefix, ..other };
+        let Layout { markdown, bare, indented, prefix, .. } = first;
+        let other = Layout { markdown, bare, indented, prefix, ..other };
         Layouts { first, other }
     }
 }

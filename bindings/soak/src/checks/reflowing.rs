@@ -61,7 +61,7 @@ pub struct Reflows {
     pub once: String,
     /// The text that was reflowed by the first options, reflowed by the other options.
     pub twice: String,
-    /// The text, reflowed by the first options with all paragraphs filled.
+    /// The text, reflowed by the first options with all paragraphs filled, deeper ones too.
     pub filled: String,
 }
 
@@ -94,8 +94,8 @@ pub fn check_once(found: &Reflows) -> Finding {
     Finding::of(found.twice == found.once)
 }
 
-/// Checks that the words of the text are kept, and the lines of whitespace: where all paragraphs
-/// are filled, and where some may stay as they are.
+/// Checks that the words of the text are kept, and the lines without a letter or digit: where all
+/// paragraphs are filled, and where some may stay as they are.
 pub fn check_words(case: &Case, found: &Reflows) -> Finding {
     let words = words_of(&case.paragraphs);
     let are_kept = words_of(&found.filled) == words;
@@ -103,19 +103,19 @@ pub fn check_words(case: &Case, found: &Reflows) -> Finding {
     Finding::of(are_kept && stay)
 }
 
-/// What stands between blanks behind the prefixes of the lines, without the blanks and carriage
-/// returns at their ends; and of a line that is whitespace alone there a line feed, which is in no
-/// word, and the line.
+/// What stands between white, but for the words without a letter or digit that a line begins with;
+/// and of a line without any other there a line feed, which is in no word, and the line. So nothing
+/// has to be known of marks, prefixes and paragraphs.
 fn words_of(text: &str) -> Vec<&str> {
     let mut words = Vec::new();
     for line in text.split('\n') {
-        let rest = line.trim_start_matches([' ', '-', '+', '*', '>', '#', '/']);
-        if rest.trim().is_empty() {
-            words.extend(["\n", line.trim_end_matches('\r')]);
-            continue;
+        let line = line.trim_end_matches('\r');
+        let has_letter = |word: &&str| word.chars().any(char::is_alphanumeric);
+        let mut rest = line.split([' ', '\t']).filter(|word| !word.is_empty()).skip_while(|word| !has_letter(word)).peekable();
+        if rest.peek().is_none() {
+            words.extend(["\n", line]);
         }
-        let inside = rest.trim_end_matches([' ', '\r']);
-        words.extend(inside.split(' ').filter(|word| !word.is_empty()));
+        words.extend(rest);
     }
     words
 }
